@@ -1,0 +1,5 @@
+pub mod Differences
+pub mod Polynomials
+pub mod Signs
+pub mod Within
+pub mod SameCorner

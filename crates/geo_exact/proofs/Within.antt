@@ -1,0 +1,24 @@
+use Rattle.std.proofs.Common.{◌≡◌, ℕ, ◌+◌, ◌*◌, ◌≤◌, ◌<◌, ◌^◌, ℤ, ◌-ℤ◌, ◌*ℤ◌, arith, FitsSigned, to_z, of_z}
+use Rattle.std.specs.Int.{w128}
+use Rattle.std.proofs.lemmas.Int.{ints, to_z-of_z, unsigned_abs-mul}
+use Rattle.std.specs.Int.RustNames.{unsigned_abs}
+use Rattle.std.proofs.Math.Nat.{mul-le-mul}
+use Rattle.geo_exact.specs.Limit.{IsWithin}
+
+abs_within : (n : ℕ) (z : ℤ) → IsWithin n z → unsigned_abs z ≤ n
+abs_within n z h = omega (arith, ints)
+
+within_abs : (n : ℕ) (z : ℤ) → unsigned_abs z ≤ n → IsWithin n z
+within_abs n z h = record { low = omega (arith, ints); high = omega (arith, ints) }
+
+pub product_within : (m n : ℕ) (a b : ℤ) → IsWithin m a → IsWithin n b → IsWithin (m * n) (a *ℤ b)
+product_within m n a b h k =
+    within_abs (m * n) (a *ℤ b) (rw unsigned_abs-mul (mul-le-mul (abs_within m a h) (abs_within n b k)))
+
+-- a difference at 128 bits, as the code's `-` shows it
+pub wide_sub : (m n : ℕ) (a b : ℤ) → IsWithin m a → IsWithin n b → m + n < 2 ^ 127 → to_z w128 (of_z w128 (to_z w128 (of_z w128 a) -ℤ to_z w128 (of_z w128 b))) ≡ a -ℤ b
+wide_sub m n a b h k l =
+    let p : FitsSigned w128 a = omega (arith, ints) in
+    let q : FitsSigned w128 b = omega (arith, ints) in
+    let r : FitsSigned w128 (a -ℤ b) = omega (arith, ints) in
+    simp to_z-of_z

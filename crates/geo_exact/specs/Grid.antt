@@ -1,0 +1,46 @@
+-- The centimetre grid of a double (Technical Description, July 1998, "Numeric Types": 64-bit IEEE double).
+use Rattle.std.specs.Prelude.{◌≡◌, ℕ, ◌+◌, ◌*◌, ◌/◌, ◌%◌, ◌^◌, ◌<◌, ℤ, pos, neg_ℤ, ◌-ℤ◌, ◌*ℤ◌, ◌==◌, if◌then◌else◌}
+use Rattle.geo_exact.specs.declared.coord.Unit.{Unit}
+use Rattle.geo_exact.specs.declared.coord.Unit.TheVariants.{Cm, M}
+use Rattle.geo_exact.specs.declared.coord.CoordFault.{CoordFault}
+use Rattle.geo_exact.specs.declared.coord.CoordFault.TheVariants.{NotNumber, OffGrid, TooFar}
+use Rattle.geo_exact.specs.Limit.{IsWithin, limit}
+
+-- how many centimetres the unit has
+abbrev pub centimetres : Unit → ℕ
+centimetres Cm = 1
+centimetres M = 100
+
+-- the 1 sign bit, the 11 exponent bits and the 52 fraction bits
+abbrev pub sign_bit : ℕ → ℕ
+sign_bit bits = bits / 2 ^ 63
+
+abbrev pub exponent_field : ℕ → ℕ
+exponent_field bits = bits / 2 ^ 52 % 2 ^ 11
+
+abbrev pub fraction_field : ℕ → ℕ
+fraction_field bits = bits % 2 ^ 52
+
+-- The absolute value of the double, times 2 ^ 1075, which makes it a whole number: an exponent field e from 1 on
+-- means (2 ^ 52 + fraction) * 2 ^ (e - 1075), and 0 means fraction * 2 ^ (1 - 1075).
+abbrev pub magnitude : ℕ → ℕ
+magnitude bits =
+    if exponent_field bits == 0
+    then fraction_field bits * 2
+    else (2 ^ 52 + fraction_field bits) * 2 ^ exponent_field bits
+
+-- the value of the double, times 2 ^ 1075
+abbrev pub scaled_value : ℕ → ℤ
+scaled_value bits = if sign_bit bits == 0 then pos (magnitude bits) else neg_ℤ (pos (magnitude bits))
+
+-- The double is a number, and within 1/1024 of k centimetres: with v its value and s the unit's centimetres, |s v - k| * 1024 <= 1.
+-- Both sides stand here times 2 ^ 1075.
+pub record IsOnGrid (bits : ℕ) (unit : Unit) (k : ℤ) : Type 0 where
+  pub is_number : exponent_field bits < 2047
+  pub is_near : IsWithin (2 ^ 1075) ((pos (centimetres unit) *ℤ scaled_value bits -ℤ k *ℤ pos (2 ^ 1075)) *ℤ pos 1024)
+
+-- why the double is no coordinate
+abbrev pub IsCoordFault : ℕ → Unit → CoordFault → Type 0
+IsCoordFault bits unit NotNumber = exponent_field bits ≡ 2047
+IsCoordFault bits unit OffGrid = (exponent_field bits < 2047) × ((k : ℤ) → ¬ IsOnGrid bits unit k)
+IsCoordFault bits unit TooFar = (k : ℤ) × IsOnGrid bits unit k × (¬ IsWithin limit k)

@@ -1,0 +1,9 @@
+-- Whether two interiors meet: the first entry of the nine-intersection matrix (OGC 06-103r4, 6.1.15.2).
+use Rattle.std.specs.Prelude.{List}
+use Rattle.geo_exact.specs.declared.corner.Corner.{Corner}
+use Rattle.geo_exact.specs.Point.{Point}
+use Rattle.geo_exact.specs.Winding.{IsInterior}
+
+-- some rational point is interior to both rings
+abbrev pub InteriorsMeet : List Corner → List Corner → Type 0
+InteriorsMeet r s = (p : Point) × IsInterior p r × IsInterior p s

@@ -1,0 +1,11 @@
+-- The range of a coordinate: this product's own limit (the Technical Description, July 1998, "Numeric Types", only rules out infinities).
+use Rattle.std.specs.Prelude.{ℕ, ℤ, pos, neg_ℤ, ◌≤ℤ◌}
+
+-- z is at most n away from 0
+pub record IsWithin (n : ℕ) (z : ℤ) : Type 0 where
+  pub low : neg_ℤ (pos n) ≤ℤ z
+  pub high : z ≤ℤ pos n
+
+-- 100,000 kilometres, in whole centimetres
+abbrev pub limit : ℕ
+limit = 10000000000

@@ -1,0 +1,33 @@
+-- Rings as lists of corners, and their edges (OGC 06-103r4, 6.1.7, LinearRing; Technical Description, July 1998, "Polygon").
+use Rattle.std.specs.Prelude.{ℤ, pos, ◌+ℤ◌, List, [], ◌∷◌, ◌++◌, reverse}
+use Rattle.geo_exact.specs.declared.corner.Corner.{Corner}
+
+-- the directed edge from one corner to another
+pub record Edge : Type 0 where
+  pub from : Corner
+  pub to : Corner
+
+-- the edges of the path from a corner through the next ones to a last one
+abbrev pub path : Corner → List Corner → Corner → List Edge
+path from [] to = record { from = from; to = to } ∷ []
+path from (next ∷ rest) to = record { from = from; to = next } ∷ path next rest to
+
+-- the edges of a ring: each corner to the next, and the last to the first
+abbrev pub edges : List Corner → List Edge
+edges [] = []
+edges (first ∷ rest) = path first rest first
+
+-- the sum of a measure over edges
+abbrev pub sum_over : (Edge → ℤ) → List Edge → ℤ
+sum_over measure [] = pos 0
+sum_over measure (edge ∷ rest) = measure edge +ℤ sum_over measure rest
+
+-- the same ring, begun at its second corner
+abbrev pub rotated : List Corner → List Corner
+rotated [] = []
+rotated (first ∷ rest) = rest ++ first ∷ []
+
+-- the ring turned round, with its first corner kept first
+abbrev pub turned_round : List Corner → List Corner
+turned_round [] = []
+turned_round (first ∷ rest) = first ∷ reverse rest

@@ -1,0 +1,32 @@
+ghost use Rattle.std.specs.Prelude.{◌≡◌, ◌↔◌, IsSome, IfSome};
+ghost use Rattle.geo_exact.specs.Limit.{IsWithin, limit};
+
+/// The greatest distance of a coordinate from 0, in centimetres.
+pub const LIMIT: i64 = 10_000_000_000;
+
+/// A corner of a ring: a place in whole centimetres, each coordinate at most [`LIMIT`] away from 0.
+///
+/// Corners are ordered by `x`, then `y`.
+#[derive(Clone, Copy, Debug, PartialEq, Eq, PartialOrd, Ord, Hash)]
+pub struct Corner {
+    /// Centimetres to the east of the origin.
+    pub x: i64,
+    /// Centimetres to the north of the origin.
+    pub y: i64,
+    pub ghost x_in_range: { IsWithin limit x },
+    pub ghost y_in_range: { IsWithin limit y },
+}
+
+impl Corner {
+    /// The corner at a place, or `None` where a coordinate is beyond the limit.
+    pub fn new(x: i64, y: i64) -> Option<Corner>
+        ensures valid { IsSome result ↔ (IsWithin limit x × IsWithin limit y) }
+        ensures made { IfSome result (λ corner. (corner.x ≡ x) × (corner.y ≡ y)) }
+    {
+        if -LIMIT <= x && x <= LIMIT && -LIMIT <= y && y <= LIMIT {
+            Some(Corner { x, y })
+        } else {
+            None
+        }
+    }
+}
