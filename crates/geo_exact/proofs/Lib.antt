@@ -4,3 +4,6 @@ pub mod Signs
 pub mod Within
 pub mod SameCorner
 pub mod EdgeSums
+pub mod Turns
+pub mod Crossings
+pub mod Windings

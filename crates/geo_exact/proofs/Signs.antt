@@ -48,7 +48,8 @@ same_positive k l s t hk hl e = by_lt_z (pos 0) s
     (λ p. let q : pos 0 <ℤ t = pos_of_mul l t hl (omega (arith, ints, mul_pos k s hk p)) in sym (let x : true ≡ lt_z (pos 0) s = omega (arith, ints) in x) ∙ omega (arith, ints))
     (λ p. let q : t ≤ℤ pos 0 = by_lt_z (pos 0) t (λ r. absurd (omega (arith, ints, mul_pos l t hl r, atmost (up k) (down k) (down s) (up s) (omega (arith, ints)) (omega (arith, ints))))) (λ r. r) in sym (let x : false ≡ lt_z (pos 0) s = omega (arith, ints) in x) ∙ omega (arith, ints))
 
-flip : (z : ℤ) → lt_z (pos 0) (neg_ℤ z) ≡ lt_z z (pos 0)
+-- the test of the sign of a negative
+pub flip : (z : ℤ) → lt_z (pos 0) (neg_ℤ z) ≡ lt_z z (pos 0)
 flip z = by_lt_z z (pos 0)
     (λ p. sym (let x : true ≡ lt_z (pos 0) (neg_ℤ z) = omega (arith, ints) in x) ∙ omega (arith, ints))
     (λ p. sym (let x : false ≡ lt_z (pos 0) (neg_ℤ z) = omega (arith, ints) in x) ∙ omega (arith, ints))
