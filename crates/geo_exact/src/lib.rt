@@ -4,8 +4,10 @@
 
 mod coord;
 mod corner;
+mod laws;
 mod raw_ring;
 
 pub use coord::{CoordFault, Unit};
 pub use corner::{Corner, LIMIT};
+pub use laws::{a_ring_has_no_first_corner, a_ring_turned_round_has_the_opposite_orientation};
 pub use raw_ring::{Corners, RawRing};
