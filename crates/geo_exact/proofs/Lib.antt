@@ -7,3 +7,4 @@ pub mod EdgeSums
 pub mod Turns
 pub mod Crossings
 pub mod Windings
+pub mod Triangles
