@@ -1,8 +1,8 @@
-ghost use Rattle.std.specs.Prelude.{◌≡◌, ◌⊎◌, ◌↔◌, pos, neg_ℤ, ◌<ℤ◌, List, [], ◌∷◌};
+ghost use Rattle.std.specs.Prelude.{◌≡◌, ◌⊎◌, ◌↔◌, pos, neg_ℤ, ◌<ℤ◌, List, [], ◌∷◌, ◌++◌};
 ghost use Rattle.geo_exact.specs.declared.corner.Corner.{Corner};
 ghost use Rattle.geo_exact.specs.Point.{Point};
 ghost use Rattle.geo_exact.specs.Rings.{rotated, turned_round};
-ghost use Rattle.geo_exact.specs.Turn.{turn, turn_at};
+ghost use Rattle.geo_exact.specs.Turn.{turn, turn_at, IsOnEdge};
 ghost use Rattle.geo_exact.specs.Winding.{winding, IsInterior};
 ghost use Rattle.geo_exact.specs.Area.{area2};
 
@@ -20,6 +20,16 @@ pub fn a_ring_has_no_first_corner()
 pub fn a_ring_turned_round_has_the_opposite_orientation()
     ensures winding_number { (p : Point) (ring : List Corner) → winding p (turned_round ring) ≡ neg_ℤ (winding p ring) }
     ensures signed_area { (ring : List Corner) → area2 (turned_round ring) ≡ neg_ℤ (area2 ring) }
+{}
+
+/// A corner put into an edge that it lies on changes nothing: each winding number and the signed
+/// area stay. Here `q` is the place of the corner `m`.
+#[tactic(auto, using(crate::proofs::Windings::winding_inserts_at, crate::proofs::Windings::area2_inserts_at))]
+pub fn a_corner_on_an_edge_changes_nothing()
+    ensures winding_number { (p q : Point) (front back : List Corner) (a b m : Corner) → q.x ≡ m.x → q.y ≡ m.y → q.d ≡ pos 1 → IsOnEdge q a b
+        → winding p (front ++ a ∷ m ∷ b ∷ back) ≡ winding p (front ++ a ∷ b ∷ back) }
+    ensures signed_area { (q : Point) (front back : List Corner) (a b m : Corner) → q.x ≡ m.x → q.y ≡ m.y → q.d ≡ pos 1 → IsOnEdge q a b
+        → area2 (front ++ a ∷ m ∷ b ∷ back) ≡ area2 (front ++ a ∷ b ∷ back) }
 {}
 
 /// A counterclockwise triangle goes round a point once or not at all: once round each point that is
