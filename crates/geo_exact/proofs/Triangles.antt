@@ -259,3 +259,6 @@ left_of_interior a b c p h i =
 pub triangle_interior : (a b c : Corner) (p : Point) → pos 0 <ℤ turn a b c
     → IsInterior p (a ∷ b ∷ c ∷ []) ↔ ((pos 0 <ℤ turn_at a b p) × (pos 0 <ℤ turn_at b c p) × (pos 0 <ℤ turn_at c a p))
 triangle_interior a b c p h = (left_of_interior a b c p h, interior_of_left a b c p h)
+
+-- how often a counterclockwise triangle goes round a point
+pub ruleset triangle_windings = (triangle_winds_at_most_once, triangle_winds_inside, triangle_winds_not_outside)

@@ -26,15 +26,17 @@ pub fn a_ring_turned_round_has_the_opposite_orientation()
 /// area stay. Here `q` is the place of the corner `m`.
 #[tactic(auto, using(crate::proofs::Windings::winding_inserts_at, crate::proofs::Windings::area2_inserts_at))]
 pub fn a_corner_on_an_edge_changes_nothing()
-    ensures winding_number { (p q : Point) (front back : List Corner) (a b m : Corner) → q.x ≡ m.x → q.y ≡ m.y → q.d ≡ pos 1 → IsOnEdge q a b
+    ensures winding_number { (p q : Point) (front back : List Corner) (a b m : Corner)
+        → q.x ≡ m.x → q.y ≡ m.y → q.d ≡ pos 1 → IsOnEdge q a b
         → winding p (front ++ a ∷ m ∷ b ∷ back) ≡ winding p (front ++ a ∷ b ∷ back) }
-    ensures signed_area { (q : Point) (front back : List Corner) (a b m : Corner) → q.x ≡ m.x → q.y ≡ m.y → q.d ≡ pos 1 → IsOnEdge q a b
+    ensures signed_area { (q : Point) (front back : List Corner) (a b m : Corner)
+        → q.x ≡ m.x → q.y ≡ m.y → q.d ≡ pos 1 → IsOnEdge q a b
         → area2 (front ++ a ∷ m ∷ b ∷ back) ≡ area2 (front ++ a ∷ b ∷ back) }
 {}
 
 /// A counterclockwise triangle goes round a point once or not at all: once round each point that is
 /// left of its three edges, and not at all round a point that is right of one of them.
-#[tactic(auto, using(crate::proofs::Triangles::triangle_winds_at_most_once, crate::proofs::Triangles::triangle_winds_inside, crate::proofs::Triangles::triangle_winds_not_outside))]
+#[tactic(auto, using(crate::proofs::Triangles::triangle_windings))]
 pub fn a_triangle_winds_once_round_its_inside()
     ensures at_most_once { (a b c : Corner) (p : Point) → pos 0 <ℤ turn a b c
         → (winding p (a ∷ b ∷ c ∷ []) ≡ pos 0) ⊎ (winding p (a ∷ b ∷ c ∷ []) ≡ pos 1) }
