@@ -3,3 +3,10 @@ pub mod Polynomials
 pub mod Signs
 pub mod Within
 pub mod SameCorner
+pub mod EdgeSums
+pub mod Turns
+pub mod OnEdge
+pub mod Crossings
+pub mod Windings
+pub mod Triangles
+pub mod Moved
