@@ -1,5 +1,5 @@
 -- What `coordinate` answers is what the relations of the grid say, both ways.
-use Rattle.std.proofs.Common.{◌/◌, ◌≡◌, ℕ, ◌+◌, ◌*◌, ◌-◌, ◌^◌, ◌<◌, ◌≤◌, Bool, true, false, nat_lt, nat_eq, cond, refl, sym, ◌∙◌, ap, subst, arith, Err, Ok, Result, IfOk, IfErr, lit<}
+use Rattle.std.proofs.Common.{◌/◌, ◌≡◌, ◌↔◌, ℕ, ◌+◌, ◌*◌, ◌-◌, ◌^◌, ◌<◌, ◌≤◌, Bool, true, false, nat_lt, nat_eq, cond, refl, sym, ◌∙◌, ap, subst, arith, Err, Ok, Result, IfOk, IfErr, lit<}
 use Rattle.std.proofs.lemmas.Bool.{ltb-true, ltb-false, ne_eqb, eqb-false, eqb-true}
 use Rattle.std.proofs.lemmas.Int.{ints}
 use Rattle.std.proofs.lemmas.Nat.{pow_pos, pow-add, mod_below}
@@ -213,3 +213,9 @@ on_grid_of bits unit (Err f) e = tt
 pub refused_of : (bits : ℕ) (unit : Unit) (r : Result ℤ CoordFault) → r ≡ coordinate bits unit → IfErr r (IsCoordFault bits unit)
 refused_of bits unit (Ok k) e = tt
 refused_of bits unit (Err f) e = refused_is bits unit f (sym e)
+
+pub accepted_iff : (bits : ℕ) (unit : Unit) (k : ℤ) → (coordinate bits unit ≡ Ok k) ↔ (IsOnGrid bits unit k × IsWithin limit k)
+accepted_iff bits unit k = (accepted_is bits unit k, λ h. accepted_when bits unit k h.0 h.1)
+
+pub refused_iff : (bits : ℕ) (unit : Unit) (f : CoordFault) → (coordinate bits unit ≡ Err f) ↔ IsCoordFault bits unit f
+refused_iff bits unit f = (refused_is bits unit f, refused_when bits unit f)

@@ -109,3 +109,14 @@ pub fn read_coord(bits: u64, unit: Unit) -> Result<i64, CoordFault>
 {
     signed_coordinate(bits, unit)
 }
+
+/// `coordinate` answers `k` exactly where the double is on the grid at `k`, within the limit.
+pub fn coordinates_are_on_the_grid()
+    ensures { (bits : ℕ) (unit : Unit) (k : ℤ) → (coordinate bits unit ≡ Ok k) ↔ (IsOnGrid bits unit k × IsWithin limit k) }
+{}
+
+/// `coordinate` answers a fault exactly where it is the double's.
+#[tactic(auto, using(crate::proofs::Coordinates::refused_iff))]
+pub fn coordinate_faults_are_exact()
+    ensures { (bits : ℕ) (unit : Unit) (f : CoordFault) → (coordinate bits unit ≡ Err f) ↔ IsCoordFault bits unit f }
+{}

@@ -7,10 +7,14 @@ mod coord;
 mod corner;
 mod products;
 mod raw_ring;
+#[cfg(test)]
+mod tests;
 mod turns;
 
 pub use area::area2;
-pub use coord::{CoordFault, Unit};
+pub use coord::{
+    CoordFault, Unit, coordinate_faults_are_exact, coordinates_are_on_the_grid, read_coord,
+};
 pub use corner::{Corner, LIMIT};
 pub use raw_ring::{Corners, RawRing};
 pub use turns::turn;
