@@ -3,6 +3,7 @@
 #![tactic(auto)]
 
 mod area;
+mod bytes;
 mod coord;
 mod corner;
 mod products;
@@ -12,6 +13,9 @@ mod tests;
 mod turns;
 
 pub use area::area2;
+pub use bytes::counted::Counted;
+pub use bytes::fail_at::FailAt;
+pub use bytes::{ByteIn, ByteOut, Failed};
 pub use coord::{
     CoordFault, Unit, coordinate_faults_are_exact, coordinates_are_on_the_grid, read_coord,
 };
