@@ -14,7 +14,7 @@ use Rattle.geo_exact.specs.Limit.{IsWithin}
 use Rattle.geo_exact.proofs.Differences.{expand}
 use Rattle.geo_exact.proofs.Signs.{mul_pos, mul_neg, mul_le, mul_lt}
 use Rattle.geo_exact.proofs.Polynomials.{var, add, mul, neg, same_by}
-use Rattle.geo_exact.proofs.Turns.{turn_at_expr, turn_at_back}
+use Rattle.geo_exact.proofs.TurnLaws.{turn_at_expr, turn_at_back}
 use Rattle.geo_exact.proofs.SameCorner.{corner_same}
 use Rattle.geo_exact.proofs.OnEdge.{on_edge_between, on_edge_back}
 use Rattle.geo_exact.proofs.Crossings.{crossed}

@@ -10,7 +10,7 @@ use Rattle.geo_exact.specs.Turn.{turn_at, IsOnEdge}
 use Rattle.geo_exact.proofs.Differences.{expand}
 use Rattle.geo_exact.proofs.Signs.{mul_le, mul_zero, convex}
 use Rattle.geo_exact.proofs.Polynomials.{var, add, mul, neg, same_by}
-use Rattle.geo_exact.proofs.Turns.{turn_at_expr, turn_at_back}
+use Rattle.geo_exact.proofs.TurnLaws.{turn_at_expr, turn_at_back}
 
 -- a weighed mean of u and v is x: x is neither below both nor above both
 pub mean_low : (k l u v x : ℤ) → pos 0 ≤ℤ k → pos 0 ≤ℤ l → pos 0 <ℤ (k +ℤ l) → k *ℤ (u -ℤ x) +ℤ l *ℤ (v -ℤ x) ≡ pos 0 → x <ℤ u → x <ℤ v → ⊥

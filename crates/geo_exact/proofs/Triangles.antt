@@ -9,7 +9,7 @@ use Rattle.geo_exact.specs.Turn.{turn, turn_at, IsOnEdge, IsOnRing}
 use Rattle.geo_exact.specs.Winding.{winding, IsInterior}
 use Rattle.geo_exact.proofs.Signs.{mul_pos, mul_not_neg, mul_neg, mul_not_pos, mul_falling, mul_sinking, mul_neg_pos}
 use Rattle.geo_exact.proofs.Polynomials.{var, add, mul, neg, same_by}
-use Rattle.geo_exact.proofs.Turns.{turn_at_expr, turn_cycle, turn_at_cycle, weighed_x, weighed_y}
+use Rattle.geo_exact.proofs.TurnLaws.{turn_at_expr, turn_cycle, turn_at_cycle, weighed_x, weighed_y}
 use Rattle.geo_exact.proofs.OnEdge.{mean_low, mean_high, min_reaches, max_reaches}
 use Rattle.geo_exact.proofs.Crossings.{crossed}
 

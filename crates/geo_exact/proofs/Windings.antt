@@ -9,7 +9,7 @@ use Rattle.geo_exact.specs.Turn.{IsOnEdge}
 use Rattle.geo_exact.specs.Winding.{crossing, crossings, winding}
 use Rattle.geo_exact.specs.Area.{edge_area2, area2}
 use Rattle.geo_exact.proofs.EdgeSums.{edge_of, sum_over-rotated, sum_over-turned_sign, sum_over-reversed_sign, sum_over-inserts, sum_over-inserts_last, sum_over-edge_split, sum_over-cycle, sum_over-chord, sum_over-repeats, sum_over-closing_repeat}
-use Rattle.geo_exact.proofs.Turns.{corner_point}
+use Rattle.geo_exact.proofs.TurnLaws.{corner_point}
 use Rattle.geo_exact.proofs.Crossings.{crossing_back, crossing_same, crossing_cut, edge_area2_back, edge_area2_same, edge_area2_cut}
 
 cancels : (s t : ℤ) → s ≡ neg_ℤ t → s +ℤ t ≡ pos 0
