@@ -10,3 +10,4 @@ pub mod Crossings
 pub mod Windings
 pub mod Triangles
 pub mod Moved
+pub mod SamePlace
