@@ -15,3 +15,4 @@ pub mod Nearest
 pub mod GridRows
 pub mod Rows
 pub mod Coordinates
+pub mod SamePlace

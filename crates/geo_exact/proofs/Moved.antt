@@ -12,7 +12,7 @@ use Rattle.geo_exact.specs.Winding.{is_not_above, crossing, crossings, winding, 
 use Rattle.geo_exact.specs.Interiors.{InteriorsMeet}
 use Rattle.geo_exact.specs.Limit.{IsWithin}
 use Rattle.geo_exact.proofs.Differences.{expand}
-use Rattle.geo_exact.proofs.Signs.{mul_pos, mul_neg, mul_le, mul_lt}
+use Rattle.geo_exact.proofs.Signs.{zero_factor, mul_pos, mul_le, mul_lt}
 use Rattle.geo_exact.proofs.Polynomials.{var, add, mul, neg, same_by}
 use Rattle.geo_exact.proofs.TurnLaws.{turn_at_expr, turn_at_back}
 use Rattle.geo_exact.proofs.SameCorner.{corner_same}
@@ -91,12 +91,6 @@ not_level r n w h hr hn hw e apart =
     (λ p. by_lt_z h (pos 0)
     (λ q. omega (arith, ints, hw.low, e, mul_le h (negsuc 0) n (omega (arith, ints)) (omega (arith, ints))))
     (λ q. let z : h ≡ pos 0 = omega (arith, ints) in apart (omega (arith, ints, rw z at e)) z))
-
-zero_factor : (d z : ℤ) → pos 0 <ℤ d → d *ℤ z ≡ pos 0 → z ≡ pos 0
-zero_factor d z h e =
-    by_lt_z (pos 0) z
-    (λ p. absurd (omega (arith, ints, e, mul_pos d z h p)))
-    (λ p. by_lt_z z (pos 0) (λ q. absurd (omega (arith, ints, e, mul_neg d z h q))) (λ q. omega (arith, ints)))
 
 -- ---- the moved point
 -- n, so large that no line through two corners lies between p and its neighbour at the distance 1 / n
