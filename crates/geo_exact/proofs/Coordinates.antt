@@ -219,3 +219,8 @@ accepted_iff bits unit k = (accepted_is bits unit k, λ h. accepted_when bits un
 
 pub refused_iff : (bits : ℕ) (unit : Unit) (f : CoordFault) → (coordinate bits unit ≡ Err f) ↔ IsCoordFault bits unit f
 refused_iff bits unit f = (refused_is bits unit f, refused_when bits unit f)
+
+pub one_fits : (bits : ℕ) (unit : Unit) (k l : ℤ) → IsOnGrid bits unit k → IsOnGrid bits unit l → k ≡ l
+one_fits bits unit k l h i =
+    (near_signed (plus bits) (size bits unit) (2 ^ 1075) k (pow_pos 1075) (near_of bits unit k h)).0
+    ∙ sym (near_signed (plus bits) (size bits unit) (2 ^ 1075) l (pow_pos 1075) (near_of bits unit l i)).0

@@ -17,7 +17,8 @@ pub use bytes::counted::Counted;
 pub use bytes::fail_at::FailAt;
 pub use bytes::{ByteIn, ByteOut, Failed};
 pub use coord::{
-    CoordFault, Unit, coordinate_faults_are_exact, coordinates_are_on_the_grid, read_coord,
+    CoordFault, Unit, coordinate_faults_are_exact, coordinates_are_on_the_grid,
+    one_centimetre_fits, read_coord,
 };
 pub use corner::{Corner, LIMIT};
 pub use raw_ring::{Corners, RawRing};
