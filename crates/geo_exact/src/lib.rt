@@ -6,11 +6,11 @@ mod area;
 mod bytes;
 mod coord;
 mod corner;
+mod orientation;
 mod products;
 mod raw_ring;
 #[cfg(test)]
 mod tests;
-mod turns;
 
 pub use area::area2;
 pub use bytes::counted::Counted;
@@ -21,5 +21,5 @@ pub use coord::{
     one_centimetre_fits, read_coord,
 };
 pub use corner::{Corner, LIMIT};
+pub use orientation::turn;
 pub use raw_ring::{Corners, RawRing};
-pub use turns::turn;
