@@ -1,5 +1,6 @@
 ghost use Rattle.std.specs.Prelude.{◌≡◌, ◌↔◌, ℕ, ◌+◌, ◌*◌, ◌^◌, ◌<◌, ◌≤◌, max, ℤ, Ok, Err, IfOk, IfErr};
-ghost use Rattle.geo_exact.specs.Grid.{IsOnGrid, IsCoordFault, centimetres as centimetres_of, coordinate, exponent_field, magnitude, size_of};
+ghost use Rattle.geo_exact.specs.Grid.{IsOnGrid, IsCoordFault, coordinate, size_of};
+ghost use Rattle.geo_exact.specs.Grid.{centimetres as centimetres_of, exponent_field, magnitude};
 ghost use Rattle.geo_exact.specs.Limit.{IsWithin, limit};
 
 use crate::corner::LIMIT;
@@ -118,7 +119,8 @@ pub fn one_centimetre_fits()
 
 /// `coordinate` answers `k` exactly where the double is on the grid at `k`, within the limit.
 pub fn coordinates_are_on_the_grid()
-    ensures { (bits : ℕ) (unit : Unit) (k : ℤ) → (coordinate bits unit ≡ Ok k) ↔ (IsOnGrid bits unit k × IsWithin limit k) }
+    ensures { (bits : ℕ) (unit : Unit) (k : ℤ)
+        → (coordinate bits unit ≡ Ok k) ↔ (IsOnGrid bits unit k × IsWithin limit k) }
 {}
 
 /// `coordinate` answers a fault exactly where it is the double's.

@@ -68,7 +68,8 @@ impl<T: ByteIn> ByteIn for FailAt<T> {
             ≡ counted result (together (T.failure_count self.old.inner) self.old.own_failures) }
         ensures calls_left { self.new.calls_left ≡ self.old.calls_left - 1 }
         ensures fails { self.old.calls_left ≡ 1 → IsErr result × (self.new.inner ≡ self.old.inner) }
-        ensures passes_on { self.old.calls_left ≢ 1 → T.failure_count self.new.inner ≡ counted result (T.failure_count self.old.inner) }
+        ensures passes_on { self.old.calls_left ≢ 1
+            → T.failure_count self.new.inner ≡ counted result (T.failure_count self.old.inner) }
     {
         if self.fails() {
             return Err(Failed);
@@ -94,7 +95,8 @@ impl<T: ByteOut> ByteOut for FailAt<T> {
             ≡ counted result (together (T.failure_count self.old.inner) self.old.own_failures) }
         ensures calls_left { self.new.calls_left ≡ self.old.calls_left - 1 }
         ensures fails { self.old.calls_left ≡ 1 → IsErr result × (self.new.inner ≡ self.old.inner) }
-        ensures passes_on { self.old.calls_left ≢ 1 → T.failure_count self.new.inner ≡ counted result (T.failure_count self.old.inner) }
+        ensures passes_on { self.old.calls_left ≢ 1
+            → T.failure_count self.new.inner ≡ counted result (T.failure_count self.old.inner) }
     {
         if self.fails() {
             return Err(Failed);
