@@ -1,5 +1,5 @@
 -- The centimetre grid of a double (Technical Description, July 1998, "Numeric Types": 64-bit IEEE double).
-use Rattle.std.specs.Prelude.{◌≡◌, ℕ, ◌+◌, ◌*◌, ◌/◌, ◌%◌, ◌^◌, ◌<◌, ℤ, pos, neg_ℤ, ◌-ℤ◌, ◌*ℤ◌, ◌==◌, if◌then◌else◌}
+use Rattle.std.specs.Prelude.{◌≡◌, ℕ, ◌+◌, ◌*◌, ◌/◌, ◌%◌, ◌^◌, ◌<◌, ℤ, pos, neg_ℤ, ◌-ℤ◌, ◌*ℤ◌, ◌==◌, if◌then◌else◌, Result, Ok, Err}
 use Rattle.geo_exact.specs.declared.coord.Unit.{Unit}
 use Rattle.geo_exact.specs.declared.coord.Unit.TheVariants.{Cm, M}
 use Rattle.geo_exact.specs.declared.coord.CoordFault.{CoordFault}
@@ -44,3 +44,10 @@ abbrev pub IsCoordFault : ℕ → Unit → CoordFault → Type 0
 IsCoordFault bits unit NotNumber = exponent_field bits ≡ 2047
 IsCoordFault bits unit OffGrid = (exponent_field bits < 2047) × ((k : ℤ) → ¬ IsOnGrid bits unit k)
 IsCoordFault bits unit TooFar = (k : ℤ) × IsOnGrid bits unit k × (¬ IsWithin limit k)
+
+-- the whole number nearest to the absolute value in centimetres
+abbrev pub nearest : ℕ → Unit → ℕ
+nearest bits unit = (2 * centimetres unit * magnitude bits + 2 ^ 1075) / 2 ^ 1076
+
+unfoldable pub coordinate : ℕ → Unit → Result ℤ CoordFault
+coordinate bits unit = Err NotNumber
