@@ -3,3 +3,7 @@ pub mod Polynomials
 pub mod Signs
 pub mod Within
 pub mod SameCorner
+pub mod Paths
+pub mod Nearest
+pub mod GridRows
+pub mod Coordinates
