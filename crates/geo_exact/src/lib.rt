@@ -10,7 +10,7 @@ mod raw_ring;
 mod turns;
 
 pub use area::area2;
-pub use coord::{CoordFault, Unit};
+pub use coord::{CoordFault, Unit, read_coord};
 pub use corner::{Corner, LIMIT};
 pub use raw_ring::{Corners, RawRing};
 pub use turns::turn;

@@ -3,5 +3,8 @@
 #![tactic(auto)]
 
 mod fault;
+mod fields;
+mod header;
+mod record;
 
 pub use fault::{FaultKind, FileFault, FileName, LayerFault};

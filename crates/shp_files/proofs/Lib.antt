@@ -1,0 +1,6 @@
+pub mod Numbers
+pub mod Lines
+pub mod Points
+pub mod Finding
+pub mod Ring
+pub mod Passing
