@@ -4,3 +4,8 @@ pub mod Points
 pub mod Finding
 pub mod Ring
 pub mod Passing
+pub mod Places
+pub mod Polygons
+pub mod Walk
+pub mod Sound
+pub mod Complete

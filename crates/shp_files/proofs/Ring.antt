@@ -1,5 +1,5 @@
 -- The lines on a ring's points: all points but the last, the last, and that it is the first again.
-use Rattle.std.proofs.Common.{◌≡◌, ℕ, suc, zero, ◌+◌, ◌*◌, ◌-◌, ◌≤◌, ◌<◌, ℤ, Bool, true, false, not, ◌||◌, List, [], ◌∷◌, ◌++◌, length, get_or, Option, Some, None, subst, Ok, Err, refl, sym, ap, ◌∙◌, arith, append_assoc}
+use Rattle.std.proofs.Common.{◌≡◌, ℕ, suc, zero, ◌+◌, ◌*◌, ◌-◌, ◌≤◌, ◌<◌, ℤ, Bool, true, false, not, ◌||◌, List, [], ◌∷◌, ◌++◌, length, get_or, Option, Some, None, subst, Ok, Err, refl, sym, ap, ◌∙◌, arith, append_assoc, length-append}
 use Rattle.geo_exact.specs.declared.corner.Corner.{Corner}
 use Rattle.geo_exact.specs.declared.coord.Unit.{Unit as LengthUnit}
 use Rattle.geo_exact.specs.Grid.{coordinate}
@@ -10,9 +10,9 @@ use Rattle.shp_files.specs.Layout.{double_at}
 use Rattle.shp_files.specs.LayerFile.{closed}
 use Rattle.shp_files.specs.Checks.{Check, check, fault, first_failure, is_not, differs, is_other_point, coordinate_checks, closing_checks, ring_checks}
 use Rattle.shp_files.specs.Reading.{IsReadAs, AreReadAs}
-use Rattle.shp_files.proofs.Numbers.{same_from_is_not, neither}
-use Rattle.shp_files.proofs.Lines.{goes_on, stops}
-use Rattle.shp_files.proofs.Points.{coordinates_append, reads_push}
+use Rattle.shp_files.proofs.Numbers.{same_from_is_not, is_not_same, neither, neither_from}
+use Rattle.shp_files.proofs.Lines.{goes_on, stops, pass_from, pass_both, first_failure_none}
+use Rattle.shp_files.proofs.Points.{none_left, point_read, coordinates_append, reads_push}
 
 pub ring_parts : (main : List ℕ) (unit : LengthUnit) (position at count : ℕ) → 0 < count
     → ring_checks main unit position at count
@@ -73,3 +73,41 @@ pub closed_read : (unit : LengthUnit) (bytes : List ℕ) (at : ℕ) (corners : L
     → first ≡ get_or corners 0 first → IsReadAs unit bytes (at + 16 * length corners) closing → first ≡ closing → AreReadAs unit bytes at (closed corners)
 closed_read unit bytes at corners first closing are some is last same =
     rw (closes corners first some is) (reads_push unit bytes at corners first are (let P : Corner → Type 0 = IsReadAs unit bytes (at + 16 * length corners) in subst P (sym same) last))
+
+-- points that are read have no failure
+pub coordinates_pass : (main : List ℕ) (unit : LengthUnit) (position at : ℕ) (corners : List Corner) → AreReadAs unit main at corners
+    → first_failure (coordinate_checks main unit position at (2 * length corners)) ≡ None
+coordinates_pass main unit position at [] h = none_left main unit position at
+coordinates_pass main unit position at (corner ∷ rest) h =
+    point_read main unit position at (length rest) corner h.0 ∙ coordinates_pass main unit position (at + 16) rest h.1
+
+-- the corner at the end of points that are read
+pub last_read : (unit : LengthUnit) (bytes : List ℕ) (at : ℕ) (corners : List Corner) (last : Corner) → AreReadAs unit bytes at (corners ++ last ∷ [])
+    → IsReadAs unit bytes (at + 16 * length corners) last
+last_read unit bytes at [] last h =
+    let place : at ≡ at + 16 * 0 = omega arith in
+    let P : ℕ → Type 0 = λ n. IsReadAs unit bytes n last in
+    subst P place h.0
+last_read unit bytes at (corner ∷ rest) last h =
+    let place : at + 16 + 16 * length rest ≡ at + 16 * suc (length rest) = omega arith in
+    let P : ℕ → Type 0 = λ n. IsReadAs unit bytes n last in
+    subst P place (last_read unit bytes (at + 16) rest last h.1)
+
+pub length_closed : (corners : List Corner) → 0 < length corners → length (closed corners) ≡ length corners + 1
+length_closed [] some = absurd (omega arith)
+length_closed (first ∷ rest) some = omega (arith, length-append (first ∷ rest) (first ∷ []))
+
+-- a closed ring that is read passes
+pub ring_passes : (main : List ℕ) (unit : LengthUnit) (position at count : ℕ) (corners : List Corner) → 0 < length corners → length corners + 1 ≡ count
+    → AreReadAs unit main at (closed corners) → first_failure (ring_checks main unit position at count) ≡ None
+unfolding ring_checks closing_checks
+ring_passes main unit position at count [] some is h = absurd (omega arith)
+ring_passes main unit position at count (first ∷ rest) some is h =
+    let points : length (closed (first ∷ rest)) ≡ count = length_closed (first ∷ rest) some ∙ is in
+    let all : first_failure (coordinate_checks main unit position at (2 * count)) ≡ None =
+    ap (λ n. first_failure (coordinate_checks main unit position at (2 * n))) (sym points) ∙ coordinates_pass main unit position at (closed (first ∷ rest)) h in
+    let place : at + 16 * length (first ∷ rest) ≡ at + 16 * (count - 1) = omega (arith, is) in
+    let P : ℕ → Type 0 = λ n. IsReadAs unit main n first in
+    let last = subst P place (last_read unit main at (first ∷ rest) first h) in
+    let same = neither_from _ _ (is_not_same first.x first.x refl) (is_not_same first.y first.y refl) in
+    pass_both _ _ all (pass_from _ _ [] (other_point main unit at (at + 16 * (count - 1)) first first h.0 last ∙ same) first_failure_none)

@@ -10,6 +10,9 @@ pub record NumberedRing : Type 0 where
   pub number : ℕ
   pub corners : List Corner
 
+abbrev pub numbered : ℕ → List Corner → NumberedRing
+numbered number corners = record { number = number; corners = corners }
+
 -- the header of a file that is `declared` bytes long
 pub record IsHeader (header : List ℕ) (declared : ℕ) : Type 0 where
   pub is_whole : length header ≡ 100
