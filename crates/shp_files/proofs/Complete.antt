@@ -39,11 +39,11 @@ reads_records main unit number start done (bytes ∷ records) (ring ∷ rings) i
     let rest : drop (record_end main start) main ≡ joined records ++ ignored =
     ap (λ n. drop n main) read.end ∙ sym (drop-drop (length bytes) start main) ∙ ap (λ xs. drop (length bytes) xs) split ∙ drop_at bytes (joined records ++ ignored) (length bytes) refl in
     let all = reads_records main unit (number + 1) (record_end main start) (done ++ numbered number ring.corners ∷ []) records rings ignored next rest are.2
-      (omega (arith, read.end, end, sizes)) (omega (arith, few)) (omega (arith, together, corner_count-push done (numbered number ring.corners))) in
+    (omega (arith, read.end, end, sizes)) (omega (arith, few)) (omega (arith, together, corner_count-push done (numbered number ring.corners))) in
     let same : (done ++ numbered number ring.corners ∷ []) ++ rings ≡ done ++ (ring ∷ rings) =
     append_assoc done (numbered number ring.corners ∷ []) rings ∙ ap (λ n. done ++ (numbered n ring.corners ∷ rings)) (sym are.0) in
     at_place main unit (number + 1 + length records) (number + suc (length records)) (declared_end main) (declared_end main) ((done ++ numbered number ring.corners ∷ []) ++ rings) (done ++ (ring ∷ rings))
-      all (omega arith) refl same
+    all (omega arith) refl same
 
 half : (z : ℤ) (d : ℕ) → pos 2 *ℤ z ≡ pos d → (z ≡ pos (natural z)) × (2 * natural z ≡ d)
 half (pos n) d e = (ap pos (sym (natural_pos n)), omega (arith, ints, e, natural_pos n))

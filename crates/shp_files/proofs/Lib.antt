@@ -9,3 +9,5 @@ pub mod Polygons
 pub mod Walk
 pub mod Sound
 pub mod Complete
+pub mod Laws
+pub mod Answering

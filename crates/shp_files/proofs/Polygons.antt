@@ -24,9 +24,11 @@ on_grid file unit start bytes at place k h fits e is =
 pub points_from_read : (file : List ℕ) (unit : LengthUnit) (start : ℕ) (bytes : List ℕ) (at place : ℕ) (corners : List Corner) → StandsAt file start bytes
     → at + 16 * length corners ≤ length bytes → place ≡ start + at → AreReadAs unit file place corners → ArePoints unit bytes at corners
 points_from_read file unit start bytes at place [] h fits e are = tt
-points_from_read file unit start bytes at place (corner ∷ rest) h fits e are =
-    (on_grid file unit start bytes at place corner.x h (omega arith) e are.0.x, on_grid file unit start bytes (at + 8) (place + 8) corner.y h (omega arith) (omega arith) are.0.y,
-      points_from_read file unit start bytes (at + 16) (place + 16) rest h (omega arith) (omega arith) are.1)
+points_from_read file unit start bytes at place (corner ∷ rest) h fits e are = (
+  on_grid file unit start bytes at place corner.x h (omega arith) e are.0.x,
+  on_grid file unit start bytes (at + 8) (place + 8) corner.y h (omega arith) (omega arith) are.0.y,
+  points_from_read file unit start bytes (at + 16) (place + 16) rest h (omega arith) (omega arith) are.1,
+)
 
 -- and the other way round
 pub read_from_points : (file : List ℕ) (unit : LengthUnit) (start : ℕ) (bytes : List ℕ) (at place : ℕ) (corners : List Corner) → StandsAt file start bytes
@@ -35,11 +37,13 @@ read_from_points file unit start bytes at place [] h fits e are = tt
 read_from_points file unit start bytes at place (corner ∷ rest) h fits e are =
     let x : double_at file place ≡ double_at bytes at = ap (λ n. double_at file n) e ∙ double_at_part file start bytes at h (omega arith) in
     let place8 : place + 8 ≡ start + (at + 8) = omega arith in
-    let y : double_at file (place + 8) ≡ double_at bytes (at + 8) = ap (λ n. double_at file n) place8 ∙ double_at_part file start bytes (at + 8) h (omega arith) in
-    (record {
-      x = ap (λ b. coordinate b unit) x ∙ accepted_when (double_at bytes at) unit corner.x are.0 corner.x_in_range;
-      y = ap (λ b. coordinate b unit) y ∙ accepted_when (double_at bytes (at + 8)) unit corner.y are.1 corner.y_in_range;
-    }, read_from_points file unit start bytes (at + 16) (place + 16) rest h (omega arith) (omega arith) are.2)
+    let y : double_at file (place + 8) ≡ double_at bytes (at + 8) = ap (λ n. double_at file n) place8 ∙ double_at_part file start bytes (at + 8) h (omega arith) in (
+      record {
+        x = ap (λ b. coordinate b unit) x ∙ accepted_when (double_at bytes at) unit corner.x are.0 corner.x_in_range;
+        y = ap (λ b. coordinate b unit) y ∙ accepted_when (double_at bytes (at + 8)) unit corner.y are.1 corner.y_in_range;
+      },
+      read_from_points file unit start bytes (at + 16) (place + 16) rest h (omega arith) (omega arith) are.2,
+    )
 
 pub polygon_from_passing : (file : List ℕ) (unit : LengthUnit) (position start before : ℕ) (bytes : List ℕ) (corners : List Corner) → RecordPasses file unit position start before
     → StandsAt file start bytes → start + length bytes ≡ record_end file start → length corners + 1 ≡ points_of file start

@@ -1,6 +1,6 @@
 //! The header of a file.
 
-ghost use Rattle.std.specs.Prelude.{◌≡◌, ◌≤◌, ◌+◌, length, IfOk};
+ghost use Rattle.std.specs.Prelude.{◌≡◌, ◌≤◌, ◌<◌, ◌^◌, ◌+◌, length, IfOk};
 ghost use Rattle.std.specs.Result.{result_err};
 ghost use Rattle.shp_files.specs.Checks.{first_failure, header_checks, declared_end, fault};
 
@@ -22,6 +22,8 @@ pub fn read_header(main: &[u8]) -> Result<usize, FileFault>
     ensures checked { result_err result ≡ first_failure (header_checks main.now) }
     ensures end { IfOk result (λ end. end ≡ declared_end main.now) }
     ensures within { IfOk result (λ end. end ≤ length main.now) }
+    ensures room { IfOk result (λ end. 100 ≤ end) }
+    ensures bound { IfOk result (λ end. end < 2 ^ 32) }
 {
     let size = main.len();
     refuse_if(size < HEADER, in_header(size, FaultKind::Short))?;

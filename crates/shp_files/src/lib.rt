@@ -5,6 +5,11 @@
 mod fault;
 mod fields;
 mod header;
+mod layer;
 mod record;
 
 pub use fault::{FaultKind, FileFault, FileName, LayerFault};
+pub use layer::{
+    a_layer_file_has_no_fault, a_layer_file_has_one_list_of_rings, a_text_has_one_first_fault,
+    read_layer,
+};

@@ -61,6 +61,7 @@ fn check_frame(main: &[u8], end: usize, head: RecordHead) -> Result<usize, FileF
     ensures end { IfOk result (λ content_end. content_end ≡ record_end main.now head.start) }
     ensures within { IfOk result (λ content_end. content_end ≤ end) }
     ensures room { IfOk result (λ content_end. head.start + 12 ≤ content_end) }
+    ensures few { IfOk result (λ content_end. head.position ≤ 65536) }
 {
     let start = head.start;
     refuse_if(
@@ -238,6 +239,7 @@ pub fn read_record<A: Allocator + Copy>(
     ensures longer { IfOk result (λ polygon. head.start < polygon.end) }
     ensures read { IfOk result (λ polygon. AreReadAs unit main.now (head.start + 56) (closed polygon.corners)) }
     ensures count { IfOk result (λ polygon. length polygon.corners + 1 ≡ points_of main.now head.start) }
+    ensures few { IfOk result (λ polygon. head.position ≤ 65536) }
     ensures few_together { IfOk result (λ polygon. corners + length polygon.corners ≤ 1000000) }
 {
     let content_end = check_frame(main, end, head)?;
