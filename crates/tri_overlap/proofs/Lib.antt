@@ -1,2 +1,3 @@
 pub mod Convex
 pub mod Helly
+pub mod Separating
