@@ -5,13 +5,9 @@ use Rattle.std.specs.Int.{int_min, int_max}
 use lib.IntN.{pos, ◌+ℤ◌, ◌-ℤ◌, ◌*ℤ◌, neg_ℤ}
 use lib.Signed.{◌≤ℤ◌}
 use Rattle.geo_exact.specs.declared.corner.Corner.{Corner}
-use Rattle.geo_exact.specs.Point.{Point}
+pub use Rattle.geo_exact.specs.Point.{Point, corner_point}
 use Rattle.geo_exact.specs.Turn.{turn, turn_at, IsOnEdge}
 use Rattle.geo_exact.proofs.Polynomials.{Expr, var, lit, add, mul, neg, same_by}
-
--- the corner's place, as a rational point
-abbrev pub corner_point : Corner → Point
-corner_point c = record { x = c.x; y = c.y; d = pos 1; d_positive = omega (arith, ints) }
 
 -- ---- identities of turns; the definitions once more, over expressions
 abbrev pub turn_at_expr : Expr → Expr → Expr → Expr → Expr → Expr → Expr → Expr
