@@ -5,7 +5,9 @@
 mod coord;
 mod corner;
 mod raw_ring;
+mod turns;
 
 pub use coord::{CoordFault, Unit};
 pub use corner::{Corner, LIMIT};
 pub use raw_ring::{Corners, RawRing};
+pub use turns::turn;
