@@ -4,3 +4,4 @@ pub mod Signs
 pub mod Within
 pub mod SameCorner
 pub mod EdgeSums
+pub mod CornerPoints

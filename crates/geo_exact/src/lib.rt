@@ -5,9 +5,11 @@
 mod coord;
 mod corner;
 mod raw_ring;
+mod segment;
 mod turns;
 
 pub use coord::{CoordFault, Unit};
 pub use corner::{Corner, LIMIT};
 pub use raw_ring::{Corners, RawRing};
+pub use segment::on_segment;
 pub use turns::turn;
