@@ -6,13 +6,11 @@ use lib.IntN.{ℤ, pos, ◌*ℤ◌}
 use lib.Signed.{◌≤ℤ◌}
 use Rattle.geo_exact.specs.declared.corner.Corner.{Corner}
 use Rattle.geo_exact.specs.Point.{corner_point}
-use Rattle.geo_exact.specs.Turn.{turn, turn_at, IsOnEdge}
+use Rattle.geo_exact.specs.Turn.{turn, IsOnEdge}
+use Rattle.geo_exact.proofs.TurnLaws.{turn_at_corner}
 
 times_one : (z : ℤ) → z *ℤ pos 1 ≡ z
 times_one z = omega (arith, ints)
-
-pub turn_at_corner : (a b p : Corner) → turn_at a b (corner_point p) ≡ turn a b p
-turn_at_corner a b p = simp times_one
 
 -- a corner is on an edge exactly where it is on its line and in its box
 pub on_edge_from_box : (a b p : Corner) → turn a b p ≡ pos 0

@@ -4,4 +4,8 @@ pub mod Signs
 pub mod Within
 pub mod SameCorner
 pub mod EdgeSums
+pub mod TurnLaws
+pub mod Crossings
+pub mod Windings
+pub mod Triangles
 pub mod CornerPoints

@@ -1,0 +1,56 @@
+-- Winding numbers and areas of rings: begun elsewhere, turned round, and with a corner more on an edge.
+use Rattle.std.proofs.Common.{◌≡◌, List, [], ◌∷◌, ◌++◌, reverse}
+use lib.IntN.{ℤ, neg_ℤ}
+use Rattle.geo_exact.specs.declared.corner.Corner.{Corner}
+use Rattle.geo_exact.specs.Point.{Point, corner_point}
+use Rattle.geo_exact.specs.Rings.{Edge, rotated, turned_round}
+use Rattle.geo_exact.specs.Turn.{IsOnEdge}
+use Rattle.geo_exact.specs.Winding.{crossing, crossings, winding}
+use Rattle.geo_exact.specs.Area.{edge_area2, area2}
+use Rattle.geo_exact.proofs.EdgeSums.{edge_of, sum_over-rotated, sum_over-turned_sign, sum_over-reversed_sign, sum_over-inserts, sum_over-inserts_last, sum_over-edge_split}
+use Rattle.geo_exact.proofs.Crossings.{crossing_back, crossing_cut, edge_area2_back, edge_area2_cut}
+
+-- the measure that `crossings` sums
+abbrev pub crossing_of : Point → Edge → ℤ
+crossing_of p edge = crossing p edge.from edge.to
+
+pub winding_rotated : (p : Point) (ring : List Corner) → winding p (rotated ring) ≡ winding p ring
+winding_rotated p = sum_over-rotated (crossing_of p)
+
+pub area2_rotated : (ring : List Corner) → area2 (rotated ring) ≡ area2 ring
+area2_rotated = sum_over-rotated edge_area2
+
+pub winding_turned_round : (p : Point) (ring : List Corner) → winding p (turned_round ring) ≡ neg_ℤ (winding p ring)
+winding_turned_round p ring = sum_over-turned_sign (crossing_of p) ring (λ edge. crossing_back p edge.from edge.to)
+
+pub area2_turned_round : (ring : List Corner) → area2 (turned_round ring) ≡ neg_ℤ (area2 ring)
+area2_turned_round ring = sum_over-turned_sign edge_area2 ring (λ edge. edge_area2_back edge.from edge.to)
+
+pub winding_reversed : (p : Point) (ring : List Corner) → winding p (reverse ring) ≡ neg_ℤ (winding p ring)
+winding_reversed p ring = sum_over-reversed_sign (crossing_of p) ring (λ edge. crossing_back p edge.from edge.to)
+
+pub area2_reversed : (ring : List Corner) → area2 (reverse ring) ≡ neg_ℤ (area2 ring)
+area2_reversed ring = sum_over-reversed_sign edge_area2 ring (λ edge. edge_area2_back edge.from edge.to)
+
+-- m on the edge from a to b, anywhere in the ring
+pub winding_inserts : (p : Point) (front back : List Corner) (a b m : Corner) → IsOnEdge (corner_point m) a b
+    → winding p (front ++ a ∷ m ∷ b ∷ back) ≡ winding p (front ++ a ∷ b ∷ back)
+winding_inserts p front back a b m h = sum_over-inserts (crossing_of p) front back a b m (crossing_cut p a b m h)
+
+pub area2_inserts : (front back : List Corner) (a b m : Corner) → IsOnEdge (corner_point m) a b
+    → area2 (front ++ a ∷ m ∷ b ∷ back) ≡ area2 (front ++ a ∷ b ∷ back)
+area2_inserts front back a b m h = sum_over-inserts edge_area2 front back a b m (edge_area2_cut a b m h)
+
+-- m on the edge that closes the ring
+pub winding_inserts_last : (p : Point) (rest : List Corner) (a b m : Corner) → IsOnEdge (corner_point m) b a
+    → winding p (a ∷ rest ++ b ∷ m ∷ []) ≡ winding p (a ∷ rest ++ b ∷ [])
+winding_inserts_last p rest a b m h = sum_over-inserts_last (crossing_of p) rest a b m (crossing_cut p b a m h)
+
+pub area2_inserts_last : (rest : List Corner) (a b m : Corner) → IsOnEdge (corner_point m) b a
+    → area2 (a ∷ rest ++ b ∷ m ∷ []) ≡ area2 (a ∷ rest ++ b ∷ [])
+area2_inserts_last rest a b m h = sum_over-inserts_last edge_area2 rest a b m (edge_area2_cut b a m h)
+
+-- in any list of edges
+pub crossings_edge_split : (p : Point) (front back : List Edge) (a b m : Corner) → IsOnEdge (corner_point m) a b
+    → crossings p (front ++ edge_of a m ∷ edge_of m b ∷ back) ≡ crossings p (front ++ edge_of a b ∷ back)
+crossings_edge_split p front back a b m h = sum_over-edge_split (crossing_of p) front back a b m (crossing_cut p a b m h)
