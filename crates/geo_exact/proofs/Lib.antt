@@ -9,3 +9,4 @@ pub mod Crossings
 pub mod Windings
 pub mod Triangles
 pub mod CornerPoints
+pub mod Paths

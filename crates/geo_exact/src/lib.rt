@@ -2,13 +2,16 @@
 //! streams that count their failures. No floating-point number occurs.
 #![tactic(auto)]
 
+mod area;
 mod coord;
 mod corner;
 mod laws;
+mod products;
 mod raw_ring;
 mod segment;
 mod turns;
 
+pub use area::area2;
 pub use coord::{CoordFault, Unit};
 pub use corner::{Corner, LIMIT};
 pub use laws::{

@@ -3,6 +3,7 @@ ghost use Rattle.geo_exact.specs.Limit.{IsWithin};
 ghost use Rattle.geo_exact.specs.Turn.{turn as turn_of};
 
 use crate::corner::Corner;
+use crate::products::wide_product;
 
 /// The way from one corner to another, in centimetres.
 #[derive(Clone, Copy)]
@@ -21,13 +22,6 @@ fn way_between(from: Corner, to: Corner) -> Way
         x: to.x - from.x,
         y: to.y - from.y,
     }
-}
-
-/// The exact product.
-fn wide_product(u: i64, v: i64) -> i128
-    ensures { result ≡ u *ℤ v }
-{
-    i128::from(u) * i128::from(v)
 }
 
 /// The product of two sides of a box.
