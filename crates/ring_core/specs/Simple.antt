@@ -11,6 +11,14 @@ pub record IsPlaceOf (p : Point) (corner : Corner) : Type 0 where
   pub same_x : p.x ≡ corner.x *ℤ p.d
   pub same_y : p.y ≡ corner.y *ℤ p.d
 
+-- some point lies on the edge from a to b and on the edge from c to d
+abbrev pub HaveCommonPoint : Corner → Corner → Corner → Corner → Type 0
+HaveCommonPoint a b c d = (p : Point) × IsOnEdge p a b × IsOnEdge p c d
+
+-- some point other than b lies on the edge from a to b and on the edge from b to c
+abbrev pub DoublesBack : Corner → Corner → Corner → Type 0
+DoublesBack a b c = (p : Point) × IsOnEdge p a b × IsOnEdge p b c × (¬ IsPlaceOf p b)
+
 -- p lies on edge i of the ring, which goes from corner i to the next
 abbrev pub IsOnEdgeAt : Point → List Corner → ℕ → Type 0
 IsOnEdgeAt p ring i = IsOnEdge p (corner_at ring i) (corner_at ring (after (length ring) i))
