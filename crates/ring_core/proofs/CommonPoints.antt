@@ -13,7 +13,7 @@ use Rattle.geo_exact.proofs.Polynomials.{Expr, var, lit, add, mul, neg, same_by}
 use Rattle.geo_exact.proofs.TurnLaws.{turn_at_expr, turn_expr, turn_cycle, turn_swap}
 use Rattle.geo_exact.proofs.CornerPoints.{on_edge_from_box}
 use Rattle.ring_core.specs.Simple.{HaveCommonPoint}
-use Rattle.ring_core.proofs.Meeting.{on_edge_back, on_edge_start, on_edge_end, AreOneSide, RangesOverlap}
+use Rattle.ring_core.proofs.EdgePoints.{on_edge_back, on_edge_start, on_edge_end, AreOneSide, RangesOverlap}
 
 -- ---- the point that divides the edge from a to b as s to -t
 abbrev divided : (a b : Corner) (s t : ℤ) → pos 0 <ℤ (s -ℤ t) → Point

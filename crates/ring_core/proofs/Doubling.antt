@@ -12,18 +12,18 @@ use Rattle.geo_exact.proofs.Signs.{mul_pos, mul_neg}
 use Rattle.geo_exact.proofs.Polynomials.{Expr, var, lit, add, mul, neg, same_by}
 use Rattle.geo_exact.proofs.TurnLaws.{turn_at_expr, turn_expr, turn_cycle, turn_swap}
 use Rattle.ring_core.specs.Simple.{IsPlaceOf, DoublesBack}
-use Rattle.ring_core.proofs.Meeting.{on_edge_back, on_edge_start, on_edge_end}
+use Rattle.ring_core.proofs.EdgePoints.{on_edge_back, on_edge_start, on_edge_end}
 use Rattle.ring_core.proofs.CommonPoints.{on_edge_by_x, on_edge_by_y}
 
 -- one of the ends lies on the other edge, and not at b
 abbrev pub EndDoublesBack : Corner → Corner → Corner → Type 0
 EndDoublesBack a b c =
-    (IsOnEdge (corner_point c) a b × (¬ IsPlaceOf (corner_point c) b)) ⊎ (IsOnEdge (corner_point a) b c × (¬ IsPlaceOf (corner_point a) b))
+    (IsOnEdge (corner_point c) a b × (¬ IsPlaceOf (corner_point c) b)) ⊎ (IsOnEdge (corner_point a) c b × (¬ IsPlaceOf (corner_point a) b))
 
 pub doubles_back_by_end : (a b c : Corner) → EndDoublesBack a b c → DoublesBack a b c
 doubles_back_by_end a b c h = elim h [
   | inl q ↦ (corner_point c, q.0, on_edge_end b c, q.1)
-  | inr q ↦ (corner_point a, on_edge_start a b, q.0, q.1)
+  | inr q ↦ (corner_point a, on_edge_start a b, on_edge_back (corner_point a) c b q.0, q.1)
 ]
 
 le_of_lt : (u v : ℤ) → u <ℤ v → u ≤ℤ v
@@ -102,7 +102,7 @@ above_x a b c p h k o =
     zero_of_mul (p.x -ℤ b.x *ℤ p.d) (turn a b c) (omega (arith, ints))
     (vanishes (c.x -ℤ b.x) (b.x -ℤ a.x) (turn_at a b p) (turn_at b c p) _ (line_x a b c p) h.on_line k.on_line) in
     by_lt_z a.x c.x
-    (λ q. inr (on_edge_by_x b c a second (le_of_lt b.x a.x first) (le_of_lt a.x c.x q) (turn_end a b c line), λ r. apart_above b.x a.x first r.same_x))
+    (λ q. inr (on_edge_back (corner_point a) b c (on_edge_by_x b c a second (le_of_lt b.x a.x first) (le_of_lt a.x c.x q) (turn_end a b c line)), λ r. apart_above b.x a.x first r.same_x))
     (λ q. inl (on_edge_back (corner_point c) b a (on_edge_by_x b a c first (le_of_lt b.x c.x second) q (turn_back a b c line)), λ r. apart_above b.x c.x second r.same_x))
 
 below_x : (a b c : Corner) (p : Point) → IsOnEdge p a b → IsOnEdge p b c → p.x <ℤ (b.x *ℤ p.d) → EndDoublesBack a b c
@@ -113,7 +113,7 @@ below_x a b c p h k o =
     zero_of_neg_mul (p.x -ℤ b.x *ℤ p.d) (turn a b c) (omega (arith, ints))
     (vanishes (c.x -ℤ b.x) (b.x -ℤ a.x) (turn_at a b p) (turn_at b c p) _ (line_x a b c p) h.on_line k.on_line) in
     by_lt_z c.x a.x
-    (λ q. inr (on_edge_back (corner_point a) c b (on_edge_by_x c b a second (le_of_lt c.x a.x q) (le_of_lt a.x b.x first) (turn_round a b c line)), λ r. apart_below b.x a.x first r.same_x))
+    (λ q. inr (on_edge_by_x c b a second (le_of_lt c.x a.x q) (le_of_lt a.x b.x first) (turn_round a b c line), λ r. apart_below b.x a.x first r.same_x))
     (λ q. inl (on_edge_by_x a b c first q (le_of_lt c.x b.x second) line, λ r. apart_below b.x c.x second r.same_x))
 
 above_y : (a b c : Corner) (p : Point) → IsOnEdge p a b → IsOnEdge p b c → (b.y *ℤ p.d) <ℤ p.y → EndDoublesBack a b c
@@ -124,7 +124,7 @@ above_y a b c p h k o =
     zero_of_mul (p.y -ℤ b.y *ℤ p.d) (turn a b c) (omega (arith, ints))
     (vanishes (c.y -ℤ b.y) (b.y -ℤ a.y) (turn_at a b p) (turn_at b c p) _ (line_y a b c p) h.on_line k.on_line) in
     by_lt_z a.y c.y
-    (λ q. inr (on_edge_by_y b c a second (le_of_lt b.y a.y first) (le_of_lt a.y c.y q) (turn_end a b c line), λ r. apart_above b.y a.y first r.same_y))
+    (λ q. inr (on_edge_back (corner_point a) b c (on_edge_by_y b c a second (le_of_lt b.y a.y first) (le_of_lt a.y c.y q) (turn_end a b c line)), λ r. apart_above b.y a.y first r.same_y))
     (λ q. inl (on_edge_back (corner_point c) b a (on_edge_by_y b a c first (le_of_lt b.y c.y second) q (turn_back a b c line)), λ r. apart_above b.y c.y second r.same_y))
 
 below_y : (a b c : Corner) (p : Point) → IsOnEdge p a b → IsOnEdge p b c → p.y <ℤ (b.y *ℤ p.d) → EndDoublesBack a b c
@@ -135,7 +135,7 @@ below_y a b c p h k o =
     zero_of_neg_mul (p.y -ℤ b.y *ℤ p.d) (turn a b c) (omega (arith, ints))
     (vanishes (c.y -ℤ b.y) (b.y -ℤ a.y) (turn_at a b p) (turn_at b c p) _ (line_y a b c p) h.on_line k.on_line) in
     by_lt_z c.y a.y
-    (λ q. inr (on_edge_back (corner_point a) c b (on_edge_by_y c b a second (le_of_lt c.y a.y q) (le_of_lt a.y b.y first) (turn_round a b c line)), λ r. apart_below b.y a.y first r.same_y))
+    (λ q. inr (on_edge_by_y c b a second (le_of_lt c.y a.y q) (le_of_lt a.y b.y first) (turn_round a b c line), λ r. apart_below b.y a.y first r.same_y))
     (λ q. inl (on_edge_by_y a b c first q (le_of_lt c.y b.y second) line, λ r. apart_below b.y c.y second r.same_y))
 
 level : (u v : ℤ) → v ≤ℤ u → u ≤ℤ v → u ≡ v

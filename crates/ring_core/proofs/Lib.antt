@@ -1,3 +1,3 @@
-pub mod Meeting
+pub mod EdgePoints
 pub mod CommonPoints
 pub mod Doubling

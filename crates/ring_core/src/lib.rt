@@ -2,6 +2,7 @@
 //! every rational point.
 #![tactic(auto)]
 
+mod meeting;
 mod ring;
 mod triangle;
 
