@@ -11,6 +11,7 @@ mod products;
 mod raw_ring;
 #[cfg(test)]
 mod tests;
+mod segment;
 mod turns;
 
 pub use area::area2;
@@ -27,4 +28,5 @@ pub use laws::{
     the_interior_of_a_triangle_is_left_of_its_edges,
 };
 pub use raw_ring::{Corners, RawRing};
+pub use segment::on_segment;
 pub use turns::turn;

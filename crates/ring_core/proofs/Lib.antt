@@ -1,0 +1,3 @@
+pub mod EdgePoints
+pub mod CommonPoints
+pub mod Doubling

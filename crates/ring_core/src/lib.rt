@@ -1,0 +1,10 @@
+//! Simple rings, checked exactly, and cut into triangles whose winding numbers sum to the ring's at
+//! every rational point.
+#![tactic(auto)]
+
+mod meeting;
+mod ring;
+mod triangle;
+
+pub use ring::RingFault;
+pub use triangle::{Tri, Triangles};
