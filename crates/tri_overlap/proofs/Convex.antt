@@ -1,13 +1,13 @@
 -- Convex sets of rational points: blends of points, half planes, and Helly's theorem for four sets in the plane.
-use Rattle.std.proofs.Common.{◌≡◌, refl, ◌∙◌, sym, ap, arith, inl, inr, ◌⊎◌, [], ◌∷◌}
+use Rattle.std.proofs.Common.{◌≡◌, refl, ◌∙◌, ap, arith, [], ◌∷◌}
 use Rattle.std.proofs.lemmas.Int.{ints, by_lt_z}
-use lib.IntN.{ℤ, pos, negsuc, ◌+ℤ◌, ◌-ℤ◌, ◌*ℤ◌, neg_ℤ}
+use lib.IntN.{ℤ, pos, ◌+ℤ◌, ◌-ℤ◌, ◌*ℤ◌}
 use lib.Signed.{◌<ℤ◌, ◌≤ℤ◌}
 use Rattle.geo_exact.specs.declared.corner.Corner.{Corner}
 use Rattle.geo_exact.specs.Point.{Point}
-use Rattle.geo_exact.specs.Turn.{turn, turn_at}
+use Rattle.geo_exact.specs.Turn.{turn_at}
 use Rattle.geo_exact.proofs.Signs.{mul_pos, mul_not_neg}
-use Rattle.geo_exact.proofs.Polynomials.{Expr, var, lit, add, mul, neg, same_by}
+use Rattle.geo_exact.proofs.Polynomials.{Expr, var, add, mul, neg, same_by}
 
 -- s is k p + l q + m r with no negative coefficient, in homogeneous coordinates: a place in the triangle of p, q and r
 pub record IsBlend (s p q r : Point) (k l m : ℤ) : Type 0 where
@@ -31,13 +31,13 @@ blend_positive k l m a b c u v w hk hl hm h ha hb hc =
     by_lt_z (pos 0) k
     (λ p. omega (arith, ints, mul_pos k a p ha, not_neg l b hl hb, not_neg m c hm hc))
     (λ p. by_lt_z (pos 0) l
-      (λ q. omega (arith, ints, mul_pos l b q hb, not_neg k a hk ha, not_neg m c hm hc))
-      (λ q. by_lt_z (pos 0) m
-        (λ r. omega (arith, ints, mul_pos m c r hc, not_neg k a hk ha, not_neg l b hl hb))
-        (λ r. let ek : k ≡ pos 0 = omega (arith, ints) in
-          let el : l ≡ pos 0 = omega (arith, ints) in
-          let em : m ≡ pos 0 = omega (arith, ints) in
-          absurd (omega (arith, ints, rw (ek, el, em) at h)))))
+    (λ q. omega (arith, ints, mul_pos l b q hb, not_neg k a hk ha, not_neg m c hm hc))
+    (λ q. by_lt_z (pos 0) m
+    (λ r. omega (arith, ints, mul_pos m c r hc, not_neg k a hk ha, not_neg l b hl hb))
+    (λ r. let ek : k ≡ pos 0 = omega (arith, ints) in
+    let el : l ≡ pos 0 = omega (arith, ints) in
+    let em : m ≡ pos 0 = omega (arith, ints) in
+    absurd (omega (arith, ints, rw (ek, el, em) at h)))))
 
 -- a turn as a polynomial in homogeneous coordinates
 abbrev form : ℤ → ℤ → ℤ → ℤ → ℤ → ℤ → ℤ → ℤ

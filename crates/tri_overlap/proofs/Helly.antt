@@ -1,7 +1,7 @@
 -- Helly's theorem for four convex sets of rational points in the plane, by Radon's: four points fall into two groups whose hulls meet.
-use Rattle.std.proofs.Common.{◌≡◌, ℕ, ◌+◌, List, refl, ◌∙◌, sym, ap, arith, inl, inr, ◌⊎◌, [], ◌∷◌}
+use Rattle.std.proofs.Common.{◌≡◌, ℕ, ◌+◌, List, refl, ◌∙◌, ap, arith, inl, inr, ◌⊎◌, [], ◌∷◌}
 use Rattle.std.proofs.lemmas.Int.{ints, by_lt_z}
-use lib.IntN.{ℤ, pos, negsuc, ◌+ℤ◌, ◌-ℤ◌, ◌*ℤ◌, neg_ℤ, *ℤ_comm}
+use lib.IntN.{ℤ, pos, ◌+ℤ◌, ◌-ℤ◌, ◌*ℤ◌, neg_ℤ, *ℤ_comm}
 use lib.Signed.{◌<ℤ◌, ◌≤ℤ◌}
 use Rattle.geo_exact.specs.Point.{Point}
 use Rattle.geo_exact.proofs.Signs.{mul_pos, mul_not_neg}
@@ -41,7 +41,6 @@ det_expr ax ay ad bx by bd cx cy cd =
 abbrev det_of : Point → Point → Point → ℤ
 det_of p q r = det p.x p.y p.d q.x q.y q.d r.x r.y r.d
 
-
 abbrev sum4_expr : Expr → Expr → Expr → Expr → Expr → Expr → Expr → Expr → Expr
 sum4_expr i j k l a b c d = add (add (add (mul i a) (mul j b)) (mul k c)) (mul l d)
 
@@ -71,13 +70,18 @@ signed_neg : (z : ℤ) → IsSigned z → IsSigned (neg_ℤ z)
 signed_neg z h = elim h [ inl a ↦ inr (omega (arith, ints)) | inr a ↦ inl (omega (arith, ints)) ]
 
 by_cramer : (p q r s : Point) → IsSigned (det_of p q r) → Dependence p q r s
-by_cramer p q r s h =
-    (det_of q r s, neg_ℤ (det_of p r s), det_of p q s, neg_ℤ (det_of p q r), record {
-      x = cramer_x p q r s;
-      y = cramer_y p q r s;
-      d = cramer_d p q r s;
-      is_proper = inr (inr (inr (signed_neg (det_of p q r) h)));
-    })
+by_cramer p q r s h = (
+  det_of q r s,
+  neg_ℤ (det_of p r s),
+  det_of p q s,
+  neg_ℤ (det_of p q r),
+  record {
+    x = cramer_x p q r s;
+    y = cramer_y p q r s;
+    d = cramer_d p q r s;
+    is_proper = inr (inr (inr (signed_neg (det_of p q r) h)));
+  },
+)
 
 -- ---- three points on one line
 abbrev minor_expr : ℕ → ℕ → ℕ → ℕ → Expr
@@ -104,35 +108,50 @@ no_fourth : (i j k a b c d : ℤ) → sum4 i j k (pos 0) a b c d ≡ i *ℤ a +�
 no_fourth i j k a b c d = omega (arith, ints)
 
 along_x : (p q r s : Point) → det_of p q r ≡ pos 0 → IsSigned (minor_x p q) → Dependence p q r s
-along_x p q r s e h =
-    (minor_x q r, neg_ℤ (minor_x p r), minor_x p q, pos 0, record {
-      x = no_fourth (minor_x q r) (neg_ℤ (minor_x p r)) (minor_x p q) p.x q.x r.x s.x ∙ same_by (env12 p q r s) (across_x 0) (lit (pos 0)) refl;
-      y = no_fourth (minor_x q r) (neg_ℤ (minor_x p r)) (minor_x p q) p.y q.y r.y s.y ∙ same_by (env12 p q r s) (across_x 1) (neg (det_at 0 3 6)) refl ∙ ap neg_ℤ e;
-      d = no_fourth (minor_x q r) (neg_ℤ (minor_x p r)) (minor_x p q) p.d q.d r.d s.d ∙ same_by (env12 p q r s) (across_x 2) (lit (pos 0)) refl;
-      is_proper = inr (inr (inl h));
-    })
+along_x p q r s e h = (
+  minor_x q r,
+  neg_ℤ (minor_x p r),
+  minor_x p q,
+  pos 0,
+  record {
+    x = no_fourth (minor_x q r) (neg_ℤ (minor_x p r)) (minor_x p q) p.x q.x r.x s.x ∙ same_by (env12 p q r s) (across_x 0) (lit (pos 0)) refl;
+    y = no_fourth (minor_x q r) (neg_ℤ (minor_x p r)) (minor_x p q) p.y q.y r.y s.y ∙ same_by (env12 p q r s) (across_x 1) (neg (det_at 0 3 6)) refl ∙ ap neg_ℤ e;
+    d = no_fourth (minor_x q r) (neg_ℤ (minor_x p r)) (minor_x p q) p.d q.d r.d s.d ∙ same_by (env12 p q r s) (across_x 2) (lit (pos 0)) refl;
+    is_proper = inr (inr (inl h));
+  },
+)
 
 along_y : (p q r s : Point) → det_of p q r ≡ pos 0 → IsSigned (minor_y p q) → Dependence p q r s
-along_y p q r s e h =
-    (minor_y q r, neg_ℤ (minor_y p r), minor_y p q, pos 0, record {
-      x = no_fourth (minor_y q r) (neg_ℤ (minor_y p r)) (minor_y p q) p.x q.x r.x s.x ∙ same_by (env12 p q r s) (across_y 0) (det_at 0 3 6) refl ∙ e;
-      y = no_fourth (minor_y q r) (neg_ℤ (minor_y p r)) (minor_y p q) p.y q.y r.y s.y ∙ same_by (env12 p q r s) (across_y 1) (lit (pos 0)) refl;
-      d = no_fourth (minor_y q r) (neg_ℤ (minor_y p r)) (minor_y p q) p.d q.d r.d s.d ∙ same_by (env12 p q r s) (across_y 2) (lit (pos 0)) refl;
-      is_proper = inr (inr (inl h));
-    })
+along_y p q r s e h = (
+  minor_y q r,
+  neg_ℤ (minor_y p r),
+  minor_y p q,
+  pos 0,
+  record {
+    x = no_fourth (minor_y q r) (neg_ℤ (minor_y p r)) (minor_y p q) p.x q.x r.x s.x ∙ same_by (env12 p q r s) (across_y 0) (det_at 0 3 6) refl ∙ e;
+    y = no_fourth (minor_y q r) (neg_ℤ (minor_y p r)) (minor_y p q) p.y q.y r.y s.y ∙ same_by (env12 p q r s) (across_y 1) (lit (pos 0)) refl;
+    d = no_fourth (minor_y q r) (neg_ℤ (minor_y p r)) (minor_y p q) p.d q.d r.d s.d ∙ same_by (env12 p q r s) (across_y 2) (lit (pos 0)) refl;
+    is_proper = inr (inr (inl h));
+  },
+)
 
 -- two points in one place
 two_terms : (a b u v w z : ℤ) → a *ℤ b -ℤ u *ℤ v ≡ pos 0 → sum4 b (neg_ℤ u) (pos 0) (pos 0) a v w z ≡ pos 0
 two_terms a b u v w z h = simp expand (omega (arith, ints, *ℤ_comm a b, h))
 
 in_one_place : (p q r s : Point) → minor_x p q ≡ pos 0 → minor_y p q ≡ pos 0 → Dependence p q r s
-in_one_place p q r s hx hy =
-    (q.d, neg_ℤ p.d, pos 0, pos 0, record {
-      x = two_terms p.x q.d p.d q.x r.x s.x hx;
-      y = two_terms p.y q.d p.d q.y r.y s.y hy;
-      d = two_terms p.d q.d p.d q.d r.d s.d (omega (arith, ints));
-      is_proper = inl (inl q.d_positive);
-    })
+in_one_place p q r s hx hy = (
+  q.d,
+  neg_ℤ p.d,
+  pos 0,
+  pos 0,
+  record {
+    x = two_terms p.x q.d p.d q.x r.x s.x hx;
+    y = two_terms p.y q.d p.d q.y r.y s.y hy;
+    d = two_terms p.d q.d p.d q.d r.d s.d (omega (arith, ints));
+    is_proper = inl (inl q.d_positive);
+  },
+)
 
 -- a number has a sign or is 0
 by_sign : {P : Type 0} (z : ℤ) → (IsSigned z → P) → (z ≡ pos 0 → P) → P
@@ -142,7 +161,7 @@ pub dependence : (p q r s : Point) → Dependence p q r s
 dependence p q r s =
     by_sign (det_of p q r) (by_cramer p q r s)
     (λ e. by_sign (minor_x p q) (along_x p q r s e)
-      (λ hx. by_sign (minor_y p q) (along_y p q r s e) (λ hy. in_one_place p q r s hx hy)))
+    (λ hx. by_sign (minor_y p q) (along_y p q r s e) (λ hy. in_one_place p q r s hx hy)))
 
 -- ---- the two groups, by the signs of the multiples
 -- a number is what is positive of it less what is negative, and one of the two is 0
@@ -187,7 +206,9 @@ no_last i j k l a b c d e = rw e (omega (arith, ints))
 
 without_first : (t p q r s : Point) (i j k l : ℤ) → IsSum t p q r s i j k l → i ≡ pos 0 → IsBlend t q r s j k l
 without_first t p q r s i j k l h e = record {
-  first = h.second; second = h.third; third = h.fourth;
+  first = h.second;
+  second = h.third;
+  third = h.fourth;
   x = h.x ∙ no_first i j k l p.x q.x r.x s.x e;
   y = h.y ∙ no_first i j k l p.y q.y r.y s.y e;
   d = h.d ∙ no_first i j k l p.d q.d r.d s.d e;
@@ -195,7 +216,9 @@ without_first t p q r s i j k l h e = record {
 
 without_second : (t p q r s : Point) (i j k l : ℤ) → IsSum t p q r s i j k l → j ≡ pos 0 → IsBlend t p r s i k l
 without_second t p q r s i j k l h e = record {
-  first = h.first; second = h.third; third = h.fourth;
+  first = h.first;
+  second = h.third;
+  third = h.fourth;
   x = h.x ∙ no_second i j k l p.x q.x r.x s.x e;
   y = h.y ∙ no_second i j k l p.y q.y r.y s.y e;
   d = h.d ∙ no_second i j k l p.d q.d r.d s.d e;
@@ -203,7 +226,9 @@ without_second t p q r s i j k l h e = record {
 
 without_third : (t p q r s : Point) (i j k l : ℤ) → IsSum t p q r s i j k l → k ≡ pos 0 → IsBlend t p q s i j l
 without_third t p q r s i j k l h e = record {
-  first = h.first; second = h.second; third = h.fourth;
+  first = h.first;
+  second = h.second;
+  third = h.fourth;
   x = h.x ∙ no_third i j k l p.x q.x r.x s.x e;
   y = h.y ∙ no_third i j k l p.y q.y r.y s.y e;
   d = h.d ∙ no_third i j k l p.d q.d r.d s.d e;
@@ -211,7 +236,9 @@ without_third t p q r s i j k l h e = record {
 
 without_last : (t p q r s : Point) (i j k l : ℤ) → IsSum t p q r s i j k l → l ≡ pos 0 → IsBlend t p q r i j k
 without_last t p q r s i j k l h e = record {
-  first = h.first; second = h.second; third = h.third;
+  first = h.first;
+  second = h.second;
+  third = h.third;
   x = h.x ∙ no_last i j k l p.x q.x r.x s.x e;
   y = h.y ∙ no_last i j k l p.y q.y r.y s.y e;
   d = h.d ∙ no_last i j k l p.d q.d r.d s.d e;
@@ -255,9 +282,9 @@ positive_sum i j k l a b c d hi hj hk hl ha hb hc hd h =
 -- which group has a multiple that is not 0
 sided : (z : ℤ) (f : Parts z) → IsSigned z → (pos 0 <ℤ f.up) ⊎ (pos 0 <ℤ f.down)
 sided z f h = elim h [
-    | inl a ↦ inl (omega (arith, ints, a, f.difference, f.down_not_negative))
-    | inr a ↦ inr (omega (arith, ints, a, f.difference, f.up_not_negative))
-  ]
+  | inl a ↦ inl (omega (arith, ints, a, f.difference, f.down_not_negative))
+  | inr a ↦ inr (omega (arith, ints, a, f.difference, f.up_not_negative))
+]
 
 abbrev SomePositive : ℤ → ℤ → ℤ → ℤ → Type 0
 SomePositive i j k l = (pos 0 <ℤ i) ⊎ (pos 0 <ℤ j) ⊎ (pos 0 <ℤ k) ⊎ (pos 0 <ℤ l)
@@ -265,15 +292,15 @@ SomePositive i j k l = (pos 0 <ℤ i) ⊎ (pos 0 <ℤ j) ⊎ (pos 0 <ℤ k) ⊎ 
 some_positive : (i j k l : ℤ) (a : Parts i) (b : Parts j) (c : Parts k) (d : Parts l) → (IsSigned i ⊎ IsSigned j ⊎ IsSigned k ⊎ IsSigned l)
     → SomePositive a.up b.up c.up d.up ⊎ SomePositive a.down b.down c.down d.down
 some_positive i j k l a b c d h = elim h [
-    | inl u ↦ elim (sided i a u) [ inl v ↦ inl (inl v) | inr v ↦ inr (inl v) ]
-    | inr u ↦ elim u [
-      | inl v ↦ elim (sided j b v) [ inl w ↦ inl (inr (inl w)) | inr w ↦ inr (inr (inl w)) ]
-      | inr v ↦ elim v [
-        | inl w ↦ elim (sided k c w) [ inl z ↦ inl (inr (inr (inl z))) | inr z ↦ inr (inr (inr (inl z))) ]
-        | inr w ↦ elim (sided l d w) [ inl z ↦ inl (inr (inr (inr z))) | inr z ↦ inr (inr (inr (inr z))) ]
-      ]
+  | inl u ↦ elim (sided i a u) [ inl v ↦ inl (inl v) | inr v ↦ inr (inl v) ]
+  | inr u ↦ elim u [
+    | inl v ↦ elim (sided j b v) [ inl w ↦ inl (inr (inl w)) | inr w ↦ inr (inr (inl w)) ]
+    | inr v ↦ elim v [
+      | inl w ↦ elim (sided k c w) [ inl z ↦ inl (inr (inr (inl z))) | inr z ↦ inr (inr (inr (inl z))) ]
+      | inr w ↦ elim (sided l d w) [ inl z ↦ inl (inr (inr (inr z))) | inr z ↦ inr (inr (inr (inr z))) ]
     ]
   ]
+]
 
 -- the sums of the two groups are the same
 split_sum : (i j k l : ℤ) (a : Parts i) (b : Parts j) (c : Parts k) (d : Parts l) (u v w z : ℤ) → sum4 i j k l u v w z ≡ pos 0
@@ -281,17 +308,17 @@ split_sum : (i j k l : ℤ) (a : Parts i) (b : Parts j) (c : Parts k) (d : Parts
 split_sum i j k l a b c d u v w z h =
     same_sums a.up b.up c.up d.up a.down b.down c.down d.down u v w z
     (let e : sum4 (a.up -ℤ a.down) (b.up -ℤ b.down) (c.up -ℤ c.down) (d.up -ℤ d.down) u v w z ≡ sum4 i j k l u v w z
-        = rw (← a.difference, ← b.difference, ← c.difference, ← d.difference) refl in e ∙ h)
+    = rw (← a.difference, ← b.difference, ← c.difference, ← d.difference) refl in e ∙ h)
 
 positive_parts : (p q r s : Point) (i j k l : ℤ) (a : Parts i) (b : Parts j) (c : Parts k) (d : Parts l) → IsDependent p q r s i j k l
     → pos 0 <ℤ sum4 a.up b.up c.up d.up p.d q.d r.d s.d
 positive_parts p q r s i j k l a b c d h = elim (some_positive i j k l a b c d h.is_proper) [
-    | inl u ↦ positive_sum a.up b.up c.up d.up p.d q.d r.d s.d a.up_not_negative b.up_not_negative c.up_not_negative d.up_not_negative
+  | inl u ↦ positive_sum a.up b.up c.up d.up p.d q.d r.d s.d a.up_not_negative b.up_not_negative c.up_not_negative d.up_not_negative
       p.d_positive q.d_positive r.d_positive s.d_positive u
-    | inr u ↦ rw (split_sum i j k l a b c d p.d q.d r.d s.d h.d)
+  | inr u ↦ rw (split_sum i j k l a b c d p.d q.d r.d s.d h.d)
       (positive_sum a.down b.down c.down d.down p.d q.d r.d s.d a.down_not_negative b.down_not_negative c.down_not_negative d.down_not_negative
       p.d_positive q.d_positive r.d_positive s.d_positive u)
-  ]
+]
 
 meet : (p q r s : Point) (i j k l : ℤ) (a : Parts i) (b : Parts j) (c : Parts k) (d : Parts l) → IsDependent p q r s i j k l → Radon p q r s
 meet p q r s i j k l a b c d h =
@@ -303,19 +330,36 @@ meet p q r s i j k l a b c d h =
     } in
     record {
       place = place;
-      i = a.up; j = b.up; k = c.up; l = d.up;
-      i' = a.down; j' = b.down; k' = c.down; l' = d.down;
+      i = a.up;
+      j = b.up;
+      k = c.up;
+      l = d.up;
+      i' = a.down;
+      j' = b.down;
+      k' = c.down;
+      l' = d.down;
       as_upper = record {
-        first = a.up_not_negative; second = b.up_not_negative; third = c.up_not_negative; fourth = d.up_not_negative;
-        x = refl; y = refl; d = refl;
+        first = a.up_not_negative;
+        second = b.up_not_negative;
+        third = c.up_not_negative;
+        fourth = d.up_not_negative;
+        x = refl;
+        y = refl;
+        d = refl;
       };
       as_lower = record {
-        first = a.down_not_negative; second = b.down_not_negative; third = c.down_not_negative; fourth = d.down_not_negative;
+        first = a.down_not_negative;
+        second = b.down_not_negative;
+        third = c.down_not_negative;
+        fourth = d.down_not_negative;
         x = split_sum i j k l a b c d p.x q.x r.x s.x h.x;
         y = split_sum i j k l a b c d p.y q.y r.y s.y h.y;
         d = split_sum i j k l a b c d p.d q.d r.d s.d h.d;
       };
-      first = a.one_is_none; second = b.one_is_none; third = c.one_is_none; fourth = d.one_is_none;
+      first = a.one_is_none;
+      second = b.one_is_none;
+      third = c.one_is_none;
+      fourth = d.one_is_none;
     }
 
 pub radon : (p q r s : Point) → Radon p q r s
@@ -332,8 +376,8 @@ pub helly : (P Q R S : Point → Type 0) → IsConvex P → IsConvex Q → IsCon
     → (t : Point) × P t × Q t × R t × S t
 helly P Q R S hP hQ hR hS p Qp Rp Sp q Pq Rq Sq r Pr Qr Sr s Ps Qs Rs =
     let m = radon p q r s in
-    let t = m.place in
-    (t,
+    let t = m.place in (
+      t,
       elim m.first [
         | inl e ↦ hP t q r s m.j m.k m.l (without_first t p q r s m.i m.j m.k m.l m.as_upper e) Pq Pr Ps
         | inr e ↦ hP t q r s m.j' m.k' m.l' (without_first t p q r s m.i' m.j' m.k' m.l' m.as_lower e) Pq Pr Ps
@@ -349,7 +393,8 @@ helly P Q R S hP hQ hR hS p Qp Rp Sp q Pq Rq Sq r Pr Qr Sr s Ps Qs Rs =
       elim m.fourth [
         | inl e ↦ hS t p q r m.i m.j m.k (without_last t p q r s m.i m.j m.k m.l m.as_upper e) Sp Sq Sr
         | inr e ↦ hS t p q r m.i' m.j' m.k' (without_last t p q r s m.i' m.j' m.k' m.l' m.as_lower e) Sp Sq Sr
-      ])
+      ],
+    )
 
 -- a place in four sets
 abbrev pub InFour : (P Q R S : Point → Type 0) → Type 0

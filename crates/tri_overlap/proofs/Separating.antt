@@ -1,21 +1,22 @@
 -- Two counterclockwise triangles have a common interior point exactly where no edge of one has the other on its right or on its line.
-use Rattle.std.proofs.Common.{◌≡◌, refl, ◌∙◌, sym, ap, arith, inl, inr, ◌⊎◌, [], ◌∷◌}
+use Rattle.std.proofs.Common.{◌≡◌, refl, ◌∙◌, arith, inl, inr, ◌⊎◌, [], ◌∷◌}
 use Rattle.std.proofs.lemmas.Int.{ints, by_lt_z}
-use lib.IntN.{ℤ, pos, negsuc, ◌+ℤ◌, ◌-ℤ◌, ◌*ℤ◌, neg_ℤ}
+use lib.IntN.{ℤ, pos, ◌+ℤ◌, ◌-ℤ◌, ◌*ℤ◌, neg_ℤ}
 use lib.Signed.{◌<ℤ◌, ◌≤ℤ◌}
 use Rattle.geo_exact.specs.declared.corner.Corner.{Corner}
 use Rattle.geo_exact.specs.Point.{Point}
 use Rattle.geo_exact.specs.Turn.{turn, turn_at}
+use Rattle.geo_exact.specs.Interiors.{InteriorsMeet}
+use Rattle.geo_exact.proofs.Triangles.{triangle_interior}
+use Rattle.ring_core.specs.declared.triangle.Tri.{Tri}
+use Rattle.ring_core.specs.Sums.{corners_of}
 use Rattle.geo_exact.proofs.Signs.{mul_pos, mul_not_neg}
 use Rattle.geo_exact.proofs.Differences.{expand}
 use Rattle.geo_exact.proofs.Polynomials.{Expr, var, add, mul, same_by}
 use Rattle.geo_exact.proofs.TurnLaws.{turn_expr, turn_at_expr, corner_point, turn_at_corner, turn_cycle}
+use Rattle.tri_overlap.specs.Separation.{SeesSome, NoEdgeSeparates}
 use Rattle.tri_overlap.proofs.Convex.{IsBlend, IsLeft, left_convex, turn_at_blend}
 use Rattle.tri_overlap.proofs.Helly.{InFour, helly_six}
-
--- some corner of a triangle is left of the way from g to h
-abbrev pub SeesSome : (g h a b c : Corner) → Type 0
-SeesSome g h a b c = (pos 0 <ℤ turn g h a) ⊎ (pos 0 <ℤ turn g h b) ⊎ (pos 0 <ℤ turn g h c)
 
 -- how far a blend has to lie towards its first corner
 enough_at : (n m s : ℤ) → pos 0 ≤ℤ n → pos 0 <ℤ m → pos 0 <ℤ (n +ℤ s) → pos 0 <ℤ (n *ℤ m +ℤ s)
@@ -63,22 +64,23 @@ turn_end a b = simp expand (omega (arith, ints))
 -- a place inside a triangle, near its first corner, that a way sees where it sees that corner
 near_first : (g k a b c : Corner) → pos 0 <ℤ turn a b c → pos 0 <ℤ turn g k a → InFour (IsLeft a b) (IsLeft b c) (IsLeft c a) (IsLeft g k)
 near_first g k a b c h s =
-    let n = enough (turn g k a) (turn g k a +ℤ turn g k b +ℤ turn g k c) s in
-    (toward a b c n.0 n.1,
+    let n = enough (turn g k a) (turn g k a +ℤ turn g k b +ℤ turn g k c) s in (
+      toward a b c n.0 n.1,
       rw (turn_at_toward a b a b c n.0 n.1, turn_start a b, turn_end a b) (omega (arith, ints, h)),
       rw (turn_at_toward b c a b c n.0 n.1, turn_cycle a b c, turn_start b c, turn_end b c) (omega (arith, ints, h, mul_not_neg n.0 (turn a b c) n.1 (omega (arith, ints, h)))),
       rw (turn_at_toward c a a b c n.0 n.1, turn_end c a, turn_cycle b c a, turn_cycle a b c, turn_start c a) (omega (arith, ints, h)),
-      rw (turn_at_toward g k a b c n.0 n.1) n.2)
+      rw (turn_at_toward g k a b c n.0 n.1) n.2,
+    )
 
 -- the same near whichever corner is seen
 near_seen : (g k a b c : Corner) → pos 0 <ℤ turn a b c → SeesSome g k a b c → InFour (IsLeft a b) (IsLeft b c) (IsLeft c a) (IsLeft g k)
 near_seen g k a b c h s = elim s [
-    | inl u ↦ near_first g k a b c h u
-    | inr v ↦ elim v [
-      | inl u ↦ let w = near_first g k b c a (rw (turn_cycle a b c) h) u in (w.0, w.3, w.1, w.2, w.4)
-      | inr u ↦ let w = near_first g k c a b (rw (turn_cycle b c a, turn_cycle a b c) h) u in (w.0, w.2, w.3, w.1, w.4)
-    ]
+  | inl u ↦ near_first g k a b c h u
+  | inr v ↦ elim v [
+    | inl u ↦ let w = near_first g k b c a (rw (turn_cycle a b c) h) u in (w.0, w.3, w.1, w.2, w.4)
+    | inr u ↦ let w = near_first g k c a b (rw (turn_cycle b c a, turn_cycle a b c) h) u in (w.0, w.2, w.3, w.1, w.4)
   ]
+]
 
 -- no edge of either of two triangles has the other on its right or on its line
 pub record IsUnseparated (a b c d e f : Corner) : Type 0 where
@@ -121,8 +123,15 @@ none_seen : (t u v w x y z s : ℤ) → pos 0 <ℤ t → t *ℤ s ≡ u *ℤ x +
     → pos 0 <ℤ s → (pos 0 <ℤ x) ⊎ (pos 0 <ℤ y) ⊎ (pos 0 <ℤ z)
 none_seen t u v w x y z s ht e hu hv hw hs =
     by_lt_z (pos 0) x (λ a. inl a) (λ a. by_lt_z (pos 0) y (λ b. inr (inl b)) (λ b. by_lt_z (pos 0) z (λ c. inr (inr c))
-      (λ c. absurd (omega (arith, ints, mul_pos t s ht hs, e,
-        not_above u x (omega (arith, ints)) a, not_above v y (omega (arith, ints)) b, not_above w z (omega (arith, ints)) c)))))
+    (λ c. absurd (omega (
+      arith,
+      ints,
+      mul_pos t s ht hs,
+      e,
+      not_above u x (omega (arith, ints)) a,
+      not_above v y (omega (arith, ints)) b,
+      not_above w z (omega (arith, ints)) c,
+    )))))
   where
     not_above : (m n : ℤ) → pos 0 ≤ℤ m → n ≤ℤ pos 0 → (m *ℤ n) ≤ℤ pos 0
     not_above m n i j = let q : pos 0 ≤ℤ (m *ℤ neg_ℤ n) = mul_not_neg m (neg_ℤ n) i (omega (arith, ints)) in omega (arith, ints, simp expand at q)
@@ -142,3 +151,16 @@ unseparated a b c d e f p h k i j = record {
   by_ef = sees_corner e f a b c p h i j.1;
   by_fd = sees_corner f d a b c p h i j.2;
 }
+
+-- ---- triangles of ring_core
+pub meet_unseparated : (s t : Tri) → NoEdgeSeparates s t → NoEdgeSeparates t s → InteriorsMeet (corners_of s) (corners_of t)
+meet_unseparated s t h k =
+    let w = common_place s.a s.b s.c t.a t.b t.c s.turns_left t.turns_left
+    (record { by_ab = h.0; by_bc = h.1; by_ca = h.2; by_de = k.0; by_ef = k.1; by_fd = k.2 }) in
+    (w.0, (triangle_interior s.a s.b s.c w.0 s.turns_left).1 w.1, (triangle_interior t.a t.b t.c w.0 t.turns_left).1 (w.2, w.3, w.4))
+
+pub unseparated_meet : (s t : Tri) → InteriorsMeet (corners_of s) (corners_of t) → NoEdgeSeparates s t × NoEdgeSeparates t s
+unseparated_meet s t m =
+    let u = unseparated s.a s.b s.c t.a t.b t.c m.0 s.turns_left t.turns_left
+    ((triangle_interior s.a s.b s.c m.0 s.turns_left).0 m.1) ((triangle_interior t.a t.b t.c m.0 t.turns_left).0 m.2) in
+    ((u.by_ab, u.by_bc, u.by_ca), (u.by_de, u.by_ef, u.by_fd))

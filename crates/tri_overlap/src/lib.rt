@@ -1,3 +1,7 @@
-//! Whether two interiors meet, exactly (OGC 06-103r4, 6.1.15.2: the first entry of the
-//! nine-intersection matrix).
+//! Whether two interiors meet, exactly: the first entry of the nine-intersection matrix
+//! (OGC 06-103r4, 6.1.15.2), said of all rational points.
 #![tactic(auto)]
+
+mod triangles;
+
+pub use triangles::triangles_overlap;
