@@ -1,3 +1,4 @@
 pub mod Convex
 pub mod Helly
 pub mod Separating
+pub mod Shapes
