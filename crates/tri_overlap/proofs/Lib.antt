@@ -1,4 +1,5 @@
 pub mod Convex
 pub mod Helly
 pub mod Separating
-pub mod Shapes
+pub mod Dropped
+pub mod RingPairs

@@ -1,8 +1,8 @@
 -- The interiors of two rings meet exactly where the interiors of two of the triangles that make them up do.
-use Rattle.std.proofs.Common.{◌≡◌, refl, ◌∙◌, sym, ap, arith, inl, inr, ◌⊎◌, List, [], ◌∷◌, ◌↔◌}
+use Rattle.std.proofs.Common.{◌≡◌, arith, inl, inr, ◌⊎◌, List, [], ◌∷◌}
 use Rattle.std.proofs.lemmas.Int.{ints}
-use lib.IntN.{ℤ, pos, ◌+ℤ◌}
-use lib.Signed.{◌<ℤ◌, ◌≤ℤ◌}
+use lib.IntN.{pos}
+use lib.Signed.{◌≤ℤ◌}
 use Rattle.geo_exact.specs.declared.corner.Corner.{Corner}
 use Rattle.geo_exact.specs.Point.{Point}
 use Rattle.geo_exact.specs.Rings.{Edge, edges}
@@ -30,24 +30,24 @@ round_once p t = triangle_winds_at_most_once t.a t.b t.c p t.turns_left
 sum_not_negative : (p : Point) (ts : List Tri) → pos 0 ≤ℤ winding_sum p ts
 sum_not_negative p [] = omega (arith, ints)
 sum_not_negative p (t ∷ ts) = elim (round_once p t) [
-    | inl e ↦ omega (arith, ints, e, sum_not_negative p ts)
-    | inr e ↦ omega (arith, ints, e, sum_not_negative p ts)
-  ]
+  | inl e ↦ omega (arith, ints, e, sum_not_negative p ts)
+  | inr e ↦ omega (arith, ints, e, sum_not_negative p ts)
+]
 
 in_some : (p : Point) → IsOffEdges p → (ts : List Tri) → pos 1 ≤ℤ winding_sum p ts → InSome p ts
 in_some p off [] h = absurd (omega (arith, ints, h))
 in_some p off (t ∷ ts) h = elim (round_once p t) [
-    | inl e ↦ inr (in_some p off ts (omega (arith, ints, e, h)))
-    | inr e ↦ inl (record { off_edges = off (edges (corners_of t)); is_wound = omega (arith, ints, e) })
-  ]
+  | inl e ↦ inr (in_some p off ts (omega (arith, ints, e, h)))
+  | inr e ↦ inl (record { off_edges = off (edges (corners_of t)); is_wound = omega (arith, ints, e) })
+]
 
 wound_in_some : (p : Point) (ts : List Tri) → InSome p ts → pos 1 ≤ℤ winding_sum p ts
 wound_in_some p [] h = absurd h
 wound_in_some p (t ∷ ts) (inl h) = omega (arith, ints, h.is_wound, sum_not_negative p ts)
 wound_in_some p (t ∷ ts) (inr h) = elim (round_once p t) [
-    | inl e ↦ omega (arith, ints, e, wound_in_some p ts h)
-    | inr e ↦ omega (arith, ints, e, wound_in_some p ts h)
-  ]
+  | inl e ↦ omega (arith, ints, e, wound_in_some p ts h)
+  | inr e ↦ omega (arith, ints, e, wound_in_some p ts h)
+]
 
 one_meets : (p : Point) (t : Tri) (us : List Tri) → IsInterior p (corners_of t) → InSome p us → MeetsSome t us
 one_meets p t [] i h = h

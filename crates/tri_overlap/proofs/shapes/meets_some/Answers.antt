@@ -1,0 +1,19 @@
+use Rattle.std.proofs.Common.{refl, inl, inr}
+use Rattle.std.proofs.lemmas.Bool.{false≢true}
+use Rattle.tri_overlap.proofs.Dropped.{drop_item}
+use Rattle.tri_overlap.proofs.shapes.meets_some.Goals as goal
+
+pub returns-then-triangles_overlap : goal.returns-then-triangles_overlap
+returns-then-triangles_overlap c =
+    let here = drop_item c.args.others.now c.loop-other.other-index c.other-item.result c.loop-other-test.true c.other-item.is in
+    (λ _. c.loop-other.invariant.1 (rw here (inl (c.if-triangles_overlap.ensures.0 refl))), λ _. refl)
+
+pub loop-other-preserved : goal.loop-other-preserved
+loop-other-preserved c =
+    let here = drop_item c.args.others.now c.loop-other.other-index c.other-item.result c.loop-other-test.true c.other-item.is in (
+      λ m. elim (rw here at (c.loop-other.invariant.0 m)) [
+        | inl h ↦ absurd (false≢true (c.if-triangles_overlap.ensures.1 h))
+        | inr h ↦ h
+      ],
+      λ m. c.loop-other.invariant.1 (rw here (inr m)),
+    )
