@@ -2,4 +2,6 @@ pub mod Convex
 pub mod Helly
 pub mod Separating
 pub mod Dropped
+pub mod Extremes
+pub mod Boxes
 pub mod RingPairs

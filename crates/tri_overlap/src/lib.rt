@@ -2,6 +2,7 @@
 //! (OGC 06-103r4, 6.1.15.2), said of all rational points.
 #![tactic(auto)]
 
+mod bounds;
 mod shapes;
 mod triangles;
 
