@@ -1,5 +1,5 @@
 -- What is inside a triangle is inside each box that holds it; triangles in boxes that are apart have no common inner point.
-use Rattle.std.proofs.Common.{◌≡◌, refl, ◌∙◌, sym, arith, inl, inr, ◌⊎◌, ◌+◌, List, [], ◌∷◌}
+use Rattle.std.proofs.Common.{◌≡◌, arith, inl, inr, List, [], ◌∷◌}
 use Rattle.std.proofs.lemmas.Int.{ints, by_lt_z}
 use Rattle.std.proofs.lemmas.List.Elements.{All-tail}
 use lib.IntN.{ℤ, pos, ◌+ℤ◌, ◌-ℤ◌, ◌*ℤ◌, neg_ℤ}
@@ -16,7 +16,7 @@ use Rattle.geo_exact.proofs.TurnLaws.{weighed_x, weighed_y}
 use Rattle.ring_core.specs.declared.triangle.Tri.{Tri}
 use Rattle.ring_core.specs.Sums.{corners_of}
 use Rattle.tri_overlap.specs.declared.bounds.Bounds.{Bounds}
-use Rattle.tri_overlap.specs.Bounding.{Holds, HoldsAll, AreApart}
+use Rattle.tri_overlap.specs.Bounding.{HoldsCorner, Holds, HoldsAll, AreApart}
 use Rattle.tri_overlap.specs.Separation.{MeetsSome}
 
 -- a weighed sum without a positive term, one of which is negative, is negative
@@ -111,3 +111,26 @@ pub apart_from_all : (s : Tri) (ts : List Tri) (box other : Bounds) → Holds bo
 apart_from_all s [] box other h k a m = m
 apart_from_all s (t ∷ ts) box other h k a (inl m) = apart_triangles s t box other h (k 0 t (omega arith)) a m
 apart_from_all s (t ∷ ts) box other h k a (inr m) = apart_from_all s ts box other h (All-tail (Holds other) t ts k) a m
+
+-- the second box reaches as far as the first on each side
+pub record IsWider (box wider : Bounds) : Type 0 where
+  pub west : wider.low.x ≤ℤ box.low.x
+  pub east : box.high.x ≤ℤ wider.high.x
+  pub south : wider.low.y ≤ℤ box.low.y
+  pub north : box.high.y ≤ℤ wider.high.y
+
+holds_corner : (box wider : Bounds) → IsWider box wider → (corner : Corner) → HoldsCorner box corner → HoldsCorner wider corner
+holds_corner box wider w corner h = record {
+  west = omega (arith, ints, w.west, h.west);
+  east = omega (arith, ints, w.east, h.east);
+  south = omega (arith, ints, w.south, h.south);
+  north = omega (arith, ints, w.north, h.north);
+}
+
+-- it holds what the first does
+pub wider_holds : (box wider : Bounds) → IsWider box wider → (t : Tri) → Holds box t → Holds wider t
+wider_holds box wider w t h = record {
+  a = holds_corner box wider w t.a h.a;
+  b = holds_corner box wider w t.b h.b;
+  c = holds_corner box wider w t.c h.c;
+}

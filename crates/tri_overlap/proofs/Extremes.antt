@@ -22,3 +22,9 @@ min_within {u = u} {v = v} e i j =
 pub max_within : {z u v : ℤ} → z ≡ int_max u v → IsWithin limit u → IsWithin limit v → IsWithin limit z
 max_within {u = u} {v = v} e i j =
     let f = int_max_is u v in record { low = omega (arith, ints, i, j); high = omega (arith, ints, i, j) }
+
+pub min_of : {z u v : ℤ} → z ≡ int_min u v → (z ≤ℤ u) × (z ≤ℤ v)
+min_of {u = u} {v = v} e = let f = int_min_is u v in (omega (arith, ints), omega (arith, ints))
+
+pub max_of : {z u v : ℤ} → z ≡ int_max u v → (u ≤ℤ z) × (v ≤ℤ z)
+max_of {u = u} {v = v} e = let f = int_max_is u v in (omega (arith, ints), omega (arith, ints))

@@ -1,8 +1,9 @@
 ghost use Rattle.std.specs.Prelude.{◌≡◌, ◌↔◌, ◌≤ℤ◌, IsTrue};
 ghost use Rattle.std.specs.Int.{int_max, int_min};
-ghost use Rattle.tri_overlap.specs.Bounding.{AreApart, EndsBefore, Holds};
+ghost use Rattle.ring_core.specs.declared.triangle.Tri.{Tri};
+ghost use Rattle.tri_overlap.specs.Bounding.{AreApart, EndsBefore, Holds, HoldsAll};
 
-use geo_exact::Corner;
+use geo_exact::{Corner, LIMIT};
 use ring_core::Tri;
 
 /// A box with sides along the axes, from its least coordinates to its greatest, in centimetres.
@@ -42,6 +43,34 @@ pub fn bounds_of(triangle: &Tri) -> Bounds
         low: lower(lower(triangle.a, triangle.b), triangle.c),
         high: upper(upper(triangle.a, triangle.b), triangle.c),
     }
+}
+
+/// The least box that holds what either box holds.
+fn around(first: Bounds, second: Bounds) -> Bounds
+    ensures first { (t : Tri) → Holds first t → Holds result t }
+    ensures second { (t : Tri) → Holds second t → Holds result t }
+{
+    Bounds {
+        low: lower(first.low, second.low),
+        high: upper(first.high, second.high),
+    }
+}
+
+/// The least box that holds all of the triangles; for none, a box that is apart from each other.
+pub fn bounds_of_all(triangles: &[Tri]) -> Bounds
+    ensures { HoldsAll result triangles.now }
+{
+    let mut bounds = Bounds {
+        low: Corner { x: LIMIT, y: LIMIT },
+        high: Corner {
+            x: -LIMIT,
+            y: -LIMIT,
+        },
+    };
+    for triangle in triangles {
+        bounds = around(bounds, bounds_of(triangle));
+    }
+    bounds
 }
 
 /// Whether of the ranges from `u` to `v` and from `s` to `t` one ends at the other's beginning or before it.

@@ -1,15 +1,22 @@
-ghost use Rattle.std.specs.Prelude.{◌≡◌, ◌↔◌, IsTrue, length};
+ghost use Rattle.std.specs.Prelude.{◌↔◌, IsTrue};
+ghost use Rattle.tri_overlap.specs.Bounding.{HoldsAll};
 ghost use Rattle.tri_overlap.specs.Separation.{MeetsSome, SomePairMeets};
 
-use crate::triangles::triangles_overlap;
+use crate::bounds::{Bounds, are_apart, bounds_of, bounds_of_all};
+use crate::triangles::meet_in_box;
 use ring_core::Tri;
 
-/// Whether the triangle's interior meets that of some triangle of the list.
-fn meets_some(triangle: &Tri, others: &[Tri]) -> bool
+/// Whether the triangle's interior meets that of some triangle of the list, all of which are in the box.
+fn meets_some(triangle: &Tri, others: &[Tri], box_of_others: Bounds) -> bool
+    requires { HoldsAll box_of_others others.now }
     ensures { IsTrue result ↔ MeetsSome triangle.now others.now }
 {
+    let bounds = bounds_of(triangle);
+    if are_apart(bounds, box_of_others) {
+        return false;
+    }
     for other in others {
-        if triangles_overlap(triangle, other) {
+        if meet_in_box(triangle, bounds, other) {
             return true;
         }
     }
@@ -20,8 +27,9 @@ fn meets_some(triangle: &Tri, others: &[Tri]) -> bool
 fn some_pair_meets(first: &[Tri], second: &[Tri]) -> bool
     ensures { IsTrue result ↔ SomePairMeets first.now second.now }
 {
+    let box_of_second = bounds_of_all(second);
     for triangle in first {
-        if meets_some(triangle, second) {
+        if meets_some(triangle, second, box_of_second) {
             return true;
         }
     }

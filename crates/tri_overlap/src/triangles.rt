@@ -3,7 +3,9 @@ ghost use Rattle.geo_exact.specs.Turn.{turn as turn_of};
 ghost use Rattle.geo_exact.specs.Interiors.{InteriorsMeet};
 ghost use Rattle.ring_core.specs.Sums.{corners_of};
 ghost use Rattle.tri_overlap.specs.Separation.{NoEdgeSeparates, SeesSome};
+ghost use Rattle.tri_overlap.specs.Bounding.{Holds};
 
+use crate::bounds::{Bounds, are_apart, bounds_of};
 use geo_exact::{Corner, turn};
 use ring_core::Tri;
 
@@ -30,6 +32,17 @@ fn each_edge_sees(first: &Tri, second: &Tri) -> bool
         && sees(first.c, first.a, second)
 }
 
+/// Whether the interiors of two triangles have a common point, where a box is known that holds the first.
+pub fn meet_in_box(first: &Tri, bounds: Bounds, second: &Tri) -> bool
+    requires { Holds bounds first.now }
+    ensures { IsTrue result ↔ InteriorsMeet (corners_of first.now) (corners_of second.now) }
+{
+    if are_apart(bounds, bounds_of(second)) {
+        return false;
+    }
+    each_edge_sees(first, second) && each_edge_sees(second, first)
+}
+
 /// Whether the interiors of two triangles have a common point, with fractions.
 ///
 /// Two triangles of positive area have none exactly when some edge of one has all corners of the other
@@ -37,5 +50,5 @@ fn each_edge_sees(first: &Tri, second: &Tri) -> bool
 pub fn triangles_overlap(first: &Tri, second: &Tri) -> bool
     ensures { IsTrue result ↔ InteriorsMeet (corners_of first.now) (corners_of second.now) }
 {
-    each_edge_sees(first, second) && each_edge_sees(second, first)
+    meet_in_box(first, bounds_of(first), second)
 }

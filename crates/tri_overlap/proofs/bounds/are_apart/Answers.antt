@@ -1,4 +1,4 @@
-use Rattle.std.proofs.Common.{◌≡◌, inl, inr, sym, ◌∙◌, arith, FitsSigned, w64}
+use Rattle.std.proofs.Common.{inl, inr, sym, ◌∙◌, arith, FitsSigned, w64}
 use Rattle.std.proofs.lemmas.Bool.{false≢true}
 use Rattle.std.proofs.lemmas.Int.{ints, to_z-of_z}
 use Rattle.geo_exact.specs.declared.corner.Corner.{Corner}
