@@ -4,4 +4,5 @@ pub mod Separating
 pub mod Dropped
 pub mod Extremes
 pub mod Boxes
+pub mod Numbered
 pub mod RingPairs

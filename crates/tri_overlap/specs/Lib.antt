@@ -1,2 +1,3 @@
 pub mod Separation
 pub mod Bounding
+pub mod Folding

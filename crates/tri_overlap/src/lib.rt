@@ -3,6 +3,7 @@
 #![tactic(auto)]
 
 mod bounds;
+mod folds;
 mod shapes;
 mod triangles;
 
