@@ -1,3 +1,5 @@
 pub mod EdgePoints
 pub mod CommonPoints
 pub mod Doubling
+pub mod Neighbours
+pub mod Corners

@@ -3,8 +3,9 @@
 #![tactic(auto)]
 
 mod meeting;
+mod places;
 mod ring;
 mod triangle;
 
-pub use ring::RingFault;
+pub use ring::{Ring, RingFault};
 pub use triangle::{Tri, Triangles};
