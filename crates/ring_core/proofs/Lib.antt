@@ -3,3 +3,4 @@ pub mod CommonPoints
 pub mod Doubling
 pub mod Neighbours
 pub mod Corners
+pub mod Cuts
