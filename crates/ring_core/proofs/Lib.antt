@@ -4,3 +4,4 @@ pub mod Doubling
 pub mod Neighbours
 pub mod Corners
 pub mod Cuts
+pub mod Clipped
