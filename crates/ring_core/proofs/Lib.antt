@@ -5,3 +5,4 @@ pub mod Neighbours
 pub mod Corners
 pub mod Cuts
 pub mod Clipped
+pub mod ClipSteps
