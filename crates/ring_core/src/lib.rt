@@ -14,3 +14,6 @@ pub use rest::Rest;
 pub use ring::{Ring, RingFault};
 pub use shape::{ClipFault, Shape};
 pub use triangle::{Tri, Triangles};
+
+#[cfg(test)]
+mod tests;
