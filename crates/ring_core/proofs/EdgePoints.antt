@@ -117,6 +117,7 @@ left_of_line a b c d p h s t =
     rising m n g hs ht o =
         mean_pos m.x n.x p.d p.x (turn a b m) (turn a b n) (turn_at a b p) (b.x -ℤ a.x) (turn_at m n p) p.d_positive o
         (range m.x n.x p.d p.x (le_of_lt m.x n.x o) g.from_x g.to_x) hs ht (left_x a b m n p) g.on_line
+
     upward : (m n : Corner) → IsOnEdge p m n → pos 0 <ℤ turn a b m → pos 0 <ℤ turn a b n → m.y <ℤ n.y → pos 0 <ℤ turn_at a b p
     upward m n g hs ht o =
         mean_pos m.y n.y p.d p.y (turn a b m) (turn a b n) (turn_at a b p) (b.y -ℤ a.y) (turn_at m n p) p.d_positive o
@@ -136,6 +137,7 @@ not_one_side a b c d p h k s =
   where
     above : (t : ℤ) → pos 0 <ℤ t → t ≡ pos 0 → ⊥
     above t g e = omega (arith, ints)
+
     turned : (t s : ℤ) → t ≡ neg_ℤ s → s <ℤ pos 0 → pos 0 <ℤ t
     turned t s e g = omega (arith, ints)
 

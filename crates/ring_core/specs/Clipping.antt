@@ -24,17 +24,12 @@ next rest k = corner_at rest (after (length rest) k)
 abbrev pub IsFlat : List Corner → ℕ → Type 0
 IsFlat rest k = IsOnEdge (corner_point (corner_at rest k)) (previous rest k) (next rest k)
 
--- corner k is an ear: a left turn, with no other corner in the closed triangle of it and its neighbours
-pub record IsEar (rest : List Corner) (k : ℕ) : Type 0 where
-  pub turns_left : pos 0 <ℤ turn (previous rest k) (corner_at rest k) (next rest k)
-  pub is_empty : (j : ℕ) → j < length rest → j ≢ before (length rest) k → j ≢ k → j ≢ after (length rest) k
-      → ¬ IsInTriangle (corner_at rest j) (previous rest k) (corner_at rest k) (next rest k)
-
--- t is the triangle of corner k and its neighbours
-pub record IsTriangleAt (rest : List Corner) (k : ℕ) (t : Tri) : Type 0 where
-  pub a : t.a ≡ previous rest k
-  pub b : t.b ≡ corner_at rest k
-  pub c : t.c ≡ next rest k
+-- corner j lies in the closed triangle of corner k and its neighbours, and is none of these three
+pub record Blocks (rest : List Corner) (k j : ℕ) : Type 0 where
+  pub not_before : j ≢ before (length rest) k
+  pub not_same : j ≢ k
+  pub not_after : j ≢ after (length rest) k
+  pub is_inside : IsInTriangle (corner_at rest j) (previous rest k) (corner_at rest k) (next rest k)
 
 -- no number below n has the property
 abbrev pub HasNone : (ℕ → Type 0) → ℕ → Type 0
@@ -45,6 +40,17 @@ pub record IsFirst (P : ℕ → Type 0) (n k : ℕ) : Type 0 where
   pub below : k < n
   pub has : P k
   pub none_before : HasNone P k
+
+-- corner k is an ear: a left turn, with no other corner in the closed triangle of it and its neighbours
+pub record IsEar (rest : List Corner) (k : ℕ) : Type 0 where
+  pub turns_left : pos 0 <ℤ turn (previous rest k) (corner_at rest k) (next rest k)
+  pub is_empty : HasNone (Blocks rest k) (length rest)
+
+-- t is the triangle of corner k and its neighbours
+pub record IsTriangleAt (rest : List Corner) (k : ℕ) (t : Tri) : Type 0 where
+  pub a : t.a ≡ previous rest k
+  pub b : t.b ≡ corner_at rest k
+  pub c : t.c ≡ next rest k
 
 -- The ring is clipped to the triangles and the rest. As long as more than two corners are left, the first flat corner is taken
 -- out; where none is flat, the first ear is taken out, and its triangle added.

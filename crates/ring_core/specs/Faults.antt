@@ -4,14 +4,14 @@ use Rattle.geo_exact.specs.declared.corner.Corner.{Corner}
 use Rattle.geo_exact.specs.Area.{area2}
 use Rattle.ring_core.specs.declared.ring.RingFault.{RingFault}
 use Rattle.ring_core.specs.declared.ring.RingFault.TheVariants.{ZeroArea, Clockwise, EdgesMeet}
-use Rattle.ring_core.specs.Simple.{MeetAsNeighbours, MeetOtherwise}
+use Rattle.ring_core.specs.Simple.{MeetOtherwise}
 
 -- edges i and j are the first two, by i and then by j, that meet otherwise than as neighbours do
 pub record IsFirstMeeting (ring : List Corner) (i j : ℕ) : Type 0 where
   pub ordered : i < j
   pub in_ring : j < length ring
   pub meet : MeetOtherwise ring i j
-  pub is_first : (k l : ℕ) → k < l → l < length ring → (k < i) ⊎ ((k ≡ i) × (l < j)) → MeetAsNeighbours ring k l
+  pub is_first : (k l : ℕ) → k < l → l < length ring → (k < i) ⊎ ((k ≡ i) × (l < j)) → ¬ MeetOtherwise ring k l
 
 -- the fault is the first that the ring has
 abbrev pub IsRingFault : List Corner → RingFault → Type 0

@@ -3,3 +3,4 @@ pub mod Simple
 pub mod Faults
 pub mod Clipping
 pub mod Sums
+pub mod Stuck

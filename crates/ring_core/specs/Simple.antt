@@ -28,15 +28,11 @@ abbrev pub IsSharedCorner : Point → List Corner → ℕ → ℕ → Type 0
 IsSharedCorner p ring i j =
     ((j ≡ after (length ring) i) × IsPlaceOf p (corner_at ring j)) ⊎ ((i ≡ after (length ring) j) × IsPlaceOf p (corner_at ring i))
 
--- where edges i and j meet, they are neighbours and meet in their shared corner
-abbrev pub MeetAsNeighbours : List Corner → ℕ → ℕ → Type 0
-MeetAsNeighbours ring i j = (p : Point) → IsOnEdgeAt p ring i → IsOnEdgeAt p ring j → IsSharedCorner p ring i j
-
--- some point lies on both edges and is no corner that neighbours share
+-- edges i and j meet otherwise than as neighbours: some point lies on both, and is no corner that they share
 abbrev pub MeetOtherwise : List Corner → ℕ → ℕ → Type 0
 MeetOtherwise ring i j = (p : Point) × IsOnEdgeAt p ring i × IsOnEdgeAt p ring j × (¬ IsSharedCorner p ring i j)
 
--- the ring is counterclockwise, with an area, and its edges meet only as neighbours do
+-- the ring is counterclockwise, with an area, and its edges meet only as neighbours, in their shared corner
 pub record IsSimpleRing (ring : List Corner) : Type 0 where
   pub counterclockwise : pos 0 <ℤ area2 ring
-  pub simple : (i j : ℕ) → i < j → j < length ring → MeetAsNeighbours ring i j
+  pub simple : (i j : ℕ) → i < j → j < length ring → ¬ MeetOtherwise ring i j

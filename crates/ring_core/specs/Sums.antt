@@ -1,5 +1,5 @@
 -- Winding numbers and areas summed over triangles (OGC 06-103r4, 6.1.12, PolyhedralSurface: a surface as the union of its polygons).
-use Rattle.std.specs.Prelude.{◌≡◌, ◌⊎◌, ℤ, pos, ◌+ℤ◌, List, [], ◌∷◌}
+use Rattle.std.specs.Prelude.{◌≡◌, ℤ, pos, ◌+ℤ◌, ◌≤ℤ◌, List, [], ◌∷◌}
 use Rattle.std.specs.List.{All}
 use Rattle.geo_exact.specs.declared.corner.Corner.{Corner}
 use Rattle.geo_exact.specs.Point.{Point}
@@ -23,9 +23,9 @@ area2_sum (t ∷ ts) = area2 (corners_of t) +ℤ area2_sum ts
 
 -- the triangle goes round p once or not at all
 abbrev pub IsRoundAtMostOnce : Point → Tri → Type 0
-IsRoundAtMostOnce p t = (winding p (corners_of t) ≡ pos 0) ⊎ (winding p (corners_of t) ≡ pos 1)
+IsRoundAtMostOnce p t = (pos 0 ≤ℤ winding p (corners_of t)) × (winding p (corners_of t) ≤ℤ pos 1)
 
--- the triangles make up the ring: at every point and in area
+-- the triangles make up the ring: round every point, each going round it at most once, and in area
 pub record MakeUp (ts : List Tri) (ring : List Corner) : Type 0 where
   pub windings : (p : Point) → winding p ring ≡ winding_sum p ts
   pub each_once : (p : Point) → All (IsRoundAtMostOnce p) ts

@@ -1,10 +1,8 @@
-ghost use Rattle.std.specs.Prelude.{◌≡◌, ◌↔◌, ◌⊎◌, ◌<◌, ◌≤◌, ◌≤ℤ◌, ◌<ℤ◌, pos, IsTrue, length};
+ghost use Rattle.std.specs.Prelude.{◌↔◌, ◌⊎◌, ◌≤ℤ◌, ◌<ℤ◌, pos, IsTrue};
 ghost use Rattle.std.specs.Int.{int_max, int_min};
-ghost use Rattle.std.specs.Bool.{MatchBool};
 ghost use Rattle.geo_exact.specs.Point.{corner_point};
 ghost use Rattle.geo_exact.specs.Turn.{IsOnEdge, turn as turn_of};
-ghost use Rattle.ring_core.specs.Places.{after, corner_at};
-ghost use Rattle.ring_core.specs.Simple.{DoublesBack, HaveCommonPoint, IsPlaceOf, MeetAsNeighbours, MeetOtherwise};
+ghost use Rattle.ring_core.specs.Simple.{DoublesBack, HaveCommonPoint, IsPlaceOf};
 
 use geo_exact::{Corner, on_segment, turn};
 
@@ -34,7 +32,7 @@ fn ranges_overlap(u: i64, v: i64, s: i64, t: i64) -> bool
 fn boxes_overlap(a: Corner, b: Corner, c: Corner, d: Corner) -> bool
     ensures { IsTrue result
         ↔ (((int_min a.x b.x ≤ℤ int_max c.x d.x) × (int_min c.x d.x ≤ℤ int_max a.x b.x))
-            × ((int_min a.y b.y ≤ℤ int_max c.y d.y) × (int_min c.y d.y ≤ℤ int_max a.y b.y))) }
+        × ((int_min a.y b.y ≤ℤ int_max c.y d.y) × (int_min c.y d.y ≤ℤ int_max a.y b.y))) }
 {
     if !ranges_overlap(a.x, b.x, c.x, d.x) {
         return false;
@@ -63,7 +61,7 @@ fn are_on_one_side(a: Corner, b: Corner, c: Corner, d: Corner) -> bool
 }
 
 /// Whether some point lies on the edge from `a` to `b` and on the edge from `c` to `d`.
-fn have_common_point(a: Corner, b: Corner, c: Corner, d: Corner) -> bool
+pub fn have_common_point(a: Corner, b: Corner, c: Corner, d: Corner) -> bool
     ensures { IsTrue result ↔ HaveCommonPoint a b c d }
 {
     if !boxes_overlap(a, b, c, d) {
@@ -92,7 +90,7 @@ fn is_short_of_end(a: Corner, b: Corner, p: Corner) -> bool
 }
 
 /// Whether the edges from `a` to `b` and from `b` to `c` have a common point other than `b`.
-fn doubles_back(a: Corner, b: Corner, c: Corner) -> bool
+pub fn doubles_back(a: Corner, b: Corner, c: Corner) -> bool
     ensures { IsTrue result ↔ DoublesBack a b c }
 {
     if is_short_of_end(a, b, c) {

@@ -19,6 +19,7 @@ pub returns : goal.returns
 returns g =
     let a = g.args.a in let b = g.args.b in let c = g.args.c in let d = g.args.d in
     let boxes = g.boxes_overlap.ensures.0 g.if-not-boxes_overlap.false in
-    let last = Decides-not g.are_on_one_side-2.result g.are_on_one_side-2.ensures in
-    (λ e. have_common_point a b c d boxes.0 boxes.1 (λ s. false≢true (sym g.if-are_on_one_side.false ∙ g.are_on_one_side.ensures.1 s)) (last.0 e),
-    λ h. last.1 (λ s. not_one_side c d a b h.0 h.2 h.1 s))
+    let last = Decides-not g.are_on_one_side-2.result g.are_on_one_side-2.ensures in (
+      λ e. have_common_point a b c d boxes.0 boxes.1 (λ s. false≢true (sym g.if-are_on_one_side.false ∙ g.are_on_one_side.ensures.1 s)) (last.0 e),
+      λ h. last.1 (λ s. not_one_side c d a b h.0 h.2 h.1 s),
+    )
