@@ -4,7 +4,8 @@ ghost use Rattle.tri_overlap.specs.Folding.{HasNoOverlap, IsFirstOverlap, Overla
 
 use crate::bounds::bounds_of;
 use crate::triangles::meet_in_box;
-use ring_core::Tri;
+use ring_core::{Shape, Tri};
+use std::alloc::Allocator;
 
 /// The first triangle after triangle `i` of the list that overlaps it.
 fn first_overlap_with(triangles: &[Tri], i: usize) -> Option<usize>
@@ -35,4 +36,16 @@ fn first_overlap(triangles: &[Tri]) -> Option<(usize, usize)>
         }
     }
     None
+}
+
+/// The first two triangles of a shape that overlap, by the first's number and then by the second's,
+/// from 0; none where no two do. It takes no memory.
+///
+/// The time grows with the square of the number of triangles.
+pub fn folded<A: Allocator>(shape: &Shape<A>) -> Option<(usize, usize)>
+    ensures { MatchOption result
+        (HasNoOverlap shape.now.triangles)
+        (λ pair. IsFirstOverlap shape.now.triangles pair.0 pair.1) }
+{
+    first_overlap(shape.triangles.as_slice())
 }

@@ -7,4 +7,6 @@ mod folds;
 mod shapes;
 mod triangles;
 
+pub use folds::folded;
+pub use shapes::shapes_overlap;
 pub use triangles::triangles_overlap;
