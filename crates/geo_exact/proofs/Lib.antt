@@ -16,3 +16,4 @@ pub mod GridRows
 pub mod Rows
 pub mod Coordinates
 pub mod SamePlace
+pub mod CornerPoints

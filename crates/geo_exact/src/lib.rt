@@ -10,6 +10,7 @@ mod laws;
 mod orientation;
 mod products;
 mod raw_ring;
+mod segment;
 #[cfg(test)]
 mod tests;
 
@@ -29,3 +30,4 @@ pub use laws::{
 };
 pub use orientation::turn;
 pub use raw_ring::{Corners, RawRing};
+pub use segment::on_segment;
