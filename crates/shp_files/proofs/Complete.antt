@@ -1,16 +1,15 @@
 -- The records of a layer's main file are all read, with its rings.
-use Rattle.std.proofs.Common.{◌≡◌, ◌≢◌, ℕ, suc, ◌+◌, ◌*◌, ◌-◌, ◌≤◌, ◌<◌, ℤ, pos, negsuc, ◌*ℤ◌, List, [], ◌∷◌, ◌++◌, length, take, drop, refl, sym, ap, subst, ◌∙◌, arith, append_assoc}
+use Rattle.std.proofs.Common.{◌≡◌, ◌≢◌, ℕ, suc, ◌+◌, ◌*◌, ◌≤◌, ℤ, pos, negsuc, ◌*ℤ◌, List, [], ◌∷◌, ◌++◌, length, drop, refl, sym, ap, subst, ◌∙◌, arith, append_assoc}
 use Rattle.std.proofs.lemmas.Int.{ints}
 use Rattle.std.proofs.lemmas.List.{append-nil, length-append, drop-drop, drop_at}
-use Rattle.geo_exact.specs.declared.corner.Corner.{Corner}
 use Rattle.geo_exact.specs.declared.coord.Unit.{Unit as LengthUnit}
 use Rattle.shp_files.specs.Layout.{file_words, natural}
-use Rattle.shp_files.specs.LayerFile.{NumberedRing, numbered, IsHeader, IsPolygon, AreRecords, joined, corner_count, IsLayerFile}
+use Rattle.shp_files.specs.LayerFile.{NumberedRing, numbered, AreRecords, joined, corner_count, IsLayerFile}
 use Rattle.shp_files.specs.Checks.{declared_end, record_end}
 use Rattle.shp_files.proofs.Numbers.{natural_pos}
 use Rattle.shp_files.proofs.Passing.{HeaderPasses, header_passes_from, record_passes_from}
 use Rattle.shp_files.proofs.Places.{StandsAt, big_at_part, little_at_part}
-use Rattle.shp_files.proofs.Polygons.{IsRead, read_from_polygon}
+use Rattle.shp_files.proofs.Polygons.{read_from_polygon}
 use Rattle.shp_files.proofs.Sound.{end_is}
 use Rattle.shp_files.proofs.Walk.{Reads, corner_count-push}
 use Rattle.shp_files.proofs.Walk.Reads.{none, more}

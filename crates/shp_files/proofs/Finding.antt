@@ -1,6 +1,5 @@
 -- What a reader finds among lines, memory aside.
-use Rattle.std.proofs.Common.{◌≡◌, ℕ, List, ◌++◌, Some, None, Result, Ok, Err, sym, ◌∙◌}
-use Rattle.shp_files.specs.declared.fault.FileFault.{FileFault}
+use Rattle.std.proofs.Common.{◌≡◌, List, ◌++◌, None, sym, ◌∙◌}
 use Rattle.shp_files.specs.declared.fault.LayerFault.{LayerFault}
 use Rattle.shp_files.specs.declared.fault.LayerFault.TheVariants.{File, NoMemory}
 use Rattle.shp_files.specs.Checks.{Check, first_failure}

@@ -1,18 +1,16 @@
 -- A text is a layer's main file of one list of rings at most, or has one first fault, and never both.
-use Rattle.std.proofs.Common.{◌≡◌, ◌≢◌, ◌⊎◌, inl, inr, ℕ, suc, ◌+◌, ◌*◌, ◌-◌, ◌≤◌, ◌<◌, ℤ, List, [], ◌∷◌, ◌++◌, length, Option, Some, None, Result, Ok, refl, sym, ap, subst, ◌∙◌, arith}
+use Rattle.std.proofs.Common.{◌≡◌, ◌≢◌, inl, inr, ℕ, ◌+◌, ◌≤◌, ◌<◌, ℤ, List, [], ◌∷◌, ◌++◌, length, Some, None, Result, Ok, refl, sym, ap, subst, ◌∙◌, arith}
 use Rattle.std.proofs.lemmas.Bool.{cases_order}
-use Rattle.std.proofs.lemmas.List.{append_cancel_right}
 use Rattle.geo_exact.specs.declared.corner.Corner.{Corner}
 use Rattle.geo_exact.specs.declared.coord.Unit.{Unit as LengthUnit}
 use Rattle.geo_exact.specs.declared.coord.CoordFault.{CoordFault}
-use Rattle.geo_exact.specs.Grid.{coordinate}
 use Rattle.geo_exact.proofs.SameCorner.{corner_same}
 use Rattle.shp_files.specs.declared.fault.FileFault.{FileFault}
-use Rattle.shp_files.specs.LayerFile.{NumberedRing, numbered, closed, IsLayerFile}
+use Rattle.shp_files.specs.LayerFile.{NumberedRing, closed, IsLayerFile}
 use Rattle.shp_files.specs.Checks.{first_failure, header_checks, record_checks, declared_end, record_end, points_of}
 use Rattle.shp_files.specs.FirstFault.{Reaches, StopsAt, IsFirstFault}
 use Rattle.shp_files.specs.FirstFault.Reaches.{first, next}
-use Rattle.shp_files.specs.Reading.{IsReadAs, AreReadAs}
+use Rattle.shp_files.specs.Reading.{AreReadAs}
 use Rattle.shp_files.proofs.Walk.{Reads, reached}
 use Rattle.shp_files.proofs.Walk.Reads.{none, more}
 use Rattle.shp_files.proofs.Complete.{reads_layer}

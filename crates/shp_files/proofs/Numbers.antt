@@ -1,7 +1,7 @@
 -- Tests on numbers that come from bytes.
-use Rattle.std.proofs.Common.{◌≡◌, ℕ, ◌+◌, ◌≤◌, ◌<◌, ℤ, pos, negsuc, Bool, true, false, not, ◌||◌, nat_lt, nat_eq, ltb, eqb, refl, sym, ap, ◌∙◌, arith}
+use Rattle.std.proofs.Common.{◌≡◌, ℕ, ◌≤◌, ℤ, pos, negsuc, Bool, true, false, not, ◌||◌, refl, ap, ◌∙◌}
 use Rattle.std.specs.Prelude.{int_lt}
-use Rattle.std.proofs.lemmas.Bool.{ltb-false, le-ltb, eqb-true, eq-eqb, not-false}
+use Rattle.std.proofs.lemmas.Bool.{ltb-false, le-ltb, not-false}
 use Rattle.std.proofs.lemmas.Bool.Decides.{Decides-int_eq}
 use Rattle.shp_files.specs.Layout.{natural}
 use Rattle.shp_files.specs.Checks.{is_not}

@@ -1,5 +1,5 @@
 -- The numbers of a part of a file are those of the file, where the part stands.
-use Rattle.std.proofs.Common.{◌≡◌, ℕ, ◌+◌, ◌≤◌, ◌<◌, ℤ, List, [], ◌∷◌, ◌++◌, length, drop, refl, sym, ap, ◌∙◌, arith}
+use Rattle.std.proofs.Common.{◌≡◌, ℕ, ◌+◌, ◌≤◌, List, ◌++◌, length, drop, sym, ap, ◌∙◌, arith}
 use Rattle.std.proofs.lemmas.List.{drop-append-le, drop-drop, length-drop}
 use Rattle.byteorder.specs.Endian.{twos_complement, big_number, little_number}
 use Rattle.byteorder.specs.Numbers.{big_from-append, little_from-append}

@@ -1,5 +1,5 @@
 -- The lines of coordinates, one coordinate and one point at a time.
-use Rattle.std.proofs.Common.{◌≡◌, ℕ, zero, suc, ◌+◌, ◌*◌, ◌-◌, ◌≤◌, ◌<◌, ℤ, Bool, true, false, List, [], ◌∷◌, ◌++◌, length, Option, Some, None, Result, Ok, Err, refl, sym, ap, ◌∙◌, arith, subst}
+use Rattle.std.proofs.Common.{◌≡◌, ℕ, zero, suc, ◌+◌, ◌*◌, ◌-◌, ◌<◌, ℤ, List, [], ◌∷◌, ◌++◌, length, Some, None, Ok, Err, refl, ap, ◌∙◌, arith, subst}
 use Rattle.geo_exact.specs.declared.corner.Corner.{Corner}
 use Rattle.geo_exact.specs.declared.coord.Unit.{Unit as LengthUnit}
 use Rattle.geo_exact.specs.declared.coord.CoordFault.{CoordFault}
@@ -7,7 +7,7 @@ use Rattle.geo_exact.specs.Grid.{coordinate}
 use Rattle.shp_files.specs.declared.fault.FileFault.{FileFault}
 use Rattle.shp_files.specs.declared.fault.FaultKind.TheVariants as kinds
 use Rattle.shp_files.specs.Layout.{double_at}
-use Rattle.shp_files.specs.Checks.{Check, check, first_failure, fault, refusal, coordinate_checks}
+use Rattle.shp_files.specs.Checks.{Check, first_failure, fault, refusal, coordinate_checks}
 use Rattle.shp_files.proofs.Lines.{goes_on, stops}
 use Rattle.shp_files.specs.Reading.{IsReadAs, AreReadAs}
 

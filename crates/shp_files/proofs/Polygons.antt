@@ -1,14 +1,14 @@
 -- A record that passes its checks is a polygon of the format, and the other way round.
-use Rattle.std.proofs.Common.{◌≡◌, ℕ, suc, ◌+◌, ◌*◌, ◌-◌, ◌≤◌, ◌<◌, ℤ, pos, ◌+ℤ◌, ◌*ℤ◌, List, [], ◌∷◌, ◌++◌, length, Ok, refl, sym, ap, subst, ◌∙◌, arith}
+use Rattle.std.proofs.Common.{◌≡◌, ℕ, ◌+◌, ◌*◌, ◌≤◌, ◌<◌, ℤ, pos, List, [], ◌∷◌, length, Ok, refl, sym, ap, ◌∙◌, arith}
 use Rattle.std.proofs.lemmas.Int.{ints}
 use Rattle.geo_exact.specs.declared.corner.Corner.{Corner}
 use Rattle.geo_exact.specs.declared.coord.Unit.{Unit as LengthUnit}
 use Rattle.geo_exact.specs.Grid.{IsOnGrid, coordinate}
 use Rattle.geo_exact.proofs.Coordinates.{accepted_is, accepted_when}
-use Rattle.shp_files.specs.Layout.{double_at, content_words, shape_type, part_count, point_count, first_part, natural}
+use Rattle.shp_files.specs.Layout.{double_at, content_words, point_count, natural}
 use Rattle.shp_files.specs.LayerFile.{ArePoints, closed, IsPolygon}
 use Rattle.shp_files.specs.Checks.{declared_end, record_end, points_of}
-use Rattle.shp_files.specs.Reading.{IsReadAs, AreReadAs}
+use Rattle.shp_files.specs.Reading.{AreReadAs}
 use Rattle.shp_files.proofs.Numbers.{natural_pos}
 use Rattle.shp_files.proofs.Passing.{RecordPasses}
 use Rattle.shp_files.proofs.Places.{StandsAt, big_at_part, little_at_part, double_at_part}

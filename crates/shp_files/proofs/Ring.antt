@@ -1,17 +1,17 @@
 -- The lines on a ring's points: all points but the last, the last, and that it is the first again.
-use Rattle.std.proofs.Common.{◌≡◌, ℕ, suc, zero, ◌+◌, ◌*◌, ◌-◌, ◌≤◌, ◌<◌, ℤ, Bool, true, false, not, ◌||◌, List, [], ◌∷◌, ◌++◌, length, get_or, Option, Some, None, subst, Ok, Err, refl, sym, ap, ◌∙◌, arith, append_assoc, length-append}
+use Rattle.std.proofs.Common.{◌≡◌, ℕ, suc, ◌+◌, ◌*◌, ◌-◌, ◌<◌, false, ◌||◌, List, [], ◌∷◌, ◌++◌, length, get_or, Option, Some, None, subst, refl, sym, ap, ◌∙◌, arith, append_assoc, length-append}
 use Rattle.geo_exact.specs.declared.corner.Corner.{Corner}
 use Rattle.geo_exact.specs.declared.coord.Unit.{Unit as LengthUnit}
-use Rattle.geo_exact.specs.Grid.{coordinate}
 use Rattle.geo_exact.proofs.SameCorner.{corner_same}
 use Rattle.shp_files.specs.declared.fault.FileFault.{FileFault}
 use Rattle.shp_files.specs.declared.fault.FaultKind.TheVariants.{NotClosed}
-use Rattle.shp_files.specs.Layout.{double_at}
+use Rattle.shp_files.specs.declared.fault.LayerFault.{LayerFault}
 use Rattle.shp_files.specs.LayerFile.{closed}
-use Rattle.shp_files.specs.Checks.{Check, check, fault, first_failure, is_not, differs, is_other_point, coordinate_checks, closing_checks, ring_checks}
-use Rattle.shp_files.specs.Reading.{IsReadAs, AreReadAs}
+use Rattle.shp_files.specs.Checks.{Check, check, fault, first_failure, is_not, is_other_point, coordinate_checks, closing_checks, ring_checks}
+use Rattle.shp_files.specs.Reading.{Fails, IsReadAs, AreReadAs}
 use Rattle.shp_files.proofs.Numbers.{same_from_is_not, is_not_same, neither, neither_from}
 use Rattle.shp_files.proofs.Lines.{goes_on, stops, pass_from, pass_both, first_failure_none}
+use Rattle.shp_files.proofs.Finding.{fails_stops}
 use Rattle.shp_files.proofs.Points.{none_left, point_read, coordinates_append, reads_push}
 
 pub ring_parts : (main : List ℕ) (unit : LengthUnit) (position at count : ℕ) → 0 < count
@@ -43,6 +43,14 @@ pub first_read : (unit : LengthUnit) (bytes : List ℕ) (at : ℕ) (corners : Li
     → first ≡ get_or corners 0 first → IsReadAs unit bytes at first
 first_read unit bytes at [] first are some is = absurd (omega arith)
 first_read unit bytes at (corner ∷ rest) first are some is = let P : Corner → Type 0 = IsReadAs unit bytes at in subst P (sym is) are.0
+
+-- what is found at a point before the last
+pub corners_refused : (main : List ℕ) (unit : LengthUnit) (position at count : ℕ) (e : LayerFault) → 0 < count
+    → Fails e (first_failure (coordinate_checks main unit position at (2 * (count - 1)))) → Fails e (first_failure (ring_checks main unit position at count))
+corners_refused main unit position at count e some fails =
+    let closing : List Check = closing_checks main unit position at (at + 16 * (count - 1)) in
+    rw (ring_parts main unit position at count some)
+    (fails_stops e (coordinate_checks main unit position at (2 * (count - 1))) (coordinate_checks main unit position (at + 16 * (count - 1)) 2 ++ closing) fails)
 
 -- what is found at the last point, where those before it are read
 pub last_refused : (main : List ℕ) (unit : LengthUnit) (position at count : ℕ) (found : FileFault) → 0 < count

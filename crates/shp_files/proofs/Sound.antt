@@ -1,14 +1,14 @@
 -- A file whose records are all read is a layer's main file with their rings.
-use Rattle.std.proofs.Common.{◌≡◌, ◌≢◌, ℕ, suc, ◌+◌, ◌*◌, ◌-◌, ◌≤◌, ◌<◌, ℤ, pos, ◌*ℤ◌, List, [], ◌∷◌, ◌++◌, length, take, drop, refl, sym, ap, subst, ◌∙◌, arith, append_assoc}
+use Rattle.std.proofs.Common.{◌≡◌, ℕ, ◌+◌, ◌*◌, ◌-◌, ◌≤◌, List, [], ◌∷◌, ◌++◌, length, take, drop, refl, sym, ap, ◌∙◌, arith, append_assoc}
 use Rattle.std.proofs.lemmas.Int.{ints}
 use Rattle.std.proofs.lemmas.List.{append-nil, length-append, length-drop, length-take-le, take-append-drop}
 use Rattle.std.proofs.Math.Seq.{take-add}
 use Rattle.geo_exact.specs.declared.corner.Corner.{Corner}
 use Rattle.geo_exact.specs.declared.coord.Unit.{Unit as LengthUnit}
 use Rattle.shp_files.specs.Layout.{file_words, natural}
-use Rattle.shp_files.specs.LayerFile.{NumberedRing, numbered, IsHeader, IsPolygon, AreRecords, joined, corner_count, IsLayerFile}
+use Rattle.shp_files.specs.LayerFile.{NumberedRing, numbered, IsPolygon, AreRecords, joined, corner_count, IsLayerFile}
 use Rattle.shp_files.specs.Checks.{declared_end, record_end}
-use Rattle.shp_files.proofs.Passing.{HeaderPasses, header_passes, RecordPasses, record_passes}
+use Rattle.shp_files.proofs.Passing.{HeaderPasses, header_passes, record_passes}
 use Rattle.shp_files.proofs.Places.{StandsAt, big_at_part, little_at_part}
 use Rattle.shp_files.proofs.Polygons.{polygon_from_passing}
 use Rattle.shp_files.proofs.Walk.{Reads, corner_count-push}

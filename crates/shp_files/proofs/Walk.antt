@@ -1,12 +1,8 @@
 -- The records of a file one after the other, with the rings that are read.
-use Rattle.std.proofs.Common.{◌≡◌, ◌≢◌, inr, ℕ, suc, ◌+◌, ◌*◌, ◌-◌, ◌≤◌, ◌<◌, ℤ, pos, negsuc, ◌*ℤ◌, List, [], ◌∷◌, ◌++◌, length, take, drop, Some, None, refl, sym, ap, subst, ◌∙◌, arith, append_assoc}
-use Rattle.std.proofs.lemmas.Int.{ints}
-use Rattle.std.proofs.lemmas.List.{append-nil, length-append, length-drop, length-take-le, take-append-drop, drop-drop, drop_at}
-use Rattle.std.proofs.Math.Seq.{take-add}
+use Rattle.std.proofs.Common.{◌≡◌, ◌≢◌, inr, ℕ, ◌+◌, ◌-◌, List, [], ◌∷◌, ◌++◌, length, Some, None, sym, subst, arith}
 use Rattle.geo_exact.specs.declared.corner.Corner.{Corner}
 use Rattle.geo_exact.specs.declared.coord.Unit.{Unit as LengthUnit}
-use Rattle.shp_files.specs.Layout.{file_words, natural}
-use Rattle.shp_files.specs.LayerFile.{NumberedRing, numbered, closed, IsHeader, IsPolygon, AreRecords, joined, corner_count, IsLayerFile}
+use Rattle.shp_files.specs.LayerFile.{NumberedRing, numbered, closed, corner_count}
 use Rattle.shp_files.specs.Checks.{first_failure, header_checks, record_checks, declared_end, record_end, points_of}
 use Rattle.shp_files.specs.FirstFault.{Reaches}
 use Rattle.shp_files.specs.FirstFault.Reaches.{first, next}
@@ -15,10 +11,6 @@ use Rattle.shp_files.specs.declared.fault.FileFault.{FileFault}
 use Rattle.shp_files.specs.declared.fault.LayerFault.{LayerFault}
 use Rattle.shp_files.specs.declared.fault.LayerFault.TheVariants.{File}
 use Rattle.shp_files.specs.Reading.{Fails, AreReadAs}
-use Rattle.shp_files.proofs.Numbers.{natural_pos}
-use Rattle.shp_files.proofs.Passing.{HeaderPasses, header_passes, header_passes_from, RecordPasses, record_passes, record_passes_from}
-use Rattle.shp_files.proofs.Places.{StandsAt, big_at_part, little_at_part}
-use Rattle.shp_files.proofs.Polygons.{polygon_from_passing, IsRead, read_from_polygon}
 
 -- The record at this position begins at this byte, and those before it were read as these rings.
 pub data Reads (main : List ℕ) (unit : LengthUnit) : ℕ → ℕ → List NumberedRing → Type 0 where

@@ -1,10 +1,9 @@
 -- The checks of a main file, in their order, each with the fault that it answers: this profile of the Technical Description (July 1998).
-use Rattle.std.specs.Prelude.{ℕ, zero, suc, ◌+◌, ◌*◌, ◌-◌, ◌&&◌, ◌||◌, ◌==◌, nat_lt, nat_le, not, ℤ, pos, ◌+ℤ◌, ◌*ℤ◌, int_lt, Bool, true, false, if◌then◌else◌, List, [], ◌∷◌, ◌++◌, length, Option, Some, None, Result, Ok, Err}
+use Rattle.std.specs.Prelude.{ℕ, zero, suc, ◌+◌, ◌*◌, ◌-◌, ◌||◌, ◌==◌, nat_lt, not, ℤ, pos, int_lt, Bool, true, false, if◌then◌else◌, List, [], ◌∷◌, ◌++◌, length, Option, Some, None, Result, Ok, Err}
 use Rattle.std.specs.Ordering.{int_eq}
 use Rattle.geo_exact.specs.declared.coord.Unit.{Unit as LengthUnit}
 use Rattle.geo_exact.specs.declared.coord.CoordFault.{CoordFault}
 use Rattle.geo_exact.specs.Grid.{coordinate}
-use Rattle.shp_files.specs.declared.fault.FileName.{FileName}
 use Rattle.shp_files.specs.declared.fault.FileName.TheVariants.{Main}
 use Rattle.shp_files.specs.declared.fault.FaultKind.{FaultKind}
 use Rattle.shp_files.specs.declared.fault.FaultKind.TheVariants as kinds

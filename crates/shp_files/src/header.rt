@@ -27,22 +27,16 @@ pub fn read_header(main: &[u8]) -> Result<usize, FileFault>
 {
     let size = main.len();
     refuse_if(size < HEADER, in_header(size, FaultKind::Short))?;
-    refuse_if(
-        big_at(main, 0) != FILE_CODE,
-        in_header(0, FaultKind::FileCode),
-    )?;
+    let code = big_at(main, 0);
+    refuse_if(code != FILE_CODE, in_header(0, FaultKind::FileCode))?;
     let words = big_at(main, 24);
     refuse_if(words < 50, in_header(24, FaultKind::Short))?;
     let end = 2 * natural(words);
     refuse_if(size < end, in_header(size, FaultKind::Short))?;
-    refuse_if(
-        little_at(main, 28) != VERSION,
-        in_header(28, FaultKind::Version),
-    )?;
-    refuse_if(
-        little_at(main, 32) != POLYGON,
-        in_header(32, FaultKind::ShapeType),
-    )?;
+    let version = little_at(main, 28);
+    refuse_if(version != VERSION, in_header(28, FaultKind::Version))?;
+    let shape_type = little_at(main, 32);
+    refuse_if(shape_type != POLYGON, in_header(32, FaultKind::ShapeType))?;
     Ok(end)
 }
 

@@ -8,6 +8,8 @@ mod header;
 mod layer;
 mod record;
 mod source;
+#[cfg(test)]
+mod tests;
 
 pub use fault::{FaultKind, FileFault, FileName, LayerFault};
 pub use layer::{

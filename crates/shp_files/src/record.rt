@@ -63,11 +63,8 @@ fn check_frame(main: &[u8], end: usize, head: RecordHead) -> Result<usize, FileF
     ensures room { IfOk result (λ content_end. head.start + 12 ≤ content_end) }
     ensures few { IfOk result (λ content_end. head.position ≤ 65536) }
 {
-    let start = head.start;
-    refuse_if(
-        head.position > MOST_RECORDS,
-        head.fault(0, FaultKind::TooMany),
-    )?;
+    let RecordHead { position, start } = head;
+    refuse_if(position > MOST_RECORDS, head.fault(0, FaultKind::TooMany))?;
     refuse_if(end < start + 8, head.fault(0, FaultKind::Short))?;
     let words = big_at(main, start + 4);
     refuse_if(words < 2, head.fault(4, FaultKind::Content))?;
@@ -120,15 +117,10 @@ fn check_polygon(
     let count = natural(points);
     let many = MOST_POINTS < count || MOST_CORNERS < corners + (count - 1);
     refuse_if(many, head.fault(48, FaultKind::TooMany))?;
-    let content = content_end - (start + 8);
-    refuse_if(
-        content != 48 + 16 * count,
-        head.fault(4, FaultKind::Content),
-    )?;
-    refuse_if(
-        little_at(main, start + 52) != 0,
-        head.fault(52, FaultKind::Parts),
-    )?;
+    let bytes = content_end - (start + 8);
+    refuse_if(bytes != 48 + 16 * count, head.fault(4, FaultKind::Content))?;
+    let first = little_at(main, start + 52);
+    refuse_if(first != 0, head.fault(52, FaultKind::Parts))?;
     Ok(count)
 }
 
@@ -205,10 +197,8 @@ fn read_ring<A: Allocator + Copy>(
     let last = POINTS + 16 * (count - 1);
     let closing = read_point(main, unit, head, last)?;
     let first = corners.as_slice()[0];
-    refuse_if(
-        is_other(first, closing),
-        head.fault(last, FaultKind::NotClosed),
-    )?;
+    let open = is_other(first, closing);
+    refuse_if(open, head.fault(last, FaultKind::NotClosed))?;
     Ok(corners)
 }
 

@@ -1,10 +1,9 @@
-use Rattle.std.proofs.Common.{◌≡◌, ◌≢◌, ◌++◌, ◌∷◌, [], ◌+◌, sym, ap, subst, ◌∙◌, arith, Err, length, List, refl}
+use Rattle.std.proofs.Common.{◌≡◌, ◌≢◌, ◌++◌, ◌∷◌, [], sym, ◌∙◌, arith, List, refl}
 use Rattle.std.proofs.lemmas.Result.{err_from_is_err_and}
 use Rattle.std.proofs.lemmas.List.{map_push}
-use Rattle.shp_files.specs.declared.fault.LayerFault.TheVariants.{File}
-use Rattle.shp_files.specs.LayerFile.{NumberedRing, numbered, rings_of, corner_count}
+use Rattle.shp_files.specs.LayerFile.{numbered, rings_of}
 use Rattle.shp_files.specs.Checks.{declared_end}
-use Rattle.shp_files.proofs.Walk.{Reads, reads_more, stops_at, corner_count-push}
+use Rattle.shp_files.proofs.Walk.{reads_more, stops_at, corner_count-push}
 use Rattle.shp_files.proofs.Walk.Reads.{none}
 use Rattle.shp_files.proofs.Sound.{layer_file}
 use Rattle.shp_files.proofs.layer.read_records.Goals as goal

@@ -1,7 +1,6 @@
-use Rattle.std.proofs.Common.{◌≡◌, ◌≤◌, ◌<◌, arith, rules, FitsSigned, w32, pos, false, ap, sym, ◌∙◌}
-use Rattle.std.specs.Prelude.{int_lt}
+use Rattle.std.proofs.Common.{arith, rules, FitsSigned, w32}
 use Rattle.std.proofs.lemmas.Int.{to_z-of_z}
-use Rattle.shp_files.specs.Layout.{natural, content_words}
+use Rattle.shp_files.specs.Layout.{content_words}
 use Rattle.shp_files.proofs.Lines.{passed}
 use Rattle.shp_files.proofs.Numbers.{natural_from}
 use Rattle.shp_files.proofs.record.check_shape.Goals as goal

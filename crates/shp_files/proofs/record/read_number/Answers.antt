@@ -1,4 +1,4 @@
-use Rattle.std.proofs.Common.{◌≡◌, sym, ◌∙◌, ap, Ok, Err, ℕ}
+use Rattle.std.proofs.Common.{◌≡◌, sym, ◌∙◌, ap, Ok, Err}
 use Rattle.geo_exact.specs.Grid.{coordinate}
 use Rattle.shp_files.proofs.Points.{one_read, one_refused, none_left}
 use Rattle.shp_files.proofs.record.read_number.Goals as goal

@@ -1,5 +1,5 @@
-use Rattle.std.proofs.Common.{◌≡◌, ◌+◌, sym, ◌∙◌, ap, Some, None, rules}
-use Rattle.shp_files.specs.Checks.{first_failure, coordinate_checks}
+use Rattle.std.proofs.Common.{◌+◌, rules}
+use Rattle.shp_files.specs.Checks.{coordinate_checks}
 use Rattle.shp_files.proofs.Lines.{stops, goes_on}
 use Rattle.shp_files.proofs.Points.{coordinates_append}
 use Rattle.shp_files.proofs.record.read_point.Goals as goal

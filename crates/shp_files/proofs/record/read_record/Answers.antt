@@ -1,6 +1,6 @@
-use Rattle.std.proofs.Common.{◌≡◌, ◌+◌, ◌++◌, List, ℕ, subst, Some, None, sym, ◌∙◌}
+use Rattle.std.proofs.Common.{◌≡◌, ◌+◌, ℕ, subst, None, sym, ◌∙◌}
 use Rattle.std.proofs.lemmas.Result.{err_from_is_err_and}
-use Rattle.shp_files.specs.Checks.{Check, first_failure, shape_checks, polygon_checks, ring_checks, record_checks, points_of}
+use Rattle.shp_files.specs.Checks.{first_failure, ring_checks, record_checks}
 use Rattle.shp_files.specs.Reading.{Fails}
 use Rattle.shp_files.proofs.Lines.{goes_on, stops}
 use Rattle.shp_files.proofs.Finding.{fails_on}
