@@ -3,3 +3,4 @@ pub mod Polynomials
 pub mod Signs
 pub mod Within
 pub mod SameCorner
+pub mod Paths
