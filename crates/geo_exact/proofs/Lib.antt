@@ -4,3 +4,6 @@ pub mod Signs
 pub mod Within
 pub mod SameCorner
 pub mod Paths
+pub mod Nearest
+pub mod GridRows
+pub mod Coordinates

@@ -3,14 +3,22 @@
 #![tactic(auto)]
 
 mod area;
+mod bytes;
 mod coord;
 mod corner;
 mod products;
 mod raw_ring;
+#[cfg(test)]
+mod tests;
 mod turns;
 
 pub use area::area2;
-pub use coord::{CoordFault, Unit};
+pub use bytes::counted::Counted;
+pub use bytes::fail_at::FailAt;
+pub use bytes::{ByteIn, ByteOut, Failed};
+pub use coord::{
+    CoordFault, Unit, coordinate_faults_are_exact, coordinates_are_on_the_grid, read_coord,
+};
 pub use corner::{Corner, LIMIT};
 pub use raw_ring::{Corners, RawRing};
 pub use turns::turn;
