@@ -2,3 +2,4 @@ pub mod Layout
 pub mod LayerFile
 pub mod Checks
 pub mod FirstFault
+pub mod Reading

@@ -3,5 +3,15 @@
 #![tactic(auto)]
 
 mod fault;
+mod fields;
+mod header;
+mod layer;
+mod record;
+mod source;
 
 pub use fault::{FaultKind, FileFault, FileName, LayerFault};
+pub use layer::{
+    a_layer_file_has_no_fault, a_layer_file_has_one_list_of_rings, a_text_has_one_first_fault,
+    read_layer,
+};
+pub use source::{MOST_BYTES, ReadFault, read_all};
