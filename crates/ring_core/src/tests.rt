@@ -30,7 +30,10 @@ fn finds_the_first_fault(rt: HostRuntime) -> Result<(), Fail> {
     let touched = [(0, 0), (100, 0), (100, 100), (50, 0), (0, 100)];
     assert_eq!(rt; fault(alloc, &touched)?, Some(RingFault::EdgesMeet(0, 2)));
     let turned_back = [(0, 0), (100, 0), (60, 0), (60, 100)];
-    assert_eq!(rt; fault(alloc, &turned_back)?, Some(RingFault::EdgesMeet(0, 1)));
+    assert_eq!(rt;
+        fault(alloc, &turned_back)?,
+        Some(RingFault::EdgesMeet(0, 1))
+    );
     let spike = [(0, 0), (100, 0), (150, 0), (100, 0), (100, 100)];
     assert_eq!(rt; fault(alloc, &spike)?, Some(RingFault::EdgesMeet(0, 2)));
     let bow_tie = [(0, 0), (100, 100), (100, 0), (0, 100)];
@@ -125,7 +128,15 @@ fn clips_rings(rt: HostRuntime) -> Result<(), Fail> {
         (40, 40),
     ];
     assert_eq!(rt; clipped(&rt, &star)?.0, 4000);
-    let flat_side = [(0, 0), (10, 0), (20, 0), (30, 0), (40, 0), (40, 10), (0, 10)];
+    let flat_side = [
+        (0, 0),
+        (10, 0),
+        (20, 0),
+        (30, 0),
+        (40, 0),
+        (40, 10),
+        (0, 10),
+    ];
     assert_eq!(rt; clipped(&rt, &flat_side)?, (800, 2));
     let far = 10_000_000_000;
     let widest = [(-far, -far), (far, -far), (far, far), (-far, far)];
@@ -135,7 +146,8 @@ fn clips_rings(rt: HostRuntime) -> Result<(), Fail> {
 
 #[test]
 fn a_triangle_turns_left(rt: HostRuntime) -> Result<(), Fail> {
-    let (Some(a), Some(b), Some(c)) = (Corner::new(0, 0), Corner::new(60, 0), Corner::new(0, 60)) else {
+    let (Some(a), Some(b), Some(c)) = (Corner::new(0, 0), Corner::new(60, 0), Corner::new(0, 60))
+    else {
         return Err(Fail::new("no corners"));
     };
     assert!(rt; Tri::new(a, b, c).is_some());

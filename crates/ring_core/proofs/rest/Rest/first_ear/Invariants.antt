@@ -1,4 +1,3 @@
-use Rattle.std.proofs.Common.{◌≡◌}
 use Rattle.ring_core.specs.Clipping.{HasNone, IsEar}
 use Rattle.ring_core.proofs.rest.Rest.first_ear.Given as goal
 

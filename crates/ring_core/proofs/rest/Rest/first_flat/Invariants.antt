@@ -1,4 +1,3 @@
-use Rattle.std.proofs.Common.{◌≡◌}
 use Rattle.ring_core.specs.Clipping.{HasNone, IsFlat}
 use Rattle.ring_core.proofs.rest.Rest.first_flat.Given as goal
 
