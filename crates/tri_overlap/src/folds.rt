@@ -25,7 +25,7 @@ fn first_overlap_with(triangles: &[Tri], i: usize) -> Option<usize>
 }
 
 /// The first two triangles of a list that overlap, by the first's number and then by the second's.
-fn first_overlap(triangles: &[Tri]) -> Option<(usize, usize)>
+pub fn first_overlap(triangles: &[Tri]) -> Option<(usize, usize)>
     ensures { MatchOption result
         (HasNoOverlap triangles.now)
         (λ pair. IsFirstOverlap triangles.now pair.0 pair.1) }

@@ -10,3 +10,6 @@ mod triangles;
 pub use folds::folded;
 pub use shapes::shapes_overlap;
 pub use triangles::triangles_overlap;
+
+#[cfg(test)]
+mod tests;
