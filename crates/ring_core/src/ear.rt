@@ -8,7 +8,7 @@ use crate::triangle::Tri;
 use geo_exact::{Corner, on_segment, turn};
 
 /// The corner before corner `k`.
-fn corner_before(rest: &[Corner], k: usize) -> Corner
+pub fn corner_before(rest: &[Corner], k: usize) -> Corner
     requires { k < length rest.now }
     ensures { result ≡ previous rest.now k }
 {
@@ -16,7 +16,7 @@ fn corner_before(rest: &[Corner], k: usize) -> Corner
 }
 
 /// The corner after corner `k`.
-fn corner_after(rest: &[Corner], k: usize) -> Corner
+pub fn corner_after(rest: &[Corner], k: usize) -> Corner
     requires { k < length rest.now }
     ensures { result ≡ next rest.now k }
 {
@@ -32,7 +32,7 @@ pub fn is_flat(rest: &[Corner], k: usize) -> bool
 }
 
 /// Whether `c` is left of the way from `a` to `b`.
-fn is_left(a: Corner, b: Corner, c: Corner) -> bool
+pub fn is_left(a: Corner, b: Corner, c: Corner) -> bool
     ensures { IsTrue result ↔ (pos 0 <ℤ turn_of a b c) }
 {
     turn(a, b, c) > 0
@@ -46,7 +46,7 @@ fn is_not_right(a: Corner, b: Corner, c: Corner) -> bool
 }
 
 /// Whether `q` lies in the closed triangle `a`, `b`, `c` of positive turn.
-fn is_in_triangle(q: Corner, a: Corner, b: Corner, c: Corner) -> bool
+pub fn is_in_triangle(q: Corner, a: Corner, b: Corner, c: Corner) -> bool
     ensures { IsTrue result ↔ IsInTriangle q a b c }
 {
     if !is_not_right(a, b, q) {

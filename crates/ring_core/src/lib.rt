@@ -3,6 +3,7 @@
 #![tactic(auto)]
 
 mod ear;
+mod kind;
 mod meeting;
 mod places;
 mod rest;
