@@ -6,6 +6,7 @@ pub mod Corners
 pub mod Cuts
 pub mod Clipped
 pub mod ClipSteps
+pub mod ClipUnique
 pub mod TakenOut
 pub mod KindsKept
 pub mod EarCounts
