@@ -1,7 +1,7 @@
 use Rattle.std.proofs.Common.{◌∙◌, sym, below_more}
 use Rattle.std.proofs.lemmas.Bool.{false≢true}
 use Rattle.ring_core.specs.Clipping.{Blocks}
-use Rattle.ring_core.proofs.ear.is_ear.Goals as goal
+use Rattle.ring_core.proofs.plain.is_ear.Goals as goal
 
 pub loop-j-preserved : goal.loop-j-preserved
 loop-j-preserved c =
