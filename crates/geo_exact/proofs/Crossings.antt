@@ -5,7 +5,7 @@ use Rattle.std.specs.Int.{int_min, int_max}
 use lib.IntN.{ℤ, pos, negsuc, ◌+ℤ◌, ◌-ℤ◌, ◌*ℤ◌, neg_ℤ, +ℤ_idl, +ℤ_idr}
 use lib.Signed.{◌<ℤ◌, ◌≤ℤ◌, lt_z, le_z}
 use Rattle.geo_exact.specs.declared.corner.Corner.{Corner}
-use Rattle.geo_exact.specs.Point.{Point, corner_point}
+use Rattle.geo_exact.specs.Point.{Point}
 use Rattle.geo_exact.specs.Turn.{turn, turn_at, IsOnEdge}
 use Rattle.geo_exact.specs.Winding.{crossing}
 use Rattle.geo_exact.specs.Area.{edge_area2}
@@ -13,7 +13,7 @@ use Rattle.geo_exact.proofs.Differences.{expand}
 use Rattle.geo_exact.proofs.Signs.{pos_of_mul, same_positive, same_negative, flip}
 use Rattle.geo_exact.proofs.Polynomials.{var, add, mul, neg, same_by}
 use Rattle.geo_exact.proofs.EdgeSums.{edge_of}
-use Rattle.geo_exact.proofs.TurnLaws.{turn_at_back, turn_at_end, turn_at_start, corner_on_line, corner_from_y, corner_to_y}
+use Rattle.geo_exact.proofs.TurnLaws.{corner_point, turn_at_back, turn_at_end, turn_at_start, corner_on_line, corner_from_y, corner_to_y}
 
 -- ---- areas
 pub edge_area2_back : (a b : Corner) → edge_area2 (edge_of b a) ≡ neg_ℤ (edge_area2 (edge_of a b))

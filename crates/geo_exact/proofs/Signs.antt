@@ -82,3 +82,10 @@ pub mul_lt : (u v d : ℤ) → pos 0 <ℤ d → u <ℤ v → (u *ℤ d) <ℤ (v 
 mul_lt u v d h k =
     let e : pos 0 <ℤ ((v -ℤ u) *ℤ d) = mul_pos (v -ℤ u) d (omega (arith, ints)) h in
     omega (arith, ints, simp expand at e)
+
+-- a positive factor of 0
+pub zero_factor : (d z : ℤ) → pos 0 <ℤ d → d *ℤ z ≡ pos 0 → z ≡ pos 0
+zero_factor d z h e =
+    by_lt_z (pos 0) z
+    (λ p. absurd (omega (arith, ints, e, mul_pos d z h p)))
+    (λ p. by_lt_z z (pos 0) (λ q. absurd (omega (arith, ints, e, mul_neg d z h q))) (λ q. omega (arith, ints)))

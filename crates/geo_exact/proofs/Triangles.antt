@@ -1,17 +1,16 @@
 -- The winding number of a counterclockwise triangle: 1 inside, 0 outside.
 use Rattle.std.proofs.Common.{◌≡◌, ◌⊎◌, ◌↔◌, refl, ◌∙◌, sym, arith, Bool, true, false, if◌then◌else◌, [], ◌∷◌, inl, inr}
 use Rattle.std.proofs.lemmas.Int.{ints, by_lt_z}
-use Rattle.std.specs.Int.{int_min, int_max}
 use lib.IntN.{ℤ, pos, negsuc, ◌+ℤ◌, ◌-ℤ◌, ◌*ℤ◌}
 use lib.Signed.{◌<ℤ◌, ◌≤ℤ◌, lt_z, le_z}
 use Rattle.geo_exact.specs.declared.corner.Corner.{Corner}
 use Rattle.geo_exact.specs.Point.{Point}
 use Rattle.geo_exact.specs.Turn.{turn, turn_at, IsOnEdge, IsOnRing}
 use Rattle.geo_exact.specs.Winding.{winding, IsInterior}
-use Rattle.geo_exact.proofs.Differences.{expand}
-use Rattle.geo_exact.proofs.Signs.{mul_pos, mul_not_neg, mul_neg, mul_not_pos, mul_falling, mul_sinking, mul_neg_pos, mul_le, convex}
+use Rattle.geo_exact.proofs.Signs.{mul_pos, mul_not_neg, mul_neg, mul_not_pos, mul_falling, mul_sinking, mul_neg_pos}
 use Rattle.geo_exact.proofs.Polynomials.{var, add, mul, neg, same_by}
 use Rattle.geo_exact.proofs.TurnLaws.{turn_at_expr, turn_cycle, turn_at_cycle, weighed_x, weighed_y}
+use Rattle.geo_exact.proofs.OnEdge.{mean_low, mean_high, min_reaches, max_reaches}
 use Rattle.geo_exact.proofs.Crossings.{crossed}
 
 -- what the winding number w says of the turns along the three edges
@@ -207,29 +206,6 @@ interior_of_left a b c p h l =
     at_least : (w : ℤ) → w ≡ pos 1 → pos 1 ≤ℤ w
     at_least w e = omega (arith, ints)
 
--- a weighed mean of u and v is x: x is neither below both nor above both
-mean_low : (k l u v x : ℤ) → pos 0 ≤ℤ k → pos 0 ≤ℤ l → pos 0 <ℤ (k +ℤ l) → k *ℤ (u -ℤ x) +ℤ l *ℤ (v -ℤ x) ≡ pos 0 → x <ℤ u → x <ℤ v → ⊥
-mean_low k l u v x hk hl h e p q = omega (arith, ints, e, convex k l (u -ℤ x) (v -ℤ x) hk hl h (omega (arith, ints)) (omega (arith, ints)))
-
-mean_high : (k l u v x : ℤ) → pos 0 ≤ℤ k → pos 0 ≤ℤ l → pos 0 <ℤ (k +ℤ l) → k *ℤ (u -ℤ x) +ℤ l *ℤ (v -ℤ x) ≡ pos 0 → u <ℤ x → v <ℤ x → ⊥
-mean_high k l u v x hk hl h e p q =
-    let i : pos 0 <ℤ (k *ℤ (x -ℤ u) +ℤ l *ℤ (x -ℤ v)) = convex k l (x -ℤ u) (x -ℤ v) hk hl h (omega (arith, ints)) (omega (arith, ints)) in
-    omega (arith, ints, simp expand at e, simp expand at i)
-
-min_reaches : (u v d x : ℤ) → pos 0 <ℤ d → (x <ℤ (u *ℤ d) → x <ℤ (v *ℤ d) → ⊥) → (int_min u v *ℤ d) ≤ℤ x
-min_reaches u v d x h never = by_lt_z v u
-    (λ p. let e : true ≡ lt_z v u = omega (arith, ints) in
-    rw (sym e) (by_lt_z x (v *ℤ d) (λ q. absurd (never (omega (arith, ints, mul_le v u d (omega (arith, ints)) (omega (arith, ints)))) q)) (λ q. q)))
-    (λ p. let e : false ≡ lt_z v u = omega (arith, ints) in
-    rw (sym e) (by_lt_z x (u *ℤ d) (λ q. absurd (never q (omega (arith, ints, mul_le u v d (omega (arith, ints)) p)))) (λ q. q)))
-
-max_reaches : (u v d x : ℤ) → pos 0 <ℤ d → ((u *ℤ d) <ℤ x → (v *ℤ d) <ℤ x → ⊥) → x ≤ℤ (int_max u v *ℤ d)
-max_reaches u v d x h never = by_lt_z v u
-    (λ p. let e : true ≡ lt_z v u = omega (arith, ints) in
-    rw (sym e) (by_lt_z (u *ℤ d) x (λ q. absurd (never q (omega (arith, ints, mul_le v u d (omega (arith, ints)) (omega (arith, ints)))))) (λ q. q)))
-    (λ p. let e : false ≡ lt_z v u = omega (arith, ints) in
-    rw (sym e) (by_lt_z (v *ℤ d) x (λ q. absurd (never (omega (arith, ints, mul_le u v d (omega (arith, ints)) p)) q)) (λ q. q)))
-
 two_weights : (k s l t m r : ℤ) → k *ℤ s +ℤ l *ℤ t +ℤ m *ℤ r ≡ pos 0 → m ≡ pos 0 → k *ℤ s +ℤ l *ℤ t ≡ pos 0
 two_weights k s l t m r e h = omega (arith, ints, rw h at e)
 
@@ -283,3 +259,6 @@ left_of_interior a b c p h i =
 pub triangle_interior : (a b c : Corner) (p : Point) → pos 0 <ℤ turn a b c
     → IsInterior p (a ∷ b ∷ c ∷ []) ↔ ((pos 0 <ℤ turn_at a b p) × (pos 0 <ℤ turn_at b c p) × (pos 0 <ℤ turn_at c a p))
 triangle_interior a b c p h = (left_of_interior a b c p h, interior_of_left a b c p h)
+
+-- how often a counterclockwise triangle goes round a point
+pub ruleset triangle_windings = (triangle_winds_at_most_once, triangle_winds_inside, triangle_winds_not_outside)

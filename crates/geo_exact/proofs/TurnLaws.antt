@@ -5,7 +5,7 @@ use Rattle.std.specs.Int.{int_min, int_max}
 use lib.IntN.{pos, ◌+ℤ◌, ◌-ℤ◌, ◌*ℤ◌, neg_ℤ}
 use lib.Signed.{◌≤ℤ◌}
 use Rattle.geo_exact.specs.declared.corner.Corner.{Corner}
-use Rattle.geo_exact.specs.Point.{Point, corner_point}
+pub use Rattle.geo_exact.specs.Point.{Point, corner_point}
 use Rattle.geo_exact.specs.Turn.{turn, turn_at, IsOnEdge}
 use Rattle.geo_exact.proofs.Polynomials.{Expr, var, lit, add, mul, neg, same_by}
 

@@ -1,5 +1,6 @@
--- The centimetre grid of a double (Technical Description, July 1998, "Numeric Types": 64-bit IEEE double).
-use Rattle.std.specs.Prelude.{◌≡◌, ℕ, ◌+◌, ◌*◌, ◌/◌, ◌%◌, ◌^◌, ◌<◌, ℤ, pos, neg_ℤ, ◌-ℤ◌, ◌*ℤ◌, ◌==◌, if◌then◌else◌}
+-- The centimetre grid of a double (Technical Description, July 1998, "Numeric Types"; IEEE 754, binary64: its fields and its value).
+use Rattle.std.specs.Prelude.{◌≡◌, ℕ, ◌+◌, ◌*◌, ◌/◌, ◌%◌, ◌^◌, ◌<◌, ℤ, pos, neg_ℤ, ◌-ℤ◌, ◌*ℤ◌, ◌==◌, Bool, nat_lt, nat_le, if◌then◌else◌, Result, Ok, Err}
+use Rattle.std.specs.Int.{abs_diff}
 use Rattle.geo_exact.specs.declared.coord.Unit.{Unit}
 use Rattle.geo_exact.specs.declared.coord.Unit.TheVariants.{Cm, M}
 use Rattle.geo_exact.specs.declared.coord.CoordFault.{CoordFault}
@@ -44,3 +45,34 @@ abbrev pub IsCoordFault : ℕ → Unit → CoordFault → Type 0
 IsCoordFault bits unit NotNumber = exponent_field bits ≡ 2047
 IsCoordFault bits unit OffGrid = (exponent_field bits < 2047) × ((k : ℤ) → ¬ IsOnGrid bits unit k)
 IsCoordFault bits unit TooFar = (k : ℤ) × IsOnGrid bits unit k × (¬ IsWithin limit k)
+
+-- m / d, rounded to the nearest whole number
+abbrev pub nearest : ℕ → ℕ → ℕ
+nearest m d = (2 * m + d) / (2 * d)
+
+-- m / d is within 1/1024 of k
+abbrev pub is_near : ℕ → ℕ → ℕ → Bool
+is_near m d k = nat_le (abs_diff m (k * d) * 1024) d
+
+-- the whole number near m / d, or why there is no coordinate of that size
+unfoldable pub size_of : ℕ → ℕ → Result ℕ CoordFault
+size_of m d =
+    if is_near m d (nearest m d)
+    then (if nat_lt limit (nearest m d) then Err TooFar else Ok (nearest m d))
+    else Err OffGrid
+
+-- a size under a sign bit
+abbrev pub under_sign : ℕ → ℕ → ℤ
+under_sign sign k = if sign == 0 then pos k else neg_ℤ (pos k)
+
+-- the same of an answer
+abbrev pub with_sign : ℕ → Result ℕ CoordFault → Result ℤ CoordFault
+with_sign sign (Ok k) = Ok (under_sign sign k)
+with_sign sign (Err fault) = Err fault
+
+-- the coordinate that a double is read as
+unfoldable pub coordinate : ℕ → Unit → Result ℤ CoordFault
+coordinate bits unit =
+    if exponent_field bits == 2047
+    then Err NotNumber
+    else with_sign (sign_bit bits) (size_of (centimetres unit * magnitude bits) (2 ^ 1075))

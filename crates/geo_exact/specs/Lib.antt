@@ -6,3 +6,4 @@ pub mod Winding
 pub mod Area
 pub mod Interiors
 pub mod Grid
+pub mod Bytes

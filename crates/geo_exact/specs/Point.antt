@@ -9,6 +9,6 @@ pub record Point : Type 0 where
   pub d : ℤ
   pub d_positive : pos 0 <ℤ d
 
--- the place of a corner
+-- a corner's own place
 abbrev pub corner_point : Corner → Point
-corner_point c = record { x = c.x; y = c.y; d = pos 1; d_positive = record { lt = tt } }
+corner_point corner = record { x = corner.x; y = corner.y; d = pos 1; d_positive = record { lt = tt } }

@@ -1,3 +1,10 @@
+ghost use Rattle.std.specs.Prelude.{◌≡◌, ◌↔◌, ℕ, ◌+◌, ◌*◌, ◌^◌, ◌<◌, ◌≤◌, max, ℤ, Ok, Err, IfOk, IfErr};
+ghost use Rattle.geo_exact.specs.Grid.{IsOnGrid, IsCoordFault, coordinate, size_of};
+ghost use Rattle.geo_exact.specs.Grid.{centimetres as centimetres_of, exponent_field, magnitude};
+ghost use Rattle.geo_exact.specs.Limit.{IsWithin, limit};
+
+use crate::corner::LIMIT;
+
 /// The unit in which a file's coordinates are meant.
 #[derive(Clone, Copy, Debug, PartialEq, Eq)]
 pub enum Unit {
@@ -17,3 +24,107 @@ pub enum CoordFault {
     /// C3: beyond [`LIMIT`](crate::LIMIT).
     TooFar,
 }
+
+fn centimetres(unit: Unit) -> u64
+    ensures { result ≡ centimetres_of unit }
+{
+    match unit {
+        Unit::Cm => 1,
+        Unit::M => 100,
+    }
+}
+
+fn exponent(bits: u64) -> u64
+    ensures { result ≡ exponent_field bits }
+{
+    (bits >> 52) & 0x7FF
+}
+
+/// The fraction with its leading bit: the double's absolute value is the significand times
+/// `2 ^ (max(1, exponent) - 1075)`.
+fn significand(bits: u64) -> u64
+    ensures value { result * 2 ^ max 1 (exponent_field bits) ≡ magnitude bits }
+    ensures bound { result < 2 ^ 53 }
+{
+    let fraction = bits & 0x000F_FFFF_FFFF_FFFF;
+    if exponent(bits) == 0 {
+        fraction
+    } else {
+        fraction + 0x0010_0000_0000_0000
+    }
+}
+
+/// The whole number within 1/1024 of `numerator / 2 ^ shift`.
+fn whole_size(numerator: u64, shift: u64) -> Result<u64, CoordFault>
+    requires small { numerator < 2 ^ 60 }
+    ensures value { result ≡ size_of numerator (2 ^ shift) }
+    ensures bound { IfOk result (λ size. size ≤ limit) }
+{
+    if shift >= 70 {
+        return Ok(0);
+    }
+    let numerator = u128::from(numerator);
+    let denominator = 1u128 << shift;
+    let nearest = (2 * numerator + denominator) >> (shift + 1);
+    if numerator.abs_diff(nearest * denominator) * 1024 > denominator {
+        return Err(CoordFault::OffGrid);
+    }
+    if nearest > LIMIT as u128 {
+        return Err(CoordFault::TooFar);
+    }
+    Ok(nearest as u64)
+}
+
+/// The coordinate under the double's sign.
+fn signed_coordinate(bits: u64, unit: Unit) -> Result<i64, CoordFault>
+    ensures { result ≡ coordinate bits unit }
+{
+    let exponent = exponent(bits);
+    if exponent == 2047 {
+        return Err(CoordFault::NotNumber);
+    }
+    if exponent >= 1075 {
+        return Err(CoordFault::TooFar);
+    }
+    let numerator = centimetres(unit) * significand(bits);
+    let size = whole_size(numerator, 1075 - exponent.max(1))? as i64;
+    Ok(if bits >> 63 == 0 { size } else { -size })
+}
+
+/// The whole centimetre that the double with these bits is meant for.
+///
+/// With `s` the centimetres of the unit, a value `v` is read as `k` where `s * v` is within 1/1024 of it
+/// (IEEE 754, binary64: 1 sign bit, 11 exponent bits, 52 fraction bits). Subnormals and minus zero are 0.
+///
+/// # Errors
+///
+/// [`CoordFault::NotNumber`] for an infinity or a not-a-number, [`CoordFault::OffGrid`] where there is no such
+/// `k`, [`CoordFault::TooFar`] where it is beyond [`LIMIT`](crate::LIMIT).
+pub fn read_coord(bits: u64, unit: Unit) -> Result<i64, CoordFault>
+    ensures exact { result ≡ coordinate bits unit }
+    ensures on_grid { IfOk result (λ k. IsOnGrid bits unit k) }
+    ensures within { IfOk result (λ k. IsWithin limit k) }
+    ensures accepted { (k : ℤ) → IsOnGrid bits unit k → IsWithin limit k → result ≡ Ok k }
+    ensures refused { IfErr result (IsCoordFault bits unit) }
+    ensures fault { (f : CoordFault) → IsCoordFault bits unit f → result ≡ Err f }
+{
+    signed_coordinate(bits, unit)
+}
+
+/// A double is on the grid at one whole centimetre at most.
+#[tactic(auto, using(crate::proofs::Coordinates::one_fits))]
+pub fn one_centimetre_fits()
+    ensures { (bits : ℕ) (unit : Unit) (k l : ℤ) → IsOnGrid bits unit k → IsOnGrid bits unit l → k ≡ l }
+{}
+
+/// `coordinate` answers `k` exactly where the double is on the grid at `k`, within the limit.
+pub fn coordinates_are_on_the_grid()
+    ensures { (bits : ℕ) (unit : Unit) (k : ℤ)
+        → (coordinate bits unit ≡ Ok k) ↔ (IsOnGrid bits unit k × IsWithin limit k) }
+{}
+
+/// `coordinate` answers a fault exactly where it is the double's.
+#[tactic(auto, using(crate::proofs::Coordinates::refused_iff))]
+pub fn coordinate_faults_are_exact()
+    ensures { (bits : ℕ) (unit : Unit) (f : CoordFault) → (coordinate bits unit ≡ Err f) ↔ IsCoordFault bits unit f }
+{}

@@ -1,5 +1,5 @@
 -- The clipping of a ring ends in one way.
-use Rattle.std.proofs.Common.{◌≡◌, ◌⊎◌, ℕ, ◌<◌, ◌≤◌, ◌∙◌, sym, ap, refl, subst, arith, inl, inr, List, [], ◌∷◌, ◌++◌, length}
+use Rattle.std.proofs.Common.{◌≡◌, ◌⊎◌, ℕ, ◌<◌, ◌∙◌, sym, refl, subst, arith, inl, inr, List, [], ◌∷◌, ◌++◌, length}
 use Rattle.std.specs.List.{remove}
 use Rattle.std.proofs.lemmas.Bool.{cases_lt}
 use lib.IntN.{ℤ, pos}
@@ -16,9 +16,9 @@ first_same : (P : ℕ → Type 0) (n j k : ℕ) → IsFirst P n j → IsFirst P 
 first_same P n j k f g = elim (cases_lt j k) [
   | inl q ↦ absurd (g.none_before j q f.has)
   | inr q ↦ elim (cases_lt k j) [
-      | inl r ↦ absurd (f.none_before k r g.has)
-      | inr r ↦ omega arith
-    ]
+    | inl r ↦ absurd (f.none_before k r g.has)
+    | inr r ↦ omega arith
+  ]
 ]
 
 above_prop : (z : ℤ) → IsProp (pos 0 <ℤ z)

@@ -1,17 +1,17 @@
 -- A left turn is an ear exactly where its closed triangle has three corners of the rest: its own.
-use Rattle.std.proofs.Common.{◌≡◌, ◌≢◌, ◌↔◌, ℕ, zero, suc, ◌+◌, ◌-◌, ◌<◌, ◌≤◌, ◌∙◌, sym, ap, refl, arith, inl, inr, Bool, true, false, if◌then◌else◌, List, [], ◌∷◌, length, get_or, set}
-use Rattle.std.proofs.lemmas.List.{get_or-set_same, get_or-set_other, length-set}
+use Rattle.std.proofs.Common.{◌≡◌, ◌≢◌, ℕ, zero, suc, ◌+◌, ◌<◌, ◌≤◌, ◌∙◌, sym, ap, refl, arith, inl, inr, Bool, true, false, if◌then◌else◌, List, [], ◌∷◌, length, get_or, set}
+use Rattle.std.proofs.lemmas.List.{get_or-set_other}
 use Rattle.std.proofs.lemmas.Bool.{false≢true, cases_eq, cases_lt, cases_Bool}
 use Rattle.std.proofs.lemmas.Bool.Decides.{nat_tests}
 use Rattle.std.proofs.lemmas.Int.{ints}
-use lib.IntN.{ℤ, pos, ◌+ℤ◌, ◌-ℤ◌, ◌*ℤ◌}
+use lib.IntN.{ℤ, pos}
 use lib.Signed.{◌<ℤ◌, ◌≤ℤ◌}
 use Rattle.geo_exact.specs.declared.corner.Corner.{Corner}
 use Rattle.geo_exact.specs.Turn.{turn}
 use Rattle.geo_exact.proofs.Polynomials.{var, lit, same_by}
 use Rattle.geo_exact.proofs.TurnLaws.{turn_expr, turn_cycle}
-use Rattle.ring_core.specs.Places.{origin, corner_at, after, before}
-use Rattle.ring_core.specs.Clipping.{IsInTriangle, previous, next, Blocks, HasNone, IsEar}
+use Rattle.ring_core.specs.Places.{corner_at, after, before}
+use Rattle.ring_core.specs.Clipping.{previous, next, Blocks, HasNone}
 use Rattle.ring_core.specs.Kinds.{is_inside, count_inside, TurnsLeft}
 use Rattle.ring_core.proofs.TakenOut.{inside_decides}
 
@@ -84,13 +84,13 @@ module _ (bs : List Bool) (p q r : ℕ) (at_p : get_or bs p false ≡ true) (at_
       elim (cases_eq j r) [
         | inl e ↦ ap (λ i. get_or without i false) e ∙ set_false (set (set bs p false) q false) r
         | inr nr ↦ elim (cases_eq j q) [
-            | inl e ↦ get_or-set_other (set (set bs p false) q false) r j false false nr ∙ ap (λ i. get_or (set (set bs p false) q false) i false) e ∙ set_false (set bs p false) q
-            | inr nq ↦ elim (cases_eq j p) [
-                | inl e ↦ get_or-set_other (set (set bs p false) q false) r j false false nr ∙ get_or-set_other (set bs p false) q j false false nq
-                    ∙ ap (λ i. get_or (set bs p false) i false) e ∙ set_false bs p
-                | inr np ↦ elsewhere j np nq nr ∙ h j np nq nr
-              ]
+          | inl e ↦ get_or-set_other (set (set bs p false) q false) r j false false nr ∙ ap (λ i. get_or (set (set bs p false) q false) i false) e ∙ set_false (set bs p false) q
+          | inr nq ↦ elim (cases_eq j p) [
+            | inl e ↦ get_or-set_other (set (set bs p false) q false) r j false false nr ∙ get_or-set_other (set bs p false) q j false false nq
+                ∙ ap (λ i. get_or (set bs p false) i false) e ∙ set_false bs p
+            | inr np ↦ elsewhere j np nq nr ∙ h j np nq nr
           ]
+        ]
       ] in
       omega (arith, three_more, trues_none without all)
 
@@ -201,11 +201,11 @@ module _ (rest : List Corner) (k : ℕ) (l : 2 < length rest) (h : k < length re
         | inl b ↦ test_at (previous rest k) (corner_at rest k) (next rest k) rest j b
             ∙ elim (cases_Bool (is_inside (previous rest k) (corner_at rest k) (next rest k) (corner_at rest j))) [
               | inl e ↦ absurd (none j b (record {
-                  not_before = np;
-                  not_same = nq;
-                  not_after = nr;
-                  is_inside = (inside_decides (previous rest k) (corner_at rest k) (next rest k) (corner_at rest j)).0 e;
-                }))
+                not_before = np;
+                not_same = nq;
+                not_after = nr;
+                is_inside = (inside_decides (previous rest k) (corner_at rest k) (next rest k) (corner_at rest j)).0 e;
+              }))
               | inr e ↦ e
             ]
         | inr b ↦ test_past (previous rest k) (corner_at rest k) (next rest k) rest j b

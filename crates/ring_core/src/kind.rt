@@ -128,7 +128,12 @@ fn kind_after(corners: &[Corner], k: usize, j: usize, gone: Corner, old: Kind) -
     let Kind::Convex(count) = old else {
         return old;
     };
-    if is_in_triangle(gone, corner_before(corners, j), corners[j], corner_after(corners, j)) {
+    if is_in_triangle(
+        gone,
+        corner_before(corners, j),
+        corners[j],
+        corner_after(corners, j),
+    ) {
         return Kind::Convex(count.saturating_sub(1));
     }
     old

@@ -32,7 +32,12 @@ fn blocks(rest: &[Corner], k: usize, j: usize) -> bool
     if is_near(rest.len(), k, j) {
         return false;
     }
-    is_in_triangle(rest[j], corner_before(rest, k), rest[k], corner_after(rest, k))
+    is_in_triangle(
+        rest[j],
+        corner_before(rest, k),
+        rest[k],
+        corner_after(rest, k),
+    )
 }
 
 /// Whether corner `k` is an ear: a left turn, with no other corner in the closed triangle of it and

@@ -67,7 +67,15 @@ const STAR: [(i64, i64); 8] = [
     (40, 40),
 ];
 
-const FLAT_SIDE: [(i64, i64); 7] = [(0, 0), (10, 0), (20, 0), (30, 0), (40, 0), (40, 10), (0, 10)];
+const FLAT_SIDE: [(i64, i64); 7] = [
+    (0, 0),
+    (10, 0),
+    (20, 0),
+    (30, 0),
+    (40, 0),
+    (40, 10),
+    (0, 10),
+];
 
 fn corners(alloc: Global, places: &[(i64, i64)]) -> Result<Corners<Global>, AllocError>
     ensures { IfOk result (λ list. length list ≤ length places.now) }
@@ -96,7 +104,10 @@ fn finds_the_first_fault(rt: HostRuntime) -> Result<(), Fail> {
     let touched = [(0, 0), (100, 0), (100, 100), (50, 0), (0, 100)];
     assert_eq!(rt; fault(alloc, &touched)?, Some(RingFault::EdgesMeet(0, 2)));
     let turned_back = [(0, 0), (100, 0), (60, 0), (60, 100)];
-    assert_eq!(rt; fault(alloc, &turned_back)?, Some(RingFault::EdgesMeet(0, 1)));
+    assert_eq!(rt;
+        fault(alloc, &turned_back)?,
+        Some(RingFault::EdgesMeet(0, 1))
+    );
     let spike = [(0, 0), (100, 0), (150, 0), (100, 0), (100, 100)];
     assert_eq!(rt; fault(alloc, &spike)?, Some(RingFault::EdgesMeet(0, 2)));
     let bow_tie = [(0, 0), (100, 100), (100, 0), (0, 100)];
@@ -194,7 +205,8 @@ fn agrees_with_the_plain_clipping(rt: HostRuntime) -> Result<(), Fail> {
 
 #[test]
 fn a_triangle_turns_left(rt: HostRuntime) -> Result<(), Fail> {
-    let (Some(a), Some(b), Some(c)) = (Corner::new(0, 0), Corner::new(60, 0), Corner::new(0, 60)) else {
+    let (Some(a), Some(b), Some(c)) = (Corner::new(0, 0), Corner::new(60, 0), Corner::new(0, 60))
+    else {
         return Err(Fail::new("no corners"));
     };
     assert!(rt; Tri::new(a, b, c).is_some());

@@ -1,0 +1,48 @@
+ghost use Rattle.std.specs.Prelude.{◌≡◌, ℕ, ◌<◌, ◌≤◌, List, length, None, Option, IfOk};
+ghost use Rattle.geo_exact.specs.Bytes.{Pulls, Puts, counted};
+
+pub mod counted;
+pub mod fail_at;
+
+/// A reader or a writer failed.
+#[derive(Clone, Copy, Debug, PartialEq, Eq)]
+pub struct Failed;
+
+/// A reader of bytes that counts its failures.
+pub trait ByteIn {
+    // The bytes that it still holds, where it tells them.
+    ghost remaining: { Self → Option (List ℕ) } = { λ _. None };
+
+    ghost failure_count: { Self → ℕ };
+
+    /// Fills the buffer's front with the next bytes, and answers their number: 0 only at the
+    /// reader's end or for an empty buffer. A failure takes no byte.
+    fn pull(&mut self, buffer: &mut [u8]) -> Result<usize, Failed>
+        ensures bound { IfOk result (λ n. n ≤ length buffer.new) }
+        ensures bytes { Pulls (remaining self.old) (remaining self.new) result buffer.new }
+        ensures failures { failure_count self.new ≡ counted result (failure_count self.old) };
+
+    /// How many pulls failed; at the greatest number it stays.
+    fn failures(&self) -> u64
+        ensures { result ≡ failure_count self.now };
+}
+
+/// A writer of bytes that counts its failures.
+pub trait ByteOut {
+    // The bytes that were written, where it tells them.
+    ghost written: { Self → Option (List ℕ) } = { λ _. None };
+
+    ghost failure_count: { Self → ℕ };
+
+    /// Writes the first of the bytes, and answers their number: 0 only for no bytes. A failure
+    /// writes none.
+    fn put(&mut self, bytes: &[u8]) -> Result<usize, Failed>
+        ensures bound { IfOk result (λ n. n ≤ length bytes.now) }
+        ensures progress { IfOk result (λ n. 0 < length bytes.now → 0 < n) }
+        ensures bytes { Puts (written self.old) (written self.new) result bytes.now }
+        ensures failures { failure_count self.new ≡ counted result (failure_count self.old) };
+
+    /// How many puts failed; at the greatest number it stays.
+    fn failures(&self) -> u64
+        ensures { result ≡ failure_count self.now };
+}
