@@ -1,5 +1,5 @@
 -- The clipping of a ring ends in one way.
-use Rattle.std.proofs.Common.{◌≡◌, ◌⊎◌, ℕ, ◌<◌, ◌≤◌, ◌∙◌, sym, ap, refl, subst, arith, inl, inr, List, [], ◌∷◌, ◌++◌, length}
+use Rattle.std.proofs.Common.{◌≡◌, ◌⊎◌, ℕ, ◌<◌, ◌∙◌, sym, refl, subst, arith, inl, inr, List, [], ◌∷◌, ◌++◌, length}
 use Rattle.std.specs.List.{remove}
 use Rattle.std.proofs.lemmas.Bool.{cases_lt}
 use lib.IntN.{ℤ, pos}

@@ -1,17 +1,17 @@
 -- A left turn is an ear exactly where its closed triangle has three corners of the rest: its own.
-use Rattle.std.proofs.Common.{◌≡◌, ◌≢◌, ◌↔◌, ℕ, zero, suc, ◌+◌, ◌-◌, ◌<◌, ◌≤◌, ◌∙◌, sym, ap, refl, arith, inl, inr, Bool, true, false, if◌then◌else◌, List, [], ◌∷◌, length, get_or, set}
-use Rattle.std.proofs.lemmas.List.{get_or-set_same, get_or-set_other, length-set}
+use Rattle.std.proofs.Common.{◌≡◌, ◌≢◌, ℕ, zero, suc, ◌+◌, ◌<◌, ◌≤◌, ◌∙◌, sym, ap, refl, arith, inl, inr, Bool, true, false, if◌then◌else◌, List, [], ◌∷◌, length, get_or, set}
+use Rattle.std.proofs.lemmas.List.{get_or-set_other}
 use Rattle.std.proofs.lemmas.Bool.{false≢true, cases_eq, cases_lt, cases_Bool}
 use Rattle.std.proofs.lemmas.Bool.Decides.{nat_tests}
 use Rattle.std.proofs.lemmas.Int.{ints}
-use lib.IntN.{ℤ, pos, ◌+ℤ◌, ◌-ℤ◌, ◌*ℤ◌}
+use lib.IntN.{ℤ, pos}
 use lib.Signed.{◌<ℤ◌, ◌≤ℤ◌}
 use Rattle.geo_exact.specs.declared.corner.Corner.{Corner}
 use Rattle.geo_exact.specs.Turn.{turn}
 use Rattle.geo_exact.proofs.Polynomials.{var, lit, same_by}
 use Rattle.geo_exact.proofs.TurnLaws.{turn_expr, turn_cycle}
-use Rattle.ring_core.specs.Places.{origin, corner_at, after, before}
-use Rattle.ring_core.specs.Clipping.{IsInTriangle, previous, next, Blocks, HasNone, IsEar}
+use Rattle.ring_core.specs.Places.{corner_at, after, before}
+use Rattle.ring_core.specs.Clipping.{previous, next, Blocks, HasNone}
 use Rattle.ring_core.specs.Kinds.{is_inside, count_inside, TurnsLeft}
 use Rattle.ring_core.proofs.TakenOut.{inside_decides}
 

@@ -1,8 +1,6 @@
 -- The kind of a corner away from the one that was taken out.
-use Rattle.std.proofs.Common.{◌≡◌, ℕ, suc, ◌+◌, ◌-◌, ◌<◌, ◌≤◌, ◌∙◌, sym, ap, refl, arith, Bool, true, false, if◌then◌else◌, List, length}
-use Rattle.std.specs.List.{remove}
+use Rattle.std.proofs.Common.{◌≡◌, ℕ, ◌+◌, ◌-◌, ◌<◌, ◌∙◌, ap, refl, arith, Bool, true, false, if◌then◌else◌, List, length}
 use Rattle.geo_exact.specs.declared.corner.Corner.{Corner}
-use Rattle.ring_core.specs.declared.kind.Kind.{Kind}
 use Rattle.ring_core.specs.declared.kind.Kind.TheVariants.{Flat, Bent, Convex}
 use Rattle.ring_core.specs.Places.{corner_at, after, before}
 use Rattle.ring_core.specs.Clipping.{previous, next, IsFlat}

@@ -7,6 +7,7 @@ pub mod Cuts
 pub mod Clipped
 pub mod ClipSteps
 pub mod ClipUnique
+pub mod EdgeNumbers
 pub mod TakenOut
 pub mod KindsKept
 pub mod EarCounts

@@ -1,20 +1,18 @@
 -- A ring without one of its corners: what the other corners' neighbours and triangles are.
-use Rattle.std.proofs.Common.{◌≡◌, ◌⊎◌, ℕ, zero, suc, ◌+◌, ◌-◌, ◌<◌, ◌≤◌, ◌∙◌, sym, ap, refl, arith, inl, inr, Bool, true, false, if◌then◌else◌, nat_lt, List, [], ◌∷◌, length, get_or}
+use Rattle.std.proofs.Common.{◌≡◌, ◌⊎◌, ℕ, zero, suc, ◌+◌, ◌<◌, ◌≤◌, ◌∙◌, sym, ap, refl, arith, inl, inr, Bool, true, false, if◌then◌else◌, List, [], ◌∷◌, length, get_or}
 use Rattle.std.specs.List.{remove}
 use Rattle.std.specs.Bool.{Decides}
 use Rattle.std.proofs.lemmas.Bool.{cases_lt}
 use Rattle.std.proofs.lemmas.Bool.Decides.{nat_tests, Decides-and, Decides-like}
-use Rattle.std.proofs.lemmas.List.Edits.{length-remove, get_or-remove_below, get_or-remove_above}
+use Rattle.std.proofs.lemmas.List.Edits.{get_or-remove_below, get_or-remove_above}
 use Rattle.std.proofs.lemmas.Int.{ints}
 use lib.IntN.{ℤ, pos}
 use lib.Signed.{◌≤ℤ◌, le_z}
 use Rattle.geo_exact.specs.declared.corner.Corner.{Corner}
 use Rattle.geo_exact.specs.Turn.{turn}
-use Rattle.ring_core.specs.declared.kind.Kind.{Kind}
-use Rattle.ring_core.specs.declared.kind.Kind.TheVariants.{Flat, Bent, Convex}
 use Rattle.ring_core.specs.Places.{origin, corner_at, after, before}
-use Rattle.ring_core.specs.Clipping.{IsInTriangle, previous, next}
-use Rattle.ring_core.specs.Kinds.{is_inside, count_inside, IsKind, IsTakenOut, number_before}
+use Rattle.ring_core.specs.Clipping.{IsInTriangle}
+use Rattle.ring_core.specs.Kinds.{is_inside, count_inside, number_before}
 
 -- corner j of m was a neighbour of the corner that was taken out at k
 abbrev pub WasBeside : ℕ → ℕ → ℕ → Type 0

@@ -1,6 +1,6 @@
 -- What the clipping remembers of each corner that is left: flat, bent to the right, or how many corners its triangle has
 -- (it serves ear clipping, a triangulation of OGC 06-103r4, 6.1.11, Polygon).
-use Rattle.std.specs.Prelude.{◌≡◌, ℕ, ◌+◌, ◌<◌, ◌≤◌, pos, ◌<ℤ◌, int_le, Bool, ◌&&◌, if◌then◌else◌, nat_lt, List, [], ◌∷◌, length, slice_index_or}
+use Rattle.std.specs.Prelude.{◌≡◌, ℕ, ◌+◌, ◌<◌, pos, ◌<ℤ◌, int_le, Bool, ◌&&◌, if◌then◌else◌, nat_lt, List, [], ◌∷◌, length, slice_index_or}
 use Rattle.std.specs.List.{remove}
 use Rattle.geo_exact.specs.declared.corner.Corner.{Corner}
 use Rattle.geo_exact.specs.Turn.{turn}

@@ -14,7 +14,7 @@ mod ring;
 mod shape;
 mod triangle;
 
-pub use laws::a_ring_is_clipped_in_one_way;
+pub use laws::{a_ring_is_clipped_in_one_way, edges_are_those_of_their_numbers};
 pub use rest::Rest;
 pub use ring::{Ring, RingFault};
 pub use shape::{ClipFault, Shape};

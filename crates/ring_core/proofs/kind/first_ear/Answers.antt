@@ -1,4 +1,4 @@
-use Rattle.std.proofs.Common.{◌≡◌, ℕ, ◌<◌, ◌∙◌, sym, arith, length, below_more}
+use Rattle.std.proofs.Common.{◌∙◌, sym, arith, below_more}
 use Rattle.std.proofs.lemmas.Bool.{false≢true}
 use Rattle.ring_core.specs.Clipping.{IsEar}
 use Rattle.ring_core.proofs.KindsTell.{ear_told}

@@ -1,4 +1,4 @@
-use Rattle.std.proofs.Common.{◌<◌, List, length}
+use Rattle.std.proofs.Common.{List}
 use Rattle.geo_exact.specs.declared.corner.Corner.{Corner}
 use Rattle.ring_core.specs.Clipping.{HasNone, IsFlat}
 use Rattle.ring_core.specs.Kinds.{AreKinds}
