@@ -4,7 +4,7 @@ ghost use Rattle.geo_exact.specs.Point.{corner_point};
 ghost use Rattle.geo_exact.specs.Turn.{IsOnEdge};
 
 use crate::corner::Corner;
-use crate::turns::turn;
+use crate::orientation::turn;
 
 /// Whether `w` lies between `u` and `v`, in either order, both included.
 fn is_between(u: i64, v: i64, w: i64) -> bool

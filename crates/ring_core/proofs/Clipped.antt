@@ -1,13 +1,13 @@
 -- A ring that is clipped to triangles has their winding numbers and areas, all together.
-use Rattle.std.proofs.Common.{◌≡◌, ◌⊎◌, ℕ, ◌<◌, ◌≤◌, ◌∙◌, sym, ap, refl, arith, List, [], ◌∷◌, ◌++◌, length, get_or, inl, inr}
-use Rattle.std.specs.List.{remove, All}
+use Rattle.std.proofs.Common.{◌≡◌, ◌⊎◌, ℕ, ◌<◌, ◌∙◌, ap, refl, arith, List, [], ◌∷◌, ◌++◌, length, get_or, inl, inr}
+use Rattle.std.specs.List.{remove}
 use Rattle.std.proofs.lemmas.Int.{ints}
 use lib.IntN.{ℤ, pos, ◌+ℤ◌, neg_ℤ}
 use lib.Signed.{◌≤ℤ◌}
 use Rattle.geo_exact.specs.declared.corner.Corner.{Corner}
 use Rattle.geo_exact.specs.Point.{Point}
 use Rattle.geo_exact.specs.Rings.{Edge, edges, sum_over}
-use Rattle.geo_exact.specs.Winding.{crossing, winding}
+use Rattle.geo_exact.specs.Winding.{winding}
 use Rattle.geo_exact.specs.Area.{edge_area2, area2}
 use Rattle.geo_exact.proofs.EdgeSums.{edge_of}
 use Rattle.geo_exact.proofs.Crossings.{crossing_back, crossing_cut, edge_area2_back, edge_area2_cut}

@@ -2,7 +2,7 @@
 use Rattle.std.proofs.Common.{◌≡◌, ◌⊎◌, ◌∙◌, sym, ap, arith, inl, inr, [], ◌∷◌, refl}
 use Rattle.std.proofs.lemmas.Int.{ints, by_lt_z, clamps}
 use Rattle.std.specs.Int.{int_min, int_max}
-use lib.IntN.{ℤ, pos, ◌+ℤ◌, ◌-ℤ◌, ◌*ℤ◌, neg_ℤ}
+use lib.IntN.{ℤ, pos, ◌-ℤ◌, ◌*ℤ◌, neg_ℤ}
 use lib.Signed.{◌<ℤ◌, ◌≤ℤ◌}
 use Rattle.geo_exact.specs.declared.corner.Corner.{Corner}
 use Rattle.geo_exact.specs.Point.{Point, corner_point}
@@ -10,10 +10,10 @@ use Rattle.geo_exact.specs.Turn.{turn, turn_at, IsOnEdge}
 use Rattle.geo_exact.proofs.Differences.{expand}
 use Rattle.geo_exact.proofs.Signs.{mul_not_neg, mul_neg, mul_not_pos, mul_sinking}
 use Rattle.geo_exact.proofs.Polynomials.{Expr, var, lit, add, mul, neg, same_by}
-use Rattle.geo_exact.proofs.TurnLaws.{turn_at_expr, turn_expr, turn_cycle, turn_swap}
+use Rattle.geo_exact.proofs.TurnLaws.{turn_at_expr, turn_expr, turn_swap}
 use Rattle.geo_exact.proofs.CornerPoints.{on_edge_from_box}
 use Rattle.ring_core.specs.Simple.{HaveCommonPoint}
-use Rattle.ring_core.proofs.EdgePoints.{on_edge_back, on_edge_start, on_edge_end, AreOneSide, RangesOverlap}
+use Rattle.ring_core.proofs.EdgePoints.{on_edge_back, on_edge_start, AreOneSide, RangesOverlap}
 
 -- ---- the point that divides the edge from a to b as s to -t
 abbrev divided : (a b : Corner) (s t : ℤ) → pos 0 <ℤ (s -ℤ t) → Point

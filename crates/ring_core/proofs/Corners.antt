@@ -1,7 +1,7 @@
 -- A ring of positive area has three corners.
-use Rattle.std.proofs.Common.{◌≡◌, ◌≤◌, arith, List, [], ◌∷◌, length}
+use Rattle.std.proofs.Common.{◌≤◌, arith, List, [], ◌∷◌, length}
 use Rattle.std.proofs.lemmas.Int.{ints}
-use lib.IntN.{ℤ, pos, ◌-ℤ◌, ◌*ℤ◌}
+use lib.IntN.{pos}
 use lib.Signed.{◌<ℤ◌}
 use Rattle.geo_exact.specs.declared.corner.Corner.{Corner}
 use Rattle.geo_exact.specs.Area.{area2}

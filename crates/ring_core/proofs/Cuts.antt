@@ -1,5 +1,5 @@
 -- What a corner taken out of a ring changes in a sum over its edges.
-use Rattle.std.proofs.Common.{◌≡◌, ℕ, zero, suc, ◌+◌, ◌-◌, ◌<◌, ◌≤◌, ◌∙◌, sym, ap, refl, arith, List, [], ◌∷◌, length, get_or, inl, inr}
+use Rattle.std.proofs.Common.{◌≡◌, ℕ, zero, suc, ◌<◌, ◌∙◌, sym, ap, refl, arith, List, [], ◌∷◌, length, get_or, inl, inr}
 use Rattle.std.proofs.lemmas.List.{get_or_default, get_or_past}
 use Rattle.std.proofs.lemmas.Bool.{cases_lt}
 use Rattle.std.specs.List.{remove}
@@ -15,8 +15,8 @@ use Rattle.ring_core.specs.Clipping.{previous, next}
 -- corner k of a path taken out; past the path comes its end
 path_cut : (measure : Edge → ℤ) (from to : Corner) (xs : List Corner) (k : ℕ) → k < length xs
     → sum_over measure (path from xs to) +ℤ measure (edge_of (get_or (from ∷ xs) k origin) (get_or xs (suc k) to))
-      ≡ sum_over measure (path from (remove xs k) to) +ℤ measure (edge_of (get_or (from ∷ xs) k origin) (get_or xs k origin))
-        +ℤ measure (edge_of (get_or xs k origin) (get_or xs (suc k) to))
+    ≡ sum_over measure (path from (remove xs k) to) +ℤ measure (edge_of (get_or (from ∷ xs) k origin) (get_or xs k origin))
+    +ℤ measure (edge_of (get_or xs k origin) (get_or xs (suc k) to))
 path_cut measure from to [] k h = absurd (omega arith)
 path_cut measure from to (x ∷ []) zero h = omega (arith, ints)
 path_cut measure from to (x ∷ y ∷ ys) zero h = omega (arith, ints)
@@ -25,7 +25,7 @@ path_cut measure from to (x ∷ xs) (suc k) h = omega (arith, ints, path_cut mea
 -- where a path leads from its last corner
 path_end : (measure : Edge → ℤ) (from s t : Corner) (xs : List Corner)
     → sum_over measure (path from xs s) +ℤ measure (edge_of (get_or (from ∷ xs) (length xs) origin) t)
-      ≡ sum_over measure (path from xs t) +ℤ measure (edge_of (get_or (from ∷ xs) (length xs) origin) s)
+    ≡ sum_over measure (path from xs t) +ℤ measure (edge_of (get_or (from ∷ xs) (length xs) origin) s)
 path_end measure from s t [] = omega (arith, ints)
 path_end measure from s t (x ∷ xs) = omega (arith, ints, path_end measure x s t xs)
 
@@ -52,7 +52,7 @@ next_is first rest k h =
 -- a corner taken out of a ring
 pub ring_cut : (measure : Edge → ℤ) (ring : List Corner) (k : ℕ) → 2 < length ring → k < length ring
     → sum_over measure (edges ring) +ℤ measure (edge_of (previous ring k) (next ring k))
-      ≡ sum_over measure (edges (remove ring k)) +ℤ measure (edge_of (previous ring k) (corner_at ring k)) +ℤ measure (edge_of (corner_at ring k) (next ring k))
+    ≡ sum_over measure (edges (remove ring k)) +ℤ measure (edge_of (previous ring k) (corner_at ring k)) +ℤ measure (edge_of (corner_at ring k) (next ring k))
 ring_cut measure [] k l h = absurd (omega arith)
 ring_cut measure (b ∷ []) k l h = absurd (omega arith)
 ring_cut measure (b ∷ c ∷ rest) zero l h =

@@ -1,15 +1,15 @@
 -- When the path from a over b to c doubles back at b: then one of its ends lies on the other edge.
-use Rattle.std.proofs.Common.{◌≡◌, ◌⊎◌, ◌∙◌, sym, ap, arith, inl, inr, [], ◌∷◌, refl}
+use Rattle.std.proofs.Common.{◌≡◌, ◌⊎◌, ◌∙◌, ap, arith, inl, inr, [], ◌∷◌, refl}
 use Rattle.std.proofs.lemmas.Int.{ints, by_lt_z, clamps}
 use Rattle.std.specs.Int.{int_min, int_max}
-use lib.IntN.{ℤ, pos, ◌+ℤ◌, ◌-ℤ◌, ◌*ℤ◌, neg_ℤ}
+use lib.IntN.{ℤ, pos, ◌-ℤ◌, ◌*ℤ◌, neg_ℤ}
 use lib.Signed.{◌<ℤ◌, ◌≤ℤ◌}
 use Rattle.geo_exact.specs.declared.corner.Corner.{Corner}
 use Rattle.geo_exact.specs.Point.{Point, corner_point}
 use Rattle.geo_exact.specs.Turn.{turn, turn_at, IsOnEdge}
 use Rattle.geo_exact.proofs.Differences.{expand}
 use Rattle.geo_exact.proofs.Signs.{mul_pos, mul_neg}
-use Rattle.geo_exact.proofs.Polynomials.{Expr, var, lit, add, mul, neg, same_by}
+use Rattle.geo_exact.proofs.Polynomials.{var, add, mul, neg, same_by}
 use Rattle.geo_exact.proofs.TurnLaws.{turn_at_expr, turn_expr, turn_cycle, turn_swap}
 use Rattle.ring_core.specs.Simple.{IsPlaceOf, DoublesBack}
 use Rattle.ring_core.proofs.EdgePoints.{on_edge_back, on_edge_start, on_edge_end}

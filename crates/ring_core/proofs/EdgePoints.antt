@@ -1,5 +1,5 @@
 -- When two edges have a common point, told by the turns and the boxes of their ends.
-use Rattle.std.proofs.Common.{◌≡◌, ◌⊎◌, ◌∙◌, sym, ap, arith, inl, inr, [], ◌∷◌, refl}
+use Rattle.std.proofs.Common.{◌≡◌, ◌⊎◌, ◌∙◌, ap, arith, inl, inr, [], ◌∷◌, refl}
 use Rattle.std.proofs.lemmas.Int.{ints, by_lt_z, clamps}
 use Rattle.std.specs.Int.{int_min, int_max}
 use lib.IntN.{ℤ, pos, ◌+ℤ◌, ◌-ℤ◌, ◌*ℤ◌, neg_ℤ}
@@ -7,12 +7,10 @@ use lib.Signed.{◌<ℤ◌, ◌≤ℤ◌}
 use Rattle.geo_exact.specs.declared.corner.Corner.{Corner}
 use Rattle.geo_exact.specs.Point.{Point, corner_point}
 use Rattle.geo_exact.specs.Turn.{turn, turn_at, IsOnEdge}
-use Rattle.geo_exact.proofs.Differences.{expand}
-use Rattle.geo_exact.proofs.Signs.{mul_pos, mul_not_neg, mul_neg, mul_not_pos, mul_sinking, pos_of_mul, convex, mul_le, mul_lt}
-use Rattle.geo_exact.proofs.Polynomials.{Expr, var, lit, add, mul, neg, same_by}
-use Rattle.geo_exact.proofs.TurnLaws.{turn_at_expr, turn_expr, turn_at_back, turn_cycle, turn_swap}
+use Rattle.geo_exact.proofs.Signs.{mul_pos, pos_of_mul, convex, mul_lt}
+use Rattle.geo_exact.proofs.Polynomials.{var, lit, add, mul, neg, same_by}
+use Rattle.geo_exact.proofs.TurnLaws.{turn_at_expr, turn_expr, turn_at_back, turn_swap}
 use Rattle.geo_exact.proofs.CornerPoints.{on_edge_from_box}
-use Rattle.ring_core.specs.Simple.{IsPlaceOf, HaveCommonPoint, DoublesBack}
 
 -- ---- boxes
 le_of_lt : (u v : ℤ) → u <ℤ v → u ≤ℤ v

@@ -6,3 +6,8 @@ pub mod Corners
 pub mod Cuts
 pub mod Clipped
 pub mod ClipSteps
+pub mod ClipUnique
+pub mod TakenOut
+pub mod KindsKept
+pub mod EarCounts
+pub mod KindsTell

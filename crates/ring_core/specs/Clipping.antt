@@ -1,5 +1,5 @@
 -- Ear clipping, a triangulation of a ring (OGC 06-103r4, 6.1.11, Polygon; 6.1.12, Triangle).
-use Rattle.std.specs.Prelude.{◌≡◌, ◌≢◌, ℕ, ◌<◌, pos, ◌≤ℤ◌, ◌<ℤ◌, List, [], ◌∷◌, ◌++◌, length}
+use Rattle.std.specs.Prelude.{◌≡◌, ◌≢◌, ◌⊎◌, ℕ, ◌<◌, ◌≤◌, pos, ◌≤ℤ◌, ◌<ℤ◌, List, [], ◌∷◌, ◌++◌, length}
 use Rattle.std.specs.List.{remove}
 use Rattle.geo_exact.specs.declared.corner.Corner.{Corner}
 use Rattle.geo_exact.specs.Point.{corner_point}
@@ -72,3 +72,7 @@ pub record IsStuck (ring : List Corner) (ts : List Tri) (rest : List Corner) : T
   pub more_than_two : 2 < length rest
   pub no_flat : HasNone (IsFlat rest) (length rest)
   pub no_ear : HasNone (IsEar rest) (length rest)
+
+-- the clipping ends: two corners are left, or neither a flat corner nor an ear
+abbrev pub IsEnd : List Corner → Type 0
+IsEnd rest = (length rest ≤ 2) ⊎ (HasNone (IsFlat rest) (length rest) × HasNone (IsEar rest) (length rest))

@@ -4,3 +4,4 @@ pub mod Faults
 pub mod Clipping
 pub mod Sums
 pub mod Stuck
+pub mod Kinds

@@ -3,13 +3,18 @@
 #![tactic(auto)]
 
 mod ear;
+mod kind;
+mod laws;
 mod meeting;
 mod places;
+#[cfg(test)]
+mod plain;
 mod rest;
 mod ring;
 mod shape;
 mod triangle;
 
+pub use laws::a_ring_is_clipped_in_one_way;
 pub use rest::Rest;
 pub use ring::{Ring, RingFault};
 pub use shape::{ClipFault, Shape};

@@ -2,78 +2,84 @@ ghost use Rattle.std.specs.Prelude.{◌≡◌, ◌<◌, length, IfOk, MatchOptio
 ghost use Rattle.std.specs.List.{remove};
 ghost use Rattle.ring_core.specs.Clipping.{HasNone, IsEar, IsFirst, IsFlat};
 
-use crate::ear::{is_ear, is_flat};
+use crate::kind::{Kind, first_ear, first_flat, kinds_of, update_kinds};
 use geo_exact::Corner;
 use std::alloc::{AllocError, Allocator};
 use std::marker::Model;
 
 /// What the clipping has left of a ring: a list of corners, which contracts see as that list.
+///
+/// Beside each corner stands its kind, which is brought up to date when a corner is taken out: its
+/// two neighbours are looked at again, and every other triangle that it lay in counts one less. So
+/// each step takes time that grows with the number of corners, and no more.
 #[derive(Debug, Drop)]
 pub struct Rest<A: Allocator> {
-    list: Vec<Corner, A>,
+    corners: Vec<Corner, A>,
+    kinds: Vec<Kind, A>,
 }
 
 impl<A: Allocator> Model for Rest<A> {
     ghost use Rattle.geo_exact.specs.declared.corner.Corner.{Corner};
     ghost use Rattle.std.specs.Prelude.{List};
+    ghost use Rattle.ring_core.specs.Kinds.{AreKinds};
 
     ghost Value = { List Corner };
 
-    ghost view = { λ rest. rest.list.items };
+    ghost view = { λ rest. rest.corners.items };
+
+    ghost invariant = { λ rest. AreKinds rest.corners.items rest.kinds.items };
+}
+
+impl<A: Allocator + Copy> Rest<A> {
+    /// All the corners.
+    pub(crate) fn of(alloc: A, corners: &[Corner]) -> Result<Rest<A>, AllocError>
+        ensures { IfOk result (λ rest. rest ≡ corners.now) }
+    {
+        let kinds = kinds_of(alloc, corners)?;
+        let mut list = Vec::new(alloc);
+        list.extend_from_slice(corners)?;
+        Ok(Rest {
+            corners: list,
+            kinds,
+        })
+    }
 }
 
 impl<A: Allocator> Rest<A> {
-    /// All the corners.
-    pub fn of(alloc: A, corners: &[Corner]) -> Result<Rest<A>, AllocError>
-        ensures { IfOk result (λ rest. rest ≡ corners.now) }
-    {
-        let mut list = Vec::new(alloc);
-        list.extend_from_slice(corners)?;
-        Ok(Rest { list })
-    }
-
     /// The corners in order.
     pub fn as_slice(&self) -> &[Corner]
         ensures { result.now ≡ self.now }
     {
-        self.list.as_slice()
+        self.corners.as_slice()
     }
 
     /// Takes corner `k` out.
-    pub fn remove(&mut self, k: usize)
-        requires { k < length self.old }
+    pub(crate) fn remove(&mut self, k: usize)
+        requires below { k < length self.old }
+        requires more_than_two { 2 < length self.old }
         ensures { self.new ≡ remove self.old k }
     {
-        self.list.remove(k);
+        let gone = self.corners.remove(k);
+        self.kinds.remove(k);
+        update_kinds(self.corners.as_slice(), self.kinds.as_mut_slice(), k, gone);
     }
 
     /// The first flat corner.
-    pub fn first_flat(&self) -> Option<usize>
+    pub(crate) fn first_flat(&self) -> Option<usize>
         ensures { MatchOption result
             (HasNone (IsFlat self.now) (length self.now))
             (λ k. IsFirst (IsFlat self.now) (length self.now) k) }
     {
-        let corners = self.list.as_slice();
-        for k in 0..corners.len() {
-            if is_flat(corners, k) {
-                return Some(k);
-            }
-        }
-        None
+        first_flat(self.kinds.as_slice())
     }
 
     /// The first ear.
-    pub fn first_ear(&self) -> Option<usize>
+    pub(crate) fn first_ear(&self) -> Option<usize>
+        requires { 2 < length self.now }
         ensures { MatchOption result
             (HasNone (IsEar self.now) (length self.now))
             (λ k. IsFirst (IsEar self.now) (length self.now) k) }
     {
-        let corners = self.list.as_slice();
-        for k in 0..corners.len() {
-            if is_ear(corners, k) {
-                return Some(k);
-            }
-        }
-        None
+        first_ear(self.kinds.as_slice())
     }
 }

@@ -1,11 +1,85 @@
-ghost use Rattle.std.specs.Prelude.{◌≤◌, length};
+ghost use Rattle.std.specs.Prelude.{◌≤◌, length, IfOk};
 
+use crate::ear::triangle_at;
+use crate::plain::{plain_first_ear, plain_first_flat};
 use crate::{Ring, RingFault, Shape, Tri};
 use geo_exact::{Corner, Corners, turn};
 use std::alloc::{AllocError, Global};
 use std::test::Fail;
 
-fn corners(alloc: Global, places: &[(i64, i64)]) -> Result<Corners<Global>, AllocError> {
+const WITH_FLAT_CORNER: [(i64, i64); 5] = [(0, 0), (50, 0), (100, 0), (100, 100), (0, 100)];
+
+const S_SHAPE: [(i64, i64); 12] = [
+    (0, 0),
+    (300, 0),
+    (300, 30),
+    (200, 30),
+    (200, 60),
+    (300, 60),
+    (300, 90),
+    (0, 90),
+    (0, 60),
+    (100, 60),
+    (100, 30),
+    (0, 30),
+];
+
+const COMB: [(i64, i64); 12] = [
+    (0, 0),
+    (50, 0),
+    (50, 30),
+    (40, 30),
+    (40, 10),
+    (30, 10),
+    (30, 30),
+    (20, 30),
+    (20, 10),
+    (10, 10),
+    (10, 30),
+    (0, 30),
+];
+
+const SPIRAL: [(i64, i64); 14] = [
+    (0, 0),
+    (60, 0),
+    (60, 60),
+    (0, 60),
+    (0, 20),
+    (40, 20),
+    (40, 40),
+    (30, 40),
+    (30, 30),
+    (10, 30),
+    (10, 50),
+    (50, 50),
+    (50, 10),
+    (0, 10),
+];
+
+const STAR: [(i64, i64); 8] = [
+    (50, 0),
+    (60, 40),
+    (100, 50),
+    (60, 60),
+    (50, 100),
+    (40, 60),
+    (0, 50),
+    (40, 40),
+];
+
+const FLAT_SIDE: [(i64, i64); 7] = [
+    (0, 0),
+    (10, 0),
+    (20, 0),
+    (30, 0),
+    (40, 0),
+    (40, 10),
+    (0, 10),
+];
+
+fn corners(alloc: Global, places: &[(i64, i64)]) -> Result<Corners<Global>, AllocError>
+    ensures { IfOk result (λ list. length list ≤ length places.now) }
+{
     let mut list = Corners::new(alloc);
     for (x, y) in places {
         if let Some(corner) = Corner::new(*x, *y) {
@@ -30,7 +104,10 @@ fn finds_the_first_fault(rt: HostRuntime) -> Result<(), Fail> {
     let touched = [(0, 0), (100, 0), (100, 100), (50, 0), (0, 100)];
     assert_eq!(rt; fault(alloc, &touched)?, Some(RingFault::EdgesMeet(0, 2)));
     let turned_back = [(0, 0), (100, 0), (60, 0), (60, 100)];
-    assert_eq!(rt; fault(alloc, &turned_back)?, Some(RingFault::EdgesMeet(0, 1)));
+    assert_eq!(rt;
+        fault(alloc, &turned_back)?,
+        Some(RingFault::EdgesMeet(0, 1))
+    );
     let spike = [(0, 0), (100, 0), (150, 0), (100, 0), (100, 100)];
     assert_eq!(rt; fault(alloc, &spike)?, Some(RingFault::EdgesMeet(0, 2)));
     let bow_tie = [(0, 0), (100, 100), (100, 0), (0, 100)];
@@ -65,77 +142,71 @@ fn clipped(rt: &HostRuntime, places: &[(i64, i64)]) -> Result<(i128, usize), Fai
 
 #[test]
 fn clips_rings(rt: HostRuntime) -> Result<(), Fail> {
-    let with_flat_corner = [(0, 0), (50, 0), (100, 0), (100, 100), (0, 100)];
-    assert_eq!(rt; clipped(&rt, &with_flat_corner)?, (20000, 2));
-    let s_shape = [
-        (0, 0),
-        (300, 0),
-        (300, 30),
-        (200, 30),
-        (200, 60),
-        (300, 60),
-        (300, 90),
-        (0, 90),
-        (0, 60),
-        (100, 60),
-        (100, 30),
-        (0, 30),
-    ];
-    assert_eq!(rt; clipped(&rt, &s_shape)?.0, 42000);
-    let comb = [
-        (0, 0),
-        (50, 0),
-        (50, 30),
-        (40, 30),
-        (40, 10),
-        (30, 10),
-        (30, 30),
-        (20, 30),
-        (20, 10),
-        (10, 10),
-        (10, 30),
-        (0, 30),
-    ];
-    assert_eq!(rt; clipped(&rt, &comb)?.0, 2200);
-    let spiral = [
-        (0, 0),
-        (60, 0),
-        (60, 60),
-        (0, 60),
-        (0, 20),
-        (40, 20),
-        (40, 40),
-        (30, 40),
-        (30, 30),
-        (10, 30),
-        (10, 50),
-        (50, 50),
-        (50, 10),
-        (0, 10),
-    ];
-    assert_eq!(rt; clipped(&rt, &spiral)?.0, 4600);
-    let star = [
-        (50, 0),
-        (60, 40),
-        (100, 50),
-        (60, 60),
-        (50, 100),
-        (40, 60),
-        (0, 50),
-        (40, 40),
-    ];
-    assert_eq!(rt; clipped(&rt, &star)?.0, 4000);
-    let flat_side = [(0, 0), (10, 0), (20, 0), (30, 0), (40, 0), (40, 10), (0, 10)];
-    assert_eq!(rt; clipped(&rt, &flat_side)?, (800, 2));
+    assert_eq!(rt; clipped(&rt, &WITH_FLAT_CORNER)?, (20000, 2));
+    assert_eq!(rt; clipped(&rt, &S_SHAPE)?.0, 42000);
+    assert_eq!(rt; clipped(&rt, &COMB)?.0, 2200);
+    assert_eq!(rt; clipped(&rt, &SPIRAL)?.0, 4600);
+    assert_eq!(rt; clipped(&rt, &STAR)?.0, 4000);
+    assert_eq!(rt; clipped(&rt, &FLAT_SIDE)?, (800, 2));
     let far = 10_000_000_000;
     let widest = [(-far, -far), (far, -far), (far, far), (-far, far)];
     assert_eq!(rt; clipped(&rt, &widest)?, (800_000_000_000_000_000_000, 2));
     Ok(())
 }
 
+/// The triangles of the plain clipping.
+fn plainly_clipped(alloc: Global, corners: &[Corner]) -> Result<Vec<Tri>, AllocError> {
+    let mut rest = Vec::new(alloc);
+    rest.extend_from_slice(corners)?;
+    let mut triangles = Vec::new(alloc);
+    for _ in 0..corners.len() {
+        if rest.len() <= 2 {
+            break;
+        }
+        if let Some(k) = plain_first_flat(rest.as_slice()) {
+            rest.remove(k);
+        } else if let Some(k) = plain_first_ear(rest.as_slice()) {
+            triangles.push(triangle_at(rest.as_slice(), k))?;
+            rest.remove(k);
+        } else {
+            break;
+        }
+    }
+    Ok(triangles)
+}
+
+/// Whether the clipping gives the triangles of the plain clipping.
+fn agrees(rt: &HostRuntime, places: &[(i64, i64)]) -> Result<bool, Fail>
+    requires { length places.now ≤ 100 }
+{
+    let alloc = rt.alloc();
+    let ring = match Ring::check(corners(alloc, places)?) {
+        Ok(ring) => ring,
+        Err(_) => return Ok(false),
+    };
+    let plain = plainly_clipped(alloc, ring.corners.as_slice())?;
+    let shape = match Shape::clip(alloc, ring) {
+        Ok(shape) => shape,
+        Err(_) => return Ok(false),
+    };
+    Ok(shape.triangles.as_slice() == plain.as_slice())
+}
+
+#[test]
+fn agrees_with_the_plain_clipping(rt: HostRuntime) -> Result<(), Fail> {
+    assert!(rt; agrees(&rt, &WITH_FLAT_CORNER)?);
+    assert!(rt; agrees(&rt, &S_SHAPE)?);
+    assert!(rt; agrees(&rt, &COMB)?);
+    assert!(rt; agrees(&rt, &SPIRAL)?);
+    assert!(rt; agrees(&rt, &STAR)?);
+    assert!(rt; agrees(&rt, &FLAT_SIDE)?);
+    Ok(())
+}
+
 #[test]
 fn a_triangle_turns_left(rt: HostRuntime) -> Result<(), Fail> {
-    let (Some(a), Some(b), Some(c)) = (Corner::new(0, 0), Corner::new(60, 0), Corner::new(0, 60)) else {
+    let (Some(a), Some(b), Some(c)) = (Corner::new(0, 0), Corner::new(60, 0), Corner::new(0, 60))
+    else {
         return Err(Fail::new("no corners"));
     };
     assert!(rt; Tri::new(a, b, c).is_some());

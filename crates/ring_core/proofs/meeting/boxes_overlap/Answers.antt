@@ -1,5 +1,5 @@
-use Rattle.std.proofs.Common.{◌≡◌, ◌≤ℤ◌, IsTrue, ◌↔◌, Bool, false, ℤ, to_z, of_z, FitsSigned, arith, sym, ◌∙◌}
-use Rattle.std.specs.Int.{int_max, int_min, w64}
+use Rattle.std.proofs.Common.{IsTrue, ◌↔◌, Bool, ℤ, to_z, of_z, FitsSigned, arith, sym, ◌∙◌}
+use Rattle.std.specs.Int.{w64}
 use Rattle.std.proofs.lemmas.Int.{ints, to_z-of_z}
 use Rattle.std.proofs.lemmas.Bool.{false≢true}
 use Rattle.geo_exact.specs.Limit.{IsWithin, limit}

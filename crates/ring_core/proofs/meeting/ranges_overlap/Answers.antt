@@ -1,5 +1,5 @@
-use Rattle.std.proofs.Common.{◌≡◌, ◌≤ℤ◌, IsTrue, ◌↔◌, Bool, ℤ, to_z, of_z, FitsSigned, arith}
-use Rattle.std.specs.Int.{int_max, int_min, w64}
+use Rattle.std.proofs.Common.{◌≡◌, ◌≤ℤ◌, IsTrue, ◌↔◌, Bool, ℤ, arith}
+use Rattle.std.specs.Int.{int_max, int_min}
 use Rattle.std.proofs.lemmas.Int.{ints, to_z-of_z, clamps}
 use Rattle.ring_core.proofs.meeting.ranges_overlap.Goals as goal
 

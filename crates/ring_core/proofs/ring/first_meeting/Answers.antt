@@ -1,4 +1,4 @@
-use Rattle.std.proofs.Common.{◌≡◌, ◌⊎◌, ℕ, ◌+◌, ◌<◌, ◌∙◌, sym, length, arith, below_more, inl, inr, subst}
+use Rattle.std.proofs.Common.{ℕ, ◌<◌, sym, arith, below_more, inl, inr, subst}
 use Rattle.ring_core.specs.Simple.{MeetOtherwise}
 use Rattle.ring_core.proofs.ring.first_meeting.Goals as goal
 

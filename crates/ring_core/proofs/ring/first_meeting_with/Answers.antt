@@ -1,4 +1,4 @@
-use Rattle.std.proofs.Common.{◌≡◌, ℕ, ◌+◌, ◌<◌, ◌∙◌, sym, length, arith, below_more}
+use Rattle.std.proofs.Common.{◌<◌, ◌∙◌, sym, arith, below_more}
 use Rattle.std.proofs.lemmas.Bool.{false≢true}
 use Rattle.ring_core.specs.Simple.{MeetOtherwise}
 use Rattle.ring_core.proofs.ring.first_meeting_with.Goals as goal

@@ -1,11 +1,11 @@
-use Rattle.std.proofs.Common.{◌≡◌, ℕ, ◌<◌, ◌≤◌, ◌^◌, ◌∙◌, sym, ap, subst, length, List, arith, ℤ, pos, ◌<ℤ◌, false, to_z, of_z, FitsSigned}
+use Rattle.std.proofs.Common.{◌≡◌, ℕ, ◌<◌, ◌^◌, ◌∙◌, ap, List, arith, ℤ, pos, ◌<ℤ◌, false, to_z, of_z, FitsSigned}
 use Rattle.std.specs.Int.{w128}
 use Rattle.std.proofs.lemmas.Int.{ints, to_z-of_z, by_lt_z}
 use Rattle.std.proofs.lemmas.Bool.{false≢true}
 use lib.Signed.{lt_z, mag, ◌≤ℤ◌}
 use Rattle.geo_exact.specs.declared.corner.Corner.{Corner}
 use Rattle.geo_exact.specs.Area.{area2}
-use Rattle.ring_core.specs.Simple.{MeetOtherwise, IsSimpleRing}
+use Rattle.ring_core.specs.Simple.{IsSimpleRing}
 use Rattle.ring_core.specs.Faults.{IsFirstMeeting}
 use Rattle.ring_core.proofs.Corners.{three_corners}
 use Rattle.ring_core.proofs.ring.Ring.check.Goals as goal

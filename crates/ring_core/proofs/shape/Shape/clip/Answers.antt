@@ -1,4 +1,4 @@
-use Rattle.std.proofs.Common.{◌≡◌, ◌∙◌, sym, ap, ◌+◌, ◌<◌, ◌≤◌, length, arith}
+use Rattle.std.proofs.Common.{◌≡◌, ◌∙◌, ap, ◌<◌, length, arith}
 use Rattle.ring_core.proofs.Corners.{three_corners}
 use Rattle.ring_core.proofs.Clipped.{make_up}
 use Rattle.ring_core.proofs.ClipSteps.{clip_start, clip_flat, clip_ear, one_less}

@@ -1,0 +1,8 @@
+use Rattle.std.proofs.Common.{◌<◌, List, length}
+use Rattle.geo_exact.specs.declared.corner.Corner.{Corner}
+use Rattle.ring_core.specs.Clipping.{HasNone, IsFlat}
+use Rattle.ring_core.specs.Kinds.{AreKinds}
+use Rattle.ring_core.proofs.kind.first_flat.Given as goal
+
+abbrev pub invariant-loop-k : goal.invariant-loop-k
+invariant-loop-k l = (rest : List Corner) → AreKinds rest l.kinds → HasNone (IsFlat rest) l.k

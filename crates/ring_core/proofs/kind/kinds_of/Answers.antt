@@ -1,0 +1,15 @@
+use Rattle.std.proofs.Common.{◌≡◌, ℕ, ◌+◌, ◌<◌, ◌∙◌, ap, arith, length, get_or, below_more, ◌++◌, ◌∷◌, []}
+use Rattle.std.proofs.lemmas.List.{get_or_append_left, get_or_push, length_push}
+use Rattle.ring_core.specs.declared.kind.Kind.TheVariants.{Flat}
+use Rattle.ring_core.specs.Kinds.{IsKind}
+use Rattle.ring_core.proofs.kind.kinds_of.Goals as goal
+
+pub loop-k-preserved : goal.loop-k-preserved
+loop-k-preserved g c =
+    let corners = c.args.corners.now in let kinds = c.loop-k.kinds.items in let kind = c.kind_at.result in let k = c.loop-k.k in
+    record {
+      so_long = ap length c.in_ok-push.ensures.items ∙ length_push kinds kind ∙ omega (arith, c.loop-k.invariant.so_long);
+      each = rw c.in_ok-push.ensures.items (below_more (λ i. IsKind corners i (get_or (kinds ++ kind ∷ []) i Flat)) k
+          (λ i q. rw (get_or_append_left kinds (kind ∷ []) Flat i (omega (arith, c.loop-k.invariant.so_long))) (c.loop-k.invariant.each i q))
+          (rw (get_or_push kinds kind Flat k c.loop-k.invariant.so_long) c.kind_at.ensures));
+    }

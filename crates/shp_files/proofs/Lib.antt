@@ -1,0 +1,13 @@
+pub mod Numbers
+pub mod Lines
+pub mod Points
+pub mod Finding
+pub mod Ring
+pub mod Passing
+pub mod Places
+pub mod Polygons
+pub mod Walk
+pub mod Sound
+pub mod Complete
+pub mod Laws
+pub mod Answering

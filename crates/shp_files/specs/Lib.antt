@@ -1,0 +1,5 @@
+pub mod Layout
+pub mod LayerFile
+pub mod Checks
+pub mod FirstFault
+pub mod Reading

@@ -1,0 +1,19 @@
+//! Layers of polygons in shapefiles, read and checked to the first fault (ESRI Shapefile Technical
+//! Description, July 1998: main file, polygon records).
+#![tactic(auto)]
+
+mod fault;
+mod fields;
+mod header;
+mod layer;
+mod record;
+mod source;
+#[cfg(test)]
+mod tests;
+
+pub use fault::{FaultKind, FileFault, FileName, LayerFault};
+pub use layer::{
+    a_layer_file_has_no_fault, a_layer_file_has_one_list_of_rings, a_text_has_one_first_fault,
+    read_layer,
+};
+pub use source::{MOST_BYTES, ReadFault, read_all};
