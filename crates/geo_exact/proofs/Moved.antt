@@ -7,16 +7,15 @@ use lib.Signed.{◌<ℤ◌, ◌≤ℤ◌, lt_z, le_z}
 use Rattle.geo_exact.specs.declared.corner.Corner.{Corner}
 use Rattle.geo_exact.specs.Point.{Point}
 use Rattle.geo_exact.specs.Rings.{Edge, edges}
-use Rattle.geo_exact.specs.Turn.{turn_at, IsOnEdge, IsOnSome, IsOnRing}
+use Rattle.geo_exact.specs.Turn.{turn_at, IsOnEdge, IsOnSome}
 use Rattle.geo_exact.specs.Winding.{is_not_above, crossing, crossings, winding, IsInterior}
 use Rattle.geo_exact.specs.Interiors.{InteriorsMeet}
 use Rattle.geo_exact.specs.Limit.{IsWithin}
 use Rattle.geo_exact.proofs.Differences.{expand}
-use Rattle.geo_exact.proofs.Signs.{zero_factor, mul_pos, mul_le, mul_lt}
+use Rattle.geo_exact.proofs.Signs.{zero_factor, mul_pos, mul_neg, mul_le, mul_lt}
 use Rattle.geo_exact.proofs.Polynomials.{var, add, mul, neg, same_by}
-use Rattle.geo_exact.proofs.TurnLaws.{turn_at_expr, turn_at_back}
+use Rattle.geo_exact.proofs.TurnLaws.{turn_at_expr}
 use Rattle.geo_exact.proofs.SameCorner.{corner_same}
-use Rattle.geo_exact.proofs.OnEdge.{on_edge_between, on_edge_back}
 use Rattle.geo_exact.proofs.Crossings.{crossed}
 
 -- ---- the bounds, over plain numbers: w and h are the width and the height of an edge, within r
@@ -245,21 +244,46 @@ moved_off_some [] p h = h
 moved_off_some (edge ∷ es) p (inl h) = moved_off_edge edge.from edge.to p h
 moved_off_some (edge ∷ es) p (inr h) = moved_off_some es p h
 
-same_left : (t z : ℤ) → (pos 0 <ℤ t → pos 0 <ℤ z) → (t <ℤ pos 0 → z <ℤ pos 0) → (t ≡ pos 0 → ⊥) → lt_z (pos 0) z ≡ lt_z (pos 0) t
-same_left t z l r off =
+same_left : (t z : ℤ) → (pos 0 <ℤ t → pos 0 <ℤ z) → (t <ℤ pos 0 → z <ℤ pos 0) → (t ≡ pos 0 → z <ℤ pos 0) → lt_z (pos 0) z ≡ lt_z (pos 0) t
+same_left t z l r on =
     by_lt_z (pos 0) t
     (λ p. let q : pos 0 <ℤ z = l p in let x : true ≡ lt_z (pos 0) z = omega (arith, ints) in sym x ∙ omega (arith, ints))
-    (λ p. by_lt_z t (pos 0)
-    (λ i. let q : z <ℤ pos 0 = r i in let x : false ≡ lt_z (pos 0) z = omega (arith, ints) in sym x ∙ omega (arith, ints))
-    (λ i. absurd (off (omega (arith, ints)))))
+    (λ p. let q : z <ℤ pos 0 = by_lt_z t (pos 0) r (λ i. on (omega (arith, ints))) in
+    let x : false ≡ lt_z (pos 0) z = omega (arith, ints) in sym x ∙ omega (arith, ints))
 
-same_right : (t z : ℤ) → (pos 0 <ℤ t → pos 0 <ℤ z) → (t <ℤ pos 0 → z <ℤ pos 0) → (t ≡ pos 0 → ⊥) → lt_z z (pos 0) ≡ lt_z t (pos 0)
-same_right t z l r off =
+same_right : (t z : ℤ) → (pos 0 <ℤ t → pos 0 <ℤ z) → (t <ℤ pos 0 → z <ℤ pos 0) → (t ≡ pos 0 → pos 0 <ℤ z) → lt_z z (pos 0) ≡ lt_z t (pos 0)
+same_right t z l r on =
     by_lt_z t (pos 0)
     (λ p. let q : z <ℤ pos 0 = r p in let x : true ≡ lt_z z (pos 0) = omega (arith, ints) in sym x ∙ omega (arith, ints))
-    (λ p. by_lt_z (pos 0) t
-    (λ i. let q : pos 0 <ℤ z = l i in let x : false ≡ lt_z z (pos 0) = omega (arith, ints) in sym x ∙ omega (arith, ints))
-    (λ i. absurd (off (omega (arith, ints)))))
+    (λ p. let q : pos 0 <ℤ z = by_lt_z (pos 0) t l (λ i. on (omega (arith, ints))) in
+    let x : false ≡ lt_z z (pos 0) = omega (arith, ints) in sym x ∙ omega (arith, ints))
+
+-- from the line of an edge upward the move goes to the right of it, and from one downward to the left
+goes_right : (r t nn d n w h z : ℤ) → z ≡ t *ℤ nn +ℤ d *ℤ (w -ℤ h *ℤ n) → pos 0 <ℤ d → r <ℤ n → pos 0 <ℤ n → IsSmall r w → pos 0 <ℤ h
+    → t ≡ pos 0 → z <ℤ pos 0
+goes_right r t nn d n w h z e hd hr hn hw hh k =
+    let i : (pos 1 *ℤ n) ≤ℤ (h *ℤ n) = mul_le (pos 1) h n (omega (arith, ints)) (omega (arith, ints)) in
+    omega (arith, ints, rw k at e, mul_neg d (w -ℤ h *ℤ n) hd (omega (arith, ints, hw.high)))
+
+goes_left : (r t nn d n w h z : ℤ) → z ≡ t *ℤ nn +ℤ d *ℤ (w -ℤ h *ℤ n) → pos 0 <ℤ d → r <ℤ n → pos 0 <ℤ n → IsSmall r w → h <ℤ pos 0
+    → t ≡ pos 0 → pos 0 <ℤ z
+goes_left r t nn d n w h z e hd hr hn hw hh k =
+    let i : (h *ℤ n) ≤ℤ (negsuc 0 *ℤ n) = mul_le h (negsuc 0) n (omega (arith, ints)) (omega (arith, ints)) in
+    omega (arith, ints, rw k at e, mul_pos d (w -ℤ h *ℤ n) hd (omega (arith, ints, hw.low)))
+
+-- an edge from a height that is not above y to one that is goes upward
+rises : (u v y d : ℤ) → pos 0 <ℤ d → (u *ℤ d) ≤ℤ y → y <ℤ (v *ℤ d) → u <ℤ v
+rises u v y d hd h k = by_lt_z u v (λ p. p) (λ p. omega (arith, ints, mul_le v u d (omega (arith, ints)) p))
+
+moved_from_up : (a b : Corner) (p : Point) → a.y <ℤ b.y → turn_at a b p ≡ pos 0 → turn_at a b (moved p) <ℤ pos 0
+moved_from_up a b p h =
+    goes_right (pos 20000000000) (turn_at a b p) (steps p *ℤ steps p) p.d (steps p) (b.x -ℤ a.x) (b.y -ℤ a.y) (turn_at a b (moved p)) (moved_turn a b p)
+    p.d_positive (steps_least p).1 (steps_least p).2 (apart_small a.x b.x a.x_in_range b.x_in_range) (omega (arith, ints, h))
+
+moved_from_down : (a b : Corner) (p : Point) → b.y <ℤ a.y → turn_at a b p ≡ pos 0 → pos 0 <ℤ turn_at a b (moved p)
+moved_from_down a b p h =
+    goes_left (pos 20000000000) (turn_at a b p) (steps p *ℤ steps p) p.d (steps p) (b.x -ℤ a.x) (b.y -ℤ a.y) (turn_at a b (moved p)) (moved_turn a b p)
+    p.d_positive (steps_least p).1 (steps_least p).2 (apart_small a.x b.x a.x_in_range b.x_in_range) (omega (arith, ints, h))
 
 crossed_kept : (la lb : Bool) (t z : ℤ)
     → (la ≡ true → lb ≡ false → lt_z (pos 0) z ≡ lt_z (pos 0) t) → (la ≡ false → lb ≡ true → lt_z z (pos 0) ≡ lt_z t (pos 0))
@@ -275,28 +299,28 @@ not_above u v h = omega (arith, ints)
 is_above : (u v : ℤ) → le_z u v ≡ false → v <ℤ u
 is_above u v h = omega (arith, ints)
 
--- an edge that p is not on crosses the same ray
-pub moved_crossing : (a b : Corner) (p : Point) → (IsOnEdge p a b → ⊥) → crossing (moved p) a b ≡ crossing p a b
-moved_crossing a b p off =
+-- the same edges cross the ray, also those that p is on
+pub moved_crossing : (a b : Corner) (p : Point) → crossing (moved p) a b ≡ crossing p a b
+moved_crossing a b p =
     ap (λ l. crossed l (is_not_above b (moved p)) (turn_at a b (moved p))) (moved_height a p)
     ∙ ap (λ l. crossed (is_not_above a p) l (turn_at a b (moved p))) (moved_height b p)
     ∙ crossed_kept (is_not_above a p) (is_not_above b p) (turn_at a b p) (turn_at a b (moved p))
     (λ x y. same_left (turn_at a b p) (turn_at a b (moved p)) (moved_left a b p) (moved_right a b p)
-    (λ e. off (on_edge_between a b p e (not_above (a.y *ℤ p.d) p.y x) (is_above (b.y *ℤ p.d) p.y y))))
+    (moved_from_up a b p (rises a.y b.y p.y p.d p.d_positive (not_above (a.y *ℤ p.d) p.y x) (is_above (b.y *ℤ p.d) p.y y))))
     (λ x y. same_right (turn_at a b p) (turn_at a b (moved p)) (moved_left a b p) (moved_right a b p)
-    (λ e. off (on_edge_back b a p (on_edge_between b a p (turn_at_back a b p ∙ ap neg_ℤ e) (not_above (b.y *ℤ p.d) p.y y) (is_above (a.y *ℤ p.d) p.y x)))))
+    (moved_from_down a b p (rises b.y a.y p.y p.d p.d_positive (not_above (b.y *ℤ p.d) p.y y) (is_above (a.y *ℤ p.d) p.y x))))
 
-pub moved_crossings : (es : List Edge) (p : Point) → (IsOnSome p es → ⊥) → crossings (moved p) es ≡ crossings p es
-moved_crossings [] p off = refl
-moved_crossings (edge ∷ es) p off =
-    ap (λ z. z +ℤ crossings (moved p) es) (moved_crossing edge.from edge.to p (λ h. off (inl h)))
-    ∙ ap (λ z. crossing p edge.from edge.to +ℤ z) (moved_crossings es p (λ h. off (inr h)))
+pub moved_crossings : (es : List Edge) (p : Point) → crossings (moved p) es ≡ crossings p es
+moved_crossings [] p = refl
+moved_crossings (edge ∷ es) p =
+    ap (λ z. z +ℤ crossings (moved p) es) (moved_crossing edge.from edge.to p)
+    ∙ ap (λ z. crossing p edge.from edge.to +ℤ z) (moved_crossings es p)
 
-pub moved_winding : (ring : List Corner) (p : Point) → (IsOnRing p ring → ⊥) → winding (moved p) ring ≡ winding p ring
+pub moved_winding : (ring : List Corner) (p : Point) → winding (moved p) ring ≡ winding p ring
 moved_winding ring p = moved_crossings (edges ring) p
 
 pub moved_interior : (ring : List Corner) (p : Point) → IsInterior p ring → IsInterior (moved p) ring
-moved_interior ring p h = record { off_edges = moved_off_some (edges ring) p; is_wound = rw (moved_winding ring p h.off_edges) h.is_wound }
+moved_interior ring p h = record { off_edges = moved_off_some (edges ring) p; is_wound = rw (moved_winding ring p) h.is_wound }
 
 -- where interiors meet, they meet at a point that is on no line through two corners
 pub meet_off_lines : (r s : List Corner) → InteriorsMeet r s

@@ -6,3 +6,4 @@ pub mod Extremes
 pub mod Boxes
 pub mod Numbered
 pub mod RingPairs
+pub mod Unfolded

@@ -16,15 +16,15 @@ use Rattle.ring_core.specs.Sums.{corners_of, winding_sum, MakeUp}
 use Rattle.tri_overlap.specs.Separation.{MeetsSome, SomePairMeets}
 
 -- p is on no edge, of whatever ring
-abbrev IsOffEdges : Point → Type 0
+abbrev pub IsOffEdges : Point → Type 0
 IsOffEdges p = (es : List Edge) → IsOnSome p es → ⊥
 
 -- p is interior to some triangle of the list
-abbrev InSome : Point → List Tri → Type 0
+abbrev pub InSome : Point → List Tri → Type 0
 InSome p [] = ⊥
 InSome p (t ∷ ts) = IsInterior p (corners_of t) ⊎ InSome p ts
 
-round_once : (p : Point) (t : Tri) → (winding p (corners_of t) ≡ pos 0) ⊎ (winding p (corners_of t) ≡ pos 1)
+pub round_once : (p : Point) (t : Tri) → (winding p (corners_of t) ≡ pos 0) ⊎ (winding p (corners_of t) ≡ pos 1)
 round_once p t = triangle_winds_at_most_once t.a t.b t.c p t.turns_left
 
 sum_not_negative : (p : Point) (ts : List Tri) → pos 0 ≤ℤ winding_sum p ts
@@ -34,7 +34,7 @@ sum_not_negative p (t ∷ ts) = elim (round_once p t) [
   | inr e ↦ omega (arith, ints, e, sum_not_negative p ts)
 ]
 
-in_some : (p : Point) → IsOffEdges p → (ts : List Tri) → pos 1 ≤ℤ winding_sum p ts → InSome p ts
+pub in_some : (p : Point) → IsOffEdges p → (ts : List Tri) → pos 1 ≤ℤ winding_sum p ts → InSome p ts
 in_some p off [] h = absurd (omega (arith, ints, h))
 in_some p off (t ∷ ts) h = elim (round_once p t) [
   | inl e ↦ inr (in_some p off ts (omega (arith, ints, e, h)))
@@ -63,7 +63,7 @@ pair_meets p (t ∷ ts) us (inr h) k = inr (pair_meets p ts us h k)
 abbrev CommonPoint : List Tri → List Tri → Type 0
 CommonPoint ts us = (p : Point) × IsOffEdges p × InSome p ts × InSome p us
 
-off_edges : (p : Point) → IsOffEdges (moved p)
+pub off_edges : (p : Point) → IsOffEdges (moved p)
 off_edges p es = moved_off_some es p
 
 meeting_point : (t u : Tri) → InteriorsMeet (corners_of t) (corners_of u)
