@@ -1,0 +1,5 @@
+pub mod Net
+pub mod Counts
+pub mod Sides
+pub mod Noding
+pub mod Jump
