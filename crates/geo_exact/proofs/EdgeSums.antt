@@ -1,8 +1,8 @@
 -- Sums of a measure over the edges of paths and rings.
-use Rattle.std.proofs.Common.{◌≡◌, refl, ◌∙◌, ap, arith, List, [], ◌∷◌, ◌++◌, reverse}
+use Rattle.std.proofs.Common.{◌≡◌, refl, sym, ◌∙◌, ap, arith, append_assoc, append-nil, List, [], ◌∷◌, ◌++◌, reverse}
 use Rattle.std.proofs.lemmas.Int.{ints}
 use Rattle.std.proofs.lemmas.List.{reverse-append}
-use lib.IntN.{ℤ, ◌+ℤ◌, neg_ℤ}
+use lib.IntN.{ℤ, pos, ◌+ℤ◌, neg_ℤ}
 use Rattle.geo_exact.specs.declared.corner.Corner.{Corner}
 use Rattle.geo_exact.specs.Rings.{Edge, path, edges, sum_over, rotated, turned_round}
 
@@ -110,3 +110,39 @@ pub sum_over-edge_split : (measure : Edge → ℤ) (front back : List Edge) (a b
 sum_over-edge_split measure [] back a b m h = omega (arith, ints, h)
 sum_over-edge_split measure (edge ∷ front) back a b m h =
     ap (λ z. measure edge +ℤ z) (sum_over-edge_split measure front back a b m h)
+
+-- a ring begun at any of its corners
+pub sum_over-cycle : (measure : Edge → ℤ) (xs ys : List Corner) → sum_over measure (edges (ys ++ xs)) ≡ sum_over measure (edges (xs ++ ys))
+sum_over-cycle measure [] ys = ap (λ ring. sum_over measure (edges ring)) (append-nil ys)
+sum_over-cycle measure (x ∷ xs) ys =
+    ap (λ ring. sum_over measure (edges ring)) (sym (append_assoc ys (x ∷ []) xs))
+    ∙ sum_over-cycle measure xs (ys ++ x ∷ [])
+    ∙ ap (λ ring. sum_over measure (edges ring)) (sym (append_assoc xs ys (x ∷ [])))
+    ∙ sum_over-rotated measure (x ∷ xs ++ ys)
+
+-- a ring cut along the chord from a to b: what the two rings have more, the chord there and back, cancels
+pub sum_over-chord : (measure : Edge → ℤ) (xs ys : List Corner) (a b : Corner)
+    → measure (edge_of b a) +ℤ measure (edge_of a b) ≡ pos 0
+    → sum_over measure (edges (a ∷ xs ++ b ∷ ys)) ≡ sum_over measure (edges (a ∷ xs ++ b ∷ [])) +ℤ sum_over measure (edges (b ∷ ys ++ a ∷ []))
+sum_over-chord measure xs ys a b h =
+    omega (arith, ints, sum_over-path measure a b a xs ys, sum_over-path measure a b a xs [], sum_over-path measure b a b ys [], h)
+
+-- a corner repeated at once
+pub sum_over-path_repeats : (measure : Edge → ℤ) (from to : Corner) (front back : List Corner) (a : Corner)
+    → measure (edge_of a a) ≡ pos 0
+    → sum_over measure (path from (front ++ a ∷ a ∷ back) to) ≡ sum_over measure (path from (front ++ a ∷ back) to)
+sum_over-path_repeats measure from to [] back a h = omega (arith, ints, h)
+sum_over-path_repeats measure from to (next ∷ front) back a h =
+    ap (λ z. measure (edge_of from next) +ℤ z) (sum_over-path_repeats measure next to front back a h)
+
+pub sum_over-repeats : (measure : Edge → ℤ) (front back : List Corner) (a : Corner)
+    → measure (edge_of a a) ≡ pos 0
+    → sum_over measure (edges (front ++ a ∷ a ∷ back)) ≡ sum_over measure (edges (front ++ a ∷ back))
+sum_over-repeats measure [] back a h = omega (arith, ints, h)
+sum_over-repeats measure (first ∷ front) back a h = sum_over-path_repeats measure first first front back a h
+
+-- the first corner repeated at the end
+pub sum_over-closing_repeat : (measure : Edge → ℤ) (a : Corner) (rest : List Corner)
+    → measure (edge_of a a) ≡ pos 0
+    → sum_over measure (edges (a ∷ rest ++ a ∷ [])) ≡ sum_over measure (edges (a ∷ rest))
+sum_over-closing_repeat measure a rest h = omega (arith, ints, sum_over-path measure a a a rest [], h)

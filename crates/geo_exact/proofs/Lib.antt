@@ -5,5 +5,9 @@ pub mod Within
 pub mod SameCorner
 pub mod EdgeSums
 pub mod Turns
+pub mod OnEdge
 pub mod Crossings
 pub mod Windings
+pub mod Triangles
+pub mod Moved
+pub mod SamePlace
