@@ -3,3 +3,8 @@ pub mod Changes
 pub mod Nets
 pub mod Firsts
 pub mod Balance
+pub mod Inside
+pub mod Boxes
+pub mod Along
+pub mod Sorted
+pub mod NodedEdges

@@ -8,6 +8,7 @@ ghost use Rattle.edge_chains.specs.Counts.{is_before, is_same_edge, number_at, n
 ghost use Rattle.edge_chains.specs.Net.{net_of_edges, winding_sum, area2_sum};
 ghost use Rattle.edge_chains.specs.Sides.{signed};
 
+use crate::order::{comes_before, comes_first};
 use geo_exact::Corner;
 use std::alloc::{AllocError, Allocator};
 use std::collections::HashMap;
@@ -135,20 +136,6 @@ fn change<A: Allocator + Copy>(numbers: &mut Numbers<A>, edge: (Corner, Corner),
     } else {
         let _kept = numbers.insert(edge, number);
     }
-}
-
-/// Whether a comes before b, by x and then by y.
-fn comes_before(a: Corner, b: Corner) -> bool
-    ensures { result ≡ is_before a b }
-{
-    a < b
-}
-
-/// Whether one edge comes before another, by their first corners and then by their second.
-fn comes_first(p: (Corner, Corner), q: (Corner, Corner)) -> bool
-    ensures { result ≡ is_edge_before p q }
-{
-    p < q
 }
 
 /// Of numbered edges, the one that comes first.

@@ -2,8 +2,13 @@
 //! polygon being clipped and without a tolerance.
 #![tactic(auto)]
 
+mod blocks;
+mod bounds;
 mod edge_sum;
 mod laws;
+mod noding;
+mod order;
 
 pub use edge_sum::EdgeSum;
 pub use laws::equal_nets_cover_alike;
+pub use noding::node;
