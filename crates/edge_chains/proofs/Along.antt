@@ -19,32 +19,32 @@ use Rattle.edge_chains.proofs.Inside.{IsBetween, Inside, inside_from_strictly, s
 abbrev sub : Expr → Expr → Expr
 sub p q = add p (neg q)
 
-along_u : (u v e f : ℤ) → u *ℤ (u *ℤ e +ℤ v *ℤ f) ≡ (u *ℤ u +ℤ v *ℤ v) *ℤ e +ℤ v *ℤ (u *ℤ f -ℤ v *ℤ e)
+pub along_u : (u v e f : ℤ) → u *ℤ (u *ℤ e +ℤ v *ℤ f) ≡ (u *ℤ u +ℤ v *ℤ v) *ℤ e +ℤ v *ℤ (u *ℤ f -ℤ v *ℤ e)
 along_u u v e f =
     same_by (u ∷ v ∷ e ∷ f ∷ [])
     (mul (var 0) (add (mul (var 0) (var 2)) (mul (var 1) (var 3))))
     (add (mul (add (mul (var 0) (var 0)) (mul (var 1) (var 1))) (var 2)) (mul (var 1) (sub (mul (var 0) (var 3)) (mul (var 1) (var 2)))))
     refl
 
-along_v : (u v e f : ℤ) → v *ℤ (u *ℤ e +ℤ v *ℤ f) ≡ (u *ℤ u +ℤ v *ℤ v) *ℤ f -ℤ u *ℤ (u *ℤ f -ℤ v *ℤ e)
+pub along_v : (u v e f : ℤ) → v *ℤ (u *ℤ e +ℤ v *ℤ f) ≡ (u *ℤ u +ℤ v *ℤ v) *ℤ f -ℤ u *ℤ (u *ℤ f -ℤ v *ℤ e)
 along_v u v e f =
     same_by (u ∷ v ∷ e ∷ f ∷ [])
     (mul (var 1) (add (mul (var 0) (var 2)) (mul (var 1) (var 3))))
     (sub (mul (add (mul (var 0) (var 0)) (mul (var 1) (var 1))) (var 3)) (mul (var 0) (sub (mul (var 0) (var 3)) (mul (var 1) (var 2)))))
     refl
 
-drop_zero : (k z x y : ℤ) → z ≡ pos 0 → x ≡ y +ℤ k *ℤ z → x ≡ y
+pub drop_zero : (k z x y : ℤ) → z ≡ pos 0 → x ≡ y +ℤ k *ℤ z → x ≡ y
 drop_zero k z x y h e = omega (arith, ints, rw h at e, mul_zero k)
 
-drop_zero' : (k z x y : ℤ) → z ≡ pos 0 → x ≡ y -ℤ k *ℤ z → x ≡ y
+pub drop_zero' : (k z x y : ℤ) → z ≡ pos 0 → x ≡ y -ℤ k *ℤ z → x ≡ y
 drop_zero' k z x y h e = omega (arith, ints, rw h at e, mul_zero k)
 
-square_not_neg : (k : ℤ) → pos 0 ≤ℤ (k *ℤ k)
+pub square_not_neg : (k : ℤ) → pos 0 ≤ℤ (k *ℤ k)
 square_not_neg k = by_lt_z k (pos 0)
     (λ l. let m : pos 0 ≤ℤ (neg_ℤ k *ℤ neg_ℤ k) = mul_not_neg (neg_ℤ k) (neg_ℤ k) (omega (arith, ints)) (omega (arith, ints)) in omega (arith, ints, simp expand at m))
     (λ l. mul_not_neg k k l l)
 
-square_pos : (k : ℤ) → k ≢ pos 0 → pos 0 <ℤ (k *ℤ k)
+pub square_pos : (k : ℤ) → k ≢ pos 0 → pos 0 <ℤ (k *ℤ k)
 square_pos k h = by_lt_z (pos 0) k
     (λ l. mul_pos k k l l)
     (λ l. let m : pos 0 <ℤ (neg_ℤ k *ℤ neg_ℤ k) = mul_pos (neg_ℤ k) (neg_ℤ k) (less k h l) (less k h l) in omega (arith, ints, simp expand at m))
@@ -121,7 +121,7 @@ turn_later_y a b c d =
     (mul (sub (var 7) (var 5)) (turn_expr (var 0) (var 1) (var 2) (var 3) (var 4) (var 5))))
     refl
 
-both_zero : (p x q y z : ℤ) → x ≡ pos 0 → y ≡ pos 0 → z ≡ p *ℤ x +ℤ q *ℤ y → z ≡ pos 0
+pub both_zero : (p x q y z : ℤ) → x ≡ pos 0 → y ≡ pos 0 → z ≡ p *ℤ x +ℤ q *ℤ y → z ≡ pos 0
 both_zero p x q y z h k e = omega (arith, ints, rw (h, k) at e, mul_zero p, mul_zero q)
 
 pub zero_of_mul : (k z : ℤ) → k ≢ pos 0 → k *ℤ z ≡ pos 0 → z ≡ pos 0
@@ -135,7 +135,7 @@ zero_of_mul k z h e = by_lt_z (pos 0) z
 not_both_level : (u v e f : ℤ) → pos 0 <ℤ (u *ℤ e +ℤ v *ℤ f) → u ≡ pos 0 → v ≡ pos 0 → ⊥
 not_both_level u v e f h p q = omega (arith, ints, ap (λ z. z *ℤ e) p, ap (λ z. z *ℤ f) q)
 
-zero_cases : (z : ℤ) → (z ≡ pos 0) ⊎ (z ≢ pos 0)
+pub zero_cases : (z : ℤ) → (z ≡ pos 0) ⊎ (z ≢ pos 0)
 zero_cases z = by_lt_z (pos 0) z (λ p. inr (λ e. omega (arith, ints))) (λ p. by_lt_z z (pos 0) (λ q. inr (λ e. omega (arith, ints))) (λ q. inl (omega (arith, ints))))
 
 still_on_line : (a b c d : Corner) → turn a b c ≡ pos 0 → turn a b d ≡ pos 0 → LeadsOn a b c d → turn c b d ≡ pos 0

@@ -8,3 +8,5 @@ pub mod Boxes
 pub mod Along
 pub mod Sorted
 pub mod NodedEdges
+pub mod Parts
+pub mod NodedRings

@@ -1,5 +1,5 @@
 -- Edges with the corners that were inserted into them.
-use Rattle.std.proofs.Common.{◌≡◌, ◌≢◌, ◌⊎◌, ◌↔◌, inl, inr, ⊎_elim, refl, sym, ◌∙◌, ap, subst, arith, Bool, true, false, cond, ℕ, ◌+◌, ◌<◌, length, get_or, drop, ℤ, List, [], ◌∷◌, ◌++◌, append_assoc, append-nil, reverse, take, Result, Ok, Err, IfOk}
+use Rattle.std.proofs.Common.{◌≡◌, ◌≢◌, ◌⊎◌, ◌↔◌, inl, inr, ⊎_elim, refl, sym, ◌∙◌, ap, subst, arith, Bool, true, false, cond, ℕ, ◌+◌, ◌<◌, length, get_or, drop, ℤ, List, [], ◌∷◌, ◌++◌, append_assoc, append-nil, reverse, map, take, Result, Ok, Err, IfOk}
 use Rattle.std.specs.Int.{int_min, int_max}
 use Rattle.std.specs.List.{Contains, filter, AllByRecursion, AllZip}
 use Rattle.std.specs.List.Sorted.{IsStrictlySortedBy, IsPermutation}
@@ -165,3 +165,9 @@ noded_ring corners ring noded first rest e h = subst (λ r. IsNoded r corners no
 pub noded_nothing : (corners ring noded : List Corner) → length ring ≡ 0 → noded ≡ [] → IsNoded ring corners noded
 noded_nothing corners [] noded e h = h
 noded_nothing corners (c ∷ rest) noded e h = absurd (omega arith)
+
+pub AllZip-map : {X Y U V : Type 0} (R : U → V → Type 0) (f : X → U) (g : Y → V) (xs : List X) (ys : List Y) → AllZip (λ x y. R (f x) (g y)) xs ys → AllZip R (map f xs) (map g ys)
+AllZip-map R f g [] [] h = h
+AllZip-map R f g [] (y ∷ ys) h = h
+AllZip-map R f g (x ∷ xs) [] h = h
+AllZip-map R f g (x ∷ xs) (y ∷ ys) h = (h.0, AllZip-map R f g xs ys h.1)

@@ -1,8 +1,12 @@
-ghost use Rattle.std.specs.Prelude.{◌≡◌, ◌↔◌, List, ◌++◌, ◌∷◌, IfOk, OnOk};
+ghost use Rattle.std.specs.Prelude.{◌≡◌, ◌↔◌, List, ◌++◌, ◌∷◌, map, IfOk, OnOk};
 ghost use Rattle.std.specs.List.{Contains, AllZip};
 ghost use Rattle.std.specs.List.Sorted.{IsStrictlySortedBy};
-ghost use Rattle.edge_chains.specs.Inside.{corner_cmp, is_inside};
-ghost use Rattle.edge_chains.specs.Noding.{IsStrictlyInside, AreAlong, IsNodedEdge, AreNodedEdges, IsNoded};
+ghost use Rattle.geo_exact.specs.Point.{Point};
+ghost use Rattle.geo_exact.specs.Turn.{IsOnRing};
+ghost use Rattle.geo_exact.specs.Winding.{winding};
+ghost use Rattle.geo_exact.specs.Area.{area2};
+ghost use Rattle.edge_chains.specs.Inside.{corner_cmp};
+ghost use Rattle.edge_chains.specs.Noding.{IsNodedEdge, IsNoded, all_corners, AreFullyNoded};
 
 use crate::blocks::Blocks;
 use crate::order::comes_before;
@@ -62,12 +66,22 @@ fn node_ring<A: Allocator + Copy>(
 }
 
 /// Each ring with exactly those of the corners inserted that lie strictly inside an edge, in order along it, each once.
+///
+/// Where all corners of the rings are among them, no corner lies strictly inside an edge afterwards.
 pub fn node<A: Allocator + Copy>(
     alloc: A,
     rings: &[Vec<Corner, A>],
     corners: &[Corner],
 ) -> Result<Vec<Vec<Corner, A>, A>, AllocError>
-    ensures { IfOk result (λ noded. AllZip (λ ring out. IsNoded ring.items corners.now out.items) rings.now noded.items) }
+    ensures noded { IfOk result (λ noded. AllZip (λ ring out. IsNoded ring.items corners.now out.items) rings.now noded.items) }
+    ensures windings { IfOk result (λ noded.
+        AllZip (λ ring out. (p : Point) → winding p out.items ≡ winding p ring.items) rings.now noded.items) }
+    ensures boundaries { IfOk result (λ noded.
+        AllZip (λ ring out. (p : Point) → IsOnRing p out.items ↔ IsOnRing p ring.items) rings.now noded.items) }
+    ensures areas { IfOk result (λ noded. AllZip (λ ring out. area2 out.items ≡ area2 ring.items) rings.now noded.items) }
+    ensures cuts { IfOk result (λ noded.
+        ((c : Corner) → Contains (all_corners (map (λ ring. ring.items) rings.now)) c → Contains corners.now c)
+        → AreFullyNoded (map (λ ring. ring.items) noded.items)) }
 {
     let blocks = Blocks::new(alloc, corners)?;
     node_all(alloc, &blocks, rings)
