@@ -10,3 +10,7 @@ pub mod Sorted
 pub mod NodedEdges
 pub mod Parts
 pub mod NodedRings
+pub mod Beside
+pub mod Steep
+pub mod Level
+pub mod Jumps

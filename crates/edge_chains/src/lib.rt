@@ -10,5 +10,5 @@ mod noding;
 mod order;
 
 pub use edge_sum::EdgeSum;
-pub use laws::{equal_nets_cover_alike, noding_changes_no_ground};
+pub use laws::{an_unbalanced_edge_is_a_jump, equal_nets_cover_alike, noding_changes_no_ground};
 pub use noding::node;
