@@ -12,3 +12,6 @@ mod order;
 pub use edge_sum::EdgeSum;
 pub use laws::{an_unbalanced_edge_is_a_jump, equal_nets_cover_alike, noding_changes_no_ground};
 pub use noding::node;
+
+#[cfg(test)]
+mod tests;
