@@ -4,7 +4,7 @@ ghost use Rattle.edge_chains.specs.Inside.{is_inside, IsInBounds};
 ghost use Rattle.edge_chains.specs.Blocks.{AreEnds, HasOwn, HasBlock, AreBlocks};
 
 use crate::bounds::{Bounds, is_strictly_inside};
-use geo_exact::Corner;
+use geo_exact::{Corner, LIMIT};
 use std::alloc::{AllocError, Allocator};
 use std::marker::Model;
 
@@ -33,7 +33,7 @@ impl<A: Allocator + Copy> Blocks<A> {
     pub fn new(alloc: A, corners: &[Corner]) -> Result<Blocks<A>, AllocError>
         ensures { IfOk result (λ blocks. (c : Corner) → Contains blocks c ↔ Contains corners.now c) }
     {
-        let corners = Vec::from_slice(alloc, corners)?;
+        let corners = spread(alloc, corners)?;
         let ends = block_ends(alloc, corners.len())?;
         let boxes = block_boxes(alloc, &corners, &ends)?;
         Ok(Blocks {
@@ -56,6 +56,30 @@ impl<A: Allocator + Copy> Blocks<A> {
             b,
         )
     }
+}
+
+/// The corners, each once at least, so ordered that neighbours in the list are close to each other in the plane.
+fn spread<A: Allocator + Copy>(alloc: A, corners: &[Corner]) -> Result<Vec<Corner, A>, AllocError>
+    ensures { IfOk result (λ spread. (c : Corner) → Contains spread.items c ↔ Contains corners.now c) }
+{
+    let mut spread = Vec::from_slice(alloc, corners)?;
+    spread.sort_unstable_by_key(|corner| interleaved(*corner));
+    spread.dedup();
+    Ok(spread)
+}
+
+/// The bits of the coordinates in turn (Morton's order), without the last three of each: only the speed rests on it.
+fn interleaved(corner: Corner) -> u64 {
+    spaced((corner.x + LIMIT) as u64 >> 3) | spaced((corner.y + LIMIT) as u64 >> 3) << 1
+}
+
+/// The lower half of the bits, each with a 0 in front of it.
+fn spaced(bits: u64) -> u64 {
+    let wide = (bits | bits << 16) & 0x0000_ffff_0000_ffff;
+    let wide = (wide | wide << 8) & 0x00ff_00ff_00ff_00ff;
+    let wide = (wide | wide << 4) & 0x0f0f_0f0f_0f0f_0f0f;
+    let wide = (wide | wide << 2) & 0x3333_3333_3333_3333;
+    (wide | wide << 1) & 0x5555_5555_5555_5555
 }
 
 /// Those of the corners that lie strictly inside the edge from a to b, in the order of the list.

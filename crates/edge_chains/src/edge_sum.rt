@@ -6,6 +6,8 @@ ghost use Rattle.geo_exact.specs.Point.{Point};
 ghost use Rattle.geo_exact.specs.Rings.{edges, path};
 ghost use Rattle.edge_chains.specs.Counts.{is_before, is_same_edge, number_at, net_at, entry_of, AreCounts, AreNetOf, is_edge_before, IsFirstUnbalanced};
 ghost use Rattle.edge_chains.specs.Net.{net_of_edges, winding_sum, area2_sum};
+ghost use Rattle.edge_chains.specs.Noding.{AreFullyNoded};
+ghost use Rattle.edge_chains.specs.Jump.{IsJump};
 ghost use Rattle.edge_chains.specs.Sides.{signed};
 
 use crate::order::{comes_before, comes_first};
@@ -91,6 +93,9 @@ impl<A: Allocator + Copy> EdgeSum<A> {
             → (p : Point) → winding_sum p added ≡ winding_sum p taken) }
         ensures areas { IfNone result ((added taken : List (List Corner)) → AreNetOf self.now added taken → area2_sum added ≡ area2_sum taken) }
         ensures first { IfSome result (λ edge. IsFirstUnbalanced self.now edge.0 edge.1 edge.2) }
+        // In fully noded rings the edge found is no false alarm.
+        ensures jump { IfSome result (λ edge. (added taken : List (List Corner)) → AreNetOf self.now added taken
+            → AreFullyNoded (added ++ taken) → (left : Point) × (right : Point) × IsJump added taken edge.0 edge.1 left right) }
     {
         let mut first = None;
         for (edge, number) in self.numbers.iter() {

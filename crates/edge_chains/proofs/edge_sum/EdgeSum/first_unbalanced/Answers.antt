@@ -6,6 +6,7 @@ use mir.Val.{SFits}
 use Rattle.geo_exact.specs.declared.corner.Corner.{Corner}
 use Rattle.edge_chains.specs.Counts.{Counts, AreCounts, IsFirstUnbalanced, is_same_edge}
 use Rattle.edge_chains.proofs.Firsts.{IsFirstOf, IsFirstOf-more, IsFirstOf-whole, IsFirstUnbalanced-from_first, found_next, one_more_done, none_counted, if_none_always}
+use Rattle.edge_chains.proofs.Jumps.{jump_beside}
 use Rattle.edge_chains.proofs.Balance.{winding_sum-balanced, area2_sum-balanced, balanced_where_zero}
 use Rattle.edge_chains.proofs.edge_sum.EdgeSum.first_unbalanced.Goals as goal
 
@@ -48,3 +49,8 @@ returns-in_err-a-clause-areas g c =
     (IsFirstOf-whole c.args.self.now.counts h.0 c.loop-edge.edge-iterator c.loop-edge.first c.in-None.ensures.steps.0 h.1 h.2) in
     if_none_always _ c.from_residual.result
     (λ added taken k. area2_sum-balanced added taken (balanced_where_zero c.args.self.now added taken k (none_counted c.args.self.now.counts none)))
+
+pub returns-clause-jump : goal.returns-clause-jump
+returns-clause-jump g c =
+    let first = returns-clause-first g c in
+    λ added taken k h. jump_beside added taken h c.in_ok-a.a c.in_ok-a.b (λ z. first.is_unbalanced (sym first.number ∙ k c.in_ok-a.a c.in_ok-a.b ∙ z))
