@@ -138,7 +138,8 @@ fn block_box(corners: &[Corner], ends: &[usize], boxes: &[Bounds], at: usize) ->
     requires as_many { length boxes.now ≡ length corners.now }
     requires own { HasOwn corners.now boxes.now at }
     requires later { (i : ℕ) → at < i → i < length corners.now → HasBlock corners.now ends.now boxes.now i }
-    ensures { (k : ℕ) (c : Corner) → at ≤ k → k < slice_index ends.now at → IsInBounds (slice_index_or corners.now k c) result }
+    ensures { (k : ℕ) (c : Corner) → at ≤ k → k < slice_index ends.now at
+        → IsInBounds (slice_index_or corners.now k c) result }
 {
     let mut bounds = boxes[at];
     let mut next = at + 1;

@@ -1,10 +1,12 @@
-ghost use Rattle.std.specs.Prelude.{◌≡◌, ℕ, ◌+◌, ◌≤◌, ◌<◌, ℤ, pos, ◌+ℤ◌, ◌-ℤ◌, IsTrue, if◌then◌else◌, cond, length, List, [], ◌∷◌, ◌++◌, OnOk, OnErr, IfSome, IfNone};
+ghost use Rattle.std.specs.Prelude.{◌≡◌, ℕ, ◌+◌, ◌≤◌, ◌<◌, ℤ, pos, ◌+ℤ◌, ◌-ℤ◌, IsTrue, if◌then◌else◌, cond, length, List, [], ◌∷◌, ◌++◌};
+ghost use Rattle.std.specs.Prelude.{OnOk, OnErr, IfSome, IfNone};
 ghost use Rattle.std.specs.HashMap.{spare};
 ghost use Rattle.std.specs.Map.{lookup};
 ghost use Rattle.geo_exact.specs.Limit.{IsWithin};
 ghost use Rattle.geo_exact.specs.Point.{Point};
 ghost use Rattle.geo_exact.specs.Rings.{edges, path};
-ghost use Rattle.edge_chains.specs.Counts.{is_before, is_same_edge, number_at, net_at, entry_of, AreCounts, AreNetOf, is_edge_before, IsFirstUnbalanced};
+ghost use Rattle.edge_chains.specs.Counts.{is_before, is_same_edge, number_at, net_at, entry_of, AreCounts};
+ghost use Rattle.edge_chains.specs.Counts.{AreNetOf, is_edge_before, IsFirstUnbalanced};
 ghost use Rattle.edge_chains.specs.Net.{net_of_edges, winding_sum, area2_sum};
 ghost use Rattle.edge_chains.specs.Noding.{AreFullyNoded};
 ghost use Rattle.edge_chains.specs.Jump.{IsJump};
@@ -65,8 +67,10 @@ impl<A: Allocator + Copy> EdgeSum<A> {
     pub fn add(&mut self, ring: &[Corner]) -> Result<(), AllocError>
         requires size { length ring.now ≤ 10000000 }
         requires total { self.old.edges + length ring.now ≤ 1000000000000 }
-        ensures net { OnOk result ((a b : Corner) → net_at self.new.counts a b ≡ net_at self.old.counts a b +ℤ net_of_edges (edges ring.now) a b) }
-        ensures net_so_far { OnOk result ((added taken : List (List Corner)) → AreNetOf self.old added taken → AreNetOf self.new (added ++ ring.now ∷ []) taken) }
+        ensures net { OnOk result ((a b : Corner) → net_at self.new.counts a b
+            ≡ net_at self.old.counts a b +ℤ net_of_edges (edges ring.now) a b) }
+        ensures net_so_far { OnOk result ((added taken : List (List Corner)) → AreNetOf self.old added taken
+            → AreNetOf self.new (added ++ ring.now ∷ []) taken) }
         ensures edges { OnOk result (self.new.edges ≡ self.old.edges + length ring.now) }
         ensures err { OnErr result (self.new ≡ self.old) }
     {
@@ -77,8 +81,10 @@ impl<A: Allocator + Copy> EdgeSum<A> {
     pub fn take(&mut self, ring: &[Corner]) -> Result<(), AllocError>
         requires size { length ring.now ≤ 10000000 }
         requires total { self.old.edges + length ring.now ≤ 1000000000000 }
-        ensures net { OnOk result ((a b : Corner) → net_at self.new.counts a b ≡ net_at self.old.counts a b -ℤ net_of_edges (edges ring.now) a b) }
-        ensures net_so_far { OnOk result ((added taken : List (List Corner)) → AreNetOf self.old added taken → AreNetOf self.new added (taken ++ ring.now ∷ [])) }
+        ensures net { OnOk result ((a b : Corner) → net_at self.new.counts a b
+            ≡ net_at self.old.counts a b -ℤ net_of_edges (edges ring.now) a b) }
+        ensures net_so_far { OnOk result ((added taken : List (List Corner)) → AreNetOf self.old added taken
+            → AreNetOf self.new added (taken ++ ring.now ∷ [])) }
         ensures edges { OnOk result (self.new.edges ≡ self.old.edges + length ring.now) }
         ensures err { OnErr result (self.new ≡ self.old) }
     {
@@ -91,11 +97,13 @@ impl<A: Allocator + Copy> EdgeSum<A> {
         // Where there is none, both sides go round each point equally often and have the same area.
         ensures windings { IfNone result ((added taken : List (List Corner)) → AreNetOf self.now added taken
             → (p : Point) → winding_sum p added ≡ winding_sum p taken) }
-        ensures areas { IfNone result ((added taken : List (List Corner)) → AreNetOf self.now added taken → area2_sum added ≡ area2_sum taken) }
+        ensures areas { IfNone result ((added taken : List (List Corner)) → AreNetOf self.now added taken
+            → area2_sum added ≡ area2_sum taken) }
         ensures first { IfSome result (λ edge. IsFirstUnbalanced self.now edge.0 edge.1 edge.2) }
         // In fully noded rings the edge found is no false alarm.
         ensures jump { IfSome result (λ edge. (added taken : List (List Corner)) → AreNetOf self.now added taken
-            → AreFullyNoded (added ++ taken) → (left : Point) × (right : Point) × IsJump added taken edge.0 edge.1 left right) }
+            → AreFullyNoded (added ++ taken)
+            → (left : Point) × (right : Point) × IsJump added taken edge.0 edge.1 left right) }
     {
         let mut first = None;
         for (edge, number) in self.numbers.iter() {
@@ -108,7 +116,8 @@ impl<A: Allocator + Copy> EdgeSum<A> {
     fn count(&mut self, ring: &[Corner], side: Side) -> Result<(), AllocError>
         requires size { length ring.now ≤ 10000000 }
         requires total { self.old.edges + length ring.now ≤ 1000000000000 }
-        ensures net { OnOk result ((a b : Corner) → net_at self.new.counts a b ≡ net_at self.old.counts a b +ℤ signed side (net_of_edges (edges ring.now) a b)) }
+        ensures net { OnOk result ((a b : Corner) → net_at self.new.counts a b
+            ≡ net_at self.old.counts a b +ℤ signed side (net_of_edges (edges ring.now) a b)) }
         ensures edges { OnOk result (self.new.edges ≡ self.old.edges + length ring.now) }
         ensures err { OnErr result (self.new ≡ self.old) }
     {
@@ -132,7 +141,8 @@ fn change<A: Allocator + Copy>(numbers: &mut Numbers<A>, edge: (Corner, Corner),
     requires small { IsWithin 2000000000000 (number_at numbers.old.entries edge.0 edge.1) }
     requires one { IsWithin 1 by }
     ensures changed { (q : Corner × Corner) → lookup (is_same_edge q) numbers.new.entries
-        ≡ cond (is_same_edge edge q) (entry_of (number_at numbers.old.entries edge.0 edge.1 +ℤ by)) (lookup (is_same_edge q) numbers.old.entries) }
+        ≡ cond (is_same_edge edge q) (entry_of (number_at numbers.old.entries edge.0 edge.1 +ℤ by))
+        (lookup (is_same_edge q) numbers.old.entries) }
     ensures room { spare numbers.old ≤ spare numbers.new + 1 }
 {
     let number = numbers.get(&edge).copied().unwrap_or(0) + by;
@@ -193,7 +203,8 @@ fn count_ring<A: Allocator + Copy>(numbers: &mut Numbers<A>, ring: &[Corner], si
     requires room { length ring.now ≤ spare numbers.old }
     requires kept { AreCounts numbers.old.entries 1000000000000 }
     requires size { length ring.now ≤ 10000000 }
-    ensures net { (a b : Corner) → net_at numbers.new.entries a b ≡ net_at numbers.old.entries a b +ℤ signed side (net_of_edges (edges ring.now) a b) }
+    ensures net { (a b : Corner) → net_at numbers.new.entries a b
+        ≡ net_at numbers.old.entries a b +ℤ signed side (net_of_edges (edges ring.now) a b) }
     ensures kept { (n : ℕ) → AreCounts numbers.old.entries n → AreCounts numbers.new.entries (n + length ring.now) }
 {
     if let Some((first, rest)) = ring.split_first() {

@@ -21,11 +21,13 @@ pub fn equal_nets_cover_alike()
 /// Noding changes neither the winding number round any point, nor the boundary, nor the area of a ring; and rings
 /// noded for all of their corners have no corner strictly inside an edge any more.
 pub fn noding_changes_no_ground()
-    ensures windings { (p : Point) (ring corners noded : List Corner) → IsNoded ring corners noded → winding p noded ≡ winding p ring }
+    ensures windings { (p : Point) (ring corners noded : List Corner) → IsNoded ring corners noded
+        → winding p noded ≡ winding p ring }
     ensures boundaries { (p : Point) (ring corners noded : List Corner) → IsNoded ring corners noded
         → IsOnRing p noded ↔ IsOnRing p ring }
     ensures areas { (ring corners noded : List Corner) → IsNoded ring corners noded → area2 noded ≡ area2 ring }
-    ensures cuts { (corners : List Corner) (rings noded : List (List Corner)) → AllZip (λ ring out. IsNoded ring corners out) rings noded
+    ensures cuts { (corners : List Corner) (rings noded : List (List Corner))
+        → AllZip (λ ring out. IsNoded ring corners out) rings noded
         → ((c : Corner) → Contains (all_corners rings) c → Contains corners c) → AreFullyNoded noded }
 {}
 
@@ -34,5 +36,6 @@ pub fn noding_changes_no_ground()
 /// the edge's net count.
 pub fn an_unbalanced_edge_is_a_jump()
     ensures { (added taken : List (List Corner)) → AreFullyNoded (added ++ taken) → (a b : Corner)
-        → net_count added a b -ℤ net_count taken a b ≢ pos 0 → (left : Point) × (right : Point) × IsJump added taken a b left right }
+        → net_count added a b -ℤ net_count taken a b ≢ pos 0
+        → (left : Point) × (right : Point) × IsJump added taken a b left right }
 {}

@@ -73,12 +73,14 @@ pub fn node<A: Allocator + Copy>(
     rings: &[Vec<Corner, A>],
     corners: &[Corner],
 ) -> Result<Vec<Vec<Corner, A>, A>, AllocError>
-    ensures noded { IfOk result (λ noded. AllZip (λ ring out. IsNoded ring.items corners.now out.items) rings.now noded.items) }
+    ensures noded { IfOk result (λ noded.
+        AllZip (λ ring out. IsNoded ring.items corners.now out.items) rings.now noded.items) }
     ensures windings { IfOk result (λ noded.
         AllZip (λ ring out. (p : Point) → winding p out.items ≡ winding p ring.items) rings.now noded.items) }
     ensures boundaries { IfOk result (λ noded.
         AllZip (λ ring out. (p : Point) → IsOnRing p out.items ↔ IsOnRing p ring.items) rings.now noded.items) }
-    ensures areas { IfOk result (λ noded. AllZip (λ ring out. area2 out.items ≡ area2 ring.items) rings.now noded.items) }
+    ensures areas { IfOk result (λ noded. AllZip (λ ring out. area2 out.items
+        ≡ area2 ring.items) rings.now noded.items) }
     ensures cuts { IfOk result (λ noded.
         ((c : Corner) → Contains (all_corners (map (λ ring. ring.items) rings.now)) c → Contains corners.now c)
         → AreFullyNoded (map (λ ring. ring.items) noded.items)) }
