@@ -1,0 +1,84 @@
+-- Points close beside an edge and close to its start: so close that each turn there has the sign of the first of three whole numbers that is not 0.
+use Rattle.std.proofs.Common.{◌≡◌, refl, arith, ℕ, ◌*◌, ℤ, pos, ◌+ℤ◌, ◌-ℤ◌, ◌*ℤ◌, [], ◌∷◌}
+use Rattle.std.proofs.lemmas.Int.{ints}
+use lib.Signed.{◌<ℤ◌}
+use Rattle.geo_exact.specs.declared.corner.Corner.{Corner}
+use Rattle.geo_exact.specs.Limit.{IsWithin, limit}
+use Rattle.geo_exact.specs.Point.{Point}
+use Rattle.geo_exact.specs.Turn.{turn, turn_at}
+use Rattle.geo_exact.proofs.Polynomials.{Expr, var, add, mul, neg, same_by}
+use Rattle.geo_exact.proofs.TurnLaws.{turn_expr}
+use Rattle.geo_exact.proofs.Within.{product_within}
+
+abbrev sub : Expr → Expr → Expr
+sub p q = add p (neg q)
+
+-- the denominator, and how much of it is one step along the edge: more than any sum of what comes behind
+abbrev pub whole : ℤ
+whole = pos 16000000000800000000020000000001
+
+abbrev pub step : ℤ
+step = pos 20000000001
+
+-- the point one step from a towards b, moved by (ex, ey) of the denominator
+abbrev pub near : Corner → Corner → ℤ → ℤ → Point
+near a b ex ey = record {
+  x = a.x *ℤ whole +ℤ (b.x -ℤ a.x) *ℤ step +ℤ ex;
+  y = a.y *ℤ whole +ℤ (b.y -ℤ a.y) *ℤ step +ℤ ey;
+  d = whole;
+  d_positive = record { lt = tt };
+}
+
+-- how the directions of u v and a b turn
+abbrev pub cross : Corner → Corner → Corner → Corner → ℤ
+cross u v a b = (v.x -ℤ u.x) *ℤ (b.y -ℤ a.y) -ℤ (v.y -ℤ u.y) *ℤ (b.x -ℤ a.x)
+
+-- and those of u v and (ex, ey)
+abbrev pub push : Corner → Corner → ℤ → ℤ → ℤ
+push u v ex ey = (v.x -ℤ u.x) *ℤ ey -ℤ (v.y -ℤ u.y) *ℤ ex
+
+turn_near' : (ux uy vx vy ax ay bx by ex ey big mid : ℤ)
+    → (vx -ℤ ux) *ℤ ((ay *ℤ big +ℤ (by -ℤ ay) *ℤ mid +ℤ ey) -ℤ uy *ℤ big) -ℤ (vy -ℤ uy) *ℤ ((ax *ℤ big +ℤ (bx -ℤ ax) *ℤ mid +ℤ ex) -ℤ ux *ℤ big)
+    ≡ big *ℤ ((vx -ℤ ux) *ℤ (ay -ℤ uy) -ℤ (vy -ℤ uy) *ℤ (ax -ℤ ux)) +ℤ mid *ℤ ((vx -ℤ ux) *ℤ (by -ℤ ay) -ℤ (vy -ℤ uy) *ℤ (bx -ℤ ax)) +ℤ ((vx -ℤ ux) *ℤ ey -ℤ (vy -ℤ uy) *ℤ ex)
+turn_near' ux uy vx vy ax ay bx by ex ey big mid =
+    same_by (ux ∷ uy ∷ vx ∷ vy ∷ ax ∷ ay ∷ bx ∷ by ∷ ex ∷ ey ∷ big ∷ mid ∷ [])
+    (sub
+    (mul (sub (var 2) (var 0)) (sub (add (add (mul (var 5) (var 10)) (mul (sub (var 7) (var 5)) (var 11))) (var 9)) (mul (var 1) (var 10))))
+    (mul (sub (var 3) (var 1)) (sub (add (add (mul (var 4) (var 10)) (mul (sub (var 6) (var 4)) (var 11))) (var 8)) (mul (var 0) (var 10)))))
+    (add (add
+    (mul (var 10) (turn_expr (var 0) (var 1) (var 2) (var 3) (var 4) (var 5)))
+    (mul (var 11) (sub (mul (sub (var 2) (var 0)) (sub (var 7) (var 5))) (mul (sub (var 3) (var 1)) (sub (var 6) (var 4))))))
+    (sub (mul (sub (var 2) (var 0)) (var 9)) (mul (sub (var 3) (var 1)) (var 8))))
+    refl
+
+pub turn_near : (u v a b : Corner) (ex ey : ℤ) → turn_at u v (near a b ex ey) ≡ whole *ℤ turn u v a +ℤ step *ℤ cross u v a b +ℤ push u v ex ey
+turn_near u v a b ex ey = turn_near' u.x u.y v.x v.y a.x a.y b.x b.y ex ey whole step
+
+-- differences of coordinates, and their products, are not large
+apart : (p q : ℤ) → IsWithin limit p → IsWithin limit q → IsWithin 20000000000 (p -ℤ q)
+apart p q h k = record { low = omega (arith, ints); high = omega (arith, ints) }
+
+sum_within : (m n : ℕ) (p q : ℤ) → IsWithin m p → IsWithin m q → IsWithin (2 * m) (p -ℤ q)
+sum_within m n p q h k = record { low = omega (arith, ints); high = omega (arith, ints) }
+
+pub cross_within : (u v a b : Corner) → IsWithin 800000000000000000000 (cross u v a b)
+cross_within u v a b =
+    sum_within 400000000000000000000 0 ((v.x -ℤ u.x) *ℤ (b.y -ℤ a.y)) ((v.y -ℤ u.y) *ℤ (b.x -ℤ a.x))
+    (product_within 20000000000 20000000000 (v.x -ℤ u.x) (b.y -ℤ a.y) (apart v.x u.x v.x_in_range u.x_in_range) (apart b.y a.y b.y_in_range a.y_in_range))
+    (product_within 20000000000 20000000000 (v.y -ℤ u.y) (b.x -ℤ a.x) (apart v.y u.y v.y_in_range u.y_in_range) (apart b.x a.x b.x_in_range a.x_in_range))
+
+-- the sign of the first of the three that is not 0
+pub lead_up : (t x y : ℤ) → IsWithin 800000000000000000000 x → IsWithin 20000000000 y → pos 0 <ℤ t → pos 0 <ℤ (whole *ℤ t +ℤ step *ℤ x +ℤ y)
+lead_up t x y h k l = omega (arith, ints)
+
+pub lead_down : (t x y : ℤ) → IsWithin 800000000000000000000 x → IsWithin 20000000000 y → t <ℤ pos 0 → (whole *ℤ t +ℤ step *ℤ x +ℤ y) <ℤ pos 0
+lead_down t x y h k l = omega (arith, ints)
+
+pub next_up : (t x y : ℤ) → IsWithin 20000000000 y → t ≡ pos 0 → pos 0 <ℤ x → pos 0 <ℤ (whole *ℤ t +ℤ step *ℤ x +ℤ y)
+next_up t x y k e l = omega (arith, ints)
+
+pub next_down : (t x y : ℤ) → IsWithin 20000000000 y → t ≡ pos 0 → x <ℤ pos 0 → (whole *ℤ t +ℤ step *ℤ x +ℤ y) <ℤ pos 0
+next_down t x y k e l = omega (arith, ints)
+
+pub last_one : (t x y : ℤ) → t ≡ pos 0 → x ≡ pos 0 → whole *ℤ t +ℤ step *ℤ x +ℤ y ≡ y
+last_one t x y e f = omega (arith, ints)

@@ -1,0 +1,144 @@
+-- What the test of lying strictly inside an edge tells, and where a box shows that it fails.
+use Rattle.std.proofs.Common.{◌≡◌, ◌≢◌, ◌⊎◌, inl, inr, sym, ◌∙◌, ap, subst, arith, Bool, true, false, not, ◌&&◌, ◌||◌, ℤ, pos, ◌-ℤ◌, ◌*ℤ◌, neg_ℤ}
+use Rattle.std.specs.Bool.{Decides}
+use Rattle.std.specs.Ordering.{int_eq}
+use Rattle.std.specs.Int.{int_min, int_max}
+use Rattle.std.proofs.lemmas.Int.{ints, clamps, by_lt_z}
+use Rattle.std.proofs.lemmas.Bool.Decides.{Decides-int_eq, Decides-and, Decides-or, Decides-not, Decides-like, same_from_decides}
+use lib.Signed.{◌<ℤ◌, ◌≤ℤ◌, lt_z, le_z}
+use Rattle.geo_exact.specs.declared.corner.Corner.{Corner}
+use Rattle.geo_exact.specs.Turn.{turn, turn_at}
+use Rattle.geo_exact.proofs.Signs.{mul_not_neg}
+use Rattle.geo_exact.proofs.TurnLaws.{turn_at_corner}
+use Rattle.geo_exact.proofs.Differences.{expand}
+use Rattle.edge_chains.specs.declared.bounds.Bounds.{Bounds}
+use Rattle.edge_chains.specs.Net.{is_same}
+use Rattle.edge_chains.specs.Noding.{place_of, IsStrictlyInside}
+use Rattle.edge_chains.specs.Inside.{is_between, is_inside, IsInBounds}
+use Rattle.edge_chains.proofs.Corners.{false_where, Decides-is_same, Decides-int_lt}
+
+-- ---- the test
+Decides-int_le : (x y : ℤ) → Decides (le_z x y) (x ≤ℤ y)
+Decides-int_le x y = (λ e. omega (arith, ints), λ h. let e : true ≡ le_z x y = omega (arith, ints) in sym e)
+
+abbrev pub IsBetween : ℤ → ℤ → ℤ → Type 0
+IsBetween u v z = (int_min u v ≤ℤ z) × (z ≤ℤ int_max u v)
+
+Decides-is_between : (u v z : ℤ) → Decides (is_between u v z) (IsBetween u v z)
+Decides-is_between u v z = Decides-and (le_z (int_min u v) z) (le_z z (int_max u v)) (Decides-int_le (int_min u v) z) (Decides-int_le z (int_max u v))
+
+-- the test's parts
+abbrev pub Inside : Corner → Corner → Corner → Type 0
+Inside c a b = (IsBetween a.x b.x c.x × IsBetween a.y b.y c.y) × ((turn a b c ≡ pos 0) × ((c ≢ a) × (c ≢ b)))
+
+Decides-parts : (c a b : Corner) → Decides (is_inside c a b) (Inside c a b)
+Decides-parts c a b =
+    Decides-and (is_between a.x b.x c.x && is_between a.y b.y c.y) (int_eq (turn a b c) (pos 0) && (not (is_same c a) && not (is_same c b)))
+    (Decides-and (is_between a.x b.x c.x) (is_between a.y b.y c.y) (Decides-is_between a.x b.x c.x) (Decides-is_between a.y b.y c.y))
+    (Decides-and (int_eq (turn a b c) (pos 0)) (not (is_same c a) && not (is_same c b)) (Decides-int_eq (turn a b c) (pos 0))
+    (Decides-and (not (is_same c a)) (not (is_same c b)) (Decides-not (is_same c a) (Decides-is_same c a)) (Decides-not (is_same c b) (Decides-is_same c b))))
+
+at_one : (a b c : Corner) → turn_at a b (place_of c) ≡ turn a b c
+at_one a b c = turn_at_corner a b c
+
+pub inside_from_strictly : (c a b : Corner) → IsStrictlyInside c a b → Inside c a b
+inside_from_strictly c a b h = (
+  (
+    (omega (arith, ints, h.on_edge.from_x), omega (arith, ints, h.on_edge.to_x)),
+    (omega (arith, ints, h.on_edge.from_y), omega (arith, ints, h.on_edge.to_y)),
+  ),
+  (sym (at_one a b c) ∙ h.on_edge.on_line, (h.not_start, h.not_end)),
+)
+
+pub strictly_from_inside : (c a b : Corner) → Inside c a b → IsStrictlyInside c a b
+strictly_from_inside c a b h = record {
+  on_edge = record {
+    on_line = at_one a b c ∙ h.1.0;
+    from_x = omega (arith, ints, h.0.0.0);
+    to_x = omega (arith, ints, h.0.0.1);
+    from_y = omega (arith, ints, h.0.1.0);
+    to_y = omega (arith, ints, h.0.1.1);
+  };
+  not_start = h.1.1.0;
+  not_end = h.1.1.1;
+}
+
+pub Decides-is_inside : (c a b : Corner) → Decides (is_inside c a b) (IsStrictlyInside c a b)
+Decides-is_inside c a b = Decides-like (is_inside c a b) (strictly_from_inside c a b) (inside_from_strictly c a b) (Decides-parts c a b)
+
+-- ---- boxes
+-- a product is between those at the ends
+product_between : (k l h z : ℤ) → l ≤ℤ z → z ≤ℤ h → IsBetween (k *ℤ l) (k *ℤ h) (k *ℤ z)
+product_between k l h z p q = by_lt_z k (pos 0) down up
+  where
+    up : pos 0 ≤ℤ k → IsBetween (k *ℤ l) (k *ℤ h) (k *ℤ z)
+    up n =
+        let u : pos 0 ≤ℤ (k *ℤ (z -ℤ l)) = mul_not_neg k (z -ℤ l) n (omega (arith, ints)) in
+        let v : pos 0 ≤ℤ (k *ℤ (h -ℤ z)) = mul_not_neg k (h -ℤ z) n (omega (arith, ints)) in
+        (omega (arith, ints, clamps, simp expand at u, simp expand at v), omega (arith, ints, clamps, simp expand at u, simp expand at v))
+
+    down : k <ℤ pos 0 → IsBetween (k *ℤ l) (k *ℤ h) (k *ℤ z)
+    down n =
+        let u : pos 0 ≤ℤ (neg_ℤ k *ℤ (z -ℤ l)) = mul_not_neg (neg_ℤ k) (z -ℤ l) (omega (arith, ints)) (omega (arith, ints)) in
+        let v : pos 0 ≤ℤ (neg_ℤ k *ℤ (h -ℤ z)) = mul_not_neg (neg_ℤ k) (h -ℤ z) (omega (arith, ints)) (omega (arith, ints)) in
+        (omega (arith, ints, clamps, simp expand at u, simp expand at v), omega (arith, ints, clamps, simp expand at u, simp expand at v))
+
+-- a corner of the box is not inside the edge, where the products of one kind are all below those of the other
+apart : (p q : ℤ) (bottom top left right : ℤ) → IsBetween bottom top p → IsBetween left right q → (int_max bottom top <ℤ int_min left right) ⊎ (int_max left right <ℤ int_min bottom top) → p -ℤ q ≡ pos 0 → ⊥
+apart p q bottom top left right h k (inl l) e = omega (arith, ints, h.1, k.0)
+apart p q bottom top left right h k (inr l) e = omega (arith, ints, h.0, k.1)
+
+pub none_beside : (bounds : Bounds) (a b c : Corner)
+    → (int_max ((b.x -ℤ a.x) *ℤ (bounds.low.y -ℤ a.y)) ((b.x -ℤ a.x) *ℤ (bounds.high.y -ℤ a.y)) <ℤ int_min ((b.y -ℤ a.y) *ℤ (bounds.low.x -ℤ a.x)) ((b.y -ℤ a.y) *ℤ (bounds.high.x -ℤ a.x)))
+    ⊎ (int_max ((b.y -ℤ a.y) *ℤ (bounds.low.x -ℤ a.x)) ((b.y -ℤ a.y) *ℤ (bounds.high.x -ℤ a.x)) <ℤ int_min ((b.x -ℤ a.x) *ℤ (bounds.low.y -ℤ a.y)) ((b.x -ℤ a.x) *ℤ (bounds.high.y -ℤ a.y)))
+    → IsInBounds c bounds → is_inside c a b ≡ false
+none_beside bounds a b c h k =
+    false_where (is_inside c a b) (Decides-parts c a b)
+    (λ i. apart ((b.x -ℤ a.x) *ℤ (c.y -ℤ a.y)) ((b.y -ℤ a.y) *ℤ (c.x -ℤ a.x))
+    ((b.x -ℤ a.x) *ℤ (bounds.low.y -ℤ a.y)) ((b.x -ℤ a.x) *ℤ (bounds.high.y -ℤ a.y)) ((b.y -ℤ a.y) *ℤ (bounds.low.x -ℤ a.x)) ((b.y -ℤ a.y) *ℤ (bounds.high.x -ℤ a.x))
+    (product_between (b.x -ℤ a.x) (bounds.low.y -ℤ a.y) (bounds.high.y -ℤ a.y) (c.y -ℤ a.y) (omega (arith, ints, k.from_y)) (omega (arith, ints, k.to_y)))
+    (product_between (b.y -ℤ a.y) (bounds.low.x -ℤ a.x) (bounds.high.x -ℤ a.x) (c.x -ℤ a.x) (omega (arith, ints, k.from_x)) (omega (arith, ints, k.to_x)))
+    h i.1.0)
+
+-- two ranges that nothing is in
+abbrev pub AreApart : ℤ → ℤ → ℤ → ℤ → Type 0
+AreApart u v w z = (int_max u v <ℤ int_min w z) ⊎ (int_max w z <ℤ int_min u v)
+
+not_in_both : (l h u v z : ℤ) → AreApart l h u v → l ≤ℤ z → z ≤ℤ h → IsBetween u v z → ⊥
+not_in_both l h u v z (inl e) p q k = omega (arith, ints, clamps, k.0)
+not_in_both l h u v z (inr e) p q k = omega (arith, ints, clamps, k.1)
+
+pub none_apart_x : (bounds : Bounds) (a b : Corner) → AreApart bounds.low.x bounds.high.x a.x b.x → (c : Corner) → IsInBounds c bounds → is_inside c a b ≡ false
+none_apart_x bounds a b h c k = false_where (is_inside c a b) (Decides-parts c a b) (λ i. not_in_both bounds.low.x bounds.high.x a.x b.x c.x h k.from_x k.to_x i.0.0)
+
+pub none_apart_y : (bounds : Bounds) (a b : Corner) → AreApart bounds.low.y bounds.high.y a.y b.y → (c : Corner) → IsInBounds c bounds → is_inside c a b ≡ false
+none_apart_y bounds a b h c k = false_where (is_inside c a b) (Decides-parts c a b) (λ i. not_in_both bounds.low.y bounds.high.y a.y b.y c.y h k.from_y k.to_y i.0.1)
+
+-- numbers are equal where their difference is 0, and the tests say so alike
+pub int_eq-difference : (p q : ℤ) → int_eq (p -ℤ q) (pos 0) ≡ int_eq p q
+int_eq-difference p q = same_from_decides (int_eq (p -ℤ q) (pos 0)) (int_eq p q)
+    (Decides-like (int_eq (p -ℤ q) (pos 0)) (λ e. omega (arith, ints)) (λ e. omega (arith, ints)) (Decides-int_eq (p -ℤ q) (pos 0)))
+    (Decides-int_eq p q)
+
+Decides-apart : (u v w z : ℤ) → Decides (lt_z (int_max u v) (int_min w z) || lt_z (int_max w z) (int_min u v)) (AreApart u v w z)
+Decides-apart u v w z = Decides-or (lt_z (int_max u v) (int_min w z)) (lt_z (int_max w z) (int_min u v)) (Decides-int_lt (int_max u v) (int_min w z)) (Decides-int_lt (int_max w z) (int_min u v))
+
+-- what a test that is true tells
+pub apart_from_test : (t : Bool) (u v w z : ℤ) → t ≡ (lt_z (int_max u v) (int_min w z) || lt_z (int_max w z) (int_min u v)) → t ≡ true → AreApart u v w z
+apart_from_test t u v w z e h = (Decides-apart u v w z).0 (sym e ∙ h)
+
+-- a second test, where the first is true
+pub both_tests : (r s p q : Bool) → r ≡ p → s ≡ q → r ≡ true → s ≡ (p && q)
+both_tests r s p q h k t = k ∙ ap (λ x. x && q) (sym t ∙ h)
+
+pub none_beside_of : (bounds : Bounds) (a b c : Corner) (bottom top left right : ℤ)
+    → bottom ≡ (b.x -ℤ a.x) *ℤ (bounds.low.y -ℤ a.y) → top ≡ (b.x -ℤ a.x) *ℤ (bounds.high.y -ℤ a.y)
+    → left ≡ (b.y -ℤ a.y) *ℤ (bounds.low.x -ℤ a.x) → right ≡ (b.y -ℤ a.y) *ℤ (bounds.high.x -ℤ a.x)
+    → AreApart bottom top left right → IsInBounds c bounds → is_inside c a b ≡ false
+none_beside_of bounds a b c bottom top left right e f g h k l =
+    let bottom' = (b.x -ℤ a.x) *ℤ (bounds.low.y -ℤ a.y) in
+    let top' = (b.x -ℤ a.x) *ℤ (bounds.high.y -ℤ a.y) in
+    let left' = (b.y -ℤ a.y) *ℤ (bounds.low.x -ℤ a.x) in
+    let right' = (b.y -ℤ a.y) *ℤ (bounds.high.x -ℤ a.x) in
+    none_beside bounds a b c
+    (subst (λ z. AreApart bottom' top' left' z) h (subst (λ z. AreApart bottom' top' z right) g (subst (λ z. AreApart bottom' z left right) f (subst (λ z. AreApart z top left right) e k)))) l

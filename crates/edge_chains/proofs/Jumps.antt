@@ -1,0 +1,267 @@
+-- An edge with a net count other than 0 has two points beside it between which the winding numbers differ by that count.
+use Rattle.std.proofs.Common.{◌≡◌, ◌≢◌, ◌⊎◌, inl, inr, ⊎_elim, refl, sym, ◌∙◌, ap, subst, arith, ℕ, ◌+◌, ◌<◌, ◌≤◌, ℤ, pos, negsuc, ◌+ℤ◌, ◌-ℤ◌, ◌*ℤ◌, neg_ℤ, List, [], ◌∷◌, ◌++◌}
+use Rattle.std.specs.Int.{int_min, int_max}
+use Rattle.std.specs.List.{Contains, AllByRecursion}
+use Rattle.std.proofs.lemmas.Int.{ints, clamps, by_lt_z}
+use Rattle.std.proofs.lemmas.Bool.{cases_lt}
+use Rattle.std.proofs.lemmas.List.Elements.{Contains-append_left, Contains-append_right, Contains-append_cases}
+use lib.Signed.{◌<ℤ◌, ◌≤ℤ◌}
+use Rattle.geo_exact.specs.declared.corner.Corner.{Corner}
+use Rattle.geo_exact.specs.Point.{Point}
+use Rattle.geo_exact.specs.Rings.{Edge, path, edges, sum_over}
+use Rattle.geo_exact.specs.Turn.{turn, turn_at, IsOnEdge, IsOnSome}
+use Rattle.geo_exact.specs.Winding.{crossing}
+use Rattle.geo_exact.proofs.SameCorner.{corner_same}
+use Rattle.geo_exact.proofs.EdgeSums.{edge_of, sum_over-append}
+use Rattle.geo_exact.proofs.TurnLaws.{turn_at_back}
+use Rattle.geo_exact.proofs.OnEdge.{on_edge_back, on_edge_between}
+use Rattle.edge_chains.specs.Net.{edge_count, all_edges, net_of_edges, net_count, winding_sum}
+use Rattle.edge_chains.specs.Noding.{IsStrictlyInside, all_corners, AreFullyNoded}
+use Rattle.edge_chains.specs.Jump.{AreBeside, winding_difference, IsJump}
+use Rattle.edge_chains.proofs.Changes.{net_of_cons}
+use Rattle.edge_chains.proofs.Nets.{edge_count-append, all_edges-append}
+use Rattle.edge_chains.proofs.Balance.{find_edge, sum_of_rings-edges}
+use Rattle.edge_chains.proofs.NodedEdges.{none_in_nil, Contains-here, Contains-there, Contains-cases, all_from_contains}
+use Rattle.edge_chains.proofs.Parts.{strictly_back}
+use Rattle.edge_chains.proofs.Beside.{whole, near, cross, push, turn_near, last_one}
+use Rattle.edge_chains.proofs.Steep.{AreClear, left_of, right_of, turn_itself, cross_itself, steep_jump, steep_off}
+use Rattle.edge_chains.proofs.Level.{IsLevel, above_of, below_of, shift, level_jump, level_off}
+
+-- ---- sums over edges
+sum_over-on : (f g : Edge → ℤ) (es : List Edge) → AllByRecursion (λ e. f e ≡ g e) es → sum_over f es ≡ sum_over g es
+sum_over-on f g [] h = refl
+sum_over-on f g (e ∷ es) h = omega (arith, ints, h.0, sum_over-on f g es h.1)
+
+sum_over-minus : (f g : Edge → ℤ) (es : List Edge) → sum_over (λ e. f e -ℤ g e) es ≡ sum_over f es -ℤ sum_over g es
+sum_over-minus f g [] = refl
+sum_over-minus f g (e ∷ es) = omega (arith, ints, sum_over-minus f g es)
+
+sum_over-net : (a b : Corner) (es : List Edge) → sum_over (λ e. net_of_edges (e ∷ []) a b) es ≡ net_of_edges es a b
+sum_over-net a b [] = refl
+sum_over-net a b (e ∷ es) = ap (λ z. net_of_edges (e ∷ []) a b +ℤ z) (sum_over-net a b es) ∙ sym (net_of_cons e es a b)
+
+sum_over-two : (f g : Edge → ℤ) (es : List Edge) → sum_over (λ e. f e +ℤ g e) es ≡ sum_over f es +ℤ sum_over g es
+sum_over-two f g [] = refl
+sum_over-two f g (e ∷ es) = omega (arith, ints, sum_over-two f g es)
+
+-- what each edge takes from its start and gives to its end
+climbs_path : (height : Corner → ℤ) (from to : Corner) (rest : List Corner) → sum_over (λ e. height e.to -ℤ height e.from) (path from rest to) ≡ height to -ℤ height from
+climbs_path height from to [] = omega (arith, ints)
+climbs_path height from to (next ∷ rest) = omega (arith, ints, climbs_path height next to rest)
+
+climbs_ring : (height : Corner → ℤ) (ring : List Corner) → sum_over (λ e. height e.to -ℤ height e.from) (edges ring) ≡ pos 0
+climbs_ring height [] = refl
+climbs_ring height (first ∷ rest) = climbs_path height first first rest ∙ nothing (height first)
+  where
+    nothing : (z : ℤ) → z -ℤ z ≡ pos 0
+    nothing z = omega (arith, ints)
+
+climbs : (height : Corner → ℤ) (rings : List (List Corner)) → sum_over (λ e. height e.to -ℤ height e.from) (all_edges rings) ≡ pos 0
+climbs height [] = refl
+climbs height (ring ∷ rings) = omega (arith, ints, sum_over-append (λ e. height e.to -ℤ height e.from) (edges ring) (all_edges rings), climbs_ring height ring, climbs height rings)
+
+rings_jump : (l r : Point) (height : Corner → ℤ) (a b : Corner) (rings : List (List Corner))
+    → ((e : Edge) → Contains (all_edges rings) e → crossing l e.from e.to -ℤ crossing r e.from e.to ≡ (height e.to -ℤ height e.from) +ℤ net_of_edges (e ∷ []) a b)
+    → winding_sum l rings -ℤ winding_sum r rings ≡ net_count rings a b
+rings_jump l r height a b rings h =
+    let es = all_edges rings in
+    let cl : Edge → ℤ = λ e. crossing l e.from e.to in
+    let cr : Edge → ℤ = λ e. crossing r e.from e.to in
+    let up : Edge → ℤ = λ e. height e.to -ℤ height e.from in
+    let one : Edge → ℤ = λ e. net_of_edges (e ∷ []) a b in
+    total (winding_sum l rings) (winding_sum r rings) (sum_over cl es) (sum_over cr es) (sum_over (λ e. cl e -ℤ cr e) es) (sum_over (λ e. up e +ℤ one e) es) (sum_over up es) (sum_over one es) (net_count rings a b)
+    (sum_of_rings-edges cl rings) (sum_of_rings-edges cr rings) (sum_over-minus cl cr es)
+    (sum_over-on (λ e. cl e -ℤ cr e) (λ e. up e +ℤ one e) es (all_from_contains (λ e. cl e -ℤ cr e ≡ up e +ℤ one e) es h))
+    (sum_over-two up one es) (climbs height rings) (sum_over-net a b es)
+  where
+    total : (wl wr sl sr d t u o n : ℤ) → wl ≡ sl → wr ≡ sr → d ≡ sl -ℤ sr → d ≡ t → t ≡ u +ℤ o → u ≡ pos 0 → o ≡ n → wl -ℤ wr ≡ n
+    total wl wr sl sr d t u o n h1 h2 h3 h4 h5 h6 h7 = omega (arith, ints)
+
+-- ---- corners and edges of rings
+path_ends : (from to : Corner) (rest : List Corner) (e : Edge) → Contains (path from rest to) e → Contains (from ∷ rest) e.from × (Contains (from ∷ rest) e.to ⊎ (to ≡ e.to))
+path_ends from to [] e h =
+    ⊎_elim (λ s. (subst (Contains (from ∷ [])) (ap (λ (x : Edge). x.from) s) (Contains-here from []), inr (ap (λ (x : Edge). x.to) s))) (λ k. absurd (none_in_nil e k)) (Contains-cases (edge_of from to) [] e h)
+path_ends from to (next ∷ rest) e h =
+    ⊎_elim
+    (λ s. (
+      subst (Contains (from ∷ next ∷ rest)) (ap (λ (x : Edge). x.from) s) (Contains-here from (next ∷ rest)),
+      inl (subst (Contains (from ∷ next ∷ rest)) (ap (λ (x : Edge). x.to) s) (Contains-there from (next ∷ rest) next (Contains-here next rest))),
+    ))
+    (λ k. let r = path_ends next to rest e k in
+    (Contains-there from (next ∷ rest) e.from r.0, ⊎_elim (λ m. inl (Contains-there from (next ∷ rest) e.to m)) (λ m. inr m) r.1))
+    (Contains-cases (edge_of from next) (path next rest to) e h)
+
+ring_ends : (ring : List Corner) (e : Edge) → Contains (edges ring) e → Contains ring e.from × Contains ring e.to
+ring_ends [] e h = absurd (none_in_nil e h)
+ring_ends (first ∷ rest) e h =
+    let r = path_ends first first rest e h in (r.0, ⊎_elim (λ m. m) (λ m. subst (Contains (first ∷ rest)) m (Contains-here first rest)) r.1)
+
+all_ends : (rings : List (List Corner)) (e : Edge) → Contains (all_edges rings) e → Contains (all_corners rings) e.from × Contains (all_corners rings) e.to
+all_ends [] e h = absurd (none_in_nil e h)
+all_ends (ring ∷ rings) e h =
+    ⊎_elim
+    (λ k. let r = ring_ends ring e k in (Contains-append_left ring (all_corners rings) e.from r.0, Contains-append_left ring (all_corners rings) e.to r.1))
+    (λ k. let r = all_ends rings e k in (Contains-append_right ring (all_corners rings) e.from r.0, Contains-append_right ring (all_corners rings) e.to r.1))
+    (Contains-append_cases (edges ring) (all_edges rings) e h)
+
+-- a b is an edge of the rings, in one direction or the other
+abbrev HasEither : List (List Corner) → Corner → Corner → Type 0
+HasEither rings a b = Contains (all_edges rings) (edge_of a b) ⊎ Contains (all_edges rings) (edge_of b a)
+
+either_back : (rings : List (List Corner)) (a b : Corner) → HasEither rings a b → HasEither rings b a
+either_back rings a b (inl h) = inr h
+either_back rings a b (inr h) = inl h
+
+is_clear : (rings : List (List Corner)) (a b : Corner) → AreFullyNoded rings → HasEither rings a b → (e : Edge) → Contains (all_edges rings) e → AreClear a b e.from e.to
+is_clear rings a b h k e l =
+    let ends : Contains (all_corners rings) a × Contains (all_corners rings) b = ⊎_elim (λ m. all_ends rings (edge_of a b) m) (λ m. let r = all_ends rings (edge_of b a) m in (r.1, r.0)) k in
+    let none : (c : Corner) → Contains (all_corners rings) c → ¬ IsStrictlyInside c a b = λ c m i. ⊎_elim (λ n. h c (edge_of a b) m n i) (λ n. h c (edge_of b a) m n (strictly_back c a b i)) k in
+    let own = all_ends rings e l in
+    record {
+      a_is_out = h a e ends.0 l;
+      b_is_out = h b e ends.1 l;
+      u_is_out = none e.from own.0;
+      v_is_out = none e.to own.1;
+    }
+
+counted_edge : (rings : List (List Corner)) (a b : Corner) → 0 < edge_count (all_edges rings) a b → Contains (all_edges rings) (edge_of a b)
+counted_edge rings a b h =
+    let w = find_edge (all_edges rings) a b h in
+    subst (λ es. Contains es (edge_of a b)) (sym w.is) (Contains-append_right w.front (edge_of a b ∷ w.back) (edge_of a b) (Contains-here (edge_of a b) w.back))
+
+unbalanced_edge : (added taken : List (List Corner)) (a b : Corner) → net_count added a b -ℤ net_count taken a b ≢ pos 0 → HasEither (added ++ taken) a b
+unbalanced_edge added taken a b h =
+    let forth = ap (λ es. edge_count es a b) (all_edges-append added taken) ∙ edge_count-append (all_edges added) (all_edges taken) a b in
+    let back = ap (λ es. edge_count es b a) (all_edges-append added taken) ∙ edge_count-append (all_edges added) (all_edges taken) b a in
+    ⊎_elim (λ p. inl (counted_edge (added ++ taken) a b p))
+    (λ p. ⊎_elim (λ q. inr (counted_edge (added ++ taken) b a q))
+    (λ q. absurd (h (nothing (edge_count (all_edges added) a b) (edge_count (all_edges taken) a b) (edge_count (all_edges added) b a) (edge_count (all_edges taken) b a)
+    (edge_count (all_edges (added ++ taken)) a b) (edge_count (all_edges (added ++ taken)) b a) forth back p q)))
+    (cases_lt 0 (edge_count (all_edges (added ++ taken)) b a)))
+    (cases_lt 0 (edge_count (all_edges (added ++ taken)) a b))
+  where
+    nothing : (p q r s m n : ℕ) → m ≡ p + q → n ≡ r + s → m ≤ 0 → n ≤ 0 → (pos p -ℤ pos r) -ℤ (pos q -ℤ pos s) ≡ pos 0
+    nothing p q r s m n e f h k = omega (arith, ints)
+
+-- ---- points off all edges
+off_all : (p : Point) (es : List Edge) → ((e : Edge) → Contains es e → ¬ IsOnEdge p e.from e.to) → ¬ IsOnSome p es
+off_all p [] h k = k
+off_all p (e ∷ es) h (inl k) = h e (Contains-here e es) k
+off_all p (e ∷ es) h (inr k) = off_all p es (λ f m. h f (Contains-there e es f m)) k
+
+in_added : (added taken : List (List Corner)) (e : Edge) → Contains (all_edges added) e → Contains (all_edges (added ++ taken)) e
+in_added added taken e h = subst (λ es. Contains es e) (sym (all_edges-append added taken)) (Contains-append_left (all_edges added) (all_edges taken) e h)
+
+in_taken : (added taken : List (List Corner)) (e : Edge) → Contains (all_edges taken) e → Contains (all_edges (added ++ taken)) e
+in_taken added taken e h = subst (λ es. Contains es e) (sym (all_edges-append added taken)) (Contains-append_right (all_edges added) (all_edges taken) e h)
+
+differ : (al at rl rt na nt : ℤ) → al -ℤ rl ≡ na → at -ℤ rt ≡ nt → (al -ℤ at) -ℤ (rl -ℤ rt) ≡ na -ℤ nt
+differ al at rl rt na nt h k = omega (arith, ints)
+
+IsJump-from : (l r : Point) (height : Corner → ℤ) (a b : Corner) (added taken : List (List Corner)) → AreBeside l r a b
+    → ((e : Edge) → Contains (all_edges (added ++ taken)) e → crossing l e.from e.to -ℤ crossing r e.from e.to ≡ (height e.to -ℤ height e.from) +ℤ net_of_edges (e ∷ []) a b)
+    → ((e : Edge) → Contains (all_edges (added ++ taken)) e → (¬ IsOnEdge l e.from e.to) × (¬ IsOnEdge r e.from e.to))
+    → IsJump added taken a b l r
+IsJump-from l r height a b added taken beside jumps off = record {
+  beside = beside;
+  left_is_off = off_all l (all_edges (added ++ taken)) (λ e k. (off e k).0);
+  right_is_off = off_all r (all_edges (added ++ taken)) (λ e k. (off e k).1);
+  changes = differ (winding_sum l added) (winding_sum l taken) (winding_sum r added) (winding_sum r taken) (net_count added a b) (net_count taken a b)
+      (rings_jump l r height a b added (λ e k. jumps e (in_added added taken e k)))
+      (rings_jump l r height a b taken (λ e k. jumps e (in_taken added taken e k)));
+}
+
+-- ---- the points are beside the edge
+turn_beside : (a b : Corner) (ex ey : ℤ) → turn_at a b (near a b ex ey) ≡ push a b ex ey
+turn_beside a b ex ey = turn_near a b a b ex ey ∙ last_one (turn a b a) (cross a b a b) (push a b ex ey) (turn_itself a b) (cross_itself a b)
+
+steep_beside : (a b : Corner) → a.y <ℤ b.y → AreBeside (left_of a b) (right_of a b) a b
+steep_beside a b up = record {
+  is_left = subst (λ z. pos 0 <ℤ z) (sym (turn_beside a b (negsuc 0) (pos 0))) (omega (arith, ints));
+  is_right = subst (λ z. z <ℤ pos 0) (sym (turn_beside a b (pos 1) (pos 0))) (omega (arith, ints));
+  through = (
+    near a b (pos 0) (pos 0),
+    record { same_d = (refl, refl); in_x = omega (arith, ints); in_y = omega (arith, ints) },
+    on_edge_between a b (near a b (pos 0) (pos 0)) (turn_beside a b (pos 0) (pos 0) ∙ no_push a b) (omega (arith, ints)) (omega (arith, ints)),
+  );
+}
+  where
+    no_push : (a b : Corner) → push a b (pos 0) (pos 0) ≡ pos 0
+    no_push a b = omega (arith, ints)
+
+level_beside : (a b : Corner) → IsLevel a b → AreBeside (above_of a b) (below_of a b) a b
+level_beside a b f =
+    let lx : int_min a.x b.x ≡ a.x = omega (arith, ints, clamps, f.to_right) in
+    let hx : int_max a.x b.x ≡ b.x = omega (arith, ints, clamps, f.to_right) in
+    let ly : int_min a.y b.y ≡ a.y = omega (arith, ints, clamps, f.same_height) in
+    let hy : int_max a.y b.y ≡ a.y = omega (arith, ints, clamps, f.same_height) in
+    let m = near a b (pos 0) (pos 0) in
+    record {
+      is_left = subst (λ z. pos 0 <ℤ z) (sym (turn_beside a b (pos 0) (pos 1))) (omega (arith, ints, f.to_right));
+      is_right = subst (λ z. z <ℤ pos 0) (sym (turn_beside a b (pos 0) (negsuc 0))) (omega (arith, ints, f.to_right));
+      through = (
+        m,
+        record { same_d = (refl, refl); in_x = omega (arith, ints); in_y = omega (arith, ints) },
+        record {
+          on_line = turn_beside a b (pos 0) (pos 0) ∙ no_push a b;
+          from_x = subst (λ z. (z *ℤ whole) ≤ℤ m.x) (sym lx) (omega (arith, ints, f.to_right));
+          to_x = subst (λ z. m.x ≤ℤ (z *ℤ whole)) (sym hx) (omega (arith, ints, f.to_right));
+          from_y = subst (λ z. (z *ℤ whole) ≤ℤ m.y) (sym ly) (omega (arith, ints, f.same_height));
+          to_y = subst (λ z. m.y ≤ℤ (z *ℤ whole)) (sym hy) (omega (arith, ints, f.same_height));
+        },
+      );
+    }
+  where
+    no_push : (a b : Corner) → push a b (pos 0) (pos 0) ≡ pos 0
+    no_push a b = omega (arith, ints)
+
+-- ---- the same points, for the edge the other way
+IsJump-turned : (added taken : List (List Corner)) (a b : Corner) (l r : Point) → IsJump added taken b a l r → IsJump added taken a b r l
+IsJump-turned added taken a b l r h = record {
+  beside = record {
+    is_left = subst (λ z. pos 0 <ℤ z) (sym (turn_at_back b a r)) (let q = h.beside.is_right in omega (arith, ints));
+    is_right = subst (λ z. z <ℤ pos 0) (sym (turn_at_back b a l)) (let q = h.beside.is_left in omega (arith, ints));
+    through = let t = h.beside.through in
+        (t.0, record { same_d = (t.1.same_d.1, t.1.same_d.0); in_x = omega (arith, ints, t.1.in_x); in_y = omega (arith, ints, t.1.in_y) }, on_edge_back b a t.0 t.2);
+  };
+  left_is_off = h.right_is_off;
+  right_is_off = h.left_is_off;
+  changes = turned (winding_difference l added taken) (winding_difference r added taken) (net_count added b a -ℤ net_count taken b a) (net_count added a b -ℤ net_count taken a b) h.changes (nets (edge_count (all_edges added) a b) (edge_count (all_edges added) b a) (edge_count (all_edges taken) a b) (edge_count (all_edges taken) b a));
+}
+  where
+    turned : (l r n m : ℤ) → l -ℤ r ≡ n → m ≡ neg_ℤ n → r -ℤ l ≡ m
+    turned l r n m h k = omega (arith, ints)
+
+    nets : (p q r s : ℕ) → (pos p -ℤ pos q) -ℤ (pos r -ℤ pos s) ≡ neg_ℤ ((pos q -ℤ pos p) -ℤ (pos s -ℤ pos r))
+    nets p q r s = omega (arith, ints)
+
+steep_case : (added taken : List (List Corner)) (a b : Corner) → AreFullyNoded (added ++ taken) → HasEither (added ++ taken) a b → a.y <ℤ b.y → IsJump added taken a b (left_of a b) (right_of a b)
+steep_case added taken a b h k up =
+    IsJump-from (left_of a b) (right_of a b) (λ c. pos 0) a b added taken (steep_beside a b up)
+    (λ e m. steep_jump a b e.from e.to up (is_clear (added ++ taken) a b h k e m) ∙ plus_nothing (net_of_edges (e ∷ []) a b))
+    (λ e m. steep_off a b e.from e.to up (is_clear (added ++ taken) a b h k e m))
+  where
+    plus_nothing : (z : ℤ) → z ≡ (pos 0 -ℤ pos 0) +ℤ z
+    plus_nothing z = omega (arith, ints)
+
+level_case : (added taken : List (List Corner)) (a b : Corner) → AreFullyNoded (added ++ taken) → HasEither (added ++ taken) a b → IsLevel a b → IsJump added taken a b (above_of a b) (below_of a b)
+level_case added taken a b h k f =
+    IsJump-from (above_of a b) (below_of a b) (shift a) a b added taken (level_beside a b f)
+    (λ e m. level_jump a b e.from e.to f (is_clear (added ++ taken) a b h k e m))
+    (λ e m. level_off a b e.from e.to f (is_clear (added ++ taken) a b h k e m))
+
+-- an edge with a net count other than 0 is no false alarm
+pub jump_beside : (added taken : List (List Corner)) → AreFullyNoded (added ++ taken) → (a b : Corner) → net_count added a b -ℤ net_count taken a b ≢ pos 0
+    → (left : Point) × (right : Point) × IsJump added taken a b left right
+jump_beside added taken h a b n =
+    let k = unbalanced_edge added taken a b n in
+    by_lt_z a.y b.y (λ p. (left_of a b, right_of a b, steep_case added taken a b h k p))
+    (λ p. by_lt_z b.y a.y (λ q. (right_of b a, left_of b a, IsJump-turned added taken a b (left_of b a) (right_of b a) (steep_case added taken b a h (either_back (added ++ taken) a b k) q)))
+    (λ q. by_lt_z a.x b.x (λ r. (above_of a b, below_of a b, level_case added taken a b h k (record { same_height = omega (arith, ints); to_right = r })))
+    (λ r. by_lt_z b.x a.x
+    (λ s. (below_of b a, above_of b a, IsJump-turned added taken a b (above_of b a) (below_of b a) (level_case added taken b a h (either_back (added ++ taken) a b k) (record { same_height = omega (arith, ints); to_right = s }))))
+    (λ s. absurd (n (let e : a ≡ b = corner_same a b (omega (arith, ints)) (omega (arith, ints)) in
+    subst (λ c. net_count added a c -ℤ net_count taken a c ≡ pos 0) e (nothing (edge_count (all_edges added) a a) (edge_count (all_edges taken) a a))))))))
+  where
+    nothing : (p q : ℕ) → (pos p -ℤ pos p) -ℤ (pos q -ℤ pos q) ≡ pos 0
+    nothing p q = omega (arith, ints)

@@ -1,0 +1,16 @@
+pub mod Corners
+pub mod Changes
+pub mod Nets
+pub mod Firsts
+pub mod Balance
+pub mod Inside
+pub mod Boxes
+pub mod Along
+pub mod Sorted
+pub mod NodedEdges
+pub mod Parts
+pub mod NodedRings
+pub mod Beside
+pub mod Steep
+pub mod Level
+pub mod Jumps

@@ -1,0 +1,24 @@
+-- Blocks of neighbouring corners with their boxes (OGC 06-103r4, 6.1.2: Envelope, the minimum bounding box).
+use Rattle.std.specs.Prelude.{◌≡◌, ℕ, ◌<◌, ◌≤◌, List, length, slice_index, slice_index_or}
+use Rattle.geo_exact.specs.declared.corner.Corner.{Corner}
+use Rattle.edge_chains.specs.declared.bounds.Bounds.{Bounds}
+use Rattle.edge_chains.specs.Inside.{IsInBounds}
+
+-- each block ends behind its place, and none behind the n places
+pub record AreEnds (n : ℕ) (ends : List ℕ) : Type 0 where
+  pub as_many : length ends ≡ n
+  pub go_on : (i : ℕ) → i < n → (i < slice_index ends i) × (slice_index ends i ≤ n)
+
+-- the box has the corner at its own place
+abbrev pub HasOwn : List Corner → List Bounds → ℕ → Type 0
+HasOwn corners boxes i = (c : Corner) (b : Bounds) → IsInBounds (slice_index_or corners i c) (slice_index_or boxes i b)
+
+-- the box has each corner of its block
+abbrev pub HasBlock : List Corner → List ℕ → List Bounds → ℕ → Type 0
+HasBlock corners ends boxes i = (k : ℕ) (c : Corner) (b : Bounds) → i ≤ k → k < slice_index ends i → IsInBounds (slice_index_or corners k c) (slice_index_or boxes i b)
+
+-- at each place a block that begins there, and its box
+pub record AreBlocks (corners : List Corner) (ends : List ℕ) (boxes : List Bounds) : Type 0 where
+  pub in_place : AreEnds (length corners) ends
+  pub as_many : length boxes ≡ length corners
+  pub have_blocks : (i : ℕ) → i < length corners → HasBlock corners ends boxes i

@@ -1,0 +1,173 @@
+ghost use Rattle.std.specs.Prelude.{◌≡◌, ◌↔◌, ℕ, ◌<◌, ◌≤◌, List, length, slice_index, slice_index_or, IfOk, vec_len, OnOk};
+ghost use Rattle.std.specs.List.{filter, Contains};
+ghost use Rattle.edge_chains.specs.Inside.{is_inside, IsInBounds};
+ghost use Rattle.edge_chains.specs.Blocks.{AreEnds, HasOwn, HasBlock, AreBlocks};
+
+use crate::bounds::{Bounds, is_strictly_inside};
+use geo_exact::{Corner, LIMIT};
+use std::alloc::{AllocError, Allocator};
+use std::marker::Model;
+
+/// Corners for many searches, as a list in some order: at each place a block of corners begins, with its box.
+#[derive(Drop)]
+pub(crate) struct Blocks<A: Allocator> {
+    corners: Vec<Corner, A>,
+    ends: Vec<usize, A>,
+    boxes: Vec<Bounds, A>,
+}
+
+impl<A: Allocator> Model for Blocks<A> {
+    ghost use Rattle.std.specs.Prelude.{List};
+    ghost use Rattle.geo_exact.specs.declared.corner.Corner.{Corner};
+    ghost use Rattle.edge_chains.specs.Blocks.{AreBlocks};
+
+    ghost Value = { List Corner };
+
+    ghost view = { λ blocks. blocks.corners.items };
+
+    ghost invariant = { λ blocks. AreBlocks blocks.corners.items blocks.ends.items blocks.boxes.items };
+}
+
+impl<A: Allocator + Copy> Blocks<A> {
+    /// The blocks of these corners.
+    pub fn new(alloc: A, corners: &[Corner]) -> Result<Blocks<A>, AllocError>
+        ensures { IfOk result (λ blocks. (c : Corner) → Contains blocks c ↔ Contains corners.now c) }
+    {
+        let corners = spread(alloc, corners)?;
+        let ends = block_ends(alloc, corners.len())?;
+        let boxes = block_boxes(alloc, &corners, &ends)?;
+        Ok(Blocks {
+            corners,
+            ends,
+            boxes,
+        })
+    }
+
+    /// Those of the corners that lie strictly inside the edge from a to b, in the order of the list.
+    pub fn inside(&self, a: Corner, b: Corner) -> Result<Vec<Corner, A>, AllocError>
+        ensures { IfOk result (λ found. found.items ≡ filter (λ c. is_inside c a b) self.now) }
+    {
+        collect(
+            *self.corners.allocator(),
+            &self.corners,
+            &self.ends,
+            &self.boxes,
+            a,
+            b,
+        )
+    }
+}
+
+/// The corners, each once at least, so ordered that neighbours in the list are close to each other in the plane.
+fn spread<A: Allocator + Copy>(alloc: A, corners: &[Corner]) -> Result<Vec<Corner, A>, AllocError>
+    ensures { IfOk result (λ spread. (c : Corner) → Contains spread.items c ↔ Contains corners.now c) }
+{
+    let mut spread = Vec::from_slice(alloc, corners)?;
+    spread.sort_unstable_by_key(|corner| interleaved(*corner));
+    spread.dedup();
+    Ok(spread)
+}
+
+/// The bits of the coordinates in turn (Morton's order), without the last three of each: only the speed rests on it.
+fn interleaved(corner: Corner) -> u64 {
+    spaced((corner.x + LIMIT) as u64 >> 3) | spaced((corner.y + LIMIT) as u64 >> 3) << 1
+}
+
+/// The lower half of the bits, each with a 0 in front of it.
+fn spaced(bits: u64) -> u64 {
+    let wide = (bits | bits << 16) & 0x0000_ffff_0000_ffff;
+    let wide = (wide | wide << 8) & 0x00ff_00ff_00ff_00ff;
+    let wide = (wide | wide << 4) & 0x0f0f_0f0f_0f0f_0f0f;
+    let wide = (wide | wide << 2) & 0x3333_3333_3333_3333;
+    (wide | wide << 1) & 0x5555_5555_5555_5555
+}
+
+/// Those of the corners that lie strictly inside the edge from a to b, in the order of the list.
+///
+/// At each place a block begins that goes up to `ends`, with its box; a block whose box the edge misses is passed over.
+fn collect<A: Allocator + Copy>(
+    alloc: A,
+    corners: &[Corner],
+    ends: &[usize],
+    boxes: &[Bounds],
+    a: Corner,
+    b: Corner,
+) -> Result<Vec<Corner, A>, AllocError>
+    requires { AreBlocks corners.now ends.now boxes.now }
+    ensures { IfOk result (λ found. found.items ≡ filter (λ c. is_inside c a b) corners.now) }
+{
+    let mut found = Vec::new(alloc);
+    let mut at = 0;
+    while at < corners.len() {
+        if boxes[at].misses(a, b) {
+            at = ends[at];
+        } else {
+            let corner = corners[at];
+            if is_strictly_inside(corner, a, b) {
+                found.push(corner)?;
+            }
+            at += 1;
+        }
+    }
+    Ok(found)
+}
+
+/// Where the block at each of n places ends: those of a tree in which a block is its first place and two halves of the rest.
+fn block_ends<A: Allocator + Copy>(alloc: A, n: usize) -> Result<Vec<usize, A>, AllocError>
+    ensures { IfOk result (λ ends. AreEnds n ends.items) }
+{
+    let mut ends = vec![in alloc; n; n]?;
+    for at in 0..n {
+        let next = at + 1;
+        let end = ends[at];
+        if next < end {
+            let middle = end - (end - next) / 2;
+            ends[next] = middle;
+            if middle < end {
+                ends[middle] = end;
+            }
+        }
+    }
+    Ok(ends)
+}
+
+/// The box of the block at a place, where those of the later blocks are known.
+fn block_box(corners: &[Corner], ends: &[usize], boxes: &[Bounds], at: usize) -> Bounds
+    requires place { at < length corners.now }
+    requires ends { AreEnds (length corners.now) ends.now }
+    requires as_many { length boxes.now ≡ length corners.now }
+    requires own { HasOwn corners.now boxes.now at }
+    requires later { (i : ℕ) → at < i → i < length corners.now → HasBlock corners.now ends.now boxes.now i }
+    ensures { (k : ℕ) (c : Corner) → at ≤ k → k < slice_index ends.now at
+        → IsInBounds (slice_index_or corners.now k c) result }
+{
+    let mut bounds = boxes[at];
+    let mut next = at + 1;
+    while next < ends[at] {
+        bounds = bounds.joined(&boxes[next]);
+        next = ends[next];
+    }
+    bounds
+}
+
+/// The boxes of all blocks.
+fn block_boxes<A: Allocator + Copy>(
+    alloc: A,
+    corners: &[Corner],
+    ends: &[usize],
+) -> Result<Vec<Bounds, A>, AllocError>
+    requires { AreEnds (length corners.now) ends.now }
+    ensures { IfOk result (λ boxes. AreBlocks corners.now ends.now boxes.items) }
+{
+    let mut boxes = Vec::new(alloc);
+    for corner in corners {
+        boxes.push(Bounds::of_corner(*corner))?;
+    }
+    let mut at = corners.len();
+    while at > 0 {
+        at -= 1;
+        let bounds = block_box(corners, ends, &boxes, at);
+        boxes[at] = bounds;
+    }
+    Ok(boxes)
+}

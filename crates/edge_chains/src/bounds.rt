@@ -1,0 +1,186 @@
+ghost use Rattle.std.specs.Prelude.{◌≡◌, ℤ, pos, ◌-ℤ◌, ◌*ℤ◌, int_lt, ◌&&◌, ◌||◌, IsTrue, false, not};
+ghost use Rattle.std.specs.Int.{int_min, int_max};
+ghost use Rattle.std.specs.Ordering.{int_eq};
+ghost use Rattle.geo_exact.specs.Limit.{IsWithin, limit};
+ghost use Rattle.geo_exact.specs.Turn.{turn};
+ghost use Rattle.edge_chains.specs.Net.{is_same};
+ghost use Rattle.edge_chains.specs.Inside.{is_inside, is_between, IsInBounds};
+
+use geo_exact::Corner;
+
+/// A box whose sides are along the axes, from its lower left corner to its upper right one.
+#[derive(Clone, Copy)]
+pub(crate) struct Bounds {
+    pub low: Corner,
+    pub high: Corner,
+}
+
+impl Bounds {
+    /// The box of one corner.
+    pub fn of_corner(corner: Corner) -> Bounds
+        ensures { IsInBounds corner result }
+    {
+        Bounds {
+            low: corner,
+            high: corner,
+        }
+    }
+
+    /// The least box that has both.
+    pub fn joined(&self, other: &Bounds) -> Bounds
+        ensures first { (c : Corner) → IsInBounds c self.now → IsInBounds c result }
+        ensures second { (c : Corner) → IsInBounds c other.now → IsInBounds c result }
+    {
+        Bounds {
+            low: lower(self.low, other.low),
+            high: upper(self.high, other.high),
+        }
+    }
+
+    /// Whether it is seen at once that no corner in the box lies strictly inside the edge from a to b.
+    pub fn misses(&self, a: Corner, b: Corner) -> bool
+        ensures { IsTrue result → (c : Corner) → IsInBounds c self.now → is_inside c a b ≡ false }
+    {
+        self.is_apart(a, b) || self.is_beside(a, b)
+    }
+
+    /// Whether the edge's own box doesn't meet this one.
+    fn is_apart(&self, a: Corner, b: Corner) -> bool
+        ensures { IsTrue result → (c : Corner) → IsInBounds c self.now → is_inside c a b ≡ false }
+    {
+        are_apart(self.low.x, self.high.x, a.x, b.x) || are_apart(self.low.y, self.high.y, a.y, b.y)
+    }
+
+    /// Whether the box lies on one side of the edge's line.
+    fn is_beside(&self, a: Corner, b: Corner) -> bool
+        ensures { IsTrue result → (c : Corner) → IsInBounds c self.now → is_inside c a b ≡ false }
+    {
+        let (dx, dy) = (difference(b.x, a.x), difference(b.y, a.y));
+        let bottom = product(dx, difference(self.low.y, a.y));
+        let top = product(dx, difference(self.high.y, a.y));
+        let left = product(dy, difference(self.low.x, a.x));
+        let right = product(dy, difference(self.high.x, a.x));
+        are_wide_apart(bottom, top, left, right)
+    }
+}
+
+/// The lower left corner of the box of two corners.
+fn lower(a: Corner, b: Corner) -> Corner
+    ensures x { result.x ≡ int_min a.x b.x }
+    ensures y { result.y ≡ int_min a.y b.y }
+{
+    Corner {
+        x: a.x.min(b.x),
+        y: a.y.min(b.y),
+    }
+}
+
+/// The upper right corner of the box of two corners.
+fn upper(a: Corner, b: Corner) -> Corner
+    ensures x { result.x ≡ int_max a.x b.x }
+    ensures y { result.y ≡ int_max a.y b.y }
+{
+    Corner {
+        x: a.x.max(b.x),
+        y: a.y.max(b.y),
+    }
+}
+
+/// Whether a corner lies strictly inside the edge from a to b.
+pub(crate) fn is_strictly_inside(corner: Corner, a: Corner, b: Corner) -> bool
+    ensures { result ≡ is_inside corner a b }
+{
+    is_in_box(corner, a, b) && is_along(corner, a, b)
+}
+
+/// Whether a corner is in the box of a and b.
+fn is_in_box(corner: Corner, a: Corner, b: Corner) -> bool
+    ensures { result ≡ (is_between a.x b.x corner.x && is_between a.y b.y corner.y) }
+{
+    is_within(a.x, b.x, corner.x) && is_within(a.y, b.y, corner.y)
+}
+
+/// Whether a corner is on the line through a and b, and is neither.
+fn is_along(corner: Corner, a: Corner, b: Corner) -> bool
+    ensures { result ≡ (int_eq (turn a b corner) (pos 0) && (not (is_same corner a) && not (is_same corner b))) }
+{
+    is_on_line(corner, a, b) && is_no_end(corner, a, b)
+}
+
+fn is_no_end(corner: Corner, a: Corner, b: Corner) -> bool
+    ensures { result ≡ (not (is_same corner a) && not (is_same corner b)) }
+{
+    differs(corner, a) && differs(corner, b)
+}
+
+/// Whether a corner is on the line through a and b.
+fn is_on_line(corner: Corner, a: Corner, b: Corner) -> bool
+    ensures { result ≡ int_eq (turn a b corner) (pos 0) }
+{
+    are_equal(
+        product(difference(b.x, a.x), difference(corner.y, a.y)),
+        product(difference(b.y, a.y), difference(corner.x, a.x)),
+    )
+}
+
+fn are_equal(u: i128, v: i128) -> bool
+    ensures { result ≡ int_eq u v }
+{
+    u == v
+}
+
+fn differs(a: Corner, b: Corner) -> bool
+    ensures { result ≡ not (is_same a b) }
+{
+    a != b
+}
+
+fn is_within(u: i64, v: i64, z: i64) -> bool
+    ensures { result ≡ is_between u v z }
+{
+    u.min(v) <= z && z <= u.max(v)
+}
+
+/// Whether no number is between u and v and also between w and z.
+fn are_apart(u: i64, v: i64, w: i64, z: i64) -> bool
+    ensures { result ≡ (int_lt (int_max u v) (int_min w z) || int_lt (int_max w z) (int_min u v)) }
+{
+    are_below(u, v, w, z) || are_below(w, z, u, v)
+}
+
+/// Whether u and v are below w and z.
+fn are_below(u: i64, v: i64, w: i64, z: i64) -> bool
+    ensures { result ≡ int_lt (int_max u v) (int_min w z) }
+{
+    u.max(v) < w.min(z)
+}
+
+/// Whether no number is between u and v and also between w and z.
+fn are_wide_apart(u: i128, v: i128, w: i128, z: i128) -> bool
+    ensures { result ≡ (int_lt (int_max u v) (int_min w z) || int_lt (int_max w z) (int_min u v)) }
+{
+    are_wide_below(u, v, w, z) || are_wide_below(w, z, u, v)
+}
+
+/// Whether u and v are below w and z.
+fn are_wide_below(u: i128, v: i128, w: i128, z: i128) -> bool
+    ensures { result ≡ int_lt (int_max u v) (int_min w z) }
+{
+    u.max(v) < w.min(z)
+}
+
+/// u - v, for coordinates.
+fn difference(u: i64, v: i64) -> i64
+    requires first { IsWithin limit u }
+    requires second { IsWithin limit v }
+    ensures { result ≡ u -ℤ v }
+{
+    u - v
+}
+
+/// The exact product of two numbers.
+fn product(u: i64, v: i64) -> i128
+    ensures { result ≡ u *ℤ v }
+{
+    i128::from(u) * i128::from(v)
+}

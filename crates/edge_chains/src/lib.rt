@@ -1,0 +1,17 @@
+//! Sums of directed edges, and noding: whether two sets of rings cover the same ground, without any
+//! polygon being clipped and without a tolerance.
+#![tactic(auto)]
+
+mod blocks;
+mod bounds;
+mod edge_sum;
+mod laws;
+mod noding;
+mod order;
+
+pub use edge_sum::EdgeSum;
+pub use laws::{an_unbalanced_edge_is_a_jump, equal_nets_cover_alike, noding_changes_no_ground};
+pub use noding::node;
+
+#[cfg(test)]
+mod tests;

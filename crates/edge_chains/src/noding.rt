@@ -1,0 +1,114 @@
+ghost use Rattle.std.specs.Prelude.{◌≡◌, ◌↔◌, List, ◌++◌, ◌∷◌, map, IfOk, OnOk};
+ghost use Rattle.std.specs.List.{Contains, AllZip};
+ghost use Rattle.std.specs.List.Sorted.{IsStrictlySortedBy};
+ghost use Rattle.geo_exact.specs.Point.{Point};
+ghost use Rattle.geo_exact.specs.Turn.{IsOnRing};
+ghost use Rattle.geo_exact.specs.Winding.{winding};
+ghost use Rattle.geo_exact.specs.Area.{area2};
+ghost use Rattle.edge_chains.specs.Inside.{corner_cmp};
+ghost use Rattle.edge_chains.specs.Noding.{IsNodedEdge, IsNoded, all_corners, AreFullyNoded};
+
+use crate::blocks::Blocks;
+use crate::order::comes_before;
+use geo_exact::Corner;
+use std::alloc::{AllocError, Allocator};
+
+/// Those corners that lie strictly inside the edge from a to b, in order along it, each once.
+fn inserted<A: Allocator + Copy>(
+    blocks: &Blocks<A>,
+    from: Corner,
+    to: Corner,
+) -> Result<Vec<Corner, A>, AllocError>
+    ensures { IfOk result (λ corners. IsNodedEdge blocks.now (record { from = from; to = to }) corners.items) }
+{
+    let mut corners = blocks.inside(from, to)?;
+    sort_once(&mut corners);
+    if comes_before(to, from) {
+        corners.reverse();
+    }
+    Ok(corners)
+}
+
+/// Appends the start of the edge from a to b, and those corners that lie strictly inside it, in order along it.
+fn node_edge<A: Allocator + Copy>(
+    blocks: &Blocks<A>,
+    from: Corner,
+    to: Corner,
+    noded: &mut Vec<Corner, A>,
+) -> Result<(), AllocError>
+    ensures { OnOk result ((inner : List Corner) × IsNodedEdge blocks.now (record { from = from; to = to }) inner
+        × (noded.new.items ≡ noded.old.items ++ from ∷ inner)) }
+{
+    let inner = inserted(blocks, from, to)?;
+    noded.push(from)?;
+    noded.extend_from_slice(&inner)?;
+    Ok(())
+}
+
+/// A ring with those corners inserted that lie strictly inside an edge.
+fn node_ring<A: Allocator + Copy>(
+    alloc: A,
+    blocks: &Blocks<A>,
+    ring: &[Corner],
+) -> Result<Vec<Corner, A>, AllocError>
+    ensures { IfOk result (λ noded. IsNoded ring.now blocks.now noded.items) }
+{
+    let mut noded = Vec::new(alloc);
+    if let Some((first, rest)) = ring.split_first() {
+        let mut from = *first;
+        for to in rest {
+            node_edge(blocks, from, *to, &mut noded)?;
+            from = *to;
+        }
+        node_edge(blocks, from, *first, &mut noded)?;
+    }
+    Ok(noded)
+}
+
+/// Each ring with exactly those of the corners inserted that lie strictly inside an edge, in order along it, each once.
+///
+/// Where all corners of the rings are among them, no corner lies strictly inside an edge afterwards.
+pub fn node<A: Allocator + Copy>(
+    alloc: A,
+    rings: &[Vec<Corner, A>],
+    corners: &[Corner],
+) -> Result<Vec<Vec<Corner, A>, A>, AllocError>
+    ensures noded { IfOk result (λ noded.
+        AllZip (λ ring out. IsNoded ring.items corners.now out.items) rings.now noded.items) }
+    ensures windings { IfOk result (λ noded.
+        AllZip (λ ring out. (p : Point) → winding p out.items ≡ winding p ring.items) rings.now noded.items) }
+    ensures boundaries { IfOk result (λ noded.
+        AllZip (λ ring out. (p : Point) → IsOnRing p out.items ↔ IsOnRing p ring.items) rings.now noded.items) }
+    ensures areas { IfOk result (λ noded. AllZip (λ ring out. area2 out.items
+        ≡ area2 ring.items) rings.now noded.items) }
+    ensures cuts { IfOk result (λ noded.
+        ((c : Corner) → Contains (all_corners (map (λ ring. ring.items) rings.now)) c → Contains corners.now c)
+        → AreFullyNoded (map (λ ring. ring.items) noded.items)) }
+{
+    let blocks = Blocks::new(alloc, corners)?;
+    node_all(alloc, &blocks, rings)
+}
+
+fn node_all<A: Allocator + Copy>(
+    alloc: A,
+    blocks: &Blocks<A>,
+    rings: &[Vec<Corner, A>],
+) -> Result<Vec<Vec<Corner, A>, A>, AllocError>
+    ensures { IfOk result (λ noded. AllZip (λ ring out. IsNoded ring.items blocks.now out.items) rings.now noded.items) }
+{
+    let mut noded = Vec::new(alloc);
+    for ring in rings {
+        noded.push(node_ring(alloc, blocks, ring)?)?;
+    }
+    Ok(noded)
+}
+
+/// Puts corners in order, by x and then by y, and keeps each once.
+fn sort_once<A: Allocator>(corners: &mut Vec<Corner, A>)
+    ensures rises { IsStrictlySortedBy corner_cmp corners.new.items }
+    ensures keeps { (c : Corner) → Contains corners.old.items c → Contains corners.new.items c }
+    ensures adds_none { (c : Corner) → Contains corners.new.items c → Contains corners.old.items c }
+{
+    corners.sort_unstable();
+    corners.dedup();
+}

@@ -1,0 +1,189 @@
+use crate::{EdgeSum, node};
+use geo_exact::Corner;
+use std::alloc::{AllocError, Allocator, Global};
+use std::test::Fail;
+
+type Rings = Vec<Vec<Corner, Global>, Global>;
+
+/// The ring of these places.
+fn ring(alloc: Global, places: &[(i64, i64)]) -> Result<Vec<Corner, Global>, AllocError> {
+    let mut corners = Vec::new(alloc);
+    for (x, y) in places {
+        if let Some(corner) = Corner::new(*x, *y) {
+            corners.push(corner)?;
+        }
+    }
+    Ok(corners)
+}
+
+/// The rectangle from (a, 0) to (b, 100).
+fn strip(alloc: Global, a: i64, b: i64) -> Result<Vec<Corner, Global>, AllocError> {
+    ring(alloc, &[(a, 0), (b, 0), (b, 100), (a, 100)])
+}
+
+/// The corners of all rings.
+fn corners_of(
+    alloc: Global,
+    rings: &[Vec<Corner, Global>],
+) -> Result<Vec<Corner, Global>, AllocError> {
+    let mut corners = Vec::new(alloc);
+    for ring in rings {
+        corners.extend_from_slice(ring)?;
+    }
+    Ok(corners)
+}
+
+/// The first unbalanced edge of the rings but the last, added, and the last, taken.
+fn compare<A: Allocator + Copy>(
+    alloc: A,
+    rings: &[Vec<Corner, A>],
+) -> Result<Option<(Corner, Corner, i64)>, AllocError> {
+    let mut sum = EdgeSum::new(alloc);
+    for (index, ring) in rings.iter().enumerate() {
+        if ring.len() < 1_000_000 && sum.edges() < 1_000_000 {
+            if index < rings.len() - 1 {
+                sum.add(ring)?;
+            } else {
+                sum.take(ring)?;
+            }
+        }
+    }
+    Ok(sum.first_unbalanced())
+}
+
+/// The same of the rings noded for all corners.
+fn compare_noded(
+    alloc: Global,
+    rings: &[Vec<Corner, Global>],
+) -> Result<Option<(Corner, Corner, i64)>, AllocError> {
+    let corners = corners_of(alloc, rings)?;
+    let noded = node(alloc, rings, &corners)?;
+    compare(alloc, &noded)
+}
+
+/// Three parcels with a T junction, and their city.
+fn junction(alloc: Global) -> Result<Rings, AllocError> {
+    let mut rings = Vec::new(alloc);
+    rings.push(strip(alloc, 0, 60)?)?;
+    rings.push(ring(alloc, &[(60, 0), (100, 0), (100, 50), (60, 50)])?)?;
+    rings.push(ring(alloc, &[(60, 50), (100, 50), (100, 100), (60, 100)])?)?;
+    rings.push(strip(alloc, 0, 100)?)?;
+    Ok(rings)
+}
+
+#[test]
+fn nodes_a_junction(rt: HostRuntime) -> Result<(), Fail> {
+    let alloc = rt.alloc();
+    let rings = junction(alloc)?;
+    let corners = corners_of(alloc, &rings)?;
+    let noded = node(alloc, &rings, &corners)?;
+    assert_eq!(rt; noded.len(), 4);
+    let first = ring(alloc, &[(0, 0), (60, 0), (60, 50), (60, 100), (0, 100)])?;
+    let city = ring(
+        alloc,
+        &[
+            (0, 0),
+            (60, 0),
+            (100, 0),
+            (100, 50),
+            (100, 100),
+            (60, 100),
+            (0, 100),
+        ],
+    )?;
+    assert_eq!(rt; noded[0].as_slice(), first.as_slice());
+    assert_eq!(rt; noded[1].as_slice(), rings[1].as_slice());
+    assert_eq!(rt; noded[3].as_slice(), city.as_slice());
+    assert_eq!(rt; compare(alloc, &noded)?, None);
+    assert!(rt; compare(alloc, &rings)?.is_some());
+    Ok(())
+}
+
+#[test]
+fn finds_a_gap(rt: HostRuntime) -> Result<(), Fail> {
+    let alloc = rt.alloc();
+    let mut rings = Vec::new(alloc);
+    rings.push(strip(alloc, 0, 60)?)?;
+    rings.push(strip(alloc, 61, 100)?)?;
+    rings.push(strip(alloc, 0, 100)?)?;
+    let want = Some((Corner { x: 60, y: 0 }, Corner { x: 60, y: 100 }, 1));
+    assert_eq!(rt; compare_noded(alloc, &rings)?, want);
+    Ok(())
+}
+
+#[test]
+fn finds_an_overlap_that_a_gap_makes_up_for(rt: HostRuntime) -> Result<(), Fail> {
+    let alloc = rt.alloc();
+    let mut rings = Vec::new(alloc);
+    rings.push(strip(alloc, 0, 60)?)?;
+    rings.push(strip(alloc, 50, 80)?)?;
+    rings.push(strip(alloc, 90, 100)?)?;
+    rings.push(strip(alloc, 0, 100)?)?;
+    let want = Some((Corner { x: 50, y: 0 }, Corner { x: 50, y: 100 }, -1));
+    assert_eq!(rt; compare_noded(alloc, &rings)?, want);
+    Ok(())
+}
+
+#[test]
+fn finds_that_all_is_missing(rt: HostRuntime) -> Result<(), Fail> {
+    let alloc = rt.alloc();
+    let mut rings = Vec::new(alloc);
+    rings.push(strip(alloc, 0, 100)?)?;
+    let want = Some((Corner { x: 0, y: 0 }, Corner { x: 0, y: 100 }, 1));
+    assert_eq!(rt; compare_noded(alloc, &rings)?, want);
+    Ok(())
+}
+
+#[test]
+fn takes_a_ring_begun_elsewhere(rt: HostRuntime) -> Result<(), Fail> {
+    let alloc = rt.alloc();
+    let mut rings = Vec::new(alloc);
+    rings.push(strip(alloc, 0, 100)?)?;
+    rings.push(ring(alloc, &[(100, 100), (0, 100), (0, 0), (100, 0)])?)?;
+    assert_eq!(rt; compare(alloc, &rings)?, None);
+    let mut sum = EdgeSum::new(alloc);
+    sum.add(&[Corner { x: 0, y: 0 }, Corner { x: 5, y: 0 }])?;
+    assert_eq!(rt; sum.edges(), 2);
+    Ok(())
+}
+
+#[test]
+fn nodes_only_what_lies_inside(rt: HostRuntime) -> Result<(), Fail> {
+    let alloc = rt.alloc();
+    let far = 10_000_000_000;
+    let mut rings = Vec::new(alloc);
+    rings.push(ring(alloc, &[(0, 0), (100, 0), (100, 100), (0, 100)])?)?;
+    rings.push(ring(alloc, &[(-far, -far), (far, -far), (far, far)])?)?;
+    let corners = ring(
+        alloc,
+        &[
+            (50, 0),
+            (0, 0),
+            (50, 0),
+            (50, 1),
+            (50, -1),
+            (0, -far),
+            (far - 1, far - 1),
+            (far, 0),
+            (0, far),
+        ],
+    )?;
+    let noded = node(alloc, &rings, &corners)?;
+    assert_eq!(rt; noded.len(), 2);
+    let square = ring(alloc, &[(0, 0), (50, 0), (100, 0), (100, 100), (0, 100)])?;
+    let triangle = ring(
+        alloc,
+        &[
+            (-far, -far),
+            (0, -far),
+            (far, -far),
+            (far, 0),
+            (far, far),
+            (far - 1, far - 1),
+            (0, 0),
+        ],
+    )?;
+    assert_eq!(rt; noded[0].as_slice(), square.as_slice());
+    assert_eq!(rt; noded[1].as_slice(), triangle.as_slice());
+    Ok(())
+}
