@@ -11,3 +11,4 @@ pub mod Sound
 pub mod Complete
 pub mod Laws
 pub mod Answering
+pub mod Rows
