@@ -74,15 +74,18 @@ fn read_records<A: Allocator + Copy>(
 
 /// A text is a layer's main file of one list of rings at most.
 pub fn a_layer_file_has_one_list_of_rings()
-    ensures { (main : List ℕ) (unit : LengthUnit) (a b : List NumberedRing) → IsLayerFile main unit a → IsLayerFile main unit b → a ≡ b }
+    ensures { (main : List ℕ) (unit : LengthUnit) (a b : List NumberedRing) →
+        IsLayerFile main unit a → IsLayerFile main unit b → a ≡ b }
 {}
 
 /// A layer's main file has no first fault.
 pub fn a_layer_file_has_no_fault()
-    ensures { (main : List ℕ) (unit : LengthUnit) (rings : List NumberedRing) (fault : FileFault) → IsLayerFile main unit rings → IsFirstFault main unit fault → ⊥ }
+    ensures { (main : List ℕ) (unit : LengthUnit) (rings : List NumberedRing) (fault : FileFault) →
+        IsLayerFile main unit rings → IsFirstFault main unit fault → ⊥ }
 {}
 
 /// A text has one first fault at most.
 pub fn a_text_has_one_first_fault()
-    ensures { (main : List ℕ) (unit : LengthUnit) (a b : FileFault) → IsFirstFault main unit a → IsFirstFault main unit b → a ≡ b }
+    ensures { (main : List ℕ) (unit : LengthUnit) (a b : FileFault) →
+        IsFirstFault main unit a → IsFirstFault main unit b → a ≡ b }
 {}

@@ -88,7 +88,8 @@ fn check_shape(main: &[u8], head: RecordHead) -> Result<(), FileFault>
     Ok(())
 }
 
-/// The polygon's counts; answers the number of its points. The polygons before it have `corners` corners together.
+/// The polygon's counts; answers the number of its points. The polygons before it have `corners`
+/// corners together.
 #[tactic(auto, unfolding(crate::specs::Checks::polygon_checks, crate::specs::Checks::first_failure))]
 fn check_polygon(
     main: &[u8],
@@ -128,7 +129,8 @@ fn check_polygon(
 fn read_point(main: &[u8], unit: Unit, head: RecordHead, offset: usize) -> Result<Corner, FileFault>
     requires bound { head.start + offset < 2 ^ 63 }
     requires room { head.start + offset + 16 ≤ length main.now }
-    ensures checked { result_err result ≡ first_failure (coordinate_checks main.now unit head.position (head.start + offset) 2) }
+    ensures checked { result_err result
+        ≡ first_failure (coordinate_checks main.now unit head.position (head.start + offset) 2) }
     ensures read { IfOk result (λ corner. IsReadAs unit main.now (head.start + offset) corner) }
 {
     let x = read_number(main, unit, head, offset)?;
@@ -139,7 +141,8 @@ fn read_point(main: &[u8], unit: Unit, head: RecordHead, offset: usize) -> Resul
 fn read_number(main: &[u8], unit: Unit, head: RecordHead, offset: usize) -> Result<i64, FileFault>
     requires bound { head.start + offset < 2 ^ 63 }
     requires room { head.start + offset + 8 ≤ length main.now }
-    ensures checked { result_err result ≡ first_failure (coordinate_checks main.now unit head.position (head.start + offset) 1) }
+    ensures checked { result_err result
+        ≡ first_failure (coordinate_checks main.now unit head.position (head.start + offset) 1) }
     ensures read { IfOk result (λ number. coordinate (layout.double_at main.now (head.start + offset)) unit ≡ Ok number) }
     ensures within { IfOk result (λ number. IsWithin limit number) }
 {
@@ -159,7 +162,8 @@ fn read_corners<A: Allocator + Copy>(
 ) -> Result<Corners<A>, LayerFault>
     requires bound { head.start + 16 * count < 2 ^ 62 }
     requires room { head.start + 56 + 16 * count ≤ length main.now }
-    ensures checked { Finds result (first_failure (coordinate_checks main.now unit head.position (head.start + 56) (2 * count))) }
+    ensures checked { Finds result
+        (first_failure (coordinate_checks main.now unit head.position (head.start + 56) (2 * count))) }
     ensures read { IfOk result (λ corners. AreReadAs unit main.now (head.start + 56) corners) }
     ensures count { IfOk result (λ corners. length corners ≡ count) }
 {
@@ -209,7 +213,8 @@ pub struct PolygonRecord<A: Allocator> {
     pub corners: Corners<A>,
 }
 
-/// Reads a record of a file that is declared to end at `end`, where the polygons before it have `corners` corners together.
+/// Reads a record of a file that is declared to end at `end`, where the polygons before it have
+/// `corners` corners together.
 pub fn read_record<A: Allocator + Copy>(
     alloc: A,
     main: &[u8],
