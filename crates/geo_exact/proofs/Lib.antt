@@ -3,7 +3,17 @@ pub mod Polynomials
 pub mod Signs
 pub mod Within
 pub mod SameCorner
+pub mod EdgeSums
+pub mod TurnLaws
+pub mod OnEdge
+pub mod Crossings
+pub mod Windings
+pub mod Triangles
+pub mod Moved
 pub mod Paths
 pub mod Nearest
 pub mod GridRows
+pub mod Rows
 pub mod Coordinates
+pub mod SamePlace
+pub mod CornerPoints

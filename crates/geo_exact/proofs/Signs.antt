@@ -1,7 +1,7 @@
 -- Signs of products over ℤ.
 use Rattle.std.proofs.Common.{◌≡◌, ℕ, ◌+◌, ◌-◌, ◌*◌, ◌<◌, ◌≤◌, sym, ◌∙◌, ap, arith, true, false}
 use Rattle.std.proofs.lemmas.Int.{ints, by_lt_z}
-use lib.IntN.{ℤ, pos, ◌+ℤ◌, ◌*ℤ◌, neg_ℤ}
+use lib.IntN.{ℤ, pos, ◌+ℤ◌, ◌-ℤ◌, ◌*ℤ◌, neg_ℤ}
 use lib.Signed.{◌<ℤ◌, ◌≤ℤ◌, lt_z}
 use borrow.Author.Differences.{up, down}
 use Rattle.geo_exact.proofs.Differences.{expand}
@@ -48,10 +48,44 @@ same_positive k l s t hk hl e = by_lt_z (pos 0) s
     (λ p. let q : pos 0 <ℤ t = pos_of_mul l t hl (omega (arith, ints, mul_pos k s hk p)) in sym (let x : true ≡ lt_z (pos 0) s = omega (arith, ints) in x) ∙ omega (arith, ints))
     (λ p. let q : t ≤ℤ pos 0 = by_lt_z (pos 0) t (λ r. absurd (omega (arith, ints, mul_pos l t hl r, atmost (up k) (down k) (down s) (up s) (omega (arith, ints)) (omega (arith, ints))))) (λ r. r) in sym (let x : false ≡ lt_z (pos 0) s = omega (arith, ints) in x) ∙ omega (arith, ints))
 
-flip : (z : ℤ) → lt_z (pos 0) (neg_ℤ z) ≡ lt_z z (pos 0)
+-- the test of the sign of a negative
+pub flip : (z : ℤ) → lt_z (pos 0) (neg_ℤ z) ≡ lt_z z (pos 0)
 flip z = by_lt_z z (pos 0)
     (λ p. sym (let x : true ≡ lt_z (pos 0) (neg_ℤ z) = omega (arith, ints) in x) ∙ omega (arith, ints))
     (λ p. sym (let x : false ≡ lt_z (pos 0) (neg_ℤ z) = omega (arith, ints) in x) ∙ omega (arith, ints))
 
 pub same_negative : (k l s t : ℤ) → pos 0 <ℤ k → pos 0 <ℤ l → k *ℤ s ≡ l *ℤ t → lt_z s (pos 0) ≡ lt_z t (pos 0)
 same_negative k l s t hk hl e = sym (flip s) ∙ same_positive k l (neg_ℤ s) (neg_ℤ t) hk hl (simp expand (ap neg_ℤ e)) ∙ flip t
+
+-- at least 0 times at most 0
+pub mul_not_pos : (a b : ℤ) → pos 0 ≤ℤ a → b ≤ℤ pos 0 → (a *ℤ b) ≤ℤ pos 0
+mul_not_pos a b h k = omega (arith, ints, atmost (up a) (down a) (down b) (up b) (omega (arith, ints)) (omega (arith, ints)))
+
+-- at most 0 times at most 0
+pub mul_falling : (a b : ℤ) → a ≤ℤ pos 0 → b ≤ℤ pos 0 → pos 0 ≤ℤ (a *ℤ b)
+mul_falling a b h k = omega (arith, ints, atmost (down a) (up a) (down b) (up b) (omega (arith, ints)) (omega (arith, ints)))
+
+-- at most 0 times at least 0
+pub mul_sinking : (a b : ℤ) → a ≤ℤ pos 0 → pos 0 ≤ℤ b → (a *ℤ b) ≤ℤ pos 0
+mul_sinking a b h k = omega (arith, ints, atmost (down a) (up a) (up b) (down b) (omega (arith, ints)) (omega (arith, ints)))
+
+-- below 0 times above 0
+pub mul_neg_pos : (a b : ℤ) → a <ℤ pos 0 → pos 0 <ℤ b → (a *ℤ b) <ℤ pos 0
+mul_neg_pos a b h k = omega (arith, ints, less_times (down a) (up a) (up b) (down b) (omega (arith, ints)) (omega (arith, ints)))
+
+pub mul_le : (u v d : ℤ) → pos 0 ≤ℤ d → u ≤ℤ v → (u *ℤ d) ≤ℤ (v *ℤ d)
+mul_le u v d h k =
+    let e : pos 0 ≤ℤ ((v -ℤ u) *ℤ d) = mul_not_neg (v -ℤ u) d (omega (arith, ints)) h in
+    omega (arith, ints, simp expand at e)
+
+pub mul_lt : (u v d : ℤ) → pos 0 <ℤ d → u <ℤ v → (u *ℤ d) <ℤ (v *ℤ d)
+mul_lt u v d h k =
+    let e : pos 0 <ℤ ((v -ℤ u) *ℤ d) = mul_pos (v -ℤ u) d (omega (arith, ints)) h in
+    omega (arith, ints, simp expand at e)
+
+-- a positive factor of 0
+pub zero_factor : (d z : ℤ) → pos 0 <ℤ d → d *ℤ z ≡ pos 0 → z ≡ pos 0
+zero_factor d z h e =
+    by_lt_z (pos 0) z
+    (λ p. absurd (omega (arith, ints, e, mul_pos d z h p)))
+    (λ p. by_lt_z z (pos 0) (λ q. absurd (omega (arith, ints, e, mul_neg d z h q))) (λ q. omega (arith, ints)))

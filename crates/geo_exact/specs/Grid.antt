@@ -1,4 +1,4 @@
--- The centimetre grid of a double (Technical Description, July 1998, "Numeric Types": 64-bit IEEE double).
+-- The centimetre grid of a double (Technical Description, July 1998, "Numeric Types"; IEEE 754, binary64: its fields and its value).
 use Rattle.std.specs.Prelude.{◌≡◌, ℕ, ◌+◌, ◌*◌, ◌/◌, ◌%◌, ◌^◌, ◌<◌, ℤ, pos, neg_ℤ, ◌-ℤ◌, ◌*ℤ◌, ◌==◌, Bool, nat_lt, nat_le, if◌then◌else◌, Result, Ok, Err}
 use Rattle.std.specs.Int.{abs_diff}
 use Rattle.geo_exact.specs.declared.coord.Unit.{Unit}

@@ -1,4 +1,4 @@
--- The range of a coordinate: this product's own limit (the Technical Description, July 1998, "Numeric Types", only rules out infinities).
+-- The range of a coordinate: this product's own limit (the Technical Description, July 1998, "Numeric Types", rules out infinities and not-a-number alone).
 use Rattle.std.specs.Prelude.{ℕ, ℤ, pos, neg_ℤ, ◌≤ℤ◌}
 
 -- z is at most n away from 0

@@ -1,5 +1,6 @@
 -- Rational points, the places that the theory speaks of; a corner is one (OGC 06-103r4, 6.1.4, Point).
 use Rattle.std.specs.Prelude.{ℤ, pos, ◌<ℤ◌}
+use Rattle.geo_exact.specs.declared.corner.Corner.{Corner}
 
 -- the place (x / d, y / d)
 pub record Point : Type 0 where
@@ -7,3 +8,7 @@ pub record Point : Type 0 where
   pub y : ℤ
   pub d : ℤ
   pub d_positive : pos 0 <ℤ d
+
+-- a corner's own place
+abbrev pub corner_point : Corner → Point
+corner_point corner = record { x = corner.x; y = corner.y; d = pos 1; d_positive = record { lt = tt } }

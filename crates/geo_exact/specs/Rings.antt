@@ -1,4 +1,5 @@
 -- Rings as lists of corners, and their edges (OGC 06-103r4, 6.1.7, LinearRing; Technical Description, July 1998, "Polygon").
+-- Both write the first corner once more at the end, and here it is not repeated; a list need not be simple, nor have three corners.
 use Rattle.std.specs.Prelude.{ℤ, pos, ◌+ℤ◌, List, [], ◌∷◌, ◌++◌, reverse}
 use Rattle.geo_exact.specs.declared.corner.Corner.{Corner}
 

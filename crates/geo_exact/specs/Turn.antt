@@ -26,6 +26,6 @@ abbrev pub IsOnSome : Point → List Edge → Type 0
 IsOnSome p [] = ⊥
 IsOnSome p (edge ∷ rest) = IsOnEdge p edge.from edge.to ⊎ IsOnSome p rest
 
--- p lies on the ring's boundary
+-- p lies on the ring, on one of its edges: the boundary of the polygon that it bounds
 abbrev pub IsOnRing : Point → List Corner → Type 0
 IsOnRing p ring = IsOnSome p (edges ring)

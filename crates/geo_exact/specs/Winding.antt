@@ -1,4 +1,5 @@
 -- The winding number of a ring round a point, and the ring's interior (OGC 06-103r4, 6.1.11, Polygon: interior of a simple counterclockwise ring).
+-- A shapefile has its outer rings clockwise (Technical Description, July 1998, "Polygon"); such a ring has no interior here until it is turned round.
 use Rattle.std.specs.Prelude.{ℤ, pos, negsuc, ◌*ℤ◌, ◌≤ℤ◌, int_le, int_lt, Bool, if◌then◌else◌, List}
 use Rattle.geo_exact.specs.declared.corner.Corner.{Corner}
 use Rattle.geo_exact.specs.Point.{Point}
@@ -21,11 +22,11 @@ crossing p a b =
 abbrev pub crossings : Point → List Edge → ℤ
 crossings p es = sum_over (λ edge. crossing p edge.from edge.to) es
 
--- how often the ring goes round p, counterclockwise
+-- how often the ring goes round p, counterclockwise; on an edge, what the half-open rule gives
 abbrev pub winding : Point → List Corner → ℤ
 winding p ring = crossings p (edges ring)
 
--- p is an interior point of the ring: on no edge, and the ring goes round it
+-- p is an interior point of the ring: on no edge, and the ring goes round it counterclockwise
 pub record IsInterior (p : Point) (ring : List Corner) : Type 0 where
   pub off_edges : ¬ IsOnRing p ring
   pub is_wound : pos 1 ≤ℤ winding p ring

@@ -6,9 +6,11 @@ mod area;
 mod bytes;
 mod coord;
 mod corner;
+mod laws;
 mod orientation;
 mod products;
 mod raw_ring;
+mod segment;
 #[cfg(test)]
 mod tests;
 
@@ -21,5 +23,11 @@ pub use coord::{
     one_centimetre_fits, read_coord,
 };
 pub use corner::{Corner, LIMIT};
+pub use laws::{
+    a_corner_on_an_edge_changes_nothing, a_ring_has_no_first_corner,
+    a_ring_turned_round_has_the_opposite_orientation, a_triangle_winds_once_round_its_inside,
+    the_interior_of_a_triangle_is_left_of_its_edges,
+};
 pub use orientation::turn;
 pub use raw_ring::{Corners, RawRing};
+pub use segment::on_segment;

@@ -10,7 +10,7 @@ use Rattle.shp_files.specs.declared.fault.FaultKind.TheVariants as kinds
 use Rattle.shp_files.specs.declared.fault.FileFault.{FileFault}
 use Rattle.shp_files.specs.Layout.{double_at, file_code, file_words, version, header_shape_type, content_words, shape_type, part_count, point_count, first_part, natural}
 
--- one line of the table: when it fails, and what it then answers
+-- one check: when it fails, and what it then answers
 pub record Check : Type 0 where
   pub fails : Bool
   pub answer : FileFault
@@ -18,7 +18,7 @@ pub record Check : Type 0 where
 abbrev pub check : Bool → FileFault → Check
 check fails answer = record { fails = fails; answer = answer }
 
--- the answer of the first line that fails
+-- the answer of the first check that fails
 unfoldable pub first_failure : List Check → Option FileFault
 first_failure [] = None
 first_failure (line ∷ lines) = if line.fails then Some line.answer else first_failure lines
@@ -52,7 +52,7 @@ record_end main start = start + 8 + 2 * natural (content_words main start)
 abbrev pub points_of : List ℕ → ℕ → ℕ
 points_of main start = natural (point_count main start)
 
--- the lines on the record's frame: the record at this position begins at this byte
+-- the checks of the record's frame: the record at this position begins at this byte
 unfoldable pub frame_checks : List ℕ → ℕ → ℕ → List Check
 frame_checks main position start =
     check (nat_lt 65536 position) (fault position start kinds.TooMany)
@@ -61,14 +61,14 @@ frame_checks main position start =
     ∷ check (nat_lt (declared_end main) (record_end main start)) (fault position (start + 4) kinds.Short)
     ∷ []
 
--- the lines on its shape type
+-- the checks of its shape type
 unfoldable pub shape_checks : List ℕ → ℕ → ℕ → List Check
 shape_checks main position start =
     check (is_not (shape_type main start) (pos 5)) (fault position (start + 8) kinds.ShapeType)
     ∷ check (int_lt (content_words main start) (pos 22)) (fault position (start + 4) kinds.Content)
     ∷ []
 
--- the lines on its counts, where the polygons before it have so many corners together
+-- the checks of its counts, where the polygons before it have so many corners together
 unfoldable pub polygon_checks : List ℕ → ℕ → ℕ → ℕ → List Check
 polygon_checks main position start corners_before =
     check (is_not (part_count main start) (pos 1)) (fault position (start + 44) kinds.Parts)
@@ -80,12 +80,12 @@ polygon_checks main position start corners_before =
     ∷ check (is_not (first_part main start) (pos 0)) (fault position (start + 52) kinds.Parts)
     ∷ []
 
--- the line of one coordinate
+-- the check of one coordinate (one that is read never answers)
 abbrev pub refusal : ℕ → ℕ → Result ℤ CoordFault → Check
 refusal position place (Ok k) = check false (fault position place kinds.Short)
 refusal position place (Err c) = check true (fault position place (kinds.Coord c))
 
--- the lines of a number of coordinates, from a byte on
+-- the checks of a number of coordinates, from a byte on
 unfoldable pub coordinate_checks : List ℕ → LengthUnit → ℕ → ℕ → ℕ → List Check
 coordinate_checks main unit position place zero = []
 coordinate_checks main unit position place (suc count) =
@@ -103,17 +103,17 @@ is_other_point main unit a b =
     differs (coordinate (double_at main a) unit) (coordinate (double_at main b) unit)
     || differs (coordinate (double_at main (a + 8)) unit) (coordinate (double_at main (b + 8)) unit)
 
--- the line on the ring's closing: its first point stands at one byte, its last at the other
+-- the check of the ring's closing: its first point stands at one byte, its last at the other
 unfoldable pub closing_checks : List ℕ → LengthUnit → ℕ → ℕ → ℕ → List Check
 closing_checks main unit position first last =
     check (is_other_point main unit first last) (fault position last kinds.NotClosed) ∷ []
 
--- the lines on its points: each coordinate, and then the ring's closing
+-- the checks of its points: each coordinate, and then the ring's closing
 unfoldable pub ring_checks : List ℕ → LengthUnit → ℕ → ℕ → ℕ → List Check
 ring_checks main unit position first count =
     coordinate_checks main unit position first (2 * count) ++ closing_checks main unit position first (first + 16 * (count - 1))
 
--- all lines of the record at this position that begins at this byte, where the polygons before it have so many corners together
+-- all checks of the record at this position that begins at this byte, where the polygons before it have so many corners together
 unfoldable pub record_checks : List ℕ → LengthUnit → ℕ → ℕ → ℕ → List Check
 record_checks main unit position start corners_before =
     frame_checks main position start

@@ -1,4 +1,4 @@
--- The first fault of a main file: the first line of its checks that fails (profile of the Technical Description, July 1998).
+-- The first fault of a main file: the answer of its first check that fails (profile of the Technical Description, July 1998).
 use Rattle.std.specs.Prelude.{◌≡◌, ◌≢◌, ◌⊎◌, ℕ, ◌+◌, ◌-◌, List, Some, None}
 use Rattle.geo_exact.specs.declared.coord.Unit.{Unit as LengthUnit}
 use Rattle.shp_files.specs.declared.fault.FileFault.{FileFault}
@@ -12,7 +12,7 @@ pub data Reaches (main : List ℕ) (unit : LengthUnit) : ℕ → ℕ → ℕ →
       → first_failure (record_checks main unit position start corners) ≡ None
       → Reaches main unit (position + 1) (record_end main start) (corners + (points_of main start - 1))
 
--- a record that passes no further than this fault
+-- a record that is reached, and whose first failing check answers this fault
 pub record StopsAt (main : List ℕ) (unit : LengthUnit) (fault : FileFault) : Type 0 where
   pub position : ℕ
   pub record_at : ℕ
@@ -21,6 +21,6 @@ pub record StopsAt (main : List ℕ) (unit : LengthUnit) (fault : FileFault) : T
   pub is_there : record_at ≢ declared_end main
   pub is_first : first_failure (record_checks main unit position record_at corners) ≡ Some fault
 
--- the fault is that of the first line that fails: of the header, or of the first record that has one
+-- the fault is that of the first check that fails: of the header, or of the first record that has one
 abbrev pub IsFirstFault : List ℕ → LengthUnit → FileFault → Type 0
 IsFirstFault main unit fault = (first_failure (header_checks main) ≡ Some fault) ⊎ StopsAt main unit fault

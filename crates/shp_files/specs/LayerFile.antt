@@ -1,4 +1,6 @@
 -- A layer's main file as a whole text: a header, polygon records, and bytes that are ignored (Technical Description, July 1998, "Organization of the Main File", "Polygon").
+-- The bytes behind the declared length, which are ignored, and the limits on records and corners are this product's own. Boxes, ranges, unused bytes and
+-- stored record numbers are not compared.
 use Rattle.std.specs.Prelude.{◌≡◌, ℕ, ◌+◌, ◌*◌, ◌≤◌, pos, ◌+ℤ◌, ◌*ℤ◌, List, [], ◌∷◌, ◌++◌, length, map}
 use Rattle.geo_exact.specs.declared.corner.Corner.{Corner}
 use Rattle.geo_exact.specs.declared.coord.Unit.{Unit as LengthUnit}
@@ -26,7 +28,7 @@ pub record IsHeader (header : List ℕ) (declared : ℕ) : Type 0 where
   pub has_version : version header ≡ pos 1000
   pub has_type : header_shape_type header ≡ pos 5
 
--- the points that stand from a byte on are these corners, each coordinate by the grid of its double
+-- the points that stand from a byte on are these corners, each coordinate by the grid of its double (a `Corner` is within the limit by its type)
 abbrev pub ArePoints : LengthUnit → List ℕ → ℕ → List Corner → Type 0
 ArePoints unit bytes at [] = Unit {0}
 ArePoints unit bytes at (corner ∷ rest) =

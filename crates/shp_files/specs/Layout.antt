@@ -28,7 +28,7 @@ version file = little_at file 28
 abbrev pub header_shape_type : List ℕ → ℤ
 header_shape_type file = little_at file 32
 
--- A record that begins at a byte: its header has 8 bytes, and then comes its content.
+-- A record that begins at a byte: its header has 8 bytes, and then comes its content. (The Description counts from the content, so its places are 8 less.)
 -- The content's length in 16-bit words.
 abbrev pub content_words : List ℕ → ℕ → ℤ
 content_words file start = big_at file (start + 4)
@@ -36,7 +36,8 @@ content_words file start = big_at file (start + 4)
 abbrev pub shape_type : List ℕ → ℕ → ℤ
 shape_type file start = little_at file (start + 8)
 
--- A polygon: after its type and its box the number of its parts, the number of its points, the place of each part's first point, and the points.
+-- A polygon: after its type and its box the number of its parts (NumParts), the number of its points (NumPoints), the index of each part's first point
+-- among the points (Parts), and the points.
 abbrev pub part_count : List ℕ → ℕ → ℤ
 part_count file start = little_at file (start + 44)
 
@@ -45,10 +46,6 @@ point_count file start = little_at file (start + 48)
 
 abbrev pub first_part : List ℕ → ℕ → ℤ
 first_part file start = little_at file (start + 52)
-
--- the byte of coordinate i of a polygon of one part: x and y of the first point, x and y of the second, and so on
-abbrev pub coordinate_place : ℕ → ℕ → ℕ
-coordinate_place start i = start + 56 + 8 * i
 
 -- a number that is not negative, and 0 for one that is
 unfoldable pub natural : ℤ → ℕ

@@ -36,7 +36,7 @@ pub enum FaultKind {
     Coord(CoordFault),
     /// F10: the index disagrees with the main file.
     IndexDisagrees,
-    /// F11: more records or points than a layer may have.
+    /// F11: more records, or more points in a ring or in all rings, than are read.
     TooMany,
 }
 

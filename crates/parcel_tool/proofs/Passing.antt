@@ -1,0 +1,13 @@
+-- An error that a `?` passes on as it is.
+use Rattle.std.proofs.Common.{◌≡◌, Result, Ok, Err, subst, sym}
+use Rattle.std.specs.Result.{IsErrAnd, IfErr}
+
+-- what holds of the call's error holds of the answer's
+pub passed_on : {Y E : Type 0} (answer : Result Y E) (e : E) (P : E → Type 0) → IsErrAnd answer (λ y. y ≡ e) → P e → IsErrAnd answer P
+passed_on (Ok y) e P h k = absurd h
+passed_on (Err y) e P h k = subst P (sym h) k
+
+-- the same, where the answer need not be an error
+pub passed_if : {Y E : Type 0} (answer : Result Y E) (e : E) (P : E → Type 0) → IsErrAnd answer (λ y. y ≡ e) → P e → IfErr answer P
+passed_if (Ok y) e P h k = absurd h
+passed_if (Err y) e P h k = subst P (sym h) k

@@ -1,0 +1,3 @@
+pub mod AreaReport
+pub mod Output
+pub mod Faults

@@ -1,0 +1,104 @@
+use crate::arguments::{Request, parse};
+use clap::error::ErrorKind;
+use geo_exact::Unit;
+use std::test::Fail;
+
+#[test]
+fn reads_requests(rt: HostRuntime) -> Result<(), Fail> {
+    for (line, want) in [
+        (
+            "parcel_tool area city.shp --unit cm",
+            ("city.shp", Unit::Cm),
+        ),
+        ("parcel_tool area --unit=m -- --unit", ("--unit", Unit::M)),
+    ] {
+        let words: Vec<&str> = line.split(' ').collect(rt.alloc())?;
+        match parse(rt.alloc(), words.as_slice()) {
+            Ok(Request::Area { main, unit }) => assert_eq!(rt; (main, unit), want),
+            Err(error) => return Err(Fail::new(error)),
+        }
+    }
+    Ok(())
+}
+
+#[test]
+fn refuses_command_lines(rt: HostRuntime) -> Result<(), Fail> {
+    for (line, kind, help) in [
+        (
+            "parcel_tool",
+            ErrorKind::DisplayHelpOnMissingArgumentOrSubcommand,
+            "Usage: parcel_tool <COMMAND>",
+        ),
+        (
+            "parcel_tool measure",
+            ErrorKind::InvalidSubcommand,
+            "'measure'",
+        ),
+        (
+            "parcel_tool area a.shp",
+            ErrorKind::MissingRequiredArgument,
+            "--unit <UNIT>",
+        ),
+        (
+            "parcel_tool area --unit cm",
+            ErrorKind::MissingRequiredArgument,
+            "<MAIN>",
+        ),
+        (
+            "parcel_tool area a.shp --unit mm",
+            ErrorKind::InvalidValue,
+            "[possible values: cm, m]",
+        ),
+        (
+            "parcel_tool area a.shp b.shp --unit cm",
+            ErrorKind::UnknownArgument,
+            "'b.shp'",
+        ),
+        (
+            "parcel_tool area a.shp --unit cm --fast",
+            ErrorKind::UnknownArgument,
+            "'--fast'",
+        ),
+        (
+            "parcel_tool area a.shp --unit cm --unit cm",
+            ErrorKind::ArgumentConflict,
+            "cannot be used multiple times",
+        ),
+    ] {
+        let words: Vec<&str> = line.split(' ').collect(rt.alloc())?;
+        let Err(error) = parse(rt.alloc(), words.as_slice()) else {
+            return Err(Fail::new(line));
+        };
+        assert_eq!(rt; (error.kind(), error.exit_code()), (kind, 2), "{line}");
+        assert!(rt; error.use_stderr());
+        assert!(rt;
+            format!(in rt.alloc(); "{error}")?.as_str().contains(help),
+            "{line}"
+        );
+    }
+    Ok(())
+}
+
+#[test]
+fn shows_help_and_version(rt: HostRuntime) -> Result<(), Fail> {
+    for (line, text) in [
+        ("parcel_tool --help", "Usage: parcel_tool <COMMAND>"),
+        (
+            "parcel_tool area --help",
+            "Usage: parcel_tool area --unit <UNIT> <MAIN>",
+        ),
+        ("parcel_tool --version", "parcel_tool 0.1.0"),
+    ] {
+        let words: Vec<&str> = line.split(' ').collect(rt.alloc())?;
+        let Err(error) = parse(rt.alloc(), words.as_slice()) else {
+            return Err(Fail::new(line));
+        };
+        assert_eq!(rt; error.exit_code(), 0, "{line}");
+        assert!(rt; !error.use_stderr());
+        assert!(rt;
+            format!(in rt.alloc(); "{error}")?.as_str().contains(text),
+            "{line}"
+        );
+    }
+    Ok(())
+}

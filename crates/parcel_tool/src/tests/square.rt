@@ -1,0 +1,51 @@
+use std::alloc::{AllocError, Global};
+
+/// The bits of 0 and of 100.
+pub const HUNDRED: (u64, u64) = (0, 0x4059_0000_0000_0000);
+
+/// The bits of -10,000,000,000 and of 10,000,000,000.
+pub const FARTHEST: (u64, u64) = (0xC202_A05F_2000_0000, 0x4202_A05F_2000_0000);
+
+/// A main file of 236 bytes whose one record is a square, clockwise from its least corner.
+pub fn square(alloc: Global, (low, high): (u64, u64)) -> Result<Vec<u8>, AllocError> {
+    let mut file = header(alloc, 118, [low, low, high, high])?;
+    for word in [1u32, 64] {
+        file.extend_from_slice(&word.to_be_bytes())?;
+    }
+    push_words(&mut file, &[5])?;
+    push_doubles(&mut file, &[low, low, high, high])?;
+    push_words(&mut file, &[1, 5, 0])?;
+    push_doubles(
+        &mut file,
+        &[low, low, low, high, high, high, high, low, low, low],
+    )?;
+    Ok(file)
+}
+
+/// The header of a main file of so many 16-bit words.
+pub fn header(alloc: Global, words: u32, bounds: [u64; 4]) -> Result<Vec<u8>, AllocError> {
+    let mut file = Vec::new(alloc);
+    for word in [9994u32, 0, 0, 0, 0, 0, words] {
+        file.extend_from_slice(&word.to_be_bytes())?;
+    }
+    push_words(&mut file, &[1000, 5])?;
+    push_doubles(&mut file, &bounds)?;
+    push_doubles(&mut file, &[0; 4])?;
+    Ok(file)
+}
+
+/// Words whose least significant byte comes first.
+fn push_words(file: &mut Vec<u8>, words: &[u32]) -> Result<(), AllocError> {
+    for word in words {
+        file.extend_from_slice(&word.to_le_bytes())?;
+    }
+    Ok(())
+}
+
+/// The bits of doubles, the least significant byte first.
+fn push_doubles(file: &mut Vec<u8>, doubles: &[u64]) -> Result<(), AllocError> {
+    for bits in doubles {
+        file.extend_from_slice(&bits.to_le_bytes())?;
+    }
+    Ok(())
+}

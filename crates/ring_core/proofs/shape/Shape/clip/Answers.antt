@@ -1,0 +1,45 @@
+use Rattle.std.proofs.Common.{◌≡◌, ◌∙◌, sym, ap, ◌+◌, ◌<◌, ◌≤◌, length, arith}
+use Rattle.ring_core.proofs.Corners.{three_corners}
+use Rattle.ring_core.proofs.Clipped.{make_up}
+use Rattle.ring_core.proofs.ClipSteps.{clip_start, clip_flat, clip_ear, one_less}
+use Rattle.ring_core.proofs.shape.Shape.clip.Goals as goal
+
+pub loop-rest-init : goal.loop-rest-init
+loop-rest-init g c =
+    let ring = c.args.ring.corners in
+    let rest_is : c.in_ok-rest.rest ≡ ring = c.in_ok-rest.ensures ∙ c.as_slice.ensures in
+    record {
+      clipped = clip_start ring _ _ c.new-triangles.ensures rest_is;
+      two_left = omega (arith, three_corners ring c.args.ring.is_simple.counterclockwise, ap length rest_is);
+    }
+
+pub loop-rest-smaller-in-Some : goal.loop-rest-smaller-in-Some
+loop-rest-smaller-in-Some g c =
+    omega (arith, one_less c.loop-rest.rest c.remove.new.self c.in-Some.k c.in-Some.ensures.below c.remove.ensures)
+
+pub loop-rest-preserved-in-Some : goal.loop-rest-preserved-in-Some
+loop-rest-preserved-in-Some g c =
+    let more : 2 < length c.loop-rest.rest = omega (arith, ap length c.as_slice-in-loop-rest.ensures) in
+    record {
+      clipped = clip_flat c.args.ring.corners c.loop-rest.rest _ _ c.in-Some.k c.loop-rest.invariant.clipped more c.in-Some.ensures c.remove.ensures;
+      two_left = omega (arith, one_less c.loop-rest.rest c.remove.new.self c.in-Some.k c.in-Some.ensures.below c.remove.ensures);
+    }
+
+pub loop-rest-smaller : goal.loop-rest-smaller
+loop-rest-smaller g c =
+    omega (arith, one_less c.loop-rest.rest c.remove-in-Some-first_ear.new.self c.in-Some-first_ear.k c.in-Some-first_ear.ensures.below c.remove-in-Some-first_ear.ensures)
+
+pub loop-rest-preserved : goal.loop-rest-preserved
+loop-rest-preserved g c =
+    let more : 2 < length c.loop-rest.rest = omega (arith, ap length c.as_slice-in-loop-rest.ensures) in
+    record {
+      clipped = clip_ear c.args.ring.corners c.loop-rest.rest _ _ _ c.in-Some-first_ear.k c.triangle_at.result c.loop-rest.invariant.clipped more
+          (c.in_default.ensures) (c.in-Some-first_ear.ensures) (rw c.as_slice-in-Some-first_ear.ensures at c.triangle_at.ensures) c.in_ok-push.ensures.ok c.remove-in-Some-first_ear.ensures;
+      two_left = omega (arith, one_less c.loop-rest.rest c.remove-in-Some-first_ear.new.self c.in-Some-first_ear.k c.in-Some-first_ear.ensures.below c.remove-in-Some-first_ear.ensures);
+    }
+
+pub invariant_of-result : goal.invariant_of-result
+invariant_of-result g c =
+    record {
+      made_up = make_up c.args.ring.corners c.loop-rest.triangles (c.loop-rest.rest, c.loop-rest.invariant.clipped, omega (arith, c.loop-rest.invariant.two_left, ap length c.as_slice-in-loop-rest.ensures));
+    }

@@ -1,0 +1,6 @@
+pub mod Places
+pub mod Simple
+pub mod Faults
+pub mod Clipping
+pub mod Sums
+pub mod Stuck

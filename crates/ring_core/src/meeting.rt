@@ -1,0 +1,100 @@
+ghost use Rattle.std.specs.Prelude.{◌↔◌, ◌⊎◌, ◌≤ℤ◌, ◌<ℤ◌, pos, IsTrue};
+ghost use Rattle.std.specs.Int.{int_max, int_min};
+ghost use Rattle.geo_exact.specs.Point.{corner_point};
+ghost use Rattle.geo_exact.specs.Turn.{IsOnEdge, turn as turn_of};
+ghost use Rattle.ring_core.specs.Simple.{DoublesBack, HaveCommonPoint, IsPlaceOf};
+
+use geo_exact::{Corner, on_segment, turn};
+
+/// Whether the range from `low` to `high` has a number between `s` and `t`, all ends included.
+fn reaches(low: i64, high: i64, s: i64, t: i64) -> bool
+    ensures { IsTrue result ↔ ((low ≤ℤ int_max s t) × (int_min s t ≤ℤ high)) }
+{
+    if s <= t {
+        low <= t && s <= high
+    } else {
+        low <= s && t <= high
+    }
+}
+
+/// Whether a number lies both between `u` and `v` and between `s` and `t`, all ends included.
+fn ranges_overlap(u: i64, v: i64, s: i64, t: i64) -> bool
+    ensures { IsTrue result ↔ ((int_min u v ≤ℤ int_max s t) × (int_min s t ≤ℤ int_max u v)) }
+{
+    if u <= v {
+        reaches(u, v, s, t)
+    } else {
+        reaches(v, u, s, t)
+    }
+}
+
+/// Whether the boxes of the edges `a`, `b` and `c`, `d` have a common point.
+fn boxes_overlap(a: Corner, b: Corner, c: Corner, d: Corner) -> bool
+    ensures { IsTrue result
+        ↔ (((int_min a.x b.x ≤ℤ int_max c.x d.x) × (int_min c.x d.x ≤ℤ int_max a.x b.x))
+        × ((int_min a.y b.y ≤ℤ int_max c.y d.y) × (int_min c.y d.y ≤ℤ int_max a.y b.y))) }
+{
+    if !ranges_overlap(a.x, b.x, c.x, d.x) {
+        return false;
+    }
+    ranges_overlap(a.y, b.y, c.y, d.y)
+}
+
+/// Whether both numbers are above 0, or both below it.
+fn have_one_sign(first: i128, second: i128) -> bool
+    ensures { IsTrue result
+        ↔ (((pos 0 <ℤ first) × (pos 0 <ℤ second)) ⊎ ((first <ℤ pos 0) × (second <ℤ pos 0))) }
+{
+    if first > 0 {
+        second > 0
+    } else {
+        first < 0 && second < 0
+    }
+}
+
+/// Whether `c` and `d` are both left of the way from `a` to `b`, or both right of it.
+fn are_on_one_side(a: Corner, b: Corner, c: Corner, d: Corner) -> bool
+    ensures { IsTrue result
+        ↔ (((pos 0 <ℤ turn_of a b c) × (pos 0 <ℤ turn_of a b d)) ⊎ ((turn_of a b c <ℤ pos 0) × (turn_of a b d <ℤ pos 0))) }
+{
+    have_one_sign(turn(a, b, c), turn(a, b, d))
+}
+
+/// Whether some point lies on the edge from `a` to `b` and on the edge from `c` to `d`.
+pub fn have_common_point(a: Corner, b: Corner, c: Corner, d: Corner) -> bool
+    ensures { IsTrue result ↔ HaveCommonPoint a b c d }
+{
+    if !boxes_overlap(a, b, c, d) {
+        return false;
+    }
+    if are_on_one_side(a, b, c, d) {
+        return false;
+    }
+    !are_on_one_side(c, d, a, b)
+}
+
+fn are_same(a: Corner, b: Corner) -> bool
+    ensures { IsTrue result ↔ IsPlaceOf (corner_point a) b }
+{
+    a.x == b.x && a.y == b.y
+}
+
+/// Whether `p` lies on the edge from `a` to `b`, and not at `b`.
+fn is_short_of_end(a: Corner, b: Corner, p: Corner) -> bool
+    ensures { IsTrue result ↔ (IsOnEdge (corner_point p) a b × (¬ IsPlaceOf (corner_point p) b)) }
+{
+    if are_same(p, b) {
+        return false;
+    }
+    on_segment(a, b, p)
+}
+
+/// Whether the edges from `a` to `b` and from `b` to `c` have a common point other than `b`.
+pub fn doubles_back(a: Corner, b: Corner, c: Corner) -> bool
+    ensures { IsTrue result ↔ DoublesBack a b c }
+{
+    if is_short_of_end(a, b, c) {
+        return true;
+    }
+    is_short_of_end(c, b, a)
+}

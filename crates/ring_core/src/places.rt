@@ -1,0 +1,18 @@
+ghost use Rattle.std.specs.Prelude.{◌≡◌, ◌<◌};
+ghost use Rattle.ring_core.specs.Places.{after, before};
+
+/// The number that follows `i` round a ring of `count` corners.
+pub fn following(count: usize, i: usize) -> usize
+    requires { i < count }
+    ensures { result ≡ after count i }
+{
+    if i + 1 == count { 0 } else { i + 1 }
+}
+
+/// The number that `i` follows round a ring of `count` corners.
+pub fn preceding(count: usize, i: usize) -> usize
+    requires { i < count }
+    ensures { result ≡ before count i }
+{
+    if i == 0 { count - 1 } else { i - 1 }
+}

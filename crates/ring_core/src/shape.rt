@@ -1,0 +1,70 @@
+ghost use Rattle.std.specs.Prelude.{◌≡◌, IfOk, IfErr};
+ghost use Rattle.ring_core.specs.Clipping.{IsClippedTo};
+ghost use Rattle.std.specs.List.{All};
+ghost use Rattle.geo_exact.specs.Point.{Point};
+ghost use Rattle.geo_exact.specs.Winding.{winding};
+ghost use Rattle.geo_exact.specs.Area.{area2};
+ghost use Rattle.ring_core.specs.Sums.{IsRoundAtMostOnce, MakeUp, area2_sum, winding_sum};
+ghost use Rattle.ring_core.specs.Stuck.{IsClipFault};
+
+use crate::ear::triangle_at;
+use crate::rest::Rest;
+use crate::ring::Ring;
+use crate::triangle::Triangles;
+use std::alloc::{AllocError, Allocator};
+
+/// A simple ring with triangles that make it up: at every point the ring's winding number is the sum
+/// of theirs, each of which is 0 or 1.
+#[derive(Debug, Drop)]
+pub struct Shape<A: Allocator> {
+    pub ring: Ring<A>,
+    pub triangles: Triangles<A>,
+    pub ghost made_up: { MakeUp triangles ring.corners },
+}
+
+/// Why a ring was not clipped.
+#[derive(Debug, Drop)]
+pub enum ClipFault<A: Allocator> {
+    /// G4: after these triangles a rest of more than two corners has neither a flat corner nor an ear.
+    NoEar(Triangles<A>, Rest<A>),
+    /// An allocation was refused.
+    NoMemory,
+}
+
+impl<A: Allocator> From<AllocError> for ClipFault<A> {
+    ghost use Rattle.std.specs.Prelude.{◌≡◌};
+    ghost use Rattle.ring_core.specs.declared.shape.ClipFault.TheVariants.{NoMemory};
+
+    ghost from_gives = { λ _ fault. fault ≡ NoMemory };
+
+    fn from(_: AllocError) -> Self {
+        ClipFault::NoMemory
+    }
+}
+
+impl<A: Allocator + Copy> Shape<A> {
+    /// Clips a ring to triangles: while more than two corners are left, the first flat corner is taken
+    /// out or, where there is none, the first ear, which becomes a triangle.
+    pub fn clip(alloc: A, ring: Ring<A>) -> Result<Shape<A>, ClipFault<A>>
+        ensures ring { IfOk result (λ shape. shape.ring.corners ≡ ring.corners) }
+        ensures clipped { IfOk result (λ shape. IsClippedTo ring.corners shape.triangles) }
+        ensures windings { IfOk result (λ shape. (p : Point) → winding p ring.corners ≡ winding_sum p shape.triangles) }
+        ensures each_once { IfOk result (λ shape. (p : Point) → All (IsRoundAtMostOnce p) shape.triangles) }
+        ensures areas { IfOk result (λ shape. area2 ring.corners ≡ area2_sum shape.triangles) }
+        ensures stuck { IfErr result (λ fault. IsClipFault ring.corners fault) }
+    {
+        let mut rest = Rest::of(alloc, ring.corners.as_slice())?;
+        let mut triangles = Triangles::new(alloc);
+        while rest.as_slice().len() > 2 {
+            if let Some(k) = rest.first_flat() {
+                rest.remove(k);
+            } else if let Some(k) = rest.first_ear() {
+                triangles.push(triangle_at(rest.as_slice(), k))?;
+                rest.remove(k);
+            } else {
+                return Err(ClipFault::NoEar(triangles, rest));
+            }
+        }
+        Ok(Shape { ring, triangles })
+    }
+}

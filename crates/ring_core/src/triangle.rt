@@ -1,0 +1,71 @@
+ghost use Rattle.std.specs.Prelude.{◌≡◌, ◌↔◌, pos, ◌<ℤ◌, IsSome, IfSome, OnOk, OnErr, ◌++◌, ◌∷◌, []};
+ghost use Rattle.geo_exact.specs.Turn.{turn as turn_of};
+
+use geo_exact::{Corner, turn};
+use std::alloc::{AllocError, Allocator};
+use std::marker::Model;
+
+/// A triangle of positive area: `c` is left of the way from `a` to `b`.
+#[derive(Clone, Copy, Debug, PartialEq, Eq)]
+pub struct Tri {
+    pub a: Corner,
+    pub b: Corner,
+    pub c: Corner,
+    pub ghost turns_left: { pos 0 <ℤ turn_of a b c },
+}
+
+impl Tri {
+    /// The triangle of three corners, or `None` where they don't turn left.
+    pub fn new(a: Corner, b: Corner, c: Corner) -> Option<Tri>
+        ensures valid { IsSome result ↔ (pos 0 <ℤ turn_of a b c) }
+        ensures made { IfSome result (λ tri. (tri.a ≡ a) × (tri.b ≡ b) × (tri.c ≡ c)) }
+    {
+        if turn(a, b, c) > 0 {
+            Some(Tri { a, b, c })
+        } else {
+            None
+        }
+    }
+}
+
+/// A list of triangles, which contracts see as that list.
+#[derive(Debug, Drop)]
+pub struct Triangles<A: Allocator> {
+    list: Vec<Tri, A>,
+}
+
+impl<A: Allocator> Model for Triangles<A> {
+    ghost use Rattle.ring_core.specs.declared.triangle.Tri.{Tri};
+    ghost use Rattle.std.specs.Prelude.{List};
+
+    ghost Value = { List Tri };
+
+    ghost view = { λ triangles. triangles.list.items };
+}
+
+impl<A: Allocator> Triangles<A> {
+    /// No triangle yet; nothing is allocated.
+    pub fn new(alloc: A) -> Triangles<A>
+        ensures { result ≡ [] }
+    {
+        Triangles {
+            list: Vec::new(alloc),
+        }
+    }
+
+    /// Adds a triangle at the end; after a refusal the list is unchanged.
+    pub fn push(&mut self, tri: Tri) -> Result<(), AllocError>
+        ensures ok { OnOk result (self.new ≡ self.old ++ tri ∷ []) }
+        ensures err { OnErr result (self.new ≡ self.old) }
+    {
+        self.list.push(tri)?;
+        Ok(())
+    }
+
+    /// The triangles in order.
+    pub fn as_slice(&self) -> &[Tri]
+        ensures { result.now ≡ self.now }
+    {
+        self.list.as_slice()
+    }
+}

@@ -1,0 +1,136 @@
+-- What is inside a triangle is inside each box that holds it; triangles in boxes that are apart have no common inner point.
+use Rattle.std.proofs.Common.{◌≡◌, arith, inl, inr, List, [], ◌∷◌}
+use Rattle.std.proofs.lemmas.Int.{ints, by_lt_z}
+use Rattle.std.proofs.lemmas.List.Elements.{All-tail}
+use lib.IntN.{ℤ, pos, ◌+ℤ◌, ◌-ℤ◌, ◌*ℤ◌, neg_ℤ}
+use lib.Signed.{◌<ℤ◌, ◌≤ℤ◌}
+use Rattle.geo_exact.specs.declared.corner.Corner.{Corner}
+use Rattle.geo_exact.specs.Point.{Point}
+use Rattle.geo_exact.specs.Turn.{turn, turn_at}
+use Rattle.geo_exact.specs.Winding.{IsInterior}
+use Rattle.geo_exact.specs.Interiors.{InteriorsMeet}
+use Rattle.geo_exact.proofs.Differences.{expand}
+use Rattle.geo_exact.proofs.Signs.{mul_neg, mul_not_pos, mul_lt, mul_le}
+use Rattle.geo_exact.proofs.Triangles.{triangle_interior}
+use Rattle.geo_exact.proofs.TurnLaws.{weighed_x, weighed_y}
+use Rattle.ring_core.specs.declared.triangle.Tri.{Tri}
+use Rattle.ring_core.specs.Sums.{corners_of}
+use Rattle.tri_overlap.specs.declared.bounds.Bounds.{Bounds}
+use Rattle.tri_overlap.specs.Bounding.{HoldsCorner, Holds, HoldsAll, AreApart}
+use Rattle.tri_overlap.specs.Separation.{MeetsSome}
+
+-- a weighed sum without a positive term, one of which is negative, is negative
+some_negative : (u v w a b c : ℤ) → pos 0 <ℤ u → pos 0 <ℤ v → pos 0 <ℤ w → a <ℤ pos 0 → b ≤ℤ pos 0 → c ≤ℤ pos 0
+    → (u *ℤ a +ℤ v *ℤ b +ℤ w *ℤ c) <ℤ pos 0
+some_negative u v w a b c hu hv hw ha hb hc =
+    omega (arith, ints, mul_neg u a hu ha, mul_not_pos v b (omega (arith, ints)) hb, mul_not_pos w c (omega (arith, ints)) hc)
+
+-- numbers that are at most 0 and weigh to 0 are all 0
+all_zero : (u v w a b c : ℤ) → pos 0 <ℤ u → pos 0 <ℤ v → pos 0 <ℤ w → a ≤ℤ pos 0 → b ≤ℤ pos 0 → c ≤ℤ pos 0
+    → u *ℤ a +ℤ v *ℤ b +ℤ w *ℤ c ≡ pos 0 → (a ≡ pos 0) × (b ≡ pos 0) × (c ≡ pos 0)
+all_zero u v w a b c hu hv hw ha hb hc e =
+    by_lt_z a (pos 0) (λ p. absurd (omega (arith, ints, e, some_negative u v w a b c hu hv hw p hb hc)))
+    (λ p. by_lt_z b (pos 0) (λ q. absurd (omega (arith, ints, e, some_negative v u w b a c hv hu hw q ha hc)))
+    (λ q. by_lt_z c (pos 0) (λ r. absurd (omega (arith, ints, e, some_negative w u v c a b hw hu hv r ha hb)))
+    (λ r. (omega (arith, ints), omega (arith, ints), omega (arith, ints)))))
+
+-- a mean of three numbers at most m, not all of them equal to it, is below m
+mean_below : (u v w a b c x d m : ℤ) → pos 0 <ℤ u → pos 0 <ℤ v → pos 0 <ℤ w → pos 0 <ℤ d
+    → u *ℤ (a *ℤ d -ℤ x) +ℤ v *ℤ (b *ℤ d -ℤ x) +ℤ w *ℤ (c *ℤ d -ℤ x) ≡ pos 0
+    → a ≤ℤ m → b ≤ℤ m → c ≤ℤ m → ¬ ((a ≡ m) × (b ≡ m) × (c ≡ m)) → x <ℤ (m *ℤ d)
+mean_below u v w a b c x d m hu hv hw hd e ha hb hc differ =
+    by_lt_z x (m *ℤ d) (λ p. p)
+    (λ p. let not_above : (z : ℤ) → z ≤ℤ m → (z *ℤ d -ℤ x) ≤ℤ pos 0 = λ z h. omega (arith, ints, mul_le z m d (omega (arith, ints)) h, p) in
+    let z = all_zero u v w (a *ℤ d -ℤ x) (b *ℤ d -ℤ x) (c *ℤ d -ℤ x) hu hv hw (not_above a ha) (not_above b hb) (not_above c hc) e in
+    let at_top : (z : ℤ) → z ≤ℤ m → z *ℤ d -ℤ x ≡ pos 0 → z ≡ m =
+    λ z h k. by_lt_z z m (λ q. absurd (omega (arith, ints, mul_lt z m d hd q, p, k))) (λ q. omega (arith, ints)) in
+    absurd (differ (at_top a ha z.0, at_top b hb z.1, at_top c hc z.2)))
+
+-- a mean of three numbers at least m, not all of them equal to it, is above m
+mean_above : (u v w a b c x d m : ℤ) → pos 0 <ℤ u → pos 0 <ℤ v → pos 0 <ℤ w → pos 0 <ℤ d
+    → u *ℤ (a *ℤ d -ℤ x) +ℤ v *ℤ (b *ℤ d -ℤ x) +ℤ w *ℤ (c *ℤ d -ℤ x) ≡ pos 0
+    → m ≤ℤ a → m ≤ℤ b → m ≤ℤ c → ¬ ((a ≡ m) × (b ≡ m) × (c ≡ m)) → (m *ℤ d) <ℤ x
+mean_above u v w a b c x d m hu hv hw hd e ha hb hc differ =
+    let below = mean_below u v w (neg_ℤ a) (neg_ℤ b) (neg_ℤ c) (neg_ℤ x) d (neg_ℤ m) hu hv hw hd (negated u v w a b c x d e)
+    (omega (arith, ints)) (omega (arith, ints)) (omega (arith, ints))
+    (λ h. differ (omega (arith, ints, h.0), omega (arith, ints, h.1), omega (arith, ints, h.2))) in
+    omega (arith, ints, simp expand at below)
+  where
+    negated : (u v w a b c x d : ℤ) → u *ℤ (a *ℤ d -ℤ x) +ℤ v *ℤ (b *ℤ d -ℤ x) +ℤ w *ℤ (c *ℤ d -ℤ x) ≡ pos 0
+        → u *ℤ (neg_ℤ a *ℤ d -ℤ neg_ℤ x) +ℤ v *ℤ (neg_ℤ b *ℤ d -ℤ neg_ℤ x) +ℤ w *ℤ (neg_ℤ c *ℤ d -ℤ neg_ℤ x) ≡ pos 0
+    negated u v w a b c x d e = simp expand (omega (arith, ints, simp expand at e))
+
+-- corners on a line along an axis don't turn
+flat_in_x : (a b c : Corner) (m : ℤ) → pos 0 <ℤ turn a b c → ¬ ((a.x ≡ m) × (b.x ≡ m) × (c.x ≡ m))
+flat_in_x a b c m h e = let t : turn a b c ≡ pos 0 = rw (e.0, e.1, e.2) (level m a.y b.y c.y) in omega (arith, ints, h, t)
+  where
+    level : (m u v w : ℤ) → (m -ℤ m) *ℤ (w -ℤ u) -ℤ (v -ℤ u) *ℤ (m -ℤ m) ≡ pos 0
+    level m u v w = simp expand (omega (arith, ints))
+
+flat_in_y : (a b c : Corner) (m : ℤ) → pos 0 <ℤ turn a b c → ¬ ((a.y ≡ m) × (b.y ≡ m) × (c.y ≡ m))
+flat_in_y a b c m h e = let t : turn a b c ≡ pos 0 = rw (e.0, e.1, e.2) (level m a.x b.x c.x) in omega (arith, ints, h, t)
+  where
+    level : (m u v w : ℤ) → (v -ℤ u) *ℤ (m -ℤ m) -ℤ (m -ℤ m) *ℤ (w -ℤ u) ≡ pos 0
+    level m u v w = simp expand (omega (arith, ints))
+
+-- p is inside the box, on none of its sides
+record IsInside (p : Point) (box : Bounds) : Type 0 where
+  west : (box.low.x *ℤ p.d) <ℤ p.x
+  east : p.x <ℤ (box.high.x *ℤ p.d)
+  south : (box.low.y *ℤ p.d) <ℤ p.y
+  north : p.y <ℤ (box.high.y *ℤ p.d)
+
+-- what is inside a triangle is inside each box that holds it
+inside_box : (t : Tri) (p : Point) (box : Bounds) → Holds box t → IsInterior p (corners_of t) → IsInside p box
+inside_box t p box h i =
+    let left = (triangle_interior t.a t.b t.c p t.turns_left).0 i in
+    let u = turn_at t.b t.c p in
+    let v = turn_at t.c t.a p in
+    let w = turn_at t.a t.b p in
+    let x = weighed_x t.a t.b t.c p in
+    let y = weighed_y t.a t.b t.c p in record {
+      west = mean_above u v w t.a.x t.b.x t.c.x p.x p.d box.low.x left.1 left.2 left.0 p.d_positive x h.a.west h.b.west h.c.west (flat_in_x t.a t.b t.c box.low.x t.turns_left);
+      east = mean_below u v w t.a.x t.b.x t.c.x p.x p.d box.high.x left.1 left.2 left.0 p.d_positive x h.a.east h.b.east h.c.east (flat_in_x t.a t.b t.c box.high.x t.turns_left);
+      south = mean_above u v w t.a.y t.b.y t.c.y p.y p.d box.low.y left.1 left.2 left.0 p.d_positive y h.a.south h.b.south h.c.south (flat_in_y t.a t.b t.c box.low.y t.turns_left);
+      north = mean_below u v w t.a.y t.b.y t.c.y p.y p.d box.high.y left.1 left.2 left.0 p.d_positive y h.a.north h.b.north h.c.north (flat_in_y t.a t.b t.c box.high.y t.turns_left);
+    }
+
+-- no place lies inside two boxes that are apart
+not_in_both : (p : Point) (s t : Bounds) → AreApart s t → IsInside p s → IsInside p t → ⊥
+not_in_both p s t (inl (inl h)) i j = omega (arith, ints, mul_le s.high.x t.low.x p.d (omega (arith, ints, p.d_positive)) h, i.east, j.west)
+not_in_both p s t (inl (inr h)) i j = omega (arith, ints, mul_le t.high.x s.low.x p.d (omega (arith, ints, p.d_positive)) h, i.west, j.east)
+not_in_both p s t (inr (inl h)) i j = omega (arith, ints, mul_le s.high.y t.low.y p.d (omega (arith, ints, p.d_positive)) h, i.north, j.south)
+not_in_both p s t (inr (inr h)) i j = omega (arith, ints, mul_le t.high.y s.low.y p.d (omega (arith, ints, p.d_positive)) h, i.south, j.north)
+
+-- triangles in boxes that are apart have no common inner point
+pub apart_triangles : (s t : Tri) (box other : Bounds) → Holds box s → Holds other t → AreApart box other → ¬ InteriorsMeet (corners_of s) (corners_of t)
+apart_triangles s t box other h k a m = not_in_both m.0 box other a (inside_box s m.0 box h m.1) (inside_box t m.0 other k m.2)
+
+-- nor has a triangle with any of a list, where the other box holds all of them
+pub apart_from_all : (s : Tri) (ts : List Tri) (box other : Bounds) → Holds box s → HoldsAll other ts → AreApart box other → ¬ MeetsSome s ts
+apart_from_all s [] box other h k a m = m
+apart_from_all s (t ∷ ts) box other h k a (inl m) = apart_triangles s t box other h (k 0 t (omega arith)) a m
+apart_from_all s (t ∷ ts) box other h k a (inr m) = apart_from_all s ts box other h (All-tail (Holds other) t ts k) a m
+
+-- the second box reaches as far as the first on each side
+pub record IsWider (box wider : Bounds) : Type 0 where
+  pub west : wider.low.x ≤ℤ box.low.x
+  pub east : box.high.x ≤ℤ wider.high.x
+  pub south : wider.low.y ≤ℤ box.low.y
+  pub north : box.high.y ≤ℤ wider.high.y
+
+holds_corner : (box wider : Bounds) → IsWider box wider → (corner : Corner) → HoldsCorner box corner → HoldsCorner wider corner
+holds_corner box wider w corner h = record {
+  west = omega (arith, ints, w.west, h.west);
+  east = omega (arith, ints, w.east, h.east);
+  south = omega (arith, ints, w.south, h.south);
+  north = omega (arith, ints, w.north, h.north);
+}
+
+-- it holds what the first does
+pub wider_holds : (box wider : Bounds) → IsWider box wider → (t : Tri) → Holds box t → Holds wider t
+wider_holds box wider w t h = record {
+  a = holds_corner box wider w t.a h.a;
+  b = holds_corner box wider w t.b h.b;
+  c = holds_corner box wider w t.c h.c;
+}

@@ -1,0 +1,8 @@
+pub mod Convex
+pub mod Helly
+pub mod Separating
+pub mod Dropped
+pub mod Extremes
+pub mod Boxes
+pub mod Numbered
+pub mod RingPairs

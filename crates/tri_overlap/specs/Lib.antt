@@ -1,0 +1,3 @@
+pub mod Separation
+pub mod Bounding
+pub mod Folding

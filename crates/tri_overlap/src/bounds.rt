@@ -1,0 +1,89 @@
+ghost use Rattle.std.specs.Prelude.{◌≡◌, ◌↔◌, ◌≤ℤ◌, IsTrue};
+ghost use Rattle.std.specs.Int.{int_max, int_min};
+ghost use Rattle.ring_core.specs.declared.triangle.Tri.{Tri};
+ghost use Rattle.tri_overlap.specs.Bounding.{AreApart, EndsBefore, Holds, HoldsAll};
+
+use geo_exact::{Corner, LIMIT};
+use ring_core::Tri;
+
+/// A box with sides along the axes, from its least coordinates to its greatest, in centimetres.
+#[derive(Clone, Copy)]
+pub struct Bounds {
+    low: Corner,
+    high: Corner,
+}
+
+/// The corner with the lesser of each coordinate.
+fn lower(a: Corner, b: Corner) -> Corner
+    ensures x { result.x ≡ int_min a.x b.x }
+    ensures y { result.y ≡ int_min a.y b.y }
+{
+    Corner {
+        x: a.x.min(b.x),
+        y: a.y.min(b.y),
+    }
+}
+
+/// The corner with the greater of each coordinate.
+fn upper(a: Corner, b: Corner) -> Corner
+    ensures x { result.x ≡ int_max a.x b.x }
+    ensures y { result.y ≡ int_max a.y b.y }
+{
+    Corner {
+        x: a.x.max(b.x),
+        y: a.y.max(b.y),
+    }
+}
+
+/// The least box that holds a triangle.
+pub fn bounds_of(triangle: &Tri) -> Bounds
+    ensures { Holds result triangle.now }
+{
+    Bounds {
+        low: lower(lower(triangle.a, triangle.b), triangle.c),
+        high: upper(upper(triangle.a, triangle.b), triangle.c),
+    }
+}
+
+/// The least box that holds what either box holds.
+fn around(first: Bounds, second: Bounds) -> Bounds
+    ensures first { (t : Tri) → Holds first t → Holds result t }
+    ensures second { (t : Tri) → Holds second t → Holds result t }
+{
+    Bounds {
+        low: lower(first.low, second.low),
+        high: upper(first.high, second.high),
+    }
+}
+
+/// The least box that holds all of the triangles; for none, a box that is apart from each other.
+pub fn bounds_of_all(triangles: &[Tri]) -> Bounds
+    ensures { HoldsAll result triangles.now }
+{
+    let mut bounds = Bounds {
+        low: Corner { x: LIMIT, y: LIMIT },
+        high: Corner {
+            x: -LIMIT,
+            y: -LIMIT,
+        },
+    };
+    for triangle in triangles {
+        bounds = around(bounds, bounds_of(triangle));
+    }
+    bounds
+}
+
+/// Whether of the ranges from `u` to `v` and from `s` to `t` one ends at the other's beginning or before it.
+fn ends_before(u: i64, v: i64, s: i64, t: i64) -> bool
+    ensures { IsTrue result ↔ EndsBefore u v s t }
+{
+    v <= s || t <= u
+}
+
+/// Whether the boxes have no common inner place; boxes that only touch have none.
+pub fn are_apart(first: Bounds, second: Bounds) -> bool
+    ensures { IsTrue result ↔ AreApart first second }
+{
+    ends_before(first.low.x, first.high.x, second.low.x, second.high.x)
+        || ends_before(first.low.y, first.high.y, second.low.y, second.high.y)
+}

@@ -1,0 +1,12 @@
+//! Whether two interiors meet, exactly: the first entry of the nine-intersection matrix
+//! (OGC 06-103r4, 6.1.15.2), said of all rational points.
+#![tactic(auto)]
+
+mod bounds;
+mod folds;
+mod shapes;
+mod triangles;
+
+pub use folds::folded;
+pub use shapes::shapes_overlap;
+pub use triangles::triangles_overlap;
