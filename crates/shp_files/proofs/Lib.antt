@@ -5,6 +5,7 @@ pub mod Finding
 pub mod Ring
 pub mod Passing
 pub mod Places
+pub mod Distinct
 pub mod Polygons
 pub mod Walk
 pub mod Sound
@@ -12,3 +13,5 @@ pub mod Complete
 pub mod Laws
 pub mod Answering
 pub mod Rows
+pub mod Turned
+pub mod Keeping

@@ -57,16 +57,15 @@ fn read_records<A: Allocator + Copy>(
     };
     let mut corners = 0;
     while head.start != end {
-        let polygon = read_record(alloc, main, unit, end, head, corners)?;
-        corners += polygon.corners.as_slice().len();
+        let found = read_record(alloc, main, unit, end, head, corners)?;
+        corners += found.drawn;
         let next = RecordHead {
             position: head.position + 1,
-            start: polygon.end,
+            start: found.end,
         };
-        rings.push(RawRing {
-            number: head.position,
-            corners: polygon.corners,
-        })?;
+        if let Some(ring) = found.ring {
+            rings.push(ring)?;
+        }
         head = next;
     }
     Ok(rings)
