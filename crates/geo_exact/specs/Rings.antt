@@ -1,6 +1,7 @@
 -- Rings as lists of corners, and their edges (OGC 06-103r4, 6.1.7, LinearRing; Technical Description, July 1998, "Polygon").
 -- Both write the first corner once more at the end, and here it is not repeated; a list need not be simple, nor have three corners.
-use Rattle.std.specs.Prelude.{ℤ, pos, ◌+ℤ◌, List, [], ◌∷◌, ◌++◌, reverse}
+use Rattle.std.specs.Prelude.{◌≢◌, ℤ, pos, ◌+ℤ◌, List, [], ◌∷◌, ◌++◌, reverse}
+use Rattle.std.specs.List.{AllByRecursion}
 use Rattle.geo_exact.specs.declared.corner.Corner.{Corner}
 
 -- the directed edge from one corner to another
@@ -32,3 +33,7 @@ rotated (first ∷ rest) = rest ++ first ∷ []
 abbrev pub turned_round : List Corner → List Corner
 turned_round [] = []
 turned_round (first ∷ rest) = first ∷ reverse rest
+
+-- no two neighbours of the ring are equal
+abbrev pub AreApart : List Corner → Type 0
+AreApart ring = AllByRecursion (λ edge. edge.from ≢ edge.to) (edges ring)

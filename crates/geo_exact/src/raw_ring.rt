@@ -1,4 +1,7 @@
-ghost use Rattle.std.specs.Prelude.{◌≡◌, OnOk, OnErr, IfOk, length, ◌++◌, ◌∷◌, []};
+ghost use Rattle.std.specs.Prelude.{◌≡◌, ◌≤◌, ◌≤ℤ◌, pos, OnOk, OnErr, IfOk, length, ◌++◌, ◌∷◌, []};
+ghost use Rattle.geo_exact.specs.Rings.{AreApart, turned_round};
+ghost use Rattle.geo_exact.specs.Area.{area2};
+ghost use Rattle.std.proofs.Props.{props};
 
 use crate::corner::Corner;
 use std::alloc::{AllocError, Allocator};
@@ -46,6 +49,15 @@ impl<A: Allocator> Corners<A> {
         Ok(())
     }
 
+    /// Turns the ring round, with its first corner kept first.
+    pub fn turn_round(&mut self)
+        ensures { self.new ≡ turned_round self.old }
+    {
+        if let [_, rest @ ..] = self.list.as_mut_slice() {
+            rest.reverse();
+        }
+    }
+
     /// The corners in order.
     pub fn as_slice(&self) -> &[Corner]
         ensures { result.now ≡ self.now }
@@ -54,9 +66,16 @@ impl<A: Allocator> Corners<A> {
     }
 }
 
-/// A ring of a layer file: its record's number, from 1, and its corners without the closing repeat.
+/// A ring of a layer file in its normal form: 3 to 4,096 corners without the closing repeat, no two
+/// neighbours equal, and no clockwise ring. Its edges may still meet.
 #[derive(Debug, Drop)]
 pub struct RawRing<A: Allocator> {
+    /// Its record's number, from 1.
     pub number: u32,
+    /// Its corners, in order.
     pub corners: Corners<A>,
+    pub ghost enough: { 3 ≤ length corners },
+    pub ghost few: { length corners ≤ 4096 },
+    pub ghost apart: { AreApart corners } by { Prim.hlevel props },
+    pub ghost not_clockwise: { pos 0 ≤ℤ area2 corners },
 }

@@ -1,4 +1,4 @@
-ghost use Rattle.std.specs.Prelude.{◌≡◌, ◌++◌, ◌≤◌, OnOk, IfOk, All, length};
+ghost use Rattle.std.specs.Prelude.{◌≡◌, ◌++◌, OnOk, IfOk};
 ghost use Rattle.parcel_tool.specs.AreaReport.{area_line, area_report};
 ghost use Rattle.shp_files.specs.LayerFile.{numbered, rings_of};
 
@@ -8,7 +8,6 @@ use std::alloc::{AllocError, Allocator};
 
 /// The report of an area run: a line for each ring, in order.
 pub fn area_text<A: Allocator>(alloc: A, rings: &[RawRing<A>]) -> Result<Vec<u8, A>, AllocError>
-    requires { All (λ ring. length ring.corners ≤ 10000000) rings.now }
     ensures { IfOk result (λ text. text.items ≡ area_report (rings_of rings.now)) }
 {
     let mut text = Vec::new(alloc);
@@ -20,7 +19,6 @@ pub fn area_text<A: Allocator>(alloc: A, rings: &[RawRing<A>]) -> Result<Vec<u8,
 
 /// Adds the line of a ring: its number, a space, and twice its area without sign.
 fn push_line<A: Allocator>(text: &mut Vec<u8, A>, ring: &RawRing<A>) -> Result<(), AllocError>
-    requires { length ring.now.corners ≤ 10000000 }
     ensures { OnOk result (text.new.items ≡ text.old.items ++ area_line (numbered ring.now.number ring.now.corners)) }
 {
     let mut digits = Buffer::new();

@@ -1,9 +1,9 @@
 -- What a reader finds among lines, memory aside.
-use Rattle.std.proofs.Common.{◌≡◌, List, ◌++◌, None, sym, ◌∙◌}
+use Rattle.std.proofs.Common.{◌≡◌, List, ◌++◌, None, Result, Ok, Err, sym, ◌∙◌}
 use Rattle.shp_files.specs.declared.fault.LayerFault.{LayerFault}
 use Rattle.shp_files.specs.declared.fault.LayerFault.TheVariants.{File, NoMemory}
 use Rattle.shp_files.specs.Checks.{Check, first_failure}
-use Rattle.shp_files.specs.Reading.{Fails}
+use Rattle.shp_files.specs.Reading.{Fails, Finds}
 use Rattle.shp_files.proofs.Lines.{goes_on, stops}
 
 -- what is refused stays refused, whatever lines follow
@@ -15,3 +15,8 @@ fails_stops NoMemory lines more p = tt
 pub fails_on : (e : LayerFault) (lines more : List Check) → None ≡ first_failure lines → Fails e (first_failure more) → Fails e (first_failure (lines ++ more))
 fails_on (File fault) lines more p q = goes_on lines more p ∙ q
 fails_on NoMemory lines more p q = tt
+
+-- what is found behind lines that do not fail
+pub finds_on : {X : Type 0} (r : Result X LayerFault) (lines more : List Check) → None ≡ first_failure lines → Finds r (first_failure more) → Finds r (first_failure (lines ++ more))
+finds_on (Ok x) lines more p q = goes_on lines more p ∙ q
+finds_on (Err e) lines more p q = fails_on e lines more p q

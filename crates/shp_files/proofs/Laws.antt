@@ -1,18 +1,18 @@
 -- A text is a layer's main file of one list of rings at most, or has one first fault, and never both.
-use Rattle.std.proofs.Common.{◌≡◌, ◌≢◌, inl, inr, ℕ, ◌+◌, ◌≤◌, ◌<◌, ℤ, List, [], ◌∷◌, ◌++◌, length, Some, None, Result, Ok, refl, sym, ap, subst, ◌∙◌, arith}
-use Rattle.std.proofs.lemmas.Bool.{cases_order}
+use Rattle.std.proofs.Common.{◌≡◌, ◌≢◌, true, false, inl, inr, ℕ, ◌+◌, ◌≤◌, ◌<◌, ℤ, List, [], ◌∷◌, ◌++◌, length, Some, None, Result, Ok, refl, sym, ap, subst, ◌∙◌, arith}
+use Rattle.std.proofs.lemmas.Bool.{cases_order, false≢true}
 use Rattle.geo_exact.specs.declared.corner.Corner.{Corner}
 use Rattle.geo_exact.specs.declared.coord.Unit.{Unit as LengthUnit}
 use Rattle.geo_exact.specs.declared.coord.CoordFault.{CoordFault}
 use Rattle.geo_exact.proofs.SameCorner.{corner_same}
 use Rattle.shp_files.specs.declared.fault.FileFault.{FileFault}
-use Rattle.shp_files.specs.LayerFile.{NumberedRing, closed, IsLayerFile}
-use Rattle.shp_files.specs.Checks.{first_failure, header_checks, record_checks, declared_end, record_end, points_of}
+use Rattle.shp_files.specs.LayerFile.{NumberedRing, closed, normal_rings, IsLayerFile}
+use Rattle.shp_files.specs.Checks.{first_failure, header_checks, record_checks, declared_end, record_end, points_of, is_null, corners_of}
 use Rattle.shp_files.specs.FirstFault.{Reaches, StopsAt, IsFirstFault}
 use Rattle.shp_files.specs.FirstFault.Reaches.{first, next}
 use Rattle.shp_files.specs.Reading.{AreReadAs}
 use Rattle.shp_files.proofs.Walk.{Reads, reached}
-use Rattle.shp_files.proofs.Walk.Reads.{none, more}
+use Rattle.shp_files.proofs.Walk.Reads.{none, null, more}
 use Rattle.shp_files.proofs.Complete.{reads_layer}
 
 position_from_1 : (main : List ℕ) (unit : LengthUnit) (p s c : ℕ) → Reaches main unit p s c → 1 ≤ p
@@ -30,7 +30,7 @@ same_place main unit p s c q t d (first h) (next q' t' d' r apart passes) e = ab
 same_place main unit p s c q t d (next p' s' c' r apart passes) (first k) e = absurd (omega (arith, e, position_from_1 main unit p' s' c' r))
 same_place main unit p s c q t d (next p' s' c' r apart passes) (next q' t' d' r' apart' passes') e =
     let same = same_place main unit p' s' c' q' t' d' r r' (omega (arith, e)) in
-    (ap (λ n. record_end main n) same.0, omega (arith, same.1, ap (λ n. points_of main n) same.0))
+    (ap (λ n. record_end main n) same.0, omega (arith, same.1, ap (λ n. corners_of main n) same.0))
 
 -- a record that was passed
 record IsPassed (main : List ℕ) (unit : LengthUnit) (position : ℕ) : Type 0 where
@@ -101,9 +101,9 @@ never_stops main unit p s c f r is stop =
 -- a layer's main file has no fault
 pub no_fault_in_layer : (main : List ℕ) (unit : LengthUnit) (rings : List NumberedRing) (f : FileFault) → IsLayerFile main unit rings → IsFirstFault main unit f → ⊥
 no_fault_in_layer main unit rings f file (inl h) =
-    let fine = header_passes main unit _ _ _ (reached main unit _ _ rings (reads_layer main unit rings file)) in
+    let fine = header_passes main unit _ _ _ (reached main unit _ _ file.drawn (reads_layer main unit rings file)) in
     cc
-no_fault_in_layer main unit rings f file (inr stop) = never_stops main unit _ _ _ f (reached main unit _ _ rings (reads_layer main unit rings file)) refl stop
+no_fault_in_layer main unit rings f file (inr stop) = never_stops main unit _ _ _ f (reached main unit _ _ file.drawn (reads_layer main unit rings file)) refl stop
 
 ok_same : (r : Result ℤ CoordFault) (a b : ℤ) → r ≡ Ok a → r ≡ Ok b → a ≡ b
 ok_same r a b h k = cc
@@ -129,15 +129,27 @@ open_read unit bytes at (p ∷ ps) h = front_read unit bytes at (p ∷ ps) (p �
 position_of_reads : (main : List ℕ) (unit : LengthUnit) (p s : ℕ) (a : List NumberedRing) → Reads main unit p s a → 1 ≤ p
 position_of_reads main unit p s a r = position_from_1 main unit p s _ (reached main unit p s a r)
 
+-- a record is a null shape or a polygon
+one_type : (main : List ℕ) (s t : ℕ) → s ≡ t → is_null main s ≡ true → is_null main t ≡ false → ⊥
+one_type main s t e h k = false≢true (sym k ∙ ap (λ n. is_null main n) (sym e) ∙ h)
+
 same_rings : (main : List ℕ) (unit : LengthUnit) (p s q t : ℕ) (a b : List NumberedRing) → Reads main unit p s a → Reads main unit q t b → p ≡ q → (s ≡ t) × (a ≡ b)
 same_rings main unit p s q t a b (none h) (none k) e = (refl, refl)
-same_rings main unit p s q t a b (none h) (more q' t' b' ds r apart passes count are) e = absurd (omega (arith, e, position_of_reads main unit q' t' b' r))
-same_rings main unit p s q t a b (more p' s' a' cs r apart passes count are) (none k) e = absurd (omega (arith, e, position_of_reads main unit p' s' a' r))
-same_rings main unit p s q t a b (more p' s' a' cs r apart passes count are) (more q' t' b' ds r' apart' passes' count' are') e =
+same_rings main unit p s q t a b (none h) (null q' t' b' r apart passes type) e = absurd (omega (arith, e, position_of_reads main unit q' t' b' r))
+same_rings main unit p s q t a b (none h) (more q' t' b' ds r apart passes type count are) e = absurd (omega (arith, e, position_of_reads main unit q' t' b' r))
+same_rings main unit p s q t a b (null p' s' a' r apart passes type) (none k) e = absurd (omega (arith, e, position_of_reads main unit p' s' a' r))
+same_rings main unit p s q t a b (more p' s' a' cs r apart passes type count are) (none k) e = absurd (omega (arith, e, position_of_reads main unit p' s' a' r))
+same_rings main unit p s q t a b (null p' s' a' r apart passes type) (null q' t' b' r' apart' passes' type') e =
+    let same = same_rings main unit p' s' q' t' a' b' r r' (omega (arith, e)) in
+    (ap (λ n. record_end main n) same.0, same.1)
+same_rings main unit p s q t a b (null p' s' a' r apart passes type) (more q' t' b' ds r' apart' passes' type' count' are') e =
+    absurd (one_type main s' t' (same_rings main unit p' s' q' t' a' b' r r' (omega (arith, e))).0 type type')
+same_rings main unit p s q t a b (more p' s' a' cs r apart passes type count are) (null q' t' b' r' apart' passes' type') e =
+    absurd (one_type main t' s' (sym (same_rings main unit p' s' q' t' a' b' r r' (omega (arith, e))).0) type' type)
+same_rings main unit p s q t a b (more p' s' a' cs r apart passes type count are) (more q' t' b' ds r' apart' passes' type' count' are') e =
     let position : p' ≡ q' = omega (arith, e) in
     let same = same_rings main unit p' s' q' t' a' b' r r' position in
     let points : length cs ≡ length ds = omega (arith, count, count', ap (λ n. points_of main n) same.0) in
-    let P : ℕ → Type 0 = λ n. AreReadAs unit main (n + 56) ds in
     let corners : cs ≡ ds = same_corners unit main (s' + 56) cs ds points (open_read unit main (s' + 56) cs are) (open_read unit main (s' + 56) ds (rw same.0 are')) in
     (ap (λ n. record_end main n) same.0, cc)
 
@@ -146,10 +158,10 @@ pub one_list_of_rings : (main : List ℕ) (unit : LengthUnit) (a b : List Number
 one_list_of_rings main unit a b file other =
     let r = reads_layer main unit a file in
     let q = reads_layer main unit b other in
-    let p = reached main unit _ _ a r in
-    let o = reached main unit _ _ b q in
+    let p = reached main unit _ _ file.drawn r in
+    let o = reached main unit _ _ other.drawn q in
     elim (cases_order (1 + length file.records) (1 + length other.records)) [
-      | inl e ↦ (same_rings main unit _ _ _ _ a b r q e).1
+      | inl e ↦ file.has_rings ∙ ap normal_rings (same_rings main unit _ _ _ _ file.drawn other.drawn r q e).1 ∙ sym other.has_rings
       | inr h ↦ elim h [
         | inl lt ↦ absurd (not_past_end main unit _ _ _ p refl (passed main unit _ _ _ (1 + length file.records) o lt (omega arith)))
         | inr gt ↦ absurd (not_past_end main unit _ _ _ o refl (passed main unit _ _ _ (1 + length other.records) p gt (omega arith)))

@@ -5,9 +5,13 @@ pub mod Finding
 pub mod Ring
 pub mod Passing
 pub mod Places
+pub mod Distinct
 pub mod Polygons
 pub mod Walk
 pub mod Sound
 pub mod Complete
 pub mod Laws
 pub mod Answering
+pub mod Rows
+pub mod Turned
+pub mod Keeping

@@ -1,31 +1,46 @@
 -- A file whose records are all read is a layer's main file with their rings.
-use Rattle.std.proofs.Common.{◌≡◌, ℕ, ◌+◌, ◌*◌, ◌-◌, ◌≤◌, List, [], ◌∷◌, ◌++◌, length, take, drop, refl, sym, ap, ◌∙◌, arith, append_assoc}
+use Rattle.std.proofs.Common.{◌≡◌, inl, inr, ℕ, ◌+◌, ◌*◌, ◌-◌, ◌≤◌, List, [], ◌∷◌, ◌++◌, length, take, drop, refl, sym, ap, ◌∙◌, arith, append_assoc}
 use Rattle.std.proofs.lemmas.Int.{ints}
 use Rattle.std.proofs.lemmas.List.{append-nil, length-append, length-drop, length-take-le, take-append-drop}
 use Rattle.std.proofs.Math.Seq.{take-add}
 use Rattle.geo_exact.specs.declared.corner.Corner.{Corner}
 use Rattle.geo_exact.specs.declared.coord.Unit.{Unit as LengthUnit}
 use Rattle.shp_files.specs.Layout.{file_words, natural}
-use Rattle.shp_files.specs.LayerFile.{NumberedRing, numbered, IsPolygon, AreRecords, joined, corner_count, IsLayerFile}
+use Rattle.shp_files.specs.LayerFile.{NumberedRing, numbered, normal_rings, IsNullShape, IsPolygon, AreRecords, joined, corner_count, IsLayerFile}
 use Rattle.shp_files.specs.Checks.{declared_end, record_end}
-use Rattle.shp_files.proofs.Passing.{HeaderPasses, header_passes, record_passes}
+use Rattle.shp_files.proofs.Passing.{HeaderPasses, header_passes, FramePasses, record_passes, null_of, polygon_of}
 use Rattle.shp_files.proofs.Places.{StandsAt, big_at_part, little_at_part}
-use Rattle.shp_files.proofs.Polygons.{polygon_from_passing}
+use Rattle.shp_files.proofs.Polygons.{null_from_passing, polygon_from_passing}
 use Rattle.shp_files.proofs.Walk.{Reads, corner_count-push}
-use Rattle.shp_files.proofs.Walk.Reads.{none, more}
+use Rattle.shp_files.proofs.Walk.Reads.{none, null, more}
 
 joined-push : (pieces : List (List ℕ)) (piece : List ℕ) → joined (pieces ++ piece ∷ []) ≡ joined pieces ++ piece
 joined-push [] piece = append-nil piece
 joined-push (one ∷ pieces) piece = ap (λ rest. one ++ rest) (joined-push pieces piece) ∙ sym (append_assoc one (joined pieces) piece)
 
+records_push_null : (unit : LengthUnit) (number : ℕ) (records : List (List ℕ)) (rings : List NumberedRing) (bytes : List ℕ)
+    → AreRecords unit number records rings → IsNullShape bytes → AreRecords unit number (records ++ bytes ∷ []) rings
+records_push_null unit number [] [] bytes are blank = (blank, tt)
+records_push_null unit number [] (ring ∷ rings) bytes are blank = absurd are
+records_push_null unit number (one ∷ records) [] bytes are blank = (are.0, records_push_null unit (number + 1) records [] bytes are.1 blank)
+records_push_null unit number (one ∷ records) (ring ∷ rings) bytes are blank =
+    elim are [
+      | inl h ↦ inl (h.0, records_push_null unit (number + 1) records (ring ∷ rings) bytes h.1 blank)
+      | inr h ↦ inr (h.0, h.1, records_push_null unit (number + 1) records rings bytes h.2 blank)
+    ]
+
 records_push : (unit : LengthUnit) (number : ℕ) (records : List (List ℕ)) (rings : List NumberedRing) (bytes : List ℕ) (position : ℕ) (corners : List Corner)
     → AreRecords unit number records rings → number + length records ≡ position → IsPolygon unit bytes corners
     → AreRecords unit number (records ++ bytes ∷ []) (rings ++ numbered position corners ∷ [])
-records_push unit number [] [] bytes position corners are count polygon = (omega (arith, count), polygon, tt)
+records_push unit number [] [] bytes position corners are count polygon = inr (omega (arith, count), polygon, tt)
 records_push unit number [] (ring ∷ rings) bytes position corners are count polygon = absurd are
-records_push unit number (one ∷ records) [] bytes position corners are count polygon = absurd are
+records_push unit number (one ∷ records) [] bytes position corners are count polygon =
+    inl (are.0, records_push unit (number + 1) records [] bytes position corners are.1 (omega (arith, count)) polygon)
 records_push unit number (one ∷ records) (ring ∷ rings) bytes position corners are count polygon =
-    (are.0, are.1, records_push unit (number + 1) records rings bytes position corners are.2 (omega (arith, count)) polygon)
+    elim are [
+      | inl h ↦ inl (h.0, records_push unit (number + 1) records (ring ∷ rings) bytes position corners h.1 (omega (arith, count)) polygon)
+      | inr h ↦ inr (h.0, h.1, records_push unit (number + 1) records rings bytes position corners h.2 (omega (arith, count)) polygon)
+    ]
 
 pub end_is : (main : List ℕ) → declared_end main ≡ 2 * natural (file_words main)
 unfolding declared_end
@@ -43,6 +58,30 @@ pub record Parsed (main : List ℕ) (unit : LengthUnit) (position start : ℕ) (
   pub few_together : corner_count rings ≤ 1000000
   pub header : HeaderPasses main
 
+-- the next record as text
+record IsNext (main : List ℕ) (start end : ℕ) (records : List (List ℕ)) : Type 0 where
+  bytes : List ℕ
+  stands : StandsAt main start bytes
+  size : start + length bytes ≡ end
+  text : take end main ≡ take 100 main ++ joined (records ++ bytes ∷ [])
+
+piece_of : (main : List ℕ) (unit : LengthUnit) (p s : ℕ) (before : List NumberedRing) → (old : Parsed main unit p s before) → FramePasses main p s
+    → IsNext main s (record_end main s) old.records
+piece_of main unit p s before old frame =
+    let end : ℕ = record_end main s in
+    let size : ℕ = end - s in
+    let piece : List ℕ = take size (drop s main) in
+    let whole : declared_end main ≤ length main = omega (arith, end_is main, old.header.within) in
+    let piece_length : length piece ≡ size = length-take-le size (drop s main) (omega (arith, length-drop s main, frame.within)) in
+    let grows : s + size ≡ end = omega arith in
+    record {
+      bytes = piece;
+      stands = record { tail = drop size (drop s main); is = sym (take-append-drop size (drop s main)) };
+      size = omega (arith, piece_length);
+      text = ap (λ n. take n main) (sym grows) ∙ take-add s size main ∙ ap (λ t. t ++ piece) old.text ∙ append_assoc (take 100 main) (joined old.records) piece
+          ∙ ap (λ t. take 100 main ++ t) (sym (joined-push old.records piece));
+    }
+
 pub parsed : (main : List ℕ) (unit : LengthUnit) (position start : ℕ) (rings : List NumberedRing) → Reads main unit position start rings → Parsed main unit position start rings
 parsed main unit position start rings (none h) =
     let header = header_passes main h in
@@ -57,37 +96,43 @@ parsed main unit position start rings (none h) =
       few_together = omega arith;
       header = header;
     }
-parsed main unit position start rings (more p s before corners reads apart passes count are) =
+parsed main unit position start rings (null p s before reads apart passes type) =
     let old = parsed main unit p s before reads in
-    let facts = record_passes main unit p s (corner_count before) passes in
-    let end : ℕ = record_end main s in
-    let size : ℕ = end - s in
-    let piece : List ℕ = take size (drop s main) in
-    let whole : declared_end main ≤ length main = omega (arith, end_is main, old.header.within) in
-    let piece_length : length piece ≡ size = length-take-le size (drop s main) (omega (arith, length-drop s main, facts.within)) in
-    let grows : s + size ≡ end = omega arith in
-    let text : take end main ≡ take 100 main ++ joined (old.records ++ piece ∷ []) =
-    ap (λ n. take n main) (sym grows) ∙ take-add s size main ∙ ap (λ t. t ++ piece) old.text ∙ append_assoc (take 100 main) (joined old.records) piece
-    ∙ ap (λ t. take 100 main ++ t) (sym (joined-push old.records piece)) in
-    let stands : StandsAt main s piece = record { tail = drop size (drop s main); is = sym (take-append-drop size (drop s main)) } in
-    let polygon = polygon_from_passing main unit p s (corner_count before) piece corners facts stands (omega (arith, piece_length)) count are in
+    let facts = null_of main unit p s (corner_count before) (record_passes main unit p s (corner_count before) passes) type in
+    let piece = piece_of main unit p s before old facts.frame in
     record {
-      records = old.records ++ piece ∷ [];
-      text = text;
-      are = records_push unit 1 old.records before piece p corners old.are old.count polygon;
-      count = omega (arith, old.count, length-append old.records (piece ∷ []));
+      records = old.records ++ piece.bytes ∷ [];
+      text = piece.text;
+      are = records_push_null unit 1 old.records before piece.bytes old.are (null_from_passing main p s piece.bytes facts piece.stands piece.size);
+      count = omega (arith, old.count, length-append old.records (piece.bytes ∷ []));
       long = omega (arith, old.long);
-      within = facts.within;
-      few = omega (arith, facts.few_records);
-      few_together = omega (arith, corner_count-push before (numbered p corners), facts.few_together, count);
+      within = facts.frame.within;
+      few = omega (arith, facts.frame.few_records);
+      few_together = old.few_together;
+      header = old.header;
+    }
+parsed main unit position start rings (more p s before corners reads apart passes type count are) =
+    let old = parsed main unit p s before reads in
+    let facts = polygon_of main unit p s (corner_count before) (record_passes main unit p s (corner_count before) passes) type in
+    let piece = piece_of main unit p s before old facts.frame in
+    let polygon = polygon_from_passing main unit p s (corner_count before) piece.bytes corners facts piece.stands piece.size count are in
+    record {
+      records = old.records ++ piece.bytes ∷ [];
+      text = piece.text;
+      are = records_push unit 1 old.records before piece.bytes p corners old.are old.count polygon;
+      count = omega (arith, old.count, length-append old.records (piece.bytes ∷ []));
+      long = omega (arith, old.long);
+      within = facts.frame.within;
+      few = omega (arith, facts.frame.few_records);
+      few_together = omega (arith, corner_count-push before (numbered p corners), facts.counts.few_together, count);
       header = old.header;
     }
 
 -- at the declared end the file is a layer's
-pub layer_file : (main : List ℕ) (unit : LengthUnit) (position start : ℕ) (rings : List NumberedRing) → Reads main unit position start rings → start ≡ declared_end main
-    → IsLayerFile main unit rings
-layer_file main unit position start rings reads is =
-    let all = parsed main unit position start rings reads in
+pub layer_file : (main : List ℕ) (unit : LengthUnit) (position start : ℕ) (drawn rings : List NumberedRing) → Reads main unit position start drawn → start ≡ declared_end main
+    → rings ≡ normal_rings drawn → IsLayerFile main unit rings
+layer_file main unit position start drawn rings reads is normal =
+    let all = parsed main unit position start drawn reads in
     let header : List ℕ = take 100 main in
     let whole : length header ≡ 100 = length-take-le 100 main all.header.whole in
     let stands : StandsAt main 0 header = record { tail = drop 100 main; is = sym (take-append-drop 100 main) } in
@@ -98,6 +143,7 @@ layer_file main unit position start rings reads is =
       header = header;
       records = all.records;
       ignored = drop start main;
+      drawn = drawn;
       is_text = sym (take-append-drop start main) ∙ ap (λ t. t ++ drop start main) all.text;
       has_header = record {
         is_whole = whole;
@@ -109,4 +155,5 @@ layer_file main unit position start rings reads is =
       has_records = all.are;
       records_within = omega (arith, all.count, all.few);
       corners_within = all.few_together;
+      has_rings = normal;
     }

@@ -1,5 +1,5 @@
 -- The checks of a main file, in their order, each with the fault that it answers: this profile of the Technical Description (July 1998).
-use Rattle.std.specs.Prelude.{ℕ, zero, suc, ◌+◌, ◌*◌, ◌-◌, ◌||◌, ◌==◌, nat_lt, not, ℤ, pos, int_lt, Bool, true, false, if◌then◌else◌, List, [], ◌∷◌, ◌++◌, length, Option, Some, None, Result, Ok, Err}
+use Rattle.std.specs.Prelude.{ℕ, zero, suc, ◌+◌, ◌*◌, ◌-◌, ◌||◌, ◌&&◌, ◌==◌, nat_lt, not, ℤ, pos, int_lt, Bool, true, false, if◌then◌else◌, List, [], ◌∷◌, ◌++◌, length, Option, Some, None, Result, Ok, Err}
 use Rattle.std.specs.Ordering.{int_eq}
 use Rattle.geo_exact.specs.declared.coord.Unit.{Unit as LengthUnit}
 use Rattle.geo_exact.specs.declared.coord.CoordFault.{CoordFault}
@@ -61,17 +61,22 @@ frame_checks main position start =
     ∷ check (nat_lt (declared_end main) (record_end main start)) (fault position (start + 4) kinds.Short)
     ∷ []
 
+-- the record has the type of null shapes
+abbrev pub is_null : List ℕ → ℕ → Bool
+is_null main start = int_eq (shape_type main start) (pos 0)
+
 -- the checks of its shape type
 unfoldable pub shape_checks : List ℕ → ℕ → ℕ → List Check
 shape_checks main position start =
-    check (is_not (shape_type main start) (pos 5)) (fault position (start + 8) kinds.ShapeType)
-    ∷ check (int_lt (content_words main start) (pos 22)) (fault position (start + 4) kinds.Content)
+    check (is_not (shape_type main start) (pos 0) && is_not (shape_type main start) (pos 5)) (fault position (start + 8) kinds.ShapeType)
+    ∷ check (is_null main start && is_not (content_words main start) (pos 2)) (fault position (start + 4) kinds.Content)
     ∷ []
 
--- the checks of its counts, where the polygons before it have so many corners together
-unfoldable pub polygon_checks : List ℕ → ℕ → ℕ → ℕ → List Check
-polygon_checks main position start corners_before =
-    check (is_not (part_count main start) (pos 1)) (fault position (start + 44) kinds.Parts)
+-- the checks of a polygon's counts, where the polygons before it have so many corners together
+unfoldable pub count_checks : List ℕ → ℕ → ℕ → ℕ → List Check
+count_checks main position start corners_before =
+    check (int_lt (content_words main start) (pos 22)) (fault position (start + 4) kinds.Content)
+    ∷ check (is_not (part_count main start) (pos 1)) (fault position (start + 44) kinds.Parts)
     ∷ check (nat_lt (record_end main start) (start + 52)) (fault position (start + 4) kinds.Content)
     ∷ check (int_lt (point_count main start) (pos 4)) (fault position (start + 48) kinds.FewPoints)
     ∷ check (nat_lt 4097 (points_of main start) || nat_lt 1000000 (corners_before + (points_of main start - 1)))
@@ -113,10 +118,31 @@ unfoldable pub ring_checks : List ℕ → LengthUnit → ℕ → ℕ → ℕ →
 ring_checks main unit position first count =
     coordinate_checks main unit position first (2 * count) ++ closing_checks main unit position first (first + 16 * (count - 1))
 
+-- how many of so many points, from a byte on, are not the point behind them
+unfoldable pub distinct_points : List ℕ → LengthUnit → ℕ → ℕ → ℕ
+distinct_points main unit at zero = 0
+distinct_points main unit at (suc count) =
+    (if is_other_point main unit at (at + 16) then 1 else 0) + distinct_points main unit (at + 16) count
+
+-- the check of the corners that are left where neighbours that are equal, round the ring, are kept once
+unfoldable pub corner_checks : List ℕ → LengthUnit → ℕ → ℕ → List Check
+corner_checks main unit position start =
+    check (nat_lt (distinct_points main unit (start + 56) (points_of main start - 1)) 3) (fault position (start + 48) kinds.FewPoints) ∷ []
+
+-- all checks of a polygon
+unfoldable pub polygon_checks : List ℕ → LengthUnit → ℕ → ℕ → ℕ → List Check
+polygon_checks main unit position start corners_before =
+    count_checks main position start corners_before
+    ++ (ring_checks main unit position (start + 56) (points_of main start)
+    ++ corner_checks main unit position start)
+
 -- all checks of the record at this position that begins at this byte, where the polygons before it have so many corners together
 unfoldable pub record_checks : List ℕ → LengthUnit → ℕ → ℕ → ℕ → List Check
 record_checks main unit position start corners_before =
     frame_checks main position start
     ++ (shape_checks main position start
-    ++ (polygon_checks main position start corners_before
-    ++ ring_checks main unit position (start + 56) (points_of main start)))
+    ++ (if is_null main start then [] else polygon_checks main unit position start corners_before))
+
+-- the corners of the record's ring as it is drawn, the closing one not counted: none for a null shape
+abbrev pub corners_of : List ℕ → ℕ → ℕ
+corners_of main start = if is_null main start then 0 else points_of main start - 1

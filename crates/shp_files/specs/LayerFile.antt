@@ -1,11 +1,12 @@
--- A layer's main file as a whole text: a header, polygon records, and bytes that are ignored (Technical Description, July 1998, "Organization of the Main File", "Polygon").
+-- A layer's main file as a whole text: a header, records of null shapes and polygons, and bytes that are ignored (Technical Description, July 1998, "Organization of the Main File", "Null Shapes", "Polygon").
 -- The bytes behind the declared length, which are ignored, and the limits on records and corners are this product's own. Boxes, ranges, unused bytes and
 -- stored record numbers are not compared.
-use Rattle.std.specs.Prelude.{◌≡◌, ℕ, ◌+◌, ◌*◌, ◌≤◌, pos, ◌+ℤ◌, ◌*ℤ◌, List, [], ◌∷◌, ◌++◌, length, map}
+use Rattle.std.specs.Prelude.{◌≡◌, ◌⊎◌, ℕ, ◌+◌, ◌*◌, ◌≤◌, pos, ◌+ℤ◌, ◌*ℤ◌, List, [], ◌∷◌, ◌++◌, length, map}
 use Rattle.geo_exact.specs.declared.corner.Corner.{Corner}
 use Rattle.geo_exact.specs.declared.coord.Unit.{Unit as LengthUnit}
 use Rattle.geo_exact.specs.declared.raw_ring.RawRing.{RawRing}
 use Rattle.geo_exact.specs.Grid.{IsOnGrid}
+use Rattle.shp_files.specs.NormalForm.{kept_once, normal_form}
 use Rattle.shp_files.specs.Layout.{double_at, file_code, file_words, version, header_shape_type, content_words, shape_type, part_count, point_count, first_part}
 
 -- a record's number, from 1, and the corners of its ring
@@ -39,7 +40,14 @@ abbrev pub closed : List Corner → List Corner
 closed [] = []
 closed (first ∷ rest) = (first ∷ rest) ++ first ∷ []
 
--- the bytes are the record of a polygon of one closed ring, of 3 to 4,096 corners without the closing one
+-- the bytes are the record of a null shape
+pub record IsNullShape (bytes : List ℕ) : Type 0 where
+  pub is_whole : length bytes ≡ 12
+  pub has_length : content_words bytes 0 ≡ pos 2
+  pub has_type : shape_type bytes 0 ≡ pos 0
+
+-- The bytes are the record of a polygon of one closed ring with at most 4,096 corners, the closing one not counted, and at least 3 where
+-- neighbours that are equal are kept once.
 pub record IsPolygon (unit : LengthUnit) (bytes : List ℕ) (corners : List Corner) : Type 0 where
   pub has_length : pos (length bytes) ≡ pos 8 +ℤ pos 2 *ℤ content_words bytes 0
   pub has_type : shape_type bytes 0 ≡ pos 5
@@ -48,16 +56,17 @@ pub record IsPolygon (unit : LengthUnit) (bytes : List ℕ) (corners : List Corn
   pub has_first_part : first_part bytes 0 ≡ pos 0
   pub is_filled : length bytes ≡ 56 + 16 * length (closed corners)
   pub has_points : ArePoints unit bytes 56 (closed corners)
-  pub has_enough : 3 ≤ length corners
+  pub has_enough : 3 ≤ length (kept_once corners)
   pub has_not_too_many : length corners ≤ 4096
 
--- the records, the first of which has this number, are polygons, and these are their rings
+-- The records, the first of which has this number, are null shapes and polygons, and these are the rings of the polygons as they are drawn.
 abbrev pub AreRecords : LengthUnit → ℕ → List (List ℕ) → List NumberedRing → Type 0
 AreRecords unit number [] [] = Unit {0}
 AreRecords unit number [] (ring ∷ rings) = ⊥
-AreRecords unit number (bytes ∷ records) [] = ⊥
+AreRecords unit number (bytes ∷ records) [] = IsNullShape bytes × AreRecords unit (number + 1) records []
 AreRecords unit number (bytes ∷ records) (ring ∷ rings) =
-    (ring.number ≡ number) × IsPolygon unit bytes ring.corners × AreRecords unit (number + 1) records rings
+    (IsNullShape bytes × AreRecords unit (number + 1) records (ring ∷ rings))
+    ⊎ ((ring.number ≡ number) × IsPolygon unit bytes ring.corners × AreRecords unit (number + 1) records rings)
 
 -- the pieces, one after the other
 abbrev pub joined : List (List ℕ) → List ℕ
@@ -69,13 +78,19 @@ abbrev pub corner_count : List NumberedRing → ℕ
 corner_count [] = 0
 corner_count (ring ∷ rings) = length ring.corners + corner_count rings
 
+-- the rings as they are kept
+abbrev pub normal_rings : List NumberedRing → List NumberedRing
+normal_rings rings = map (λ ring. numbered ring.number (normal_form ring.corners)) rings
+
 -- the bytes are a layer's main file in this unit, and these are its rings
 pub record IsLayerFile (main : List ℕ) (unit : LengthUnit) (rings : List NumberedRing) : Type 0 where
   pub header : List ℕ
   pub records : List (List ℕ)
   pub ignored : List ℕ
+  pub drawn : List NumberedRing
   pub is_text : main ≡ header ++ joined records ++ ignored
   pub has_header : IsHeader header (length header + length (joined records))
-  pub has_records : AreRecords unit 1 records rings
+  pub has_records : AreRecords unit 1 records drawn
   pub records_within : length records ≤ 65536
-  pub corners_within : corner_count rings ≤ 1000000
+  pub corners_within : corner_count drawn ≤ 1000000
+  pub has_rings : rings ≡ normal_rings drawn

@@ -1,4 +1,5 @@
 pub mod Layout
+pub mod NormalForm
 pub mod LayerFile
 pub mod Checks
 pub mod FirstFault

@@ -1,5 +1,5 @@
 -- What the reader's own functions answer: the faults that they find, memory aside, and the points as `coordinate` reads them.
-use Rattle.std.specs.Prelude.{◌≡◌, ℕ, ◌+◌, List, [], ◌∷◌, Option, Some, None, Result, Ok, Err}
+use Rattle.std.specs.Prelude.{◌≡◌, ℕ, ◌+◌, List, [], ◌∷◌, length, Option, Some, None, Result, Ok, Err}
 use Rattle.geo_exact.specs.declared.corner.Corner.{Corner}
 use Rattle.geo_exact.specs.declared.coord.Unit.{Unit as LengthUnit}
 use Rattle.geo_exact.specs.Grid.{coordinate}
@@ -7,6 +7,8 @@ use Rattle.shp_files.specs.declared.fault.FileFault.{FileFault}
 use Rattle.shp_files.specs.declared.fault.LayerFault.{LayerFault}
 use Rattle.shp_files.specs.declared.fault.LayerFault.TheVariants.{File, NoMemory}
 use Rattle.shp_files.specs.Layout.{double_at}
+use Rattle.shp_files.specs.LayerFile.{closed}
+use Rattle.shp_files.specs.NormalForm.{normal_form}
 
 -- an error is the fault that is found, or want of memory
 abbrev pub Fails : LayerFault → Option FileFault → Type 0
@@ -27,3 +29,10 @@ pub record IsReadAs (unit : LengthUnit) (bytes : List ℕ) (at : ℕ) (corner : 
 abbrev pub AreReadAs : LengthUnit → List ℕ → ℕ → List Corner → Type 0
 AreReadAs unit bytes at [] = Unit {0}
 AreReadAs unit bytes at (corner ∷ rest) = IsReadAs unit bytes at corner × AreReadAs unit bytes (at + 16) rest
+
+-- the polygon that begins at a byte is drawn with so many corners, and these are its ring's in the normal form
+pub record IsDrawnAs (unit : LengthUnit) (bytes : List ℕ) (start count : ℕ) (ring : List Corner) : Type 0 where
+  pub drawn : List Corner
+  pub are : AreReadAs unit bytes (start + 56) (closed drawn)
+  pub has_count : length drawn ≡ count
+  pub is_normal : ring ≡ normal_form drawn

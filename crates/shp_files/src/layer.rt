@@ -57,16 +57,15 @@ fn read_records<A: Allocator + Copy>(
     };
     let mut corners = 0;
     while head.start != end {
-        let polygon = read_record(alloc, main, unit, end, head, corners)?;
-        corners += polygon.corners.as_slice().len();
+        let found = read_record(alloc, main, unit, end, head, corners)?;
+        corners += found.drawn;
         let next = RecordHead {
             position: head.position + 1,
-            start: polygon.end,
+            start: found.end,
         };
-        rings.push(RawRing {
-            number: head.position,
-            corners: polygon.corners,
-        })?;
+        if let Some(ring) = found.ring {
+            rings.push(ring)?;
+        }
         head = next;
     }
     Ok(rings)
@@ -74,15 +73,18 @@ fn read_records<A: Allocator + Copy>(
 
 /// A text is a layer's main file of one list of rings at most.
 pub fn a_layer_file_has_one_list_of_rings()
-    ensures { (main : List ℕ) (unit : LengthUnit) (a b : List NumberedRing) → IsLayerFile main unit a → IsLayerFile main unit b → a ≡ b }
+    ensures { (main : List ℕ) (unit : LengthUnit) (a b : List NumberedRing) →
+        IsLayerFile main unit a → IsLayerFile main unit b → a ≡ b }
 {}
 
 /// A layer's main file has no first fault.
 pub fn a_layer_file_has_no_fault()
-    ensures { (main : List ℕ) (unit : LengthUnit) (rings : List NumberedRing) (fault : FileFault) → IsLayerFile main unit rings → IsFirstFault main unit fault → ⊥ }
+    ensures { (main : List ℕ) (unit : LengthUnit) (rings : List NumberedRing) (fault : FileFault) →
+        IsLayerFile main unit rings → IsFirstFault main unit fault → ⊥ }
 {}
 
 /// A text has one first fault at most.
 pub fn a_text_has_one_first_fault()
-    ensures { (main : List ℕ) (unit : LengthUnit) (a b : FileFault) → IsFirstFault main unit a → IsFirstFault main unit b → a ≡ b }
+    ensures { (main : List ℕ) (unit : LengthUnit) (a b : FileFault) →
+        IsFirstFault main unit a → IsFirstFault main unit b → a ≡ b }
 {}

@@ -6,6 +6,7 @@ mod fault;
 mod fields;
 mod header;
 mod layer;
+mod normal;
 mod record;
 mod source;
 #[cfg(test)]

@@ -1,19 +1,22 @@
 //! The records of a main file, in the order of their checks.
 
-ghost use Rattle.std.specs.Prelude.{◌≡◌, ◌≤◌, ◌<◌, ◌^◌, ◌+◌, ◌-◌, ◌*◌, ◌≤ℤ◌, pos, Ok, length, IfOk, OnOk, ◌++◌, ◌||◌};
+ghost use Rattle.std.specs.Prelude.{◌≡◌, ◌≤◌, ◌<◌, ◌^◌, ◌+◌, ◌-◌, ◌*◌, ◌≤ℤ◌, pos, Ok, length, IfOk, IfSome, IfNone, IsSome, true, false, ◌++◌, ◌||◌};
 ghost use Rattle.std.specs.Result.{result_err};
 ghost use Rattle.shp_files.specs.Layout as layout;
 ghost use Rattle.shp_files.specs.Layout.{content_words};
 ghost use Rattle.geo_exact.specs.Grid.{coordinate};
 ghost use Rattle.geo_exact.specs.Limit.{IsWithin, limit};
-ghost use Rattle.shp_files.specs.Checks.{first_failure, frame_checks, shape_checks, polygon_checks, coordinate_checks, ring_checks, record_checks, declared_end, record_end, points_of, fault, is_not};
+ghost use Rattle.shp_files.specs.Checks.{first_failure, frame_checks, shape_checks, count_checks, coordinate_checks, ring_checks, polygon_checks, record_checks, is_null, declared_end, record_end, points_of, fault, is_not};
 ghost use Rattle.shp_files.specs.LayerFile.{closed};
-ghost use Rattle.shp_files.specs.Reading.{Finds, IsReadAs, AreReadAs};
+ghost use Rattle.shp_files.specs.Reading.{Finds, IsReadAs, AreReadAs, IsDrawnAs};
 
 use crate::fault::{FaultKind, FileFault, FileName, LayerFault};
 use crate::fields::{big_at, double_at, little_at, natural, refuse_if};
-use geo_exact::{Corner, Corners, Unit, read_coord};
+use crate::normal::{is_other, kept_once, turn_counterclockwise};
+use geo_exact::{Corner, Corners, RawRing, Unit, read_coord};
 use std::alloc::Allocator;
+
+const NULL_SHAPE: i32 = 0;
 
 const POLYGON: i32 = 5;
 
@@ -73,24 +76,27 @@ fn check_frame(main: &[u8], end: usize, head: RecordHead) -> Result<usize, FileF
     Ok(content_end)
 }
 
-/// The record's shape type.
+/// The record's shape type; answers whether it is that of null shapes.
 #[tactic(auto, unfolding(crate::specs::Checks::shape_checks, crate::specs::Checks::first_failure))]
-fn check_shape(main: &[u8], head: RecordHead) -> Result<(), FileFault>
+fn check_shape(main: &[u8], head: RecordHead) -> Result<bool, FileFault>
     requires bound { head.start < 2 ^ 32 }
     requires room { head.start + 12 ≤ length main.now }
     ensures checked { result_err result ≡ first_failure (shape_checks main.now head.position head.start) }
-    ensures whole { OnOk result (head.start + 52 ≤ record_end main.now head.start) }
+    ensures null { IfOk result (λ null. null ≡ is_null main.now head.start) }
 {
     let shape_type = little_at(main, head.start + 8);
-    refuse_if(shape_type != POLYGON, head.fault(8, FaultKind::ShapeType))?;
+    let null = shape_type == NULL_SHAPE;
+    let polygon = shape_type == POLYGON;
+    refuse_if(!null && !polygon, head.fault(8, FaultKind::ShapeType))?;
     let words = big_at(main, head.start + 4);
-    refuse_if(words < 22, head.fault(4, FaultKind::Content))?;
-    Ok(())
+    refuse_if(null && words != 2, head.fault(4, FaultKind::Content))?;
+    Ok(null)
 }
 
-/// The polygon's counts; answers the number of its points. The polygons before it have `corners` corners together.
-#[tactic(auto, unfolding(crate::specs::Checks::polygon_checks, crate::specs::Checks::first_failure))]
-fn check_polygon(
+/// The polygon's counts; answers the number of its points. The polygons before it have `corners`
+/// corners together.
+#[tactic(auto, unfolding(crate::specs::Checks::count_checks, crate::specs::Checks::first_failure))]
+fn check_counts(
     main: &[u8],
     content_end: usize,
     head: RecordHead,
@@ -99,9 +105,9 @@ fn check_polygon(
     requires end { content_end ≡ record_end main.now head.start }
     requires within { content_end ≤ length main.now }
     requires bound { content_end < 2 ^ 32 }
-    requires whole { head.start + 52 ≤ content_end }
+    requires room { head.start + 12 ≤ content_end }
     requires corners { corners ≤ 1000000 }
-    ensures checked { result_err result ≡ first_failure (polygon_checks main.now head.position head.start corners) }
+    ensures checked { result_err result ≡ first_failure (count_checks main.now head.position head.start corners) }
     ensures count { IfOk result (λ count. count ≡ points_of main.now head.start) }
     ensures enough { IfOk result (λ count. 4 ≤ count) }
     ensures few { IfOk result (λ count. count ≤ 4097) }
@@ -109,6 +115,8 @@ fn check_polygon(
     ensures filled { IfOk result (λ count. head.start + 56 + 16 * count ≡ content_end) }
 {
     let start = head.start;
+    let words = big_at(main, start + 4);
+    refuse_if(words < 22, head.fault(4, FaultKind::Content))?;
     let parts = little_at(main, start + 44);
     refuse_if(parts != 1, head.fault(44, FaultKind::Parts))?;
     refuse_if(content_end < start + 52, head.fault(4, FaultKind::Content))?;
@@ -128,7 +136,8 @@ fn check_polygon(
 fn read_point(main: &[u8], unit: Unit, head: RecordHead, offset: usize) -> Result<Corner, FileFault>
     requires bound { head.start + offset < 2 ^ 63 }
     requires room { head.start + offset + 16 ≤ length main.now }
-    ensures checked { result_err result ≡ first_failure (coordinate_checks main.now unit head.position (head.start + offset) 2) }
+    ensures checked { result_err result
+        ≡ first_failure (coordinate_checks main.now unit head.position (head.start + offset) 2) }
     ensures read { IfOk result (λ corner. IsReadAs unit main.now (head.start + offset) corner) }
 {
     let x = read_number(main, unit, head, offset)?;
@@ -139,7 +148,8 @@ fn read_point(main: &[u8], unit: Unit, head: RecordHead, offset: usize) -> Resul
 fn read_number(main: &[u8], unit: Unit, head: RecordHead, offset: usize) -> Result<i64, FileFault>
     requires bound { head.start + offset < 2 ^ 63 }
     requires room { head.start + offset + 8 ≤ length main.now }
-    ensures checked { result_err result ≡ first_failure (coordinate_checks main.now unit head.position (head.start + offset) 1) }
+    ensures checked { result_err result
+        ≡ first_failure (coordinate_checks main.now unit head.position (head.start + offset) 1) }
     ensures read { IfOk result (λ number. coordinate (layout.double_at main.now (head.start + offset)) unit ≡ Ok number) }
     ensures within { IfOk result (λ number. IsWithin limit number) }
 {
@@ -159,7 +169,8 @@ fn read_corners<A: Allocator + Copy>(
 ) -> Result<Corners<A>, LayerFault>
     requires bound { head.start + 16 * count < 2 ^ 62 }
     requires room { head.start + 56 + 16 * count ≤ length main.now }
-    ensures checked { Finds result (first_failure (coordinate_checks main.now unit head.position (head.start + 56) (2 * count))) }
+    ensures checked { Finds result
+        (first_failure (coordinate_checks main.now unit head.position (head.start + 56) (2 * count))) }
     ensures read { IfOk result (λ corners. AreReadAs unit main.now (head.start + 56) corners) }
     ensures count { IfOk result (λ corners. length corners ≡ count) }
 {
@@ -169,13 +180,6 @@ fn read_corners<A: Allocator + Copy>(
         corners.push(corner)?;
     }
     Ok(corners)
-}
-
-/// Whether two corners differ.
-fn is_other(a: Corner, b: Corner) -> bool
-    ensures { result ≡ (is_not a.x b.x || is_not a.y b.y) }
-{
-    a != b
 }
 
 /// The ring of so many points, the last of which is the first again.
@@ -202,14 +206,57 @@ fn read_ring<A: Allocator + Copy>(
     Ok(corners)
 }
 
-/// A polygon record as it was read: the byte at which it ends, and the corners of its ring.
+/// A record as it was read.
 #[derive(Drop)]
-pub struct PolygonRecord<A: Allocator> {
+pub struct Record<A: Allocator> {
+    /// The byte at which it ends.
     pub end: usize,
-    pub corners: Corners<A>,
+    /// The corners with which its ring is drawn; 0 for a null shape.
+    pub drawn: usize,
+    /// Its ring; none for a null shape.
+    pub ring: Option<RawRing<A>>,
 }
 
-/// Reads a record of a file that is declared to end at `end`, where the polygons before it have `corners` corners together.
+/// Reads a polygon whose content ends at `content_end`.
+fn read_polygon<A: Allocator + Copy>(
+    alloc: A,
+    main: &[u8],
+    unit: Unit,
+    content_end: usize,
+    head: RecordHead,
+    corners: usize,
+) -> Result<Record<A>, LayerFault>
+    requires end { content_end ≡ record_end main.now head.start }
+    requires within { content_end ≤ length main.now }
+    requires bound { content_end < 2 ^ 32 }
+    requires room { head.start + 12 ≤ content_end }
+    requires corners { corners ≤ 1000000 }
+    ensures checked { Finds result (first_failure (polygon_checks main.now unit head.position head.start corners)) }
+    ensures end { IfOk result (λ polygon. polygon.end ≡ content_end) }
+    ensures ring { IfOk result (λ polygon. IfSome polygon.ring (λ ring. (ring.number ≡ head.position)
+        × IsDrawnAs unit main.now head.start polygon.drawn ring.corners)) }
+    ensures some { IfOk result (λ polygon. IsSome polygon.ring) }
+    ensures count { IfOk result (λ polygon. polygon.drawn + 1 ≡ points_of main.now head.start) }
+    ensures few_together { IfOk result (λ polygon. corners + polygon.drawn ≤ 1000000) }
+{
+    let count = check_counts(main, content_end, head, corners)?;
+    let drawn = read_ring(alloc, main, unit, head, count)?;
+    let mut corners = kept_once(alloc, drawn.as_slice())?;
+    let few = corners.as_slice().len() < 3;
+    refuse_if(few, head.fault(48, FaultKind::FewPoints))?;
+    turn_counterclockwise(&mut corners);
+    Ok(Record {
+        end: content_end,
+        drawn: count - 1,
+        ring: Some(RawRing {
+            number: head.position,
+            corners,
+        }),
+    })
+}
+
+/// Reads a record of a file that is declared to end at `end`, where the polygons before it have
+/// `corners` corners together.
 pub fn read_record<A: Allocator + Copy>(
     alloc: A,
     main: &[u8],
@@ -217,27 +264,30 @@ pub fn read_record<A: Allocator + Copy>(
     end: usize,
     head: RecordHead,
     corners: usize,
-) -> Result<PolygonRecord<A>, LayerFault>
+) -> Result<Record<A>, LayerFault>
     requires end { end ≡ declared_end main.now }
     requires bound { end < 2 ^ 32 }
     requires within { end ≤ length main.now }
     requires start { head.start ≤ end }
     requires corners { corners ≤ 1000000 }
     ensures checked { Finds result (first_failure (record_checks main.now unit head.position head.start corners)) }
-    ensures end { IfOk result (λ polygon. polygon.end ≡ record_end main.now head.start) }
-    ensures within { IfOk result (λ polygon. polygon.end ≤ end) }
-    ensures longer { IfOk result (λ polygon. head.start < polygon.end) }
-    ensures read { IfOk result (λ polygon. AreReadAs unit main.now (head.start + 56) (closed polygon.corners)) }
-    ensures count { IfOk result (λ polygon. length polygon.corners + 1 ≡ points_of main.now head.start) }
-    ensures few { IfOk result (λ polygon. head.position ≤ 65536) }
-    ensures few_together { IfOk result (λ polygon. corners + length polygon.corners ≤ 1000000) }
+    ensures end { IfOk result (λ found. found.end ≡ record_end main.now head.start) }
+    ensures within { IfOk result (λ found. found.end ≤ end) }
+    ensures longer { IfOk result (λ found. head.start < found.end) }
+    ensures null { IfOk result (λ found. IfNone found.ring ((is_null main.now head.start ≡ true) × (found.drawn ≡ 0))) }
+    ensures ring { IfOk result (λ found. IfSome found.ring (λ ring. (is_null main.now head.start ≡ false)
+        × (ring.number ≡ head.position) × (found.drawn + 1 ≡ points_of main.now head.start)
+        × IsDrawnAs unit main.now head.start found.drawn ring.corners)) }
+    ensures few { IfOk result (λ found. head.position ≤ 65536) }
+    ensures few_together { IfOk result (λ found. corners + found.drawn ≤ 1000000) }
 {
     let content_end = check_frame(main, end, head)?;
-    check_shape(main, head)?;
-    let count = check_polygon(main, content_end, head, corners)?;
-    let corners = read_ring(alloc, main, unit, head, count)?;
-    Ok(PolygonRecord {
-        end: content_end,
-        corners,
-    })
+    if check_shape(main, head)? {
+        return Ok(Record {
+            end: content_end,
+            drawn: 0,
+            ring: None,
+        });
+    }
+    read_polygon(alloc, main, unit, content_end, head, corners)
 }

@@ -53,7 +53,8 @@ pub fn read_all<A: Allocator + Copy, R: ByteIn>(
     // What is answered is all that the reader held, where it tells that.
     ensures whole { IfOk result (λ bytes. IfSome (R.remaining reader.old) (λ held. bytes.items ≡ held)) }
     ensures bound { IfOk result (λ bytes. length bytes.items ≤ 67108864) }
-    ensures too_long { IsErrOf result ReadFault.TooLong → IfSome (R.remaining reader.old) (λ held. 67108864 < length held) }
+    ensures too_long { IsErrOf result ReadFault.TooLong →
+        IfSome (R.remaining reader.old) (λ held. 67108864 < length held) }
     ensures device { IsErrOf result ReadFault.Device → R.failure_count reader.new ≡ raised (R.failure_count reader.old) }
     ensures no_failure { (¬ IsErrOf result ReadFault.Device) → R.failure_count reader.new ≡ R.failure_count reader.old }
 {

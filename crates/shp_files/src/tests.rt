@@ -31,9 +31,19 @@ const ZERO: [u8; 8] = [0; 8];
 
 const HUNDRED: [u8; 8] = [0, 0, 0, 0, 0, 0, 0x59, 0x40];
 
+const ONE: [u8; 8] = [0, 0, 0, 0, 0, 0, 0xf0, 0x3f];
+
 const FAR: [u8; 8] = [0, 0, 0, 0x20, 0x5f, 0xa0, 0x02, 0x42];
 
 const MINUS_FAR: [u8; 8] = [0, 0, 0, 0x20, 0x5f, 0xa0, 0x02, 0xc2];
+
+/// A point at a place.
+fn put_point(file: &mut [u8], at: usize, x: &[u8; 8], y: &[u8; 8])
+    requires { at + 16 ≤ length file.old }
+{
+    put(file, at, x);
+    put(file, at + 8, y);
+}
 
 /// The main file of one square, clockwise from its corner of the least coordinates.
 fn square(low: &[u8; 8], high: &[u8; 8]) -> [u8; 236] {
@@ -57,8 +67,7 @@ fn square(low: &[u8; 8], high: &[u8; 8]) -> [u8; 236] {
         (204, high, low),
         (220, low, low),
     ] {
-        put(&mut file, at, x);
-        put(&mut file, at + 8, y);
+        put_point(&mut file, at, x, y);
     }
     file
 }
@@ -76,52 +85,112 @@ fn fault_of(alloc: Global, file: &[u8]) -> Option<LayerFault> {
     read_layer(alloc, file, Unit::Cm).err()
 }
 
-#[test]
-fn reads_a_square(rt: HostRuntime) -> Result<(), Fail> {
-    let rings = read_layer(rt.alloc(), &square(&ZERO, &HUNDRED), Unit::Cm)
-        .ok()
-        .ok_or("the file is a layer")?;
-    let want = [
-        Corner { x: 0, y: 0 },
-        Corner { x: 0, y: 100 },
-        Corner { x: 100, y: 100 },
-        Corner { x: 100, y: 0 },
-    ];
-    assert_eq!(rt; rings.len(), 1);
-    for ring in &rings {
-        assert_eq!(rt; ring.number, 1);
-        assert_eq!(rt; ring.corners.as_slice(), &want[..]);
-        assert_eq!(rt; area2(&want), -20000);
+/// The numbers and corners of a file's rings are these.
+fn reads_as(alloc: Global, file: &[u8], unit: Unit, number: u32, want: &[Corner]) -> bool {
+    match read_layer(alloc, file, unit) {
+        Ok(rings) => match rings.as_slice() {
+            [ring] => ring.number == number && ring.corners.as_slice() == want,
+            _ => false,
+        },
+        Err(_) => false,
     }
-    Ok(())
+}
+
+const SQUARE: [Corner; 4] = [
+    Corner { x: 0, y: 0 },
+    Corner { x: 100, y: 0 },
+    Corner { x: 100, y: 100 },
+    Corner { x: 0, y: 100 },
+];
+
+#[test]
+fn reads_a_square(rt: HostRuntime) {
+    let file = square(&ZERO, &HUNDRED);
+    assert!(rt; reads_as(rt.alloc(), &file, Unit::Cm, 1, &SQUARE));
+    assert_eq!(rt; area2(&SQUARE), 20000);
+    let metre = square(&ZERO, &ONE);
+    assert!(rt; reads_as(rt.alloc(), &metre, Unit::M, 1, &SQUARE));
 }
 
 #[test]
-fn reads_the_greatest_square(rt: HostRuntime) -> Result<(), Fail> {
-    let rings = read_layer(rt.alloc(), &square(&MINUS_FAR, &FAR), Unit::Cm)
-        .ok()
-        .ok_or("the file is a layer")?;
+fn reads_the_greatest_square(rt: HostRuntime) {
     let want = [
         Corner {
             x: -LIMIT,
             y: -LIMIT,
         },
-        Corner {
-            x: -LIMIT,
-            y: LIMIT,
-        },
-        Corner { x: LIMIT, y: LIMIT },
         Corner {
             x: LIMIT,
             y: -LIMIT,
         },
+        Corner { x: LIMIT, y: LIMIT },
+        Corner {
+            x: -LIMIT,
+            y: LIMIT,
+        },
     ];
-    assert_eq!(rt; rings.len(), 1);
-    for ring in &rings {
-        assert_eq!(rt; ring.corners.as_slice(), &want[..]);
-        assert_eq!(rt; area2(&want), -800_000_000_000_000_000_000);
-    }
-    Ok(())
+    assert!(rt; reads_as(rt.alloc(), &square(&MINUS_FAR, &FAR), Unit::Cm, 1, &want));
+    assert_eq!(rt; area2(&want), 800_000_000_000_000_000_000);
+}
+
+#[test]
+fn reads_past_what_is_not_compared(rt: HostRuntime) {
+    let mut longer = [0xff; 243];
+    put(&mut longer, 0, &square(&ZERO, &HUNDRED));
+    assert!(rt; reads_as(rt.alloc(), &longer, Unit::Cm, 1, &SQUARE));
+    let mut other = square(&ZERO, &HUNDRED);
+    put(&mut other, 36, &[0; 32]);
+    put(&mut other, 100, &[0, 0, 0, 9]);
+    assert!(rt; reads_as(rt.alloc(), &other, Unit::Cm, 1, &SQUARE));
+}
+
+/// A counterclockwise square with its second corner written twice in a row.
+fn twice() -> [u8; 252] {
+    let mut file = [0; 252];
+    put(&mut file, 0, &square(&ZERO, &HUNDRED));
+    put(&mut file, 24, &[0, 0, 0, 126]);
+    put(&mut file, 104, &[0, 0, 0, 72]);
+    put(&mut file, 148, &[6, 0, 0, 0]);
+    put_point(&mut file, 172, &HUNDRED, &ZERO);
+    put_point(&mut file, 188, &HUNDRED, &ZERO);
+    put_point(&mut file, 204, &HUNDRED, &HUNDRED);
+    put_point(&mut file, 220, &ZERO, &HUNDRED);
+    put_point(&mut file, 236, &ZERO, &ZERO);
+    file
+}
+
+#[test]
+fn keeps_equal_neighbours_once(rt: HostRuntime) {
+    assert!(rt; reads_as(rt.alloc(), &twice(), Unit::Cm, 1, &SQUARE));
+    let mut few = square(&ZERO, &HUNDRED);
+    put_point(&mut few, 188, &ZERO, &ZERO);
+    put_point(&mut few, 204, &ZERO, &ZERO);
+    assert_eq!(rt;
+        fault_of(rt.alloc(), &few),
+        main_fault(1, 148, FaultKind::FewPoints)
+    );
+}
+
+/// A null shape, and the square behind it.
+fn behind_a_null_shape() -> [u8; 248] {
+    let square = square(&ZERO, &HUNDRED);
+    let mut file = [0; 248];
+    put_header(&mut file, 124);
+    put(&mut file, 100, &[0, 0, 0, 1, 0, 0, 0, 2]);
+    put(&mut file, 112, &square[100..]);
+    put(&mut file, 112, &[0, 0, 0, 2]);
+    file
+}
+
+#[test]
+fn counts_null_shapes(rt: HostRuntime) {
+    let mut file = behind_a_null_shape();
+    assert!(rt; reads_as(rt.alloc(), &file, Unit::Cm, 2, &SQUARE));
+    put(&mut file, 104, &[0, 0, 0, 3]);
+    assert_eq!(rt;
+        fault_of(rt.alloc(), &file),
+        main_fault(1, 104, FaultKind::Content)
+    );
 }
 
 #[test]

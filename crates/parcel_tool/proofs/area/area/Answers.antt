@@ -1,5 +1,4 @@
 use Rattle.std.proofs.Common.{inl}
-use Rattle.parcel_tool.proofs.LayerRings.{corners_of_layer}
 use Rattle.parcel_tool.proofs.Passing.{passed_on, passed_if}
 use Rattle.parcel_tool.proofs.area.area.Goals as goal
 
@@ -10,9 +9,6 @@ returns-in_err-rings-clause-refuses g c = λ fault h.
 pub returns-in_err-rings-clause-reports : goal.returns-in_err-rings-clause-reports
 returns-in_err-rings-clause-reports g c = λ rings h.
     passed_if _ _ _ c.from_residual.ensures.1 (inl (c.in_err-rings.ensures.reads rings (rw c.as_slice.ensures.value h)))
-
-pub area_text-requires : goal.area_text-requires
-area_text-requires g c = rw c.as_slice-2.ensures.value (corners_of_layer _ _ _ c.in_ok-rings.ensures.ok)
 
 pub returns-in_err-put_all-clause-refuses : goal.returns-in_err-put_all-clause-refuses
 returns-in_err-put_all-clause-refuses g c = λ fault h. absurd (c.in_ok-rings.ensures.refuses fault (rw c.as_slice.ensures.value h))

@@ -1,0 +1,47 @@
+-- The corners of a ring that are left where neighbours that are equal are kept once.
+use Rattle.std.proofs.Common.{◌≡◌, ℕ, suc, zero, ◌+◌, ◌*◌, ◌≤◌, ◌<◌, Bool, true, false, not, ◌||◌, ◌&&◌, cond, List, [], ◌∷◌, ◌++◌, length, refl, sym, ap, ◌∙◌, arith}
+use Rattle.std.specs.Ordering.{int_eq}
+use Rattle.geo_exact.specs.declared.corner.Corner.{Corner}
+use Rattle.geo_exact.specs.declared.coord.Unit.{Unit as LengthUnit}
+use Rattle.geo_exact.specs.Rings.{path, edges}
+use Rattle.shp_files.specs.LayerFile.{closed}
+use Rattle.shp_files.specs.NormalForm.{is_nowhere, starts, kept_once}
+use Rattle.shp_files.specs.Checks.{is_not, is_other_point, distinct_points}
+use Rattle.shp_files.specs.Reading.{IsReadAs, AreReadAs}
+use Rattle.shp_files.proofs.Ring.{other_point}
+
+-- one more edge, of some length or of none
+one_more : (a b : Bool) (n : ℕ) (corner : Corner) (rest : List Corner) → n ≡ length rest
+    → cond (not a || not b) 1 0 + n ≡ length (cond (a && b) rest (corner ∷ rest))
+one_more true true n corner rest e = omega (arith, e)
+one_more true false n corner rest e = omega (arith, e)
+one_more false b n corner rest e = omega (arith, e)
+
+distinct_path : (main : List ℕ) (unit : LengthUnit) (at : ℕ) (from : Corner) (rest : List Corner) (to : Corner) → AreReadAs unit main at (from ∷ (rest ++ to ∷ []))
+    → distinct_points main unit at (suc (length rest)) ≡ length (starts (path from rest to))
+unfolding distinct_points
+distinct_path main unit at from [] to are =
+    rw (other_point main unit at (at + 16) from to are.0 are.1.0) (one_more (int_eq from.x to.x) (int_eq from.y to.y) 0 from [] refl)
+distinct_path main unit at from (next ∷ rest) to are =
+    rw (other_point main unit at (at + 16) from next are.0 are.1.0)
+    (one_more (int_eq from.x next.x) (int_eq from.y next.y) (distinct_points main unit (at + 16) (suc (length rest))) from (starts (path next rest to))
+    (distinct_path main unit (at + 16) next rest to are.1))
+
+-- the points of a ring that are not the point behind them are the corners that are kept
+pub distinct_is : (main : List ℕ) (unit : LengthUnit) (at : ℕ) (corners : List Corner) → 0 < length corners → AreReadAs unit main at (closed corners)
+    → distinct_points main unit at (length corners) ≡ length (kept_once corners)
+distinct_is main unit at [] some are = absurd (omega arith)
+distinct_is main unit at (first ∷ rest) some are = distinct_path main unit at first rest first are
+
+fewer : (b : Bool) (corner : Corner) (kept : List Corner) (n : ℕ) → length kept ≤ n → length (cond b kept (corner ∷ kept)) ≤ suc n
+fewer true corner kept n h = omega arith
+fewer false corner kept n h = omega arith
+
+starts_fewer : (from : Corner) (rest : List Corner) (to : Corner) → length (starts (path from rest to)) ≤ suc (length rest)
+starts_fewer from [] to = fewer (int_eq from.x to.x && int_eq from.y to.y) from [] 0 (omega arith)
+starts_fewer from (next ∷ rest) to = fewer (int_eq from.x next.x && int_eq from.y next.y) from (starts (path next rest to)) (suc (length rest)) (starts_fewer next rest to)
+
+-- no more corners are kept than there were
+pub kept_fewer : (corners : List Corner) → length (kept_once corners) ≤ length corners
+kept_fewer [] = omega arith
+kept_fewer (first ∷ rest) = starts_fewer first rest first

@@ -1,0 +1,77 @@
+use Rattle.std.proofs.Common.{◌≡◌, ◌≤◌, ◌<◌, ◌+◌, ◌-◌, ℕ, Bool, false, nat_lt, List, ◌∷◌, [], ◌++◌, length, Some, None, sym, ap, subst, ◌∙◌, arith}
+use Rattle.std.proofs.lemmas.Bool.{ltb-false}
+use Rattle.std.proofs.lemmas.Result.{err_from_is_err_and}
+use Rattle.geo_exact.specs.declared.corner.Corner.{Corner}
+use Rattle.shp_files.specs.declared.fault.FaultKind.TheVariants.{FewPoints}
+use Rattle.shp_files.specs.NormalForm.{kept_once, counterclockwise, normal_form}
+use Rattle.shp_files.specs.Checks.{Check, check, fault, first_failure, ring_checks, corner_checks, polygon_checks, points_of, distinct_points}
+use Rattle.shp_files.specs.Reading.{Fails}
+use Rattle.shp_files.proofs.Lines.{goes_on, stops, passed}
+use Rattle.shp_files.proofs.Finding.{fails_stops, fails_on}
+use Rattle.shp_files.proofs.Distinct.{distinct_is, kept_fewer}
+use Rattle.shp_files.proofs.Turned.{is_normal}
+use Rattle.shp_files.proofs.record.read_polygon.Goals as goal
+
+pub returns-in_err-count-clause-checked : goal.returns-in_err-count-clause-checked
+unfolding polygon_checks
+returns-in_err-count-clause-checked g c =
+    let p = err_from_is_err_and c.from_residual.result c.from_residual.ensures.1 in
+    rw (p.1, p.2) (sym (stops _ _ c.in_err-count.field-0.0 c.in_err-count.ensures.checked))
+
+pub returns-in_err-drawn-clause-checked : goal.returns-in_err-drawn-clause-checked
+unfolding polygon_checks
+returns-in_err-drawn-clause-checked g c =
+    let p = err_from_is_err_and c.from_residual-in_err-drawn.result c.from_residual-in_err-drawn.ensures.1 in
+    let e = c.in_err-drawn.field-0.0 in
+    let P : ℕ → Type 0 = λ n. Fails e (first_failure (ring_checks c.args.main.now c.args.unit c.args.head.position (c.args.head.start + 56) n)) in
+    rw (p.1, p.2) (fails_on e _ _ c.in_ok-count.ensures.checked (fails_stops e _ _ (subst P c.in_ok-count.ensures.count c.in_err-drawn.ensures.checked)))
+
+pub returns-in_err-refuse_if-clause-checked : goal.returns-in_err-refuse_if-clause-checked
+unfolding polygon_checks corner_checks
+returns-in_err-refuse_if-clause-checked g c =
+    let p = err_from_is_err_and c.from_residual-in_err-refuse_if.result c.from_residual-in_err-refuse_if.ensures.1 in
+    let P : ℕ → Type 0 = λ n. first_failure (ring_checks c.args.main.now c.args.unit c.args.head.position (c.args.head.start + 56) n) ≡ None in
+    let some : 0 < length c.in_ok-drawn.drawn = omega (arith, c.in_ok-drawn.ensures.count, c.in_ok-count.ensures.enough) in
+    let count : length c.in_ok-drawn.drawn ≡ points_of c.args.main.now c.args.head.start - 1 = omega (arith, c.in_ok-drawn.ensures.count, c.in_ok-count.ensures.count) in
+    let left : length c.as_slice-2.result.now ≡ distinct_points c.args.main.now c.args.unit (c.args.head.start + 56) (points_of c.args.main.now c.args.head.start - 1) =
+    ap length (c.as_slice-2.ensures ∙ c.in_ok-corners.ensures ∙ ap kept_once c.as_slice.ensures)
+    ∙ sym (distinct_is c.args.main.now c.args.unit (c.args.head.start + 56) c.in_ok-drawn.drawn some c.in_ok-drawn.ensures.read)
+    ∙ ap (λ n. distinct_points c.args.main.now c.args.unit (c.args.head.start + 56) n) count in
+    let line : check (nat_lt (length c.as_slice-2.result.now) 3) c.fault.result ≡ check (nat_lt (distinct_points c.args.main.now c.args.unit (c.args.head.start + 56) (points_of c.args.main.now c.args.head.start - 1)) 3) (fault c.args.head.position (c.args.head.start + 48) FewPoints) =
+    ap (λ n. check (nat_lt n 3) c.fault.result) left ∙ ap (λ f. check (nat_lt (distinct_points c.args.main.now c.args.unit (c.args.head.start + 56) (points_of c.args.main.now c.args.head.start - 1)) 3) f) c.fault.ensures in
+    rw (p.1, p.2) (goes_on _ _ c.in_ok-count.ensures.checked ∙ goes_on _ _ (sym (subst P c.in_ok-count.ensures.count c.in_ok-drawn.ensures.checked))
+    ∙ ap (λ (l : Check). first_failure (l ∷ [])) (sym line) ∙ sym c.in_err-refuse_if.ensures)
+
+pub turn_counterclockwise-requires : goal.turn_counterclockwise-requires
+turn_counterclockwise-requires g c =
+    let kept : c.in_ok-corners.corners ≡ kept_once c.in_ok-drawn.drawn = c.in_ok-corners.ensures ∙ ap kept_once c.as_slice.ensures in
+    omega (arith, ap length kept, kept_fewer c.in_ok-drawn.drawn, c.in_ok-drawn.ensures.count, c.in_ok-count.ensures.few)
+
+pub invariant_of-result : goal.invariant_of-result
+invariant_of-result g c =
+    let kept : c.in_ok-corners.corners ≡ kept_once c.in_ok-drawn.drawn = c.in_ok-corners.ensures ∙ ap kept_once c.as_slice.ensures in
+    let ring : c.turn_counterclockwise.new.ring ≡ normal_form c.in_ok-drawn.drawn = c.turn_counterclockwise.ensures ∙ ap counterclockwise kept in
+    let normal = is_normal c.in_ok-drawn.drawn in
+    let enough : 3 ≤ length c.as_slice-2.result.now = ltb-false _ _ (passed _ c.fault.result c.in_ok-refuse_if.ensures) in
+    let sizes = ap length (c.as_slice-2.ensures ∙ kept) in
+    record {
+      enough = rw ring (omega (arith, normal.same_length, sizes));
+      few = rw ring (omega (arith, normal.same_length, kept_fewer c.in_ok-drawn.drawn, c.in_ok-drawn.ensures.count, c.in_ok-count.ensures.few));
+      apart = rw ring normal.apart;
+      not_clockwise = rw ring normal.area;
+    }
+
+pub returns-clause-checked : goal.returns-clause-checked
+unfolding polygon_checks corner_checks
+returns-clause-checked g c =
+    let P : ℕ → Type 0 = λ n. first_failure (ring_checks c.args.main.now c.args.unit c.args.head.position (c.args.head.start + 56) n) ≡ None in
+    let some : 0 < length c.in_ok-drawn.drawn = omega (arith, c.in_ok-drawn.ensures.count, c.in_ok-count.ensures.enough) in
+    let count : length c.in_ok-drawn.drawn ≡ points_of c.args.main.now c.args.head.start - 1 = omega (arith, c.in_ok-drawn.ensures.count, c.in_ok-count.ensures.count) in
+    let left : length c.as_slice-2.result.now ≡ distinct_points c.args.main.now c.args.unit (c.args.head.start + 56) (points_of c.args.main.now c.args.head.start - 1) =
+    ap length (c.as_slice-2.ensures ∙ c.in_ok-corners.ensures ∙ ap kept_once c.as_slice.ensures)
+    ∙ sym (distinct_is c.args.main.now c.args.unit (c.args.head.start + 56) c.in_ok-drawn.drawn some c.in_ok-drawn.ensures.read)
+    ∙ ap (λ n. distinct_points c.args.main.now c.args.unit (c.args.head.start + 56) n) count in
+    let line : check (nat_lt (length c.as_slice-2.result.now) 3) c.fault.result ≡ check (nat_lt (distinct_points c.args.main.now c.args.unit (c.args.head.start + 56) (points_of c.args.main.now c.args.head.start - 1)) 3) (fault c.args.head.position (c.args.head.start + 48) FewPoints) =
+    ap (λ n. check (nat_lt n 3) c.fault.result) left ∙ ap (λ f. check (nat_lt (distinct_points c.args.main.now c.args.unit (c.args.head.start + 56) (points_of c.args.main.now c.args.head.start - 1)) 3) f) c.fault.ensures in
+    goes_on _ _ c.in_ok-count.ensures.checked ∙ goes_on _ _ (sym (subst P c.in_ok-count.ensures.count c.in_ok-drawn.ensures.checked))
+    ∙ ap (λ (l : Check). first_failure (l ∷ [])) (sym line) ∙ sym c.in_ok-refuse_if.ensures
