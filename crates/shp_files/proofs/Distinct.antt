@@ -1,13 +1,13 @@
 -- The corners of a ring that are left where neighbours that are equal are kept once.
-use Rattle.std.proofs.Common.{◌≡◌, ℕ, suc, zero, ◌+◌, ◌*◌, ◌≤◌, ◌<◌, Bool, true, false, not, ◌||◌, ◌&&◌, cond, List, [], ◌∷◌, ◌++◌, length, refl, sym, ap, ◌∙◌, arith}
+use Rattle.std.proofs.Common.{◌≡◌, ℕ, suc, ◌+◌, ◌≤◌, ◌<◌, Bool, true, false, not, ◌||◌, ◌&&◌, cond, List, [], ◌∷◌, ◌++◌, length, refl, arith}
 use Rattle.std.specs.Ordering.{int_eq}
 use Rattle.geo_exact.specs.declared.corner.Corner.{Corner}
 use Rattle.geo_exact.specs.declared.coord.Unit.{Unit as LengthUnit}
-use Rattle.geo_exact.specs.Rings.{path, edges}
+use Rattle.geo_exact.specs.Rings.{path}
 use Rattle.shp_files.specs.LayerFile.{closed}
-use Rattle.shp_files.specs.NormalForm.{is_nowhere, starts, kept_once}
-use Rattle.shp_files.specs.Checks.{is_not, is_other_point, distinct_points}
-use Rattle.shp_files.specs.Reading.{IsReadAs, AreReadAs}
+use Rattle.shp_files.specs.NormalForm.{starts, kept_once}
+use Rattle.shp_files.specs.Checks.{distinct_points}
+use Rattle.shp_files.specs.Reading.{AreReadAs}
 use Rattle.shp_files.proofs.Ring.{other_point}
 
 -- one more edge, of some length or of none

@@ -1,5 +1,5 @@
 -- A ring in its normal form has no equal neighbours and is not clockwise.
-use Rattle.std.proofs.Common.{◌≡◌, ◌≢◌, ℕ, suc, ◌+◌, ◌≤◌, ℤ, pos, neg_ℤ, ◌≤ℤ◌, Bool, true, false, ◌&&◌, cond, List, [], ◌∷◌, ◌++◌, length, reverse, refl, sym, ap, subst, ◌∙◌, arith}
+use Rattle.std.proofs.Common.{◌≡◌, ◌≢◌, ℤ, pos, neg_ℤ, ◌≤ℤ◌, Bool, true, false, ◌&&◌, cond, List, [], ◌∷◌, ◌++◌, length, reverse, refl, sym, ap, subst, ◌∙◌, arith}
 use Rattle.std.specs.Prelude.{int_lt}
 use Rattle.std.specs.List.{AllByRecursion}
 use Rattle.std.specs.Ordering.{int_eq}
@@ -8,12 +8,11 @@ use Rattle.std.proofs.lemmas.List.{length-reverse, reverse-append}
 use Rattle.std.proofs.lemmas.Bool.{and_parts, false≢true}
 use Rattle.std.proofs.lemmas.Bool.Decides.{Decides-int_eq}
 use Rattle.geo_exact.specs.declared.corner.Corner.{Corner}
-use Rattle.geo_exact.specs.Rings.{Edge, path, edges, turned_round, AreApart}
+use Rattle.geo_exact.specs.Rings.{Edge, path, turned_round, AreApart}
 use Rattle.geo_exact.specs.Area.{area2}
 use Rattle.geo_exact.proofs.SameCorner.{corner_same}
 use Rattle.geo_exact.proofs.Windings.{area2_turned_round}
-use Rattle.shp_files.specs.NormalForm.{is_nowhere, starts, kept_once, counterclockwise, normal_form}
-use Rattle.shp_files.proofs.Distinct.{kept_fewer}
+use Rattle.shp_files.specs.NormalForm.{starts, kept_once, counterclockwise, normal_form}
 
 abbrev AllApart : List Edge → Type 0
 AllApart all = AllByRecursion (λ edge. edge.from ≢ edge.to) all

@@ -1,5 +1,5 @@
 -- Where the numbers of a shapefile stand (Technical Description, July 1998, "Numeric Types", "Main File Header", "Record Headers", "Polygon").
-use Rattle.std.specs.Prelude.{ℕ, ◌+◌, ◌*◌, ℤ, pos, negsuc, List, drop}
+use Rattle.std.specs.Prelude.{ℕ, ◌+◌, ℤ, pos, negsuc, List, drop}
 use Rattle.byteorder.specs.Endian.{big_number, little_number, twos_complement}
 
 -- the signed 32-bit number at a byte, its most significant byte first

@@ -1,5 +1,5 @@
 -- The form in which a ring is kept: no corner twice in a row, and counterclockwise (this product's own; Technical Description, July 1998, "Polygon", draws outer rings clockwise).
-use Rattle.std.specs.Prelude.{ℤ, pos, int_lt, Bool, ◌&&◌, if◌then◌else◌, List, [], ◌∷◌}
+use Rattle.std.specs.Prelude.{pos, int_lt, Bool, ◌&&◌, if◌then◌else◌, List, [], ◌∷◌}
 use Rattle.std.specs.Ordering.{int_eq}
 use Rattle.geo_exact.specs.declared.corner.Corner.{Corner}
 use Rattle.geo_exact.specs.Rings.{Edge, edges, turned_round}

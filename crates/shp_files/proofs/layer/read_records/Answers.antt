@@ -1,9 +1,9 @@
-use Rattle.std.proofs.Common.{◌≡◌, ◌≢◌, ◌++◌, ◌∷◌, [], ◌+◌, ℕ, sym, ap, subst, ◌∙◌, arith, length, List, refl, Option, Some, None}
+use Rattle.std.proofs.Common.{◌≡◌, ◌≢◌, ◌++◌, ◌∷◌, [], sym, ap, ◌∙◌, arith, refl}
 use Rattle.std.proofs.lemmas.Result.{err_from_is_err_and}
 use Rattle.std.proofs.lemmas.List.{map_push}
-use Rattle.shp_files.specs.LayerFile.{NumberedRing, numbered, rings_of}
+use Rattle.shp_files.specs.LayerFile.{numbered, rings_of}
 use Rattle.shp_files.specs.Checks.{declared_end}
-use Rattle.shp_files.proofs.Walk.{IsReadTo, read_to_null, read_to_polygon, stops_at}
+use Rattle.shp_files.proofs.Walk.{read_to_null, read_to_polygon, stops_at}
 use Rattle.shp_files.proofs.Walk.Reads.{none}
 use Rattle.shp_files.proofs.Sound.{layer_file}
 use Rattle.shp_files.proofs.layer.read_records.Goals as goal

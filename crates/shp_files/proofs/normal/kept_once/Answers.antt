@@ -1,4 +1,4 @@
-use Rattle.std.proofs.Common.{◌≡◌, ◌++◌, ◌∷◌, [], ◌<◌, sym, ◌∙◌, true, false}
+use Rattle.std.proofs.Common.{sym, ◌∙◌}
 use Rattle.shp_files.specs.NormalForm.{starts}
 use Rattle.geo_exact.specs.Rings.{path}
 use Rattle.shp_files.proofs.Keeping.{keeps_corner, skips_corner, keeps_last, skips_last, kept_of_whole}

@@ -1,7 +1,6 @@
-use Rattle.std.proofs.Common.{◌≡◌, ◌≤◌, ◌<◌, ◌+◌, ◌-◌, ℕ, Bool, false, nat_lt, List, ◌∷◌, [], ◌++◌, length, Some, None, sym, ap, subst, ◌∙◌, arith}
+use Rattle.std.proofs.Common.{◌≡◌, ◌≤◌, ◌<◌, ◌+◌, ◌-◌, ℕ, nat_lt, ◌∷◌, [], length, None, sym, ap, subst, ◌∙◌, arith}
 use Rattle.std.proofs.lemmas.Bool.{ltb-false}
 use Rattle.std.proofs.lemmas.Result.{err_from_is_err_and}
-use Rattle.geo_exact.specs.declared.corner.Corner.{Corner}
 use Rattle.shp_files.specs.declared.fault.FaultKind.TheVariants.{FewPoints}
 use Rattle.shp_files.specs.NormalForm.{kept_once, counterclockwise, normal_form}
 use Rattle.shp_files.specs.Checks.{Check, check, fault, first_failure, ring_checks, corner_checks, polygon_checks, points_of, distinct_points}

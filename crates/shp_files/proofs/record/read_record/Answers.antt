@@ -1,7 +1,6 @@
-use Rattle.std.proofs.Common.{◌≡◌, ◌++◌, Bool, true, false, cond, List, [], Some, None, sym, ap, subst, ◌∙◌}
+use Rattle.std.proofs.Common.{◌≡◌, true, false, cond, [], sym, ap, ◌∙◌}
 use Rattle.std.proofs.lemmas.Result.{err_from_is_err_and}
-use Rattle.shp_files.specs.Checks.{Check, first_failure, frame_checks, shape_checks, polygon_checks, is_null, record_checks}
-use Rattle.shp_files.specs.Reading.{Finds}
+use Rattle.shp_files.specs.Checks.{first_failure, polygon_checks, is_null, record_checks}
 use Rattle.shp_files.proofs.Lines.{goes_on, stops, first_failure_none}
 use Rattle.shp_files.proofs.Finding.{finds_on}
 use Rattle.shp_files.proofs.record.read_record.Goals as goal
