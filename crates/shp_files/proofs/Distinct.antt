@@ -1,12 +1,13 @@
 -- The corners of a ring that are left where neighbours that are equal are kept once.
-use Rattle.std.proofs.Common.{◌≡◌, ℕ, suc, ◌+◌, ◌≤◌, ◌<◌, Bool, true, false, not, ◌||◌, ◌&&◌, cond, List, [], ◌∷◌, ◌++◌, length, refl, arith}
+use Rattle.std.proofs.Common.{◌≡◌, ℕ, suc, ◌+◌, ◌≤◌, ◌<◌, Bool, true, false, not, ◌||◌, ◌&&◌, cond, List, [], ◌∷◌, ◌++◌, length, refl, arith, ◌-◌, nat_lt, sym, ◌∙◌, ap}
 use Rattle.std.specs.Ordering.{int_eq}
 use Rattle.geo_exact.specs.declared.corner.Corner.{Corner}
 use Rattle.geo_exact.specs.declared.coord.Unit.{Unit as LengthUnit}
 use Rattle.geo_exact.specs.Rings.{path}
 use Rattle.shp_files.specs.LayerFile.{closed}
 use Rattle.shp_files.specs.NormalForm.{starts, kept_once}
-use Rattle.shp_files.specs.Checks.{distinct_points}
+use Rattle.shp_files.specs.Checks.{distinct_points, check, fault, first_failure, points_of, corner_checks}
+use Rattle.shp_files.specs.declared.fault.FaultKind.TheVariants.{FewPoints}
 use Rattle.shp_files.specs.Reading.{AreReadAs}
 use Rattle.shp_files.proofs.Ring.{other_point}
 
@@ -45,3 +46,14 @@ starts_fewer from (next ∷ rest) to = fewer (int_eq from.x next.x && int_eq fro
 pub kept_fewer : (corners : List Corner) → length (kept_once corners) ≤ length corners
 kept_fewer [] = omega arith
 kept_fewer (first ∷ rest) = starts_fewer first rest first
+
+-- the check of the corners that are left, as it is made on a list of them
+pub corners_line : (main : List ℕ) (unit : LengthUnit) (position start : ℕ) (drawn kept : List Corner) → 0 < length drawn → length drawn + 1 ≡ points_of main start
+    → AreReadAs unit main (start + 56) (closed drawn) → kept ≡ kept_once drawn
+    → first_failure (check (nat_lt (length kept) 3) (fault position (start + 48) FewPoints) ∷ []) ≡ first_failure (corner_checks main unit position start)
+unfolding corner_checks
+corners_line main unit position start drawn kept some count are is =
+    let last : length drawn ≡ points_of main start - 1 = omega (arith, count) in
+    let left : length kept ≡ distinct_points main unit (start + 56) (points_of main start - 1) =
+    ap length is ∙ sym (distinct_is main unit (start + 56) drawn some are) ∙ ap (λ n. distinct_points main unit (start + 56) n) last in
+    ap (λ n. first_failure (check (nat_lt n 3) (fault position (start + 48) FewPoints) ∷ [])) left

@@ -1,13 +1,12 @@
-use Rattle.std.proofs.Common.{◌≡◌, ◌≤◌, ◌<◌, ◌+◌, ◌-◌, ℕ, nat_lt, ◌∷◌, [], length, None, sym, ap, subst, ◌∙◌, arith}
+use Rattle.std.proofs.Common.{◌≡◌, ◌≤◌, ◌<◌, ◌+◌, ℕ, nat_lt, ◌∷◌, [], length, None, sym, ap, subst, ◌∙◌, arith}
 use Rattle.std.proofs.lemmas.Bool.{ltb-false}
 use Rattle.std.proofs.lemmas.Result.{err_from_is_err_and}
-use Rattle.shp_files.specs.declared.fault.FaultKind.TheVariants.{FewPoints}
 use Rattle.shp_files.specs.NormalForm.{kept_once, counterclockwise, normal_form}
-use Rattle.shp_files.specs.Checks.{Check, check, fault, first_failure, ring_checks, corner_checks, polygon_checks, points_of, distinct_points}
+use Rattle.shp_files.specs.Checks.{check, first_failure, ring_checks, polygon_checks}
 use Rattle.shp_files.specs.Reading.{Fails}
 use Rattle.shp_files.proofs.Lines.{goes_on, stops, passed}
 use Rattle.shp_files.proofs.Finding.{fails_stops, fails_on}
-use Rattle.shp_files.proofs.Distinct.{distinct_is, kept_fewer}
+use Rattle.shp_files.proofs.Distinct.{corners_line, kept_fewer}
 use Rattle.shp_files.proofs.Turned.{is_normal}
 use Rattle.shp_files.proofs.record.read_polygon.Goals as goal
 
@@ -26,20 +25,16 @@ returns-in_err-drawn-clause-checked g c =
     rw (p.1, p.2) (fails_on e _ _ c.in_ok-count.ensures.checked (fails_stops e _ _ (subst P c.in_ok-count.ensures.count c.in_err-drawn.ensures.checked)))
 
 pub returns-in_err-refuse_if-clause-checked : goal.returns-in_err-refuse_if-clause-checked
-unfolding polygon_checks corner_checks
+unfolding polygon_checks
 returns-in_err-refuse_if-clause-checked g c =
     let p = err_from_is_err_and c.from_residual-in_err-refuse_if.result c.from_residual-in_err-refuse_if.ensures.1 in
     let P : ℕ → Type 0 = λ n. first_failure (ring_checks c.args.main.now c.args.unit c.args.head.position (c.args.head.start + 56) n) ≡ None in
     let some : 0 < length c.in_ok-drawn.drawn = omega (arith, c.in_ok-drawn.ensures.count, c.in_ok-count.ensures.enough) in
-    let count : length c.in_ok-drawn.drawn ≡ points_of c.args.main.now c.args.head.start - 1 = omega (arith, c.in_ok-drawn.ensures.count, c.in_ok-count.ensures.count) in
-    let left : length c.as_slice-2.result.now ≡ distinct_points c.args.main.now c.args.unit (c.args.head.start + 56) (points_of c.args.main.now c.args.head.start - 1) =
-    ap length (c.as_slice-2.ensures ∙ c.in_ok-corners.ensures ∙ ap kept_once c.as_slice.ensures)
-    ∙ sym (distinct_is c.args.main.now c.args.unit (c.args.head.start + 56) c.in_ok-drawn.drawn some c.in_ok-drawn.ensures.read)
-    ∙ ap (λ n. distinct_points c.args.main.now c.args.unit (c.args.head.start + 56) n) count in
-    let line : check (nat_lt (length c.as_slice-2.result.now) 3) c.fault.result ≡ check (nat_lt (distinct_points c.args.main.now c.args.unit (c.args.head.start + 56) (points_of c.args.main.now c.args.head.start - 1)) 3) (fault c.args.head.position (c.args.head.start + 48) FewPoints) =
-    ap (λ n. check (nat_lt n 3) c.fault.result) left ∙ ap (λ f. check (nat_lt (distinct_points c.args.main.now c.args.unit (c.args.head.start + 56) (points_of c.args.main.now c.args.head.start - 1)) 3) f) c.fault.ensures in
+    let kept = c.as_slice-2.ensures ∙ c.in_ok-corners.ensures ∙ ap kept_once c.as_slice.ensures in
+    let line = corners_line c.args.main.now c.args.unit c.args.head.position c.args.head.start c.in_ok-drawn.drawn c.as_slice-2.result.now some (c.in_ok-drawn.ensures.count ∙ c.in_ok-count.ensures.count) c.in_ok-drawn.ensures.read kept in
+    let answer = ap (λ f. first_failure (check (nat_lt (length c.as_slice-2.result.now) 3) f ∷ [])) c.fault.ensures ∙ line in
     rw (p.1, p.2) (goes_on _ _ c.in_ok-count.ensures.checked ∙ goes_on _ _ (sym (subst P c.in_ok-count.ensures.count c.in_ok-drawn.ensures.checked))
-    ∙ ap (λ (l : Check). first_failure (l ∷ [])) (sym line) ∙ sym c.in_err-refuse_if.ensures)
+    ∙ sym answer ∙ sym c.in_err-refuse_if.ensures)
 
 pub turn_counterclockwise-requires : goal.turn_counterclockwise-requires
 turn_counterclockwise-requires g c =
@@ -61,16 +56,12 @@ invariant_of-result g c =
     }
 
 pub returns-clause-checked : goal.returns-clause-checked
-unfolding polygon_checks corner_checks
+unfolding polygon_checks
 returns-clause-checked g c =
     let P : ℕ → Type 0 = λ n. first_failure (ring_checks c.args.main.now c.args.unit c.args.head.position (c.args.head.start + 56) n) ≡ None in
     let some : 0 < length c.in_ok-drawn.drawn = omega (arith, c.in_ok-drawn.ensures.count, c.in_ok-count.ensures.enough) in
-    let count : length c.in_ok-drawn.drawn ≡ points_of c.args.main.now c.args.head.start - 1 = omega (arith, c.in_ok-drawn.ensures.count, c.in_ok-count.ensures.count) in
-    let left : length c.as_slice-2.result.now ≡ distinct_points c.args.main.now c.args.unit (c.args.head.start + 56) (points_of c.args.main.now c.args.head.start - 1) =
-    ap length (c.as_slice-2.ensures ∙ c.in_ok-corners.ensures ∙ ap kept_once c.as_slice.ensures)
-    ∙ sym (distinct_is c.args.main.now c.args.unit (c.args.head.start + 56) c.in_ok-drawn.drawn some c.in_ok-drawn.ensures.read)
-    ∙ ap (λ n. distinct_points c.args.main.now c.args.unit (c.args.head.start + 56) n) count in
-    let line : check (nat_lt (length c.as_slice-2.result.now) 3) c.fault.result ≡ check (nat_lt (distinct_points c.args.main.now c.args.unit (c.args.head.start + 56) (points_of c.args.main.now c.args.head.start - 1)) 3) (fault c.args.head.position (c.args.head.start + 48) FewPoints) =
-    ap (λ n. check (nat_lt n 3) c.fault.result) left ∙ ap (λ f. check (nat_lt (distinct_points c.args.main.now c.args.unit (c.args.head.start + 56) (points_of c.args.main.now c.args.head.start - 1)) 3) f) c.fault.ensures in
+    let kept = c.as_slice-2.ensures ∙ c.in_ok-corners.ensures ∙ ap kept_once c.as_slice.ensures in
+    let line = corners_line c.args.main.now c.args.unit c.args.head.position c.args.head.start c.in_ok-drawn.drawn c.as_slice-2.result.now some (c.in_ok-drawn.ensures.count ∙ c.in_ok-count.ensures.count) c.in_ok-drawn.ensures.read kept in
+    let answer = ap (λ f. first_failure (check (nat_lt (length c.as_slice-2.result.now) 3) f ∷ [])) c.fault.ensures ∙ line in
     goes_on _ _ c.in_ok-count.ensures.checked ∙ goes_on _ _ (sym (subst P c.in_ok-count.ensures.count c.in_ok-drawn.ensures.checked))
-    ∙ ap (λ (l : Check). first_failure (l ∷ [])) (sym line) ∙ sym c.in_ok-refuse_if.ensures
+    ∙ sym answer ∙ sym c.in_ok-refuse_if.ensures
