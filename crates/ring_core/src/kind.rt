@@ -1,4 +1,5 @@
-ghost use Rattle.std.specs.Prelude.{◌≡◌, ◌⊎◌, ◌↔◌, ℕ, ◌+◌, ◌<◌, ◌≤◌, IsTrue, List, length, slice_index_or, IfOk, MatchOption};
+ghost use Rattle.std.specs.Prelude.{◌≡◌, ◌⊎◌, ◌↔◌, ℕ, ◌+◌, ◌<◌, ◌≤◌, IfOk, IsTrue, MatchOption};
+ghost use Rattle.std.specs.Prelude.{List, length, slice_index_or};
 ghost use Rattle.geo_exact.specs.declared.corner.Corner.{Corner};
 ghost use Rattle.ring_core.specs.Places.{after, before};
 ghost use Rattle.ring_core.specs.Clipping.{HasNone, IsEar, IsFirst, IsFlat};

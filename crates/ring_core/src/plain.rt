@@ -59,7 +59,9 @@ pub fn is_ear(rest: &[Corner], k: usize) -> bool
 
 /// The first flat corner.
 pub fn plain_first_flat(rest: &[Corner]) -> Option<usize>
-    ensures { MatchOption result (HasNone (IsFlat rest.now) (length rest.now)) (λ k. IsFirst (IsFlat rest.now) (length rest.now) k) }
+    ensures { MatchOption result
+        (HasNone (IsFlat rest.now) (length rest.now))
+        (λ k. IsFirst (IsFlat rest.now) (length rest.now) k) }
 {
     for k in 0..rest.len() {
         if is_flat(rest, k) {
@@ -71,7 +73,9 @@ pub fn plain_first_flat(rest: &[Corner]) -> Option<usize>
 
 /// The first ear.
 pub fn plain_first_ear(rest: &[Corner]) -> Option<usize>
-    ensures { MatchOption result (HasNone (IsEar rest.now) (length rest.now)) (λ k. IsFirst (IsEar rest.now) (length rest.now) k) }
+    ensures { MatchOption result
+        (HasNone (IsEar rest.now) (length rest.now))
+        (λ k. IsFirst (IsEar rest.now) (length rest.now) k) }
 {
     for k in 0..rest.len() {
         if is_ear(rest, k) {

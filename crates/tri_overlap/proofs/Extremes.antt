@@ -1,4 +1,4 @@
--- The least and the greatest of three numbers.
+-- The lesser and the greater of two numbers, and the least and the greatest of three.
 use Rattle.std.proofs.Common.{◌≡◌, ℤ, ◌≤ℤ◌, arith}
 use Rattle.std.specs.Int.{int_min, int_max}
 use Rattle.std.proofs.lemmas.Int.{ints, int_min_is, int_max_is}

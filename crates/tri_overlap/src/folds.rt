@@ -1,5 +1,4 @@
-ghost use Rattle.std.specs.Prelude.{◌≡◌, ◌↔◌, ◌<◌, ℕ, IsTrue, length, MatchOption};
-ghost use Rattle.tri_overlap.specs.Bounding.{Holds};
+ghost use Rattle.std.specs.Prelude.{◌<◌, ℕ, length, MatchOption};
 ghost use Rattle.tri_overlap.specs.Folding.{HasNoOverlap, IsFirstOverlap, OverlapAt};
 
 use crate::bounds::bounds_of;
@@ -12,7 +11,8 @@ fn first_overlap_with(triangles: &[Tri], i: usize) -> Option<usize>
     requires { i < length triangles.now }
     ensures { MatchOption result
         ((j : ℕ) → i < j → ¬ OverlapAt triangles.now i j)
-        (λ j. (i < j) × OverlapAt triangles.now i j × ((l : ℕ) → i < l → l < j → ¬ OverlapAt triangles.now i l)) }
+        (λ j. (i < j) × OverlapAt triangles.now i j
+        × ((l : ℕ) → i < l → l < j → ¬ OverlapAt triangles.now i l)) }
 {
     let triangle = triangles[i];
     let bounds = bounds_of(&triangle);
