@@ -17,7 +17,11 @@ use std::{env, io};
 type Lists<A> = Vec<Vec<Corner, A>, A>;
 
 /// A layer's rings: none where the file has a fault.
-fn read<R: Files, A: Allocator + Copy>(rt: &R, alloc: A, path: &str) -> io::Result<Option<Vec<RawRing<A>, A>>> {
+fn read<R: Files, A: Allocator + Copy>(
+    rt: &R,
+    alloc: A,
+    path: &str,
+) -> io::Result<Option<Vec<RawRing<A>, A>>> {
     let file = File::open(rt, path)?;
     let Ok(bytes) = read_all(alloc, &mut Counted::new(file)) else {
         return Ok(None);
@@ -34,7 +38,10 @@ fn lists<A: Allocator + Copy>(alloc: A, rings: &[RawRing<A>]) -> Result<Lists<A>
     Ok(all)
 }
 
-fn append<A: Allocator + Copy>(all: &mut Vec<Corner, A>, rings: &[Vec<Corner, A>]) -> Result<(), AllocError> {
+fn append<A: Allocator + Copy>(
+    all: &mut Vec<Corner, A>,
+    rings: &[Vec<Corner, A>],
+) -> Result<(), AllocError> {
     for ring in rings {
         all.extend_from_slice(ring)?;
     }
@@ -96,8 +103,13 @@ fn measure<R: Files + Clock + Print, A: Allocator + Copy>(
     let begin = Instant::now(rt)?;
     let unbalanced = sum.first_unbalanced();
     let searching = begin.elapsed(rt)?.as_millis();
-    println!(rt; "{} {} {} {reading} {noding} {summing} {searching} {}", parcels.len(), corners.len(),
-        corners_of(&noded).wrapping_add(corners_of(&noded_city)), unbalanced.is_none())
+    println!(rt;
+        "{} {} {} {reading} {noding} {summing} {searching} {}",
+        parcels.len(),
+        corners.len(),
+        corners_of(&noded).wrapping_add(corners_of(&noded_city)),
+        unbalanced.is_none()
+    )
 }
 
 fn main(rt: HostRuntime) -> io::Result<()> {

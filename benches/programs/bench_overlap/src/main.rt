@@ -81,7 +81,10 @@ fn add<R: Clock, A: Allocator + Copy>(
     line: &str,
 ) -> io::Result<bool> {
     let rings = parse(alloc, line)?;
-    if let (Some(first), Some(second)) = (turned(rings.first.as_slice()), turned(rings.second.as_slice())) {
+    if let (Some(first), Some(second)) = (
+        turned(rings.first.as_slice()),
+        turned(rings.second.as_slice()),
+    ) {
         group.triangles.push((first, second))?;
         return Ok(true);
     }
@@ -90,7 +93,10 @@ fn add<R: Clock, A: Allocator + Copy>(
     let second = clipped(alloc, rings.second);
     group.clipping = group.clipping.wrapping_add(begin.elapsed(rt)?.as_nanos());
     if let (Some(first), Some(second)) = (first, second) {
-        group.shapes.push((first, second)).map_err(AllocError::from)?;
+        group
+            .shapes
+            .push((first, second))
+            .map_err(AllocError::from)?;
         return Ok(true);
     }
     Ok(false)
@@ -115,15 +121,27 @@ fn count_meeting<A: Allocator>(group: &Group<A>) -> u64 {
 fn answers<A: Allocator + Copy>(alloc: A, group: &Group<A>) -> Result<String<A>, AllocError> {
     let mut text = String::new(alloc);
     for pair in &group.triangles {
-        text.push(if triangles_overlap(&pair.0, &pair.1) { '1' } else { '0' })?;
+        text.push(if triangles_overlap(&pair.0, &pair.1) {
+            '1'
+        } else {
+            '0'
+        })?;
     }
     for pair in &group.shapes {
-        text.push(if shapes_overlap(&pair.0, &pair.1) { '1' } else { '0' })?;
+        text.push(if shapes_overlap(&pair.0, &pair.1) {
+            '1'
+        } else {
+            '0'
+        })?;
     }
     Ok(text)
 }
 
-fn finish<R: Clock + Print, A: Allocator + Copy>(rt: &R, alloc: A, group: &Group<A>) -> io::Result<()> {
+fn finish<R: Clock + Print, A: Allocator + Copy>(
+    rt: &R,
+    alloc: A,
+    group: &Group<A>,
+) -> io::Result<()> {
     let mut best = u128::from(u64::MAX);
     let mut sum = 0u64;
     for _ in 0..group.rounds {
@@ -132,7 +150,12 @@ fn finish<R: Clock + Print, A: Allocator + Copy>(rt: &R, alloc: A, group: &Group
         best = best.min(begin.elapsed(rt)?.as_nanos());
     }
     let answers = answers(alloc, group)?;
-    println!(rt; "{} {} {} {best} {answers} {sum}", group.name, answers.len(), group.clipping)?;
+    println!(rt;
+        "{} {} {} {best} {answers} {sum}",
+        group.name,
+        answers.len(),
+        group.clipping
+    )?;
     Ok(())
 }
 

@@ -116,7 +116,10 @@ fn main(rt: HostRuntime) -> io::Result<()> {
             }
         }
         let count = case.corners.as_slice().len();
-        println!(rt; "{} {count} {} {} {} {} {good}", case.name, best.check, best.clip, best.plain, best.triangles)?;
+        println!(rt;
+            "{} {count} {} {} {} {} {good}",
+            case.name, best.check, best.clip, best.plain, best.triangles
+        )?;
     }
     Ok(())
 }

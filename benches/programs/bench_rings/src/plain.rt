@@ -7,14 +7,22 @@ use std::alloc::{AllocError, Allocator};
 fn corner_before(rest: &[Corner], k: usize) -> Corner
     requires { k < length rest.now }
 {
-    if k == 0 { rest[rest.len() - 1] } else { rest[k - 1] }
+    if k == 0 {
+        rest[rest.len() - 1]
+    } else {
+        rest[k - 1]
+    }
 }
 
 /// The corner after corner `k`.
 fn corner_after(rest: &[Corner], k: usize) -> Corner
     requires { k < length rest.now }
 {
-    if k + 1 == rest.len() { rest[0] } else { rest[k + 1] }
+    if k + 1 == rest.len() {
+        rest[0]
+    } else {
+        rest[k + 1]
+    }
 }
 
 fn is_flat(rest: &[Corner], k: usize) -> bool
@@ -30,7 +38,9 @@ fn is_in_triangle(q: Corner, a: Corner, b: Corner, c: Corner) -> bool {
 fn is_near(count: usize, k: usize, j: usize) -> bool
     requires { k < count }
 {
-    j == k || j == (if k == 0 { count - 1 } else { k - 1 }) || j == (if k + 1 == count { 0 } else { k + 1 })
+    j == k
+        || j == (if k == 0 { count - 1 } else { k - 1 })
+        || j == (if k + 1 == count { 0 } else { k + 1 })
 }
 
 fn is_ear(rest: &[Corner], k: usize) -> bool
