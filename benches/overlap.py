@@ -1,154 +1,183 @@
 #!/usr/bin/env python3
-"""overlap.py - time of `triangles_overlap` and `shapes_overlap`, beside relate and intersects-and-not-touches of GEOS.
+"""overlap.py - triangles_overlap and shapes_overlap beside GEOS's relate, and its intersects and not touches.
 
-  overlap.py [--kind WORD]      at the top of the worktree; --kind takes the kinds that contain WORD alone
+  overlap.py [--seed N] [--ours PROGRAM]
 
-It copies the crates to a temporary folder, adds the program overlap/main.rt.txt as a crate there, proves and builds it
-with `rt`, and builds overlap/geos.cpp (Debian's g++ and libgeos-dev). The pairs are made with a fixed seed, of whole
-centimetres that doubles hold exactly. A ring is checked and clipped once, before the time is taken, as GEOS makes its
-polygons before; each test is then run again and again. Printed are nanoseconds a pair, the ratios to ours, how many
-pairs meet, and in how many an answer of GEOS is another than ours.
-
-random   triangles, or stars round two places, in one square
-grazing  triangles with a corner and almost an edge in common; strips that have a jagged border in common, of which
-         every other pair has one corner moved by a centimetre
+Pairs of triangles and of shapes are made with a fixed seed, all in whole centimetres, and given to both programs: ours
+(programs/bench_overlap, proved and built by build.sh unless PROGRAM is given) and geos_overlap.cpp (Debian's libgeos-dev
+and g++). Making geometries isn't timed; our checking and clipping is printed apart. A pair whose answers differ is told.
 """
-import argparse, math, os, random, shutil, struct, subprocess, sys, tempfile
+import argparse, math, os, random, shutil, subprocess, sys, tempfile
 
 HERE = os.path.dirname(os.path.abspath(__file__))
-CRATES = ("geo_exact", "ring_core", "tri_overlap")
 FAR = 10 ** 10
-# kind, corners, pairs, extent, rounds
-KINDS = (("random", 3, 2000, FAR, 20), ("grazing", 3, 2000, FAR, 20), ("random", 16, 400, 10 ** 6, 20),
-         ("grazing", 16, 400, 10 ** 6, 20), ("random", 256, 40, 10 ** 6, 10), ("grazing", 256, 40, 10 ** 6, 10),
-         ("random", 4096, 6, 10 ** 9, 3), ("grazing", 4096, 6, 10 ** 9, 3))
+EAST, NORTH = 350000000, 580000000
 
 
 def turn(a, b, c):
     return (b[0] - a[0]) * (c[1] - a[1]) - (b[1] - a[1]) * (c[0] - a[0])
 
 
-def place(numbers, extent):
-    return numbers.randint(-extent, extent), numbers.randint(-extent, extent)
+def left(a, b, c):
+    """The triangle, turned left; none where its corners are on a line."""
+    t = turn(a, b, c)
+    return [a, b, c] if t > 0 else [a, c, b] if t < 0 else None
 
 
-def triangle(numbers, extent):
-    while True:
-        a, b, c = (place(numbers, extent) for _ in range(3))
-        if turn(a, b, c) > 0:
-            return [a, b, c]
+def place(chance, size=10000):
+    return EAST + chance.randint(0, size), NORTH + chance.randint(0, size)
 
 
-def grazing_triangle(numbers, extent, other):
-    """One with a corner of the other, and a second one at most a centimetre off in each coordinate."""
-    while True:
-        x, y = other[0]
-        near = (x + numbers.randint(-1, 1), y + numbers.randint(-1, 1))
-        last = place(numbers, extent)
-        if max(abs(near[0]), abs(near[1])) <= FAR and turn(other[1], near, last) > 0:
-            return [other[1], near, last]
+def anywhere(chance):
+    return left(place(chance), place(chance), place(chance)), left(place(chance), place(chance), place(chance))
 
 
-def star(numbers, corners, x, y, radius):
-    """A ring round a place, its corners by their angle from there."""
-    while True:
-        angles = sorted(numbers.random() * 2 * math.pi for _ in range(corners))
-        gaps = [(angles[(i + 1) % corners] - angles[i]) % (2 * math.pi) for i in range(corners)]
-        ring = []
-        for angle in angles:
-            length = radius * numbers.uniform(0.5, 1.0)
-            ring.append((x + round(length * math.cos(angle)), y + round(length * math.sin(angle))))
-        if max(gaps) < 2.5 and len(set(ring)) == corners:
-            return ring
+def common_edge(chance):
+    a, b = place(chance), place(chance)
+    return left(a, b, place(chance)), left(a, b, place(chance))
 
 
-def strips(numbers, corners, extent):
-    """Two rings, one above the other, with a jagged border between them; half of the time it differs in a corner."""
-    steps = corners - 2
-    width = extent // steps
-    border = [(i * width, numbers.randint(-width, width)) for i in range(steps)]
-    lower = list(border)
-    if numbers.random() < 0.5:
-        i = numbers.randrange(steps)
-        lower[i] = (lower[i][0], lower[i][1] + 1)
-    end = (steps - 1) * width
-    return [(0, -3 * width), (end, -3 * width)] + lower[::-1], border + [(end, 3 * width), (0, 3 * width)]
+def common_corner(chance):
+    a = place(chance)
+    return left(a, place(chance), place(chance)), left(a, place(chance), place(chance))
 
 
-def pair(numbers, kind, corners, extent):
-    if corners == 3:
-        first = triangle(numbers, extent)
-        return first, triangle(numbers, extent) if kind == "random" else grazing_triangle(numbers, extent, first)
-    if kind == "grazing":
-        return strips(numbers, corners, extent)
-    radius = extent // 2
-    return star(numbers, corners, 0, 0, radius), star(numbers, corners, *place(numbers, radius), radius)
+def corner_on_edge(chance):
+    a, step, k = place(chance), (chance.randint(-900, 900), chance.randint(-900, 900)), chance.randint(1, 9)
+    b = a[0] + 10 * step[0], a[1] + 10 * step[1]
+    on = a[0] + k * step[0], a[1] + k * step[1]
+    return left(a, b, place(chance)), left(on, place(chance), place(chance))
 
 
-def write_pairs(path, kind, corners, pairs, extent):
-    numbers = random.Random(7)
-    with open(path, "wb") as target:
-        target.write(struct.pack("<q", pairs))
-        for _ in range(pairs):
-            for ring in pair(numbers, kind, corners, extent):
-                target.write(struct.pack("<q", len(ring)))
-                for corner in ring:
-                    target.write(struct.pack("<qq", *corner))
+def sliver(chance):
+    """Two thin triangles across the whole plane, a centimetre or two from one line."""
+    a = -FAR + chance.randint(0, 10 ** 6), -FAR + chance.randint(0, 10 ** 9)
+    b = FAR - chance.randint(0, 10 ** 6), FAR - chance.randint(0, 10 ** 9)
+
+    def near():
+        t = chance.randint(1, 10 ** 6 - 1)
+        return (a[0] + (b[0] - a[0]) * t // 10 ** 6 + chance.randint(-2, 2),
+                a[1] + (b[1] - a[1]) * t // 10 ** 6 + chance.randint(-2, 2))
+    return left(a, b, near()), left(near(), near(), near())
 
 
-def build(folder):
-    """The two programs."""
-    crate = os.path.join(folder, "crates", "overlap_bench")
-    os.makedirs(os.path.join(crate, "src"))
-    for name in CRATES:
-        shutil.copytree(os.path.join(HERE, "..", "crates", name), os.path.join(folder, "crates", name))
-    shutil.copy(os.path.join(HERE, "overlap", "main.rt.txt"), os.path.join(crate, "src", "main.rt"))
-    with open(os.path.join(HERE, "..", "crates.txt")) as source, open(os.path.join(folder, "crates.txt"), "w") as target:
-        for line in source:
-            if line.split(":")[0] in CRATES:
-                target.write(line)
-        target.write("overlap_bench: anyhow byteorder " + " ".join(CRATES) + "\n")
-    empty = os.path.join(folder, "empty")
-    with open(empty, "wb") as target:
-        target.write(bytes(8))
-    subprocess.run(["git", "init", "-q", folder], check=True)
-    done = subprocess.run(["rt", "run", "--", empty, "1"], cwd=crate, stdout=subprocess.PIPE, stderr=subprocess.STDOUT)
-    if done.returncode != 0:
-        sys.exit(done.stdout.decode(errors="replace"))
-    geos = os.path.join(folder, "geos")
-    subprocess.run(["g++", "-O2", "-o", geos, os.path.join(HERE, "overlap", "geos.cpp"), "-lgeos_c"], check=True)
-    return os.path.join(crate, "out", "overlap_bench"), geos
+def ragged(chance, n, east, north):
+    """A ring of corners at rising angles and random distances."""
+    far = [1000 * n * chance.uniform(0.5, 1) for _ in range(n)]
+    return [(EAST + east + round(far[k] * math.cos(2 * math.pi * k / n)),
+             NORTH + north + round(far[k] * math.sin(2 * math.pi * k / n))) for k in range(n)]
 
 
-def run(words):
-    """Nanoseconds and answers."""
-    nanoseconds, answers = subprocess.run(words, check=True, stdout=subprocess.PIPE).stdout.decode().split()
-    return int(nanoseconds), answers
+def stars(chance, n):
+    """Two ragged rings whose boxes meet; most share a part."""
+    return ragged(chance, n, 0, 0), ragged(chance, n, chance.randint(-1700, 1700) * n, chance.randint(-1700, 1700) * n)
+
+
+def border(chance, n):
+    """Two sides of a jagged border, one above the other."""
+    line = [(EAST + 1000 * k, NORTH + chance.randint(0, 1000)) for k in range(n - 2)]
+    west, east = line[0][0], line[-1][0]
+    return [(west, NORTH - 3000), (east, NORTH - 3000)] + line[::-1], line + [(east, NORTH + 4000), (west, NORTH + 4000)]
+
+
+def zigzag(chance, n):
+    """Two sides of a border that goes to and fro over the whole of their boxes' overlap, side by side."""
+    line = [(EAST + chance.randint(0, 40000), NORTH + 1000 * k) for k in range(n - 2)]
+    top, bottom = line[-1][1], line[0][1]
+    return [(EAST - 50000, top), (EAST - 50000, bottom)] + line, [(EAST + 90000, bottom), (EAST + 90000, top)] + line[::-1]
+
+
+def zigzag_met(chance, n):
+    """The same, with one corner of one side a centimetre over the line."""
+    first, second = zigzag(chance, n)
+    k = chance.randint(n // 4, 3 * n // 4)
+    first[k] = first[k][0] + 1, first[k][1]
+    return first, second
+
+
+def notch(chance, n):
+    """A ring between the walls of another, in its box but apart from it."""
+    end = 1000 * (n - 5)
+    floor = [(EAST + 1000 * k, NORTH + 10000 + chance.randint(0, 9000)) for k in range(n - 4)]
+    cup = [(EAST - 9000, NORTH), (EAST + end + 9000, NORTH), (EAST + end + 9000, NORTH + 90000)] + floor[::-1] + \
+        [(EAST - 9000, NORTH + 90000)]
+    under = [(EAST + end * k // (n - 3), NORTH + 20000 + chance.randint(0, 9000)) for k in range(n - 2)]
+    return cup, under + [(EAST + end, NORTH + 60000), (EAST, NORTH + 60000)]
+
+
+def spirals(chance, n):
+    """Two bands that wind round each other, with one boundary all the way."""
+    half, turns = n // 2, 4 if n < 100 else 16 if n < 1000 else 32
+    step = chance.randint(400, 600) * 64
+    start = half * step * 2
+
+    def at(k, inward):
+        angle = 2 * math.pi * (k % turns) / turns
+        far = start - k * step - inward * turns * step // 2
+        return EAST + round(far * math.cos(angle)), NORTH + round(far * math.sin(angle))
+    lines = [[at(k, inward) for k in range(half)] for inward in range(3)]
+    return lines[0] + lines[1][::-1], lines[1] + lines[2][::-1]
+
+
+TRIANGLES = (anywhere, common_edge, common_corner, corner_on_edge, sliver)
+SHAPES = (stars, border, zigzag, zigzag_met, spirals, notch)
+
+
+def groups(seed):
+    for kind in TRIANGLES:
+        chance, pairs = random.Random(seed), []
+        while len(pairs) < 20000:
+            first, second = kind(chance)
+            if first and second:
+                pairs.append((first, second))
+        yield "%s/3" % kind.__name__, 3, pairs
+    for size, count in ((16, 1000), (256, 100), (4096, 5)):
+        for kind in SHAPES:
+            chance = random.Random(seed)
+            yield "%s/%d" % (kind.__name__, size), 3, [kind(chance, size) for _ in range(count)]
+
+
+def write(path, seed):
+    with open(path, "w") as out:
+        for name, rounds, pairs in groups(seed):
+            out.write("# %s %d\n" % (name, rounds))
+            for first, second in pairs:
+                out.write("%d %s\n" % (len(first), " ".join("%d %d" % c for c in first + second)))
+
+
+def answers(command, path):
+    with open(path) as pairs:
+        run = subprocess.run(command, stdin=pairs, text=True, stdout=subprocess.PIPE)
+    if run.returncode != 0 or "bad" in run.stdout:
+        sys.exit("%s failed: %s" % (command[0], run.stdout[-1000:]))
+    return {words[0]: words[1:] for words in map(str.split, run.stdout.splitlines())}
 
 
 def main():
     parser = argparse.ArgumentParser(description=__doc__, formatter_class=argparse.RawDescriptionHelpFormatter)
-    parser.add_argument("--kind", default="")
+    parser.add_argument("--seed", type=int, default=1)
+    parser.add_argument("--ours")
     given = parser.parse_args()
     folder = tempfile.mkdtemp()
     try:
-        ours, geos = build(folder)
-        print("%-8s %7s %12s %12s %7s %12s %7s %6s %6s" % (
-            "kind", "corners", "ours ns", "relate ns", "x ours", "touches ns", "x ours", "meet", "differ"))
-        path = os.path.join(folder, "pairs")
-        for kind, corners, pairs, extent, rounds in KINDS:
-            if given.kind not in "%s %d" % (kind, corners):
-                continue
-            write_pairs(path, kind, corners, pairs, extent)
-            runs = [run([ours, path, str(rounds)])]
-            runs += [run([geos, path, str(rounds), job]) for job in ("relate", "touches")]
-            mean = [nanoseconds / pairs / rounds for nanoseconds, _ in runs]
-            differ = sum(len(set(answers)) > 1 for answers in zip(*(answers for _, answers in runs)))
-            print("%-8s %7d %12.0f %12.0f %7.1f %12.0f %7.1f %6d %6d" % (
-                kind, corners, mean[0], mean[1], mean[1] / mean[0], mean[2], mean[2] / mean[0],
-                runs[0][1].count("1"), differ), flush=True)
+        path, peer = os.path.join(folder, "pairs"), os.path.join(folder, "geos_overlap")
+        write(path, given.seed)
+        subprocess.run(["g++", "-O2", "-o", peer, os.path.join(HERE, "geos_overlap.cpp"), "-lgeos_c"], check=True)
+        if not given.ours:
+            subprocess.run([os.path.join(HERE, "build.sh"), "bench_overlap", folder], check=True)
+        ours = answers([given.ours or os.path.join(folder, "bench_overlap")], path)
+        geos = answers([peer], path)
     finally:
         shutil.rmtree(folder)
+    print("microseconds a pair; how many times ours: relate, and intersects and not touches")
+    print("%-20s %6s %6s %9s %9s %9s %9s %7s %7s %s" % ("pairs", "count", "meet", "clipping", "ours", "relate", "touches",
+                                                        "x", "x", "answers that differ"))
+    for name, (count, clipping, best, bits, _) in ours.items():
+        _, relate, touches, related, touching = geos[name]
+        each = [int(t) / 1000 / int(count) for t in (clipping, best, relate, touches)]
+        differ = [sum(p != q for p, q in zip(bits, other)) for other in (related, touching)]
+        print("%-20s %6s %6d %9.1f %9.3f %9.2f %9.2f %7.1f %7.1f %d relate, %d touches"
+              % (name, count, bits.count("1"), *each, each[2] / each[1], each[3] / each[1], *differ))
 
 
 if __name__ == "__main__":

@@ -1,0 +1,16 @@
+#!/usr/bin/env bash
+# build.sh NAME FOLDER: builds the program benches/programs/NAME over the crates of this repository, in a temporary folder,
+# proves it as the gate would, and copies it to FOLDER. What earlier checks kept in crates/*/out is used where it is there.
+set -eu
+here=$(cd "$(dirname "$0")" && pwd)
+name=$1
+mkdir -p "$2"
+folder=$(cd "$2" && pwd)
+room=$(mktemp -d)
+trap 'rm -rf "$room"' EXIT
+cp -r "$here/../crates.txt" "$here/../crates" "$room/"
+cp -r "$here/programs/$name" "$room/crates/$name"
+cat "$here/programs/$name/crates.line" >> "$room/crates.txt"
+cd "$room/crates/$name"
+rt run --jobs 2 < /dev/null > "$room/log" 2>&1 || { tail -20 "$room/log" >&2; exit 1; }
+cp "out/$name" "$folder/"

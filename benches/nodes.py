@@ -1,0 +1,169 @@
+#!/usr/bin/env python3
+"""nodes.py - node and EdgeSum over cities S, M and L, with and without T junctions, and over hostile layers.
+
+  nodes.py [--ours PROGRAM] [--runs N] [--limit SECONDS] [--only WORD]
+
+The layers are made in a temporary folder with a fixed seed. For each, the corners of the parcels and of the city are put
+into the rings of both (`node`), the parcels' edges are counted less the city's (`EdgeSum`), and the least unbalanced edge
+is looked for; PROGRAM is programs/bench_nodes, built by build.sh unless it is given. The best of N processes is printed,
+and the largest memory. A process that takes longer than the limit is ended and printed so.
+"""
+import argparse, os, random, shutil, subprocess, sys, tempfile, time
+
+HERE = os.path.dirname(os.path.abspath(__file__))
+sys.path.insert(0, HERE)
+import gencity
+
+
+def city(size, *words):
+    def make(folder):
+        subprocess.run([sys.executable, os.path.join(HERE, "gencity.py"), "--size", size, *words, folder], check=True,
+                       stdout=subprocess.DEVNULL)
+    return make
+
+
+def layers(folder, outline, parcels):
+    gencity.write(os.path.join(folder, "city"), [outline], False)
+    gencity.write(os.path.join(folder, "parcels"), parcels, False)
+
+
+def box(x, y, u, v, slant=0):
+    """A rectangle, or a parallelogram that leans."""
+    return [(x, y), (x + slant, v), (u + slant, v), (u, y)]
+
+
+def shuffled(folder):
+    """City L, its parcels in random order."""
+    keep = gencity.write
+
+    def write(path, rings, dbf):
+        rings = list(rings)
+        random.Random(1).shuffle(rings)
+        return keep(path, rings, dbf)
+    gencity.write, given = write, sys.argv
+    sys.argv = ["gencity.py", "--size", "L", folder]
+    try:
+        with open(os.devnull, "w") as nowhere:
+            out, sys.stdout = sys.stdout, nowhere
+            try:
+                gencity.main()
+            finally:
+                sys.stdout = out
+    finally:
+        gencity.write, sys.argv = keep, given
+
+
+def strips(slant, order):
+    """65,536 strips from one side of the city to the other."""
+    def make(folder):
+        wide, high = 100, 10 ** 9
+        rings = [box(wide * k, 0, wide * (k + 1), high, slant) for k in range(65536)]
+        if order:
+            random.Random(1).shuffle(rings)
+        layers(folder, box(0, 0, 65536 * wide, high, slant), rings)
+    return make
+
+
+def rows(folder):
+    """Eight long parcels, and between them 65,528 narrow ones with seven corners on either long line: 900,000 corners
+    on sixteen lines."""
+    count, wide, high, rings = 8191, 600, 1000, []
+    for row in range(8):
+        y = 2 * high * row
+        rings.append(box(0, y, count * wide, y + high))
+        for k in range(count):
+            x = k * wide
+            under = [(x + 100 * i, y + high) for i in range(7)]
+            over = [(x + 100 * i, y + 2 * high) for i in range(7)]
+            rings.append(over + under[::-1])
+    layers(folder, box(0, 0, count * wide, 16 * high), rings)
+
+
+def corner(folder):
+    """65,535 parcels in one corner of the city's box, and one parcel that is all the rest."""
+    side, wide, far, rings = 256, 100, 10 ** 9, []
+    for k in range(side * side - 1):
+        x, y = k % side * wide, k // side * wide
+        rings.append(box(x, y, x + wide, y + wide))
+    end = side * wide
+    rings.append([(0, end), (0, far), (far, far), (far, 0), (end, 0), (end, end - wide), (end - wide, end - wide),
+                  (end - wide, end)])
+    layers(folder, box(0, 0, far, far), rings)
+
+
+JOBS = (("city S", city("S")), ("city M", city("M")), ("city L", city("L")),
+        ("city S, T", city("S", "--tjunction", "0.3")), ("city M, T", city("M", "--tjunction", "0.3")),
+        ("city L, T", city("L", "--tjunction", "0.04")), ("city L, shuffled", shuffled),
+        ("strips", strips(0, False)), ("strips, shuffled", strips(0, True)),
+        ("slanted strips", strips(5 * 10 ** 9, False)), ("slanted, shuffled", strips(5 * 10 ** 9, True)),
+        ("rows", rows), ("corner", corner))
+
+
+def apart(make, folder):
+    """Makes a layer in a process of its own: a child's peak counts what its parent had when it began."""
+    child = os.fork()
+    if child == 0:
+        make(folder)
+        os._exit(0)
+    if os.waitpid(child, 0)[1] != 0:
+        sys.exit("no layer was made")
+
+
+def run(words, limit):
+    """Standard output and peak KiB of one process, or neither where it took too long."""
+    child = subprocess.Popen(words, stdout=subprocess.PIPE, text=True)
+    end = time.monotonic() + limit
+    while True:
+        done, status, usage = os.wait4(child.pid, os.WNOHANG)
+        if done:
+            break
+        if time.monotonic() > end:
+            child.kill()
+            os.wait4(child.pid, 0)
+            return None, 0
+        time.sleep(0.01)
+    if status != 0:
+        sys.exit("%s failed" % words[0])
+    return child.stdout.read(), usage.ru_maxrss
+
+
+def main():
+    parser = argparse.ArgumentParser(description=__doc__, formatter_class=argparse.RawDescriptionHelpFormatter)
+    parser.add_argument("--ours")
+    parser.add_argument("--runs", type=int, default=3)
+    parser.add_argument("--limit", type=float, default=120)
+    parser.add_argument("--only", default="")
+    given = parser.parse_args()
+    home = tempfile.mkdtemp()
+    if not given.ours:
+        subprocess.run([os.path.join(HERE, "build.sh"), "bench_nodes", home], check=True)
+    program = given.ours or os.path.join(home, "bench_nodes")
+    print("%-18s %7s %9s %9s %8s %8s %8s %8s %7s %s" % ("layer", "rings", "corners", "noded", "read ms", "node ms",
+                                                        "sums ms", "find ms", "MiB", "balanced"))
+    for name, make in JOBS:
+        if given.only not in name:
+            continue
+        folder = tempfile.mkdtemp()
+        try:
+            apart(make, folder)
+            words = [program] + [os.path.join(folder, part + ".shp") for part in ("parcels", "city")]
+            best, most = None, 0
+            for _ in range(given.runs):
+                text, kib = run(words, given.limit)
+                if text is None:
+                    break
+                answer = text.split()
+                most = max(most, kib)
+                if best is None or int(answer[4]) + int(answer[5]) < int(best[4]) + int(best[5]):
+                    best = answer
+        finally:
+            shutil.rmtree(folder)
+        if best is None:
+            print("%-18s more than %d seconds" % (name, given.limit), flush=True)
+        else:
+            print("%-18s %7s %9s %9s %8s %8s %8s %8s %7.1f %s" % (name, *best[:7], most / 1024, best[7]), flush=True)
+    shutil.rmtree(home)
+
+
+if __name__ == "__main__":
+    main()
