@@ -1,0 +1,56 @@
+-- Where the numbers of a shapefile stand (Technical Description, July 1998, "Numeric Types", "Main File Header", "Record Headers", "Polygon").
+use Rattle.std.specs.Prelude.{ℕ, ◌+◌, ◌*◌, ℤ, pos, negsuc, List, drop}
+use Rattle.byteorder.specs.Endian.{big_number, little_number, twos_complement}
+
+-- the signed 32-bit number at a byte, its most significant byte first
+abbrev pub big_at : List ℕ → ℕ → ℤ
+big_at bytes at = twos_complement 4 (big_number 4 (drop at bytes))
+
+-- the signed 32-bit number at a byte, its least significant byte first
+abbrev pub little_at : List ℕ → ℕ → ℤ
+little_at bytes at = twos_complement 4 (little_number 4 (drop at bytes))
+
+-- the bits of the double at a byte, its least significant byte first
+abbrev pub double_at : List ℕ → ℕ → ℕ
+double_at bytes at = little_number 8 (drop at bytes)
+
+-- The header, 100 bytes.
+abbrev pub file_code : List ℕ → ℤ
+file_code file = big_at file 0
+
+-- the file's length in 16-bit words, the header included
+abbrev pub file_words : List ℕ → ℤ
+file_words file = big_at file 24
+
+abbrev pub version : List ℕ → ℤ
+version file = little_at file 28
+
+abbrev pub header_shape_type : List ℕ → ℤ
+header_shape_type file = little_at file 32
+
+-- A record that begins at a byte: its header has 8 bytes, and then comes its content.
+-- The content's length in 16-bit words.
+abbrev pub content_words : List ℕ → ℕ → ℤ
+content_words file start = big_at file (start + 4)
+
+abbrev pub shape_type : List ℕ → ℕ → ℤ
+shape_type file start = little_at file (start + 8)
+
+-- A polygon: after its type and its box the number of its parts, the number of its points, the place of each part's first point, and the points.
+abbrev pub part_count : List ℕ → ℕ → ℤ
+part_count file start = little_at file (start + 44)
+
+abbrev pub point_count : List ℕ → ℕ → ℤ
+point_count file start = little_at file (start + 48)
+
+abbrev pub first_part : List ℕ → ℕ → ℤ
+first_part file start = little_at file (start + 52)
+
+-- the byte of coordinate i of a polygon of one part: x and y of the first point, x and y of the second, and so on
+abbrev pub coordinate_place : ℕ → ℕ → ℕ
+coordinate_place start i = start + 56 + 8 * i
+
+-- a number that is not negative, and 0 for one that is
+abbrev pub natural : ℤ → ℕ
+natural (pos n) = n
+natural (negsuc n) = 0

@@ -1,0 +1,4 @@
+pub mod Layout
+pub mod LayerFile
+pub mod Checks
+pub mod FirstFault

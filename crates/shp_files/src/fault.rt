@@ -1,0 +1,59 @@
+use geo_exact::CoordFault;
+
+/// The file of a layer in which a fault lies.
+#[derive(Clone, Copy, Debug, PartialEq, Eq)]
+pub enum FileName {
+    /// The main file, `.shp`.
+    Main,
+    /// The index file, `.shx`.
+    Index,
+}
+
+/// What is wrong at the place of a fault.
+#[derive(Clone, Copy, Debug, PartialEq, Eq)]
+pub enum FaultKind {
+    /// F1: the file ends too early.
+    Short,
+    /// F2: the file code is not 9994.
+    FileCode,
+    /// F3: the version is not 1000.
+    Version,
+    /// F4: the shape type is none of those that are read.
+    ShapeType,
+    /// F5: the content length does not fit the content.
+    Content,
+    /// F6: the polygon is not of one part that begins at its first point.
+    Parts,
+    /// F7: the last point is not the first.
+    NotClosed,
+    /// F8: too few points for a ring.
+    FewPoints,
+    /// F9: a coordinate that is refused.
+    Coord(CoordFault),
+    /// F10: the index disagrees with the main file.
+    IndexDisagrees,
+    /// F11: more records or points than a layer may have.
+    TooMany,
+}
+
+/// The first fault of a layer's files.
+#[derive(Clone, Copy, Debug, PartialEq, Eq)]
+pub struct FileFault {
+    /// The file that has the fault.
+    pub file: FileName,
+    /// The record's position, from 1; 0 for the header.
+    pub position: u32,
+    /// The byte of the file at which the fault lies, from 0.
+    pub place: u64,
+    /// What is wrong there.
+    pub kind: FaultKind,
+}
+
+/// Why a layer was not read.
+#[derive(Clone, Copy, Debug, PartialEq, Eq)]
+pub enum LayerFault {
+    /// The files are no layer: their first fault.
+    File(FileFault),
+    /// A growth was refused.
+    NoMemory,
+}
