@@ -16,3 +16,5 @@ pub mod GridRows
 pub mod Rows
 pub mod Coordinates
 pub mod SamePlace
+pub mod Doubles
+pub mod DoubleRows

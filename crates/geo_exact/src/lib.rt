@@ -12,6 +12,7 @@ mod raw_ring;
 #[cfg(test)]
 mod tests;
 mod turns;
+mod write;
 
 pub use area::area2;
 pub use bytes::counted::Counted;
@@ -28,3 +29,4 @@ pub use laws::{
 };
 pub use raw_ring::{Corners, RawRing};
 pub use turns::turn;
+pub use write::write_coord;
