@@ -2,3 +2,5 @@ pub mod Layout
 pub mod LayerFile
 pub mod Checks
 pub mod FirstFault
+pub mod Written
+pub mod Writing

@@ -1,0 +1,5 @@
+pub mod Bounding
+pub mod Puts
+pub mod Sizes
+pub mod Rings
+pub mod WrittenRows
