@@ -17,6 +17,7 @@ use Rattle.geo_exact.proofs.Nearest.{size_scaled, size_whole, IsNear, near_from,
 abbrev signed : Bool → ℕ → ℤ
 signed b n = cond b (pos n) (neg_ℤ (pos n))
 
+-- what the test says is near, under either sign
 signed_near : (b : Bool) (m d j : ℕ) → is_near m d j ≡ true → IsNear (signed b m) d (signed b j)
 signed_near true m d j h = near_to m d j h
 signed_near false m d j h = near_turned (pos m) d (pos j) (near_to m d j h)
@@ -24,6 +25,7 @@ signed_near false m d j h = near_turned (pos m) d (pos j) (near_to m d j h)
 turned_twice : (z : ℤ) → neg_ℤ (neg_ℤ z) ≡ z
 turned_twice z = omega (arith, ints)
 
+-- what is near is the nearest, under either sign
 near_signed : (b : Bool) (m d : ℕ) (k : ℤ) → 0 < d → IsNear (signed b m) d k → (k ≡ signed b (nearest m d)) × (is_near m d (nearest m d) ≡ true)
 near_signed true m d k h near = near_from m d k h near
 near_signed false m d k h near =
@@ -31,14 +33,17 @@ near_signed false m d k h near =
     let found = near_from m d (neg_ℤ k) h (subst P (turned_twice (pos m)) (near_turned (neg_ℤ (pos m)) d k near)) in
     (sym (turned_twice k) ∙ ap neg_ℤ found.0, found.1)
 
+-- a size within the limit, under either sign
 signed_within : (b : Bool) (n : ℕ) → n ≤ limit → IsWithin limit (signed b n)
 signed_within true n h = record { low = omega (arith, ints); high = omega (arith, ints) }
 signed_within false n h = record { low = omega (arith, ints); high = omega (arith, ints) }
 
+-- and back
 within_signed : (b : Bool) (n : ℕ) → IsWithin limit (signed b n) → n ≤ limit
 within_signed true n h = omega (arith, ints, h.low, h.high)
 within_signed false n h = omega (arith, ints, h.low, h.high)
 
+-- a product under either sign
 times_signed : (b : Bool) (s n : ℕ) → pos s *ℤ signed b n ≡ signed b (s * n)
 times_signed true s n = refl
 times_signed false s n = mul-neg (pos s) (pos n)
@@ -59,16 +64,20 @@ answered sign m d = go (is_near m d (nearest m d)) (nat_lt limit (nearest m d)) 
     go true false h k = read h (ltb-false limit (nearest m d) k) (rw (h, k) refl)
 
 -- ---- the answer for a double
+-- no sign bit
 abbrev plus : ℕ → Bool
 plus bits = nat_eq (sign_bit bits) 0
 
+-- the absolute value in centimetres, times 2 ^ 1075
 abbrev size : ℕ → Unit → ℕ
 size bits unit = centimetres unit * magnitude bits
 
+-- how a double is answered
 data Outcome (bits : ℕ) (unit : Unit) : Type 0 where
   no_number : exponent_field bits ≡ 2047 → coordinate bits unit ≡ Err NotNumber → Outcome bits unit
   number : exponent_field bits < 2047 → Answered (plus bits) (size bits unit) (2 ^ 1075) (coordinate bits unit) → Outcome bits unit
 
+-- one of the four answers
 outcome : (bits : ℕ) (unit : Unit) → Outcome bits unit
 unfolding coordinate
 outcome bits unit = go (nat_eq (exponent_field bits) 2047) refl
@@ -82,11 +91,13 @@ outcome bits unit = go (nat_eq (exponent_field bits) 2047) refl
         (let P : Result ℤ CoordFault → Type 0 = Answered (plus bits) (size bits unit) (2 ^ 1075) in
         subst P (rw h refl) (answered (sign_bit bits) (size bits unit) (2 ^ 1075)))
 
+-- the grid in plain numbers
 near_of : (bits : ℕ) (unit : Unit) (k : ℤ) → IsOnGrid bits unit k → IsNear (signed (plus bits) (size bits unit)) (2 ^ 1075) k
 near_of bits unit k h =
     let P : ℤ → Type 0 = λ s. IsNear s (2 ^ 1075) k in
     subst P (times_signed (plus bits) (centimetres unit) (magnitude bits)) h.is_near
 
+-- and back
 grid_of : (bits : ℕ) (unit : Unit) (k : ℤ) → exponent_field bits < 2047 → IsNear (signed (plus bits) (size bits unit)) (2 ^ 1075) k → IsOnGrid bits unit k
 grid_of bits unit k h near =
     let P : ℤ → Type 0 = λ s. IsNear s (2 ^ 1075) k in
@@ -174,10 +185,12 @@ coordinate_is bits unit h =
 cancelled : (m n d e t : ℕ) → m ≡ n * 2 ^ e → d + e ≡ t → size_of m (2 ^ t) ≡ size_of n (2 ^ d)
 cancelled m n d e t h k = rw (h, sym k, pow-add 2 d e) (size_scaled n (2 ^ d) (2 ^ e) (pow_pos e))
 
+-- the answer by a smaller fraction
 pub coordinate_cancelled : (bits : ℕ) (unit : Unit) (n d e : ℕ) → exponent_field bits < 2047 → size bits unit ≡ n * 2 ^ e → d + e ≡ 1075
     → coordinate bits unit ≡ with_sign (sign_bit bits) (size_of n (2 ^ d))
 coordinate_cancelled bits unit n d e h k l = coordinate_is bits unit h ∙ ap (with_sign (sign_bit bits)) (cancelled (size bits unit) n d e 1075 k l)
 
+-- 2 ^ 52 and more is beyond the limit
 far_size : (n e t : ℕ) → 2 ^ 52 ≤ n → t ≤ e → size_of (n * 2 ^ e) (2 ^ t) ≡ Err TooFar
 far_size n e t h k =
     let split : n * 2 ^ e ≡ n * 2 ^ (e - t) * 2 ^ t =
@@ -219,3 +232,9 @@ accepted_iff bits unit k = (accepted_is bits unit k, λ h. accepted_when bits un
 
 pub refused_iff : (bits : ℕ) (unit : Unit) (f : CoordFault) → (coordinate bits unit ≡ Err f) ↔ IsCoordFault bits unit f
 refused_iff bits unit f = (refused_is bits unit f, refused_when bits unit f)
+
+-- two whole centimetres that fit are one
+pub one_fits : (bits : ℕ) (unit : Unit) (k l : ℤ) → IsOnGrid bits unit k → IsOnGrid bits unit l → k ≡ l
+one_fits bits unit k l h i =
+    (near_signed (plus bits) (size bits unit) (2 ^ 1075) k (pow_pos 1075) (near_of bits unit k h)).0
+    ∙ sym (near_signed (plus bits) (size bits unit) (2 ^ 1075) l (pow_pos 1075) (near_of bits unit l i)).0

@@ -65,6 +65,7 @@ size_of m d =
 abbrev pub under_sign : ℕ → ℕ → ℤ
 under_sign sign k = if sign == 0 then pos k else neg_ℤ (pos k)
 
+-- the same of an answer
 abbrev pub with_sign : ℕ → Result ℕ CoordFault → Result ℤ CoordFault
 with_sign sign (Ok k) = Ok (under_sign sign k)
 with_sign sign (Err fault) = Err fault

@@ -25,7 +25,7 @@ fn edge_area2(from: Corner, to: Corner) -> i128
 }
 
 /// Twice the signed area that a ring of corners goes round, in square centimetres: positive for a
-/// counterclockwise ring, 0 for no corner.
+/// counterclockwise ring, 0 for no corner. A ring here has at most 10,000,000 corners.
 pub fn area2(ring: &[Corner]) -> i128
     requires { length ring.now ≤ 10000000 }
     ensures value { result ≡ area2_of ring.now }

@@ -1,5 +1,6 @@
 ghost use Rattle.std.specs.Prelude.{◌≡◌, ◌↔◌, ℕ, ◌+◌, ◌*◌, ◌^◌, ◌<◌, ◌≤◌, max, ℤ, Ok, Err, IfOk, IfErr};
-ghost use Rattle.geo_exact.specs.Grid.{IsOnGrid, IsCoordFault, centimetres as centimetres_of, coordinate, exponent_field, magnitude, size_of};
+ghost use Rattle.geo_exact.specs.Grid.{IsOnGrid, IsCoordFault, coordinate, size_of};
+ghost use Rattle.geo_exact.specs.Grid.{centimetres as centimetres_of, exponent_field, magnitude};
 ghost use Rattle.geo_exact.specs.Limit.{IsWithin, limit};
 
 use crate::corner::LIMIT;
@@ -110,9 +111,16 @@ pub fn read_coord(bits: u64, unit: Unit) -> Result<i64, CoordFault>
     signed_coordinate(bits, unit)
 }
 
+/// A double is on the grid at one whole centimetre at most.
+#[tactic(auto, using(crate::proofs::Coordinates::one_fits))]
+pub fn one_centimetre_fits()
+    ensures { (bits : ℕ) (unit : Unit) (k l : ℤ) → IsOnGrid bits unit k → IsOnGrid bits unit l → k ≡ l }
+{}
+
 /// `coordinate` answers `k` exactly where the double is on the grid at `k`, within the limit.
 pub fn coordinates_are_on_the_grid()
-    ensures { (bits : ℕ) (unit : Unit) (k : ℤ) → (coordinate bits unit ≡ Ok k) ↔ (IsOnGrid bits unit k × IsWithin limit k) }
+    ensures { (bits : ℕ) (unit : Unit) (k : ℤ)
+        → (coordinate bits unit ≡ Ok k) ↔ (IsOnGrid bits unit k × IsWithin limit k) }
 {}
 
 /// `coordinate` answers a fault exactly where it is the double's.

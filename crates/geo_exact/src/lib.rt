@@ -7,11 +7,11 @@ mod bytes;
 mod coord;
 mod corner;
 mod laws;
+mod orientation;
 mod products;
 mod raw_ring;
 #[cfg(test)]
 mod tests;
-mod turns;
 mod write;
 
 pub use area::area2;
@@ -19,7 +19,8 @@ pub use bytes::counted::Counted;
 pub use bytes::fail_at::FailAt;
 pub use bytes::{ByteIn, ByteOut, Failed};
 pub use coord::{
-    CoordFault, Unit, coordinate_faults_are_exact, coordinates_are_on_the_grid, read_coord,
+    CoordFault, Unit, coordinate_faults_are_exact, coordinates_are_on_the_grid,
+    one_centimetre_fits, read_coord,
 };
 pub use corner::{Corner, LIMIT};
 pub use laws::{
@@ -27,6 +28,6 @@ pub use laws::{
     a_ring_turned_round_has_the_opposite_orientation, a_triangle_winds_once_round_its_inside,
     the_interior_of_a_triangle_is_left_of_its_edges,
 };
+pub use orientation::turn;
 pub use raw_ring::{Corners, RawRing};
-pub use turns::turn;
 pub use write::write_coord;

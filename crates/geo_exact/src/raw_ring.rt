@@ -1,4 +1,4 @@
-ghost use Rattle.std.specs.Prelude.{◌≡◌, OnOk, OnErr, length, ◌++◌, ◌∷◌, []};
+ghost use Rattle.std.specs.Prelude.{◌≡◌, OnOk, OnErr, IfOk, length, ◌++◌, ◌∷◌, []};
 
 use crate::corner::Corner;
 use std::alloc::{AllocError, Allocator};
@@ -27,6 +27,14 @@ impl<A: Allocator> Corners<A> {
         Corners {
             list: Vec::new(alloc),
         }
+    }
+
+    /// No corner yet, and room for so many.
+    pub fn with_capacity(alloc: A, capacity: usize) -> Result<Corners<A>, AllocError>
+        ensures { IfOk result (λ corners. corners ≡ []) }
+    {
+        let list = Vec::with_capacity(alloc, capacity)?;
+        Ok(Corners { list })
     }
 
     /// Adds a corner at the end; after a refusal the list is unchanged.

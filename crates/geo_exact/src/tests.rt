@@ -1,4 +1,10 @@
-use crate::{CoordFault, Corner, Unit, area2, read_coord, turn, write_coord};
+use crate::{
+    ByteIn, ByteOut, CoordFault, Corner, Corners, Counted, FailAt, Failed, LIMIT, Unit, area2,
+    read_coord, turn, write_coord,
+};
+use std::io;
+use std::io::{ErrorKind, Read, Write};
+use std::test::Fail;
 
 #[test]
 fn reads_doubles(rt: HostRuntime) {
@@ -50,4 +56,113 @@ fn measures_rings(rt: HostRuntime) {
         -400_000_000_000_000_000_000
     );
     assert_eq!(rt; area2(&[]), 0);
+}
+
+/// A stream of which each call fails.
+#[derive(Drop)]
+struct Broken;
+
+impl Read for Broken {
+    fn read(&mut self, _buf: &mut [u8]) -> io::Result<usize> {
+        Err(io::Error::from(ErrorKind::Other))
+    }
+}
+
+impl Write for Broken {
+    fn write(&mut self, _buf: &[u8]) -> io::Result<usize> {
+        Err(io::Error::from(ErrorKind::Other))
+    }
+
+    fn flush(&mut self) -> io::Result<()> {
+        Ok(())
+    }
+}
+
+#[test]
+fn pulls_count_failures(rt: HostRuntime) {
+    let mut reader = Counted::new(&b"ring"[..]);
+    let mut buffer = [0u8; 3];
+    assert_eq!(rt; reader.pull(&mut buffer), Ok(3));
+    assert_eq!(rt; buffer, *b"rin");
+    assert_eq!(rt; reader.pull(&mut buffer), Ok(1));
+    assert_eq!(rt; buffer[0], b'g');
+    assert_eq!(rt; reader.pull(&mut buffer), Ok(0));
+    assert_eq!(rt; reader.failures(), 0);
+    assert_eq!(rt; reader.into_inner().len(), 0);
+    let mut broken = Counted::new(Broken);
+    assert_eq!(rt; broken.pull(&mut buffer), Err(Failed));
+    assert_eq!(rt; broken.pull(&mut buffer), Err(Failed));
+    assert_eq!(rt; ByteIn::failures(&broken), 2);
+}
+
+#[test]
+fn puts_count_failures(rt: HostRuntime) {
+    let mut writer = Counted::new(Vec::new(rt.alloc()));
+    assert_eq!(rt; writer.put(b"ring"), Ok(4));
+    assert_eq!(rt; writer.put(b""), Ok(0));
+    assert_eq!(rt; ByteOut::failures(&writer), 0);
+    assert_eq!(rt; writer.into_inner().as_slice(), &b"ring"[..]);
+    let mut broken = Counted::new(Broken);
+    assert_eq!(rt; broken.put(b"ring"), Err(Failed));
+    assert_eq!(rt; ByteOut::failures(&broken), 1);
+    let mut room = [0u8; 2];
+    let mut full = Counted::new(&mut room[..]);
+    assert_eq!(rt; full.put(b"ring"), Ok(2));
+    assert_eq!(rt; full.put(b"ng"), Err(Failed));
+    assert_eq!(rt; full.failures(), 1);
+}
+
+#[test]
+fn fails_at_one_pull(rt: HostRuntime) {
+    for call in 0..4u64 {
+        let mut reader = FailAt::new(Counted::new(&b"abc"[..]), call);
+        let mut next = b'a';
+        for number in 1..4u64 {
+            let mut buffer = [0u8];
+            if number == call {
+                assert_eq!(rt;
+                    reader.pull(&mut buffer),
+                    Err(Failed),
+                    "at {number} of {call}"
+                );
+            } else {
+                assert_eq!(rt; reader.pull(&mut buffer), Ok(1), "at {number} of {call}");
+                assert_eq!(rt; buffer[0], next, "at {number} of {call}");
+                next = next.wrapping_add(1);
+            }
+        }
+        let want = if call == 0 { 0 } else { 1 };
+        assert_eq!(rt; reader.failures(), want, "of {call}");
+    }
+}
+
+#[test]
+fn fails_at_one_put(rt: HostRuntime) {
+    for (call, want) in [(0u64, &b"abc"[..]), (1, b"bc"), (2, b"ac"), (3, b"ab")] {
+        let mut writer = FailAt::new(Counted::new(Vec::new(rt.alloc())), call);
+        for (bytes, number) in [(b"a", 1), (b"b", 2), (b"c", 3)] {
+            let put = writer.put(bytes);
+            assert_eq!(rt; put.is_err(), number == call, "at {number} of {call}");
+        }
+        let failures = if call == 0 { 0 } else { 1 };
+        assert_eq!(rt; writer.failures(), failures, "of {call}");
+        assert_eq!(rt;
+            writer.into_inner().into_inner().as_slice(),
+            want,
+            "of {call}"
+        );
+    }
+}
+
+#[test]
+fn collects_corners(rt: HostRuntime) -> Result<(), Fail> {
+    let mut corners = Corners::new(rt.alloc());
+    for (x, y) in [(3, -1), (LIMIT, 0), (0, LIMIT + 1)] {
+        if let Some(corner) = Corner::new(x, y) {
+            corners.push(corner)?;
+        }
+    }
+    let want = [Corner { x: 3, y: -1 }, Corner { x: LIMIT, y: 0 }];
+    assert_eq!(rt; corners.as_slice(), &want[..]);
+    Ok(())
 }

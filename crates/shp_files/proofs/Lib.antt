@@ -1,3 +1,17 @@
+pub mod Numbers
+pub mod Lines
+pub mod Points
+pub mod Finding
+pub mod Ring
+pub mod Passing
+pub mod Places
+pub mod Polygons
+pub mod Walk
+pub mod Sound
+pub mod Complete
+pub mod Laws
+pub mod Answering
+pub mod Rows
 pub mod Bounding
 pub mod Puts
 pub mod Sizes

@@ -1,15 +1,14 @@
 -- The checks of a main file, in their order, each with the fault that it answers: this profile of the Technical Description (July 1998).
-use Rattle.std.specs.Prelude.{ℕ, zero, suc, ◌+◌, ◌*◌, ◌-◌, ◌&&◌, ◌||◌, ◌==◌, nat_lt, nat_le, not, ℤ, pos, ◌+ℤ◌, ◌*ℤ◌, int_lt, Bool, true, false, if◌then◌else◌, List, [], ◌∷◌, ◌++◌, length, Option, Some, None, Result, Ok, Err}
+use Rattle.std.specs.Prelude.{ℕ, zero, suc, ◌+◌, ◌*◌, ◌-◌, ◌||◌, ◌==◌, nat_lt, not, ℤ, pos, int_lt, Bool, true, false, if◌then◌else◌, List, [], ◌∷◌, ◌++◌, length, Option, Some, None, Result, Ok, Err}
 use Rattle.std.specs.Ordering.{int_eq}
 use Rattle.geo_exact.specs.declared.coord.Unit.{Unit as LengthUnit}
 use Rattle.geo_exact.specs.declared.coord.CoordFault.{CoordFault}
 use Rattle.geo_exact.specs.Grid.{coordinate}
-use Rattle.shp_files.specs.declared.fault.FileName.{FileName}
 use Rattle.shp_files.specs.declared.fault.FileName.TheVariants.{Main}
 use Rattle.shp_files.specs.declared.fault.FaultKind.{FaultKind}
 use Rattle.shp_files.specs.declared.fault.FaultKind.TheVariants as kinds
 use Rattle.shp_files.specs.declared.fault.FileFault.{FileFault}
-use Rattle.shp_files.specs.Layout.{double_at, file_code, file_words, version, header_shape_type, content_words, shape_type, part_count, point_count, first_part, coordinate_place, natural}
+use Rattle.shp_files.specs.Layout.{double_at, file_code, file_words, version, header_shape_type, content_words, shape_type, part_count, point_count, first_part, natural}
 
 -- one line of the table: when it fails, and what it then answers
 pub record Check : Type 0 where
@@ -20,7 +19,7 @@ abbrev pub check : Bool → FileFault → Check
 check fails answer = record { fails = fails; answer = answer }
 
 -- the answer of the first line that fails
-abbrev pub first_failure : List Check → Option FileFault
+unfoldable pub first_failure : List Check → Option FileFault
 first_failure [] = None
 first_failure (line ∷ lines) = if line.fails then Some line.answer else first_failure lines
 
@@ -32,10 +31,10 @@ abbrev pub is_not : ℤ → ℤ → Bool
 is_not a b = not (int_eq a b)
 
 -- the byte at which the file is declared to end
-abbrev pub declared_end : List ℕ → ℕ
+unfoldable pub declared_end : List ℕ → ℕ
 declared_end main = 2 * natural (file_words main)
 
-abbrev pub header_checks : List ℕ → List Check
+unfoldable pub header_checks : List ℕ → List Check
 header_checks main =
     check (nat_lt (length main) 100) (fault 0 (length main) kinds.Short)
     ∷ check (is_not (file_code main) (pos 9994)) (fault 0 0 kinds.FileCode)
@@ -45,13 +44,49 @@ header_checks main =
     ∷ check (is_not (header_shape_type main) (pos 5)) (fault 0 32 kinds.ShapeType)
     ∷ []
 
+-- the byte at which the record's content ends
+abbrev pub record_end : List ℕ → ℕ → ℕ
+record_end main start = start + 8 + 2 * natural (content_words main start)
+
+-- the number of points of the record's polygon
+abbrev pub points_of : List ℕ → ℕ → ℕ
+points_of main start = natural (point_count main start)
+
+-- the lines on the record's frame: the record at this position begins at this byte
+unfoldable pub frame_checks : List ℕ → ℕ → ℕ → List Check
+frame_checks main position start =
+    check (nat_lt 65536 position) (fault position start kinds.TooMany)
+    ∷ check (nat_lt (declared_end main) (start + 8)) (fault position start kinds.Short)
+    ∷ check (int_lt (content_words main start) (pos 2)) (fault position (start + 4) kinds.Content)
+    ∷ check (nat_lt (declared_end main) (record_end main start)) (fault position (start + 4) kinds.Short)
+    ∷ []
+
+-- the lines on its shape type
+unfoldable pub shape_checks : List ℕ → ℕ → ℕ → List Check
+shape_checks main position start =
+    check (is_not (shape_type main start) (pos 5)) (fault position (start + 8) kinds.ShapeType)
+    ∷ check (int_lt (content_words main start) (pos 22)) (fault position (start + 4) kinds.Content)
+    ∷ []
+
+-- the lines on its counts, where the polygons before it have so many corners together
+unfoldable pub polygon_checks : List ℕ → ℕ → ℕ → ℕ → List Check
+polygon_checks main position start corners_before =
+    check (is_not (part_count main start) (pos 1)) (fault position (start + 44) kinds.Parts)
+    ∷ check (nat_lt (record_end main start) (start + 52)) (fault position (start + 4) kinds.Content)
+    ∷ check (int_lt (point_count main start) (pos 4)) (fault position (start + 48) kinds.FewPoints)
+    ∷ check (nat_lt 4097 (points_of main start) || nat_lt 1000000 (corners_before + (points_of main start - 1)))
+    (fault position (start + 48) kinds.TooMany)
+    ∷ check (not (2 * natural (content_words main start) == 48 + 16 * points_of main start)) (fault position (start + 4) kinds.Content)
+    ∷ check (is_not (first_part main start) (pos 0)) (fault position (start + 52) kinds.Parts)
+    ∷ []
+
 -- the line of one coordinate
 abbrev pub refusal : ℕ → ℕ → Result ℤ CoordFault → Check
 refusal position place (Ok k) = check false (fault position place kinds.Short)
 refusal position place (Err c) = check true (fault position place (kinds.Coord c))
 
 -- the lines of a number of coordinates, from a byte on
-abbrev pub coordinate_checks : List ℕ → LengthUnit → ℕ → ℕ → ℕ → List Check
+unfoldable pub coordinate_checks : List ℕ → LengthUnit → ℕ → ℕ → ℕ → List Check
 coordinate_checks main unit position place zero = []
 coordinate_checks main unit position place (suc count) =
     refusal position place (coordinate (double_at main place) unit) ∷ coordinate_checks main unit position (place + 8) count
@@ -68,31 +103,20 @@ is_other_point main unit a b =
     differs (coordinate (double_at main a) unit) (coordinate (double_at main b) unit)
     || differs (coordinate (double_at main (a + 8)) unit) (coordinate (double_at main (b + 8)) unit)
 
--- the byte at which the record's content ends
-abbrev pub record_end : List ℕ → ℕ → ℕ
-record_end main start = start + 8 + 2 * natural (content_words main start)
+-- the line on the ring's closing: its first point stands at one byte, its last at the other
+unfoldable pub closing_checks : List ℕ → LengthUnit → ℕ → ℕ → ℕ → List Check
+closing_checks main unit position first last =
+    check (is_other_point main unit first last) (fault position last kinds.NotClosed) ∷ []
 
--- the number of points of the record's polygon
-abbrev pub points_of : List ℕ → ℕ → ℕ
-points_of main start = natural (point_count main start)
+-- the lines on its points: each coordinate, and then the ring's closing
+unfoldable pub ring_checks : List ℕ → LengthUnit → ℕ → ℕ → ℕ → List Check
+ring_checks main unit position first count =
+    coordinate_checks main unit position first (2 * count) ++ closing_checks main unit position first (first + 16 * (count - 1))
 
--- the lines of the record at this position that begins at this byte, where the polygons before it have so many corners together
-abbrev pub record_checks : List ℕ → LengthUnit → ℕ → ℕ → ℕ → List Check
+-- all lines of the record at this position that begins at this byte, where the polygons before it have so many corners together
+unfoldable pub record_checks : List ℕ → LengthUnit → ℕ → ℕ → ℕ → List Check
 record_checks main unit position start corners_before =
-    check (nat_lt 65536 position) (fault position start kinds.TooMany)
-    ∷ check (nat_lt (declared_end main) (start + 8)) (fault position start kinds.Short)
-    ∷ check (int_lt (content_words main start) (pos 2)) (fault position (start + 4) kinds.Content)
-    ∷ check (nat_lt (declared_end main) (record_end main start)) (fault position (start + 4) kinds.Short)
-    ∷ check (is_not (shape_type main start) (pos 5)) (fault position (start + 8) kinds.ShapeType)
-    ∷ check (int_lt (content_words main start) (pos 22)) (fault position (start + 4) kinds.Content)
-    ∷ check (is_not (part_count main start) (pos 1)) (fault position (start + 44) kinds.Parts)
-    ∷ check (nat_lt (record_end main start) (start + 52)) (fault position (start + 4) kinds.Content)
-    ∷ check (int_lt (point_count main start) (pos 4)) (fault position (start + 48) kinds.FewPoints)
-    ∷ check (nat_lt 4097 (points_of main start) || nat_lt 1000000 (corners_before + (points_of main start - 1)))
-    (fault position (start + 48) kinds.TooMany)
-    ∷ check (not (2 * natural (content_words main start) == 48 + 16 * points_of main start)) (fault position (start + 4) kinds.Content)
-    ∷ check (is_not (first_part main start) (pos 0)) (fault position (start + 52) kinds.Parts)
-    ∷ (coordinate_checks main unit position (start + 56) (2 * points_of main start)
-    ++ check (is_other_point main unit (start + 56) (start + 56 + 16 * (points_of main start - 1)))
-    (fault position (start + 56 + 16 * (points_of main start - 1)) kinds.NotClosed)
-    ∷ [])
+    frame_checks main position start
+    ++ (shape_checks main position start
+    ++ (polygon_checks main position start corners_before
+    ++ ring_checks main unit position (start + 56) (points_of main start)))

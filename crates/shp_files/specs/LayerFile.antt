@@ -1,7 +1,8 @@
 -- A layer's main file as a whole text: a header, polygon records, and bytes that are ignored (Technical Description, July 1998, "Organization of the Main File", "Polygon").
-use Rattle.std.specs.Prelude.{◌≡◌, ℕ, ◌+◌, ◌*◌, ◌≤◌, ℤ, pos, ◌+ℤ◌, ◌*ℤ◌, List, [], ◌∷◌, ◌++◌, length}
+use Rattle.std.specs.Prelude.{◌≡◌, ℕ, ◌+◌, ◌*◌, ◌≤◌, pos, ◌+ℤ◌, ◌*ℤ◌, List, [], ◌∷◌, ◌++◌, length, map}
 use Rattle.geo_exact.specs.declared.corner.Corner.{Corner}
 use Rattle.geo_exact.specs.declared.coord.Unit.{Unit as LengthUnit}
+use Rattle.geo_exact.specs.declared.raw_ring.RawRing.{RawRing}
 use Rattle.geo_exact.specs.Grid.{IsOnGrid}
 use Rattle.shp_files.specs.Layout.{double_at, file_code, file_words, version, header_shape_type, content_words, shape_type, part_count, point_count, first_part}
 
@@ -9,6 +10,13 @@ use Rattle.shp_files.specs.Layout.{double_at, file_code, file_words, version, he
 pub record NumberedRing : Type 0 where
   pub number : ℕ
   pub corners : List Corner
+
+abbrev pub numbered : ℕ → List Corner → NumberedRing
+numbered number corners = record { number = number; corners = corners }
+
+-- the rings that a reader answers
+abbrev pub rings_of : {A : Type 0} → List (RawRing A) → List NumberedRing
+rings_of rings = map (λ ring. numbered ring.number ring.corners) rings
 
 -- the header of a file that is `declared` bytes long
 pub record IsHeader (header : List ℕ) (declared : ℕ) : Type 0 where

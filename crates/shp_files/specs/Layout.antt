@@ -3,15 +3,15 @@ use Rattle.std.specs.Prelude.{ℕ, ◌+◌, ◌*◌, ℤ, pos, negsuc, List, dro
 use Rattle.byteorder.specs.Endian.{big_number, little_number, twos_complement}
 
 -- the signed 32-bit number at a byte, its most significant byte first
-abbrev pub big_at : List ℕ → ℕ → ℤ
+unfoldable pub big_at : List ℕ → ℕ → ℤ
 big_at bytes at = twos_complement 4 (big_number 4 (drop at bytes))
 
 -- the signed 32-bit number at a byte, its least significant byte first
-abbrev pub little_at : List ℕ → ℕ → ℤ
+unfoldable pub little_at : List ℕ → ℕ → ℤ
 little_at bytes at = twos_complement 4 (little_number 4 (drop at bytes))
 
 -- the bits of the double at a byte, its least significant byte first
-abbrev pub double_at : List ℕ → ℕ → ℕ
+unfoldable pub double_at : List ℕ → ℕ → ℕ
 double_at bytes at = little_number 8 (drop at bytes)
 
 -- The header, 100 bytes.
@@ -51,6 +51,6 @@ abbrev pub coordinate_place : ℕ → ℕ → ℕ
 coordinate_place start i = start + 56 + 8 * i
 
 -- a number that is not negative, and 0 for one that is
-abbrev pub natural : ℤ → ℕ
+unfoldable pub natural : ℤ → ℕ
 natural (pos n) = n
 natural (negsuc n) = 0

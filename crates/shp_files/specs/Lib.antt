@@ -2,5 +2,6 @@ pub mod Layout
 pub mod LayerFile
 pub mod Checks
 pub mod FirstFault
+pub mod Reading
 pub mod Written
 pub mod Writing

@@ -1,4 +1,8 @@
+ghost use Rattle.std.specs.Prelude.{◌≡◌};
+ghost use Rattle.shp_files.specs.declared.fault.LayerFault.TheVariants.{File, NoMemory};
+
 use geo_exact::CoordFault;
+use std::alloc::{AllocError, AllocFailed};
 
 /// The file of a layer in which a fault lies.
 #[derive(Clone, Copy, Debug, PartialEq, Eq)]
@@ -56,4 +60,28 @@ pub enum LayerFault {
     File(FileFault),
     /// A growth was refused.
     NoMemory,
+}
+
+impl From<FileFault> for LayerFault {
+    ghost from_gives = { λ fault e. e ≡ File fault };
+
+    fn from(fault: FileFault) -> LayerFault {
+        LayerFault::File(fault)
+    }
+}
+
+impl From<AllocError> for LayerFault {
+    ghost from_gives = { λ _ e. e ≡ NoMemory };
+
+    fn from(_e: AllocError) -> LayerFault {
+        LayerFault::NoMemory
+    }
+}
+
+impl<T: Drop> From<AllocFailed<T>> for LayerFault {
+    ghost from_gives = { λ _ e. e ≡ NoMemory };
+
+    fn from(_e: AllocFailed<T>) -> LayerFault {
+        LayerFault::NoMemory
+    }
 }

@@ -4,10 +4,22 @@
 
 mod bounds;
 mod fault;
+mod fields;
+mod header;
+mod layer;
 mod put;
+mod record;
+mod source;
+#[cfg(test)]
+mod tests;
 mod write;
 #[cfg(test)]
 mod write_rows;
 
 pub use fault::{FaultKind, FileFault, FileName, LayerFault};
+pub use layer::{
+    a_layer_file_has_no_fault, a_layer_file_has_one_list_of_rings, a_text_has_one_first_fault,
+    read_layer,
+};
+pub use source::{MOST_BYTES, ReadFault, read_all};
 pub use write::write_layer;

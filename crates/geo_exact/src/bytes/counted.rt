@@ -56,7 +56,7 @@ impl<T: Read> ByteIn for Counted<T> {
     }
 
     fn failures(&self) -> u64 {
-        self.failures
+        Counted::failures(self)
     }
 }
 
@@ -73,6 +73,6 @@ impl<T: Write> ByteOut for Counted<T> {
     }
 
     fn failures(&self) -> u64 {
-        self.failures
+        Counted::failures(self)
     }
 }

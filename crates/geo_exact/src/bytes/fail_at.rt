@@ -7,6 +7,7 @@ use super::{ByteIn, ByteOut, Failed};
 #[derive(Debug, Drop)]
 pub struct FailAt<T> {
     inner: T,
+    /// The number of the call that fails, from the next one on; 0: none.
     calls_left: u64,
     own_failures: u64,
 }
@@ -30,6 +31,13 @@ impl<T> FailAt<T> {
         ensures { result ≡ self.inner }
     {
         self.inner
+    }
+
+    /// The failures of the calls that were passed on, and its own.
+    fn with_own(&self, passed_on: u64) -> u64
+        ensures { result ≡ together passed_on self.now.own_failures }
+    {
+        passed_on.saturating_add(self.own_failures)
     }
 
     /// Whether this call fails.
@@ -60,7 +68,8 @@ impl<T: ByteIn> ByteIn for FailAt<T> {
             ≡ counted result (together (T.failure_count self.old.inner) self.old.own_failures) }
         ensures calls_left { self.new.calls_left ≡ self.old.calls_left - 1 }
         ensures fails { self.old.calls_left ≡ 1 → IsErr result × (self.new.inner ≡ self.old.inner) }
-        ensures passes_on { self.old.calls_left ≢ 1 → T.failure_count self.new.inner ≡ counted result (T.failure_count self.old.inner) }
+        ensures passes_on { self.old.calls_left ≢ 1
+            → T.failure_count self.new.inner ≡ counted result (T.failure_count self.old.inner) }
     {
         if self.fails() {
             return Err(Failed);
@@ -69,7 +78,7 @@ impl<T: ByteIn> ByteIn for FailAt<T> {
     }
 
     fn failures(&self) -> u64 {
-        self.inner.failures().saturating_add(self.own_failures)
+        self.with_own(self.inner.failures())
     }
 }
 
@@ -86,7 +95,8 @@ impl<T: ByteOut> ByteOut for FailAt<T> {
             ≡ counted result (together (T.failure_count self.old.inner) self.old.own_failures) }
         ensures calls_left { self.new.calls_left ≡ self.old.calls_left - 1 }
         ensures fails { self.old.calls_left ≡ 1 → IsErr result × (self.new.inner ≡ self.old.inner) }
-        ensures passes_on { self.old.calls_left ≢ 1 → T.failure_count self.new.inner ≡ counted result (T.failure_count self.old.inner) }
+        ensures passes_on { self.old.calls_left ≢ 1
+            → T.failure_count self.new.inner ≡ counted result (T.failure_count self.old.inner) }
     {
         if self.fails() {
             return Err(Failed);
@@ -95,6 +105,6 @@ impl<T: ByteOut> ByteOut for FailAt<T> {
     }
 
     fn failures(&self) -> u64 {
-        self.inner.failures().saturating_add(self.own_failures)
+        self.with_own(self.inner.failures())
     }
 }

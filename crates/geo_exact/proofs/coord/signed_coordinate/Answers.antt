@@ -22,9 +22,11 @@ computed bits unit e s m p r he small hs hm hp hr =
     grouped : (a b n : ℕ) → a * (b * n) ≡ a * b * n
     grouped a b n = omega arith
 
+-- the answer without the sign bit
 positive : (sign k : ℕ) → sign ≡ 0 → k ≤ limit → with_sign sign (Ok k) ≡ Ok (to_z w64 k)
 positive sign k h bound = rw h (ap Ok (omega (arith, ints)))
 
+-- the answer with it
 negative : (sign k : ℕ) → (sign ≡ 0 → ⊥) → k ≤ limit → with_sign sign (Ok k) ≡ Ok (to_z w64 (of_z w64 (pos 0 -ℤ to_z w64 k)))
 negative sign k h bound = rw (ne_eqb sign 0 h) (ap Ok (omega (arith, ints)))
 

@@ -2,7 +2,7 @@ use Rattle.std.proofs.Common.{arith, lit<, ◌∙◌, FitsSigned}
 use Rattle.std.specs.Int.{w64}
 use Rattle.std.proofs.lemmas.Int.{ints, to_z-of_z}
 use Rattle.geo_exact.proofs.Within.{wide_sub}
-use Rattle.geo_exact.proofs.turns.spanned.Goals as goal
+use Rattle.geo_exact.proofs.orientation.spanned.Goals as goal
 
 pub overflow_sub-result : goal.overflow_sub-result
 overflow_sub-result c = omega (arith, ints)

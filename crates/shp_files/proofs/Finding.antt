@@ -1,0 +1,17 @@
+-- What a reader finds among lines, memory aside.
+use Rattle.std.proofs.Common.{◌≡◌, List, ◌++◌, None, sym, ◌∙◌}
+use Rattle.shp_files.specs.declared.fault.LayerFault.{LayerFault}
+use Rattle.shp_files.specs.declared.fault.LayerFault.TheVariants.{File, NoMemory}
+use Rattle.shp_files.specs.Checks.{Check, first_failure}
+use Rattle.shp_files.specs.Reading.{Fails}
+use Rattle.shp_files.proofs.Lines.{goes_on, stops}
+
+-- what is refused stays refused, whatever lines follow
+pub fails_stops : (e : LayerFault) (lines more : List Check) → Fails e (first_failure lines) → Fails e (first_failure (lines ++ more))
+fails_stops (File fault) lines more p = sym (stops lines more fault (sym p))
+fails_stops NoMemory lines more p = tt
+
+-- what is refused behind lines that do not fail
+pub fails_on : (e : LayerFault) (lines more : List Check) → None ≡ first_failure lines → Fails e (first_failure more) → Fails e (first_failure (lines ++ more))
+fails_on (File fault) lines more p q = goes_on lines more p ∙ q
+fails_on NoMemory lines more p q = tt

@@ -1,0 +1,157 @@
+-- A text is a layer's main file of one list of rings at most, or has one first fault, and never both.
+use Rattle.std.proofs.Common.{◌≡◌, ◌≢◌, inl, inr, ℕ, ◌+◌, ◌≤◌, ◌<◌, ℤ, List, [], ◌∷◌, ◌++◌, length, Some, None, Result, Ok, refl, sym, ap, subst, ◌∙◌, arith}
+use Rattle.std.proofs.lemmas.Bool.{cases_order}
+use Rattle.geo_exact.specs.declared.corner.Corner.{Corner}
+use Rattle.geo_exact.specs.declared.coord.Unit.{Unit as LengthUnit}
+use Rattle.geo_exact.specs.declared.coord.CoordFault.{CoordFault}
+use Rattle.geo_exact.proofs.SameCorner.{corner_same}
+use Rattle.shp_files.specs.declared.fault.FileFault.{FileFault}
+use Rattle.shp_files.specs.LayerFile.{NumberedRing, closed, IsLayerFile}
+use Rattle.shp_files.specs.Checks.{first_failure, header_checks, record_checks, declared_end, record_end, points_of}
+use Rattle.shp_files.specs.FirstFault.{Reaches, StopsAt, IsFirstFault}
+use Rattle.shp_files.specs.FirstFault.Reaches.{first, next}
+use Rattle.shp_files.specs.Reading.{AreReadAs}
+use Rattle.shp_files.proofs.Walk.{Reads, reached}
+use Rattle.shp_files.proofs.Walk.Reads.{none, more}
+use Rattle.shp_files.proofs.Complete.{reads_layer}
+
+position_from_1 : (main : List ℕ) (unit : LengthUnit) (p s c : ℕ) → Reaches main unit p s c → 1 ≤ p
+position_from_1 main unit p s c (first h) = omega arith
+position_from_1 main unit p s c (next q t d r apart passes) = omega arith
+
+header_passes : (main : List ℕ) (unit : LengthUnit) (p s c : ℕ) → Reaches main unit p s c → first_failure (header_checks main) ≡ None
+header_passes main unit p s c (first h) = h
+header_passes main unit p s c (next q t d r apart passes) = header_passes main unit q t d r
+
+-- the records before a position are in one place
+same_place : (main : List ℕ) (unit : LengthUnit) (p s c q t d : ℕ) → Reaches main unit p s c → Reaches main unit q t d → p ≡ q → (s ≡ t) × (c ≡ d)
+same_place main unit p s c q t d (first h) (first k) e = (refl, refl)
+same_place main unit p s c q t d (first h) (next q' t' d' r apart passes) e = absurd (omega (arith, e, position_from_1 main unit q' t' d' r))
+same_place main unit p s c q t d (next p' s' c' r apart passes) (first k) e = absurd (omega (arith, e, position_from_1 main unit p' s' c' r))
+same_place main unit p s c q t d (next p' s' c' r apart passes) (next q' t' d' r' apart' passes') e =
+    let same = same_place main unit p' s' c' q' t' d' r r' (omega (arith, e)) in
+    (ap (λ n. record_end main n) same.0, omega (arith, same.1, ap (λ n. points_of main n) same.0))
+
+-- a record that was passed
+record IsPassed (main : List ℕ) (unit : LengthUnit) (position : ℕ) : Type 0 where
+  start : ℕ
+  corners : ℕ
+  reaches : Reaches main unit position start corners
+  apart : start ≢ declared_end main
+  passes : first_failure (record_checks main unit position start corners) ≡ None
+
+passed : (main : List ℕ) (unit : LengthUnit) (p s c q : ℕ) → Reaches main unit p s c → q < p → 1 ≤ q → IsPassed main unit q
+passed main unit p s c q (first h) below from = absurd (omega arith)
+passed main unit p s c q (next p' s' c' r apart passes) below from =
+    elim (cases_order q p') [
+      | inl e ↦ subst (λ (n : ℕ). IsPassed main unit n) (sym e) (record { start = s'; corners = c'; reaches = r; apart = apart; passes = passes })
+      | inr o ↦ elim o [ inl lt ↦ passed main unit p' s' c' q r lt from | inr gt ↦ absurd (omega (arith, below, gt)) ]
+    ]
+
+-- a record that stops the reader is not passed
+not_passed : (main : List ℕ) (unit : LengthUnit) (f : FileFault) → (stop : StopsAt main unit f) → IsPassed main unit stop.position → ⊥
+not_passed main unit f stop h =
+    let same = same_place main unit stop.position stop.record_at stop.corners stop.position h.start h.corners stop.is_reached h.reaches refl in
+    let passes : first_failure (record_checks main unit stop.position stop.record_at stop.corners) ≡ None = rw (same.0, same.1) h.passes in
+    let is = stop.is_first in
+    cc
+
+-- a record past the end of the file is not passed
+not_past_end : (main : List ℕ) (unit : LengthUnit) (p s c : ℕ) → Reaches main unit p s c → s ≡ declared_end main → IsPassed main unit p → ⊥
+not_past_end main unit p s c r is h = h.apart (sym (same_place main unit p s c p h.start h.corners r h.reaches refl).0 ∙ is)
+
+header_or_record : (main : List ℕ) (unit : LengthUnit) (f g : FileFault) → first_failure (header_checks main) ≡ Some f → StopsAt main unit g → ⊥
+header_or_record main unit f g h stop =
+    let fine = header_passes main unit stop.position stop.record_at stop.corners stop.is_reached in
+    cc
+
+-- two records that stop the reader are one
+same_stop : (main : List ℕ) (unit : LengthUnit) (f g : FileFault) → StopsAt main unit f → StopsAt main unit g → f ≡ g
+same_stop main unit f g a b =
+    elim (cases_order a.position b.position) [
+      | inl e ↦
+          let same = same_place main unit a.position a.record_at a.corners b.position b.record_at b.corners a.is_reached b.is_reached e in
+          let there : first_failure (record_checks main unit b.position b.record_at b.corners) ≡ Some f = rw (← e, ← same.0, ← same.1) a.is_first in
+          let is = b.is_first in
+          cc
+      | inr o ↦ elim o [
+        | inl lt ↦ absurd (not_passed main unit f a (passed main unit b.position b.record_at b.corners a.position b.is_reached lt (position_from_1 main unit a.position a.record_at a.corners a.is_reached)))
+        | inr gt ↦ absurd (not_passed main unit g b (passed main unit a.position a.record_at a.corners b.position a.is_reached gt (position_from_1 main unit b.position b.record_at b.corners b.is_reached)))
+      ]
+    ]
+
+-- a text has one first fault at most
+pub one_first_fault : (main : List ℕ) (unit : LengthUnit) (f g : FileFault) → IsFirstFault main unit f → IsFirstFault main unit g → f ≡ g
+one_first_fault main unit f g (inl h) (inl k) = cc
+one_first_fault main unit f g (inl h) (inr b) = absurd (header_or_record main unit f g h b)
+one_first_fault main unit f g (inr a) (inl k) = absurd (header_or_record main unit g f k a)
+one_first_fault main unit f g (inr a) (inr b) = same_stop main unit f g a b
+
+-- where all is read, nothing stops the reader
+never_stops : (main : List ℕ) (unit : LengthUnit) (p s c : ℕ) (f : FileFault) → Reaches main unit p s c → s ≡ declared_end main → StopsAt main unit f → ⊥
+never_stops main unit p s c f r is stop =
+    elim (cases_order stop.position p) [
+      | inl e ↦ stop.is_there ((same_place main unit stop.position stop.record_at stop.corners p s c stop.is_reached r e).0 ∙ is)
+      | inr o ↦ elim o [
+        | inl lt ↦ not_passed main unit f stop (passed main unit p s c stop.position r lt (position_from_1 main unit stop.position stop.record_at stop.corners stop.is_reached))
+        | inr gt ↦ not_past_end main unit p s c r is (passed main unit stop.position stop.record_at stop.corners p stop.is_reached gt (position_from_1 main unit p s c r))
+      ]
+    ]
+
+-- a layer's main file has no fault
+pub no_fault_in_layer : (main : List ℕ) (unit : LengthUnit) (rings : List NumberedRing) (f : FileFault) → IsLayerFile main unit rings → IsFirstFault main unit f → ⊥
+no_fault_in_layer main unit rings f file (inl h) =
+    let fine = header_passes main unit _ _ _ (reached main unit _ _ rings (reads_layer main unit rings file)) in
+    cc
+no_fault_in_layer main unit rings f file (inr stop) = never_stops main unit _ _ _ f (reached main unit _ _ rings (reads_layer main unit rings file)) refl stop
+
+ok_same : (r : Result ℤ CoordFault) (a b : ℤ) → r ≡ Ok a → r ≡ Ok b → a ≡ b
+ok_same r a b h k = cc
+
+-- as many points are read as one list of corners
+same_corners : (unit : LengthUnit) (bytes : List ℕ) (at : ℕ) (a b : List Corner) → length a ≡ length b → AreReadAs unit bytes at a → AreReadAs unit bytes at b → a ≡ b
+same_corners unit bytes at [] [] e h k = refl
+same_corners unit bytes at [] (q ∷ qs) e h k = absurd (omega (arith, e))
+same_corners unit bytes at (p ∷ ps) [] e h k = absurd (omega (arith, e))
+same_corners unit bytes at (p ∷ ps) (q ∷ qs) e h k =
+    let head : p ≡ q = corner_same p q (ok_same _ p.x q.x h.0.x k.0.x) (ok_same _ p.y q.y h.0.y k.0.y) in
+    let rest = same_corners unit bytes (at + 16) ps qs (omega (arith, e)) h.1 k.1 in
+    cc
+
+front_read : (unit : LengthUnit) (bytes : List ℕ) (at : ℕ) (a b : List Corner) → AreReadAs unit bytes at (a ++ b) → AreReadAs unit bytes at a
+front_read unit bytes at [] b h = tt
+front_read unit bytes at (p ∷ ps) b h = (h.0, front_read unit bytes (at + 16) ps b h.1)
+
+open_read : (unit : LengthUnit) (bytes : List ℕ) (at : ℕ) (a : List Corner) → AreReadAs unit bytes at (closed a) → AreReadAs unit bytes at a
+open_read unit bytes at [] h = tt
+open_read unit bytes at (p ∷ ps) h = front_read unit bytes at (p ∷ ps) (p ∷ []) h
+
+position_of_reads : (main : List ℕ) (unit : LengthUnit) (p s : ℕ) (a : List NumberedRing) → Reads main unit p s a → 1 ≤ p
+position_of_reads main unit p s a r = position_from_1 main unit p s _ (reached main unit p s a r)
+
+same_rings : (main : List ℕ) (unit : LengthUnit) (p s q t : ℕ) (a b : List NumberedRing) → Reads main unit p s a → Reads main unit q t b → p ≡ q → (s ≡ t) × (a ≡ b)
+same_rings main unit p s q t a b (none h) (none k) e = (refl, refl)
+same_rings main unit p s q t a b (none h) (more q' t' b' ds r apart passes count are) e = absurd (omega (arith, e, position_of_reads main unit q' t' b' r))
+same_rings main unit p s q t a b (more p' s' a' cs r apart passes count are) (none k) e = absurd (omega (arith, e, position_of_reads main unit p' s' a' r))
+same_rings main unit p s q t a b (more p' s' a' cs r apart passes count are) (more q' t' b' ds r' apart' passes' count' are') e =
+    let position : p' ≡ q' = omega (arith, e) in
+    let same = same_rings main unit p' s' q' t' a' b' r r' position in
+    let points : length cs ≡ length ds = omega (arith, count, count', ap (λ n. points_of main n) same.0) in
+    let P : ℕ → Type 0 = λ n. AreReadAs unit main (n + 56) ds in
+    let corners : cs ≡ ds = same_corners unit main (s' + 56) cs ds points (open_read unit main (s' + 56) cs are) (open_read unit main (s' + 56) ds (rw same.0 are')) in
+    (ap (λ n. record_end main n) same.0, cc)
+
+-- a text is a layer's main file of one list of rings at most
+pub one_list_of_rings : (main : List ℕ) (unit : LengthUnit) (a b : List NumberedRing) → IsLayerFile main unit a → IsLayerFile main unit b → a ≡ b
+one_list_of_rings main unit a b file other =
+    let r = reads_layer main unit a file in
+    let q = reads_layer main unit b other in
+    let p = reached main unit _ _ a r in
+    let o = reached main unit _ _ b q in
+    elim (cases_order (1 + length file.records) (1 + length other.records)) [
+      | inl e ↦ (same_rings main unit _ _ _ _ a b r q e).1
+      | inr h ↦ elim h [
+        | inl lt ↦ absurd (not_past_end main unit _ _ _ p refl (passed main unit _ _ _ (1 + length file.records) o lt (omega arith)))
+        | inr gt ↦ absurd (not_past_end main unit _ _ _ o refl (passed main unit _ _ _ (1 + length other.records) p gt (omega arith)))
+      ]
+    ]

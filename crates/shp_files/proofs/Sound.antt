@@ -1,0 +1,112 @@
+-- A file whose records are all read is a layer's main file with their rings.
+use Rattle.std.proofs.Common.{◌≡◌, ℕ, ◌+◌, ◌*◌, ◌-◌, ◌≤◌, List, [], ◌∷◌, ◌++◌, length, take, drop, refl, sym, ap, ◌∙◌, arith, append_assoc}
+use Rattle.std.proofs.lemmas.Int.{ints}
+use Rattle.std.proofs.lemmas.List.{append-nil, length-append, length-drop, length-take-le, take-append-drop}
+use Rattle.std.proofs.Math.Seq.{take-add}
+use Rattle.geo_exact.specs.declared.corner.Corner.{Corner}
+use Rattle.geo_exact.specs.declared.coord.Unit.{Unit as LengthUnit}
+use Rattle.shp_files.specs.Layout.{file_words, natural}
+use Rattle.shp_files.specs.LayerFile.{NumberedRing, numbered, IsPolygon, AreRecords, joined, corner_count, IsLayerFile}
+use Rattle.shp_files.specs.Checks.{declared_end, record_end}
+use Rattle.shp_files.proofs.Passing.{HeaderPasses, header_passes, record_passes}
+use Rattle.shp_files.proofs.Places.{StandsAt, big_at_part, little_at_part}
+use Rattle.shp_files.proofs.Polygons.{polygon_from_passing}
+use Rattle.shp_files.proofs.Walk.{Reads, corner_count-push}
+use Rattle.shp_files.proofs.Walk.Reads.{none, more}
+
+joined-push : (pieces : List (List ℕ)) (piece : List ℕ) → joined (pieces ++ piece ∷ []) ≡ joined pieces ++ piece
+joined-push [] piece = append-nil piece
+joined-push (one ∷ pieces) piece = ap (λ rest. one ++ rest) (joined-push pieces piece) ∙ sym (append_assoc one (joined pieces) piece)
+
+records_push : (unit : LengthUnit) (number : ℕ) (records : List (List ℕ)) (rings : List NumberedRing) (bytes : List ℕ) (position : ℕ) (corners : List Corner)
+    → AreRecords unit number records rings → number + length records ≡ position → IsPolygon unit bytes corners
+    → AreRecords unit number (records ++ bytes ∷ []) (rings ++ numbered position corners ∷ [])
+records_push unit number [] [] bytes position corners are count polygon = (omega (arith, count), polygon, tt)
+records_push unit number [] (ring ∷ rings) bytes position corners are count polygon = absurd are
+records_push unit number (one ∷ records) [] bytes position corners are count polygon = absurd are
+records_push unit number (one ∷ records) (ring ∷ rings) bytes position corners are count polygon =
+    (are.0, are.1, records_push unit (number + 1) records rings bytes position corners are.2 (omega (arith, count)) polygon)
+
+pub end_is : (main : List ℕ) → declared_end main ≡ 2 * natural (file_words main)
+unfolding declared_end
+end_is main = refl
+
+-- what was read up to a byte, as text
+pub record Parsed (main : List ℕ) (unit : LengthUnit) (position start : ℕ) (rings : List NumberedRing) : Type 0 where
+  pub records : List (List ℕ)
+  pub text : take start main ≡ take 100 main ++ joined records
+  pub are : AreRecords unit 1 records rings
+  pub count : 1 + length records ≡ position
+  pub long : 100 ≤ start
+  pub within : start ≤ declared_end main
+  pub few : position ≤ 65537
+  pub few_together : corner_count rings ≤ 1000000
+  pub header : HeaderPasses main
+
+pub parsed : (main : List ℕ) (unit : LengthUnit) (position start : ℕ) (rings : List NumberedRing) → Reads main unit position start rings → Parsed main unit position start rings
+parsed main unit position start rings (none h) =
+    let header = header_passes main h in
+    record {
+      records = [];
+      text = sym (append-nil (take 100 main));
+      are = tt;
+      count = refl;
+      long = omega arith;
+      within = omega (arith, end_is main, header.long);
+      few = omega arith;
+      few_together = omega arith;
+      header = header;
+    }
+parsed main unit position start rings (more p s before corners reads apart passes count are) =
+    let old = parsed main unit p s before reads in
+    let facts = record_passes main unit p s (corner_count before) passes in
+    let end : ℕ = record_end main s in
+    let size : ℕ = end - s in
+    let piece : List ℕ = take size (drop s main) in
+    let whole : declared_end main ≤ length main = omega (arith, end_is main, old.header.within) in
+    let piece_length : length piece ≡ size = length-take-le size (drop s main) (omega (arith, length-drop s main, facts.within)) in
+    let grows : s + size ≡ end = omega arith in
+    let text : take end main ≡ take 100 main ++ joined (old.records ++ piece ∷ []) =
+    ap (λ n. take n main) (sym grows) ∙ take-add s size main ∙ ap (λ t. t ++ piece) old.text ∙ append_assoc (take 100 main) (joined old.records) piece
+    ∙ ap (λ t. take 100 main ++ t) (sym (joined-push old.records piece)) in
+    let stands : StandsAt main s piece = record { tail = drop size (drop s main); is = sym (take-append-drop size (drop s main)) } in
+    let polygon = polygon_from_passing main unit p s (corner_count before) piece corners facts stands (omega (arith, piece_length)) count are in
+    record {
+      records = old.records ++ piece ∷ [];
+      text = text;
+      are = records_push unit 1 old.records before piece p corners old.are old.count polygon;
+      count = omega (arith, old.count, length-append old.records (piece ∷ []));
+      long = omega (arith, old.long);
+      within = facts.within;
+      few = omega (arith, facts.few_records);
+      few_together = omega (arith, corner_count-push before (numbered p corners), facts.few_together, count);
+      header = old.header;
+    }
+
+-- at the declared end the file is a layer's
+pub layer_file : (main : List ℕ) (unit : LengthUnit) (position start : ℕ) (rings : List NumberedRing) → Reads main unit position start rings → start ≡ declared_end main
+    → IsLayerFile main unit rings
+layer_file main unit position start rings reads is =
+    let all = parsed main unit position start rings reads in
+    let header : List ℕ = take 100 main in
+    let whole : length header ≡ 100 = length-take-le 100 main all.header.whole in
+    let stands : StandsAt main 0 header = record { tail = drop 100 main; is = sym (take-append-drop 100 main) } in
+    let text_length : length (take start main) ≡ start = length-take-le start main (omega (arith, end_is main, all.header.within)) in
+    let parts : length (take start main) ≡ length header + length (joined all.records) = ap length all.text ∙ length-append header (joined all.records) in
+    let words : file_words main ≡ file_words header = big_at_part main 0 header 24 stands (omega arith) in
+    record {
+      header = header;
+      records = all.records;
+      ignored = drop start main;
+      is_text = sym (take-append-drop start main) ∙ ap (λ t. t ++ drop start main) all.text;
+      has_header = record {
+        is_whole = whole;
+        has_code = sym (big_at_part main 0 header 0 stands (omega arith)) ∙ all.header.code;
+        has_length = omega (arith, ints, words, all.header.words, end_is main);
+        has_version = sym (little_at_part main 0 header 28 stands (omega arith)) ∙ all.header.version_is;
+        has_type = sym (little_at_part main 0 header 32 stands (omega arith)) ∙ all.header.type_is;
+      };
+      has_records = all.are;
+      records_within = omega (arith, all.count, all.few);
+      corners_within = all.few_together;
+    }

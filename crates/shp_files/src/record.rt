@@ -1,0 +1,248 @@
+//! The records of a main file, in the order of their checks.
+
+ghost use Rattle.std.specs.Prelude.{◌≡◌, ◌≤◌, ◌<◌, ◌^◌, ◌+◌, ◌-◌, ◌*◌, ◌≤ℤ◌, pos, Ok, length, IfOk, OnOk, ◌++◌, ◌||◌};
+ghost use Rattle.std.specs.Result.{result_err};
+ghost use Rattle.shp_files.specs.Layout as layout;
+ghost use Rattle.shp_files.specs.Layout.{content_words};
+ghost use Rattle.geo_exact.specs.Grid.{coordinate};
+ghost use Rattle.geo_exact.specs.Limit.{IsWithin, limit};
+ghost use Rattle.shp_files.specs.Checks.{first_failure, frame_checks, shape_checks, polygon_checks, coordinate_checks, ring_checks, record_checks, declared_end, record_end, points_of, fault, is_not};
+ghost use Rattle.shp_files.specs.LayerFile.{closed};
+ghost use Rattle.shp_files.specs.Reading.{Finds, IsReadAs, AreReadAs};
+
+use crate::fault::{FaultKind, FileFault, FileName, LayerFault};
+use crate::fields::{big_at, double_at, little_at, natural, refuse_if};
+use geo_exact::{Corner, Corners, Unit, read_coord};
+use std::alloc::Allocator;
+
+const POLYGON: i32 = 5;
+
+/// The bytes of a record before its points.
+const POINTS: usize = 56;
+
+/// The most records that a file may have.
+const MOST_RECORDS: u32 = 65536;
+/// The most points of a ring, the closing one included.
+const MOST_POINTS: usize = 4097;
+/// The most corners that the rings of a file may have together.
+const MOST_CORNERS: usize = 1_000_000;
+
+/// Where a record begins.
+#[derive(Clone, Copy)]
+pub struct RecordHead {
+    /// Its position in the file, from 1.
+    pub position: u32,
+    /// Its first byte.
+    pub start: usize,
+}
+
+impl RecordHead {
+    fn fault(self, offset: usize, kind: FaultKind) -> FileFault
+        requires { self.start + offset < 2 ^ 64 }
+        ensures { result ≡ fault self.position (self.start + offset) kind }
+    {
+        FileFault {
+            file: FileName::Main,
+            position: self.position,
+            place: (self.start + offset) as u64,
+            kind,
+        }
+    }
+}
+
+/// The record's frame; answers the byte at which its content ends.
+#[tactic(auto, unfolding(crate::specs::Checks::frame_checks, crate::specs::Checks::first_failure))]
+fn check_frame(main: &[u8], end: usize, head: RecordHead) -> Result<usize, FileFault>
+    requires end { end ≡ declared_end main.now }
+    requires bound { end < 2 ^ 32 }
+    requires within { end ≤ length main.now }
+    requires start { head.start ≤ end }
+    ensures checked { result_err result ≡ first_failure (frame_checks main.now head.position head.start) }
+    ensures end { IfOk result (λ content_end. content_end ≡ record_end main.now head.start) }
+    ensures within { IfOk result (λ content_end. content_end ≤ end) }
+    ensures room { IfOk result (λ content_end. head.start + 12 ≤ content_end) }
+    ensures few { IfOk result (λ content_end. head.position ≤ 65536) }
+{
+    let RecordHead { position, start } = head;
+    refuse_if(position > MOST_RECORDS, head.fault(0, FaultKind::TooMany))?;
+    refuse_if(end < start + 8, head.fault(0, FaultKind::Short))?;
+    let words = big_at(main, start + 4);
+    refuse_if(words < 2, head.fault(4, FaultKind::Content))?;
+    let content_end = start + 8 + 2 * natural(words);
+    refuse_if(end < content_end, head.fault(4, FaultKind::Short))?;
+    Ok(content_end)
+}
+
+/// The record's shape type.
+#[tactic(auto, unfolding(crate::specs::Checks::shape_checks, crate::specs::Checks::first_failure))]
+fn check_shape(main: &[u8], head: RecordHead) -> Result<(), FileFault>
+    requires bound { head.start < 2 ^ 32 }
+    requires room { head.start + 12 ≤ length main.now }
+    ensures checked { result_err result ≡ first_failure (shape_checks main.now head.position head.start) }
+    ensures whole { OnOk result (head.start + 52 ≤ record_end main.now head.start) }
+{
+    let shape_type = little_at(main, head.start + 8);
+    refuse_if(shape_type != POLYGON, head.fault(8, FaultKind::ShapeType))?;
+    let words = big_at(main, head.start + 4);
+    refuse_if(words < 22, head.fault(4, FaultKind::Content))?;
+    Ok(())
+}
+
+/// The polygon's counts; answers the number of its points. The polygons before it have `corners`
+/// corners together.
+#[tactic(auto, unfolding(crate::specs::Checks::polygon_checks, crate::specs::Checks::first_failure))]
+fn check_polygon(
+    main: &[u8],
+    content_end: usize,
+    head: RecordHead,
+    corners: usize,
+) -> Result<usize, FileFault>
+    requires end { content_end ≡ record_end main.now head.start }
+    requires within { content_end ≤ length main.now }
+    requires bound { content_end < 2 ^ 32 }
+    requires whole { head.start + 52 ≤ content_end }
+    requires corners { corners ≤ 1000000 }
+    ensures checked { result_err result ≡ first_failure (polygon_checks main.now head.position head.start corners) }
+    ensures count { IfOk result (λ count. count ≡ points_of main.now head.start) }
+    ensures enough { IfOk result (λ count. 4 ≤ count) }
+    ensures few { IfOk result (λ count. count ≤ 4097) }
+    ensures few_together { IfOk result (λ count. corners + (count - 1) ≤ 1000000) }
+    ensures filled { IfOk result (λ count. head.start + 56 + 16 * count ≡ content_end) }
+{
+    let start = head.start;
+    let parts = little_at(main, start + 44);
+    refuse_if(parts != 1, head.fault(44, FaultKind::Parts))?;
+    refuse_if(content_end < start + 52, head.fault(4, FaultKind::Content))?;
+    let points = little_at(main, start + 48);
+    refuse_if(points < 4, head.fault(48, FaultKind::FewPoints))?;
+    let count = natural(points);
+    let many = MOST_POINTS < count || MOST_CORNERS < corners + (count - 1);
+    refuse_if(many, head.fault(48, FaultKind::TooMany))?;
+    let bytes = content_end - (start + 8);
+    refuse_if(bytes != 48 + 16 * count, head.fault(4, FaultKind::Content))?;
+    let first = little_at(main, start + 52);
+    refuse_if(first != 0, head.fault(52, FaultKind::Parts))?;
+    Ok(count)
+}
+
+/// The point at a byte.
+fn read_point(main: &[u8], unit: Unit, head: RecordHead, offset: usize) -> Result<Corner, FileFault>
+    requires bound { head.start + offset < 2 ^ 63 }
+    requires room { head.start + offset + 16 ≤ length main.now }
+    ensures checked { result_err result
+        ≡ first_failure (coordinate_checks main.now unit head.position (head.start + offset) 2) }
+    ensures read { IfOk result (λ corner. IsReadAs unit main.now (head.start + offset) corner) }
+{
+    let x = read_number(main, unit, head, offset)?;
+    let y = read_number(main, unit, head, offset + 8)?;
+    Ok(Corner { x, y })
+}
+
+fn read_number(main: &[u8], unit: Unit, head: RecordHead, offset: usize) -> Result<i64, FileFault>
+    requires bound { head.start + offset < 2 ^ 63 }
+    requires room { head.start + offset + 8 ≤ length main.now }
+    ensures checked { result_err result
+        ≡ first_failure (coordinate_checks main.now unit head.position (head.start + offset) 1) }
+    ensures read { IfOk result (λ number. coordinate (layout.double_at main.now (head.start + offset)) unit ≡ Ok number) }
+    ensures within { IfOk result (λ number. IsWithin limit number) }
+{
+    match read_coord(double_at(main, head.start + offset), unit) {
+        Ok(number) => Ok(number),
+        Err(fault) => Err(head.fault(offset, FaultKind::Coord(fault))),
+    }
+}
+
+/// The points of so many corners, each after the other.
+fn read_corners<A: Allocator + Copy>(
+    alloc: A,
+    main: &[u8],
+    unit: Unit,
+    head: RecordHead,
+    count: usize,
+) -> Result<Corners<A>, LayerFault>
+    requires bound { head.start + 16 * count < 2 ^ 62 }
+    requires room { head.start + 56 + 16 * count ≤ length main.now }
+    ensures checked { Finds result
+        (first_failure (coordinate_checks main.now unit head.position (head.start + 56) (2 * count))) }
+    ensures read { IfOk result (λ corners. AreReadAs unit main.now (head.start + 56) corners) }
+    ensures count { IfOk result (λ corners. length corners ≡ count) }
+{
+    let mut corners = Corners::with_capacity(alloc, count)?;
+    for i in 0..count {
+        let corner = read_point(main, unit, head, POINTS + 16 * i)?;
+        corners.push(corner)?;
+    }
+    Ok(corners)
+}
+
+/// Whether two corners differ.
+fn is_other(a: Corner, b: Corner) -> bool
+    ensures { result ≡ (is_not a.x b.x || is_not a.y b.y) }
+{
+    a != b
+}
+
+/// The ring of so many points, the last of which is the first again.
+fn read_ring<A: Allocator + Copy>(
+    alloc: A,
+    main: &[u8],
+    unit: Unit,
+    head: RecordHead,
+    count: usize,
+) -> Result<Corners<A>, LayerFault>
+    requires bound { head.start + 16 * count < 2 ^ 62 }
+    requires room { head.start + 56 + 16 * count ≤ length main.now }
+    requires enough { 4 ≤ count }
+    ensures checked { Finds result (first_failure (ring_checks main.now unit head.position (head.start + 56) count)) }
+    ensures read { IfOk result (λ corners. AreReadAs unit main.now (head.start + 56) (closed corners)) }
+    ensures count { IfOk result (λ corners. length corners + 1 ≡ count) }
+{
+    let corners = read_corners(alloc, main, unit, head, count - 1)?;
+    let last = POINTS + 16 * (count - 1);
+    let closing = read_point(main, unit, head, last)?;
+    let first = corners.as_slice()[0];
+    let open = is_other(first, closing);
+    refuse_if(open, head.fault(last, FaultKind::NotClosed))?;
+    Ok(corners)
+}
+
+/// A polygon record as it was read: the byte at which it ends, and the corners of its ring.
+#[derive(Drop)]
+pub struct PolygonRecord<A: Allocator> {
+    pub end: usize,
+    pub corners: Corners<A>,
+}
+
+/// Reads a record of a file that is declared to end at `end`, where the polygons before it have
+/// `corners` corners together.
+pub fn read_record<A: Allocator + Copy>(
+    alloc: A,
+    main: &[u8],
+    unit: Unit,
+    end: usize,
+    head: RecordHead,
+    corners: usize,
+) -> Result<PolygonRecord<A>, LayerFault>
+    requires end { end ≡ declared_end main.now }
+    requires bound { end < 2 ^ 32 }
+    requires within { end ≤ length main.now }
+    requires start { head.start ≤ end }
+    requires corners { corners ≤ 1000000 }
+    ensures checked { Finds result (first_failure (record_checks main.now unit head.position head.start corners)) }
+    ensures end { IfOk result (λ polygon. polygon.end ≡ record_end main.now head.start) }
+    ensures within { IfOk result (λ polygon. polygon.end ≤ end) }
+    ensures longer { IfOk result (λ polygon. head.start < polygon.end) }
+    ensures read { IfOk result (λ polygon. AreReadAs unit main.now (head.start + 56) (closed polygon.corners)) }
+    ensures count { IfOk result (λ polygon. length polygon.corners + 1 ≡ points_of main.now head.start) }
+    ensures few { IfOk result (λ polygon. head.position ≤ 65536) }
+    ensures few_together { IfOk result (λ polygon. corners + length polygon.corners ≤ 1000000) }
+{
+    let content_end = check_frame(main, end, head)?;
+    check_shape(main, head)?;
+    let count = check_polygon(main, content_end, head, corners)?;
+    let corners = read_ring(alloc, main, unit, head, count)?;
+    Ok(PolygonRecord {
+        end: content_end,
+        corners,
+    })
+}

@@ -1,0 +1,73 @@
+//! All bytes of a reader.
+
+ghost use Rattle.std.specs.Prelude.{◌≡◌, ◌≤◌, ◌<◌, length, IfOk, IfSome, IsErrOf};
+ghost use Rattle.geo_exact.specs.Bytes.{raised};
+ghost use Rattle.shp_files.specs.declared.source.ReadFault.TheVariants.{Device, NoMemory};
+
+use geo_exact::{ByteIn, Failed};
+use std::alloc::{AllocError, Allocator};
+
+/// The most bytes of a file that is read.
+pub const MOST_BYTES: usize = 67_108_864;
+
+/// The bytes that are pulled at once.
+const CHUNK: usize = 16384;
+
+/// Why a reader's bytes were not read.
+#[derive(Clone, Copy, Debug, PartialEq, Eq)]
+pub enum ReadFault {
+    /// The reader failed.
+    Device,
+    /// It holds more than [`MOST_BYTES`].
+    TooLong,
+    /// A growth was refused.
+    NoMemory,
+}
+
+impl From<Failed> for ReadFault {
+    ghost from_gives = { λ _ e. e ≡ Device };
+
+    fn from(_e: Failed) -> ReadFault {
+        ReadFault::Device
+    }
+}
+
+impl From<AllocError> for ReadFault {
+    ghost from_gives = { λ _ e. e ≡ NoMemory };
+
+    fn from(_e: AllocError) -> ReadFault {
+        ReadFault::NoMemory
+    }
+}
+
+/// Reads all that a reader holds, up to [`MOST_BYTES`].
+///
+/// # Errors
+///
+/// [`ReadFault::Device`] only where the reader failed in this call, [`ReadFault::TooLong`], and
+/// [`ReadFault::NoMemory`] only where a growth was refused. With each of them no bytes are handed on.
+pub fn read_all<A: Allocator + Copy, R: ByteIn>(
+    alloc: A,
+    reader: &mut R,
+) -> Result<Vec<u8, A>, ReadFault>
+    // What is answered is all that the reader held, where it tells that.
+    ensures whole { IfOk result (λ bytes. IfSome (R.remaining reader.old) (λ held. bytes.items ≡ held)) }
+    ensures bound { IfOk result (λ bytes. length bytes.items ≤ 67108864) }
+    ensures too_long { IsErrOf result ReadFault.TooLong →
+        IfSome (R.remaining reader.old) (λ held. 67108864 < length held) }
+    ensures device { IsErrOf result ReadFault.Device → R.failure_count reader.new ≡ raised (R.failure_count reader.old) }
+    ensures no_failure { (¬ IsErrOf result ReadFault.Device) → R.failure_count reader.new ≡ R.failure_count reader.old }
+{
+    let mut bytes = Vec::new(alloc);
+    let mut chunk = [0; CHUNK];
+    loop {
+        let count = reader.pull(&mut chunk)?;
+        if count == 0 {
+            return Ok(bytes);
+        }
+        if MOST_BYTES - bytes.len() < count {
+            return Err(ReadFault::TooLong);
+        }
+        bytes.extend_from_slice(&chunk[..count])?;
+    }
+}
