@@ -1,5 +1,5 @@
 -- The fields and the value of the double that is exactly a whole number.
-use Rattle.std.proofs.Common.{◌≡◌, ℕ, zero, suc, ◌+◌, ◌-◌, ◌*◌, ◌/◌, ◌%◌, ◌^◌, ◌<◌, ◌≤◌, ℤ, pos, negsuc, ◌*ℤ◌, ◌-ℤ◌, neg_ℤ, true, false, nat_eq, cond, refl, sym, ◌∙◌, ap, subst, arith, lit<, lit≤, Ok, inl, inr}
+use Rattle.std.proofs.Common.{◌≡◌, ℕ, zero, suc, ◌+◌, ◌-◌, ◌*◌, ◌/◌, ◌%◌, ◌^◌, ◌<◌, ◌≤◌, ℤ, pos, negsuc, ◌*ℤ◌, ◌-ℤ◌, neg_ℤ, Bool, true, false, nat_eq, cond, refl, sym, ◌∙◌, ap, subst, arith, lit<, lit≤, Ok, inl, inr}
 use Rattle.std.specs.Prelude.{int_lt}
 use Rattle.std.specs.Int.{w64, leading_zeros}
 use Rattle.std.specs.Int.RustNames.{unsigned_abs}
@@ -166,3 +166,18 @@ bits_on_grid k within = on_grid_at k (bits_of k) (bits_exact k within)
 -- they are read back
 pub bits_read : (k : ℤ) → IsWithin limit k → coordinate (bits_of k) Cm ≡ Ok k
 bits_read k within = accepted_when (bits_of k) Cm k (bits_on_grid k within) within
+
+-- ---- they are 64 bits
+whole_bits_fit : (n : ℕ) → n < 2 ^ 53 → whole_bits n < 2 ^ 63
+whole_bits_fit zero small = rw (← no_bits) (lit< tt)
+whole_bits_fit (suc m) small =
+    let is = highest_is (suc m) (omega arith) small in
+    let high = moved_high (suc m) (highest_place (suc m)) is.high is.bound in
+    rw (whole_bits_of (suc m) (omega arith)) (omega (arith, is.bound, high))
+
+pub bits_fit : (k : ℤ) → IsWithin limit k → bits_of k < 2 ^ 64
+bits_fit k within = go (int_lt k (pos 0)) refl
+  where
+    go : (negative : Bool) → int_lt k (pos 0) ≡ negative → bits_of k < 2 ^ 64
+    go true h = rw (bits_minus k h) (let fits = whole_bits_fit (unsigned_abs k) (size_small k within) in omega arith)
+    go false h = rw (bits_plus k h) (let fits = whole_bits_fit (unsigned_abs k) (size_small k within) in omega arith)

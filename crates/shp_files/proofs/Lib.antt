@@ -17,3 +17,5 @@ pub mod Puts
 pub mod Sizes
 pub mod Rings
 pub mod WrittenRows
+pub mod WrittenFields
+pub mod WrittenLayer

@@ -64,7 +64,7 @@ closed_few false [] = omega arith
 closed_few true (first ∷ rest) = simp (length-append, length-reverse) (omega arith)
 closed_few false (first ∷ rest) = simp length-append (omega arith)
 
-points_few : (ring : List Corner) → length (points ring) ≤ length ring + 1
+pub points_few : (ring : List Corner) → length (points ring) ≤ length ring + 1
 points_few ring = closed_few (int_lt (pos 0) (area2 ring)) ring
 
 pub words_few : (number : ℕ) (rings : List (List Corner)) → words (joined (records number rings)) ≤ 36 * length rings + 8 * length (corners_of rings)

@@ -15,7 +15,7 @@ length-box : (corners : List Corner) → length (box corners) ≡ 32
 unfolding box double
 length-box corners = refl
 
-length-point : (corner : Corner) → length (point corner) ≡ 16
+pub length-point : (corner : Corner) → length (point corner) ≡ 16
 unfolding point double
 length-point corner = refl
 

@@ -7,7 +7,7 @@ use Rattle.geo_exact.specs.Area.{area2}
 use Rattle.geo_exact.specs.Doubles.{bits_of}
 use Rattle.geo_exact.specs.Rings.{turned_round}
 use Rattle.geo_exact.specs.declared.raw_ring.RawRing.{RawRing}
-use Rattle.shp_files.specs.LayerFile.{closed, joined}
+use Rattle.shp_files.specs.LayerFile.{NumberedRing, numbered, closed, joined}
 
 -- "Numeric Types": a whole number of 32 bits, its most significant byte first or last, and a double, its most significant byte last
 unfoldable pub big : ℕ → List ℕ
@@ -97,3 +97,8 @@ written_index rings = header (50 + 4 * length rings) (corners_of rings) ++ index
 -- the corners of each ring of a list
 abbrev pub corner_lists : {A : Type 0} → List (RawRing A) → List (List Corner)
 corner_lists rings = map (λ ring. ring.corners) rings
+
+-- rings, the first of which has this number
+abbrev pub numbered_from : ℕ → List (List Corner) → List NumberedRing
+numbered_from number [] = []
+numbered_from number (ring ∷ rings) = numbered number ring ∷ numbered_from (number + 1) rings

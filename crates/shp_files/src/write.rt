@@ -1,10 +1,11 @@
 //! Writing a layer's two files.
 
-ghost use Rattle.std.specs.Prelude.{◌≡◌, ◌≤◌, ◌+◌, ◌*◌, ◌++◌, map, length, sum_by, flat_map, reverse, IfOk, OnOk, List};
+ghost use Rattle.std.specs.Prelude.{◌≡◌, ◌≤◌, ◌+◌, ◌*◌, ◌++◌, map, length, flat_map, reverse, All, IfOk, OnOk, List};
+ghost use Rattle.geo_exact.specs.declared.coord.Unit.TheVariants.{Cm};
 ghost use Rattle.geo_exact.specs.declared.corner.Corner.{Corner as CornerValue};
-ghost use Rattle.shp_files.specs.LayerFile.{joined};
+ghost use Rattle.shp_files.specs.LayerFile.{joined, IsLayerFile};
 ghost use Rattle.shp_files.specs.Written as written;
-ghost use Rattle.shp_files.specs.Written.{corner_lists, corners_of, written_main, written_index};
+ghost use Rattle.shp_files.specs.Written.{as_written, corner_lists, corners_of, numbered_from, written_main, written_index};
 ghost use Rattle.shp_files.specs.Writing.{MayBeBounds};
 
 use crate::bounds::{Bounds, put_box, with_corners};
@@ -234,3 +235,12 @@ pub fn write_layer<A: Allocator + Copy>(
     let index = write_index(alloc, rings, bounds)?;
     Ok((main, index))
 }
+
+/// The main file that is written is a layer's main file in centimetres: of the rings as they are written, numbered from 1,
+/// where each has 3 to 4,096 corners.
+#[tactic(auto, using(crate::proofs::WrittenLayer::written_layer))]
+pub fn a_written_file_is_a_layer_file()
+    ensures { (rings : List (List CornerValue)) → All (λ ring. (3 ≤ length ring) × (length ring ≤ 4096)) rings
+        → length rings ≤ 65536 → length (corners_of rings) ≤ 1000000
+        → IsLayerFile (written_main rings) Cm (numbered_from 1 (map as_written rings)) }
+{}
