@@ -1,7 +1,9 @@
 -- The main file that is written is a layer's main file.
-use Rattle.std.proofs.Common.{◌≡◌, ℕ, suc, ◌+◌, ◌*◌, ◌≤◌, Bool, true, false, cond, pos, List, [], ◌∷◌, ◌++◌, length, map, All, refl, sym, ap, ◌∙◌, arith, length-append}
-use Rattle.std.specs.Prelude.{int_lt}
-use Rattle.std.proofs.lemmas.List.{append-nil, length-reverse}
+use Rattle.std.proofs.Common.{◌≡◌, ℕ, zero, suc, ◌+◌, ◌*◌, ◌≤◌, Bool, true, false, cond, ℤ, pos, negsuc, neg_ℤ, ◌≤ℤ◌, List, [], ◌∷◌, ◌++◌, length, map, All, refl, sym, ap, ◌∙◌, arith, length-append}
+use Rattle.std.specs.Prelude.{int_lt, if◌then◌else◌}
+use Rattle.std.proofs.lemmas.List.{append-nil, length-reverse, reverse-reverse}
+use Rattle.std.proofs.lemmas.Bool.{le-ltb}
+use Rattle.geo_exact.proofs.Windings.{area2_turned_round}
 use Rattle.geo_exact.specs.declared.corner.Corner.{Corner}
 use Rattle.geo_exact.specs.declared.coord.Unit.TheVariants.{Cm}
 use Rattle.geo_exact.specs.Area.{area2}
@@ -59,3 +61,29 @@ written_layer rings each few total =
       records_within = omega (arith, length-records 1 rings, few);
       corners_within = omega (arith, corners_counted 1 rings, total);
     }
+
+-- ---- a ring as it is written, turned back
+turned_twice : (ring : List Corner) → turned_round (turned_round ring) ≡ ring
+turned_twice [] = refl
+turned_twice (first ∷ rest) = ap (λ corners. first ∷ corners) (reverse-reverse rest)
+
+below_zero : (z : ℤ) → int_lt (pos 0) z ≡ true → int_lt (neg_ℤ z) (pos 0) ≡ true
+below_zero (pos zero) h = absurd cc
+below_zero (pos (suc n)) h = refl
+below_zero (negsuc n) h = absurd cc
+
+not_below_zero : (z : ℤ) → pos 0 ≤ℤ z → int_lt z (pos 0) ≡ false
+not_below_zero (pos n) h = le-ltb n 0 (omega arith)
+not_below_zero (negsuc n) h = absurd h.le
+
+-- of a ring that was turned round where its area is positive, that with a negative area is turned round again
+turned_back_where : (turned : Bool) (ring : List Corner) → int_lt (pos 0) (area2 ring) ≡ turned → pos 0 ≤ℤ area2 ring
+    → cond (int_lt (area2 (cond turned (turned_round ring) ring)) (pos 0)) (turned_round (cond turned (turned_round ring) ring)) (cond turned (turned_round ring) ring) ≡ ring
+turned_back_where true ring positive not_negative =
+    let negative : int_lt (area2 (turned_round ring)) (pos 0) ≡ true = rw (area2_turned_round ring) (below_zero (area2 ring) positive) in
+    rw negative (turned_twice ring)
+turned_back_where false ring positive not_negative = rw (not_below_zero (area2 ring) not_negative) refl
+
+pub turned_back : (ring : List Corner) → pos 0 ≤ℤ area2 ring
+    → (if int_lt (area2 (as_written ring)) (pos 0) then turned_round (as_written ring) else as_written ring) ≡ ring
+turned_back ring h = turned_back_where (int_lt (pos 0) (area2 ring)) ring refl h

@@ -22,4 +22,4 @@ pub use layer::{
     read_layer,
 };
 pub use source::{MOST_BYTES, ReadFault, read_all};
-pub use write::{a_written_file_is_a_layer_file, write_layer};
+pub use write::{a_written_file_is_a_layer_file, a_written_ring_is_turned_back, write_layer};

@@ -1,8 +1,10 @@
 //! Writing a layer's two files.
 
-ghost use Rattle.std.specs.Prelude.{◌≡◌, ◌≤◌, ◌+◌, ◌*◌, ◌++◌, map, length, flat_map, reverse, All, IfOk, OnOk, List};
+ghost use Rattle.std.specs.Prelude.{◌≡◌, ◌≤◌, ◌+◌, ◌*◌, ◌++◌, map, length, flat_map, reverse, All, IfOk, OnOk, List, pos, ◌≤ℤ◌, int_lt, if◌then◌else◌};
 ghost use Rattle.geo_exact.specs.declared.coord.Unit.TheVariants.{Cm};
 ghost use Rattle.geo_exact.specs.declared.corner.Corner.{Corner as CornerValue};
+ghost use Rattle.geo_exact.specs.Area.{area2 as area2_of};
+ghost use Rattle.geo_exact.specs.Rings.{turned_round};
 ghost use Rattle.shp_files.specs.LayerFile.{joined, IsLayerFile};
 ghost use Rattle.shp_files.specs.Written as written;
 ghost use Rattle.shp_files.specs.Written.{as_written, corner_lists, corners_of, numbered_from, written_main, written_index};
@@ -243,4 +245,12 @@ pub fn a_written_file_is_a_layer_file()
     ensures { (rings : List (List CornerValue)) → All (λ ring. (3 ≤ length ring) × (length ring ≤ 4096)) rings
         → length rings ≤ 65536 → length (corners_of rings) ≤ 1000000
         → IsLayerFile (written_main rings) Cm (numbered_from 1 (map as_written rings)) }
+{}
+
+/// A ring whose twice-area is not negative is written so that turning it round again, where its twice-area has become
+/// negative, gives back the same list of corners.
+#[tactic(auto, using(crate::proofs::WrittenLayer::turned_back))]
+pub fn a_written_ring_is_turned_back()
+    ensures { (ring : List CornerValue) → pos 0 ≤ℤ area2_of ring
+        → (if int_lt (area2_of (as_written ring)) (pos 0) then turned_round (as_written ring) else as_written ring) ≡ ring }
 {}
