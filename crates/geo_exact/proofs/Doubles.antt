@@ -1,12 +1,11 @@
 -- The fields and the value of the double that is exactly a whole number.
-use Rattle.std.proofs.Common.{◌≡◌, ℕ, zero, suc, ◌+◌, ◌-◌, ◌*◌, ◌/◌, ◌%◌, ◌^◌, ◌<◌, ◌≤◌, ℤ, pos, negsuc, ◌*ℤ◌, ◌-ℤ◌, neg_ℤ, Bool, true, false, nat_eq, cond, refl, sym, ◌∙◌, ap, subst, arith, lit<, lit≤, Ok, inl, inr}
+use Rattle.std.proofs.Common.{◌≡◌, ℕ, zero, suc, ◌+◌, ◌-◌, ◌*◌, ◌%◌, ◌^◌, ◌<◌, ◌≤◌, ℤ, pos, negsuc, ◌*ℤ◌, ◌-ℤ◌, neg_ℤ, Bool, true, false, refl, sym, ◌∙◌, ap, subst, arith, lit<, Ok, inl, inr}
 use Rattle.std.specs.Prelude.{int_lt}
-use Rattle.std.specs.Int.{w64, leading_zeros}
 use Rattle.std.specs.Int.RustNames.{unsigned_abs}
 use Rattle.std.proofs.lemmas.Bool.{ne_eqb, cases_lt, le-ltb}
 use Rattle.std.proofs.Math.Nat.{pow-le-pow_right}
 use Rattle.std.proofs.lemmas.Int.{ints}
-use Rattle.std.proofs.lemmas.Nat.{leading_top, pow-add, pow_pos, shr_high}
+use Rattle.std.proofs.lemmas.Nat.{leading_top, pow-add, pow_pos}
 use Rattle.geo_exact.specs.declared.coord.Unit.TheVariants.{Cm}
 use Rattle.geo_exact.specs.Doubles.{highest_place, whole_exponent, whole_fraction, whole_bits, bits_of}
 use Rattle.geo_exact.specs.Grid.{sign_bit, exponent_field, fraction_field, magnitude, scaled_value, IsOnGrid, coordinate}

@@ -1,5 +1,7 @@
 //! The worked examples of writing.
 
+ghost use Rattle.std.specs.Prelude.{◌≡◌, length, IfOk};
+
 use crate::write_layer;
 use geo_exact::{Corner, Corners, RawRing};
 use std::alloc::{AllocError, Allocator};
@@ -33,16 +35,14 @@ const EMPTY: [u8; 100] = [
     0, 0, 0, 0, 0, 0, 0, 0, 0, 0, 0,
 ];
 
-fn square<A: Allocator + Copy>(alloc: A) -> Result<RawRing<A>, AllocError> {
+fn square<A: Allocator + Copy>(alloc: A) -> Result<RawRing<A>, AllocError>
+    ensures { IfOk result (λ ring. length ring.corners ≡ 4) }
+{
     let mut corners = Corners::new(alloc);
-    for corner in [
-        Corner { x: 0, y: 0 },
-        Corner { x: 100, y: 0 },
-        Corner { x: 100, y: 100 },
-        Corner { x: 0, y: 100 },
-    ] {
-        corners.push(corner)?;
-    }
+    corners.push(Corner { x: 0, y: 0 })?;
+    corners.push(Corner { x: 100, y: 0 })?;
+    corners.push(Corner { x: 100, y: 100 })?;
+    corners.push(Corner { x: 0, y: 100 })?;
     Ok(RawRing { number: 1, corners })
 }
 

@@ -1,4 +1,4 @@
-use Rattle.std.proofs.Common.{◌≡◌, ℕ, ◌-◌, ap, arith}
+use Rattle.std.proofs.Common.{◌≡◌, ℕ, ◌-◌, ap}
 use Rattle.geo_exact.specs.Doubles.{highest_place}
 use Rattle.geo_exact.proofs.Doubles.{IsHighest, highest_is}
 use Rattle.geo_exact.proofs.write.highest_place.Goals as goal

@@ -1,4 +1,4 @@
-use Rattle.std.proofs.Common.{◌≡◌, ℕ, ◌+◌, ◌*◌, ◌-◌, ◌^◌, ◌%◌, ◌<◌, ◌≤◌, refl, sym, ◌∙◌, ap, arith}
+use Rattle.std.proofs.Common.{◌≡◌, ℕ, ◌+◌, ◌*◌, ◌-◌, ◌^◌, ◌%◌, ◌≤◌, refl, sym, ◌∙◌, ap, arith}
 use Rattle.geo_exact.specs.Doubles.{highest_place, whole_bits}
 use Rattle.geo_exact.proofs.Doubles.{whole_bits_of, no_bits}
 use Rattle.geo_exact.proofs.write.whole_bits.Goals as goal

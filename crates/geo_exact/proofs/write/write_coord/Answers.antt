@@ -1,4 +1,4 @@
-use Rattle.std.proofs.Common.{◌≡◌, ◌∙◌, ◌^◌, ◌*ℤ◌, pos, Ok, ℕ, ℤ, sym, subst, ap, arith, FitsSigned}
+use Rattle.std.proofs.Common.{◌≡◌, ◌^◌, ◌*ℤ◌, pos, Ok, ℕ, ℤ, sym, subst, arith, FitsSigned}
 use Rattle.std.specs.Int.{w64}
 use Rattle.std.proofs.lemmas.Int.{ints, to_z-of_z}
 use Rattle.geo_exact.specs.declared.coord.Unit.TheVariants.{Cm}
