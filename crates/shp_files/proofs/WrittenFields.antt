@@ -1,5 +1,5 @@
 -- The numbers of the files that are written, read where they stand.
-use Rattle.std.proofs.Common.{◌≡◌, ℕ, suc, ◌+◌, ◌*◌, ◌^◌, ◌<◌, ◌≤◌, ℤ, pos, true, nat_lt, List, [], ◌∷◌, ◌++◌, length, drop, flat_map, refl, sym, ap, ◌∙◌, subst, arith, lit<, append_assoc, length-append}
+use Rattle.std.proofs.Common.{◌≡◌, ℕ, ◌+◌, ◌*◌, ◌^◌, ◌<◌, ◌≤◌, ℤ, pos, true, nat_lt, List, [], ◌∷◌, ◌++◌, length, drop, flat_map, refl, sym, ap, ◌∙◌, subst, arith, lit<, append_assoc, length-append}
 use Rattle.std.proofs.lemmas.Bool.{lt-ltb}
 use Rattle.std.proofs.Math.Seq.{drop-append_seam}
 use Rattle.byteorder.specs.Endian.{big_number, little_number, twos_complement}
@@ -10,8 +10,8 @@ use Rattle.geo_exact.specs.Doubles.{bits_of}
 use Rattle.geo_exact.specs.Grid.{IsOnGrid}
 use Rattle.geo_exact.specs.Limit.{IsWithin, limit}
 use Rattle.geo_exact.proofs.Doubles.{bits_fit, bits_on_grid}
-use Rattle.shp_files.specs.Layout.{big_at, little_at, double_at, file_code, file_words, version, header_shape_type, content_words, shape_type, part_count, point_count, first_part}
-use Rattle.shp_files.specs.LayerFile.{ArePoints, IsHeader, IsPolygon, closed}
+use Rattle.shp_files.specs.Layout.{big_at, little_at, double_at}
+use Rattle.shp_files.specs.LayerFile.{ArePoints, IsHeader, IsPolygon}
 use Rattle.shp_files.proofs.Sizes.{length-point, length-content, length-record, words_of_content}
 use Rattle.shp_files.proofs.Rings.{points_few}
 use Rattle.shp_files.specs.Written.{as_written, big, little, double, zeros, point, box, words, points, content, record_bytes, header}

@@ -1,5 +1,5 @@
 -- The main file that is written is a layer's main file.
-use Rattle.std.proofs.Common.{◌≡◌, ℕ, zero, suc, ◌+◌, ◌*◌, ◌≤◌, Bool, true, false, cond, ℤ, pos, negsuc, neg_ℤ, ◌≤ℤ◌, List, [], ◌∷◌, ◌++◌, length, map, All, refl, sym, ap, ◌∙◌, arith, length-append}
+use Rattle.std.proofs.Common.{◌≡◌, ℕ, zero, suc, ◌+◌, ◌*◌, ◌≤◌, Bool, true, false, cond, ℤ, pos, negsuc, neg_ℤ, ◌≤ℤ◌, List, [], ◌∷◌, ◌++◌, length, map, All, refl, sym, ap, arith, length-append}
 use Rattle.std.specs.Prelude.{int_lt, if◌then◌else◌}
 use Rattle.std.proofs.lemmas.List.{append-nil, length-reverse, reverse-reverse}
 use Rattle.std.proofs.lemmas.Bool.{le-ltb}
@@ -9,7 +9,7 @@ use Rattle.geo_exact.specs.declared.coord.Unit.TheVariants.{Cm}
 use Rattle.geo_exact.specs.Area.{area2}
 use Rattle.geo_exact.specs.Rings.{turned_round}
 use Rattle.shp_files.specs.LayerFile.{IsLayerFile, AreRecords, joined, corner_count}
-use Rattle.shp_files.specs.Written.{as_written, points, words, content, record_bytes, records, header, corners_of, numbered_from, written_main}
+use Rattle.shp_files.specs.Written.{as_written, words, record_bytes, records, header, corners_of, numbered_from, written_main}
 use Rattle.shp_files.proofs.Sizes.{length-content, length-record, words_of_content}
 use Rattle.shp_files.proofs.Rings.{words_of_records, words_few}
 use Rattle.shp_files.proofs.WrittenFields.{header_is, header_whole, record_is}
