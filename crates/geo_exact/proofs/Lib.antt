@@ -17,3 +17,5 @@ pub mod Rows
 pub mod Coordinates
 pub mod SamePlace
 pub mod CornerPoints
+pub mod Doubles
+pub mod DoubleRows

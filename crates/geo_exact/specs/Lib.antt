@@ -6,4 +6,5 @@ pub mod Winding
 pub mod Area
 pub mod Interiors
 pub mod Grid
+pub mod Doubles
 pub mod Bytes

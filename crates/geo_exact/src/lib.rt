@@ -13,6 +13,7 @@ mod raw_ring;
 mod segment;
 #[cfg(test)]
 mod tests;
+mod write;
 
 pub use area::area2;
 pub use bytes::counted::Counted;
@@ -31,3 +32,4 @@ pub use laws::{
 pub use orientation::turn;
 pub use raw_ring::{Corners, RawRing};
 pub use segment::on_segment;
+pub use write::write_coord;

@@ -1,6 +1,6 @@
 use crate::{
     ByteIn, ByteOut, CoordFault, Corner, Corners, Counted, FailAt, Failed, LIMIT, Unit, area2,
-    read_coord, turn,
+    read_coord, turn, write_coord,
 };
 use std::io;
 use std::io::{ErrorKind, Read, Write};
@@ -19,6 +19,21 @@ fn reads_doubles(rt: HostRuntime) {
         (0x4202_A05F_2008_0000, Unit::Cm, Err(CoordFault::TooFar)),
     ] {
         assert_eq!(rt; read_coord(bits, unit), want, "at {bits:x}");
+    }
+}
+
+#[test]
+fn writes_doubles(rt: HostRuntime) {
+    for (k, bits) in [
+        (0, 0),
+        (1, 0x3FF0_0000_0000_0000),
+        (-1, 0xBFF0_0000_0000_0000),
+        (100, 0x4059_0000_0000_0000),
+        (10_000_000_000, 0x4202_A05F_2000_0000),
+        (-10_000_000_000, 0xC202_A05F_2000_0000),
+    ] {
+        assert_eq!(rt; write_coord(k), bits, "at {k}");
+        assert_eq!(rt; read_coord(bits, Unit::Cm), Ok(k), "at {k}");
     }
 }
 

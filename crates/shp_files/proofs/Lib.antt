@@ -15,3 +15,10 @@ pub mod Answering
 pub mod Rows
 pub mod Turned
 pub mod Keeping
+pub mod Bounding
+pub mod Puts
+pub mod Sizes
+pub mod Rings
+pub mod WrittenRows
+pub mod WrittenFields
+pub mod WrittenLayer

@@ -106,3 +106,19 @@ pub is_normal : (drawn : List Corner) → IsNormal drawn (normal_form drawn)
 is_normal drawn =
     let turned = is_counterclockwise (kept_once drawn) in
     record { same_length = turned.same_length; apart = turned.apart (kept_apart drawn); area = turned.area }
+
+-- ---- a ring without equal neighbours is kept whole
+no_if : (b : Bool) → (b ≡ true → ⊥) → b ≡ false
+no_if true h = absurd (h refl)
+no_if false h = refl
+
+not_nowhere : (p q : Corner) → p ≢ q → (int_eq p.x q.x && int_eq p.y q.y) ≡ false
+not_nowhere p q apart = no_if _ (λ e. apart (nowhere_same p q e))
+
+whole_path : (from : Corner) (xs : List Corner) (to : Corner) → AllApart (path from xs to) → starts (path from xs to) ≡ from ∷ xs
+whole_path from [] to h = rw (not_nowhere from to h.0) refl
+whole_path from (next ∷ rest) to h = rw (not_nowhere from next h.0) (ap (λ (cs : List Corner). from ∷ cs) (whole_path next rest to h.1))
+
+pub kept_whole : (ring : List Corner) → AreApart ring → kept_once ring ≡ ring
+kept_whole [] h = refl
+kept_whole (first ∷ rest) h = whole_path first rest first h

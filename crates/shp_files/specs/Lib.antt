@@ -4,3 +4,5 @@ pub mod LayerFile
 pub mod Checks
 pub mod FirstFault
 pub mod Reading
+pub mod Written
+pub mod Writing

@@ -2,15 +2,20 @@
 //! Description, July 1998: main file, polygon records).
 #![tactic(auto)]
 
+mod bounds;
 mod fault;
 mod fields;
 mod header;
 mod layer;
 mod normal;
+mod put;
 mod record;
 mod source;
 #[cfg(test)]
 mod tests;
+mod write;
+#[cfg(test)]
+mod write_rows;
 
 pub use fault::{FaultKind, FileFault, FileName, LayerFault};
 pub use layer::{
@@ -18,3 +23,4 @@ pub use layer::{
     read_layer,
 };
 pub use source::{MOST_BYTES, ReadFault, read_all};
+pub use write::{a_written_file_is_a_layer_file, a_written_ring_is_turned_back, write_layer};

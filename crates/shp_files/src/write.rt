@@ -1,0 +1,257 @@
+//! Writing a layer's two files.
+
+ghost use Rattle.std.specs.Prelude.{◌≡◌, ◌≤◌, ◌+◌, ◌*◌, ◌++◌, map, length, flat_map, reverse, All, IfOk, OnOk, List, pos, ◌≤ℤ◌, int_lt, if◌then◌else◌};
+ghost use Rattle.geo_exact.specs.declared.coord.Unit.TheVariants.{Cm};
+ghost use Rattle.geo_exact.specs.declared.corner.Corner.{Corner as CornerValue};
+ghost use Rattle.geo_exact.specs.Area.{area2 as area2_of};
+ghost use Rattle.geo_exact.specs.Rings.{AreApart, turned_round};
+ghost use Rattle.shp_files.specs.LayerFile.{joined, IsLayerFile};
+ghost use Rattle.shp_files.specs.Written as written;
+ghost use Rattle.shp_files.specs.Written.{as_written, corner_lists, corners_of, numbered_from, written_main, written_index};
+ghost use Rattle.shp_files.specs.Writing.{MayBeBounds};
+
+use crate::bounds::{Bounds, put_box, with_corners};
+use crate::put::{put_big, put_little, put_point};
+use geo_exact::{Corner, RawRing, area2};
+use std::alloc::{AllocError, Allocator};
+
+const FILE_CODE: u32 = 9994;
+
+const VERSION: u32 = 1000;
+
+const POLYGON: u32 = 5;
+
+/// How many points a ring is written with: its corners, and the first once more.
+fn point_count(ring: &[Corner]) -> u32
+    requires { length ring.now ≤ 1000000 }
+    ensures { result ≡ length (written.points ring.now) }
+{
+    if ring.is_empty() {
+        0
+    } else {
+        ring.len() as u32 + 1
+    }
+}
+
+/// The length of a record's content in words.
+fn content_words(ring: &[Corner]) -> u32
+    requires { length ring.now ≤ 1000000 }
+    ensures { result ≡ written.words (written.content ring.now) }
+{
+    24 + 8 * point_count(ring)
+}
+
+fn put_forwards<A: Allocator>(out: &mut Vec<u8, A>, corners: &[Corner]) -> Result<(), AllocError>
+    ensures { OnOk result (out.new.items ≡ out.old.items ++ flat_map written.point corners.now) }
+{
+    for corner in corners {
+        put_point(out, *corner)?;
+    }
+    Ok(())
+}
+
+fn put_backwards<A: Allocator>(out: &mut Vec<u8, A>, corners: &[Corner]) -> Result<(), AllocError>
+    ensures { OnOk result (out.new.items ≡ out.old.items ++ flat_map written.point (reverse corners.now)) }
+{
+    for corner in corners.iter().rev() {
+        put_point(out, *corner)?;
+    }
+    Ok(())
+}
+
+/// A ring's points: clockwise where it has an area, and its first corner first and last.
+fn put_points<A: Allocator>(out: &mut Vec<u8, A>, ring: &[Corner]) -> Result<(), AllocError>
+    requires { length ring.now ≤ 1000000 }
+    ensures { OnOk result (out.new.items ≡ out.old.items ++ flat_map written.point (written.points ring.now)) }
+{
+    let Some(first) = ring.first() else {
+        return Ok(());
+    };
+    if area2(ring) > 0 {
+        put_point(out, *first)?;
+        put_backwards(out, ring)
+    } else {
+        put_forwards(out, ring)?;
+        put_point(out, *first)
+    }
+}
+
+/// A polygon.
+fn put_content<A: Allocator>(out: &mut Vec<u8, A>, ring: &[Corner]) -> Result<(), AllocError>
+    requires { length ring.now ≤ 1000000 }
+    ensures { OnOk result (out.new.items ≡ out.old.items ++ written.content ring.now) }
+{
+    put_little(out, POLYGON)?;
+    put_box(out, with_corners(None, ring))?;
+    put_little(out, 1)?;
+    put_little(out, point_count(ring))?;
+    put_little(out, 0)?;
+    put_points(out, ring)
+}
+
+fn put_record<A: Allocator>(
+    out: &mut Vec<u8, A>,
+    number: u32,
+    ring: &[Corner],
+) -> Result<(), AllocError>
+    requires { length ring.now ≤ 1000000 }
+    ensures { OnOk result (out.new.items ≡ out.old.items ++ written.record_bytes number ring.now) }
+{
+    put_big(out, number)?;
+    put_big(out, content_words(ring))?;
+    put_content(out, ring)
+}
+
+/// The header of a file that has so many words.
+fn put_header<A: Allocator>(
+    out: &mut Vec<u8, A>,
+    file_words: u32,
+    bounds: Option<Bounds>,
+) -> Result<(), AllocError>
+    ensures { (corners : List CornerValue) → MayBeBounds bounds corners
+        → OnOk result (out.new.items ≡ out.old.items ++ written.header file_words corners) }
+{
+    put_big(out, FILE_CODE)?;
+    out.extend_from_slice(&[0u8; 20])?;
+    put_big(out, file_words)?;
+    put_little(out, VERSION)?;
+    put_little(out, POLYGON)?;
+    put_box(out, bounds)?;
+    out.extend_from_slice(&[0u8; 32])
+}
+
+/// The bounds of all corners of the rings.
+fn layer_bounds<A: Allocator>(rings: &[RawRing<A>]) -> Option<Bounds>
+    ensures { MayBeBounds result (corners_of (corner_lists rings.now)) }
+{
+    let mut bounds = None;
+    for ring in rings {
+        bounds = with_corners(bounds, ring.corners.as_slice());
+    }
+    bounds
+}
+
+/// The length of the records in words.
+fn records_words<A: Allocator>(rings: &[RawRing<A>]) -> u32
+    requires rings { length rings.now ≤ 65536 }
+    requires corners { length (corners_of (corner_lists rings.now)) ≤ 1000000 }
+    ensures value { result ≡ written.words (joined (written.records 1 (corner_lists rings.now))) }
+    ensures bound { result ≤ 12000000 }
+{
+    let mut words = 0;
+    for ring in rings {
+        words += 4 + content_words(ring.corners.as_slice());
+    }
+    words
+}
+
+/// The records, numbered from 1.
+fn put_records<A: Allocator>(out: &mut Vec<u8, A>, rings: &[RawRing<A>]) -> Result<(), AllocError>
+    requires rings { length rings.now ≤ 65536 }
+    requires corners { length (corners_of (corner_lists rings.now)) ≤ 1000000 }
+    ensures { OnOk result
+        (out.new.items ≡ out.old.items ++ joined (written.records 1 (corner_lists rings.now))) }
+{
+    let mut number = 1;
+    for ring in rings {
+        put_record(out, number, ring.corners.as_slice())?;
+        number += 1;
+    }
+    Ok(())
+}
+
+/// The index records.
+fn put_index_records<A: Allocator>(
+    out: &mut Vec<u8, A>,
+    rings: &[RawRing<A>],
+) -> Result<(), AllocError>
+    requires rings { length rings.now ≤ 65536 }
+    requires corners { length (corners_of (corner_lists rings.now)) ≤ 1000000 }
+    ensures { OnOk result
+        (out.new.items ≡ out.old.items ++ written.index_records 50 (corner_lists rings.now)) }
+{
+    let mut place = 50;
+    for ring in rings {
+        let words = content_words(ring.corners.as_slice());
+        put_big(out, place)?;
+        put_big(out, words)?;
+        place += 4 + words;
+    }
+    Ok(())
+}
+
+fn write_main<A: Allocator + Copy>(
+    alloc: A,
+    rings: &[RawRing<A>],
+    bounds: Option<Bounds>,
+) -> Result<Vec<u8, A>, AllocError>
+    requires rings { length rings.now ≤ 65536 }
+    requires corners { length (corners_of (corner_lists rings.now)) ≤ 1000000 }
+    requires bounds { MayBeBounds bounds (corners_of (corner_lists rings.now)) }
+    ensures { IfOk result (λ file. file.items ≡ written_main (corner_lists rings.now)) }
+{
+    let words = 50 + records_words(rings);
+    let mut out = Vec::with_capacity(alloc, 2 * words as usize)?;
+    put_header(&mut out, words, bounds)?;
+    put_records(&mut out, rings)?;
+    Ok(out)
+}
+
+fn write_index<A: Allocator + Copy>(
+    alloc: A,
+    rings: &[RawRing<A>],
+    bounds: Option<Bounds>,
+) -> Result<Vec<u8, A>, AllocError>
+    requires rings { length rings.now ≤ 65536 }
+    requires corners { length (corners_of (corner_lists rings.now)) ≤ 1000000 }
+    requires bounds { MayBeBounds bounds (corners_of (corner_lists rings.now)) }
+    ensures { IfOk result (λ file. file.items ≡ written_index (corner_lists rings.now)) }
+{
+    let words = 50 + 4 * rings.len() as u32;
+    let mut out = Vec::with_capacity(alloc, 2 * words as usize)?;
+    put_header(&mut out, words, bounds)?;
+    put_index_records(&mut out, rings)?;
+    Ok(out)
+}
+
+/// A layer's main file and its index file, in centimetres.
+///
+/// Each ring is a record, numbered from 1 in the order of the list. A ring of positive twice-area is written clockwise, its
+/// first corner first, as the Technical Description asks; any other in its own order. All rings may have at most 65,536
+/// records and 1,000,000 corners.
+///
+/// # Errors
+///
+/// `AllocError` where the memory for one of the files is refused.
+pub fn write_layer<A: Allocator + Copy>(
+    alloc: A,
+    rings: &[RawRing<A>],
+) -> Result<(Vec<u8, A>, Vec<u8, A>), AllocError>
+    requires rings { length rings.now ≤ 65536 }
+    requires corners { length (corners_of (corner_lists rings.now)) ≤ 1000000 }
+    ensures main { IfOk result (λ files. files.0.items ≡ written_main (corner_lists rings.now)) }
+    ensures index { IfOk result (λ files. files.1.items ≡ written_index (corner_lists rings.now)) }
+{
+    let bounds = layer_bounds(rings);
+    let main = write_main(alloc, rings, bounds)?;
+    let index = write_index(alloc, rings, bounds)?;
+    Ok((main, index))
+}
+
+/// The main file that is written is a layer's main file in centimetres, of the same rings, numbered from 1: reading it back
+/// gives the same corner lists. The rings are in normal form, as a [`RawRing`] is by its type.
+#[tactic(auto, using(crate::proofs::WrittenLayer::written_layer))]
+pub fn a_written_file_is_a_layer_file()
+    ensures { (rings : List (List CornerValue))
+        → All (λ ring. (3 ≤ length ring) × (length ring ≤ 4096) × AreApart ring × (pos 0 ≤ℤ area2_of ring)) rings
+        → length rings ≤ 65536 → length (corners_of rings) ≤ 1000000
+        → IsLayerFile (written_main rings) Cm (numbered_from 1 rings) }
+{}
+
+/// A ring whose twice-area is not negative is written so that turning it round again, where its twice-area has become
+/// negative, gives back the same list of corners.
+#[tactic(auto, using(crate::proofs::WrittenLayer::turned_back))]
+pub fn a_written_ring_is_turned_back()
+    ensures { (ring : List CornerValue) → pos 0 ≤ℤ area2_of ring
+        → (if int_lt (area2_of (as_written ring)) (pos 0) then turned_round (as_written ring) else as_written ring) ≡ ring }
+{}
