@@ -1,8 +1,9 @@
 -- The records of a layer's main file are all read, with its rings.
-use Rattle.std.proofs.Common.{inl, inr, ◌≡◌, ◌≢◌, ℕ, suc, ◌+◌, ◌*◌, ◌≤◌, ℤ, pos, negsuc, ◌*ℤ◌, List, [], ◌∷◌, ◌++◌, length, drop, refl, sym, ap, subst, ◌∙◌, arith, append_assoc}
+use Rattle.std.proofs.Common.{inl, inr, ◌≡◌, ◌≢◌, ℕ, suc, ◌+◌, ◌*◌, ◌≤◌, ℤ, pos, negsuc, ◌*ℤ◌, List, [], ◌∷◌, ◌++◌, length, drop, Option, refl, sym, ap, subst, ◌∙◌, arith, append_assoc}
 use Rattle.std.proofs.lemmas.Int.{ints}
 use Rattle.std.proofs.lemmas.List.{append-nil, length-append, drop-drop, drop_at}
 use Rattle.geo_exact.specs.declared.coord.Unit.{Unit as LengthUnit}
+use Rattle.shp_files.specs.declared.fault.FileName.TheVariants.{Main}
 use Rattle.shp_files.specs.Layout.{file_words, natural}
 use Rattle.shp_files.specs.LayerFile.{NumberedRing, AreRecords, joined, corner_count, IsNullShape, IsPolygon, numbered, IsLayerFile}
 use Rattle.shp_files.specs.Checks.{declared_end, record_end}
@@ -104,9 +105,9 @@ half (pos n) d e = (ap pos (sym (natural_pos n)), omega (arith, ints, e, natural
 half (negsuc n) d e = absurd (omega (arith, ints, e))
 
 -- a layer's main file is read to its declared end
-pub reads_layer : (main : List ℕ) (unit : LengthUnit) (rings : List NumberedRing) → (file : IsLayerFile main unit rings)
+pub reads_layer : (main : List ℕ) (index : Option (List ℕ)) (unit : LengthUnit) (rings : List NumberedRing) → (file : IsLayerFile main index unit rings)
     → Reads main unit (1 + length file.records) (declared_end main) file.drawn
-reads_layer main unit rings file =
+reads_layer main index unit rings file =
     let split : main ≡ file.header ++ (joined file.records ++ file.ignored) = file.is_text ∙ append_assoc file.header (joined file.records) file.ignored in
     let stands : StandsAt main 0 file.header = record { tail = joined file.records ++ file.ignored; is = split } in
     let header = file.has_header in
@@ -126,7 +127,7 @@ reads_layer main unit rings file =
     } in
     let rest : drop 100 main ≡ joined file.records ++ file.ignored = ap (λ xs. drop 100 xs) split ∙ drop_at file.header (joined file.records ++ file.ignored) 100 header.is_whole in
     let stand : Stand main unit 1 100 [] file.records file.drawn file.ignored = record {
-      reads = none (header_passes_from main passes);
+      reads = none (header_passes_from Main main passes);
       text = rest;
       end = omega (arith, end);
       few = omega (arith, file.records_within);

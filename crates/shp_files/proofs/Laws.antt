@@ -1,25 +1,28 @@
 -- A text is a layer's main file of one list of rings at most, or has one first fault, and never both.
-use Rattle.std.proofs.Common.{◌≡◌, ◌≢◌, true, false, inl, inr, ℕ, ◌+◌, ◌≤◌, ◌<◌, ℤ, List, [], ◌∷◌, ◌++◌, length, Some, None, Result, Ok, refl, sym, ap, subst, ◌∙◌, arith}
+use Rattle.std.proofs.Common.{◌≡◌, ◌≢◌, true, false, inl, inr, ℕ, ◌+◌, ◌≤◌, ◌<◌, ℤ, List, [], ◌∷◌, ◌++◌, length, Option, Some, None, Result, Ok, refl, sym, ap, subst, ◌∙◌, arith}
 use Rattle.std.proofs.lemmas.Bool.{cases_order, false≢true}
 use Rattle.geo_exact.specs.declared.corner.Corner.{Corner}
 use Rattle.geo_exact.specs.declared.coord.Unit.{Unit as LengthUnit}
 use Rattle.geo_exact.specs.declared.coord.CoordFault.{CoordFault}
 use Rattle.geo_exact.proofs.SameCorner.{corner_same}
 use Rattle.shp_files.specs.declared.fault.FileFault.{FileFault}
+use Rattle.shp_files.specs.declared.fault.FileName.TheVariants.{Main, Index}
 use Rattle.shp_files.specs.LayerFile.{NumberedRing, closed, normal_rings, IsLayerFile}
 use Rattle.shp_files.specs.Checks.{first_failure, header_checks, record_checks, declared_end, record_end, points_of, is_null, corners_of}
-use Rattle.shp_files.specs.FirstFault.{Reaches, StopsAt, IsFirstFault}
+use Rattle.shp_files.specs.FirstFault.{Reaches, StopsAt, IsMainFault, IsAccepted, IndexStopsAt, IsIndexFault, IsFirstFault}
 use Rattle.shp_files.specs.FirstFault.Reaches.{first, next}
-use Rattle.shp_files.specs.Reading.{AreReadAs}
+use Rattle.shp_files.specs.IndexChecks.{entry_checks}
+use Rattle.shp_files.specs.Reading.{AreReadAs, Agrees}
 use Rattle.shp_files.proofs.Walk.{Reads, reached}
 use Rattle.shp_files.proofs.Walk.Reads.{none, null, more}
 use Rattle.shp_files.proofs.Complete.{reads_layer}
+use Rattle.shp_files.proofs.Indexes.{agrees_of_file}
 
 position_from_1 : (main : List ℕ) (unit : LengthUnit) (p s c : ℕ) → Reaches main unit p s c → 1 ≤ p
 position_from_1 main unit p s c (first h) = omega arith
 position_from_1 main unit p s c (next q t d r apart passes) = omega arith
 
-header_passes : (main : List ℕ) (unit : LengthUnit) (p s c : ℕ) → Reaches main unit p s c → first_failure (header_checks main) ≡ None
+header_passes : (main : List ℕ) (unit : LengthUnit) (p s c : ℕ) → Reaches main unit p s c → first_failure (header_checks Main main) ≡ None
 header_passes main unit p s c (first h) = h
 header_passes main unit p s c (next q t d r apart passes) = header_passes main unit q t d r
 
@@ -60,7 +63,7 @@ not_passed main unit f stop h =
 not_past_end : (main : List ℕ) (unit : LengthUnit) (p s c : ℕ) → Reaches main unit p s c → s ≡ declared_end main → IsPassed main unit p → ⊥
 not_past_end main unit p s c r is h = h.apart (sym (same_place main unit p s c p h.start h.corners r h.reaches refl).0 ∙ is)
 
-header_or_record : (main : List ℕ) (unit : LengthUnit) (f g : FileFault) → first_failure (header_checks main) ≡ Some f → StopsAt main unit g → ⊥
+header_or_record : (main : List ℕ) (unit : LengthUnit) (f g : FileFault) → first_failure (header_checks Main main) ≡ Some f → StopsAt main unit g → ⊥
 header_or_record main unit f g h stop =
     let fine = header_passes main unit stop.position stop.record_at stop.corners stop.is_reached in
     cc
@@ -80,12 +83,12 @@ same_stop main unit f g a b =
       ]
     ]
 
--- a text has one first fault at most
-pub one_first_fault : (main : List ℕ) (unit : LengthUnit) (f g : FileFault) → IsFirstFault main unit f → IsFirstFault main unit g → f ≡ g
-one_first_fault main unit f g (inl h) (inl k) = cc
-one_first_fault main unit f g (inl h) (inr b) = absurd (header_or_record main unit f g h b)
-one_first_fault main unit f g (inr a) (inl k) = absurd (header_or_record main unit g f k a)
-one_first_fault main unit f g (inr a) (inr b) = same_stop main unit f g a b
+-- a main file has one first fault at most
+one_main_fault : (main : List ℕ) (unit : LengthUnit) (f g : FileFault) → IsMainFault main unit f → IsMainFault main unit g → f ≡ g
+one_main_fault main unit f g (inl h) (inl k) = cc
+one_main_fault main unit f g (inl h) (inr b) = absurd (header_or_record main unit f g h b)
+one_main_fault main unit f g (inr a) (inl k) = absurd (header_or_record main unit g f k a)
+one_main_fault main unit f g (inr a) (inr b) = same_stop main unit f g a b
 
 -- where all is read, nothing stops the reader
 never_stops : (main : List ℕ) (unit : LengthUnit) (p s c : ℕ) (f : FileFault) → Reaches main unit p s c → s ≡ declared_end main → StopsAt main unit f → ⊥
@@ -98,12 +101,75 @@ never_stops main unit p s c f r is stop =
       ]
     ]
 
--- a layer's main file has no fault
-pub no_fault_in_layer : (main : List ℕ) (unit : LengthUnit) (rings : List NumberedRing) (f : FileFault) → IsLayerFile main unit rings → IsFirstFault main unit f → ⊥
-no_fault_in_layer main unit rings f file (inl h) =
-    let fine = header_passes main unit _ _ _ (reached main unit _ _ file.drawn (reads_layer main unit rings file)) in
+-- a main file whose checks all pass has no fault
+no_fault_in_main : (main : List ℕ) (unit : LengthUnit) (f : FileFault) → IsAccepted main unit → IsMainFault main unit f → ⊥
+no_fault_in_main main unit f accepted (inl h) =
+    let fine = header_passes main unit _ _ _ accepted.is_reached in
     cc
-no_fault_in_layer main unit rings f file (inr stop) = never_stops main unit _ _ _ f (reached main unit _ _ file.drawn (reads_layer main unit rings file)) refl stop
+no_fault_in_main main unit f accepted (inr stop) = never_stops main unit _ _ _ f accepted.is_reached refl stop
+
+-- all checks of a layer's main file pass
+pub accepted_layer : (main : List ℕ) (index : Option (List ℕ)) (unit : LengthUnit) (rings : List NumberedRing) → IsLayerFile main index unit rings → IsAccepted main unit
+accepted_layer main index unit rings file =
+    record { position = _; corners = _; is_reached = reached main unit _ _ file.drawn (reads_layer main index unit rings file) }
+
+-- an index stops the reader at its header or behind it
+index_header_or_record : (main index : List ℕ) (unit : LengthUnit) (f g : FileFault) → first_failure (header_checks Index index) ≡ Some f → IndexStopsAt main index unit g → ⊥
+index_header_or_record main index unit f g h stop =
+    let fine = stop.has_header in
+    cc
+
+-- an index record that stops the reader has none before it that does
+not_before : (main index : List ℕ) (unit : LengthUnit) (f g : FileFault) → (a : IndexStopsAt main index unit f) → (b : IndexStopsAt main index unit g) → a.position < b.position → ⊥
+not_before main index unit f g a b lt =
+    let passes = b.has_entries a.position a.record_at a.corners a.is_reached lt in
+    let is = a.is_first in
+    cc
+
+-- two index records that stop the reader are one
+same_index_stop : (main index : List ℕ) (unit : LengthUnit) (f g : FileFault) → IndexStopsAt main index unit f → IndexStopsAt main index unit g → f ≡ g
+same_index_stop main index unit f g a b =
+    elim (cases_order a.position b.position) [
+      | inl e ↦
+          let same = same_place main unit a.position a.record_at a.corners b.position b.record_at b.corners a.is_reached b.is_reached e in
+          let there : first_failure (entry_checks main index b.position b.record_at) ≡ Some f = rw (← e, ← same.0) a.is_first in
+          let is = b.is_first in
+          cc
+      | inr o ↦ elim o [
+        | inl lt ↦ absurd (not_before main index unit f g a b lt)
+        | inr gt ↦ absurd (not_before main index unit g f b a gt)
+      ]
+    ]
+
+one_index_fault : (main index : List ℕ) (unit : LengthUnit) (f g : FileFault) → IsIndexFault main index unit f → IsIndexFault main index unit g → f ≡ g
+one_index_fault main index unit f g (inl h) (inl k) = cc
+one_index_fault main index unit f g (inl h) (inr b) = absurd (index_header_or_record main index unit f g h b)
+one_index_fault main index unit f g (inr a) (inl k) = absurd (index_header_or_record main index unit g f k a)
+one_index_fault main index unit f g (inr a) (inr b) = same_index_stop main index unit f g a b
+
+-- a text, with an index or none, has one first fault at most
+pub one_first_fault : (main : List ℕ) (index : Option (List ℕ)) (unit : LengthUnit) (f g : FileFault) → IsFirstFault main index unit f → IsFirstFault main index unit g → f ≡ g
+one_first_fault main None unit f g h k = one_main_fault main unit f g h k
+one_first_fault main (Some index) unit f g (inl h) (inl k) = one_main_fault main unit f g h k
+one_first_fault main (Some index) unit f g (inl h) (inr k) = absurd (no_fault_in_main main unit f k.0 h)
+one_first_fault main (Some index) unit f g (inr h) (inl k) = absurd (no_fault_in_main main unit g h.0 k)
+one_first_fault main (Some index) unit f g (inr h) (inr k) = one_index_fault main index unit f g h.1 k.1
+
+-- an index that agrees has no fault
+no_fault_in_index : (main index : List ℕ) (unit : LengthUnit) (f : FileFault) → Agrees main index unit → IsIndexFault main index unit f → ⊥
+no_fault_in_index main index unit f agrees (inl h) =
+    let fine = agrees.has_header in
+    cc
+no_fault_in_index main index unit f agrees (inr stop) =
+    let fine = agrees.has_entries stop.position stop.record_at stop.corners stop.is_reached in
+    let is = stop.is_first in
+    cc
+
+-- a layer's files have no fault
+pub no_fault_in_layer : (main : List ℕ) (index : Option (List ℕ)) (unit : LengthUnit) (rings : List NumberedRing) (f : FileFault) → IsLayerFile main index unit rings → IsFirstFault main index unit f → ⊥
+no_fault_in_layer main None unit rings f file h = no_fault_in_main main unit f (accepted_layer main None unit rings file) h
+no_fault_in_layer main (Some index) unit rings f file (inl h) = no_fault_in_main main unit f (accepted_layer main (Some index) unit rings file) h
+no_fault_in_layer main (Some index) unit rings f file (inr h) = no_fault_in_index main index unit f (agrees_of_file main index unit rings file) h.1
 
 ok_same : (r : Result ℤ CoordFault) (a b : ℤ) → r ≡ Ok a → r ≡ Ok b → a ≡ b
 ok_same r a b h k = cc
@@ -153,11 +219,11 @@ same_rings main unit p s q t a b (more p' s' a' cs r apart passes type count are
     let corners : cs ≡ ds = same_corners unit main (s' + 56) cs ds points (open_read unit main (s' + 56) cs are) (open_read unit main (s' + 56) ds (rw same.0 are')) in
     (ap (λ n. record_end main n) same.0, cc)
 
--- a text is a layer's main file of one list of rings at most
-pub one_list_of_rings : (main : List ℕ) (unit : LengthUnit) (a b : List NumberedRing) → IsLayerFile main unit a → IsLayerFile main unit b → a ≡ b
-one_list_of_rings main unit a b file other =
-    let r = reads_layer main unit a file in
-    let q = reads_layer main unit b other in
+-- a text is a layer's main file, with its index where there is one, of one list of rings at most
+pub one_list_of_rings : (main : List ℕ) (index : Option (List ℕ)) (unit : LengthUnit) (a b : List NumberedRing) → IsLayerFile main index unit a → IsLayerFile main index unit b → a ≡ b
+one_list_of_rings main index unit a b file other =
+    let r = reads_layer main index unit a file in
+    let q = reads_layer main index unit b other in
     let p = reached main unit _ _ file.drawn r in
     let o = reached main unit _ _ other.drawn q in
     elim (cases_order (1 + length file.records) (1 + length other.records)) [

@@ -10,6 +10,7 @@ pub mod Polygons
 pub mod Walk
 pub mod Sound
 pub mod Complete
+pub mod Indexes
 pub mod Laws
 pub mod Answering
 pub mod Rows

@@ -4,6 +4,7 @@ use Rattle.std.proofs.lemmas.Bool.{ltb-false, le-ltb, eqb-true, eq-eqb, not-fals
 use Rattle.std.proofs.lemmas.Bool.Decides.{Decides-int_eq}
 use Rattle.std.specs.Ordering.{int_eq}
 use Rattle.geo_exact.specs.declared.coord.Unit.{Unit as LengthUnit}
+use Rattle.shp_files.specs.declared.fault.FileName.{FileName}
 use Rattle.shp_files.specs.Layout.{file_code, file_words, version, header_shape_type, content_words, shape_type, part_count, point_count, first_part, natural}
 use Rattle.shp_files.specs.Checks.{first_failure, is_not, declared_end, record_end, points_of, header_checks, frame_checks, shape_checks, count_checks, ring_checks, corner_checks, polygon_checks, distinct_points, is_null, record_checks}
 use Rattle.shp_files.proofs.Lines.{pass, pass_from, pass_parts, pass_both, first_failure_none}
@@ -18,9 +19,9 @@ pub record HeaderPasses (main : List ℕ) : Type 0 where
   pub version_is : version main ≡ pos 1000
   pub type_is : header_shape_type main ≡ pos 5
 
-pub header_passes : (main : List ℕ) → first_failure (header_checks main) ≡ None → HeaderPasses main
+pub header_passes : (name : FileName) (main : List ℕ) → first_failure (header_checks name main) ≡ None → HeaderPasses main
 unfolding header_checks declared_end
-header_passes main e =
+header_passes name main e =
     let a = pass _ _ _ e in
     let b = pass _ _ _ a.1 in
     let c = pass _ _ _ b.1 in
@@ -37,9 +38,9 @@ header_passes main e =
       type_is = same_from_is_not _ _ g.0;
     }
 
-pub header_passes_from : (main : List ℕ) → HeaderPasses main → first_failure (header_checks main) ≡ None
+pub header_passes_from : (name : FileName) (main : List ℕ) → HeaderPasses main → first_failure (header_checks name main) ≡ None
 unfolding header_checks declared_end
-header_passes_from main h =
+header_passes_from name main h =
     pass_from _ _ _ (le-ltb _ _ h.whole)
     (pass_from _ _ _ (is_not_same _ _ h.code)
     (pass_from _ _ _ (not_below 50 _ _ h.words h.long)

@@ -3,6 +3,7 @@ use Rattle.std.proofs.Common.{◌≡◌, ℕ, List, [], ◌∷◌, ◌++◌, Som
 use Rattle.geo_exact.specs.declared.coord.Unit.TheVariants.{Cm}
 use Rattle.geo_exact.specs.declared.coord.CoordFault.TheVariants.{NotNumber}
 use Rattle.geo_exact.specs.Grid.{coordinate, size_of}
+use Rattle.shp_files.specs.declared.fault.FileName.TheVariants.{Main}
 use Rattle.shp_files.specs.declared.fault.FaultKind.TheVariants.{Short, Parts, NotClosed, Coord}
 use Rattle.shp_files.specs.Layout.{big_at, little_at, double_at, natural}
 use Rattle.shp_files.specs.Checks.{first_failure, header_checks, record_checks, frame_checks, shape_checks, count_checks, polygon_checks, corner_checks, distinct_points, coordinate_checks, closing_checks, ring_checks, declared_end, record_end, fault}
@@ -20,7 +21,7 @@ square =
     ++ (0 ∷ 0 ∷ 0 ∷ 1 ∷ 0 ∷ 0 ∷ 0 ∷ 0x40 ∷ 5 ∷ 0 ∷ 0 ∷ 0 ∷ []) ++ zeros 16 ++ hundred ++ hundred ++ (1 ∷ 0 ∷ 0 ∷ 0 ∷ 5 ∷ 0 ∷ 0 ∷ 0 ∷ 0 ∷ 0 ∷ 0 ∷ 0 ∷ [])
     ++ zeros 24 ++ hundred ++ hundred ++ hundred ++ hundred ++ zeros 8 ++ zeros 16
 
-header_fine : first_failure (header_checks square) ≡ None
+header_fine : first_failure (header_checks Main square) ≡ None
 unfolding first_failure header_checks declared_end big_at little_at natural
 header_fine = refl
 
@@ -32,11 +33,11 @@ record_ends : record_end square 100 ≡ declared_end square
 unfolding declared_end big_at natural
 record_ends = refl
 
-torn : first_failure (header_checks (take 235 square)) ≡ Some (fault 0 235 Short)
+torn : first_failure (header_checks Main (take 235 square)) ≡ Some (fault 0 235 Short)
 unfolding first_failure header_checks declared_end big_at little_at natural
 torn = refl
 
-torn_header : first_failure (header_checks (take 57 square)) ≡ Some (fault 0 57 Short)
+torn_header : first_failure (header_checks Main (take 57 square)) ≡ Some (fault 0 57 Short)
 unfolding first_failure header_checks declared_end big_at little_at natural
 torn_header = refl
 

@@ -1,10 +1,11 @@
 -- A file whose records are all read is a layer's main file with their rings.
-use Rattle.std.proofs.Common.{◌≡◌, inl, inr, ℕ, ◌+◌, ◌*◌, ◌-◌, ◌≤◌, List, [], ◌∷◌, ◌++◌, length, take, drop, refl, sym, ap, ◌∙◌, arith, append_assoc}
+use Rattle.std.proofs.Common.{◌≡◌, inl, inr, ℕ, ◌+◌, ◌*◌, ◌-◌, ◌≤◌, List, [], ◌∷◌, ◌++◌, length, take, drop, None, refl, sym, ap, ◌∙◌, arith, append_assoc}
 use Rattle.std.proofs.lemmas.Int.{ints}
 use Rattle.std.proofs.lemmas.List.{append-nil, length-append, length-drop, length-take-le, take-append-drop}
 use Rattle.std.proofs.Math.Seq.{take-add}
 use Rattle.geo_exact.specs.declared.corner.Corner.{Corner}
 use Rattle.geo_exact.specs.declared.coord.Unit.{Unit as LengthUnit}
+use Rattle.shp_files.specs.declared.fault.FileName.TheVariants.{Main}
 use Rattle.shp_files.specs.Layout.{file_words, natural}
 use Rattle.shp_files.specs.LayerFile.{NumberedRing, numbered, normal_rings, IsNullShape, IsPolygon, AreRecords, joined, corner_count, IsLayerFile}
 use Rattle.shp_files.specs.Checks.{declared_end, record_end}
@@ -84,7 +85,7 @@ piece_of main unit p s before old frame =
 
 pub parsed : (main : List ℕ) (unit : LengthUnit) (position start : ℕ) (rings : List NumberedRing) → Reads main unit position start rings → Parsed main unit position start rings
 parsed main unit position start rings (none h) =
-    let header = header_passes main h in
+    let header = header_passes Main main h in
     record {
       records = [];
       text = sym (append-nil (take 100 main));
@@ -130,7 +131,7 @@ parsed main unit position start rings (more p s before corners reads apart passe
 
 -- at the declared end the file is a layer's
 pub layer_file : (main : List ℕ) (unit : LengthUnit) (position start : ℕ) (drawn rings : List NumberedRing) → Reads main unit position start drawn → start ≡ declared_end main
-    → rings ≡ normal_rings drawn → IsLayerFile main unit rings
+    → rings ≡ normal_rings drawn → IsLayerFile main None unit rings
 layer_file main unit position start drawn rings reads is normal =
     let all = parsed main unit position start drawn reads in
     let header : List ℕ = take 100 main in
@@ -155,5 +156,6 @@ layer_file main unit position start drawn rings reads is normal =
       has_records = all.are;
       records_within = omega (arith, all.count, all.few);
       corners_within = all.few_together;
+      has_index = tt;
       has_rings = normal;
     }

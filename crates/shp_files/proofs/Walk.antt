@@ -8,15 +8,16 @@ use Rattle.std.proofs.lemmas.List.{map-append}
 use Rattle.shp_files.specs.Checks.{first_failure, header_checks, record_checks, declared_end, record_end, points_of, is_null, corners_of}
 use Rattle.shp_files.specs.FirstFault.{Reaches}
 use Rattle.shp_files.specs.FirstFault.Reaches.{first, next}
-use Rattle.shp_files.specs.FirstFault.{IsFirstFault}
+use Rattle.shp_files.specs.FirstFault.{IsMainFault}
 use Rattle.shp_files.specs.declared.fault.FileFault.{FileFault}
+use Rattle.shp_files.specs.declared.fault.FileName.TheVariants.{Main}
 use Rattle.shp_files.specs.declared.fault.LayerFault.{LayerFault}
 use Rattle.shp_files.specs.declared.fault.LayerFault.TheVariants.{File}
 use Rattle.shp_files.specs.Reading.{Fails, AreReadAs, IsDrawnAs}
 
 -- The record at this position begins at this byte, and the polygons among those before it were read as these rings, as they are drawn.
 pub data Reads (main : List ℕ) (unit : LengthUnit) : ℕ → ℕ → List NumberedRing → Type 0 where
-  none : first_failure (header_checks main) ≡ None → Reads main unit 1 100 []
+  none : first_failure (header_checks Main main) ≡ None → Reads main unit 1 100 []
   null : (position start : ℕ) (drawn : List NumberedRing) → Reads main unit position start drawn → start ≢ declared_end main
       → first_failure (record_checks main unit position start (corner_count drawn)) ≡ None → is_null main start ≡ true
       → Reads main unit (position + 1) (record_end main start) drawn
@@ -71,7 +72,7 @@ reads_null main unit position start drawn before end reads sum apart passes type
 -- a record that is refused behind those that were read is the first fault
 pub stops_at : (main : List ℕ) (unit : LengthUnit) (position start : ℕ) (rings : List NumberedRing) (before : ℕ) (e : LayerFault) (fault : FileFault)
     → Reads main unit position start rings → before ≡ corner_count rings → start ≢ declared_end main
-    → Fails e (first_failure (record_checks main unit position start before)) → e ≡ File fault → IsFirstFault main unit fault
+    → Fails e (first_failure (record_checks main unit position start before)) → e ≡ File fault → IsMainFault main unit fault
 stops_at main unit position start rings before e fault reads sum apart fails is =
     let P : LayerFault → Type 0 = λ f. Fails f (first_failure (record_checks main unit position start before)) in
     let Q : ℕ → Type 0 = λ n. first_failure (record_checks main unit position start n) ≡ Some fault in

@@ -1,5 +1,5 @@
 -- The main file that is written is a layer's main file.
-use Rattle.std.proofs.Common.{◌≡◌, ℕ, zero, suc, ◌+◌, ◌*◌, ◌≤◌, Bool, true, false, cond, ℤ, pos, negsuc, neg_ℤ, ◌≤ℤ◌, List, [], ◌∷◌, ◌++◌, length, map, All, refl, sym, ap, ◌∙◌, inr, arith, length-append}
+use Rattle.std.proofs.Common.{◌≡◌, ℕ, zero, suc, ◌+◌, ◌*◌, ◌≤◌, Bool, true, false, cond, ℤ, pos, negsuc, neg_ℤ, ◌≤ℤ◌, List, [], ◌∷◌, ◌++◌, length, map, All, refl, sym, ap, ◌∙◌, inr, None, arith, length-append}
 use Rattle.std.specs.Prelude.{int_lt, if◌then◌else◌}
 use Rattle.std.proofs.lemmas.List.{append-nil, length-reverse, reverse-reverse}
 use Rattle.std.proofs.lemmas.Bool.{le-ltb}
@@ -96,7 +96,7 @@ rings_again number (ring ∷ rings) each =
     ∙ ap (λ (later : List NumberedRing). numbered number (normal_form (as_written ring)) ∷ later) others
 
 pub written_layer : (rings : List (List Corner)) → All Fits rings → length rings ≤ 65536 → length (corners_of rings) ≤ 1000000
-    → IsLayerFile (written_main rings) Cm (numbered_from 1 rings)
+    → IsLayerFile (written_main rings) None Cm (numbered_from 1 rings)
 unfolding written_main
 written_layer rings each few total =
     let n : ℕ = 50 + words (joined (records 1 rings)) in
@@ -110,5 +110,6 @@ written_layer rings each few total =
       has_records = are_records 1 rings each;
       records_within = omega (arith, length-records 1 rings, few);
       corners_within = omega (arith, corners_counted 1 rings, total);
+      has_index = tt;
       has_rings = rings_again 1 rings each;
     }

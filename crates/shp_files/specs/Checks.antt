@@ -4,6 +4,7 @@ use Rattle.std.specs.Ordering.{int_eq}
 use Rattle.geo_exact.specs.declared.coord.Unit.{Unit as LengthUnit}
 use Rattle.geo_exact.specs.declared.coord.CoordFault.{CoordFault}
 use Rattle.geo_exact.specs.Grid.{coordinate}
+use Rattle.shp_files.specs.declared.fault.FileName.{FileName}
 use Rattle.shp_files.specs.declared.fault.FileName.TheVariants.{Main}
 use Rattle.shp_files.specs.declared.fault.FaultKind.{FaultKind}
 use Rattle.shp_files.specs.declared.fault.FaultKind.TheVariants as kinds
@@ -23,25 +24,30 @@ unfoldable pub first_failure : List Check → Option FileFault
 first_failure [] = None
 first_failure (line ∷ lines) = if line.fails then Some line.answer else first_failure lines
 
--- a fault of the main file: the record's position, the byte, and what is wrong
+-- a fault of a file: the record's position, the byte, and what is wrong
+abbrev pub fault_in : FileName → ℕ → ℕ → FaultKind → FileFault
+fault_in name position place kind = record { file = name; position = position; place = place; kind = kind }
+
+-- a fault of the main file
 abbrev pub fault : ℕ → ℕ → FaultKind → FileFault
-fault position place kind = record { file = Main; position = position; place = place; kind = kind }
+fault position place kind = fault_in Main position place kind
 
 abbrev pub is_not : ℤ → ℤ → Bool
 is_not a b = not (int_eq a b)
 
 -- the byte at which the file is declared to end
 unfoldable pub declared_end : List ℕ → ℕ
-declared_end main = 2 * natural (file_words main)
+declared_end file = 2 * natural (file_words file)
 
-unfoldable pub header_checks : List ℕ → List Check
-header_checks main =
-    check (nat_lt (length main) 100) (fault 0 (length main) kinds.Short)
-    ∷ check (is_not (file_code main) (pos 9994)) (fault 0 0 kinds.FileCode)
-    ∷ check (int_lt (file_words main) (pos 50)) (fault 0 24 kinds.Short)
-    ∷ check (nat_lt (length main) (declared_end main)) (fault 0 (length main) kinds.Short)
-    ∷ check (is_not (version main) (pos 1000)) (fault 0 28 kinds.Version)
-    ∷ check (is_not (header_shape_type main) (pos 5)) (fault 0 32 kinds.ShapeType)
+-- the checks of the header, which is the same in both files
+unfoldable pub header_checks : FileName → List ℕ → List Check
+header_checks name file =
+    check (nat_lt (length file) 100) (fault_in name 0 (length file) kinds.Short)
+    ∷ check (is_not (file_code file) (pos 9994)) (fault_in name 0 0 kinds.FileCode)
+    ∷ check (int_lt (file_words file) (pos 50)) (fault_in name 0 24 kinds.Short)
+    ∷ check (nat_lt (length file) (declared_end file)) (fault_in name 0 (length file) kinds.Short)
+    ∷ check (is_not (version file) (pos 1000)) (fault_in name 0 28 kinds.Version)
+    ∷ check (is_not (header_shape_type file) (pos 5)) (fault_in name 0 32 kinds.ShapeType)
     ∷ []
 
 -- the byte at which the record's content ends

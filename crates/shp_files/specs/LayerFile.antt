@@ -1,13 +1,14 @@
--- A layer's main file as a whole text: a header, records of null shapes and polygons, and bytes that are ignored (Technical Description, July 1998, "Organization of the Main File", "Null Shapes", "Polygon").
+-- A layer's main file as a whole text: a header, records of null shapes and polygons, and bytes that are ignored (Technical Description, July 1998, "Organization of the Main File", "Null Shapes", "Polygon"),
+-- and, where it is given, its index file: a header, an index record for each record, and bytes that are ignored ("Organization of the Index File", "Index Records").
 -- The bytes behind the declared length, which are ignored, and the limits on records and corners are this product's own. Boxes, ranges, unused bytes and
 -- stored record numbers are not compared.
-use Rattle.std.specs.Prelude.{◌≡◌, ◌⊎◌, ℕ, ◌+◌, ◌*◌, ◌≤◌, pos, ◌+ℤ◌, ◌*ℤ◌, List, [], ◌∷◌, ◌++◌, length, map}
+use Rattle.std.specs.Prelude.{◌≡◌, ◌⊎◌, ℕ, ◌+◌, ◌*◌, ◌≤◌, pos, ◌+ℤ◌, ◌*ℤ◌, List, [], ◌∷◌, ◌++◌, length, map, Option, IfSome}
 use Rattle.geo_exact.specs.declared.corner.Corner.{Corner}
 use Rattle.geo_exact.specs.declared.coord.Unit.{Unit as LengthUnit}
 use Rattle.geo_exact.specs.declared.raw_ring.RawRing.{RawRing}
 use Rattle.geo_exact.specs.Grid.{IsOnGrid}
 use Rattle.shp_files.specs.NormalForm.{kept_once, normal_form}
-use Rattle.shp_files.specs.Layout.{double_at, file_code, file_words, version, header_shape_type, content_words, shape_type, part_count, point_count, first_part}
+use Rattle.shp_files.specs.Layout.{double_at, file_code, file_words, version, header_shape_type, content_words, shape_type, part_count, point_count, first_part, offset_words}
 
 -- a record's number, from 1, and the corners of its ring
 pub record NumberedRing : Type 0 where
@@ -82,8 +83,31 @@ corner_count (ring ∷ rings) = length ring.corners + corner_count rings
 abbrev pub normal_rings : List NumberedRing → List NumberedRing
 normal_rings rings = map (λ ring. numbered ring.number (normal_form ring.corners)) rings
 
--- the bytes are a layer's main file in this unit, and these are its rings
-pub record IsLayerFile (main : List ℕ) (unit : LengthUnit) (rings : List NumberedRing) : Type 0 where
+-- the bytes are the index record of a record that begins at this byte of the main file
+pub record IsIndexRecord (bytes : List ℕ) (start : ℕ) (indexed : List ℕ) : Type 0 where
+  pub is_whole : length bytes ≡ 8
+  pub has_offset : pos 2 *ℤ offset_words bytes 0 ≡ pos start
+  pub has_length : content_words bytes 0 ≡ content_words indexed 0
+
+-- There is an index record for each of these records, in their order; the first of them begins at this byte of the main file.
+abbrev pub AreIndexRecords : ℕ → List (List ℕ) → List (List ℕ) → Type 0
+AreIndexRecords start [] [] = Unit {0}
+AreIndexRecords start [] (indexed ∷ records) = ⊥
+AreIndexRecords start (bytes ∷ entries) [] = ⊥
+AreIndexRecords start (bytes ∷ entries) (indexed ∷ records) =
+    IsIndexRecord bytes start indexed × AreIndexRecords (start + length indexed) entries records
+
+-- the bytes are the index file of these records
+pub record IsIndexFile (index : List ℕ) (records : List (List ℕ)) : Type 0 where
+  pub header : List ℕ
+  pub entries : List (List ℕ)
+  pub ignored : List ℕ
+  pub is_text : index ≡ header ++ joined entries ++ ignored
+  pub has_header : IsHeader header (length header + length (joined entries))
+  pub has_entries : AreIndexRecords 100 entries records
+
+-- the bytes are a layer's main file in this unit and, where there is one, its index file, and these are its rings
+pub record IsLayerFile (main : List ℕ) (index : Option (List ℕ)) (unit : LengthUnit) (rings : List NumberedRing) : Type 0 where
   pub header : List ℕ
   pub records : List (List ℕ)
   pub ignored : List ℕ
@@ -93,4 +117,5 @@ pub record IsLayerFile (main : List ℕ) (unit : LengthUnit) (rings : List Numbe
   pub has_records : AreRecords unit 1 records drawn
   pub records_within : length records ≤ 65536
   pub corners_within : corner_count drawn ≤ 1000000
+  pub has_index : IfSome index (λ bytes. IsIndexFile bytes records)
   pub has_rings : rings ≡ normal_rings drawn

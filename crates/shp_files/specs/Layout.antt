@@ -1,4 +1,4 @@
--- Where the numbers of a shapefile stand (Technical Description, July 1998, "Numeric Types", "Main File Header", "Record Headers", "Polygon").
+-- Where the numbers of a shapefile stand (Technical Description, July 1998, "Numeric Types", "Main File Header", "Record Headers", "Polygon", "Index Records").
 use Rattle.std.specs.Prelude.{ℕ, ◌+◌, ℤ, pos, negsuc, List, drop}
 use Rattle.byteorder.specs.Endian.{big_number, little_number, twos_complement}
 
@@ -46,6 +46,11 @@ point_count file start = little_at file (start + 48)
 
 abbrev pub first_part : List ℕ → ℕ → ℤ
 first_part file start = little_at file (start + 52)
+
+-- An index record that begins at a byte: the place of its record in the main file, in 16-bit words, and then that record's content length, at the
+-- same byte as a record header has it (`content_words`).
+abbrev pub offset_words : List ℕ → ℕ → ℤ
+offset_words index start = big_at index start
 
 -- a number that is not negative, and 0 for one that is
 unfoldable pub natural : ℤ → ℕ

@@ -2,6 +2,7 @@ pub mod Layout
 pub mod NormalForm
 pub mod LayerFile
 pub mod Checks
+pub mod IndexChecks
 pub mod FirstFault
 pub mod Reading
 pub mod Written

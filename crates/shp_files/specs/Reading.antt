@@ -8,6 +8,10 @@ use Rattle.shp_files.specs.declared.fault.LayerFault.{LayerFault}
 use Rattle.shp_files.specs.declared.fault.LayerFault.TheVariants.{File, NoMemory}
 use Rattle.shp_files.specs.Layout.{double_at}
 use Rattle.shp_files.specs.LayerFile.{closed}
+use Rattle.shp_files.specs.declared.fault.FileName.TheVariants.{Index}
+use Rattle.shp_files.specs.Checks.{first_failure, header_checks}
+use Rattle.shp_files.specs.IndexChecks.{entry_checks}
+use Rattle.shp_files.specs.FirstFault.{Reaches}
 use Rattle.shp_files.specs.NormalForm.{normal_form}
 
 -- an error is the fault that is found, or want of memory
@@ -36,3 +40,8 @@ pub record IsDrawnAs (unit : LengthUnit) (bytes : List ℕ) (start count : ℕ) 
   pub are : AreReadAs unit bytes (start + 56) (closed drawn)
   pub has_count : length drawn ≡ count
   pub is_normal : ring ≡ normal_form drawn
+
+-- all checks of the index pass
+pub record Agrees (main index : List ℕ) (unit : LengthUnit) : Type 0 where
+  pub has_header : first_failure (header_checks Index index) ≡ None
+  pub has_entries : (p s c : ℕ) → Reaches main unit p s c → first_failure (entry_checks main index p s) ≡ None

@@ -1,55 +1,70 @@
-//! The layer of a main file.
+//! The layer of a main file and its index.
 
-ghost use Rattle.std.specs.Prelude.{◌≡◌, ◌⊎◌, ℕ, List, IfOk, MatchResult, IsErrAnd, IsErrOf};
+ghost use Rattle.std.specs.Prelude.{◌≡◌, ◌≤◌, ◌<◌, ◌^◌, ◌⊎◌, ℕ, length, List, Option, None, option_copied, IfOk, MatchResult, IsErrAnd, IsErrOf};
 ghost use Rattle.geo_exact.specs.declared.coord.Unit.{Unit as LengthUnit};
 ghost use Rattle.shp_files.specs.declared.fault.FileFault.{FileFault};
 ghost use Rattle.shp_files.specs.LayerFile.{NumberedRing, rings_of, IsLayerFile};
-ghost use Rattle.shp_files.specs.FirstFault.{IsFirstFault};
+ghost use Rattle.shp_files.specs.declared.fault.FileName.TheVariants.{Main};
+ghost use Rattle.shp_files.specs.Checks.{first_failure, header_checks, declared_end};
+ghost use Rattle.shp_files.specs.FirstFault.{IsAccepted, IsMainFault, IsFirstFault};
 
-use crate::fault::LayerFault;
+use crate::fault::{FileName, LayerFault};
 use crate::header::{HEADER, read_header};
+use crate::index::check_index;
 use crate::record::{RecordHead, read_record};
 use geo_exact::{RawRing, Unit};
 use std::alloc::Allocator;
 
-/// Reads the rings of a layer's main file (`.shp`), each with its record's number.
+/// Reads the rings of a layer's main file (`.shp`), each with its record's number, and checks its index (`.shx`) where one is given.
 ///
 /// The rings are those of the file's polygons, in the file's order; their corners are in centimetres,
-/// without the closing repeat. Bytes behind the file's declared length are ignored.
+/// without the closing repeat. Bytes behind a file's declared length are ignored.
 ///
 /// # Errors
 ///
-/// [`LayerFault::File`] with the first fault in the order of the checks, and
+/// [`LayerFault::File`] with the first fault in the order of the checks, those of the main file first, and
 /// [`LayerFault::NoMemory`] only where a growth was refused.
 pub fn read_layer<A: Allocator + Copy>(
     alloc: A,
     main: &[u8],
+    index: Option<&[u8]>,
     unit: Unit,
 ) -> Result<Vec<RawRing<A>, A>, LayerFault>
-    // What is answered is the layer of the file, or its first fault.
+    // What is answered is the layer of the files, or their first fault.
     ensures layer { IfOk result
-        (λ rings. IsLayerFile main.now unit (rings_of rings.items)) }
-    ensures fault { (fault : FileFault) → IsErrOf result (LayerFault.File fault) → IsFirstFault main.now unit fault }
+        (λ rings. IsLayerFile main.now (option_copied index.entry) unit (rings_of rings.items)) }
+    ensures fault { (fault : FileFault) → IsErrOf result (LayerFault.File fault)
+        → IsFirstFault main.now (option_copied index.entry) unit fault }
     // A layer is read, unless memory runs out.
-    ensures reads { (rings : List NumberedRing) → IsLayerFile main.now unit rings →
+    ensures reads { (rings : List NumberedRing) → IsLayerFile main.now (option_copied index.entry) unit rings →
         MatchResult result (λ found. rings_of found.items ≡ rings) (λ e. e ≡ LayerFault.NoMemory) }
     // The first fault is answered, unless memory runs out.
-    ensures refuses { (fault : FileFault) → IsFirstFault main.now unit fault →
+    ensures refuses { (fault : FileFault) → IsFirstFault main.now (option_copied index.entry) unit fault →
         IsErrAnd result (λ e. (e ≡ LayerFault.File fault) ⊎ (e ≡ LayerFault.NoMemory)) }
 {
-    read_records(alloc, main, unit)
+    let end = read_header(FileName::Main, main)?;
+    let rings = read_records(alloc, main, end, unit)?;
+    if let Some(index) = index {
+        check_index(main, end, index)?;
+    }
+    Ok(rings)
 }
 
 fn read_records<A: Allocator + Copy>(
     alloc: A,
     main: &[u8],
+    end: usize,
     unit: Unit,
 ) -> Result<Vec<RawRing<A>, A>, LayerFault>
+    requires header { first_failure (header_checks Main main.now) ≡ None }
+    requires end { end ≡ declared_end main.now }
+    requires bound { end < 2 ^ 32 }
+    requires within { end ≤ length main.now }
     ensures layer { IfOk result
-        (λ rings. IsLayerFile main.now unit (rings_of rings.items)) }
-    ensures fault { (fault : FileFault) → IsErrOf result (LayerFault.File fault) → IsFirstFault main.now unit fault }
+        (λ rings. IsLayerFile main.now None unit (rings_of rings.items)) }
+    ensures fault { (fault : FileFault) → IsErrOf result (LayerFault.File fault) → IsMainFault main.now unit fault }
+    ensures accepts { IfOk result (λ _. IsAccepted main.now unit) }
 {
-    let end = read_header(main)?;
     let mut rings = Vec::new(alloc);
     let mut head = RecordHead {
         position: 1,
@@ -71,20 +86,20 @@ fn read_records<A: Allocator + Copy>(
     Ok(rings)
 }
 
-/// A text is a layer's main file of one list of rings at most.
+/// A text is a layer's main file, with its index where there is one, of one list of rings at most.
 pub fn a_layer_file_has_one_list_of_rings()
-    ensures { (main : List ℕ) (unit : LengthUnit) (a b : List NumberedRing) →
-        IsLayerFile main unit a → IsLayerFile main unit b → a ≡ b }
+    ensures { (main : List ℕ) (index : Option (List ℕ)) (unit : LengthUnit) (a b : List NumberedRing) →
+        IsLayerFile main index unit a → IsLayerFile main index unit b → a ≡ b }
 {}
 
-/// A layer's main file has no first fault.
+/// A layer's files have no first fault.
 pub fn a_layer_file_has_no_fault()
-    ensures { (main : List ℕ) (unit : LengthUnit) (rings : List NumberedRing) (fault : FileFault) →
-        IsLayerFile main unit rings → IsFirstFault main unit fault → ⊥ }
+    ensures { (main : List ℕ) (index : Option (List ℕ)) (unit : LengthUnit) (rings : List NumberedRing) (fault : FileFault) →
+        IsLayerFile main index unit rings → IsFirstFault main index unit fault → ⊥ }
 {}
 
-/// A text has one first fault at most.
+/// A text, with an index or none, has one first fault at most.
 pub fn a_text_has_one_first_fault()
-    ensures { (main : List ℕ) (unit : LengthUnit) (a b : FileFault) →
-        IsFirstFault main unit a → IsFirstFault main unit b → a ≡ b }
+    ensures { (main : List ℕ) (index : Option (List ℕ)) (unit : LengthUnit) (a b : FileFault) →
+        IsFirstFault main index unit a → IsFirstFault main index unit b → a ≡ b }
 {}

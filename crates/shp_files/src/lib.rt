@@ -6,6 +6,7 @@ mod bounds;
 mod fault;
 mod fields;
 mod header;
+mod index;
 mod layer;
 mod normal;
 mod put;

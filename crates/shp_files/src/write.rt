@@ -1,6 +1,6 @@
 //! Writing a layer's two files.
 
-ghost use Rattle.std.specs.Prelude.{◌≡◌, ◌≤◌, ◌+◌, ◌*◌, ◌++◌, map, length, flat_map, reverse, All, IfOk, OnOk, List, pos, ◌≤ℤ◌, int_lt, if◌then◌else◌};
+ghost use Rattle.std.specs.Prelude.{◌≡◌, ◌≤◌, ◌+◌, ◌*◌, ◌++◌, map, length, flat_map, reverse, All, IfOk, OnOk, List, None, Some, pos, ◌≤ℤ◌, int_lt, if◌then◌else◌};
 ghost use Rattle.geo_exact.specs.declared.coord.Unit.TheVariants.{Cm};
 ghost use Rattle.geo_exact.specs.declared.corner.Corner.{Corner as CornerValue};
 ghost use Rattle.geo_exact.specs.Area.{area2 as area2_of};
@@ -245,7 +245,7 @@ pub fn a_written_file_is_a_layer_file()
     ensures { (rings : List (List CornerValue))
         → All (λ ring. (3 ≤ length ring) × (length ring ≤ 4096) × AreApart ring × (pos 0 ≤ℤ area2_of ring)) rings
         → length rings ≤ 65536 → length (corners_of rings) ≤ 1000000
-        → IsLayerFile (written_main rings) Cm (numbered_from 1 rings) }
+        → IsLayerFile (written_main rings) None Cm (numbered_from 1 rings) }
 {}
 
 /// A ring whose twice-area is not negative is written so that turning it round again, where its twice-area has become
