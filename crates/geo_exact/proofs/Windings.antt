@@ -60,25 +60,6 @@ pub crossings_edge_split : (p : Point) (front back : List Edge) (a b m : Corner)
     → crossings p (front ++ edge_of a m ∷ edge_of m b ∷ back) ≡ crossings p (front ++ edge_of a b ∷ back)
 crossings_edge_split p front back a b m h = sum_over-edge_split (crossing_of p) front back a b m (crossing_cut p a b m h)
 
--- a rational point at the place of the corner m, on the edge from a to b
-on_edge_at : (q : Point) (a b m : Corner) → q.x ≡ m.x → q.y ≡ m.y → q.d ≡ pos 1 → IsOnEdge q a b → IsOnEdge (corner_point m) a b
-on_edge_at q a b m x y d h =
-    record {
-      on_line = rw (x, y, d) at h.on_line;
-      from_x = rw (x, d) at h.from_x;
-      to_x = rw (x, d) at h.to_x;
-      from_y = rw (y, d) at h.from_y;
-      to_y = rw (y, d) at h.to_y;
-    }
-
-pub winding_inserts_at : (p q : Point) (front back : List Corner) (a b m : Corner) → q.x ≡ m.x → q.y ≡ m.y → q.d ≡ pos 1 → IsOnEdge q a b
-    → winding p (front ++ a ∷ m ∷ b ∷ back) ≡ winding p (front ++ a ∷ b ∷ back)
-winding_inserts_at p q front back a b m x y d h = winding_inserts p front back a b m (on_edge_at q a b m x y d h)
-
-pub area2_inserts_at : (q : Point) (front back : List Corner) (a b m : Corner) → q.x ≡ m.x → q.y ≡ m.y → q.d ≡ pos 1 → IsOnEdge q a b
-    → area2 (front ++ a ∷ m ∷ b ∷ back) ≡ area2 (front ++ a ∷ b ∷ back)
-area2_inserts_at q front back a b m x y d h = area2_inserts front back a b m (on_edge_at q a b m x y d h)
-
 -- begun at any corner
 pub winding_cycle : (p : Point) (xs ys : List Corner) → winding p (ys ++ xs) ≡ winding p (xs ++ ys)
 winding_cycle p = sum_over-cycle (crossing_of p)

@@ -1,6 +1,6 @@
 ghost use Rattle.std.specs.Prelude.{◌≡◌, ◌⊎◌, ◌↔◌, pos, neg_ℤ, ◌<ℤ◌, List, [], ◌∷◌, ◌++◌};
 ghost use Rattle.geo_exact.specs.declared.corner.Corner.{Corner};
-ghost use Rattle.geo_exact.specs.Point.{Point};
+ghost use Rattle.geo_exact.specs.Point.{Point, corner_point};
 ghost use Rattle.geo_exact.specs.Rings.{rotated, turned_round};
 ghost use Rattle.geo_exact.specs.Turn.{turn, turn_at, IsOnEdge};
 ghost use Rattle.geo_exact.specs.Winding.{winding, IsInterior};
@@ -22,15 +22,19 @@ pub fn a_ring_turned_round_has_the_opposite_orientation()
     ensures signed_area { (ring : List Corner) → area2 (turned_round ring) ≡ neg_ℤ (area2 ring) }
 {}
 
+/// What a corner turns is what its place turns, as a rational point.
+#[tactic(auto, using(crate::proofs::TurnLaws::turn_at_corner))]
+pub fn a_corner_turns_as_its_place()
+    ensures { (a b c : Corner) → turn_at a b (corner_point c) ≡ turn a b c }
+{}
+
 /// A corner put into an edge that it lies on changes nothing: each winding number and the signed
-/// area stay. Here `q` is the place of the corner `m`.
-#[tactic(auto, using(crate::proofs::Windings::winding_inserts_at, crate::proofs::Windings::area2_inserts_at))]
+/// area stay.
+#[tactic(auto, using(crate::proofs::Windings::winding_inserts, crate::proofs::Windings::area2_inserts))]
 pub fn a_corner_on_an_edge_changes_nothing()
-    ensures winding_number { (p q : Point) (front back : List Corner) (a b m : Corner)
-        → q.x ≡ m.x → q.y ≡ m.y → q.d ≡ pos 1 → IsOnEdge q a b
+    ensures winding_number { (p : Point) (front back : List Corner) (a b m : Corner) → IsOnEdge (corner_point m) a b
         → winding p (front ++ a ∷ m ∷ b ∷ back) ≡ winding p (front ++ a ∷ b ∷ back) }
-    ensures signed_area { (q : Point) (front back : List Corner) (a b m : Corner)
-        → q.x ≡ m.x → q.y ≡ m.y → q.d ≡ pos 1 → IsOnEdge q a b
+    ensures signed_area { (front back : List Corner) (a b m : Corner) → IsOnEdge (corner_point m) a b
         → area2 (front ++ a ∷ m ∷ b ∷ back) ≡ area2 (front ++ a ∷ b ∷ back) }
 {}
 
