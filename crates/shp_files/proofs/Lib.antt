@@ -23,3 +23,4 @@ pub mod Rings
 pub mod WrittenRows
 pub mod WrittenFields
 pub mod WrittenLayer
+mod Within

@@ -1,6 +1,7 @@
 pub mod Layout
 pub mod NormalForm
 pub mod LayerFile
+pub mod Limits
 pub mod Checks
 pub mod IndexChecks
 pub mod FirstFault

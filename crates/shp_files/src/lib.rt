@@ -8,6 +8,7 @@ mod fields;
 mod header;
 mod index;
 mod layer;
+mod limits;
 mod normal;
 mod put;
 mod record;
@@ -23,5 +24,6 @@ pub use layer::{
     a_layer_file_has_no_fault, a_layer_file_has_one_list_of_rings, a_text_has_one_first_fault,
     read_layer,
 };
+pub use limits::a_layer_file_is_within_the_limits;
 pub use source::{MOST_BYTES, ReadFault, read_all};
 pub use write::{a_written_file_is_a_layer_file, a_written_ring_is_turned_back, write_layer};
