@@ -1,3 +1,4 @@
 pub mod AreaReport
 pub mod Output
 pub mod Faults
+pub mod Sources

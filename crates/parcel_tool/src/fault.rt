@@ -35,6 +35,8 @@ impl fmt::Display for Role {
 pub enum ToolFault<'a> {
     /// S1: the input file at this path can't be opened or read, or is too long.
     Unreadable(&'a str),
+    /// S1: the index file at the path that is this and `.shx` can't be read, or is too long.
+    UnreadableIndex(&'a str),
     /// S2: an output file can't be made, or a write failed.
     Output,
     /// A layer's files are refused: their first fault.
@@ -63,6 +65,7 @@ impl<'a> fmt::Display for ToolFault<'a> {
     fn fmt<W: fmt::Write>(&self, f: &mut fmt::Formatter<W>) -> fmt::Result {
         match self {
             ToolFault::Unreadable(path) => write!(f, "S1 {path}"),
+            ToolFault::UnreadableIndex(stem) => write!(f, "S1 {stem}.shx"),
             ToolFault::Output => write!(f, "S2"),
             ToolFault::File(role, fault) => {
                 let code = kind_code(fault.kind);

@@ -1,6 +1,9 @@
-//! What runs print: the report of an area run, the texts of faults, and how command lines are refused.
+//! What runs print: the report of an area run with an index and without, the texts of faults, which files are read, and how
+//! command lines are refused.
 
 mod area_runs;
 mod command_lines;
 mod fault_texts;
+mod index_runs;
+mod source_files;
 mod square;

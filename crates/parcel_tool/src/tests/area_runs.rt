@@ -8,18 +8,27 @@ use std::io;
 use std::io::Write;
 use std::test::Fail;
 
-/// What a run over these bytes prints, on whichever stream.
+/// What a run over these bytes of a main file prints, on whichever stream.
 fn printed(alloc: Global, main: Vec<u8>) -> Result<String, AllocError> {
+    run(alloc, Source { main, index: None }, Unit::Cm)
+}
+
+/// What a run over these files prints, on whichever stream.
+pub fn run(alloc: Global, source: Source<Global>, unit: Unit) -> Result<String, AllocError> {
     let mut out = Counted::new(Vec::new(alloc));
-    match area(alloc, &Source { main }, Unit::Cm, &mut out) {
+    match area(alloc, &source, unit, &mut out) {
         Ok(()) => String::from_utf8_lossy(alloc, out.into_inner().as_slice()),
         Err(fault) => format!(in alloc; "error: {fault}"),
     }
 }
 
-/// The square of 100 with the bytes from a place on exchanged.
-fn changed(alloc: Global, place: usize, bytes: &[u8]) -> Result<Vec<u8>, AllocError> {
-    let file = square(alloc, HUNDRED)?;
+/// A file with the bytes from a place on exchanged.
+pub fn changed(
+    alloc: Global,
+    file: &[u8],
+    place: usize,
+    bytes: &[u8],
+) -> Result<Vec<u8>, AllocError> {
     let mut out = Vec::new(alloc);
     for (i, byte) in file.iter().enumerate() {
         let new = i.checked_sub(place).and_then(|k| bytes.get(k)).copied();
@@ -50,7 +59,8 @@ fn tells_the_first_fault(rt: HostRuntime) -> Result<(), Fail> {
         (234, [0xF0, 0x3F], "error: file: F7 main record 1 at 220"),
         (162, [0xF0, 0x7F], "error: file: F9 C1 main record 1 at 156"),
     ] {
-        let text = printed(alloc, changed(alloc, place, bytes.as_slice())?)?;
+        let file = changed(alloc, &square(alloc, HUNDRED)?, place, bytes.as_slice())?;
+        let text = printed(alloc, file)?;
         assert_eq!(rt; text.as_str(), want);
     }
     Ok(())
@@ -95,6 +105,7 @@ fn tells_each_failed_write(rt: HostRuntime) -> Result<(), Fail> {
     for call in 1..=9u64 {
         let source = Source {
             main: square(alloc, HUNDRED)?,
+            index: None,
         };
         let writer = Counted::new(ByteByByte(Vec::new(alloc)));
         let mut out = FailAt::new(writer, call);

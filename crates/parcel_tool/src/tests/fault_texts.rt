@@ -7,6 +7,7 @@ use std::test::Fail;
 fn tells_faults(rt: HostRuntime) -> Result<(), Fail> {
     for (fault, want) in [
         (ToolFault::Unreadable("a b/city.shp"), "S1 a b/city.shp"),
+        (ToolFault::UnreadableIndex("a b/city"), "S1 a b/city.shx"),
         (ToolFault::Output, "S2"),
         (ToolFault::NoMemory, "no memory"),
     ] {

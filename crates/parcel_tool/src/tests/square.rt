@@ -49,3 +49,53 @@ fn push_doubles(file: &mut Vec<u8>, doubles: &[u64]) -> Result<(), AllocError> {
     }
     Ok(())
 }
+
+/// The index file, of 100 bytes and 8 for each entry, with these entries: the record's place and its content's length, both
+/// in 16-bit words.
+pub fn index(alloc: Global, entries: &[(u32, u32)]) -> Result<Vec<u8>, AllocError> {
+    let words = 50u32.wrapping_add(4u32.wrapping_mul(entries.len() as u32));
+    let mut file = header(alloc, words, [0, 0, HUNDRED.1, HUNDRED.1])?;
+    for (place, length) in entries {
+        file.extend_from_slice(&place.to_be_bytes())?;
+        file.extend_from_slice(&length.to_be_bytes())?;
+    }
+    Ok(file)
+}
+
+/// A main file of one record, the polygon of these points, as (x, y) in the bits of doubles.
+pub fn polygon(alloc: Global, points: &[(u64, u64)]) -> Result<Vec<u8>, AllocError> {
+    let content = 24u32.wrapping_add(8u32.wrapping_mul(points.len() as u32));
+    let mut file = header(alloc, content.wrapping_add(54), [0; 4])?;
+    push_record(&mut file, 1, content, points)?;
+    Ok(file)
+}
+
+/// A main file of 248 bytes: a null shape, and then the polygon of these five points.
+pub fn null_and_polygon(alloc: Global, points: &[(u64, u64); 5]) -> Result<Vec<u8>, AllocError> {
+    let mut file = header(alloc, 124, [0; 4])?;
+    for word in [1u32, 2] {
+        file.extend_from_slice(&word.to_be_bytes())?;
+    }
+    push_words(&mut file, &[0])?;
+    push_record(&mut file, 2, 64, points)?;
+    Ok(file)
+}
+
+/// The record of a polygon of one part, with so many 16-bit words of content.
+fn push_record(
+    file: &mut Vec<u8>,
+    number: u32,
+    content: u32,
+    points: &[(u64, u64)],
+) -> Result<(), AllocError> {
+    for word in [number, content] {
+        file.extend_from_slice(&word.to_be_bytes())?;
+    }
+    push_words(file, &[5])?;
+    push_doubles(file, &[0; 4])?;
+    push_words(file, &[1, points.len() as u32, 0])?;
+    for (x, y) in points {
+        push_doubles(file, &[*x, *y])?;
+    }
+    Ok(())
+}
