@@ -8,11 +8,11 @@ use Rattle.shp_files.specs.Layout.{file_words, natural}
 use Rattle.shp_files.specs.LayerFile.{NumberedRing, AreRecords, joined, corner_count, IsNullShape, IsPolygon, numbered, IsLayerFile}
 use Rattle.shp_files.specs.Checks.{declared_end, record_end}
 use Rattle.shp_files.proofs.Numbers.{natural_pos}
-use Rattle.shp_files.proofs.Passing.{HeaderPasses, header_passes_from, record_passes_from, is_null_from, is_null_not}
+use Rattle.shp_files.proofs.Passing.{header_passes_from, record_passes_from, is_null_from, is_null_not}
 use Rattle.shp_files.proofs.Passing.RecordPasses.{null as null_passes, polygon as polygon_passes}
 use Rattle.shp_files.proofs.Places.{StandsAt, big_at_part, little_at_part}
 use Rattle.shp_files.proofs.Polygons.{read_from_null, read_from_polygon}
-use Rattle.shp_files.proofs.Sound.{end_is}
+use Rattle.shp_files.proofs.Headers.{header_found}
 use Rattle.shp_files.proofs.Walk.{Reads, corner_count-push}
 use Rattle.shp_files.proofs.Walk.Reads.{none, null, more}
 
@@ -21,20 +21,20 @@ at_place main unit p q s t a b reads e f g =
     subst (λ (r : List NumberedRing). Reads main unit q t r) g (subst (λ (n : ℕ). Reads main unit q n a) f (subst (λ (n : ℕ). Reads main unit n s a) e reads))
 
 -- what stands behind a record
-behind : (main : List ℕ) (start end : ℕ) (bytes rest : List ℕ) → drop start main ≡ bytes ++ rest → end ≡ start + length bytes → drop end main ≡ rest
+pub behind : (main : List ℕ) (start end : ℕ) (bytes rest : List ℕ) → drop start main ≡ bytes ++ rest → end ≡ start + length bytes → drop end main ≡ rest
 behind main start end bytes rest split is =
     ap (λ n. drop n main) is ∙ sym (drop-drop (length bytes) start main) ∙ ap (λ xs. drop (length bytes) xs) split ∙ drop_at bytes rest (length bytes) refl
 
 -- where records stand behind those that were read, with these rings
-record Stand (main : List ℕ) (unit : LengthUnit) (number start : ℕ) (done : List NumberedRing) (records : List (List ℕ)) (rings : List NumberedRing) (ignored : List ℕ) : Type 0 where
-  reads : Reads main unit number start done
-  text : drop start main ≡ joined records ++ ignored
-  end : start + length (joined records) ≡ declared_end main
-  few : number + length records ≤ 65537
-  together : corner_count done + corner_count rings ≤ 1000000
+pub record Stand (main : List ℕ) (unit : LengthUnit) (number start : ℕ) (done : List NumberedRing) (records : List (List ℕ)) (rings : List NumberedRing) (ignored : List ℕ) : Type 0 where
+  pub reads : Reads main unit number start done
+  pub text : drop start main ≡ joined records ++ ignored
+  pub end : start + length (joined records) ≡ declared_end main
+  pub few : number + length records ≤ 65537
+  pub together : corner_count done + corner_count rings ≤ 1000000
 
 -- a null shape is read
-stand_null : (main : List ℕ) (unit : LengthUnit) (number start : ℕ) (done : List NumberedRing) (bytes : List ℕ) (records : List (List ℕ)) (rings : List NumberedRing) (ignored : List ℕ)
+pub stand_null : (main : List ℕ) (unit : LengthUnit) (number start : ℕ) (done : List NumberedRing) (bytes : List ℕ) (records : List (List ℕ)) (rings : List NumberedRing) (ignored : List ℕ)
     → Stand main unit number start done (bytes ∷ records) rings ignored → IsNullShape bytes → Stand main unit (number + 1) (record_end main start) done records rings ignored
 stand_null main unit number start done bytes records rings ignored stand blank =
     let split : drop start main ≡ bytes ++ (joined records ++ ignored) = stand.text ∙ append_assoc bytes (joined records) ignored in
@@ -52,7 +52,7 @@ stand_null main unit number start done bytes records rings ignored stand blank =
     }
 
 -- a polygon is read
-stand_polygon : (main : List ℕ) (unit : LengthUnit) (number start : ℕ) (done : List NumberedRing) (bytes : List ℕ) (records : List (List ℕ)) (ring : NumberedRing)
+pub stand_polygon : (main : List ℕ) (unit : LengthUnit) (number start : ℕ) (done : List NumberedRing) (bytes : List ℕ) (records : List (List ℕ)) (ring : NumberedRing)
     (rings : List NumberedRing) (ignored : List ℕ) → Stand main unit number start done (bytes ∷ records) (ring ∷ rings) ignored → IsPolygon unit bytes ring.corners
     → Stand main unit (number + 1) (record_end main start) (done ++ numbered number ring.corners ∷ []) records rings ignored
 stand_polygon main unit number start done bytes records ring rings ignored stand polygon =
@@ -100,37 +100,26 @@ reads_records main unit number start done (bytes ∷ records) (ring ∷ rings) i
           all (omega arith) refl (pushed_back done number ring rings h.0)
     ]
 
-half : (z : ℤ) (d : ℕ) → pos 2 *ℤ z ≡ pos d → (z ≡ pos (natural z)) × (2 * natural z ≡ d)
-half (pos n) d e = (ap pos (sym (natural_pos n)), omega (arith, ints, e, natural_pos n))
-half (negsuc n) d e = absurd (omega (arith, ints, e))
+-- where the records of a layer's main file stand
+pub stand_of_file : (main : List ℕ) (index : Option (List ℕ)) (unit : LengthUnit) (rings : List NumberedRing) → (file : IsLayerFile main index unit rings)
+    → Stand main unit 1 100 [] file.records file.drawn file.ignored
+stand_of_file main index unit rings file =
+    let split : main ≡ file.header ++ (joined file.records ++ file.ignored) = file.is_text ∙ append_assoc file.header (joined file.records) file.ignored in
+    let sizes : length main ≡ length file.header + (length (joined file.records) + length file.ignored) =
+    ap length split ∙ length-append file.header (joined file.records ++ file.ignored) ∙ ap (λ n. length file.header + n) (length-append (joined file.records) file.ignored) in
+    let header = header_found main file.header (joined file.records ++ file.ignored) (length file.header + length (joined file.records)) split file.has_header
+        (omega (arith, file.has_header.is_whole)) (omega (arith, sizes)) in
+    let rest : drop 100 main ≡ joined file.records ++ file.ignored = ap (λ xs. drop 100 xs) split ∙ drop_at file.header (joined file.records ++ file.ignored) 100 file.has_header.is_whole in
+    record {
+      reads = none (header_passes_from Main main header.passes);
+      text = rest;
+      end = omega (arith, header.end, file.has_header.is_whole);
+      few = omega (arith, file.records_within);
+      together = omega (arith, file.corners_within);
+    }
 
 -- a layer's main file is read to its declared end
 pub reads_layer : (main : List ℕ) (index : Option (List ℕ)) (unit : LengthUnit) (rings : List NumberedRing) → (file : IsLayerFile main index unit rings)
     → Reads main unit (1 + length file.records) (declared_end main) file.drawn
 reads_layer main index unit rings file =
-    let split : main ≡ file.header ++ (joined file.records ++ file.ignored) = file.is_text ∙ append_assoc file.header (joined file.records) file.ignored in
-    let stands : StandsAt main 0 file.header = record { tail = joined file.records ++ file.ignored; is = split } in
-    let header = file.has_header in
-    let sizes : length main ≡ length file.header + (length (joined file.records) + length file.ignored) =
-    ap length split ∙ length-append file.header (joined file.records ++ file.ignored) ∙ ap (λ n. length file.header + n) (length-append (joined file.records) file.ignored) in
-    let words : file_words main ≡ file_words file.header = big_at_part main 0 file.header 24 stands (omega (arith, header.is_whole)) in
-    let halves = half (file_words main) (length file.header + length (joined file.records)) (ap (λ z. pos 2 *ℤ z) words ∙ header.has_length) in
-    let end : declared_end main ≡ 100 + length (joined file.records) = omega (arith, end_is main, halves.1, header.is_whole) in
-    let passes : HeaderPasses main = record {
-      whole = omega (arith, sizes, header.is_whole);
-      code = big_at_part main 0 file.header 0 stands (omega (arith, header.is_whole)) ∙ header.has_code;
-      words = halves.0;
-      long = omega (arith, halves.1, header.is_whole);
-      within = omega (arith, halves.1, sizes);
-      version_is = little_at_part main 0 file.header 28 stands (omega (arith, header.is_whole)) ∙ header.has_version;
-      type_is = little_at_part main 0 file.header 32 stands (omega (arith, header.is_whole)) ∙ header.has_type;
-    } in
-    let rest : drop 100 main ≡ joined file.records ++ file.ignored = ap (λ xs. drop 100 xs) split ∙ drop_at file.header (joined file.records ++ file.ignored) 100 header.is_whole in
-    let stand : Stand main unit 1 100 [] file.records file.drawn file.ignored = record {
-      reads = none (header_passes_from Main main passes);
-      text = rest;
-      end = omega (arith, end);
-      few = omega (arith, file.records_within);
-      together = omega (arith, file.corners_within);
-    } in
-    reads_records main unit 1 100 [] file.records file.drawn file.ignored stand file.has_records
+    reads_records main unit 1 100 [] file.records file.drawn file.ignored (stand_of_file main index unit rings file) file.has_records

@@ -13,43 +13,11 @@ use Rattle.shp_files.specs.FirstFault.{Reaches, StopsAt, IsMainFault, IsAccepted
 use Rattle.shp_files.specs.FirstFault.Reaches.{first, next}
 use Rattle.shp_files.specs.IndexChecks.{entry_checks}
 use Rattle.shp_files.specs.Reading.{AreReadAs, Agrees}
+use Rattle.shp_files.proofs.Reaching.{position_from_1, reached_header, same_place, IsPassed, passed, not_past_end}
 use Rattle.shp_files.proofs.Walk.{Reads, reached}
 use Rattle.shp_files.proofs.Walk.Reads.{none, null, more}
 use Rattle.shp_files.proofs.Complete.{reads_layer}
 use Rattle.shp_files.proofs.Indexes.{agrees_of_file}
-
-position_from_1 : (main : List ℕ) (unit : LengthUnit) (p s c : ℕ) → Reaches main unit p s c → 1 ≤ p
-position_from_1 main unit p s c (first h) = omega arith
-position_from_1 main unit p s c (next q t d r apart passes) = omega arith
-
-header_passes : (main : List ℕ) (unit : LengthUnit) (p s c : ℕ) → Reaches main unit p s c → first_failure (header_checks Main main) ≡ None
-header_passes main unit p s c (first h) = h
-header_passes main unit p s c (next q t d r apart passes) = header_passes main unit q t d r
-
--- the records before a position are in one place
-same_place : (main : List ℕ) (unit : LengthUnit) (p s c q t d : ℕ) → Reaches main unit p s c → Reaches main unit q t d → p ≡ q → (s ≡ t) × (c ≡ d)
-same_place main unit p s c q t d (first h) (first k) e = (refl, refl)
-same_place main unit p s c q t d (first h) (next q' t' d' r apart passes) e = absurd (omega (arith, e, position_from_1 main unit q' t' d' r))
-same_place main unit p s c q t d (next p' s' c' r apart passes) (first k) e = absurd (omega (arith, e, position_from_1 main unit p' s' c' r))
-same_place main unit p s c q t d (next p' s' c' r apart passes) (next q' t' d' r' apart' passes') e =
-    let same = same_place main unit p' s' c' q' t' d' r r' (omega (arith, e)) in
-    (ap (λ n. record_end main n) same.0, omega (arith, same.1, ap (λ n. corners_of main n) same.0))
-
--- a record that was passed
-record IsPassed (main : List ℕ) (unit : LengthUnit) (position : ℕ) : Type 0 where
-  start : ℕ
-  corners : ℕ
-  reaches : Reaches main unit position start corners
-  apart : start ≢ declared_end main
-  passes : first_failure (record_checks main unit position start corners) ≡ None
-
-passed : (main : List ℕ) (unit : LengthUnit) (p s c q : ℕ) → Reaches main unit p s c → q < p → 1 ≤ q → IsPassed main unit q
-passed main unit p s c q (first h) below from = absurd (omega arith)
-passed main unit p s c q (next p' s' c' r apart passes) below from =
-    elim (cases_order q p') [
-      | inl e ↦ subst (λ (n : ℕ). IsPassed main unit n) (sym e) (record { start = s'; corners = c'; reaches = r; apart = apart; passes = passes })
-      | inr o ↦ elim o [ inl lt ↦ passed main unit p' s' c' q r lt from | inr gt ↦ absurd (omega (arith, below, gt)) ]
-    ]
 
 -- a record that stops the reader is not passed
 not_passed : (main : List ℕ) (unit : LengthUnit) (f : FileFault) → (stop : StopsAt main unit f) → IsPassed main unit stop.position → ⊥
@@ -59,13 +27,9 @@ not_passed main unit f stop h =
     let is = stop.is_first in
     cc
 
--- a record past the end of the file is not passed
-not_past_end : (main : List ℕ) (unit : LengthUnit) (p s c : ℕ) → Reaches main unit p s c → s ≡ declared_end main → IsPassed main unit p → ⊥
-not_past_end main unit p s c r is h = h.apart (sym (same_place main unit p s c p h.start h.corners r h.reaches refl).0 ∙ is)
-
 header_or_record : (main : List ℕ) (unit : LengthUnit) (f g : FileFault) → first_failure (header_checks Main main) ≡ Some f → StopsAt main unit g → ⊥
 header_or_record main unit f g h stop =
-    let fine = header_passes main unit stop.position stop.record_at stop.corners stop.is_reached in
+    let fine = reached_header main unit stop.position stop.record_at stop.corners stop.is_reached in
     cc
 
 -- two records that stop the reader are one
@@ -104,7 +68,7 @@ never_stops main unit p s c f r is stop =
 -- a main file whose checks all pass has no fault
 no_fault_in_main : (main : List ℕ) (unit : LengthUnit) (f : FileFault) → IsAccepted main unit → IsMainFault main unit f → ⊥
 no_fault_in_main main unit f accepted (inl h) =
-    let fine = header_passes main unit _ _ _ accepted.is_reached in
+    let fine = reached_header main unit _ _ _ accepted.is_reached in
     cc
 no_fault_in_main main unit f accepted (inr stop) = never_stops main unit _ _ _ f accepted.is_reached refl stop
 

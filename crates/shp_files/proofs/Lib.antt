@@ -7,10 +7,13 @@ pub mod Passing
 pub mod Places
 pub mod Distinct
 pub mod Polygons
+pub mod Headers
+pub mod Reaching
 pub mod Walk
 pub mod Sound
 pub mod Complete
 pub mod Indexes
+pub mod Checking
 pub mod Laws
 pub mod Answering
 pub mod Rows

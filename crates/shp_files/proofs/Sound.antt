@@ -1,5 +1,5 @@
 -- A file whose records are all read is a layer's main file with their rings.
-use Rattle.std.proofs.Common.{◌≡◌, inl, inr, ℕ, ◌+◌, ◌*◌, ◌-◌, ◌≤◌, List, [], ◌∷◌, ◌++◌, length, take, drop, None, refl, sym, ap, ◌∙◌, arith, append_assoc}
+use Rattle.std.proofs.Common.{◌≡◌, inl, inr, ℕ, ◌+◌, ◌*◌, ◌-◌, ◌≤◌, List, [], ◌∷◌, ◌++◌, length, take, drop, None, refl, sym, ap, subst, ◌∙◌, arith, append_assoc}
 use Rattle.std.proofs.lemmas.Int.{ints}
 use Rattle.std.proofs.lemmas.List.{append-nil, length-append, length-drop, length-take-le, take-append-drop}
 use Rattle.std.proofs.Math.Seq.{take-add}
@@ -7,8 +7,9 @@ use Rattle.geo_exact.specs.declared.corner.Corner.{Corner}
 use Rattle.geo_exact.specs.declared.coord.Unit.{Unit as LengthUnit}
 use Rattle.shp_files.specs.declared.fault.FileName.TheVariants.{Main}
 use Rattle.shp_files.specs.Layout.{file_words, natural}
-use Rattle.shp_files.specs.LayerFile.{NumberedRing, numbered, normal_rings, IsNullShape, IsPolygon, AreRecords, joined, corner_count, IsLayerFile}
+use Rattle.shp_files.specs.LayerFile.{NumberedRing, numbered, normal_rings, IsNullShape, IsPolygon, AreRecords, joined, corner_count, IsHeader, IsLayerFile}
 use Rattle.shp_files.specs.Checks.{declared_end, record_end}
+use Rattle.shp_files.proofs.Headers.{end_is, header_text}
 use Rattle.shp_files.proofs.Passing.{HeaderPasses, header_passes, FramePasses, record_passes, null_of, polygon_of}
 use Rattle.shp_files.proofs.Places.{StandsAt, big_at_part, little_at_part}
 use Rattle.shp_files.proofs.Polygons.{null_from_passing, polygon_from_passing}
@@ -42,10 +43,6 @@ records_push unit number (one ∷ records) (ring ∷ rings) bytes position corne
       | inl h ↦ inl (h.0, records_push unit (number + 1) records (ring ∷ rings) bytes position corners h.1 (omega (arith, count)) polygon)
       | inr h ↦ inr (h.0, h.1, records_push unit (number + 1) records rings bytes position corners h.2 (omega (arith, count)) polygon)
     ]
-
-pub end_is : (main : List ℕ) → declared_end main ≡ 2 * natural (file_words main)
-unfolding declared_end
-end_is main = refl
 
 -- what was read up to a byte, as text
 pub record Parsed (main : List ℕ) (unit : LengthUnit) (position start : ℕ) (rings : List NumberedRing) : Type 0 where
@@ -135,24 +132,16 @@ pub layer_file : (main : List ℕ) (unit : LengthUnit) (position start : ℕ) (d
 layer_file main unit position start drawn rings reads is normal =
     let all = parsed main unit position start drawn reads in
     let header : List ℕ = take 100 main in
-    let whole : length header ≡ 100 = length-take-le 100 main all.header.whole in
-    let stands : StandsAt main 0 header = record { tail = drop 100 main; is = sym (take-append-drop 100 main) } in
     let text_length : length (take start main) ≡ start = length-take-le start main (omega (arith, end_is main, all.header.within)) in
     let parts : length (take start main) ≡ length header + length (joined all.records) = ap length all.text ∙ length-append header (joined all.records) in
-    let words : file_words main ≡ file_words header = big_at_part main 0 header 24 stands (omega arith) in
+    let declared : declared_end main ≡ length header + length (joined all.records) = omega (arith, is, text_length, parts) in
     record {
       header = header;
       records = all.records;
       ignored = drop start main;
       drawn = drawn;
       is_text = sym (take-append-drop start main) ∙ ap (λ t. t ++ drop start main) all.text;
-      has_header = record {
-        is_whole = whole;
-        has_code = sym (big_at_part main 0 header 0 stands (omega arith)) ∙ all.header.code;
-        has_length = omega (arith, ints, words, all.header.words, end_is main);
-        has_version = sym (little_at_part main 0 header 28 stands (omega arith)) ∙ all.header.version_is;
-        has_type = sym (little_at_part main 0 header 32 stands (omega arith)) ∙ all.header.type_is;
-      };
+      has_header = subst (IsHeader header) declared (header_text main all.header);
       has_records = all.are;
       records_within = omega (arith, all.count, all.few);
       corners_within = all.few_together;

@@ -1,10 +1,10 @@
 //! The index of a main file, checked against its records.
 
-ghost use Rattle.std.specs.Prelude.{◌≡◌, ◌≤◌, ◌<◌, ◌^◌, ◌+◌, length, IsOk, IfErr};
+ghost use Rattle.std.specs.Prelude.{◌≡◌, ◌≤◌, ◌<◌, ◌^◌, ◌+◌, ℕ, List, length, IsOk, IfErr};
 ghost use Rattle.geo_exact.specs.declared.coord.Unit.{Unit as LengthUnit};
 ghost use Rattle.std.specs.Result.{result_err};
 ghost use Rattle.shp_files.specs.Checks.{first_failure, declared_end, record_end};
-ghost use Rattle.shp_files.specs.IndexChecks.{index_record_checks, disagreement as disagreement_at, entry_place as place_of_entry};
+ghost use Rattle.shp_files.specs.IndexChecks.{index_record_checks, index_end_checks, disagreement as disagreement_at, entry_place as place_of_entry};
 ghost use Rattle.shp_files.specs.FirstFault.{IsAccepted, IsIndexFault};
 ghost use Rattle.shp_files.specs.Reading.{Agrees};
 
@@ -31,8 +31,7 @@ pub fn check_index(main: &[u8], end: usize, index: &[u8]) -> Result<(), FileFaul
         check_index_record(main, index, index_end, head)?;
         head = next_head(main, head);
     }
-    let place = entry_place(head);
-    refuse_if(index_end != place, disagreement(head, place))
+    check_index_end(index_end, head)
 }
 
 /// The record behind one that passes its checks.
@@ -73,6 +72,17 @@ fn check_index_record(
     let words = big_at(index, place + 4);
     let main_words = big_at(main, head.start + 4);
     refuse_if(words != main_words, disagreement(head, place + 4))
+}
+
+/// The end of an index, where the main file's records end before a head.
+#[tactic(auto, unfolding(crate::specs::IndexChecks::index_end_checks, crate::specs::Checks::first_failure))]
+fn check_index_end(index_end: usize, head: RecordHead) -> Result<(), FileFault>
+    requires { 1 ≤ head.position }
+    ensures { (index : List ℕ) → index_end ≡ declared_end index
+        → result_err result ≡ first_failure (index_end_checks index head.position) }
+{
+    let place = entry_place(head);
+    refuse_if(index_end != place, disagreement(head, place))
 }
 
 /// The byte of the index at which the index record of a record begins.

@@ -6,7 +6,7 @@ ghost use Rattle.shp_files.specs.declared.fault.FileFault.{FileFault};
 ghost use Rattle.shp_files.specs.LayerFile.{NumberedRing, rings_of, IsLayerFile};
 ghost use Rattle.shp_files.specs.declared.fault.FileName.TheVariants.{Main};
 ghost use Rattle.shp_files.specs.Checks.{first_failure, header_checks, declared_end};
-ghost use Rattle.shp_files.specs.FirstFault.{IsAccepted, IsMainFault, IsFirstFault};
+ghost use Rattle.shp_files.specs.FirstFault.{IsMainFault, IsFirstFault};
 
 use crate::fault::{FileName, LayerFault};
 use crate::header::{HEADER, read_header};
@@ -59,11 +59,11 @@ fn read_records<A: Allocator + Copy>(
     requires header { first_failure (header_checks Main main.now) ≡ None }
     requires end { end ≡ declared_end main.now }
     requires bound { end < 2 ^ 32 }
+    requires room { 100 ≤ end }
     requires within { end ≤ length main.now }
     ensures layer { IfOk result
         (λ rings. IsLayerFile main.now None unit (rings_of rings.items)) }
     ensures fault { (fault : FileFault) → IsErrOf result (LayerFault.File fault) → IsMainFault main.now unit fault }
-    ensures accepts { IfOk result (λ _. IsAccepted main.now unit) }
 {
     let mut rings = Vec::new(alloc);
     let mut head = RecordHead {

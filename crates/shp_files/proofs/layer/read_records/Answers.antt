@@ -10,23 +10,23 @@ use Rattle.shp_files.proofs.layer.read_records.Goals as goal
 
 pub loop-head-init : goal.loop-head-init
 loop-head-init g c = record {
-  read = record { drawn = []; reads = none (sym c.in_ok-end.ensures.checked); count = refl; are = rw c.new-rings.ensures.items refl };
+  read = record { drawn = []; reads = none c.requires.header; count = refl; are = rw c.new-rings.ensures.items refl };
   few_together = omega arith;
   few = omega arith;
-  start = c.in_ok-end.ensures.room;
+  start = omega (arith, c.requires.room);
 }
 
 pub returns-in_err-found-clause-fault : goal.returns-in_err-found-clause-fault
 returns-in_err-found-clause-fault g c = λ fault is.
-    let p = err_from_is_err_and c.from_residual-in_err-found.result c.from_residual-in_err-found.ensures.1 in
-    let apart : c.loop-head.head.start ≢ declared_end c.args.main.now = λ e. c.loop-head-test.true (e ∙ sym c.in_ok-end.ensures.end) in
+    let p = err_from_is_err_and c.from_residual.result c.from_residual.ensures.1 in
+    let apart : c.loop-head.head.start ≢ declared_end c.args.main.now = λ e. c.loop-head-test.true (e ∙ sym c.requires.end) in
     let old = c.loop-head.invariant.read in
     stops_at c.args.main.now c.args.unit c.loop-head.head.position c.loop-head.head.start old.drawn c.loop-head.corners c.in_err-found.field-0.0 fault
     old.reads old.count apart c.in_err-found.ensures.checked (let q = p.1 in let r = p.2 in cc)
 
 pub loop-head-preserved-in_ok-push : goal.loop-head-preserved-in_ok-push
 loop-head-preserved-in_ok-push g c =
-    let apart : c.loop-head.head.start ≢ declared_end c.args.main.now = λ e. c.loop-head-test.true (e ∙ sym c.in_ok-end.ensures.end) in
+    let apart : c.loop-head.head.start ≢ declared_end c.args.main.now = λ e. c.loop-head-test.true (e ∙ sym c.requires.end) in
     let new = c.in_ok-found.ensures in
     let ring = rw c.in-Some.is at new.ring in
     let pushed : rings_of c.push.new.self.items ≡ rings_of c.loop-head.rings.items ++ numbered c.loop-head.head.position c.in-Some.ring.corners ∷ [] =
@@ -41,7 +41,7 @@ loop-head-preserved-in_ok-push g c =
 
 pub loop-head-preserved : goal.loop-head-preserved
 loop-head-preserved g c =
-    let apart : c.loop-head.head.start ≢ declared_end c.args.main.now = λ e. c.loop-head-test.true (e ∙ sym c.in_ok-end.ensures.end) in
+    let apart : c.loop-head.head.start ≢ declared_end c.args.main.now = λ e. c.loop-head-test.true (e ∙ sym c.requires.end) in
     let new = c.in_ok-found.ensures in
     let null = rw c.in_default.is at new.null in
     record {
@@ -55,4 +55,4 @@ loop-head-preserved g c =
 pub returns-clause-layer : goal.returns-clause-layer
 returns-clause-layer g c =
     let all = c.loop-head.invariant.read in
-    layer_file c.args.main.now c.args.unit c.loop-head.head.position c.loop-head.head.start all.drawn (rings_of c.loop-head.rings.items) all.reads (c.loop-head-test.false ∙ c.in_ok-end.ensures.end) all.are
+    layer_file c.args.main.now c.args.unit c.loop-head.head.position c.loop-head.head.start all.drawn (rings_of c.loop-head.rings.items) all.reads (c.loop-head-test.false ∙ c.requires.end) all.are
