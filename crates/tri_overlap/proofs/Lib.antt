@@ -7,3 +7,4 @@ pub mod Boxes
 pub mod Numbered
 pub mod RingPairs
 pub mod Unfolded
+mod Separators

@@ -1,5 +1,5 @@
 -- Separating edges: what an edge of one triangle sees of another (the test behind OGC 06-103r4, 6.1.15.2, for two triangles).
-use Rattle.std.specs.Prelude.{◌⊎◌, pos, ◌<ℤ◌, List, [], ◌∷◌}
+use Rattle.std.specs.Prelude.{◌⊎◌, pos, ◌<ℤ◌, ◌≤ℤ◌, List, [], ◌∷◌}
 use Rattle.geo_exact.specs.declared.corner.Corner.{Corner}
 use Rattle.geo_exact.specs.Turn.{turn}
 use Rattle.geo_exact.specs.Interiors.{InteriorsMeet}
@@ -26,3 +26,12 @@ MeetsSome t (u ∷ us) = InteriorsMeet (corners_of t) (corners_of u) ⊎ MeetsSo
 abbrev pub SomePairMeets : List Tri → List Tri → Type 0
 SomePairMeets [] us = ⊥
 SomePairMeets (t ∷ ts) us = MeetsSome t us ⊎ SomePairMeets ts us
+
+-- each corner of the triangle is right of the way from g to h, or on its line
+abbrev pub IsBeyond : Corner → Corner → Tri → Type 0
+IsBeyond g h t = (turn g h t.a ≤ℤ pos 0) × (turn g h t.b ≤ℤ pos 0) × (turn g h t.c ≤ℤ pos 0)
+
+-- some edge of the first triangle has all corners of the second on its right or on its line: it separates the two
+abbrev pub SomeEdgeSeparates : Tri → Tri → Type 0
+SomeEdgeSeparates first second =
+    IsBeyond first.a first.b second ⊎ IsBeyond first.b first.c second ⊎ IsBeyond first.c first.a second

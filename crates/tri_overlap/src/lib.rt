@@ -4,10 +4,12 @@
 
 mod bounds;
 mod folds;
+mod laws;
 mod shapes;
 mod triangles;
 
 pub use folds::folded;
+pub use laws::triangles_are_apart_by_an_edge;
 pub use shapes::shapes_overlap;
 pub use triangles::triangles_overlap;
 
