@@ -1,6 +1,7 @@
 -- The index of a main file, checked up to a position.
-use Rattle.std.proofs.Common.{◌≡◌, ◌≢◌, inl, inr, ℕ, ◌+◌, ◌≤◌, ◌<◌, List, Some, None, refl, sym, ap, subst, ◌∙◌, arith}
-use Rattle.std.proofs.lemmas.Bool.{cases_order}
+use Rattle.std.proofs.Common.{◌≡◌, ◌≢◌, inl, inr, ℕ, ◌+◌, ◌<◌, List, Some, None, Result, Ok, Err, IsOk, IfErr, sym, ap, ◌∙◌, arith}
+use Rattle.std.proofs.lemmas.Bool.{cases_order, false≢true}
+use Rattle.std.specs.Result.{result_err}
 use Rattle.geo_exact.specs.declared.coord.Unit.{Unit as LengthUnit}
 use Rattle.shp_files.specs.declared.fault.FileFault.{FileFault}
 use Rattle.shp_files.specs.declared.fault.FileName.TheVariants.{Index}
@@ -29,13 +30,14 @@ checked_first main index unit all header = record {
 }
 
 -- the record's own frame passes
-pub frame_here : (main index : List ℕ) (unit : LengthUnit) (position start : ℕ) → IsAccepted main unit → IsChecked main index unit position start → start ≢ declared_end main
-    → FramePasses main position start
-frame_here main index unit position start all old apart =
-    frame_of main unit position start old.corners (passes_here main unit position start old.corners all old.reaches apart)
+pub frame_here : (main index : List ℕ) (position start end : ℕ) → (all : (unit : LengthUnit) × IsAccepted main unit)
+    → ((unit : LengthUnit) → IsAccepted main unit → IsChecked main index unit position start) → start ≢ end → end ≡ declared_end main → FramePasses main position start
+frame_here main index position start end all checked apart is =
+    let old = checked all.0 all.1 in
+    frame_of main all.0 position start old.corners (passes_here main all.0 position start old.corners all.1 old.reaches (λ e. apart (e ∙ sym is)))
 
-pub checked_next : (main index : List ℕ) (unit : LengthUnit) (position start : ℕ) → IsAccepted main unit → IsChecked main index unit position start → start ≢ declared_end main
-    → None ≡ first_failure (index_record_checks main index position start) → IsChecked main index unit (position + 1) (record_end main start)
+pub checked_next : (main index : List ℕ) (unit : LengthUnit) (position start : ℕ) → IsAccepted main unit → IsChecked main index unit position start
+    → start ≢ declared_end main → None ≡ first_failure (index_record_checks main index position start) → IsChecked main index unit (position + 1) (record_end main start)
 checked_next main index unit position start all old apart passes = record {
   corners = _;
   reaches = next position start old.corners old.reaches apart (passes_here main unit position start old.corners all old.reaches apart);
@@ -70,12 +72,12 @@ pub fault_at_record : (main index : List ℕ) (unit : LengthUnit) (position star
 fault_at_record main index unit position start fault old apart is =
     fault_here main index unit position start fault old (ap first_failure (checks_at_record main index position start apart) ∙ sym is)
 
-pub fault_at_end : (main index : List ℕ) (unit : LengthUnit) (position start : ℕ) (fault : FileFault) → IsChecked main index unit position start → start ≡ declared_end main
+fault_at_end : (main index : List ℕ) (unit : LengthUnit) (position start : ℕ) (fault : FileFault) → IsChecked main index unit position start → start ≡ declared_end main
     → Some fault ≡ first_failure (index_end_checks index position) → IsIndexFault main index unit fault
 fault_at_end main index unit position start fault old at_end is =
     fault_here main index unit position start fault old (ap first_failure (checks_at_end main index position start at_end) ∙ sym is)
 
-pub agrees_at_end : (main index : List ℕ) (unit : LengthUnit) (position start : ℕ) → IsChecked main index unit position start → start ≡ declared_end main
+agrees_at_end : (main index : List ℕ) (unit : LengthUnit) (position start : ℕ) → IsChecked main index unit position start → start ≡ declared_end main
     → None ≡ first_failure (index_end_checks index position) → Agrees main index unit
 agrees_at_end main index unit position start old at_end passes = record {
   has_header = old.has_header;
@@ -92,3 +94,14 @@ agrees_at_end main index unit position start old at_end passes = record {
         ]
       ];
 }
+
+-- what the check of the end answers
+pub agrees_where : {X : Type 0} (main index : List ℕ) (unit : LengthUnit) (position start : ℕ) (r : Result X FileFault) → IsChecked main index unit position start → start ≡ declared_end main
+    → result_err r ≡ first_failure (index_end_checks index position) → IsOk r → Agrees main index unit
+agrees_where main index unit position start (Ok x) old at_end e ok = agrees_at_end main index unit position start old at_end e
+agrees_where main index unit position start (Err f) old at_end e ok = absurd (false≢true ok)
+
+pub fault_where : {X : Type 0} (main index : List ℕ) (unit : LengthUnit) (position start : ℕ) (r : Result X FileFault) → IsChecked main index unit position start → start ≡ declared_end main
+    → result_err r ≡ first_failure (index_end_checks index position) → IfErr r (λ fault. IsIndexFault main index unit fault)
+fault_where main index unit position start (Ok x) old at_end e = tt
+fault_where main index unit position start (Err f) old at_end e = fault_at_end main index unit position start f old at_end e

@@ -1,16 +1,13 @@
 -- The records of a layer's main file are all read, with its rings.
-use Rattle.std.proofs.Common.{inl, inr, ◌≡◌, ◌≢◌, ℕ, suc, ◌+◌, ◌*◌, ◌≤◌, ℤ, pos, negsuc, ◌*ℤ◌, List, [], ◌∷◌, ◌++◌, length, drop, Option, refl, sym, ap, subst, ◌∙◌, arith, append_assoc}
-use Rattle.std.proofs.lemmas.Int.{ints}
+use Rattle.std.proofs.Common.{inl, inr, ◌≡◌, ◌≢◌, ℕ, suc, ◌+◌, ◌≤◌, List, [], ◌∷◌, ◌++◌, length, drop, Option, refl, sym, ap, subst, ◌∙◌, arith, append_assoc}
 use Rattle.std.proofs.lemmas.List.{append-nil, length-append, drop-drop, drop_at}
 use Rattle.geo_exact.specs.declared.coord.Unit.{Unit as LengthUnit}
 use Rattle.shp_files.specs.declared.fault.FileName.TheVariants.{Main}
-use Rattle.shp_files.specs.Layout.{file_words, natural}
 use Rattle.shp_files.specs.LayerFile.{NumberedRing, AreRecords, joined, corner_count, IsNullShape, IsPolygon, numbered, IsLayerFile}
 use Rattle.shp_files.specs.Checks.{declared_end, record_end}
-use Rattle.shp_files.proofs.Numbers.{natural_pos}
 use Rattle.shp_files.proofs.Passing.{header_passes_from, record_passes_from, is_null_from, is_null_not}
 use Rattle.shp_files.proofs.Passing.RecordPasses.{null as null_passes, polygon as polygon_passes}
-use Rattle.shp_files.proofs.Places.{StandsAt, big_at_part, little_at_part}
+use Rattle.shp_files.proofs.Places.{StandsAt}
 use Rattle.shp_files.proofs.Polygons.{read_from_null, read_from_polygon}
 use Rattle.shp_files.proofs.Headers.{header_found}
 use Rattle.shp_files.proofs.Walk.{Reads, corner_count-push}

@@ -1,13 +1,13 @@
 -- The index of a layer, record by record.
-use Rattle.std.proofs.Common.{◌≡◌, ◌≢◌, inl, inr, true, false, cond, ℕ, ◌+◌, ◌*◌, ◌-◌, ◌/◌, ◌==◌, ◌≤◌, ◌<◌, not, pos, ◌*ℤ◌, List, [], ◌∷◌, ◌++◌, length, take, drop, Some, None, refl, sym, ap, subst, ◌∙◌, arith, append_assoc}
+use Rattle.std.proofs.Common.{◌≡◌, ◌≢◌, inl, inr, ℕ, ◌+◌, ◌/◌, ◌≤◌, not, pos, List, [], ◌∷◌, ◌++◌, length, take, drop, Some, None, refl, sym, ap, subst, ◌∙◌, arith, append_assoc}
 use Rattle.std.proofs.lemmas.Int.{ints}
 use Rattle.std.proofs.lemmas.Bool.{cases_order, ltb-false, le-ltb, eqb-true, eq-eqb, ne_eqb, not-false}
-use Rattle.std.proofs.lemmas.List.{append-nil, length-append, length-drop, length-take-le, take-append-drop, drop-drop, drop_at}
+use Rattle.std.proofs.lemmas.List.{length-append, length-drop, length-take-le, take-append-drop, drop-drop, drop_at}
 use Rattle.geo_exact.specs.declared.coord.Unit.{Unit as LengthUnit}
-use Rattle.shp_files.specs.declared.fault.FileName.TheVariants.{Main, Index}
+use Rattle.shp_files.specs.declared.fault.FileName.TheVariants.{Index}
 use Rattle.shp_files.specs.Layout.{big_at, content_words, offset_words}
 use Rattle.shp_files.specs.LayerFile.{NumberedRing, numbered, AreRecords, joined, IsHeader, IsIndexRecord, AreIndexRecords, IsIndexFile, IsLayerFile}
-use Rattle.shp_files.specs.Checks.{first_failure, header_checks, is_not, declared_end, record_end}
+use Rattle.shp_files.specs.Checks.{first_failure, declared_end, record_end}
 use Rattle.shp_files.specs.IndexChecks.{entry_place, entry_checks, index_end_checks, index_record_checks}
 use Rattle.shp_files.specs.FirstFault.{Reaches}
 use Rattle.shp_files.specs.Reading.{Agrees}

@@ -1,5 +1,5 @@
 -- A text is a layer's main file of one list of rings at most, or has one first fault, and never both.
-use Rattle.std.proofs.Common.{◌≡◌, ◌≢◌, true, false, inl, inr, ℕ, ◌+◌, ◌≤◌, ◌<◌, ℤ, List, [], ◌∷◌, ◌++◌, length, Option, Some, None, Result, Ok, refl, sym, ap, subst, ◌∙◌, arith}
+use Rattle.std.proofs.Common.{◌≡◌, true, false, inl, inr, ℕ, ◌+◌, ◌≤◌, ◌<◌, ℤ, List, [], ◌∷◌, ◌++◌, length, Option, Some, None, Result, Ok, refl, sym, ap, ◌∙◌, arith}
 use Rattle.std.proofs.lemmas.Bool.{cases_order, false≢true}
 use Rattle.geo_exact.specs.declared.corner.Corner.{Corner}
 use Rattle.geo_exact.specs.declared.coord.Unit.{Unit as LengthUnit}
@@ -8,9 +8,8 @@ use Rattle.geo_exact.proofs.SameCorner.{corner_same}
 use Rattle.shp_files.specs.declared.fault.FileFault.{FileFault}
 use Rattle.shp_files.specs.declared.fault.FileName.TheVariants.{Main, Index}
 use Rattle.shp_files.specs.LayerFile.{NumberedRing, closed, normal_rings, IsLayerFile}
-use Rattle.shp_files.specs.Checks.{first_failure, header_checks, record_checks, declared_end, record_end, points_of, is_null, corners_of}
+use Rattle.shp_files.specs.Checks.{first_failure, header_checks, record_checks, declared_end, record_end, points_of, is_null}
 use Rattle.shp_files.specs.FirstFault.{Reaches, StopsAt, IsMainFault, IsAccepted, IndexStopsAt, IsIndexFault, IsFirstFault}
-use Rattle.shp_files.specs.FirstFault.Reaches.{first, next}
 use Rattle.shp_files.specs.IndexChecks.{entry_checks}
 use Rattle.shp_files.specs.Reading.{AreReadAs, Agrees}
 use Rattle.shp_files.proofs.Reaching.{position_from_1, reached_header, same_place, IsPassed, passed, not_past_end}

@@ -1,9 +1,8 @@
 -- The records of a main file that are reached: each in one place, and those before it passed.
-use Rattle.std.proofs.Common.{◌≡◌, ◌≢◌, inl, inr, ℕ, ◌+◌, ◌*◌, ◌/◌, ◌≤◌, ◌<◌, List, None, refl, sym, ap, subst, ◌∙◌, arith}
+use Rattle.std.proofs.Common.{◌≡◌, ◌≢◌, inl, inr, ℕ, ◌*◌, ◌/◌, ◌≤◌, ◌<◌, List, None, refl, sym, ap, subst, ◌∙◌, arith}
 use Rattle.std.proofs.lemmas.Bool.{cases_order}
 use Rattle.geo_exact.specs.declared.coord.Unit.{Unit as LengthUnit}
 use Rattle.shp_files.specs.declared.fault.FileName.TheVariants.{Main}
-use Rattle.shp_files.specs.Layout.{natural, content_words}
 use Rattle.shp_files.specs.Checks.{first_failure, header_checks, frame_checks, record_checks, declared_end, record_end, corners_of}
 use Rattle.shp_files.specs.FirstFault.{Reaches, IsAccepted}
 use Rattle.shp_files.specs.FirstFault.Reaches.{first, next}

@@ -1,17 +1,15 @@
 -- A file whose records are all read is a layer's main file with their rings.
-use Rattle.std.proofs.Common.{◌≡◌, inl, inr, ℕ, ◌+◌, ◌*◌, ◌-◌, ◌≤◌, List, [], ◌∷◌, ◌++◌, length, take, drop, None, refl, sym, ap, subst, ◌∙◌, arith, append_assoc}
-use Rattle.std.proofs.lemmas.Int.{ints}
+use Rattle.std.proofs.Common.{◌≡◌, inl, inr, ℕ, ◌+◌, ◌-◌, ◌≤◌, List, [], ◌∷◌, ◌++◌, length, take, drop, None, refl, sym, ap, subst, ◌∙◌, arith, append_assoc}
 use Rattle.std.proofs.lemmas.List.{append-nil, length-append, length-drop, length-take-le, take-append-drop}
 use Rattle.std.proofs.Math.Seq.{take-add}
 use Rattle.geo_exact.specs.declared.corner.Corner.{Corner}
 use Rattle.geo_exact.specs.declared.coord.Unit.{Unit as LengthUnit}
 use Rattle.shp_files.specs.declared.fault.FileName.TheVariants.{Main}
-use Rattle.shp_files.specs.Layout.{file_words, natural}
 use Rattle.shp_files.specs.LayerFile.{NumberedRing, numbered, normal_rings, IsNullShape, IsPolygon, AreRecords, joined, corner_count, IsHeader, IsLayerFile}
 use Rattle.shp_files.specs.Checks.{declared_end, record_end}
 use Rattle.shp_files.proofs.Headers.{end_is, header_text}
 use Rattle.shp_files.proofs.Passing.{HeaderPasses, header_passes, FramePasses, record_passes, null_of, polygon_of}
-use Rattle.shp_files.proofs.Places.{StandsAt, big_at_part, little_at_part}
+use Rattle.shp_files.proofs.Places.{StandsAt}
 use Rattle.shp_files.proofs.Polygons.{null_from_passing, polygon_from_passing}
 use Rattle.shp_files.proofs.Walk.{Reads, corner_count-push}
 use Rattle.shp_files.proofs.Walk.Reads.{none, null, more}

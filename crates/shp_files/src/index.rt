@@ -17,6 +17,7 @@ use crate::record::RecordHead;
 pub fn check_index(main: &[u8], end: usize, index: &[u8]) -> Result<(), FileFault>
     requires end { end ≡ declared_end main.now }
     requires bound { end < 2 ^ 32 }
+    requires room { 100 ≤ end }
     requires within { end ≤ length main.now }
     requires accepted { (unit : LengthUnit) × IsAccepted main.now unit }
     ensures agrees { (unit : LengthUnit) → IsAccepted main.now unit → IsOk result → Agrees main.now index.now unit }

@@ -42,6 +42,20 @@ pub fn read_layer<A: Allocator + Copy>(
     ensures refuses { (fault : FileFault) → IsFirstFault main.now (option_copied index.entry) unit fault →
         IsErrAnd result (λ e. (e ≡ LayerFault.File fault) ⊎ (e ≡ LayerFault.NoMemory)) }
 {
+    read_checked(alloc, main, index, unit)
+}
+
+fn read_checked<A: Allocator + Copy>(
+    alloc: A,
+    main: &[u8],
+    index: Option<&[u8]>,
+    unit: Unit,
+) -> Result<Vec<RawRing<A>, A>, LayerFault>
+    ensures layer { IfOk result
+        (λ rings. IsLayerFile main.now (option_copied index.entry) unit (rings_of rings.items)) }
+    ensures fault { (fault : FileFault) → IsErrOf result (LayerFault.File fault)
+        → IsFirstFault main.now (option_copied index.entry) unit fault }
+{
     let end = read_header(FileName::Main, main)?;
     let rings = read_records(alloc, main, end, unit)?;
     if let Some(index) = index {
