@@ -18,13 +18,13 @@ pub fn read_rings<A: Allocator + Copy>(
     index: Option<&[u8]>,
     unit: Unit,
 ) -> Result<Vec<RawRing<A>, A>, ToolFault<'static>>
-    ensures ok { IfOk result (λ rings. IsLayerFile main.now (option_copied index) unit (rings_of rings.items)) }
-    ensures err { IfErr result (IsLayerFault role main.now (option_copied index) unit) }
+    ensures ok { IfOk result (λ rings. IsLayerFile main.now (option_copied index.entry) unit (rings_of rings.items)) }
+    ensures err { IfErr result (IsLayerFault role main.now (option_copied index.entry) unit) }
     // A layer is read, unless memory runs out.
-    ensures reads { (rings : List NumberedRing) → IsLayerFile main.now (option_copied index) unit rings
+    ensures reads { (rings : List NumberedRing) → IsLayerFile main.now (option_copied index.entry) unit rings
         → MatchResult result (λ found. rings_of found.items ≡ rings) (λ fault. fault ≡ ToolFault.NoMemory) }
     // Its first fault is told, unless memory runs out.
-    ensures refuses { (fault : FileFault) → IsFirstFault main.now (option_copied index) unit fault
+    ensures refuses { (fault : FileFault) → IsFirstFault main.now (option_copied index.entry) unit fault
         → IsErrAnd result (λ told. (told ≡ ToolFault.File role fault) ⊎ (told ≡ ToolFault.NoMemory)) }
 {
     match read_layer(alloc, main, index, unit) {

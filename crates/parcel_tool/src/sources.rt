@@ -24,7 +24,7 @@ pub struct Source<A: Allocator> {
 impl<A: Allocator> Source<A> {
     /// The bytes of the index file, where there is one.
     pub fn index_bytes(&self) -> Option<&[u8]>
-        ensures { option_copied result ≡ index_of self.now }
+        ensures bytes { option_copied result ≡ index_of self.now }
     {
         match &self.index {
             Some(index) => Some(index.as_slice()),
@@ -91,7 +91,7 @@ fn read_file<'a, F: Read + Drop, A: Allocator + Copy>(
     file: F,
     unreadable: ToolFault<'a>,
 ) -> Result<Vec<u8, A>, ToolFault<'a>>
-    ensures { IfErr result (λ fault. (fault ≡ unreadable) ⊎ (fault ≡ ToolFault.NoMemory)) }
+    ensures { IfErr result (λ fault. (fault ≡ unreadable.entry) ⊎ (fault ≡ ToolFault.NoMemory)) }
 {
     match read_all(alloc, &mut Counted::new(file)) {
         Ok(bytes) => Ok(bytes),

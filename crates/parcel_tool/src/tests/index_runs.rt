@@ -7,7 +7,9 @@ use std::test::Fail;
 
 /// The bits of 0, of 1 and of 100.
 const ZERO: u64 = 0;
+
 const ONE: u64 = 0x3FF0_0000_0000_0000;
+
 const FAR: u64 = HUNDRED.1;
 
 /// The square's points, clockwise from its least corner, and the first once more.
@@ -93,7 +95,11 @@ fn compares_the_index(rt: HostRuntime) -> Result<(), Fail> {
         )?;
         assert_eq!(rt; text.as_str(), want, "at {place}");
     }
-    let empty = printed(alloc, header(alloc, 50, [0; 4])?, index(alloc, &[(50, 64)])?)?;
+    let empty = printed(
+        alloc,
+        header(alloc, 50, [0; 4])?,
+        index(alloc, &[(50, 64)])?,
+    )?;
     assert_eq!(rt; empty.as_str(), "error: file: F10 index record 1 at 100");
     Ok(())
 }

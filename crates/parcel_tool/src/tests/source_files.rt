@@ -14,11 +14,19 @@ fn reads_the_index_beside_the_main_file(rt: HostRuntime) -> Result<(), Fail> {
     fs::write(&rt, "upper.SHP", main.as_slice())?;
     fs::write(&rt, "upper.shx", beside.as_slice())?;
     fs::write(&rt, "alone.shp", main.as_slice())?;
-    for (path, has_index) in [("both.shp", true), ("upper.SHP", false), ("alone.shp", false)] {
+    for (path, has_index) in [
+        ("both.shp", true),
+        ("upper.SHP", false),
+        ("alone.shp", false),
+    ] {
         match read_source(&rt, alloc, path) {
             Ok(source) => {
                 assert_eq!(rt; source.main.as_slice(), main.as_slice());
-                let want = if has_index { Some(beside.as_slice()) } else { None };
+                let want = if has_index {
+                    Some(beside.as_slice())
+                } else {
+                    None
+                };
                 assert_eq!(rt; source.index_bytes(), want, "beside {path}");
             }
             Err(fault) => assert_eq!(rt; Err(fault), Ok(()), "at {path}"),
