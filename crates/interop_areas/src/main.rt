@@ -38,8 +38,9 @@ fn rings_of_layer<R: Files, A: Allocator + Copy>(
 ) -> io::Result<Vec<RawRing<A>, A>> {
     let main = bytes_of(rt, alloc, format!(in alloc; "{name}.shp")?.as_str())?;
     let index = bytes_of(rt, alloc, format!(in alloc; "{name}.shx")?.as_str())?;
-    read_layer(alloc, &main, Some(index.as_slice()), unit)
-        .map_err(|_| io::Error::from(io::ErrorKind::InvalidData))
+    read_layer(alloc, &main, Some(index.as_slice()), unit).map_err(|_| io::Error::from(
+        io::ErrorKind::InvalidData,
+    ))
 }
 
 fn main(rt: HostRuntime) -> io::Result<()> {
