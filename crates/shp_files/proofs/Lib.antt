@@ -25,4 +25,5 @@ pub mod Sizes
 pub mod Rings
 pub mod WrittenRows
 pub mod WrittenFields
+pub mod WrittenIndex
 pub mod WrittenLayer

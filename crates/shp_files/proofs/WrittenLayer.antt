@@ -1,6 +1,6 @@
--- The main file that is written is a layer's main file.
-use Rattle.std.proofs.Common.{◌≡◌, ℕ, zero, suc, ◌+◌, ◌*◌, ◌≤◌, Bool, true, false, cond, ℤ, pos, negsuc, neg_ℤ, ◌≤ℤ◌, List, [], ◌∷◌, ◌++◌, length, map, All, refl, sym, ap, ◌∙◌, inr, None, arith, length-append}
-use Rattle.std.specs.Prelude.{int_lt, if◌then◌else◌}
+-- The files that are written are a layer's.
+use Rattle.std.proofs.Common.{◌≡◌, ℕ, zero, suc, ◌+◌, ◌*◌, ◌≤◌, Bool, true, false, cond, ℤ, pos, negsuc, neg_ℤ, ◌≤ℤ◌, List, [], ◌∷◌, ◌++◌, length, map, All, refl, sym, ap, ◌∙◌, inr, Option, Some, None, arith, length-append}
+use Rattle.std.specs.Prelude.{int_lt, if◌then◌else◌, IfSome}
 use Rattle.std.proofs.lemmas.List.{append-nil, length-reverse, reverse-reverse}
 use Rattle.std.proofs.lemmas.Bool.{le-ltb}
 use Rattle.geo_exact.proofs.Windings.{area2_turned_round}
@@ -8,12 +8,13 @@ use Rattle.geo_exact.specs.declared.corner.Corner.{Corner}
 use Rattle.geo_exact.specs.declared.coord.Unit.TheVariants.{Cm}
 use Rattle.geo_exact.specs.Area.{area2}
 use Rattle.geo_exact.specs.Rings.{turned_round, AreApart}
-use Rattle.shp_files.specs.LayerFile.{IsLayerFile, AreRecords, NumberedRing, numbered, joined, corner_count, normal_rings}
+use Rattle.shp_files.specs.LayerFile.{IsIndexFile, IsLayerFile, AreRecords, NumberedRing, numbered, joined, corner_count, normal_rings}
 use Rattle.shp_files.specs.NormalForm.{kept_once, counterclockwise, normal_form}
 use Rattle.shp_files.proofs.Turned.{turned_apart, kept_whole}
-use Rattle.shp_files.specs.Written.{as_written, words, record_bytes, records, header, corners_of, numbered_from, written_main}
+use Rattle.shp_files.specs.Written.{as_written, words, record_bytes, records, header, corners_of, numbered_from, written_main, written_index}
 use Rattle.shp_files.proofs.Sizes.{length-content, length-record, words_of_content}
 use Rattle.shp_files.proofs.Rings.{words_of_records, words_few}
+use Rattle.shp_files.proofs.WrittenIndex.{index_is}
 use Rattle.shp_files.proofs.WrittenFields.{header_is, header_whole, record_is}
 
 length-turned : (turned : Bool) (ring : List Corner) → length (cond turned (turned_round ring) ring) ≡ length ring
@@ -95,10 +96,11 @@ rings_again number (ring ∷ rings) each =
     ap (λ (corners : List Corner). numbered number corners ∷ numbered_from (number + 1) rings) (sym here)
     ∙ ap (λ (later : List NumberedRing). numbered number (normal_form (as_written ring)) ∷ later) others
 
-pub written_layer : (rings : List (List Corner)) → All Fits rings → length rings ≤ 65536 → length (corners_of rings) ≤ 1000000
-    → IsLayerFile (written_main rings) None Cm (numbered_from 1 rings)
+-- the main file that is written, with an index of its records or with none
+layer_with : (index : Option (List ℕ)) (rings : List (List Corner)) → All Fits rings → length rings ≤ 65536 → length (corners_of rings) ≤ 1000000
+    → IfSome index (λ bytes. IsIndexFile bytes (records 1 rings)) → IsLayerFile (written_main rings) index Cm (numbered_from 1 rings)
 unfolding written_main
-written_layer rings each few total =
+layer_with index rings each few total is_index =
     let n : ℕ = 50 + words (joined (records 1 rings)) in
     record {
       header = header n (corners_of rings);
@@ -110,6 +112,14 @@ written_layer rings each few total =
       has_records = are_records 1 rings each;
       records_within = omega (arith, length-records 1 rings, few);
       corners_within = omega (arith, corners_counted 1 rings, total);
-      has_index = tt;
+      has_index = is_index;
       has_rings = rings_again 1 rings each;
     }
+
+pub written_layer : (rings : List (List Corner)) → All Fits rings → length rings ≤ 65536 → length (corners_of rings) ≤ 1000000
+    → IsLayerFile (written_main rings) None Cm (numbered_from 1 rings)
+written_layer rings each few total = layer_with None rings each few total tt
+
+pub written_with_index : (rings : List (List Corner)) → All Fits rings → length rings ≤ 65536 → length (corners_of rings) ≤ 1000000
+    → IsLayerFile (written_main rings) (Some (written_index rings)) Cm (numbered_from 1 rings)
+written_with_index rings each few total = layer_with (Some (written_index rings)) rings each few total (index_is rings few total)

@@ -238,14 +238,18 @@ pub fn write_layer<A: Allocator + Copy>(
     Ok((main, index))
 }
 
-/// The main file that is written is a layer's main file in centimetres, of the same rings, numbered from 1: reading it back
-/// gives the same corner lists. The rings are in normal form, as a [`RawRing`] is by its type.
-#[tactic(auto, using(crate::proofs::WrittenLayer::written_layer))]
+/// The main file that is written, alone or with the index that is written, is a layer's in centimetres, of the same rings,
+/// numbered from 1: reading it back gives the same corner lists. The rings are in normal form, as a [`RawRing`] is by its type.
+#[tactic(auto, using(crate::proofs::WrittenLayer::written_layer, crate::proofs::WrittenLayer::written_with_index))]
 pub fn a_written_file_is_a_layer_file()
-    ensures { (rings : List (List CornerValue))
+    ensures alone { (rings : List (List CornerValue))
         → All (λ ring. (3 ≤ length ring) × (length ring ≤ 4096) × AreApart ring × (pos 0 ≤ℤ area2_of ring)) rings
         → length rings ≤ 65536 → length (corners_of rings) ≤ 1000000
         → IsLayerFile (written_main rings) None Cm (numbered_from 1 rings) }
+    ensures with_index { (rings : List (List CornerValue))
+        → All (λ ring. (3 ≤ length ring) × (length ring ≤ 4096) × AreApart ring × (pos 0 ≤ℤ area2_of ring)) rings
+        → length rings ≤ 65536 → length (corners_of rings) ≤ 1000000
+        → IsLayerFile (written_main rings) (Some (written_index rings)) Cm (numbered_from 1 rings) }
 {}
 
 /// A ring whose twice-area is not negative is written so that turning it round again, where its twice-area has become
