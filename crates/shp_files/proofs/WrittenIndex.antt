@@ -2,7 +2,6 @@
 use Rattle.std.proofs.Common.{◌≡◌, ℕ, ◌+◌, ◌*◌, ◌^◌, ◌<◌, ◌≤◌, List, [], ◌∷◌, ◌++◌, length, drop, refl, sym, ap, ◌∙◌, arith, length-append}
 use Rattle.std.proofs.lemmas.List.{append-nil}
 use Rattle.geo_exact.specs.declared.corner.Corner.{Corner}
-use Rattle.shp_files.specs.Layout.{content_words, offset_words}
 use Rattle.shp_files.specs.LayerFile.{IsIndexRecord, AreIndexRecords, IsIndexFile, joined}
 use Rattle.shp_files.specs.Written.{big, words, content, record_bytes, records, header, corners_of, index_records, written_index}
 use Rattle.shp_files.proofs.Sizes.{length-big, length-content, length-record, words_of_content}
