@@ -39,7 +39,10 @@ pub fn read_header(name: FileName, file: &[u8]) -> Result<usize, FileFault>
     let version = little_at(file, 28);
     refuse_if(version != VERSION, in_header(name, 28, FaultKind::Version))?;
     let shape_type = little_at(file, 32);
-    refuse_if(shape_type != POLYGON, in_header(name, 32, FaultKind::ShapeType))?;
+    refuse_if(
+        shape_type != POLYGON,
+        in_header(name, 32, FaultKind::ShapeType),
+    )?;
     Ok(end)
 }
 
