@@ -90,7 +90,7 @@ agrees_at_end main index unit position start old at_end passes = record {
         | inr o ↦ elim o [
           | inl below ↦ old.has_entries p s c r below
           | inr above ↦ absurd (not_past_end main unit position start old.corners old.reaches at_end
-            (passed main unit p s c position r above (position_from_1 main unit position start old.corners old.reaches)))
+              (passed main unit p s c position r above (position_from_1 main unit position start old.corners old.reaches)))
         ]
       ];
 }

@@ -105,7 +105,7 @@ stand_of_file main index unit rings file =
     let sizes : length main ≡ length file.header + (length (joined file.records) + length file.ignored) =
     ap length split ∙ length-append file.header (joined file.records ++ file.ignored) ∙ ap (λ n. length file.header + n) (length-append (joined file.records) file.ignored) in
     let header = header_found main file.header (joined file.records ++ file.ignored) (length file.header + length (joined file.records)) split file.has_header
-        (omega (arith, file.has_header.is_whole)) (omega (arith, sizes)) in
+    (omega (arith, file.has_header.is_whole)) (omega (arith, sizes)) in
     let rest : drop 100 main ≡ joined file.records ++ file.ignored = ap (λ xs. drop 100 xs) split ∙ drop_at file.header (joined file.records ++ file.ignored) 100 file.has_header.is_whole in
     record {
       reads = none (header_passes_from Main main header.passes);

@@ -231,7 +231,7 @@ agrees_of_file main index unit rings file =
     let sizes : length index ≡ length is.header + (length (joined is.entries) + length is.ignored) =
     ap length split ∙ length-append is.header (joined is.entries ++ is.ignored) ∙ ap (λ n. length is.header + n) (length-append (joined is.entries) is.ignored) in
     let header = header_found index is.header (joined is.entries ++ is.ignored) (length is.header + length (joined is.entries)) split is.has_header
-        (omega (arith, is.has_header.is_whole)) (omega (arith, sizes)) in
+    (omega (arith, is.has_header.is_whole)) (omega (arith, sizes)) in
     let rest : drop 100 index ≡ joined is.entries ++ is.ignored =
     ap (λ xs. drop 100 xs) split ∙ drop_at is.header (joined is.entries ++ is.ignored) 100 is.has_header.is_whole in
     record {

@@ -25,5 +25,6 @@ pub mod Sizes
 pub mod Rings
 pub mod WrittenRows
 pub mod WrittenFields
+pub mod WrittenIndex
 pub mod WrittenLayer
 mod Within

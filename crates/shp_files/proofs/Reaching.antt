@@ -64,7 +64,7 @@ passes_here main unit p s c all r apart =
             let P : ℕ → ℕ → Type 0 = λ t. λ d. first_failure (record_checks main unit p t d) ≡ None in
             subst (λ (t : ℕ). P t c) (sym same.0) (subst (λ (d : ℕ). P h.start d) (sym same.1) h.passes)
         | inr gt ↦ absurd (not_past_end main unit all.position (declared_end main) all.corners all.is_reached refl
-          (passed main unit p s c all.position r gt (position_from_1 main unit all.position (declared_end main) all.corners all.is_reached)))
+            (passed main unit p s c all.position r gt (position_from_1 main unit all.position (declared_end main) all.corners all.is_reached)))
       ]
     ]
 

@@ -3,7 +3,7 @@ use Rattle.std.proofs.Common.{◌≡◌, ℕ, ◌+◌, ◌*◌, List, [], ◌∷
 use Rattle.geo_exact.specs.declared.corner.Corner.{Corner}
 use Rattle.shp_files.specs.Written.{big, little, double, point, box, points, words, content, record_bytes}
 
-length-big : (n : ℕ) → length (big n) ≡ 4
+pub length-big : (n : ℕ) → length (big n) ≡ 4
 unfolding big
 length-big n = refl
 

@@ -97,7 +97,7 @@ before_points : ℕ → List Corner → List ℕ
 before_points number ring =
     big number ++ big (words (content ring)) ++ little 5 ++ box ring ++ little 1 ++ little (length (points ring)) ++ little 0
 
-at_content_words : (number : ℕ) (ring : List Corner) → drop 4 (record_bytes number ring) ≡ big (words (content ring)) ++ content ring
+pub at_content_words : (number : ℕ) (ring : List Corner) → drop 4 (record_bytes number ring) ≡ big (words (content ring)) ++ content ring
 unfolding record_bytes big
 at_content_words number ring = refl
 

@@ -1,6 +1,6 @@
--- The main file that is written is a layer's main file.
-use Rattle.std.proofs.Common.{◌≡◌, ℕ, zero, suc, ◌+◌, ◌*◌, ◌≤◌, Bool, true, false, cond, ℤ, pos, negsuc, neg_ℤ, ◌≤ℤ◌, List, [], ◌∷◌, ◌++◌, length, map, All, refl, sym, ap, ◌∙◌, inr, None, arith, length-append}
-use Rattle.std.specs.Prelude.{int_lt, if◌then◌else◌}
+-- The files that are written are a layer's.
+use Rattle.std.proofs.Common.{◌≡◌, ℕ, zero, suc, ◌+◌, ◌*◌, ◌≤◌, Bool, true, false, cond, ℤ, pos, negsuc, neg_ℤ, ◌≤ℤ◌, List, [], ◌∷◌, ◌++◌, length, map, All, refl, sym, ap, ◌∙◌, inr, Option, Some, None, arith, length-append}
+use Rattle.std.specs.Prelude.{int_lt, if◌then◌else◌, IfSome}
 use Rattle.std.proofs.lemmas.List.{append-nil, length-reverse, reverse-reverse}
 use Rattle.std.proofs.lemmas.Bool.{le-ltb}
 use Rattle.geo_exact.proofs.Windings.{area2_turned_round}
@@ -8,12 +8,13 @@ use Rattle.geo_exact.specs.declared.corner.Corner.{Corner}
 use Rattle.geo_exact.specs.declared.coord.Unit.TheVariants.{Cm}
 use Rattle.geo_exact.specs.Area.{area2}
 use Rattle.geo_exact.specs.Rings.{turned_round, AreApart}
-use Rattle.shp_files.specs.LayerFile.{IsLayerFile, AreRecords, NumberedRing, numbered, joined, corner_count, normal_rings}
-use Rattle.shp_files.specs.NormalForm.{kept_once, counterclockwise, normal_form}
+use Rattle.shp_files.specs.LayerFile.{IsIndexFile, IsLayerFile, AreRecords, NumberedRing, numbered, joined, corner_count, normal_rings}
+use Rattle.shp_files.specs.NormalForm.{kept_once, counterclockwise, normal_form, IsNormal}
 use Rattle.shp_files.proofs.Turned.{turned_apart, kept_whole}
-use Rattle.shp_files.specs.Written.{as_written, words, record_bytes, records, header, corners_of, numbered_from, written_main}
+use Rattle.shp_files.specs.Written.{as_written, words, record_bytes, records, header, corners_of, numbered_from, written_main, written_index}
 use Rattle.shp_files.proofs.Sizes.{length-content, length-record, words_of_content}
 use Rattle.shp_files.proofs.Rings.{words_of_records, words_few}
+use Rattle.shp_files.proofs.WrittenIndex.{index_is}
 use Rattle.shp_files.proofs.WrittenFields.{header_is, header_whole, record_is}
 
 length-turned : (turned : Bool) (ring : List Corner) → length (cond turned (turned_round ring) ring) ≡ length ring
@@ -24,10 +25,6 @@ length-turned false ring = refl
 length-as_written : (ring : List Corner) → length (as_written ring) ≡ length ring
 length-as_written ring = length-turned (int_lt (pos 0) (area2 ring)) ring
 
--- a ring in normal form
-abbrev pub Fits : List Corner → Type 0
-Fits ring = (3 ≤ length ring) × (length ring ≤ 4096) × AreApart ring × (pos 0 ≤ℤ area2 ring)
-
 apart_where : (turned : Bool) (ring : List Corner) → AreApart ring → AreApart (cond turned (turned_round ring) ring)
 apart_where true ring h = turned_apart ring h
 apart_where false ring h = h
@@ -35,10 +32,10 @@ apart_where false ring h = h
 written_whole : (ring : List Corner) → AreApart ring → kept_once (as_written ring) ≡ as_written ring
 written_whole ring h = kept_whole (as_written ring) (apart_where (int_lt (pos 0) (area2 ring)) ring h)
 
-are_records : (number : ℕ) (rings : List (List Corner)) → All Fits rings → AreRecords Cm number (records number rings) (numbered_from number (map as_written rings))
+are_records : (number : ℕ) (rings : List (List Corner)) → All IsNormal rings → AreRecords Cm number (records number rings) (numbered_from number (map as_written rings))
 are_records number [] each = tt
 are_records number (ring ∷ rings) each =
-    let fits : Fits ring = each 0 ring (omega arith) in
+    let fits : IsNormal ring = each 0 ring (omega arith) in
     inr (refl, record_is number ring fits.0 fits.1 (length-as_written ring) (written_whole ring fits.2), are_records (number + 1) rings (λ k d h. each (suc k) d (omega (arith, h))))
 
 length-records : (number : ℕ) (rings : List (List Corner)) → length (records number rings) ≡ length rings
@@ -83,22 +80,23 @@ pub turned_back : (ring : List Corner) → pos 0 ≤ℤ area2 ring
 turned_back ring h = turned_back_where (int_lt (pos 0) (area2 ring)) ring refl h
 
 -- the rings that were written, in normal form, are the rings
-normal_again : (ring : List Corner) → Fits ring → normal_form (as_written ring) ≡ ring
+normal_again : (ring : List Corner) → IsNormal ring → normal_form (as_written ring) ≡ ring
 normal_again ring fits = ap counterclockwise (written_whole ring fits.2) ∙ turned_back ring fits.3
 
-rings_again : (number : ℕ) (rings : List (List Corner)) → All Fits rings → numbered_from number rings ≡ normal_rings (numbered_from number (map as_written rings))
+rings_again : (number : ℕ) (rings : List (List Corner)) → All IsNormal rings → numbered_from number rings ≡ normal_rings (numbered_from number (map as_written rings))
 rings_again number [] each = refl
 rings_again number (ring ∷ rings) each =
-    let fits : Fits ring = each 0 ring (omega arith) in
+    let fits : IsNormal ring = each 0 ring (omega arith) in
     let here : normal_form (as_written ring) ≡ ring = normal_again ring fits in
     let others : numbered_from (number + 1) rings ≡ normal_rings (numbered_from (number + 1) (map as_written rings)) = rings_again (number + 1) rings (λ k d h. each (suc k) d (omega (arith, h))) in
     ap (λ (corners : List Corner). numbered number corners ∷ numbered_from (number + 1) rings) (sym here)
     ∙ ap (λ (later : List NumberedRing). numbered number (normal_form (as_written ring)) ∷ later) others
 
-pub written_layer : (rings : List (List Corner)) → All Fits rings → length rings ≤ 65536 → length (corners_of rings) ≤ 1000000
-    → IsLayerFile (written_main rings) None Cm (numbered_from 1 rings)
+-- the main file that is written, with an index of its records or with none
+layer_with : (index : Option (List ℕ)) (rings : List (List Corner)) → All IsNormal rings → length rings ≤ 65536 → length (corners_of rings) ≤ 1000000
+    → IfSome index (λ bytes. IsIndexFile bytes (records 1 rings)) → IsLayerFile (written_main rings) index Cm (numbered_from 1 rings)
 unfolding written_main
-written_layer rings each few total =
+layer_with index rings each few total is_index =
     let n : ℕ = 50 + words (joined (records 1 rings)) in
     record {
       header = header n (corners_of rings);
@@ -110,6 +108,14 @@ written_layer rings each few total =
       has_records = are_records 1 rings each;
       records_within = omega (arith, length-records 1 rings, few);
       corners_within = omega (arith, corners_counted 1 rings, total);
-      has_index = tt;
+      has_index = is_index;
       has_rings = rings_again 1 rings each;
     }
+
+pub written_layer : (rings : List (List Corner)) → All IsNormal rings → length rings ≤ 65536 → length (corners_of rings) ≤ 1000000
+    → IsLayerFile (written_main rings) None Cm (numbered_from 1 rings)
+written_layer rings each few total = layer_with None rings each few total tt
+
+pub written_with_index : (rings : List (List Corner)) → All IsNormal rings → length rings ≤ 65536 → length (corners_of rings) ≤ 1000000
+    → IsLayerFile (written_main rings) (Some (written_index rings)) Cm (numbered_from 1 rings)
+written_with_index rings each few total = layer_with (Some (written_index rings)) rings each few total (index_is rings few total)

@@ -1,8 +1,8 @@
 -- The form in which a ring is kept: no corner twice in a row, and counterclockwise (this product's own; Technical Description, July 1998, "Polygon", draws outer rings clockwise).
-use Rattle.std.specs.Prelude.{pos, int_lt, Bool, ◌&&◌, if◌then◌else◌, List, [], ◌∷◌}
+use Rattle.std.specs.Prelude.{◌≤◌, pos, ◌≤ℤ◌, int_lt, Bool, ◌&&◌, if◌then◌else◌, List, [], ◌∷◌, length}
 use Rattle.std.specs.Ordering.{int_eq}
 use Rattle.geo_exact.specs.declared.corner.Corner.{Corner}
-use Rattle.geo_exact.specs.Rings.{Edge, edges, turned_round}
+use Rattle.geo_exact.specs.Rings.{Edge, edges, AreApart, turned_round}
 use Rattle.geo_exact.specs.Area.{area2}
 
 -- the edge ends where it begins
@@ -24,3 +24,7 @@ counterclockwise ring = if int_lt (area2 ring) (pos 0) then turned_round ring el
 
 abbrev pub normal_form : List Corner → List Corner
 normal_form ring = counterclockwise (kept_once ring)
+
+-- a ring of a polygon in that form
+abbrev pub IsNormal : List Corner → Type 0
+IsNormal ring = (3 ≤ length ring) × (length ring ≤ 4096) × AreApart ring × (pos 0 ≤ℤ area2 ring)

@@ -10,11 +10,14 @@ use crate::fields::{big_at, little_at, natural, refuse_if};
 /// The bytes of a header.
 pub const HEADER: usize = 100;
 
-const FILE_CODE: i32 = 9994;
+/// The file code of both files.
+pub const FILE_CODE: i32 = 9994;
 
-const VERSION: i32 = 1000;
+/// The version of both files.
+pub const VERSION: i32 = 1000;
 
-const POLYGON: i32 = 5;
+/// The shape type of polygons.
+pub const POLYGON: i32 = 5;
 
 /// Checks the header, and answers the byte at which the file is declared to end.
 #[tactic(auto, unfolding(crate::specs::Checks::header_checks, crate::specs::Checks::declared_end, crate::specs::Checks::first_failure))]
@@ -36,7 +39,10 @@ pub fn read_header(name: FileName, file: &[u8]) -> Result<usize, FileFault>
     let version = little_at(file, 28);
     refuse_if(version != VERSION, in_header(name, 28, FaultKind::Version))?;
     let shape_type = little_at(file, 32);
-    refuse_if(shape_type != POLYGON, in_header(name, 32, FaultKind::ShapeType))?;
+    refuse_if(
+        shape_type != POLYGON,
+        in_header(name, 32, FaultKind::ShapeType),
+    )?;
     Ok(end)
 }
 

@@ -7,6 +7,8 @@ mod fault;
 mod fields;
 mod header;
 mod index;
+#[cfg(test)]
+mod index_rows;
 mod layer;
 mod limits;
 mod normal;

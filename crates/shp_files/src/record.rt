@@ -12,13 +12,12 @@ ghost use Rattle.shp_files.specs.Reading.{Finds, IsReadAs, AreReadAs, IsDrawnAs}
 
 use crate::fault::{FaultKind, FileFault, FileName, LayerFault};
 use crate::fields::{big_at, double_at, little_at, natural, refuse_if};
+use crate::header::POLYGON;
 use crate::normal::{is_other, kept_once, turn_counterclockwise};
 use geo_exact::{Corner, Corners, RawRing, Unit, read_coord};
 use std::alloc::Allocator;
 
 const NULL_SHAPE: i32 = 0;
-
-const POLYGON: i32 = 5;
 
 /// The bytes of a record before its points.
 const POINTS: usize = 56;

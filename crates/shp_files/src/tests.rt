@@ -11,14 +11,14 @@ use std::io::Read;
 use std::test::Fail;
 
 /// Exchanges the bytes from a place on.
-fn put(file: &mut [u8], at: usize, bytes: &[u8])
+pub fn put(file: &mut [u8], at: usize, bytes: &[u8])
     requires { at + length bytes.now ≤ length file.old }
 {
     file[at..at + bytes.len()].copy_from_slice(bytes);
 }
 
 /// The header of a file of so many words, with an empty box.
-fn put_header(file: &mut [u8], words: u8)
+pub fn put_header(file: &mut [u8], words: u8)
     requires { 100 ≤ length file.old }
 {
     put(file, 0, &[0, 0, 0x27, 0x0a]);
@@ -27,9 +27,11 @@ fn put_header(file: &mut [u8], words: u8)
     put(file, 32, &[5, 0, 0, 0]);
 }
 
-const ZERO: [u8; 8] = [0; 8];
+/// The double 0.
+pub const ZERO: [u8; 8] = [0; 8];
 
-const HUNDRED: [u8; 8] = [0, 0, 0, 0, 0, 0, 0x59, 0x40];
+/// The double 100.
+pub const HUNDRED: [u8; 8] = [0, 0, 0, 0, 0, 0, 0x59, 0x40];
 
 const ONE: [u8; 8] = [0, 0, 0, 0, 0, 0, 0xf0, 0x3f];
 
@@ -46,7 +48,7 @@ fn put_point(file: &mut [u8], at: usize, x: &[u8; 8], y: &[u8; 8])
 }
 
 /// The main file of one square, clockwise from its corner of the least coordinates.
-fn square(low: &[u8; 8], high: &[u8; 8]) -> [u8; 236] {
+pub fn square(low: &[u8; 8], high: &[u8; 8]) -> [u8; 236] {
     let mut file = [0; 236];
     put_header(&mut file, 118);
     for box_at in [36usize, 112] {
@@ -72,7 +74,8 @@ fn square(low: &[u8; 8], high: &[u8; 8]) -> [u8; 236] {
     file
 }
 
-fn main_fault(position: u32, place: u64, kind: FaultKind) -> Option<LayerFault> {
+/// A fault of the main file.
+pub fn main_fault(position: u32, place: u64, kind: FaultKind) -> Option<LayerFault> {
     Some(LayerFault::File(FileFault {
         file: FileName::Main,
         position,
@@ -82,12 +85,12 @@ fn main_fault(position: u32, place: u64, kind: FaultKind) -> Option<LayerFault> 
 }
 
 fn fault_of(alloc: Global, file: &[u8]) -> Option<LayerFault> {
-    read_layer(alloc, file, Unit::Cm).err()
+    read_layer(alloc, file, None, Unit::Cm).err()
 }
 
 /// The numbers and corners of a file's rings are these.
 fn reads_as(alloc: Global, file: &[u8], unit: Unit, number: u32, want: &[Corner]) -> bool {
-    match read_layer(alloc, file, unit) {
+    match read_layer(alloc, file, None, unit) {
         Ok(rings) => match rings.as_slice() {
             [ring] => ring.number == number && ring.corners.as_slice() == want,
             _ => false,
@@ -96,7 +99,8 @@ fn reads_as(alloc: Global, file: &[u8], unit: Unit, number: u32, want: &[Corner]
     }
 }
 
-const SQUARE: [Corner; 4] = [
+/// The square's ring.
+pub const SQUARE: [Corner; 4] = [
     Corner { x: 0, y: 0 },
     Corner { x: 100, y: 0 },
     Corner { x: 100, y: 100 },
@@ -172,7 +176,7 @@ fn keeps_equal_neighbours_once(rt: HostRuntime) {
 }
 
 /// A null shape, and the square behind it.
-fn behind_a_null_shape() -> [u8; 248] {
+pub fn behind_a_null_shape() -> [u8; 248] {
     let square = square(&ZERO, &HUNDRED);
     let mut file = [0; 248];
     put_header(&mut file, 124);
@@ -231,7 +235,7 @@ fn refuses_patches(rt: HostRuntime) {
 fn reads_a_header_alone(rt: HostRuntime) -> Result<(), Fail> {
     let mut header = [0; 100];
     put_header(&mut header, 50);
-    let rings = read_layer(rt.alloc(), &header, Unit::Cm)
+    let rings = read_layer(rt.alloc(), &header, None, Unit::Cm)
         .ok()
         .ok_or("the file is a layer")?;
     assert_eq!(rt; rings.len(), 0);
@@ -244,7 +248,7 @@ fn refuses_for_want_of_memory_alone(rt: HostRuntime) -> Result<(), Fail> {
     let mut refused = 0usize;
     for units in 1..64usize {
         let heap = LocalHeap::new(rt.alloc(), units * 16)?;
-        match read_layer(&heap, &file, Unit::Cm) {
+        match read_layer(&heap, &file, None, Unit::Cm) {
             Ok(rings) => assert_eq!(rt; rings.len(), 1, "in {units} units"),
             Err(fault) => {
                 assert_eq!(rt; fault, LayerFault::NoMemory, "in {units} units");

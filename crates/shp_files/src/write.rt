@@ -4,22 +4,18 @@ ghost use Rattle.std.specs.Prelude.{◌≡◌, ◌≤◌, ◌+◌, ◌*◌, ◌+
 ghost use Rattle.geo_exact.specs.declared.coord.Unit.TheVariants.{Cm};
 ghost use Rattle.geo_exact.specs.declared.corner.Corner.{Corner as CornerValue};
 ghost use Rattle.geo_exact.specs.Area.{area2 as area2_of};
-ghost use Rattle.geo_exact.specs.Rings.{AreApart, turned_round};
+ghost use Rattle.geo_exact.specs.Rings.{turned_round};
 ghost use Rattle.shp_files.specs.LayerFile.{joined, IsLayerFile};
+ghost use Rattle.shp_files.specs.NormalForm.{IsNormal};
 ghost use Rattle.shp_files.specs.Written as written;
 ghost use Rattle.shp_files.specs.Written.{as_written, corner_lists, corners_of, numbered_from, written_main, written_index};
 ghost use Rattle.shp_files.specs.Writing.{MayBeBounds};
 
 use crate::bounds::{Bounds, put_box, with_corners};
+use crate::header::{FILE_CODE, POLYGON, VERSION};
 use crate::put::{put_big, put_little, put_point};
 use geo_exact::{Corner, RawRing, area2};
 use std::alloc::{AllocError, Allocator};
-
-const FILE_CODE: u32 = 9994;
-
-const VERSION: u32 = 1000;
-
-const POLYGON: u32 = 5;
 
 /// How many points a ring is written with: its corners, and the first once more.
 fn point_count(ring: &[Corner]) -> u32
@@ -81,7 +77,7 @@ fn put_content<A: Allocator>(out: &mut Vec<u8, A>, ring: &[Corner]) -> Result<()
     requires { length ring.now ≤ 1000000 }
     ensures { OnOk result (out.new.items ≡ out.old.items ++ written.content ring.now) }
 {
-    put_little(out, POLYGON)?;
+    put_little(out, POLYGON as u32)?;
     put_box(out, with_corners(None, ring))?;
     put_little(out, 1)?;
     put_little(out, point_count(ring))?;
@@ -111,11 +107,11 @@ fn put_header<A: Allocator>(
     ensures { (corners : List CornerValue) → MayBeBounds bounds corners
         → OnOk result (out.new.items ≡ out.old.items ++ written.header file_words corners) }
 {
-    put_big(out, FILE_CODE)?;
+    put_big(out, FILE_CODE as u32)?;
     out.extend_from_slice(&[0u8; 20])?;
     put_big(out, file_words)?;
-    put_little(out, VERSION)?;
-    put_little(out, POLYGON)?;
+    put_little(out, VERSION as u32)?;
+    put_little(out, POLYGON as u32)?;
     put_box(out, bounds)?;
     out.extend_from_slice(&[0u8; 32])
 }
@@ -238,14 +234,16 @@ pub fn write_layer<A: Allocator + Copy>(
     Ok((main, index))
 }
 
-/// The main file that is written is a layer's main file in centimetres, of the same rings, numbered from 1: reading it back
-/// gives the same corner lists. The rings are in normal form, as a [`RawRing`] is by its type.
-#[tactic(auto, using(crate::proofs::WrittenLayer::written_layer))]
+/// The main file that is written, alone or with the index that is written, is a layer's in centimetres, of the same rings,
+/// numbered from 1: reading it back gives the same corner lists. The rings are in normal form, as a [`RawRing`] is by its type.
+#[tactic(auto, using(crate::proofs::WrittenLayer::written_layer, crate::proofs::WrittenLayer::written_with_index))]
 pub fn a_written_file_is_a_layer_file()
-    ensures { (rings : List (List CornerValue))
-        → All (λ ring. (3 ≤ length ring) × (length ring ≤ 4096) × AreApart ring × (pos 0 ≤ℤ area2_of ring)) rings
-        → length rings ≤ 65536 → length (corners_of rings) ≤ 1000000
+    ensures alone { (rings : List (List CornerValue))
+        → All IsNormal rings → length rings ≤ 65536 → length (corners_of rings) ≤ 1000000
         → IsLayerFile (written_main rings) None Cm (numbered_from 1 rings) }
+    ensures with_index { (rings : List (List CornerValue))
+        → All IsNormal rings → length rings ≤ 65536 → length (corners_of rings) ≤ 1000000
+        → IsLayerFile (written_main rings) (Some (written_index rings)) Cm (numbered_from 1 rings) }
 {}
 
 /// A ring whose twice-area is not negative is written so that turning it round again, where its twice-area has become

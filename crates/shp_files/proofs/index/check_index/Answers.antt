@@ -23,7 +23,7 @@ returns-in_err-check_index_record-clause-fault c = λ unit all.
     let apart : c.loop-head.head.start ≢ declared_end c.args.main.now = λ e. c.loop-head-test.true (e ∙ sym c.requires.end) in
     let p = err_from_is_err_and c.from_residual-in_err-check_index_record.result c.from_residual-in_err-check_index_record.ensures.1 in
     let is = fault_at_record c.args.main.now c.args.index.now unit c.loop-head.head.position c.loop-head.head.start c.in_err-check_index_record.field-0.0
-        (c.loop-head.invariant.checked unit all) apart c.in_err-check_index_record.ensures in
+    (c.loop-head.invariant.checked unit all) apart c.in_err-check_index_record.ensures in
     rw p.1 (subst (λ (fault : FileFault). IsIndexFault c.args.main.now c.args.index.now unit fault) (sym p.2) is)
 
 pub next_head-head-requires-clause-few : goal.next_head-head-requires-clause-few
@@ -51,9 +51,9 @@ loop-head-preserved c =
 pub returns-clause-agrees : goal.returns-clause-agrees
 returns-clause-agrees c = λ unit all ok.
     agrees_where c.args.main.now c.args.index.now unit c.loop-head.head.position c.loop-head.head.start c.check_index_end.result (c.loop-head.invariant.checked unit all)
-        (c.loop-head-test.false ∙ c.requires.end) (c.check_index_end.ensures c.args.index.now c.in_ok-index_end.ensures.end) ok
+    (c.loop-head-test.false ∙ c.requires.end) (c.check_index_end.ensures c.args.index.now c.in_ok-index_end.ensures.end) ok
 
 pub returns-clause-fault : goal.returns-clause-fault
 returns-clause-fault c = λ unit all.
     fault_where c.args.main.now c.args.index.now unit c.loop-head.head.position c.loop-head.head.start c.check_index_end.result (c.loop-head.invariant.checked unit all)
-        (c.loop-head-test.false ∙ c.requires.end) (c.check_index_end.ensures c.args.index.now c.in_ok-index_end.ensures.end)
+    (c.loop-head-test.false ∙ c.requires.end) (c.check_index_end.ensures c.args.index.now c.in_ok-index_end.ensures.end)
