@@ -15,6 +15,8 @@ pub mod Complete
 pub mod Indexes
 pub mod Checking
 pub mod Laws
+pub mod Drawn
+pub mod Deciding
 pub mod Answering
 pub mod Rows
 pub mod Turned

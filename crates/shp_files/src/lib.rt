@@ -3,6 +3,7 @@
 #![tactic(auto)]
 
 mod bounds;
+mod decided;
 mod fault;
 mod fields;
 mod header;
@@ -21,6 +22,7 @@ mod write;
 #[cfg(test)]
 mod write_rows;
 
+pub use decided::a_text_is_a_layer_or_has_a_fault;
 pub use fault::{FaultKind, FileFault, FileName, LayerFault};
 pub use layer::{
     a_layer_file_has_no_fault, a_layer_file_has_one_list_of_rings, a_text_has_one_first_fault,
