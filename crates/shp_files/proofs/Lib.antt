@@ -30,3 +30,4 @@ pub mod WrittenFields
 pub mod WrittenIndex
 pub mod WrittenLayer
 mod Within
+mod WrittenRings

@@ -28,8 +28,9 @@ numbers_rise unit number above last (bytes ∷ records) (ring ∷ rings) are low
     elim are [
       | inl null ↦ numbers_rise unit (number + 1) above last records (ring ∷ rings) null.1 (omega (arith, low)) (omega (arith, high))
       | inr polygon ↦ (
-        omega (arith, low, polygon.0), omega (arith, high, polygon.0),
-        numbers_rise unit (number + 1) ring.number last records rings polygon.2 (omega (arith, polygon.0)) (omega (arith, high))
+        omega (arith, low, polygon.0),
+        omega (arith, high, polygon.0),
+        numbers_rise unit (number + 1) ring.number last records rings polygon.2 (omega (arith, polygon.0)) (omega (arith, high)),
       )
     ]
 

@@ -5,7 +5,7 @@ ghost use Rattle.geo_exact.specs.declared.coord.Unit.TheVariants.{Cm};
 ghost use Rattle.geo_exact.specs.declared.corner.Corner.{Corner as CornerValue};
 ghost use Rattle.geo_exact.specs.Area.{area2 as area2_of};
 ghost use Rattle.geo_exact.specs.Rings.{turned_round};
-ghost use Rattle.shp_files.specs.LayerFile.{joined, IsLayerFile};
+ghost use Rattle.shp_files.specs.LayerFile.{joined, rings_of, corner_count, IsLayerFile};
 ghost use Rattle.shp_files.specs.NormalForm.{IsNormal};
 ghost use Rattle.shp_files.specs.Written as written;
 ghost use Rattle.shp_files.specs.Written.{as_written, corner_lists, corners_of, numbered_from, written_main, written_index};
@@ -219,14 +219,18 @@ fn write_index<A: Allocator + Copy>(
 /// # Errors
 ///
 /// `AllocError` where the memory for one of the files is refused.
+#[tactic(auto, using(crate::proofs::WrittenRings::same_count))]
 pub fn write_layer<A: Allocator + Copy>(
     alloc: A,
     rings: &[RawRing<A>],
 ) -> Result<(Vec<u8, A>, Vec<u8, A>), AllocError>
     requires rings { length rings.now ≤ 65536 }
-    requires corners { length (corners_of (corner_lists rings.now)) ≤ 1000000 }
+    requires corners { corner_count (rings_of rings.now) ≤ 1000000 }
     ensures main { IfOk result (λ files. files.0.items ≡ written_main (corner_lists rings.now)) }
     ensures index { IfOk result (λ files. files.1.items ≡ written_index (corner_lists rings.now)) }
+    // Reading the two back gives the same corner lists, numbered from 1.
+    ensures read_back { IfOk result (λ files.
+        IsLayerFile files.0.items (Some files.1.items) Cm (numbered_from 1 (corner_lists rings.now))) }
 {
     let bounds = layer_bounds(rings);
     let main = write_main(alloc, rings, bounds)?;
