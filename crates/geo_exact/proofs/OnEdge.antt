@@ -12,11 +12,36 @@ use Rattle.geo_exact.proofs.Signs.{mul_le, mul_zero, convex}
 use Rattle.geo_exact.proofs.Polynomials.{var, add, mul, neg, same_by}
 use Rattle.geo_exact.proofs.TurnLaws.{turn_at_expr, turn_at_back}
 
+-- ---- the lesser and the greater of two numbers
+pub le_of_lt : (u v : ℤ) → u <ℤ v → u ≤ℤ v
+le_of_lt u v h = omega (arith, ints)
+
+pub min_left : (u v : ℤ) → u ≤ℤ v → int_min u v ≡ u
+min_left u v h = omega (arith, ints, clamps)
+
+pub min_right : (u v : ℤ) → v ≤ℤ u → int_min u v ≡ v
+min_right u v h = omega (arith, ints, clamps)
+
+pub max_left : (u v : ℤ) → v ≤ℤ u → int_max u v ≡ u
+max_left u v h = omega (arith, ints, clamps)
+
+pub max_right : (u v : ℤ) → u ≤ℤ v → int_max u v ≡ v
+max_right u v h = omega (arith, ints, clamps)
+
+pub min_swap : (u v : ℤ) → int_min u v ≡ int_min v u
+min_swap u v = omega (arith, ints, clamps)
+
+pub max_swap : (u v : ℤ) → int_max u v ≡ int_max v u
+max_swap u v = omega (arith, ints, clamps)
+
+-- ---- points between the ends of an edge
 -- a weighed mean of u and v is x: x is neither below both nor above both
-pub mean_low : (k l u v x : ℤ) → pos 0 ≤ℤ k → pos 0 ≤ℤ l → pos 0 <ℤ (k +ℤ l) → k *ℤ (u -ℤ x) +ℤ l *ℤ (v -ℤ x) ≡ pos 0 → x <ℤ u → x <ℤ v → ⊥
+pub mean_low : (k l u v x : ℤ) → pos 0 ≤ℤ k → pos 0 ≤ℤ l → pos 0 <ℤ (k +ℤ l) → k *ℤ (u -ℤ x) +ℤ l *ℤ (v -ℤ x) ≡ pos 0
+    → x <ℤ u → x <ℤ v → ⊥
 mean_low k l u v x hk hl h e p q = omega (arith, ints, e, convex k l (u -ℤ x) (v -ℤ x) hk hl h (omega (arith, ints)) (omega (arith, ints)))
 
-pub mean_high : (k l u v x : ℤ) → pos 0 ≤ℤ k → pos 0 ≤ℤ l → pos 0 <ℤ (k +ℤ l) → k *ℤ (u -ℤ x) +ℤ l *ℤ (v -ℤ x) ≡ pos 0 → u <ℤ x → v <ℤ x → ⊥
+pub mean_high : (k l u v x : ℤ) → pos 0 ≤ℤ k → pos 0 ≤ℤ l → pos 0 <ℤ (k +ℤ l) → k *ℤ (u -ℤ x) +ℤ l *ℤ (v -ℤ x) ≡ pos 0
+    → u <ℤ x → v <ℤ x → ⊥
 mean_high k l u v x hk hl h e p q =
     let i : pos 0 <ℤ (k *ℤ (x -ℤ u) +ℤ l *ℤ (x -ℤ v)) = convex k l (x -ℤ u) (x -ℤ v) hk hl h (omega (arith, ints)) (omega (arith, ints)) in
     omega (arith, ints, simp expand at e, simp expand at i)
@@ -34,12 +59,6 @@ max_reaches u v d x h never = by_lt_z v u
     rw (sym e) (by_lt_z (u *ℤ d) x (λ q. absurd (never q (omega (arith, ints, mul_le v u d (omega (arith, ints)) (omega (arith, ints)))))) (λ q. q)))
     (λ p. let e : false ≡ lt_z v u = omega (arith, ints) in
     rw (sym e) (by_lt_z (v *ℤ d) x (λ q. absurd (never (omega (arith, ints, mul_le u v d (omega (arith, ints)) p)) q)) (λ q. q)))
-
-min_swap : (u v : ℤ) → int_min u v ≡ int_min v u
-min_swap u v = omega (arith, ints, clamps)
-
-max_swap : (u v : ℤ) → int_max u v ≡ int_max v u
-max_swap u v = omega (arith, ints, clamps)
 
 -- an edge has no direction for the points on it
 pub on_edge_back : (a b : Corner) (p : Point) → IsOnEdge p a b → IsOnEdge p b a
@@ -76,7 +95,7 @@ on_edge_between a b p e low high =
       from_x = min_reaches a.x b.x p.d p.x p.d_positive (mean_low (b.y *ℤ p.d -ℤ p.y) (p.y -ℤ a.y *ℤ p.d) (a.x *ℤ p.d) (b.x *ℤ p.d) p.x k l s mean);
       to_x = max_reaches a.x b.x p.d p.x p.d_positive (mean_high (b.y *ℤ p.d -ℤ p.y) (p.y -ℤ a.y *ℤ p.d) (a.x *ℤ p.d) (b.x *ℤ p.d) p.x k l s mean);
       from_y = min_reaches a.y b.y p.d p.y p.d_positive (λ i j. crossed_over (a.y *ℤ p.d) p.y low i);
-      to_y = max_reaches a.y b.y p.d p.y p.d_positive (λ i j. crossed_over p.y (b.y *ℤ p.d) (weaker p.y (b.y *ℤ p.d) high) j);
+      to_y = max_reaches a.y b.y p.d p.y p.d_positive (λ i j. crossed_over p.y (b.y *ℤ p.d) (le_of_lt p.y (b.y *ℤ p.d) high) j);
     }
   where
     apart : (u v : ℤ) → u <ℤ v → pos 0 ≤ℤ (v -ℤ u)
@@ -90,6 +109,3 @@ on_edge_between a b p e low high =
 
     crossed_over : (u v : ℤ) → u ≤ℤ v → v <ℤ u → ⊥
     crossed_over u v h k = omega (arith, ints)
-
-    weaker : (u v : ℤ) → u <ℤ v → u ≤ℤ v
-    weaker u v h = omega (arith, ints)

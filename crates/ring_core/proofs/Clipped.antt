@@ -29,23 +29,28 @@ triangles_sum-push : (measure : Edge → ℤ) (ts : List Tri) (t : Tri)
 triangles_sum-push measure [] t = omega (arith, ints)
 triangles_sum-push measure (u ∷ ts) t = omega (arith, ints, triangles_sum-push measure ts t)
 
+-- the edges at corner k measure what the edge that passes it by does
+abbrev AddsUpAt : (Edge → ℤ) → List Corner → ℕ → Type 0
+AddsUpAt measure ring k =
+    measure (edge_of (previous ring k) (corner_at ring k)) +ℤ measure (edge_of (corner_at ring k) (next ring k))
+    ≡ measure (edge_of (previous ring k) (next ring k))
+
 -- the measure changes its sign with the edge, and adds up at a flat corner
 module _ (measure : Edge → ℤ) (back : (a b : Corner) → measure (edge_of b a) ≡ neg_ℤ (measure (edge_of a b))) where
-  flat_out : (ring : List Corner) (k : ℕ) → 2 < length ring → k < length ring
-      → measure (edge_of (previous ring k) (corner_at ring k)) +ℤ measure (edge_of (corner_at ring k) (next ring k)) ≡ measure (edge_of (previous ring k) (next ring k))
+  flat_out : (ring : List Corner) (k : ℕ) → 2 < length ring → k < length ring → AddsUpAt measure ring k
       → sum_over measure (edges ring) ≡ sum_over measure (edges (remove ring k))
   flat_out ring k l h e = omega (arith, ints, ring_cut measure ring k l h, e)
 
   triangle_out : (ring : List Corner) (k : ℕ) → 2 < length ring → k < length ring
-      → sum_over measure (edges ring) ≡ sum_over measure (edges (remove ring k)) +ℤ sum_over measure (edges (previous ring k ∷ corner_at ring k ∷ next ring k ∷ []))
+      → sum_over measure (edges ring)
+      ≡ sum_over measure (edges (remove ring k)) +ℤ sum_over measure (edges (previous ring k ∷ corner_at ring k ∷ next ring k ∷ []))
   triangle_out ring k l h = omega (arith, ints, ring_cut measure ring k l h, back (previous ring k) (next ring k))
 
   ear_out : (ring : List Corner) (k : ℕ) (t : Tri) → 2 < length ring → k < length ring → IsTriangleAt ring k t
       → sum_over measure (edges ring) ≡ sum_over measure (edges (remove ring k)) +ℤ sum_over measure (edges (corners_of t))
   ear_out ring k t l h s = rw (s.a, s.b, s.c) (triangle_out ring k l h)
 
-  module _ (cut : (ring : List Corner) (k : ℕ) → IsFlat ring k
-      → measure (edge_of (previous ring k) (corner_at ring k)) +ℤ measure (edge_of (corner_at ring k) (next ring k)) ≡ measure (edge_of (previous ring k) (next ring k))) where
+  module _ (cut : (ring : List Corner) (k : ℕ) → IsFlat ring k → AddsUpAt measure ring k) where
     clips_sum : (ring : List Corner) (ts : List Tri) (rest : List Corner) → Clips ring ts rest
         → sum_over measure (edges ring) ≡ triangles_sum measure ts +ℤ sum_over measure (edges rest)
     clips_sum ring _ _ untouched = omega (arith, ints)

@@ -12,8 +12,9 @@ use Rattle.geo_exact.proofs.Signs.{mul_not_neg, mul_neg, mul_not_pos, mul_sinkin
 use Rattle.geo_exact.proofs.Polynomials.{Expr, var, lit, add, mul, neg, same_by}
 use Rattle.geo_exact.proofs.TurnLaws.{turn_at_expr, turn_expr, turn_swap}
 use Rattle.geo_exact.proofs.CornerPoints.{on_edge_from_box}
+use Rattle.geo_exact.proofs.OnEdge.{le_of_lt, min_left, min_right, max_left, max_right, on_edge_back}
 use Rattle.ring_core.specs.Simple.{HaveCommonPoint}
-use Rattle.ring_core.proofs.EdgePoints.{on_edge_back, on_edge_start, AreOneSide, RangesOverlap}
+use Rattle.ring_core.proofs.EdgePoints.{on_edge_start, AreOneSide, RangesOverlap}
 
 -- ---- the point that divides the edge from a to b as s to -t
 abbrev divided : (a b : Corner) (s t : ℤ) → pos 0 <ℤ (s -ℤ t) → Point
@@ -34,27 +35,12 @@ mean_high_last u v s t o k = simp expand (omega (arith, ints, simp expand at (mu
 abbrev InRange : ℤ → ℤ → ℤ → ℤ → Type 0
 InRange u v d w = ((int_min u v *ℤ d) ≤ℤ w) × (w ≤ℤ (int_max u v *ℤ d))
 
-least_left : (u v : ℤ) → u ≤ℤ v → int_min u v ≡ u
-least_left u v h = omega (arith, ints, clamps)
-
-least_right : (u v : ℤ) → v ≤ℤ u → int_min u v ≡ v
-least_right u v h = omega (arith, ints, clamps)
-
-greatest_left : (u v : ℤ) → v ≤ℤ u → int_max u v ≡ u
-greatest_left u v h = omega (arith, ints, clamps)
-
-greatest_right : (u v : ℤ) → u ≤ℤ v → int_max u v ≡ v
-greatest_right u v h = omega (arith, ints, clamps)
-
-le_of_lt : (u v : ℤ) → u <ℤ v → u ≤ℤ v
-le_of_lt u v h = omega (arith, ints)
-
 divided_in_range : (u v s t : ℤ) → pos 0 ≤ℤ s → t ≤ℤ pos 0 → InRange u v (s -ℤ t) (v *ℤ s -ℤ u *ℤ t)
 divided_in_range u v s t h k =
     by_lt_z v u
     (λ o. let q : v ≤ℤ u = le_of_lt v u o in
-    (rw (least_right u v q) (mean_low u v s t q k), rw (greatest_left u v q) (mean_high u v s t q h)))
-    (λ q. (rw (least_left u v q) (mean_low_first u v s t q h), rw (greatest_right u v q) (mean_high_last u v s t q k)))
+    (rw (min_right u v q) (mean_low u v s t q k), rw (max_left u v q) (mean_high u v s t q h)))
+    (λ q. (rw (min_left u v q) (mean_low_first u v s t q h), rw (max_right u v q) (mean_high_last u v s t q k)))
 
 divided_on_line : (a b : Corner) (s t : ℤ) (h : pos 0 <ℤ (s -ℤ t)) → turn_at a b (divided a b s t h) ≡ pos 0
 divided_on_line a b s t h =
@@ -98,7 +84,9 @@ module _ (a b c d : Corner) where
   on_other_line h =
       same_by (a.x ∷ a.y ∷ b.x ∷ b.y ∷ c.x ∷ c.y ∷ d.x ∷ d.y ∷ [])
       (turn_at_expr (var 4) (var 5) (var 6) (var 7)
-      (add (mul (var 2) along_cd_a) (neg (mul (var 0) along_cd_b))) (add (mul (var 3) along_cd_a) (neg (mul (var 1) along_cd_b))) (add along_cd_a (neg along_cd_b)))
+      (add (mul (var 2) along_cd_a) (neg (mul (var 0) along_cd_b)))
+      (add (mul (var 3) along_cd_a) (neg (mul (var 1) along_cd_b)))
+      (add along_cd_a (neg along_cd_b)))
       (lit (pos 0))
       refl
 
@@ -112,15 +100,17 @@ positive : (t : ℤ) → pos 0 ≤ℤ t → neg_ℤ t ≤ℤ pos 0
 positive t h = omega (arith, ints)
 
 -- edges that cross or touch on lines that aren't parallel
-crossed : (a b c d : Corner) → pos 0 <ℤ (turn c d a -ℤ turn c d b) → pos 0 ≤ℤ turn c d a → turn c d b ≤ℤ pos 0 → turn a b c ≤ℤ pos 0 → pos 0 ≤ℤ turn a b d
-    → HaveCommonPoint a b c d
+crossed : (a b c d : Corner) → pos 0 <ℤ (turn c d a -ℤ turn c d b) → pos 0 ≤ℤ turn c d a → turn c d b ≤ℤ pos 0
+    → turn a b c ≤ℤ pos 0 → pos 0 ≤ℤ turn a b d → HaveCommonPoint a b c d
 crossed a b c d h s t u v =
     let x = divided_in_range a.x b.x (turn c d a) (turn c d b) s t in
     let y = divided_in_range a.y b.y (turn c d a) (turn c d b) s t in
+    let between : (e f : ℤ) → InRange e f (neg_ℤ (turn a b c) -ℤ neg_ℤ (turn a b d)) (f *ℤ neg_ℤ (turn a b c) -ℤ e *ℤ neg_ℤ (turn a b d)) =
+    λ e f. divided_in_range e f (neg_ℤ (turn a b c)) (neg_ℤ (turn a b d)) (negative (turn a b c) u) (positive (turn a b d) v) in
     let z : InRange c.x d.x (turn c d a -ℤ turn c d b) (b.x *ℤ turn c d a -ℤ a.x *ℤ turn c d b) =
-    carried c.x d.x _ _ _ _ (same_d a b c d) (same_x a b c d) (divided_in_range c.x d.x (neg_ℤ (turn a b c)) (neg_ℤ (turn a b d)) (negative (turn a b c) u) (positive (turn a b d) v)) in
+    carried c.x d.x _ _ _ _ (same_d a b c d) (same_x a b c d) (between c.x d.x) in
     let w : InRange c.y d.y (turn c d a -ℤ turn c d b) (b.y *ℤ turn c d a -ℤ a.y *ℤ turn c d b) =
-    carried c.y d.y _ _ _ _ (same_d a b c d) (same_y a b c d) (divided_in_range c.y d.y (neg_ℤ (turn a b c)) (neg_ℤ (turn a b d)) (negative (turn a b c) u) (positive (turn a b d) v)) in (
+    carried c.y d.y _ _ _ _ (same_d a b c d) (same_y a b c d) (between c.y d.y) in (
       divided a b (turn c d a) (turn c d b) h,
       record { on_line = divided_on_line a b (turn c d a) (turn c d b) h; from_x = x.0; to_x = x.1; from_y = y.0; to_y = y.1 },
       record { on_line = on_other_line a b c d h; from_x = z.0; to_x = z.1; from_y = w.0; to_y = w.1 },
@@ -141,14 +131,14 @@ share : (k l m n : ℤ) → pos 0 <ℤ k → pos 0 ≤ℤ l → l ≤ℤ k → k
 share k l m n h p q e =
     let whole : m *ℤ (k -ℤ l) ≡ k *ℤ (m -ℤ n) = omega (arith, ints, e, times-sub m k l, times-sub k m n, times_swap k m) in
     by_lt_z m (pos 0)
-    (λ o. inr (
-      (let i : pos 0 ≤ℤ (n -ℤ m) = not_neg_of_mul k (n -ℤ m) h (omega (arith, ints, whole, times-sub k n m, times-sub k m n, mul_sinking m (k -ℤ l) (omega (arith, ints)) (omega (arith, ints)))) in omega (arith, ints)),
-      (let i : pos 0 ≤ℤ (pos 0 -ℤ n) = not_neg_of_mul k (pos 0 -ℤ n) h (omega (arith, ints, e, times-sub k (pos 0) n, mul_sinking m l (omega (arith, ints)) p)) in omega (arith, ints)),
-    ))
-    (λ o. inl (
-      not_neg_of_mul k n h (omega (arith, ints, e, mul_not_neg m l o p)),
-      (let i : pos 0 ≤ℤ (m -ℤ n) = not_neg_of_mul k (m -ℤ n) h (omega (arith, ints, whole, mul_not_neg m (k -ℤ l) o (omega (arith, ints)))) in omega (arith, ints)),
-    ))
+    (λ o. let m_low : m ≤ℤ pos 0 = le_of_lt m (pos 0) o in
+    let rest : (m *ℤ (k -ℤ l)) ≤ℤ pos 0 = mul_sinking m (k -ℤ l) m_low (omega (arith, ints)) in
+    let i : pos 0 ≤ℤ (n -ℤ m) = not_neg_of_mul k (n -ℤ m) h (omega (arith, ints, whole, times-sub k n m, times-sub k m n, rest)) in
+    let j : pos 0 ≤ℤ (pos 0 -ℤ n) = not_neg_of_mul k (pos 0 -ℤ n) h (omega (arith, ints, e, times-sub k (pos 0) n, mul_sinking m l m_low p)) in
+    inr (omega (arith, ints), omega (arith, ints)))
+    (λ o. let rest : pos 0 ≤ℤ (m *ℤ (k -ℤ l)) = mul_not_neg m (k -ℤ l) o (omega (arith, ints)) in
+    let i : pos 0 ≤ℤ (m -ℤ n) = not_neg_of_mul k (m -ℤ n) h (omega (arith, ints, whole, rest)) in
+    inl (not_neg_of_mul k n h (omega (arith, ints, e, mul_not_neg m l o p)), omega (arith, ints)))
 
 spans : (u v w : ℤ) → ((pos 0 ≤ℤ (w -ℤ u)) × ((w -ℤ u) ≤ℤ (v -ℤ u))) ⊎ (((v -ℤ u) ≤ℤ (w -ℤ u)) × ((w -ℤ u) ≤ℤ pos 0))
     → (int_min u v ≤ℤ w) × (w ≤ℤ int_max u v)
@@ -182,10 +172,10 @@ pub swap_edges : (a b c d : Corner) → HaveCommonPoint c d a b → HaveCommonPo
 swap_edges a b c d h = (h.0, h.2, h.1)
 
 pub turn_first : (a b c d : Corner) → HaveCommonPoint b a c d → HaveCommonPoint a b c d
-turn_first a b c d h = (h.0, on_edge_back h.0 b a h.1, h.2)
+turn_first a b c d h = (h.0, on_edge_back b a h.0 h.1, h.2)
 
 pub turn_second : (a b c d : Corner) → HaveCommonPoint a b d c → HaveCommonPoint a b c d
-turn_second a b c d h = (h.0, h.1, on_edge_back h.0 d c h.2)
+turn_second a b c d h = (h.0, h.1, on_edge_back d c h.0 h.2)
 
 -- all four corners are on one line
 pub record AreOnOneLine (a b c d : Corner) : Type 0 where
@@ -270,12 +260,18 @@ on_one_line a b c d h r s =
     by_lt_z a.x b.x (λ o. along_x a b c d h o r)
     (λ k. by_lt_z b.x a.x (λ o. turn_first a b c d (along_x b a c d (line_turn a b c d h) o (overlap_turn a.x b.x c.x d.x r)))
     (λ l. by_lt_z c.x d.x (λ o. swap_edges a b c d (along_x c d a b (line_swap a b c d h) o (overlap_swap a.x b.x c.x d.x r)))
-    (λ m. by_lt_z d.x c.x (λ o. swap_edges a b c d (turn_first c d a b (along_x d c a b (line_turn c d a b (line_swap a b c d h)) o (overlap_turn c.x d.x a.x b.x (overlap_swap a.x b.x c.x d.x r)))))
+    (λ m. by_lt_z d.x c.x (λ o. second_turned (along_x d c a b turned o (overlap_turn c.x d.x a.x b.x (overlap_swap a.x b.x c.x d.x r))))
     (λ n. by_lt_z a.y b.y (λ o. along_y a b c d h o s)
     (λ k'. by_lt_z b.y a.y (λ o. turn_first a b c d (along_y b a c d (line_turn a b c d h) o (overlap_turn a.y b.y c.y d.y s)))
     (λ l'. by_lt_z c.y d.y (λ o. swap_edges a b c d (along_y c d a b (line_swap a b c d h) o (overlap_swap a.y b.y c.y d.y s)))
-    (λ m'. by_lt_z d.y c.y (λ o. swap_edges a b c d (turn_first c d a b (along_y d c a b (line_turn c d a b (line_swap a b c d h)) o (overlap_turn c.y d.y a.y b.y (overlap_swap a.y b.y c.y d.y s)))))
+    (λ m'. by_lt_z d.y c.y (λ o. second_turned (along_y d c a b turned o (overlap_turn c.y d.y a.y b.y (overlap_swap a.y b.y c.y d.y s))))
     (λ n'. single a b c d h r s k l m n k' l' m' n'))))))))
+  where
+    turned : AreOnOneLine d c a b
+    turned = line_turn c d a b (line_swap a b c d h)
+
+    second_turned : HaveCommonPoint d c a b → HaveCommonPoint a b c d
+    second_turned g = swap_edges a b c d (turn_first c d a b g)
 
 -- ---- the three cases together
 -- s and t are not both above 0, nor both below it, and s - t is above it
@@ -285,7 +281,8 @@ signs s t up down h = (
   by_lt_z (pos 0) t (λ q. absurd (up ((let i : pos 0 <ℤ s = omega (arith, ints) in i), q))) (λ q. q),
 )
 
-both_zero : (s t : ℤ) → ((pos 0 <ℤ s) × (pos 0 <ℤ t) → ⊥) → ((s <ℤ pos 0) × (t <ℤ pos 0) → ⊥) → (s -ℤ t) ≤ℤ pos 0 → pos 0 ≤ℤ (s -ℤ t) → (s ≡ pos 0) × (t ≡ pos 0)
+both_zero : (s t : ℤ) → ((pos 0 <ℤ s) × (pos 0 <ℤ t) → ⊥) → ((s <ℤ pos 0) × (t <ℤ pos 0) → ⊥)
+    → (s -ℤ t) ≤ℤ pos 0 → pos 0 ≤ℤ (s -ℤ t) → (s ≡ pos 0) × (t ≡ pos 0)
 both_zero s t up down h k =
     by_lt_z (pos 0) s (λ q. absurd (up (q, (let i : pos 0 <ℤ t = omega (arith, ints) in i))))
     (λ p. by_lt_z s (pos 0) (λ q. absurd (down (q, (let i : t <ℤ pos 0 = omega (arith, ints) in i)))) (λ q. (omega (arith, ints), omega (arith, ints))))
@@ -311,14 +308,19 @@ pub have_common_point : (a b c d : Corner) → RangesOverlap a.x b.x c.x d.x →
 have_common_point a b c d r s off_ab off_cd =
     by_lt_z (pos 0) (turn c d a -ℤ turn c d b)
     (λ h. let ends = signs (turn c d a) (turn c d b) (λ q. off_cd (inl q)) (λ q. off_cd (inr q)) h in
-    let other = signs (turn a b d) (turn a b c) (λ q. off_ab (inl (q.1, q.0))) (λ q. off_ab (inr (q.1, q.0))) (falls (turn a b c) (turn a b d) (turn c d a -ℤ turn c d b) (same_d a b c d) h) in
+    let fall = falls (turn a b c) (turn a b d) (turn c d a -ℤ turn c d b) (same_d a b c d) h in
+    let other = signs (turn a b d) (turn a b c) (λ q. off_ab (inl (q.1, q.0))) (λ q. off_ab (inr (q.1, q.0))) fall in
     crossed a b c d h ends.0 ends.1 other.1 other.0)
     (λ k. by_lt_z (turn c d a -ℤ turn c d b) (pos 0)
     (λ h. let g : pos 0 <ℤ (turn c d b -ℤ turn c d a) = below (turn c d a) (turn c d b) h in
     let ends = signs (turn c d b) (turn c d a) (λ q. off_cd (inl (q.1, q.0))) (λ q. off_cd (inr (q.1, q.0))) g in
-    let other = signs (turn a b c) (turn a b d) (λ q. off_ab (inl q)) (λ q. off_ab (inr q)) (rises (turn a b c) (turn a b d) (turn c d a -ℤ turn c d b) (same_d a b c d) h) in
-    turn_first a b c d (crossed b a c d g ends.0 ends.1 (rw (turn_swap a b c) (positive (turn a b c) other.0)) (rw (turn_swap a b d) (negative (turn a b d) other.1))))
+    let rise = rises (turn a b c) (turn a b d) (turn c d a -ℤ turn c d b) (same_d a b c d) h in
+    let other = signs (turn a b c) (turn a b d) (λ q. off_ab (inl q)) (λ q. off_ab (inr q)) rise in
+    let c_low : turn b a c ≤ℤ pos 0 = rw (turn_swap a b c) (positive (turn a b c) other.0) in
+    let d_high : pos 0 ≤ℤ turn b a d = rw (turn_swap a b d) (negative (turn a b d) other.1) in
+    turn_first a b c d (crossed b a c d g ends.0 ends.1 c_low d_high))
     (λ h. let cd = both_zero (turn c d a) (turn c d b) (λ q. off_cd (inl q)) (λ q. off_cd (inr q)) k h in
-    let ab = both_zero (turn a b c) (turn a b d) (λ q. off_ab (inl q)) (λ q. off_ab (inr q))
-    (flat_high (turn a b c) (turn a b d) (turn c d a -ℤ turn c d b) (same_d a b c d) h) (flat_low (turn a b c) (turn a b d) (turn c d a -ℤ turn c d b) (same_d a b c d) k) in
+    let high = flat_high (turn a b c) (turn a b d) (turn c d a -ℤ turn c d b) (same_d a b c d) h in
+    let low = flat_low (turn a b c) (turn a b d) (turn c d a -ℤ turn c d b) (same_d a b c d) k in
+    let ab = both_zero (turn a b c) (turn a b d) (λ q. off_ab (inl q)) (λ q. off_ab (inr q)) high low in
     on_one_line a b c d (record { ab_c = ab.0; ab_d = ab.1; cd_a = cd.0; cd_b = cd.1 }) r s))

@@ -4,13 +4,13 @@ use Rattle.std.proofs.lemmas.List.{get_or_default, get_or_past}
 use Rattle.std.proofs.lemmas.Bool.{cases_lt}
 use Rattle.std.specs.List.{remove}
 use Rattle.std.proofs.lemmas.Int.{ints}
-use Rattle.std.proofs.lemmas.Bool.Decides.{nat_tests}
 use lib.IntN.{ℤ, ◌+ℤ◌}
 use Rattle.geo_exact.specs.declared.corner.Corner.{Corner}
 use Rattle.geo_exact.specs.Rings.{Edge, path, edges, sum_over}
 use Rattle.geo_exact.proofs.EdgeSums.{edge_of}
-use Rattle.ring_core.specs.Places.{origin, corner_at, after, before}
+use Rattle.ring_core.specs.Places.{origin, corner_at}
 use Rattle.ring_core.specs.Clipping.{previous, next}
+use Rattle.ring_core.proofs.RoundNumbers.{after_inner, after_end, before_first, before_inner}
 
 -- corner k of a path taken out; past the path comes its end
 path_cut : (measure : Edge → ℤ) (from to : Corner) (xs : List Corner) (k : ℕ) → k < length xs
@@ -28,18 +28,6 @@ path_end : (measure : Edge → ℤ) (from s t : Corner) (xs : List Corner)
     ≡ sum_over measure (path from xs t) +ℤ measure (edge_of (get_or (from ∷ xs) (length xs) origin) s)
 path_end measure from s t [] = omega (arith, ints)
 path_end measure from s t (x ∷ xs) = omega (arith, ints, path_end measure x s t xs)
-
-pub after_inner : (n i : ℕ) → suc i < n → after n i ≡ suc i
-after_inner n i h = grind (arith, nat_tests)
-
-pub after_end : (n i : ℕ) → n ≡ suc i → after n i ≡ 0
-after_end n i h = grind (arith, nat_tests)
-
-pub before_first : (n i : ℕ) → n ≡ suc i → before n 0 ≡ i
-before_first n i h = omega arith
-
-pub before_inner : (n i : ℕ) → before n (suc i) ≡ i
-before_inner n i = grind (arith, nat_tests)
 
 -- the corner after one that isn't the first
 next_is : (first : Corner) (rest : List Corner) (k : ℕ) → k < length rest → next (first ∷ rest) (suc k) ≡ get_or rest (suc k) first

@@ -1,6 +1,6 @@
 -- When the path from a over b to c doubles back at b: then one of its ends lies on the other edge.
 use Rattle.std.proofs.Common.{◌≡◌, ◌⊎◌, ◌∙◌, ap, arith, inl, inr, [], ◌∷◌, refl}
-use Rattle.std.proofs.lemmas.Int.{ints, by_lt_z, clamps}
+use Rattle.std.proofs.lemmas.Int.{ints, by_lt_z}
 use Rattle.std.specs.Int.{int_min, int_max}
 use lib.IntN.{ℤ, pos, ◌-ℤ◌, ◌*ℤ◌, neg_ℤ}
 use lib.Signed.{◌<ℤ◌, ◌≤ℤ◌}
@@ -8,11 +8,12 @@ use Rattle.geo_exact.specs.declared.corner.Corner.{Corner}
 use Rattle.geo_exact.specs.Point.{Point, corner_point}
 use Rattle.geo_exact.specs.Turn.{turn, turn_at, IsOnEdge}
 use Rattle.geo_exact.proofs.Differences.{expand}
-use Rattle.geo_exact.proofs.Signs.{mul_pos, mul_neg}
+use Rattle.geo_exact.proofs.Signs.{zero_factor}
 use Rattle.geo_exact.proofs.Polynomials.{var, add, mul, neg, same_by}
 use Rattle.geo_exact.proofs.TurnLaws.{turn_at_expr, turn_expr, turn_cycle, turn_swap}
+use Rattle.geo_exact.proofs.OnEdge.{le_of_lt, min_left, min_swap, max_left, max_swap, on_edge_back}
 use Rattle.ring_core.specs.Simple.{IsPlaceOf, DoublesBack}
-use Rattle.ring_core.proofs.EdgePoints.{on_edge_back, on_edge_start, on_edge_end}
+use Rattle.ring_core.proofs.EdgePoints.{on_edge_start, on_edge_end}
 use Rattle.ring_core.proofs.CommonPoints.{on_edge_by_x, on_edge_by_y}
 
 -- one of the ends lies on the other edge, and not at b
@@ -23,29 +24,14 @@ EndDoublesBack a b c =
 pub doubles_back_by_end : (a b c : Corner) → EndDoublesBack a b c → DoublesBack a b c
 doubles_back_by_end a b c h = elim h [
   | inl q ↦ (corner_point c, q.0, on_edge_end b c, q.1)
-  | inr q ↦ (corner_point a, on_edge_start a b, on_edge_back (corner_point a) c b q.0, q.1)
+  | inr q ↦ (corner_point a, on_edge_start a b, on_edge_back c b (corner_point a) q.0, q.1)
 ]
-
-le_of_lt : (u v : ℤ) → u <ℤ v → u ≤ℤ v
-le_of_lt u v h = omega (arith, ints)
 
 apart_above : (u v : ℤ) → u <ℤ v → v ≡ u *ℤ pos 1 → ⊥
 apart_above u v h e = omega (arith, ints)
 
 apart_below : (u v : ℤ) → v <ℤ u → v ≡ u *ℤ pos 1 → ⊥
 apart_below u v h e = omega (arith, ints)
-
-max_left : (u v : ℤ) → v ≤ℤ u → int_max u v ≡ u
-max_left u v h = omega (arith, ints, clamps)
-
-min_left : (u v : ℤ) → u ≤ℤ v → int_min u v ≡ u
-min_left u v h = omega (arith, ints, clamps)
-
-max_swap : (u v : ℤ) → int_max u v ≡ int_max v u
-max_swap u v = omega (arith, ints, clamps)
-
-min_swap : (u v : ℤ) → int_min u v ≡ int_min v u
-min_swap u v = omega (arith, ints, clamps)
 
 -- an edge from u that reaches above u ends above it
 ends_above : (u v d w : ℤ) → (u *ℤ d) <ℤ w → w ≤ℤ (int_max u v *ℤ d) → u <ℤ v
@@ -75,15 +61,9 @@ line_y a b c p =
 vanishes : (l m s t z : ℤ) → z ≡ l *ℤ s -ℤ m *ℤ t → s ≡ pos 0 → t ≡ pos 0 → z ≡ pos 0
 vanishes l m s t z e h k = e ∙ rw (h, k) (omega (arith, ints))
 
--- 0 by a factor above 0
-zero_of_mul : (k t : ℤ) → pos 0 <ℤ k → k *ℤ t ≡ pos 0 → t ≡ pos 0
-zero_of_mul k t h e =
-    by_lt_z t (pos 0) (λ q. absurd (omega (arith, ints, mul_neg k t h q)))
-    (λ q. by_lt_z (pos 0) t (λ r. absurd (omega (arith, ints, mul_pos k t h r))) (λ r. omega (arith, ints)))
-
--- and by one below
-zero_of_neg_mul : (k t : ℤ) → k <ℤ pos 0 → k *ℤ t ≡ pos 0 → t ≡ pos 0
-zero_of_neg_mul k t h e = zero_of_mul (neg_ℤ k) t (omega (arith, ints)) (simp expand (ap neg_ℤ e))
+-- a negative factor of 0
+zero_negative_factor : (k t : ℤ) → k <ℤ pos 0 → k *ℤ t ≡ pos 0 → t ≡ pos 0
+zero_negative_factor k t h e = zero_factor (neg_ℤ k) t (omega (arith, ints)) (simp expand (ap neg_ℤ e))
 
 turn_end : (a b c : Corner) → turn a b c ≡ pos 0 → turn b c a ≡ pos 0
 turn_end a b c e = turn_cycle a b c ∙ e
@@ -99,18 +79,20 @@ above_x a b c p h k o =
     let first : b.x <ℤ a.x = ends_above b.x a.x p.d p.x o (rw (max_swap b.x a.x) h.to_x) in
     let second : b.x <ℤ c.x = ends_above b.x c.x p.d p.x o k.to_x in
     let line : turn a b c ≡ pos 0 =
-    zero_of_mul (p.x -ℤ b.x *ℤ p.d) (turn a b c) (omega (arith, ints))
+    zero_factor (p.x -ℤ b.x *ℤ p.d) (turn a b c) (omega (arith, ints))
     (vanishes (c.x -ℤ b.x) (b.x -ℤ a.x) (turn_at a b p) (turn_at b c p) _ (line_x a b c p) h.on_line k.on_line) in
     by_lt_z a.x c.x
-    (λ q. inr (on_edge_back (corner_point a) b c (on_edge_by_x b c a second (le_of_lt b.x a.x first) (le_of_lt a.x c.x q) (turn_end a b c line)), λ r. apart_above b.x a.x first r.same_x))
-    (λ q. inl (on_edge_back (corner_point c) b a (on_edge_by_x b a c first (le_of_lt b.x c.x second) q (turn_back a b c line)), λ r. apart_above b.x c.x second r.same_x))
+    (λ q. let on : IsOnEdge (corner_point a) b c = on_edge_by_x b c a second (le_of_lt b.x a.x first) (le_of_lt a.x c.x q) (turn_end a b c line) in
+    inr (on_edge_back b c (corner_point a) on, λ r. apart_above b.x a.x first r.same_x))
+    (λ q. let on : IsOnEdge (corner_point c) b a = on_edge_by_x b a c first (le_of_lt b.x c.x second) q (turn_back a b c line) in
+    inl (on_edge_back b a (corner_point c) on, λ r. apart_above b.x c.x second r.same_x))
 
 below_x : (a b c : Corner) (p : Point) → IsOnEdge p a b → IsOnEdge p b c → p.x <ℤ (b.x *ℤ p.d) → EndDoublesBack a b c
 below_x a b c p h k o =
     let first : a.x <ℤ b.x = ends_below b.x a.x p.d p.x o (rw (min_swap b.x a.x) h.from_x) in
     let second : c.x <ℤ b.x = ends_below b.x c.x p.d p.x o k.from_x in
     let line : turn a b c ≡ pos 0 =
-    zero_of_neg_mul (p.x -ℤ b.x *ℤ p.d) (turn a b c) (omega (arith, ints))
+    zero_negative_factor (p.x -ℤ b.x *ℤ p.d) (turn a b c) (omega (arith, ints))
     (vanishes (c.x -ℤ b.x) (b.x -ℤ a.x) (turn_at a b p) (turn_at b c p) _ (line_x a b c p) h.on_line k.on_line) in
     by_lt_z c.x a.x
     (λ q. inr (on_edge_by_x c b a second (le_of_lt c.x a.x q) (le_of_lt a.x b.x first) (turn_round a b c line), λ r. apart_below b.x a.x first r.same_x))
@@ -121,18 +103,20 @@ above_y a b c p h k o =
     let first : b.y <ℤ a.y = ends_above b.y a.y p.d p.y o (rw (max_swap b.y a.y) h.to_y) in
     let second : b.y <ℤ c.y = ends_above b.y c.y p.d p.y o k.to_y in
     let line : turn a b c ≡ pos 0 =
-    zero_of_mul (p.y -ℤ b.y *ℤ p.d) (turn a b c) (omega (arith, ints))
+    zero_factor (p.y -ℤ b.y *ℤ p.d) (turn a b c) (omega (arith, ints))
     (vanishes (c.y -ℤ b.y) (b.y -ℤ a.y) (turn_at a b p) (turn_at b c p) _ (line_y a b c p) h.on_line k.on_line) in
     by_lt_z a.y c.y
-    (λ q. inr (on_edge_back (corner_point a) b c (on_edge_by_y b c a second (le_of_lt b.y a.y first) (le_of_lt a.y c.y q) (turn_end a b c line)), λ r. apart_above b.y a.y first r.same_y))
-    (λ q. inl (on_edge_back (corner_point c) b a (on_edge_by_y b a c first (le_of_lt b.y c.y second) q (turn_back a b c line)), λ r. apart_above b.y c.y second r.same_y))
+    (λ q. let on : IsOnEdge (corner_point a) b c = on_edge_by_y b c a second (le_of_lt b.y a.y first) (le_of_lt a.y c.y q) (turn_end a b c line) in
+    inr (on_edge_back b c (corner_point a) on, λ r. apart_above b.y a.y first r.same_y))
+    (λ q. let on : IsOnEdge (corner_point c) b a = on_edge_by_y b a c first (le_of_lt b.y c.y second) q (turn_back a b c line) in
+    inl (on_edge_back b a (corner_point c) on, λ r. apart_above b.y c.y second r.same_y))
 
 below_y : (a b c : Corner) (p : Point) → IsOnEdge p a b → IsOnEdge p b c → p.y <ℤ (b.y *ℤ p.d) → EndDoublesBack a b c
 below_y a b c p h k o =
     let first : a.y <ℤ b.y = ends_below b.y a.y p.d p.y o (rw (min_swap b.y a.y) h.from_y) in
     let second : c.y <ℤ b.y = ends_below b.y c.y p.d p.y o k.from_y in
     let line : turn a b c ≡ pos 0 =
-    zero_of_neg_mul (p.y -ℤ b.y *ℤ p.d) (turn a b c) (omega (arith, ints))
+    zero_negative_factor (p.y -ℤ b.y *ℤ p.d) (turn a b c) (omega (arith, ints))
     (vanishes (c.y -ℤ b.y) (b.y -ℤ a.y) (turn_at a b p) (turn_at b c p) _ (line_y a b c p) h.on_line k.on_line) in
     by_lt_z c.y a.y
     (λ q. inr (on_edge_by_y c b a second (le_of_lt c.y a.y q) (le_of_lt a.y b.y first) (turn_round a b c line), λ r. apart_below b.y a.y first r.same_y))

@@ -1,18 +1,19 @@
 -- A left turn is an ear exactly where its closed triangle has three corners of the rest: its own.
-use Rattle.std.proofs.Common.{◌≡◌, ◌≢◌, ℕ, zero, suc, ◌+◌, ◌<◌, ◌≤◌, ◌∙◌, sym, ap, refl, arith, inl, inr, Bool, true, false, if◌then◌else◌, List, [], ◌∷◌, length, get_or, set}
+use Rattle.std.proofs.Common.{◌≡◌, ◌≢◌, ℕ, zero, suc, ◌+◌, ◌<◌, ◌≤◌, ◌∙◌, sym, ap, refl, arith, inl, inr, Bool, true, false, if◌then◌else◌}
+use Rattle.std.proofs.Common.{List, [], ◌∷◌, length, get_or, set}
 use Rattle.std.proofs.lemmas.List.{get_or-set_other}
 use Rattle.std.proofs.lemmas.Bool.{false≢true, cases_eq, cases_lt, cases_Bool}
-use Rattle.std.proofs.lemmas.Bool.Decides.{nat_tests}
 use Rattle.std.proofs.lemmas.Int.{ints}
 use lib.IntN.{ℤ, pos}
 use lib.Signed.{◌<ℤ◌, ◌≤ℤ◌}
 use Rattle.geo_exact.specs.declared.corner.Corner.{Corner}
 use Rattle.geo_exact.specs.Turn.{turn}
-use Rattle.geo_exact.proofs.Polynomials.{var, lit, same_by}
-use Rattle.geo_exact.proofs.TurnLaws.{turn_expr, turn_cycle}
+use Rattle.geo_exact.proofs.TurnLaws.{turn_cycle}
 use Rattle.ring_core.specs.Places.{corner_at, after, before}
 use Rattle.ring_core.specs.Clipping.{previous, next, Blocks, HasNone}
 use Rattle.ring_core.specs.Kinds.{is_inside, count_inside, TurnsLeft}
+use Rattle.ring_core.proofs.EdgePoints.{starts_on, ends_on}
+use Rattle.ring_core.proofs.RoundNumbers.{before_in, after_in, before_other, after_other, neighbours_apart}
 use Rattle.ring_core.proofs.TakenOut.{inside_decides}
 
 -- ---- how often a list of tests is true
@@ -67,7 +68,9 @@ module _ (bs : List Bool) (p q r : ℕ) (at_p : get_or bs p false ≡ true) (at_
   elsewhere : (j : ℕ) → j ≢ p → j ≢ q → j ≢ r → get_or without j false ≡ get_or bs j false
   unfolding without
   elsewhere j np nq nr =
-      get_or-set_other (set (set bs p false) q false) r j false false nr ∙ get_or-set_other (set bs p false) q j false false nq ∙ get_or-set_other bs p j false false np
+      get_or-set_other (set (set bs p false) q false) r j false false nr
+      ∙ get_or-set_other (set bs p false) q j false false nq
+      ∙ get_or-set_other bs p j false false np
 
   pub others_false : trues bs ≡ 3 → (j : ℕ) → j ≢ p → j ≢ q → j ≢ r → get_or bs j false ≡ false
   others_false h j np nq nr = sym (elsewhere j np nq nr) ∙ none_true without (omega (arith, three_more)) j
@@ -84,10 +87,14 @@ module _ (bs : List Bool) (p q r : ℕ) (at_p : get_or bs p false ≡ true) (at_
       elim (cases_eq j r) [
         | inl e ↦ ap (λ i. get_or without i false) e ∙ set_false (set (set bs p false) q false) r
         | inr nr ↦ elim (cases_eq j q) [
-          | inl e ↦ get_or-set_other (set (set bs p false) q false) r j false false nr ∙ ap (λ i. get_or (set (set bs p false) q false) i false) e ∙ set_false (set bs p false) q
+          | inl e ↦ get_or-set_other (set (set bs p false) q false) r j false false nr
+              ∙ ap (λ i. get_or (set (set bs p false) q false) i false) e
+              ∙ set_false (set bs p false) q
           | inr nq ↦ elim (cases_eq j p) [
-            | inl e ↦ get_or-set_other (set (set bs p false) q false) r j false false nr ∙ get_or-set_other (set bs p false) q j false false nq
-                ∙ ap (λ i. get_or (set bs p false) i false) e ∙ set_false bs p
+            | inl e ↦ get_or-set_other (set (set bs p false) q false) r j false false nr
+                ∙ get_or-set_other (set bs p false) q j false false nq
+                ∙ ap (λ i. get_or (set bs p false) i false) e
+                ∙ set_false bs p
             | inr np ↦ elsewhere j np nq nr ∙ h j np nq nr
           ]
         ]
@@ -95,12 +102,6 @@ module _ (bs : List Bool) (p q r : ℕ) (at_p : get_or bs p false ≡ true) (at_
       omega (arith, three_more, trues_none without all)
 
 -- ---- the corners of a triangle are in it
-starts_on : (a b : Corner) → turn a b a ≡ pos 0
-starts_on a b = same_by (a.x ∷ a.y ∷ b.x ∷ b.y ∷ []) (turn_expr (var 0) (var 1) (var 2) (var 3) (var 0) (var 1)) (lit (pos 0)) refl
-
-ends_on : (a b : Corner) → turn a b b ≡ pos 0
-ends_on a b = same_by (a.x ∷ a.y ∷ b.x ∷ b.y ∷ []) (turn_expr (var 0) (var 1) (var 2) (var 3) (var 2) (var 3)) (lit (pos 0)) refl
-
 not_neg : (z : ℤ) → z ≡ pos 0 → pos 0 ≤ℤ z
 not_neg z e = omega (arith, ints)
 
@@ -147,21 +148,6 @@ test_past a b c [] j h = refl
 test_past a b c (q ∷ qs) zero h = absurd (omega arith)
 test_past a b c (q ∷ qs) (suc j) h = test_past a b c qs j (omega arith)
 
-before_in : (n k : ℕ) → k < n → before n k < n
-before_in n k h = grind (arith, nat_tests)
-
-after_in : (n k : ℕ) → k < n → after n k < n
-after_in n k h = grind (arith, nat_tests)
-
-before_other : (n k : ℕ) → 2 < n → k < n → k ≢ before n k
-before_other n k l h = grind (arith, nat_tests)
-
-after_other : (n k : ℕ) → 2 < n → k < n → after n k ≢ k
-after_other n k l h = grind (arith, nat_tests)
-
-apart : (n k : ℕ) → 2 < n → k < n → after n k ≢ before n k
-apart n k l h = grind (arith, nat_tests)
-
 module _ (rest : List Corner) (k : ℕ) (l : 2 < length rest) (h : k < length rest) (left : TurnsLeft rest k) where
   bits : List Bool
   bits = tests (previous rest k) (corner_at rest k) (next rest k) rest
@@ -189,12 +175,13 @@ module _ (rest : List Corner) (k : ℕ) (l : 2 < length rest) (h : k < length re
   empty_from_count e j b blocks =
       let off : get_or bits j false ≡ false =
       others_false bits (before (length rest) k) k (after (length rest) k) at_before at_same at_after
-      (before_other (length rest) k l h) (apart (length rest) k l h) (after_other (length rest) k l h)
+      (before_other (length rest) k l h) (neighbours_apart (length rest) k l h) (after_other (length rest) k l h)
       (trues-tests (previous rest k) (corner_at rest k) (next rest k) rest ∙ e) j blocks.not_before blocks.not_same blocks.not_after in
       false≢true (sym off ∙ test_at (previous rest k) (corner_at rest k) (next rest k) rest j b
       ∙ (inside_decides (previous rest k) (corner_at rest k) (next rest k) (corner_at rest j)).1 blocks.is_inside)
 
-  outside : (none : HasNone (Blocks rest k) (length rest)) (j : ℕ) → j ≢ before (length rest) k → j ≢ k → j ≢ after (length rest) k → get_or bits j false ≡ false
+  outside : HasNone (Blocks rest k) (length rest)
+      → (j : ℕ) → j ≢ before (length rest) k → j ≢ k → j ≢ after (length rest) k → get_or bits j false ≡ false
   unfolding bits
   outside none j np nq nr =
       elim (cases_lt j (length rest)) [
@@ -216,4 +203,4 @@ module _ (rest : List Corner) (k : ℕ) (l : 2 < length rest) (h : k < length re
   count_from_empty none =
       sym (trues-tests (previous rest k) (corner_at rest k) (next rest k) rest)
       ∙ three_true bits (before (length rest) k) k (after (length rest) k) at_before at_same at_after
-      (before_other (length rest) k l h) (apart (length rest) k l h) (after_other (length rest) k l h) (outside none)
+      (before_other (length rest) k l h) (neighbours_apart (length rest) k l h) (after_other (length rest) k l h) (outside none)

@@ -8,7 +8,7 @@ use Rattle.geo_exact.specs.Rings.{path}
 use Rattle.geo_exact.specs.Turn.{IsOnEdge, IsOnSome, IsOnRing}
 use Rattle.ring_core.specs.Places.{origin, corner_at, after}
 use Rattle.ring_core.specs.Simple.{IsOnEdgeAt}
-use Rattle.ring_core.proofs.Cuts.{after_inner, after_end}
+use Rattle.ring_core.proofs.RoundNumbers.{after_inner, after_end}
 
 -- edge i of a path
 abbrev IsOnPathAt : Point → Corner → List Corner → Corner → ℕ → Type 0

@@ -1,4 +1,4 @@
--- When two edges have a common point, told by the turns and the boxes of their ends.
+-- What a common point of two edges says of the turns and the boxes of their ends.
 use Rattle.std.proofs.Common.{◌≡◌, ◌⊎◌, ◌∙◌, ap, arith, inl, inr, [], ◌∷◌, refl}
 use Rattle.std.proofs.lemmas.Int.{ints, by_lt_z, clamps}
 use Rattle.std.specs.Int.{int_min, int_max}
@@ -11,45 +11,28 @@ use Rattle.geo_exact.proofs.Signs.{mul_pos, pos_of_mul, convex, mul_lt}
 use Rattle.geo_exact.proofs.Polynomials.{var, lit, add, mul, neg, same_by}
 use Rattle.geo_exact.proofs.TurnLaws.{turn_at_expr, turn_expr, turn_at_back, turn_swap}
 use Rattle.geo_exact.proofs.CornerPoints.{on_edge_from_box}
-
--- ---- boxes
-le_of_lt : (u v : ℤ) → u <ℤ v → u ≤ℤ v
-le_of_lt u v h = omega (arith, ints)
-
-min_left : (u v : ℤ) → u ≤ℤ v → int_min u v ≡ u
-min_left u v h = omega (arith, ints, clamps)
-
-max_right : (u v : ℤ) → u ≤ℤ v → int_max u v ≡ v
-max_right u v h = omega (arith, ints, clamps)
-
-min_swap : (u v : ℤ) → int_min u v ≡ int_min v u
-min_swap u v = omega (arith, ints, clamps)
-
-max_swap : (u v : ℤ) → int_max u v ≡ int_max v u
-max_swap u v = omega (arith, ints, clamps)
+use Rattle.geo_exact.proofs.OnEdge.{le_of_lt, min_left, max_right, on_edge_back}
 
 -- the range of an edge whose first end is not beyond its second
 range : (u v d w : ℤ) → u ≤ℤ v → (int_min u v *ℤ d) ≤ℤ w → w ≤ℤ (int_max u v *ℤ d) → ((u *ℤ d) ≤ℤ w) × (w ≤ℤ (v *ℤ d))
 range u v d w o h k = (rw (min_left u v o) at h, rw (max_right u v o) at k)
 
-pub on_edge_back : (p : Point) (a b : Corner) → IsOnEdge p a b → IsOnEdge p b a
-on_edge_back p a b h = record {
-  on_line = turn_at_back a b p ∙ ap neg_ℤ h.on_line;
-  from_x = rw (min_swap b.x a.x) h.from_x;
-  to_x = rw (max_swap b.x a.x) h.to_x;
-  from_y = rw (min_swap b.y a.y) h.from_y;
-  to_y = rw (max_swap b.y a.y) h.to_y;
-}
+-- the ends of an edge are on its line
+pub starts_on : (a b : Corner) → turn a b a ≡ pos 0
+starts_on a b = same_by (a.x ∷ a.y ∷ b.x ∷ b.y ∷ []) (turn_expr (var 0) (var 1) (var 2) (var 3) (var 0) (var 1)) (lit (pos 0)) refl
 
-turn_at_start : (a b : Corner) → turn a b a ≡ pos 0
-turn_at_start a b = same_by (a.x ∷ a.y ∷ b.x ∷ b.y ∷ []) (turn_expr (var 0) (var 1) (var 2) (var 3) (var 0) (var 1)) (lit (pos 0)) refl
+pub ends_on : (a b : Corner) → turn a b b ≡ pos 0
+ends_on a b = same_by (a.x ∷ a.y ∷ b.x ∷ b.y ∷ []) (turn_expr (var 0) (var 1) (var 2) (var 3) (var 2) (var 3)) (lit (pos 0)) refl
+
+first_in_range : (u v : ℤ) → (int_min u v ≤ℤ u) × (u ≤ℤ int_max u v)
+first_in_range u v = (omega (arith, ints, clamps), omega (arith, ints, clamps))
 
 -- an edge has its ends
 pub on_edge_start : (a b : Corner) → IsOnEdge (corner_point a) a b
-on_edge_start a b = on_edge_from_box a b a (turn_at_start a b) (omega (arith, ints, clamps), omega (arith, ints, clamps)) (omega (arith, ints, clamps), omega (arith, ints, clamps))
+on_edge_start a b = on_edge_from_box a b a (starts_on a b) (first_in_range a.x b.x) (first_in_range a.y b.y)
 
 pub on_edge_end : (a b : Corner) → IsOnEdge (corner_point b) a b
-on_edge_end a b = on_edge_back (corner_point b) b a (on_edge_start b a)
+on_edge_end a b = on_edge_back b a (corner_point b) (on_edge_start b a)
 
 -- ---- a point of an edge whose ends are left of a line is left of it
 left_x : (a b c d : Corner) (p : Point)
@@ -106,9 +89,10 @@ same_ends u v d w o q h k =
 
 pub left_of_line : (a b c d : Corner) (p : Point) → IsOnEdge p c d → pos 0 <ℤ turn a b c → pos 0 <ℤ turn a b d → pos 0 <ℤ turn_at a b p
 left_of_line a b c d p h s t =
-    by_lt_z c.x d.x (λ o. rising c d h s t o) (λ o. by_lt_z d.x c.x (λ q. rising d c (on_edge_back p c d h) t s q)
-    (λ q. by_lt_z c.y d.y (λ r. upward c d h s t r) (λ r. by_lt_z d.y c.y (λ w. upward d c (on_edge_back p c d h) t s w)
-    (λ w. let e : turn_at a b p ≡ p.d *ℤ turn a b c = turn_at_place a b c p (same_ends c.x d.x p.d p.x o q h.from_x h.to_x) (same_ends c.y d.y p.d p.y r w h.from_y h.to_y) in
+    by_lt_z c.x d.x (λ o. rising c d h s t o) (λ o. by_lt_z d.x c.x (λ q. rising d c (on_edge_back c d p h) t s q)
+    (λ q. by_lt_z c.y d.y (λ r. upward c d h s t r) (λ r. by_lt_z d.y c.y (λ w. upward d c (on_edge_back c d p h) t s w)
+    (λ w. let e : turn_at a b p ≡ p.d *ℤ turn a b c =
+    turn_at_place a b c p (same_ends c.x d.x p.d p.x o q h.from_x h.to_x) (same_ends c.y d.y p.d p.y r w h.from_y h.to_y) in
     rw e (mul_pos p.d (turn a b c) p.d_positive s)))))
   where
     rising : (m n : Corner) → IsOnEdge p m n → pos 0 <ℤ turn a b m → pos 0 <ℤ turn a b n → m.x <ℤ n.x → pos 0 <ℤ turn_at a b p
@@ -129,8 +113,9 @@ pub not_one_side : (a b c d : Corner) (p : Point) → IsOnEdge p a b → IsOnEdg
 not_one_side a b c d p h k s =
     elim s [
       | inl q ↦ above (turn_at a b p) (left_of_line a b c d p k q.0 q.1) h.on_line
-      | inr q ↦ above (turn_at b a p) (left_of_line b a c d p k (turned (turn b a c) (turn a b c) (turn_swap a b c) q.0) (turned (turn b a d) (turn a b d) (turn_swap a b d) q.1))
-          (turn_at_back a b p ∙ ap neg_ℤ h.on_line)
+      | inr q ↦ let left_c = turned (turn b a c) (turn a b c) (turn_swap a b c) q.0 in
+          let left_d = turned (turn b a d) (turn a b d) (turn_swap a b d) q.1 in
+          above (turn_at b a p) (left_of_line b a c d p k left_c left_d) (turn_at_back a b p ∙ ap neg_ℤ h.on_line)
     ]
   where
     above : (t : ℤ) → pos 0 <ℤ t → t ≡ pos 0 → ⊥

@@ -12,7 +12,8 @@ lessened : (r : Bool) (count count' w m : ℕ) → count ≡ w → w ≡ (if r t
 lessened true count count' w m h e f = omega arith
 lessened false count count' w m h e f = omega arith
 
-module _ (whole rest : List Corner) (k j : ℕ) (gone : Corner) (t : IsTakenOut whole k gone rest) (b : j < length rest) (off : ¬ WasBeside (length rest) k j) where
+module _ (whole rest : List Corner) (k j : ℕ) (gone : Corner) (t : IsTakenOut whole k gone rest)
+    (b : j < length rest) (off : ¬ WasBeside (length rest) k j) where
   shorter : length rest + 1 ≡ length whole
   shorter = one_less whole rest k t.below t.is_rest
 

@@ -1,6 +1,7 @@
 pub mod EdgePoints
 pub mod CommonPoints
 pub mod Doubling
+pub mod RoundNumbers
 pub mod Neighbours
 pub mod Corners
 pub mod Cuts

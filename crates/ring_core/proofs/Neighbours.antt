@@ -1,16 +1,11 @@
 -- Two edges of a ring that meet otherwise than as neighbours: by the case of their numbers.
-use Rattle.std.proofs.Common.{◌≡◌, ◌≢◌, ◌↔◌, ℕ, ◌+◌, ◌<◌, ◌≤◌, ◌∙◌, sym, arith, inl, inr, List, length}
+use Rattle.std.proofs.Common.{◌≡◌, ◌≢◌, ◌↔◌, ℕ, suc, ◌+◌, ◌<◌, ◌≤◌, ◌∙◌, sym, arith, inl, inr, List, length}
 use Rattle.std.proofs.lemmas.Bool.Decides.{nat_tests}
 use Rattle.geo_exact.specs.declared.corner.Corner.{Corner}
 use Rattle.geo_exact.specs.Point.{Point}
 use Rattle.ring_core.specs.Places.{corner_at, after}
 use Rattle.ring_core.specs.Simple.{HaveCommonPoint, DoublesBack, IsSharedCorner, MeetOtherwise}
-
-pub after_inner : (n i : ℕ) → i + 1 < n → after n i ≡ i + 1
-after_inner n i h = grind (arith, nat_tests)
-
-pub after_last : (n i : ℕ) → i + 1 ≡ n → after n i ≡ 0
-after_last n i h = grind (arith, nat_tests)
+use Rattle.ring_core.proofs.RoundNumbers.{after_inner}
 
 -- edge j follows edge i
 one_way : (n i j : ℕ) → 3 ≤ n → i + 1 ≡ j → j < n → i ≡ after n j → ⊥
@@ -19,7 +14,7 @@ one_way n i j h e b f = grind (arith, nat_tests)
 pub following_meet : (ring : List Corner) (i j : ℕ) → 3 ≤ length ring → i + 1 ≡ j → j < length ring
     → DoublesBack (corner_at ring i) (corner_at ring j) (corner_at ring (after (length ring) j)) ↔ MeetOtherwise ring i j
 following_meet ring i j h e b =
-    let f : after (length ring) i ≡ j = after_inner (length ring) i (omega arith) ∙ e in (
+    let f : after (length ring) i ≡ j = after_inner (length ring) i (omega arith) ∙ omega arith in (
       λ d. (d.0, rw f d.1, d.2, λ s. elim s [ inl q ↦ d.3 q.1 | inr q ↦ one_way (length ring) i j h e b q.0 ]),
       λ m. (m.0, (rw f at m.1), m.2, λ q. m.3 (inl (sym f, q))),
     )
@@ -38,10 +33,11 @@ closing_meet ring i j h o e = (
 -- the edges are no neighbours
 no_neighbours : (ring : List Corner) (i j : ℕ) (p : Point) → i < j → j < length ring → i + 1 ≢ j → after (length ring) j ≢ i → IsSharedCorner p ring i j → ⊥
 no_neighbours ring i j p o b x y s = elim s [
-  | inl q ↦ x (sym (after_inner (length ring) i (omega arith)) ∙ sym q.0)
+  | inl q ↦ let f : suc i ≡ j = sym (after_inner (length ring) i (omega arith)) ∙ sym q.0 in x (omega arith)
   | inr q ↦ y (sym q.0)
 ]
 
 pub apart_meet : (ring : List Corner) (i j : ℕ) → i < j → j < length ring → i + 1 ≢ j → after (length ring) j ≢ i
-    → HaveCommonPoint (corner_at ring i) (corner_at ring (after (length ring) i)) (corner_at ring j) (corner_at ring (after (length ring) j)) ↔ MeetOtherwise ring i j
+    → HaveCommonPoint (corner_at ring i) (corner_at ring (after (length ring) i)) (corner_at ring j) (corner_at ring (after (length ring) j))
+    ↔ MeetOtherwise ring i j
 apart_meet ring i j o b x y = (λ h. (h.0, h.1, h.2, λ s. no_neighbours ring i j h.0 o b x y s), λ m. (m.0, m.1, m.2))

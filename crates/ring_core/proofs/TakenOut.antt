@@ -1,5 +1,6 @@
 -- A ring without one of its corners: what the other corners' neighbours and triangles are.
-use Rattle.std.proofs.Common.{◌≡◌, ◌⊎◌, ℕ, zero, suc, ◌+◌, ◌<◌, ◌≤◌, ◌∙◌, sym, ap, refl, arith, inl, inr, Bool, true, false, if◌then◌else◌, List, [], ◌∷◌, length, get_or}
+use Rattle.std.proofs.Common.{◌≡◌, ◌⊎◌, ℕ, zero, suc, ◌+◌, ◌<◌, ◌≤◌, ◌∙◌, sym, ap, refl, arith, inl, inr, Bool, true, false, if◌then◌else◌}
+use Rattle.std.proofs.Common.{List, [], ◌∷◌, length, get_or}
 use Rattle.std.specs.List.{remove}
 use Rattle.std.specs.Bool.{Decides}
 use Rattle.std.proofs.lemmas.Bool.{cases_lt}
@@ -65,4 +66,5 @@ pub count_remove : (a b c : Corner) (whole : List Corner) (k : ℕ) → k < leng
 count_remove a b c [] k h = absurd (omega arith)
 count_remove a b c (q ∷ qs) zero h = refl
 count_remove a b c (q ∷ qs) (suc k) h =
-    both_counted (is_inside a b c q) (is_inside a b c (corner_at qs k)) (count_inside a b c qs) (count_inside a b c (remove qs k)) (count_remove a b c qs k (omega arith))
+    both_counted (is_inside a b c q) (is_inside a b c (corner_at qs k)) (count_inside a b c qs) (count_inside a b c (remove qs k))
+    (count_remove a b c qs k (omega arith))

@@ -13,8 +13,11 @@ tested : (r : Bool) (a b c q : Corner) → Decides r (IsInTriangle q a b c) → 
 tested r a b c q h = same_from_decides r (is_inside a b c q) h (inside_decides a b c q)
 
 rest : (a b c : Corner) (corners : List Corner) (i : ℕ) (q : Corner) → i < length corners → q ≡ get_or corners i q
-    → count_inside a b c (drop i corners) ≡ (if is_inside a b c q then 1 + count_inside a b c (drop (i + 1) corners) else count_inside a b c (drop (i + 1) corners))
-rest a b c corners i q h e = at_drop_more (count_inside a b c) corners i q h ∙ ap (λ x. if is_inside a b c x then 1 + count_inside a b c (drop (i + 1) corners) else count_inside a b c (drop (i + 1) corners)) (sym e)
+    → count_inside a b c (drop i corners)
+    ≡ (if is_inside a b c q then 1 + count_inside a b c (drop (i + 1) corners) else count_inside a b c (drop (i + 1) corners))
+rest a b c corners i q h e =
+    let more : ℕ = count_inside a b c (drop (i + 1) corners) in
+    at_drop_more (count_inside a b c) corners i q h ∙ ap (λ x. if is_inside a b c x then 1 + more else more) (sym e)
 
 pub loop-corner-preserved : goal.loop-corner-preserved
 loop-corner-preserved c =

@@ -27,22 +27,23 @@ tested r rest j gone a o c e f g h = rw (← e, ← f, ← g) (same_from_decides
 
 pub returns-in_default : goal.returns-in_default
 returns-in_default c = λ whole t h.
-    kept whole c.args.corners.now c.args.k c.args.j c.args.gone c.args.old t c.requires.below (not_beside c.was_beside.result _ c.if-was_beside.false c.was_beside.ensures) c.in_default.not-Convex h
+    let off = not_beside c.was_beside.result _ c.if-was_beside.false c.was_beside.ensures in
+    kept whole c.args.corners.now c.args.k c.args.j c.args.gone c.args.old t c.requires.below off c.in_default.not-Convex h
 
 pub returns-then-is_in_triangle : goal.returns-then-is_in_triangle
 returns-then-is_in_triangle c = λ whole t h.
     let rest = c.args.corners.now in let j = c.args.j in
     let here = get_or_read rest j c.index-corners-j.result c.requires.below c.index-corners-j.is origin in
-    convex_kept whole rest c.args.k j c.args.gone t c.requires.below (not_beside c.was_beside.result _ c.if-was_beside.false c.was_beside.ensures)
-    true c.in-Convex.count c.saturating_sub.result
-    (sym c.if-is_in_triangle.true ∙ tested c.is_in_triangle.result rest j c.args.gone _ _ _ c.corner_before.ensures here c.corner_after.ensures c.is_in_triangle.ensures)
-    c.saturating_sub.ensures (rw c.in-Convex.is at h)
+    let off = not_beside c.was_beside.result _ c.if-was_beside.false c.was_beside.ensures in
+    let is = tested c.is_in_triangle.result rest j c.args.gone _ _ _ c.corner_before.ensures here c.corner_after.ensures c.is_in_triangle.ensures in
+    convex_kept whole rest c.args.k j c.args.gone t c.requires.below off
+    true c.in-Convex.count c.saturating_sub.result (sym c.if-is_in_triangle.true ∙ is) c.saturating_sub.ensures (rw c.in-Convex.is at h)
 
 pub returns : goal.returns
 returns c = λ whole t h.
     let rest = c.args.corners.now in let j = c.args.j in
     let here = get_or_read rest j c.index-corners-j.result c.requires.below c.index-corners-j.is origin in
-    convex_kept whole rest c.args.k j c.args.gone t c.requires.below (not_beside c.was_beside.result _ c.if-was_beside.false c.was_beside.ensures)
-    false c.in-Convex.count c.in-Convex.count
-    (sym c.if-is_in_triangle.false ∙ tested c.is_in_triangle.result rest j c.args.gone _ _ _ c.corner_before.ensures here c.corner_after.ensures c.is_in_triangle.ensures)
-    refl (rw c.in-Convex.is at h)
+    let off = not_beside c.was_beside.result _ c.if-was_beside.false c.was_beside.ensures in
+    let is = tested c.is_in_triangle.result rest j c.args.gone _ _ _ c.corner_before.ensures here c.corner_after.ensures c.is_in_triangle.ensures in
+    convex_kept whole rest c.args.k j c.args.gone t c.requires.below off
+    false c.in-Convex.count c.in-Convex.count (sym c.if-is_in_triangle.false ∙ is) refl (rw c.in-Convex.is at h)

@@ -5,7 +5,8 @@ use Rattle.geo_exact.specs.Limit.{IsWithin}
 use Rattle.ring_core.proofs.meeting.are_on_one_side.Goals as goal
 
 passed : (r : Bool) (m n s t : ℤ) → IsWithin 800000000000000000000 m → IsWithin 800000000000000000000 n → m ≡ s → n ≡ t
-    → (IsTrue r ↔ (((pos 0 <ℤ to_z w128 (of_z w128 m)) × (pos 0 <ℤ to_z w128 (of_z w128 n))) ⊎ ((to_z w128 (of_z w128 m) <ℤ pos 0) × (to_z w128 (of_z w128 n) <ℤ pos 0))))
+    → (IsTrue r ↔ (((pos 0 <ℤ to_z w128 (of_z w128 m)) × (pos 0 <ℤ to_z w128 (of_z w128 n)))
+    ⊎ ((to_z w128 (of_z w128 m) <ℤ pos 0) × (to_z w128 (of_z w128 n) <ℤ pos 0))))
     → (IsTrue r ↔ (((pos 0 <ℤ s) × (pos 0 <ℤ t)) ⊎ ((s <ℤ pos 0) × (t <ℤ pos 0))))
 passed r m n s t x y e f h =
     let i : FitsSigned w128 m = omega (arith, ints) in
@@ -13,4 +14,6 @@ passed r m n s t x y e f h =
     rw (← e, ← f) (simp to_z-of_z at h)
 
 pub returns : goal.returns
-returns c = passed c.have_one_sign.result c.turn.result c.turn-2.result _ _ c.turn.ensures.bound c.turn-2.ensures.bound c.turn.ensures.value c.turn-2.ensures.value c.have_one_sign.ensures
+returns c =
+    passed c.have_one_sign.result c.turn.result c.turn-2.result _ _
+    c.turn.ensures.bound c.turn-2.ensures.bound c.turn.ensures.value c.turn-2.ensures.value c.have_one_sign.ensures

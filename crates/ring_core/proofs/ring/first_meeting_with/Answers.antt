@@ -4,7 +4,7 @@ use Rattle.ring_core.specs.Simple.{MeetOtherwise}
 use Rattle.ring_core.proofs.ring.first_meeting_with.Goals as goal
 
 pub returns-then-meet_otherwise : goal.returns-then-meet_otherwise
-returns-then-meet_otherwise c = (omega arith, c.loop-j-test.true, c.meet_otherwise.ensures.0 c.if-meet_otherwise.true, c.loop-j.invariant)
+returns-then-meet_otherwise c = (omega arith, omega arith, c.meet_otherwise.ensures.0 c.if-meet_otherwise.true, c.loop-j.invariant)
 
 pub loop-j-preserved : goal.loop-j-preserved
 loop-j-preserved c =

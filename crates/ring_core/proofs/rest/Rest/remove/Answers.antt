@@ -10,7 +10,8 @@ use Rattle.ring_core.proofs.ClipSteps.{one_less}
 use Rattle.ring_core.proofs.TakenOut.{item_kept, number_in}
 use Rattle.ring_core.proofs.rest.Rest.remove.Goals as goal
 
-kinds_before : (whole rest : List Corner) (kinds olds : List Kind) (k : ℕ) (gone : Corner) → AreKinds whole kinds → IsTakenOut whole k gone rest → olds ≡ remove kinds k
+kinds_before : (whole rest : List Corner) (kinds olds : List Kind) (k : ℕ) (gone : Corner)
+    → AreKinds whole kinds → IsTakenOut whole k gone rest → olds ≡ remove kinds k
     → (j : ℕ) → j < length rest → IsKind whole (number_before k j) (get_or olds j Flat)
 kinds_before whole rest kinds olds k gone are t e j b =
     let below : k < length kinds = omega (arith, t.below, are.same_length) in
@@ -28,6 +29,7 @@ invariant_of-self g c =
     } in
     let olds = c.as_mut_slice.result.now in let news = c.update_kinds.new.kinds in
     let old_is : olds ≡ remove c.self.inside.kinds.items k = c.as_mut_slice.ensures.value ∙ c.remove.ensures.items in
-    let made : AreKinds rest news = c.update_kinds.ensures whole taken (kinds_before whole rest c.self.inside.kinds.items olds k c.remove-gone.result c.self.invariant taken old_is) in
+    let kept = kinds_before whole rest c.self.inside.kinds.items olds k c.remove-gone.result c.self.invariant taken old_is in
+    let made : AreKinds rest news = c.update_kinds.ensures whole taken kept in
     let long : length news ≡ c.remove.new.self.len = c.update_kinds.auto.kinds ∙ c.as_mut_slice.ensures.len in
     rw (take_at news (drop (length news) c.remove.new.self.items) c.remove.new.self.len long, ← c.as_slice.ensures.value) made

@@ -25,7 +25,8 @@ first_is_some ring i j h s = s.simple i j h.ordered h.in_ring h.meet
 
 pub first_meeting-requires : goal.first_meeting-requires
 first_meeting-requires g c =
-    let area = positive c.area2-area.result (area2 c.as_slice.result.now) c.area2-area.type_inv c.if-area-eq0.false c.if-area-lt0.false c.area2-area.ensures.value in
+    let area = positive c.area2-area.result (area2 c.as_slice.result.now)
+    c.area2-area.type_inv c.if-area-eq0.false c.if-area-lt0.false c.area2-area.ensures.value in
     rw (c.as_slice-2.ensures, ← c.as_slice.ensures) (three_corners c.as_slice.result.now area)
 
 pub returns-in-Some-clause-valid : goal.returns-in-Some-clause-valid
@@ -34,7 +35,8 @@ returns-in-Some-clause-valid g c =
 
 pub returns-in-Some-clause-err : goal.returns-in-Some-clause-err
 returns-in-Some-clause-err g c = (
-  positive c.area2-area.result (area2 c.args.corners) c.area2-area.type_inv c.if-area-eq0.false c.if-area-lt0.false (c.area2-area.ensures.value ∙ ap area2 c.as_slice.ensures),
+  positive c.area2-area.result (area2 c.args.corners) c.area2-area.type_inv
+      c.if-area-eq0.false c.if-area-lt0.false (c.area2-area.ensures.value ∙ ap area2 c.as_slice.ensures),
   rw c.as_slice-2.ensures at c.in-Some.ensures,
 )
 
@@ -42,7 +44,8 @@ pub invariant_of-result : goal.invariant_of-result
 invariant_of-result g c =
     record {
       is_simple = record {
-        counterclockwise = positive c.area2-area.result (area2 c.args.corners) c.area2-area.type_inv c.if-area-eq0.false c.if-area-lt0.false (c.area2-area.ensures.value ∙ ap area2 c.as_slice.ensures);
+        counterclockwise = positive c.area2-area.result (area2 c.args.corners) c.area2-area.type_inv
+            c.if-area-eq0.false c.if-area-lt0.false (c.area2-area.ensures.value ∙ ap area2 c.as_slice.ensures);
         simple = rw c.as_slice-2.ensures at c.in_default.ensures;
       };
     }

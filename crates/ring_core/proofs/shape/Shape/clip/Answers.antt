@@ -27,19 +27,23 @@ loop-rest-preserved-in-Some g c =
 
 pub loop-rest-smaller : goal.loop-rest-smaller
 loop-rest-smaller g c =
-    omega (arith, one_less c.loop-rest.rest c.remove-in-Some-first_ear.new.self c.in-Some-first_ear.k c.in-Some-first_ear.ensures.below c.remove-in-Some-first_ear.ensures)
+    let ear = c.in-Some-first_ear.ensures in
+    let taken = c.remove-in-Some-first_ear.ensures in
+    omega (arith, one_less c.loop-rest.rest c.remove-in-Some-first_ear.new.self c.in-Some-first_ear.k ear.below taken)
 
 pub loop-rest-preserved : goal.loop-rest-preserved
 loop-rest-preserved g c =
     let more : 2 < length c.loop-rest.rest = omega (arith, ap length c.as_slice-in-loop-rest.ensures) in
+    let ear = c.in-Some-first_ear.ensures in
+    let taken = c.remove-in-Some-first_ear.ensures in
+    let made = rw c.as_slice-in-Some-first_ear.ensures at c.triangle_at.ensures in
     record {
       clipped = clip_ear c.args.ring.corners c.loop-rest.rest _ _ _ c.in-Some-first_ear.k c.triangle_at.result c.loop-rest.invariant.clipped more
-          (c.in_default.ensures) (c.in-Some-first_ear.ensures) (rw c.as_slice-in-Some-first_ear.ensures at c.triangle_at.ensures) c.in_ok-push.ensures.ok c.remove-in-Some-first_ear.ensures;
-      two_left = omega (arith, one_less c.loop-rest.rest c.remove-in-Some-first_ear.new.self c.in-Some-first_ear.k c.in-Some-first_ear.ensures.below c.remove-in-Some-first_ear.ensures);
+          c.in_default.ensures ear made c.in_ok-push.ensures.ok taken;
+      two_left = omega (arith, one_less c.loop-rest.rest c.remove-in-Some-first_ear.new.self c.in-Some-first_ear.k ear.below taken);
     }
 
 pub invariant_of-result : goal.invariant_of-result
 invariant_of-result g c =
-    record {
-      made_up = make_up c.args.ring.corners c.loop-rest.triangles (c.loop-rest.rest, c.loop-rest.invariant.clipped, omega (arith, c.loop-rest.invariant.two_left, ap length c.as_slice-in-loop-rest.ensures));
-    }
+    let two : length c.loop-rest.rest ≡ 2 = omega (arith, c.loop-rest.invariant.two_left, ap length c.as_slice-in-loop-rest.ensures) in
+    record { made_up = make_up c.args.ring.corners c.loop-rest.triangles (c.loop-rest.rest, c.loop-rest.invariant.clipped, two) }
