@@ -6,6 +6,7 @@ mod bounds;
 mod folds;
 mod shapes;
 mod triangles;
+mod windows;
 
 pub use folds::folded;
 pub use shapes::shapes_overlap;

@@ -1,12 +1,16 @@
 ghost use Rattle.std.specs.Prelude.{◌↔◌, IsTrue};
 ghost use Rattle.geo_exact.specs.Interiors.{InteriorsMeet};
-ghost use Rattle.tri_overlap.specs.Bounding.{HoldsAll};
+ghost use Rattle.tri_overlap.specs.Bounding.{HoldsAll, HoldsCommon};
 ghost use Rattle.tri_overlap.specs.Separation.{MeetsSome, SomePairMeets};
 
-use crate::bounds::{Bounds, are_apart, bounds_of, bounds_of_all};
+use crate::bounds::{Bounds, are_apart, bounds_of, bounds_of_all, is_empty};
 use crate::triangles::meet_in_box;
+use crate::windows::narrowed;
 use ring_core::{Shape, Tri};
 use std::alloc::Allocator;
+
+/// Lists of so few triangles are not halved any more.
+const FEW: usize = 8;
 
 /// Whether the triangle's interior meets that of some triangle of the list, all of which are in the box.
 fn meets_some(triangle: &Tri, others: &[Tri], box_of_others: Bounds) -> bool
@@ -38,6 +42,25 @@ fn some_pair_meets(first: &[Tri], second: &[Tri]) -> bool
     false
 }
 
+/// The same, where a window is known that has every common inner point.
+///
+/// The window is narrowed to what the first list has in it, and the second list is halved; each half then goes before the
+/// first list, so that the lists take turns. Lists that only touch soon have nothing in a common window.
+fn meet_within(window: Bounds, first: &[Tri], second: &[Tri]) -> bool
+    requires { HoldsCommon window first.now second.now }
+    ensures { IsTrue result ↔ SomePairMeets first.now second.now }
+{
+    let part = narrowed(window, first);
+    if is_empty(part) {
+        return false;
+    }
+    if first.len() <= FEW || second.len() <= FEW {
+        return some_pair_meets(first, second);
+    }
+    let (front, back) = second.split_at(second.len() / 2);
+    meet_within(part, front, first) || meet_within(part, back, first)
+}
+
 /// Whether the interiors of two shapes have a common point, with fractions: the first entry of the
 /// nine-intersection matrix (OGC 06-103r4, 6.1.15.2). Touching is no overlap; it takes no memory.
 ///
@@ -45,5 +68,6 @@ fn some_pair_meets(first: &[Tri], second: &[Tri]) -> bool
 pub fn shapes_overlap<A: Allocator, B: Allocator>(first: &Shape<A>, second: &Shape<B>) -> bool
     ensures { IsTrue result ↔ InteriorsMeet first.now.ring.corners second.now.ring.corners }
 {
-    some_pair_meets(first.triangles.as_slice(), second.triangles.as_slice())
+    let others = second.triangles.as_slice();
+    meet_within(bounds_of_all(others), first.triangles.as_slice(), others)
 }
