@@ -9,7 +9,7 @@ use crate::windows::narrowed;
 use ring_core::{Shape, Tri};
 use std::alloc::Allocator;
 
-/// Lists of so few triangles are not halved any more.
+/// Where either list has so few triangles, each pair is tried.
 const FEW: usize = 8;
 
 /// Whether the triangle's interior meets that of some triangle of the list, all of which are in the box.
@@ -42,20 +42,20 @@ fn some_pair_meets(first: &[Tri], second: &[Tri]) -> bool
     false
 }
 
-/// The same, where a window is known that has every common inner point.
+/// The same, where a box is known, the window, that has every common inner point.
 ///
-/// The window is narrowed to what the first list has in it, and the second list is halved; each half then goes before the
-/// first list, so that the lists take turns. Lists that only touch soon have nothing in a common window.
+/// The window is narrowed to what the first list has in it, and then the second list is halved. Each half goes before the
+/// first list, so that the two take turns; where they only touch, their windows are soon empty.
 fn meet_within(window: Bounds, first: &[Tri], second: &[Tri]) -> bool
     requires { HoldsCommon window first.now second.now }
     ensures { IsTrue result ↔ SomePairMeets first.now second.now }
 {
+    if first.len() <= FEW || second.len() <= FEW {
+        return some_pair_meets(first, second);
+    }
     let part = narrowed(window, first);
     if is_empty(part) {
         return false;
-    }
-    if first.len() <= FEW || second.len() <= FEW {
-        return some_pair_meets(first, second);
     }
     let (front, back) = second.split_at(second.len() / 2);
     meet_within(part, front, first) || meet_within(part, back, first)
@@ -64,7 +64,8 @@ fn meet_within(window: Bounds, first: &[Tri], second: &[Tri]) -> bool
 /// Whether the interiors of two shapes have a common point, with fractions: the first entry of the
 /// nine-intersection matrix (OGC 06-103r4, 6.1.15.2). Touching is no overlap; it takes no memory.
 ///
-/// Triangles are tested only where their boxes meet.
+/// Triangles are tested only where their boxes meet. Where the shapes touch along a border, the time hardly grows more than
+/// the number of triangles does; at worst it grows with the product of their numbers.
 pub fn shapes_overlap<A: Allocator, B: Allocator>(first: &Shape<A>, second: &Shape<B>) -> bool
     ensures { IsTrue result ↔ InteriorsMeet first.now.ring.corners second.now.ring.corners }
 {
