@@ -1,6 +1,7 @@
 ghost use Rattle.std.specs.Prelude.{◌≡◌, ◌↔◌, IsTrue};
 ghost use Rattle.std.specs.Int.{int_max, int_min};
 ghost use Rattle.geo_exact.specs.Point.{Point};
+ghost use Rattle.tri_overlap.specs.declared.bounds.Bounds.{Bounds};
 ghost use Rattle.tri_overlap.specs.Bounding.{AreApart, EndsBefore, Holds, HoldsAll, IsEmpty, IsInside, IsWider, LiesBetween};
 
 use geo_exact::{Corner, LIMIT};
@@ -58,7 +59,7 @@ pub fn around(first: Bounds, second: Bounds) -> Bounds
 
 /// The box that both boxes have in common.
 pub fn common(first: Bounds, second: Bounds) -> Bounds
-    ensures { (p : Point) → IsInside p first → IsInside p second → IsInside p result }
+    ensures { (p : Point) → IsInside p result ↔ (IsInside p first × IsInside p second) }
 {
     Bounds {
         low: upper(first.low, second.low),
@@ -67,7 +68,9 @@ pub fn common(first: Bounds, second: Bounds) -> Bounds
 }
 
 /// A box with no inner place, than which every box is wider.
-pub fn nowhere() -> Bounds {
+pub fn nowhere() -> Bounds
+    ensures { (bounds : Bounds) → IsWider result bounds }
+{
     Bounds {
         low: Corner { x: LIMIT, y: LIMIT },
         high: Corner {

@@ -4,7 +4,7 @@ use Rattle.tri_overlap.proofs.windows.widened.Goals as goal
 
 pub returns-then-is_empty-clause-added : goal.returns-then-is_empty-clause-added
 returns-then-is_empty-clause-added c = λ p i w.
-    let h = c.common-part.ensures p w (inside_box c.args.triangle.now p _ c.bounds_of.ensures i) in
+    let h = (c.common-part.ensures p).1 (w, inside_box c.args.triangle.now p _ c.bounds_of.ensures i) in
     elim c.then-is_empty.branch [
       | then-is_empty-via-then-is_empty b ↦ absurd (nothing_in_empty _ (c.is_empty.ensures.0 b.if-is_empty.true) p h)
       | then-is_empty-via-else-is_empty+then-is_wider b ↦ inside_wider _ _ (b.is_wider.ensures.0 b.if-is_wider.true) p h
@@ -15,4 +15,4 @@ pub returns-clause-kept : goal.returns-clause-kept
 returns-clause-kept c = inside_wider _ _ c.around.ensures.first
 
 pub returns-clause-added : goal.returns-clause-added
-returns-clause-added c = λ p i w. inside_wider _ _ c.around.ensures.second p (c.common-part.ensures p w (inside_box c.args.triangle.now p _ c.bounds_of.ensures i))
+returns-clause-added c = λ p i w. inside_wider _ _ c.around.ensures.second p ((c.common-part.ensures p).1 (w, inside_box c.args.triangle.now p _ c.bounds_of.ensures i))
