@@ -1,7 +1,6 @@
 -- What is inside a triangle is inside each box that holds it; triangles in boxes that are apart have no common inner point.
-use Rattle.std.proofs.Common.{◌≡◌, arith, inl, inr, List, [], ◌∷◌}
+use Rattle.std.proofs.Common.{◌≡◌, arith, inl, inr}
 use Rattle.std.proofs.lemmas.Int.{ints, by_lt_z}
-use Rattle.std.proofs.lemmas.List.Elements.{All-tail}
 use lib.IntN.{ℤ, pos, ◌+ℤ◌, ◌-ℤ◌, ◌*ℤ◌, neg_ℤ}
 use lib.Signed.{◌<ℤ◌, ◌≤ℤ◌}
 use Rattle.geo_exact.specs.declared.corner.Corner.{Corner}
@@ -16,8 +15,7 @@ use Rattle.geo_exact.proofs.TurnLaws.{weighed_x, weighed_y}
 use Rattle.ring_core.specs.declared.triangle.Tri.{Tri}
 use Rattle.ring_core.specs.Sums.{corners_of}
 use Rattle.tri_overlap.specs.declared.bounds.Bounds.{Bounds}
-use Rattle.tri_overlap.specs.Bounding.{HoldsCorner, Holds, HoldsAll, AreApart, IsEmpty, IsInside, IsRightOfSome, IsWider}
-use Rattle.tri_overlap.specs.Separation.{MeetsSome}
+use Rattle.tri_overlap.specs.Bounding.{HoldsCorner, Holds, HoldsMeeting, AreApart, IsEmpty, IsInside, IsRightOfSome, IsWider}
 
 -- a weighed sum without a positive term, one of which is negative, is negative
 some_negative : (u v w a b c : ℤ) → pos 0 <ℤ u → pos 0 <ℤ v → pos 0 <ℤ w → a <ℤ pos 0 → b ≤ℤ pos 0 → c ≤ℤ pos 0
@@ -95,15 +93,9 @@ not_in_both p s t (inl (inr h)) i j = omega (arith, ints, mul_le t.high.x s.low.
 not_in_both p s t (inr (inl h)) i j = omega (arith, ints, mul_le s.high.y t.low.y p.d (omega (arith, ints, p.d_positive)) h, i.north, j.south)
 not_in_both p s t (inr (inr h)) i j = omega (arith, ints, mul_le t.high.y s.low.y p.d (omega (arith, ints, p.d_positive)) h, i.south, j.north)
 
--- triangles in boxes that are apart have no common inner point
-pub apart_triangles : (s t : Tri) (box other : Bounds) → Holds box s → Holds other t → AreApart box other → ¬ InteriorsMeet (corners_of s) (corners_of t)
-apart_triangles s t box other h k a m = not_in_both m.0 box other a (inside_box s m.0 box h m.1) (inside_box t m.0 other k m.2)
-
--- nor has a triangle with any of a list, where the other box holds all of them
-pub apart_from_all : (s : Tri) (ts : List Tri) (box other : Bounds) → Holds box s → HoldsAll other ts → AreApart box other → ¬ MeetsSome s ts
-apart_from_all s [] box other h k a m = m
-apart_from_all s (t ∷ ts) box other h k a (inl m) = apart_triangles s t box other h (k 0 t (omega arith)) a m
-apart_from_all s (t ∷ ts) box other h k a (inr m) = apart_from_all s ts box other h (All-tail (Holds other) t ts k) a m
+-- triangles have no common inner point where one is in a box that is apart from another that has all of them
+pub apart_triangles : (s t : Tri) (box other : Bounds) → HoldsMeeting box s t → Holds other t → AreApart box other → ¬ InteriorsMeet (corners_of s) (corners_of t)
+apart_triangles s t box other h k a m = not_in_both m.0 box other a (h m.0 m.1 m.2) (inside_box t m.0 other k m.2)
 
 holds_corner : (box wider : Bounds) → IsWider box wider → (corner : Corner) → HoldsCorner box corner → HoldsCorner wider corner
 holds_corner box wider w corner h = record {

@@ -1,13 +1,16 @@
 -- Two lists of triangles, the second cut in two: what the first has in common with either part.
-use Rattle.std.proofs.Common.{arith, inl, inr, ◌⊎◌, ◌↔◌, ℕ, List, [], ◌∷◌, ◌++◌, take, drop}
+use Rattle.std.proofs.Common.{◌≡◌, arith, inl, inr, ◌⊎◌, ◌↔◌, ℕ, List, [], ◌∷◌, ◌++◌, take, drop, ◌<◌, length, get_or}
 use Rattle.std.proofs.lemmas.List.{take-append-drop}
 use Rattle.std.proofs.lemmas.List.Elements.{All-tail}
 use Rattle.geo_exact.specs.Point.{Point}
+use Rattle.geo_exact.specs.Winding.{IsInterior}
 use Rattle.ring_core.specs.declared.triangle.Tri.{Tri}
+use Rattle.ring_core.specs.Sums.{corners_of}
 use Rattle.tri_overlap.specs.declared.bounds.Bounds.{Bounds}
 use Rattle.tri_overlap.specs.Bounding.{Holds, HoldsAll, HoldsCommon, InSome, IsInside}
 use Rattle.tri_overlap.specs.Separation.{SomePairMeets}
 use Rattle.tri_overlap.proofs.Boxes.{inside_box}
+use Rattle.tri_overlap.proofs.Dropped.{drop_item}
 use Rattle.tri_overlap.proofs.RingPairs.{pair_meets, point_of_pair}
 
 in_front : (p : Point) (ts us : List Tri) → InSome p ts → InSome p (ts ++ us)
@@ -33,6 +36,10 @@ of_front p i us h = rw (take-append-drop i us) at (in_front p (take i us) (drop 
 
 pub of_back : (p : Point) (i : ℕ) (us : List Tri) → InSome p (drop i us) → InSome p us
 of_back p i us h = rw (take-append-drop i us) at (in_back p (take i us) (drop i us) h)
+
+-- what is in an item of the list is in the list
+pub in_item : (p : Point) (ts : List Tri) (i : ℕ) (t : Tri) → i < length ts → t ≡ get_or ts i t → IsInterior p (corners_of t) → InSome p ts
+in_item p ts i t h e k = of_back p i ts (rw (drop_item ts i t h e) (inl k))
 
 -- some pair meets exactly where one does of a half and the other list
 pub halves_meet : (i : ℕ) (ts us : List Tri)

@@ -66,7 +66,7 @@ meeting_point : (t u : Tri) → InteriorsMeet (corners_of t) (corners_of u)
     → (p : Point) × IsOffEdges p × IsInterior p (corners_of t) × IsInterior p (corners_of u)
 meeting_point t u m = (moved m.0, off_edges m.0, moved_interior (corners_of t) m.0 m.1, moved_interior (corners_of u) m.0 m.2)
 
-point_of_one : (t : Tri) (us : List Tri) → MeetsSome t us → (p : Point) × IsOffEdges p × IsInterior p (corners_of t) × InSome p us
+pub point_of_one : (t : Tri) (us : List Tri) → MeetsSome t us → (p : Point) × IsOffEdges p × IsInterior p (corners_of t) × InSome p us
 point_of_one t [] h = absurd h
 point_of_one t (u ∷ us) (inl h) = let w = meeting_point t u h in (w.0, w.1, w.2, inl w.3)
 point_of_one t (u ∷ us) (inr h) = let w = point_of_one t us h in (w.0, w.1, w.2, inr w.3)

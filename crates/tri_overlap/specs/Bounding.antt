@@ -66,6 +66,14 @@ abbrev pub InSome : Point → List Tri → Type 0
 InSome p [] = ⊥
 InSome p (t ∷ ts) = IsInterior p (corners_of t) ⊎ InSome p ts
 
+-- the box has each point that is interior to both triangles
+abbrev pub HoldsMeeting : Bounds → Tri → Tri → Type 0
+HoldsMeeting box t u = (p : Point) → IsInterior p (corners_of t) → IsInterior p (corners_of u) → IsInside p box
+
+-- the box has each point that is interior to the triangle and to one of the list
+abbrev pub HoldsMeetings : Bounds → Tri → List Tri → Type 0
+HoldsMeetings box t us = (p : Point) → IsInterior p (corners_of t) → InSome p us → IsInside p box
+
 -- the box has each point that is interior to a triangle of either list
 abbrev pub HoldsCommon : Bounds → List Tri → List Tri → Type 0
 HoldsCommon box ts us = (p : Point) → InSome p ts → InSome p us → IsInside p box

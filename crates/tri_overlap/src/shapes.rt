@@ -1,9 +1,9 @@
 ghost use Rattle.std.specs.Prelude.{◌↔◌, IsTrue};
 ghost use Rattle.geo_exact.specs.Interiors.{InteriorsMeet};
-ghost use Rattle.tri_overlap.specs.Bounding.{HoldsAll, HoldsCommon};
+ghost use Rattle.tri_overlap.specs.Bounding.{HoldsCommon, HoldsMeetings};
 ghost use Rattle.tri_overlap.specs.Separation.{MeetsSome, SomePairMeets};
 
-use crate::bounds::{Bounds, are_apart, bounds_of, bounds_of_all, is_empty};
+use crate::bounds::{Bounds, bounds_of, bounds_of_all, common, is_empty};
 use crate::triangles::meet_in_box;
 use crate::windows::narrowed;
 use ring_core::{Shape, Tri};
@@ -12,13 +12,13 @@ use std::alloc::Allocator;
 /// Where either list has so few triangles, each pair is tried.
 const FEW: usize = 8;
 
-/// Whether the triangle's interior meets that of some triangle of the list, all of which are in the box.
-fn meets_some(triangle: &Tri, others: &[Tri], box_of_others: Bounds) -> bool
-    requires { HoldsAll box_of_others others.now }
+/// Whether the triangle's interior meets that of some triangle of the list; the window has all such points.
+fn meets_some(window: Bounds, triangle: &Tri, others: &[Tri]) -> bool
+    requires { HoldsMeetings window triangle.now others.now }
     ensures { IsTrue result ↔ MeetsSome triangle.now others.now }
 {
-    let bounds = bounds_of(triangle);
-    if are_apart(bounds, box_of_others) {
+    let bounds = common(window, bounds_of(triangle));
+    if is_empty(bounds) {
         return false;
     }
     for other in others {
@@ -29,20 +29,21 @@ fn meets_some(triangle: &Tri, others: &[Tri], box_of_others: Bounds) -> bool
     false
 }
 
-/// Whether some triangle of the first list has an interior that meets that of some triangle of the second.
-fn some_pair_meets(first: &[Tri], second: &[Tri]) -> bool
+/// Whether some triangle of the first list has an interior that meets that of some triangle of the second;
+/// the window has all such points.
+fn some_pair_meets(window: Bounds, first: &[Tri], second: &[Tri]) -> bool
+    requires { HoldsCommon window first.now second.now }
     ensures { IsTrue result ↔ SomePairMeets first.now second.now }
 {
-    let box_of_second = bounds_of_all(second);
     for triangle in first {
-        if meets_some(triangle, second, box_of_second) {
+        if meets_some(window, triangle, second) {
             return true;
         }
     }
     false
 }
 
-/// The same, where a box is known, the window, that has every common inner point.
+/// The same, of long lists.
 ///
 /// The window is narrowed to what the first list has in it, and then the second list is halved. Each half goes before the
 /// first list, so that the two take turns; where they only touch, their windows are soon empty.
@@ -51,7 +52,7 @@ fn meet_within(window: Bounds, first: &[Tri], second: &[Tri]) -> bool
     ensures { IsTrue result ↔ SomePairMeets first.now second.now }
 {
     if first.len() <= FEW || second.len() <= FEW {
-        return some_pair_meets(first, second);
+        return some_pair_meets(window, first, second);
     }
     let part = narrowed(window, first);
     if is_empty(part) {
