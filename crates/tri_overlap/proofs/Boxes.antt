@@ -1,7 +1,6 @@
 -- What is inside a triangle is inside each box that holds it; triangles in boxes that are apart have no common inner point.
-use Rattle.std.proofs.Common.{◌≡◌, arith, inl, inr, List, [], ◌∷◌}
+use Rattle.std.proofs.Common.{◌≡◌, arith, inl, inr}
 use Rattle.std.proofs.lemmas.Int.{ints, by_lt_z}
-use Rattle.std.proofs.lemmas.List.Elements.{All-tail}
 use lib.IntN.{ℤ, pos, ◌+ℤ◌, ◌-ℤ◌, ◌*ℤ◌, neg_ℤ}
 use lib.Signed.{◌<ℤ◌, ◌≤ℤ◌}
 use Rattle.geo_exact.specs.declared.corner.Corner.{Corner}
@@ -16,8 +15,7 @@ use Rattle.geo_exact.proofs.TurnLaws.{weighed_x, weighed_y}
 use Rattle.ring_core.specs.declared.triangle.Tri.{Tri}
 use Rattle.ring_core.specs.Sums.{corners_of}
 use Rattle.tri_overlap.specs.declared.bounds.Bounds.{Bounds}
-use Rattle.tri_overlap.specs.Bounding.{HoldsCorner, Holds, HoldsAll, AreApart}
-use Rattle.tri_overlap.specs.Separation.{MeetsSome}
+use Rattle.tri_overlap.specs.Bounding.{HoldsCorner, Holds, HoldsMeeting, AreApart, IsEmpty, IsInside, IsRightOfSome, IsWider}
 
 -- a weighed sum without a positive term, one of which is negative, is negative
 some_negative : (u v w a b c : ℤ) → pos 0 <ℤ u → pos 0 <ℤ v → pos 0 <ℤ w → a <ℤ pos 0 → b ≤ℤ pos 0 → c ≤ℤ pos 0
@@ -73,15 +71,8 @@ flat_in_y a b c m h e = let t : turn a b c ≡ pos 0 = rw (e.0, e.1, e.2) (level
     level : (m u v w : ℤ) → (v -ℤ u) *ℤ (m -ℤ m) -ℤ (m -ℤ m) *ℤ (w -ℤ u) ≡ pos 0
     level m u v w = simp expand (omega (arith, ints))
 
--- p is inside the box, on none of its sides
-record IsInside (p : Point) (box : Bounds) : Type 0 where
-  west : (box.low.x *ℤ p.d) <ℤ p.x
-  east : p.x <ℤ (box.high.x *ℤ p.d)
-  south : (box.low.y *ℤ p.d) <ℤ p.y
-  north : p.y <ℤ (box.high.y *ℤ p.d)
-
 -- what is inside a triangle is inside each box that holds it
-inside_box : (t : Tri) (p : Point) (box : Bounds) → Holds box t → IsInterior p (corners_of t) → IsInside p box
+pub inside_box : (t : Tri) (p : Point) (box : Bounds) → Holds box t → IsInterior p (corners_of t) → IsInside p box
 inside_box t p box h i =
     let left = (triangle_interior t.a t.b t.c p t.turns_left).0 i in
     let u = turn_at t.b t.c p in
@@ -102,35 +93,47 @@ not_in_both p s t (inl (inr h)) i j = omega (arith, ints, mul_le t.high.x s.low.
 not_in_both p s t (inr (inl h)) i j = omega (arith, ints, mul_le s.high.y t.low.y p.d (omega (arith, ints, p.d_positive)) h, i.north, j.south)
 not_in_both p s t (inr (inr h)) i j = omega (arith, ints, mul_le t.high.y s.low.y p.d (omega (arith, ints, p.d_positive)) h, i.south, j.north)
 
--- triangles in boxes that are apart have no common inner point
-pub apart_triangles : (s t : Tri) (box other : Bounds) → Holds box s → Holds other t → AreApart box other → ¬ InteriorsMeet (corners_of s) (corners_of t)
-apart_triangles s t box other h k a m = not_in_both m.0 box other a (inside_box s m.0 box h m.1) (inside_box t m.0 other k m.2)
-
--- nor has a triangle with any of a list, where the other box holds all of them
-pub apart_from_all : (s : Tri) (ts : List Tri) (box other : Bounds) → Holds box s → HoldsAll other ts → AreApart box other → ¬ MeetsSome s ts
-apart_from_all s [] box other h k a m = m
-apart_from_all s (t ∷ ts) box other h k a (inl m) = apart_triangles s t box other h (k 0 t (omega arith)) a m
-apart_from_all s (t ∷ ts) box other h k a (inr m) = apart_from_all s ts box other h (All-tail (Holds other) t ts k) a m
-
--- the second box reaches as far as the first on each side
-pub record IsWider (box wider : Bounds) : Type 0 where
-  pub west : wider.low.x ≤ℤ box.low.x
-  pub east : box.high.x ≤ℤ wider.high.x
-  pub south : wider.low.y ≤ℤ box.low.y
-  pub north : box.high.y ≤ℤ wider.high.y
+-- triangles have no common inner point where one is in a box that is apart from another that has all of them
+pub apart_triangles : (s t : Tri) (box other : Bounds) → HoldsMeeting box s t → Holds other t → AreApart box other → ¬ InteriorsMeet (corners_of s) (corners_of t)
+apart_triangles s t box other h k a m = not_in_both m.0 box other a (h m.0 m.1 m.2) (inside_box t m.0 other k m.2)
 
 holds_corner : (box wider : Bounds) → IsWider box wider → (corner : Corner) → HoldsCorner box corner → HoldsCorner wider corner
 holds_corner box wider w corner h = record {
-  west = omega (arith, ints, w.west, h.west);
-  east = omega (arith, ints, w.east, h.east);
-  south = omega (arith, ints, w.south, h.south);
-  north = omega (arith, ints, w.north, h.north);
+  west = omega (arith, ints, w.0.0, h.west);
+  east = omega (arith, ints, w.0.1, h.east);
+  south = omega (arith, ints, w.1.0, h.south);
+  north = omega (arith, ints, w.1.1, h.north);
 }
 
--- it holds what the first does
+-- the wider of two boxes holds what the other does
 pub wider_holds : (box wider : Bounds) → IsWider box wider → (t : Tri) → Holds box t → Holds wider t
 wider_holds box wider w t h = record {
   a = holds_corner box wider w t.a h.a;
   b = holds_corner box wider w t.b h.b;
   c = holds_corner box wider w t.c h.c;
 }
+
+pub inside_wider : (box wider : Bounds) → IsWider box wider → (p : Point) → IsInside p box → IsInside p wider
+inside_wider box wider w p i =
+    let d : pos 0 ≤ℤ p.d = omega (arith, ints, p.d_positive) in record {
+      west = omega (arith, ints, mul_le wider.low.x box.low.x p.d d w.0.0, i.west);
+      east = omega (arith, ints, mul_le box.high.x wider.high.x p.d d w.0.1, i.east);
+      south = omega (arith, ints, mul_le wider.low.y box.low.y p.d d w.1.0, i.south);
+      north = omega (arith, ints, mul_le box.high.y wider.high.y p.d d w.1.1, i.north);
+    }
+
+pub nothing_in_empty : (box : Bounds) → IsEmpty box → (p : Point) → ¬ IsInside p box
+nothing_in_empty box (inl h) p i = omega (arith, ints, mul_le box.high.x box.low.x p.d (omega (arith, ints, p.d_positive)) h, i.west, i.east)
+nothing_in_empty box (inr h) p i = omega (arith, ints, mul_le box.high.y box.low.y p.d (omega (arith, ints, p.d_positive)) h, i.south, i.north)
+
+-- what is inside a triangle is left of each of its edges
+pub not_right : (box : Bounds) (t : Tri) → IsRightOfSome box t → (p : Point) → IsInside p box → ¬ IsInterior p (corners_of t)
+not_right box t r p i k =
+    let left = (triangle_interior t.a t.b t.c p t.turns_left).0 k in
+    elim r [
+      | inl h ↦ omega (arith, ints, h p i, left.0)
+      | inr h ↦ elim h [
+        | inl h ↦ omega (arith, ints, h p i, left.1)
+        | inr h ↦ omega (arith, ints, h p i, left.2)
+      ]
+    ]

@@ -3,6 +3,9 @@ pub mod Helly
 pub mod Separating
 pub mod Dropped
 pub mod Extremes
+pub mod Fits
+pub mod Farthest
+pub mod Halves
 pub mod Boxes
 pub mod Numbered
 pub mod RingPairs

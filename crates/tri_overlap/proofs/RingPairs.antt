@@ -13,16 +13,12 @@ use Rattle.geo_exact.proofs.Triangles.{triangle_winds_at_most_once}
 use Rattle.geo_exact.proofs.Moved.{moved, moved_off_some, moved_interior}
 use Rattle.ring_core.specs.declared.triangle.Tri.{Tri}
 use Rattle.ring_core.specs.Sums.{corners_of, winding_sum, MakeUp}
+use Rattle.tri_overlap.specs.Bounding.{InSome}
 use Rattle.tri_overlap.specs.Separation.{MeetsSome, SomePairMeets}
 
 -- p is on no edge, of whatever ring
 abbrev pub IsOffEdges : Point → Type 0
 IsOffEdges p = (es : List Edge) → IsOnSome p es → ⊥
-
--- p is interior to some triangle of the list
-abbrev pub InSome : Point → List Tri → Type 0
-InSome p [] = ⊥
-InSome p (t ∷ ts) = IsInterior p (corners_of t) ⊎ InSome p ts
 
 pub round_once : (p : Point) (t : Tri) → (winding p (corners_of t) ≡ pos 0) ⊎ (winding p (corners_of t) ≡ pos 1)
 round_once p t = triangle_winds_at_most_once t.a t.b t.c p t.turns_left
@@ -54,13 +50,13 @@ one_meets p t [] i h = h
 one_meets p t (u ∷ us) i (inl h) = inl (p, i, h)
 one_meets p t (u ∷ us) i (inr h) = inr (one_meets p t us i h)
 
-pair_meets : (p : Point) (ts us : List Tri) → InSome p ts → InSome p us → SomePairMeets ts us
+pub pair_meets : (p : Point) (ts us : List Tri) → InSome p ts → InSome p us → SomePairMeets ts us
 pair_meets p [] us h k = h
 pair_meets p (t ∷ ts) us (inl h) k = inl (one_meets p t us h k)
 pair_meets p (t ∷ ts) us (inr h) k = inr (pair_meets p ts us h k)
 
 -- a common point of two lists that is on no edge
-abbrev CommonPoint : List Tri → List Tri → Type 0
+abbrev pub CommonPoint : List Tri → List Tri → Type 0
 CommonPoint ts us = (p : Point) × IsOffEdges p × InSome p ts × InSome p us
 
 pub off_edges : (p : Point) → IsOffEdges (moved p)
@@ -70,12 +66,12 @@ meeting_point : (t u : Tri) → InteriorsMeet (corners_of t) (corners_of u)
     → (p : Point) × IsOffEdges p × IsInterior p (corners_of t) × IsInterior p (corners_of u)
 meeting_point t u m = (moved m.0, off_edges m.0, moved_interior (corners_of t) m.0 m.1, moved_interior (corners_of u) m.0 m.2)
 
-point_of_one : (t : Tri) (us : List Tri) → MeetsSome t us → (p : Point) × IsOffEdges p × IsInterior p (corners_of t) × InSome p us
+pub point_of_one : (t : Tri) (us : List Tri) → MeetsSome t us → (p : Point) × IsOffEdges p × IsInterior p (corners_of t) × InSome p us
 point_of_one t [] h = absurd h
 point_of_one t (u ∷ us) (inl h) = let w = meeting_point t u h in (w.0, w.1, w.2, inl w.3)
 point_of_one t (u ∷ us) (inr h) = let w = point_of_one t us h in (w.0, w.1, w.2, inr w.3)
 
-point_of_pair : (ts us : List Tri) → SomePairMeets ts us → CommonPoint ts us
+pub point_of_pair : (ts us : List Tri) → SomePairMeets ts us → CommonPoint ts us
 point_of_pair [] us h = absurd h
 point_of_pair (t ∷ ts) us (inl h) = let w = point_of_one t us h in (w.0, w.1, inl w.2, w.3)
 point_of_pair (t ∷ ts) us (inr h) = let w = point_of_pair ts us h in (w.0, w.1, inr w.2, w.3)

@@ -10,8 +10,9 @@ use Rattle.geo_exact.specs.Winding.{winding, IsInterior}
 use Rattle.geo_exact.proofs.Moved.{moved, moved_winding}
 use Rattle.ring_core.specs.declared.triangle.Tri.{Tri}
 use Rattle.ring_core.specs.Sums.{corners_of, winding_sum, MakeUp}
+use Rattle.tri_overlap.specs.Bounding.{InSome}
 use Rattle.tri_overlap.specs.Folding.{HasNoOverlap}
-use Rattle.tri_overlap.proofs.RingPairs.{IsOffEdges, InSome, round_once, in_some, off_edges}
+use Rattle.tri_overlap.proofs.RingPairs.{IsOffEdges, round_once, in_some, off_edges}
 
 -- p is inside triangle j of the list
 record IsInAt (p : Point) (ts : List Tri) (j : ℕ) : Type 0 where

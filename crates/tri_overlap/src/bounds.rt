@@ -1,7 +1,8 @@
 ghost use Rattle.std.specs.Prelude.{◌≡◌, ◌↔◌, IsTrue};
 ghost use Rattle.std.specs.Int.{int_max, int_min};
-ghost use Rattle.ring_core.specs.declared.triangle.Tri.{Tri};
-ghost use Rattle.tri_overlap.specs.Bounding.{AreApart, EndsBefore, Holds, HoldsAll};
+ghost use Rattle.geo_exact.specs.Point.{Point};
+ghost use Rattle.tri_overlap.specs.declared.bounds.Bounds.{Bounds};
+ghost use Rattle.tri_overlap.specs.Bounding.{AreApart, EndsBefore, Holds, HoldsAll, IsEmpty, IsInside, IsWider, LiesBetween};
 
 use geo_exact::{Corner, LIMIT};
 use ring_core::Tri;
@@ -9,8 +10,8 @@ use ring_core::Tri;
 /// A box with sides along the axes, from its least coordinates to its greatest, in centimetres.
 #[derive(Clone, Copy)]
 pub struct Bounds {
-    low: Corner,
-    high: Corner,
+    pub low: Corner,
+    pub high: Corner,
 }
 
 /// The corner with the lesser of each coordinate.
@@ -45,10 +46,10 @@ pub fn bounds_of(triangle: &Tri) -> Bounds
     }
 }
 
-/// The least box that holds what either box holds.
-fn around(first: Bounds, second: Bounds) -> Bounds
-    ensures first { (t : Tri) → Holds first t → Holds result t }
-    ensures second { (t : Tri) → Holds second t → Holds result t }
+/// The least box that reaches as far as both boxes.
+pub fn around(first: Bounds, second: Bounds) -> Bounds
+    ensures first { IsWider first result }
+    ensures second { IsWider second result }
 {
     Bounds {
         low: lower(first.low, second.low),
@@ -56,17 +57,34 @@ fn around(first: Bounds, second: Bounds) -> Bounds
     }
 }
 
-/// The least box that holds all of the triangles; for none, a box that is apart from each other.
-pub fn bounds_of_all(triangles: &[Tri]) -> Bounds
-    ensures { HoldsAll result triangles.now }
+/// The box that both boxes have in common.
+pub fn common(first: Bounds, second: Bounds) -> Bounds
+    ensures { (p : Point) → IsInside p result ↔ (IsInside p first × IsInside p second) }
 {
-    let mut bounds = Bounds {
+    Bounds {
+        low: upper(first.low, second.low),
+        high: lower(first.high, second.high),
+    }
+}
+
+/// A box with no inner place, than which every box is wider.
+pub fn nowhere() -> Bounds
+    ensures { (bounds : Bounds) → IsWider result bounds }
+{
+    Bounds {
         low: Corner { x: LIMIT, y: LIMIT },
         high: Corner {
             x: -LIMIT,
             y: -LIMIT,
         },
-    };
+    }
+}
+
+/// The least box that holds all of the triangles; for none, a box that is apart from each other.
+pub fn bounds_of_all(triangles: &[Tri]) -> Bounds
+    ensures { HoldsAll result triangles.now }
+{
+    let mut bounds = nowhere();
     for triangle in triangles {
         bounds = around(bounds, bounds_of(triangle));
     }
@@ -86,4 +104,26 @@ pub fn are_apart(first: Bounds, second: Bounds) -> bool
 {
     ends_before(first.low.x, first.high.x, second.low.x, second.high.x)
         || ends_before(first.low.y, first.high.y, second.low.y, second.high.y)
+}
+
+/// Whether a box has no inner place.
+pub fn is_empty(bounds: Bounds) -> bool
+    ensures { IsTrue result ↔ IsEmpty bounds }
+{
+    bounds.high.x <= bounds.low.x || bounds.high.y <= bounds.low.y
+}
+
+/// Whether the range from `s` to `t` lies in the one from `u` to `v`.
+fn lies_between(u: i64, v: i64, s: i64, t: i64) -> bool
+    ensures { IsTrue result ↔ LiesBetween u v s t }
+{
+    u <= s && t <= v
+}
+
+/// Whether the first box reaches as far as the second on each side.
+pub fn is_wider(wider: Bounds, bounds: Bounds) -> bool
+    ensures { IsTrue result ↔ IsWider bounds wider }
+{
+    lies_between(wider.low.x, wider.high.x, bounds.low.x, bounds.high.x)
+        && lies_between(wider.low.y, wider.high.y, bounds.low.y, bounds.high.y)
 }

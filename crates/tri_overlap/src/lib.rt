@@ -7,6 +7,7 @@ mod folds;
 mod laws;
 mod shapes;
 mod triangles;
+mod windows;
 
 pub use folds::folded;
 pub use laws::triangles_are_apart_by_an_edge;

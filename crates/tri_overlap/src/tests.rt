@@ -26,6 +26,10 @@ fn shape(alloc: Global, places: &[Place]) -> Result<Shape<Global>, Fail> {
     for place in places {
         corners.push(corner(*place)?)?;
     }
+    clipped(alloc, corners)
+}
+
+fn clipped(alloc: Global, corners: Corners<Global>) -> Result<Shape<Global>, Fail> {
     if corners.as_slice().len() > 100 {
         return Err(Fail::new("more than 100 corners"));
     }
@@ -36,6 +40,96 @@ fn shape(alloc: Global, places: &[Place]) -> Result<Shape<Global>, Fail> {
         return Err(Fail::new("not clipped"));
     };
     Ok(shape)
+}
+
+/// A border that goes east.
+const JAGGED: [Place; 24] = [
+    (0, 331),
+    (100, 970),
+    (200, 154),
+    (300, 404),
+    (400, 666),
+    (500, 49),
+    (600, 74),
+    (700, 840),
+    (800, 548),
+    (900, 96),
+    (1000, 374),
+    (1100, 596),
+    (1200, 59),
+    (1300, 931),
+    (1400, 519),
+    (1500, 219),
+    (1600, 38),
+    (1700, 88),
+    (1800, 444),
+    (1900, 428),
+    (2000, 71),
+    (2100, 246),
+    (2200, 92),
+    (2300, 564),
+];
+
+/// A border that goes north, over the same places again and again.
+const TO_AND_FRO: [Place; 24] = [
+    (3369, 0),
+    (121, 100),
+    (3658, 200),
+    (253, 300),
+    (2957, 400),
+    (1291, 500),
+    (3784, 600),
+    (1193, 700),
+    (2626, 800),
+    (1181, 900),
+    (3699, 1000),
+    (812, 1100),
+    (2601, 1200),
+    (452, 1300),
+    (2595, 1400),
+    (1140, 1500),
+    (2772, 1600),
+    (593, 1700),
+    (3358, 1800),
+    (295, 1900),
+    (3607, 2000),
+    (241, 2100),
+    (3669, 2200),
+    (631, 2300),
+];
+
+/// The shape on the left of a border, with two more corners.
+fn left_of(alloc: Global, border: &[Place], far: (Place, Place)) -> Result<Shape<Global>, Fail> {
+    let mut corners = Corners::new(alloc);
+    for place in border {
+        corners.push(corner(*place)?)?;
+    }
+    corners.push(corner(far.0)?)?;
+    corners.push(corner(far.1)?)?;
+    clipped(alloc, corners)
+}
+
+/// The shape on the right of a border, with two more corners.
+fn right_of(alloc: Global, border: &[Place], far: (Place, Place)) -> Result<Shape<Global>, Fail> {
+    let mut corners = Corners::new(alloc);
+    for place in border.iter().rev() {
+        corners.push(corner(*place)?)?;
+    }
+    corners.push(corner(far.0)?)?;
+    corners.push(corner(far.1)?)?;
+    clipped(alloc, corners)
+}
+
+/// Whether some triangle of one shape overlaps some triangle of the other, each with each.
+fn some_triangles_overlap(first: &Shape<Global>, second: &Shape<Global>) -> bool {
+    for one in first.triangles.as_slice() {
+        for other in second.triangles.as_slice() {
+            if triangles_overlap(one, other) {
+                return true;
+            }
+        }
+    }
+    false
 }
 
 #[test]
@@ -116,6 +210,48 @@ fn shapes_with_a_bay(rt: HostRuntime) -> Result<(), Fail> {
     assert!(rt; !shapes_overlap(&bay, &in_the_bay));
     let over_the_edge = shape(alloc, &[(39, 30), (100, 30), (100, 70), (39, 70)])?;
     assert!(rt; shapes_overlap(&bay, &over_the_edge));
+    Ok(())
+}
+
+/// Lists of 24 triangles are halved until one has 6; each corner of the border in turn is moved.
+#[test]
+fn shapes_with_a_long_border(rt: HostRuntime) -> Result<(), Fail> {
+    let alloc = rt.alloc();
+    let north = left_of(alloc, &JAGGED, ((2300, 2000), (0, 2000)))?;
+    let south = right_of(alloc, &JAGGED, ((0, -1000), (2300, -1000)))?;
+    assert!(rt; !shapes_overlap(&north, &south));
+    assert!(rt; !shapes_overlap(&south, &north));
+    assert!(rt; !some_triangles_overlap(&north, &south));
+    for k in 0..24 {
+        let mut border = JAGGED;
+        border[k].1 = border[k].1.saturating_add(1);
+        let moved = right_of(alloc, &border, ((0, -1000), (2300, -1000)))?;
+        assert!(rt; shapes_overlap(&north, &moved));
+        assert!(rt; shapes_overlap(&moved, &north));
+        assert!(rt; some_triangles_overlap(&north, &moved));
+        border[k].1 = border[k].1.saturating_sub(2);
+        let short = right_of(alloc, &border, ((0, -1000), (2300, -1000)))?;
+        assert!(rt; !shapes_overlap(&north, &short));
+    }
+    Ok(())
+}
+
+#[test]
+fn shapes_with_a_border_to_and_fro(rt: HostRuntime) -> Result<(), Fail> {
+    let alloc = rt.alloc();
+    let west = left_of(alloc, &TO_AND_FRO, ((-1000, 2300), (-1000, 0)))?;
+    let east = right_of(alloc, &TO_AND_FRO, ((5000, 0), (5000, 2300)))?;
+    assert!(rt; !shapes_overlap(&west, &east));
+    assert!(rt; !shapes_overlap(&east, &west));
+    assert!(rt; !some_triangles_overlap(&west, &east));
+    for k in 0..24 {
+        let mut border = TO_AND_FRO;
+        border[k].0 = border[k].0.saturating_add(1);
+        let moved = left_of(alloc, &border, ((-1000, 2300), (-1000, 0)))?;
+        assert!(rt; shapes_overlap(&moved, &east));
+        assert!(rt; shapes_overlap(&east, &moved));
+        assert!(rt; some_triangles_overlap(&east, &moved));
+    }
     Ok(())
 }
 

@@ -3,7 +3,7 @@ ghost use Rattle.geo_exact.specs.Turn.{turn as turn_of};
 ghost use Rattle.geo_exact.specs.Interiors.{InteriorsMeet};
 ghost use Rattle.ring_core.specs.Sums.{corners_of};
 ghost use Rattle.tri_overlap.specs.Separation.{NoEdgeSeparates, SeesSome};
-ghost use Rattle.tri_overlap.specs.Bounding.{Holds};
+ghost use Rattle.tri_overlap.specs.Bounding.{HoldsMeeting};
 
 use crate::bounds::{Bounds, are_apart, bounds_of};
 use geo_exact::{Corner, turn};
@@ -32,9 +32,9 @@ fn each_edge_sees(first: &Tri, second: &Tri) -> bool
         && sees(first.c, first.a, second)
 }
 
-/// Whether the interiors of two triangles have a common point, where a box is known that holds the first.
+/// Whether the interiors of two triangles have a common point, where a box is known that has all such points.
 pub fn meet_in_box(first: &Tri, bounds: Bounds, second: &Tri) -> bool
-    requires { Holds bounds first.now }
+    requires { HoldsMeeting bounds first.now second.now }
     ensures { IsTrue result ↔ InteriorsMeet (corners_of first.now) (corners_of second.now) }
 {
     if are_apart(bounds, bounds_of(second)) {

@@ -1,14 +1,8 @@
-use Rattle.std.proofs.Common.{inl, inr, sym, ◌∙◌, arith, FitsSigned, w64}
+use Rattle.std.proofs.Common.{inl, inr, sym, ◌∙◌}
 use Rattle.std.proofs.lemmas.Bool.{false≢true}
-use Rattle.std.proofs.lemmas.Int.{ints, to_z-of_z}
-use Rattle.geo_exact.specs.declared.corner.Corner.{Corner}
+use Rattle.std.proofs.lemmas.Int.{to_z-of_z}
+use Rattle.tri_overlap.proofs.Fits.{fits_x, fits_y}
 use Rattle.tri_overlap.proofs.bounds.are_apart.Goals as goal
-
-fits_x : (corner : Corner) → FitsSigned w64 corner.x
-fits_x corner = omega (arith, ints, corner.x_in_range)
-
-fits_y : (corner : Corner) → FitsSigned w64 corner.y
-fits_y corner = omega (arith, ints, corner.y_in_range)
 
 pub returns-then-ends_before : goal.returns-then-ends_before
 returns-then-ends_before c =

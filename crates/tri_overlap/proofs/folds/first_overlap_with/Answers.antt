@@ -1,8 +1,12 @@
 use Rattle.std.proofs.Common.{◌<◌, ◌∙◌, sym, arith, below_more}
 use Rattle.std.proofs.lemmas.Bool.{false≢true}
 use Rattle.tri_overlap.specs.Folding.{OverlapAt}
+use Rattle.tri_overlap.proofs.Boxes.{inside_box}
 use Rattle.tri_overlap.proofs.Numbered.{overlap_of, meet_of, second_in_list}
 use Rattle.tri_overlap.proofs.folds.first_overlap_with.Goals as goal
+
+pub meet_in_box-requires : goal.meet_in_box-requires
+meet_in_box-requires c = λ p i j. inside_box c.index-triangles-i.result p _ c.bounds_of-bounds.ensures i
 
 pub returns-then-meet_in_box : goal.returns-then-meet_in_box
 returns-then-meet_in_box c = (

@@ -1,7 +1,9 @@
 use Rattle.std.proofs.Common.{refl, inl, inr}
 use Rattle.std.proofs.lemmas.Bool.{false≢true}
-use Rattle.tri_overlap.proofs.Boxes.{apart_from_all}
+use Rattle.tri_overlap.proofs.Boxes.{inside_box, nothing_in_empty}
 use Rattle.tri_overlap.proofs.Dropped.{drop_item}
+use Rattle.tri_overlap.proofs.Halves.{in_item}
+use Rattle.tri_overlap.proofs.RingPairs.{point_of_one}
 use Rattle.tri_overlap.proofs.shapes.meets_some.Goals as goal
 
 pub returns-then-meet_in_box : goal.returns-then-meet_in_box
@@ -19,8 +21,16 @@ loop-other-preserved c =
       λ m. c.loop-other.invariant.1 (rw here (inr m)),
     )
 
-pub returns-then-are_apart : goal.returns-then-are_apart
-returns-then-are_apart c = (
+pub meet_in_box-requires : goal.meet_in_box-requires
+meet_in_box-requires c = λ p i j. (c.common-bounds.ensures p).1 (
+  c.requires p i (in_item p c.args.others.now c.loop-other.other-index c.other-item.result c.loop-other-test.true c.other-item.is j),
+  inside_box c.args.triangle.now p _ c.bounds_of.ensures i,
+)
+
+pub returns-then-is_empty : goal.returns-then-is_empty
+returns-then-is_empty c = (
   λ b. absurd (false≢true b),
-  λ m. absurd (apart_from_all _ _ _ _ c.bounds_of-bounds.ensures c.requires (c.are_apart.ensures.0 c.if-are_apart.true) m),
+  λ m. let w = point_of_one c.args.triangle.now c.args.others.now m in
+      absurd (nothing_in_empty _ (c.is_empty.ensures.0 c.if-is_empty.true) w.0
+      ((c.common-bounds.ensures w.0).1 (c.requires w.0 w.2 w.3, inside_box c.args.triangle.now w.0 _ c.bounds_of.ensures w.2))),
 )

@@ -21,5 +21,5 @@ returns-else-each_edge_sees c =
 pub returns-then-are_apart : goal.returns-then-are_apart
 returns-then-are_apart c = (
   λ b. absurd (false≢true b),
-  λ m. absurd (apart_triangles _ _ _ _ c.requires c.bounds_of.ensures (c.are_apart.ensures.0 c.if-are_apart.true) m),
+  λ m. absurd (apart_triangles c.args.first.now c.args.second.now _ _ c.requires c.bounds_of.ensures (c.are_apart.ensures.0 c.if-are_apart.true) m),
 )

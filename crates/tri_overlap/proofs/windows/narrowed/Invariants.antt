@@ -1,0 +1,8 @@
+use Rattle.std.proofs.Common.{◌⊎◌, drop}
+use Rattle.geo_exact.specs.Point.{Point}
+use Rattle.tri_overlap.specs.Bounding.{InSome, IsInside}
+use Rattle.tri_overlap.proofs.windows.narrowed.Given as goal
+
+abbrev pub invariant-loop-triangle : goal.invariant-loop-triangle
+invariant-loop-triangle l = (p : Point) → InSome p l.triangles → IsInside p l.window
+    → IsInside p l.bounds ⊎ InSome p (drop l.triangle-index l.triangles)
