@@ -14,7 +14,7 @@ use Rattle.geo_exact.proofs.Differences.{expand}
 use Rattle.edge_chains.specs.declared.bounds.Bounds.{Bounds}
 use Rattle.edge_chains.specs.Net.{is_same}
 use Rattle.edge_chains.specs.Noding.{place_of, IsStrictlyInside}
-use Rattle.edge_chains.specs.Inside.{is_between, is_inside, IsInBounds}
+use Rattle.edge_chains.specs.Inside.{is_between, is_from_to, is_inside, is_in_bounds, IsInBounds}
 use Rattle.edge_chains.proofs.Corners.{false_where, Decides-is_same, Decides-int_lt}
 
 -- ---- the test
@@ -142,3 +142,45 @@ none_beside_of bounds a b c bottom top left right e f g h k l =
     let right' = (b.y -ℤ a.y) *ℤ (bounds.high.x -ℤ a.x) in
     none_beside bounds a b c
     (subst (λ z. AreApart bottom' top' left' z) h (subst (λ z. AreApart bottom' top' z right) g (subst (λ z. AreApart bottom' z left right) f (subst (λ z. AreApart z top left right) e k)))) l
+
+-- ---- two boxes
+Decides-is_from_to : (u v z : ℤ) → Decides (is_from_to u v z) ((u ≤ℤ z) × (z ≤ℤ v))
+Decides-is_from_to u v z = Decides-and (le_z u z) (le_z z v) (Decides-int_le u z) (Decides-int_le z v)
+
+pub Decides-is_in_bounds : (c : Corner) (bounds : Bounds) → Decides (is_in_bounds c bounds) (IsInBounds c bounds)
+Decides-is_in_bounds c bounds =
+    Decides-like (is_in_bounds c bounds)
+    (λ h. record { from_x = h.0.0; to_x = h.0.1; from_y = h.1.0; to_y = h.1.1 })
+    (λ h. ((h.from_x, h.to_x), (h.from_y, h.to_y)))
+    (Decides-and (is_from_to bounds.low.x bounds.high.x c.x) (is_from_to bounds.low.y bounds.high.y c.y)
+    (Decides-is_from_to bounds.low.x bounds.high.x c.x) (Decides-is_from_to bounds.low.y bounds.high.y c.y))
+
+abbrev pub AreOff : ℤ → ℤ → ℤ → ℤ → Type 0
+AreOff u v w z = (v <ℤ w) ⊎ (z <ℤ u)
+
+pub off_from_test : (t : Bool) (u v w z : ℤ) → t ≡ (lt_z v w || lt_z z u) → t ≡ true → AreOff u v w z
+off_from_test t u v w z e h = (Decides-or (lt_z v w) (lt_z z u) (Decides-int_lt v w) (Decides-int_lt z u)).0 (sym e ∙ h)
+
+-- a number of one range is not in a range off it
+not_in_off : (u v w z k : ℤ) → AreOff u v w z → u ≤ℤ k → k ≤ℤ v → w ≤ℤ k → k ≤ℤ z → ⊥
+not_in_off u v w z k (inl l) p q r s = omega (arith, ints)
+not_in_off u v w z k (inr l) p q r s = omega (arith, ints)
+
+pub none_off_x : (one other : Bounds) → AreOff one.low.x one.high.x other.low.x other.high.x → (c : Corner) → IsInBounds c one → is_in_bounds c other ≡ false
+none_off_x one other h c k = false_where (is_in_bounds c other) (Decides-is_in_bounds c other) (λ i. not_in_off one.low.x one.high.x other.low.x other.high.x c.x h k.from_x k.to_x i.from_x i.to_x)
+
+pub none_off_y : (one other : Bounds) → AreOff one.low.y one.high.y other.low.y other.high.y → (c : Corner) → IsInBounds c one → is_in_bounds c other ≡ false
+none_off_y one other h c k = false_where (is_in_bounds c other) (Decides-is_in_bounds c other) (λ i. not_in_off one.low.y one.high.y other.low.y other.high.y c.y h k.from_y k.to_y i.from_y i.to_y)
+
+-- a box with both ends of an edge has what lies inside the edge
+pub covered : (bounds : Bounds) (a b : Corner) → is_in_bounds a bounds ≡ true → is_in_bounds b bounds ≡ true → (c : Corner) → is_inside c a b ≡ true → is_in_bounds c bounds ≡ true
+covered bounds a b h k c t =
+    let p = (Decides-is_in_bounds a bounds).0 h in
+    let q = (Decides-is_in_bounds b bounds).0 k in
+    let i = (Decides-parts c a b).0 t in
+    (Decides-is_in_bounds c bounds).1 (record {
+      from_x = omega (arith, ints, clamps, p.from_x, q.from_x, i.0.0.0);
+      to_x = omega (arith, ints, clamps, p.to_x, q.to_x, i.0.0.1);
+      from_y = omega (arith, ints, clamps, p.from_y, q.from_y, i.0.1.0);
+      to_y = omega (arith, ints, clamps, p.to_y, q.to_y, i.0.1.1);
+    })
