@@ -10,7 +10,8 @@ loop-at-preserved-then-is_off g c =
     let here = c.requires.in_place.go_on at c.loop-at-test.true in
     record {
       in_range = here.1;
-      so_far = c.loop-at.invariant.so_far ∙ sym (filter_skips (λ x. is_in_bounds x c.args.bounds.now) c.args.corners.now d at (slice_index c.args.ends.now at) (omega (arith, here)) here.1
+      so_far = c.loop-at.invariant.so_far ∙ sym (filter_skips (λ x. is_in_bounds x c.args.bounds.now) c.args.corners.now d at
+          (slice_index c.args.ends.now at) (omega (arith, here)) here.1
           (λ k l m. c.is_off.ensures c.if-is_off.true _ (subst (IsInBounds (slice_index_or c.args.corners.now k d)) (sym c.index-boxes-at.is)
           (c.requires.have_blocks at c.loop-at-test.true k d c.index-boxes-at.result l m))));
     }

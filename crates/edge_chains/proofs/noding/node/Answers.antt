@@ -13,20 +13,23 @@ pub returns-clause-noded : goal.returns-clause-noded
 returns-clause-noded g c =
     if_ok_too _ _ c.node_all.result
     (λ noded h. AllZip-weaker (λ ring out. IsNoded ring.items c.in_ok-search.search out.items) (λ ring out. IsNoded ring.items c.args.corners.now out.items)
-    (λ ring out k. AreNodedEdges-alike c.in_ok-search.search c.args.corners.now c.in_ok-search.ensures (edges ring.items) out.items k) c.args.rings.now noded.items h)
+    (λ ring out k. AreNodedEdges-alike c.in_ok-search.search c.args.corners.now c.in_ok-search.ensures
+    (edges ring.items) out.items k) c.args.rings.now noded.items h)
     c.node_all.ensures
 
 pub returns-clause-windings : goal.returns-clause-windings
 returns-clause-windings g c =
     if_ok_too _ _ c.node_all.result
-    (λ noded h. AllZip-weaker (λ ring out. IsNoded ring.items c.in_ok-search.search out.items) (λ ring out. (p : Point) → winding p out.items ≡ winding p ring.items)
+    (λ noded h. AllZip-weaker (λ ring out. IsNoded ring.items c.in_ok-search.search out.items)
+    (λ ring out. (p : Point) → winding p out.items ≡ winding p ring.items)
     (λ ring out k p. winding_noded p ring.items c.in_ok-search.search out.items k) c.args.rings.now noded.items h)
     c.node_all.ensures
 
 pub returns-clause-boundaries : goal.returns-clause-boundaries
 returns-clause-boundaries g c =
     if_ok_too _ _ c.node_all.result
-    (λ noded h. AllZip-weaker (λ ring out. IsNoded ring.items c.in_ok-search.search out.items) (λ ring out. (p : Point) → IsOnRing p out.items ↔ IsOnRing p ring.items)
+    (λ noded h. AllZip-weaker (λ ring out. IsNoded ring.items c.in_ok-search.search out.items)
+    (λ ring out. (p : Point) → IsOnRing p out.items ↔ IsOnRing p ring.items)
     (λ ring out k p. boundary_noded p ring.items c.in_ok-search.search out.items k) c.args.rings.now noded.items h)
     c.node_all.ensures
 

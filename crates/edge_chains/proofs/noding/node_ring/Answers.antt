@@ -36,5 +36,6 @@ returns-clause-noded g c = elim c.match-split_first.branch [
       (omega (arith, w.loop-at-test.false, w.loop-at.auto.at-end))
       (subst (λ search. (inner : List Corner) × IsNodedEdge search (edge_of w.loop-at.from first) inner
       × (w.node_edge-in-Some.new.noded.items ≡ w.loop-at.noded.items ++ w.loop-at.from ∷ inner)) inv.same w.in_ok-node_edge-2.ensures.noded) inv.so_far))
-  | in_default w ↦ noded_nothing c.args.search.now c.args.ring.now c.match-split_first.noded.items w.in_default.ensures.cases (ap (λ v. v.items) w.noded-is ∙ c.in_ok-noded.ensures.items)
+  | in_default w ↦ noded_nothing c.args.search.now c.args.ring.now c.match-split_first.noded.items w.in_default.ensures.cases
+      (ap (λ v. v.items) w.noded-is ∙ c.in_ok-noded.ensures.items)
 ]
