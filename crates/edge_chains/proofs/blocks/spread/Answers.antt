@@ -13,5 +13,5 @@ returns g c =
     let whole = c.in_ok-spread.ensures.items in
     λ x. (
       λ h. subst (λ xs. Contains xs x) whole (Contains-permutation _ _ x (IsPermutation-sym _ _ moved) (Contains-from_dedup _ _ x (rw is at h))),
-      λ h. rw is (Contains-dedup is_same_equivalence same_from_test _ x (Contains-permutation _ _ x moved (subst (λ xs. Contains xs x) (sym whole) h))),
+      λ h. rw is (Contains-dedup is_same_equivalence same_from_test c.sort_unstable_by.new.self.items x (Contains-permutation _ _ x moved (subst (λ xs. Contains xs x) (sym whole) h))),
     )
