@@ -40,7 +40,8 @@ drop_zero' k z x y h e = omega (arith, ints, rw h at e, mul_zero k)
 
 pub square_not_neg : (k : ℤ) → pos 0 ≤ℤ (k *ℤ k)
 square_not_neg k = by_lt_z k (pos 0)
-    (λ l. let m : pos 0 ≤ℤ (neg_ℤ k *ℤ neg_ℤ k) = mul_not_neg (neg_ℤ k) (neg_ℤ k) (omega (arith, ints)) (omega (arith, ints)) in omega (arith, ints, simp expand at m))
+    (λ l. let m : pos 0 ≤ℤ (neg_ℤ k *ℤ neg_ℤ k) = mul_not_neg (neg_ℤ k) (neg_ℤ k) (omega (arith, ints)) (omega (arith, ints)) in omega
+    (arith, ints, simp expand at m))
     (λ l. mul_not_neg k k l l)
 
 pub square_pos : (k : ℤ) → k ≢ pos 0 → pos 0 <ℤ (k *ℤ k)
@@ -75,7 +76,8 @@ one_sign n d k z h l e = (
 )
 
 -- in one coordinate: d is between c and b
-still_between : (a b c d : ℤ) → IsBetween a b c → IsBetween a b d → (pos 0 <ℤ (b -ℤ a) → pos 0 ≤ℤ (d -ℤ c)) × ((b -ℤ a) <ℤ pos 0 → (d -ℤ c) ≤ℤ pos 0) → IsBetween c b d
+still_between : (a b c d : ℤ) → IsBetween a b c → IsBetween a b d → (pos 0 <ℤ (b -ℤ a) → pos 0 ≤ℤ (d -ℤ c)) × ((b -ℤ a) <ℤ pos 0 → (d -ℤ c) ≤ℤ pos 0)
+    → IsBetween c b d
 still_between a b c d h k s = by_lt_z (pos 0) (b -ℤ a)
     (λ p. let m = s.0 p in (omega (arith, ints, clamps, h.0, h.1, k.0, k.1), omega (arith, ints, clamps, h.0, h.1, k.0, k.1)))
     (λ p. by_lt_z (b -ℤ a) (pos 0)
@@ -125,9 +127,13 @@ both_zero p x q y z h k e = omega (arith, ints, rw (h, k) at e, mul_zero p, mul_
 
 pub zero_of_mul : (k z : ℤ) → k ≢ pos 0 → k *ℤ z ≡ pos 0 → z ≡ pos 0
 zero_of_mul k z h e = by_lt_z (pos 0) z
-    (λ p. absurd (by_lt_z (pos 0) k (λ q. let m = mul_pos k z q p in omega (arith, ints)) (λ q. by_lt_z k (pos 0) (λ r. let m = mul_pos (neg_ℤ k) z (omega (arith, ints)) p in omega (arith, ints, simp expand at m)) (λ r. h (omega (arith, ints))))))
+    (λ p. absurd (by_lt_z (pos 0) k (λ q. let m = mul_pos k z q p in omega (arith, ints))
+    (λ q. by_lt_z k (pos 0) (λ r. let m = mul_pos (neg_ℤ k) z (omega (arith, ints)) p in omega (arith, ints, simp expand at m))
+    (λ r. h (omega (arith, ints))))))
     (λ p. by_lt_z z (pos 0)
-    (λ q. absurd (by_lt_z (pos 0) k (λ r. let m = mul_neg k z r q in omega (arith, ints)) (λ r. by_lt_z k (pos 0) (λ s. let m = mul_neg (neg_ℤ k) z (omega (arith, ints)) q in omega (arith, ints, simp expand at m)) (λ s. h (omega (arith, ints))))))
+    (λ q. absurd (by_lt_z (pos 0) k (λ r. let m = mul_neg k z r q in omega (arith, ints))
+    (λ r. by_lt_z k (pos 0) (λ s. let m = mul_neg (neg_ℤ k) z (omega (arith, ints)) q in omega (arith, ints, simp expand at m))
+    (λ s. h (omega (arith, ints))))))
     (λ q. omega (arith, ints)))
 
 -- what leads on is not level in both directions
@@ -135,16 +141,19 @@ not_both_level : (u v e f : ℤ) → pos 0 <ℤ (u *ℤ e +ℤ v *ℤ f) → u �
 not_both_level u v e f h p q = omega (arith, ints, ap (λ z. z *ℤ e) p, ap (λ z. z *ℤ f) q)
 
 pub zero_cases : (z : ℤ) → (z ≡ pos 0) ⊎ (z ≢ pos 0)
-zero_cases z = by_lt_z (pos 0) z (λ p. inr (λ e. omega (arith, ints))) (λ p. by_lt_z z (pos 0) (λ q. inr (λ e. omega (arith, ints))) (λ q. inl (omega (arith, ints))))
+zero_cases z = by_lt_z (pos 0) z (λ p. inr (λ e. omega (arith, ints)))
+    (λ p. by_lt_z z (pos 0) (λ q. inr (λ e. omega (arith, ints))) (λ q. inl (omega (arith, ints))))
 
 still_on_line : (a b c d : Corner) → turn a b c ≡ pos 0 → turn a b d ≡ pos 0 → LeadsOn a b c d → turn c b d ≡ pos 0
 still_on_line a b c d h k l =
     let z = on_one_line a b c d h k in
     ⊎_elim
     (λ level. zero_of_mul (b.y -ℤ a.y) (turn c b d) (λ q. not_both_level (b.x -ℤ a.x) (b.y -ℤ a.y) (d.x -ℤ c.x) (d.y -ℤ c.y) l level q)
-    (both_zero (b.y -ℤ c.y) ((b.x -ℤ a.x) *ℤ (d.y -ℤ c.y) -ℤ (b.y -ℤ a.y) *ℤ (d.x -ℤ c.x)) (d.y -ℤ c.y) (turn a b c) ((b.y -ℤ a.y) *ℤ turn c b d) z h (turn_later_y a b c d)))
+    (both_zero (b.y -ℤ c.y) ((b.x -ℤ a.x) *ℤ (d.y -ℤ c.y) -ℤ (b.y -ℤ a.y) *ℤ (d.x -ℤ c.x)) (d.y -ℤ c.y) (turn a b c) ((b.y -ℤ a.y) *ℤ turn c b d) z h
+    (turn_later_y a b c d)))
     (λ slope. zero_of_mul (b.x -ℤ a.x) (turn c b d) slope
-    (both_zero (b.x -ℤ c.x) ((b.x -ℤ a.x) *ℤ (d.y -ℤ c.y) -ℤ (b.y -ℤ a.y) *ℤ (d.x -ℤ c.x)) (d.x -ℤ c.x) (turn a b c) ((b.x -ℤ a.x) *ℤ turn c b d) z h (turn_later_x a b c d)))
+    (both_zero (b.x -ℤ c.x) ((b.x -ℤ a.x) *ℤ (d.y -ℤ c.y) -ℤ (b.y -ℤ a.y) *ℤ (d.x -ℤ c.x)) (d.x -ℤ c.x) (turn a b c) ((b.x -ℤ a.x) *ℤ turn c b d) z h
+    (turn_later_x a b c d)))
     (zero_cases (b.x -ℤ a.x))
 
 length_pos : (u v e f : ℤ) → pos 0 <ℤ (u *ℤ e +ℤ v *ℤ f) → pos 0 <ℤ (u *ℤ u +ℤ v *ℤ v)
@@ -166,8 +175,10 @@ later_inside a b c d h k l =
     let cross = (b.x -ℤ a.x) *ℤ (d.y -ℤ c.y) -ℤ (b.y -ℤ a.y) *ℤ (d.x -ℤ c.x) in
     strictly_from_inside d c b (
       (
-        still_between a.x b.x c.x d.x i.0.0 j.0.0 (one_sign p q (b.x -ℤ a.x) (d.x -ℤ c.x) n l (drop_zero (b.y -ℤ a.y) cross ((b.x -ℤ a.x) *ℤ q) (p *ℤ (d.x -ℤ c.x)) z (along_u (b.x -ℤ a.x) (b.y -ℤ a.y) (d.x -ℤ c.x) (d.y -ℤ c.y)))),
-        still_between a.y b.y c.y d.y i.0.1 j.0.1 (one_sign p q (b.y -ℤ a.y) (d.y -ℤ c.y) n l (drop_zero' (b.x -ℤ a.x) cross ((b.y -ℤ a.y) *ℤ q) (p *ℤ (d.y -ℤ c.y)) z (along_v (b.x -ℤ a.x) (b.y -ℤ a.y) (d.x -ℤ c.x) (d.y -ℤ c.y)))),
+        still_between a.x b.x c.x d.x i.0.0 j.0.0 (one_sign p q (b.x -ℤ a.x) (d.x -ℤ c.x) n l
+            (drop_zero (b.y -ℤ a.y) cross ((b.x -ℤ a.x) *ℤ q) (p *ℤ (d.x -ℤ c.x)) z (along_u (b.x -ℤ a.x) (b.y -ℤ a.y) (d.x -ℤ c.x) (d.y -ℤ c.y)))),
+        still_between a.y b.y c.y d.y i.0.1 j.0.1 (one_sign p q (b.y -ℤ a.y) (d.y -ℤ c.y) n l
+            (drop_zero' (b.x -ℤ a.x) cross ((b.y -ℤ a.y) *ℤ q) (p *ℤ (d.y -ℤ c.y)) z (along_v (b.x -ℤ a.x) (b.y -ℤ a.y) (d.x -ℤ c.x) (d.y -ℤ c.y)))),
       ),
       (still_on_line a b c d i.1.0 j.1.0 l, ((λ e. apart c d l e), j.1.1.1)),
     )
@@ -222,7 +233,8 @@ abbrev pub IsChain : (Corner → Corner → Type 0) → List Corner → Type 0
 IsChain R [] = Unit {0}
 IsChain R (c ∷ rest) = Chain R c rest
 
-along_from : (a b p : Corner) (xs : List Corner) → IsStrictlyInside p a b → AllByRecursion (λ c. IsStrictlyInside c a b) xs → Chain (LeadsOn a b) p xs → AreAlong p xs b
+along_from : (a b p : Corner) (xs : List Corner) → IsStrictlyInside p a b → AllByRecursion (λ c. IsStrictlyInside c a b) xs
+    → Chain (LeadsOn a b) p xs → AreAlong p xs b
 along_from a b p [] h k l = tt
 along_from a b p (c ∷ rest) h k l = (later_inside a b p c h k.0 l.0, along_from a b c rest k.0 k.1 l.1)
 
@@ -231,11 +243,13 @@ pub along : (a b : Corner) (xs : List Corner) → AllByRecursion (λ c. IsStrict
 along a b [] h k = tt
 along a b (c ∷ rest) h k = (h.0, along_from a b c rest h.0 h.1 k)
 
-pub Chain-weaker : (R S : Corner → Corner → Type 0) (P : Corner → Type 0) → ((c d : Corner) → P c → P d → R c d → S c d) → (p : Corner) (xs : List Corner) → P p → AllByRecursion P xs → Chain R p xs → Chain S p xs
+pub Chain-weaker : (R S : Corner → Corner → Type 0) (P : Corner → Type 0) → ((c d : Corner) → P c → P d → R c d → S c d)
+    → (p : Corner) (xs : List Corner) → P p → AllByRecursion P xs → Chain R p xs → Chain S p xs
 Chain-weaker R S P w p [] h k l = tt
 Chain-weaker R S P w p (c ∷ rest) h k l = (w p c h k.0 l.0, Chain-weaker R S P w c rest k.0 k.1 l.1)
 
-pub IsChain-weaker : (R S : Corner → Corner → Type 0) (P : Corner → Type 0) → ((c d : Corner) → P c → P d → R c d → S c d) → (xs : List Corner) → AllByRecursion P xs → IsChain R xs → IsChain S xs
+pub IsChain-weaker : (R S : Corner → Corner → Type 0) (P : Corner → Type 0) → ((c d : Corner) → P c → P d → R c d → S c d) → (xs : List Corner)
+    → AllByRecursion P xs → IsChain R xs → IsChain S xs
 IsChain-weaker R S P w [] k l = tt
 IsChain-weaker R S P w (c ∷ rest) k l = Chain-weaker R S P w c rest k.0 k.1 l
 

@@ -1,5 +1,6 @@
 -- Where net numbers are equal, so are the sums of each measure that changes its sign with an edge's direction.
-use Rattle.std.proofs.Common.{◌≡◌, ◌⊎◌, inl, inr, refl, sym, ◌∙◌, ap, arith, Bool, true, false, if◌then◌else◌, ◌&&◌, ℕ, zero, suc, ◌+◌, ◌<◌, ◌≤◌, length, length-append, ℤ, pos, neg_ℤ, ◌+ℤ◌, ◌-ℤ◌, List, [], ◌∷◌, ◌++◌}
+use Rattle.std.proofs.Common.{◌≡◌, ◌⊎◌, inl, inr, refl, sym, ◌∙◌, ap, arith, Bool, true, false, if◌then◌else◌, ◌&&◌, ℕ}
+use Rattle.std.proofs.Common.{zero, suc, ◌+◌, ◌<◌, ◌≤◌, length, length-append, ℤ, pos, neg_ℤ, ◌+ℤ◌, ◌-ℤ◌, List, [], ◌∷◌, ◌++◌}
 use Rattle.std.proofs.lemmas.Int.{ints}
 use Rattle.std.proofs.lemmas.Bool.Decides.{not_from_Decides}
 use Rattle.geo_exact.specs.declared.corner.Corner.{Corner}
@@ -33,8 +34,14 @@ pub find_edge : (es : List Edge) (a b : Corner) → 0 < edge_count es a b → Ha
 find_edge [] a b h = absurd (omega arith)
 find_edge (e ∷ es) a b h = choose (runs_from_to a b e) (Decides-is_same_edge (e.from, e.to) (a, b)).0 h (λ k. find_edge es a b k)
   where
-    choose : (t : Bool) → (t ≡ true → (e.from ≡ a) × (e.to ≡ b)) → 0 < (if t then 1 else 0) + edge_count es a b → (0 < edge_count es a b → HasEdge es a b) → HasEdge (e ∷ es) a b
-    choose true same k later = record { front = []; back = es; is = ap (λ (x : Corner). edge_of x e.to ∷ es) (same refl).0 ∙ ap (λ (y : Corner). edge_of a y ∷ es) (same refl).1 }
+    choose : (t : Bool) → (t ≡ true → (e.from ≡ a) × (e.to ≡ b)) → 0 < (if t then 1 else 0) + edge_count es a b
+        → (0 < edge_count es a b → HasEdge es a b) → HasEdge (e ∷ es) a b
+    choose true same k later = record {
+      front = [];
+      back = es;
+      is =
+          ap (λ (x : Corner). edge_of x e.to ∷ es) (same refl).0 ∙ ap (λ (y : Corner). edge_of a y ∷ es) (same refl).1;
+    }
     choose false same k later = let w = later (omega arith) in record { front = e ∷ w.front; back = w.back; is = ap (λ xs. e ∷ xs) w.is }
 
 -- an edge with two ends counts once among those from its start to its end
@@ -42,7 +49,8 @@ counts_itself : (a b : Corner) → (a ≡ b → ⊥) → net_of_edges (edge_of a
 counts_itself a b h =
     read (is_same a a) (is_same b b) (is_same a b) (is_same b a) (is_same_itself a) (is_same_itself b) (λ e. h ((Decides-is_same a b).0 e))
   where
-    read : (aa bb ab ba : Bool) → aa ≡ true → bb ≡ true → (ab ≡ true → ⊥) → pos ((if aa && bb then 1 else 0) + 0) -ℤ pos ((if ab && ba then 1 else 0) + 0) ≡ pos 1
+    read : (aa bb ab ba : Bool) → aa ≡ true → bb ≡ true → (ab ≡ true → ⊥)
+        → pos ((if aa && bb then 1 else 0) + 0) -ℤ pos ((if ab && ba then 1 else 0) + 0) ≡ pos 1
     read true true true ba x y z = absurd (z refl)
     read true true false ba x y z = refl
     read true false ab ba x y z = cc
@@ -54,8 +62,17 @@ there_is_one from to back n m h k l e = omega (arith, ints)
 same_sum : (measure : Edge → ℤ) (front back : List Edge) (e : Edge) → sum_over measure (front ++ e ∷ back) ≡ measure e +ℤ sum_over measure (front ++ back)
 same_sum measure front back e = omega (arith, ints, sum_over-append measure front (e ∷ back), sum_over-append measure front back)
 
-same_net : (front back : List Edge) (e : Edge) (a b : Corner) → net_of_edges (front ++ e ∷ back) a b ≡ net_of_edges (e ∷ []) a b +ℤ net_of_edges (front ++ back) a b
-same_net front back e a b = omega (arith, ints, edge_count-append front (e ∷ back) a b, edge_count-append front (e ∷ back) b a, edge_count-append front back a b, edge_count-append front back b a)
+same_net : (front back : List Edge) (e : Edge) (a b : Corner)
+    → net_of_edges (front ++ e ∷ back) a b ≡ net_of_edges (e ∷ []) a b +ℤ net_of_edges (front ++ back) a b
+same_net front back e a b = omega (
+  arith,
+  ints,
+  edge_count-append front (e ∷ back) a b,
+  edge_count-append front
+      (e ∷ back) b a,
+  edge_count-append front back a b,
+  edge_count-append front back b a,
+)
 
 own_negative : (z : ℤ) → z ≡ neg_ℤ z → z ≡ pos 0
 own_negative z h = omega (arith, ints)
@@ -64,20 +81,30 @@ own_negative z h = omega (arith, ints)
 cancelled_flat : (measure : Edge → ℤ) → ChangesSign measure → (e : Edge) (es : List Edge) → e.from ≡ e.to → CancelsOut (e ∷ es)
     → (CancelsOut es → sum_over measure es ≡ pos 0) → measure e +ℤ sum_over measure es ≡ pos 0
 cancelled_flat measure turns e es s h others =
-    let one : measure e ≡ pos 0 = own_negative (measure e) (ap measure (ap (λ (x : Corner). edge_of x e.to) s ∙ ap (λ (y : Corner). edge_of e.to y) (sym s)) ∙ turns e) in
-    omega (arith, ints, one, others (λ a b. left_over (net_of_edges (e ∷ es) a b) (net_of_edges (e ∷ []) a b) (net_of_edges es a b) (h a b) (net_of_cons e es a b) (net_of_no_length e.from e.to a b s)))
+    let one : measure e ≡ pos 0 = own_negative (measure e) (ap measure
+    (ap (λ (x : Corner). edge_of x e.to) s ∙ ap (λ (y : Corner). edge_of e.to y) (sym s)) ∙ turns e) in
+    omega (
+      arith,
+      ints,
+      one,
+      others (λ a b. left_over (net_of_edges (e ∷ es) a b) (net_of_edges (e ∷ []) a b) (net_of_edges es a b) (h a b)
+          (net_of_cons e es a b) (net_of_no_length e.from e.to a b s)),
+    )
   where
     left_over : (all one others : ℤ) → all ≡ pos 0 → all ≡ one +ℤ others → one ≡ pos 0 → others ≡ pos 0
     left_over all one others h k l = omega (arith, ints)
 
 -- an edge with two ends, and one that runs back
-cancelled_pair : (measure : Edge → ℤ) → ChangesSign measure → (n : ℕ) (e : Edge) (es : List Edge) → length es ≤ n → CancelsOut (e ∷ es) → HasEdge es e.to e.from
+cancelled_pair : (measure : Edge → ℤ) → ChangesSign measure → (n : ℕ) (e : Edge) (es : List Edge) → length es ≤ n → CancelsOut (e ∷ es)
+    → HasEdge es e.to e.from
     → ((fs : List Edge) → length fs ≤ n → CancelsOut fs → sum_over measure fs ≡ pos 0) → measure e +ℤ sum_over measure es ≡ pos 0
 cancelled_pair measure turns n e es l h w others =
     let back : Edge = edge_of e.to e.from in
     let sum : sum_over measure es ≡ measure back +ℤ sum_over measure (w.front ++ w.back) = ap (sum_over measure) w.is ∙ same_sum measure w.front w.back back in
-    let short : length (w.front ++ w.back) ≤ n = shorter (length w.front) (length w.back) (length es) (ap length w.is ∙ length-append w.front (back ∷ w.back)) in
-    let nets : CancelsOut (w.front ++ w.back) = λ a b. left_over (net_of_edges (e ∷ es) a b) (net_of_edges (e ∷ []) a b) (net_of_edges es a b) (net_of_edges (back ∷ []) a b) (net_of_edges (w.front ++ w.back) a b)
+    let short : length (w.front ++ w.back) ≤ n = shorter (length w.front) (length w.back) (length es)
+    (ap length w.is ∙ length-append w.front (back ∷ w.back)) in
+    let nets : CancelsOut (w.front ++ w.back) = λ a b. left_over (net_of_edges (e ∷ es) a b) (net_of_edges (e ∷ []) a b) (net_of_edges es a b)
+    (net_of_edges (back ∷ []) a b) (net_of_edges (w.front ++ w.back) a b)
     (h a b) (net_of_cons e es a b) (ap (λ xs. net_of_edges xs a b) w.is ∙ same_net w.front w.back back a b) (net_of_turned e.from e.to a b) in
     omega (arith, ints, sum, turns e, others (w.front ++ w.back) short nets)
   where
@@ -101,7 +128,8 @@ cancelled measure turns (suc n) (e ∷ es) l h =
         let apart : (e.from ≡ e.to → ⊥) = not_from_Decides (is_same e.from e.to) (Decides-is_same e.from e.to) s in
         cancelled_pair measure turns n e es l h
         (find_edge es e.to e.from
-        (there_is_one (net_of_edges (e ∷ []) e.from e.to) (net_of_edges (e ∷ es) e.from e.to) (net_of_edges es e.from e.to) (edge_count es e.from e.to) (edge_count es e.to e.from)
+        (there_is_one (net_of_edges (e ∷ []) e.from e.to) (net_of_edges (e ∷ es) e.from e.to) (net_of_edges es e.from e.to)
+        (edge_count es e.from e.to) (edge_count es e.to e.from)
         (counts_itself e.from e.to apart) (h e.from e.to) (net_of_cons e es e.from e.to) refl))
         others
 
@@ -118,29 +146,35 @@ sum_over-turned measure turns (e ∷ es) = omega (arith, ints, turns e, sum_over
 net_of_turned_edges : (es : List Edge) (a b : Corner) → net_of_edges (turned_edges es) a b ≡ neg_ℤ (net_of_edges es a b)
 net_of_turned_edges [] a b = refl
 net_of_turned_edges (e ∷ es) a b =
-    total (net_of_edges (turned_edge e ∷ turned_edges es) a b) (net_of_edges (turned_edge e ∷ []) a b) (net_of_edges (turned_edges es) a b) (net_of_edges (e ∷ es) a b) (net_of_edges (e ∷ []) a b) (net_of_edges es a b)
+    total (net_of_edges (turned_edge e ∷ turned_edges es) a b) (net_of_edges (turned_edge e ∷ []) a b) (net_of_edges (turned_edges es) a b)
+    (net_of_edges (e ∷ es) a b) (net_of_edges (e ∷ []) a b) (net_of_edges es a b)
     (net_of_cons (turned_edge e) (turned_edges es) a b) (net_of_cons e es a b) (net_of_turned e.from e.to a b) (net_of_turned_edges es a b)
   where
-    total : (all' one' others' all one others : ℤ) → all' ≡ one' +ℤ others' → all ≡ one +ℤ others → one' ≡ neg_ℤ one → others' ≡ neg_ℤ others → all' ≡ neg_ℤ all
+    total : (all' one' others' all one others : ℤ) → all' ≡ one' +ℤ others' → all ≡ one +ℤ others → one' ≡ neg_ℤ one → others' ≡ neg_ℤ others
+        → all' ≡ neg_ℤ all
     total all' one' others' all one others h k l m = omega (arith, ints)
 
 -- lists of edges with the same net numbers have the same sum
-pub sum_over-balanced : (measure : Edge → ℤ) → ChangesSign measure → (es fs : List Edge) → ((a b : Corner) → net_of_edges es a b ≡ net_of_edges fs a b) → sum_over measure es ≡ sum_over measure fs
+pub sum_over-balanced : (measure : Edge → ℤ) → ChangesSign measure → (es fs : List Edge)
+    → ((a b : Corner) → net_of_edges es a b ≡ net_of_edges fs a b) → sum_over measure es ≡ sum_over measure fs
 sum_over-balanced measure turns es fs h =
     let z : sum_over measure (es ++ turned_edges fs) ≡ pos 0 = cancelled measure turns (length (es ++ turned_edges fs)) (es ++ turned_edges fs) (omega arith)
-    (λ a b. nothing (net_of_edges (es ++ turned_edges fs) a b) (net_of_edges es a b) (net_of_edges fs a b) (net_of_edges (turned_edges fs) a b) (net_of_append es (turned_edges fs) a b) (h a b) (net_of_turned_edges fs a b)) in
+    (λ a b. nothing (net_of_edges (es ++ turned_edges fs) a b) (net_of_edges es a b) (net_of_edges fs a b) (net_of_edges (turned_edges fs) a b)
+    (net_of_append es (turned_edges fs) a b) (h a b) (net_of_turned_edges fs a b)) in
     omega (arith, ints, z, sum_over-append measure es (turned_edges fs), sum_over-turned measure turns fs)
   where
     nothing : (all x y z : ℤ) → all ≡ x +ℤ z → x ≡ y → z ≡ neg_ℤ y → all ≡ pos 0
     nothing all x y z h k l = omega (arith, ints)
 
-pub sum_of_rings-edges : (measure : Edge → ℤ) (rings : List (List Corner)) → sum_of_rings (λ ring. sum_over measure (edges ring)) rings ≡ sum_over measure (all_edges rings)
+pub sum_of_rings-edges : (measure : Edge → ℤ) (rings : List (List Corner))
+    → sum_of_rings (λ ring. sum_over measure (edges ring)) rings ≡ sum_over measure (all_edges rings)
 sum_of_rings-edges measure [] = refl
 sum_of_rings-edges measure (ring ∷ rings) =
     ap (λ z. sum_over measure (edges ring) +ℤ z) (sum_of_rings-edges measure rings) ∙ sym (sum_over-append measure (edges ring) (all_edges rings))
 
 -- sets of rings with the same net numbers go round each point equally often, and have the same area
-pub winding_sum-balanced : (added taken : List (List Corner)) → ((a b : Corner) → net_count added a b ≡ net_count taken a b) → (p : Point) → winding_sum p added ≡ winding_sum p taken
+pub winding_sum-balanced : (added taken : List (List Corner)) → ((a b : Corner) → net_count added a b ≡ net_count taken a b) → (p : Point)
+    → winding_sum p added ≡ winding_sum p taken
 winding_sum-balanced added taken h p =
     let crossing_of : Edge → ℤ = λ edge. crossing p edge.from edge.to in
     sum_of_rings-edges crossing_of added

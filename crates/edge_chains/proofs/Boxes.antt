@@ -1,9 +1,10 @@
 -- Boxes of blocks: written one by one, and passed over.
-use Rattle.std.proofs.Common.{◌≡◌, ◌⊎◌, inl, inr, ⊎_elim, sym, ◌∙◌, ap, subst, arith, Bool, false, cond, ℕ, zero, suc, ◌<◌, ◌≤◌, List, [], ◌∷◌, ◌++◌, append-nil, length, get_or, set, take, add-one, slice_index}
+use Rattle.std.proofs.Common.{◌≡◌, ◌⊎◌, inl, inr, ⊎_elim, sym, ◌∙◌, ap, subst, refl, arith, Bool, true, false, cond}
+use Rattle.std.proofs.Common.{ℕ, zero, suc, ◌<◌, ◌≤◌, List, [], ◌∷◌, ◌++◌, append-nil, length, get_or, set, take, add-one, slice_index}
 use Rattle.std.specs.List.{filter}
 use Rattle.std.proofs.lemmas.List.{get_or-set_same, get_or-set_other}
 use Rattle.std.proofs.lemmas.List.Elements.{filter_more}
-use Rattle.std.proofs.lemmas.Bool.{cases_eq}
+use Rattle.std.proofs.lemmas.Bool.{cases_eq, false≢true}
 use Rattle.geo_exact.specs.declared.corner.Corner.{Corner}
 use Rattle.edge_chains.specs.declared.bounds.Bounds.{Bounds}
 use Rattle.edge_chains.specs.Inside.{IsInBounds}
@@ -25,12 +26,28 @@ filter_skips p xs d i (suc e) l m h =
         ∙ append-nil (filter p (take e xs))
         ∙ before (omega arith) (omega arith) (λ k u v. h k u (omega arith)))
 
+-- a filter, where a weaker one went before
+pub filter_within : (p q : Corner → Bool) (xs : List Corner) → ((c : Corner) → p c ≡ true → q c ≡ true) → filter p (filter q xs) ≡ filter p xs
+filter_within p q [] h = refl
+filter_within p q (x ∷ xs) h = kept (q x) refl (p x) refl (filter_within p q xs h)
+  where
+    kept : (b : Bool) → q x ≡ b → (t : Bool) → p x ≡ t → filter p (filter q xs) ≡ filter p xs
+        → filter p (cond b (x ∷ filter q xs) (filter q xs)) ≡ cond (p x) (x ∷ filter p xs) (filter p xs)
+    kept true e t f later = ap (λ ys. cond (p x) (x ∷ ys) ys) later
+    kept false e true f later = absurd (false≢true (sym e ∙ h x f))
+    kept false e false f later = later ∙ sym (ap (λ t. cond t (x ∷ filter p xs) (filter p xs)) f)
+
+pub filter_none : (p : Corner → Bool) → ((c : Corner) → p c ≡ false) → (xs : List Corner) → filter p xs ≡ []
+filter_none p h [] = refl
+filter_none p h (x ∷ xs) = ap (λ t. cond t (x ∷ filter p xs) (filter p xs)) (h x) ∙ filter_none p h xs
+
 -- ---- a box that is written
 pub HasOwn-set : (corners : List Corner) (boxes : List Bounds) (i : ℕ) (v : Bounds) → i < length boxes → ((c : Corner) → IsInBounds (get_or corners i c) v)
     → (k : ℕ) → HasOwn corners boxes k → HasOwn corners (set boxes i v) k
 HasOwn-set corners boxes i v l h k own c b =
     ⊎_elim
-    (λ e. subst (λ n. IsInBounds (get_or corners n c) (get_or (set boxes i v) n b)) (sym e) (subst (IsInBounds (get_or corners i c)) (sym (get_or-set_same boxes i v b l)) (h c)))
+    (λ e. subst (λ n. IsInBounds (get_or corners n c) (get_or (set boxes i v) n b)) (sym e)
+    (subst (IsInBounds (get_or corners i c)) (sym (get_or-set_same boxes i v b l)) (h c)))
     (λ n. subst (IsInBounds (get_or corners k c)) (sym (get_or-set_other boxes i k v b n)) (own c b))
     (cases_eq k i)
 

@@ -1,5 +1,7 @@
 -- How the numbers of edges change when an edge is counted.
-use Rattle.std.proofs.Common.{◌≡◌, ◌≢◌, refl, sym, ◌∙◌, ap, subst, arith, ℕ, suc, ◌+◌, ◌<◌, ◌≤◌, length, get_or, drop, drop-cons, add-one, Bool, true, false, cond, ◌&&◌, if◌then◌else◌, IsTrue, ℤ, pos, neg_ℤ, ◌+ℤ◌, ◌-ℤ◌, List, [], ◌∷◌, Option, Some, None, IsSome, Result, Ok, Err, IsOk, OnOk}
+use Rattle.std.proofs.Common.{◌≡◌, ◌≢◌, refl, sym, ◌∙◌, ap, subst, arith, ℕ, suc, ◌+◌, ◌<◌, ◌≤◌, length, get_or, drop, drop-cons, add-one, Bool, true, false}
+use Rattle.std.proofs.Common.{cond, ◌&&◌, if◌then◌else◌, IsTrue, ℤ, pos, neg_ℤ, ◌+ℤ◌, ◌-ℤ◌, List}
+use Rattle.std.proofs.Common.{[], ◌∷◌, Option, Some, None, IsSome, Result, Ok, Err, IsOk, OnOk}
 use Rattle.std.specs.Option.{unwrap_or}
 use Rattle.std.specs.Ordering.{int_eq}
 use Rattle.std.specs.Map.{lookup}
@@ -80,8 +82,10 @@ net_at_changed : (old new : List ((Corner × Corner) × ℤ)) (a b : Corner) (by
     → net_at new c d ≡ net_at old c d +ℤ share a b by c d
 net_at_changed old new a b by before h c d =
     ap (λ n. if is_before c d then n else (if is_before d c then neg_ℤ (number_at new d c) else pos 0)) (number_at_changed old new a b by h c d)
-    ∙ ap (λ n. if is_before c d then cond (is_same_edge (a, b) (c, d)) (number_at old a b +ℤ by) (number_at old c d) else (if is_before d c then neg_ℤ n else pos 0)) (number_at_changed old new a b by h d c)
-    ∙ combined (is_before c d) (is_before d c) (is_same_edge (a, b) (c, d)) (is_same_edge (a, b) (d, c)) (number_at old a b) by (number_at old c d) (number_at old d c)
+    ∙ ap (λ n. if is_before c d then cond (is_same_edge (a, b) (c, d)) (number_at old a b +ℤ by) (number_at old c d) else
+    (if is_before d c then neg_ℤ n else pos 0)) (number_at_changed old new a b by h d c)
+    ∙ combined (is_before c d) (is_before d c) (is_same_edge (a, b) (c, d)) (is_same_edge (a, b) (d, c)) (number_at old a b) by (number_at old c d)
+    (number_at old d c)
     (λ e. at_same old a b c d ((Decides-is_same_edge (a, b) (c, d)).0 e))
     (λ e. at_same old a b d c ((Decides-is_same_edge (a, b) (d, c)).0 e))
     (λ e. in_order_too c d ((Decides-is_same_edge (a, b) (c, d)).0 e))
@@ -100,7 +104,8 @@ one_up false true h = refl
 one_up false false h = refl
 
 one_down : (p q r s : Bool) → (p && q ≡ true → r && s ≡ false)
-    → cond (p && q) (neg_ℤ (pos 1)) (cond (r && s) (neg_ℤ (neg_ℤ (pos 1))) (pos 0)) ≡ pos ((if s && r then 1 else 0) + 0) -ℤ pos ((if q && p then 1 else 0) + 0)
+    → cond (p && q) (neg_ℤ (pos 1)) (cond (r && s) (neg_ℤ (neg_ℤ (pos 1))) (pos 0)) ≡ pos ((if s && r then 1 else 0) + 0) -ℤ pos
+    ((if q && p then 1 else 0) + 0)
 one_down true true true true h = cc (h refl)
 one_down true true true false h = refl
 one_down true true false true h = refl
@@ -162,11 +167,14 @@ pub AreCounts-changed : (old new : List ((Corner × Corner) × ℤ)) (a b : Corn
 AreCounts-changed old new a b by n before one h k = record {
   in_order = λ q s. in_order_at q (is_same_edge (a, b) q) (Decides-is_same_edge (a, b) q).0 (subst IsSome (h q) s);
   no_zero = λ q e. no_zero_at q (is_same_edge (a, b) q) (sym (h q) ∙ e);
-  small = λ q. subst (IsWithin (n + 1)) (sym (number_at_changed old new a b by h q.0 q.1)) (changed_small (is_same_edge (a, b) q) n (number_at old a b) by (number_at old q.0 q.1) (k.small (a, b)) one (k.small q));
+  small = λ q. subst (IsWithin (n + 1)) (sym (number_at_changed old new a b by h q.0 q.1))
+      (changed_small (is_same_edge (a, b) q) n (number_at old a b) by (number_at old q.0 q.1) (k.small (a, b)) one (k.small q));
 }
   where
-    in_order_at : (q : Corner × Corner) (same : Bool) → (same ≡ true → (a ≡ q.0) × (b ≡ q.1)) → IsSome (cond same (entry_of (number_at old a b +ℤ by)) (lookup (is_same_edge q) old)) → IsTrue (is_before q.0 q.1)
-    in_order_at q true e s = truth (is_before q.0 q.1) ((Decides-is_before q.0 q.1).1 (subst (λ z. IsBefore q.0 z) (e refl).1 (subst (λ z. IsBefore z b) (e refl).0 before)))
+    in_order_at : (q : Corner × Corner) (same : Bool) → (same ≡ true → (a ≡ q.0) × (b ≡ q.1))
+        → IsSome (cond same (entry_of (number_at old a b +ℤ by)) (lookup (is_same_edge q) old)) → IsTrue (is_before q.0 q.1)
+    in_order_at q true e s = truth (is_before q.0 q.1) ((Decides-is_before q.0 q.1).1
+        (subst (λ z. IsBefore q.0 z) (e refl).1 (subst (λ z. IsBefore z b) (e refl).0 before)))
       where
         truth : (t : Bool) → t ≡ true → IsTrue t
         truth true u = refl
@@ -184,7 +192,8 @@ pub AreCounts-more : (counts : List ((Corner × Corner) × ℤ)) (n : ℕ) → A
 AreCounts-more counts n h = record { in_order = h.in_order; no_zero = h.no_zero; small = λ q. wider n (number_at counts q.0 q.1) (h.small q) }
 
 -- ---- the net number over lists of edges
-turned_round_tests : (p q r s : Bool) → pos ((if q && p then 1 else 0) + 0) -ℤ pos ((if s && r then 1 else 0) + 0) ≡ neg_ℤ (pos ((if r && s then 1 else 0) + 0) -ℤ pos ((if p && q then 1 else 0) + 0))
+turned_round_tests : (p q r s : Bool) → pos ((if q && p then 1 else 0) + 0) -ℤ pos ((if s && r then 1 else 0) + 0) ≡ neg_ℤ
+    (pos ((if r && s then 1 else 0) + 0) -ℤ pos ((if p && q then 1 else 0) + 0))
 turned_round_tests true true true true = refl
 turned_round_tests true true true false = refl
 turned_round_tests true true false true = refl
@@ -230,8 +239,10 @@ pub counted_more : (side : Side) (before after whole : ℤ) (from to last : Corn
 counted_more side before after whole from to last rest i a b l e h k =
     let c : net_of_edges (path from (drop i rest) last) a b ≡ net_of_edges (edge_of from to ∷ []) a b +ℤ net_of_edges (path to (drop (i + 1) rest) last) a b =
     ap (λ xs. net_of_edges (path from xs last) a b) (drop_here rest i to l e) ∙ net_of_cons (edge_of from to) (path to (drop (i + 1) rest) last) a b in
-    regroup before after whole (signed side (net_of_edges (path from (drop i rest) last) a b)) (signed side (net_of_edges (edge_of from to ∷ []) a b)) (signed side (net_of_edges (path to (drop (i + 1) rest) last) a b))
-    h k (signed_more side (net_of_edges (edge_of from to ∷ []) a b) (net_of_edges (path to (drop (i + 1) rest) last) a b) (net_of_edges (path from (drop i rest) last) a b) c)
+    regroup before after whole (signed side (net_of_edges (path from (drop i rest) last) a b))
+    (signed side (net_of_edges (edge_of from to ∷ []) a b)) (signed side (net_of_edges (path to (drop (i + 1) rest) last) a b))
+    h k (signed_more side (net_of_edges (edge_of from to ∷ []) a b) (net_of_edges (path to (drop (i + 1) rest) last) a b)
+    (net_of_edges (path from (drop i rest) last) a b) c)
   where
     regroup : (before after whole all one others : ℤ) → after ≡ before +ℤ one → before +ℤ all ≡ whole → all ≡ one +ℤ others → after +ℤ others ≡ whole
     regroup before after whole all one others h k c = omega (arith, ints)

@@ -1,5 +1,6 @@
 -- The least edge of a list of numbered edges.
-use Rattle.std.proofs.Common.{◌≡◌, ◌≢◌, refl, sym, ◌∙◌, ap, subst, Bool, true, false, cond, if◌then◌else◌, IsTrue, ℕ, ℤ, pos, neg_ℤ, List, [], ◌∷◌, ◌++◌, append_assoc, append-nil, Option, Some, None, IsSome, IfNone, IfSome}
+use Rattle.std.proofs.Common.{◌≡◌, ◌≢◌, refl, sym, ◌∙◌, ap, subst, Bool, true, false, cond, if◌then◌else◌, IsTrue, ℕ}
+use Rattle.std.proofs.Common.{ℤ, pos, neg_ℤ, List, [], ◌∷◌, ◌++◌, append_assoc, append-nil, Option, Some, None, IsSome, IfNone, IfSome}
 use Rattle.std.specs.Option.{unwrap_or}
 use Rattle.std.specs.List.{All, AllByRecursion}
 use Rattle.std.proofs.lemmas.List.Elements.{recursion_from_All}
@@ -19,7 +20,8 @@ abbrev pub IsFirstOf : List ((Corner × Corner) × ℤ) → Option ((Corner × C
 IsFirstOf entries None done = done ≡ []
 IsFirstOf entries (Some first) done = (lookup (is_same_edge first.0) entries ≡ Some first.1) × NoneBefore first.0 done
 
-NoneBefore-push : (edge : Corner × Corner) (done : List ((Corner × Corner) × ℤ)) (e : (Corner × Corner) × ℤ) → NoneBefore edge done → is_edge_before e.0 edge ≡ false → NoneBefore edge (done ++ e ∷ [])
+NoneBefore-push : (edge : Corner × Corner) (done : List ((Corner × Corner) × ℤ)) (e : (Corner × Corner) × ℤ) → NoneBefore edge done
+    → is_edge_before e.0 edge ≡ false → NoneBefore edge (done ++ e ∷ [])
 NoneBefore-push edge [] e h k = (k, tt)
 NoneBefore-push edge (d ∷ done) e h k = (h.0, NoneBefore-push edge done e h.1 k)
 
@@ -48,10 +50,12 @@ pub IsFirstOf-kept : (entries done : List ((Corner × Corner) × ℤ)) (f e : (C
 IsFirstOf-kept entries done f e b h = (h.0, NoneBefore-push f.0 done e h.1 b)
 
 -- one more entry
-pub IsFirstOf-more : (entries done : List ((Corner × Corner) × ℤ)) (first : Option ((Corner × Corner) × ℤ)) (e next : (Corner × Corner) × ℤ) → lookup (is_same_edge e.0) entries ≡ Some e.1
+pub IsFirstOf-more : (entries done : List ((Corner × Corner) × ℤ)) (first : Option ((Corner × Corner) × ℤ)) (e next : (Corner × Corner) × ℤ)
+    → lookup (is_same_edge e.0) entries ≡ Some e.1
     → IfNone first (next ≡ e) → IfSome first (λ f. next ≡ (if is_edge_before e.0 f.0 then e else f))
     → IsFirstOf entries first done → IsFirstOf entries (Some next) (done ++ e ∷ [])
-IsFirstOf-more entries done None e next l only here h = subst (λ x. IsFirstOf entries (Some x) (done ++ e ∷ [])) (sym only) (IsFirstOf-start entries done e l h)
+IsFirstOf-more entries done None e next l only here h = subst (λ x. IsFirstOf entries (Some x) (done ++ e ∷ [])) (sym only)
+    (IsFirstOf-start entries done e l h)
 IsFirstOf-more entries done (Some f) e next l only here h =
     subst (λ x. IsFirstOf entries (Some x) (done ++ e ∷ [])) (sym here) (chosen (is_edge_before e.0 f.0) refl)
   where
@@ -60,7 +64,8 @@ IsFirstOf-more entries done (Some f) e next l only here h =
     chosen false b = IsFirstOf-kept entries done f e b h
 
 -- the entry behind those done
-pub at_next : (P : (Corner × Corner) × ℤ → Type 0) (done rest : List ((Corner × Corner) × ℤ)) (e : (Corner × Corner) × ℤ) → AllByRecursion P (done ++ e ∷ rest) → P e
+pub at_next : (P : (Corner × Corner) × ℤ → Type 0) (done rest : List ((Corner × Corner) × ℤ)) (e : (Corner × Corner) × ℤ)
+    → AllByRecursion P (done ++ e ∷ rest) → P e
 at_next P [] rest e h = h.0
 at_next P (d ∷ done) rest e h = at_next P done rest e h.1
 
@@ -74,7 +79,8 @@ net_at_of_none a b = read (is_before a b) (is_before b a)
     read false false = refl
 
 -- an entry that a look-up finds does not come before the first
-found_not_before : (entries : List ((Corner × Corner) × ℤ)) (first q : Corner × Corner) (n : ℤ) → lookup (is_same_edge q) entries ≡ Some n → NoneBefore first entries → is_edge_before q first ≡ false
+found_not_before : (entries : List ((Corner × Corner) × ℤ)) (first q : Corner × Corner) (n : ℤ) → lookup (is_same_edge q) entries ≡ Some n
+    → NoneBefore first entries → is_edge_before q first ≡ false
 found_not_before [] first q n l h = cc
 found_not_before (e ∷ entries) first q n l h = read (is_same_edge q e.0) (Decides-is_same_edge q e.0).0 l (λ k. found_not_before entries first q n k h.1)
   where
@@ -94,7 +100,8 @@ is_true : (t : Bool) → IsTrue t → t ≡ true
 is_true true h = refl
 is_true false h = cc
 
-pub IsFirstUnbalanced-from_first : (sum : Counts) (first : (Corner × Corner) × ℤ) (n : ℕ) → AreCounts sum.counts n → IsFirstOf sum.counts (Some first) sum.counts → IsFirstUnbalanced sum first.0.0 first.0.1 first.1
+pub IsFirstUnbalanced-from_first : (sum : Counts) (first : (Corner × Corner) × ℤ) (n : ℕ) → AreCounts sum.counts n
+    → IsFirstOf sum.counts (Some first) sum.counts → IsFirstUnbalanced sum first.0.0 first.0.1 first.1
 IsFirstUnbalanced-from_first sum first n k h =
     let before : IsTrue (is_before first.0.0 first.0.1) = k.in_order first.0 (subst IsSome (sym h.0) refl) in
     record {
@@ -130,7 +137,8 @@ found_next entries counts done left rest e h v k l =
     let P : (Corner × Corner) × ℤ → Type 0 = λ x. lookup (is_same_edge x.0) counts ≡ Some x.1 in
     at_next P done rest e (subst (AllByRecursion P) (sym k ∙ ap (λ r. done ++ r) l) (recursion_from_All P counts (subst FindsEach v h)))
 
-pub one_more_done : (counts done left rest : List ((Corner × Corner) × ℤ)) (e : (Corner × Corner) × ℤ) → done ++ left ≡ counts → left ≡ e ∷ rest → (done ++ e ∷ []) ++ rest ≡ counts
+pub one_more_done : (counts done left rest : List ((Corner × Corner) × ℤ)) (e : (Corner × Corner) × ℤ) → done ++ left ≡ counts → left ≡ e ∷ rest
+    → (done ++ e ∷ []) ++ rest ≡ counts
 one_more_done counts done left rest e k l = append_assoc done (e ∷ []) rest ∙ ap (λ r. done ++ r) (sym l) ∙ k
 
 pub if_none_always : {T : Type 0} (P : Type 0) (o : Option T) → P → IfNone o P

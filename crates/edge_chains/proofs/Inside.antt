@@ -7,14 +7,14 @@ use Rattle.std.proofs.lemmas.Int.{ints, clamps, by_lt_z}
 use Rattle.std.proofs.lemmas.Bool.Decides.{Decides-int_eq, Decides-and, Decides-or, Decides-not, Decides-like, same_from_decides}
 use lib.Signed.{◌<ℤ◌, ◌≤ℤ◌, lt_z, le_z}
 use Rattle.geo_exact.specs.declared.corner.Corner.{Corner}
-use Rattle.geo_exact.specs.Turn.{turn, turn_at}
+use Rattle.geo_exact.specs.Turn.{turn}
 use Rattle.geo_exact.proofs.Signs.{mul_not_neg}
 use Rattle.geo_exact.proofs.TurnLaws.{turn_at_corner}
 use Rattle.geo_exact.proofs.Differences.{expand}
 use Rattle.edge_chains.specs.declared.bounds.Bounds.{Bounds}
 use Rattle.edge_chains.specs.Net.{is_same}
-use Rattle.edge_chains.specs.Noding.{place_of, IsStrictlyInside}
-use Rattle.edge_chains.specs.Inside.{is_between, is_inside, IsInBounds}
+use Rattle.edge_chains.specs.Noding.{IsStrictlyInside}
+use Rattle.edge_chains.specs.Inside.{is_between, is_from_to, is_inside, is_in_bounds, IsInBounds}
 use Rattle.edge_chains.proofs.Corners.{false_where, Decides-is_same, Decides-int_lt}
 
 -- ---- the test
@@ -38,22 +38,19 @@ Decides-parts c a b =
     (Decides-and (int_eq (turn a b c) (pos 0)) (not (is_same c a) && not (is_same c b)) (Decides-int_eq (turn a b c) (pos 0))
     (Decides-and (not (is_same c a)) (not (is_same c b)) (Decides-not (is_same c a) (Decides-is_same c a)) (Decides-not (is_same c b) (Decides-is_same c b))))
 
-at_one : (a b c : Corner) → turn_at a b (place_of c) ≡ turn a b c
-at_one a b c = turn_at_corner a b c
-
 pub inside_from_strictly : (c a b : Corner) → IsStrictlyInside c a b → Inside c a b
 inside_from_strictly c a b h = (
   (
     (omega (arith, ints, h.on_edge.from_x), omega (arith, ints, h.on_edge.to_x)),
     (omega (arith, ints, h.on_edge.from_y), omega (arith, ints, h.on_edge.to_y)),
   ),
-  (sym (at_one a b c) ∙ h.on_edge.on_line, (h.not_start, h.not_end)),
+  (sym (turn_at_corner a b c) ∙ h.on_edge.on_line, (h.not_start, h.not_end)),
 )
 
 pub strictly_from_inside : (c a b : Corner) → Inside c a b → IsStrictlyInside c a b
 strictly_from_inside c a b h = record {
   on_edge = record {
-    on_line = at_one a b c ∙ h.1.0;
+    on_line = turn_at_corner a b c ∙ h.1.0;
     from_x = omega (arith, ints, h.0.0.0);
     to_x = omega (arith, ints, h.0.0.1);
     from_y = omega (arith, ints, h.0.1.0);
@@ -84,18 +81,22 @@ product_between k l h z p q = by_lt_z k (pos 0) down up
         (omega (arith, ints, clamps, simp expand at u, simp expand at v), omega (arith, ints, clamps, simp expand at u, simp expand at v))
 
 -- a corner of the box is not inside the edge, where the products of one kind are all below those of the other
-apart : (p q : ℤ) (bottom top left right : ℤ) → IsBetween bottom top p → IsBetween left right q → (int_max bottom top <ℤ int_min left right) ⊎ (int_max left right <ℤ int_min bottom top) → p -ℤ q ≡ pos 0 → ⊥
+apart : (p q : ℤ) (bottom top left right : ℤ) → IsBetween bottom top p → IsBetween left right q → (int_max bottom top <ℤ int_min left right)
+    ⊎ (int_max left right <ℤ int_min bottom top) → p -ℤ q ≡ pos 0 → ⊥
 apart p q bottom top left right h k (inl l) e = omega (arith, ints, h.1, k.0)
 apart p q bottom top left right h k (inr l) e = omega (arith, ints, h.0, k.1)
 
 pub none_beside : (bounds : Bounds) (a b c : Corner)
-    → (int_max ((b.x -ℤ a.x) *ℤ (bounds.low.y -ℤ a.y)) ((b.x -ℤ a.x) *ℤ (bounds.high.y -ℤ a.y)) <ℤ int_min ((b.y -ℤ a.y) *ℤ (bounds.low.x -ℤ a.x)) ((b.y -ℤ a.y) *ℤ (bounds.high.x -ℤ a.x)))
-    ⊎ (int_max ((b.y -ℤ a.y) *ℤ (bounds.low.x -ℤ a.x)) ((b.y -ℤ a.y) *ℤ (bounds.high.x -ℤ a.x)) <ℤ int_min ((b.x -ℤ a.x) *ℤ (bounds.low.y -ℤ a.y)) ((b.x -ℤ a.x) *ℤ (bounds.high.y -ℤ a.y)))
+    → (int_max ((b.x -ℤ a.x) *ℤ (bounds.low.y -ℤ a.y)) ((b.x -ℤ a.x) *ℤ (bounds.high.y -ℤ a.y)) <ℤ int_min ((b.y -ℤ a.y) *ℤ (bounds.low.x -ℤ a.x))
+    ((b.y -ℤ a.y) *ℤ (bounds.high.x -ℤ a.x)))
+    ⊎ (int_max ((b.y -ℤ a.y) *ℤ (bounds.low.x -ℤ a.x)) ((b.y -ℤ a.y) *ℤ (bounds.high.x -ℤ a.x)) <ℤ int_min ((b.x -ℤ a.x) *ℤ (bounds.low.y -ℤ a.y))
+    ((b.x -ℤ a.x) *ℤ (bounds.high.y -ℤ a.y)))
     → IsInBounds c bounds → is_inside c a b ≡ false
 none_beside bounds a b c h k =
     false_where (is_inside c a b) (Decides-parts c a b)
     (λ i. apart ((b.x -ℤ a.x) *ℤ (c.y -ℤ a.y)) ((b.y -ℤ a.y) *ℤ (c.x -ℤ a.x))
-    ((b.x -ℤ a.x) *ℤ (bounds.low.y -ℤ a.y)) ((b.x -ℤ a.x) *ℤ (bounds.high.y -ℤ a.y)) ((b.y -ℤ a.y) *ℤ (bounds.low.x -ℤ a.x)) ((b.y -ℤ a.y) *ℤ (bounds.high.x -ℤ a.x))
+    ((b.x -ℤ a.x) *ℤ (bounds.low.y -ℤ a.y)) ((b.x -ℤ a.x) *ℤ (bounds.high.y -ℤ a.y)) ((b.y -ℤ a.y) *ℤ (bounds.low.x -ℤ a.x))
+    ((b.y -ℤ a.y) *ℤ (bounds.high.x -ℤ a.x))
     (product_between (b.x -ℤ a.x) (bounds.low.y -ℤ a.y) (bounds.high.y -ℤ a.y) (c.y -ℤ a.y) (omega (arith, ints, k.from_y)) (omega (arith, ints, k.to_y)))
     (product_between (b.y -ℤ a.y) (bounds.low.x -ℤ a.x) (bounds.high.x -ℤ a.x) (c.x -ℤ a.x) (omega (arith, ints, k.from_x)) (omega (arith, ints, k.to_x)))
     h i.1.0)
@@ -108,11 +109,15 @@ not_in_both : (l h u v z : ℤ) → AreApart l h u v → l ≤ℤ z → z ≤ℤ
 not_in_both l h u v z (inl e) p q k = omega (arith, ints, clamps, k.0)
 not_in_both l h u v z (inr e) p q k = omega (arith, ints, clamps, k.1)
 
-pub none_apart_x : (bounds : Bounds) (a b : Corner) → AreApart bounds.low.x bounds.high.x a.x b.x → (c : Corner) → IsInBounds c bounds → is_inside c a b ≡ false
-none_apart_x bounds a b h c k = false_where (is_inside c a b) (Decides-parts c a b) (λ i. not_in_both bounds.low.x bounds.high.x a.x b.x c.x h k.from_x k.to_x i.0.0)
+pub none_apart_x : (bounds : Bounds) (a b : Corner) → AreApart bounds.low.x bounds.high.x a.x b.x → (c : Corner) → IsInBounds c bounds
+    → is_inside c a b ≡ false
+none_apart_x bounds a b h c k = false_where (is_inside c a b) (Decides-parts c a b)
+    (λ i. not_in_both bounds.low.x bounds.high.x a.x b.x c.x h k.from_x k.to_x i.0.0)
 
-pub none_apart_y : (bounds : Bounds) (a b : Corner) → AreApart bounds.low.y bounds.high.y a.y b.y → (c : Corner) → IsInBounds c bounds → is_inside c a b ≡ false
-none_apart_y bounds a b h c k = false_where (is_inside c a b) (Decides-parts c a b) (λ i. not_in_both bounds.low.y bounds.high.y a.y b.y c.y h k.from_y k.to_y i.0.1)
+pub none_apart_y : (bounds : Bounds) (a b : Corner) → AreApart bounds.low.y bounds.high.y a.y b.y → (c : Corner) → IsInBounds c bounds
+    → is_inside c a b ≡ false
+none_apart_y bounds a b h c k = false_where (is_inside c a b) (Decides-parts c a b)
+    (λ i. not_in_both bounds.low.y bounds.high.y a.y b.y c.y h k.from_y k.to_y i.0.1)
 
 -- numbers are equal where their difference is 0, and the tests say so alike
 pub int_eq-difference : (p q : ℤ) → int_eq (p -ℤ q) (pos 0) ≡ int_eq p q
@@ -121,7 +126,8 @@ int_eq-difference p q = same_from_decides (int_eq (p -ℤ q) (pos 0)) (int_eq p 
     (Decides-int_eq p q)
 
 Decides-apart : (u v w z : ℤ) → Decides (lt_z (int_max u v) (int_min w z) || lt_z (int_max w z) (int_min u v)) (AreApart u v w z)
-Decides-apart u v w z = Decides-or (lt_z (int_max u v) (int_min w z)) (lt_z (int_max w z) (int_min u v)) (Decides-int_lt (int_max u v) (int_min w z)) (Decides-int_lt (int_max w z) (int_min u v))
+Decides-apart u v w z = Decides-or (lt_z (int_max u v) (int_min w z)) (lt_z (int_max w z) (int_min u v)) (Decides-int_lt (int_max u v) (int_min w z))
+    (Decides-int_lt (int_max w z) (int_min u v))
 
 -- what a test that is true tells
 pub apart_from_test : (t : Bool) (u v w z : ℤ) → t ≡ (lt_z (int_max u v) (int_min w z) || lt_z (int_max w z) (int_min u v)) → t ≡ true → AreApart u v w z
@@ -141,4 +147,50 @@ none_beside_of bounds a b c bottom top left right e f g h k l =
     let left' = (b.y -ℤ a.y) *ℤ (bounds.low.x -ℤ a.x) in
     let right' = (b.y -ℤ a.y) *ℤ (bounds.high.x -ℤ a.x) in
     none_beside bounds a b c
-    (subst (λ z. AreApart bottom' top' left' z) h (subst (λ z. AreApart bottom' top' z right) g (subst (λ z. AreApart bottom' z left right) f (subst (λ z. AreApart z top left right) e k)))) l
+    (subst (λ z. AreApart bottom' top' left' z) h (subst (λ z. AreApart bottom' top' z right) g
+    (subst (λ z. AreApart bottom' z left right) f (subst (λ z. AreApart z top left right) e k)))) l
+
+-- ---- two boxes
+Decides-is_from_to : (u v z : ℤ) → Decides (is_from_to u v z) ((u ≤ℤ z) × (z ≤ℤ v))
+Decides-is_from_to u v z = Decides-and (le_z u z) (le_z z v) (Decides-int_le u z) (Decides-int_le z v)
+
+pub Decides-is_in_bounds : (c : Corner) (bounds : Bounds) → Decides (is_in_bounds c bounds) (IsInBounds c bounds)
+Decides-is_in_bounds c bounds =
+    Decides-like (is_in_bounds c bounds)
+    (λ h. record { from_x = h.0.0; to_x = h.0.1; from_y = h.1.0; to_y = h.1.1 })
+    (λ h. ((h.from_x, h.to_x), (h.from_y, h.to_y)))
+    (Decides-and (is_from_to bounds.low.x bounds.high.x c.x) (is_from_to bounds.low.y bounds.high.y c.y)
+    (Decides-is_from_to bounds.low.x bounds.high.x c.x) (Decides-is_from_to bounds.low.y bounds.high.y c.y))
+
+abbrev pub AreOff : ℤ → ℤ → ℤ → ℤ → Type 0
+AreOff u v w z = (v <ℤ w) ⊎ (z <ℤ u)
+
+pub off_from_test : (t : Bool) (u v w z : ℤ) → t ≡ (lt_z v w || lt_z z u) → t ≡ true → AreOff u v w z
+off_from_test t u v w z e h = (Decides-or (lt_z v w) (lt_z z u) (Decides-int_lt v w) (Decides-int_lt z u)).0 (sym e ∙ h)
+
+-- a number of one range is not in a range off it
+not_in_off : (u v w z k : ℤ) → AreOff u v w z → u ≤ℤ k → k ≤ℤ v → w ≤ℤ k → k ≤ℤ z → ⊥
+not_in_off u v w z k (inl l) p q r s = omega (arith, ints)
+not_in_off u v w z k (inr l) p q r s = omega (arith, ints)
+
+pub none_off_x : (one other : Bounds) → AreOff one.low.x one.high.x other.low.x other.high.x → (c : Corner) → IsInBounds c one → is_in_bounds c other ≡ false
+none_off_x one other h c k = false_where (is_in_bounds c other) (Decides-is_in_bounds c other)
+    (λ i. not_in_off one.low.x one.high.x other.low.x other.high.x c.x h k.from_x k.to_x i.from_x i.to_x)
+
+pub none_off_y : (one other : Bounds) → AreOff one.low.y one.high.y other.low.y other.high.y → (c : Corner) → IsInBounds c one → is_in_bounds c other ≡ false
+none_off_y one other h c k = false_where (is_in_bounds c other) (Decides-is_in_bounds c other)
+    (λ i. not_in_off one.low.y one.high.y other.low.y other.high.y c.y h k.from_y k.to_y i.from_y i.to_y)
+
+-- a box with both ends of an edge has what lies inside the edge
+pub covered : (bounds : Bounds) (a b : Corner) → is_in_bounds a bounds ≡ true → is_in_bounds b bounds ≡ true → (c : Corner) → is_inside c a b ≡ true
+    → is_in_bounds c bounds ≡ true
+covered bounds a b h k c t =
+    let p = (Decides-is_in_bounds a bounds).0 h in
+    let q = (Decides-is_in_bounds b bounds).0 k in
+    let i = (Decides-parts c a b).0 t in
+    (Decides-is_in_bounds c bounds).1 (record {
+      from_x = omega (arith, ints, clamps, p.from_x, q.from_x, i.0.0.0);
+      to_x = omega (arith, ints, clamps, p.to_x, q.to_x, i.0.0.1);
+      from_y = omega (arith, ints, clamps, p.from_y, q.from_y, i.0.1.0);
+      to_y = omega (arith, ints, clamps, p.to_y, q.to_y, i.0.1.1);
+    })

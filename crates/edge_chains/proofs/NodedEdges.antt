@@ -1,5 +1,6 @@
 -- Edges with the corners that were inserted into them.
-use Rattle.std.proofs.Common.{◌≡◌, ◌⊎◌, ◌↔◌, inl, inr, ⊎_elim, refl, sym, ◌∙◌, ap, subst, arith, Bool, true, false, cond, ℕ, ◌+◌, ◌<◌, length, get_or, drop, ℤ, List, [], ◌∷◌, ◌++◌, append_assoc, append-nil, reverse, map, take, Result, Ok, Err, IfOk}
+use Rattle.std.proofs.Common.{◌≡◌, ◌⊎◌, ◌↔◌, inl, inr, ⊎_elim, refl, sym, ◌∙◌, ap, subst, arith, Bool, true, false, cond, ℕ, ◌+◌}
+use Rattle.std.proofs.Common.{◌<◌, length, get_or, drop, ℤ, List, [], ◌∷◌, ◌++◌, append_assoc, append-nil, reverse, map, take, Result, Ok, Err, IfOk}
 use Rattle.std.specs.Int.{int_min, int_max}
 use Rattle.std.specs.List.{Contains, filter, AllByRecursion, AllZip}
 use Rattle.std.specs.List.Sorted.{IsStrictlySortedBy, IsPermutation}
@@ -31,7 +32,8 @@ pub Contains-there : {X : Type 0} (x : X) (xs : List X) (c : X) → Contains xs 
 Contains-there x xs c h = Contains-append_right (x ∷ []) xs c h
 
 pub Contains-cases : {X : Type 0} (x : X) (xs : List X) (c : X) → Contains (x ∷ xs) c → (x ≡ c) ⊎ Contains xs c
-Contains-cases x xs c h = ⊎_elim (λ p. ⊎_elim (λ q. absurd (none_in_nil c q)) (λ e. inl e) (Contains-push_cases [] x c p)) (λ q. inr q) (Contains-append_cases (x ∷ []) xs c h)
+Contains-cases x xs c h = ⊎_elim (λ p. ⊎_elim (λ q. absurd (none_in_nil c q)) (λ e. inl e) (Contains-push_cases [] x c p)) (λ q. inr q)
+    (Contains-append_cases (x ∷ []) xs c h)
 
 pub Contains-filter : (p : Corner → Bool) (xs : List Corner) (c : Corner) → Contains xs c → p c ≡ true → Contains (filter p xs) c
 Contains-filter p [] c h e = absurd (none_in_nil c h)
@@ -50,8 +52,10 @@ Contains-from_filter p (x ∷ xs) c h = kept (p x) refl h (λ k. Contains-from_f
     there : Contains xs c × (p c ≡ true) → Contains (x ∷ xs) c × (p c ≡ true)
     there k = (Contains-there x xs c k.0, k.1)
 
-    kept : (b : Bool) → p x ≡ b → Contains (cond b (x ∷ filter p xs) (filter p xs)) c → (Contains (filter p xs) c → Contains xs c × (p c ≡ true)) → Contains (x ∷ xs) c × (p c ≡ true)
-    kept true is k later = ⊎_elim (λ s. (subst (Contains (x ∷ xs)) s (Contains-here x xs), sym (ap p s) ∙ is)) (λ m. there (later m)) (Contains-cases x (filter p xs) c k)
+    kept : (b : Bool) → p x ≡ b → Contains (cond b (x ∷ filter p xs) (filter p xs)) c → (Contains (filter p xs) c → Contains xs c × (p c ≡ true))
+        → Contains (x ∷ xs) c × (p c ≡ true)
+    kept true is k later = ⊎_elim (λ s. (subst (Contains (x ∷ xs)) s (Contains-here x xs), sym (ap p s) ∙ is)) (λ m. there (later m))
+        (Contains-cases x (filter p xs) c k)
     kept false is k later = there (later k)
 
 pub all_from_contains : {X : Type 0} (P : X → Type 0) (xs : List X) → ((c : X) → Contains xs c → P c) → AllByRecursion P xs
@@ -75,13 +79,18 @@ IsNodedEdge-from : (corners found once out : List Corner) (a b : Corner) → fou
     → IsPermutation once out → (AllByRecursion (λ c. IsStrictlyInside c a b) out → AreAlong a out b)
     → IsNodedEdge corners (edge_of a b) out
 IsNodedEdge-from corners found once out a b f keeps adds moved order = record {
-  exactly = λ c. (λ h. is_found c h, λ h. Contains-permutation once out c moved (keeps c (subst (λ l. Contains l c) (sym f) (Contains-filter (λ x. is_inside x a b) corners c h.0 ((Decides-is_inside c a b).1 h.1)))));
+  exactly = λ c. (
+    λ h. is_found c h,
+    λ h. Contains-permutation once out c moved
+        (keeps c (subst (λ l. Contains l c) (sym f) (Contains-filter (λ x. is_inside x a b) corners c h.0 ((Decides-is_inside c a b).1 h.1)))),
+  );
   in_order = order (all_from_contains (λ c. IsStrictlyInside c a b) out (λ c h. (is_found c h).1));
 }
   where
     is_found : (c : Corner) → Contains out c → Contains corners c × IsStrictlyInside c a b
     is_found c h =
-        let k = Contains-from_filter (λ x. is_inside x a b) corners c (subst (λ l. Contains l c) f (adds c (Contains-permutation out once c (IsPermutation-sym once out moved) h))) in
+        let k = Contains-from_filter (λ x. is_inside x a b) corners c
+        (subst (λ l. Contains l c) f (adds c (Contains-permutation out once c (IsPermutation-sym once out moved) h))) in
         (k.0, (Decides-is_inside c a b).0 k.1)
 
 -- found corners, sorted, and turned round where the edge goes down
@@ -100,7 +109,8 @@ pub IsNodedEdge-up : (corners found once out : List Corner) (a b : Corner) → f
 IsNodedEdge-up corners found once out a b f rises keeps adds up e =
     IsNodedEdge-from corners found once out a b f keeps adds (subst (IsPermutation once) (sym e) (IsPermutation-refl once))
     (λ all. along a b out all (IsChain-weaker IsBefore (LeadsOn a b) (λ c. IsStrictlyInside c a b)
-    (λ c d p q r. ⊎_elim (λ h. leads_on_up a b c d h p q r) (λ h. absurd (none_inside_no_length c a b (same_unless_before a b h up) p)) (cases_of (is_before a b) (Decides-is_before a b))) out all
+    (λ c d p q r. ⊎_elim (λ h. leads_on_up a b c d h p q r) (λ h. absurd (none_inside_no_length c a b (same_unless_before a b h up) p))
+    (cases_of (is_before a b) (Decides-is_before a b))) out all
     (subst (IsChain IsBefore) (sym e) (IsChain-from_sorted once rises))))
 
 -- ---- edge after edge
@@ -115,7 +125,8 @@ pub noded_more : (corners : List Corner) (whole : List Edge) (before after : Lis
     → (others : List Corner) → AreNodedEdges corners (path to (drop (i + 1) rest) last) others → AreNodedEdges corners whole (after ++ others)
 noded_more corners whole before after from to last rest i l e h k others m =
     subst (AreNodedEdges corners whole) (sym (append_assoc before (from ∷ h.0) others) ∙ ap (λ xs. xs ++ others) (sym h.2))
-    (k (from ∷ h.0 ++ others) (subst (λ xs. AreNodedEdges corners (path from xs last) (from ∷ h.0 ++ others)) (sym (drop_here rest i to l e)) (h.0, others, h.1, m, refl)))
+    (k (from ∷ h.0 ++ others) (subst (λ xs. AreNodedEdges corners (path from xs last) (from ∷ h.0 ++ others)) (sym (drop_here rest i to l e))
+    (h.0, others, h.1, m, refl)))
 
 -- the last edge
 pub noded_all : (corners : List Corner) (whole : List Edge) (before after : List Corner) (from last : Corner) (rest : List Corner) (i : ℕ)
@@ -124,10 +135,12 @@ pub noded_all : (corners : List Corner) (whole : List Edge) (before after : List
     → AreNodedEdges corners whole after
 noded_all corners whole before after from last rest i l h k =
     subst (AreNodedEdges corners whole) (sym h.2)
-    (k (from ∷ h.0) (subst (λ xs. AreNodedEdges corners (path from xs last) (from ∷ h.0)) (sym (drop_all i rest (omega arith))) (h.0, [], h.1, refl, ap (λ xs. from ∷ xs) (sym (append-nil h.0)))))
+    (k (from ∷ h.0) (subst (λ xs. AreNodedEdges corners (path from xs last) (from ∷ h.0)) (sym (drop_all i rest (omega arith)))
+    (h.0, [], h.1, refl, ap (λ xs. from ∷ xs) (sym (append-nil h.0)))))
 
 -- the same corners in another list
-pub AreNodedEdges-alike : (xs ys : List Corner) → ((c : Corner) → Contains xs c ↔ Contains ys c) → (es : List Edge) (out : List Corner) → AreNodedEdges xs es out → AreNodedEdges ys es out
+pub AreNodedEdges-alike : (xs ys : List Corner) → ((c : Corner) → Contains xs c ↔ Contains ys c) → (es : List Edge) (out : List Corner)
+    → AreNodedEdges xs es out → AreNodedEdges ys es out
 AreNodedEdges-alike xs ys same [] out h = h
 AreNodedEdges-alike xs ys same (e ∷ es) out h = (
   h.0,
@@ -152,21 +165,25 @@ AllZip-end R [] (z ∷ ys) x y h r = absurd h
 AllZip-end R (z ∷ xs) [] x y h r = absurd h
 AllZip-end R (z ∷ xs) (w ∷ ys) x y h r = (h.0, AllZip-end R xs ys x y h.1 r)
 
-pub AllZip-more : {X Y : Type 0} (R : X → Y → Type 0) (xs : List X) (ys : List Y) (i : ℕ) (x : X) (y : Y) → i < length xs → x ≡ get_or xs i x → AllZip R (take i xs) ys → R x y → AllZip R (take (i + 1) xs) (ys ++ y ∷ [])
-AllZip-more R xs ys i x y l e h r = subst (λ zs. AllZip R zs (ys ++ y ∷ [])) (sym (take_more xs i x l ∙ ap (λ z. take i xs ++ z ∷ []) (sym e))) (AllZip-end R (take i xs) ys x y h r)
+pub AllZip-more : {X Y : Type 0} (R : X → Y → Type 0) (xs : List X) (ys : List Y) (i : ℕ) (x : X) (y : Y) → i < length xs → x ≡ get_or xs i x
+    → AllZip R (take i xs) ys → R x y → AllZip R (take (i + 1) xs) (ys ++ y ∷ [])
+AllZip-more R xs ys i x y l e h r = subst (λ zs. AllZip R zs (ys ++ y ∷ [])) (sym (take_more xs i x l ∙ ap (λ z. take i xs ++ z ∷ []) (sym e)))
+    (AllZip-end R (take i xs) ys x y h r)
 
 pub if_ok_too : {T E : Type 0} (P Q : T → Type 0) (r : Result T E) → ((x : T) → P x → Q x) → IfOk r P → IfOk r Q
 if_ok_too P Q (Ok x) w h = w x h
 if_ok_too P Q (Err e) w h = h
 
-pub noded_ring : (corners ring noded : List Corner) (first : Corner) (rest : List Corner) → ring ≡ first ∷ rest → AreNodedEdges corners (path first rest first) noded → IsNoded ring corners noded
+pub noded_ring : (corners ring noded : List Corner) (first : Corner) (rest : List Corner) → ring ≡ first ∷ rest
+    → AreNodedEdges corners (path first rest first) noded → IsNoded ring corners noded
 noded_ring corners ring noded first rest e h = subst (λ r. IsNoded r corners noded) (sym e) h
 
 pub noded_nothing : (corners ring noded : List Corner) → length ring ≡ 0 → noded ≡ [] → IsNoded ring corners noded
 noded_nothing corners [] noded e h = h
 noded_nothing corners (c ∷ rest) noded e h = absurd (omega arith)
 
-pub AllZip-map : {X Y U V : Type 0} (R : U → V → Type 0) (f : X → U) (g : Y → V) (xs : List X) (ys : List Y) → AllZip (λ x y. R (f x) (g y)) xs ys → AllZip R (map f xs) (map g ys)
+pub AllZip-map : {X Y U V : Type 0} (R : U → V → Type 0) (f : X → U) (g : Y → V) (xs : List X) (ys : List Y) → AllZip (λ x y. R (f x) (g y)) xs ys
+    → AllZip R (map f xs) (map g ys)
 AllZip-map R f g [] [] h = h
 AllZip-map R f g [] (y ∷ ys) h = h
 AllZip-map R f g (x ∷ xs) [] h = h

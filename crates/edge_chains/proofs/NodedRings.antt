@@ -20,7 +20,8 @@ use Rattle.edge_chains.proofs.Parts.{on_parts, on_whole_first, on_whole_second, 
 abbrev pub AddsUp : (Edge → ℤ) → Type 0
 AddsUp measure = (a b c : Corner) → IsStrictlyInside c a b → measure (edge_of a c) +ℤ measure (edge_of c b) ≡ measure (edge_of a b)
 
-sum_over-along : (measure : Edge → ℤ) → AddsUp measure → (a b : Corner) (xs : List Corner) → AreAlong a xs b → sum_over measure (path a xs b) ≡ measure (edge_of a b)
+sum_over-along : (measure : Edge → ℤ) → AddsUp measure → (a b : Corner) (xs : List Corner) → AreAlong a xs b
+    → sum_over measure (path a xs b) ≡ measure (edge_of a b)
 sum_over-along measure adds a b [] h = omega (arith, ints)
 sum_over-along measure adds a b (c ∷ rest) h = omega (arith, ints, adds a b c h.0, sum_over-along measure adds c b rest h.1)
 
@@ -29,7 +30,8 @@ pub record IsNodedPath (corners : List Corner) (from : Corner) (rest : List Corn
   pub tail : List Corner
   pub is : out ≡ from ∷ tail
 
-noded_path : (corners : List Corner) (from to : Corner) (rest out : List Corner) → AreNodedEdges corners (path from rest to) out → IsNodedPath corners from rest to out
+noded_path : (corners : List Corner) (from to : Corner) (rest out : List Corner) → AreNodedEdges corners (path from rest to) out
+    → IsNodedPath corners from rest to out
 noded_path corners from to [] out h = record { tail = h.0 ++ h.1; is = h.4 }
 noded_path corners from to (next ∷ rest) out h = record { tail = h.0 ++ h.1; is = h.4 }
 
@@ -50,12 +52,14 @@ sum_over-noded_path measure adds corners from to (next ∷ rest) tail h =
     ap (λ xs. sum_over measure (path from xs to)) e
     ∙ sum_over-path measure from next to h.0 w.tail
     ∙ ap (λ z. z +ℤ sum_over measure (path next w.tail to)) (sum_over-along measure adds from next h.0 h.2.in_order)
-    ∙ ap (λ z. measure (edge_of from next) +ℤ z) (sum_over-noded_path measure adds corners next to rest w.tail (subst (AreNodedEdges corners (path next rest to)) w.is h.3))
+    ∙ ap (λ z. measure (edge_of from next) +ℤ z) (sum_over-noded_path measure adds corners next to rest w.tail
+    (subst (AreNodedEdges corners (path next rest to)) w.is h.3))
   where
     cons_tail : (c : Corner) (xs ys : List Corner) → c ∷ xs ≡ c ∷ ys → xs ≡ ys
     cons_tail c xs ys e = cc
 
-pub sum_over-noded : (measure : Edge → ℤ) → AddsUp measure → (corners ring noded : List Corner) → IsNoded ring corners noded → sum_over measure (edges noded) ≡ sum_over measure (edges ring)
+pub sum_over-noded : (measure : Edge → ℤ) → AddsUp measure → (corners ring noded : List Corner) → IsNoded ring corners noded
+    → sum_over measure (edges noded) ≡ sum_over measure (edges ring)
 sum_over-noded measure adds corners [] noded h = ap (λ r. sum_over measure (edges r)) h
 sum_over-noded measure adds corners (first ∷ rest) noded h =
     let w = noded_path corners first first rest noded h in
@@ -113,7 +117,8 @@ noded_path_edges corners from to (next ∷ rest) tail h p =
     let e : tail ≡ h.0 ++ next ∷ w.tail = cons_tail from tail (h.0 ++ h.1) h.4 ∙ ap (λ xs. h.0 ++ xs) w.is in
     let joined : path from tail to ≡ path from h.0 next ++ path next w.tail to = ap (λ xs. path from xs to) e ∙ path-join from next to h.0 w.tail in
     let later = noded_path_edges corners next to rest w.tail (subst (AreNodedEdges corners (path next rest to)) w.is h.3) p in (
-      λ k. ⊎_elim (λ m. inl (on_edge_along p from next h.0 h.2.in_order m)) (λ m. inr (later.0 m)) (IsOnSome-either p (path from h.0 next) (path next w.tail to) (subst (IsOnSome p) joined k)),
+      λ k. ⊎_elim (λ m. inl (on_edge_along p from next h.0 h.2.in_order m)) (λ m. inr (later.0 m))
+          (IsOnSome-either p (path from h.0 next) (path next w.tail to) (subst (IsOnSome p) joined k)),
       λ k. subst (IsOnSome p) (sym joined) (⊎_elim
           (λ m. IsOnSome-left p (path from h.0 next) (path next w.tail to) (on_some_along p from next h.0 h.2.in_order m))
           (λ m. IsOnSome-right p (path from h.0 next) (path next w.tail to) (later.1 m)) k),
@@ -136,9 +141,11 @@ inside_along a b c (x ∷ rest) h k =
     ⊎_elim (λ e. subst (λ z. IsStrictlyInside z a b) e h.0) (λ m. inside_whole_second a b x c h.0 (inside_along x b c rest h.1 m)) (Contains-cases x rest c k)
 
 -- a corner strictly inside one of the parts is inside the edge, and is none of the corners that cut it
-between_cuts : (a b c : Corner) (xs : List Corner) (e : Edge) → AreAlong a xs b → Contains (path a xs b) e → IsStrictlyInside c e.from e.to → IsStrictlyInside c a b × (Contains xs c → ⊥)
+between_cuts : (a b c : Corner) (xs : List Corner) (e : Edge) → AreAlong a xs b → Contains (path a xs b) e → IsStrictlyInside c e.from e.to
+    → IsStrictlyInside c a b × (Contains xs c → ⊥)
 between_cuts a b c [] e h k i =
-    ⊎_elim (λ s. (subst (λ z. IsStrictlyInside c z.from z.to) (sym s) i, λ m. none_in_nil c m)) (λ m. absurd (none_in_nil e m)) (Contains-cases (edge_of a b) [] e k)
+    ⊎_elim (λ s. (subst (λ z. IsStrictlyInside c z.from z.to) (sym s) i, λ m. none_in_nil c m)) (λ m. absurd (none_in_nil e m))
+    (Contains-cases (edge_of a b) [] e k)
 between_cuts a b c (x ∷ rest) e h k i =
     ⊎_elim
     (λ s. let j : IsStrictlyInside c a x = subst (λ z. IsStrictlyInside c z.from z.to) (sym s) i in (
@@ -172,14 +179,17 @@ none_inside_path corners from to (next ∷ rest) tail h c e k l i =
     cons_tail : (c : Corner) (xs ys : List Corner) → c ∷ xs ≡ c ∷ ys → xs ≡ ys
     cons_tail c xs ys e = cc
 
-none_inside_ring : (ring corners noded : List Corner) → IsNoded ring corners noded → (c : Corner) (e : Edge) → Contains corners c → Contains (edges noded) e → IsStrictlyInside c e.from e.to → ⊥
+none_inside_ring : (ring corners noded : List Corner) → IsNoded ring corners noded → (c : Corner) (e : Edge) → Contains corners c
+    → Contains (edges noded) e → IsStrictlyInside c e.from e.to → ⊥
 none_inside_ring [] corners noded h c e k l i = none_in_nil e (subst (λ r. Contains (edges r) e) h l)
 none_inside_ring (first ∷ rest) corners noded h c e k l i =
     let w = noded_path corners first first rest noded h in
-    none_inside_path corners first first rest w.tail (subst (AreNodedEdges corners (path first rest first)) w.is h) c e k (subst (λ r. Contains (edges r) e) w.is l) i
+    none_inside_path corners first first rest w.tail (subst (AreNodedEdges corners (path first rest first)) w.is h) c e k
+    (subst (λ r. Contains (edges r) e) w.is l) i
 
 -- each corner of a noded ring is one of the ring's or one of those handed in
-corner_of_path : (corners : List Corner) (from to : Corner) (rest out : List Corner) → AreNodedEdges corners (path from rest to) out → (c : Corner) → Contains out c → Contains (from ∷ rest) c ⊎ Contains corners c
+corner_of_path : (corners : List Corner) (from to : Corner) (rest out : List Corner) → AreNodedEdges corners (path from rest to) out → (c : Corner)
+    → Contains out c → Contains (from ∷ rest) c ⊎ Contains corners c
 corner_of_path corners from to [] out h c k =
     ⊎_elim (λ e. inl (subst (Contains (from ∷ [])) e (Contains-here from [])))
     (λ m. ⊎_elim (λ n. inr ((h.2.exactly c).0 n).0) (λ n. absurd (none_in_nil c (subst (λ xs. Contains xs c) h.3 n))) (Contains-append_cases h.0 h.1 c m))
@@ -187,7 +197,8 @@ corner_of_path corners from to [] out h c k =
 corner_of_path corners from to (next ∷ rest) out h c k =
     ⊎_elim (λ e. inl (subst (Contains (from ∷ next ∷ rest)) e (Contains-here from (next ∷ rest))))
     (λ m. ⊎_elim (λ n. inr ((h.2.exactly c).0 n).0)
-    (λ n. ⊎_elim (λ o. inl (Contains-there from (next ∷ rest) c o)) (λ o. inr o) (corner_of_path corners next to rest h.1 h.3 c n)) (Contains-append_cases h.0 h.1 c m))
+    (λ n. ⊎_elim (λ o. inl (Contains-there from (next ∷ rest) c o)) (λ o. inr o) (corner_of_path corners next to rest h.1 h.3 c n))
+    (Contains-append_cases h.0 h.1 c m))
     (Contains-cases from (h.0 ++ h.1) c (subst (λ xs. Contains xs c) h.4 k))
 
 corner_of_noded : (ring corners noded : List Corner) → IsNoded ring corners noded → (c : Corner) → Contains noded c → Contains ring c ⊎ Contains corners c
@@ -211,7 +222,8 @@ none_inside_all corners [] [] h c e k l i = none_in_nil e l
 none_inside_all corners [] (out ∷ noded) h c e k l i = absurd h
 none_inside_all corners (ring ∷ rings) [] h c e k l i = absurd h
 none_inside_all corners (ring ∷ rings) (out ∷ noded) h c e k l i =
-    ⊎_elim (λ m. none_inside_ring ring corners out h.0 c e k m i) (λ m. none_inside_all corners rings noded h.1 c e k m i) (Contains-append_cases (edges out) (all_edges noded) e l)
+    ⊎_elim (λ m. none_inside_ring ring corners out h.0 c e k m i) (λ m. none_inside_all corners rings noded h.1 c e k m i)
+    (Contains-append_cases (edges out) (all_edges noded) e l)
 
 -- rings noded for all of their corners are fully noded
 pub AreFullyNoded-noded : (corners : List Corner) (rings noded : List (List Corner)) → AllZip (λ ring out. IsNoded ring corners out) rings noded

@@ -4,7 +4,7 @@ use Rattle.std.specs.Int.{int_min, int_max}
 use Rattle.std.proofs.lemmas.Int.{ints, clamps, by_lt_z}
 use lib.Signed.{◌<ℤ◌, ◌≤ℤ◌}
 use Rattle.geo_exact.specs.declared.corner.Corner.{Corner}
-use Rattle.geo_exact.specs.Point.{Point}
+use Rattle.geo_exact.specs.Point.{Point, corner_point}
 use Rattle.geo_exact.specs.Turn.{turn, turn_at, IsOnEdge}
 use Rattle.geo_exact.proofs.Signs.{mul_pos, mul_neg, mul_not_neg, mul_zero, mul_le}
 use Rattle.geo_exact.proofs.Differences.{expand}
@@ -12,7 +12,7 @@ use Rattle.geo_exact.proofs.Polynomials.{Expr, var, add, mul, neg, same_by}
 use Rattle.geo_exact.proofs.SameCorner.{corner_same}
 use Rattle.geo_exact.proofs.TurnLaws.{turn_expr, turn_at_expr}
 use Rattle.geo_exact.proofs.OnEdge.{on_edge_back}
-use Rattle.edge_chains.specs.Noding.{place_of, IsStrictlyInside}
+use Rattle.edge_chains.specs.Noding.{IsStrictlyInside}
 use Rattle.edge_chains.proofs.Inside.{IsBetween, inside_from_strictly}
 use Rattle.edge_chains.proofs.Along.{zero_of_mul, zero_cases, both_zero, along_u, along_v, drop_zero, drop_zero', square_pos, square_not_neg}
 
@@ -40,8 +40,10 @@ neg_zero z h = omega (arith, ints)
 pub third_line : (u v w z q r : ℤ) → (u ≡ pos 0 → v ≡ pos 0 → ⊥) → u *ℤ z -ℤ v *ℤ w ≡ pos 0 → u *ℤ r -ℤ v *ℤ q ≡ pos 0 → w *ℤ r -ℤ z *ℤ q ≡ pos 0
 third_line u v w z q r apart h k =
     ⊎_elim
-    (λ level. zero_of_mul v (w *ℤ r -ℤ z *ℤ q) (apart level) (both_zero z (u *ℤ r -ℤ v *ℤ q) r (neg_ℤ (u *ℤ z -ℤ v *ℤ w)) (v *ℤ (w *ℤ r -ℤ z *ℤ q)) k (neg_zero (u *ℤ z -ℤ v *ℤ w) h) (third_y u v w z q r)))
-    (λ slope. zero_of_mul u (w *ℤ r -ℤ z *ℤ q) slope (both_zero w (u *ℤ r -ℤ v *ℤ q) q (neg_ℤ (u *ℤ z -ℤ v *ℤ w)) (u *ℤ (w *ℤ r -ℤ z *ℤ q)) k (neg_zero (u *ℤ z -ℤ v *ℤ w) h) (third_x u v w z q r)))
+    (λ level. zero_of_mul v (w *ℤ r -ℤ z *ℤ q) (apart level)
+    (both_zero z (u *ℤ r -ℤ v *ℤ q) r (neg_ℤ (u *ℤ z -ℤ v *ℤ w)) (v *ℤ (w *ℤ r -ℤ z *ℤ q)) k (neg_zero (u *ℤ z -ℤ v *ℤ w) h) (third_y u v w z q r)))
+    (λ slope. zero_of_mul u (w *ℤ r -ℤ z *ℤ q) slope (both_zero w (u *ℤ r -ℤ v *ℤ q) q (neg_ℤ (u *ℤ z -ℤ v *ℤ w)) (u *ℤ (w *ℤ r -ℤ z *ℤ q)) k
+    (neg_zero (u *ℤ z -ℤ v *ℤ w) h) (third_x u v w z q r)))
     (zero_cases u)
 
 -- corners that are apart differ in x or in y
@@ -86,7 +88,7 @@ on_whole_first p a b c h k =
 
 -- the same corner inside the edge the other way
 pub strictly_back : (c a b : Corner) → IsStrictlyInside c a b → IsStrictlyInside c b a
-strictly_back c a b h = record { on_edge = on_edge_back a b (place_of c) h.on_edge; not_start = h.not_end; not_end = h.not_start }
+strictly_back c a b h = record { on_edge = on_edge_back a b (corner_point c) h.on_edge; not_start = h.not_end; not_end = h.not_start }
 
 pub on_whole_second : (p : Point) (a b c : Corner) → IsStrictlyInside c a b → IsOnEdge p c b → IsOnEdge p a b
 on_whole_second p a b c h k = on_edge_back b a p (on_whole_first p b a c (strictly_back c a b h) (on_edge_back c b p k))
@@ -96,14 +98,17 @@ on_whole_second p a b c h k = on_edge_back b a p (on_whole_first p b a c (strict
 first_part : (a b c d x s : ℤ) → pos 0 <ℤ d → IsBetween a b c → (int_min a b *ℤ d) ≤ℤ x → x ≤ℤ (int_max a b *ℤ d)
     → (pos 0 <ℤ (b -ℤ a) → x ≤ℤ (c *ℤ d)) → ((b -ℤ a) <ℤ pos 0 → (c *ℤ d) ≤ℤ x) → ((int_min a c *ℤ d) ≤ℤ x) × (x ≤ℤ (int_max a c *ℤ d))
 first_part a b c d x s h i low high up down = by_lt_z a b
-    (λ p. let u : int_min a b ≡ a = omega (arith, ints, clamps) in let v : int_min a c ≡ a = omega (arith, ints, clamps, i.0, i.1) in let w : int_max a c ≡ c = omega (arith, ints, clamps, i.0, i.1) in
+    (λ p. let u : int_min a b ≡ a = omega (arith, ints, clamps) in let v : int_min a c ≡ a =
+    omega (arith, ints, clamps, i.0, i.1) in let w : int_max a c ≡ c = omega (arith, ints, clamps, i.0, i.1) in
     let m = up (omega (arith, ints)) in
     (subst (λ z. (z *ℤ d) ≤ℤ x) (sym v) (subst (λ z. (z *ℤ d) ≤ℤ x) u low), subst (λ z. x ≤ℤ (z *ℤ d)) (sym w) m))
     (λ p. by_lt_z b a
-    (λ q. let u : int_max a b ≡ a = omega (arith, ints, clamps) in let v : int_max a c ≡ a = omega (arith, ints, clamps, i.0, i.1) in let w : int_min a c ≡ c = omega (arith, ints, clamps, i.0, i.1) in
+    (λ q. let u : int_max a b ≡ a = omega (arith, ints, clamps) in let v : int_max a c ≡ a =
+    omega (arith, ints, clamps, i.0, i.1) in let w : int_min a c ≡ c = omega (arith, ints, clamps, i.0, i.1) in
     let m = down (omega (arith, ints)) in
     (subst (λ z. (z *ℤ d) ≤ℤ x) (sym w) m, subst (λ z. x ≤ℤ (z *ℤ d)) (sym v) (subst (λ z. x ≤ℤ (z *ℤ d)) u high)))
-    (λ q. let u : int_min a b ≡ int_min a c = omega (arith, ints, clamps, i.0, i.1) in let v : int_max a b ≡ int_max a c = omega (arith, ints, clamps, i.0, i.1) in
+    (λ q. let u : int_min a b ≡ int_min a c = omega (arith, ints, clamps, i.0, i.1) in let v : int_max a b ≡ int_max a c =
+    omega (arith, ints, clamps, i.0, i.1) in
     (subst (λ z. (z *ℤ d) ≤ℤ x) u low, subst (λ z. x ≤ℤ (z *ℤ d)) v high)))
 
 not_pos_of_mul : (n z : ℤ) → pos 0 <ℤ n → (n *ℤ z) ≤ℤ pos 0 → z ≤ℤ pos 0
@@ -115,8 +120,10 @@ not_neg_of_mul n z h k = by_lt_z z (pos 0) (λ p. absurd (let m = mul_neg n z h 
 -- a way that doesn't lead on goes back in each coordinate
 back_sign : (n s k z : ℤ) → pos 0 <ℤ n → s ≤ℤ pos 0 → k *ℤ s ≡ n *ℤ z → (pos 0 <ℤ k → z ≤ℤ pos 0) × (k <ℤ pos 0 → pos 0 ≤ℤ z)
 back_sign n s k z h l e = (
-  (λ p. not_pos_of_mul n z h (let m : pos 0 ≤ℤ (k *ℤ neg_ℤ s) = mul_not_neg k (neg_ℤ s) (omega (arith, ints)) (omega (arith, ints)) in omega (arith, ints, e, simp expand at m))),
-  (λ p. not_neg_of_mul n z h (let m : pos 0 ≤ℤ (neg_ℤ k *ℤ neg_ℤ s) = mul_not_neg (neg_ℤ k) (neg_ℤ s) (omega (arith, ints)) (omega (arith, ints)) in omega (arith, ints, e, simp expand at m))),
+  (λ p. not_pos_of_mul n z h (let m : pos 0 ≤ℤ (k *ℤ neg_ℤ s) =
+      mul_not_neg k (neg_ℤ s) (omega (arith, ints)) (omega (arith, ints)) in omega (arith, ints, e, simp expand at m))),
+  (λ p. not_neg_of_mul n z h (let m : pos 0 ≤ℤ (neg_ℤ k *ℤ neg_ℤ s) =
+      mul_not_neg (neg_ℤ k) (neg_ℤ s) (omega (arith, ints)) (omega (arith, ints)) in omega (arith, ints, e, simp expand at m))),
 )
 
 -- the turn at p, from the one at c
@@ -152,10 +159,14 @@ on_first p a b c h l k =
     let apart = ends_apart a b (edge_has_length a b c h) in
     let z : u *ℤ f -ℤ v *ℤ e ≡ pos 0 = no_cross (turn_at a b p) p.d (turn a b c) (u *ℤ f -ℤ v *ℤ e) (cross_at a b c p) k.on_line i.1.0 in
     let n : pos 0 <ℤ (u *ℤ u +ℤ v *ℤ v) = squares u v apart in
-    let sx = back_sign (u *ℤ u +ℤ v *ℤ v) (beyond a b c p) u e n l (drop_zero v (u *ℤ f -ℤ v *ℤ e) (u *ℤ beyond a b c p) ((u *ℤ u +ℤ v *ℤ v) *ℤ e) z (along_u u v e f)) in
-    let sy = back_sign (u *ℤ u +ℤ v *ℤ v) (beyond a b c p) v f n l (drop_zero' u (u *ℤ f -ℤ v *ℤ e) (v *ℤ beyond a b c p) ((u *ℤ u +ℤ v *ℤ v) *ℤ f) z (along_v u v e f)) in
-    let bx = first_part a.x b.x c.x p.d p.x (pos 0) p.d_positive i.0.0 k.from_x k.to_x (λ m. at_most p.x (c.x *ℤ p.d) (sx.0 m)) (λ m. at_least p.x (c.x *ℤ p.d) (sx.1 m)) in
-    let by = first_part a.y b.y c.y p.d p.y (pos 0) p.d_positive i.0.1 k.from_y k.to_y (λ m. at_most p.y (c.y *ℤ p.d) (sy.0 m)) (λ m. at_least p.y (c.y *ℤ p.d) (sy.1 m)) in
+    let sx = back_sign (u *ℤ u +ℤ v *ℤ v) (beyond a b c p) u e n l
+    (drop_zero v (u *ℤ f -ℤ v *ℤ e) (u *ℤ beyond a b c p) ((u *ℤ u +ℤ v *ℤ v) *ℤ e) z (along_u u v e f)) in
+    let sy = back_sign (u *ℤ u +ℤ v *ℤ v) (beyond a b c p) v f n l
+    (drop_zero' u (u *ℤ f -ℤ v *ℤ e) (v *ℤ beyond a b c p) ((u *ℤ u +ℤ v *ℤ v) *ℤ f) z (along_v u v e f)) in
+    let bx = first_part a.x b.x c.x p.d p.x (pos 0) p.d_positive i.0.0 k.from_x k.to_x (λ m. at_most p.x (c.x *ℤ p.d) (sx.0 m))
+    (λ m. at_least p.x (c.x *ℤ p.d) (sx.1 m)) in
+    let by = first_part a.y b.y c.y p.d p.y (pos 0) p.d_positive i.0.1 k.from_y k.to_y (λ m. at_most p.y (c.y *ℤ p.d) (sy.0 m))
+    (λ m. at_least p.y (c.y *ℤ p.d) (sy.1 m)) in
     record {
       on_line = third_line u v (c.x -ℤ a.x) (c.y -ℤ a.y) (p.x -ℤ a.x *ℤ p.d) (p.y -ℤ a.y *ℤ p.d) apart i.1.0 k.on_line;
       from_x = bx.0;
@@ -191,7 +202,7 @@ not_outside a b c d h k e =
 
 pub inside_whole_first : (a b c d : Corner) → IsStrictlyInside c a b → IsStrictlyInside d a c → IsStrictlyInside d a b
 inside_whole_first a b c d h k = record {
-  on_edge = on_whole_first (place_of d) a b c h k.on_edge;
+  on_edge = on_whole_first (corner_point d) a b c h k.on_edge;
   not_start = k.not_start;
   not_end = not_outside a b c d h k;
 }

@@ -28,7 +28,8 @@ corner_ties a b = both_equal (int_cmp a.x b.x) (int_cmp a.y b.y)
 pub before_from_less : (a b : Corner) → corner_cmp a b ≡ Less → IsBefore a b
 before_from_less a b h = read (int_cmp a.x b.x) (int_cmp a.y b.y) (int_ranked a.x b.x (int_cmp a.x b.x) refl) (int_ranked a.y b.y (int_cmp a.y b.y) refl) h
   where
-    read : (p q : Ordering) → MatchOrdering p (a.x <ℤ b.x) (a.x ≡ b.x) (b.x <ℤ a.x) → MatchOrdering q (a.y <ℤ b.y) (a.y ≡ b.y) (b.y <ℤ a.y) → ordering_then p q ≡ Less → IsBefore a b
+    read : (p q : Ordering) → MatchOrdering p (a.x <ℤ b.x) (a.x ≡ b.x) (b.x <ℤ a.x) → MatchOrdering q (a.y <ℤ b.y) (a.y ≡ b.y) (b.y <ℤ a.y)
+        → ordering_then p q ≡ Less → IsBefore a b
     read Less q x y e = inl x
     read Equal Less x y e = inr (x, y)
     read Equal Equal x y e = cc
@@ -37,7 +38,11 @@ before_from_less a b h = read (int_cmp a.x b.x) (int_cmp a.y b.y) (int_ranked a.
 
 Chain-from_sorted : (p : Corner) (xs : List Corner) → IsStrictlySortedBy corner_cmp (p ∷ xs) → Chain IsBefore p xs
 Chain-from_sorted p [] h = tt
-Chain-from_sorted p (c ∷ rest) h = (before_from_less p c (sorted_head corner_cmp p (c ∷ rest) h).0, Chain-from_sorted c rest (sorted_tail corner_cmp p (c ∷ rest) h))
+Chain-from_sorted p (c ∷ rest) h = (
+  before_from_less p c (sorted_head corner_cmp p (c ∷ rest) h).0,
+  Chain-from_sorted c rest
+      (sorted_tail corner_cmp p (c ∷ rest) h),
+)
 
 pub IsChain-from_sorted : (xs : List Corner) → IsStrictlySortedBy corner_cmp xs → IsChain IsBefore xs
 IsChain-from_sorted [] h = tt

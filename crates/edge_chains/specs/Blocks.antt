@@ -15,7 +15,9 @@ HasOwn corners boxes i = (c : Corner) (b : Bounds) → IsInBounds (slice_index_o
 
 -- the box has each corner of its block
 abbrev pub HasBlock : List Corner → List ℕ → List Bounds → ℕ → Type 0
-HasBlock corners ends boxes i = (k : ℕ) (c : Corner) (b : Bounds) → i ≤ k → k < slice_index ends i → IsInBounds (slice_index_or corners k c) (slice_index_or boxes i b)
+HasBlock corners ends boxes i =
+    (k : ℕ) (c : Corner) (b : Bounds) → i ≤ k → k < slice_index ends i
+    → IsInBounds (slice_index_or corners k c) (slice_index_or boxes i b)
 
 -- at each place a block that begins there, and its box
 pub record AreBlocks (corners : List Corner) (ends : List ℕ) (boxes : List Bounds) : Type 0 where

@@ -1,4 +1,5 @@
--- What an `EdgeSum` shows: undirected edges with their net numbers (OGC 06-103r4, 6.1.7, Line and LinearRing: an edge runs from a start point to an end point).
+-- What an `EdgeSum` shows: undirected edges with their net numbers (OGC 06-103r4, 6.1.7, Line and LinearRing: an edge runs from a start point to an
+-- end point).
 use Rattle.std.specs.Prelude.{◌≡◌, ◌≢◌, ℕ, ℤ, pos, ◌-ℤ◌, neg_ℤ, int_lt, Bool, ◌&&◌, ◌||◌, if◌then◌else◌, IsTrue, Option, IsSome, Some, None, List}
 use Rattle.std.specs.Ordering.{int_eq}
 use Rattle.std.specs.Option.{unwrap_or}

@@ -8,9 +8,13 @@ use Rattle.geo_exact.specs.Turn.{turn}
 use Rattle.edge_chains.specs.declared.bounds.Bounds.{Bounds}
 use Rattle.edge_chains.specs.Net.{is_same}
 
+-- z is at least u and at most v
+abbrev pub is_from_to : ℤ → ℤ → ℤ → Bool
+is_from_to u v z = int_le u z && int_le z v
+
 -- z is u or v, or between them
 abbrev pub is_between : ℤ → ℤ → ℤ → Bool
-is_between u v z = int_le (int_min u v) z && int_le z (int_max u v)
+is_between u v z = is_from_to (int_min u v) (int_max u v) z
 
 -- the test of `IsStrictlyInside`
 abbrev pub is_inside : Corner → Corner → Corner → Bool
@@ -26,3 +30,7 @@ pub record IsInBounds (c : Corner) (bounds : Bounds) : Type 0 where
   pub to_x : c.x ≤ℤ bounds.high.x
   pub from_y : bounds.low.y ≤ℤ c.y
   pub to_y : c.y ≤ℤ bounds.high.y
+
+-- the test of `IsInBounds`
+abbrev pub is_in_bounds : Corner → Bounds → Bool
+is_in_bounds c bounds = is_from_to bounds.low.x bounds.high.x c.x && is_from_to bounds.low.y bounds.high.y c.y

@@ -1,19 +1,15 @@
 -- Noding: rings with corners inserted where they lie strictly inside an edge (OGC 06-103r4, 6.1.15.1: a line's interior is what is left without its ends).
-use Rattle.std.specs.Prelude.{◌≡◌, ◌≢◌, ◌↔◌, pos, List, [], ◌∷◌, ◌++◌, ⊤}
+use Rattle.std.specs.Prelude.{◌≡◌, ◌≢◌, ◌↔◌, List, [], ◌∷◌, ◌++◌, ⊤}
 use Rattle.std.specs.List.{Contains}
 use Rattle.geo_exact.specs.declared.corner.Corner.{Corner}
-use Rattle.geo_exact.specs.Point.{Point}
+use Rattle.geo_exact.specs.Point.{corner_point}
 use Rattle.geo_exact.specs.Rings.{Edge, edges}
 use Rattle.geo_exact.specs.Turn.{IsOnEdge}
 use Rattle.edge_chains.specs.Net.{all_edges}
 
--- the place of a corner
-abbrev pub place_of : Corner → Point
-place_of c = record { x = c.x; y = c.y; d = pos 1; d_positive = record { lt = tt } }
-
 -- c lies on the edge from a to b, and is neither of its ends
 pub record IsStrictlyInside (c a b : Corner) : Type 0 where
-  pub on_edge : IsOnEdge (place_of c) a b
+  pub on_edge : IsOnEdge (corner_point c) a b
   pub not_start : c ≢ a
   pub not_end : c ≢ b
 
@@ -31,7 +27,8 @@ pub record IsNodedEdge (corners : List Corner) (edge : Edge) (inserted : List Co
 abbrev pub AreNodedEdges : List Corner → List Edge → List Corner → Type 0
 AreNodedEdges corners [] out = out ≡ []
 AreNodedEdges corners (edge ∷ rest) out =
-    (inserted : List Corner) × (others : List Corner) × IsNodedEdge corners edge inserted × AreNodedEdges corners rest others × (out ≡ edge.from ∷ inserted ++ others)
+    (inserted : List Corner) × (others : List Corner) × IsNodedEdge corners edge inserted × AreNodedEdges corners rest others
+    × (out ≡ edge.from ∷ inserted ++ others)
 
 -- `noded` is the ring with exactly those of the corners inserted that lie strictly inside an edge, in order along it
 abbrev pub IsNoded : List Corner → List Corner → List Corner → Type 0
@@ -44,4 +41,6 @@ all_corners (ring ∷ rings) = ring ++ all_corners rings
 
 -- no corner of the rings lies strictly inside an edge of them
 abbrev pub AreFullyNoded : List (List Corner) → Type 0
-AreFullyNoded rings = (c : Corner) (edge : Edge) → Contains (all_corners rings) c → Contains (all_edges rings) edge → ¬ IsStrictlyInside c edge.from edge.to
+AreFullyNoded rings =
+    (c : Corner) (edge : Edge) → Contains (all_corners rings) c → Contains (all_edges rings) edge
+    → ¬ IsStrictlyInside c edge.from edge.to

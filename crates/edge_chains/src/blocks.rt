@@ -1,11 +1,12 @@
-ghost use Rattle.std.specs.Prelude.{◌≡◌, ◌↔◌, ℕ, ◌<◌, ◌≤◌, List, length, slice_index, slice_index_or, IfOk, vec_len, OnOk};
+ghost use Rattle.std.specs.Prelude.{◌≡◌, ◌↔◌, ℕ, ◌<◌, ◌≤◌, List, length, slice_index, slice_index_or, IfOk, IfSome};
 ghost use Rattle.std.specs.List.{filter, Contains};
-ghost use Rattle.edge_chains.specs.Inside.{is_inside, IsInBounds};
+ghost use Rattle.edge_chains.specs.Inside.{is_inside, is_in_bounds, IsInBounds};
 ghost use Rattle.edge_chains.specs.Blocks.{AreEnds, HasOwn, HasBlock, AreBlocks};
 
 use crate::bounds::{Bounds, is_strictly_inside};
 use geo_exact::{Corner, LIMIT};
 use std::alloc::{AllocError, Allocator};
+use std::cmp::Ordering;
 use std::marker::Model;
 
 /// Corners for many searches, as a list in some order: at each place a block of corners begins, with its box.
@@ -56,30 +57,42 @@ impl<A: Allocator + Copy> Blocks<A> {
             b,
         )
     }
+
+    /// Those of the corners that are in a box, in the order of the list; `None` where they are more than `most`.
+    pub fn within(&self, bounds: &Bounds, most: usize) -> Result<Option<Vec<Corner, A>>, AllocError>
+        ensures { IfOk result (λ few. IfSome few (λ found.
+            found.items ≡ filter (λ c. is_in_bounds c bounds.now) self.now)) }
+    {
+        collect_few(
+            *self.corners.allocator(),
+            &self.corners,
+            &self.ends,
+            &self.boxes,
+            bounds,
+            most,
+        )
+    }
 }
 
-/// The corners, each once at least, so ordered that neighbours in the list are close to each other in the plane.
+/// The corners, each once, so ordered that neighbours in the list are close to each other in the plane.
 fn spread<A: Allocator + Copy>(alloc: A, corners: &[Corner]) -> Result<Vec<Corner, A>, AllocError>
     ensures { IfOk result (λ spread. (c : Corner) → Contains spread.items c ↔ Contains corners.now c) }
 {
     let mut spread = Vec::from_slice(alloc, corners)?;
-    spread.sort_unstable_by_key(|corner| interleaved(*corner));
+    spread.sort_unstable_by(by_place);
     spread.dedup();
     Ok(spread)
 }
 
-/// The bits of the coordinates in turn (Morton's order), without the last three of each: only the speed rests on it.
-fn interleaved(corner: Corner) -> u64 {
-    spaced((corner.x + LIMIT) as u64 >> 3) | spaced((corner.y + LIMIT) as u64 >> 3) << 1
-}
-
-/// The lower half of the bits, each with a 0 in front of it.
-fn spaced(bits: u64) -> u64 {
-    let wide = (bits | bits << 16) & 0x0000_ffff_0000_ffff;
-    let wide = (wide | wide << 8) & 0x00ff_00ff_00ff_00ff;
-    let wide = (wide | wide << 4) & 0x0f0f_0f0f_0f0f_0f0f;
-    let wide = (wide | wide << 2) & 0x3333_3333_3333_3333;
-    (wide | wide << 1) & 0x5555_5555_5555_5555
+/// Morton's order (Z-order): by that coordinate in which the corners differ in the higher bit. Only the speed rests on it.
+fn by_place(a: &Corner, b: &Corner) -> Ordering {
+    let across = (a.x + LIMIT) as u64 ^ (b.x + LIMIT) as u64;
+    let up = (a.y + LIMIT) as u64 ^ (b.y + LIMIT) as u64;
+    if across < up && across < (across ^ up) {
+        a.y.cmp(&b.y)
+    } else {
+        a.x.cmp(&b.x)
+    }
 }
 
 /// Those of the corners that lie strictly inside the edge from a to b, in the order of the list.
@@ -110,6 +123,40 @@ fn collect<A: Allocator + Copy>(
         }
     }
     Ok(found)
+}
+
+/// Those of the corners that are in a box, in the order of the list; `None` where they are more than `most`.
+///
+/// A block whose own box is off this one is passed over.
+fn collect_few<A: Allocator + Copy>(
+    alloc: A,
+    corners: &[Corner],
+    ends: &[usize],
+    boxes: &[Bounds],
+    bounds: &Bounds,
+    most: usize,
+) -> Result<Option<Vec<Corner, A>>, AllocError>
+    requires { AreBlocks corners.now ends.now boxes.now }
+    ensures { IfOk result (λ few. IfSome few (λ found.
+        found.items ≡ filter (λ c. is_in_bounds c bounds.now) corners.now)) }
+{
+    let mut found = Vec::with_capacity(alloc, most)?;
+    let mut at = 0;
+    while at < corners.len() {
+        if boxes[at].is_off(bounds) {
+            at = ends[at];
+        } else {
+            let corner = corners[at];
+            if bounds.has(corner) {
+                if found.len() == most {
+                    return Ok(None);
+                }
+                found.push(corner)?;
+            }
+            at += 1;
+        }
+    }
+    Ok(Some(found))
 }
 
 /// Where the block at each of n places ends: those of a tree in which a block is its first place and two halves of the rest.

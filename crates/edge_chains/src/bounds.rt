@@ -4,7 +4,7 @@ ghost use Rattle.std.specs.Ordering.{int_eq};
 ghost use Rattle.geo_exact.specs.Limit.{IsWithin, limit};
 ghost use Rattle.geo_exact.specs.Turn.{turn};
 ghost use Rattle.edge_chains.specs.Net.{is_same};
-ghost use Rattle.edge_chains.specs.Inside.{is_inside, is_between, IsInBounds};
+ghost use Rattle.edge_chains.specs.Inside.{is_inside, is_between, is_from_to, is_in_bounds, IsInBounds};
 
 use geo_exact::Corner;
 
@@ -26,6 +26,16 @@ impl Bounds {
         }
     }
 
+    /// A box that has no corner.
+    pub fn nowhere() -> Bounds
+        ensures { (c : Corner) → is_in_bounds c result ≡ false }
+    {
+        Bounds {
+            low: Corner { x: 1, y: 1 },
+            high: Corner { x: 0, y: 0 },
+        }
+    }
+
     /// The least box that has both.
     pub fn joined(&self, other: &Bounds) -> Bounds
         ensures first { (c : Corner) → IsInBounds c self.now → IsInBounds c result }
@@ -35,6 +45,29 @@ impl Bounds {
             low: lower(self.low, other.low),
             high: upper(self.high, other.high),
         }
+    }
+
+    /// Whether a corner is in the box, its sides included.
+    pub fn has(&self, corner: Corner) -> bool
+        ensures { result ≡ is_in_bounds corner self.now }
+    {
+        is_from_to(self.low.x, self.high.x, corner.x)
+            && is_from_to(self.low.y, self.high.y, corner.y)
+    }
+
+    /// Whether the box has both ends of an edge, and so what lies strictly inside it.
+    pub fn covers(&self, a: Corner, b: Corner) -> bool
+        ensures { IsTrue result → (c : Corner) → IsTrue (is_inside c a b) → IsTrue (is_in_bounds c self.now) }
+    {
+        self.has(a) && self.has(b)
+    }
+
+    /// Whether the two boxes don't meet.
+    pub fn is_off(&self, other: &Bounds) -> bool
+        ensures { IsTrue result → (c : Corner) → IsInBounds c self.now → is_in_bounds c other.now ≡ false }
+    {
+        are_off(self.low.x, self.high.x, other.low.x, other.high.x)
+            || are_off(self.low.y, self.high.y, other.low.y, other.high.y)
     }
 
     /// Whether it is seen at once that no corner in the box lies strictly inside the edge from a to b.
@@ -62,6 +95,20 @@ impl Bounds {
         let right = product(dy, difference(self.high.x, a.x));
         are_wide_apart(bottom, top, left, right)
     }
+}
+
+/// Whether z is at least u and at most v.
+fn is_from_to(u: i64, v: i64, z: i64) -> bool
+    ensures { result ≡ is_from_to u v z }
+{
+    u <= z && z <= v
+}
+
+/// Whether no number is from u to v and also from w to z.
+fn are_off(u: i64, v: i64, w: i64, z: i64) -> bool
+    ensures { result ≡ (int_lt v w || int_lt z u) }
+{
+    v < w || z < u
 }
 
 /// The lower left corner of the box of two corners.

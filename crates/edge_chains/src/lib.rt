@@ -8,6 +8,7 @@ mod edge_sum;
 mod laws;
 mod noding;
 mod order;
+mod search;
 
 pub use edge_sum::EdgeSum;
 pub use laws::{an_unbalanced_edge_is_a_jump, equal_nets_cover_alike, noding_changes_no_ground};

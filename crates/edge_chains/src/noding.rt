@@ -8,20 +8,22 @@ ghost use Rattle.geo_exact.specs.Area.{area2};
 ghost use Rattle.edge_chains.specs.Inside.{corner_cmp};
 ghost use Rattle.edge_chains.specs.Noding.{IsNodedEdge, IsNoded, all_corners, AreFullyNoded};
 
-use crate::blocks::Blocks;
 use crate::order::comes_before;
+use crate::search::Search;
 use geo_exact::Corner;
 use std::alloc::{AllocError, Allocator};
 
-/// Those corners that lie strictly inside the edge from a to b, in order along it, each once.
+/// Those corners that lie strictly inside the edge between two corners, in order along it, each once.
 fn inserted<A: Allocator + Copy>(
-    blocks: &Blocks<A>,
+    search: &mut Search<A>,
     from: Corner,
     to: Corner,
+    ahead: &[Corner],
 ) -> Result<Vec<Corner, A>, AllocError>
-    ensures { IfOk result (λ corners. IsNodedEdge blocks.now (record { from = from; to = to }) corners.items) }
+    ensures same { search.new ≡ search.old }
+    ensures inserted { IfOk result (λ corners. IsNodedEdge search.old (record { from = from; to = to }) corners.items) }
 {
-    let mut corners = blocks.inside(from, to)?;
+    let mut corners = search.inside(from, to, ahead)?;
     sort_once(&mut corners);
     if comes_before(to, from) {
         corners.reverse();
@@ -29,17 +31,19 @@ fn inserted<A: Allocator + Copy>(
     Ok(corners)
 }
 
-/// Appends the start of the edge from a to b, and those corners that lie strictly inside it, in order along it.
+/// Appends the start of the edge between two corners, and those corners that lie strictly inside it, in order along it.
 fn node_edge<A: Allocator + Copy>(
-    blocks: &Blocks<A>,
+    search: &mut Search<A>,
     from: Corner,
     to: Corner,
+    ahead: &[Corner],
     noded: &mut Vec<Corner, A>,
 ) -> Result<(), AllocError>
-    ensures { OnOk result ((inner : List Corner) × IsNodedEdge blocks.now (record { from = from; to = to }) inner
+    ensures same { search.new ≡ search.old }
+    ensures noded { OnOk result ((inner : List Corner) × IsNodedEdge search.old (record { from = from; to = to }) inner
         × (noded.new.items ≡ noded.old.items ++ from ∷ inner)) }
 {
-    let inner = inserted(blocks, from, to)?;
+    let inner = inserted(search, from, to, ahead)?;
     noded.push(from)?;
     noded.extend_from_slice(&inner)?;
     Ok(())
@@ -48,19 +52,20 @@ fn node_edge<A: Allocator + Copy>(
 /// A ring with those corners inserted that lie strictly inside an edge.
 fn node_ring<A: Allocator + Copy>(
     alloc: A,
-    blocks: &Blocks<A>,
+    search: &mut Search<A>,
     ring: &[Corner],
 ) -> Result<Vec<Corner, A>, AllocError>
-    ensures { IfOk result (λ noded. IsNoded ring.now blocks.now noded.items) }
+    ensures same { search.new ≡ search.old }
+    ensures noded { IfOk result (λ noded. IsNoded ring.now search.old noded.items) }
 {
-    let mut noded = Vec::new(alloc);
+    let mut noded = Vec::with_capacity(alloc, ring.len())?;
     if let Some((first, rest)) = ring.split_first() {
         let mut from = *first;
-        for to in rest {
-            node_edge(blocks, from, *to, &mut noded)?;
+        for (at, to) in rest.iter().enumerate() {
+            node_edge(search, from, *to, &rest[at..], &mut noded)?;
             from = *to;
         }
-        node_edge(blocks, from, *first, &mut noded)?;
+        node_edge(search, from, *first, &[], &mut noded)?;
     }
     Ok(noded)
 }
@@ -85,20 +90,21 @@ pub fn node<A: Allocator + Copy>(
         ((c : Corner) → Contains (all_corners (map (λ ring. ring.items) rings.now)) c → Contains corners.now c)
         → AreFullyNoded (map (λ ring. ring.items) noded.items)) }
 {
-    let blocks = Blocks::new(alloc, corners)?;
-    node_all(alloc, &blocks, rings)
+    let mut search = Search::new(alloc, corners)?;
+    node_all(alloc, &mut search, rings)
 }
 
+/// Each ring with those corners inserted that lie strictly inside an edge.
 fn node_all<A: Allocator + Copy>(
     alloc: A,
-    blocks: &Blocks<A>,
+    search: &mut Search<A>,
     rings: &[Vec<Corner, A>],
 ) -> Result<Vec<Vec<Corner, A>, A>, AllocError>
-    ensures { IfOk result (λ noded. AllZip (λ ring out. IsNoded ring.items blocks.now out.items) rings.now noded.items) }
+    ensures { IfOk result (λ noded. AllZip (λ ring out. IsNoded ring.items search.old out.items) rings.now noded.items) }
 {
-    let mut noded = Vec::new(alloc);
+    let mut noded = Vec::with_capacity(alloc, rings.len())?;
     for ring in rings {
-        noded.push(node_ring(alloc, blocks, ring)?)?;
+        noded.push(node_ring(alloc, search, ring)?)?;
     }
     Ok(noded)
 }

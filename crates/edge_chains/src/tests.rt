@@ -95,7 +95,8 @@ fn nodes_a_junction(rt: HostRuntime) -> Result<(), Fail> {
     assert_eq!(rt; noded[1].as_slice(), rings[1].as_slice());
     assert_eq!(rt; noded[3].as_slice(), city.as_slice());
     assert_eq!(rt; compare(alloc, &noded)?, None);
-    assert!(rt; compare(alloc, &rings)?.is_some());
+    let want = Some((Corner { x: 0, y: 0 }, Corner { x: 60, y: 0 }, 1));
+    assert_eq!(rt; compare(alloc, &rings)?, want);
     Ok(())
 }
 
@@ -141,9 +142,33 @@ fn takes_a_ring_begun_elsewhere(rt: HostRuntime) -> Result<(), Fail> {
     rings.push(strip(alloc, 0, 100)?)?;
     rings.push(ring(alloc, &[(100, 100), (0, 100), (0, 0), (100, 0)])?)?;
     assert_eq!(rt; compare(alloc, &rings)?, None);
+    Ok(())
+}
+
+#[test]
+fn counts_edges(rt: HostRuntime) -> Result<(), Fail> {
+    let alloc = rt.alloc();
+    let (a, b, c) = (
+        Corner { x: 0, y: 0 },
+        Corner { x: 5, y: 0 },
+        Corner { x: 5, y: 5 },
+    );
     let mut sum = EdgeSum::new(alloc);
-    sum.add(&[Corner { x: 0, y: 0 }, Corner { x: 5, y: 0 }])?;
+    assert_eq!(rt; sum.edges(), 0);
+    assert_eq!(rt; sum.first_unbalanced(), None);
+    sum.add(&[a, b])?;
     assert_eq!(rt; sum.edges(), 2);
+    assert_eq!(rt; sum.first_unbalanced(), None);
+    sum.add(&[c, b, a])?;
+    sum.add(&[c, b, a])?;
+    assert_eq!(rt; sum.edges(), 8);
+    assert_eq!(rt; sum.first_unbalanced(), Some((a, b, -2)));
+    sum.take(&[b, a, c, c])?;
+    assert_eq!(rt; sum.edges(), 12);
+    assert_eq!(rt; sum.first_unbalanced(), Some((a, b, -1)));
+    sum.take(&[a, c, b])?;
+    assert_eq!(rt; sum.edges(), 15);
+    assert_eq!(rt; sum.first_unbalanced(), None);
     Ok(())
 }
 
@@ -185,5 +210,51 @@ fn nodes_only_what_lies_inside(rt: HostRuntime) -> Result<(), Fail> {
     )?;
     assert_eq!(rt; noded[0].as_slice(), square.as_slice());
     assert_eq!(rt; noded[1].as_slice(), triangle.as_slice());
+    Ok(())
+}
+
+/// The corners (k, y) with k from 1 up to 999.
+fn row(alloc: Global, y: i64) -> Result<Vec<Corner, Global>, AllocError> {
+    let mut corners = Vec::new(alloc);
+    for x in 1..1_000 {
+        if let Some(corner) = Corner::new(x, y) {
+            corners.push(corner)?;
+        }
+    }
+    Ok(corners)
+}
+
+#[test]
+fn nodes_a_long_edge(rt: HostRuntime) -> Result<(), Fail> {
+    let alloc = rt.alloc();
+    let (low, mut high) = (row(alloc, 0)?, row(alloc, 9)?);
+    let mut rings = Vec::new(alloc);
+    rings.push(ring(alloc, &[(0, 0), (1_000, 0), (1_000, 9), (0, 9)])?)?;
+    let mut corners = Vec::from_slice(alloc, &high)?;
+    corners.extend_from_slice(&low)?;
+    corners.reverse();
+    let noded = node(alloc, &rings, &corners)?;
+    high.reverse();
+    let mut want = ring(alloc, &[(0, 0)])?;
+    want.extend_from_slice(&low)?;
+    want.extend_from_slice(&ring(alloc, &[(1_000, 0), (1_000, 9)])?)?;
+    want.extend_from_slice(&high)?;
+    want.extend_from_slice(&ring(alloc, &[(0, 9)])?)?;
+    assert_eq!(rt; noded.len(), 1);
+    assert_eq!(rt; noded[0].as_slice(), want.as_slice());
+    Ok(())
+}
+
+#[test]
+fn nodes_nothing(rt: HostRuntime) -> Result<(), Fail> {
+    let alloc = rt.alloc();
+    let mut rings = Vec::new(alloc);
+    assert_eq!(rt; node(alloc, &rings, &[])?.len(), 0);
+    rings.push(Vec::new(alloc))?;
+    rings.push(row(alloc, 0)?)?;
+    let noded = node(alloc, &rings, &[])?;
+    assert_eq!(rt; noded.len(), 2);
+    assert_eq!(rt; noded[0].len(), 0);
+    assert_eq!(rt; noded[1].as_slice(), rings[1].as_slice());
     Ok(())
 }

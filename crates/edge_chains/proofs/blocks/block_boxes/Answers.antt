@@ -12,7 +12,9 @@ loop-at-preserved g c =
     record {
       in_range = omega (arith, inv.in_range);
       as_many = inv.as_many;
-      own = λ k l. HasOwn-set c.args.corners.now c.loop-at.boxes.items i c.block_box-bounds.result (omega (arith, inv.in_range, inv.as_many)) (λ x. h i x (omega arith) here.0) k (inv.own k l);
-      blocks = λ k l m. HasBlock-set c.args.corners.now c.args.ends.now c.loop-at.boxes.items i c.block_box-bounds.result (omega (arith, inv.in_range, inv.as_many)) h k
+      own = λ k l. HasOwn-set c.args.corners.now c.loop-at.boxes.items i c.block_box-bounds.result (omega (arith, inv.in_range, inv.as_many))
+          (λ x. h i x (omega arith) here.0) k (inv.own k l);
+      blocks = λ k l m. HasBlock-set c.args.corners.now c.args.ends.now c.loop-at.boxes.items i c.block_box-bounds.result
+          (omega (arith, inv.in_range, inv.as_many)) h k
           (λ b. inv.blocks k (omega arith) m) l;
     }

@@ -9,9 +9,9 @@ use Rattle.edge_chains.proofs.blocks.spread.Goals as goal
 pub returns : goal.returns
 returns g c =
     let is = dedup_is _ _ _ c.dedup.ensures.filtered in
-    let moved = c.sort_unstable_by_key.ensures.permutation in
+    let moved = c.sort_unstable_by.ensures.permutation in
     let whole = c.in_ok-spread.ensures.items in
     λ x. (
       λ h. subst (λ xs. Contains xs x) whole (Contains-permutation _ _ x (IsPermutation-sym _ _ moved) (Contains-from_dedup _ _ x (rw is at h))),
-      λ h. rw is (Contains-dedup is_same_equivalence same_from_test _ x (Contains-permutation _ _ x moved (subst (λ xs. Contains xs x) (sym whole) h))),
+      λ h. rw is (Contains-dedup is_same_equivalence same_from_test c.sort_unstable_by.new.self.items x (Contains-permutation _ _ x moved (subst (λ xs. Contains xs x) (sym whole) h))),
     )

@@ -22,8 +22,10 @@ returns c =
     let g2 : FitsSigned w64 c.difference-2.result = omega (arith, ints) in
     let g3 : FitsSigned w64 c.difference-3.result = omega (arith, ints) in
     let g4 : FitsSigned w64 c.difference-4.result = omega (arith, ints) in
-    let p1 : c.product.result ≡ (b.x -ℤ a.x) *ℤ (p.y -ℤ a.y) = simp to_z-of_z at c.product.ensures ∙ ap (λ z. z *ℤ c.difference-2.result) d1 ∙ ap (λ z. (b.x -ℤ a.x) *ℤ z) d2 in
-    let p2 : c.product-2.result ≡ (b.y -ℤ a.y) *ℤ (p.x -ℤ a.x) = simp to_z-of_z at c.product-2.ensures ∙ ap (λ z. z *ℤ c.difference-4.result) d3 ∙ ap (λ z. (b.y -ℤ a.y) *ℤ z) d4 in
+    let p1 : c.product.result ≡ (b.x -ℤ a.x) *ℤ (p.y -ℤ a.y) = simp to_z-of_z at c.product.ensures ∙ ap (λ z. z *ℤ c.difference-2.result) d1
+    ∙ ap (λ z. (b.x -ℤ a.x) *ℤ z) d2 in
+    let p2 : c.product-2.result ≡ (b.y -ℤ a.y) *ℤ (p.x -ℤ a.x) = simp to_z-of_z at c.product-2.ensures ∙ ap (λ z. z *ℤ c.difference-4.result) d3
+    ∙ ap (λ z. (b.y -ℤ a.y) *ℤ z) d4 in
     let h1 : FitsSigned w128 c.product.result = omega (arith, ints) in
     let h2 : FitsSigned w128 c.product-2.result = omega (arith, ints) in
     (simp to_z-of_z at c.are_equal.ensures) ∙ ap (λ z. int_eq z c.product-2.result) p1 ∙ ap (λ z. int_eq ((b.x -ℤ a.x) *ℤ (p.y -ℤ a.y)) z) p2

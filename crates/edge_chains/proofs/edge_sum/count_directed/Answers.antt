@@ -23,27 +23,33 @@ change-requires-then-comes_before-2-clause-small g c = c.requires.kept.small (c.
 pub returns-then-comes_before-clause-net : goal.returns-then-comes_before-clause-net
 returns-then-comes_before-clause-net g c =
     let t : is_before c.args.from c.args.to ≡ true = sym c.comes_before.ensures ∙ c.if-comes_before.true in
-    λ a b. net_at_up c.args.numbers.now.entries c.change.new.numbers.entries c.args.from c.args.to ((Decides-is_before c.args.from c.args.to).0 t) c.change.ensures.changed a b
+    λ a b. net_at_up c.args.numbers.now.entries c.change.new.numbers.entries c.args.from c.args.to
+    ((Decides-is_before c.args.from c.args.to).0 t) c.change.ensures.changed a b
 
 pub returns-then-comes_before-clause-kept : goal.returns-then-comes_before-clause-kept
 returns-then-comes_before-clause-kept g c =
     let t : is_before c.args.from c.args.to ≡ true = sym c.comes_before.ensures ∙ c.if-comes_before.true in
-    λ n k. AreCounts-changed c.args.numbers.now.entries c.change.new.numbers.entries c.args.from c.args.to (pos 1) n ((Decides-is_before c.args.from c.args.to).0 t) one c.change.ensures.changed k
+    λ n k. AreCounts-changed c.args.numbers.now.entries c.change.new.numbers.entries c.args.from c.args.to (pos 1) n
+    ((Decides-is_before c.args.from c.args.to).0 t) one c.change.ensures.changed k
 
 pub returns-then-comes_before-2-clause-net : goal.returns-then-comes_before-2-clause-net
 returns-then-comes_before-2-clause-net g c =
     let t : is_before c.args.to c.args.from ≡ true = sym c.comes_before-else-comes_before.ensures ∙ c.if-comes_before-2.true in
-    λ a b. net_at_down c.args.numbers.now.entries c.change-then-comes_before-2.new.numbers.entries c.args.to c.args.from ((Decides-is_before c.args.to c.args.from).0 t) c.change-then-comes_before-2.ensures.changed a b
+    λ a b. net_at_down c.args.numbers.now.entries c.change-then-comes_before-2.new.numbers.entries c.args.to c.args.from
+    ((Decides-is_before c.args.to c.args.from).0 t) c.change-then-comes_before-2.ensures.changed a b
 
 pub returns-then-comes_before-2-clause-kept : goal.returns-then-comes_before-2-clause-kept
 returns-then-comes_before-2-clause-kept g c =
     let t : is_before c.args.to c.args.from ≡ true = sym c.comes_before-else-comes_before.ensures ∙ c.if-comes_before-2.true in
-    λ n k. AreCounts-changed c.args.numbers.now.entries c.change-then-comes_before-2.new.numbers.entries c.args.to c.args.from (neg_ℤ (pos 1)) n ((Decides-is_before c.args.to c.args.from).0 t) minus_one c.change-then-comes_before-2.ensures.changed k
+    λ n k. AreCounts-changed c.args.numbers.now.entries c.change-then-comes_before-2.new.numbers.entries c.args.to c.args.from (neg_ℤ (pos 1)) n
+    ((Decides-is_before c.args.to c.args.from).0 t) minus_one c.change-then-comes_before-2.ensures.changed k
 
 pub returns-else-comes_before-2-clause-net : goal.returns-else-comes_before-2-clause-net
 returns-else-comes_before-2-clause-net g c =
-    let e : c.args.from ≡ c.args.to = same_unless_before c.args.from c.args.to (sym c.comes_before.ensures ∙ c.if-comes_before.false) (sym c.comes_before-else-comes_before.ensures ∙ c.if-comes_before-2.false) in
-    λ a b. unmoved (net_at c.args.numbers.now.entries a b) (net_of_edges (edge_of c.args.from c.args.to ∷ []) a b) (net_of_no_length c.args.from c.args.to a b e)
+    let e : c.args.from ≡ c.args.to = same_unless_before c.args.from c.args.to (sym c.comes_before.ensures ∙ c.if-comes_before.false)
+    (sym c.comes_before-else-comes_before.ensures ∙ c.if-comes_before-2.false) in
+    λ a b. unmoved (net_at c.args.numbers.now.entries a b) (net_of_edges (edge_of c.args.from c.args.to ∷ []) a b)
+    (net_of_no_length c.args.from c.args.to a b e)
   where
     unmoved : (x y : ℤ) → y ≡ pos 0 → x ≡ x +ℤ y
     unmoved x y h = omega (arith, ints)

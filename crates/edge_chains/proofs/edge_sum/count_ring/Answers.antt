@@ -9,11 +9,13 @@ use Rattle.edge_chains.proofs.edge_sum.count_ring.Goals as goal
 
 pub count_edge-requires-clause-kept : goal.count_edge-requires-clause-kept
 count_edge-requires-clause-kept g c =
-    AreCounts-upto c.loop-to.numbers.entries (1000000000000 + c.loop-to.to-index) 2000000000000 (omega (arith, c.in-Some.ensures.cases)) (c.loop-to.invariant.kept 1000000000000 c.requires.kept)
+    AreCounts-upto c.loop-to.numbers.entries (1000000000000 + c.loop-to.to-index) 2000000000000 (omega (arith, c.in-Some.ensures.cases))
+    (c.loop-to.invariant.kept 1000000000000 c.requires.kept)
 
 pub count_edge-requires-in-Some-clause-kept : goal.count_edge-requires-in-Some-clause-kept
 count_edge-requires-in-Some-clause-kept g c =
-    AreCounts-upto c.loop-to.numbers.entries (1000000000000 + c.loop-to.to-index) 2000000000000 (omega (arith, c.in-Some.ensures.cases)) (c.loop-to.invariant.kept 1000000000000 c.requires.kept)
+    AreCounts-upto c.loop-to.numbers.entries (1000000000000 + c.loop-to.to-index) 2000000000000 (omega (arith, c.in-Some.ensures.cases))
+    (c.loop-to.invariant.kept 1000000000000 c.requires.kept)
 
 pub loop-to-preserved : goal.loop-to-preserved
 loop-to-preserved g c = record {

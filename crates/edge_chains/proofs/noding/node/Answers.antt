@@ -12,35 +12,38 @@ use Rattle.edge_chains.proofs.noding.node.Goals as goal
 pub returns-clause-noded : goal.returns-clause-noded
 returns-clause-noded g c =
     if_ok_too _ _ c.node_all.result
-    (λ noded h. AllZip-weaker (λ ring out. IsNoded ring.items c.in_ok-blocks.blocks out.items) (λ ring out. IsNoded ring.items c.args.corners.now out.items)
-    (λ ring out k. AreNodedEdges-alike c.in_ok-blocks.blocks c.args.corners.now c.in_ok-blocks.ensures (edges ring.items) out.items k) c.args.rings.now noded.items h)
+    (λ noded h. AllZip-weaker (λ ring out. IsNoded ring.items c.in_ok-search.search out.items) (λ ring out. IsNoded ring.items c.args.corners.now out.items)
+    (λ ring out k. AreNodedEdges-alike c.in_ok-search.search c.args.corners.now c.in_ok-search.ensures
+    (edges ring.items) out.items k) c.args.rings.now noded.items h)
     c.node_all.ensures
 
 pub returns-clause-windings : goal.returns-clause-windings
 returns-clause-windings g c =
     if_ok_too _ _ c.node_all.result
-    (λ noded h. AllZip-weaker (λ ring out. IsNoded ring.items c.in_ok-blocks.blocks out.items) (λ ring out. (p : Point) → winding p out.items ≡ winding p ring.items)
-    (λ ring out k p. winding_noded p ring.items c.in_ok-blocks.blocks out.items k) c.args.rings.now noded.items h)
+    (λ noded h. AllZip-weaker (λ ring out. IsNoded ring.items c.in_ok-search.search out.items)
+    (λ ring out. (p : Point) → winding p out.items ≡ winding p ring.items)
+    (λ ring out k p. winding_noded p ring.items c.in_ok-search.search out.items k) c.args.rings.now noded.items h)
     c.node_all.ensures
 
 pub returns-clause-boundaries : goal.returns-clause-boundaries
 returns-clause-boundaries g c =
     if_ok_too _ _ c.node_all.result
-    (λ noded h. AllZip-weaker (λ ring out. IsNoded ring.items c.in_ok-blocks.blocks out.items) (λ ring out. (p : Point) → IsOnRing p out.items ↔ IsOnRing p ring.items)
-    (λ ring out k p. boundary_noded p ring.items c.in_ok-blocks.blocks out.items k) c.args.rings.now noded.items h)
+    (λ noded h. AllZip-weaker (λ ring out. IsNoded ring.items c.in_ok-search.search out.items)
+    (λ ring out. (p : Point) → IsOnRing p out.items ↔ IsOnRing p ring.items)
+    (λ ring out k p. boundary_noded p ring.items c.in_ok-search.search out.items k) c.args.rings.now noded.items h)
     c.node_all.ensures
 
 pub returns-clause-areas : goal.returns-clause-areas
 returns-clause-areas g c =
     if_ok_too _ _ c.node_all.result
-    (λ noded h. AllZip-weaker (λ ring out. IsNoded ring.items c.in_ok-blocks.blocks out.items) (λ ring out. area2 out.items ≡ area2 ring.items)
-    (λ ring out k. area2_noded ring.items c.in_ok-blocks.blocks out.items k) c.args.rings.now noded.items h)
+    (λ noded h. AllZip-weaker (λ ring out. IsNoded ring.items c.in_ok-search.search out.items) (λ ring out. area2 out.items ≡ area2 ring.items)
+    (λ ring out k. area2_noded ring.items c.in_ok-search.search out.items k) c.args.rings.now noded.items h)
     c.node_all.ensures
 
 pub returns-clause-cuts : goal.returns-clause-cuts
 returns-clause-cuts g c =
     if_ok_too _ _ c.node_all.result
-    (λ noded h all. AreFullyNoded-noded c.in_ok-blocks.blocks (map (λ ring. ring.items) c.args.rings.now) (map (λ ring. ring.items) noded.items)
-    (AllZip-map (λ ring out. IsNoded ring c.in_ok-blocks.blocks out) (λ ring. ring.items) (λ out. out.items) c.args.rings.now noded.items h)
-    (λ corner k. (c.in_ok-blocks.ensures corner).1 (all corner k)))
+    (λ noded h all. AreFullyNoded-noded c.in_ok-search.search (map (λ ring. ring.items) c.args.rings.now) (map (λ ring. ring.items) noded.items)
+    (AllZip-map (λ ring out. IsNoded ring c.in_ok-search.search out) (λ ring. ring.items) (λ out. out.items) c.args.rings.now noded.items h)
+    (λ corner k. (c.in_ok-search.ensures corner).1 (all corner k)))
     c.node_all.ensures

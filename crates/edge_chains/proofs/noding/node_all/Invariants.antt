@@ -1,7 +1,10 @@
-use Rattle.std.proofs.Common.{take}
+use Rattle.std.proofs.Common.{◌≡◌, take}
 use Rattle.std.specs.List.{AllZip}
 use Rattle.edge_chains.specs.Noding.{IsNoded}
 use Rattle.edge_chains.proofs.noding.node_all.Given as goal
 
 abbrev pub invariant-loop-ring : goal.invariant-loop-ring
-invariant-loop-ring g l = AllZip (λ ring out. IsNoded ring.items l.blocks out.items) (take l.ring-index l.rings) l.noded.items
+invariant-loop-ring g l = record {
+  same : l.search ≡ l.fn.search;
+  so_far : AllZip (λ ring out. IsNoded ring.items l.fn.search out.items) (take l.ring-index l.rings) l.noded.items;
+}

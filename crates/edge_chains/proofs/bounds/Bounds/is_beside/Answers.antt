@@ -27,10 +27,14 @@ returns c =
     let g4 : FitsSigned w64 c.difference-2.result = omega (arith, ints) in
     let g5 : FitsSigned w64 c.difference-3.result = omega (arith, ints) in
     let g6 : FitsSigned w64 c.difference-4.result = omega (arith, ints) in
-    let p1 : c.product-bottom.result ≡ (b.x -ℤ a.x) *ℤ (s.low.y -ℤ a.y) = simp to_z-of_z at c.product-bottom.ensures ∙ ap (λ z. z *ℤ c.difference.result) dx ∙ ap (λ z. (b.x -ℤ a.x) *ℤ z) d1 in
-    let p2 : c.product-top.result ≡ (b.x -ℤ a.x) *ℤ (s.high.y -ℤ a.y) = simp to_z-of_z at c.product-top.ensures ∙ ap (λ z. z *ℤ c.difference-2.result) dx ∙ ap (λ z. (b.x -ℤ a.x) *ℤ z) d2 in
-    let p3 : c.product-left.result ≡ (b.y -ℤ a.y) *ℤ (s.low.x -ℤ a.x) = simp to_z-of_z at c.product-left.ensures ∙ ap (λ z. z *ℤ c.difference-3.result) dy ∙ ap (λ z. (b.y -ℤ a.y) *ℤ z) d3 in
-    let p4 : c.product-right.result ≡ (b.y -ℤ a.y) *ℤ (s.high.x -ℤ a.x) = simp to_z-of_z at c.product-right.ensures ∙ ap (λ z. z *ℤ c.difference-4.result) dy ∙ ap (λ z. (b.y -ℤ a.y) *ℤ z) d4 in
+    let p1 : c.product-bottom.result ≡ (b.x -ℤ a.x) *ℤ (s.low.y -ℤ a.y) =
+    simp to_z-of_z at c.product-bottom.ensures ∙ ap (λ z. z *ℤ c.difference.result) dx ∙ ap (λ z. (b.x -ℤ a.x) *ℤ z) d1 in
+    let p2 : c.product-top.result ≡ (b.x -ℤ a.x) *ℤ (s.high.y -ℤ a.y) =
+    simp to_z-of_z at c.product-top.ensures ∙ ap (λ z. z *ℤ c.difference-2.result) dx ∙ ap (λ z. (b.x -ℤ a.x) *ℤ z) d2 in
+    let p3 : c.product-left.result ≡ (b.y -ℤ a.y) *ℤ (s.low.x -ℤ a.x) =
+    simp to_z-of_z at c.product-left.ensures ∙ ap (λ z. z *ℤ c.difference-3.result) dy ∙ ap (λ z. (b.y -ℤ a.y) *ℤ z) d3 in
+    let p4 : c.product-right.result ≡ (b.y -ℤ a.y) *ℤ (s.high.x -ℤ a.x) =
+    simp to_z-of_z at c.product-right.ensures ∙ ap (λ z. z *ℤ c.difference-4.result) dy ∙ ap (λ z. (b.y -ℤ a.y) *ℤ z) d4 in
     let h1 : FitsSigned w128 c.product-bottom.result = omega (arith, ints) in
     let h2 : FitsSigned w128 c.product-top.result = omega (arith, ints) in
     let h3 : FitsSigned w128 c.product-left.result = omega (arith, ints) in

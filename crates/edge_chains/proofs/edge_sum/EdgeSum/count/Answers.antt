@@ -8,7 +8,8 @@ use Rattle.edge_chains.proofs.edge_sum.EdgeSum.count.Goals as goal
 
 pub count_ring-requires-clause-kept : goal.count_ring-requires-clause-kept
 count_ring-requires-clause-kept g c =
-    AreCounts-upto c.reserve.new.self.entries c.self.inside.edges 1000000000000 (let e : c.self.inside.edges ≡ c.args.self.now.edges = ap (λ (sum : Counts). sum.edges) c.self.view_is in omega arith)
+    AreCounts-upto c.reserve.new.self.entries c.self.inside.edges 1000000000000 (let e : c.self.inside.edges ≡ c.args.self.now.edges =
+    ap (λ (sum : Counts). sum.edges) c.self.view_is in omega arith)
     (AreCounts-alike c.self.inside.numbers.entries c.reserve.new.self.entries c.self.inside.edges c.in_ok-reserve.ensures.entries.2 c.self.invariant)
 
 pub invariant_of-self-2 : goal.invariant_of-self-2
@@ -18,4 +19,5 @@ invariant_of-self-2 g c =
 
 pub returns-clause-net : goal.returns-clause-net
 returns-clause-net g c = rw (← c.self.view_is) (λ a b. c.count_ring.ensures.net a b
-    ∙ ap (λ z. z +ℤ signed c.args.side (net_of_edges (edges c.args.ring.now) a b)) (net_at_alike c.self.inside.numbers.entries c.reserve.new.self.entries c.in_ok-reserve.ensures.entries.2 a b))
+    ∙ ap (λ z. z +ℤ signed c.args.side (net_of_edges (edges c.args.ring.now) a b))
+    (net_at_alike c.self.inside.numbers.entries c.reserve.new.self.entries c.in_ok-reserve.ensures.entries.2 a b))

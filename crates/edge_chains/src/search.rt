@@ -1,0 +1,112 @@
+ghost use Rattle.std.specs.Prelude.{◌≡◌, ◌↔◌, List, IfOk};
+ghost use Rattle.std.specs.List.{filter, Contains};
+ghost use Rattle.edge_chains.specs.Inside.{is_inside, is_in_bounds};
+
+use crate::blocks::Blocks;
+use crate::bounds::{Bounds, is_strictly_inside};
+use geo_exact::Corner;
+use std::alloc::{AllocError, Allocator};
+use std::marker::Model;
+
+/// How many of the corners ahead a box is drawn round.
+const AHEAD: usize = 16;
+
+/// How many corners a box that is kept has at most.
+const MOST: usize = 64;
+
+/// Corners for many searches, as a list in some order.
+///
+/// Edges that follow each other are close to each other. So the corners of a box round the next edges are kept, where
+/// they are few, and an edge in that box is searched among them alone.
+#[derive(Drop)]
+pub(crate) struct Search<A: Allocator> {
+    blocks: Blocks<A>,
+    bounds: Bounds,
+    near: Vec<Corner, A>,
+}
+
+impl<A: Allocator> Model for Search<A> {
+    ghost use Rattle.std.specs.Prelude.{◌≡◌, List};
+    ghost use Rattle.std.specs.List.{filter};
+    ghost use Rattle.geo_exact.specs.declared.corner.Corner.{Corner};
+    ghost use Rattle.edge_chains.specs.Inside.{is_in_bounds};
+
+    ghost Value = { List Corner };
+
+    ghost view = { λ search. search.blocks };
+
+    ghost invariant = { λ search. search.near.items ≡ filter (λ c. is_in_bounds c search.bounds) search.blocks };
+}
+
+impl<A: Allocator + Copy> Search<A> {
+    /// A search among these corners.
+    pub fn new(alloc: A, corners: &[Corner]) -> Result<Search<A>, AllocError>
+        ensures { IfOk result (λ search. (c : Corner) → Contains search c ↔ Contains corners.now c) }
+    {
+        Ok(Search {
+            blocks: Blocks::new(alloc, corners)?,
+            bounds: Bounds::nowhere(),
+            near: Vec::new(alloc),
+        })
+    }
+
+    /// Those of the corners that lie strictly inside the edge between two corners, in the order of the list.
+    ///
+    /// `ahead` are the corners that come next in the ring: only the speed rests on them.
+    pub fn inside(
+        &mut self,
+        from: Corner,
+        to: Corner,
+        ahead: &[Corner],
+    ) -> Result<Vec<Corner, A>, AllocError>
+        ensures same { self.new ≡ self.old }
+        ensures found { IfOk result (λ found. found.items ≡ filter (λ c. is_inside c from to) self.old) }
+    {
+        if !self.bounds.covers(from, to) {
+            self.move_to(bounds_of(from, to, ahead))?;
+        }
+        if self.bounds.covers(from, to) {
+            inside_of(*self.near.allocator(), &self.near, from, to)
+        } else {
+            self.blocks.inside(from, to)
+        }
+    }
+
+    /// Keeps the corners of another box, where they are few.
+    fn move_to(&mut self, bounds: Bounds) -> Result<(), AllocError>
+        ensures { self.new ≡ self.old }
+    {
+        if let Some(near) = self.blocks.within(&bounds, MOST)? {
+            self.bounds = bounds;
+            self.near = near;
+        }
+        Ok(())
+    }
+}
+
+/// The box of an edge's ends and of the first of the corners ahead.
+fn bounds_of(from: Corner, to: Corner, ahead: &[Corner]) -> Bounds {
+    let mut bounds = Bounds::of_corner(from).joined(&Bounds::of_corner(to));
+    for corner in ahead.iter().take(AHEAD) {
+        bounds = bounds.joined(&Bounds::of_corner(*corner));
+    }
+    bounds
+}
+
+/// Those of the corners that lie strictly inside the edge from a to b, in the order of the list: each is tried.
+fn inside_of<A: Allocator>(
+    alloc: A,
+    corners: &[Corner],
+    a: Corner,
+    b: Corner,
+) -> Result<Vec<Corner, A>, AllocError>
+    ensures { IfOk result (λ found. found.items ≡ filter (λ c. is_inside c a b) corners.now) }
+{
+    let mut found = Vec::new(alloc);
+    for corner in corners {
+        if is_strictly_inside(*corner, a, b) {
+            found.push(*corner)?;
+        }
+    }
+    Ok(found)
+}
