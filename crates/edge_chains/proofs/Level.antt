@@ -1,6 +1,5 @@
 -- The two points beside a level edge, and how each edge of fully noded rings crosses there.
 use Rattle.std.proofs.Common.{◌≡◌, ◌⊎◌, inl, inr, ⊎_elim, refl, sym, ◌∙◌, ap, subst, arith, if◌then◌else◌, ◌&&◌, ℤ, pos, negsuc, ◌+ℤ◌, ◌-ℤ◌, ◌*ℤ◌, neg_ℤ, [], ◌∷◌}
-use Rattle.std.specs.Int.{int_min, int_max}
 use Rattle.std.specs.Bool.{Decides}
 use Rattle.std.specs.Ordering.{int_eq}
 use Rattle.std.proofs.lemmas.Int.{ints, clamps, by_lt_z}
@@ -20,10 +19,12 @@ use Rattle.geo_exact.proofs.OnEdge.{on_edge_back}
 use Rattle.geo_exact.proofs.Crossings.{crossing_back}
 use Rattle.edge_chains.specs.Net.{net_of_edges}
 use Rattle.edge_chains.specs.Noding.{IsStrictlyInside}
+use Rattle.edge_chains.specs.Jump.{IsOnSegment, Joins}
 use Rattle.edge_chains.proofs.Corners.{false_where, Decides-int_lt}
 use Rattle.edge_chains.proofs.Changes.{net_of_turned}
-use Rattle.edge_chains.proofs.Beside.{whole, step, near, cross, push, turn_near, cross_within, lead_up, lead_down, next_up, next_down}
-use Rattle.edge_chains.proofs.Steep.{AreClear, AreClear-back, sign_cases, strictly_at_height, net_none, net_one, up_one, up_none, none_below, none_above, not_zero_up, not_zero_down}
+use Rattle.edge_chains.proofs.Beside.{whole, step, near, cross, push, turn_near, cross_within, lead_up, lead_down, next_up, next_down, step_past, step_short}
+use Rattle.edge_chains.proofs.Segments.{left_has_none, right_has_none, above_has_none, below_has_none, farther_has_none, nearer_has_none}
+use Rattle.edge_chains.proofs.Steep.{AreClear, AreClear-back, sign_cases, strictly_at_height, net_none, net_one, up_one, up_none, none_below, none_above}
 
 abbrev pub above_of : Corner → Corner → Point
 above_of a b = near a b (pos 0) (pos 1)
@@ -307,44 +308,69 @@ level_jump a b u v f h =
     m)
     (height_cases u.y a.y)
 
--- ---- off the edges
-off_both : (a b u v : Corner) → BothSides a b u v → (¬ IsOnEdge (above_of a b) u v) × (¬ IsOnEdge (below_of a b) u v)
-off_both a b u v (inl p) = (λ e. not_zero_up (turn_at u v (above_of a b)) p.0 e.on_line, λ e. not_zero_up (turn_at u v (below_of a b)) p.1 e.on_line)
-off_both a b u v (inr p) = (λ e. not_zero_down (turn_at u v (above_of a b)) p.0 e.on_line, λ e. not_zero_down (turn_at u v (below_of a b)) p.1 e.on_line)
+-- ---- the edges that the segment between the two points meets
+meets_none : (a b u v : Corner) (q : Point) → BothSides a b u v → IsOnSegment q (above_of a b) (below_of a b) → ¬ IsOnEdge q u v
+meets_none a b u v q (inl p) s = left_has_none u v q (above_of a b) (below_of a b) s p.0 p.1
+meets_none a b u v q (inr p) s = right_has_none u v q (above_of a b) (below_of a b) s p.0 p.1
 
-off_from_up : (a b u v : Corner) → IsLevel a b → u.y ≡ a.y → a.y <ℤ v.y → BothSides a b u v
-off_from_up a b u v f e k = ⊎_elim (λ p. inl (p.1, p.2)) (λ p. inr (p.1, p.2)) (from_up a b u v f e k)
+up_sides : (a b u v : Corner) → IsLevel a b → u.y ≡ a.y → a.y <ℤ v.y → BothSides a b u v
+up_sides a b u v f e k = ⊎_elim (λ p. inl (p.1, p.2)) (λ p. inr (p.1, p.2)) (from_up a b u v f e k)
 
-off_from_down : (a b u v : Corner) → IsLevel a b → u.y ≡ a.y → v.y <ℤ a.y → BothSides a b u v
-off_from_down a b u v f e k = ⊎_elim (λ p. inr (p.1, p.2)) (λ p. inl (p.1, p.2)) (from_down a b u v f e k)
+down_sides : (a b u v : Corner) → IsLevel a b → u.y ≡ a.y → v.y <ℤ a.y → BothSides a b u v
+down_sides a b u v f e k = ⊎_elim (λ p. inr (p.1, p.2)) (λ p. inl (p.1, p.2)) (from_down a b u v f e k)
 
-off_back : (a b u v : Corner) → (¬ IsOnEdge (above_of a b) v u) × (¬ IsOnEdge (below_of a b) v u) → (¬ IsOnEdge (above_of a b) u v) × (¬ IsOnEdge (below_of a b) u v)
-off_back a b u v r = (λ e. r.0 (on_edge_back u v (above_of a b) e), λ e. r.1 (on_edge_back u v (below_of a b) e))
+-- heights below both points, and above both
+lower : (ay by wy ey : ℤ) → by ≡ ay → wy <ℤ ay → negsuc 0 ≤ℤ ey → (wy *ℤ whole) <ℤ (ay *ℤ whole +ℤ (by -ℤ ay) *ℤ step +ℤ ey)
+lower ay by wy ey f h k = omega (arith, ints)
 
-above_all : (ay by uy vy ey : ℤ) → by ≡ ay → ay <ℤ uy → ay <ℤ vy → ey ≤ℤ pos 1 → (int_min uy vy *ℤ whole) ≤ℤ (ay *ℤ whole +ℤ (by -ℤ ay) *ℤ step +ℤ ey) → ⊥
-above_all ay by uy vy ey f p q s e = let m : ay <ℤ int_min uy vy = omega (arith, ints, clamps) in omega (arith, ints)
+higher : (ay by wy ey : ℤ) → by ≡ ay → ay <ℤ wy → ey ≤ℤ pos 1 → (ay *ℤ whole +ℤ (by -ℤ ay) *ℤ step +ℤ ey) <ℤ (wy *ℤ whole)
+higher ay by wy ey f h k = omega (arith, ints)
 
-below_all : (ay by uy vy ey : ℤ) → by ≡ ay → uy <ℤ ay → vy <ℤ ay → negsuc 0 ≤ℤ ey → (ay *ℤ whole +ℤ (by -ℤ ay) *ℤ step +ℤ ey) ≤ℤ (int_max uy vy *ℤ whole) → ⊥
-below_all ay by uy vy ey f p q s e = let m : int_max uy vy <ℤ ay = omega (arith, ints, clamps) in omega (arith, ints)
+meets_below : (a b u v : Corner) (q : Point) → IsLevel a b → u.y <ℤ a.y → v.y <ℤ a.y → IsOnSegment q (above_of a b) (below_of a b) → ¬ IsOnEdge q u v
+meets_below a b u v q f h k s =
+    let up : negsuc 0 ≤ℤ pos 1 = omega (arith, ints) in
+    let down : negsuc 0 ≤ℤ negsuc 0 = omega (arith, ints) in
+    above_has_none u v q (above_of a b) (below_of a b) s
+    (lower a.y b.y u.y (pos 1) f.same_height h up) (lower a.y b.y u.y (negsuc 0) f.same_height h down)
+    (lower a.y b.y v.y (pos 1) f.same_height k up) (lower a.y b.y v.y (negsuc 0) f.same_height k down)
 
-at_height_above : (ay by uy vy : ℤ) → by ≡ ay → uy ≡ ay → vy ≡ ay → (ay *ℤ whole +ℤ (by -ℤ ay) *ℤ step +ℤ pos 1) ≤ℤ (int_max uy vy *ℤ whole) → ⊥
-at_height_above ay by uy vy f p q e = let m : int_max uy vy ≡ ay = omega (arith, ints, clamps) in omega (arith, ints)
+meets_above : (a b u v : Corner) (q : Point) → IsLevel a b → a.y <ℤ u.y → a.y <ℤ v.y → IsOnSegment q (above_of a b) (below_of a b) → ¬ IsOnEdge q u v
+meets_above a b u v q f h k s =
+    let up : pos 1 ≤ℤ pos 1 = omega (arith, ints) in
+    let down : negsuc 0 ≤ℤ pos 1 = omega (arith, ints) in
+    below_has_none u v q (above_of a b) (below_of a b) s
+    (higher a.y b.y u.y (pos 1) f.same_height h up) (higher a.y b.y u.y (negsuc 0) f.same_height h down)
+    (higher a.y b.y v.y (pos 1) f.same_height k up) (higher a.y b.y v.y (negsuc 0) f.same_height k down)
 
-at_height_below : (ay by uy vy : ℤ) → by ≡ ay → uy ≡ ay → vy ≡ ay → (int_min uy vy *ℤ whole) ≤ℤ (ay *ℤ whole +ℤ (by -ℤ ay) *ℤ step +ℤ negsuc 0) → ⊥
-at_height_below ay by uy vy f p q e = let m : int_min uy vy ≡ ay = omega (arith, ints, clamps) in omega (arith, ints)
+-- an edge at a's height that begins at a or left of it
+meets_along : (a b u v : Corner) (q : Point) → IsLevel a b → AreClear a b u v → u.y ≡ a.y → v.y ≡ a.y → u.x ≤ℤ a.x
+    → IsOnSegment q (above_of a b) (below_of a b) → IsOnEdge q u v → (u ≡ a) × (v ≡ b)
+meets_along a b u v q f h e g l s o = by_lt_z a.x v.x
+    (λ p. is_the_edge a b u v f h e g l p)
+    (λ p. let i = step_past a.x b.x u.x f.to_right l in let j = step_past a.x b.x v.x f.to_right p in
+    absurd (farther_has_none u v q (above_of a b) (below_of a b) s i i j j o))
 
-pub level_off : (a b u v : Corner) → IsLevel a b → AreClear a b u v → (¬ IsOnEdge (above_of a b) u v) × (¬ IsOnEdge (below_of a b) u v)
-level_off a b u v f h =
+meets_right : (a b u v : Corner) (q : Point) → a.x <ℤ u.x → a.x <ℤ v.x → IsOnSegment q (above_of a b) (below_of a b) → ¬ IsOnEdge q u v
+meets_right a b u v q h k s =
+    let i = step_short a.x b.x u.x a.x_in_range b.x_in_range h in
+    let j = step_short a.x b.x v.x a.x_in_range b.x_in_range k in
+    nearer_has_none u v q (above_of a b) (below_of a b) s i i j j
+
+pub level_meets : (a b u v : Corner) (q : Point) → IsLevel a b → AreClear a b u v → IsOnSegment q (above_of a b) (below_of a b) → IsOnEdge q u v → Joins (edge_of u v) a b
+level_meets a b u v q f h s e =
+    let back = AreClear-back a b u v h in
+    let o = on_edge_back u v q e in
     ⊎_elim
-    (λ p. ⊎_elim (λ q. (λ e. below_all a.y b.y u.y v.y (pos 1) f.same_height p q (omega (arith, ints)) e.to_y, λ e. below_all a.y b.y u.y v.y (negsuc 0) f.same_height p q (omega (arith, ints)) e.to_y))
-    (λ o. ⊎_elim (λ q. off_back a b u v (off_both a b v u (off_from_down a b v u f q p))) (λ q. off_both a b u v (through a b u v h p q)) o) (height_cases v.y a.y))
+    (λ p. ⊎_elim (λ k. absurd (meets_below a b u v q f p k s e))
+    (λ n. ⊎_elim (λ k. absurd (meets_none a b v u q (down_sides a b v u f k p) s o)) (λ k. absurd (meets_none a b u v q (through a b u v h p k) s e)) n) (height_cases v.y a.y))
     (λ m. ⊎_elim
-    (λ p. ⊎_elim (λ q. off_both a b u v (off_from_down a b u v f p q))
-    (λ o. ⊎_elim
-    (λ q. (λ e. at_height_above a.y b.y u.y v.y f.same_height p q e.to_y, λ e. at_height_below a.y b.y u.y v.y f.same_height p q e.from_y))
-    (λ q. off_both a b u v (off_from_up a b u v f p q)) o) (height_cases v.y a.y))
-    (λ p. ⊎_elim (λ q. off_back a b u v (off_both a b v u (through a b v u (AreClear-back a b u v h) q p)))
-    (λ o. ⊎_elim (λ q. off_back a b u v (off_both a b v u (off_from_up a b v u f q p)))
-    (λ q. (λ e. above_all a.y b.y u.y v.y (pos 1) f.same_height p q (omega (arith, ints)) e.from_y, λ e. above_all a.y b.y u.y v.y (negsuc 0) f.same_height p q (omega (arith, ints)) e.from_y)) o) (height_cases v.y a.y))
+    (λ p. ⊎_elim (λ k. absurd (meets_none a b u v q (down_sides a b u v f p k) s e))
+    (λ n. ⊎_elim
+    (λ k. by_lt_z a.x u.x
+    (λ i. by_lt_z a.x v.x (λ j. absurd (meets_right a b u v q i j s e)) (λ j. let r = meets_along a b v u q f back k p j s o in inr (r.1, r.0)))
+    (λ i. inl (meets_along a b u v q f h p k i s e)))
+    (λ k. absurd (meets_none a b u v q (up_sides a b u v f p k) s e)) n) (height_cases v.y a.y))
+    (λ p. ⊎_elim (λ k. absurd (meets_none a b v u q (through a b v u back k p) s o))
+    (λ n. ⊎_elim (λ k. absurd (meets_none a b v u q (up_sides a b v u f k p) s o)) (λ k. absurd (meets_above a b u v q f p k s e)) n) (height_cases v.y a.y))
     m)
     (height_cases u.y a.y)
