@@ -39,7 +39,8 @@ push u v ex ey = (v.x -ℤ u.x) *ℤ ey -ℤ (v.y -ℤ u.y) *ℤ ex
 
 turn_near' : (ux uy vx vy ax ay bx by ex ey big mid : ℤ)
     → (vx -ℤ ux) *ℤ ((ay *ℤ big +ℤ (by -ℤ ay) *ℤ mid +ℤ ey) -ℤ uy *ℤ big) -ℤ (vy -ℤ uy) *ℤ ((ax *ℤ big +ℤ (bx -ℤ ax) *ℤ mid +ℤ ex) -ℤ ux *ℤ big)
-    ≡ big *ℤ ((vx -ℤ ux) *ℤ (ay -ℤ uy) -ℤ (vy -ℤ uy) *ℤ (ax -ℤ ux)) +ℤ mid *ℤ ((vx -ℤ ux) *ℤ (by -ℤ ay) -ℤ (vy -ℤ uy) *ℤ (bx -ℤ ax)) +ℤ ((vx -ℤ ux) *ℤ ey -ℤ (vy -ℤ uy) *ℤ ex)
+    ≡ big *ℤ ((vx -ℤ ux) *ℤ (ay -ℤ uy) -ℤ (vy -ℤ uy) *ℤ (ax -ℤ ux)) +ℤ mid *ℤ ((vx -ℤ ux) *ℤ (by -ℤ ay) -ℤ (vy -ℤ uy) *ℤ (bx -ℤ ax))
+    +ℤ ((vx -ℤ ux) *ℤ ey -ℤ (vy -ℤ uy) *ℤ ex)
 turn_near' ux uy vx vy ax ay bx by ex ey big mid =
     same_by (ux ∷ uy ∷ vx ∷ vy ∷ ax ∷ ay ∷ bx ∷ by ∷ ex ∷ ey ∷ big ∷ mid ∷ [])
     (sub

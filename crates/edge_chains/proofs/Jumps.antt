@@ -1,5 +1,6 @@
 -- An edge with a net count other than 0 has two points beside it between which the winding numbers differ by that count.
-use Rattle.std.proofs.Common.{◌≡◌, ◌≢◌, ◌⊎◌, inl, inr, ⊎_elim, refl, sym, ◌∙◌, ap, subst, arith, ℕ, ◌+◌, ◌<◌, ◌≤◌, ℤ, pos, negsuc, ◌+ℤ◌, ◌-ℤ◌, ◌*ℤ◌, neg_ℤ, List, [], ◌∷◌, ◌++◌}
+use Rattle.std.proofs.Common.{◌≡◌, ◌≢◌, ◌⊎◌, inl, inr, ⊎_elim, refl, sym, ◌∙◌, ap, subst, arith, ℕ, ◌+◌, ◌<◌, ◌≤◌, ℤ, pos, negsuc, ◌+ℤ◌, ◌-ℤ◌, ◌*ℤ◌, neg_ℤ}
+use Rattle.std.proofs.Common.{List, [], ◌∷◌, ◌++◌}
 use Rattle.std.specs.Int.{int_min, int_max}
 use Rattle.std.specs.List.{Contains, AllByRecursion}
 use Rattle.std.proofs.lemmas.Int.{ints, clamps, by_lt_z}
@@ -47,7 +48,8 @@ sum_over-two f g [] = refl
 sum_over-two f g (e ∷ es) = omega (arith, ints, sum_over-two f g es)
 
 -- what each edge takes from its start and gives to its end
-climbs_path : (height : Corner → ℤ) (from to : Corner) (rest : List Corner) → sum_over (λ e. height e.to -ℤ height e.from) (path from rest to) ≡ height to -ℤ height from
+climbs_path : (height : Corner → ℤ) (from to : Corner) (rest : List Corner)
+    → sum_over (λ e. height e.to -ℤ height e.from) (path from rest to) ≡ height to -ℤ height from
 climbs_path height from to [] = omega (arith, ints)
 climbs_path height from to (next ∷ rest) = omega (arith, ints, climbs_path height next to rest)
 
@@ -60,10 +62,13 @@ climbs_ring height (first ∷ rest) = climbs_path height first first rest ∙ no
 
 climbs : (height : Corner → ℤ) (rings : List (List Corner)) → sum_over (λ e. height e.to -ℤ height e.from) (all_edges rings) ≡ pos 0
 climbs height [] = refl
-climbs height (ring ∷ rings) = omega (arith, ints, sum_over-append (λ e. height e.to -ℤ height e.from) (edges ring) (all_edges rings), climbs_ring height ring, climbs height rings)
+climbs height (ring ∷ rings) =
+    let both = sum_over-append (λ e. height e.to -ℤ height e.from) (edges ring) (all_edges rings) in
+    omega (arith, ints, both, climbs_ring height ring, climbs height rings)
 
 rings_jump : (l r : Point) (height : Corner → ℤ) (a b : Corner) (rings : List (List Corner))
-    → ((e : Edge) → Contains (all_edges rings) e → crossing l e.from e.to -ℤ crossing r e.from e.to ≡ (height e.to -ℤ height e.from) +ℤ net_of_edges (e ∷ []) a b)
+    → ((e : Edge) → Contains (all_edges rings) e
+    → crossing l e.from e.to -ℤ crossing r e.from e.to ≡ (height e.to -ℤ height e.from) +ℤ net_of_edges (e ∷ []) a b)
     → winding_sum l rings -ℤ winding_sum r rings ≡ net_count rings a b
 rings_jump l r height a b rings h =
     let es = all_edges rings in
@@ -71,7 +76,8 @@ rings_jump l r height a b rings h =
     let cr : Edge → ℤ = λ e. crossing r e.from e.to in
     let up : Edge → ℤ = λ e. height e.to -ℤ height e.from in
     let one : Edge → ℤ = λ e. net_of_edges (e ∷ []) a b in
-    total (winding_sum l rings) (winding_sum r rings) (sum_over cl es) (sum_over cr es) (sum_over (λ e. cl e -ℤ cr e) es) (sum_over (λ e. up e +ℤ one e) es) (sum_over up es) (sum_over one es) (net_count rings a b)
+    total (winding_sum l rings) (winding_sum r rings) (sum_over cl es) (sum_over cr es) (sum_over (λ e. cl e -ℤ cr e) es) (sum_over (λ e. up e +ℤ one e) es)
+    (sum_over up es) (sum_over one es) (net_count rings a b)
     (sum_of_rings-edges cl rings) (sum_of_rings-edges cr rings) (sum_over-minus cl cr es)
     (sum_over-on (λ e. cl e -ℤ cr e) (λ e. up e +ℤ one e) es (all_from_contains (λ e. cl e -ℤ cr e ≡ up e +ℤ one e) es h))
     (sum_over-two up one es) (climbs height rings) (sum_over-net a b es)
@@ -80,9 +86,11 @@ rings_jump l r height a b rings h =
     total wl wr sl sr d t u o n h1 h2 h3 h4 h5 h6 h7 = omega (arith, ints)
 
 -- ---- corners and edges of rings
-path_ends : (from to : Corner) (rest : List Corner) (e : Edge) → Contains (path from rest to) e → Contains (from ∷ rest) e.from × (Contains (from ∷ rest) e.to ⊎ (to ≡ e.to))
+path_ends : (from to : Corner) (rest : List Corner) (e : Edge) → Contains (path from rest to) e
+    → Contains (from ∷ rest) e.from × (Contains (from ∷ rest) e.to ⊎ (to ≡ e.to))
 path_ends from to [] e h =
-    ⊎_elim (λ s. (subst (Contains (from ∷ [])) (ap (λ (x : Edge). x.from) s) (Contains-here from []), inr (ap (λ (x : Edge). x.to) s))) (λ k. absurd (none_in_nil e k)) (Contains-cases (edge_of from to) [] e h)
+    ⊎_elim (λ s. (subst (Contains (from ∷ [])) (ap (λ (x : Edge). x.from) s) (Contains-here from []), inr (ap (λ (x : Edge). x.to) s)))
+    (λ k. absurd (none_in_nil e k)) (Contains-cases (edge_of from to) [] e h)
 path_ends from to (next ∷ rest) e h =
     ⊎_elim
     (λ s. (
@@ -114,10 +122,13 @@ either_back : (rings : List (List Corner)) (a b : Corner) → HasEither rings a 
 either_back rings a b (inl h) = inr h
 either_back rings a b (inr h) = inl h
 
-is_clear : (rings : List (List Corner)) (a b : Corner) → AreFullyNoded rings → HasEither rings a b → (e : Edge) → Contains (all_edges rings) e → AreClear a b e.from e.to
+is_clear : (rings : List (List Corner)) (a b : Corner) → AreFullyNoded rings → HasEither rings a b → (e : Edge) → Contains (all_edges rings) e
+    → AreClear a b e.from e.to
 is_clear rings a b h k e l =
-    let ends : Contains (all_corners rings) a × Contains (all_corners rings) b = ⊎_elim (λ m. all_ends rings (edge_of a b) m) (λ m. let r = all_ends rings (edge_of b a) m in (r.1, r.0)) k in
-    let none : (c : Corner) → Contains (all_corners rings) c → ¬ IsStrictlyInside c a b = λ c m i. ⊎_elim (λ n. h c (edge_of a b) m n i) (λ n. h c (edge_of b a) m n (strictly_back c a b i)) k in
+    let ends : Contains (all_corners rings) a × Contains (all_corners rings) b =
+    ⊎_elim (λ m. all_ends rings (edge_of a b) m) (λ m. let r = all_ends rings (edge_of b a) m in (r.1, r.0)) k in
+    let none : (c : Corner) → Contains (all_corners rings) c → ¬ IsStrictlyInside c a b =
+    λ c m i. ⊎_elim (λ n. h c (edge_of a b) m n i) (λ n. h c (edge_of b a) m n (strictly_back c a b i)) k in
     let own = all_ends rings e l in
     record {
       a_is_out = h a e ends.0 l;
@@ -129,7 +140,8 @@ is_clear rings a b h k e l =
 counted_edge : (rings : List (List Corner)) (a b : Corner) → 0 < edge_count (all_edges rings) a b → Contains (all_edges rings) (edge_of a b)
 counted_edge rings a b h =
     let w = find_edge (all_edges rings) a b h in
-    subst (λ es. Contains es (edge_of a b)) (sym w.is) (Contains-append_right w.front (edge_of a b ∷ w.back) (edge_of a b) (Contains-here (edge_of a b) w.back))
+    subst (λ es. Contains es (edge_of a b)) (sym w.is)
+    (Contains-append_right w.front (edge_of a b ∷ w.back) (edge_of a b) (Contains-here (edge_of a b) w.back))
 
 unbalanced_edge : (added taken : List (List Corner)) (a b : Corner) → net_difference added taken a b ≢ pos 0 → HasEither (added ++ taken) a b
 unbalanced_edge added taken a b h =
@@ -137,7 +149,8 @@ unbalanced_edge added taken a b h =
     let back = ap (λ es. edge_count es b a) (all_edges-append added taken) ∙ edge_count-append (all_edges added) (all_edges taken) b a in
     ⊎_elim (λ p. inl (counted_edge (added ++ taken) a b p))
     (λ p. ⊎_elim (λ q. inr (counted_edge (added ++ taken) b a q))
-    (λ q. absurd (h (nothing (edge_count (all_edges added) a b) (edge_count (all_edges taken) a b) (edge_count (all_edges added) b a) (edge_count (all_edges taken) b a)
+    (λ q. absurd (h (nothing (edge_count (all_edges added) a b) (edge_count (all_edges taken) a b) (edge_count (all_edges added) b a)
+    (edge_count (all_edges taken) b a)
     (edge_count (all_edges (added ++ taken)) a b) (edge_count (all_edges (added ++ taken)) b a) forth back p q)))
     (cases_lt 0 (edge_count (all_edges (added ++ taken)) b a)))
     (cases_lt 0 (edge_count (all_edges (added ++ taken)) a b))
@@ -167,7 +180,8 @@ off_joined p a b e n (inr j) o =
     n (ap (λ s. turn_at s b p) (sym j.1) ∙ ap (λ s. turn_at e.to s p) (sym j.0) ∙ (let r = on_edge_back e.from e.to p o in r.on_line))
 
 IsJump-from : (l r : Point) (height : Corner → ℤ) (a b : Corner) (added taken : List (List Corner)) → AreBeside l r a b
-    → ((e : Edge) → Contains (all_edges (added ++ taken)) e → crossing l e.from e.to -ℤ crossing r e.from e.to ≡ (height e.to -ℤ height e.from) +ℤ net_of_edges (e ∷ []) a b)
+    → ((e : Edge) → Contains (all_edges (added ++ taken)) e
+    → crossing l e.from e.to -ℤ crossing r e.from e.to ≡ (height e.to -ℤ height e.from) +ℤ net_of_edges (e ∷ []) a b)
     → MeetsOnly l r (all_edges (added ++ taken)) a b → IsJump added taken a b l r
 IsJump-from l r height a b added taken beside jumps meets = record {
   beside = beside;
@@ -252,7 +266,8 @@ IsJump-turned added taken a b l r h = record {
   left_is_off = h.right_is_off;
   right_is_off = h.left_is_off;
   no_other_between = λ e q k s o. ⊎_elim (λ j. inr j) (λ j. inl j) (h.no_other_between e q k (segment_back q r l s) o);
-  changes = turned (winding_difference l added taken) (winding_difference r added taken) (net_difference added taken b a) (net_difference added taken a b) h.changes
+  changes = turned (winding_difference l added taken) (winding_difference r added taken) (net_difference added taken b a) (net_difference added taken a b)
+      h.changes
       (nets (edge_count (all_edges added) a b) (edge_count (all_edges added) b a) (edge_count (all_edges taken) a b) (edge_count (all_edges taken) b a));
 }
   where
@@ -262,7 +277,8 @@ IsJump-turned added taken a b l r h = record {
     nets : (p q r s : ℕ) → (pos p -ℤ pos q) -ℤ (pos r -ℤ pos s) ≡ neg_ℤ ((pos q -ℤ pos p) -ℤ (pos s -ℤ pos r))
     nets p q r s = omega (arith, ints)
 
-steep_case : (added taken : List (List Corner)) (a b : Corner) → AreFullyNoded (added ++ taken) → HasEither (added ++ taken) a b → a.y <ℤ b.y → IsJump added taken a b (left_of a b) (right_of a b)
+steep_case : (added taken : List (List Corner)) (a b : Corner) → AreFullyNoded (added ++ taken) → HasEither (added ++ taken) a b → a.y <ℤ b.y
+    → IsJump added taken a b (left_of a b) (right_of a b)
 steep_case added taken a b h k up =
     IsJump-from (left_of a b) (right_of a b) (λ c. pos 0) a b added taken (steep_beside a b up)
     (λ e m. steep_jump a b e.from e.to up (is_clear (added ++ taken) a b h k e m) ∙ plus_nothing (net_of_edges (e ∷ []) a b))
@@ -271,7 +287,8 @@ steep_case added taken a b h k up =
     plus_nothing : (z : ℤ) → z ≡ (pos 0 -ℤ pos 0) +ℤ z
     plus_nothing z = omega (arith, ints)
 
-level_case : (added taken : List (List Corner)) (a b : Corner) → AreFullyNoded (added ++ taken) → HasEither (added ++ taken) a b → IsLevel a b → IsJump added taken a b (above_of a b) (below_of a b)
+level_case : (added taken : List (List Corner)) (a b : Corner) → AreFullyNoded (added ++ taken) → HasEither (added ++ taken) a b → IsLevel a b
+    → IsJump added taken a b (above_of a b) (below_of a b)
 level_case added taken a b h k f =
     IsJump-from (above_of a b) (below_of a b) (shift a) a b added taken (level_beside a b f)
     (λ e m. level_jump a b e.from e.to f (is_clear (added ++ taken) a b h k e m))
@@ -283,10 +300,20 @@ pub jump_beside : (added taken : List (List Corner)) → AreFullyNoded (added ++
 jump_beside added taken h a b n =
     let k = unbalanced_edge added taken a b n in
     by_lt_z a.y b.y (λ p. (left_of a b, right_of a b, steep_case added taken a b h k p))
-    (λ p. by_lt_z b.y a.y (λ q. (right_of b a, left_of b a, IsJump-turned added taken a b (left_of b a) (right_of b a) (steep_case added taken b a h (either_back (added ++ taken) a b k) q)))
+    (λ p. by_lt_z b.y a.y (λ q. (
+      right_of b a,
+      left_of b a,
+      IsJump-turned added taken a b (left_of b a) (right_of b a)
+          (steep_case added taken b a h (either_back (added ++ taken) a b k) q),
+    ))
     (λ q. by_lt_z a.x b.x (λ r. (above_of a b, below_of a b, level_case added taken a b h k (record { same_height = omega (arith, ints); to_right = r })))
     (λ r. by_lt_z b.x a.x
-    (λ s. (below_of b a, above_of b a, IsJump-turned added taken a b (above_of b a) (below_of b a) (level_case added taken b a h (either_back (added ++ taken) a b k) (record { same_height = omega (arith, ints); to_right = s }))))
+    (λ s. (
+      below_of b a,
+      above_of b a,
+      IsJump-turned added taken a b (above_of b a) (below_of b a)
+          (level_case added taken b a h (either_back (added ++ taken) a b k) (record { same_height = omega (arith, ints); to_right = s })),
+    ))
     (λ s. absurd (n (let e : a ≡ b = corner_same a b (omega (arith, ints)) (omega (arith, ints)) in
     subst (λ c. net_difference added taken a c ≡ pos 0) e (nothing (edge_count (all_edges added) a a) (edge_count (all_edges taken) a a))))))))
   where

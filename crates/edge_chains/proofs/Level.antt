@@ -1,5 +1,6 @@
 -- The two points beside a level edge, and how each edge of fully noded rings crosses there.
-use Rattle.std.proofs.Common.{◌≡◌, ◌⊎◌, inl, inr, ⊎_elim, refl, sym, ◌∙◌, ap, subst, arith, if◌then◌else◌, ◌&&◌, ℤ, pos, negsuc, ◌+ℤ◌, ◌-ℤ◌, ◌*ℤ◌, neg_ℤ, [], ◌∷◌}
+use Rattle.std.proofs.Common.{◌≡◌, ◌⊎◌, inl, inr, ⊎_elim, refl, sym, ◌∙◌, ap, subst, arith, if◌then◌else◌, ◌&&◌, ℤ, pos, negsuc, ◌+ℤ◌, ◌-ℤ◌, ◌*ℤ◌, neg_ℤ}
+use Rattle.std.proofs.Common.{[], ◌∷◌}
 use Rattle.std.specs.Bool.{Decides}
 use Rattle.std.specs.Ordering.{int_eq}
 use Rattle.std.proofs.lemmas.Int.{ints, clamps, by_lt_z}
@@ -62,7 +63,8 @@ both_next_up a b u v t p =
       subst (λ z. pos 0 <ℤ z) (sym (turn_near u v a b (pos 0) (negsuc 0))) (next_up (turn u v a) (cross u v a b) (push u v (pos 0) (negsuc 0)) w.1 t p),
     )
 
-both_next_down : (a b u v : Corner) → turn u v a ≡ pos 0 → cross u v a b <ℤ pos 0 → (turn_at u v (above_of a b) <ℤ pos 0) × (turn_at u v (below_of a b) <ℤ pos 0)
+both_next_down : (a b u v : Corner) → turn u v a ≡ pos 0 → cross u v a b <ℤ pos 0
+    → (turn_at u v (above_of a b) <ℤ pos 0) × (turn_at u v (below_of a b) <ℤ pos 0)
 both_next_down a b u v t p =
     let w = push_within u v in (
       subst (λ z. z <ℤ pos 0) (sym (turn_near u v a b (pos 0) (pos 1))) (next_down (turn u v a) (cross u v a b) (push u v (pos 0) (pos 1)) w.0 t p),
@@ -70,14 +72,17 @@ both_next_down a b u v t p =
     )
 
 abbrev BothSides : Corner → Corner → Corner → Corner → Type 0
-BothSides a b u v = ((pos 0 <ℤ turn_at u v (above_of a b)) × (pos 0 <ℤ turn_at u v (below_of a b))) ⊎ ((turn_at u v (above_of a b) <ℤ pos 0) × (turn_at u v (below_of a b) <ℤ pos 0))
+BothSides a b u v =
+    ((pos 0 <ℤ turn_at u v (above_of a b)) × (pos 0 <ℤ turn_at u v (below_of a b)))
+    ⊎ ((turn_at u v (above_of a b) <ℤ pos 0) × (turn_at u v (below_of a b) <ℤ pos 0))
 
 -- an edge that passes a's height
 through : (a b u v : Corner) → AreClear a b u v → u.y <ℤ a.y → a.y <ℤ v.y → BothSides a b u v
 through a b u v h l k =
     ⊎_elim (λ p. inl (both_up a b u v p))
     (λ o. ⊎_elim (λ p. inr (both_down a b u v p))
-    (λ p. absurd (h.a_is_out (strictly_at_height u v a p (omega (arith, ints)) k (λ e. let y : a.y ≡ u.y = ap (λ (s : Corner). s.y) e in omega (arith, ints))))) o)
+    (λ p. absurd (h.a_is_out (strictly_at_height u v a p (omega (arith, ints)) k
+    (λ e. let y : a.y ≡ u.y = ap (λ (s : Corner). s.y) e in omega (arith, ints))))) o)
     (sign_cases (turn u v a))
 
 -- an edge that begins at a's height
@@ -97,7 +102,8 @@ level_cross ux uy vx vy ax ay bx by e =
     (mul (add (var 6) (neg (var 4))) (add (var 1) (neg (var 3)))) refl
 
 from_up : (a b u v : Corner) → IsLevel a b → u.y ≡ a.y → a.y <ℤ v.y
-    → ((a.x <ℤ u.x) × (pos 0 <ℤ turn_at u v (above_of a b)) × (pos 0 <ℤ turn_at u v (below_of a b))) ⊎ ((u.x ≤ℤ a.x) × (turn_at u v (above_of a b) <ℤ pos 0) × (turn_at u v (below_of a b) <ℤ pos 0))
+    → ((a.x <ℤ u.x) × (pos 0 <ℤ turn_at u v (above_of a b)) × (pos 0 <ℤ turn_at u v (below_of a b)))
+    ⊎ ((u.x ≤ℤ a.x) × (turn_at u v (above_of a b) <ℤ pos 0) × (turn_at u v (below_of a b) <ℤ pos 0))
 from_up a b u v f e k =
     let t : turn u v a ≡ (v.y -ℤ u.y) *ℤ (u.x -ℤ a.x) = level_start u.x u.y v.x v.y a.x a.y e in
     by_lt_z a.x u.x
@@ -107,11 +113,13 @@ from_up a b u v f e k =
     (λ q. let m : turn u v a <ℤ pos 0 = subst (λ z. z <ℤ pos 0) (sym t) (mul_neg (v.y -ℤ u.y) (u.x -ℤ a.x) (omega (arith, ints)) (omega (arith, ints))) in
     let r = both_down a b u v m in inr (p, r.0, r.1))
     (λ q. let z : turn u v a ≡ pos 0 = t ∙ ap (λ w. (v.y -ℤ u.y) *ℤ w) (let w : u.x -ℤ a.x ≡ pos 0 = omega (arith, ints) in w) ∙ mul_zero (v.y -ℤ u.y) in
-    let x : cross u v a b <ℤ pos 0 = subst (λ w. w <ℤ pos 0) (sym (level_cross u.x u.y v.x v.y a.x a.y b.x b.y f.same_height)) (mul_neg (b.x -ℤ a.x) (u.y -ℤ v.y) (omega (arith, ints, f.to_right)) (omega (arith, ints))) in
+    let x : cross u v a b <ℤ pos 0 = subst (λ w. w <ℤ pos 0) (sym (level_cross u.x u.y v.x v.y a.x a.y b.x b.y f.same_height))
+    (mul_neg (b.x -ℤ a.x) (u.y -ℤ v.y) (omega (arith, ints, f.to_right)) (omega (arith, ints))) in
     let r = both_next_down a b u v z x in inr (p, r.0, r.1)))
 
 from_down : (a b u v : Corner) → IsLevel a b → u.y ≡ a.y → v.y <ℤ a.y
-    → ((a.x <ℤ u.x) × (turn_at u v (above_of a b) <ℤ pos 0) × (turn_at u v (below_of a b) <ℤ pos 0)) ⊎ ((u.x ≤ℤ a.x) × (pos 0 <ℤ turn_at u v (above_of a b)) × (pos 0 <ℤ turn_at u v (below_of a b)))
+    → ((a.x <ℤ u.x) × (turn_at u v (above_of a b) <ℤ pos 0) × (turn_at u v (below_of a b) <ℤ pos 0))
+    ⊎ ((u.x ≤ℤ a.x) × (pos 0 <ℤ turn_at u v (above_of a b)) × (pos 0 <ℤ turn_at u v (below_of a b)))
 from_down a b u v f e k =
     let t : turn u v a ≡ (u.y -ℤ v.y) *ℤ (a.x -ℤ u.x) = level_start u.x u.y v.x v.y a.x a.y e ∙ both_negated v.y u.y u.x a.x in
     by_lt_z a.x u.x
@@ -121,12 +129,14 @@ from_down a b u v f e k =
     (λ q. let m : pos 0 <ℤ turn u v a = subst (λ z. pos 0 <ℤ z) (sym t) (mul_pos (u.y -ℤ v.y) (a.x -ℤ u.x) (omega (arith, ints)) (omega (arith, ints))) in
     let r = both_up a b u v m in inr (p, r.0, r.1))
     (λ q. let z : turn u v a ≡ pos 0 = t ∙ ap (λ w. (u.y -ℤ v.y) *ℤ w) (let w : a.x -ℤ u.x ≡ pos 0 = omega (arith, ints) in w) ∙ mul_zero (u.y -ℤ v.y) in
-    let x : pos 0 <ℤ cross u v a b = subst (λ w. pos 0 <ℤ w) (sym (level_cross u.x u.y v.x v.y a.x a.y b.x b.y f.same_height)) (mul_pos (b.x -ℤ a.x) (u.y -ℤ v.y) (omega (arith, ints, f.to_right)) (omega (arith, ints))) in
+    let x : pos 0 <ℤ cross u v a b = subst (λ w. pos 0 <ℤ w) (sym (level_cross u.x u.y v.x v.y a.x a.y b.x b.y f.same_height))
+    (mul_pos (b.x -ℤ a.x) (u.y -ℤ v.y) (omega (arith, ints, f.to_right)) (omega (arith, ints))) in
     let r = both_next_up a b u v z x in inr (p, r.0, r.1)))
   where
     both_negated : (p q r s : ℤ) → (p -ℤ q) *ℤ (r -ℤ s) ≡ (q -ℤ p) *ℤ (s -ℤ r)
     both_negated p q r s =
-        same_by (p ∷ q ∷ r ∷ s ∷ []) (mul (add (var 0) (neg (var 1))) (add (var 2) (neg (var 3)))) (mul (add (var 1) (neg (var 0))) (add (var 3) (neg (var 2)))) refl
+        same_by (p ∷ q ∷ r ∷ s ∷ []) (mul (add (var 0) (neg (var 1))) (add (var 2) (neg (var 3))))
+        (mul (add (var 1) (neg (var 0))) (add (var 3) (neg (var 2)))) refl
 
 -- ---- what a corner right of a at its height takes off: the sum round a ring is 0
 abbrev pub shift : Corner → Corner → ℤ
@@ -175,9 +185,11 @@ jumps_through a b u v f h l k =
     let su = other_height a u (λ e. omega (arith, ints)) in let sv = other_height a v (λ e. omega (arith, ints)) in
     let n = no_end a b u v f (λ e. omega (arith, ints)) in
     ⊎_elim
-    (λ p. total (crossing (above_of a b) u v) (crossing (below_of a b) u v) (shift a v) (shift a u) (net_of_edges (edge_of u v ∷ []) a b) (pos 1) (pos 1) (pos 0) (pos 0)
+    (λ p. total (crossing (above_of a b) u v) (crossing (below_of a b) u v) (shift a v) (shift a u) (net_of_edges (edge_of u v ∷ []) a b)
+    (pos 1) (pos 1) (pos 0) (pos 0)
     (up_one (above_of a b) u v ul vl p.0) (up_one (below_of a b) u v ur vr p.1) sv su n refl)
-    (λ p. total (crossing (above_of a b) u v) (crossing (below_of a b) u v) (shift a v) (shift a u) (net_of_edges (edge_of u v ∷ []) a b) (pos 0) (pos 0) (pos 0) (pos 0)
+    (λ p. total (crossing (above_of a b) u v) (crossing (below_of a b) u v) (shift a v) (shift a u) (net_of_edges (edge_of u v ∷ []) a b)
+    (pos 0) (pos 0) (pos 0) (pos 0)
     (up_none (above_of a b) u v ul vl p.0) (up_none (below_of a b) u v ur vr p.1) sv su n refl)
     (through a b u v h l k)
 
@@ -188,9 +200,11 @@ jumps_up a b u v f e k =
     let sv = other_height a v (λ d. omega (arith, ints)) in
     let n = no_end a b u v f (λ d. omega (arith, ints)) in
     ⊎_elim
-    (λ p. total (crossing (above_of a b) u v) (crossing (below_of a b) u v) (shift a v) (shift a u) (net_of_edges (edge_of u v ∷ []) a b) (pos 1) (pos 0) (pos 0) (negsuc 0)
+    (λ p. total (crossing (above_of a b) u v) (crossing (below_of a b) u v) (shift a v) (shift a u) (net_of_edges (edge_of u v ∷ []) a b)
+    (pos 1) (pos 0) (pos 0) (negsuc 0)
     (up_one (above_of a b) u v ul vl p.1) r sv (shift_one a u e p.0) n refl)
-    (λ p. total (crossing (above_of a b) u v) (crossing (below_of a b) u v) (shift a v) (shift a u) (net_of_edges (edge_of u v ∷ []) a b) (pos 0) (pos 0) (pos 0) (pos 0)
+    (λ p. total (crossing (above_of a b) u v) (crossing (below_of a b) u v) (shift a v) (shift a u) (net_of_edges (edge_of u v ∷ []) a b)
+    (pos 0) (pos 0) (pos 0) (pos 0)
     (up_none (above_of a b) u v ul vl p.1) r sv (shift_none a u (λ d. omega (arith, ints, d.1, p.0))) n refl)
     (from_up a b u v f e k)
 
@@ -203,10 +217,14 @@ jumps_down a b u v f e k =
     let back = crossing_back (below_of a b) v u in
     let turned = turn_at_back u v (below_of a b) in
     ⊎_elim
-    (λ p. total (crossing (above_of a b) u v) (crossing (below_of a b) u v) (shift a v) (shift a u) (net_of_edges (edge_of u v ∷ []) a b) (pos 0) (negsuc 0) (pos 0) (negsuc 0)
-    l (back ∙ ap neg_ℤ (up_one (below_of a b) v u vr ur (subst (λ z. pos 0 <ℤ z) (sym turned) (let q = p.2 in omega (arith, ints))))) sv (shift_one a u e p.0) n refl)
-    (λ p. total (crossing (above_of a b) u v) (crossing (below_of a b) u v) (shift a v) (shift a u) (net_of_edges (edge_of u v ∷ []) a b) (pos 0) (pos 0) (pos 0) (pos 0)
-    l (back ∙ ap neg_ℤ (up_none (below_of a b) v u vr ur (subst (λ z. z <ℤ pos 0) (sym turned) (let q = p.2 in omega (arith, ints))))) sv (shift_none a u (λ d. omega (arith, ints, d.1, p.0))) n refl)
+    (λ p. total (crossing (above_of a b) u v) (crossing (below_of a b) u v) (shift a v) (shift a u) (net_of_edges (edge_of u v ∷ []) a b)
+    (pos 0) (negsuc 0) (pos 0) (negsuc 0)
+    l (back ∙ ap neg_ℤ (up_one (below_of a b) v u vr ur (subst (λ z. pos 0 <ℤ z) (sym turned) (let q = p.2 in omega (arith, ints))))) sv
+    (shift_one a u e p.0) n refl)
+    (λ p. total (crossing (above_of a b) u v) (crossing (below_of a b) u v) (shift a v) (shift a u) (net_of_edges (edge_of u v ∷ []) a b)
+    (pos 0) (pos 0) (pos 0) (pos 0)
+    l (back ∙ ap neg_ℤ (up_none (below_of a b) v u vr ur (subst (λ z. z <ℤ pos 0) (sym turned) (let q = p.2 in omega (arith, ints))))) sv
+    (shift_none a u (λ d. omega (arith, ints, d.1, p.0))) n refl)
     (from_down a b u v f e k)
 
 -- ---- along a's height
@@ -252,25 +270,30 @@ jumps_along a b u v f h e g l =
     (λ p. let s = is_the_edge a b u v f h e g l p in
     one (crossing (above_of a b) u v) (crossing (below_of a b) u v) (shift a v) (shift a u) (net_of_edges (edge_of u v ∷ []) a b) c d (shift_one a v g p) su
     (net_one a b u v s (λ t. let x : u.x ≡ b.x = ap (λ (w : Corner). w.x) t.0 in omega (arith, ints, f.to_right))))
-    (λ p. total (crossing (above_of a b) u v) (crossing (below_of a b) u v) (shift a v) (shift a u) (net_of_edges (edge_of u v ∷ []) a b) (pos 0) (pos 0) (pos 0) (pos 0)
+    (λ p. total (crossing (above_of a b) u v) (crossing (below_of a b) u v) (shift a v) (shift a u) (net_of_edges (edge_of u v ∷ []) a b)
+    (pos 0) (pos 0) (pos 0) (pos 0)
     c d (shift_none a v (λ s. let m = s.1 in omega (arith, ints))) su
-    (net_none a b u v (λ t. let x : v.x ≡ b.x = ap (λ (w : Corner). w.x) t.1 in omega (arith, ints, f.to_right)) (λ t. let x : u.x ≡ b.x = ap (λ (w : Corner). w.x) t.0 in omega (arith, ints, f.to_right))) refl)
+    (net_none a b u v (λ t. let x : v.x ≡ b.x = ap (λ (w : Corner). w.x) t.1 in omega (arith, ints, f.to_right))
+    (λ t. let x : u.x ≡ b.x = ap (λ (w : Corner). w.x) t.0 in omega (arith, ints, f.to_right))) refl)
   where
     one : (l r v u n : ℤ) → l ≡ pos 0 → r ≡ pos 0 → v ≡ negsuc 0 → u ≡ pos 0 → n ≡ pos 1 → l -ℤ r ≡ (v -ℤ u) +ℤ n
     one l r v u n a b c d e = omega (arith, ints)
 
 jumps_right : (a b u v : Corner) → IsLevel a b → u.y ≡ a.y → v.y ≡ a.y → a.x <ℤ u.x → a.x <ℤ v.x → Jumps a b u v
 jumps_right a b u v f e g l k =
-    total (crossing (above_of a b) u v) (crossing (below_of a b) u v) (shift a v) (shift a u) (net_of_edges (edge_of u v ∷ []) a b) (pos 0) (pos 0) (negsuc 0) (negsuc 0)
+    total (crossing (above_of a b) u v) (crossing (below_of a b) u v) (shift a v) (shift a u) (net_of_edges (edge_of u v ∷ []) a b)
+    (pos 0) (pos 0) (negsuc 0) (negsuc 0)
     (none_below (above_of a b) u v (above_low a b u f (omega (arith, ints))) (above_low a b v f (omega (arith, ints))))
     (none_above (below_of a b) u v (below_high a b u f (omega (arith, ints))) (below_high a b v f (omega (arith, ints))))
     (shift_one a v g k) (shift_one a u e l)
-    (net_none a b u v (λ t. let x : u.x ≡ a.x = ap (λ (w : Corner). w.x) t.0 in omega (arith, ints)) (λ t. let x : v.x ≡ a.x = ap (λ (w : Corner). w.x) t.1 in omega (arith, ints))) refl
+    (net_none a b u v (λ t. let x : u.x ≡ a.x = ap (λ (w : Corner). w.x) t.0 in omega (arith, ints))
+    (λ t. let x : v.x ≡ a.x = ap (λ (w : Corner). w.x) t.1 in omega (arith, ints))) refl
 
 -- the same for the turned edge
 jumps_back : (a b u v : Corner) → Jumps a b v u → Jumps a b u v
 jumps_back a b u v h =
-    back (crossing (above_of a b) u v) (crossing (below_of a b) u v) (crossing (above_of a b) v u) (crossing (below_of a b) v u) (shift a u) (shift a v) (net_of_edges (edge_of u v ∷ []) a b) (net_of_edges (edge_of v u ∷ []) a b)
+    back (crossing (above_of a b) u v) (crossing (below_of a b) u v) (crossing (above_of a b) v u) (crossing (below_of a b) v u) (shift a u) (shift a v)
+    (net_of_edges (edge_of u v ∷ []) a b) (net_of_edges (edge_of v u ∷ []) a b)
     (crossing_back (above_of a b) v u) (crossing_back (below_of a b) v u) (net_of_turned v u a b) h
   where
     back : (l r l' r' u v n n' : ℤ) → l ≡ neg_ℤ l' → r ≡ neg_ℤ r' → n ≡ neg_ℤ n' → l' -ℤ r' ≡ (u -ℤ v) +ℤ n' → l -ℤ r ≡ (v -ℤ u) +ℤ n
@@ -281,15 +304,19 @@ height_cases y h = by_lt_z y h (λ p. inl p) (λ p. by_lt_z h y (λ q. inr (inr 
 
 jumps_flat : (a b u v : Corner) → IsLevel a b → (u.y <ℤ a.y) × (v.y <ℤ a.y) ⊎ ((a.y <ℤ u.y) × (a.y <ℤ v.y)) → Jumps a b u v
 jumps_flat a b u v f (inl p) =
-    total (crossing (above_of a b) u v) (crossing (below_of a b) u v) (shift a v) (shift a u) (net_of_edges (edge_of u v ∷ []) a b) (pos 0) (pos 0) (pos 0) (pos 0)
+    total (crossing (above_of a b) u v) (crossing (below_of a b) u v) (shift a v) (shift a u) (net_of_edges (edge_of u v ∷ []) a b)
+    (pos 0) (pos 0) (pos 0) (pos 0)
     (none_below (above_of a b) u v (above_low a b u f (omega (arith, ints, p.0))) (above_low a b v f (omega (arith, ints, p.1))))
     (none_below (below_of a b) u v (below_low a b u f p.0) (below_low a b v f p.1))
-    (other_height a v (λ d. omega (arith, ints, p.1))) (other_height a u (λ d. omega (arith, ints, p.0))) (no_end a b u v f (λ d. omega (arith, ints, p.1))) refl
+    (other_height a v (λ d. omega (arith, ints, p.1))) (other_height a u (λ d. omega (arith, ints, p.0)))
+    (no_end a b u v f (λ d. omega (arith, ints, p.1))) refl
 jumps_flat a b u v f (inr p) =
-    total (crossing (above_of a b) u v) (crossing (below_of a b) u v) (shift a v) (shift a u) (net_of_edges (edge_of u v ∷ []) a b) (pos 0) (pos 0) (pos 0) (pos 0)
+    total (crossing (above_of a b) u v) (crossing (below_of a b) u v) (shift a v) (shift a u) (net_of_edges (edge_of u v ∷ []) a b)
+    (pos 0) (pos 0) (pos 0) (pos 0)
     (none_above (above_of a b) u v (above_high a b u f p.0) (above_high a b v f p.1))
     (none_above (below_of a b) u v (below_high a b u f (omega (arith, ints, p.0))) (below_high a b v f (omega (arith, ints, p.1))))
-    (other_height a v (λ d. omega (arith, ints, p.1))) (other_height a u (λ d. omega (arith, ints, p.0))) (no_end a b u v f (λ d. omega (arith, ints, p.1))) refl
+    (other_height a v (λ d. omega (arith, ints, p.1))) (other_height a u (λ d. omega (arith, ints, p.0)))
+    (no_end a b u v f (λ d. omega (arith, ints, p.1))) refl
 
 pub level_jump : (a b u v : Corner) → IsLevel a b → AreClear a b u v → Jumps a b u v
 level_jump a b u v f h =
@@ -356,13 +383,15 @@ meets_right a b u v q h k s =
     let j = step_short a.x b.x v.x a.x_in_range b.x_in_range k in
     nearer_has_none u v q (above_of a b) (below_of a b) s i i j j
 
-pub level_meets : (a b u v : Corner) (q : Point) → IsLevel a b → AreClear a b u v → IsOnSegment q (above_of a b) (below_of a b) → IsOnEdge q u v → Joins (edge_of u v) a b
+pub level_meets : (a b u v : Corner) (q : Point) → IsLevel a b → AreClear a b u v → IsOnSegment q (above_of a b) (below_of a b) → IsOnEdge q u v
+    → Joins (edge_of u v) a b
 level_meets a b u v q f h s e =
     let back = AreClear-back a b u v h in
     let o = on_edge_back u v q e in
     ⊎_elim
     (λ p. ⊎_elim (λ k. absurd (meets_below a b u v q f p k s e))
-    (λ n. ⊎_elim (λ k. absurd (meets_none a b v u q (down_sides a b v u f k p) s o)) (λ k. absurd (meets_none a b u v q (through a b u v h p k) s e)) n) (height_cases v.y a.y))
+    (λ n. ⊎_elim (λ k. absurd (meets_none a b v u q (down_sides a b v u f k p) s o)) (λ k. absurd (meets_none a b u v q (through a b u v h p k) s e)) n)
+    (height_cases v.y a.y))
     (λ m. ⊎_elim
     (λ p. ⊎_elim (λ k. absurd (meets_none a b u v q (down_sides a b u v f p k) s e))
     (λ n. ⊎_elim

@@ -126,8 +126,9 @@ left_has_none a b q p r s i j e = never (turn_at a b q) (turns_up a b q p r s i 
 -- nor has one right of it
 pub right_has_none : (a b : Corner) (q p r : Point) → IsOnSegment q p r → turn_at a b p <ℤ pos 0 → turn_at a b r <ℤ pos 0 → ¬ IsOnEdge q a b
 right_has_none a b q p r s i j e =
-    never (turn_at a b q) (turn_at b a q) (turns_up b a q p r s (turned (turn_at a b p) (turn_at b a p) i (turn_at_back a b p)) (turned (turn_at a b r) (turn_at b a r) j (turn_at_back a b r)))
-    (turn_at_back a b q) e.on_line
+    let start = turned (turn_at a b p) (turn_at b a p) i (turn_at_back a b p) in
+    let end = turned (turn_at a b r) (turn_at b a r) j (turn_at_back a b r) in
+    never (turn_at a b q) (turn_at b a q) (turns_up b a q p r s start end) (turn_at_back a b q) e.on_line
   where
     turned : (t u : ℤ) → t <ℤ pos 0 → u ≡ neg_ℤ t → pos 0 <ℤ u
     turned t u h e = omega (arith, ints)

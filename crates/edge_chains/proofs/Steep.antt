@@ -1,5 +1,6 @@
 -- The two points beside an edge that isn't level, and how each edge of fully noded rings crosses there.
-use Rattle.std.proofs.Common.{◌≡◌, ◌⊎◌, inl, inr, ⊎_elim, refl, sym, ◌∙◌, ap, subst, arith, Bool, true, false, if◌then◌else◌, ◌+◌, ℤ, pos, negsuc, ◌+ℤ◌, ◌-ℤ◌, ◌*ℤ◌, neg_ℤ, [], ◌∷◌}
+use Rattle.std.proofs.Common.{◌≡◌, ◌⊎◌, inl, inr, ⊎_elim, refl, sym, ◌∙◌, ap, subst, arith, Bool, true, false, if◌then◌else◌, ◌+◌, ℤ, pos, negsuc, ◌+ℤ◌}
+use Rattle.std.proofs.Common.{◌-ℤ◌, ◌*ℤ◌, neg_ℤ, [], ◌∷◌}
 use Rattle.std.proofs.lemmas.Int.{ints, by_lt_z}
 use lib.Signed.{◌<ℤ◌, ◌≤ℤ◌, lt_z, le_z}
 use Rattle.geo_exact.specs.declared.corner.Corner.{Corner}
@@ -21,7 +22,8 @@ use Rattle.edge_chains.proofs.Changes.{Decides-is_same_edge, net_of_turned}
 use Rattle.edge_chains.specs.Counts.{is_same_edge}
 use Rattle.edge_chains.proofs.Along.{zero_of_mul}
 use Rattle.edge_chains.proofs.Parts.{strictly_back}
-use Rattle.edge_chains.proofs.Beside.{whole, step, near, cross, push, turn_near, cross_within, lead_up, lead_down, next_up, next_down, last_one, step_past, step_short}
+use Rattle.edge_chains.proofs.Beside.{whole, step, near, cross, push, turn_near, cross_within, lead_up, lead_down, next_up, next_down, last_one}
+use Rattle.edge_chains.proofs.Beside.{step_past, step_short}
 use Rattle.edge_chains.proofs.Segments.{left_has_none, right_has_none, above_has_none, below_has_none}
 
 -- neither end of the edge a b is inside the edge u v, nor the other way round
@@ -52,7 +54,10 @@ strictly_at_height u v c t l h n = record {
 
 -- an edge that passes a's height at a begins there
 pub starts_there : (a b u v : Corner) → AreClear a b u v → turn u v a ≡ pos 0 → u.y ≤ℤ a.y → a.y <ℤ v.y → u ≡ a
-starts_there a b u v h t l k = ⊎_elim (λ e. e) (λ n. absurd (h.a_is_out (strictly_at_height u v a t l k (λ e. let m = (Decides-is_same u a).1 (sym e) in cc)))) (cases_of (is_same u a) (Decides-is_same u a))
+starts_there a b u v h t l k =
+    ⊎_elim (λ e. e)
+    (λ n. absurd (h.a_is_out (strictly_at_height u v a t l k (λ e. let m = (Decides-is_same u a).1 (sym e) in cc))))
+    (cases_of (is_same u a) (Decides-is_same u a))
 
 swap_turn : (a b c : Corner) → turn a c b ≡ neg_ℤ (turn a b c)
 swap_turn a b c =
@@ -72,9 +77,11 @@ level_turn ax ay bx by vx vy e =
 -- an edge from a that goes up along the edge a b is that edge
 ends_there : (a b v : Corner) → a.y <ℤ b.y → AreClear a b a v → a.y <ℤ v.y → turn a v b ≡ pos 0 → v ≡ b
 ends_there a b v up h k t = by_lt_z v.y b.y
-    (λ p. absurd (h.v_is_out (strictly_at_height a b v (swap_turn a v b ∙ neg_zero (turn a v b) t) (omega (arith, ints)) p (λ e. let y : v.y ≡ a.y = ap (λ (s : Corner). s.y) e in omega (arith, ints)))))
+    (λ p. absurd (h.v_is_out (strictly_at_height a b v (swap_turn a v b ∙ neg_zero (turn a v b) t) (omega (arith, ints)) p
+    (λ e. let y : v.y ≡ a.y = ap (λ (s : Corner). s.y) e in omega (arith, ints)))))
     (λ p. by_lt_z b.y v.y
-    (λ q. absurd (h.b_is_out (strictly_at_height a v b t (omega (arith, ints)) q (λ e. let y : b.y ≡ a.y = ap (λ (s : Corner). s.y) e in omega (arith, ints)))))
+    (λ q. absurd (h.b_is_out (strictly_at_height a v b t (omega (arith, ints)) q
+    (λ e. let y : b.y ≡ a.y = ap (λ (s : Corner). s.y) e in omega (arith, ints)))))
     (λ q. let y : v.y ≡ b.y = omega (arith, ints) in
     corner_same v b (same v.x b.x (zero_of_mul (b.y -ℤ a.y) (v.x -ℤ b.x) (λ z. omega (arith, ints)) (sym (level_turn a.x a.y b.x b.y v.x v.y y) ∙ t))) y))
   where
@@ -102,7 +109,8 @@ cross_itself a b =
     same_by (a.x ∷ a.y ∷ b.x ∷ b.y ∷ [])
     (add (mul (add (var 2) (neg (var 0))) (add (var 3) (neg (var 1)))) (neg (mul (add (var 3) (neg (var 1))) (add (var 2) (neg (var 0)))))) (lit (pos 0)) refl
 
-sides_from_start : (a b v : Corner) → a.y <ℤ b.y → AreClear a b a v → a.y <ℤ v.y → Sides (turn_at a v (left_of a b)) (turn_at a v (right_of a b)) ((a ≡ a) × (v ≡ b))
+sides_from_start : (a b v : Corner) → a.y <ℤ b.y → AreClear a b a v → a.y <ℤ v.y
+    → Sides (turn_at a v (left_of a b)) (turn_at a v (right_of a b)) ((a ≡ a) × (v ≡ b))
 sides_from_start a b v up h k =
     let t = turn_itself a v in
     let l = turn_near a v a b (negsuc 0) (pos 0) in
@@ -129,7 +137,8 @@ sides_from_start a b v up h k =
     (sign_cases (cross a v a b))
 
 -- an edge that goes up past a's height
-pub steep_sides : (a b u v : Corner) → a.y <ℤ b.y → AreClear a b u v → u.y ≤ℤ a.y → a.y <ℤ v.y → Sides (turn_at u v (left_of a b)) (turn_at u v (right_of a b)) ((u ≡ a) × (v ≡ b))
+pub steep_sides : (a b u v : Corner) → a.y <ℤ b.y → AreClear a b u v → u.y ≤ℤ a.y → a.y <ℤ v.y
+    → Sides (turn_at u v (left_of a b)) (turn_at u v (right_of a b)) ((u ≡ a) × (v ≡ b))
 steep_sides a b u v up h l k =
     let nl = turn_near u v a b (negsuc 0) (pos 0) in
     let nr = turn_near u v a b (pos 1) (pos 0) in
@@ -169,7 +178,8 @@ above x y h = let e : false ≡ le_z x y = omega (arith, ints) in sym e
 -- one directed edge that is neither a b nor b a, and one that is
 pub net_none : (a b u v : Corner) → ((u ≡ a) × (v ≡ b) → ⊥) → ((u ≡ b) × (v ≡ a) → ⊥) → net_of_edges (edge_of u v ∷ []) a b ≡ pos 0
 net_none a b u v h k =
-    read (is_same_edge (u, v) (a, b)) (is_same_edge (u, v) (b, a)) (false_where (is_same_edge (u, v) (a, b)) (Decides-is_same_edge (u, v) (a, b)) h) (false_where (is_same_edge (u, v) (b, a)) (Decides-is_same_edge (u, v) (b, a)) k)
+    read (is_same_edge (u, v) (a, b)) (is_same_edge (u, v) (b, a)) (false_where (is_same_edge (u, v) (a, b)) (Decides-is_same_edge (u, v) (a, b)) h)
+    (false_where (is_same_edge (u, v) (b, a)) (Decides-is_same_edge (u, v) (b, a)) k)
   where
     read : (p q : Bool) → p ≡ false → q ≡ false → pos ((if p then 1 else 0) + 0) -ℤ pos ((if q then 1 else 0) + 0) ≡ pos 0
     read true q e f = cc
@@ -178,7 +188,8 @@ net_none a b u v h k =
 
 pub net_one : (a b u v : Corner) → (u ≡ a) × (v ≡ b) → ((u ≡ b) × (v ≡ a) → ⊥) → net_of_edges (edge_of u v ∷ []) a b ≡ pos 1
 net_one a b u v h k =
-    read (is_same_edge (u, v) (a, b)) (is_same_edge (u, v) (b, a)) ((Decides-is_same_edge (u, v) (a, b)).1 h) (false_where (is_same_edge (u, v) (b, a)) (Decides-is_same_edge (u, v) (b, a)) k)
+    read (is_same_edge (u, v) (a, b)) (is_same_edge (u, v) (b, a)) ((Decides-is_same_edge (u, v) (a, b)).1 h)
+    (false_where (is_same_edge (u, v) (b, a)) (Decides-is_same_edge (u, v) (b, a)) k)
   where
     read : (p q : Bool) → p ≡ true → q ≡ false → pos ((if p then 1 else 0) + 0) -ℤ pos ((if q then 1 else 0) + 0) ≡ pos 1
     read true true e f = cc
@@ -224,10 +235,13 @@ steep_up a b u v up h l k =
     let vl = high a b v k in
     let never : (u ≡ b) × (v ≡ a) → ⊥ = λ e. let y : u.y ≡ b.y = ap (λ (s : Corner). s.y) e.0 in omega (arith, ints) in
     ⊎_elim
-    (λ p. minus (crossing (left_of a b) u v) (crossing (right_of a b) u v) (pos 1) (up_one (left_of a b) u v ul vl p.0) (up_one (right_of a b) u v ul vl p.1) ∙ sym (net_none a b u v p.2 never))
+    (λ p. minus (crossing (left_of a b) u v) (crossing (right_of a b) u v) (pos 1) (up_one (left_of a b) u v ul vl p.0) (up_one (right_of a b) u v ul vl p.1)
+    ∙ sym (net_none a b u v p.2 never))
     (λ o. ⊎_elim
-    (λ p. minus (crossing (left_of a b) u v) (crossing (right_of a b) u v) (pos 0) (up_none (left_of a b) u v ul vl p.0) (up_none (right_of a b) u v ul vl p.1) ∙ sym (net_none a b u v p.2 never))
-    (λ p. one (crossing (left_of a b) u v) (crossing (right_of a b) u v) (net_of_edges (edge_of u v ∷ []) a b) (up_one (left_of a b) u v ul vl p.1) (up_none (right_of a b) u v ul vl p.2) (net_one a b u v p.0 never))
+    (λ p. minus (crossing (left_of a b) u v) (crossing (right_of a b) u v) (pos 0) (up_none (left_of a b) u v ul vl p.0) (up_none (right_of a b) u v ul vl p.1)
+    ∙ sym (net_none a b u v p.2 never))
+    (λ p. one (crossing (left_of a b) u v) (crossing (right_of a b) u v) (net_of_edges (edge_of u v ∷ []) a b)
+    (up_one (left_of a b) u v ul vl p.1) (up_none (right_of a b) u v ul vl p.2) (net_one a b u v p.0 never))
     o)
     (steep_sides a b u v up h l k)
   where
@@ -238,19 +252,23 @@ steep_up a b u v up h l k =
 pub turned_jump : (l r l' r' n n' : ℤ) → l ≡ neg_ℤ l' → r ≡ neg_ℤ r' → n ≡ neg_ℤ n' → l' -ℤ r' ≡ n' → l -ℤ r ≡ n
 turned_jump l r l' r' n n' h k m e = omega (arith, ints)
 
-pub steep_jump : (a b u v : Corner) → a.y <ℤ b.y → AreClear a b u v → crossing (left_of a b) u v -ℤ crossing (right_of a b) u v ≡ net_of_edges (edge_of u v ∷ []) a b
+pub steep_jump : (a b u v : Corner) → a.y <ℤ b.y → AreClear a b u v
+    → crossing (left_of a b) u v -ℤ crossing (right_of a b) u v ≡ net_of_edges (edge_of u v ∷ []) a b
 steep_jump a b u v up h = by_lt_z a.y u.y
     (λ p. by_lt_z a.y v.y
     (λ q. minus (crossing (left_of a b) u v) (crossing (right_of a b) u v) (pos 0)
     (none_above (left_of a b) u v (high a b u p) (high a b v q)) (none_above (right_of a b) u v (high a b u p) (high a b v q))
-    ∙ sym (net_none a b u v (λ e. let y : u.y ≡ a.y = ap (λ (s : Corner). s.y) e.0 in omega (arith, ints)) (λ e. let y : v.y ≡ a.y = ap (λ (s : Corner). s.y) e.1 in omega (arith, ints))))
-    (λ q. turned_jump (crossing (left_of a b) u v) (crossing (right_of a b) u v) (crossing (left_of a b) v u) (crossing (right_of a b) v u) (net_of_edges (edge_of u v ∷ []) a b) (net_of_edges (edge_of v u ∷ []) a b)
+    ∙ sym (net_none a b u v (λ e. let y : u.y ≡ a.y = ap (λ (s : Corner). s.y) e.0 in omega (arith, ints))
+    (λ e. let y : v.y ≡ a.y = ap (λ (s : Corner). s.y) e.1 in omega (arith, ints))))
+    (λ q. turned_jump (crossing (left_of a b) u v) (crossing (right_of a b) u v) (crossing (left_of a b) v u) (crossing (right_of a b) v u)
+    (net_of_edges (edge_of u v ∷ []) a b) (net_of_edges (edge_of v u ∷ []) a b)
     (crossing_back (left_of a b) v u) (crossing_back (right_of a b) v u) (net_of_turned v u a b) (steep_up a b v u up (AreClear-back a b u v h) q p)))
     (λ p. by_lt_z a.y v.y
     (λ q. steep_up a b u v up h p q)
     (λ q. minus (crossing (left_of a b) u v) (crossing (right_of a b) u v) (pos 0)
     (none_below (left_of a b) u v (low a b u up p) (low a b v up q)) (none_below (right_of a b) u v (low a b u up p) (low a b v up q))
-    ∙ sym (net_none a b u v (λ e. let y : v.y ≡ b.y = ap (λ (s : Corner). s.y) e.1 in omega (arith, ints)) (λ e. let y : u.y ≡ b.y = ap (λ (s : Corner). s.y) e.0 in omega (arith, ints)))))
+    ∙ sym (net_none a b u v (λ e. let y : v.y ≡ b.y = ap (λ (s : Corner). s.y) e.1 in omega (arith, ints))
+    (λ e. let y : u.y ≡ b.y = ap (λ (s : Corner). s.y) e.0 in omega (arith, ints)))))
 
 -- ---- the edges that the segment between the two points meets
 steep_meets_up : (a b u v : Corner) (q : Point) → a.y <ℤ b.y → AreClear a b u v → u.y ≤ℤ a.y → a.y <ℤ v.y
@@ -261,7 +279,8 @@ steep_meets_up a b u v q up h l k s e =
     (λ o. ⊎_elim (λ p. absurd (right_has_none u v q (left_of a b) (right_of a b) s p.0 p.1 e)) (λ p. p.0) o)
     (steep_sides a b u v up h l k)
 
-pub steep_meets : (a b u v : Corner) (q : Point) → a.y <ℤ b.y → AreClear a b u v → IsOnSegment q (left_of a b) (right_of a b) → IsOnEdge q u v → Joins (edge_of u v) a b
+pub steep_meets : (a b u v : Corner) (q : Point) → a.y <ℤ b.y → AreClear a b u v → IsOnSegment q (left_of a b) (right_of a b) → IsOnEdge q u v
+    → Joins (edge_of u v) a b
 steep_meets a b u v q up h s e = by_lt_z a.y u.y
     (λ p. by_lt_z a.y v.y
     (λ o. absurd (below_has_none u v q (left_of a b) (right_of a b) s (high a b u p) (high a b u p) (high a b v o) (high a b v o) e))

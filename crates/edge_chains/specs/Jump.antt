@@ -1,6 +1,6 @@
--- Points on the two sides of an edge, and how winding numbers differ there: this product's own, for rings of either direction that may overlap.
--- Of one ring of a polygon the standard says on which side of an edge the interior is (Technical Description, July 1998, "Polygon": to the right of
--- one who walks along the ring in vertex order).
+-- Points on the two sides of an edge, and how winding numbers differ there: the jump is this product's own. That a polygon's interior is on one side of
+-- a ring's edges, to the right of one who walks along the ring in vertex order, is the ESRI Shapefile Technical Description's, July 1998, "Polygon";
+-- here rings may run in either direction, and overlap.
 use Rattle.std.specs.Prelude.{◌≡◌, ◌⊎◌, ℤ, pos, ◌+ℤ◌, ◌-ℤ◌, ◌*ℤ◌, ◌<ℤ◌, ◌≤ℤ◌, List, ◌++◌}
 use Rattle.std.specs.List.{Contains}
 use Rattle.geo_exact.specs.declared.corner.Corner.{Corner}
@@ -19,7 +19,7 @@ pub record IsInsideEdge (p : Point) (a b : Corner) : Type 0 where
   pub not_start : ¬ IsAt p a
   pub not_end : ¬ IsAt p b
 
--- m is halfway from p to q; all three are written with the denominator of m
+-- m is halfway from p to q; both points have the denominator of m
 pub record IsHalfway (m p q : Point) : Type 0 where
   pub same_d : (p.d ≡ m.d) × (q.d ≡ m.d)
   pub in_x : p.x +ℤ q.x ≡ pos 2 *ℤ m.x
@@ -37,17 +37,17 @@ pub record IsOnSegment (q p r : Point) : Type 0 where
   pub in_y : k *ℤ q.y ≡ m *ℤ p.y +ℤ n *ℤ r.y
   pub in_d : k *ℤ q.d ≡ m *ℤ p.d +ℤ n *ℤ r.d
 
--- one point is left and one right of the edge from a to b, and halfway between them is a point strictly inside the edge
+-- one point is left and one right of the edge from a to b, and the place halfway between them is on the edge and neither of its ends
 pub record AreBeside (left right : Point) (a b : Corner) : Type 0 where
   pub is_left : pos 0 <ℤ turn_at a b left
   pub is_right : turn_at a b right <ℤ pos 0
   pub through : (m : Point) × IsHalfway m left right × IsInsideEdge m a b
 
--- the edge runs from a to b, or from b to a
+-- the edge is the one from a to b, or the one from b to a
 abbrev pub Joins : Edge → Corner → Corner → Type 0
 Joins edge a b = ((edge.from ≡ a) × (edge.to ≡ b)) ⊎ ((edge.from ≡ b) × (edge.to ≡ a))
 
--- the segment from left to right has a point in common with no edges but those that join a and b
+-- an edge that has a point in common with the segment from left to right is the one from a to b, or the one from b to a
 abbrev pub MeetsOnly : Point → Point → List Edge → Corner → Corner → Type 0
 MeetsOnly left right es a b = (edge : Edge) (q : Point) → Contains es edge → IsOnSegment q left right → IsOnEdge q edge.from edge.to → Joins edge a b
 

@@ -32,9 +32,9 @@ pub fn noding_changes_no_ground()
 {}
 
 /// In rings that are noded for all of their corners, an edge whose net count isn't the same in the added and the taken
-/// rings is no false alarm: there are two points beside it, off all edges and with no other edge between them. The
-/// difference of the winding numbers left of the edge, less the one right of it, is the edge's net count; both are
-/// those of the added rings less those of the taken ones.
+/// rings is no false alarm: it has two points beside it, off all edges and with no other edge between them. The
+/// difference of the winding numbers left of the edge, less the one right of it, is the edge's net count; differences
+/// and net counts are those of the added rings less those of the taken ones.
 pub fn an_unbalanced_edge_is_a_jump()
     ensures { (added taken : List (List Corner)) → AreFullyNoded (added ++ taken) → (a b : Corner)
         → net_difference added taken a b ≢ pos 0
