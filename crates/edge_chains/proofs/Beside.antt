@@ -1,7 +1,7 @@
 -- Points close beside an edge and close to its start: so close that each turn there has the sign of the first of three whole numbers that is not 0.
 use Rattle.std.proofs.Common.{◌≡◌, refl, arith, ℕ, ◌*◌, ℤ, pos, ◌+ℤ◌, ◌-ℤ◌, ◌*ℤ◌, [], ◌∷◌}
 use Rattle.std.proofs.lemmas.Int.{ints}
-use lib.Signed.{◌<ℤ◌}
+use lib.Signed.{◌<ℤ◌, ◌≤ℤ◌}
 use Rattle.geo_exact.specs.declared.corner.Corner.{Corner}
 use Rattle.geo_exact.specs.Limit.{IsWithin, limit}
 use Rattle.geo_exact.specs.Point.{Point}
@@ -39,8 +39,8 @@ push u v ex ey = (v.x -ℤ u.x) *ℤ ey -ℤ (v.y -ℤ u.y) *ℤ ex
 
 turn_near' : (ux uy vx vy ax ay bx by ex ey big mid : ℤ)
     → (vx -ℤ ux) *ℤ ((ay *ℤ big +ℤ (by -ℤ ay) *ℤ mid +ℤ ey) -ℤ uy *ℤ big) -ℤ (vy -ℤ uy) *ℤ ((ax *ℤ big +ℤ (bx -ℤ ax) *ℤ mid +ℤ ex) -ℤ ux *ℤ big)
-    ≡ big *ℤ ((vx -ℤ ux) *ℤ (ay -ℤ uy) -ℤ (vy -ℤ uy) *ℤ (ax -ℤ ux)) +ℤ mid *ℤ ((vx -ℤ ux) *ℤ (by -ℤ ay) -ℤ (vy -ℤ uy) *ℤ (bx -ℤ ax)) +ℤ
-    ((vx -ℤ ux) *ℤ ey -ℤ (vy -ℤ uy) *ℤ ex)
+    ≡ big *ℤ ((vx -ℤ ux) *ℤ (ay -ℤ uy) -ℤ (vy -ℤ uy) *ℤ (ax -ℤ ux)) +ℤ mid *ℤ ((vx -ℤ ux) *ℤ (by -ℤ ay) -ℤ (vy -ℤ uy) *ℤ (bx -ℤ ax))
+    +ℤ ((vx -ℤ ux) *ℤ ey -ℤ (vy -ℤ uy) *ℤ ex)
 turn_near' ux uy vx vy ax ay bx by ex ey big mid =
     same_by (ux ∷ uy ∷ vx ∷ vy ∷ ax ∷ ay ∷ bx ∷ by ∷ ex ∷ ey ∷ big ∷ mid ∷ [])
     (sub
@@ -83,3 +83,10 @@ next_down t x y k e l = omega (arith, ints)
 
 pub last_one : (t x y : ℤ) → t ≡ pos 0 → x ≡ pos 0 → whole *ℤ t +ℤ step *ℤ x +ℤ y ≡ y
 last_one t x y e f = omega (arith, ints)
+
+-- one step from a whole number towards another is past it and past all before it, and short of all behind it
+pub step_past : (p q w : ℤ) → p <ℤ q → w ≤ℤ p → (w *ℤ whole) <ℤ (p *ℤ whole +ℤ (q -ℤ p) *ℤ step +ℤ pos 0)
+step_past p q w up h = omega (arith, ints)
+
+pub step_short : (p q w : ℤ) → IsWithin limit p → IsWithin limit q → p <ℤ w → (p *ℤ whole +ℤ (q -ℤ p) *ℤ step +ℤ pos 0) <ℤ (w *ℤ whole)
+step_short p q w h k l = omega (arith, ints)

@@ -1,6 +1,6 @@
 -- An edge with a net count other than 0 has two points beside it between which the winding numbers differ by that count.
-use Rattle.std.proofs.Common.{◌≡◌, ◌≢◌, ◌⊎◌, inl, inr, ⊎_elim, refl, sym, ◌∙◌, ap, subst, arith, ℕ}
-use Rattle.std.proofs.Common.{◌+◌, ◌<◌, ◌≤◌, ℤ, pos, negsuc, ◌+ℤ◌, ◌-ℤ◌, ◌*ℤ◌, neg_ℤ, List, [], ◌∷◌, ◌++◌}
+use Rattle.std.proofs.Common.{◌≡◌, ◌≢◌, ◌⊎◌, inl, inr, ⊎_elim, refl, sym, ◌∙◌, ap, subst, arith, ℕ, ◌+◌, ◌<◌, ◌≤◌, ℤ, pos, negsuc, ◌+ℤ◌, ◌-ℤ◌, ◌*ℤ◌, neg_ℤ}
+use Rattle.std.proofs.Common.{List, [], ◌∷◌, ◌++◌}
 use Rattle.std.specs.Int.{int_min, int_max}
 use Rattle.std.specs.List.{Contains, AllByRecursion}
 use Rattle.std.proofs.lemmas.Int.{ints, clamps, by_lt_z}
@@ -8,6 +8,7 @@ use Rattle.std.proofs.lemmas.Bool.{cases_lt}
 use Rattle.std.proofs.lemmas.List.Elements.{Contains-append_left, Contains-append_right, Contains-append_cases}
 use lib.Signed.{◌<ℤ◌, ◌≤ℤ◌}
 use Rattle.geo_exact.specs.declared.corner.Corner.{Corner}
+use Rattle.geo_exact.specs.Limit.{IsWithin, limit}
 use Rattle.geo_exact.specs.Point.{Point}
 use Rattle.geo_exact.specs.Rings.{Edge, path, edges, sum_over}
 use Rattle.geo_exact.specs.Turn.{turn, turn_at, IsOnEdge, IsOnSome}
@@ -18,15 +19,16 @@ use Rattle.geo_exact.proofs.TurnLaws.{turn_at_back}
 use Rattle.geo_exact.proofs.OnEdge.{on_edge_back, on_edge_between}
 use Rattle.edge_chains.specs.Net.{edge_count, all_edges, net_of_edges, net_count, winding_sum}
 use Rattle.edge_chains.specs.Noding.{IsStrictlyInside, all_corners, AreFullyNoded}
-use Rattle.edge_chains.specs.Jump.{AreBeside, winding_difference, IsJump}
+use Rattle.edge_chains.specs.Jump.{AreBeside, Joins, MeetsOnly, winding_difference, net_difference, IsJump}
 use Rattle.edge_chains.proofs.Changes.{net_of_cons}
 use Rattle.edge_chains.proofs.Nets.{edge_count-append, all_edges-append}
 use Rattle.edge_chains.proofs.Balance.{find_edge, sum_of_rings-edges}
 use Rattle.edge_chains.proofs.NodedEdges.{none_in_nil, Contains-here, Contains-there, Contains-cases, all_from_contains}
 use Rattle.edge_chains.proofs.Parts.{strictly_back}
-use Rattle.edge_chains.proofs.Beside.{whole, near, cross, push, turn_near, last_one}
-use Rattle.edge_chains.proofs.Steep.{AreClear, left_of, right_of, turn_itself, cross_itself, steep_jump, steep_off}
-use Rattle.edge_chains.proofs.Level.{IsLevel, above_of, below_of, shift, level_jump, level_off}
+use Rattle.edge_chains.proofs.Beside.{whole, step, near, cross, push, turn_near, last_one, step_past, step_short}
+use Rattle.edge_chains.proofs.Segments.{start_on_segment, segment_back}
+use Rattle.edge_chains.proofs.Steep.{AreClear, left_of, right_of, turn_itself, cross_itself, steep_jump, steep_meets}
+use Rattle.edge_chains.proofs.Level.{IsLevel, above_of, below_of, shift, level_jump, level_meets}
 
 -- ---- sums over edges
 sum_over-on : (f g : Edge → ℤ) (es : List Edge) → AllByRecursion (λ e. f e ≡ g e) es → sum_over f es ≡ sum_over g es
@@ -60,18 +62,13 @@ climbs_ring height (first ∷ rest) = climbs_path height first first rest ∙ no
 
 climbs : (height : Corner → ℤ) (rings : List (List Corner)) → sum_over (λ e. height e.to -ℤ height e.from) (all_edges rings) ≡ pos 0
 climbs height [] = refl
-climbs height (ring ∷ rings) = omega (
-  arith,
-  ints,
-  sum_over-append (λ e. height e.to -ℤ height e.from) (edges ring)
-      (all_edges rings),
-  climbs_ring height ring,
-  climbs height rings,
-)
+climbs height (ring ∷ rings) =
+    let both = sum_over-append (λ e. height e.to -ℤ height e.from) (edges ring) (all_edges rings) in
+    omega (arith, ints, both, climbs_ring height ring, climbs height rings)
 
 rings_jump : (l r : Point) (height : Corner → ℤ) (a b : Corner) (rings : List (List Corner))
-    → ((e : Edge) → Contains (all_edges rings) e → crossing l e.from e.to -ℤ crossing r e.from e.to ≡ (height e.to -ℤ height e.from) +ℤ net_of_edges
-    (e ∷ []) a b)
+    → ((e : Edge) → Contains (all_edges rings) e
+    → crossing l e.from e.to -ℤ crossing r e.from e.to ≡ (height e.to -ℤ height e.from) +ℤ net_of_edges (e ∷ []) a b)
     → winding_sum l rings -ℤ winding_sum r rings ≡ net_count rings a b
 rings_jump l r height a b rings h =
     let es = all_edges rings in
@@ -79,8 +76,8 @@ rings_jump l r height a b rings h =
     let cr : Edge → ℤ = λ e. crossing r e.from e.to in
     let up : Edge → ℤ = λ e. height e.to -ℤ height e.from in
     let one : Edge → ℤ = λ e. net_of_edges (e ∷ []) a b in
-    total (winding_sum l rings) (winding_sum r rings) (sum_over cl es) (sum_over cr es) (sum_over (λ e. cl e -ℤ cr e) es)
-    (sum_over (λ e. up e +ℤ one e) es) (sum_over up es) (sum_over one es) (net_count rings a b)
+    total (winding_sum l rings) (winding_sum r rings) (sum_over cl es) (sum_over cr es) (sum_over (λ e. cl e -ℤ cr e) es) (sum_over (λ e. up e +ℤ one e) es)
+    (sum_over up es) (sum_over one es) (net_count rings a b)
     (sum_of_rings-edges cl rings) (sum_of_rings-edges cr rings) (sum_over-minus cl cr es)
     (sum_over-on (λ e. cl e -ℤ cr e) (λ e. up e +ℤ one e) es (all_from_contains (λ e. cl e -ℤ cr e ≡ up e +ℤ one e) es h))
     (sum_over-two up one es) (climbs height rings) (sum_over-net a b es)
@@ -89,8 +86,8 @@ rings_jump l r height a b rings h =
     total wl wr sl sr d t u o n h1 h2 h3 h4 h5 h6 h7 = omega (arith, ints)
 
 -- ---- corners and edges of rings
-path_ends : (from to : Corner) (rest : List Corner) (e : Edge) → Contains (path from rest to) e → Contains (from ∷ rest) e.from
-    × (Contains (from ∷ rest) e.to ⊎ (to ≡ e.to))
+path_ends : (from to : Corner) (rest : List Corner) (e : Edge) → Contains (path from rest to) e
+    → Contains (from ∷ rest) e.from × (Contains (from ∷ rest) e.to ⊎ (to ≡ e.to))
 path_ends from to [] e h =
     ⊎_elim (λ s. (subst (Contains (from ∷ [])) (ap (λ (x : Edge). x.from) s) (Contains-here from []), inr (ap (λ (x : Edge). x.to) s)))
     (λ k. absurd (none_in_nil e k)) (Contains-cases (edge_of from to) [] e h)
@@ -143,10 +140,10 @@ is_clear rings a b h k e l =
 counted_edge : (rings : List (List Corner)) (a b : Corner) → 0 < edge_count (all_edges rings) a b → Contains (all_edges rings) (edge_of a b)
 counted_edge rings a b h =
     let w = find_edge (all_edges rings) a b h in
-    subst (λ es. Contains es (edge_of a b)) (sym w.is) (Contains-append_right w.front (edge_of a b ∷ w.back) (edge_of a b)
-    (Contains-here (edge_of a b) w.back))
+    subst (λ es. Contains es (edge_of a b)) (sym w.is)
+    (Contains-append_right w.front (edge_of a b ∷ w.back) (edge_of a b) (Contains-here (edge_of a b) w.back))
 
-unbalanced_edge : (added taken : List (List Corner)) (a b : Corner) → net_count added a b -ℤ net_count taken a b ≢ pos 0 → HasEither (added ++ taken) a b
+unbalanced_edge : (added taken : List (List Corner)) (a b : Corner) → net_difference added taken a b ≢ pos 0 → HasEither (added ++ taken) a b
 unbalanced_edge added taken a b h =
     let forth = ap (λ es. edge_count es a b) (all_edges-append added taken) ∙ edge_count-append (all_edges added) (all_edges taken) a b in
     let back = ap (λ es. edge_count es b a) (all_edges-append added taken) ∙ edge_count-append (all_edges added) (all_edges taken) b a in
@@ -176,15 +173,23 @@ in_taken added taken e h = subst (λ es. Contains es e) (sym (all_edges-append a
 differ : (al at rl rt na nt : ℤ) → al -ℤ rl ≡ na → at -ℤ rt ≡ nt → (al -ℤ at) -ℤ (rl -ℤ rt) ≡ na -ℤ nt
 differ al at rl rt na nt h k = omega (arith, ints)
 
+-- a point beside the edge is off all edges that the segment to the other one can meet
+off_joined : (p : Point) (a b : Corner) (e : Edge) → turn_at a b p ≢ pos 0 → Joins e a b → ¬ IsOnEdge p e.from e.to
+off_joined p a b e n (inl j) o = n (ap (λ s. turn_at s b p) (sym j.0) ∙ ap (λ s. turn_at e.from s p) (sym j.1) ∙ o.on_line)
+off_joined p a b e n (inr j) o =
+    n (ap (λ s. turn_at s b p) (sym j.1) ∙ ap (λ s. turn_at e.to s p) (sym j.0) ∙ (let r = on_edge_back e.from e.to p o in r.on_line))
+
 IsJump-from : (l r : Point) (height : Corner → ℤ) (a b : Corner) (added taken : List (List Corner)) → AreBeside l r a b
-    → ((e : Edge) → Contains (all_edges (added ++ taken)) e → crossing l e.from e.to -ℤ crossing r e.from e.to ≡
-    (height e.to -ℤ height e.from) +ℤ net_of_edges (e ∷ []) a b)
-    → ((e : Edge) → Contains (all_edges (added ++ taken)) e → (¬ IsOnEdge l e.from e.to) × (¬ IsOnEdge r e.from e.to))
-    → IsJump added taken a b l r
-IsJump-from l r height a b added taken beside jumps off = record {
+    → ((e : Edge) → Contains (all_edges (added ++ taken)) e
+    → crossing l e.from e.to -ℤ crossing r e.from e.to ≡ (height e.to -ℤ height e.from) +ℤ net_of_edges (e ∷ []) a b)
+    → MeetsOnly l r (all_edges (added ++ taken)) a b → IsJump added taken a b l r
+IsJump-from l r height a b added taken beside jumps meets = record {
   beside = beside;
-  left_is_off = off_all l (all_edges (added ++ taken)) (λ e k. (off e k).0);
-  right_is_off = off_all r (all_edges (added ++ taken)) (λ e k. (off e k).1);
+  left_is_off = off_all l (all_edges (added ++ taken))
+      (λ e k o. off_joined l a b e (λ z. let p = beside.is_left in omega (arith, ints)) (meets e l k (start_on_segment l r) o) o);
+  right_is_off = off_all r (all_edges (added ++ taken))
+      (λ e k o. off_joined r a b e (λ z. let p = beside.is_right in omega (arith, ints)) (meets e r k (segment_back r r l (start_on_segment r l)) o) o);
+  no_other_between = meets;
   changes = differ (winding_sum l added) (winding_sum l taken) (winding_sum r added) (winding_sum r taken) (net_count added a b) (net_count taken a b)
       (rings_jump l r height a b added (λ e k. jumps e (in_added added taken e k)))
       (rings_jump l r height a b taken (λ e k. jumps e (in_taken added taken e k)));
@@ -194,6 +199,16 @@ IsJump-from l r height a b added taken beside jumps off = record {
 turn_beside : (a b : Corner) (ex ey : ℤ) → turn_at a b (near a b ex ey) ≡ push a b ex ey
 turn_beside a b ex ey = turn_near a b a b ex ey ∙ last_one (turn a b a) (cross a b a b) (push a b ex ey) (turn_itself a b) (cross_itself a b)
 
+no_push : (a b : Corner) → push a b (pos 0) (pos 0) ≡ pos 0
+no_push a b = omega (arith, ints)
+
+-- one step from a towards b is at neither, where the two differ in a coordinate
+after_start : (p q : ℤ) → p <ℤ q → p *ℤ whole +ℤ (q -ℤ p) *ℤ step +ℤ pos 0 ≢ p *ℤ whole
+after_start p q up e = let h = step_past p q p up (omega (arith, ints)) in omega (arith, ints)
+
+before_end : (p q : ℤ) → IsWithin limit p → IsWithin limit q → p <ℤ q → p *ℤ whole +ℤ (q -ℤ p) *ℤ step +ℤ pos 0 ≢ q *ℤ whole
+before_end p q i j up e = let h = step_short p q q i j up in omega (arith, ints)
+
 steep_beside : (a b : Corner) → a.y <ℤ b.y → AreBeside (left_of a b) (right_of a b) a b
 steep_beside a b up = record {
   is_left = subst (λ z. pos 0 <ℤ z) (sym (turn_beside a b (negsuc 0) (pos 0))) (omega (arith, ints));
@@ -201,12 +216,13 @@ steep_beside a b up = record {
   through = (
     near a b (pos 0) (pos 0),
     record { same_d = (refl, refl); in_x = omega (arith, ints); in_y = omega (arith, ints) },
-    on_edge_between a b (near a b (pos 0) (pos 0)) (turn_beside a b (pos 0) (pos 0) ∙ no_push a b) (omega (arith, ints)) (omega (arith, ints)),
+    record {
+      on_edge = on_edge_between a b (near a b (pos 0) (pos 0)) (turn_beside a b (pos 0) (pos 0) ∙ no_push a b) (omega (arith, ints)) (omega (arith, ints));
+      not_start = λ e. after_start a.y b.y up e.1;
+      not_end = λ e. before_end a.y b.y a.y_in_range b.y_in_range up e.1;
+    },
   );
 }
-  where
-    no_push : (a b : Corner) → push a b (pos 0) (pos 0) ≡ pos 0
-    no_push a b = omega (arith, ints)
 
 level_beside : (a b : Corner) → IsLevel a b → AreBeside (above_of a b) (below_of a b) a b
 level_beside a b f =
@@ -222,17 +238,18 @@ level_beside a b f =
         m,
         record { same_d = (refl, refl); in_x = omega (arith, ints); in_y = omega (arith, ints) },
         record {
-          on_line = turn_beside a b (pos 0) (pos 0) ∙ no_push a b;
-          from_x = subst (λ z. (z *ℤ whole) ≤ℤ m.x) (sym lx) (omega (arith, ints, f.to_right));
-          to_x = subst (λ z. m.x ≤ℤ (z *ℤ whole)) (sym hx) (omega (arith, ints, f.to_right));
-          from_y = subst (λ z. (z *ℤ whole) ≤ℤ m.y) (sym ly) (omega (arith, ints, f.same_height));
-          to_y = subst (λ z. m.y ≤ℤ (z *ℤ whole)) (sym hy) (omega (arith, ints, f.same_height));
+          on_edge = record {
+            on_line = turn_beside a b (pos 0) (pos 0) ∙ no_push a b;
+            from_x = subst (λ z. (z *ℤ whole) ≤ℤ m.x) (sym lx) (omega (arith, ints, f.to_right));
+            to_x = subst (λ z. m.x ≤ℤ (z *ℤ whole)) (sym hx) (omega (arith, ints, f.to_right));
+            from_y = subst (λ z. (z *ℤ whole) ≤ℤ m.y) (sym ly) (omega (arith, ints, f.same_height));
+            to_y = subst (λ z. m.y ≤ℤ (z *ℤ whole)) (sym hy) (omega (arith, ints, f.same_height));
+          };
+          not_start = λ e. after_start a.x b.x f.to_right e.0;
+          not_end = λ e. before_end a.x b.x a.x_in_range b.x_in_range f.to_right e.0;
         },
       );
     }
-  where
-    no_push : (a b : Corner) → push a b (pos 0) (pos 0) ≡ pos 0
-    no_push a b = omega (arith, ints)
 
 -- ---- the same points, for the edge the other way
 IsJump-turned : (added taken : List (List Corner)) (a b : Corner) (l r : Point) → IsJump added taken b a l r → IsJump added taken a b r l
@@ -242,19 +259,15 @@ IsJump-turned added taken a b l r h = record {
     is_right = subst (λ z. z <ℤ pos 0) (sym (turn_at_back b a l)) (let q = h.beside.is_left in omega (arith, ints));
     through = let t = h.beside.through in (
       t.0,
-      record {
-        same_d = (t.1.same_d.1, t.1.same_d.0);
-        in_x = omega (arith, ints, t.1.in_x);
-        in_y =
-            omega (arith, ints, t.1.in_y);
-      },
-      on_edge_back b a t.0 t.2,
+      record { same_d = (t.1.same_d.1, t.1.same_d.0); in_x = omega (arith, ints, t.1.in_x); in_y = omega (arith, ints, t.1.in_y) },
+      record { on_edge = on_edge_back b a t.0 t.2.on_edge; not_start = t.2.not_end; not_end = t.2.not_start },
     );
   };
   left_is_off = h.right_is_off;
   right_is_off = h.left_is_off;
-  changes = turned (winding_difference l added taken) (winding_difference r added taken) (net_count added b a -ℤ net_count taken b a)
-      (net_count added a b -ℤ net_count taken a b) h.changes
+  no_other_between = λ e q k s o. ⊎_elim (λ j. inr j) (λ j. inl j) (h.no_other_between e q k (segment_back q r l s) o);
+  changes = turned (winding_difference l added taken) (winding_difference r added taken) (net_difference added taken b a) (net_difference added taken a b)
+      h.changes
       (nets (edge_count (all_edges added) a b) (edge_count (all_edges added) b a) (edge_count (all_edges taken) a b) (edge_count (all_edges taken) b a));
 }
   where
@@ -269,7 +282,7 @@ steep_case : (added taken : List (List Corner)) (a b : Corner) → AreFullyNoded
 steep_case added taken a b h k up =
     IsJump-from (left_of a b) (right_of a b) (λ c. pos 0) a b added taken (steep_beside a b up)
     (λ e m. steep_jump a b e.from e.to up (is_clear (added ++ taken) a b h k e m) ∙ plus_nothing (net_of_edges (e ∷ []) a b))
-    (λ e m. steep_off a b e.from e.to up (is_clear (added ++ taken) a b h k e m))
+    (λ e q m. steep_meets a b e.from e.to q up (is_clear (added ++ taken) a b h k e m))
   where
     plus_nothing : (z : ℤ) → z ≡ (pos 0 -ℤ pos 0) +ℤ z
     plus_nothing z = omega (arith, ints)
@@ -279,10 +292,10 @@ level_case : (added taken : List (List Corner)) (a b : Corner) → AreFullyNoded
 level_case added taken a b h k f =
     IsJump-from (above_of a b) (below_of a b) (shift a) a b added taken (level_beside a b f)
     (λ e m. level_jump a b e.from e.to f (is_clear (added ++ taken) a b h k e m))
-    (λ e m. level_off a b e.from e.to f (is_clear (added ++ taken) a b h k e m))
+    (λ e q m. level_meets a b e.from e.to q f (is_clear (added ++ taken) a b h k e m))
 
 -- an edge with a net count other than 0 is no false alarm
-pub jump_beside : (added taken : List (List Corner)) → AreFullyNoded (added ++ taken) → (a b : Corner) → net_count added a b -ℤ net_count taken a b ≢ pos 0
+pub jump_beside : (added taken : List (List Corner)) → AreFullyNoded (added ++ taken) → (a b : Corner) → net_difference added taken a b ≢ pos 0
     → (left : Point) × (right : Point) × IsJump added taken a b left right
 jump_beside added taken h a b n =
     let k = unbalanced_edge added taken a b n in
@@ -302,7 +315,7 @@ jump_beside added taken h a b n =
           (level_case added taken b a h (either_back (added ++ taken) a b k) (record { same_height = omega (arith, ints); to_right = s })),
     ))
     (λ s. absurd (n (let e : a ≡ b = corner_same a b (omega (arith, ints)) (omega (arith, ints)) in
-    subst (λ c. net_count added a c -ℤ net_count taken a c ≡ pos 0) e (nothing (edge_count (all_edges added) a a) (edge_count (all_edges taken) a a))))))))
+    subst (λ c. net_difference added taken a c ≡ pos 0) e (nothing (edge_count (all_edges added) a a) (edge_count (all_edges taken) a a))))))))
   where
     nothing : (p q : ℕ) → (pos p -ℤ pos p) -ℤ (pos q -ℤ pos q) ≡ pos 0
     nothing p q = omega (arith, ints)

@@ -1,7 +1,6 @@
 -- The two points beside a level edge, and how each edge of fully noded rings crosses there.
-use Rattle.std.proofs.Common.{◌≡◌, ◌⊎◌, inl, inr, ⊎_elim, refl, sym, ◌∙◌, ap, subst, arith}
-use Rattle.std.proofs.Common.{if◌then◌else◌, ◌&&◌, ℤ, pos, negsuc, ◌+ℤ◌, ◌-ℤ◌, ◌*ℤ◌, neg_ℤ, [], ◌∷◌}
-use Rattle.std.specs.Int.{int_min, int_max}
+use Rattle.std.proofs.Common.{◌≡◌, ◌⊎◌, inl, inr, ⊎_elim, refl, sym, ◌∙◌, ap, subst, arith, if◌then◌else◌, ◌&&◌, ℤ, pos, negsuc, ◌+ℤ◌, ◌-ℤ◌, ◌*ℤ◌, neg_ℤ}
+use Rattle.std.proofs.Common.{[], ◌∷◌}
 use Rattle.std.specs.Bool.{Decides}
 use Rattle.std.specs.Ordering.{int_eq}
 use Rattle.std.proofs.lemmas.Int.{ints, clamps, by_lt_z}
@@ -21,11 +20,12 @@ use Rattle.geo_exact.proofs.OnEdge.{on_edge_back}
 use Rattle.geo_exact.proofs.Crossings.{crossing_back}
 use Rattle.edge_chains.specs.Net.{net_of_edges}
 use Rattle.edge_chains.specs.Noding.{IsStrictlyInside}
+use Rattle.edge_chains.specs.Jump.{IsOnSegment, Joins}
 use Rattle.edge_chains.proofs.Corners.{false_where, Decides-int_lt}
 use Rattle.edge_chains.proofs.Changes.{net_of_turned}
-use Rattle.edge_chains.proofs.Beside.{whole, step, near, cross, push, turn_near, cross_within, lead_up, lead_down, next_up, next_down}
-use Rattle.edge_chains.proofs.Steep.{AreClear, AreClear-back, sign_cases, strictly_at_height, net_none, net_one}
-use Rattle.edge_chains.proofs.Steep.{up_one, up_none, none_below, none_above, not_zero_up, not_zero_down}
+use Rattle.edge_chains.proofs.Beside.{whole, step, near, cross, push, turn_near, cross_within, lead_up, lead_down, next_up, next_down, step_past, step_short}
+use Rattle.edge_chains.proofs.Segments.{left_has_none, right_has_none, above_has_none, below_has_none, farther_has_none, nearer_has_none}
+use Rattle.edge_chains.proofs.Steep.{AreClear, AreClear-back, sign_cases, strictly_at_height, net_none, net_one, up_one, up_none, none_below, none_above}
 
 abbrev pub above_of : Corner → Corner → Point
 above_of a b = near a b (pos 0) (pos 1)
@@ -63,8 +63,8 @@ both_next_up a b u v t p =
       subst (λ z. pos 0 <ℤ z) (sym (turn_near u v a b (pos 0) (negsuc 0))) (next_up (turn u v a) (cross u v a b) (push u v (pos 0) (negsuc 0)) w.1 t p),
     )
 
-both_next_down : (a b u v : Corner) → turn u v a ≡ pos 0 → cross u v a b <ℤ pos 0 → (turn_at u v (above_of a b) <ℤ pos 0)
-    × (turn_at u v (below_of a b) <ℤ pos 0)
+both_next_down : (a b u v : Corner) → turn u v a ≡ pos 0 → cross u v a b <ℤ pos 0
+    → (turn_at u v (above_of a b) <ℤ pos 0) × (turn_at u v (below_of a b) <ℤ pos 0)
 both_next_down a b u v t p =
     let w = push_within u v in (
       subst (λ z. z <ℤ pos 0) (sym (turn_near u v a b (pos 0) (pos 1))) (next_down (turn u v a) (cross u v a b) (push u v (pos 0) (pos 1)) w.0 t p),
@@ -72,7 +72,8 @@ both_next_down a b u v t p =
     )
 
 abbrev BothSides : Corner → Corner → Corner → Corner → Type 0
-BothSides a b u v = ((pos 0 <ℤ turn_at u v (above_of a b)) × (pos 0 <ℤ turn_at u v (below_of a b)))
+BothSides a b u v =
+    ((pos 0 <ℤ turn_at u v (above_of a b)) × (pos 0 <ℤ turn_at u v (below_of a b)))
     ⊎ ((turn_at u v (above_of a b) <ℤ pos 0) × (turn_at u v (below_of a b) <ℤ pos 0))
 
 -- an edge that passes a's height
@@ -80,8 +81,8 @@ through : (a b u v : Corner) → AreClear a b u v → u.y <ℤ a.y → a.y <ℤ 
 through a b u v h l k =
     ⊎_elim (λ p. inl (both_up a b u v p))
     (λ o. ⊎_elim (λ p. inr (both_down a b u v p))
-    (λ p. absurd (h.a_is_out (strictly_at_height u v a p (omega (arith, ints)) k (λ e. let y : a.y ≡ u.y =
-    ap (λ (s : Corner). s.y) e in omega (arith, ints))))) o)
+    (λ p. absurd (h.a_is_out (strictly_at_height u v a p (omega (arith, ints)) k
+    (λ e. let y : a.y ≡ u.y = ap (λ (s : Corner). s.y) e in omega (arith, ints))))) o)
     (sign_cases (turn u v a))
 
 -- an edge that begins at a's height
@@ -184,11 +185,11 @@ jumps_through a b u v f h l k =
     let su = other_height a u (λ e. omega (arith, ints)) in let sv = other_height a v (λ e. omega (arith, ints)) in
     let n = no_end a b u v f (λ e. omega (arith, ints)) in
     ⊎_elim
-    (λ p. total (crossing (above_of a b) u v) (crossing (below_of a b) u v) (shift a v) (shift a u) (net_of_edges (edge_of u v ∷ []) a b) (pos 1)
-    (pos 1) (pos 0) (pos 0)
+    (λ p. total (crossing (above_of a b) u v) (crossing (below_of a b) u v) (shift a v) (shift a u) (net_of_edges (edge_of u v ∷ []) a b)
+    (pos 1) (pos 1) (pos 0) (pos 0)
     (up_one (above_of a b) u v ul vl p.0) (up_one (below_of a b) u v ur vr p.1) sv su n refl)
-    (λ p. total (crossing (above_of a b) u v) (crossing (below_of a b) u v) (shift a v) (shift a u) (net_of_edges (edge_of u v ∷ []) a b) (pos 0)
-    (pos 0) (pos 0) (pos 0)
+    (λ p. total (crossing (above_of a b) u v) (crossing (below_of a b) u v) (shift a v) (shift a u) (net_of_edges (edge_of u v ∷ []) a b)
+    (pos 0) (pos 0) (pos 0) (pos 0)
     (up_none (above_of a b) u v ul vl p.0) (up_none (below_of a b) u v ur vr p.1) sv su n refl)
     (through a b u v h l k)
 
@@ -199,11 +200,11 @@ jumps_up a b u v f e k =
     let sv = other_height a v (λ d. omega (arith, ints)) in
     let n = no_end a b u v f (λ d. omega (arith, ints)) in
     ⊎_elim
-    (λ p. total (crossing (above_of a b) u v) (crossing (below_of a b) u v) (shift a v) (shift a u) (net_of_edges (edge_of u v ∷ []) a b) (pos 1)
-    (pos 0) (pos 0) (negsuc 0)
+    (λ p. total (crossing (above_of a b) u v) (crossing (below_of a b) u v) (shift a v) (shift a u) (net_of_edges (edge_of u v ∷ []) a b)
+    (pos 1) (pos 0) (pos 0) (negsuc 0)
     (up_one (above_of a b) u v ul vl p.1) r sv (shift_one a u e p.0) n refl)
-    (λ p. total (crossing (above_of a b) u v) (crossing (below_of a b) u v) (shift a v) (shift a u) (net_of_edges (edge_of u v ∷ []) a b) (pos 0)
-    (pos 0) (pos 0) (pos 0)
+    (λ p. total (crossing (above_of a b) u v) (crossing (below_of a b) u v) (shift a v) (shift a u) (net_of_edges (edge_of u v ∷ []) a b)
+    (pos 0) (pos 0) (pos 0) (pos 0)
     (up_none (above_of a b) u v ul vl p.1) r sv (shift_none a u (λ d. omega (arith, ints, d.1, p.0))) n refl)
     (from_up a b u v f e k)
 
@@ -216,12 +217,12 @@ jumps_down a b u v f e k =
     let back = crossing_back (below_of a b) v u in
     let turned = turn_at_back u v (below_of a b) in
     ⊎_elim
-    (λ p. total (crossing (above_of a b) u v) (crossing (below_of a b) u v) (shift a v) (shift a u) (net_of_edges (edge_of u v ∷ []) a b) (pos 0)
-    (negsuc 0) (pos 0) (negsuc 0)
+    (λ p. total (crossing (above_of a b) u v) (crossing (below_of a b) u v) (shift a v) (shift a u) (net_of_edges (edge_of u v ∷ []) a b)
+    (pos 0) (negsuc 0) (pos 0) (negsuc 0)
     l (back ∙ ap neg_ℤ (up_one (below_of a b) v u vr ur (subst (λ z. pos 0 <ℤ z) (sym turned) (let q = p.2 in omega (arith, ints))))) sv
     (shift_one a u e p.0) n refl)
-    (λ p. total (crossing (above_of a b) u v) (crossing (below_of a b) u v) (shift a v) (shift a u) (net_of_edges (edge_of u v ∷ []) a b) (pos 0)
-    (pos 0) (pos 0) (pos 0)
+    (λ p. total (crossing (above_of a b) u v) (crossing (below_of a b) u v) (shift a v) (shift a u) (net_of_edges (edge_of u v ∷ []) a b)
+    (pos 0) (pos 0) (pos 0) (pos 0)
     l (back ∙ ap neg_ℤ (up_none (below_of a b) v u vr ur (subst (λ z. z <ℤ pos 0) (sym turned) (let q = p.2 in omega (arith, ints))))) sv
     (shift_none a u (λ d. omega (arith, ints, d.1, p.0))) n refl)
     (from_down a b u v f e k)
@@ -269,30 +270,30 @@ jumps_along a b u v f h e g l =
     (λ p. let s = is_the_edge a b u v f h e g l p in
     one (crossing (above_of a b) u v) (crossing (below_of a b) u v) (shift a v) (shift a u) (net_of_edges (edge_of u v ∷ []) a b) c d (shift_one a v g p) su
     (net_one a b u v s (λ t. let x : u.x ≡ b.x = ap (λ (w : Corner). w.x) t.0 in omega (arith, ints, f.to_right))))
-    (λ p. total (crossing (above_of a b) u v) (crossing (below_of a b) u v) (shift a v) (shift a u) (net_of_edges (edge_of u v ∷ []) a b) (pos 0)
-    (pos 0) (pos 0) (pos 0)
+    (λ p. total (crossing (above_of a b) u v) (crossing (below_of a b) u v) (shift a v) (shift a u) (net_of_edges (edge_of u v ∷ []) a b)
+    (pos 0) (pos 0) (pos 0) (pos 0)
     c d (shift_none a v (λ s. let m = s.1 in omega (arith, ints))) su
-    (net_none a b u v (λ t. let x : v.x ≡ b.x = ap (λ (w : Corner). w.x) t.1 in omega (arith, ints, f.to_right)) (λ t. let x : u.x ≡ b.x =
-    ap (λ (w : Corner). w.x) t.0 in omega (arith, ints, f.to_right))) refl)
+    (net_none a b u v (λ t. let x : v.x ≡ b.x = ap (λ (w : Corner). w.x) t.1 in omega (arith, ints, f.to_right))
+    (λ t. let x : u.x ≡ b.x = ap (λ (w : Corner). w.x) t.0 in omega (arith, ints, f.to_right))) refl)
   where
     one : (l r v u n : ℤ) → l ≡ pos 0 → r ≡ pos 0 → v ≡ negsuc 0 → u ≡ pos 0 → n ≡ pos 1 → l -ℤ r ≡ (v -ℤ u) +ℤ n
     one l r v u n a b c d e = omega (arith, ints)
 
 jumps_right : (a b u v : Corner) → IsLevel a b → u.y ≡ a.y → v.y ≡ a.y → a.x <ℤ u.x → a.x <ℤ v.x → Jumps a b u v
 jumps_right a b u v f e g l k =
-    total (crossing (above_of a b) u v) (crossing (below_of a b) u v) (shift a v) (shift a u) (net_of_edges (edge_of u v ∷ []) a b) (pos 0) (pos 0)
-    (negsuc 0) (negsuc 0)
+    total (crossing (above_of a b) u v) (crossing (below_of a b) u v) (shift a v) (shift a u) (net_of_edges (edge_of u v ∷ []) a b)
+    (pos 0) (pos 0) (negsuc 0) (negsuc 0)
     (none_below (above_of a b) u v (above_low a b u f (omega (arith, ints))) (above_low a b v f (omega (arith, ints))))
     (none_above (below_of a b) u v (below_high a b u f (omega (arith, ints))) (below_high a b v f (omega (arith, ints))))
     (shift_one a v g k) (shift_one a u e l)
-    (net_none a b u v (λ t. let x : u.x ≡ a.x = ap (λ (w : Corner). w.x) t.0 in omega (arith, ints)) (λ t. let x : v.x ≡ a.x =
-    ap (λ (w : Corner). w.x) t.1 in omega (arith, ints))) refl
+    (net_none a b u v (λ t. let x : u.x ≡ a.x = ap (λ (w : Corner). w.x) t.0 in omega (arith, ints))
+    (λ t. let x : v.x ≡ a.x = ap (λ (w : Corner). w.x) t.1 in omega (arith, ints))) refl
 
 -- the same for the turned edge
 jumps_back : (a b u v : Corner) → Jumps a b v u → Jumps a b u v
 jumps_back a b u v h =
-    back (crossing (above_of a b) u v) (crossing (below_of a b) u v) (crossing (above_of a b) v u) (crossing (below_of a b) v u) (shift a u)
-    (shift a v) (net_of_edges (edge_of u v ∷ []) a b) (net_of_edges (edge_of v u ∷ []) a b)
+    back (crossing (above_of a b) u v) (crossing (below_of a b) u v) (crossing (above_of a b) v u) (crossing (below_of a b) v u) (shift a u) (shift a v)
+    (net_of_edges (edge_of u v ∷ []) a b) (net_of_edges (edge_of v u ∷ []) a b)
     (crossing_back (above_of a b) v u) (crossing_back (below_of a b) v u) (net_of_turned v u a b) h
   where
     back : (l r l' r' u v n n' : ℤ) → l ≡ neg_ℤ l' → r ≡ neg_ℤ r' → n ≡ neg_ℤ n' → l' -ℤ r' ≡ (u -ℤ v) +ℤ n' → l -ℤ r ≡ (v -ℤ u) +ℤ n
@@ -303,15 +304,15 @@ height_cases y h = by_lt_z y h (λ p. inl p) (λ p. by_lt_z h y (λ q. inr (inr 
 
 jumps_flat : (a b u v : Corner) → IsLevel a b → (u.y <ℤ a.y) × (v.y <ℤ a.y) ⊎ ((a.y <ℤ u.y) × (a.y <ℤ v.y)) → Jumps a b u v
 jumps_flat a b u v f (inl p) =
-    total (crossing (above_of a b) u v) (crossing (below_of a b) u v) (shift a v) (shift a u) (net_of_edges (edge_of u v ∷ []) a b) (pos 0) (pos 0)
-    (pos 0) (pos 0)
+    total (crossing (above_of a b) u v) (crossing (below_of a b) u v) (shift a v) (shift a u) (net_of_edges (edge_of u v ∷ []) a b)
+    (pos 0) (pos 0) (pos 0) (pos 0)
     (none_below (above_of a b) u v (above_low a b u f (omega (arith, ints, p.0))) (above_low a b v f (omega (arith, ints, p.1))))
     (none_below (below_of a b) u v (below_low a b u f p.0) (below_low a b v f p.1))
     (other_height a v (λ d. omega (arith, ints, p.1))) (other_height a u (λ d. omega (arith, ints, p.0)))
     (no_end a b u v f (λ d. omega (arith, ints, p.1))) refl
 jumps_flat a b u v f (inr p) =
-    total (crossing (above_of a b) u v) (crossing (below_of a b) u v) (shift a v) (shift a u) (net_of_edges (edge_of u v ∷ []) a b) (pos 0) (pos 0)
-    (pos 0) (pos 0)
+    total (crossing (above_of a b) u v) (crossing (below_of a b) u v) (shift a v) (shift a u) (net_of_edges (edge_of u v ∷ []) a b)
+    (pos 0) (pos 0) (pos 0) (pos 0)
     (none_above (above_of a b) u v (above_high a b u f p.0) (above_high a b v f p.1))
     (none_above (below_of a b) u v (below_high a b u f (omega (arith, ints, p.0))) (below_high a b v f (omega (arith, ints, p.1))))
     (other_height a v (λ d. omega (arith, ints, p.1))) (other_height a u (λ d. omega (arith, ints, p.0)))
@@ -334,54 +335,71 @@ level_jump a b u v f h =
     m)
     (height_cases u.y a.y)
 
--- ---- off the edges
-off_both : (a b u v : Corner) → BothSides a b u v → (¬ IsOnEdge (above_of a b) u v) × (¬ IsOnEdge (below_of a b) u v)
-off_both a b u v (inl p) = (λ e. not_zero_up (turn_at u v (above_of a b)) p.0 e.on_line, λ e. not_zero_up (turn_at u v (below_of a b)) p.1 e.on_line)
-off_both a b u v (inr p) = (λ e. not_zero_down (turn_at u v (above_of a b)) p.0 e.on_line, λ e. not_zero_down (turn_at u v (below_of a b)) p.1 e.on_line)
+-- ---- the edges that the segment between the two points meets
+meets_none : (a b u v : Corner) (q : Point) → BothSides a b u v → IsOnSegment q (above_of a b) (below_of a b) → ¬ IsOnEdge q u v
+meets_none a b u v q (inl p) s = left_has_none u v q (above_of a b) (below_of a b) s p.0 p.1
+meets_none a b u v q (inr p) s = right_has_none u v q (above_of a b) (below_of a b) s p.0 p.1
 
-off_from_up : (a b u v : Corner) → IsLevel a b → u.y ≡ a.y → a.y <ℤ v.y → BothSides a b u v
-off_from_up a b u v f e k = ⊎_elim (λ p. inl (p.1, p.2)) (λ p. inr (p.1, p.2)) (from_up a b u v f e k)
+up_sides : (a b u v : Corner) → IsLevel a b → u.y ≡ a.y → a.y <ℤ v.y → BothSides a b u v
+up_sides a b u v f e k = ⊎_elim (λ p. inl (p.1, p.2)) (λ p. inr (p.1, p.2)) (from_up a b u v f e k)
 
-off_from_down : (a b u v : Corner) → IsLevel a b → u.y ≡ a.y → v.y <ℤ a.y → BothSides a b u v
-off_from_down a b u v f e k = ⊎_elim (λ p. inr (p.1, p.2)) (λ p. inl (p.1, p.2)) (from_down a b u v f e k)
+down_sides : (a b u v : Corner) → IsLevel a b → u.y ≡ a.y → v.y <ℤ a.y → BothSides a b u v
+down_sides a b u v f e k = ⊎_elim (λ p. inr (p.1, p.2)) (λ p. inl (p.1, p.2)) (from_down a b u v f e k)
 
-off_back : (a b u v : Corner) → (¬ IsOnEdge (above_of a b) v u) × (¬ IsOnEdge (below_of a b) v u) → (¬ IsOnEdge (above_of a b) u v)
-    × (¬ IsOnEdge (below_of a b) u v)
-off_back a b u v r = (λ e. r.0 (on_edge_back u v (above_of a b) e), λ e. r.1 (on_edge_back u v (below_of a b) e))
+-- heights below both points, and above both
+lower : (ay by wy ey : ℤ) → by ≡ ay → wy <ℤ ay → negsuc 0 ≤ℤ ey → (wy *ℤ whole) <ℤ (ay *ℤ whole +ℤ (by -ℤ ay) *ℤ step +ℤ ey)
+lower ay by wy ey f h k = omega (arith, ints)
 
-above_all : (ay by uy vy ey : ℤ) → by ≡ ay → ay <ℤ uy → ay <ℤ vy → ey ≤ℤ pos 1 → (int_min uy vy *ℤ whole) ≤ℤ (ay *ℤ whole +ℤ (by -ℤ ay) *ℤ step +ℤ ey) → ⊥
-above_all ay by uy vy ey f p q s e = let m : ay <ℤ int_min uy vy = omega (arith, ints, clamps) in omega (arith, ints)
+higher : (ay by wy ey : ℤ) → by ≡ ay → ay <ℤ wy → ey ≤ℤ pos 1 → (ay *ℤ whole +ℤ (by -ℤ ay) *ℤ step +ℤ ey) <ℤ (wy *ℤ whole)
+higher ay by wy ey f h k = omega (arith, ints)
 
-below_all : (ay by uy vy ey : ℤ) → by ≡ ay → uy <ℤ ay → vy <ℤ ay → negsuc 0 ≤ℤ ey → (ay *ℤ whole +ℤ (by -ℤ ay) *ℤ step +ℤ ey) ≤ℤ (int_max uy vy *ℤ whole) → ⊥
-below_all ay by uy vy ey f p q s e = let m : int_max uy vy <ℤ ay = omega (arith, ints, clamps) in omega (arith, ints)
+meets_below : (a b u v : Corner) (q : Point) → IsLevel a b → u.y <ℤ a.y → v.y <ℤ a.y → IsOnSegment q (above_of a b) (below_of a b) → ¬ IsOnEdge q u v
+meets_below a b u v q f h k s =
+    let up : negsuc 0 ≤ℤ pos 1 = omega (arith, ints) in
+    let down : negsuc 0 ≤ℤ negsuc 0 = omega (arith, ints) in
+    above_has_none u v q (above_of a b) (below_of a b) s
+    (lower a.y b.y u.y (pos 1) f.same_height h up) (lower a.y b.y u.y (negsuc 0) f.same_height h down)
+    (lower a.y b.y v.y (pos 1) f.same_height k up) (lower a.y b.y v.y (negsuc 0) f.same_height k down)
 
-at_height_above : (ay by uy vy : ℤ) → by ≡ ay → uy ≡ ay → vy ≡ ay → (ay *ℤ whole +ℤ (by -ℤ ay) *ℤ step +ℤ pos 1) ≤ℤ (int_max uy vy *ℤ whole) → ⊥
-at_height_above ay by uy vy f p q e = let m : int_max uy vy ≡ ay = omega (arith, ints, clamps) in omega (arith, ints)
+meets_above : (a b u v : Corner) (q : Point) → IsLevel a b → a.y <ℤ u.y → a.y <ℤ v.y → IsOnSegment q (above_of a b) (below_of a b) → ¬ IsOnEdge q u v
+meets_above a b u v q f h k s =
+    let up : pos 1 ≤ℤ pos 1 = omega (arith, ints) in
+    let down : negsuc 0 ≤ℤ pos 1 = omega (arith, ints) in
+    below_has_none u v q (above_of a b) (below_of a b) s
+    (higher a.y b.y u.y (pos 1) f.same_height h up) (higher a.y b.y u.y (negsuc 0) f.same_height h down)
+    (higher a.y b.y v.y (pos 1) f.same_height k up) (higher a.y b.y v.y (negsuc 0) f.same_height k down)
 
-at_height_below : (ay by uy vy : ℤ) → by ≡ ay → uy ≡ ay → vy ≡ ay → (int_min uy vy *ℤ whole) ≤ℤ (ay *ℤ whole +ℤ (by -ℤ ay) *ℤ step +ℤ negsuc 0) → ⊥
-at_height_below ay by uy vy f p q e = let m : int_min uy vy ≡ ay = omega (arith, ints, clamps) in omega (arith, ints)
+-- an edge at a's height that begins at a or left of it
+meets_along : (a b u v : Corner) (q : Point) → IsLevel a b → AreClear a b u v → u.y ≡ a.y → v.y ≡ a.y → u.x ≤ℤ a.x
+    → IsOnSegment q (above_of a b) (below_of a b) → IsOnEdge q u v → (u ≡ a) × (v ≡ b)
+meets_along a b u v q f h e g l s o = by_lt_z a.x v.x
+    (λ p. is_the_edge a b u v f h e g l p)
+    (λ p. let i = step_past a.x b.x u.x f.to_right l in let j = step_past a.x b.x v.x f.to_right p in
+    absurd (farther_has_none u v q (above_of a b) (below_of a b) s i i j j o))
 
-pub level_off : (a b u v : Corner) → IsLevel a b → AreClear a b u v → (¬ IsOnEdge (above_of a b) u v) × (¬ IsOnEdge (below_of a b) u v)
-level_off a b u v f h =
+meets_right : (a b u v : Corner) (q : Point) → a.x <ℤ u.x → a.x <ℤ v.x → IsOnSegment q (above_of a b) (below_of a b) → ¬ IsOnEdge q u v
+meets_right a b u v q h k s =
+    let i = step_short a.x b.x u.x a.x_in_range b.x_in_range h in
+    let j = step_short a.x b.x v.x a.x_in_range b.x_in_range k in
+    nearer_has_none u v q (above_of a b) (below_of a b) s i i j j
+
+pub level_meets : (a b u v : Corner) (q : Point) → IsLevel a b → AreClear a b u v → IsOnSegment q (above_of a b) (below_of a b) → IsOnEdge q u v
+    → Joins (edge_of u v) a b
+level_meets a b u v q f h s e =
+    let back = AreClear-back a b u v h in
+    let o = on_edge_back u v q e in
     ⊎_elim
-    (λ p. ⊎_elim (λ q. (
-      λ e. below_all a.y b.y u.y v.y (pos 1) f.same_height p q (omega (arith, ints)) e.to_y,
-      λ e. below_all a.y b.y u.y v.y
-          (negsuc 0) f.same_height p q (omega (arith, ints)) e.to_y,
-    ))
-    (λ o. ⊎_elim (λ q. off_back a b u v (off_both a b v u (off_from_down a b v u f q p))) (λ q. off_both a b u v (through a b u v h p q)) o)
+    (λ p. ⊎_elim (λ k. absurd (meets_below a b u v q f p k s e))
+    (λ n. ⊎_elim (λ k. absurd (meets_none a b v u q (down_sides a b v u f k p) s o)) (λ k. absurd (meets_none a b u v q (through a b u v h p k) s e)) n)
     (height_cases v.y a.y))
     (λ m. ⊎_elim
-    (λ p. ⊎_elim (λ q. off_both a b u v (off_from_down a b u v f p q))
-    (λ o. ⊎_elim
-    (λ q. (λ e. at_height_above a.y b.y u.y v.y f.same_height p q e.to_y, λ e. at_height_below a.y b.y u.y v.y f.same_height p q e.from_y))
-    (λ q. off_both a b u v (off_from_up a b u v f p q)) o) (height_cases v.y a.y))
-    (λ p. ⊎_elim (λ q. off_back a b u v (off_both a b v u (through a b v u (AreClear-back a b u v h) q p)))
-    (λ o. ⊎_elim (λ q. off_back a b u v (off_both a b v u (off_from_up a b v u f q p)))
-    (λ q. (
-      λ e. above_all a.y b.y u.y v.y (pos 1) f.same_height p q (omega (arith, ints)) e.from_y,
-      λ e. above_all a.y b.y u.y v.y
-          (negsuc 0) f.same_height p q (omega (arith, ints)) e.from_y,
-    )) o) (height_cases v.y a.y))
+    (λ p. ⊎_elim (λ k. absurd (meets_none a b u v q (down_sides a b u v f p k) s e))
+    (λ n. ⊎_elim
+    (λ k. by_lt_z a.x u.x
+    (λ i. by_lt_z a.x v.x (λ j. absurd (meets_right a b u v q i j s e)) (λ j. let r = meets_along a b v u q f back k p j s o in inr (r.1, r.0)))
+    (λ i. inl (meets_along a b u v q f h p k i s e)))
+    (λ k. absurd (meets_none a b u v q (up_sides a b u v f p k) s e)) n) (height_cases v.y a.y))
+    (λ p. ⊎_elim (λ k. absurd (meets_none a b v u q (through a b v u back k p) s o))
+    (λ n. ⊎_elim (λ k. absurd (meets_none a b v u q (up_sides a b v u f k p) s o)) (λ k. absurd (meets_above a b u v q f p k s e)) n) (height_cases v.y a.y))
     m)
     (height_cases u.y a.y)

@@ -14,3 +14,4 @@ pub mod Beside
 pub mod Steep
 pub mod Level
 pub mod Jumps
+pub mod Segments

@@ -1,11 +1,10 @@
 -- The two points beside an edge that isn't level, and how each edge of fully noded rings crosses there.
-use Rattle.std.proofs.Common.{◌≡◌, ◌⊎◌, inl, inr, ⊎_elim, refl, sym, ◌∙◌, ap, subst, arith, Bool}
-use Rattle.std.proofs.Common.{true, false, if◌then◌else◌, ◌+◌, ℤ, pos, negsuc, ◌+ℤ◌, ◌-ℤ◌, ◌*ℤ◌, neg_ℤ, [], ◌∷◌}
-use Rattle.std.specs.Int.{int_min, int_max}
-use Rattle.std.proofs.lemmas.Int.{ints, clamps, by_lt_z}
+use Rattle.std.proofs.Common.{◌≡◌, ◌⊎◌, inl, inr, ⊎_elim, refl, sym, ◌∙◌, ap, subst, arith, Bool, true, false, if◌then◌else◌, ◌+◌, ℤ, pos, negsuc, ◌+ℤ◌}
+use Rattle.std.proofs.Common.{◌-ℤ◌, ◌*ℤ◌, neg_ℤ, [], ◌∷◌}
+use Rattle.std.proofs.lemmas.Int.{ints, by_lt_z}
 use lib.Signed.{◌<ℤ◌, ◌≤ℤ◌, lt_z, le_z}
 use Rattle.geo_exact.specs.declared.corner.Corner.{Corner}
-use Rattle.geo_exact.specs.Limit.{IsWithin, limit}
+use Rattle.geo_exact.specs.Limit.{IsWithin}
 use Rattle.geo_exact.specs.Point.{Point, corner_point}
 use Rattle.geo_exact.specs.Turn.{turn, turn_at, IsOnEdge}
 use Rattle.geo_exact.specs.Winding.{crossing}
@@ -17,12 +16,15 @@ use Rattle.geo_exact.proofs.OnEdge.{on_edge_between, on_edge_back}
 use Rattle.geo_exact.proofs.Crossings.{crossed, crossing_back}
 use Rattle.edge_chains.specs.Net.{is_same, net_of_edges}
 use Rattle.edge_chains.specs.Noding.{IsStrictlyInside}
+use Rattle.edge_chains.specs.Jump.{IsOnSegment, Joins}
 use Rattle.edge_chains.proofs.Corners.{cases_of, false_where, Decides-is_same}
 use Rattle.edge_chains.proofs.Changes.{Decides-is_same_edge, net_of_turned}
 use Rattle.edge_chains.specs.Counts.{is_same_edge}
 use Rattle.edge_chains.proofs.Along.{zero_of_mul}
 use Rattle.edge_chains.proofs.Parts.{strictly_back}
 use Rattle.edge_chains.proofs.Beside.{whole, step, near, cross, push, turn_near, cross_within, lead_up, lead_down, next_up, next_down, last_one}
+use Rattle.edge_chains.proofs.Beside.{step_past, step_short}
+use Rattle.edge_chains.proofs.Segments.{left_has_none, right_has_none, above_has_none, below_has_none}
 
 -- neither end of the edge a b is inside the edge u v, nor the other way round
 pub record AreClear (a b u v : Corner) : Type 0 where
@@ -52,8 +54,10 @@ strictly_at_height u v c t l h n = record {
 
 -- an edge that passes a's height at a begins there
 pub starts_there : (a b u v : Corner) → AreClear a b u v → turn u v a ≡ pos 0 → u.y ≤ℤ a.y → a.y <ℤ v.y → u ≡ a
-starts_there a b u v h t l k = ⊎_elim (λ e. e) (λ n. absurd (h.a_is_out
-    (strictly_at_height u v a t l k (λ e. let m = (Decides-is_same u a).1 (sym e) in cc)))) (cases_of (is_same u a) (Decides-is_same u a))
+starts_there a b u v h t l k =
+    ⊎_elim (λ e. e)
+    (λ n. absurd (h.a_is_out (strictly_at_height u v a t l k (λ e. let m = (Decides-is_same u a).1 (sym e) in cc))))
+    (cases_of (is_same u a) (Decides-is_same u a))
 
 swap_turn : (a b c : Corner) → turn a c b ≡ neg_ℤ (turn a b c)
 swap_turn a b c =
@@ -73,11 +77,11 @@ level_turn ax ay bx by vx vy e =
 -- an edge from a that goes up along the edge a b is that edge
 ends_there : (a b v : Corner) → a.y <ℤ b.y → AreClear a b a v → a.y <ℤ v.y → turn a v b ≡ pos 0 → v ≡ b
 ends_there a b v up h k t = by_lt_z v.y b.y
-    (λ p. absurd (h.v_is_out (strictly_at_height a b v (swap_turn a v b ∙ neg_zero (turn a v b) t) (omega (arith, ints)) p (λ e. let y : v.y ≡ a.y =
-    ap (λ (s : Corner). s.y) e in omega (arith, ints)))))
+    (λ p. absurd (h.v_is_out (strictly_at_height a b v (swap_turn a v b ∙ neg_zero (turn a v b) t) (omega (arith, ints)) p
+    (λ e. let y : v.y ≡ a.y = ap (λ (s : Corner). s.y) e in omega (arith, ints)))))
     (λ p. by_lt_z b.y v.y
-    (λ q. absurd (h.b_is_out (strictly_at_height a v b t (omega (arith, ints)) q (λ e. let y : b.y ≡ a.y =
-    ap (λ (s : Corner). s.y) e in omega (arith, ints)))))
+    (λ q. absurd (h.b_is_out (strictly_at_height a v b t (omega (arith, ints)) q
+    (λ e. let y : b.y ≡ a.y = ap (λ (s : Corner). s.y) e in omega (arith, ints)))))
     (λ q. let y : v.y ≡ b.y = omega (arith, ints) in
     corner_same v b (same v.x b.x (zero_of_mul (b.y -ℤ a.y) (v.x -ℤ b.x) (λ z. omega (arith, ints)) (sym (level_turn a.x a.y b.x b.y v.x v.y y) ∙ t))) y))
   where
@@ -215,11 +219,11 @@ none_above p u v h k =
     ∙ ap (λ x. crossed false x (turn_at u v p)) (above (v.y *ℤ p.d) p.y k)
 
 -- the corner is not above the near points where it is not above a
-low : (a b w : Corner) (ex : ℤ) → a.y <ℤ b.y → w.y ≤ℤ a.y → (w.y *ℤ whole) ≤ℤ (a.y *ℤ whole +ℤ (b.y -ℤ a.y) *ℤ step +ℤ pos 0)
-low a b w ex up h = omega (arith, ints)
+low : (a b w : Corner) → a.y <ℤ b.y → w.y ≤ℤ a.y → (w.y *ℤ whole) ≤ℤ (a.y *ℤ whole +ℤ (b.y -ℤ a.y) *ℤ step +ℤ pos 0)
+low a b w up h = omega (arith, ints)
 
-high : (a b w : Corner) (ex : ℤ) → a.y <ℤ b.y → a.y <ℤ w.y → (a.y *ℤ whole +ℤ (b.y -ℤ a.y) *ℤ step +ℤ pos 0) <ℤ (w.y *ℤ whole)
-high a b w ex up h = omega (arith, ints)
+high : (a b w : Corner) → a.y <ℤ w.y → (a.y *ℤ whole +ℤ (b.y -ℤ a.y) *ℤ step +ℤ pos 0) <ℤ (w.y *ℤ whole)
+high a b w h = step_short a.y b.y w.y a.y_in_range b.y_in_range h
 
 minus : (x y z : ℤ) → x ≡ z → y ≡ z → x -ℤ y ≡ pos 0
 minus x y z h k = omega (arith, ints)
@@ -227,17 +231,17 @@ minus x y z h k = omega (arith, ints)
 steep_up : (a b u v : Corner) → a.y <ℤ b.y → AreClear a b u v → u.y ≤ℤ a.y → a.y <ℤ v.y
     → crossing (left_of a b) u v -ℤ crossing (right_of a b) u v ≡ net_of_edges (edge_of u v ∷ []) a b
 steep_up a b u v up h l k =
-    let ul = low a b u (negsuc 0) up l in
-    let vl = high a b v (negsuc 0) up k in
+    let ul = low a b u up l in
+    let vl = high a b v k in
     let never : (u ≡ b) × (v ≡ a) → ⊥ = λ e. let y : u.y ≡ b.y = ap (λ (s : Corner). s.y) e.0 in omega (arith, ints) in
     ⊎_elim
-    (λ p. minus (crossing (left_of a b) u v) (crossing (right_of a b) u v) (pos 1) (up_one (left_of a b) u v ul vl p.0)
-    (up_one (right_of a b) u v ul vl p.1) ∙ sym (net_none a b u v p.2 never))
+    (λ p. minus (crossing (left_of a b) u v) (crossing (right_of a b) u v) (pos 1) (up_one (left_of a b) u v ul vl p.0) (up_one (right_of a b) u v ul vl p.1)
+    ∙ sym (net_none a b u v p.2 never))
     (λ o. ⊎_elim
-    (λ p. minus (crossing (left_of a b) u v) (crossing (right_of a b) u v) (pos 0) (up_none (left_of a b) u v ul vl p.0)
-    (up_none (right_of a b) u v ul vl p.1) ∙ sym (net_none a b u v p.2 never))
-    (λ p. one (crossing (left_of a b) u v) (crossing (right_of a b) u v) (net_of_edges (edge_of u v ∷ []) a b) (up_one (left_of a b) u v ul vl p.1)
-    (up_none (right_of a b) u v ul vl p.2) (net_one a b u v p.0 never))
+    (λ p. minus (crossing (left_of a b) u v) (crossing (right_of a b) u v) (pos 0) (up_none (left_of a b) u v ul vl p.0) (up_none (right_of a b) u v ul vl p.1)
+    ∙ sym (net_none a b u v p.2 never))
+    (λ p. one (crossing (left_of a b) u v) (crossing (right_of a b) u v) (net_of_edges (edge_of u v ∷ []) a b)
+    (up_one (left_of a b) u v ul vl p.1) (up_none (right_of a b) u v ul vl p.2) (net_one a b u v p.0 never))
     o)
     (steep_sides a b u v up h l k)
   where
@@ -253,51 +257,34 @@ pub steep_jump : (a b u v : Corner) → a.y <ℤ b.y → AreClear a b u v
 steep_jump a b u v up h = by_lt_z a.y u.y
     (λ p. by_lt_z a.y v.y
     (λ q. minus (crossing (left_of a b) u v) (crossing (right_of a b) u v) (pos 0)
-    (none_above (left_of a b) u v (high a b u (negsuc 0) up p) (high a b v (negsuc 0) up q))
-    (none_above (right_of a b) u v (high a b u (pos 1) up p) (high a b v (pos 1) up q))
-    ∙ sym (net_none a b u v (λ e. let y : u.y ≡ a.y = ap (λ (s : Corner). s.y) e.0 in omega (arith, ints)) (λ e. let y : v.y ≡ a.y =
-    ap (λ (s : Corner). s.y) e.1 in omega (arith, ints))))
+    (none_above (left_of a b) u v (high a b u p) (high a b v q)) (none_above (right_of a b) u v (high a b u p) (high a b v q))
+    ∙ sym (net_none a b u v (λ e. let y : u.y ≡ a.y = ap (λ (s : Corner). s.y) e.0 in omega (arith, ints))
+    (λ e. let y : v.y ≡ a.y = ap (λ (s : Corner). s.y) e.1 in omega (arith, ints))))
     (λ q. turned_jump (crossing (left_of a b) u v) (crossing (right_of a b) u v) (crossing (left_of a b) v u) (crossing (right_of a b) v u)
     (net_of_edges (edge_of u v ∷ []) a b) (net_of_edges (edge_of v u ∷ []) a b)
     (crossing_back (left_of a b) v u) (crossing_back (right_of a b) v u) (net_of_turned v u a b) (steep_up a b v u up (AreClear-back a b u v h) q p)))
     (λ p. by_lt_z a.y v.y
     (λ q. steep_up a b u v up h p q)
     (λ q. minus (crossing (left_of a b) u v) (crossing (right_of a b) u v) (pos 0)
-    (none_below (left_of a b) u v (low a b u (negsuc 0) up p) (low a b v (negsuc 0) up q))
-    (none_below (right_of a b) u v (low a b u (pos 1) up p) (low a b v (pos 1) up q))
-    ∙ sym (net_none a b u v (λ e. let y : v.y ≡ b.y = ap (λ (s : Corner). s.y) e.1 in omega (arith, ints)) (λ e. let y : u.y ≡ b.y =
-    ap (λ (s : Corner). s.y) e.0 in omega (arith, ints)))))
+    (none_below (left_of a b) u v (low a b u up p) (low a b v up q)) (none_below (right_of a b) u v (low a b u up p) (low a b v up q))
+    ∙ sym (net_none a b u v (λ e. let y : v.y ≡ b.y = ap (λ (s : Corner). s.y) e.1 in omega (arith, ints))
+    (λ e. let y : u.y ≡ b.y = ap (λ (s : Corner). s.y) e.0 in omega (arith, ints)))))
 
--- ---- off the edges
-pub not_zero_up : (z : ℤ) → pos 0 <ℤ z → z ≡ pos 0 → ⊥
-not_zero_up z h e = omega (arith, ints)
-
-pub not_zero_down : (z : ℤ) → z <ℤ pos 0 → z ≡ pos 0 → ⊥
-not_zero_down z h e = omega (arith, ints)
-
-steep_off_up : (a b u v : Corner) → a.y <ℤ b.y → AreClear a b u v → u.y ≤ℤ a.y → a.y <ℤ v.y → (¬ IsOnEdge (left_of a b) u v) × (¬ IsOnEdge (right_of a b) u v)
-steep_off_up a b u v up h l k =
+-- ---- the edges that the segment between the two points meets
+steep_meets_up : (a b u v : Corner) (q : Point) → a.y <ℤ b.y → AreClear a b u v → u.y ≤ℤ a.y → a.y <ℤ v.y
+    → IsOnSegment q (left_of a b) (right_of a b) → IsOnEdge q u v → (u ≡ a) × (v ≡ b)
+steep_meets_up a b u v q up h l k s e =
     ⊎_elim
-    (λ p. (λ e. not_zero_up (turn_at u v (left_of a b)) p.0 e.on_line, λ e. not_zero_up (turn_at u v (right_of a b)) p.1 e.on_line))
-    (λ o. ⊎_elim
-    (λ p. (λ e. not_zero_down (turn_at u v (left_of a b)) p.0 e.on_line, λ e. not_zero_down (turn_at u v (right_of a b)) p.1 e.on_line))
-    (λ p. (λ e. not_zero_up (turn_at u v (left_of a b)) p.1 e.on_line, λ e. not_zero_down (turn_at u v (right_of a b)) p.2 e.on_line))
-    o)
+    (λ p. absurd (left_has_none u v q (left_of a b) (right_of a b) s p.0 p.1 e))
+    (λ o. ⊎_elim (λ p. absurd (right_has_none u v q (left_of a b) (right_of a b) s p.0 p.1 e)) (λ p. p.0) o)
     (steep_sides a b u v up h l k)
 
-too_high : (ay by uy vy : ℤ) → ay <ℤ by → IsWithin limit ay → IsWithin limit by → ay <ℤ uy → ay <ℤ vy
-    → (int_min uy vy *ℤ whole) ≤ℤ (ay *ℤ whole +ℤ (by -ℤ ay) *ℤ step +ℤ pos 0) → ⊥
-too_high ay by uy vy up h k p q e = let m : ay <ℤ int_min uy vy = omega (arith, ints, clamps) in omega (arith, ints)
-
-too_low : (ay by uy vy : ℤ) → ay <ℤ by → uy ≤ℤ ay → vy ≤ℤ ay → (ay *ℤ whole +ℤ (by -ℤ ay) *ℤ step +ℤ pos 0) ≤ℤ (int_max uy vy *ℤ whole) → ⊥
-too_low ay by uy vy up p q e = let m : int_max uy vy ≤ℤ ay = omega (arith, ints, clamps) in omega (arith, ints)
-
-pub steep_off : (a b u v : Corner) → a.y <ℤ b.y → AreClear a b u v → (¬ IsOnEdge (left_of a b) u v) × (¬ IsOnEdge (right_of a b) u v)
-steep_off a b u v up h = by_lt_z a.y u.y
+pub steep_meets : (a b u v : Corner) (q : Point) → a.y <ℤ b.y → AreClear a b u v → IsOnSegment q (left_of a b) (right_of a b) → IsOnEdge q u v
+    → Joins (edge_of u v) a b
+steep_meets a b u v q up h s e = by_lt_z a.y u.y
     (λ p. by_lt_z a.y v.y
-    (λ q. (λ e. too_high a.y b.y u.y v.y up a.y_in_range b.y_in_range p q e.from_y, λ e. too_high a.y b.y u.y v.y up a.y_in_range b.y_in_range p q e.from_y))
-    (λ q. let r = steep_off_up a b v u up (AreClear-back a b u v h) q p in
-    (λ e. r.0 (on_edge_back u v (left_of a b) e), λ e. r.1 (on_edge_back u v (right_of a b) e))))
+    (λ o. absurd (below_has_none u v q (left_of a b) (right_of a b) s (high a b u p) (high a b u p) (high a b v o) (high a b v o) e))
+    (λ o. let r = steep_meets_up a b v u q up (AreClear-back a b u v h) o p s (on_edge_back u v q e) in inr (r.1, r.0)))
     (λ p. by_lt_z a.y v.y
-    (λ q. steep_off_up a b u v up h p q)
-    (λ q. (λ e. too_low a.y b.y u.y v.y up p q e.to_y, λ e. too_low a.y b.y u.y v.y up p q e.to_y)))
+    (λ o. inl (steep_meets_up a b u v q up h p o s e))
+    (λ o. let i = step_past a.y b.y u.y up p in let j = step_past a.y b.y v.y up o in absurd (above_has_none u v q (left_of a b) (right_of a b) s i i j j e)))

@@ -1,4 +1,4 @@
-ghost use Rattle.std.specs.Prelude.{◌≡◌, ◌≢◌, ◌↔◌, pos, ◌-ℤ◌, List, ◌++◌};
+ghost use Rattle.std.specs.Prelude.{◌≡◌, ◌≢◌, ◌↔◌, pos, List, ◌++◌};
 ghost use Rattle.std.specs.List.{AllZip, Contains};
 ghost use Rattle.geo_exact.specs.declared.corner.Corner.{Corner};
 ghost use Rattle.geo_exact.specs.Point.{Point};
@@ -6,7 +6,7 @@ ghost use Rattle.geo_exact.specs.Turn.{IsOnRing};
 ghost use Rattle.geo_exact.specs.Winding.{winding};
 ghost use Rattle.geo_exact.specs.Area.{area2};
 ghost use Rattle.edge_chains.specs.Noding.{IsNoded, all_corners, AreFullyNoded};
-ghost use Rattle.edge_chains.specs.Jump.{IsJump};
+ghost use Rattle.edge_chains.specs.Jump.{net_difference, IsJump};
 ghost use Rattle.edge_chains.specs.Net.{net_count, winding_sum, area2_sum};
 
 /// Two sets of rings whose net numbers of directed edges are equal go round each point equally often, and have the
@@ -31,11 +31,12 @@ pub fn noding_changes_no_ground()
         → ((c : Corner) → Contains (all_corners rings) c → Contains corners c) → AreFullyNoded noded }
 {}
 
-/// In rings that are noded for all of their corners, an edge whose net number isn't the same in the added and the taken
-/// rings is no false alarm: of two points beside it, off all edges, the difference of the winding numbers differs by
-/// the edge's net count.
+/// In rings that are noded for all of their corners, an edge whose net count isn't the same in the added and the taken
+/// rings is no false alarm: it has two points beside it, off all edges and with no other edge between them. The
+/// difference of the winding numbers left of the edge, less the one right of it, is the edge's net count; differences
+/// and net counts are those of the added rings less those of the taken ones.
 pub fn an_unbalanced_edge_is_a_jump()
     ensures { (added taken : List (List Corner)) → AreFullyNoded (added ++ taken) → (a b : Corner)
-        → net_count added a b -ℤ net_count taken a b ≢ pos 0
+        → net_difference added taken a b ≢ pos 0
         → (left : Point) × (right : Point) × IsJump added taken a b left right }
 {}
