@@ -52,6 +52,10 @@ pub fn kind_at(corners: &[Corner], k: usize) -> Kind
 }
 
 /// The kinds of all corners, in order.
+///
+/// # Errors
+///
+/// [`AllocError`] where an allocation is refused.
 pub fn kinds_of<A: Allocator>(alloc: A, corners: &[Corner]) -> Result<Vec<Kind, A>, AllocError>
     ensures { IfOk result (λ kinds. AreKinds corners.now kinds.items) }
 {
@@ -62,6 +66,7 @@ pub fn kinds_of<A: Allocator>(alloc: A, corners: &[Corner]) -> Result<Vec<Kind, 
     Ok(kinds)
 }
 
+/// Whether the kind is a flat corner's.
 fn is_flat_kind(kind: Kind) -> bool
     ensures { IsTrue result ↔ kind ≡ Kind.Flat }
 {

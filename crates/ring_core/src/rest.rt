@@ -31,7 +31,11 @@ impl<A: Allocator> Model for Rest<A> {
 }
 
 impl<A: Allocator + Copy> Rest<A> {
-    /// All the corners.
+    /// All the corners, with their kinds; the time grows with the square of their number.
+    ///
+    /// # Errors
+    ///
+    /// [`AllocError`] where an allocation is refused.
     pub(crate) fn of(alloc: A, corners: &[Corner]) -> Result<Rest<A>, AllocError>
         ensures { IfOk result (λ rest. rest ≡ corners.now) }
     {

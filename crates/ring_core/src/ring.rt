@@ -9,7 +9,9 @@ use geo_exact::{Corner, Corners, area2};
 use std::alloc::Allocator;
 
 /// A simple ring: counterclockwise, of positive area, and its edges meet only as neighbours, in their
-/// shared corner alone. Edge `i` joins corner `i` to the next, and the last corner to the first.
+/// shared corner alone (OGC 06-103r4, 6.1.7, LinearRing). Edge `i` joins corner `i` to the next, and the
+/// last corner to the first; corners are in whole centimetres. A corner may lie on the edge between its
+/// neighbours.
 #[derive(Debug, Drop)]
 pub struct Ring<A: Allocator> {
     pub corners: Corners<A>,
@@ -83,10 +85,15 @@ fn first_meeting(ring: &[Corner]) -> Option<(usize, usize)>
 }
 
 impl<A: Allocator> Ring<A> {
-    /// The ring of these corners, or the first reason why they make none. It takes no memory; the
-    /// corners are dropped on a fault.
+    /// The ring of these corners, at most 10,000,000. It takes no memory; the corners are dropped on a
+    /// fault.
     ///
-    /// The time grows with the square of the number of corners, at most 10,000,000.
+    /// The time grows with the square of the number of corners.
+    ///
+    /// # Errors
+    ///
+    /// The first of these that applies: [`RingFault::ZeroArea`] (G1), [`RingFault::Clockwise`] (G3),
+    /// [`RingFault::EdgesMeet`] (G2).
     pub fn check(corners: Corners<A>) -> Result<Ring<A>, RingFault>
         requires { length corners ≤ 10000000 }
         ensures valid { IsOk result ↔ IsSimpleRing corners }

@@ -45,6 +45,13 @@ impl<A: Allocator> From<AllocError> for ClipFault<A> {
 impl<A: Allocator + Copy> Shape<A> {
     /// Clips a ring to triangles: while more than two corners are left, the first flat corner is taken
     /// out or, where there is none, the first ear, which becomes a triangle.
+    ///
+    /// The time grows with the square of the number of corners. The ring is dropped on a fault.
+    ///
+    /// # Errors
+    ///
+    /// [`ClipFault::NoEar`] (G4) where a rest has neither a flat corner nor an ear,
+    /// [`ClipFault::NoMemory`] where an allocation is refused.
     pub fn clip(alloc: A, ring: Ring<A>) -> Result<Shape<A>, ClipFault<A>>
         ensures ring { IfOk result (λ shape. shape.ring.corners ≡ ring.corners) }
         ensures clipped { IfOk result (λ shape. IsClippedTo ring.corners shape.triangles) }

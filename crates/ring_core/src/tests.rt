@@ -2,14 +2,20 @@ ghost use Rattle.std.specs.Prelude.{◌≤◌, length, IfOk};
 
 use crate::ear::triangle_at;
 use crate::plain::{plain_first_ear, plain_first_flat};
-use crate::{Ring, RingFault, Shape, Tri};
+use crate::{Rest, Ring, RingFault, Shape, Tri, Triangles};
 use geo_exact::{Corner, Corners, turn};
 use std::alloc::{AllocError, Global};
 use std::test::Fail;
 
-const WITH_FLAT_CORNER: [(i64, i64); 5] = [(0, 0), (50, 0), (100, 0), (100, 100), (0, 100)];
+type Place = (i64, i64);
 
-const S_SHAPE: [(i64, i64); 12] = [
+/// The limit of the coordinates, in centimetres.
+const FAR: i64 = 10_000_000_000;
+
+const WITH_FLAT_CORNER: [Place; 5] = [(0, 0), (50, 0), (100, 0), (100, 100), (0, 100)];
+
+/// Two bays, one from the right and one from the left.
+const S_SHAPE: [Place; 12] = [
     (0, 0),
     (300, 0),
     (300, 30),
@@ -24,7 +30,8 @@ const S_SHAPE: [(i64, i64); 12] = [
     (0, 30),
 ];
 
-const COMB: [(i64, i64); 12] = [
+/// Three teeth of 10 by 20 on a base of 50 by 10.
+const COMB: [Place; 12] = [
     (0, 0),
     (50, 0),
     (50, 30),
@@ -39,7 +46,7 @@ const COMB: [(i64, i64); 12] = [
     (0, 30),
 ];
 
-const SPIRAL: [(i64, i64); 14] = [
+const SPIRAL: [Place; 14] = [
     (0, 0),
     (60, 0),
     (60, 60),
@@ -56,7 +63,7 @@ const SPIRAL: [(i64, i64); 14] = [
     (0, 10),
 ];
 
-const STAR: [(i64, i64); 8] = [
+const STAR: [Place; 8] = [
     (50, 0),
     (60, 40),
     (100, 50),
@@ -67,7 +74,7 @@ const STAR: [(i64, i64); 8] = [
     (40, 40),
 ];
 
-const FLAT_SIDE: [(i64, i64); 7] = [
+const FLAT_SIDE: [Place; 7] = [
     (0, 0),
     (10, 0),
     (20, 0),
@@ -77,24 +84,75 @@ const FLAT_SIDE: [(i64, i64); 7] = [
     (0, 10),
 ];
 
-fn corners(alloc: Global, places: &[(i64, i64)]) -> Result<Corners<Global>, AllocError>
+/// A bay that ends half a square centimetre left of the first edge, whose way is (F(50), F(49)) in
+/// Fibonacci numbers: it ends at (F(48), F(47)) from the start, and F(50) F(47) is F(49) F(48) + 1. In
+/// doubles these products, above 2^65, are equal.
+const SHORT_BAY: [Place; 5] = [
+    (-FAR, -FAR),
+    (2_586_269_025, -2_221_257_951),
+    (FAR, FAR),
+    (-5_192_473_024, -7_028_784_927),
+    (-FAR, FAR),
+];
+
+/// A bay that ends half a square centimetre right of the first edge, at (F(49), F(48)) from the start:
+/// F(50) F(48) is F(49) F(49) - 1.
+const LONG_BAY: [Place; 5] = [
+    (-FAR, -FAR),
+    (2_586_269_025, -2_221_257_951),
+    (FAR, FAR),
+    (-2_221_257_951, -5_192_473_024),
+    (-FAR, FAR),
+];
+
+const WIDEST: [Place; 4] = [(-FAR, -FAR), (FAR, -FAR), (FAR, FAR), (-FAR, FAR)];
+
+fn corner(place: Place) -> Result<Corner, Fail> {
+    match Corner::new(place.0, place.1) {
+        Some(corner) => Ok(corner),
+        None => Err(Fail::new("a coordinate beyond the limit")),
+    }
+}
+
+fn triangle(a: Place, b: Place, c: Place) -> Result<Tri, Fail> {
+    match Tri::new(corner(a)?, corner(b)?, corner(c)?) {
+        Some(triangle) => Ok(triangle),
+        None => Err(Fail::new("no left turn")),
+    }
+}
+
+fn corners(alloc: Global, places: &[Place]) -> Result<Corners<Global>, Fail>
     ensures { IfOk result (λ list. length list ≤ length places.now) }
 {
     let mut list = Corners::new(alloc);
-    for (x, y) in places {
-        if let Some(corner) = Corner::new(*x, *y) {
-            list.push(corner)?;
-        }
+    for place in places {
+        list.push(corner(*place)?)?;
     }
     Ok(list)
 }
 
-fn fault(alloc: Global, places: &[(i64, i64)]) -> Result<Option<RingFault>, AllocError>
+fn fault(alloc: Global, places: &[Place]) -> Result<Option<RingFault>, Fail>
     requires { length places.now ≤ 100 }
 {
     match Ring::check(corners(alloc, places)?) {
         Ok(_) => Ok(None),
         Err(fault) => Ok(Some(fault)),
+    }
+}
+
+fn simple_ring(alloc: Global, places: &[Place]) -> Result<Ring<Global>, Fail>
+    requires { length places.now ≤ 100 }
+{
+    match Ring::check(corners(alloc, places)?) {
+        Ok(ring) => Ok(ring),
+        Err(_) => Err(Fail::new("no simple ring")),
+    }
+}
+
+fn shape_of(alloc: Global, ring: Ring<Global>) -> Result<Shape<Global>, Fail> {
+    match Shape::clip(alloc, ring) {
+        Ok(shape) => Ok(shape),
+        Err(_) => Err(Fail::new("not clipped")),
     }
 }
 
@@ -114,25 +172,95 @@ fn finds_the_first_fault(rt: HostRuntime) -> Result<(), Fail> {
     assert_eq!(rt; fault(alloc, &bow_tie)?, Some(RingFault::ZeroArea));
     let uneven_bow_tie = [(0, 0), (100, 100), (100, 0), (0, 60)];
     assert_eq!(rt; fault(alloc, &uneven_bow_tie)?, Some(RingFault::Clockwise));
-    let twice = [(0, 0), (0, 0), (100, 0), (0, 100)];
-    assert_eq!(rt; fault(alloc, &twice)?, Some(RingFault::EdgesMeet(1, 3)));
+    assert_eq!(rt; fault(alloc, &WITH_FLAT_CORNER)?, None);
+    Ok(())
+}
+
+#[test]
+fn finds_the_first_two_edges(rt: HostRuntime) -> Result<(), Fail> {
+    let alloc = rt.alloc();
+    let first_corner_twice = [(0, 0), (0, 0), (100, 0), (0, 100)];
+    assert_eq!(rt;
+        fault(alloc, &first_corner_twice)?,
+        Some(RingFault::EdgesMeet(1, 3))
+    );
+    let spike_at_the_first = [(150, 0), (100, 0), (100, 100), (0, 100), (0, 0)];
+    assert_eq!(rt;
+        fault(alloc, &spike_at_the_first)?,
+        Some(RingFault::EdgesMeet(0, 4))
+    );
+    // Edges 0 and 4 cross, and 0 and 5, 1 and 3, 1 and 4.
+    let four_crossings = [
+        (0, 0),
+        (60, 0),
+        (60, 40),
+        (40, 40),
+        (80, 20),
+        (40, -10),
+        (0, 80),
+    ];
+    assert_eq!(rt;
+        fault(alloc, &four_crossings)?,
+        Some(RingFault::EdgesMeet(0, 4))
+    );
+    assert_eq!(rt; fault(alloc, &SHORT_BAY)?, None);
+    assert_eq!(rt; fault(alloc, &LONG_BAY)?, Some(RingFault::EdgesMeet(0, 2)));
+    Ok(())
+}
+
+#[test]
+fn few_corners_have_no_area(rt: HostRuntime) -> Result<(), Fail> {
+    let alloc = rt.alloc();
     assert_eq!(rt; fault(alloc, &[])?, Some(RingFault::ZeroArea));
+    assert_eq!(rt; fault(alloc, &[(10, 20)])?, Some(RingFault::ZeroArea));
+    assert_eq!(rt;
+        fault(alloc, &[(0, 0), (100, 100)])?,
+        Some(RingFault::ZeroArea)
+    );
+    assert_eq!(rt;
+        fault(alloc, &[(0, 0), (50, 50), (100, 100)])?,
+        Some(RingFault::ZeroArea)
+    );
+    Ok(())
+}
+
+#[test]
+fn a_ring_keeps_its_corners(rt: HostRuntime) -> Result<(), Fail> {
+    let alloc = rt.alloc();
+    let ring = simple_ring(alloc, &COMB)?;
+    let given = corners(alloc, &COMB)?;
+    assert_eq!(rt; ring.corners.as_slice(), given.as_slice());
+    let shape = shape_of(alloc, ring)?;
+    assert_eq!(rt; shape.ring.corners.as_slice(), given.as_slice());
+    Ok(())
+}
+
+#[test]
+fn the_first_ear_is_clipped_first(rt: HostRuntime) -> Result<(), Fail> {
+    let alloc = rt.alloc();
+    let shape = shape_of(alloc, simple_ring(alloc, &WITH_FLAT_CORNER)?)?;
+    let halves = [
+        triangle((0, 100), (0, 0), (100, 0))?,
+        triangle((0, 100), (100, 0), (100, 100))?,
+    ];
+    assert_eq!(rt; shape.triangles.as_slice(), halves.as_slice());
+    let shape = shape_of(alloc, simple_ring(alloc, &SHORT_BAY)?)?;
+    let bay = (-5_192_473_024, -7_028_784_927);
+    let around = [
+        triangle((2_586_269_025, -2_221_257_951), (FAR, FAR), bay)?,
+        triangle((-FAR, -FAR), (2_586_269_025, -2_221_257_951), bay)?,
+        triangle((-FAR, FAR), (-FAR, -FAR), bay)?,
+    ];
+    assert_eq!(rt; shape.triangles.as_slice(), around.as_slice());
     Ok(())
 }
 
 /// Twice the area of all the triangles that a ring is clipped to, and their number.
-fn clipped(rt: &HostRuntime, places: &[(i64, i64)]) -> Result<(i128, usize), Fail>
+fn clipped(rt: &HostRuntime, places: &[Place]) -> Result<(i128, usize), Fail>
     requires { length places.now ≤ 100 }
 {
     let alloc = rt.alloc();
-    let ring = match Ring::check(corners(alloc, places)?) {
-        Ok(ring) => ring,
-        Err(_) => return Ok((0, 0)),
-    };
-    let shape = match Shape::clip(alloc, ring) {
-        Ok(shape) => shape,
-        Err(_) => return Ok((0, 0)),
-    };
+    let shape = shape_of(alloc, simple_ring(alloc, places)?)?;
     let mut sum = 0i128;
     for tri in shape.triangles.as_slice() {
         sum = sum.wrapping_add(turn(tri.a, tri.b, tri.c));
@@ -143,14 +271,13 @@ fn clipped(rt: &HostRuntime, places: &[(i64, i64)]) -> Result<(i128, usize), Fai
 #[test]
 fn clips_rings(rt: HostRuntime) -> Result<(), Fail> {
     assert_eq!(rt; clipped(&rt, &WITH_FLAT_CORNER)?, (20000, 2));
-    assert_eq!(rt; clipped(&rt, &S_SHAPE)?.0, 42000);
-    assert_eq!(rt; clipped(&rt, &COMB)?.0, 2200);
-    assert_eq!(rt; clipped(&rt, &SPIRAL)?.0, 4600);
-    assert_eq!(rt; clipped(&rt, &STAR)?.0, 4000);
+    assert_eq!(rt; clipped(&rt, &S_SHAPE)?, (42000, 9));
+    assert_eq!(rt; clipped(&rt, &COMB)?, (2200, 9));
+    assert_eq!(rt; clipped(&rt, &SPIRAL)?, (4600, 12));
+    assert_eq!(rt; clipped(&rt, &STAR)?, (4000, 6));
     assert_eq!(rt; clipped(&rt, &FLAT_SIDE)?, (800, 2));
-    let far = 10_000_000_000;
-    let widest = [(-far, -far), (far, -far), (far, far), (-far, far)];
-    assert_eq!(rt; clipped(&rt, &widest)?, (800_000_000_000_000_000_000, 2));
+    assert_eq!(rt; clipped(&rt, &WIDEST)?, (800_000_000_000_000_000_000, 2));
+    assert_eq!(rt; clipped(&rt, &SHORT_BAY)?, (155_574_840_980_000_000_000, 3));
     Ok(())
 }
 
@@ -176,19 +303,13 @@ fn plainly_clipped(alloc: Global, corners: &[Corner]) -> Result<Vec<Tri>, AllocE
 }
 
 /// Whether the clipping gives the triangles of the plain clipping.
-fn agrees(rt: &HostRuntime, places: &[(i64, i64)]) -> Result<bool, Fail>
+fn agrees(rt: &HostRuntime, places: &[Place]) -> Result<bool, Fail>
     requires { length places.now ≤ 100 }
 {
     let alloc = rt.alloc();
-    let ring = match Ring::check(corners(alloc, places)?) {
-        Ok(ring) => ring,
-        Err(_) => return Ok(false),
-    };
+    let ring = simple_ring(alloc, places)?;
     let plain = plainly_clipped(alloc, ring.corners.as_slice())?;
-    let shape = match Shape::clip(alloc, ring) {
-        Ok(shape) => shape,
-        Err(_) => return Ok(false),
-    };
+    let shape = shape_of(alloc, ring)?;
     Ok(shape.triangles.as_slice() == plain.as_slice())
 }
 
@@ -200,17 +321,55 @@ fn agrees_with_the_plain_clipping(rt: HostRuntime) -> Result<(), Fail> {
     assert!(rt; agrees(&rt, &SPIRAL)?);
     assert!(rt; agrees(&rt, &STAR)?);
     assert!(rt; agrees(&rt, &FLAT_SIDE)?);
+    assert!(rt; agrees(&rt, &WIDEST)?);
+    assert!(rt; agrees(&rt, &SHORT_BAY)?);
     Ok(())
 }
 
 #[test]
 fn a_triangle_turns_left(rt: HostRuntime) -> Result<(), Fail> {
-    let (Some(a), Some(b), Some(c)) = (Corner::new(0, 0), Corner::new(60, 0), Corner::new(0, 60))
-    else {
-        return Err(Fail::new("no corners"));
+    let (a, b, c) = (corner((0, 0))?, corner((60, 0))?, corner((0, 60))?);
+    let Some(tri) = Tri::new(a, b, c) else {
+        return Err(Fail::new("no left turn"));
     };
-    assert!(rt; Tri::new(a, b, c).is_some());
+    assert_eq!(rt; (tri.a, tri.b, tri.c), (a, b, c));
     assert!(rt; Tri::new(a, c, b).is_none());
     assert!(rt; Tri::new(a, b, b).is_none());
+    Ok(())
+}
+
+#[test]
+fn triangles_are_kept_in_order(rt: HostRuntime) -> Result<(), Fail> {
+    let mut triangles = Triangles::new(rt.alloc());
+    assert_eq!(rt; triangles.as_slice().len(), 0);
+    let pushed = [
+        triangle((0, 0), (60, 0), (0, 60))?,
+        triangle((60, 0), (60, 60), (0, 60))?,
+    ];
+    for tri in pushed {
+        triangles.push(tri)?;
+    }
+    assert_eq!(rt; triangles.as_slice(), pushed.as_slice());
+    Ok(())
+}
+
+#[test]
+fn a_rest_finds_its_flat_corners_and_ears(rt: HostRuntime) -> Result<(), Fail> {
+    let alloc = rt.alloc();
+    let list = corners(alloc, &WITH_FLAT_CORNER)?;
+    let mut rest = Rest::of(alloc, list.as_slice())?;
+    assert_eq!(rt; rest.as_slice(), list.as_slice());
+    assert_eq!(rt; rest.first_flat(), Some(1));
+    if rest.as_slice().len() != 5 {
+        return Err(Fail::new("not five corners"));
+    }
+    rest.remove(1);
+    let square = corners(alloc, &[(0, 0), (100, 0), (100, 100), (0, 100)])?;
+    assert_eq!(rt; rest.as_slice(), square.as_slice());
+    assert_eq!(rt; rest.first_flat(), None);
+    if rest.as_slice().len() != 4 {
+        return Err(Fail::new("not four corners"));
+    }
+    assert_eq!(rt; rest.first_ear(), Some(0));
     Ok(())
 }

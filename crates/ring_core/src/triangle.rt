@@ -5,7 +5,8 @@ use geo_exact::{Corner, turn};
 use std::alloc::{AllocError, Allocator};
 use std::marker::Model;
 
-/// A triangle of positive area: `c` is left of the way from `a` to `b`.
+/// A triangle of positive area: `c` is left of the way from `a` to `b` (OGC 06-103r4, 6.1.12,
+/// Triangle). Corners are in whole centimetres.
 #[derive(Clone, Copy, Debug, PartialEq, Eq)]
 pub struct Tri {
     pub a: Corner,
@@ -54,6 +55,10 @@ impl<A: Allocator> Triangles<A> {
     }
 
     /// Adds a triangle at the end; after a refusal the list is unchanged.
+    ///
+    /// # Errors
+    ///
+    /// [`AllocError`] where an allocation is refused.
     pub fn push(&mut self, tri: Tri) -> Result<(), AllocError>
         ensures ok { OnOk result (self.new ≡ self.old ++ tri ∷ []) }
         ensures err { OnErr result (self.new ≡ self.old) }
