@@ -1,10 +1,10 @@
 -- The edges of a ring, by their numbers.
-use Rattle.std.proofs.Common.{◌≡◌, ◌↔◌, ℕ, zero, suc, ◌<◌, ◌≤◌, ◌∙◌, sym, ap, arith, inl, inr, List, [], ◌∷◌, length, get_or}
+use Rattle.std.proofs.Common.{◌≡◌, ◌↔◌, ℕ, zero, suc, ◌<◌, ◌≤◌, ◌∙◌, sym, ap, arith, inl, inr, List, [], ◌∷◌, length, get_or, Some, slice_get, refl}
 use Rattle.std.proofs.lemmas.List.{get_or_default, get_or_past}
 use Rattle.std.proofs.lemmas.Bool.{cases_lt}
 use Rattle.geo_exact.specs.declared.corner.Corner.{Corner}
 use Rattle.geo_exact.specs.Point.{Point}
-use Rattle.geo_exact.specs.Rings.{path}
+use Rattle.geo_exact.specs.Rings.{Edge, path, edges}
 use Rattle.geo_exact.specs.Turn.{IsOnEdge, IsOnSome, IsOnRing}
 use Rattle.ring_core.specs.Places.{origin, corner_at, after}
 use Rattle.ring_core.specs.Simple.{IsOnEdgeAt}
@@ -42,3 +42,28 @@ on_ring_by_number p (first ∷ rest) = (
   λ h. let b : h.0 ≤ length rest = (let c = h.1 in omega arith) in
       on_path_from_number p first first rest h.0 b (rw (edge_end first rest h.0 b) at h.2),
 )
+
+-- edge i of a path, from its corners
+path_joins : (from to : Corner) (xs : List Corner) (i : ℕ) (edge : Edge) → slice_get (path from xs to) i ≡ Some edge
+    → (i ≤ length xs) × (edge.from ≡ get_or (from ∷ xs) i origin) × (edge.to ≡ get_or xs i to)
+path_joins from to [] zero edge h = (omega arith, let f = sym h in cc, let f = sym h in cc)
+path_joins from to [] (suc i) edge h = absurd (let f = h in cc)
+path_joins from to (x ∷ xs) zero edge h = (omega arith, let f = sym h in cc, let f = sym h in cc)
+path_joins from to (x ∷ xs) (suc i) edge h = let r = path_joins x to xs i edge h in (omega (arith, r.0), r.1, r.2)
+
+-- edge i of a ring joins corner i to the next
+pub ring_joins : (ring : List Corner) (i : ℕ) (edge : Edge) → slice_get (edges ring) i ≡ Some edge
+    → (edge.from ≡ corner_at ring i) × (edge.to ≡ corner_at ring (after (length ring) i))
+ring_joins [] i edge h = absurd (let f = h in cc)
+ring_joins (first ∷ rest) i edge h =
+    let r = path_joins first first rest i edge h in
+    (r.1, r.2 ∙ sym (edge_end first rest i r.0))
+
+path_count : (from to : Corner) (xs : List Corner) → length (path from xs to) ≡ suc (length xs)
+path_count from to [] = refl
+path_count from to (x ∷ xs) = ap suc (path_count x to xs)
+
+-- it has as many edges as corners
+pub ring_count : (ring : List Corner) → length (edges ring) ≡ length ring
+ring_count [] = refl
+ring_count (first ∷ rest) = path_count first first rest

@@ -1,4 +1,4 @@
--- Ear clipping, a triangulation of a ring (OGC 06-103r4, 6.1.11, Polygon; 6.1.12, Triangle).
+-- Ear clipping: a ring is cut into triangles, ear by ear (G. H. Meisters, Polygons have ears, 1975). Which corner comes first is this product's own rule.
 use Rattle.std.specs.Prelude.{◌≡◌, ◌≢◌, ◌⊎◌, ℕ, ◌<◌, ◌≤◌, pos, ◌≤ℤ◌, ◌<ℤ◌, List, [], ◌∷◌, ◌++◌, length}
 use Rattle.std.specs.List.{remove}
 use Rattle.geo_exact.specs.declared.corner.Corner.{Corner}
@@ -24,7 +24,7 @@ next rest k = corner_at rest (after (length rest) k)
 abbrev pub IsFlat : List Corner → ℕ → Type 0
 IsFlat rest k = IsOnEdge (corner_point (corner_at rest k)) (previous rest k) (next rest k)
 
--- corner j lies in the closed triangle of corner k and its neighbours, and is none of these three
+-- corner j lies in the closed triangle of corner k and its neighbours, and is another number than these three
 pub record Blocks (rest : List Corner) (k j : ℕ) : Type 0 where
   pub not_before : j ≢ before (length rest) k
   pub not_same : j ≢ k
@@ -73,6 +73,6 @@ pub record IsStuck (ring : List Corner) (ts : List Tri) (rest : List Corner) : T
   pub no_flat : HasNone (IsFlat rest) (length rest)
   pub no_ear : HasNone (IsEar rest) (length rest)
 
--- the clipping ends: two corners are left, or neither a flat corner nor an ear
+-- the clipping ends: two corners are left (or fewer, where there were not more), or there is neither a flat corner nor an ear
 abbrev pub IsEnd : List Corner → Type 0
 IsEnd rest = (length rest ≤ 2) ⊎ (HasNone (IsFlat rest) (length rest) × HasNone (IsEar rest) (length rest))

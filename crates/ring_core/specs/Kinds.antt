@@ -1,5 +1,5 @@
--- What the clipping remembers of each corner that is left: flat, bent to the right, or how many corners its triangle has
--- (it serves ear clipping, a triangulation of OGC 06-103r4, 6.1.11, Polygon).
+-- What the code of the clipping remembers of each corner that is left: flat, bent (neither flat nor a left turn), or a left turn, with the number of corners
+-- of the rest that lie in its closed triangle. Public contracts do not speak of it.
 use Rattle.std.specs.Prelude.{◌≡◌, ℕ, ◌+◌, ◌<◌, pos, ◌<ℤ◌, int_le, Bool, ◌&&◌, if◌then◌else◌, nat_lt, List, [], ◌∷◌, length, slice_index_or}
 use Rattle.std.specs.List.{remove}
 use Rattle.geo_exact.specs.declared.corner.Corner.{Corner}
@@ -38,7 +38,7 @@ pub record AreKinds (rest : List Corner) (kinds : List Kind) : Type 0 where
 abbrev pub number_before : ℕ → ℕ → ℕ
 number_before k j = if nat_lt j k then j else j + 1
 
--- the rest is the whole without corner k, which was gone's place
+-- the rest is the whole, of more than two corners, without corner k, which was `gone`
 pub record IsTakenOut (whole : List Corner) (k : ℕ) (gone : Corner) (rest : List Corner) : Type 0 where
   pub below : k < length whole
   pub two_left : 2 < length whole

@@ -1,4 +1,4 @@
--- Where ear clipping stops before the end (the counterpart of the triangulation of OGC 06-103r4, 6.1.11, Polygon).
+-- Where ear clipping stops before the end (this product's own).
 use Rattle.std.specs.Prelude.{List}
 use Rattle.geo_exact.specs.declared.corner.Corner.{Corner}
 use Rattle.ring_core.specs.declared.shape.ClipFault.{ClipFault}

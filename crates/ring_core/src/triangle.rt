@@ -5,7 +5,7 @@ use geo_exact::{Corner, turn};
 use std::alloc::{AllocError, Allocator};
 use std::marker::Model;
 
-/// A triangle of positive area: `c` is left of the way from `a` to `b` (OGC 06-103r4, 6.1.12,
+/// A triangle of positive area: `c` is left of the way from `a` to `b` (OGC 06-103r4, 6.1.11,
 /// Triangle). Corners are in whole centimetres.
 #[derive(Clone, Copy, Debug, PartialEq, Eq)]
 pub struct Tri {

@@ -1,5 +1,11 @@
-use Rattle.ring_core.proofs.EdgeNumbers.{on_ring_by_number}
+use Rattle.ring_core.proofs.EdgeNumbers.{on_ring_by_number, ring_joins, ring_count}
 use Rattle.ring_core.proofs.laws.edges_are_those_of_their_numbers.Goals as goal
 
-pub returns : goal.returns
-returns c = on_ring_by_number
+pub returns-clause-as_many : goal.returns-clause-as_many
+returns-clause-as_many c = ring_count
+
+pub returns-clause-joined : goal.returns-clause-joined
+returns-clause-joined c = ring_joins
+
+pub returns-clause-points : goal.returns-clause-points
+returns-clause-points c = on_ring_by_number
