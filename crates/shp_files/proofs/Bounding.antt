@@ -20,14 +20,16 @@ kept : (z : ℤ) → IsWithin limit z → to_z w64 (of_z w64 z) ≡ z
 kept z h = let fits : FitsSigned w64 z = omega (arith, ints) in simp to_z-of_z
 
 -- the lesser of two coordinates, as the code computes it
-pub least_in_range : (a b r : ℤ) → IsWithin limit a → IsWithin limit b → r ≡ int_min (to_z w64 (of_z w64 a)) (to_z w64 (of_z w64 b)) → IsWithin limit (to_z w64 (of_z w64 r))
+pub least_in_range : (a b r : ℤ) → IsWithin limit a → IsWithin limit b → r ≡ int_min (to_z w64 (of_z w64 a)) (to_z w64 (of_z w64 b))
+    → IsWithin limit (to_z w64 (of_z w64 r))
 least_in_range a b r h k e =
     let is : r ≡ int_min a b = e ∙ ap (λ x. int_min x (to_z w64 (of_z w64 b))) (kept a h) ∙ ap (int_min a) (kept b k) in
     let P : ℤ → Type 0 = IsWithin limit in
     let within : IsWithin limit r = subst P (sym is) (min_within limit a b h k) in
     subst P (sym (kept r within)) within
 
-pub greatest_in_range : (a b r : ℤ) → IsWithin limit a → IsWithin limit b → r ≡ int_max (to_z w64 (of_z w64 a)) (to_z w64 (of_z w64 b)) → IsWithin limit (to_z w64 (of_z w64 r))
+pub greatest_in_range : (a b r : ℤ) → IsWithin limit a → IsWithin limit b → r ≡ int_max (to_z w64 (of_z w64 a)) (to_z w64 (of_z w64 b))
+    → IsWithin limit (to_z w64 (of_z w64 r))
 greatest_in_range a b r h k e =
     let is : r ≡ int_max a b = e ∙ ap (λ x. int_max x (to_z w64 (of_z w64 b))) (kept a h) ∙ ap (int_max a) (kept b k) in
     let P : ℤ → Type 0 = IsWithin limit in

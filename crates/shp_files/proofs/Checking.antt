@@ -21,7 +21,8 @@ pub record IsChecked (main index : List ℕ) (unit : LengthUnit) (position start
   pub has_header : first_failure (header_checks Index index) ≡ None
   pub has_entries : (p s c : ℕ) → Reaches main unit p s c → p < position → first_failure (entry_checks main index p s) ≡ None
 
-pub checked_first : (main index : List ℕ) (unit : LengthUnit) → IsAccepted main unit → first_failure (header_checks Index index) ≡ None → IsChecked main index unit 1 100
+pub checked_first : (main index : List ℕ) (unit : LengthUnit) → IsAccepted main unit → first_failure (header_checks Index index) ≡ None
+    → IsChecked main index unit 1 100
 checked_first main index unit all header = record {
   corners = 0;
   reaches = first (reached_header main unit all.position (declared_end main) all.corners all.is_reached);
@@ -31,13 +32,15 @@ checked_first main index unit all header = record {
 
 -- the record's own frame passes
 pub frame_here : (main index : List ℕ) (position start end : ℕ) → (all : (unit : LengthUnit) × IsAccepted main unit)
-    → ((unit : LengthUnit) → IsAccepted main unit → IsChecked main index unit position start) → start ≢ end → end ≡ declared_end main → FramePasses main position start
+    → ((unit : LengthUnit) → IsAccepted main unit → IsChecked main index unit position start) → start ≢ end → end ≡ declared_end main
+    → FramePasses main position start
 frame_here main index position start end all checked apart is =
     let old = checked all.0 all.1 in
     frame_of main all.0 position start old.corners (passes_here main all.0 position start old.corners all.1 old.reaches (λ e. apart (e ∙ sym is)))
 
 pub checked_next : (main index : List ℕ) (unit : LengthUnit) (position start : ℕ) → IsAccepted main unit → IsChecked main index unit position start
-    → start ≢ declared_end main → None ≡ first_failure (index_record_checks main index position start) → IsChecked main index unit (position + 1) (record_end main start)
+    → start ≢ declared_end main → None ≡ first_failure (index_record_checks main index position start)
+    → IsChecked main index unit (position + 1) (record_end main start)
 checked_next main index unit position start all old apart passes = record {
   corners = _;
   reaches = next position start old.corners old.reaches apart (passes_here main unit position start old.corners all old.reaches apart);
@@ -46,13 +49,15 @@ checked_next main index unit position start all old apart passes = record {
       elim (cases_order p position) [
         | inl e ↦
             let same : s ≡ start = (same_place main unit p s c position start old.corners r old.reaches e).0 in
-            let here : first_failure (entry_checks main index position start) ≡ None = ap first_failure (checks_at_record main index position start apart) ∙ sym passes in
+            let here : first_failure (entry_checks main index position start) ≡ None =
+            ap first_failure (checks_at_record main index position start apart) ∙ sym passes in
             rw (e, same) here
         | inr o ↦ elim o [ inl below ↦ old.has_entries p s c r below | inr above ↦ absurd (omega (arith, lt, above)) ]
       ];
 }
 
-pub header_fault : (main index : List ℕ) (unit : LengthUnit) (fault : FileFault) → Some fault ≡ first_failure (header_checks Index index) → IsIndexFault main index unit fault
+pub header_fault : (main index : List ℕ) (unit : LengthUnit) (fault : FileFault) → Some fault ≡ first_failure (header_checks Index index)
+    → IsIndexFault main index unit fault
 header_fault main index unit fault is = inl (sym is)
 
 fault_here : (main index : List ℕ) (unit : LengthUnit) (position start : ℕ) (fault : FileFault) → IsChecked main index unit position start
@@ -67,12 +72,14 @@ fault_here main index unit position start fault old is = inr (record {
   is_first = is;
 })
 
-pub fault_at_record : (main index : List ℕ) (unit : LengthUnit) (position start : ℕ) (fault : FileFault) → IsChecked main index unit position start → start ≢ declared_end main
+pub fault_at_record : (main index : List ℕ) (unit : LengthUnit) (position start : ℕ) (fault : FileFault) → IsChecked main index unit position start
+    → start ≢ declared_end main
     → Some fault ≡ first_failure (index_record_checks main index position start) → IsIndexFault main index unit fault
 fault_at_record main index unit position start fault old apart is =
     fault_here main index unit position start fault old (ap first_failure (checks_at_record main index position start apart) ∙ sym is)
 
-fault_at_end : (main index : List ℕ) (unit : LengthUnit) (position start : ℕ) (fault : FileFault) → IsChecked main index unit position start → start ≡ declared_end main
+fault_at_end : (main index : List ℕ) (unit : LengthUnit) (position start : ℕ) (fault : FileFault) → IsChecked main index unit position start
+    → start ≡ declared_end main
     → Some fault ≡ first_failure (index_end_checks index position) → IsIndexFault main index unit fault
 fault_at_end main index unit position start fault old at_end is =
     fault_here main index unit position start fault old (ap first_failure (checks_at_end main index position start at_end) ∙ sym is)
@@ -85,7 +92,8 @@ agrees_at_end main index unit position start old at_end passes = record {
       elim (cases_order p position) [
         | inl e ↦
             let same : s ≡ start = (same_place main unit p s c position start old.corners r old.reaches e).0 in
-            let here : first_failure (entry_checks main index position start) ≡ None = ap first_failure (checks_at_end main index position start at_end) ∙ sym passes in
+            let here : first_failure (entry_checks main index position start) ≡ None =
+            ap first_failure (checks_at_end main index position start at_end) ∙ sym passes in
             rw (e, same) here
         | inr o ↦ elim o [
           | inl below ↦ old.has_entries p s c r below
@@ -96,12 +104,14 @@ agrees_at_end main index unit position start old at_end passes = record {
 }
 
 -- what the check of the end answers
-pub agrees_where : {X : Type 0} (main index : List ℕ) (unit : LengthUnit) (position start : ℕ) (r : Result X FileFault) → IsChecked main index unit position start → start ≡ declared_end main
+pub agrees_where : {X : Type 0} (main index : List ℕ) (unit : LengthUnit) (position start : ℕ) (r : Result X FileFault)
+    → IsChecked main index unit position start → start ≡ declared_end main
     → result_err r ≡ first_failure (index_end_checks index position) → IsOk r → Agrees main index unit
 agrees_where main index unit position start (Ok x) old at_end e ok = agrees_at_end main index unit position start old at_end e
 agrees_where main index unit position start (Err f) old at_end e ok = absurd (false≢true ok)
 
-pub fault_where : {X : Type 0} (main index : List ℕ) (unit : LengthUnit) (position start : ℕ) (r : Result X FileFault) → IsChecked main index unit position start → start ≡ declared_end main
+pub fault_where : {X : Type 0} (main index : List ℕ) (unit : LengthUnit) (position start : ℕ) (r : Result X FileFault)
+    → IsChecked main index unit position start → start ≡ declared_end main
     → result_err r ≡ first_failure (index_end_checks index position) → IfErr r (λ fault. IsIndexFault main index unit fault)
 fault_where main index unit position start (Ok x) old at_end e = tt
 fault_where main index unit position start (Err f) old at_end e = fault_at_end main index unit position start f old at_end e

@@ -23,7 +23,8 @@ behind main start end bytes rest split is =
     ap (λ n. drop n main) is ∙ sym (drop-drop (length bytes) start main) ∙ ap (λ xs. drop (length bytes) xs) split ∙ drop_at bytes rest (length bytes) refl
 
 -- where records stand behind those that were read, with these rings
-pub record Stand (main : List ℕ) (unit : LengthUnit) (number start : ℕ) (done : List NumberedRing) (records : List (List ℕ)) (rings : List NumberedRing) (ignored : List ℕ) : Type 0 where
+pub record Stand (main : List ℕ) (unit : LengthUnit) (number start : ℕ) (done : List NumberedRing) (records : List (List ℕ)) (rings : List NumberedRing)
+    (ignored : List ℕ) : Type 0 where
   pub reads : Reads main unit number start done
   pub text : drop start main ≡ joined records ++ ignored
   pub end : start + length (joined records) ≡ declared_end main
@@ -32,7 +33,8 @@ pub record Stand (main : List ℕ) (unit : LengthUnit) (number start : ℕ) (don
 
 -- a null shape is read
 pub stand_null : (main : List ℕ) (unit : LengthUnit) (number start : ℕ) (done : List NumberedRing) (bytes : List ℕ) (records : List (List ℕ)) (rings : List NumberedRing) (ignored : List ℕ)
-    → Stand main unit number start done (bytes ∷ records) rings ignored → IsNullShape bytes → Stand main unit (number + 1) (record_end main start) done records rings ignored
+    → Stand main unit number start done (bytes ∷ records) rings ignored → IsNullShape bytes
+    → Stand main unit (number + 1) (record_end main start) done records rings ignored
 stand_null main unit number start done bytes records rings ignored stand blank =
     let split : drop start main ≡ bytes ++ (joined records ++ ignored) = stand.text ∙ append_assoc bytes (joined records) ignored in
     let stands : StandsAt main start bytes = record { tail = joined records ++ ignored; is = split } in
@@ -103,10 +105,12 @@ pub stand_of_file : (main : List ℕ) (index : Option (List ℕ)) (unit : Length
 stand_of_file main index unit rings file =
     let split : main ≡ file.header ++ (joined file.records ++ file.ignored) = file.is_text ∙ append_assoc file.header (joined file.records) file.ignored in
     let sizes : length main ≡ length file.header + (length (joined file.records) + length file.ignored) =
-    ap length split ∙ length-append file.header (joined file.records ++ file.ignored) ∙ ap (λ n. length file.header + n) (length-append (joined file.records) file.ignored) in
+    ap length split ∙ length-append file.header (joined file.records ++ file.ignored)
+    ∙ ap (λ n. length file.header + n) (length-append (joined file.records) file.ignored) in
     let header = header_found main file.header (joined file.records ++ file.ignored) (length file.header + length (joined file.records)) split file.has_header
     (omega (arith, file.has_header.is_whole)) (omega (arith, sizes)) in
-    let rest : drop 100 main ≡ joined file.records ++ file.ignored = ap (λ xs. drop 100 xs) split ∙ drop_at file.header (joined file.records ++ file.ignored) 100 file.has_header.is_whole in
+    let rest : drop 100 main ≡ joined file.records ++ file.ignored =
+    ap (λ xs. drop 100 xs) split ∙ drop_at file.header (joined file.records ++ file.ignored) 100 file.has_header.is_whole in
     record {
       reads = none (header_passes_from Main main header.passes);
       text = rest;

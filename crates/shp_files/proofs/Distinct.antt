@@ -18,7 +18,8 @@ one_more true true n corner rest e = omega (arith, e)
 one_more true false n corner rest e = omega (arith, e)
 one_more false b n corner rest e = omega (arith, e)
 
-distinct_path : (main : List ℕ) (unit : LengthUnit) (at : ℕ) (from : Corner) (rest : List Corner) (to : Corner) → AreReadAs unit main at (from ∷ (rest ++ to ∷ []))
+distinct_path : (main : List ℕ) (unit : LengthUnit) (at : ℕ) (from : Corner) (rest : List Corner) (to : Corner)
+    → AreReadAs unit main at (from ∷ (rest ++ to ∷ []))
     → distinct_points main unit at (suc (length rest)) ≡ length (starts (path from rest to))
 unfolding distinct_points
 distinct_path main unit at from [] to are =
@@ -48,7 +49,8 @@ kept_fewer [] = omega arith
 kept_fewer (first ∷ rest) = starts_fewer first rest first
 
 -- the check of the corners that are left, as it is made on a list of them
-pub corners_line : (main : List ℕ) (unit : LengthUnit) (position start : ℕ) (drawn kept : List Corner) → 0 < length drawn → length drawn + 1 ≡ points_of main start
+pub corners_line : (main : List ℕ) (unit : LengthUnit) (position start : ℕ) (drawn kept : List Corner) → 0 < length drawn
+    → length drawn + 1 ≡ points_of main start
     → AreReadAs unit main (start + 56) (closed drawn) → kept ≡ kept_once drawn
     → first_failure (check (nat_lt (length kept) 3) (fault position (start + 48) FewPoints) ∷ []) ≡ first_failure (corner_checks main unit position start)
 unfolding corner_checks

@@ -17,6 +17,7 @@ fails_on (File fault) lines more p q = goes_on lines more p ∙ q
 fails_on NoMemory lines more p q = tt
 
 -- what is found behind lines that do not fail
-pub finds_on : {X : Type 0} (r : Result X LayerFault) (lines more : List Check) → None ≡ first_failure lines → Finds r (first_failure more) → Finds r (first_failure (lines ++ more))
+pub finds_on : {X : Type 0} (r : Result X LayerFault) (lines more : List Check) → None ≡ first_failure lines → Finds r (first_failure more)
+    → Finds r (first_failure (lines ++ more))
 finds_on (Ok x) lines more p q = goes_on lines more p ∙ q
 finds_on (Err e) lines more p q = fails_on e lines more p q

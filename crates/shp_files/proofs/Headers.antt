@@ -23,7 +23,8 @@ pub record HasHeader (file : List ℕ) (declared : ℕ) : Type 0 where
   pub end : declared_end file ≡ declared
 
 -- the header of a file that begins with the text of one
-pub header_found : (file header rest : List ℕ) (declared : ℕ) → file ≡ header ++ rest → IsHeader header declared → 100 ≤ declared → declared ≤ length file → HasHeader file declared
+pub header_found : (file header rest : List ℕ) (declared : ℕ) → file ≡ header ++ rest → IsHeader header declared → 100 ≤ declared → declared ≤ length file
+    → HasHeader file declared
 header_found file header rest declared split is long fits =
     let stands : StandsAt file 0 header = record { tail = rest; is = split } in
     let size : length file ≡ length header + length rest = ap length split ∙ length-append header rest in

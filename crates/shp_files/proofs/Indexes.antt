@@ -40,8 +40,8 @@ abbrev AreHere : (main : List ℕ) (unit : LengthUnit) → ℕ → ℕ → List 
 AreHere main unit position start [] = EndsHere main unit position start
 AreHere main unit position start (bytes ∷ records) = IsHere main unit position start bytes × AreHere main unit (position + 1) (record_end main start) records
 
-is_here : (main : List ℕ) (unit : LengthUnit) (number start : ℕ) (done : List NumberedRing) (bytes : List ℕ) (records : List (List ℕ)) (rings : List NumberedRing) (ignored : List ℕ)
-    (after : List NumberedRing) (left : List NumberedRing) → Stand main unit number start done (bytes ∷ records) rings ignored
+is_here : (main : List ℕ) (unit : LengthUnit) (number start : ℕ) (done : List NumberedRing) (bytes : List ℕ) (records : List (List ℕ))
+    (rings : List NumberedRing) (ignored : List ℕ) (after : List NumberedRing) (left : List NumberedRing) → Stand main unit number start done (bytes ∷ records) rings ignored
     → Stand main unit (number + 1) (record_end main start) after records left ignored → 12 ≤ length bytes → IsHere main unit number start bytes
 is_here main unit number start done bytes records rings ignored after left stand next long =
     let sizes = length-append bytes (joined records) in
@@ -57,8 +57,8 @@ is_here main unit number start done bytes records rings ignored after left stand
     }
 
 -- records that stand behind those that were read are reached
-are_here : (main : List ℕ) (unit : LengthUnit) (number start : ℕ) (done : List NumberedRing) (records : List (List ℕ)) (rings : List NumberedRing) (ignored : List ℕ)
-    → Stand main unit number start done records rings ignored → AreRecords unit number records rings → AreHere main unit number start records
+are_here : (main : List ℕ) (unit : LengthUnit) (number start : ℕ) (done : List NumberedRing) (records : List (List ℕ)) (rings : List NumberedRing)
+    (ignored : List ℕ) → Stand main unit number start done records rings ignored → AreRecords unit number records rings → AreHere main unit number start records
 are_here main unit number start done [] [] ignored stand are =
     record { corners = _; reaches = reached main unit number start done stand.reads; end = omega (arith, stand.end) }
 are_here main unit number start done [] (ring ∷ rings) ignored stand are = absurd are
@@ -109,7 +109,8 @@ record RecordAgrees (main index : List ℕ) (position start : ℕ) : Type 0 wher
   offset : offset_words index (entry_place position) ≡ pos (start / 2)
   words : content_words index (entry_place position) ≡ content_words main start
 
-record_agrees_from : (main index : List ℕ) (position start : ℕ) → first_failure (index_record_checks main index position start) ≡ None → RecordAgrees main index position start
+record_agrees_from : (main index : List ℕ) (position start : ℕ) → first_failure (index_record_checks main index position start) ≡ None
+    → RecordAgrees main index position start
 unfolding index_record_checks
 record_agrees_from main index position start e =
     let p0 = pass _ _ _ e in
@@ -117,7 +118,8 @@ record_agrees_from main index position start e =
     let p2 = pass _ _ _ p1.1 in
     record { fits = ltb-false _ _ p0.0; offset = same_from_is_not _ _ p1.0; words = same_from_is_not _ _ p2.0 }
 
-index_record_of : (main index : List ℕ) (unit : LengthUnit) (position start : ℕ) (bytes entry : List ℕ) → (here : IsHere main unit position start bytes) → RecordAgrees main index position start
+index_record_of : (main index : List ℕ) (unit : LengthUnit) (position start : ℕ) (bytes entry : List ℕ) → (here : IsHere main unit position start bytes)
+    → RecordAgrees main index position start
     → StandsAt index (entry_place position) entry → length entry ≡ 8 → IsIndexRecord entry start bytes
 index_record_of main index unit position start bytes entry here agrees there whole =
     let even = begins_even main unit position start here.corners here.reaches in
@@ -125,15 +127,18 @@ index_record_of main index unit position start bytes entry here agrees there who
     record {
       is_whole = whole;
       has_offset = omega (arith, ints, offset, even);
-      has_length = sym (big_at_part index (entry_place position) entry 4 there (omega (arith, whole))) ∙ agrees.words ∙ big_at_part main start bytes 4 here.stands (omega (arith, here.long));
+      has_length = sym (big_at_part index (entry_place position) entry 4 there (omega (arith, whole))) ∙ agrees.words
+          ∙ big_at_part main start bytes 4 here.stands (omega (arith, here.long));
     }
 
 -- the checks at a position are those of its index record, or those of the end
-pub checks_at_record : (main index : List ℕ) (position start : ℕ) → start ≢ declared_end main → entry_checks main index position start ≡ index_record_checks main index position start
+pub checks_at_record : (main index : List ℕ) (position start : ℕ) → start ≢ declared_end main
+    → entry_checks main index position start ≡ index_record_checks main index position start
 unfolding entry_checks
 checks_at_record main index position start apart = rw (ne_eqb _ _ apart) refl
 
-pub checks_at_end : (main index : List ℕ) (position start : ℕ) → start ≡ declared_end main → entry_checks main index position start ≡ index_end_checks index position
+pub checks_at_end : (main index : List ℕ) (position start : ℕ) → start ≡ declared_end main
+    → entry_checks main index position start ≡ index_end_checks index position
 unfolding entry_checks
 checks_at_end main index position start is = rw (eq-eqb _ _ is) refl
 
@@ -229,7 +234,8 @@ agrees_of_file main index unit rings file =
     let here = are_here main unit 1 100 [] file.records file.drawn file.ignored (stand_of_file main (Some index) unit rings file) file.has_records in
     let split : index ≡ is.header ++ (joined is.entries ++ is.ignored) = is.is_text ∙ append_assoc is.header (joined is.entries) is.ignored in
     let sizes : length index ≡ length is.header + (length (joined is.entries) + length is.ignored) =
-    ap length split ∙ length-append is.header (joined is.entries ++ is.ignored) ∙ ap (λ n. length is.header + n) (length-append (joined is.entries) is.ignored) in
+    ap length split ∙ length-append is.header (joined is.entries ++ is.ignored)
+    ∙ ap (λ n. length is.header + n) (length-append (joined is.entries) is.ignored) in
     let header = header_found index is.header (joined is.entries ++ is.ignored) (length is.header + length (joined is.entries)) split is.has_header
     (omega (arith, is.has_header.is_whole)) (omega (arith, sizes)) in
     let rest : drop 100 index ≡ joined is.entries ++ is.ignored =
@@ -241,7 +247,8 @@ agrees_of_file main index unit rings file =
     }
 
 -- and where all checks pass, it is the index of the layer
-pub file_of_agrees : (main index : List ℕ) (unit : LengthUnit) (rings : List NumberedRing) → IsLayerFile main None unit rings → Agrees main index unit → IsLayerFile main (Some index) unit rings
+pub file_of_agrees : (main index : List ℕ) (unit : LengthUnit) (rings : List NumberedRing) → IsLayerFile main None unit rings → Agrees main index unit
+    → IsLayerFile main (Some index) unit rings
 file_of_agrees main index unit rings file agrees =
     let here = are_here main unit 1 100 [] file.records file.drawn file.ignored (stand_of_file main None unit rings file) file.has_records in
     let passes = header_passes Index index agrees.has_header in
@@ -262,7 +269,8 @@ file_of_agrees main index unit rings file agrees =
         header = header;
         entries = found.entries;
         ignored = drop (declared_end index) index;
-        is_text = sym (take-append-drop 100 index) ∙ ap (λ t. header ++ t) found.text ∙ sym (append_assoc header (joined found.entries) (drop (declared_end index) index));
+        is_text = sym (take-append-drop 100 index) ∙ ap (λ t. header ++ t) found.text
+            ∙ sym (append_assoc header (joined found.entries) (drop (declared_end index) index));
         has_header = subst (IsHeader header) declared (header_text index passes);
         has_entries = found.are;
       };

@@ -55,7 +55,8 @@ skips_last kept drawn whole from first i past before other =
     sym (append-nil kept) ∙ ap (λ rest. kept ++ rest) (sym step) ∙ before
 
 -- a ring that is begun with its first corner once more
-pub kept_of_whole : (drawn : List Corner) (first : Corner) → 0 < length drawn → first ≡ get_or drawn 0 first → starts (path first drawn first) ≡ kept_once drawn
+pub kept_of_whole : (drawn : List Corner) (first : Corner) → 0 < length drawn → first ≡ get_or drawn 0 first
+    → starts (path first drawn first) ≡ kept_once drawn
 kept_of_whole [] first some is = absurd (omega arith)
 kept_of_whole (corner ∷ rest) first some is =
     ap (λ (c : Corner). starts (path c (corner ∷ rest) c)) is ∙ rw (same_nowhere corner corner refl) refl

@@ -41,8 +41,10 @@ same_stop main unit f g a b =
           let is = b.is_first in
           cc
       | inr o ↦ elim o [
-        | inl lt ↦ absurd (not_passed main unit f a (passed main unit b.position b.record_at b.corners a.position b.is_reached lt (position_from_1 main unit a.position a.record_at a.corners a.is_reached)))
-        | inr gt ↦ absurd (not_passed main unit g b (passed main unit a.position a.record_at a.corners b.position a.is_reached gt (position_from_1 main unit b.position b.record_at b.corners b.is_reached)))
+        | inl lt ↦ absurd (not_passed main unit f a (passed main unit b.position b.record_at b.corners a.position b.is_reached lt
+            (position_from_1 main unit a.position a.record_at a.corners a.is_reached)))
+        | inr gt ↦ absurd (not_passed main unit g b (passed main unit a.position a.record_at a.corners b.position a.is_reached gt
+            (position_from_1 main unit b.position b.record_at b.corners b.is_reached)))
       ]
     ]
 
@@ -59,8 +61,10 @@ never_stops main unit p s c f r is stop =
     elim (cases_order stop.position p) [
       | inl e ↦ stop.is_there ((same_place main unit stop.position stop.record_at stop.corners p s c stop.is_reached r e).0 ∙ is)
       | inr o ↦ elim o [
-        | inl lt ↦ not_passed main unit f stop (passed main unit p s c stop.position r lt (position_from_1 main unit stop.position stop.record_at stop.corners stop.is_reached))
-        | inr gt ↦ not_past_end main unit p s c r is (passed main unit stop.position stop.record_at stop.corners p stop.is_reached gt (position_from_1 main unit p s c r))
+        | inl lt ↦ not_passed main unit f stop
+            (passed main unit p s c stop.position r lt (position_from_1 main unit stop.position stop.record_at stop.corners stop.is_reached))
+        | inr gt ↦ not_past_end main unit p s c r is
+            (passed main unit stop.position stop.record_at stop.corners p stop.is_reached gt (position_from_1 main unit p s c r))
       ]
     ]
 
@@ -72,18 +76,21 @@ no_fault_in_main main unit f accepted (inl h) =
 no_fault_in_main main unit f accepted (inr stop) = never_stops main unit _ _ _ f accepted.is_reached refl stop
 
 -- all checks of a layer's main file pass
-pub accepted_layer : (main : List ℕ) (index : Option (List ℕ)) (unit : LengthUnit) (rings : List NumberedRing) → IsLayerFile main index unit rings → IsAccepted main unit
+pub accepted_layer : (main : List ℕ) (index : Option (List ℕ)) (unit : LengthUnit) (rings : List NumberedRing) → IsLayerFile main index unit rings
+    → IsAccepted main unit
 accepted_layer main index unit rings file =
     record { position = _; corners = _; is_reached = reached main unit _ _ file.drawn (reads_layer main index unit rings file) }
 
 -- an index stops the reader at its header or behind it
-index_header_or_record : (main index : List ℕ) (unit : LengthUnit) (f g : FileFault) → first_failure (header_checks Index index) ≡ Some f → IndexStopsAt main index unit g → ⊥
+index_header_or_record : (main index : List ℕ) (unit : LengthUnit) (f g : FileFault) → first_failure (header_checks Index index) ≡ Some f
+    → IndexStopsAt main index unit g → ⊥
 index_header_or_record main index unit f g h stop =
     let fine = stop.has_header in
     cc
 
 -- an index record that stops the reader has none before it that does
-not_before : (main index : List ℕ) (unit : LengthUnit) (f g : FileFault) → (a : IndexStopsAt main index unit f) → (b : IndexStopsAt main index unit g) → a.position < b.position → ⊥
+not_before : (main index : List ℕ) (unit : LengthUnit) (f g : FileFault) → (a : IndexStopsAt main index unit f) → (b : IndexStopsAt main index unit g)
+    → a.position < b.position → ⊥
 not_before main index unit f g a b lt =
     let passes = b.has_entries a.position a.record_at a.corners a.is_reached lt in
     let is = a.is_first in
@@ -111,7 +118,8 @@ one_index_fault main index unit f g (inr a) (inl k) = absurd (index_header_or_re
 one_index_fault main index unit f g (inr a) (inr b) = same_index_stop main index unit f g a b
 
 -- a text, with an index or none, has one first fault at most
-pub one_first_fault : (main : List ℕ) (index : Option (List ℕ)) (unit : LengthUnit) (f g : FileFault) → IsFirstFault main index unit f → IsFirstFault main index unit g → f ≡ g
+pub one_first_fault : (main : List ℕ) (index : Option (List ℕ)) (unit : LengthUnit) (f g : FileFault) → IsFirstFault main index unit f
+    → IsFirstFault main index unit g → f ≡ g
 one_first_fault main None unit f g h k = one_main_fault main unit f g h k
 one_first_fault main (Some index) unit f g (inl h) (inl k) = one_main_fault main unit f g h k
 one_first_fault main (Some index) unit f g (inl h) (inr k) = absurd (no_fault_in_main main unit f k.0 h)
@@ -129,7 +137,8 @@ no_fault_in_index main index unit f agrees (inr stop) =
     cc
 
 -- a layer's files have no fault
-pub no_fault_in_layer : (main : List ℕ) (index : Option (List ℕ)) (unit : LengthUnit) (rings : List NumberedRing) (f : FileFault) → IsLayerFile main index unit rings → IsFirstFault main index unit f → ⊥
+pub no_fault_in_layer : (main : List ℕ) (index : Option (List ℕ)) (unit : LengthUnit) (rings : List NumberedRing) (f : FileFault)
+    → IsLayerFile main index unit rings → IsFirstFault main index unit f → ⊥
 no_fault_in_layer main None unit rings f file h = no_fault_in_main main unit f (accepted_layer main None unit rings file) h
 no_fault_in_layer main (Some index) unit rings f file (inl h) = no_fault_in_main main unit f (accepted_layer main (Some index) unit rings file) h
 no_fault_in_layer main (Some index) unit rings f file (inr h) = no_fault_in_index main index unit f (agrees_of_file main index unit rings file) h.1
@@ -138,7 +147,8 @@ ok_same : (r : Result ℤ CoordFault) (a b : ℤ) → r ≡ Ok a → r ≡ Ok b 
 ok_same r a b h k = cc
 
 -- as many points are read as one list of corners
-same_corners : (unit : LengthUnit) (bytes : List ℕ) (at : ℕ) (a b : List Corner) → length a ≡ length b → AreReadAs unit bytes at a → AreReadAs unit bytes at b → a ≡ b
+same_corners : (unit : LengthUnit) (bytes : List ℕ) (at : ℕ) (a b : List Corner) → length a ≡ length b → AreReadAs unit bytes at a → AreReadAs unit bytes at b
+    → a ≡ b
 same_corners unit bytes at [] [] e h k = refl
 same_corners unit bytes at [] (q ∷ qs) e h k = absurd (omega (arith, e))
 same_corners unit bytes at (p ∷ ps) [] e h k = absurd (omega (arith, e))
@@ -162,7 +172,8 @@ position_of_reads main unit p s a r = position_from_1 main unit p s _ (reached m
 one_type : (main : List ℕ) (s t : ℕ) → s ≡ t → is_null main s ≡ true → is_null main t ≡ false → ⊥
 one_type main s t e h k = false≢true (sym k ∙ ap (λ n. is_null main n) (sym e) ∙ h)
 
-same_rings : (main : List ℕ) (unit : LengthUnit) (p s q t : ℕ) (a b : List NumberedRing) → Reads main unit p s a → Reads main unit q t b → p ≡ q → (s ≡ t) × (a ≡ b)
+same_rings : (main : List ℕ) (unit : LengthUnit) (p s q t : ℕ) (a b : List NumberedRing) → Reads main unit p s a → Reads main unit q t b → p ≡ q
+    → (s ≡ t) × (a ≡ b)
 same_rings main unit p s q t a b (none h) (none k) e = (refl, refl)
 same_rings main unit p s q t a b (none h) (null q' t' b' r apart passes type) e = absurd (omega (arith, e, position_of_reads main unit q' t' b' r))
 same_rings main unit p s q t a b (none h) (more q' t' b' ds r apart passes type count are) e = absurd (omega (arith, e, position_of_reads main unit q' t' b' r))
@@ -179,11 +190,13 @@ same_rings main unit p s q t a b (more p' s' a' cs r apart passes type count are
     let position : p' ≡ q' = omega (arith, e) in
     let same = same_rings main unit p' s' q' t' a' b' r r' position in
     let points : length cs ≡ length ds = omega (arith, count, count', ap (λ n. points_of main n) same.0) in
-    let corners : cs ≡ ds = same_corners unit main (s' + 56) cs ds points (open_read unit main (s' + 56) cs are) (open_read unit main (s' + 56) ds (rw same.0 are')) in
+    let corners : cs ≡ ds =
+    same_corners unit main (s' + 56) cs ds points (open_read unit main (s' + 56) cs are) (open_read unit main (s' + 56) ds (rw same.0 are')) in
     (ap (λ n. record_end main n) same.0, cc)
 
 -- a text is a layer's main file, with its index where there is one, of one list of rings at most
-pub one_list_of_rings : (main : List ℕ) (index : Option (List ℕ)) (unit : LengthUnit) (a b : List NumberedRing) → IsLayerFile main index unit a → IsLayerFile main index unit b → a ≡ b
+pub one_list_of_rings : (main : List ℕ) (index : Option (List ℕ)) (unit : LengthUnit) (a b : List NumberedRing) → IsLayerFile main index unit a
+    → IsLayerFile main index unit b → a ≡ b
 one_list_of_rings main index unit a b file other =
     let r = reads_layer main index unit a file in
     let q = reads_layer main index unit b other in

@@ -4,19 +4,22 @@ use Rattle.shp_files.specs.declared.fault.FileFault.{FileFault}
 use Rattle.shp_files.specs.Checks.{Check, check, first_failure}
 
 -- a line that does not fail leaves the answer to the lines after it
-pub on : (fails : Bool) (answer : FileFault) (lines : List Check) (found : Option FileFault) → None ≡ first_failure (check fails answer ∷ []) → found ≡ first_failure lines
+pub on : (fails : Bool) (answer : FileFault) (lines : List Check) (found : Option FileFault) → None ≡ first_failure (check fails answer ∷ [])
+    → found ≡ first_failure lines
     → found ≡ first_failure (check fails answer ∷ lines)
 unfolding first_failure
 on true answer lines found p q = absurd cc
 on false answer lines found p q = q
 
 -- a line that fails has the answer
-pub at : (fails : Bool) (answer fault : FileFault) (lines : List Check) → Some fault ≡ first_failure (check fails answer ∷ []) → Some fault ≡ first_failure (check fails answer ∷ lines)
+pub at : (fails : Bool) (answer fault : FileFault) (lines : List Check) → Some fault ≡ first_failure (check fails answer ∷ [])
+    → Some fault ≡ first_failure (check fails answer ∷ lines)
 unfolding first_failure
 at true answer fault lines p = p
 at false answer fault lines p = absurd cc
 
-on_more : (fails : Bool) (answer : FileFault) (x y z : Option FileFault) → (None ≡ x → y ≡ z) → None ≡ cond fails (Some answer) x → cond fails (Some answer) y ≡ z
+on_more : (fails : Bool) (answer : FileFault) (x y z : Option FileFault) → (None ≡ x → y ≡ z) → None ≡ cond fails (Some answer) x
+    → cond fails (Some answer) y ≡ z
 on_more true answer x y z h p = absurd cc
 on_more false answer x y z h p = h p
 
@@ -46,12 +49,14 @@ passed true answer p = absurd cc
 passed false answer p = refl
 
 -- where no line fails, the first does not, nor do the others
-pub pass : (fails : Bool) (answer : FileFault) (lines : List Check) → first_failure (check fails answer ∷ lines) ≡ None → (fails ≡ false) × (first_failure lines ≡ None)
+pub pass : (fails : Bool) (answer : FileFault) (lines : List Check) → first_failure (check fails answer ∷ lines) ≡ None
+    → (fails ≡ false) × (first_failure lines ≡ None)
 unfolding first_failure
 pass true answer lines p = absurd cc
 pass false answer lines p = (refl, p)
 
-pub pass_from : (fails : Bool) (answer : FileFault) (lines : List Check) → fails ≡ false → first_failure lines ≡ None → first_failure (check fails answer ∷ lines) ≡ None
+pub pass_from : (fails : Bool) (answer : FileFault) (lines : List Check) → fails ≡ false → first_failure lines ≡ None
+    → first_failure (check fails answer ∷ lines) ≡ None
 unfolding first_failure
 pass_from fails answer lines e p = rw e p
 

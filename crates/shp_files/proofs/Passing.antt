@@ -114,7 +114,8 @@ counts_pass main position start before e =
       first = same_from_is_not _ _ p6.0;
     }
 
-pub counts_pass_from : (main : List ℕ) (position start before : ℕ) → CountsPass main start before → first_failure (count_checks main position start before) ≡ None
+pub counts_pass_from : (main : List ℕ) (position start before : ℕ) → CountsPass main start before
+    → first_failure (count_checks main position start before) ≡ None
 unfolding count_checks
 counts_pass_from main position start before h =
     pass_from _ _ _ (not_below 22 _ _ h.words h.long)
@@ -150,7 +151,8 @@ is_null_from main start e = (Decides-int_eq (shape_type main start) (pos 0)).1 e
 pub is_null_not : (main : List ℕ) (start : ℕ) → shape_type main start ≡ pos 5 → is_null main start ≡ false
 is_null_not main start e = ap (λ z. int_eq z (pos 0)) e
 
-passes_by_type : (main : List ℕ) (unit : LengthUnit) (position start before : ℕ) (type_is_0 : Bool) → is_null main start ≡ type_is_0 → FramePasses main position start
+passes_by_type : (main : List ℕ) (unit : LengthUnit) (position start before : ℕ) (type_is_0 : Bool) → is_null main start ≡ type_is_0
+    → FramePasses main position start
     → (not type_is_0 && is_not (shape_type main start) (pos 5)) ≡ false → (type_is_0 && is_not (content_words main start) (pos 2)) ≡ false
     → first_failure (cond type_is_0 [] (polygon_checks main unit position start before)) ≡ None → RecordPasses main unit position start before
 unfolding polygon_checks corner_checks

@@ -53,7 +53,8 @@ coordinates_append main unit position at (suc count) more =
 
 -- one more point is read
 pub read_more : (main : List ℕ) (unit : LengthUnit) (position at count : ℕ) → None ≡ first_failure (coordinate_checks main unit position at (2 * count))
-    → None ≡ first_failure (coordinate_checks main unit position (at + 16 * count) 2) → None ≡ first_failure (coordinate_checks main unit position at (2 * (count + 1)))
+    → None ≡ first_failure (coordinate_checks main unit position (at + 16 * count) 2)
+    → None ≡ first_failure (coordinate_checks main unit position at (2 * (count + 1)))
 read_more main unit position at count before here =
     let all : 2 * (count + 1) ≡ 2 * count + 2 = omega arith in
     let place : at + 8 * (2 * count) ≡ at + 16 * count = omega arith in
@@ -61,7 +62,8 @@ read_more main unit position at count before here =
 
 -- a point that is refused is the first failure of all
 pub refused_at : (main : List ℕ) (unit : LengthUnit) (position at count all : ℕ) (found : FileFault) → count < all
-    → None ≡ first_failure (coordinate_checks main unit position at (2 * count)) → Some found ≡ first_failure (coordinate_checks main unit position (at + 16 * count) 2)
+    → None ≡ first_failure (coordinate_checks main unit position at (2 * count))
+    → Some found ≡ first_failure (coordinate_checks main unit position (at + 16 * count) 2)
     → Some found ≡ first_failure (coordinate_checks main unit position at (2 * all))
 refused_at main unit position at count all found below before here =
     let parts : 2 * all ≡ 2 * count + (2 + 2 * (all - (count + 1))) = omega arith in

@@ -15,7 +15,8 @@ use Rattle.shp_files.proofs.Places.{StandsAt, big_at_part, little_at_part, doubl
 use Rattle.shp_files.proofs.Distinct.{distinct_is, kept_fewer}
 use Rattle.shp_files.proofs.Ring.{length_closed, ring_passes}
 
-on_grid : (file : List ℕ) (unit : LengthUnit) (start : ℕ) (bytes : List ℕ) (at place : ℕ) (k : ℤ) → StandsAt file start bytes → at + 8 ≤ length bytes → place ≡ start + at
+on_grid : (file : List ℕ) (unit : LengthUnit) (start : ℕ) (bytes : List ℕ) (at place : ℕ) (k : ℤ) → StandsAt file start bytes → at + 8 ≤ length bytes
+    → place ≡ start + at
     → coordinate (double_at file place) unit ≡ Ok k → IsOnGrid (double_at bytes at) unit k
 on_grid file unit start bytes at place k h fits e is =
     let same : double_at file place ≡ double_at bytes at = ap (λ n. double_at file n) e ∙ double_at_part file start bytes at h fits in
@@ -89,7 +90,8 @@ read_from_null file position start bytes null h few within =
 
 -- a polygon that passes
 pub polygon_from_passing : (file : List ℕ) (unit : LengthUnit) (position start before : ℕ) (bytes : List ℕ) (corners : List Corner)
-    → PolygonPasses file unit position start before → StandsAt file start bytes → start + length bytes ≡ record_end file start → length corners + 1 ≡ points_of file start
+    → PolygonPasses file unit position start before → StandsAt file start bytes → start + length bytes ≡ record_end file start
+    → length corners + 1 ≡ points_of file start
     → AreReadAs unit file (start + 56) (closed corners) → IsPolygon unit bytes corners
 polygon_from_passing file unit position start before bytes corners passes h size count are =
     let counts = passes.counts in

@@ -9,7 +9,8 @@ use Rattle.geo_exact.specs.Limit.{IsWithin, limit}
 use Rattle.geo_exact.specs.declared.corner.Corner.{Corner}
 use Rattle.shp_files.specs.Written.{double, point}
 
-pub extended : {T E : Type 0} (r : Result T E) (old bytes new wanted : List ℕ) → new ≡ cond (is_ok r) (old ++ bytes) old → bytes ≡ wanted → OnOk r (new ≡ old ++ wanted)
+pub extended : {T E : Type 0} (r : Result T E) (old bytes new wanted : List ℕ) → new ≡ cond (is_ok r) (old ++ bytes) old → bytes ≡ wanted
+    → OnOk r (new ≡ old ++ wanted)
 extended (Ok x) old bytes new wanted e is = e ∙ ap (λ b. old ++ b) is
 extended (Err x) old bytes new wanted e is = tt
 
@@ -17,12 +18,14 @@ coordinate_in : (z : ℤ) (bits : ℕ) → IsWithin limit z → bits ≡ bits_of
 coordinate_in z bits within e = let fits : FitsSigned w64 z = omega (arith, ints) in simp to_z-of_z at e
 
 -- a point's bytes, as the code computes them
-pub point_bytes : (corner : Corner) (x y : ℕ) → x ≡ bits_of (to_z w64 (of_z w64 corner.x)) → y ≡ bits_of (to_z w64 (of_z w64 corner.y)) → little_bytes 8 x ++ little_bytes 8 y ≡ point corner
+pub point_bytes : (corner : Corner) (x y : ℕ) → x ≡ bits_of (to_z w64 (of_z w64 corner.x)) → y ≡ bits_of (to_z w64 (of_z w64 corner.y))
+    → little_bytes 8 x ++ little_bytes 8 y ≡ point corner
 unfolding point double
 point_bytes corner x y h k = rw (coordinate_in corner.x x corner.x_in_range h, coordinate_in corner.y y corner.y_in_range k) (λ i. little_bytes 8 (bits_of corner.x) ++ little_bytes 8 (bits_of corner.y))
 
 -- two pieces, the second by a call whose answer is handed on
-pub appended : {T E : Type 0} (r : Result T E) (old a b mid new wanted : List ℕ) → mid ≡ old ++ a → OnOk r (new ≡ mid ++ b) → a ++ b ≡ wanted → OnOk r (new ≡ old ++ wanted)
+pub appended : {T E : Type 0} (r : Result T E) (old a b mid new wanted : List ℕ) → mid ≡ old ++ a → OnOk r (new ≡ mid ++ b) → a ++ b ≡ wanted
+    → OnOk r (new ≡ old ++ wanted)
 appended (Ok x) old a b mid new wanted first second is = second ∙ ap (λ m. m ++ b) first ∙ append_assoc old a b ∙ ap (λ w. old ++ w) is
 appended (Err x) old a b mid new wanted first second is = tt
 

@@ -55,7 +55,8 @@ corners_refused main unit position at count e some fails =
 -- what is found at the last point, where those before it are read
 pub last_refused : (main : List ℕ) (unit : LengthUnit) (position at count : ℕ) (found : FileFault) → 0 < count
     → None ≡ first_failure (coordinate_checks main unit position at (2 * (count - 1)))
-    → Some found ≡ first_failure (coordinate_checks main unit position (at + 16 * (count - 1)) 2) → Some found ≡ first_failure (ring_checks main unit position at count)
+    → Some found ≡ first_failure (coordinate_checks main unit position (at + 16 * (count - 1)) 2)
+    → Some found ≡ first_failure (ring_checks main unit position at count)
 last_refused main unit position at count found some before here =
     let closing : List Check = closing_checks main unit position at (at + 16 * (count - 1)) in
     rw (ring_parts main unit position at count some, goes_on _ (coordinate_checks main unit position (at + 16 * (count - 1)) 2 ++ closing) before) (stops _ closing found here)
@@ -63,7 +64,8 @@ last_refused main unit position at count found some before here =
 -- what is found where all points are read: whether the last is the first
 pub closing_answer : (main : List ℕ) (unit : LengthUnit) (position at count : ℕ) (first closing : Corner) (found : Option FileFault) → 0 < count
     → None ≡ first_failure (coordinate_checks main unit position at (2 * (count - 1)))
-    → None ≡ first_failure (coordinate_checks main unit position (at + 16 * (count - 1)) 2) → IsReadAs unit main at first → IsReadAs unit main (at + 16 * (count - 1)) closing
+    → None ≡ first_failure (coordinate_checks main unit position (at + 16 * (count - 1)) 2) → IsReadAs unit main at first
+    → IsReadAs unit main (at + 16 * (count - 1)) closing
     → found ≡ first_failure (check (is_not first.x closing.x || is_not first.y closing.y) (fault position (at + 16 * (count - 1)) NotClosed) ∷ [])
     → found ≡ first_failure (ring_checks main unit position at count)
 unfolding closing_checks
@@ -77,7 +79,8 @@ closing_answer main unit position at count first closing found some before here 
     ) is
 
 -- a ring that is read, closed
-pub closed_read : (unit : LengthUnit) (bytes : List ℕ) (at : ℕ) (corners : List Corner) (first closing : Corner) → AreReadAs unit bytes at corners → 0 < length corners
+pub closed_read : (unit : LengthUnit) (bytes : List ℕ) (at : ℕ) (corners : List Corner) (first closing : Corner) → AreReadAs unit bytes at corners
+    → 0 < length corners
     → first ≡ get_or corners 0 first → IsReadAs unit bytes (at + 16 * length corners) closing → first ≡ closing → AreReadAs unit bytes at (closed corners)
 closed_read unit bytes at corners first closing are some is last same =
     rw (closes corners first some is) (reads_push unit bytes at corners first are (let P : Corner → Type 0 = IsReadAs unit bytes (at + 16 * length corners) in subst P (sym same) last))

@@ -17,7 +17,8 @@ abbrev pub ring_corners : {A : Type 0} → RawRing A → List Corner
 ring_corners ring = ring.corners
 
 -- the rings from an index on
-pub lists_drop : {X : Type 0} (f : X → List Corner) (xs : List X) (i : ℕ) (x : X) → i < length xs → x ≡ get_or xs i x → map f (drop i xs) ≡ f x ∷ map f (drop (i + 1) xs)
+pub lists_drop : {X : Type 0} (f : X → List Corner) (xs : List X) (i : ℕ) (x : X) → i < length xs → x ≡ get_or xs i x
+    → map f (drop i xs) ≡ f x ∷ map f (drop (i + 1) xs)
 lists_drop f xs i x h e = rw add-one (ap (map f) (drop-cons xs i x h ∙ ap (λ y. y ∷ drop (suc i) xs) (sym e)))
 
 pub lists_end : {X : Type 0} (f : X → List Corner) (xs : List X) (i : ℕ) → length xs ≤ i → map f (drop i xs) ≡ []
@@ -38,7 +39,8 @@ corners_left (suc i) [] = omega arith
 corners_left (suc i) (ring ∷ rings) = simp length-append (omega (arith, corners_left i rings))
 
 -- a ring has at most as many corners as all together
-pub corners_of_one : {X : Type 0} (f : X → List Corner) (xs : List X) (i : ℕ) (x : X) → i < length xs → x ≡ get_or xs i x → length (f x) ≤ length (corners_of (map f xs))
+pub corners_of_one : {X : Type 0} (f : X → List Corner) (xs : List X) (i : ℕ) (x : X) → i < length xs → x ≡ get_or xs i x
+    → length (f x) ≤ length (corners_of (map f xs))
 corners_of_one f xs i x h e =
     let left = corners_left i (map f xs) in
     let here : length (corners_of (drop i (map f xs))) ≡ length (f x) + length (corners_of (map f (drop (i + 1) xs))) =
@@ -93,7 +95,8 @@ pub words_end : {X : Type 0} (f : X → List Corner) (xs : List X) (i number : �
 words_end f xs i number h = ap (λ rings. words (joined (records number rings))) (lists_end f xs i h)
 
 -- what is written of the records so far, and what is left of them
-pub records_step : {X : Type 0} (f : X → List Corner) (xs : List X) (i number : ℕ) (x : X) (ring : List Corner) (out new all : List ℕ) → i < length xs → x ≡ get_or xs i x → ring ≡ f x
+pub records_step : {X : Type 0} (f : X → List Corner) (xs : List X) (i number : ℕ) (x : X) (ring : List Corner) (out new all : List ℕ) → i < length xs
+    → x ≡ get_or xs i x → ring ≡ f x
     → number ≡ i + 1 → new ≡ out ++ record_bytes number ring → out ++ joined (records (i + 1) (map f (drop i xs))) ≡ all
     → new ++ joined (records (i + 1 + 1) (map f (drop (i + 1) xs))) ≡ all
 records_step f xs i number x ring out new all h e is at wrote so_far =
@@ -102,12 +105,14 @@ records_step f xs i number x ring out new all h e is at wrote so_far =
     ap (λ b. b ++ rest) (wrote ∙ ap (λ n. out ++ record_bytes n ring) at) ∙ append_assoc out (record_bytes (i + 1) ring) rest
     ∙ ap (λ rings. out ++ joined (records (i + 1) rings)) (sym here) ∙ so_far
 
-pub records_end : {X : Type 0} (f : X → List Corner) (xs : List X) (i : ℕ) (out all : List ℕ) → length xs ≤ i → out ++ joined (records (i + 1) (map f (drop i xs))) ≡ all → out ≡ all
+pub records_end : {X : Type 0} (f : X → List Corner) (xs : List X) (i : ℕ) (out all : List ℕ) → length xs ≤ i
+    → out ++ joined (records (i + 1) (map f (drop i xs))) ≡ all → out ≡ all
 records_end f xs i out all h so_far =
     sym (append-nil out) ∙ ap (λ rings. out ++ joined (records (i + 1) rings)) (sym (lists_end f xs i h)) ∙ so_far
 
 -- the same for the index records
-pub index_step : {X : Type 0} (f : X → List Corner) (xs : List X) (i place n : ℕ) (x : X) (ring : List Corner) (out mid new all : List ℕ) → i < length xs → x ≡ get_or xs i x → ring ≡ f x
+pub index_step : {X : Type 0} (f : X → List Corner) (xs : List X) (i place n : ℕ) (x : X) (ring : List Corner) (out mid new all : List ℕ) → i < length xs
+    → x ≡ get_or xs i x → ring ≡ f x
     → n ≡ words (content ring) → mid ≡ out ++ big place → new ≡ mid ++ big n → out ++ index_records place (map f (drop i xs)) ≡ all
     → new ++ index_records (place + (4 + n)) (map f (drop (i + 1) xs)) ≡ all
 index_step f xs i place n x ring out mid new all h e is size first second so_far =
@@ -119,6 +124,7 @@ index_step f xs i place n x ring out mid new all h e is size first second so_far
     ∙ append_assoc out (big place ++ big (words (content ring))) rest
     ∙ ap (λ rings. out ++ index_records place rings) (sym here) ∙ so_far
 
-pub index_end : {X : Type 0} (f : X → List Corner) (xs : List X) (i place : ℕ) (out all : List ℕ) → length xs ≤ i → out ++ index_records place (map f (drop i xs)) ≡ all → out ≡ all
+pub index_end : {X : Type 0} (f : X → List Corner) (xs : List X) (i place : ℕ) (out all : List ℕ) → length xs ≤ i
+    → out ++ index_records place (map f (drop i xs)) ≡ all → out ≡ all
 index_end f xs i place out all h so_far =
     sym (append-nil out) ∙ ap (λ rings. out ++ index_records place rings) (sym (lists_end f xs i h)) ∙ so_far

@@ -78,7 +78,8 @@ piece_of main unit p s before old frame =
           ∙ ap (λ t. take 100 main ++ t) (sym (joined-push old.records piece));
     }
 
-pub parsed : (main : List ℕ) (unit : LengthUnit) (position start : ℕ) (rings : List NumberedRing) → Reads main unit position start rings → Parsed main unit position start rings
+pub parsed : (main : List ℕ) (unit : LengthUnit) (position start : ℕ) (rings : List NumberedRing) → Reads main unit position start rings
+    → Parsed main unit position start rings
 parsed main unit position start rings (none h) =
     let header = header_passes Main main h in
     record {
@@ -125,7 +126,8 @@ parsed main unit position start rings (more p s before corners reads apart passe
     }
 
 -- at the declared end the file is a layer's
-pub layer_file : (main : List ℕ) (unit : LengthUnit) (position start : ℕ) (drawn rings : List NumberedRing) → Reads main unit position start drawn → start ≡ declared_end main
+pub layer_file : (main : List ℕ) (unit : LengthUnit) (position start : ℕ) (drawn rings : List NumberedRing) → Reads main unit position start drawn
+    → start ≡ declared_end main
     → rings ≡ normal_rings drawn → IsLayerFile main None unit rings
 layer_file main unit position start drawn rings reads is normal =
     let all = parsed main unit position start drawn reads in

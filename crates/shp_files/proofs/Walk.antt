@@ -92,8 +92,10 @@ pub record IsReadTo (main : List ℕ) (unit : LengthUnit) (position start corner
   pub count : corners ≡ corner_count drawn
   pub are : rings ≡ normal_rings drawn
 
-pub read_to_null : (main : List ℕ) (unit : LengthUnit) (position start corners end more : ℕ) (rings : List NumberedRing) → IsReadTo main unit position start corners rings
-    → start ≢ declared_end main → first_failure (record_checks main unit position start corners) ≡ None → is_null main start ≡ true → end ≡ record_end main start → more ≡ 0
+pub read_to_null : (main : List ℕ) (unit : LengthUnit) (position start corners end more : ℕ) (rings : List NumberedRing)
+    → IsReadTo main unit position start corners rings
+    → start ≢ declared_end main → first_failure (record_checks main unit position start corners) ≡ None → is_null main start ≡ true
+    → end ≡ record_end main start → more ≡ 0
     → IsReadTo main unit (position + 1) end (corners + more) rings
 read_to_null main unit position start corners end further rings old apart passes type is zero = record {
   drawn = old.drawn;

@@ -77,7 +77,8 @@ unfolding point
 point_is corner front rest = simp append_assoc
 
 -- points are read where they stand
-pub are_points : (front bytes : List ℕ) (at : ℕ) (corners : List Corner) → bytes ≡ front ++ flat_map point corners → length front ≡ at → ArePoints Cm bytes at corners
+pub are_points : (front bytes : List ℕ) (at : ℕ) (corners : List Corner) → bytes ≡ front ++ flat_map point corners → length front ≡ at
+    → ArePoints Cm bytes at corners
 are_points front bytes at [] is long = tt
 are_points front bytes at (corner ∷ rest) is long =
     let split : bytes ≡ front ++ (double corner.x ++ (double corner.y ++ flat_map point rest)) = is ∙ point_is corner front (flat_map point rest) in
@@ -101,15 +102,18 @@ pub at_content_words : (number : ℕ) (ring : List Corner) → drop 4 (record_by
 unfolding record_bytes big
 at_content_words number ring = refl
 
-at_type : (number : ℕ) (ring : List Corner) → drop 8 (record_bytes number ring) ≡ little 5 ++ (box ring ++ little 1 ++ little (length (points ring)) ++ little 0 ++ flat_map point (points ring))
+at_type : (number : ℕ) (ring : List Corner)
+    → drop 8 (record_bytes number ring) ≡ little 5 ++ (box ring ++ little 1 ++ little (length (points ring)) ++ little 0 ++ flat_map point (points ring))
 unfolding record_bytes content big little box double
 at_type number ring = refl
 
-at_part_count : (number : ℕ) (ring : List Corner) → drop 44 (record_bytes number ring) ≡ little 1 ++ (little (length (points ring)) ++ little 0 ++ flat_map point (points ring))
+at_part_count : (number : ℕ) (ring : List Corner)
+    → drop 44 (record_bytes number ring) ≡ little 1 ++ (little (length (points ring)) ++ little 0 ++ flat_map point (points ring))
 unfolding record_bytes content big little box double
 at_part_count number ring = refl
 
-at_point_count : (number : ℕ) (ring : List Corner) → drop 48 (record_bytes number ring) ≡ little (length (points ring)) ++ (little 0 ++ flat_map point (points ring))
+at_point_count : (number : ℕ) (ring : List Corner)
+    → drop 48 (record_bytes number ring) ≡ little (length (points ring)) ++ (little 0 ++ flat_map point (points ring))
 unfolding record_bytes content big little box double
 at_point_count number ring = refl
 

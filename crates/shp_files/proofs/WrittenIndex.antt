@@ -32,7 +32,8 @@ at_entry_words : (place : ℕ) (ring : List Corner) → drop 4 (entry place ring
 unfolding big
 at_entry_words place ring = refl
 
-entry_is : (place number start : ℕ) (ring : List Corner) → start ≡ 2 * place → place + words (content ring) < 2 ^ 31 → IsIndexRecord (entry place ring) start (record_bytes number ring)
+entry_is : (place number start : ℕ) (ring : List Corner) → start ≡ 2 * place → place + words (content ring) < 2 ^ 31
+    → IsIndexRecord (entry place ring) start (record_bytes number ring)
 entry_is place number start ring is few =
     let size : ℕ = words (content ring) in
     record {

@@ -32,7 +32,8 @@ apart_where false ring h = h
 written_whole : (ring : List Corner) → AreApart ring → kept_once (as_written ring) ≡ as_written ring
 written_whole ring h = kept_whole (as_written ring) (apart_where (int_lt (pos 0) (area2 ring)) ring h)
 
-are_records : (number : ℕ) (rings : List (List Corner)) → All IsNormal rings → AreRecords Cm number (records number rings) (numbered_from number (map as_written rings))
+are_records : (number : ℕ) (rings : List (List Corner)) → All IsNormal rings
+    → AreRecords Cm number (records number rings) (numbered_from number (map as_written rings))
 are_records number [] each = tt
 are_records number (ring ∷ rings) each =
     let fits : IsNormal ring = each 0 ring (omega arith) in
@@ -83,7 +84,8 @@ turned_back ring h = turned_back_where (int_lt (pos 0) (area2 ring)) ring refl h
 normal_again : (ring : List Corner) → IsNormal ring → normal_form (as_written ring) ≡ ring
 normal_again ring fits = ap counterclockwise (written_whole ring fits.2) ∙ turned_back ring fits.3
 
-rings_again : (number : ℕ) (rings : List (List Corner)) → All IsNormal rings → numbered_from number rings ≡ normal_rings (numbered_from number (map as_written rings))
+rings_again : (number : ℕ) (rings : List (List Corner)) → All IsNormal rings
+    → numbered_from number rings ≡ normal_rings (numbered_from number (map as_written rings))
 rings_again number [] each = refl
 rings_again number (ring ∷ rings) each =
     let fits : IsNormal ring = each 0 ring (omega arith) in

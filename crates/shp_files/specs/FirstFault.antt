@@ -1,4 +1,5 @@
--- The first fault of a layer's files: the answer of the first check that fails, the main file's before the index's (profile of the Technical Description, July 1998).
+-- The first fault of a layer's files: the answer of the first check that fails, the main file's before the index's
+-- (profile of the Technical Description, July 1998).
 use Rattle.std.specs.Prelude.{◌≡◌, ◌≢◌, ◌⊎◌, ℕ, ◌+◌, ◌<◌, List, Option, Some, None}
 use Rattle.geo_exact.specs.declared.coord.Unit.{Unit as LengthUnit}
 use Rattle.shp_files.specs.declared.fault.FileFault.{FileFault}

@@ -1,4 +1,5 @@
--- The checks of an index file against the main file, in their order, each with the fault that it answers: this profile of the Technical Description (July 1998, "Index Records").
+-- The checks of an index file against the main file, in their order, each with the fault that it answers: this profile of the
+-- Technical Description (July 1998, "Organization of the Index File", "Index Records").
 use Rattle.std.specs.Prelude.{ℕ, ◌+◌, ◌*◌, ◌-◌, ◌/◌, ◌==◌, nat_lt, not, pos, if◌then◌else◌, List, [], ◌∷◌}
 use Rattle.shp_files.specs.declared.fault.FileFault.{FileFault}
 use Rattle.shp_files.specs.declared.fault.FileName.TheVariants.{Index}

@@ -1,5 +1,6 @@
--- A layer's main file as a whole text: a header, records of null shapes and polygons, and bytes that are ignored (Technical Description, July 1998, "Organization of the Main File", "Null Shapes", "Polygon"),
--- and, where it is given, its index file: a header, an index record for each record, and bytes that are ignored ("Organization of the Index File", "Index Records").
+-- A layer's main file as a whole text: a header, records of null shapes and polygons, and bytes that are ignored (Technical Description, July 1998,
+-- "Organization of the Main File", "Null Shapes", "Polygon"). And its index file, where it has one: a header, an index record for each record, and bytes
+-- that are ignored ("Organization of the Index File", "Index Records").
 -- The bytes behind the declared length, which are ignored, and the limits on records and corners are this product's own. Boxes, ranges, unused bytes and
 -- stored record numbers are not compared.
 use Rattle.std.specs.Prelude.{◌≡◌, ◌⊎◌, ℕ, ◌+◌, ◌*◌, ◌≤◌, pos, ◌+ℤ◌, ◌*ℤ◌, List, [], ◌∷◌, ◌++◌, length, map, Option, IfSome}

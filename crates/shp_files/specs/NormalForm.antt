@@ -1,4 +1,5 @@
--- The form in which a ring is kept: no corner twice in a row, and counterclockwise (this product's own; Technical Description, July 1998, "Polygon", draws outer rings clockwise).
+-- The form in which a ring is kept: no corner twice in a row, and counterclockwise (this product's own; Technical Description, July 1998, "Polygon",
+-- draws outer rings clockwise).
 use Rattle.std.specs.Prelude.{◌≤◌, pos, ◌≤ℤ◌, int_lt, Bool, ◌&&◌, if◌then◌else◌, List, [], ◌∷◌, length}
 use Rattle.std.specs.Ordering.{int_eq}
 use Rattle.geo_exact.specs.declared.corner.Corner.{Corner}

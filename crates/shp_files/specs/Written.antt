@@ -1,4 +1,5 @@
--- The two files of a layer, as they are written (Technical Description, July 1998: "Organization of the Main File", "Main File Record Contents", "Polygon", "Organization of the Index File").
+-- The two files of a layer, as they are written (Technical Description, July 1998: "Organization of the Main File", "Main File Record Contents",
+-- "Polygon", "Organization of the Index File").
 use Rattle.std.specs.Prelude.{ℕ, ◌+◌, ◌*◌, ◌/◌, ℤ, pos, int_lt, if◌then◌else◌, List, [], ◌∷◌, ◌++◌, length, map, replicate, fold, flat_map}
 use Rattle.std.specs.Int.{int_min, int_max}
 use Rattle.byteorder.specs.Endian.{big_bytes, little_bytes}

@@ -45,6 +45,7 @@ pub fn read_layer<A: Allocator + Copy>(
     read_checked(alloc, main, index, unit)
 }
 
+/// Reads the main file, and then checks the index against it.
 fn read_checked<A: Allocator + Copy>(
     alloc: A,
     main: &[u8],
@@ -64,6 +65,7 @@ fn read_checked<A: Allocator + Copy>(
     Ok(rings)
 }
 
+/// Reads the records of a main file whose header passes its checks, up to its declared end.
 fn read_records<A: Allocator + Copy>(
     alloc: A,
     main: &[u8],

@@ -15,7 +15,8 @@ loop-head-init c = record {
 
 pub check_index_record-requires-clause-room : goal.check_index_record-requires-clause-room
 check_index_record-requires-clause-room c =
-    let frame = frame_here c.args.main.now c.args.index.now c.loop-head.head.position c.loop-head.head.start c.args.end c.requires.accepted c.loop-head.invariant.checked c.loop-head-test.true c.requires.end in
+    let frame = frame_here c.args.main.now c.args.index.now c.loop-head.head.position c.loop-head.head.start c.args.end c.requires.accepted
+    c.loop-head.invariant.checked c.loop-head-test.true c.requires.end in
     omega (arith, frame.room, c.requires.end, c.requires.within)
 
 pub returns-in_err-check_index_record-clause-fault : goal.returns-in_err-check_index_record-clause-fault
@@ -28,24 +29,28 @@ returns-in_err-check_index_record-clause-fault c = λ unit all.
 
 pub next_head-head-requires-clause-few : goal.next_head-head-requires-clause-few
 next_head-head-requires-clause-few c =
-    let frame = frame_here c.args.main.now c.args.index.now c.loop-head.head.position c.loop-head.head.start c.args.end c.requires.accepted c.loop-head.invariant.checked c.loop-head-test.true c.requires.end in
+    let frame = frame_here c.args.main.now c.args.index.now c.loop-head.head.position c.loop-head.head.start c.args.end c.requires.accepted
+    c.loop-head.invariant.checked c.loop-head-test.true c.requires.end in
     frame.few_records
 
 pub next_head-head-requires-clause-room : goal.next_head-head-requires-clause-room
 next_head-head-requires-clause-room c =
-    let frame = frame_here c.args.main.now c.args.index.now c.loop-head.head.position c.loop-head.head.start c.args.end c.requires.accepted c.loop-head.invariant.checked c.loop-head-test.true c.requires.end in
+    let frame = frame_here c.args.main.now c.args.index.now c.loop-head.head.position c.loop-head.head.start c.args.end c.requires.accepted
+    c.loop-head.invariant.checked c.loop-head-test.true c.requires.end in
     omega (arith, frame.room, c.requires.end, c.requires.within)
 
 pub loop-head-preserved : goal.loop-head-preserved
 loop-head-preserved c =
     let apart : c.loop-head.head.start ≢ declared_end c.args.main.now = λ e. c.loop-head-test.true (e ∙ sym c.requires.end) in
-    let frame = frame_here c.args.main.now c.args.index.now c.loop-head.head.position c.loop-head.head.start c.args.end c.requires.accepted c.loop-head.invariant.checked c.loop-head-test.true c.requires.end in
+    let frame = frame_here c.args.main.now c.args.index.now c.loop-head.head.position c.loop-head.head.start c.args.end c.requires.accepted
+    c.loop-head.invariant.checked c.loop-head-test.true c.requires.end in
     let new = c.next_head-head.ensures in
     record {
       from_1 = omega (arith, new.position);
       start = omega (arith, new.start, frame.within, c.requires.end);
       checked = λ u ok. rw (new.position, new.start)
-          (checked_next c.args.main.now c.args.index.now u c.loop-head.head.position c.loop-head.head.start ok (c.loop-head.invariant.checked u ok) apart c.in_ok-check_index_record.ensures);
+          (checked_next c.args.main.now c.args.index.now u c.loop-head.head.position c.loop-head.head.start ok (c.loop-head.invariant.checked u ok) apart
+          c.in_ok-check_index_record.ensures);
     }
 
 pub returns-clause-agrees : goal.returns-clause-agrees
