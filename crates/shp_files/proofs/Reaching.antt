@@ -3,7 +3,7 @@ use Rattle.std.proofs.Common.{◌≡◌, ◌≢◌, inl, inr, ℕ, ◌*◌, ◌/
 use Rattle.std.proofs.lemmas.Bool.{cases_order}
 use Rattle.geo_exact.specs.declared.coord.Unit.{Unit as LengthUnit}
 use Rattle.shp_files.specs.declared.fault.FileName.TheVariants.{Main}
-use Rattle.shp_files.specs.Checks.{first_failure, header_checks, frame_checks, record_checks, declared_end, record_end, corners_of}
+use Rattle.shp_files.specs.Checks.{first_failure, header_checks, frame_checks, record_checks, declared_end, record_end, drawn_corners}
 use Rattle.shp_files.specs.FirstFault.{Reaches, IsAccepted}
 use Rattle.shp_files.specs.FirstFault.Reaches.{first, next}
 use Rattle.shp_files.proofs.Lines.{pass_parts}
@@ -24,7 +24,7 @@ same_place main unit p s c q t d (first h) (next q' t' d' r apart passes) e = ab
 same_place main unit p s c q t d (next p' s' c' r apart passes) (first k) e = absurd (omega (arith, e, position_from_1 main unit p' s' c' r))
 same_place main unit p s c q t d (next p' s' c' r apart passes) (next q' t' d' r' apart' passes') e =
     let same = same_place main unit p' s' c' q' t' d' r r' (omega (arith, e)) in
-    (ap (λ n. record_end main n) same.0, omega (arith, same.1, ap (λ n. corners_of main n) same.0))
+    (ap (λ n. record_end main n) same.0, omega (arith, same.1, ap (λ n. drawn_corners main n) same.0))
 
 -- a record that was passed
 pub record IsPassed (main : List ℕ) (unit : LengthUnit) (position : ℕ) : Type 0 where

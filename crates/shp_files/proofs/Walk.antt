@@ -5,7 +5,7 @@ use Rattle.geo_exact.specs.declared.coord.Unit.{Unit as LengthUnit}
 use Rattle.shp_files.specs.LayerFile.{NumberedRing, numbered, normal_rings, closed, corner_count}
 use Rattle.shp_files.specs.NormalForm.{normal_form}
 use Rattle.std.proofs.lemmas.List.{map-append}
-use Rattle.shp_files.specs.Checks.{first_failure, header_checks, record_checks, declared_end, record_end, points_of, is_null, corners_of}
+use Rattle.shp_files.specs.Checks.{first_failure, header_checks, record_checks, declared_end, record_end, points_of, is_null, drawn_corners}
 use Rattle.shp_files.specs.FirstFault.{Reaches}
 use Rattle.shp_files.specs.FirstFault.Reaches.{first, next}
 use Rattle.shp_files.specs.FirstFault.{IsMainFault}
@@ -30,22 +30,22 @@ pub corner_count-push : (rings : List NumberedRing) (ring : NumberedRing) → co
 corner_count-push [] ring = omega arith
 corner_count-push (one ∷ rings) ring = omega (arith, corner_count-push rings ring)
 
-pub corners_of_null : (main : List ℕ) (start : ℕ) → is_null main start ≡ true → corners_of main start ≡ 0
-corners_of_null main start e = rw e refl
+pub drawn_of_null : (main : List ℕ) (start : ℕ) → is_null main start ≡ true → drawn_corners main start ≡ 0
+drawn_of_null main start e = rw e refl
 
-pub corners_of_polygon : (main : List ℕ) (start : ℕ) → is_null main start ≡ false → corners_of main start ≡ points_of main start - 1
-corners_of_polygon main start e = rw e refl
+pub drawn_of_polygon : (main : List ℕ) (start : ℕ) → is_null main start ≡ false → drawn_corners main start ≡ points_of main start - 1
+drawn_of_polygon main start e = rw e refl
 
 -- such a record is reached
 pub reached : (main : List ℕ) (unit : LengthUnit) (position start : ℕ) (drawn : List NumberedRing) → Reads main unit position start drawn
     → Reaches main unit position start (corner_count drawn)
 reached main unit position start drawn (none h) = first h
 reached main unit position start drawn (null p s before reads apart passes type) =
-    let sum : corner_count before + corners_of main s ≡ corner_count before = omega (arith, corners_of_null main s type) in
+    let sum : corner_count before + drawn_corners main s ≡ corner_count before = omega (arith, drawn_of_null main s type) in
     subst (λ (n : ℕ). Reaches main unit (p + 1) (record_end main s) n) sum (next p s (corner_count before) (reached main unit p s before reads) apart passes)
 reached main unit position start drawn (more p s before corners reads apart passes type count are) =
-    let sum : corner_count before + corners_of main s ≡ corner_count (before ++ numbered p corners ∷ []) =
-    omega (arith, count, corners_of_polygon main s type, corner_count-push before (numbered p corners)) in
+    let sum : corner_count before + drawn_corners main s ≡ corner_count (before ++ numbered p corners ∷ []) =
+    omega (arith, count, drawn_of_polygon main s type, corner_count-push before (numbered p corners)) in
     subst (λ (n : ℕ). Reaches main unit (p + 1) (record_end main s) n) sum (next p s (corner_count before) (reached main unit p s before reads) apart passes)
 
 -- one more polygon is read

@@ -78,7 +78,8 @@ shape_checks main position start =
     ∷ check (is_null main start && is_not (content_words main start) (pos 2)) (fault position (start + 4) kinds.Content)
     ∷ []
 
--- the checks of a polygon's counts, where the polygons before it have so many corners together
+-- The checks of a polygon's counts, where the polygons before it have so many corners together. (The third never fails behind the first: it stands here
+-- so that the table reads by itself.)
 unfoldable pub count_checks : List ℕ → ℕ → ℕ → ℕ → List Check
 count_checks main position start corners_before =
     check (int_lt (content_words main start) (pos 22)) (fault position (start + 4) kinds.Content)
@@ -102,7 +103,7 @@ coordinate_checks main unit position place zero = []
 coordinate_checks main unit position place (suc count) =
     refusal position place (coordinate (double_at main place) unit) ∷ coordinate_checks main unit position (place + 8) count
 
--- two coordinates, as they were read, are different
+-- two coordinates, as they were read, are different, or not both were read
 abbrev pub differs : Result ℤ CoordFault → Result ℤ CoordFault → Bool
 differs (Ok a) (Ok b) = is_not a b
 differs (Ok a) (Err d) = true
@@ -150,5 +151,5 @@ record_checks main unit position start corners_before =
     ++ (if is_null main start then [] else polygon_checks main unit position start corners_before))
 
 -- the corners of the record's ring as it is drawn, the closing one not counted: none for a null shape
-abbrev pub corners_of : List ℕ → ℕ → ℕ
-corners_of main start = if is_null main start then 0 else points_of main start - 1
+abbrev pub drawn_corners : List ℕ → ℕ → ℕ
+drawn_corners main start = if is_null main start then 0 else points_of main start - 1

@@ -4,7 +4,7 @@ use Rattle.std.specs.Prelude.{◌≡◌, ◌≢◌, ◌⊎◌, ℕ, ◌+◌, ◌
 use Rattle.geo_exact.specs.declared.coord.Unit.{Unit as LengthUnit}
 use Rattle.shp_files.specs.declared.fault.FileFault.{FileFault}
 use Rattle.shp_files.specs.declared.fault.FileName.TheVariants.{Main, Index}
-use Rattle.shp_files.specs.Checks.{first_failure, header_checks, record_checks, declared_end, record_end, corners_of}
+use Rattle.shp_files.specs.Checks.{first_failure, header_checks, record_checks, declared_end, record_end, drawn_corners}
 use Rattle.shp_files.specs.IndexChecks.{entry_checks}
 
 -- The record at this position begins at this byte, and the polygons before it have so many corners together: the header and all records before it
@@ -13,7 +13,7 @@ pub data Reaches (main : List ℕ) (unit : LengthUnit) : ℕ → ℕ → ℕ →
   first : first_failure (header_checks Main main) ≡ None → Reaches main unit 1 100 0
   next : (position start corners : ℕ) → Reaches main unit position start corners → start ≢ declared_end main
       → first_failure (record_checks main unit position start corners) ≡ None
-      → Reaches main unit (position + 1) (record_end main start) (corners + corners_of main start)
+      → Reaches main unit (position + 1) (record_end main start) (corners + drawn_corners main start)
 
 -- a record that is reached, and whose first failing check answers this fault
 pub record StopsAt (main : List ℕ) (unit : LengthUnit) (fault : FileFault) : Type 0 where

@@ -1,6 +1,6 @@
 -- A layer's main file as a whole text: a header, records of null shapes and polygons, and bytes that are ignored (Technical Description, July 1998,
--- "Organization of the Main File", "Null Shapes", "Polygon"). And its index file, where it has one: a header, an index record for each record, and bytes
--- that are ignored ("Organization of the Index File", "Index Records").
+-- "Organization of the Main File", "The Main File Header", "Record Headers", "Null Shapes", "Polygon"); and, where it is given, its index file: a header,
+-- an index record for each record, and bytes that are ignored ("Organization of the Index File", "Index Records").
 -- The bytes behind the declared length, which are ignored, and the limits on records and corners are this product's own. Boxes, ranges, unused bytes and
 -- stored record numbers are not compared.
 use Rattle.std.specs.Prelude.{◌≡◌, ◌⊎◌, ℕ, ◌+◌, ◌*◌, ◌≤◌, pos, ◌+ℤ◌, ◌*ℤ◌, List, [], ◌∷◌, ◌++◌, length, map, Option, IfSome}
@@ -84,7 +84,7 @@ corner_count (ring ∷ rings) = length ring.corners + corner_count rings
 abbrev pub normal_rings : List NumberedRing → List NumberedRing
 normal_rings rings = map (λ ring. numbered ring.number (normal_form ring.corners)) rings
 
--- the bytes are the index record of a record that begins at this byte of the main file
+-- the bytes are the index record of the record `indexed`, which begins at this byte of the main file
 pub record IsIndexRecord (bytes : List ℕ) (start : ℕ) (indexed : List ℕ) : Type 0 where
   pub is_whole : length bytes ≡ 8
   pub has_offset : pos 2 *ℤ offset_words bytes 0 ≡ pos start

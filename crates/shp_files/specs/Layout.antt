@@ -1,5 +1,5 @@
--- Where the numbers of a shapefile stand (Technical Description, July 1998, "Numeric Types", "Main File Header", "Record Headers", "Polygon",
--- "Index Records").
+-- Where the numbers of a shapefile stand (Technical Description, July 1998, "Numeric Types", "Byte Order", "The Main File Header", "Record Headers",
+-- "Polygon", "Index Records").
 use Rattle.std.specs.Prelude.{ℕ, ◌+◌, ℤ, pos, negsuc, List, drop}
 use Rattle.byteorder.specs.Endian.{big_number, little_number, twos_complement}
 

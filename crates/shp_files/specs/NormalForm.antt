@@ -15,7 +15,8 @@ abbrev pub starts : List Edge → List Corner
 starts [] = []
 starts (edge ∷ rest) = if is_nowhere edge then starts rest else edge.from ∷ starts rest
 
--- of neighbours that are equal, round the ring, one is kept
+-- Of neighbours that are equal, round the ring, one is kept, and none where all are equal. The list begins with the first corner drawn: where the ring
+-- ends with that corner once more, the copies at its end go.
 abbrev pub kept_once : List Corner → List Corner
 kept_once ring = starts (edges ring)
 

@@ -1,5 +1,5 @@
--- The two files of a layer, as they are written (Technical Description, July 1998: "Organization of the Main File", "Main File Record Contents",
--- "Polygon", "Organization of the Index File").
+-- The two files of a layer, as they are written (Technical Description, July 1998: "Organization of the Main File", "The Main File Header", "Record
+-- Headers", "Polygon", "Organization of the Index File"). The box of no ring, all 0, and the order of a ring of area 0 are this product's own.
 use Rattle.std.specs.Prelude.{ℕ, ◌+◌, ◌*◌, ◌/◌, ℤ, pos, int_lt, if◌then◌else◌, List, [], ◌∷◌, ◌++◌, length, map, replicate, fold, flat_map}
 use Rattle.std.specs.Int.{int_min, int_max}
 use Rattle.byteorder.specs.Endian.{big_bytes, little_bytes}
@@ -10,7 +10,7 @@ use Rattle.geo_exact.specs.Rings.{turned_round}
 use Rattle.geo_exact.specs.declared.raw_ring.RawRing.{RawRing}
 use Rattle.shp_files.specs.LayerFile.{NumberedRing, numbered, closed, joined}
 
--- "Numeric Types": a whole number of 32 bits, its most significant byte first or last, and a double, its most significant byte last
+-- "Numeric Types", "Byte Order": a whole number of 32 bits, its most significant byte first or last, and a double, its most significant byte last
 unfoldable pub big : ℕ → List ℕ
 big n = big_bytes 4 n
 
