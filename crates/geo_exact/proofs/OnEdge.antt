@@ -5,12 +5,13 @@ use Rattle.std.specs.Int.{int_min, int_max}
 use lib.IntN.{ℤ, pos, ◌+ℤ◌, ◌-ℤ◌, ◌*ℤ◌, neg_ℤ}
 use lib.Signed.{◌<ℤ◌, ◌≤ℤ◌, lt_z}
 use Rattle.geo_exact.specs.declared.corner.Corner.{Corner}
-use Rattle.geo_exact.specs.Point.{Point}
-use Rattle.geo_exact.specs.Turn.{turn_at, IsOnEdge}
+use Rattle.geo_exact.specs.Point.{Point, corner_point}
+use Rattle.geo_exact.specs.Turn.{turn, turn_at, IsOnEdge}
 use Rattle.geo_exact.proofs.Differences.{expand}
 use Rattle.geo_exact.proofs.Signs.{mul_le, mul_zero, convex}
-use Rattle.geo_exact.proofs.Polynomials.{var, add, mul, neg, same_by}
-use Rattle.geo_exact.proofs.TurnLaws.{turn_at_expr, turn_at_back}
+use Rattle.geo_exact.proofs.Polynomials.{var, lit, add, mul, neg, same_by}
+use Rattle.geo_exact.proofs.TurnLaws.{turn_expr, turn_at_expr, turn_at_back}
+use Rattle.geo_exact.proofs.CornerPoints.{on_edge_from_box}
 
 -- ---- the lesser and the greater of two numbers
 pub le_of_lt : (u v : ℤ) → u <ℤ v → u ≤ℤ v
@@ -34,7 +35,6 @@ min_swap u v = omega (arith, ints, clamps)
 pub max_swap : (u v : ℤ) → int_max u v ≡ int_max v u
 max_swap u v = omega (arith, ints, clamps)
 
--- ---- points between the ends of an edge
 -- a weighed mean of u and v is x: x is neither below both nor above both
 pub mean_low : (k l u v x : ℤ) → pos 0 ≤ℤ k → pos 0 ≤ℤ l → pos 0 <ℤ (k +ℤ l) → k *ℤ (u -ℤ x) +ℤ l *ℤ (v -ℤ x) ≡ pos 0
     → x <ℤ u → x <ℤ v → ⊥
@@ -71,6 +71,25 @@ on_edge_back a b p h =
       to_y = rw (max_swap a.y b.y) at h.to_y;
     }
 
+-- ---- the ends of an edge
+-- they are on its line
+pub starts_on : (a b : Corner) → turn a b a ≡ pos 0
+starts_on a b = same_by (a.x ∷ a.y ∷ b.x ∷ b.y ∷ []) (turn_expr (var 0) (var 1) (var 2) (var 3) (var 0) (var 1)) (lit (pos 0)) refl
+
+pub ends_on : (a b : Corner) → turn a b b ≡ pos 0
+ends_on a b = same_by (a.x ∷ a.y ∷ b.x ∷ b.y ∷ []) (turn_expr (var 0) (var 1) (var 2) (var 3) (var 2) (var 3)) (lit (pos 0)) refl
+
+first_in_range : (u v : ℤ) → (int_min u v ≤ℤ u) × (u ≤ℤ int_max u v)
+first_in_range u v = (omega (arith, ints, clamps), omega (arith, ints, clamps))
+
+-- and on it
+pub on_edge_start : (a b : Corner) → IsOnEdge (corner_point a) a b
+on_edge_start a b = on_edge_from_box a b a (starts_on a b) (first_in_range a.x b.x) (first_in_range a.y b.y)
+
+pub on_edge_end : (a b : Corner) → IsOnEdge (corner_point b) a b
+on_edge_end a b = on_edge_back b a (corner_point b) (on_edge_start b a)
+
+-- ---- points at a height between the ends of an edge
 -- the edge at the height of p, weighed by the heights of its ends
 heights_weigh : (a b : Corner) (p : Point)
     → (b.y *ℤ p.d -ℤ p.y) *ℤ (a.x *ℤ p.d -ℤ p.x) +ℤ (p.y -ℤ a.y *ℤ p.d) *ℤ (b.x *ℤ p.d -ℤ p.x) ≡ p.d *ℤ turn_at a b p

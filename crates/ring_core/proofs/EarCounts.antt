@@ -9,10 +9,10 @@ use lib.Signed.{◌<ℤ◌, ◌≤ℤ◌}
 use Rattle.geo_exact.specs.declared.corner.Corner.{Corner}
 use Rattle.geo_exact.specs.Turn.{turn}
 use Rattle.geo_exact.proofs.TurnLaws.{turn_cycle}
+use Rattle.geo_exact.proofs.OnEdge.{starts_on, ends_on}
 use Rattle.ring_core.specs.Places.{corner_at, after, before}
 use Rattle.ring_core.specs.Clipping.{previous, next, Blocks, HasNone}
 use Rattle.ring_core.specs.Kinds.{is_inside, count_inside, TurnsLeft}
-use Rattle.ring_core.proofs.EdgePoints.{starts_on, ends_on}
 use Rattle.ring_core.proofs.RoundNumbers.{before_in, after_in, before_other, after_other, neighbours_apart}
 use Rattle.ring_core.proofs.TakenOut.{inside_decides}
 

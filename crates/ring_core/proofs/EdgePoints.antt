@@ -1,38 +1,20 @@
 -- What a common point of two edges says of the turns and the boxes of their ends.
 use Rattle.std.proofs.Common.{◌≡◌, ◌⊎◌, ◌∙◌, ap, arith, inl, inr, [], ◌∷◌, refl}
-use Rattle.std.proofs.lemmas.Int.{ints, by_lt_z, clamps}
+use Rattle.std.proofs.lemmas.Int.{ints, by_lt_z}
 use Rattle.std.specs.Int.{int_min, int_max}
 use lib.IntN.{ℤ, pos, ◌+ℤ◌, ◌-ℤ◌, ◌*ℤ◌, neg_ℤ}
 use lib.Signed.{◌<ℤ◌, ◌≤ℤ◌}
 use Rattle.geo_exact.specs.declared.corner.Corner.{Corner}
-use Rattle.geo_exact.specs.Point.{Point, corner_point}
+use Rattle.geo_exact.specs.Point.{Point}
 use Rattle.geo_exact.specs.Turn.{turn, turn_at, IsOnEdge}
 use Rattle.geo_exact.proofs.Signs.{mul_pos, pos_of_mul, convex, mul_lt}
-use Rattle.geo_exact.proofs.Polynomials.{var, lit, add, mul, neg, same_by}
+use Rattle.geo_exact.proofs.Polynomials.{var, add, mul, neg, same_by}
 use Rattle.geo_exact.proofs.TurnLaws.{turn_at_expr, turn_expr, turn_at_back, turn_swap}
-use Rattle.geo_exact.proofs.CornerPoints.{on_edge_from_box}
 use Rattle.geo_exact.proofs.OnEdge.{le_of_lt, min_left, max_right, on_edge_back}
 
 -- the range of an edge whose first end is not beyond its second
 range : (u v d w : ℤ) → u ≤ℤ v → (int_min u v *ℤ d) ≤ℤ w → w ≤ℤ (int_max u v *ℤ d) → ((u *ℤ d) ≤ℤ w) × (w ≤ℤ (v *ℤ d))
 range u v d w o h k = (rw (min_left u v o) at h, rw (max_right u v o) at k)
-
--- the ends of an edge are on its line
-pub starts_on : (a b : Corner) → turn a b a ≡ pos 0
-starts_on a b = same_by (a.x ∷ a.y ∷ b.x ∷ b.y ∷ []) (turn_expr (var 0) (var 1) (var 2) (var 3) (var 0) (var 1)) (lit (pos 0)) refl
-
-pub ends_on : (a b : Corner) → turn a b b ≡ pos 0
-ends_on a b = same_by (a.x ∷ a.y ∷ b.x ∷ b.y ∷ []) (turn_expr (var 0) (var 1) (var 2) (var 3) (var 2) (var 3)) (lit (pos 0)) refl
-
-first_in_range : (u v : ℤ) → (int_min u v ≤ℤ u) × (u ≤ℤ int_max u v)
-first_in_range u v = (omega (arith, ints, clamps), omega (arith, ints, clamps))
-
--- an edge has its ends
-pub on_edge_start : (a b : Corner) → IsOnEdge (corner_point a) a b
-on_edge_start a b = on_edge_from_box a b a (starts_on a b) (first_in_range a.x b.x) (first_in_range a.y b.y)
-
-pub on_edge_end : (a b : Corner) → IsOnEdge (corner_point b) a b
-on_edge_end a b = on_edge_back b a (corner_point b) (on_edge_start b a)
 
 -- ---- a point of an edge whose ends are left of a line is left of it
 left_x : (a b c d : Corner) (p : Point)

@@ -1,7 +1,10 @@
 ghost use Rattle.std.specs.Prelude.{◌≤◌, length, IfOk};
 
-use crate::ear::triangle_at;
-use crate::plain::{plain_first_ear, plain_first_flat};
+use crate::ear::{corner_after, corner_before, is_flat, is_in_triangle, is_left, triangle_at};
+use crate::kind::{Kind, kind_at};
+use crate::meeting::{doubles_back, have_common_point};
+use crate::places::{following, preceding};
+use crate::plain::{is_ear, plain_first_ear, plain_first_flat};
 use crate::{Rest, Ring, RingFault, Shape, Tri, Triangles};
 use geo_exact::{Corner, Corners, turn};
 use std::alloc::{AllocError, Global};
@@ -371,5 +374,63 @@ fn a_rest_finds_its_flat_corners_and_ears(rt: HostRuntime) -> Result<(), Fail> {
         return Err(Fail::new("not four corners"));
     }
     assert_eq!(rt; rest.first_ear(), Some(0));
+    Ok(())
+}
+
+#[test]
+fn edges_have_common_points(rt: HostRuntime) -> Result<(), Fail> {
+    let (a, b) = (corner((0, 0))?, corner((60, 40))?);
+    let (on, off) = (corner((30, 20))?, corner((30, 21))?);
+    let (low, high) = (corner((60, 0))?, corner((0, 40))?);
+    assert!(rt; have_common_point(a, b, low, high));
+    assert!(rt; have_common_point(a, b, on, high));
+    assert!(rt; !have_common_point(a, b, off, high));
+    assert!(rt; have_common_point(a, on, on, b));
+    assert!(rt; have_common_point(a, b, on, corner((90, 60))?));
+    assert!(rt; !have_common_point(a, on, b, corner((90, 60))?));
+    assert!(rt; doubles_back(a, b, on));
+    assert!(rt; doubles_back(on, b, a));
+    assert!(rt; !doubles_back(a, on, b));
+    assert!(rt; !doubles_back(a, b, off));
+    Ok(())
+}
+
+#[test]
+fn closed_triangles_have_their_edges(rt: HostRuntime) -> Result<(), Fail> {
+    let (a, b, c) = (corner((0, 0))?, corner((60, 0))?, corner((0, 60))?);
+    assert!(rt; is_left(a, b, c));
+    assert!(rt; !is_left(b, a, c));
+    assert!(rt; !is_left(a, b, corner((90, 0))?));
+    assert!(rt; is_in_triangle(corner((20, 20))?, a, b, c));
+    assert!(rt; is_in_triangle(corner((30, 30))?, a, b, c));
+    assert!(rt; is_in_triangle(b, a, b, c));
+    assert!(rt; !is_in_triangle(corner((31, 30))?, a, b, c));
+    Ok(())
+}
+
+/// A triangle with a flat corner in one side and a dent in another.
+#[test]
+fn corners_have_neighbours_and_kinds(rt: HostRuntime) -> Result<(), Fail> {
+    let alloc = rt.alloc();
+    let dented = [(0, 0), (50, 0), (100, 0), (40, 40), (0, 100)];
+    let list = corners(alloc, &dented)?;
+    let rest = list.as_slice();
+    if rest.len() != 5 {
+        return Err(Fail::new("not five corners"));
+    }
+    assert_eq!(rt; (following(5, 3), following(5, 4)), (4, 0));
+    assert_eq!(rt; (preceding(5, 0), preceding(5, 1)), (4, 0));
+    assert_eq!(rt;
+        (corner_before(rest, 0), corner_after(rest, 4)),
+        (rest[4], rest[0])
+    );
+    assert!(rt; is_flat(rest, 1));
+    assert!(rt; !is_flat(rest, 3));
+    assert!(rt; matches!(kind_at(rest, 1), Kind::Flat));
+    assert!(rt; matches!(kind_at(rest, 2), Kind::Convex(3)));
+    assert!(rt; matches!(kind_at(rest, 3), Kind::Bent));
+    assert!(rt; matches!(kind_at(rest, 0), Kind::Convex(3)));
+    assert!(rt; is_ear(rest, 2));
+    assert!(rt; !is_ear(rest, 3));
     Ok(())
 }
