@@ -5,7 +5,8 @@
 
 Pairs of triangles and of shapes are made with a fixed seed, all in whole centimetres, and given to both programs: ours
 (programs/bench_overlap, proved and built by build.sh unless PROGRAM is given) and geos_overlap.cpp (Debian's libgeos-dev
-and g++). Making geometries isn't timed; our checking and clipping is printed apart. A pair whose answers differ is told.
+and g++). The two run in turns, three times, and each time is the least of all rounds. Making geometries isn't timed; our
+checking and clipping is printed apart. A pair whose answers differ is told.
 """
 import argparse, math, os, random, shutil, subprocess, sys, tempfile
 
@@ -119,8 +120,16 @@ def spirals(chance, n):
     return lines[0] + lines[1][::-1], lines[1] + lines[2][::-1]
 
 
+def slanted(chance, n):
+    """Two sides of a border that goes to and fro slantwise, so that nearly all boxes meet and little can be left out."""
+    def at(u, v):
+        return EAST + u - v, NORTH + u + v
+    line, top = [at(chance.randint(0, 40 * n), 10 * k) for k in range(n - 2)], 10 * (n - 3)
+    return [at(-n, top), at(-n, 0)] + line, [at(41 * n, 0), at(41 * n, top)] + line[::-1]
+
+
 TRIANGLES = (anywhere, common_edge, common_corner, corner_on_edge, sliver)
-SHAPES = (stars, border, zigzag, zigzag_met, spirals, notch)
+SHAPES = (stars, border, zigzag, zigzag_met, spirals, notch, slanted)
 
 
 def groups(seed):
@@ -131,10 +140,10 @@ def groups(seed):
             if first and second:
                 pairs.append((first, second))
         yield "%s/3" % kind.__name__, 3, pairs
-    for size, count in ((16, 1000), (256, 100), (4096, 5)):
+    for size, count, rounds in ((16, 1000, 3), (256, 100, 3), (4096, 5, 1)):
         for kind in SHAPES:
             chance = random.Random(seed)
-            yield "%s/%d" % (kind.__name__, size), 3, [kind(chance, size) for _ in range(count)]
+            yield "%s/%d" % (kind.__name__, size), rounds, [kind(chance, size) for _ in range(count)]
 
 
 def write(path, seed):
@@ -153,6 +162,14 @@ def answers(command, path):
     return {words[0]: words[1:] for words in map(str.split, run.stdout.splitlines())}
 
 
+def least(runs, times):
+    """The answers of the first run, with the least times of all."""
+    for name, words in runs[0].items():
+        for k in times:
+            words[k] = min((run[name][k] for run in runs), key=int)
+    return runs[0]
+
+
 def main():
     parser = argparse.ArgumentParser(description=__doc__, formatter_class=argparse.RawDescriptionHelpFormatter)
     parser.add_argument("--seed", type=int, default=1)
@@ -165,8 +182,11 @@ def main():
         subprocess.run(["g++", "-O2", "-o", peer, os.path.join(HERE, "geos_overlap.cpp"), "-lgeos_c"], check=True)
         if not given.ours:
             subprocess.run([os.path.join(HERE, "build.sh"), "bench_overlap", folder], check=True)
-        ours = answers([given.ours or os.path.join(folder, "bench_overlap")], path)
-        geos = answers([peer], path)
+        ours, geos = [], []
+        for _ in range(3):
+            ours.append(answers([given.ours or os.path.join(folder, "bench_overlap")], path))
+            geos.append(answers([peer], path))
+        ours, geos = least(ours, (1, 2)), least(geos, (1, 2))
     finally:
         shutil.rmtree(folder)
     print("microseconds a pair; how many times ours: relate, and intersects and not touches")

@@ -74,6 +74,6 @@ HoldsMeeting box t u = (p : Point) → IsInterior p (corners_of t) → IsInterio
 abbrev pub HoldsMeetings : Bounds → Tri → List Tri → Type 0
 HoldsMeetings box t us = (p : Point) → IsInterior p (corners_of t) → InSome p us → IsInside p box
 
--- the box has each point that is interior to a triangle of either list
+-- the box has each point that is interior to a triangle of the one list and to one of the other
 abbrev pub HoldsCommon : Bounds → List Tri → List Tri → Type 0
 HoldsCommon box ts us = (p : Point) → InSome p ts → InSome p us → IsInside p box

@@ -9,7 +9,7 @@ use crate::bounds::{Bounds, around, bounds_of, common, is_empty, is_wider, nowhe
 use geo_exact::{Corner, turn};
 use ring_core::Tri;
 
-/// The one of two numbers that lies ahead on a way from `from` to `to`.
+/// Of the two ends of a range, the one that lies ahead on a way from `from` to `to`: `high` where the way does not fall.
 fn ahead(from: i64, to: i64, low: i64, high: i64) -> i64
     ensures rising { from ≤ℤ to → result ≡ high }
     ensures falling { to <ℤ from → result ≡ low }
@@ -27,7 +27,7 @@ fn farthest_left(bounds: Bounds, from: Corner, to: Corner) -> Corner
     }
 }
 
-/// Whether it shows that nothing in the box is left of the way from one corner to another.
+/// Whether the farthest corner shows that nothing in the box is left of the way from one corner to another.
 fn is_right(bounds: Bounds, from: Corner, to: Corner) -> bool
     ensures { IsTrue result → IsRightOf bounds from to }
 {
