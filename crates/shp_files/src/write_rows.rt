@@ -65,4 +65,6 @@ fn writes_no_ring(rt: HostRuntime) {
     let (main, index) = write_layer(rt.alloc(), &[]).expect(&rt, "the files");
     assert_eq!(rt; main.as_slice(), EMPTY.as_slice());
     assert_eq!(rt; index.as_slice(), EMPTY.as_slice());
+    let rings = read_layer(rt.alloc(), &EMPTY, Some(&EMPTY), Unit::Cm).expect(&rt, "the rings");
+    assert_eq!(rt; rings.len(), 0);
 }
