@@ -64,6 +64,19 @@ def strips(slant, order):
     return make
 
 
+def cut(slant):
+    """21,845 strips, each cut into three at heights of its own: long edges with corners of others strictly inside."""
+    def make(folder):
+        pick, wide, high, rings = random.Random(1), 300, 10 ** 9, []
+        for k in range(21845):
+            heights = [0] + sorted(pick.randrange(1, high) for _ in range(2)) + [high]
+            for y, v in zip(heights, heights[1:]):
+                x = wide * k
+                rings.append([(x + slant * y, y), (x + slant * v, v), (x + wide + slant * v, v), (x + wide + slant * y, y)])
+        layers(folder, box(0, 0, 21845 * wide, high, slant * high), rings)
+    return make
+
+
 def rows(folder):
     """Eight long parcels, and between them 65,528 narrow ones with seven corners on either long line: 900,000 corners
     on sixteen lines."""
@@ -91,12 +104,28 @@ def corner(folder):
     layers(folder, box(0, 0, far, far), rings)
 
 
+def crossed(folder):
+    """35,000 parcels whose corners are a grid of 700 by 700, and 27,500 rings of sixteen long edges each that go to and fro
+    across all of it: no tiling, but the worst for the noding that we know."""
+    pick, step, rings = random.Random(1), 10 ** 6, []
+    for k in range(35000):
+        x, y = k % 100 * 7 * step, k // 100 * 2 * step
+        under = [(x + i * step, y) for i in range(7)]
+        over = [(x + i * step, y + step) for i in range(7)]
+        rings.append(over + under[::-1])
+    wide = 700 * step
+    for k in range(27500):
+        rings.append([(wide + 1 if i % 2 else -1, pick.randrange(wide)) for i in range(16)])
+    layers(folder, box(-1, 0, wide + 1, wide), rings)
+
+
 JOBS = (("city S", city("S")), ("city M", city("M")), ("city L", city("L")),
         ("city S, T", city("S", "--tjunction", "0.3")), ("city M, T", city("M", "--tjunction", "0.3")),
         ("city L, T", city("L", "--tjunction", "0.04")), ("city L, shuffled", shuffled),
         ("strips", strips(0, False)), ("strips, shuffled", strips(0, True)),
         ("slanted strips", strips(5 * 10 ** 9, False)), ("slanted, shuffled", strips(5 * 10 ** 9, True)),
-        ("rows", rows), ("corner", corner))
+        ("strips, cut", cut(0)), ("slanted, cut", cut(5)),
+        ("rows", rows), ("corner", corner), ("crossed", crossed))
 
 
 def apart(make, folder):

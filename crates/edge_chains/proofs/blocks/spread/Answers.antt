@@ -12,6 +12,6 @@ returns g c =
     let moved = c.sort_unstable_by.ensures.permutation in
     let whole = c.in_ok-spread.ensures.items in
     λ x. (
-      λ h. subst (λ xs. Contains xs x) whole (Contains-permutation _ _ x (IsPermutation-sym _ _ moved) (Contains-from_dedup _ _ x (rw is at h))),
+      λ h. subst (λ xs. Contains xs x) whole (Contains-permutation _ _ x (IsPermutation-sym c.in_ok-spread.spread.items c.sort_unstable_by.new.self.items moved) (Contains-from_dedup _ c.sort_unstable_by.new.self.items x (rw is at h))),
       λ h. rw is (Contains-dedup is_same_equivalence same_from_test c.sort_unstable_by.new.self.items x (Contains-permutation _ _ x moved (subst (λ xs. Contains xs x) (sym whole) h))),
     )
