@@ -5,11 +5,12 @@ use Rattle.std.specs.Int.{int_min, int_max}
 use lib.IntN.{ℤ, pos, ◌+ℤ◌, ◌-ℤ◌, ◌*ℤ◌, neg_ℤ}
 use lib.Signed.{◌<ℤ◌, ◌≤ℤ◌}
 use Rattle.geo_exact.specs.declared.corner.Corner.{Corner}
-use Rattle.geo_exact.specs.Point.{Point}
+use Rattle.geo_exact.specs.Point.{Point, corner_point}
 use Rattle.geo_exact.specs.Turn.{turn, turn_at, IsOnEdge}
 use Rattle.geo_exact.proofs.Signs.{mul_pos, pos_of_mul, convex, mul_lt}
 use Rattle.geo_exact.proofs.Polynomials.{var, add, mul, neg, same_by}
-use Rattle.geo_exact.proofs.TurnLaws.{turn_at_expr, turn_expr, turn_at_back, turn_swap}
+use Rattle.geo_exact.proofs.TurnLaws.{turn_at_expr, turn_expr, turn_at_back, turn_at_corner, turn_swap}
+use Rattle.geo_exact.proofs.SamePlace.{turn_at_place}
 use Rattle.geo_exact.proofs.OnEdge.{le_of_lt, min_left, max_right, on_edge_back}
 
 -- the range of an edge whose first end is not beyond its second
@@ -53,14 +54,13 @@ mean_pos u v d w s t r n z hd o between hs ht e f =
     whole : (k q x y m o : ℤ) → k *ℤ q ≡ x +ℤ y +ℤ m *ℤ o → o ≡ pos 0 → pos 0 <ℤ (x +ℤ y) → pos 0 <ℤ (k *ℤ q)
     whole k q x y m o g h i = omega (arith, ints, rw h at g)
 
-turn_at_place : (a b c : Corner) (p : Point) → p.x ≡ c.x *ℤ p.d → p.y ≡ c.y *ℤ p.d → turn_at a b p ≡ p.d *ℤ turn a b c
-turn_at_place a b c p h k =
-    ap (λ y. (b.x -ℤ a.x) *ℤ (y -ℤ a.y *ℤ p.d) -ℤ (b.y -ℤ a.y) *ℤ (p.x -ℤ a.x *ℤ p.d)) k
-    ∙ ap (λ x. (b.x -ℤ a.x) *ℤ (c.y *ℤ p.d -ℤ a.y *ℤ p.d) -ℤ (b.y -ℤ a.y) *ℤ (x -ℤ a.x *ℤ p.d)) h
-    ∙ same_by (a.x ∷ a.y ∷ b.x ∷ b.y ∷ c.x ∷ c.y ∷ p.d ∷ [])
-    (turn_at_expr (var 0) (var 1) (var 2) (var 3) (mul (var 4) (var 6)) (mul (var 5) (var 6)) (var 6))
-    (mul (var 6) (turn_expr (var 0) (var 1) (var 2) (var 3) (var 4) (var 5)))
-    refl
+-- the turn at the place of a corner
+turn_at_its_place : (a b c : Corner) (p : Point) → p.x ≡ c.x *ℤ p.d → p.y ≡ c.y *ℤ p.d → turn_at a b p ≡ p.d *ℤ turn a b c
+turn_at_its_place a b c p h k =
+    let same : pos 1 *ℤ turn_at a b p ≡ p.d *ℤ turn_at a b (corner_point c) =
+    turn_at_place a b p (corner_point c) (record { same_x = omega (arith, ints, h); same_y = omega (arith, ints, k) }) in
+    let once : turn_at a b p ≡ pos 1 *ℤ turn_at a b p = omega (arith, ints) in
+    once ∙ same ∙ ap (λ t. p.d *ℤ t) (turn_at_corner a b c)
 
 same_ends : (u v d w : ℤ) → v ≤ℤ u → u ≤ℤ v → (int_min u v *ℤ d) ≤ℤ w → w ≤ℤ (int_max u v *ℤ d) → w ≡ u *ℤ d
 same_ends u v d w o q h k =
@@ -74,7 +74,7 @@ left_of_line a b c d p h s t =
     by_lt_z c.x d.x (λ o. rising c d h s t o) (λ o. by_lt_z d.x c.x (λ q. rising d c (on_edge_back c d p h) t s q)
     (λ q. by_lt_z c.y d.y (λ r. upward c d h s t r) (λ r. by_lt_z d.y c.y (λ w. upward d c (on_edge_back c d p h) t s w)
     (λ w. let e : turn_at a b p ≡ p.d *ℤ turn a b c =
-    turn_at_place a b c p (same_ends c.x d.x p.d p.x o q h.from_x h.to_x) (same_ends c.y d.y p.d p.y r w h.from_y h.to_y) in
+    turn_at_its_place a b c p (same_ends c.x d.x p.d p.x o q h.from_x h.to_x) (same_ends c.y d.y p.d p.y r w h.from_y h.to_y) in
     rw e (mul_pos p.d (turn a b c) p.d_positive s)))))
   where
     rising : (m n : Corner) → IsOnEdge p m n → pos 0 <ℤ turn a b m → pos 0 <ℤ turn a b n → m.x <ℤ n.x → pos 0 <ℤ turn_at a b p
