@@ -218,8 +218,8 @@ steep_beside a b up = record {
     record { same_d = (refl, refl); in_x = omega (arith, ints); in_y = omega (arith, ints) },
     record {
       on_edge = on_edge_between a b (near a b (pos 0) (pos 0)) (turn_beside a b (pos 0) (pos 0) ∙ no_push a b) (omega (arith, ints)) (omega (arith, ints));
-      not_start = λ e. after_start a.y b.y up e.1;
-      not_end = λ e. before_end a.y b.y a.y_in_range b.y_in_range up e.1;
+      not_start = λ e. after_start a.y b.y up e.same_y;
+      not_end = λ e. before_end a.y b.y a.y_in_range b.y_in_range up e.same_y;
     },
   );
 }
@@ -245,8 +245,8 @@ level_beside a b f =
             from_y = subst (λ z. (z *ℤ whole) ≤ℤ m.y) (sym ly) (omega (arith, ints, f.same_height));
             to_y = subst (λ z. m.y ≤ℤ (z *ℤ whole)) (sym hy) (omega (arith, ints, f.same_height));
           };
-          not_start = λ e. after_start a.x b.x f.to_right e.0;
-          not_end = λ e. before_end a.x b.x a.x_in_range b.x_in_range f.to_right e.0;
+          not_start = λ e. after_start a.x b.x f.to_right e.same_x;
+          not_end = λ e. before_end a.x b.x a.x_in_range b.x_in_range f.to_right e.same_x;
         },
       );
     }

@@ -1,4 +1,4 @@
--- Blocks of neighbouring corners with their boxes (OGC 06-103r4, 6.1.2: Envelope, the minimum bounding box).
+-- Blocks of neighbouring corners, each with a box that has them all: what the search of the code keeps. Public contracts do not speak of it.
 use Rattle.std.specs.Prelude.{◌≡◌, ℕ, ◌<◌, ◌≤◌, List, length, slice_index, slice_index_or}
 use Rattle.geo_exact.specs.declared.corner.Corner.{Corner}
 use Rattle.edge_chains.specs.declared.bounds.Bounds.{Bounds}

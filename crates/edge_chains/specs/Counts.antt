@@ -1,5 +1,4 @@
--- What an `EdgeSum` shows: undirected edges with their net numbers (OGC 06-103r4, 6.1.7, Line and LinearRing: an edge runs from a start point to an
--- end point).
+-- What an `EdgeSum` shows: undirected edges with their net numbers (this product's own).
 use Rattle.std.specs.Prelude.{◌≡◌, ◌≢◌, ℕ, ℤ, pos, ◌-ℤ◌, neg_ℤ, int_lt, Bool, ◌&&◌, ◌||◌, if◌then◌else◌, IsTrue, Option, IsSome, Some, None, List}
 use Rattle.std.specs.Ordering.{int_eq}
 use Rattle.std.specs.Option.{unwrap_or}
@@ -40,7 +39,7 @@ net_at counts a b =
 abbrev pub entry_of : ℤ → Option ℤ
 entry_of n = if int_eq n (pos 0) then None else Some n
 
--- the counts as an `EdgeSum` keeps them: each edge in order, with a number other than 0, at most n away from it
+-- the counts as an `EdgeSum` keeps them, a map without repeated edges: each edge has its lesser corner first, and a number other than 0 of size n at most
 pub record AreCounts (counts : List ((Corner × Corner) × ℤ)) (n : ℕ) : Type 0 where
   pub in_order : (edge : Corner × Corner) → IsSome (lookup (is_same_edge edge) counts) → IsTrue (is_before edge.0 edge.1)
   pub no_zero : (edge : Corner × Corner) → lookup (is_same_edge edge) counts ≢ Some (pos 0)

@@ -1,4 +1,4 @@
--- The test of lying strictly inside an edge, and boxes of corners (OGC 06-103r4, 6.1.2: Envelope, the minimum bounding box).
+-- The test of lying strictly inside an edge (`Noding`), and boxes that have corners: what the code computes. Public contracts do not speak of it.
 use Rattle.std.specs.Prelude.{ℤ, pos, ◌≤ℤ◌, int_le, Bool, ◌&&◌, not}
 use Rattle.std.specs.declared.cmp.Ordering.{Ordering}
 use Rattle.std.specs.Ordering.{int_eq, int_cmp, ordering_then}

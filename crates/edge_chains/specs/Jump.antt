@@ -4,20 +4,16 @@
 use Rattle.std.specs.Prelude.{◌≡◌, ◌⊎◌, ℤ, pos, ◌+ℤ◌, ◌-ℤ◌, ◌*ℤ◌, ◌<ℤ◌, ◌≤ℤ◌, List, ◌++◌}
 use Rattle.std.specs.List.{Contains}
 use Rattle.geo_exact.specs.declared.corner.Corner.{Corner}
-use Rattle.geo_exact.specs.Point.{Point}
+use Rattle.geo_exact.specs.Point.{Point, IsPlaceOf}
 use Rattle.geo_exact.specs.Rings.{Edge}
 use Rattle.geo_exact.specs.Turn.{turn_at, IsOnEdge, IsOnSome}
 use Rattle.edge_chains.specs.Net.{all_edges, net_count, winding_sum}
 
--- p is at the place of the corner c
-abbrev pub IsAt : Point → Corner → Type 0
-IsAt p c = (p.x ≡ c.x *ℤ p.d) × (p.y ≡ c.y *ℤ p.d)
-
 -- p lies on the edge from a to b, and at neither of its ends
 pub record IsInsideEdge (p : Point) (a b : Corner) : Type 0 where
   pub on_edge : IsOnEdge p a b
-  pub not_start : ¬ IsAt p a
-  pub not_end : ¬ IsAt p b
+  pub not_start : ¬ IsPlaceOf p a
+  pub not_end : ¬ IsPlaceOf p b
 
 -- m is halfway from p to q; both points have the denominator of m
 pub record IsHalfway (m p q : Point) : Type 0 where

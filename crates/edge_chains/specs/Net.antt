@@ -1,4 +1,4 @@
--- Net numbers of directed edges over lists of rings (OGC 06-103r4, 6.1.7, Line and LinearRing: an edge runs from a start point to an end point).
+-- Net numbers of directed edges over lists of rings (this product's own; OGC 06-103r4, 6.1.6, Curve: a line runs from a start point to an end point).
 use Rattle.std.specs.Prelude.{ℕ, ◌+◌, ℤ, pos, ◌+ℤ◌, ◌-ℤ◌, Bool, ◌&&◌, if◌then◌else◌, List, [], ◌∷◌, ◌++◌}
 use Rattle.std.specs.Ordering.{int_eq}
 use Rattle.geo_exact.specs.declared.corner.Corner.{Corner}

@@ -1,16 +1,11 @@
 -- Simple rings: their edges meet only as neighbours do (OGC 06-103r4, 6.1.7, LinearRing: closed and simple; 6.1.6, Curve: simple).
 -- Stricter than there, where a curve is a set of points: here the ring runs counterclockwise, and an edge of no length is an edge like another.
-use Rattle.std.specs.Prelude.{◌≡◌, ◌⊎◌, ℕ, ◌<◌, pos, ◌*ℤ◌, ◌<ℤ◌, List, length}
+use Rattle.std.specs.Prelude.{◌≡◌, ◌⊎◌, ℕ, ◌<◌, pos, ◌<ℤ◌, List, length}
 use Rattle.geo_exact.specs.declared.corner.Corner.{Corner}
-use Rattle.geo_exact.specs.Point.{Point}
+use Rattle.geo_exact.specs.Point.{Point, IsPlaceOf}
 use Rattle.geo_exact.specs.Turn.{IsOnEdge}
 use Rattle.geo_exact.specs.Area.{area2}
 use Rattle.ring_core.specs.Places.{corner_at, after}
-
--- p is the place of the corner
-pub record IsPlaceOf (p : Point) (corner : Corner) : Type 0 where
-  pub same_x : p.x ≡ corner.x *ℤ p.d
-  pub same_y : p.y ≡ corner.y *ℤ p.d
 
 -- some point lies on the edge from a to b and on the edge from c to d
 abbrev pub HaveCommonPoint : Corner → Corner → Corner → Corner → Type 0

@@ -1,8 +1,8 @@
 ghost use Rattle.std.specs.Prelude.{◌↔◌, ◌⊎◌, ◌≤ℤ◌, ◌<ℤ◌, pos, IsTrue};
 ghost use Rattle.std.specs.Int.{int_max, int_min};
-ghost use Rattle.geo_exact.specs.Point.{corner_point};
+ghost use Rattle.geo_exact.specs.Point.{IsPlaceOf, corner_point};
 ghost use Rattle.geo_exact.specs.Turn.{IsOnEdge, turn as turn_of};
-ghost use Rattle.ring_core.specs.Simple.{DoublesBack, HaveCommonPoint, IsPlaceOf};
+ghost use Rattle.ring_core.specs.Simple.{DoublesBack, HaveCommonPoint};
 
 use geo_exact::{Corner, on_segment, turn};
 

@@ -15,7 +15,7 @@ use Rattle.geo_exact.proofs.TurnLaws.{weighed_x, weighed_y}
 use Rattle.ring_core.specs.declared.triangle.Tri.{Tri}
 use Rattle.ring_core.specs.Sums.{corners_of}
 use Rattle.tri_overlap.specs.declared.bounds.Bounds.{Bounds}
-use Rattle.tri_overlap.specs.Bounding.{HoldsCorner, Holds, HoldsMeeting, AreApart, IsEmpty, IsInside, IsRightOfSome, IsWider}
+use Rattle.tri_overlap.specs.Bounding.{HoldsCorner, Holds, HoldsMeeting, BoxesAreApart, IsEmpty, IsInside, IsRightOfSome, IsWider}
 
 -- a weighed sum without a positive term, one of which is negative, is negative
 some_negative : (u v w a b c : ℤ) → pos 0 <ℤ u → pos 0 <ℤ v → pos 0 <ℤ w → a <ℤ pos 0 → b ≤ℤ pos 0 → c ≤ℤ pos 0
@@ -87,14 +87,14 @@ inside_box t p box h i =
     }
 
 -- no place lies inside two boxes that are apart
-not_in_both : (p : Point) (s t : Bounds) → AreApart s t → IsInside p s → IsInside p t → ⊥
+not_in_both : (p : Point) (s t : Bounds) → BoxesAreApart s t → IsInside p s → IsInside p t → ⊥
 not_in_both p s t (inl (inl h)) i j = omega (arith, ints, mul_le s.high.x t.low.x p.d (omega (arith, ints, p.d_positive)) h, i.east, j.west)
 not_in_both p s t (inl (inr h)) i j = omega (arith, ints, mul_le t.high.x s.low.x p.d (omega (arith, ints, p.d_positive)) h, i.west, j.east)
 not_in_both p s t (inr (inl h)) i j = omega (arith, ints, mul_le s.high.y t.low.y p.d (omega (arith, ints, p.d_positive)) h, i.north, j.south)
 not_in_both p s t (inr (inr h)) i j = omega (arith, ints, mul_le t.high.y s.low.y p.d (omega (arith, ints, p.d_positive)) h, i.south, j.north)
 
 -- triangles have no common inner point where one is in a box that is apart from another that has all of them
-pub apart_triangles : (s t : Tri) (box other : Bounds) → HoldsMeeting box s t → Holds other t → AreApart box other → ¬ InteriorsMeet (corners_of s) (corners_of t)
+pub apart_triangles : (s t : Tri) (box other : Bounds) → HoldsMeeting box s t → Holds other t → BoxesAreApart box other → ¬ InteriorsMeet (corners_of s) (corners_of t)
 apart_triangles s t box other h k a m = not_in_both m.0 box other a (h m.0 m.1 m.2) (inside_box t m.0 other k m.2)
 
 holds_corner : (box wider : Bounds) → IsWider box wider → (corner : Corner) → HoldsCorner box corner → HoldsCorner wider corner

@@ -1,4 +1,5 @@
--- Boxes with sides along the axes round triangles (OGC 06-103r4, 6.1.2.2, Envelope; here each box that holds them, not the least alone).
+-- Boxes with sides along the axes: what the code tests before it looks at edges (OGC 06-103r4, 6.1.2.2, Envelope, is the least such box; here any box
+-- that holds what it is of). Public contracts do not speak of it.
 use Rattle.std.specs.Prelude.{◌⊎◌, ℤ, pos, ◌*ℤ◌, ◌<ℤ◌, ◌≤ℤ◌, List, [], ◌∷◌}
 use Rattle.std.specs.List.{All}
 use Rattle.geo_exact.specs.declared.corner.Corner.{Corner}
@@ -30,9 +31,9 @@ HoldsAll box ts = All (Holds box) ts
 abbrev pub EndsBefore : (u v s t : ℤ) → Type 0
 EndsBefore u v s t = (v ≤ℤ s) ⊎ (t ≤ℤ u)
 
--- the boxes have no common inner place: in x or in y one ends where the other begins, or before
-abbrev pub AreApart : Bounds → Bounds → Type 0
-AreApart s t = EndsBefore s.low.x s.high.x t.low.x t.high.x ⊎ EndsBefore s.low.y s.high.y t.low.y t.high.y
+-- in x or in y one of the boxes ends where the other begins, or before: then nothing is inside both
+abbrev pub BoxesAreApart : Bounds → Bounds → Type 0
+BoxesAreApart s t = EndsBefore s.low.x s.high.x t.low.x t.high.x ⊎ EndsBefore s.low.y s.high.y t.low.y t.high.y
 
 -- the box has no inner place: in x or in y it ends where it begins, or before
 abbrev pub IsEmpty : Bounds → Type 0

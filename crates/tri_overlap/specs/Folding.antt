@@ -1,4 +1,4 @@
--- Two triangles of one list whose interiors meet (OGC 06-103r4, 6.1.12, PolyhedralSurface: its polygons touch on their boundaries alone).
+-- Two triangles of one list whose interiors meet (OGC 06-103r4, 6.1.13, MultiSurface: the interiors of its surfaces may not intersect).
 use Rattle.std.specs.Prelude.{◌≡◌, ◌⊎◌, ℕ, ◌<◌, List, Some, slice_get}
 use Rattle.geo_exact.specs.Interiors.{InteriorsMeet}
 use Rattle.ring_core.specs.declared.triangle.Tri.{Tri}

@@ -1,4 +1,5 @@
--- Separating edges: what an edge of one triangle sees of another (the test behind OGC 06-103r4, 6.1.15.2, for two triangles).
+-- Separating edges: what an edge of one triangle sees of another. Two triangles are apart exactly where an edge of one of them separates it from the other
+-- (E. Helly's theorem, 1923, for half planes).
 use Rattle.std.specs.Prelude.{◌⊎◌, pos, ◌<ℤ◌, ◌≤ℤ◌, List, [], ◌∷◌}
 use Rattle.geo_exact.specs.declared.corner.Corner.{Corner}
 use Rattle.geo_exact.specs.Turn.{turn}
@@ -10,7 +11,7 @@ use Rattle.ring_core.specs.Sums.{corners_of}
 abbrev pub SeesSome : (g h a b c : Corner) → Type 0
 SeesSome g h a b c = (pos 0 <ℤ turn g h a) ⊎ (pos 0 <ℤ turn g h b) ⊎ (pos 0 <ℤ turn g h c)
 
--- each edge of the first triangle has some corner of the second on its left
+-- each edge of the first triangle has some corner of the second on its left (the interiors meet where this holds both ways)
 abbrev pub NoEdgeSeparates : Tri → Tri → Type 0
 NoEdgeSeparates first second =
     SeesSome first.a first.b second.a second.b second.c

@@ -2,7 +2,7 @@ ghost use Rattle.std.specs.Prelude.{◌≡◌, ◌↔◌, IsTrue};
 ghost use Rattle.std.specs.Int.{int_max, int_min};
 ghost use Rattle.geo_exact.specs.Point.{Point};
 ghost use Rattle.tri_overlap.specs.declared.bounds.Bounds.{Bounds};
-ghost use Rattle.tri_overlap.specs.Bounding.{AreApart, EndsBefore, Holds, HoldsAll, IsEmpty, IsInside, IsWider, LiesBetween};
+ghost use Rattle.tri_overlap.specs.Bounding.{BoxesAreApart, EndsBefore, Holds, HoldsAll, IsEmpty, IsInside, IsWider, LiesBetween};
 
 use geo_exact::{Corner, LIMIT};
 use ring_core::Tri;
@@ -100,7 +100,7 @@ fn ends_before(u: i64, v: i64, s: i64, t: i64) -> bool
 
 /// Whether the boxes have no common inner place; boxes that only touch have none.
 pub fn are_apart(first: Bounds, second: Bounds) -> bool
-    ensures { IsTrue result ↔ AreApart first second }
+    ensures { IsTrue result ↔ BoxesAreApart first second }
 {
     ends_before(first.low.x, first.high.x, second.low.x, second.high.x)
         || ends_before(first.low.y, first.high.y, second.low.y, second.high.y)
