@@ -185,8 +185,14 @@ fn shapes_that_meet_between_whole_points(rt: HostRuntime) -> Result<(), Fail> {
     let neighbour = shape(alloc, &[(0, 0), (100, 0), (100, 100)])?;
     assert!(rt; !shapes_overlap(&parcel, &neighbour));
     assert!(rt; shapes_overlap(&zone, &neighbour));
+    let other_zone = shape(alloc, &[(0, 0), (50, 51), (100, 100), (0, 100)])?;
+    assert!(rt; shapes_overlap(&parcel, &other_zone));
+    assert!(rt; !shapes_overlap(&neighbour, &other_zone));
+    assert!(rt; !shapes_overlap(&zone, &other_zone));
     assert_eq!(rt; folded(&parcel), None);
+    assert_eq!(rt; folded(&neighbour), None);
     assert_eq!(rt; folded(&zone), None);
+    assert_eq!(rt; folded(&other_zone), None);
     Ok(())
 }
 
@@ -208,6 +214,13 @@ fn shapes_with_a_bay(rt: HostRuntime) -> Result<(), Fail> {
     assert_eq!(rt; folded(&bay), None);
     let in_the_bay = shape(alloc, &[(40, 20), (100, 20), (100, 80), (40, 80)])?;
     assert!(rt; !shapes_overlap(&bay, &in_the_bay));
+    let west_part = shape(alloc, &[(40, 20), (70, 20), (70, 80), (40, 80)])?;
+    let east_part = shape(alloc, &[(70, 20), (100, 20), (100, 80), (70, 80)])?;
+    assert!(rt; !shapes_overlap(&west_part, &east_part));
+    assert!(rt; !shapes_overlap(&bay, &west_part));
+    assert!(rt; shapes_overlap(&in_the_bay, &west_part));
+    assert_eq!(rt; folded(&west_part), None);
+    assert_eq!(rt; folded(&east_part), None);
     let over_the_edge = shape(alloc, &[(39, 30), (100, 30), (100, 70), (39, 70)])?;
     assert!(rt; shapes_overlap(&bay, &over_the_edge));
     Ok(())
