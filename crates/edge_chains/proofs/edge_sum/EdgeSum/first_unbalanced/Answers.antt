@@ -1,7 +1,7 @@
 use Rattle.std.proofs.Common.{sym, ap, ◌∙◌, subst, ◌++◌, ◌∷◌, [], None, rules, w64}
 use Rattle.std.proofs.lemmas.Int.{to_z-of_z}
 use mir.Val.{SFits}
-use Rattle.edge_chains.specs.Counts.{Counts, AreCounts}
+use Rattle.edge_chains.specs.Counts.{net_at, Counts, AreCounts}
 use Rattle.edge_chains.proofs.Firsts.{IsFirstOf, IsFirstOf-more, IsFirstOf-whole, IsFirstUnbalanced-from_first}
 use Rattle.edge_chains.proofs.Firsts.{found_next, one_more_done, none_counted, if_none_always}
 use Rattle.edge_chains.proofs.Jumps.{jump_beside}
@@ -55,4 +55,4 @@ returns-in_err-a-clause-areas g c =
 pub returns-clause-jump : goal.returns-clause-jump
 returns-clause-jump g c =
     let first = returns-clause-first g c in
-    λ added taken k h. jump_beside added taken h c.in_ok-a.a c.in_ok-a.b (λ z. first.is_unbalanced (sym first.number ∙ k c.in_ok-a.a c.in_ok-a.b ∙ z))
+    λ added taken k h. jump_beside added taken h c.in_ok-a.a c.in_ok-a.b (λ z. first.is_unbalanced (sym {a = net_at c.args.self.now.counts c.in_ok-a.a c.in_ok-a.b} first.number ∙ k c.in_ok-a.a c.in_ok-a.b ∙ z))
