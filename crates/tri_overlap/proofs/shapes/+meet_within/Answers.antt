@@ -13,10 +13,16 @@ returns-then-is_empty t c = (
 )
 
 pub meet_within-requires : goal.meet_within-requires
-meet_within-requires t c = (search rules, λ p i j. c.narrowed-part.ensures p j (c.requires p j (of_front p _ _ (rw c.split_at.ensures.front at i))))
+meet_within-requires t c = (
+  search rules,
+  λ p i j. c.narrowed-part.ensures p j (c.requires p j (of_front p _ _ (rw c.split_at.ensures.front at i))),
+)
 
 pub meet_within-requires-else-meet_within : goal.meet_within-requires-else-meet_within
-meet_within-requires-else-meet_within t c = (search rules, λ p i j. c.narrowed-part.ensures p j (c.requires p j (of_back p _ _ (rw c.split_at.ensures.back at i))))
+meet_within-requires-else-meet_within t c = (
+  search rules,
+  λ p i j. c.narrowed-part.ensures p j (c.requires p j (of_back p _ _ (rw c.split_at.ensures.back at i))),
+)
 
 pub returns-then-meet_within : goal.returns-then-meet_within
 returns-then-meet_within t c =

@@ -1,5 +1,6 @@
 use Rattle.tri_overlap.proofs.Boxes.{inside_box, nothing_in_empty, inside_wider, not_right}
-use Rattle.tri_overlap.proofs.windows.widened.Goals.{then-is_empty-via-then-is_empty, then-is_empty-via-else-is_empty+then-is_wider, then-is_empty-via-else-is_empty+else-is_wider+then-misses}
+use Rattle.tri_overlap.proofs.windows.widened.Goals.{then-is_empty-via-then-is_empty, then-is_empty-via-else-is_empty+then-is_wider}
+use Rattle.tri_overlap.proofs.windows.widened.Goals.{then-is_empty-via-else-is_empty+else-is_wider+then-misses}
 use Rattle.tri_overlap.proofs.windows.widened.Goals as goal
 
 pub returns-then-is_empty-clause-added : goal.returns-then-is_empty-clause-added
@@ -15,4 +16,6 @@ pub returns-clause-kept : goal.returns-clause-kept
 returns-clause-kept c = inside_wider _ _ c.around.ensures.first
 
 pub returns-clause-added : goal.returns-clause-added
-returns-clause-added c = λ p i w. inside_wider _ _ c.around.ensures.second p ((c.common-part.ensures p).1 (w, inside_box c.args.triangle.now p _ c.bounds_of.ensures i))
+returns-clause-added c = λ p i w.
+    let inside = inside_box c.args.triangle.now p _ c.bounds_of.ensures i in
+    inside_wider _ _ c.around.ensures.second p ((c.common-part.ensures p).1 (w, inside))
