@@ -8,16 +8,13 @@ use Rattle.geo_exact.specs.declared.corner.Corner.{Corner}
 use Rattle.geo_exact.specs.Turn.{turn}
 use Rattle.geo_exact.proofs.Signs.{mul_pos, mul_neg, mul_not_neg, mul_zero, pos_of_mul}
 use Rattle.geo_exact.proofs.Differences.{expand}
-use Rattle.geo_exact.proofs.Polynomials.{Expr, var, add, mul, neg, same_by}
+use Rattle.geo_exact.proofs.Polynomials.{var, add, mul, sub, same_by}
 use Rattle.geo_exact.proofs.TurnLaws.{turn_expr}
 use Rattle.edge_chains.specs.Noding.{IsStrictlyInside, AreAlong}
 use Rattle.edge_chains.proofs.Corners.{IsBefore}
 use Rattle.edge_chains.proofs.Inside.{IsBetween, inside_from_strictly, strictly_from_inside}
 
 -- ---- two directions (u, v) and (e, f) on one line: u f - v e is 0
-abbrev sub : Expr → Expr → Expr
-sub p q = add p (neg q)
-
 pub along_u : (u v e f : ℤ) → u *ℤ (u *ℤ e +ℤ v *ℤ f) ≡ (u *ℤ u +ℤ v *ℤ v) *ℤ e +ℤ v *ℤ (u *ℤ f -ℤ v *ℤ e)
 along_u u v e f =
     same_by (u ∷ v ∷ e ∷ f ∷ [])
@@ -156,12 +153,13 @@ still_on_line a b c d h k l =
     (turn_later_x a b c d)))
     (zero_cases (b.x -ℤ a.x))
 
+-- a direction that isn't level in both parts has a length
+pub squares : (u v : ℤ) → (u ≡ pos 0 → v ≡ pos 0 → ⊥) → pos 0 <ℤ (u *ℤ u +ℤ v *ℤ v)
+squares u v h =
+    ⊎_elim (λ p. omega (arith, ints, square_not_neg u, square_pos v (λ q. h p q))) (λ p. omega (arith, ints, square_pos u p, square_not_neg v)) (zero_cases u)
+
 length_pos : (u v e f : ℤ) → pos 0 <ℤ (u *ℤ e +ℤ v *ℤ f) → pos 0 <ℤ (u *ℤ u +ℤ v *ℤ v)
-length_pos u v e f h =
-    ⊎_elim
-    (λ p. omega (arith, ints, square_not_neg u, square_pos v (λ q. not_both_level u v e f h p q)))
-    (λ p. omega (arith, ints, square_pos u p, square_not_neg v))
-    (zero_cases u)
+length_pos u v e f h = squares u v (not_both_level u v e f h)
 
 -- of two corners inside an edge, the later one is inside what is left behind the earlier one
 pub later_inside : (a b c d : Corner) → IsStrictlyInside c a b → IsStrictlyInside d a b → LeadsOn a b c d → IsStrictlyInside d c b

@@ -6,12 +6,9 @@ use Rattle.geo_exact.specs.declared.corner.Corner.{Corner}
 use Rattle.geo_exact.specs.Limit.{IsWithin, limit}
 use Rattle.geo_exact.specs.Point.{Point}
 use Rattle.geo_exact.specs.Turn.{turn, turn_at}
-use Rattle.geo_exact.proofs.Polynomials.{Expr, var, add, mul, neg, same_by}
+use Rattle.geo_exact.proofs.Polynomials.{var, add, mul, sub, same_by}
 use Rattle.geo_exact.proofs.TurnLaws.{turn_expr}
 use Rattle.geo_exact.proofs.Within.{product_within}
-
-abbrev sub : Expr → Expr → Expr
-sub p q = add p (neg q)
 
 -- the denominator, and how much of it is one step along the edge: more than any sum of what comes behind
 abbrev pub whole : ℤ

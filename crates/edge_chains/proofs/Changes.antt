@@ -1,5 +1,5 @@
 -- How the numbers of edges change when an edge is counted.
-use Rattle.std.proofs.Common.{◌≡◌, ◌≢◌, refl, sym, ◌∙◌, ap, subst, arith, ℕ, suc, ◌+◌, ◌<◌, ◌≤◌, length, get_or, drop, drop-cons, add-one, Bool, true, false}
+use Rattle.std.proofs.Common.{◌≡◌, ◌≢◌, refl, sym, ◌∙◌, ap, subst, arith, ℕ, ◌+◌, ◌<◌, ◌≤◌, length, get_or, drop, Bool, true, false}
 use Rattle.std.proofs.Common.{cond, ◌&&◌, if◌then◌else◌, IsTrue, ℤ, pos, neg_ℤ, ◌+ℤ◌, ◌-ℤ◌, List}
 use Rattle.std.proofs.Common.{[], ◌∷◌, Option, Some, None, IsSome, Result, Ok, Err, IsOk, OnOk}
 use Rattle.std.specs.Option.{unwrap_or}
@@ -11,6 +11,7 @@ use Rattle.std.proofs.lemmas.Bool.Decides.{Decides-int_eq, Decides-and}
 use Rattle.geo_exact.specs.declared.corner.Corner.{Corner}
 use Rattle.geo_exact.specs.Limit.{IsWithin}
 use Rattle.geo_exact.specs.Rings.{Edge, path}
+use Rattle.geo_exact.proofs.Dropped.{drop_item}
 use Rattle.geo_exact.proofs.EdgeSums.{edge_of}
 use Rattle.edge_chains.specs.Net.{is_same, net_of_edges}
 use Rattle.edge_chains.specs.Counts.{entry_of, is_before, is_same_edge, number_at, net_at, AreCounts}
@@ -227,9 +228,6 @@ AreCounts-upto counts m n l h = record { in_order = h.in_order; no_zero = h.no_z
     upto : (z : ℤ) → IsWithin m z → IsWithin n z
     upto z k = record { low = omega (arith, ints); high = omega (arith, ints) }
 
-drop_here : (xs : List Corner) (i : ℕ) (x : Corner) → i < length xs → x ≡ get_or xs i x → drop i xs ≡ x ∷ drop (i + 1) xs
-drop_here xs i x l e = rw add-one (drop-cons xs i x l ∙ ap (λ y. y ∷ drop (suc i) xs) (sym e))
-
 -- a loop's step over a ring's corners
 pub counted_more : (side : Side) (before after whole : ℤ) (from to last : Corner) (rest : List Corner) (i : ℕ) (a b : Corner)
     → i < length rest → to ≡ get_or rest i to
@@ -238,7 +236,7 @@ pub counted_more : (side : Side) (before after whole : ℤ) (from to last : Corn
     → after +ℤ signed side (net_of_edges (path to (drop (i + 1) rest) last) a b) ≡ whole
 counted_more side before after whole from to last rest i a b l e h k =
     let c : net_of_edges (path from (drop i rest) last) a b ≡ net_of_edges (edge_of from to ∷ []) a b +ℤ net_of_edges (path to (drop (i + 1) rest) last) a b =
-    ap (λ xs. net_of_edges (path from xs last) a b) (drop_here rest i to l e) ∙ net_of_cons (edge_of from to) (path to (drop (i + 1) rest) last) a b in
+    ap (λ xs. net_of_edges (path from xs last) a b) (drop_item rest i to l e) ∙ net_of_cons (edge_of from to) (path to (drop (i + 1) rest) last) a b in
     regroup before after whole (signed side (net_of_edges (path from (drop i rest) last) a b))
     (signed side (net_of_edges (edge_of from to ∷ []) a b)) (signed side (net_of_edges (path to (drop (i + 1) rest) last) a b))
     h k (signed_more side (net_of_edges (edge_of from to ∷ []) a b) (net_of_edges (path to (drop (i + 1) rest) last) a b)

@@ -11,6 +11,7 @@ use Rattle.geo_exact.specs.Turn.{turn}
 use Rattle.geo_exact.proofs.Signs.{mul_not_neg}
 use Rattle.geo_exact.proofs.TurnLaws.{turn_at_corner}
 use Rattle.geo_exact.proofs.Differences.{expand}
+use Rattle.geo_exact.proofs.Orders.{Decides-int_le}
 use Rattle.edge_chains.specs.declared.bounds.Bounds.{Bounds}
 use Rattle.edge_chains.specs.Net.{is_same}
 use Rattle.edge_chains.specs.Noding.{IsStrictlyInside}
@@ -18,9 +19,6 @@ use Rattle.edge_chains.specs.Inside.{is_between, is_from_to, is_inside, is_in_bo
 use Rattle.edge_chains.proofs.Corners.{false_where, Decides-is_same, Decides-int_lt}
 
 -- ---- the test
-Decides-int_le : (x y : ℤ) → Decides (le_z x y) (x ≤ℤ y)
-Decides-int_le x y = (λ e. omega (arith, ints), λ h. let e : true ≡ le_z x y = omega (arith, ints) in sym e)
-
 abbrev pub IsBetween : ℤ → ℤ → ℤ → Type 0
 IsBetween u v z = (int_min u v ≤ℤ z) × (z ≤ℤ int_max u v)
 

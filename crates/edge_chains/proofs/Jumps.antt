@@ -14,9 +14,9 @@ use Rattle.geo_exact.specs.Rings.{Edge, path, edges, sum_over}
 use Rattle.geo_exact.specs.Turn.{turn, turn_at, IsOnEdge, IsOnSome}
 use Rattle.geo_exact.specs.Winding.{crossing}
 use Rattle.geo_exact.proofs.SameCorner.{corner_same}
-use Rattle.geo_exact.proofs.EdgeSums.{edge_of, sum_over-append}
+use Rattle.geo_exact.proofs.EdgeSums.{edge_of, sum_over-append, sum_over-plus}
 use Rattle.geo_exact.proofs.TurnLaws.{turn_at_back}
-use Rattle.geo_exact.proofs.OnEdge.{on_edge_back, on_edge_between}
+use Rattle.geo_exact.proofs.OnEdge.{on_edge_back, on_edge_between, starts_on}
 use Rattle.edge_chains.specs.Net.{edge_count, all_edges, net_of_edges, net_count, winding_sum}
 use Rattle.edge_chains.specs.Noding.{IsStrictlyInside, all_corners, AreFullyNoded}
 use Rattle.edge_chains.specs.Jump.{AreBeside, Joins, MeetsOnly, winding_difference, net_difference, IsJump}
@@ -27,7 +27,7 @@ use Rattle.edge_chains.proofs.NodedEdges.{none_in_nil, Contains-here, Contains-t
 use Rattle.edge_chains.proofs.Parts.{strictly_back}
 use Rattle.edge_chains.proofs.Beside.{whole, step, near, cross, push, turn_near, last_one, step_past, step_short}
 use Rattle.edge_chains.proofs.Segments.{start_on_segment, segment_back}
-use Rattle.edge_chains.proofs.Steep.{AreClear, left_of, right_of, turn_itself, cross_itself, steep_jump, steep_meets}
+use Rattle.edge_chains.proofs.Steep.{AreClear, left_of, right_of, cross_itself, steep_jump, steep_meets}
 use Rattle.edge_chains.proofs.Level.{IsLevel, above_of, below_of, shift, level_jump, level_meets}
 
 -- ---- sums over edges
@@ -42,10 +42,6 @@ sum_over-minus f g (e ∷ es) = omega (arith, ints, sum_over-minus f g es)
 sum_over-net : (a b : Corner) (es : List Edge) → sum_over (λ e. net_of_edges (e ∷ []) a b) es ≡ net_of_edges es a b
 sum_over-net a b [] = refl
 sum_over-net a b (e ∷ es) = ap (λ z. net_of_edges (e ∷ []) a b +ℤ z) (sum_over-net a b es) ∙ sym (net_of_cons e es a b)
-
-sum_over-two : (f g : Edge → ℤ) (es : List Edge) → sum_over (λ e. f e +ℤ g e) es ≡ sum_over f es +ℤ sum_over g es
-sum_over-two f g [] = refl
-sum_over-two f g (e ∷ es) = omega (arith, ints, sum_over-two f g es)
 
 -- what each edge takes from its start and gives to its end
 climbs_path : (height : Corner → ℤ) (from to : Corner) (rest : List Corner)
@@ -80,7 +76,7 @@ rings_jump l r height a b rings h =
     (sum_over up es) (sum_over one es) (net_count rings a b)
     (sum_of_rings-edges cl rings) (sum_of_rings-edges cr rings) (sum_over-minus cl cr es)
     (sum_over-on (λ e. cl e -ℤ cr e) (λ e. up e +ℤ one e) es (all_from_contains (λ e. cl e -ℤ cr e ≡ up e +ℤ one e) es h))
-    (sum_over-two up one es) (climbs height rings) (sum_over-net a b es)
+    (sum_over-plus up one es) (climbs height rings) (sum_over-net a b es)
   where
     total : (wl wr sl sr d t u o n : ℤ) → wl ≡ sl → wr ≡ sr → d ≡ sl -ℤ sr → d ≡ t → t ≡ u +ℤ o → u ≡ pos 0 → o ≡ n → wl -ℤ wr ≡ n
     total wl wr sl sr d t u o n h1 h2 h3 h4 h5 h6 h7 = omega (arith, ints)
@@ -197,7 +193,7 @@ IsJump-from l r height a b added taken beside jumps meets = record {
 
 -- ---- the points are beside the edge
 turn_beside : (a b : Corner) (ex ey : ℤ) → turn_at a b (near a b ex ey) ≡ push a b ex ey
-turn_beside a b ex ey = turn_near a b a b ex ey ∙ last_one (turn a b a) (cross a b a b) (push a b ex ey) (turn_itself a b) (cross_itself a b)
+turn_beside a b ex ey = turn_near a b a b ex ey ∙ last_one (turn a b a) (cross a b a b) (push a b ex ey) (starts_on a b) (cross_itself a b)
 
 no_push : (a b : Corner) → push a b (pos 0) (pos 0) ≡ pos 0
 no_push a b = omega (arith, ints)

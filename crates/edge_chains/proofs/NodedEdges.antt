@@ -1,24 +1,22 @@
 -- Edges with the corners that were inserted into them.
 use Rattle.std.proofs.Common.{◌≡◌, ◌⊎◌, ◌↔◌, inl, inr, ⊎_elim, refl, sym, ◌∙◌, ap, subst, arith, Bool, true, false, cond, ℕ, ◌+◌}
-use Rattle.std.proofs.Common.{◌<◌, length, get_or, drop, ℤ, List, [], ◌∷◌, ◌++◌, append_assoc, append-nil, reverse, map, take, Result, Ok, Err, IfOk}
-use Rattle.std.specs.Int.{int_min, int_max}
+use Rattle.std.proofs.Common.{◌<◌, length, get_or, drop, List, [], ◌∷◌, ◌++◌, append_assoc, append-nil, reverse, map, take, Result, Ok, Err, IfOk}
 use Rattle.std.specs.List.{Contains, filter, AllByRecursion, AllZip}
 use Rattle.std.specs.List.Sorted.{IsStrictlySortedBy, IsPermutation}
-use Rattle.std.proofs.lemmas.Int.{ints, clamps}
 use Rattle.std.proofs.lemmas.List.Elements.{Contains-append_left, Contains-append_right, Contains-append_cases, Contains-push, Contains-push_cases}
 use Rattle.std.proofs.lemmas.List.Sorted.{Contains-permutation, IsPermutation-reverse, IsPermutation-refl, IsPermutation-sym}
-use Rattle.std.proofs.lemmas.List.{drop_more, drop_all, take_more}
-use lib.Signed.{◌≤ℤ◌}
+use Rattle.std.proofs.lemmas.List.{drop_all, take_more}
 use Rattle.geo_exact.specs.declared.corner.Corner.{Corner}
 use Rattle.geo_exact.specs.Rings.{Edge, path}
-use Rattle.geo_exact.proofs.SameCorner.{corner_same}
+use Rattle.geo_exact.proofs.Dropped.{drop_item}
 use Rattle.geo_exact.proofs.EdgeSums.{edge_of}
 use Rattle.edge_chains.specs.Noding.{IsStrictlyInside, AreAlong, IsNodedEdge, AreNodedEdges, IsNoded}
 use Rattle.edge_chains.specs.Inside.{is_inside, corner_cmp}
 use Rattle.edge_chains.proofs.Corners.{IsBefore, cases_of, Decides-is_before, same_unless_before}
 use Rattle.edge_chains.specs.Counts.{is_before}
-use Rattle.edge_chains.proofs.Inside.{Decides-is_inside, inside_from_strictly}
+use Rattle.edge_chains.proofs.Inside.{Decides-is_inside}
 use Rattle.edge_chains.proofs.Along.{LeadsOn, IsChain, IsChain-weaker, IsChain-reverse, leads_on_up, leads_on_down, along}
+use Rattle.edge_chains.proofs.Parts.{edge_has_length}
 use Rattle.edge_chains.proofs.Sorted.{IsChain-from_sorted}
 
 -- ---- elements of lists
@@ -63,17 +61,6 @@ all_from_contains P [] h = tt
 all_from_contains P (x ∷ xs) h = (h x (Contains-here x xs), all_from_contains P xs (λ c k. h c (Contains-there x xs c k)))
 
 -- ---- one edge
--- no corner is inside an edge of no length
-pub none_inside_no_length : (c a b : Corner) → a ≡ b → IsStrictlyInside c a b → ⊥
-none_inside_no_length c a b e h =
-    let i = inside_from_strictly c a b h in
-    let x : a.x ≡ b.x = ap (λ (s : Corner). s.x) e in
-    let y : a.y ≡ b.y = ap (λ (s : Corner). s.y) e in
-    h.not_start (corner_same c a (pinned a.x b.x c.x x i.0.0.0 i.0.0.1) (pinned a.y b.y c.y y i.0.1.0 i.0.1.1))
-  where
-    pinned : (u v z : ℤ) → u ≡ v → int_min u v ≤ℤ z → z ≤ℤ int_max u v → z ≡ u
-    pinned u v z h k l = omega (arith, ints, clamps)
-
 IsNodedEdge-from : (corners found once out : List Corner) (a b : Corner) → found ≡ filter (λ c. is_inside c a b) corners
     → ((c : Corner) → Contains found c → Contains once c) → ((c : Corner) → Contains once c → Contains found c)
     → IsPermutation once out → (AllByRecursion (λ c. IsStrictlyInside c a b) out → AreAlong a out b)
@@ -109,14 +96,11 @@ pub IsNodedEdge-up : (corners found once out : List Corner) (a b : Corner) → f
 IsNodedEdge-up corners found once out a b f rises keeps adds up e =
     IsNodedEdge-from corners found once out a b f keeps adds (subst (IsPermutation once) (sym e) (IsPermutation-refl once))
     (λ all. along a b out all (IsChain-weaker IsBefore (LeadsOn a b) (λ c. IsStrictlyInside c a b)
-    (λ c d p q r. ⊎_elim (λ h. leads_on_up a b c d h p q r) (λ h. absurd (none_inside_no_length c a b (same_unless_before a b h up) p))
+    (λ c d p q r. ⊎_elim (λ h. leads_on_up a b c d h p q r) (λ h. absurd (edge_has_length a b c p (same_unless_before a b h up)))
     (cases_of (is_before a b) (Decides-is_before a b))) out all
     (subst (IsChain IsBefore) (sym e) (IsChain-from_sorted once rises))))
 
 -- ---- edge after edge
-drop_here : (xs : List Corner) (i : ℕ) (x : Corner) → i < length xs → x ≡ get_or xs i x → drop i xs ≡ x ∷ drop (i + 1) xs
-drop_here xs i x l e = drop_more xs i x l ∙ ap (λ y. y ∷ drop (i + 1) xs) (sym e)
-
 -- a loop's step over a ring's corners
 pub noded_more : (corners : List Corner) (whole : List Edge) (before after : List Corner) (from to last : Corner) (rest : List Corner) (i : ℕ)
     → i < length rest → to ≡ get_or rest i to
@@ -125,7 +109,7 @@ pub noded_more : (corners : List Corner) (whole : List Edge) (before after : Lis
     → (others : List Corner) → AreNodedEdges corners (path to (drop (i + 1) rest) last) others → AreNodedEdges corners whole (after ++ others)
 noded_more corners whole before after from to last rest i l e h k others m =
     subst (AreNodedEdges corners whole) (sym (append_assoc before (from ∷ h.0) others) ∙ ap (λ xs. xs ++ others) (sym h.2))
-    (k (from ∷ h.0 ++ others) (subst (λ xs. AreNodedEdges corners (path from xs last) (from ∷ h.0 ++ others)) (sym (drop_here rest i to l e))
+    (k (from ∷ h.0 ++ others) (subst (λ xs. AreNodedEdges corners (path from xs last) (from ∷ h.0 ++ others)) (sym (drop_item rest i to l e))
     (h.0, others, h.1, m, refl)))
 
 -- the last edge

@@ -35,6 +35,9 @@ noded_path : (corners : List Corner) (from to : Corner) (rest out : List Corner)
 noded_path corners from to [] out h = record { tail = h.0 ++ h.1; is = h.4 }
 noded_path corners from to (next ∷ rest) out h = record { tail = h.0 ++ h.1; is = h.4 }
 
+cons_tail : (c : Corner) (xs ys : List Corner) → c ∷ xs ≡ c ∷ ys → xs ≡ ys
+cons_tail c xs ys e = cc
+
 sum_over-noded_path : (measure : Edge → ℤ) → AddsUp measure → (corners : List Corner) (from to : Corner) (rest tail : List Corner)
     → AreNodedEdges corners (path from rest to) (from ∷ tail) → sum_over measure (path from tail to) ≡ sum_over measure (path from rest to)
 sum_over-noded_path measure adds corners from to [] tail h =
@@ -43,9 +46,6 @@ sum_over-noded_path measure adds corners from to [] tail h =
   where
     one : (z : ℤ) → z ≡ z +ℤ pos 0
     one z = omega (arith, ints)
-
-    cons_tail : (c : Corner) (xs ys : List Corner) → c ∷ xs ≡ c ∷ ys → xs ≡ ys
-    cons_tail c xs ys e = cc
 sum_over-noded_path measure adds corners from to (next ∷ rest) tail h =
     let w = noded_path corners next to rest h.1 h.3 in
     let e : tail ≡ h.0 ++ next ∷ w.tail = cons_tail from tail (h.0 ++ h.1) h.4 ∙ ap (λ xs. h.0 ++ xs) w.is in
@@ -54,9 +54,6 @@ sum_over-noded_path measure adds corners from to (next ∷ rest) tail h =
     ∙ ap (λ z. z +ℤ sum_over measure (path next w.tail to)) (sum_over-along measure adds from next h.0 h.2.in_order)
     ∙ ap (λ z. measure (edge_of from next) +ℤ z) (sum_over-noded_path measure adds corners next to rest w.tail
     (subst (AreNodedEdges corners (path next rest to)) w.is h.3))
-  where
-    cons_tail : (c : Corner) (xs ys : List Corner) → c ∷ xs ≡ c ∷ ys → xs ≡ ys
-    cons_tail c xs ys e = cc
 
 pub sum_over-noded : (measure : Edge → ℤ) → AddsUp measure → (corners ring noded : List Corner) → IsNoded ring corners noded
     → sum_over measure (edges noded) ≡ sum_over measure (edges ring)
@@ -109,9 +106,6 @@ noded_path_edges corners from to [] tail h p =
     only : IsOnEdge p from to ⊎ ⊥ → IsOnEdge p from to
     only (inl k) = k
     only (inr k) = absurd k
-
-    cons_tail : (c : Corner) (xs ys : List Corner) → c ∷ xs ≡ c ∷ ys → xs ≡ ys
-    cons_tail c xs ys e = cc
 noded_path_edges corners from to (next ∷ rest) tail h p =
     let w = noded_path corners next to rest h.1 h.3 in
     let e : tail ≡ h.0 ++ next ∷ w.tail = cons_tail from tail (h.0 ++ h.1) h.4 ∙ ap (λ xs. h.0 ++ xs) w.is in
@@ -123,9 +117,6 @@ noded_path_edges corners from to (next ∷ rest) tail h p =
           (λ m. IsOnSome-left p (path from h.0 next) (path next w.tail to) (on_some_along p from next h.0 h.2.in_order m))
           (λ m. IsOnSome-right p (path from h.0 next) (path next w.tail to) (later.1 m)) k),
     )
-  where
-    cons_tail : (c : Corner) (xs ys : List Corner) → c ∷ xs ≡ c ∷ ys → xs ≡ ys
-    cons_tail c xs ys e = cc
 
 pub boundary_noded : (p : Point) (ring corners noded : List Corner) → IsNoded ring corners noded → IsOnRing p noded ↔ IsOnRing p ring
 boundary_noded p [] corners noded h = (λ k. subst (λ r. IsOnSome p (edges r)) h k, λ k. absurd k)
@@ -164,9 +155,6 @@ none_inside_path corners from to [] tail h c e k l i =
     let s : tail ≡ h.0 = cons_tail from tail (h.0 ++ h.1) h.4 ∙ ap (λ xs. h.0 ++ xs) h.3 ∙ append-nil h.0 in
     let r = between_cuts from to c h.0 e h.2.in_order (subst (λ xs. Contains (path from xs to) e) s l) i in
     r.1 ((h.2.exactly c).1 (k, r.0))
-  where
-    cons_tail : (c : Corner) (xs ys : List Corner) → c ∷ xs ≡ c ∷ ys → xs ≡ ys
-    cons_tail c xs ys e = cc
 none_inside_path corners from to (next ∷ rest) tail h c e k l i =
     let w = noded_path corners next to rest h.1 h.3 in
     let s : tail ≡ h.0 ++ next ∷ w.tail = cons_tail from tail (h.0 ++ h.1) h.4 ∙ ap (λ xs. h.0 ++ xs) w.is in
@@ -175,9 +163,6 @@ none_inside_path corners from to (next ∷ rest) tail h c e k l i =
     (λ m. let r = between_cuts from next c h.0 e h.2.in_order m i in r.1 ((h.2.exactly c).1 (k, r.0)))
     (λ m. none_inside_path corners next to rest w.tail (subst (AreNodedEdges corners (path next rest to)) w.is h.3) c e k m i)
     (Contains-append_cases (path from h.0 next) (path next w.tail to) e (subst (λ es. Contains es e) joined l))
-  where
-    cons_tail : (c : Corner) (xs ys : List Corner) → c ∷ xs ≡ c ∷ ys → xs ≡ ys
-    cons_tail c xs ys e = cc
 
 none_inside_ring : (ring corners noded : List Corner) → IsNoded ring corners noded → (c : Corner) (e : Edge) → Contains corners c
     → Contains (edges noded) e → IsStrictlyInside c e.from e.to → ⊥

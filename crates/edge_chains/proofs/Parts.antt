@@ -6,18 +6,15 @@ use lib.Signed.{◌<ℤ◌, ◌≤ℤ◌}
 use Rattle.geo_exact.specs.declared.corner.Corner.{Corner}
 use Rattle.geo_exact.specs.Point.{Point, corner_point}
 use Rattle.geo_exact.specs.Turn.{turn, turn_at, IsOnEdge}
-use Rattle.geo_exact.proofs.Signs.{mul_pos, mul_neg, mul_not_neg, mul_zero, mul_le}
+use Rattle.geo_exact.proofs.Signs.{mul_not_neg, not_neg_of_mul, not_pos_of_mul, mul_zero, mul_le}
 use Rattle.geo_exact.proofs.Differences.{expand}
-use Rattle.geo_exact.proofs.Polynomials.{Expr, var, add, mul, neg, same_by}
+use Rattle.geo_exact.proofs.Polynomials.{var, add, mul, neg, sub, same_by}
 use Rattle.geo_exact.proofs.SameCorner.{corner_same}
 use Rattle.geo_exact.proofs.TurnLaws.{turn_expr, turn_at_expr}
 use Rattle.geo_exact.proofs.OnEdge.{on_edge_back}
 use Rattle.edge_chains.specs.Noding.{IsStrictlyInside}
 use Rattle.edge_chains.proofs.Inside.{IsBetween, inside_from_strictly}
-use Rattle.edge_chains.proofs.Along.{zero_of_mul, zero_cases, both_zero, along_u, along_v, drop_zero, drop_zero', square_pos, square_not_neg}
-
-abbrev sub : Expr → Expr → Expr
-sub p q = add p (neg q)
+use Rattle.edge_chains.proofs.Along.{zero_of_mul, zero_cases, both_zero, along_u, along_v, drop_zero, drop_zero', squares}
 
 -- ---- three directions, two of them on one line with the third, which is not 0
 third_x : (u v w z q r : ℤ) → u *ℤ (w *ℤ r -ℤ z *ℤ q) ≡ w *ℤ (u *ℤ r -ℤ v *ℤ q) +ℤ q *ℤ neg_ℤ (u *ℤ z -ℤ v *ℤ w)
@@ -34,16 +31,13 @@ third_y u v w z q r =
     (add (mul (var 3) (sub (mul (var 0) (var 5)) (mul (var 1) (var 4)))) (mul (var 5) (neg (sub (mul (var 0) (var 3)) (mul (var 1) (var 2))))))
     refl
 
-neg_zero : (z : ℤ) → z ≡ pos 0 → neg_ℤ z ≡ pos 0
-neg_zero z h = omega (arith, ints)
-
 pub third_line : (u v w z q r : ℤ) → (u ≡ pos 0 → v ≡ pos 0 → ⊥) → u *ℤ z -ℤ v *ℤ w ≡ pos 0 → u *ℤ r -ℤ v *ℤ q ≡ pos 0 → w *ℤ r -ℤ z *ℤ q ≡ pos 0
 third_line u v w z q r apart h k =
     ⊎_elim
     (λ level. zero_of_mul v (w *ℤ r -ℤ z *ℤ q) (apart level)
-    (both_zero z (u *ℤ r -ℤ v *ℤ q) r (neg_ℤ (u *ℤ z -ℤ v *ℤ w)) (v *ℤ (w *ℤ r -ℤ z *ℤ q)) k (neg_zero (u *ℤ z -ℤ v *ℤ w) h) (third_y u v w z q r)))
+    (both_zero z (u *ℤ r -ℤ v *ℤ q) r (neg_ℤ (u *ℤ z -ℤ v *ℤ w)) (v *ℤ (w *ℤ r -ℤ z *ℤ q)) k (ap neg_ℤ h) (third_y u v w z q r)))
     (λ slope. zero_of_mul u (w *ℤ r -ℤ z *ℤ q) slope (both_zero w (u *ℤ r -ℤ v *ℤ q) q (neg_ℤ (u *ℤ z -ℤ v *ℤ w)) (u *ℤ (w *ℤ r -ℤ z *ℤ q)) k
-    (neg_zero (u *ℤ z -ℤ v *ℤ w) h) (third_x u v w z q r)))
+    (ap neg_ℤ h) (third_x u v w z q r)))
     (zero_cases u)
 
 -- corners that are apart differ in x or in y
@@ -84,7 +78,7 @@ on_whole_first p a b c h k =
     swapped : (u v w z : ℤ) → u *ℤ z -ℤ v *ℤ w ≡ pos 0 → w *ℤ v -ℤ z *ℤ u ≡ pos 0
     swapped u v w z h =
         same_by (u ∷ v ∷ w ∷ z ∷ []) (sub (mul (var 2) (var 1)) (mul (var 3) (var 0))) (neg (sub (mul (var 0) (var 3)) (mul (var 1) (var 2)))) refl
-        ∙ neg_zero (u *ℤ z -ℤ v *ℤ w) h
+        ∙ ap neg_ℤ h
 
 -- the same corner inside the edge the other way
 pub strictly_back : (c a b : Corner) → IsStrictlyInside c a b → IsStrictlyInside c b a
@@ -111,12 +105,6 @@ first_part a b c d x s h i low high up down = by_lt_z a b
     omega (arith, ints, clamps, i.0, i.1) in
     (subst (λ z. (z *ℤ d) ≤ℤ x) u low, subst (λ z. x ≤ℤ (z *ℤ d)) v high)))
 
-not_pos_of_mul : (n z : ℤ) → pos 0 <ℤ n → (n *ℤ z) ≤ℤ pos 0 → z ≤ℤ pos 0
-not_pos_of_mul n z h k = by_lt_z (pos 0) z (λ p. absurd (let m = mul_pos n z h p in omega (arith, ints))) (λ p. p)
-
-not_neg_of_mul : (n z : ℤ) → pos 0 <ℤ n → pos 0 ≤ℤ (n *ℤ z) → pos 0 ≤ℤ z
-not_neg_of_mul n z h k = by_lt_z z (pos 0) (λ p. absurd (let m = mul_neg n z h p in omega (arith, ints))) (λ p. p)
-
 -- a way that doesn't lead on goes back in each coordinate
 back_sign : (n s k z : ℤ) → pos 0 <ℤ n → s ≤ℤ pos 0 → k *ℤ s ≡ n *ℤ z → (pos 0 <ℤ k → z ≤ℤ pos 0) × (k <ℤ pos 0 → pos 0 ≤ℤ z)
 back_sign n s k z h l e = (
@@ -140,10 +128,6 @@ no_cross t d u z e h k = omega (arith, ints, rw k at e, mul_zero d, h)
 -- how far p lies beyond c along the edge
 abbrev beyond : Corner → Corner → Corner → Point → ℤ
 beyond a b c p = (b.x -ℤ a.x) *ℤ (p.x -ℤ c.x *ℤ p.d) +ℤ (b.y -ℤ a.y) *ℤ (p.y -ℤ c.y *ℤ p.d)
-
-squares : (u v : ℤ) → (u ≡ pos 0 → v ≡ pos 0 → ⊥) → pos 0 <ℤ (u *ℤ u +ℤ v *ℤ v)
-squares u v h =
-    ⊎_elim (λ p. omega (arith, ints, square_not_neg u, square_pos v (λ q. h p q))) (λ p. omega (arith, ints, square_pos u p, square_not_neg v)) (zero_cases u)
 
 at_most : (x c : ℤ) → (x -ℤ c) ≤ℤ pos 0 → x ≤ℤ c
 at_most x c h = omega (arith, ints)

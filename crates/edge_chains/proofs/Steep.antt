@@ -11,8 +11,8 @@ use Rattle.geo_exact.specs.Winding.{crossing}
 use Rattle.geo_exact.proofs.SameCorner.{corner_same}
 use Rattle.geo_exact.proofs.EdgeSums.{edge_of}
 use Rattle.geo_exact.proofs.Polynomials.{var, lit, add, mul, neg, same_by}
-use Rattle.geo_exact.proofs.TurnLaws.{turn_expr, turn_at_corner}
-use Rattle.geo_exact.proofs.OnEdge.{on_edge_between, on_edge_back}
+use Rattle.geo_exact.proofs.TurnLaws.{turn_cycle, turn_swap, turn_at_corner}
+use Rattle.geo_exact.proofs.OnEdge.{on_edge_between, on_edge_back, starts_on}
 use Rattle.geo_exact.proofs.Crossings.{crossed, crossing_back}
 use Rattle.edge_chains.specs.Net.{is_same, net_of_edges}
 use Rattle.edge_chains.specs.Noding.{IsStrictlyInside}
@@ -60,12 +60,7 @@ starts_there a b u v h t l k =
     (cases_of (is_same u a) (Decides-is_same u a))
 
 swap_turn : (a b c : Corner) → turn a c b ≡ neg_ℤ (turn a b c)
-swap_turn a b c =
-    same_by (a.x ∷ a.y ∷ b.x ∷ b.y ∷ c.x ∷ c.y ∷ [])
-    (turn_expr (var 0) (var 1) (var 4) (var 5) (var 2) (var 3)) (neg (turn_expr (var 0) (var 1) (var 2) (var 3) (var 4) (var 5))) refl
-
-neg_zero : (z : ℤ) → z ≡ pos 0 → neg_ℤ z ≡ pos 0
-neg_zero z h = omega (arith, ints)
+swap_turn a b c = turn_cycle b a c ∙ turn_swap a b c
 
 level_turn : (ax ay bx by vx vy : ℤ) → vy ≡ by → (vx -ℤ ax) *ℤ (by -ℤ ay) -ℤ (vy -ℤ ay) *ℤ (bx -ℤ ax) ≡ (by -ℤ ay) *ℤ (vx -ℤ bx)
 level_turn ax ay bx by vx vy e =
@@ -77,7 +72,7 @@ level_turn ax ay bx by vx vy e =
 -- an edge from a that goes up along the edge a b is that edge
 ends_there : (a b v : Corner) → a.y <ℤ b.y → AreClear a b a v → a.y <ℤ v.y → turn a v b ≡ pos 0 → v ≡ b
 ends_there a b v up h k t = by_lt_z v.y b.y
-    (λ p. absurd (h.v_is_out (strictly_at_height a b v (swap_turn a v b ∙ neg_zero (turn a v b) t) (omega (arith, ints)) p
+    (λ p. absurd (h.v_is_out (strictly_at_height a b v (swap_turn a v b ∙ ap neg_ℤ t) (omega (arith, ints)) p
     (λ e. let y : v.y ≡ a.y = ap (λ (s : Corner). s.y) e in omega (arith, ints)))))
     (λ p. by_lt_z b.y v.y
     (λ q. absurd (h.b_is_out (strictly_at_height a v b t (omega (arith, ints)) q
@@ -101,9 +96,6 @@ right_of a b = near a b (pos 1) (pos 0)
 push_within : (u v : Corner) → IsWithin 20000000000 (push u v (negsuc 0) (pos 0)) × IsWithin 20000000000 (push u v (pos 1) (pos 0))
 push_within u v = (record { low = omega (arith, ints); high = omega (arith, ints) }, record { low = omega (arith, ints); high = omega (arith, ints) })
 
-pub turn_itself : (a v : Corner) → turn a v a ≡ pos 0
-turn_itself a v = same_by (a.x ∷ a.y ∷ v.x ∷ v.y ∷ []) (turn_expr (var 0) (var 1) (var 2) (var 3) (var 0) (var 1)) (lit (pos 0)) refl
-
 pub cross_itself : (a b : Corner) → cross a b a b ≡ pos 0
 cross_itself a b =
     same_by (a.x ∷ a.y ∷ b.x ∷ b.y ∷ [])
@@ -112,7 +104,7 @@ cross_itself a b =
 sides_from_start : (a b v : Corner) → a.y <ℤ b.y → AreClear a b a v → a.y <ℤ v.y
     → Sides (turn_at a v (left_of a b)) (turn_at a v (right_of a b)) ((a ≡ a) × (v ≡ b))
 sides_from_start a b v up h k =
-    let t = turn_itself a v in
+    let t = starts_on a v in
     let l = turn_near a v a b (negsuc 0) (pos 0) in
     let r = turn_near a v a b (pos 1) (pos 0) in
     let w = push_within a v in
@@ -148,13 +140,13 @@ steep_sides a b u v up h l k =
     (λ p. inl (
       subst (λ z. pos 0 <ℤ z) (sym nl) (lead_up (turn u v a) (cross u v a b) (push u v (negsuc 0) (pos 0)) x w.0 p),
       subst (λ z. pos 0 <ℤ z) (sym nr) (lead_up (turn u v a) (cross u v a b) (push u v (pos 1) (pos 0)) x w.1 p),
-      λ e. let z : turn u v a ≡ pos 0 = ap (λ s. turn s v a) e.0 ∙ turn_itself a v in omega (arith, ints),
+      λ e. let z : turn u v a ≡ pos 0 = ap (λ s. turn s v a) e.0 ∙ starts_on a v in omega (arith, ints),
     ))
     (λ o. ⊎_elim
     (λ p. inr (inl (
       subst (λ z. z <ℤ pos 0) (sym nl) (lead_down (turn u v a) (cross u v a b) (push u v (negsuc 0) (pos 0)) x w.0 p),
       subst (λ z. z <ℤ pos 0) (sym nr) (lead_down (turn u v a) (cross u v a b) (push u v (pos 1) (pos 0)) x w.1 p),
-      λ e. let z : turn u v a ≡ pos 0 = ap (λ s. turn s v a) e.0 ∙ turn_itself a v in omega (arith, ints),
+      λ e. let z : turn u v a ≡ pos 0 = ap (λ s. turn s v a) e.0 ∙ starts_on a v in omega (arith, ints),
     )))
     (λ p. let e = starts_there a b u v h p l k in
     subst (λ s. Sides (turn_at s v (left_of a b)) (turn_at s v (right_of a b)) ((s ≡ a) × (v ≡ b))) (sym e)

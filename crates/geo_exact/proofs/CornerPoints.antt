@@ -1,16 +1,13 @@
 -- What a turn and an edge say at the place of a corner.
-use Rattle.std.proofs.Common.{◌≡◌, ◌∙◌, sym, arith}
-use Rattle.std.proofs.lemmas.Int.{ints}
+use Rattle.std.proofs.Common.{◌≡◌, ◌∙◌}
 use Rattle.std.specs.Int.{int_min, int_max}
-use lib.IntN.{ℤ, pos, ◌*ℤ◌}
+use lib.IntN.{pos}
 use lib.Signed.{◌≤ℤ◌}
 use Rattle.geo_exact.specs.declared.corner.Corner.{Corner}
 use Rattle.geo_exact.specs.Point.{corner_point}
 use Rattle.geo_exact.specs.Turn.{turn, IsOnEdge}
+use Rattle.geo_exact.proofs.Differences.{times_one}
 use Rattle.geo_exact.proofs.TurnLaws.{turn_at_corner}
-
-times_one : (z : ℤ) → z *ℤ pos 1 ≡ z
-times_one z = omega (arith, ints)
 
 -- a corner is on an edge exactly where it is on its line and in its box
 pub on_edge_from_box : (a b p : Corner) → turn a b p ≡ pos 0
@@ -23,9 +20,6 @@ on_edge_from_box a b p h x y = record {
   from_y = rw times_one y.0;
   to_y = rw times_one y.1;
 }
-
-pub turn_from_on_edge : (a b p : Corner) → IsOnEdge (corner_point p) a b → turn a b p ≡ pos 0
-turn_from_on_edge a b p h = sym (turn_at_corner a b p) ∙ h.on_line
 
 pub box_from_on_edge : (a b p : Corner) → IsOnEdge (corner_point p) a b
     → ((int_min a.x b.x ≤ℤ p.x) × (p.x ≤ℤ int_max a.x b.x)) × ((int_min a.y b.y ≤ℤ p.y) × (p.y ≤ℤ int_max a.y b.y))

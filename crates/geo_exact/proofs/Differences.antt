@@ -37,7 +37,11 @@ diff_in z p q h = omega (arith, ints)
 
 pub diff-mul : (p q r s : ℕ) → diff p q *ℤ diff r s ≡ diff (p * r + q * s) (p * s + q * r)
 diff-mul p q r s = diff_in (diff p q *ℤ diff r s) (p * r + q * s) (p * s + q * r)
-    (omega (arith, product_is (diff p q) (diff r s), crossed (up (diff p q)) (down (diff p q)) (up (diff r s)) (down (diff r s)) p q r s (up_down p q) (up_down r s)))
+    (omega (
+      arith,
+      product_is (diff p q) (diff r s),
+      crossed (up (diff p q)) (down (diff p q)) (up (diff r s)) (down (diff r s)) p q r s (up_down p q) (up_down r s),
+    ))
 
 pub diff_same : (p q r s : ℕ) → p + s ≡ r + q → diff p q ≡ diff r s
 unfolding diff
@@ -55,7 +59,9 @@ pub add-mul : (a b c : ℤ) → (a +ℤ b) *ℤ c ≡ a *ℤ c +ℤ b *ℤ c
 add-mul a b c = *ℤ_comm (a +ℤ b) c ∙ mul-add c a b ∙ omega (arith, ints)
 
 pub neg-mul : (a b : ℤ) → neg_ℤ a *ℤ b ≡ neg_ℤ (a *ℤ b)
-neg-mul a b = omega (arith, ints, ap (λ n. n * up b) (neg_is a).0, ap (λ n. n * up b) (neg_is a).1, ap (λ n. n * down b) (neg_is a).0, ap (λ n. n * down b) (neg_is a).1)
+neg-mul a b =
+    let is = neg_is a in
+    omega (arith, ints, ap (λ n. n * up b) is.0, ap (λ n. n * up b) is.1, ap (λ n. n * down b) is.0, ap (λ n. n * down b) is.1)
 
 pub mul-neg : (a b : ℤ) → a *ℤ neg_ℤ b ≡ neg_ℤ (a *ℤ b)
 mul-neg a b = *ℤ_comm a (neg_ℤ b) ∙ neg-mul b a ∙ omega (arith, ints)
@@ -65,6 +71,9 @@ mul_assoc' a a' b b' c c' = simp diffs (diff_same _ _ _ _ (omega arith))
 
 pub mul_assoc : (a b c : ℤ) → (a *ℤ b) *ℤ c ≡ a *ℤ (b *ℤ c)
 mul_assoc a b c = rw (diff_of a, diff_of b, diff_of c) (mul_assoc' _ _ _ _ _ _)
+
+pub times_one : (z : ℤ) → z *ℤ pos 1 ≡ z
+times_one z = omega (arith, ints)
 
 -- multiplies a product of sums out, down to products of unknowns
 pub ruleset expand = (mul-add, add-mul, neg-mul, mul-neg)

@@ -1,9 +1,10 @@
 -- The fields and the value of the double that is exactly a whole number.
-use Rattle.std.proofs.Common.{◌≡◌, ℕ, zero, suc, ◌+◌, ◌-◌, ◌*◌, ◌%◌, ◌^◌, ◌<◌, ◌≤◌, ℤ, pos, negsuc, ◌*ℤ◌, ◌-ℤ◌, neg_ℤ, Bool, true, false, refl, sym, ◌∙◌, ap, subst, arith, lit<, Ok, inl, inr}
+use Rattle.std.proofs.Common.{◌≡◌, ℕ, zero, suc, ◌+◌, ◌-◌, ◌*◌, ◌%◌, ◌^◌, ◌<◌, ◌≤◌, ℤ, pos, negsuc, ◌*ℤ◌, ◌-ℤ◌, neg_ℤ}
+use Rattle.std.proofs.Common.{Bool, true, false, refl, sym, ◌∙◌, ap, subst, arith, lit<, Ok, inl, inr}
 use Rattle.std.specs.Prelude.{int_lt}
 use Rattle.std.specs.Int.RustNames.{unsigned_abs}
 use Rattle.std.proofs.lemmas.Bool.{ne_eqb, cases_lt, le-ltb}
-use Rattle.std.proofs.Math.Nat.{pow-le-pow_right}
+use Rattle.std.proofs.Math.Nat.{pow-le-pow_right, mul-le-mul_right, mul-lt-mul_of_pos_right}
 use Rattle.std.proofs.lemmas.Int.{ints}
 use Rattle.std.proofs.lemmas.Nat.{leading_top, pow-add, pow_pos}
 use Rattle.geo_exact.specs.declared.coord.Unit.TheVariants.{Cm}
@@ -32,24 +33,18 @@ highest_is n some small =
     let next : suc top.0 ≡ top.0 + 1 = omega arith in
     rw same (record { low = top.2; high = rw next at top.3; bound = place_below n top.0 top.2 small })
 
-times_le : (a b p : ℕ) → a ≤ b → a * p ≤ b * p
-times_le a b p k = grind arith
-
-times_lt : (a b p : ℕ) → 0 < p → a < b → a * p < b * p
-times_lt a b p h k = grind arith
-
 -- moved up, the highest 1 stands at place 52
 pub moved_low : (n t : ℕ) → 2 ^ t ≤ n → t ≤ 52 → 2 ^ 52 ≤ n * 2 ^ (52 - t)
 moved_low n t low bound =
     let all : 52 ≡ t + (52 - t) = omega arith in
     let whole : 2 ^ 52 ≡ 2 ^ t * 2 ^ (52 - t) = ap (λ p. 2 ^ p) all ∙ pow-add 2 t (52 - t) in
-    omega (arith, whole, times_le (2 ^ t) n (2 ^ (52 - t)) low)
+    omega (arith, whole, mul-le-mul_right (2 ^ (52 - t)) low)
 
 pub moved_high : (n t : ℕ) → n < 2 ^ (t + 1) → t ≤ 52 → n * 2 ^ (52 - t) < 2 ^ 53
 moved_high n t high bound =
     let all : 53 ≡ t + 1 + (52 - t) = omega arith in
     let whole : 2 ^ 53 ≡ 2 ^ (t + 1) * 2 ^ (52 - t) = ap (λ p. 2 ^ p) all ∙ pow-add 2 (t + 1) (52 - t) in
-    omega (arith, whole, times_lt n (2 ^ (t + 1)) (2 ^ (52 - t)) (pow_pos (52 - t)) high)
+    omega (arith, whole, mul-lt-mul_of_pos_right high (pow_pos (52 - t)))
 
 -- ---- the fields of a double put together from them
 exponent_of : (s e f : ℕ) → e < 2 ^ 11 → f < 2 ^ 52 → exponent_field (s * 2 ^ 63 + (e * 2 ^ 52 + f)) ≡ e
@@ -92,7 +87,8 @@ whole_is s n some small =
       exponent = exponent;
       number = omega (arith, exponent, is.bound);
       magnitude =
-          magnitude_of _ (whole_exponent n) (n * 2 ^ (52 - t)) exponent (omega arith) (omega (arith, fraction_of s (whole_exponent n) (whole_fraction n) (omega arith)))
+          magnitude_of _ (whole_exponent n) (n * 2 ^ (52 - t)) exponent (omega arith)
+          (omega (arith, fraction_of s (whole_exponent n) (whole_fraction n) (omega arith)))
           ∙ split_power n (52 - t) (1023 + t) 1075 (omega (arith, is.bound));
     }
 

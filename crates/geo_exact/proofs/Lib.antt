@@ -1,4 +1,6 @@
 pub mod Differences
+pub mod Dropped
+pub mod Orders
 pub mod Polynomials
 pub mod Signs
 pub mod Within

@@ -3,7 +3,7 @@ use Rattle.std.proofs.Common.{◌≡◌, ℕ, ◌+◌, ◌-◌, ◌*◌, ◌/◌
 use Rattle.std.specs.Int.{abs_diff}
 use Rattle.std.proofs.lemmas.Bool.{leb-true, le-leb, lt-leb, lt-ltb, le-ltb, cases_lt}
 use Rattle.std.proofs.lemmas.Nat.{div-mul-add, pow-add}
-use Rattle.std.proofs.Math.Nat.{mul-div-mul_right}
+use Rattle.std.proofs.Math.Nat.{mul-div-mul_right, mul-le-mul_right, mul-lt-mul_of_pos_right}
 use Rattle.std.proofs.lemmas.Int.{ints}
 use lib.IntN.{ℤ, pos, negsuc, ◌-ℤ◌, ◌*ℤ◌, neg_ℤ}
 use Rattle.geo_exact.specs.declared.coord.CoordFault.TheVariants.{OffGrid, TooFar}
@@ -11,18 +11,11 @@ use Rattle.geo_exact.specs.Grid.{nearest, is_near, size_of}
 use Rattle.geo_exact.specs.Limit.{IsWithin, limit}
 use Rattle.geo_exact.proofs.Differences.{expand}
 
--- a common factor keeps an order
-mul_lt_right : (a b p : ℕ) → 0 < p → a < b → a * p < b * p
-mul_lt_right a b p h k = grind arith
-
-mul_le_right : (a b p : ℕ) → a ≤ b → a * p ≤ b * p
-mul_le_right a b p k = grind arith
-
 -- a common factor changes no test
 times_le : (a b p : ℕ) → 0 < p → nat_le (a * p) (b * p) ≡ nat_le a b
 times_le a b p h = elim (cases_lt b a) [
-  | inl q ↦ lt-leb (a * p) (b * p) (mul_lt_right b a p h q) ∙ sym (lt-leb a b q)
-  | inr q ↦ le-leb (a * p) (b * p) (mul_le_right a b p q) ∙ sym (le-leb a b q)
+  | inl q ↦ lt-leb (a * p) (b * p) (mul-lt-mul_of_pos_right q h) ∙ sym (lt-leb a b q)
+  | inr q ↦ le-leb (a * p) (b * p) (mul-le-mul_right p q) ∙ sym (le-leb a b q)
 ]
 
 -- how far two multiples are apart
@@ -34,8 +27,12 @@ apart_below a n p = omega arith
 
 apart_times : (a b p : ℕ) → abs_diff (a * p) (b * p) ≡ abs_diff a b * p
 apart_times a b p = elim (cases_lt b a) [
-  | inl q ↦ let e : a ≡ b + (a - b) = omega arith in let f : abs_diff a b ≡ a - b = omega arith in rw f (ap (λ n. abs_diff (n * p) (b * p)) e ∙ apart_above b (a - b) p)
-  | inr q ↦ let e : b ≡ a + (b - a) = omega arith in let f : abs_diff a b ≡ b - a = omega arith in rw f (ap (λ n. abs_diff (a * p) (n * p)) e ∙ apart_below a (b - a) p)
+  | inl q ↦ let e : a ≡ b + (a - b) = omega arith in
+      let f : abs_diff a b ≡ a - b = omega arith in
+      rw f (ap (λ n. abs_diff (n * p) (b * p)) e ∙ apart_above b (a - b) p)
+  | inr q ↦ let e : b ≡ a + (b - a) = omega arith in
+      let f : abs_diff a b ≡ b - a = omega arith in
+      rw f (ap (λ n. abs_diff (a * p) (n * p)) e ∙ apart_below a (b - a) p)
 ]
 
 -- a common factor changes no fraction

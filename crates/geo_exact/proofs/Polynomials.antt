@@ -4,7 +4,7 @@ use Rattle.std.specs.Prelude.{nat_le}
 use Rattle.std.proofs.lemmas.Int.{ints}
 use Rattle.std.proofs.lemmas.Bool.Decides.{nat_tests}
 use lib.IntN.{ℤ, pos, negsuc, ◌+ℤ◌, ◌*ℤ◌, neg_ℤ}
-use Rattle.geo_exact.proofs.Differences.{diff, diff_of, diffs, diff_same, add-mul, mul_assoc}
+use Rattle.geo_exact.proofs.Differences.{diff, diff_of, diffs, diff_same, add-mul, mul_assoc, times_one}
 
 pub data Expr : Type 0 where
   var : ℕ → Expr
@@ -12,6 +12,9 @@ pub data Expr : Type 0 where
   add : Expr → Expr → Expr
   mul : Expr → Expr → Expr
   neg : Expr → Expr
+
+abbrev pub sub : Expr → Expr → Expr
+sub a b = add a (neg b)
 
 abbrev pub eval : List ℤ → Expr → ℤ
 eval env (var i) = get_or env i (pos 0)
@@ -99,7 +102,9 @@ place_is env i (j ∷ js) =
 mono_mul_is : (env : List ℤ) (a b : List ℕ) → mono env (mono_mul a b) ≡ mono env a *ℤ mono env b
 mono_mul_is env [] b = one_mul (mono env b)
 mono_mul_is env (i ∷ is) b =
-    place_is env i (mono_mul is b) ∙ ap (λ z. get_or env i (pos 0) *ℤ z) (mono_mul_is env is b) ∙ sym (mul_assoc (get_or env i (pos 0)) (mono env is) (mono env b))
+    place_is env i (mono_mul is b)
+    ∙ ap (λ z. get_or env i (pos 0) *ℤ z) (mono_mul_is env is b)
+    ∙ sym (mul_assoc (get_or env i (pos 0)) (mono env is) (mono env b))
 
 eq_when : (i j : ℕ) → nat_eq i j ≡ true → i ≡ j
 eq_when i j h = grind (arith, nat_tests)
@@ -119,7 +124,8 @@ same_is (i ∷ is) (j ∷ js) h =
 collect : (c d n v : ℤ) → (c +ℤ d) *ℤ n +ℤ v ≡ c *ℤ n +ℤ (d *ℤ n +ℤ v)
 collect c d n v = simp add-mul (omega (arith, ints))
 
-add_term_step : (env : List ℤ) (c : ℤ) (m : List ℕ) (d : ℤ) (n : List ℕ) (p q : Poly) (b : Bool) → (b ≡ true → m ≡ n) → value env q ≡ c *ℤ mono env m +ℤ value env p
+add_term_step : (env : List ℤ) (c : ℤ) (m : List ℕ) (d : ℤ) (n : List ℕ) (p q : Poly) (b : Bool) → (b ≡ true → m ≡ n)
+    → value env q ≡ c *ℤ mono env m +ℤ value env p
     → value env (cond b (term (c +ℤ d) n p) (term d n q)) ≡ c *ℤ mono env m +ℤ (d *ℤ mono env n +ℤ value env p)
 add_term_step env c m d n p q true e h = rw (e refl) (collect c d (mono env n) (value env p))
 add_term_step env c m d n p q false e h = omega (arith, ints, h)
@@ -132,7 +138,8 @@ poly_add_is : (env : List ℤ) (p q : Poly) → value env (poly_add p q) ≡ val
 poly_add_is env done q = omega (arith, ints)
 poly_add_is env (term c m p) q = omega (arith, ints, add_term_is env c m (poly_add p q), poly_add_is env p q)
 
-regroup' : (c c' d d' m m' n n' v v' : ℕ) → (diff c c' *ℤ diff d d') *ℤ (diff m m' *ℤ diff n n') +ℤ (diff c c' *ℤ diff m m') *ℤ diff v v' ≡ (diff c c' *ℤ diff m m') *ℤ (diff d d' *ℤ diff n n' +ℤ diff v v')
+regroup' : (c c' d d' m m' n n' v v' : ℕ) → (diff c c' *ℤ diff d d') *ℤ (diff m m' *ℤ diff n n') +ℤ (diff c c' *ℤ diff m m') *ℤ diff v v'
+    ≡ (diff c c' *ℤ diff m m') *ℤ (diff d d' *ℤ diff n n' +ℤ diff v v')
 regroup' c c' d d' m m' n n' v v' = simp diffs (diff_same _ _ _ _ (omega arith))
 
 regroup : (c d m n v : ℤ) → (c *ℤ d) *ℤ (m *ℤ n) +ℤ (c *ℤ m) *ℤ v ≡ (c *ℤ m) *ℤ (d *ℤ n +ℤ v)
@@ -146,16 +153,14 @@ term_mul_is env c m (term d n p) =
 poly_mul_is : (env : List ℤ) (p q : Poly) → value env (poly_mul p q) ≡ value env p *ℤ value env q
 poly_mul_is env done q = omega (arith, ints)
 poly_mul_is env (term c m p) q =
-    poly_add_is env (term_mul c m q) (poly_mul p q) ∙ rw (term_mul_is env c m q, poly_mul_is env p q) (sym (add-mul (c *ℤ mono env m) (value env p) (value env q)))
+    poly_add_is env (term_mul c m q) (poly_mul p q)
+    ∙ rw (term_mul_is env c m q, poly_mul_is env p q) (sym (add-mul (c *ℤ mono env m) (value env p) (value env q)))
 
 norm_is : (env : List ℤ) (e : Expr) → value env (norm e) ≡ eval env e
 norm_is env (var i) = once (get_or env i (pos 0))
   where
     once : (z : ℤ) → pos 1 *ℤ (z *ℤ pos 1) +ℤ pos 0 ≡ z
     once z = ap (λ y. pos 1 *ℤ y +ℤ pos 0) (times_one z) ∙ omega (arith, ints)
-      where
-        times_one : (y : ℤ) → y *ℤ pos 1 ≡ y
-        times_one y = omega (arith, ints)
 norm_is env (lit z) = omega (arith, ints)
 norm_is env (add a b) = poly_add_is env (norm a) (norm b) ∙ rw (norm_is env a, norm_is env b)
 norm_is env (mul a b) = poly_mul_is env (norm a) (norm b) ∙ rw (norm_is env a, norm_is env b)

@@ -26,7 +26,7 @@ abbrev corner : (x y : ℤ) → IsWithin limit x → IsWithin limit y → Corner
 corner x y x_in_range y_in_range = record { x = x; y = y; x_in_range = x_in_range; y_in_range = y_in_range }
 
 -- the corner (x, y), neither coordinate negative
-abbrev at : (x y : ℕ) → T (int_le (pos x) (pos limit)) → T (int_le (pos y) (pos limit)) → Corner
+abbrev pub at : (x y : ℕ) → T (int_le (pos x) (pos limit)) → T (int_le (pos y) (pos limit)) → Corner
 at x y h k = corner (pos x) (pos y) (within limit (pos x) tt h) (within limit (pos y) tt k)
 
 -- the point (x / d, y / d)
@@ -303,7 +303,8 @@ touching (p, in_west, in_east) =
 abbrev distance : ℕ → Unit → ℤ → ℤ
 distance bits unit k = (pos (centimetres unit) *ℤ scaled_value bits -ℤ k *ℤ pos (2 ^ 1075)) *ℤ pos 1024
 
-abbrev on_grid : (bits : ℕ) (unit : Unit) (k : ℤ) → T (ltb (exponent_field bits) 2047) → T (int_le (neg_ℤ (pos (2 ^ 1075))) (distance bits unit k)) → T (int_le (distance bits unit k) (pos (2 ^ 1075))) → IsOnGrid bits unit k
+abbrev on_grid : (bits : ℕ) (unit : Unit) (k : ℤ) → T (ltb (exponent_field bits) 2047)
+    → T (int_le (neg_ℤ (pos (2 ^ 1075))) (distance bits unit k)) → T (int_le (distance bits unit k) (pos (2 ^ 1075))) → IsOnGrid bits unit k
 on_grid bits unit k number low high = record { is_number = lit< number; is_near = within (2 ^ 1075) (distance bits unit k) low high }
 
 -- 12.34 metres

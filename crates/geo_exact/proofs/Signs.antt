@@ -14,7 +14,8 @@ product_pos : (n m : ℕ) → 0 < n → 0 < m → 0 < n * m
 product_pos n m h k = grind arith
 
 less_times : (a a' b b' : ℕ) → a' < a → b' < b → a * b' + a' * b < a * b + a' * b'
-less_times a a' b b' h k = omega (arith, atmost_times a a' b b' (a - a') (b - b') (omega arith) (omega arith), product_pos (a - a') (b - b') (omega arith) (omega arith))
+less_times a a' b b' h k =
+    omega (arith, atmost_times a a' b b' (a - a') (b - b') (omega arith) (omega arith), product_pos (a - a') (b - b') (omega arith) (omega arith))
 
 atmost : (a a' b b' : ℕ) → a' ≤ a → b' ≤ b → a * b' + a' * b ≤ a * b + a' * b'
 atmost a a' b b' h k = omega (arith, atmost_times a a' b b' (a - a') (b - b') (omega arith) (omega arith))
@@ -31,10 +32,20 @@ mul_neg a b h k = omega (arith, ints, less_times (up a) (down a) (down b) (up b)
 pub mul_zero : (a : ℤ) → a *ℤ pos 0 ≡ pos 0
 mul_zero a = omega (arith, ints)
 
+-- at least 0 times at most 0
+pub mul_not_pos : (a b : ℤ) → pos 0 ≤ℤ a → b ≤ℤ pos 0 → (a *ℤ b) ≤ℤ pos 0
+mul_not_pos a b h k = omega (arith, ints, atmost (up a) (down a) (down b) (up b) (omega (arith, ints)) (omega (arith, ints)))
+
 -- the sign of a factor, from that of the product
 pub pos_of_mul : (a b : ℤ) → pos 0 <ℤ a → pos 0 <ℤ (a *ℤ b) → pos 0 <ℤ b
 pos_of_mul a b h k = by_lt_z (pos 0) b (λ p. p)
     (λ q. absurd (omega (arith, ints, atmost (up a) (down a) (down b) (up b) (omega (arith, ints)) (omega (arith, ints)))))
+
+pub not_neg_of_mul : (a b : ℤ) → pos 0 <ℤ a → pos 0 ≤ℤ (a *ℤ b) → pos 0 ≤ℤ b
+not_neg_of_mul a b h k = by_lt_z b (pos 0) (λ q. absurd (omega (arith, ints, mul_neg a b h q))) (λ q. q)
+
+pub not_pos_of_mul : (a b : ℤ) → pos 0 <ℤ a → (a *ℤ b) ≤ℤ pos 0 → b ≤ℤ pos 0
+not_pos_of_mul a b h k = by_lt_z (pos 0) b (λ p. absurd (omega (arith, ints, mul_pos a b h p))) (λ p. p)
 
 -- a convex combination of two positive numbers
 pub convex : (k l s t : ℤ) → pos 0 ≤ℤ k → pos 0 ≤ℤ l → pos 0 <ℤ (k +ℤ l) → pos 0 <ℤ s → pos 0 <ℤ t → pos 0 <ℤ (k *ℤ s +ℤ l *ℤ t)
@@ -45,8 +56,12 @@ convex k l s t hk hl h hs ht = by_lt_z (pos 0) k
 -- numbers that are equal after positive factors have one sign
 pub same_positive : (k l s t : ℤ) → pos 0 <ℤ k → pos 0 <ℤ l → k *ℤ s ≡ l *ℤ t → lt_z (pos 0) s ≡ lt_z (pos 0) t
 same_positive k l s t hk hl e = by_lt_z (pos 0) s
-    (λ p. let q : pos 0 <ℤ t = pos_of_mul l t hl (omega (arith, ints, mul_pos k s hk p)) in sym (let x : true ≡ lt_z (pos 0) s = omega (arith, ints) in x) ∙ omega (arith, ints))
-    (λ p. let q : t ≤ℤ pos 0 = by_lt_z (pos 0) t (λ r. absurd (omega (arith, ints, mul_pos l t hl r, atmost (up k) (down k) (down s) (up s) (omega (arith, ints)) (omega (arith, ints))))) (λ r. r) in sym (let x : false ≡ lt_z (pos 0) s = omega (arith, ints) in x) ∙ omega (arith, ints))
+    (λ p. let q : pos 0 <ℤ t = pos_of_mul l t hl (omega (arith, ints, mul_pos k s hk p)) in
+    let x : true ≡ lt_z (pos 0) s = omega (arith, ints) in
+    sym x ∙ omega (arith, ints))
+    (λ p. let q : t ≤ℤ pos 0 = not_pos_of_mul l t hl (omega (arith, ints, e, mul_not_pos k s (omega (arith, ints)) p)) in
+    let x : false ≡ lt_z (pos 0) s = omega (arith, ints) in
+    sym x ∙ omega (arith, ints))
 
 -- the test of the sign of a negative
 pub flip : (z : ℤ) → lt_z (pos 0) (neg_ℤ z) ≡ lt_z z (pos 0)
@@ -56,10 +71,6 @@ flip z = by_lt_z z (pos 0)
 
 pub same_negative : (k l s t : ℤ) → pos 0 <ℤ k → pos 0 <ℤ l → k *ℤ s ≡ l *ℤ t → lt_z s (pos 0) ≡ lt_z t (pos 0)
 same_negative k l s t hk hl e = sym (flip s) ∙ same_positive k l (neg_ℤ s) (neg_ℤ t) hk hl (simp expand (ap neg_ℤ e)) ∙ flip t
-
--- at least 0 times at most 0
-pub mul_not_pos : (a b : ℤ) → pos 0 ≤ℤ a → b ≤ℤ pos 0 → (a *ℤ b) ≤ℤ pos 0
-mul_not_pos a b h k = omega (arith, ints, atmost (up a) (down a) (down b) (up b) (omega (arith, ints)) (omega (arith, ints)))
 
 -- at most 0 times at most 0
 pub mul_falling : (a b : ℤ) → a ≤ℤ pos 0 → b ≤ℤ pos 0 → pos 0 ≤ℤ (a *ℤ b)

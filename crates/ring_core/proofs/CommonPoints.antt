@@ -8,7 +8,7 @@ use Rattle.geo_exact.specs.declared.corner.Corner.{Corner}
 use Rattle.geo_exact.specs.Point.{Point, corner_point}
 use Rattle.geo_exact.specs.Turn.{turn, turn_at, IsOnEdge}
 use Rattle.geo_exact.proofs.Differences.{expand}
-use Rattle.geo_exact.proofs.Signs.{mul_not_neg, mul_neg, mul_not_pos, mul_sinking}
+use Rattle.geo_exact.proofs.Signs.{mul_not_neg, not_neg_of_mul, mul_not_pos, mul_sinking}
 use Rattle.geo_exact.proofs.Polynomials.{Expr, var, lit, add, mul, neg, same_by}
 use Rattle.geo_exact.proofs.TurnLaws.{turn_at_expr, turn_expr, turn_swap}
 use Rattle.geo_exact.proofs.CornerPoints.{on_edge_from_box}
@@ -117,9 +117,6 @@ crossed a b c d h s t u v =
     )
 
 -- ---- edges on one line
-not_neg_of_mul : (k n : ℤ) → pos 0 <ℤ k → pos 0 ≤ℤ (k *ℤ n) → pos 0 ≤ℤ n
-not_neg_of_mul k n h g = by_lt_z n (pos 0) (λ q. absurd (omega (arith, ints, mul_neg k n h q))) (λ q. q)
-
 times-sub : (k m n : ℤ) → k *ℤ (m -ℤ n) ≡ k *ℤ m -ℤ k *ℤ n
 times-sub k m n = simp expand
 

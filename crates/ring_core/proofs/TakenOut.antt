@@ -6,11 +6,11 @@ use Rattle.std.specs.Bool.{Decides}
 use Rattle.std.proofs.lemmas.Bool.{cases_lt}
 use Rattle.std.proofs.lemmas.Bool.Decides.{nat_tests, Decides-and, Decides-like}
 use Rattle.std.proofs.lemmas.List.Edits.{get_or-remove_below, get_or-remove_above}
-use Rattle.std.proofs.lemmas.Int.{ints}
-use lib.IntN.{ℤ, pos}
-use lib.Signed.{◌≤ℤ◌, le_z}
+use lib.IntN.{pos}
+use lib.Signed.{le_z}
 use Rattle.geo_exact.specs.declared.corner.Corner.{Corner}
 use Rattle.geo_exact.specs.Turn.{turn}
+use Rattle.geo_exact.proofs.Orders.{Decides-int_le}
 use Rattle.ring_core.specs.Places.{origin, corner_at, after, before}
 use Rattle.ring_core.specs.Clipping.{IsInTriangle}
 use Rattle.ring_core.specs.Kinds.{is_inside, count_inside, number_before}
@@ -45,14 +45,11 @@ number_in n k j h = grind (arith, nat_tests)
 pub corner_kept : (whole : List Corner) (k j : ℕ) → k < length whole → corner_at (remove whole k) j ≡ corner_at whole (number_before k j)
 corner_kept whole k j h = item_kept whole k j origin h
 
-le_decides : (u v : ℤ) → Decides (le_z u v) (u ≤ℤ v)
-le_decides u v = (λ e. omega (arith, ints), λ h. sym (let x : true ≡ le_z u v = omega (arith, ints) in x))
-
 pub inside_decides : (a b c q : Corner) → Decides (is_inside a b c q) (IsInTriangle q a b c)
 inside_decides a b c q =
     Decides-like (is_inside a b c q) (λ h. record { along_ab = h.0; along_bc = h.1.0; along_ca = h.1.1 }) (λ h. (h.along_ab, (h.along_bc, h.along_ca)))
-    (Decides-and (le_z (pos 0) (turn a b q)) _ (le_decides (pos 0) (turn a b q))
-    (Decides-and (le_z (pos 0) (turn b c q)) (le_z (pos 0) (turn c a q)) (le_decides (pos 0) (turn b c q)) (le_decides (pos 0) (turn c a q))))
+    (Decides-and (le_z (pos 0) (turn a b q)) _ (Decides-int_le (pos 0) (turn a b q))
+    (Decides-and (le_z (pos 0) (turn b c q)) (le_z (pos 0) (turn c a q)) (Decides-int_le (pos 0) (turn b c q)) (Decides-int_le (pos 0) (turn c a q))))
 
 both_counted : (x y : Bool) (m r : ℕ) → m ≡ (if y then 1 + r else r)
     → (if x then 1 + m else m) ≡ (if y then 1 + (if x then 1 + r else r) else (if x then 1 + r else r))

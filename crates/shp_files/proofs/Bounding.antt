@@ -1,20 +1,16 @@
 -- The bounds of corners, one corner at a time.
-use Rattle.std.proofs.Common.{◌≡◌, ℕ, ◌<◌, ℤ, pos, List, [], ◌∷◌, ◌++◌, length, map, Option, Some, None, unwrap_or, refl, sym, ap, ◌∙◌, subst, arith, append_assoc, length-append, FitsSigned, to_z, of_z}
+use Rattle.std.proofs.Common.{◌≡◌, ℕ, ◌<◌, ℤ, pos, List, [], ◌∷◌, ◌++◌, length, map}
+use Rattle.std.proofs.Common.{Option, Some, None, unwrap_or, refl, sym, ap, ◌∙◌, subst, arith, append_assoc, length-append, FitsSigned, to_z, of_z}
 use Rattle.std.specs.Int.{w64, int_min, int_max}
-use Rattle.std.proofs.lemmas.Int.{ints, to_z-of_z, int_min_is, int_max_is}
+use Rattle.std.proofs.lemmas.Int.{ints, to_z-of_z}
 use Rattle.std.proofs.lemmas.List.{map-append, length-map}
 use Rattle.std.proofs.lemmas.List.Sums.{fold_push}
 use Rattle.geo_exact.specs.declared.corner.Corner.{Corner}
 use Rattle.geo_exact.specs.Limit.{IsWithin, limit}
+use Rattle.geo_exact.proofs.Within.{min_within, max_within}
 use Rattle.shp_files.specs.declared.bounds.Bounds.{Bounds}
 use Rattle.shp_files.specs.Written.{double, point, box, least, greatest, x_of, y_of}
 use Rattle.shp_files.specs.Writing.{AreBounds, MayBeBounds}
-
-min_within : (n : ℕ) (a b : ℤ) → IsWithin n a → IsWithin n b → IsWithin n (int_min a b)
-min_within n a b h k = record { low = omega (arith, ints, int_min_is a b); high = omega (arith, ints, int_min_is a b) }
-
-max_within : (n : ℕ) (a b : ℤ) → IsWithin n a → IsWithin n b → IsWithin n (int_max a b)
-max_within n a b h k = record { low = omega (arith, ints, int_max_is a b); high = omega (arith, ints, int_max_is a b) }
 
 kept : (z : ℤ) → IsWithin limit z → to_z w64 (of_z w64 z) ≡ z
 kept z h = let fits : FitsSigned w64 z = omega (arith, ints) in simp to_z-of_z
@@ -24,17 +20,15 @@ pub least_in_range : (a b r : ℤ) → IsWithin limit a → IsWithin limit b →
     → IsWithin limit (to_z w64 (of_z w64 r))
 least_in_range a b r h k e =
     let is : r ≡ int_min a b = e ∙ ap (λ x. int_min x (to_z w64 (of_z w64 b))) (kept a h) ∙ ap (int_min a) (kept b k) in
-    let P : ℤ → Type 0 = IsWithin limit in
-    let within : IsWithin limit r = subst P (sym is) (min_within limit a b h k) in
-    subst P (sym (kept r within)) within
+    let within : IsWithin limit r = min_within is h k in
+    subst (IsWithin limit) (sym (kept r within)) within
 
 pub greatest_in_range : (a b r : ℤ) → IsWithin limit a → IsWithin limit b → r ≡ int_max (to_z w64 (of_z w64 a)) (to_z w64 (of_z w64 b))
     → IsWithin limit (to_z w64 (of_z w64 r))
 greatest_in_range a b r h k e =
     let is : r ≡ int_max a b = e ∙ ap (λ x. int_max x (to_z w64 (of_z w64 b))) (kept a h) ∙ ap (int_max a) (kept b k) in
-    let P : ℤ → Type 0 = IsWithin limit in
-    let within : IsWithin limit r = subst P (sym is) (max_within limit a b h k) in
-    subst P (sym (kept r within)) within
+    let within : IsWithin limit r = max_within is h k in
+    subst (IsWithin limit) (sym (kept r within)) within
 
 least_push : (zs : List ℤ) (z : ℤ) → 0 < length zs → least (zs ++ z ∷ []) ≡ int_min (least zs) z
 unfolding least

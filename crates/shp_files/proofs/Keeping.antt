@@ -1,10 +1,11 @@
 -- The corners that are kept of a ring, edge by edge.
-use Rattle.std.proofs.Common.{◌≡◌, ℕ, suc, ◌+◌, ◌≤◌, ◌<◌, Bool, true, false, not, ◌||◌, ◌&&◌, List, [], ◌∷◌, ◌++◌, length, drop, get_or, add-one, drop-cons, refl, sym, ap, ◌∙◌, arith, append_assoc}
-use Rattle.std.proofs.lemmas.Grind.{common_steps}
-use Rattle.std.proofs.lemmas.List.{append-nil}
+use Rattle.std.proofs.Common.{◌≡◌, ℕ, ◌+◌, ◌≤◌, ◌<◌, Bool, true, false, not, ◌||◌, ◌&&◌, List, [], ◌∷◌, ◌++◌}
+use Rattle.std.proofs.Common.{length, drop, get_or, refl, sym, ap, ◌∙◌, arith, append_assoc}
+use Rattle.std.proofs.lemmas.List.{append-nil, drop_all}
 use Rattle.std.specs.Ordering.{int_eq}
 use Rattle.geo_exact.specs.declared.corner.Corner.{Corner}
 use Rattle.geo_exact.specs.Rings.{path}
+use Rattle.geo_exact.proofs.Dropped.{drop_item}
 use Rattle.shp_files.specs.Checks.{is_not}
 use Rattle.shp_files.specs.NormalForm.{starts, kept_once}
 use Rattle.shp_files.proofs.Turned.{same_nowhere}
@@ -17,16 +18,13 @@ both_from false b other e = ap not e
 nowhere : (p q : Corner) (other : Bool) → (is_not p.x q.x || is_not p.y q.y) ≡ other → (int_eq p.x q.x && int_eq p.y q.y) ≡ not other
 nowhere p q other e = both_from (int_eq p.x q.x) (int_eq p.y q.y) other e
 
-next_corner : (drawn : List Corner) (i : ℕ) (to : Corner) → i < length drawn → to ≡ get_or drawn i to → drop i drawn ≡ to ∷ drop (i + 1) drawn
-next_corner drawn i to below is = rw add-one (drop-cons drawn i to below ∙ ap (λ (c : Corner). c ∷ drop (suc i) drawn) (sym is))
-
 -- a corner that the next one differs from is kept
 pub keeps_corner : (kept drawn whole : List Corner) (from to first : Corner) (i : ℕ) → i < length drawn → to ≡ get_or drawn i to
     → kept ++ starts (path from (drop i drawn) first) ≡ whole → (is_not from.x to.x || is_not from.y to.y) ≡ true
     → (kept ++ from ∷ []) ++ starts (path to (drop (i + 1) drawn) first) ≡ whole
 keeps_corner kept drawn whole from to first i below is before other =
     let step : starts (path from (drop i drawn) first) ≡ from ∷ starts (path to (drop (i + 1) drawn) first) =
-    ap (λ rest. starts (path from rest first)) (next_corner drawn i to below is) ∙ rw (nowhere from to true other) refl in
+    ap (λ rest. starts (path from rest first)) (drop_item drawn i to below is) ∙ rw (nowhere from to true other) refl in
     append_assoc kept (from ∷ []) (starts (path to (drop (i + 1) drawn) first)) ∙ ap (λ rest. kept ++ rest) (sym step) ∙ before
 
 -- a corner that is the next one is not
@@ -35,23 +33,22 @@ pub skips_corner : (kept drawn whole : List Corner) (from to first : Corner) (i 
     → kept ++ starts (path to (drop (i + 1) drawn) first) ≡ whole
 skips_corner kept drawn whole from to first i below is before other =
     let step : starts (path from (drop i drawn) first) ≡ starts (path to (drop (i + 1) drawn) first) =
-    ap (λ rest. starts (path from rest first)) (next_corner drawn i to below is) ∙ rw (nowhere from to false other) refl in
+    ap (λ rest. starts (path from rest first)) (drop_item drawn i to below is) ∙ rw (nowhere from to false other) refl in
     ap (λ rest. kept ++ rest) (sym step) ∙ before
-
-no_more : (drawn : List Corner) (i : ℕ) → length drawn ≤ i → drop i drawn ≡ []
-no_more drawn i h = grind (arith, common_steps)
 
 -- the last corner, by the first
 pub keeps_last : (kept drawn whole : List Corner) (from first : Corner) (i : ℕ) → length drawn ≤ i → kept ++ starts (path from (drop i drawn) first) ≡ whole
     → (is_not from.x first.x || is_not from.y first.y) ≡ true → kept ++ from ∷ [] ≡ whole
 keeps_last kept drawn whole from first i past before other =
-    let step : starts (path from (drop i drawn) first) ≡ from ∷ [] = ap (λ rest. starts (path from rest first)) (no_more drawn i past) ∙ rw (nowhere from first true other) refl in
+    let step : starts (path from (drop i drawn) first) ≡ from ∷ [] = ap (λ rest. starts (path from rest first)) (drop_all i drawn past)
+    ∙ rw (nowhere from first true other) refl in
     ap (λ rest. kept ++ rest) (sym step) ∙ before
 
 pub skips_last : (kept drawn whole : List Corner) (from first : Corner) (i : ℕ) → length drawn ≤ i → kept ++ starts (path from (drop i drawn) first) ≡ whole
     → (is_not from.x first.x || is_not from.y first.y) ≡ false → kept ≡ whole
 skips_last kept drawn whole from first i past before other =
-    let step : starts (path from (drop i drawn) first) ≡ [] = ap (λ rest. starts (path from rest first)) (no_more drawn i past) ∙ rw (nowhere from first false other) refl in
+    let step : starts (path from (drop i drawn) first) ≡ [] = ap (λ rest. starts (path from rest first)) (drop_all i drawn past)
+    ∙ rw (nowhere from first false other) refl in
     sym (append-nil kept) ∙ ap (λ rest. kept ++ rest) (sym step) ∙ before
 
 -- a ring that is begun with its first corner once more

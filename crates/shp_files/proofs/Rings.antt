@@ -1,13 +1,14 @@
 -- The rings of a layer, one after the other.
-use Rattle.std.proofs.Common.{Bool, true, false, cond, pos, ◌≡◌, ℕ, zero, suc, ◌+◌, ◌*◌, ◌<◌, ◌≤◌, List, [], ◌∷◌, ◌++◌, length, map, get_or, take, drop, sym, ap, ◌∙◌, arith, add-one, drop-cons, append_assoc, length-append}
-use Rattle.std.proofs.lemmas.Grind.{common_steps}
-use Rattle.std.proofs.lemmas.List.{map-append, take_more, append-nil, drop-map, length-reverse, length-map}
+use Rattle.std.proofs.Common.{Bool, true, false, cond, pos, ◌≡◌, ℕ, zero, suc, ◌+◌, ◌*◌, ◌<◌, ◌≤◌, List, [], ◌∷◌, ◌++◌, length}
+use Rattle.std.proofs.Common.{map, get_or, take, drop, sym, ap, ◌∙◌, arith, append_assoc, length-append}
+use Rattle.std.proofs.lemmas.List.{map-append, take_more, append-nil, drop-map, drop_all, length-reverse, length-map}
 use Rattle.std.proofs.lemmas.List.Concat.{flat_map-append}
 use Rattle.geo_exact.specs.declared.corner.Corner.{Corner}
 use Rattle.std.specs.Prelude.{int_lt}
 use Rattle.geo_exact.specs.Area.{area2}
 use Rattle.geo_exact.specs.Rings.{turned_round}
 use Rattle.geo_exact.specs.declared.raw_ring.RawRing.{RawRing}
+use Rattle.geo_exact.proofs.Dropped.{drop_item}
 use Rattle.shp_files.specs.LayerFile.{closed, joined}
 use Rattle.shp_files.specs.Written.{big, words, points, content, record_bytes, records, corners_of, index_records}
 use Rattle.shp_files.proofs.Puts.{more}
@@ -19,10 +20,10 @@ ring_corners ring = ring.corners
 -- the rings from an index on
 pub lists_drop : {X : Type 0} (f : X → List Corner) (xs : List X) (i : ℕ) (x : X) → i < length xs → x ≡ get_or xs i x
     → map f (drop i xs) ≡ f x ∷ map f (drop (i + 1) xs)
-lists_drop f xs i x h e = rw add-one (ap (map f) (drop-cons xs i x h ∙ ap (λ y. y ∷ drop (suc i) xs) (sym e)))
+lists_drop f xs i x h e = ap (map f) (drop_item xs i x h e)
 
 pub lists_end : {X : Type 0} (f : X → List Corner) (xs : List X) (i : ℕ) → length xs ≤ i → map f (drop i xs) ≡ []
-lists_end f xs i h = let e : drop i xs ≡ [] = grind (arith, common_steps) in ap (map f) e
+lists_end f xs i h = ap (map f) (drop_all i xs h)
 
 -- the corners of the rings below an index, and of one more
 pub corners_push : {X : Type 0} (f : X → List Corner) (xs : List X) (i : ℕ) (x : X) → i < length xs → x ≡ get_or xs i x

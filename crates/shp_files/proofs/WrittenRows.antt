@@ -1,21 +1,10 @@
 -- The files of a layer of one square, and those of no ring, computed from the definitions.
-use Rattle.std.proofs.Common.{◌≡◌, ℕ, List, [], ◌∷◌, ◌++◌, replicate, pos, refl}
-use Rattle.std.specs.Prelude.{int_le}
+use Rattle.std.proofs.Common.{◌≡◌, ℕ, List, [], ◌∷◌, ◌++◌, replicate, refl}
 use lib.Count.{count_leading_zeros}
-use lib.Dec.{T}
 use Rattle.geo_exact.specs.declared.corner.Corner.{Corner}
 use Rattle.geo_exact.specs.Doubles.{whole_bits, bits_of}
-use Rattle.geo_exact.specs.Limit.{limit}
+use Rattle.geo_exact.proofs.Rows.{at}
 use Rattle.shp_files.specs.Written.{big, little, double, zeros, point, box, least, greatest, content, record_bytes, header, written_main, written_index}
-
--- the corner (x, y), neither coordinate negative
-abbrev at : (x y : ℕ) → T (int_le (pos x) (pos limit)) → T (int_le (pos y) (pos limit)) → Corner
-at x y h k = record {
-  x = pos x;
-  y = pos y;
-  x_in_range = record { low = record { le = tt }; high = record { le = h } };
-  y_in_range = record { low = record { le = tt }; high = record { le = k } };
-}
 
 abbrev pub square : List (List Corner)
 square = (at 0 0 tt tt ∷ at 100 0 tt tt ∷ at 100 100 tt tt ∷ at 0 100 tt tt ∷ []) ∷ []

@@ -7,7 +7,7 @@ use Rattle.geo_exact.specs.declared.corner.Corner.{Corner}
 use Rattle.geo_exact.specs.Point.{Point}
 use Rattle.geo_exact.specs.Turn.{turn_at}
 use Rattle.geo_exact.proofs.Signs.{mul_pos, mul_not_neg}
-use Rattle.geo_exact.proofs.Polynomials.{Expr, var, add, mul, neg, same_by}
+use Rattle.geo_exact.proofs.Polynomials.{Expr, var, add, mul, sub, same_by}
 
 -- s is k p + l q + m r with no negative coefficient, in homogeneous coordinates: a place in the triangle of p, q and r
 pub record IsBlend (s p q r : Point) (k l m : ℤ) : Type 0 where
@@ -42,9 +42,6 @@ blend_positive k l m a b c u v w hk hl hm h ha hb hc =
 -- a turn as a polynomial in homogeneous coordinates
 abbrev form : ℤ → ℤ → ℤ → ℤ → ℤ → ℤ → ℤ → ℤ
 form ax ay bx by x y d = (bx -ℤ ax) *ℤ (y -ℤ ay *ℤ d) -ℤ (by -ℤ ay) *ℤ (x -ℤ ax *ℤ d)
-
-abbrev sub : Expr → Expr → Expr
-sub a b = add a (neg b)
 
 abbrev form_expr : Expr → Expr → Expr → Expr
 form_expr x y d = sub (mul (sub (var 2) (var 0)) (sub y (mul (var 1) d))) (mul (sub (var 3) (var 1)) (sub x (mul (var 0) d)))

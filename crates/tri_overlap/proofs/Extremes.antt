@@ -2,7 +2,6 @@
 use Rattle.std.proofs.Common.{◌≡◌, ◌⊎◌, ◌↔◌, inl, inr, ℤ, pos, ◌*ℤ◌, ◌<ℤ◌, ◌≤ℤ◌, arith}
 use Rattle.std.specs.Int.{int_min, int_max}
 use Rattle.std.proofs.lemmas.Int.{ints, by_lt_z, int_min_is, int_max_is}
-use Rattle.geo_exact.specs.Limit.{IsWithin, limit}
 use Rattle.geo_exact.proofs.Signs.{mul_le}
 
 pub least_of : {y z u v w : ℤ} → y ≡ int_min u v → z ≡ int_min y w → (z ≤ℤ u) × (z ≤ℤ v) × (z ≤ℤ w)
@@ -14,15 +13,6 @@ pub greatest_of : {y z u v w : ℤ} → y ≡ int_max u v → z ≡ int_max y w 
 greatest_of {y = y} {u = u} {v = v} {w = w} e f =
     let g = int_max_is u v in let h = int_max_is y w in
     (omega (arith, ints), omega (arith, ints), omega (arith, ints))
-
--- both stay within the limit
-pub min_within : {z u v : ℤ} → z ≡ int_min u v → IsWithin limit u → IsWithin limit v → IsWithin limit z
-min_within {u = u} {v = v} e i j =
-    let f = int_min_is u v in record { low = omega (arith, ints, i, j); high = omega (arith, ints, i, j) }
-
-pub max_within : {z u v : ℤ} → z ≡ int_max u v → IsWithin limit u → IsWithin limit v → IsWithin limit z
-max_within {u = u} {v = v} e i j =
-    let f = int_max_is u v in record { low = omega (arith, ints, i, j); high = omega (arith, ints, i, j) }
 
 pub min_of : {z u v : ℤ} → z ≡ int_min u v → (z ≤ℤ u) × (z ≤ℤ v)
 min_of {u = u} {v = v} e = let f = int_min_is u v in (omega (arith, ints), omega (arith, ints))

@@ -4,13 +4,13 @@ use Rattle.std.proofs.lemmas.List.{take-append-drop}
 use Rattle.std.proofs.lemmas.List.Elements.{All-tail}
 use Rattle.geo_exact.specs.Point.{Point}
 use Rattle.geo_exact.specs.Winding.{IsInterior}
+use Rattle.geo_exact.proofs.Dropped.{drop_item}
 use Rattle.ring_core.specs.declared.triangle.Tri.{Tri}
 use Rattle.ring_core.specs.Sums.{corners_of}
 use Rattle.tri_overlap.specs.declared.bounds.Bounds.{Bounds}
 use Rattle.tri_overlap.specs.Bounding.{Holds, HoldsAll, HoldsCommon, InSome, IsInside}
 use Rattle.tri_overlap.specs.Separation.{SomePairMeets}
 use Rattle.tri_overlap.proofs.Boxes.{inside_box}
-use Rattle.tri_overlap.proofs.Dropped.{drop_item}
 use Rattle.tri_overlap.proofs.RingPairs.{pair_meets, point_of_pair}
 
 in_front : (p : Point) (ts us : List Tri) → InSome p ts → InSome p (ts ++ us)

@@ -6,7 +6,7 @@ use lib.Signed.{◌<ℤ◌, ◌≤ℤ◌}
 use Rattle.geo_exact.specs.Point.{Point}
 use Rattle.geo_exact.proofs.Signs.{mul_pos, mul_not_neg}
 use Rattle.geo_exact.proofs.Differences.{expand}
-use Rattle.geo_exact.proofs.Polynomials.{Expr, var, lit, add, mul, neg, same_by}
+use Rattle.geo_exact.proofs.Polynomials.{Expr, var, lit, add, mul, neg, sub, same_by}
 use Rattle.tri_overlap.proofs.Convex.{IsBlend, IsConvex, both_convex, three_convex}
 
 -- z is not 0, and has a sign
@@ -26,9 +26,6 @@ pub record IsDependent (p q r s : Point) (i j k l : ℤ) : Type 0 where
 
 abbrev pub Dependence : Point → Point → Point → Point → Type 0
 Dependence p q r s = (i : ℤ) × (j : ℤ) × (k : ℤ) × (l : ℤ) × IsDependent p q r s i j k l
-
-abbrev sub : Expr → Expr → Expr
-sub a b = add a (neg b)
 
 -- the determinant of three points
 abbrev det : ℤ → ℤ → ℤ → ℤ → ℤ → ℤ → ℤ → ℤ → ℤ → ℤ
@@ -115,7 +112,9 @@ along_x p q r s e h = (
   pos 0,
   record {
     x = no_fourth (minor_x q r) (neg_ℤ (minor_x p r)) (minor_x p q) p.x q.x r.x s.x ∙ same_by (env12 p q r s) (across_x 0) (lit (pos 0)) refl;
-    y = no_fourth (minor_x q r) (neg_ℤ (minor_x p r)) (minor_x p q) p.y q.y r.y s.y ∙ same_by (env12 p q r s) (across_x 1) (neg (det_at 0 3 6)) refl ∙ ap neg_ℤ e;
+    y = no_fourth (minor_x q r) (neg_ℤ (minor_x p r)) (minor_x p q) p.y q.y r.y s.y
+        ∙ same_by (env12 p q r s) (across_x 1) (neg (det_at 0 3 6)) refl
+        ∙ ap neg_ℤ e;
     d = no_fourth (minor_x q r) (neg_ℤ (minor_x p r)) (minor_x p q) p.d q.d r.d s.d ∙ same_by (env12 p q r s) (across_x 2) (lit (pos 0)) refl;
     is_proper = inr (inr (inl h));
   },
@@ -175,8 +174,22 @@ record Parts (z : ℤ) : Type 0 where
 
 parts : (z : ℤ) → Parts z
 parts z = by_lt_z (pos 0) z
-    (λ h. record { up = z; down = pos 0; up_not_negative = omega (arith, ints); down_not_negative = omega (arith, ints); difference = omega (arith, ints); one_is_none = inr refl })
-    (λ h. record { up = pos 0; down = neg_ℤ z; up_not_negative = omega (arith, ints); down_not_negative = omega (arith, ints); difference = omega (arith, ints); one_is_none = inl refl })
+    (λ h. record {
+      up = z;
+      down = pos 0;
+      up_not_negative = omega (arith, ints);
+      down_not_negative = omega (arith, ints);
+      difference = omega (arith, ints);
+      one_is_none = inr refl;
+    })
+    (λ h. record {
+      up = pos 0;
+      down = neg_ℤ z;
+      up_not_negative = omega (arith, ints);
+      down_not_negative = omega (arith, ints);
+      difference = omega (arith, ints);
+      one_is_none = inl refl;
+    })
 
 -- multiples with their signs, cut into two groups of multiples that are not negative
 same_sums : (i j k l i' j' k' l' a b c d : ℤ) → sum4 (i -ℤ i') (j -ℤ j') (k -ℤ k') (l -ℤ l') a b c d ≡ pos 0 → sum4 i j k l a b c d ≡ sum4 i' j' k' l' a b c d

@@ -1,7 +1,6 @@
 pub mod Convex
 pub mod Helly
 pub mod Separating
-pub mod Dropped
 pub mod Extremes
 pub mod Fits
 pub mod Farthest

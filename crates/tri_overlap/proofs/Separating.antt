@@ -1,7 +1,7 @@
 -- Two counterclockwise triangles have a common interior point exactly where no edge of one has the other on its right or on its line.
 use Rattle.std.proofs.Common.{◌≡◌, refl, ◌∙◌, arith, inl, inr, ◌⊎◌, [], ◌∷◌}
 use Rattle.std.proofs.lemmas.Int.{ints, by_lt_z}
-use lib.IntN.{ℤ, pos, ◌+ℤ◌, ◌-ℤ◌, ◌*ℤ◌, neg_ℤ}
+use lib.IntN.{ℤ, pos, ◌+ℤ◌, ◌-ℤ◌, ◌*ℤ◌}
 use lib.Signed.{◌<ℤ◌, ◌≤ℤ◌}
 use Rattle.geo_exact.specs.declared.corner.Corner.{Corner}
 use Rattle.geo_exact.specs.Point.{Point}
@@ -10,10 +10,11 @@ use Rattle.geo_exact.specs.Interiors.{InteriorsMeet}
 use Rattle.geo_exact.proofs.Triangles.{triangle_interior}
 use Rattle.ring_core.specs.declared.triangle.Tri.{Tri}
 use Rattle.ring_core.specs.Sums.{corners_of}
-use Rattle.geo_exact.proofs.Signs.{mul_pos, mul_not_neg}
+use Rattle.geo_exact.proofs.Signs.{mul_pos, mul_not_neg, mul_not_pos}
 use Rattle.geo_exact.proofs.Differences.{expand}
 use Rattle.geo_exact.proofs.Polynomials.{Expr, var, add, mul, same_by}
 use Rattle.geo_exact.proofs.TurnLaws.{turn_expr, turn_at_expr, corner_point, turn_at_corner, turn_cycle}
+use Rattle.geo_exact.proofs.OnEdge.{starts_on, ends_on}
 use Rattle.tri_overlap.specs.Separation.{SeesSome, NoEdgeSeparates}
 use Rattle.tri_overlap.proofs.Convex.{IsBlend, IsLeft, left_convex, turn_at_blend}
 use Rattle.tri_overlap.proofs.Helly.{InFour, helly_six}
@@ -42,7 +43,8 @@ toward a b c n h = record {
   d_positive = omega (arith, ints);
 }
 
-toward_blend : (a b c : Corner) (n : ℤ) (h : pos 0 ≤ℤ n) → IsBlend (toward a b c n h) (corner_point a) (corner_point b) (corner_point c) (n +ℤ pos 1) (pos 1) (pos 1)
+toward_blend : (a b c : Corner) (n : ℤ) (h : pos 0 ≤ℤ n)
+    → IsBlend (toward a b c n h) (corner_point a) (corner_point b) (corner_point c) (n +ℤ pos 1) (pos 1) (pos 1)
 toward_blend a b c n h = record { first = omega (arith, ints); second = omega (arith, ints); third = omega (arith, ints); x = refl; y = refl; d = refl }
 
 -- what a way sees of that place
@@ -55,20 +57,15 @@ turn_at_toward g k a b c n h =
     regroup : (n u v w : ℤ) → (n +ℤ pos 1) *ℤ u +ℤ pos 1 *ℤ v +ℤ pos 1 *ℤ w ≡ n *ℤ u +ℤ (u +ℤ v +ℤ w)
     regroup n u v w = simp expand (omega (arith, ints))
 
-turn_start : (a b : Corner) → turn a b a ≡ pos 0
-turn_start a b = simp expand (omega (arith, ints))
-
-turn_end : (a b : Corner) → turn a b b ≡ pos 0
-turn_end a b = simp expand (omega (arith, ints))
-
 -- a place inside a triangle, near its first corner, that a way sees where it sees that corner
 near_first : (g k a b c : Corner) → pos 0 <ℤ turn a b c → pos 0 <ℤ turn g k a → InFour (IsLeft a b) (IsLeft b c) (IsLeft c a) (IsLeft g k)
 near_first g k a b c h s =
     let n = enough (turn g k a) (turn g k a +ℤ turn g k b +ℤ turn g k c) s in (
       toward a b c n.0 n.1,
-      rw (turn_at_toward a b a b c n.0 n.1, turn_start a b, turn_end a b) (omega (arith, ints, h)),
-      rw (turn_at_toward b c a b c n.0 n.1, turn_cycle a b c, turn_start b c, turn_end b c) (omega (arith, ints, h, mul_not_neg n.0 (turn a b c) n.1 (omega (arith, ints, h)))),
-      rw (turn_at_toward c a a b c n.0 n.1, turn_end c a, turn_cycle b c a, turn_cycle a b c, turn_start c a) (omega (arith, ints, h)),
+      rw (turn_at_toward a b a b c n.0 n.1, starts_on a b, ends_on a b) (omega (arith, ints, h)),
+      rw (turn_at_toward b c a b c n.0 n.1, turn_cycle a b c, starts_on b c, ends_on b c)
+          (omega (arith, ints, h, mul_not_neg n.0 (turn a b c) n.1 (omega (arith, ints, h)))),
+      rw (turn_at_toward c a a b c n.0 n.1, ends_on c a, turn_cycle b c a, turn_cycle a b c, starts_on c a) (omega (arith, ints, h)),
       rw (turn_at_toward g k a b c n.0 n.1) n.2,
     )
 
@@ -128,13 +125,10 @@ none_seen t u v w x y z s ht e hu hv hw hs =
       ints,
       mul_pos t s ht hs,
       e,
-      not_above u x (omega (arith, ints)) a,
-      not_above v y (omega (arith, ints)) b,
-      not_above w z (omega (arith, ints)) c,
+      mul_not_pos u x (omega (arith, ints)) a,
+      mul_not_pos v y (omega (arith, ints)) b,
+      mul_not_pos w z (omega (arith, ints)) c,
     )))))
-  where
-    not_above : (m n : ℤ) → pos 0 ≤ℤ m → n ≤ℤ pos 0 → (m *ℤ n) ≤ℤ pos 0
-    not_above m n i j = let q : pos 0 ≤ℤ (m *ℤ neg_ℤ n) = mul_not_neg m (neg_ℤ n) i (omega (arith, ints)) in omega (arith, ints, simp expand at q)
 
 -- a way that sees an inner point of a triangle sees a corner of it
 pub sees_corner : (g k d e f : Corner) (p : Point) → pos 0 <ℤ turn d e f → IsLeftOfAll d e f p → IsLeft g k p → SeesSome g k d e f
@@ -142,7 +136,8 @@ sees_corner g k d e f p h i s =
     none_seen (turn d e f) (turn_at e f p) (turn_at f d p) (turn_at d e p) (turn g k d) (turn g k e) (turn g k f) (turn_at g k p)
     h (weighed g k d e f p) i.1 i.2 i.0 s
 
-pub unseparated : (a b c d e f : Corner) (p : Point) → pos 0 <ℤ turn a b c → pos 0 <ℤ turn d e f → IsLeftOfAll a b c p → IsLeftOfAll d e f p → IsUnseparated a b c d e f
+pub unseparated : (a b c d e f : Corner) (p : Point) → pos 0 <ℤ turn a b c → pos 0 <ℤ turn d e f → IsLeftOfAll a b c p → IsLeftOfAll d e f p
+    → IsUnseparated a b c d e f
 unseparated a b c d e f p h k i j = record {
   by_ab = sees_corner a b d e f p k j i.0;
   by_bc = sees_corner b c d e f p k j i.1;

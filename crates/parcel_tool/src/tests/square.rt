@@ -53,7 +53,7 @@ fn push_doubles(file: &mut Vec<u8>, doubles: &[u64]) -> Result<(), AllocError> {
 /// The index file, of 100 bytes and 8 for each entry, with these entries: the record's place and its content's length, both
 /// in 16-bit words.
 pub fn index(alloc: Global, entries: &[(u32, u32)]) -> Result<Vec<u8>, AllocError> {
-    let words = 50u32.wrapping_add(4u32.wrapping_mul(entries.len() as u32));
+    let words = 50u32.wrapping_add(4u32.wrapping_mul(count_of(entries.len())));
     let mut file = header(alloc, words, [0, 0, HUNDRED.1, HUNDRED.1])?;
     for (place, length) in entries {
         file.extend_from_slice(&place.to_be_bytes())?;
@@ -64,7 +64,7 @@ pub fn index(alloc: Global, entries: &[(u32, u32)]) -> Result<Vec<u8>, AllocErro
 
 /// A main file of one record, the polygon of these points, as (x, y) in the bits of doubles.
 pub fn polygon(alloc: Global, points: &[(u64, u64)]) -> Result<Vec<u8>, AllocError> {
-    let content = 24u32.wrapping_add(8u32.wrapping_mul(points.len() as u32));
+    let content = 24u32.wrapping_add(8u32.wrapping_mul(count_of(points.len())));
     let mut file = header(alloc, content.wrapping_add(54), [0; 4])?;
     push_record(&mut file, 1, content, points)?;
     Ok(file)
@@ -81,6 +81,11 @@ pub fn null_and_polygon(alloc: Global, points: &[(u64, u64); 5]) -> Result<Vec<u
     Ok(file)
 }
 
+/// A count as a file has it.
+fn count_of(count: usize) -> u32 {
+    u32::try_from(count).unwrap_or(u32::MAX)
+}
+
 /// The record of a polygon of one part, with so many 16-bit words of content.
 fn push_record(
     file: &mut Vec<u8>,
@@ -93,7 +98,7 @@ fn push_record(
     }
     push_words(file, &[5])?;
     push_doubles(file, &[0; 4])?;
-    push_words(file, &[1, points.len() as u32, 0])?;
+    push_words(file, &[1, count_of(points.len()), 0])?;
     for (x, y) in points {
         push_doubles(file, &[*x, *y])?;
     }

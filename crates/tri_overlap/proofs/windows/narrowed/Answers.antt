@@ -1,5 +1,5 @@
 use Rattle.std.proofs.Common.{inl, inr}
-use Rattle.tri_overlap.proofs.Dropped.{drop_item}
+use Rattle.geo_exact.proofs.Dropped.{drop_item}
 use Rattle.tri_overlap.proofs.windows.narrowed.Goals as goal
 
 pub loop-triangle-preserved : goal.loop-triangle-preserved
