@@ -26,8 +26,8 @@ type Numbers<A> = HashMap<(Corner, Corner), i64, BuildHasherDefault<FoldHasher>,
 ///
 /// It is a map from undirected edges a, b with a before b to the number of directed edges from a to b minus the
 /// number from b to a, and it has no entry for 0. So two sets of rings, one added and the other taken, have the same
-/// net edges exactly where [`first_unbalanced`](EdgeSum::first_unbalanced) finds none. Zero-length edges count
-/// nothing. A ring of n corners takes time in proportion to n, whatever was counted before.
+/// net edges exactly where [`first_unbalanced`](EdgeSum::first_unbalanced) finds none. An edge of no length changes no
+/// net number; [`edges`](EdgeSum::edges) counts it. A ring of n corners takes time in proportion to n, whatever was counted before.
 #[derive(Drop)]
 pub struct EdgeSum<A: Allocator> {
     numbers: Numbers<A>,
@@ -63,7 +63,11 @@ impl<A: Allocator + Copy> EdgeSum<A> {
         self.edges
     }
 
-    /// Counts each edge of a ring; after a refusal nothing has changed.
+    /// Counts each edge of a ring: at most 10,000,000 corners, and 1,000,000,000,000 edges in all.
+    ///
+    /// # Errors
+    ///
+    /// [`AllocError`] where an allocation is refused; nothing has changed then.
     pub fn add(&mut self, ring: &[Corner]) -> Result<(), AllocError>
         requires size { length ring.now ≤ 10000000 }
         requires total { self.old.edges + length ring.now ≤ 1000000000000 }
@@ -77,7 +81,11 @@ impl<A: Allocator + Copy> EdgeSum<A> {
         self.count(ring, Side::Added)
     }
 
-    /// Takes each edge of a ring off; after a refusal nothing has changed.
+    /// Takes each edge of a ring off: at most 10,000,000 corners, and 1,000,000,000,000 edges in all.
+    ///
+    /// # Errors
+    ///
+    /// [`AllocError`] where an allocation is refused; nothing has changed then.
     pub fn take(&mut self, ring: &[Corner]) -> Result<(), AllocError>
         requires size { length ring.now ≤ 10000000 }
         requires total { self.old.edges + length ring.now ≤ 1000000000000 }
@@ -91,7 +99,8 @@ impl<A: Allocator + Copy> EdgeSum<A> {
         self.count(ring, Side::Taken)
     }
 
-    /// The least edge with a number other than 0, by its first corner and then by its second, and that number.
+    /// The least edge with a number other than 0, by its first corner and then by its second, and that number; `None` where all
+    /// are 0. It takes no memory, and time in proportion to the edges.
     pub fn first_unbalanced(&self) -> Option<(Corner, Corner, i64)>
         ensures none { IfNone result ((a b : Corner) → net_at self.now.counts a b ≡ pos 0) }
         // Where there is none, both sides go round each point equally often and have the same area.

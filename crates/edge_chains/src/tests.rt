@@ -189,6 +189,7 @@ fn nodes_only_what_lies_inside(rt: HostRuntime) -> Result<(), Fail> {
             (50, -1),
             (0, -far),
             (far - 1, far - 1),
+            (far - 1, far - 2),
             (far, 0),
             (0, far),
         ],

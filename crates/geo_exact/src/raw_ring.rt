@@ -33,6 +33,10 @@ impl<A: Allocator> Corners<A> {
     }
 
     /// No corner yet, and room for so many.
+    ///
+    /// # Errors
+    ///
+    /// [`AllocError`] where the room is refused.
     pub fn with_capacity(alloc: A, capacity: usize) -> Result<Corners<A>, AllocError>
         ensures { IfOk result (λ corners. corners ≡ []) }
     {
@@ -40,7 +44,11 @@ impl<A: Allocator> Corners<A> {
         Ok(Corners { list })
     }
 
-    /// Adds a corner at the end; after a refusal the list is unchanged.
+    /// Adds a corner at the end.
+    ///
+    /// # Errors
+    ///
+    /// [`AllocError`] where a growth is refused; the list is unchanged then.
     pub fn push(&mut self, corner: Corner) -> Result<(), AllocError>
         ensures ok { OnOk result (self.new ≡ self.old ++ corner ∷ []) }
         ensures err { OnErr result (self.new ≡ self.old) }

@@ -18,6 +18,11 @@ use std::alloc::Allocator;
 
 /// Writes, for each polygon of a layer in order, a line with its record's number and twice its area without sign, in
 /// square centimetres. The files are checked whole before the first byte is written.
+///
+/// # Errors
+///
+/// [`ToolFault::File`] with the files' first fault and [`ToolFault::NoMemory`], both before anything is written;
+/// [`ToolFault::Output`] where a write failed, after a beginning of the report.
 pub fn area<A: Allocator + Copy, W: ByteOut>(
     alloc: A,
     source: &Source<A>,

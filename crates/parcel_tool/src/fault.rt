@@ -37,7 +37,7 @@ pub enum ToolFault<'a> {
     Unreadable(&'a str),
     /// S1: the index file at the path that is this and `.shx` can't be read, or is too long.
     UnreadableIndex(&'a str),
-    /// S2: an output file can't be made, or a write failed.
+    /// S2: a write failed.
     Output,
     /// A layer's files are refused: their first fault.
     File(Role, FileFault),

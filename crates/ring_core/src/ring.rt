@@ -14,6 +14,7 @@ use std::alloc::Allocator;
 /// neighbours.
 #[derive(Debug, Drop)]
 pub struct Ring<A: Allocator> {
+    /// Its corners, counterclockwise, the first not repeated.
     pub corners: Corners<A>,
     pub ghost is_simple: { IsSimpleRing corners },
 }

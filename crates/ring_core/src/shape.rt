@@ -14,10 +14,12 @@ use crate::triangle::Triangles;
 use std::alloc::{AllocError, Allocator};
 
 /// A simple ring with triangles that make it up: at every point the ring's winding number is the sum
-/// of theirs, each of which is 0 or 1.
+/// of theirs, each of which is 0 or 1, and the twice-areas add up.
 #[derive(Debug, Drop)]
 pub struct Shape<A: Allocator> {
+    /// The ring.
     pub ring: Ring<A>,
+    /// Its triangles, in the order in which they are clipped.
     pub triangles: Triangles<A>,
     pub ghost made_up: { MakeUp triangles ring.corners },
 }

@@ -9,8 +9,11 @@ use std::marker::Model;
 /// Triangle). Corners are in whole centimetres.
 #[derive(Clone, Copy, Debug, PartialEq, Eq)]
 pub struct Tri {
+    /// The first corner.
     pub a: Corner,
+    /// The second.
     pub b: Corner,
+    /// The third, left of the way from the first to the second.
     pub c: Corner,
     pub ghost turns_left: { pos 0 <ℤ turn_of a b c },
 }

@@ -17,8 +17,9 @@ use std::alloc::Allocator;
 
 /// Reads the rings of a layer's main file (`.shp`), each with its record's number, and checks its index (`.shx`) where one is given.
 ///
-/// The rings are those of the file's polygons, in the file's order; their corners are in centimetres,
-/// without the closing repeat. Bytes behind a file's declared length are ignored.
+/// The rings are those of the file's polygons, in the file's order; a null shape gives none. Their corners are in centimetres,
+/// without the closing repeat, in normal form ([`RawRing`]): counterclockwise, with equal neighbours kept once. Bytes behind a
+/// file's declared length are ignored.
 ///
 /// # Errors
 ///

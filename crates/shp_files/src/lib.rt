@@ -1,5 +1,5 @@
-//! Layers of polygons in shapefiles, read and checked to the first fault (ESRI Shapefile Technical
-//! Description, July 1998: main file, polygon records).
+//! Layers of polygons in shapefiles: read, checked to the first fault, and written (ESRI Shapefile
+//! Technical Description, July 1998: main file, index file, null shapes and polygons).
 #![tactic(auto)]
 
 mod bounds;

@@ -213,8 +213,8 @@ fn write_index<A: Allocator + Copy>(
 /// A layer's main file and its index file, in centimetres.
 ///
 /// Each ring is a record, numbered from 1 in the order of the list. A ring of positive twice-area is written clockwise, its
-/// first corner first, as the Technical Description asks; any other in its own order. All rings may have at most 65,536
-/// records and 1,000,000 corners.
+/// first corner first, as the Technical Description asks; any other in its own order. There may be at most 65,536
+/// rings, with at most 1,000,000 corners together.
 ///
 /// # Errors
 ///

@@ -1,14 +1,12 @@
 use Rattle.std.proofs.Common.{refl, inl, inr}
 use Rattle.std.proofs.lemmas.Bool.{false≢true}
-use Rattle.tri_overlap.proofs.Dropped.{drop_item}
+use Rattle.geo_exact.proofs.Dropped.{drop_item}
 use Rattle.tri_overlap.proofs.Halves.{in_item}
 use Rattle.tri_overlap.proofs.shapes.some_pair_meets.Goals as goal
 
 pub meets_some-requires : goal.meets_some-requires
-meets_some-requires c =
-    let i = c.loop-triangle.triangle-index in
-    let t = c.triangle-item.result in
-    λ p j k. c.requires p (in_item p c.args.first.now i t c.loop-triangle-test.true c.triangle-item.is j) k
+meets_some-requires c = λ p i j. c.requires p
+    (in_item p c.args.first.now c.loop-triangle.triangle-index c.triangle-item.result c.loop-triangle-test.true c.triangle-item.is i) j
 
 pub returns-then-meets_some : goal.returns-then-meets_some
 returns-then-meets_some c =
