@@ -30,7 +30,7 @@ def run(words):
 def main():
     parser = argparse.ArgumentParser(description=__doc__, formatter_class=argparse.RawDescriptionHelpFormatter)
     parser.add_argument("program")
-    parser.add_argument("--runs", type=int, default=5)
+    parser.add_argument("--runs", type=int, default=7)
     given = parser.parse_args()
     folder = tempfile.mkdtemp()
     try:

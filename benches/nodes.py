@@ -11,7 +11,7 @@ and the largest memory. A process that takes longer than the limit is ended and 
 import argparse, os, random, shutil, subprocess, sys, tempfile, time
 
 HERE = os.path.dirname(os.path.abspath(__file__))
-sys.path.insert(0, HERE)
+sys.dont_write_bytecode = True
 import gencity
 
 
@@ -132,8 +132,12 @@ def apart(make, folder):
     """Makes a layer in a process of its own: a child's peak counts what its parent had when it began."""
     child = os.fork()
     if child == 0:
-        make(folder)
-        os._exit(0)
+        try:
+            make(folder)
+            os._exit(0)
+        except BaseException as fault:
+            print(fault, file=sys.stderr)
+            os._exit(1)
     if os.waitpid(child, 0)[1] != 0:
         sys.exit("no layer was made")
 
@@ -164,34 +168,38 @@ def main():
     parser.add_argument("--only", default="")
     given = parser.parse_args()
     home = tempfile.mkdtemp()
-    if not given.ours:
-        subprocess.run([os.path.join(HERE, "build.sh"), "bench_nodes", home], check=True)
-    program = given.ours or os.path.join(home, "bench_nodes")
-    print("%-18s %7s %9s %9s %8s %8s %8s %8s %7s %s" % ("layer", "rings", "corners", "noded", "read ms", "node ms",
-                                                        "sums ms", "find ms", "MiB", "balanced"))
-    for name, make in JOBS:
-        if given.only not in name:
-            continue
-        folder = tempfile.mkdtemp()
-        try:
-            apart(make, folder)
-            words = [program] + [os.path.join(folder, part + ".shp") for part in ("parcels", "city")]
-            best, most = None, 0
-            for _ in range(given.runs):
-                text, kib = run(words, given.limit)
-                if text is None:
-                    break
-                answer = text.split()
-                most = max(most, kib)
-                if best is None or int(answer[4]) + int(answer[5]) < int(best[4]) + int(best[5]):
-                    best = answer
-        finally:
-            shutil.rmtree(folder)
-        if best is None:
-            print("%-18s more than %d seconds" % (name, given.limit), flush=True)
-        else:
-            print("%-18s %7s %9s %9s %8s %8s %8s %8s %7.1f %s" % (name, *best[:7], most / 1024, best[7]), flush=True)
-    shutil.rmtree(home)
+    try:
+        if not given.ours:
+            subprocess.run([os.path.join(HERE, "build.sh"), "bench_nodes", home], check=True)
+        program = given.ours or os.path.join(home, "bench_nodes")
+        print("%-18s %7s %9s %9s %8s %8s %8s %8s %7s %s" % ("layer", "rings", "corners", "noded", "read ms", "node ms",
+                                                            "sums ms", "find ms", "MiB", "balanced"))
+        for name, make in JOBS:
+            if given.only not in name:
+                continue
+            folder = tempfile.mkdtemp()
+            try:
+                apart(make, folder)
+                words = [program] + [os.path.join(folder, part + ".shp") for part in ("parcels", "city")]
+                best, most = None, 0
+                for _ in range(given.runs):
+                    text, kib = run(words, given.limit)
+                    if text is None:
+                        break
+                    answer = text.split()
+                    if len(answer) < 8:
+                        sys.exit("%s answered: %s" % (name, text.strip()))
+                    most = max(most, kib)
+                    if best is None or int(answer[4]) + int(answer[5]) < int(best[4]) + int(best[5]):
+                        best = answer
+            finally:
+                shutil.rmtree(folder)
+            if best is None:
+                print("%-18s more than %d seconds" % (name, given.limit), flush=True)
+            else:
+                print("%-18s %7s %9s %9s %8s %8s %8s %8s %7.1f %s" % (name, *best[:7], most / 1024, best[7]), flush=True)
+    finally:
+        shutil.rmtree(home)
 
 
 if __name__ == "__main__":

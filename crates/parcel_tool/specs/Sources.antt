@@ -1,4 +1,4 @@
--- A layer's files as they were read.
+-- A layer's files as they were read (this product's own).
 use Rattle.std.specs.Prelude.{ℕ, List, Option}
 use Rattle.std.specs.Option.{option_map}
 use Rattle.parcel_tool.specs.declared.sources.Source.{Source}

@@ -29,7 +29,8 @@ pub fn area<A: Allocator + Copy, W: ByteOut>(
     unit: Unit,
     out: &mut W,
 ) -> Result<(), ToolFault<'static>>
-    ensures ok { OnOk result (WritesReport source.now.main.items (index_of source.now) unit (W.written out.old) (W.written out.new)) }
+    ensures ok { OnOk result
+        (WritesReport source.now.main.items (index_of source.now) unit (W.written out.old) (W.written out.new)) }
 
     // Files that are no layer are refused by their first fault, and nothing is written.
     ensures file { (role : RoleName) (fault : FileFault) → IsErrOf result (ToolFault.File role fault)
@@ -49,6 +50,7 @@ pub fn area<A: Allocator + Copy, W: ByteOut>(
     ensures output { IsErrOf result ToolFault.Output
         → WritesBeginning source.now.main.items (index_of source.now) unit (W.written out.old) (W.written out.new) }
     ensures failed { IsErrOf result ToolFault.Output → W.failure_count out.new ≡ raised (W.failure_count out.old) }
+    ensures no_failure { OnOk result (W.failure_count out.new ≡ W.failure_count out.old) }
 {
     let rings = read_rings(
         alloc,

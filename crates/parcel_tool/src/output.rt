@@ -10,6 +10,7 @@ pub fn put_all<W: ByteOut>(text: &[u8], out: &mut W) -> Result<(), Failed>
     ensures ok { OnOk result (Appends (W.written out.old) (W.written out.new) text.now) }
     ensures err { OnErr result (AppendsBeginning (W.written out.old) (W.written out.new) text.now) }
     ensures failed { OnErr result (W.failure_count out.new ≡ raised (W.failure_count out.old)) }
+    ensures no_failure { OnOk result (W.failure_count out.new ≡ W.failure_count out.old) }
 {
     let mut rest = text;
     while !rest.is_empty() {

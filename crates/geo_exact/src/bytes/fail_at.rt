@@ -45,7 +45,8 @@ impl<T> FailAt<T> {
         ensures value { IsTrue result ↔ (self.old.calls_left ≡ 1) }
         ensures inner { self.new.inner ≡ self.old.inner }
         ensures calls_left { self.new.calls_left ≡ self.old.calls_left - 1 }
-        ensures own_failures { self.new.own_failures ≡ (if result then raised self.old.own_failures else self.old.own_failures) }
+        ensures own_failures { self.new.own_failures
+            ≡ (if result then raised self.old.own_failures else self.old.own_failures) }
     {
         let fails = self.calls_left == 1;
         self.calls_left = self.calls_left.saturating_sub(1);
