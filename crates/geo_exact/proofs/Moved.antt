@@ -1,5 +1,5 @@
 -- A point moved a little, off every line through two corners, with everything else about it kept.
-use Rattle.std.proofs.Common.{◌≡◌, ◌∙◌, sym, ap, refl, arith, Bool, true, false, if◌then◌else◌, List, [], ◌∷◌, inl, inr}
+use Rattle.std.proofs.Common.{◌≡◌, ◌∙◌, sym, ap, refl, arith, true, false, List, [], ◌∷◌, inl, inr}
 use Rattle.std.proofs.lemmas.Int.{ints, by_lt_z, clamps}
 use Rattle.std.specs.Int.{int_min, int_max}
 use lib.IntN.{ℤ, pos, negsuc, ◌+ℤ◌, ◌-ℤ◌, ◌*ℤ◌, neg_ℤ, *ℤ_comm}
@@ -16,7 +16,8 @@ use Rattle.geo_exact.proofs.Signs.{zero_factor, mul_pos, mul_neg, mul_le, mul_lt
 use Rattle.geo_exact.proofs.Polynomials.{var, add, mul, neg, same_by}
 use Rattle.geo_exact.proofs.TurnLaws.{turn_at_expr}
 use Rattle.geo_exact.proofs.SameCorner.{corner_same}
-use Rattle.geo_exact.proofs.Crossings.{crossed}
+use Rattle.geo_exact.proofs.Orders.{Decides-int_le}
+use Rattle.geo_exact.proofs.Crossings.{crossed, crossed_kept}
 
 -- ---- the bounds, over plain numbers: w and h are the width and the height of an edge, within r
 least : (d r n : ℤ) → pos 0 <ℤ d → pos 1 ≤ℤ r → (d *ℤ (r +ℤ r)) <ℤ n → (d <ℤ n) × (r <ℤ n) × (pos 0 <ℤ n)
@@ -200,7 +201,8 @@ off_line a b p apart e =
     (λ r. not_level (pos 20000000000) (steps p) (b.x -ℤ a.x) (b.y -ℤ a.y) (steps_least p).1 (steps_least p).2
     (apart_small a.x b.x a.x_in_range b.x_in_range)
     (zero_factor p.d ((b.x -ℤ a.x) -ℤ (b.y -ℤ a.y) *ℤ steps p) p.d_positive
-    (rest (turn_at a b p) (steps p *ℤ steps p) (p.d *ℤ ((b.x -ℤ a.x) -ℤ (b.y -ℤ a.y) *ℤ steps p)) (turn_at a b (moved p)) (moved_turn a b p) e (level (turn_at a b p) q r)))
+    (rest (turn_at a b p) (steps p *ℤ steps p) (p.d *ℤ ((b.x -ℤ a.x) -ℤ (b.y -ℤ a.y) *ℤ steps p)) (turn_at a b (moved p))
+    (moved_turn a b p) e (level (turn_at a b p) q r)))
     apart))
   where
     above : (t : ℤ) → pos 0 <ℤ t → t ≡ pos 0 → ⊥
@@ -285,17 +287,6 @@ moved_from_down a b p h =
     goes_left (pos 20000000000) (turn_at a b p) (steps p *ℤ steps p) p.d (steps p) (b.x -ℤ a.x) (b.y -ℤ a.y) (turn_at a b (moved p)) (moved_turn a b p)
     p.d_positive (steps_least p).1 (steps_least p).2 (apart_small a.x b.x a.x_in_range b.x_in_range) (omega (arith, ints, h))
 
-crossed_kept : (la lb : Bool) (t z : ℤ)
-    → (la ≡ true → lb ≡ false → lt_z (pos 0) z ≡ lt_z (pos 0) t) → (la ≡ false → lb ≡ true → lt_z z (pos 0) ≡ lt_z t (pos 0))
-    → crossed la lb z ≡ crossed la lb t
-crossed_kept true true t z h k = refl
-crossed_kept true false t z h k = ap (λ b. if b then pos 1 else pos 0) (h refl refl)
-crossed_kept false true t z h k = ap (λ b. if b then negsuc 0 else pos 0) (k refl refl)
-crossed_kept false false t z h k = refl
-
-not_above : (u v : ℤ) → le_z u v ≡ true → u ≤ℤ v
-not_above u v h = omega (arith, ints)
-
 is_above : (u v : ℤ) → le_z u v ≡ false → v <ℤ u
 is_above u v h = omega (arith, ints)
 
@@ -306,9 +297,9 @@ moved_crossing a b p =
     ∙ ap (λ l. crossed (is_not_above a p) l (turn_at a b (moved p))) (moved_height b p)
     ∙ crossed_kept (is_not_above a p) (is_not_above b p) (turn_at a b p) (turn_at a b (moved p))
     (λ x y. same_left (turn_at a b p) (turn_at a b (moved p)) (moved_left a b p) (moved_right a b p)
-    (moved_from_up a b p (rises a.y b.y p.y p.d p.d_positive (not_above (a.y *ℤ p.d) p.y x) (is_above (b.y *ℤ p.d) p.y y))))
+    (moved_from_up a b p (rises a.y b.y p.y p.d p.d_positive ((Decides-int_le (a.y *ℤ p.d) p.y).0 x) (is_above (b.y *ℤ p.d) p.y y))))
     (λ x y. same_right (turn_at a b p) (turn_at a b (moved p)) (moved_left a b p) (moved_right a b p)
-    (moved_from_down a b p (rises b.y a.y p.y p.d p.d_positive (not_above (b.y *ℤ p.d) p.y y) (is_above (a.y *ℤ p.d) p.y x))))
+    (moved_from_down a b p (rises b.y a.y p.y p.d p.d_positive ((Decides-int_le (b.y *ℤ p.d) p.y).0 y) (is_above (a.y *ℤ p.d) p.y x))))
 
 pub moved_crossings : (es : List Edge) (p : Point) → crossings (moved p) es ≡ crossings p es
 moved_crossings [] p = refl

@@ -1,9 +1,9 @@
 -- Rational points at one place, with different denominators: turns, edges, crossings and interiors do not tell them apart.
-use Rattle.std.proofs.Common.{◌≡◌, ◌∙◌, sym, ap, refl, arith, Bool, true, false, if◌then◌else◌, List, [], ◌∷◌, inl, inr}
+use Rattle.std.proofs.Common.{◌≡◌, ◌∙◌, sym, ap, refl, arith, true, false, List, [], ◌∷◌, inl, inr}
 use Rattle.std.proofs.lemmas.Int.{ints, by_lt_z}
 use Rattle.std.specs.Int.{int_min, int_max}
-use lib.IntN.{ℤ, pos, negsuc, ◌+ℤ◌, ◌-ℤ◌, ◌*ℤ◌}
-use lib.Signed.{◌<ℤ◌, ◌≤ℤ◌, lt_z, le_z}
+use lib.IntN.{ℤ, pos, ◌+ℤ◌, ◌-ℤ◌, ◌*ℤ◌}
+use lib.Signed.{◌<ℤ◌, ◌≤ℤ◌, le_z}
 use Rattle.geo_exact.specs.declared.corner.Corner.{Corner}
 use Rattle.geo_exact.specs.Point.{Point}
 use Rattle.geo_exact.specs.Rings.{Edge, edges}
@@ -12,7 +12,7 @@ use Rattle.geo_exact.specs.Winding.{is_not_above, crossing, crossings, winding, 
 use Rattle.geo_exact.proofs.Signs.{zero_factor, mul_zero, mul_le, mul_lt, same_positive, same_negative}
 use Rattle.geo_exact.proofs.Polynomials.{var, add, mul, neg, same_by}
 use Rattle.geo_exact.proofs.TurnLaws.{turn_at_expr}
-use Rattle.geo_exact.proofs.Crossings.{crossed}
+use Rattle.geo_exact.proofs.Crossings.{crossed, crossed_kept}
 
 -- p and q are one place
 pub record IsSamePlace (p q : Point) : Type 0 where
@@ -96,19 +96,13 @@ height_place a p q h =
     (at_most a.y p.d q.d p.y q.y p.d_positive q.d_positive h.same_y)
     (at_most a.y q.d p.d q.y p.y q.d_positive p.d_positive (sym h.same_y))
 
-crossed_alike : (la lb : Bool) (t z : ℤ) → lt_z (pos 0) z ≡ lt_z (pos 0) t → lt_z z (pos 0) ≡ lt_z t (pos 0) → crossed la lb z ≡ crossed la lb t
-crossed_alike true true t z h k = refl
-crossed_alike true false t z h k = ap (λ b. if b then pos 1 else pos 0) h
-crossed_alike false true t z h k = ap (λ b. if b then negsuc 0 else pos 0) k
-crossed_alike false false t z h k = refl
-
 pub crossing_place : (a b : Corner) (p q : Point) → IsSamePlace p q → crossing q a b ≡ crossing p a b
 crossing_place a b p q h =
     ap (λ l. crossed l (is_not_above b q) (turn_at a b q)) (height_place a p q h)
     ∙ ap (λ l. crossed (is_not_above a p) l (turn_at a b q)) (height_place b p q h)
-    ∙ crossed_alike (is_not_above a p) (is_not_above b p) (turn_at a b p) (turn_at a b q)
-    (same_positive p.d q.d (turn_at a b q) (turn_at a b p) p.d_positive q.d_positive (sym (turn_at_place a b p q h)))
-    (same_negative p.d q.d (turn_at a b q) (turn_at a b p) p.d_positive q.d_positive (sym (turn_at_place a b p q h)))
+    ∙ crossed_kept (is_not_above a p) (is_not_above b p) (turn_at a b p) (turn_at a b q)
+    (λ u v. same_positive p.d q.d (turn_at a b q) (turn_at a b p) p.d_positive q.d_positive (sym (turn_at_place a b p q h)))
+    (λ u v. same_negative p.d q.d (turn_at a b q) (turn_at a b p) p.d_positive q.d_positive (sym (turn_at_place a b p q h)))
 
 zero_after : (k l s t : ℤ) → pos 0 <ℤ l → k *ℤ s ≡ l *ℤ t → s ≡ pos 0 → t ≡ pos 0
 zero_after k l s t h e z = zero_factor l t h (sym e ∙ ap (λ y. k *ℤ y) z ∙ mul_zero k)
