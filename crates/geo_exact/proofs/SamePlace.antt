@@ -9,6 +9,7 @@ use Rattle.geo_exact.specs.Point.{Point}
 use Rattle.geo_exact.specs.Rings.{Edge, edges}
 use Rattle.geo_exact.specs.Turn.{turn_at, IsOnEdge, IsOnSome}
 use Rattle.geo_exact.specs.Winding.{is_not_above, crossing, crossings, winding, IsInterior}
+use Rattle.geo_exact.proofs.Orders.{le_of_lt, lt_not_ge}
 use Rattle.geo_exact.proofs.Signs.{zero_factor, mul_zero, mul_le, mul_lt, same_positive, same_negative}
 use Rattle.geo_exact.proofs.Polynomials.{var, add, mul, neg, same_by}
 use Rattle.geo_exact.proofs.TurnLaws.{turn_at_expr}
@@ -50,13 +51,10 @@ turn_at_place a b p q h =
 at_most : (u d e y z : ℤ) → pos 0 <ℤ d → pos 0 <ℤ e → y *ℤ e ≡ z *ℤ d → (u *ℤ d) ≤ℤ y → (u *ℤ e) ≤ℤ z
 at_most u d e y z hd he h k =
     by_lt_z z (u *ℤ e)
-    (λ p. absurd (clash (mul_lt z (u *ℤ e) d hd p) (mul_le (u *ℤ d) y e (weak e he) k)
+    (λ p. absurd (clash (mul_lt z (u *ℤ e) d hd p) (mul_le (u *ℤ d) y e (le_of_lt (pos 0) e he) k)
     (same_by (u ∷ d ∷ e ∷ []) (mul (mul (var 0) (var 2)) (var 1)) (mul (mul (var 0) (var 1)) (var 2)) refl)))
     (λ p. p)
   where
-    weak : (t : ℤ) → pos 0 <ℤ t → pos 0 ≤ℤ t
-    weak t i = omega (arith, ints)
-
     clash : (z *ℤ d) <ℤ ((u *ℤ e) *ℤ d) → ((u *ℤ d) *ℤ e) ≤ℤ (y *ℤ e) → (u *ℤ e) *ℤ d ≡ (u *ℤ d) *ℤ e → ⊥
     clash i j f = over (z *ℤ d) ((u *ℤ e) *ℤ d) ((u *ℤ d) *ℤ e) (y *ℤ e) i j f h
       where
@@ -66,13 +64,10 @@ at_most u d e y z hd he h k =
 at_least : (u d e y z : ℤ) → pos 0 <ℤ d → pos 0 <ℤ e → y *ℤ e ≡ z *ℤ d → y ≤ℤ (u *ℤ d) → z ≤ℤ (u *ℤ e)
 at_least u d e y z hd he h k =
     by_lt_z (u *ℤ e) z
-    (λ p. absurd (clash (mul_lt (u *ℤ e) z d hd p) (mul_le y (u *ℤ d) e (weak e he) k)
+    (λ p. absurd (clash (mul_lt (u *ℤ e) z d hd p) (mul_le y (u *ℤ d) e (le_of_lt (pos 0) e he) k)
     (same_by (u ∷ d ∷ e ∷ []) (mul (mul (var 0) (var 2)) (var 1)) (mul (mul (var 0) (var 1)) (var 2)) refl)))
     (λ p. p)
   where
-    weak : (t : ℤ) → pos 0 <ℤ t → pos 0 ≤ℤ t
-    weak t i = omega (arith, ints)
-
     clash : ((u *ℤ e) *ℤ d) <ℤ (z *ℤ d) → (y *ℤ e) ≤ℤ ((u *ℤ d) *ℤ e) → (u *ℤ e) *ℤ d ≡ (u *ℤ d) *ℤ e → ⊥
     clash i j f = over (z *ℤ d) ((u *ℤ e) *ℤ d) ((u *ℤ d) *ℤ e) (y *ℤ e) i j f h
       where
@@ -84,11 +79,8 @@ same_test u v y z there back =
     by_lt_z y u
     (λ p. by_lt_z z v
     (λ q. let x : false ≡ le_z v z = omega (arith, ints) in sym x ∙ omega (arith, ints))
-    (λ q. absurd (over y u p (back q))))
+    (λ q. absurd (lt_not_ge y u p (back q))))
     (λ p. let q : v ≤ℤ z = there p in let x : true ≡ le_z v z = omega (arith, ints) in sym x ∙ omega (arith, ints))
-  where
-    over : (s t : ℤ) → s <ℤ t → t ≤ℤ s → ⊥
-    over s t a b = omega (arith, ints)
 
 pub height_place : (a : Corner) (p q : Point) → IsSamePlace p q → is_not_above a q ≡ is_not_above a p
 height_place a p q h =
