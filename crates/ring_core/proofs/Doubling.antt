@@ -10,7 +10,8 @@ use Rattle.geo_exact.specs.Turn.{turn, turn_at, IsOnEdge}
 use Rattle.geo_exact.proofs.Signs.{zero_factor, zero_of_mul}
 use Rattle.geo_exact.proofs.Polynomials.{var, add, mul, neg, same_by}
 use Rattle.geo_exact.proofs.TurnLaws.{turn_at_expr, turn_expr, turn_cycle, turn_swap}
-use Rattle.geo_exact.proofs.OnEdge.{le_of_lt, min_left, min_swap, max_left, max_swap, on_edge_back, on_edge_start, on_edge_end}
+use Rattle.geo_exact.proofs.Orders.{le_of_lt, le_both}
+use Rattle.geo_exact.proofs.OnEdge.{min_left, min_swap, max_left, max_swap, on_edge_back, on_edge_start, on_edge_end}
 use Rattle.ring_core.specs.Simple.{DoublesBack}
 use Rattle.ring_core.proofs.CommonPoints.{on_edge_by_x, on_edge_by_y}
 
@@ -116,9 +117,6 @@ below_y a b c p h k o =
     (λ q. inr (on_edge_by_y c b a second (le_of_lt c.y a.y q) (le_of_lt a.y b.y first) (turn_round a b c line), λ r. apart_below b.y a.y first r.same_y))
     (λ q. inl (on_edge_by_y a b c first q (le_of_lt c.y b.y second) line, λ r. apart_below b.y c.y second r.same_y))
 
-level : (u v : ℤ) → v ≤ℤ u → u ≤ℤ v → u ≡ v
-level u v h k = omega (arith, ints)
-
 pub end_of_doubling_back : (a b c : Corner) → DoublesBack a b c → EndDoublesBack a b c
 end_of_doubling_back a b c h =
     let p = h.0 in
@@ -126,4 +124,4 @@ end_of_doubling_back a b c h =
     (λ k. by_lt_z p.x (b.x *ℤ p.d) (λ o. below_x a b c p h.1 h.2 o)
     (λ l. by_lt_z (b.y *ℤ p.d) p.y (λ o. above_y a b c p h.1 h.2 o)
     (λ m. by_lt_z p.y (b.y *ℤ p.d) (λ o. below_y a b c p h.1 h.2 o)
-    (λ n. absurd (h.3 (record { same_x = level p.x (b.x *ℤ p.d) l k; same_y = level p.y (b.y *ℤ p.d) n m }))))))
+    (λ n. absurd (h.3 (record { same_x = le_both p.x (b.x *ℤ p.d) k l; same_y = le_both p.y (b.y *ℤ p.d) m n }))))))
