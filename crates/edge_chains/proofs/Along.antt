@@ -6,7 +6,7 @@ use Rattle.std.proofs.lemmas.List.{reverse-append}
 use lib.Signed.{◌<ℤ◌, ◌≤ℤ◌}
 use Rattle.geo_exact.specs.declared.corner.Corner.{Corner}
 use Rattle.geo_exact.specs.Turn.{turn}
-use Rattle.geo_exact.proofs.Signs.{mul_pos, mul_neg, mul_not_neg, mul_zero, pos_of_mul}
+use Rattle.geo_exact.proofs.Signs.{mul_pos, mul_not_neg, mul_zero, pos_of_mul, zero_of_mul}
 use Rattle.geo_exact.proofs.Differences.{expand}
 use Rattle.geo_exact.proofs.Polynomials.{var, add, mul, sub, same_by}
 use Rattle.geo_exact.proofs.TurnLaws.{turn_expr}
@@ -121,17 +121,6 @@ turn_later_y a b c d =
 
 pub both_zero : (p x q y z : ℤ) → x ≡ pos 0 → y ≡ pos 0 → z ≡ p *ℤ x +ℤ q *ℤ y → z ≡ pos 0
 both_zero p x q y z h k e = omega (arith, ints, rw (h, k) at e, mul_zero p, mul_zero q)
-
-pub zero_of_mul : (k z : ℤ) → k ≢ pos 0 → k *ℤ z ≡ pos 0 → z ≡ pos 0
-zero_of_mul k z h e = by_lt_z (pos 0) z
-    (λ p. absurd (by_lt_z (pos 0) k (λ q. let m = mul_pos k z q p in omega (arith, ints))
-    (λ q. by_lt_z k (pos 0) (λ r. let m = mul_pos (neg_ℤ k) z (omega (arith, ints)) p in omega (arith, ints, simp expand at m))
-    (λ r. h (omega (arith, ints))))))
-    (λ p. by_lt_z z (pos 0)
-    (λ q. absurd (by_lt_z (pos 0) k (λ r. let m = mul_neg k z r q in omega (arith, ints))
-    (λ r. by_lt_z k (pos 0) (λ s. let m = mul_neg (neg_ℤ k) z (omega (arith, ints)) q in omega (arith, ints, simp expand at m))
-    (λ s. h (omega (arith, ints))))))
-    (λ q. omega (arith, ints)))
 
 -- what leads on is not level in both directions
 not_both_level : (u v e f : ℤ) → pos 0 <ℤ (u *ℤ e +ℤ v *ℤ f) → u ≡ pos 0 → v ≡ pos 0 → ⊥

@@ -13,6 +13,7 @@ use Rattle.geo_exact.specs.Limit.{IsWithin}
 use Rattle.geo_exact.specs.Rings.{Edge, path}
 use Rattle.geo_exact.proofs.Dropped.{drop_item}
 use Rattle.geo_exact.proofs.EdgeSums.{edge_of}
+use Rattle.geo_exact.proofs.Within.{within_more}
 use Rattle.edge_chains.specs.Net.{is_same, net_of_edges}
 use Rattle.edge_chains.specs.Counts.{entry_of, is_before, is_same_edge, number_at, net_at, AreCounts}
 use Rattle.edge_chains.specs.Sides.{signed}
@@ -186,12 +187,6 @@ AreCounts-changed old new a b by n before one h k = record {
     no_zero_at q true = no_zero_entry (number_at old a b +ℤ by)
     no_zero_at q false = k.no_zero q
 
-wider : (n : ℕ) (z : ℤ) → IsWithin n z → IsWithin (n + 1) z
-wider n z h = record { low = omega (arith, ints); high = omega (arith, ints) }
-
-pub AreCounts-more : (counts : List ((Corner × Corner) × ℤ)) (n : ℕ) → AreCounts counts n → AreCounts counts (n + 1)
-AreCounts-more counts n h = record { in_order = h.in_order; no_zero = h.no_zero; small = λ q. wider n (number_at counts q.0 q.1) (h.small q) }
-
 -- ---- the net number over lists of edges
 turned_round_tests : (p q r s : Bool) → pos ((if q && p then 1 else 0) + 0) -ℤ pos ((if s && r then 1 else 0) + 0) ≡ neg_ℤ
     (pos ((if r && s then 1 else 0) + 0) -ℤ pos ((if p && q then 1 else 0) + 0))
@@ -223,10 +218,7 @@ signed_more Added x y z h = h
 signed_more Taken x y z h = omega (arith, ints)
 
 pub AreCounts-upto : (counts : List ((Corner × Corner) × ℤ)) (m n : ℕ) → m ≤ n → AreCounts counts m → AreCounts counts n
-AreCounts-upto counts m n l h = record { in_order = h.in_order; no_zero = h.no_zero; small = λ q. upto (number_at counts q.0 q.1) (h.small q) }
-  where
-    upto : (z : ℤ) → IsWithin m z → IsWithin n z
-    upto z k = record { low = omega (arith, ints); high = omega (arith, ints) }
+AreCounts-upto counts m n l h = record { in_order = h.in_order; no_zero = h.no_zero; small = λ q. within_more l (h.small q) }
 
 -- a loop's step over a ring's corners
 pub counted_more : (side : Side) (before after whole : ℤ) (from to last : Corner) (rest : List Corner) (i : ℕ) (a b : Corner)

@@ -5,6 +5,7 @@ use Rattle.std.proofs.lemmas.Int.{ints, by_lt_z}
 use Rattle.std.proofs.lemmas.Bool.Decides.{Decides-int_eq, Decides-and, Decides-or, Decides-like, not_from_Decides}
 use lib.Signed.{◌<ℤ◌, lt_z}
 use Rattle.geo_exact.specs.declared.corner.Corner.{Corner}
+use Rattle.geo_exact.proofs.Orders.{Decides-int_lt}
 use Rattle.geo_exact.proofs.SameCorner.{corner_same}
 use Rattle.edge_chains.specs.Net.{is_same}
 use Rattle.edge_chains.specs.Counts.{is_before, is_edge_before}
@@ -17,9 +18,6 @@ cases_of false d = inr refl
 pub false_where : {P : Type 0} (r : Bool) → Decides r P → ¬ P → r ≡ false
 false_where true d h = absurd (h (d.0 refl))
 false_where false d h = refl
-
-pub Decides-int_lt : (x y : ℤ) → Decides (lt_z x y) (x <ℤ y)
-Decides-int_lt x y = (λ e. omega (arith, ints), λ h. let e : true ≡ lt_z x y = omega (arith, ints) in sym e)
 
 pub Decides-is_same : (a b : Corner) → Decides (is_same a b) (a ≡ b)
 Decides-is_same a b =

@@ -11,12 +11,12 @@ use Rattle.geo_exact.specs.Turn.{turn}
 use Rattle.geo_exact.proofs.Signs.{mul_not_neg}
 use Rattle.geo_exact.proofs.TurnLaws.{turn_at_corner}
 use Rattle.geo_exact.proofs.Differences.{expand}
-use Rattle.geo_exact.proofs.Orders.{Decides-int_le}
+use Rattle.geo_exact.proofs.Orders.{Decides-int_lt, Decides-int_le}
 use Rattle.edge_chains.specs.declared.bounds.Bounds.{Bounds}
 use Rattle.edge_chains.specs.Net.{is_same}
 use Rattle.edge_chains.specs.Noding.{IsStrictlyInside}
 use Rattle.edge_chains.specs.Inside.{is_between, is_from_to, is_inside, is_in_bounds, IsInBounds}
-use Rattle.edge_chains.proofs.Corners.{false_where, Decides-is_same, Decides-int_lt}
+use Rattle.edge_chains.proofs.Corners.{false_where, Decides-is_same}
 
 -- ---- the test
 abbrev pub IsBetween : ℤ → ℤ → ℤ → Type 0

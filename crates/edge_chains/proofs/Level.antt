@@ -18,10 +18,11 @@ use Rattle.geo_exact.proofs.Polynomials.{var, lit, add, mul, neg, same_by}
 use Rattle.geo_exact.proofs.TurnLaws.{turn_at_corner, turn_at_back}
 use Rattle.geo_exact.proofs.OnEdge.{on_edge_back}
 use Rattle.geo_exact.proofs.Crossings.{crossing_back}
+use Rattle.geo_exact.proofs.Orders.{Decides-int_lt}
 use Rattle.edge_chains.specs.Net.{net_of_edges}
 use Rattle.edge_chains.specs.Noding.{IsStrictlyInside}
 use Rattle.edge_chains.specs.Jump.{IsOnSegment, Joins}
-use Rattle.edge_chains.proofs.Corners.{false_where, Decides-int_lt}
+use Rattle.edge_chains.proofs.Corners.{false_where}
 use Rattle.edge_chains.proofs.Changes.{net_of_turned}
 use Rattle.edge_chains.proofs.Beside.{whole, step, near, cross, push, turn_near, cross_within, lead_up, lead_down, next_up, next_down, step_past, step_short}
 use Rattle.edge_chains.proofs.Segments.{left_has_none, right_has_none, above_has_none, below_has_none, farther_has_none, nearer_has_none}

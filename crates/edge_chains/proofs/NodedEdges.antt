@@ -1,6 +1,6 @@
 -- Edges with the corners that were inserted into them.
 use Rattle.std.proofs.Common.{◌≡◌, ◌⊎◌, ◌↔◌, inl, inr, ⊎_elim, refl, sym, ◌∙◌, ap, subst, arith, Bool, true, false, cond, ℕ, ◌+◌}
-use Rattle.std.proofs.Common.{◌<◌, length, get_or, drop, List, [], ◌∷◌, ◌++◌, append_assoc, append-nil, reverse, map, take, Result, Ok, Err, IfOk}
+use Rattle.std.proofs.Common.{◌<◌, length, get_or, drop, List, [], ◌∷◌, ◌++◌, append_assoc, append-nil, reverse, map, take}
 use Rattle.std.specs.List.{Contains, filter, AllByRecursion, AllZip}
 use Rattle.std.specs.List.Sorted.{IsStrictlySortedBy, IsPermutation}
 use Rattle.std.proofs.lemmas.List.Elements.{Contains-append_left, Contains-append_right, Contains-append_cases, Contains-push, Contains-push_cases}
@@ -153,10 +153,6 @@ pub AllZip-more : {X Y : Type 0} (R : X → Y → Type 0) (xs : List X) (ys : Li
     → AllZip R (take i xs) ys → R x y → AllZip R (take (i + 1) xs) (ys ++ y ∷ [])
 AllZip-more R xs ys i x y l e h r = subst (λ zs. AllZip R zs (ys ++ y ∷ [])) (sym (take_more xs i x l ∙ ap (λ z. take i xs ++ z ∷ []) (sym e)))
     (AllZip-end R (take i xs) ys x y h r)
-
-pub if_ok_too : {T E : Type 0} (P Q : T → Type 0) (r : Result T E) → ((x : T) → P x → Q x) → IfOk r P → IfOk r Q
-if_ok_too P Q (Ok x) w h = w x h
-if_ok_too P Q (Err e) w h = h
 
 pub noded_ring : (corners ring noded : List Corner) (first : Corner) (rest : List Corner) → ring ≡ first ∷ rest
     → AreNodedEdges corners (path first rest first) noded → IsNoded ring corners noded

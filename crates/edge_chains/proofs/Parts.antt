@@ -6,7 +6,7 @@ use lib.Signed.{◌<ℤ◌, ◌≤ℤ◌}
 use Rattle.geo_exact.specs.declared.corner.Corner.{Corner}
 use Rattle.geo_exact.specs.Point.{Point, corner_point}
 use Rattle.geo_exact.specs.Turn.{turn, turn_at, IsOnEdge}
-use Rattle.geo_exact.proofs.Signs.{mul_not_neg, not_neg_of_mul, not_pos_of_mul, mul_zero, mul_le}
+use Rattle.geo_exact.proofs.Signs.{mul_not_neg, not_neg_of_mul, not_pos_of_mul, zero_of_mul, mul_zero, mul_le}
 use Rattle.geo_exact.proofs.Differences.{expand}
 use Rattle.geo_exact.proofs.Polynomials.{var, add, mul, neg, sub, same_by}
 use Rattle.geo_exact.proofs.SameCorner.{corner_same}
@@ -14,7 +14,7 @@ use Rattle.geo_exact.proofs.TurnLaws.{turn_expr, turn_at_expr}
 use Rattle.geo_exact.proofs.OnEdge.{on_edge_back}
 use Rattle.edge_chains.specs.Noding.{IsStrictlyInside}
 use Rattle.edge_chains.proofs.Inside.{IsBetween, inside_from_strictly}
-use Rattle.edge_chains.proofs.Along.{zero_of_mul, zero_cases, both_zero, along_u, along_v, drop_zero, drop_zero', squares}
+use Rattle.edge_chains.proofs.Along.{zero_cases, both_zero, along_u, along_v, drop_zero, drop_zero', squares}
 
 -- ---- three directions, two of them on one line with the third, which is not 0
 third_x : (u v w z q r : ℤ) → u *ℤ (w *ℤ r -ℤ z *ℤ q) ≡ w *ℤ (u *ℤ r -ℤ v *ℤ q) +ℤ q *ℤ neg_ℤ (u *ℤ z -ℤ v *ℤ w)

@@ -7,6 +7,7 @@ use lib.Signed.{◌<ℤ◌, ◌≤ℤ◌}
 use Rattle.geo_exact.specs.declared.corner.Corner.{Corner}
 use Rattle.geo_exact.specs.Point.{Point}
 use Rattle.geo_exact.specs.Turn.{turn_at, IsOnEdge}
+use Rattle.geo_exact.proofs.Orders.{lt_not_ge, positive_not_zero}
 use Rattle.geo_exact.proofs.Signs.{mul_pos, pos_of_mul, convex}
 use Rattle.geo_exact.proofs.Polynomials.{var, lit, add, mul, neg, same_by}
 use Rattle.geo_exact.proofs.TurnLaws.{turn_at_expr, turn_at_back}
@@ -82,13 +83,10 @@ some_part k m n d p r hk hd hm hn e = by_lt_z (pos 0) (m +ℤ n) (λ l. l)
     let a : m ≡ pos 0 = omega (arith, ints) in
     let b : n ≡ pos 0 = omega (arith, ints) in
     let z : k *ℤ d ≡ pos 0 = e ∙ ap (λ s. s *ℤ p +ℤ n *ℤ r) a ∙ ap (λ s. pos 0 *ℤ p +ℤ s *ℤ r) b ∙ nothing p r in
-    let i : pos 0 <ℤ (k *ℤ d) = mul_pos k d hk hd in never (k *ℤ d) i z))
+    let i : pos 0 <ℤ (k *ℤ d) = mul_pos k d hk hd in positive_not_zero (k *ℤ d) i z))
   where
     nothing : (p r : ℤ) → pos 0 *ℤ p +ℤ pos 0 *ℤ r ≡ pos 0
     nothing p r = omega (arith, ints)
-
-    never : (z : ℤ) → pos 0 <ℤ z → z ≡ pos 0 → ⊥
-    never z i e = omega (arith, ints)
 
 -- such a number is positive along a segment where it is at both ends
 weigh_positive : (f g h : ℤ) (q p r : Point) → IsOnSegment q p r
@@ -118,10 +116,7 @@ turns_up a b q p r s i j =
 
 -- a segment left of an edge has no point on it
 pub left_has_none : (a b : Corner) (q p r : Point) → IsOnSegment q p r → pos 0 <ℤ turn_at a b p → pos 0 <ℤ turn_at a b r → ¬ IsOnEdge q a b
-left_has_none a b q p r s i j e = never (turn_at a b q) (turns_up a b q p r s i j) e.on_line
-  where
-    never : (z : ℤ) → pos 0 <ℤ z → z ≡ pos 0 → ⊥
-    never z i e = omega (arith, ints)
+left_has_none a b q p r s i j e = positive_not_zero (turn_at a b q) (turns_up a b q p r s i j) e.on_line
 
 -- nor has one right of it
 pub right_has_none : (a b : Corner) (q p r : Point) → IsOnSegment q p r → turn_at a b p <ℤ pos 0 → turn_at a b r <ℤ pos 0 → ¬ IsOnEdge q a b
@@ -186,19 +181,13 @@ stays_left w q p r s i j =
 -- ---- what is beyond both ends of an edge, in one coordinate, is off it
 past_both : (u v d z : ℤ) → (u *ℤ d) <ℤ z → (v *ℤ d) <ℤ z → z ≤ℤ (int_max u v *ℤ d) → ⊥
 past_both u v d z h k l = by_lt_z v u
-    (λ p. let e : int_max u v ≡ u = omega (arith, ints, clamps) in over (u *ℤ d) z h (rw e at l))
-    (λ p. let e : int_max u v ≡ v = omega (arith, ints, clamps) in over (v *ℤ d) z k (rw e at l))
-  where
-    over : (s t : ℤ) → s <ℤ t → t ≤ℤ s → ⊥
-    over s t h k = omega (arith, ints)
+    (λ p. let e : int_max u v ≡ u = omega (arith, ints, clamps) in lt_not_ge (u *ℤ d) z h (rw e at l))
+    (λ p. let e : int_max u v ≡ v = omega (arith, ints, clamps) in lt_not_ge (v *ℤ d) z k (rw e at l))
 
 short_of_both : (u v d z : ℤ) → z <ℤ (u *ℤ d) → z <ℤ (v *ℤ d) → (int_min u v *ℤ d) ≤ℤ z → ⊥
 short_of_both u v d z h k l = by_lt_z v u
-    (λ p. let e : int_min u v ≡ v = omega (arith, ints, clamps) in over (v *ℤ d) z k (rw e at l))
-    (λ p. let e : int_min u v ≡ u = omega (arith, ints, clamps) in over (u *ℤ d) z h (rw e at l))
-  where
-    over : (s t : ℤ) → t <ℤ s → s ≤ℤ t → ⊥
-    over s t h k = omega (arith, ints)
+    (λ p. let e : int_min u v ≡ v = omega (arith, ints, clamps) in lt_not_ge z (v *ℤ d) k (rw e at l))
+    (λ p. let e : int_min u v ≡ u = omega (arith, ints, clamps) in lt_not_ge z (u *ℤ d) h (rw e at l))
 
 -- a segment above an edge has no point on it
 pub above_has_none : (u v : Corner) (q p r : Point) → IsOnSegment q p r

@@ -10,6 +10,8 @@ use Rattle.geo_exact.specs.Turn.{turn, turn_at, IsOnEdge}
 use Rattle.geo_exact.specs.Winding.{crossing}
 use Rattle.geo_exact.proofs.SameCorner.{corner_same}
 use Rattle.geo_exact.proofs.EdgeSums.{edge_of}
+use Rattle.geo_exact.proofs.Orders.{Decides-int_lt, Decides-int_le}
+use Rattle.geo_exact.proofs.Signs.{zero_of_mul}
 use Rattle.geo_exact.proofs.Polynomials.{var, lit, add, mul, neg, same_by}
 use Rattle.geo_exact.proofs.TurnLaws.{turn_cycle, turn_swap, turn_at_corner}
 use Rattle.geo_exact.proofs.OnEdge.{on_edge_between, on_edge_back, starts_on}
@@ -20,7 +22,6 @@ use Rattle.edge_chains.specs.Jump.{IsOnSegment, Joins}
 use Rattle.edge_chains.proofs.Corners.{cases_of, false_where, Decides-is_same}
 use Rattle.edge_chains.proofs.Changes.{Decides-is_same_edge, net_of_turned}
 use Rattle.edge_chains.specs.Counts.{is_same_edge}
-use Rattle.edge_chains.proofs.Along.{zero_of_mul}
 use Rattle.edge_chains.proofs.Parts.{strictly_back}
 use Rattle.edge_chains.proofs.Beside.{whole, step, near, cross, push, turn_near, cross_within, lead_up, lead_down, next_up, next_down, last_one}
 use Rattle.edge_chains.proofs.Beside.{step_past, step_short}
@@ -155,16 +156,10 @@ steep_sides a b u v up h l k =
     (sign_cases (turn u v a))
 
 -- ---- crossings
-pub is_true_test : (x y : ℤ) → x <ℤ y → lt_z x y ≡ true
-is_true_test x y h = let e : true ≡ lt_z x y = omega (arith, ints) in sym e
-
-pub is_false_test : (x y : ℤ) → y ≤ℤ x → lt_z x y ≡ false
+is_false_test : (x y : ℤ) → y ≤ℤ x → lt_z x y ≡ false
 is_false_test x y h = let e : false ≡ lt_z x y = omega (arith, ints) in sym e
 
-pub at_or_below : (x y : ℤ) → x ≤ℤ y → le_z x y ≡ true
-at_or_below x y h = let e : true ≡ le_z x y = omega (arith, ints) in sym e
-
-pub above : (x y : ℤ) → y <ℤ x → le_z x y ≡ false
+above : (x y : ℤ) → y <ℤ x → le_z x y ≡ false
 above x y h = let e : false ≡ le_z x y = omega (arith, ints) in sym e
 
 -- one directed edge that is neither a b nor b a, and one that is
@@ -190,20 +185,20 @@ net_one a b u v h k =
 
 pub up_one : (p : Point) (u v : Corner) → (u.y *ℤ p.d) ≤ℤ p.y → p.y <ℤ (v.y *ℤ p.d) → pos 0 <ℤ turn_at u v p → crossing p u v ≡ pos 1
 up_one p u v h k l =
-    ap (λ x. crossed x (le_z (v.y *ℤ p.d) p.y) (turn_at u v p)) (at_or_below (u.y *ℤ p.d) p.y h)
+    ap (λ x. crossed x (le_z (v.y *ℤ p.d) p.y) (turn_at u v p)) ((Decides-int_le (u.y *ℤ p.d) p.y).1 h)
     ∙ ap (λ x. crossed true x (turn_at u v p)) (above (v.y *ℤ p.d) p.y k)
-    ∙ ap (λ x. if x then pos 1 else pos 0) (is_true_test (pos 0) (turn_at u v p) l)
+    ∙ ap (λ x. if x then pos 1 else pos 0) ((Decides-int_lt (pos 0) (turn_at u v p)).1 l)
 
 pub up_none : (p : Point) (u v : Corner) → (u.y *ℤ p.d) ≤ℤ p.y → p.y <ℤ (v.y *ℤ p.d) → turn_at u v p <ℤ pos 0 → crossing p u v ≡ pos 0
 up_none p u v h k l =
-    ap (λ x. crossed x (le_z (v.y *ℤ p.d) p.y) (turn_at u v p)) (at_or_below (u.y *ℤ p.d) p.y h)
+    ap (λ x. crossed x (le_z (v.y *ℤ p.d) p.y) (turn_at u v p)) ((Decides-int_le (u.y *ℤ p.d) p.y).1 h)
     ∙ ap (λ x. crossed true x (turn_at u v p)) (above (v.y *ℤ p.d) p.y k)
     ∙ ap (λ x. if x then pos 1 else pos 0) (is_false_test (pos 0) (turn_at u v p) (omega (arith, ints)))
 
 pub none_below : (p : Point) (u v : Corner) → (u.y *ℤ p.d) ≤ℤ p.y → (v.y *ℤ p.d) ≤ℤ p.y → crossing p u v ≡ pos 0
 none_below p u v h k =
-    ap (λ x. crossed x (le_z (v.y *ℤ p.d) p.y) (turn_at u v p)) (at_or_below (u.y *ℤ p.d) p.y h)
-    ∙ ap (λ x. crossed true x (turn_at u v p)) (at_or_below (v.y *ℤ p.d) p.y k)
+    ap (λ x. crossed x (le_z (v.y *ℤ p.d) p.y) (turn_at u v p)) ((Decides-int_le (u.y *ℤ p.d) p.y).1 h)
+    ∙ ap (λ x. crossed true x (turn_at u v p)) ((Decides-int_le (v.y *ℤ p.d) p.y).1 k)
 
 pub none_above : (p : Point) (u v : Corner) → p.y <ℤ (u.y *ℤ p.d) → p.y <ℤ (v.y *ℤ p.d) → crossing p u v ≡ pos 0
 none_above p u v h k =

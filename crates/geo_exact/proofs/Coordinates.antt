@@ -1,14 +1,17 @@
 -- What `coordinate` answers is what the relations of the grid say, both ways.
-use Rattle.std.proofs.Common.{◌/◌, ◌≡◌, ◌↔◌, ℕ, ◌+◌, ◌*◌, ◌-◌, ◌^◌, ◌<◌, ◌≤◌, Bool, true, false, nat_lt, nat_eq, cond, refl, sym, ◌∙◌, ap, subst, arith, Err, Ok, Result, IfOk, IfErr, lit<}
+use Rattle.std.proofs.Common.{◌/◌, ◌≡◌, ◌↔◌, ℕ, ◌+◌, ◌*◌, ◌-◌, ◌^◌, ◌<◌, ◌≤◌, Bool, true, false}
+use Rattle.std.proofs.Common.{nat_lt, nat_eq, cond, refl, sym, ◌∙◌, ap, subst, arith, Err, Ok, Result, IfOk, IfErr, lit<}
 use Rattle.std.proofs.lemmas.Bool.{ltb-true, ltb-false, ne_eqb, eqb-false, eqb-true}
 use Rattle.std.proofs.lemmas.Int.{ints}
 use Rattle.std.proofs.lemmas.Nat.{pow_pos, pow-add, mod_below}
 use lib.IntN.{ℤ, pos, ◌*ℤ◌, neg_ℤ}
+use Rattle.std.proofs.Math.IntN.{neg_ℤ-neg_ℤ}
 use Rattle.geo_exact.specs.declared.coord.Unit.{Unit}
 use Rattle.geo_exact.specs.declared.coord.Unit.TheVariants.{Cm, M}
 use Rattle.geo_exact.specs.declared.coord.CoordFault.{CoordFault}
 use Rattle.geo_exact.specs.declared.coord.CoordFault.TheVariants.{NotNumber, OffGrid, TooFar}
-use Rattle.geo_exact.specs.Grid.{centimetres, sign_bit, exponent_field, fraction_field, magnitude, IsOnGrid, IsCoordFault, nearest, is_near, size_of, with_sign, coordinate}
+use Rattle.geo_exact.specs.Grid.{centimetres, sign_bit, exponent_field, fraction_field, magnitude, IsOnGrid, IsCoordFault}
+use Rattle.geo_exact.specs.Grid.{nearest, is_near, size_of, with_sign, coordinate}
 use Rattle.geo_exact.specs.Limit.{IsWithin, limit}
 use Rattle.geo_exact.proofs.Differences.{mul-neg}
 use Rattle.geo_exact.proofs.Nearest.{size_scaled, size_whole, IsNear, near_from, near_to, near_turned}
@@ -22,16 +25,13 @@ signed_near : (b : Bool) (m d j : ℕ) → is_near m d j ≡ true → IsNear (si
 signed_near true m d j h = near_to m d j h
 signed_near false m d j h = near_turned (pos m) d (pos j) (near_to m d j h)
 
-turned_twice : (z : ℤ) → neg_ℤ (neg_ℤ z) ≡ z
-turned_twice z = omega (arith, ints)
-
 -- what is near is the nearest, under either sign
 near_signed : (b : Bool) (m d : ℕ) (k : ℤ) → 0 < d → IsNear (signed b m) d k → (k ≡ signed b (nearest m d)) × (is_near m d (nearest m d) ≡ true)
 near_signed true m d k h near = near_from m d k h near
 near_signed false m d k h near =
     let P : ℤ → Type 0 = λ s. IsNear s d (neg_ℤ k) in
-    let found = near_from m d (neg_ℤ k) h (subst P (turned_twice (pos m)) (near_turned (neg_ℤ (pos m)) d k near)) in
-    (sym (turned_twice k) ∙ ap neg_ℤ found.0, found.1)
+    let found = near_from m d (neg_ℤ k) h (subst P (neg_ℤ-neg_ℤ (pos m)) (near_turned (neg_ℤ (pos m)) d k near)) in
+    (sym (neg_ℤ-neg_ℤ k) ∙ ap neg_ℤ found.0, found.1)
 
 -- a size within the limit, under either sign
 signed_within : (b : Bool) (n : ℕ) → n ≤ limit → IsWithin limit (signed b n)
@@ -58,7 +58,8 @@ answered : (sign m d : ℕ) → Answered (nat_eq sign 0) m d (with_sign sign (si
 unfolding size_of
 answered sign m d = go (is_near m d (nearest m d)) (nat_lt limit (nearest m d)) refl refl
   where
-    go : (near beyond : Bool) → is_near m d (nearest m d) ≡ near → nat_lt limit (nearest m d) ≡ beyond → Answered (nat_eq sign 0) m d (with_sign sign (size_of m d))
+    go : (near beyond : Bool) → is_near m d (nearest m d) ≡ near → nat_lt limit (nearest m d) ≡ beyond
+        → Answered (nat_eq sign 0) m d (with_sign sign (size_of m d))
     go false beyond h k = off h (rw h refl)
     go true true h k = far h (ltb-true limit (nearest m d) k) (rw (h, k) refl)
     go true false h k = read h (ltb-false limit (nearest m d) k) (rw (h, k) refl)
@@ -113,7 +114,10 @@ accepted_is bits unit k e = go (outcome bits unit)
     go (number h (far near beyond f)) = absurd cc
     go (number h (read near below f)) =
         let same : k ≡ signed (plus bits) (nearest (size bits unit) (2 ^ 1075)) = cc in
-        rw same (grid_of bits unit _ h (signed_near (plus bits) (size bits unit) (2 ^ 1075) (nearest (size bits unit) (2 ^ 1075)) near), signed_within (plus bits) _ below)
+        rw same (
+          grid_of bits unit _ h (signed_near (plus bits) (size bits unit) (2 ^ 1075) (nearest (size bits unit) (2 ^ 1075)) near),
+          signed_within (plus bits) _ below,
+        )
 
 pub accepted_when : (bits : ℕ) (unit : Unit) (k : ℤ) → IsOnGrid bits unit k → IsWithin limit k → coordinate bits unit ≡ Ok k
 accepted_when bits unit k grid within = go (outcome bits unit)
@@ -137,12 +141,20 @@ refused_is bits unit f e = go (outcome bits unit)
     go (number h (off near g)) =
         let same : OffGrid ≡ f = cc in
         let P : CoordFault → Type 0 = IsCoordFault bits unit in
-        subst P same (h, λ k. λ grid. let found = near_signed (plus bits) (size bits unit) (2 ^ 1075) k (pow_pos 1075) (near_of bits unit k grid) in cc (found.1, near))
+        subst P same (
+          h,
+          λ k. λ grid. let found = near_signed (plus bits) (size bits unit) (2 ^ 1075) k (pow_pos 1075) (near_of bits unit k grid) in
+              cc (found.1, near),
+        )
     go (number h (far near beyond g)) =
         let same : TooFar ≡ f = cc in
         let P : CoordFault → Type 0 = IsCoordFault bits unit in
         let k : ℤ = signed (plus bits) (nearest (size bits unit) (2 ^ 1075)) in
-        subst P same (k, grid_of bits unit k h (signed_near (plus bits) (size bits unit) (2 ^ 1075) (nearest (size bits unit) (2 ^ 1075)) near), λ within. let below = within_signed (plus bits) (nearest (size bits unit) (2 ^ 1075)) within in omega (arith, below, beyond))
+        subst P same (
+          k,
+          grid_of bits unit k h (signed_near (plus bits) (size bits unit) (2 ^ 1075) (nearest (size bits unit) (2 ^ 1075)) near),
+          λ within. let below = within_signed (plus bits) (nearest (size bits unit) (2 ^ 1075)) within in omega (arith, below, beyond),
+        )
     go (number h (read near below g)) = absurd cc
 
 pub refused_when : (bits : ℕ) (unit : Unit) (f : CoordFault) → IsCoordFault bits unit f → coordinate bits unit ≡ Err f
@@ -165,7 +177,8 @@ refused_when bits unit OffGrid h = go (outcome bits unit)
     go (number g (read near below e)) = absurd (none near)
 refused_when bits unit TooFar h = go (outcome bits unit)
   where
-    found : (h.0 ≡ signed (plus bits) (nearest (size bits unit) (2 ^ 1075))) × (is_near (size bits unit) (2 ^ 1075) (nearest (size bits unit) (2 ^ 1075)) ≡ true)
+    found : (h.0 ≡ signed (plus bits) (nearest (size bits unit) (2 ^ 1075)))
+        × (is_near (size bits unit) (2 ^ 1075) (nearest (size bits unit) (2 ^ 1075)) ≡ true)
     found = near_signed (plus bits) (size bits unit) (2 ^ 1075) h.0 (pow_pos 1075) (near_of bits unit h.0 h.1)
 
     go : Outcome bits unit → coordinate bits unit ≡ Err TooFar
@@ -208,7 +221,8 @@ coordinate_far bits unit h k =
     let parts : size bits unit ≡ centimetres unit * (2 ^ 52 + fraction_field bits) * 2 ^ exponent_field bits =
     ap (λ m. centimetres unit * m) worth ∙ omega arith in
     coordinate_is bits unit k ∙ ap (with_sign (sign_bit bits))
-    (ap (λ m. size_of m (2 ^ 1075)) parts ∙ far_size (centimetres unit * (2 ^ 52 + fraction_field bits)) (exponent_field bits) 1075 (enough unit (fraction_field bits)) h)
+    (ap (λ m. size_of m (2 ^ 1075)) parts
+    ∙ far_size (centimetres unit * (2 ^ 52 + fraction_field bits)) (exponent_field bits) 1075 (enough unit (fraction_field bits)) h)
   where
     enough : (u : Unit) (f : ℕ) → 2 ^ 52 ≤ centimetres u * (2 ^ 52 + f)
     enough Cm f = omega arith

@@ -67,6 +67,15 @@ crossed_level false t = refl
 pub crossing_same : (p : Point) (a : Corner) → crossing p a a ≡ pos 0
 crossing_same p a = crossed_level (le_z (a.y *ℤ p.d) p.y) (turn_at a a p)
 
+-- the crossing looks at one sign of the turn alone, and only where one end is above p and the other is not
+pub crossed_kept : (la lb : Bool) (t z : ℤ)
+    → (la ≡ true → lb ≡ false → lt_z (pos 0) z ≡ lt_z (pos 0) t) → (la ≡ false → lb ≡ true → lt_z z (pos 0) ≡ lt_z t (pos 0))
+    → crossed la lb z ≡ crossed la lb t
+crossed_kept true true t z h k = refl
+crossed_kept true false t z h k = ap (λ b. if b then pos 1 else pos 0) (h refl refl)
+crossed_kept false true t z h k = ap (λ b. if b then negsuc 0 else pos 0) (k refl refl)
+crossed_kept false false t z h k = refl
+
 level : (k s l t x z : ℤ) → k *ℤ s -ℤ l *ℤ t ≡ x *ℤ z → z ≡ pos 0 → k *ℤ s ≡ l *ℤ t
 level k s l t x z e h = omega (arith, ints, rw h at e)
 
@@ -118,8 +127,10 @@ crossing_splits p a b m on_line low high =
     (λ x y z. outside a.y b.y m.y low (up m a y x) (up m b y z))
     (λ x y z. same_positive (b.y -ℤ a.y) (b.y -ℤ m.y) (turn_at m b p) (turn_at a b p) (up a b x z) (up m b y z) at_end)
     (λ x y z. same_positive (b.y -ℤ a.y) (m.y -ℤ a.y) (turn_at a m p) (turn_at a b p) (up a b x z) (up a m x y) at_start)
-    (λ x y z. same_negative (a.y -ℤ b.y) (a.y -ℤ m.y) (turn_at a m p) (turn_at a b p) (up b a z x) (up m a y x) (negated a.y b.y a.y m.y (turn_at a m p) (turn_at a b p) at_start))
-    (λ x y z. same_negative (a.y -ℤ b.y) (m.y -ℤ b.y) (turn_at m b p) (turn_at a b p) (up b a z x) (up b m z y) (negated a.y b.y m.y b.y (turn_at m b p) (turn_at a b p) at_end))
+    (λ x y z. same_negative (a.y -ℤ b.y) (a.y -ℤ m.y) (turn_at a m p) (turn_at a b p) (up b a z x) (up m a y x)
+    (negated a.y b.y a.y m.y (turn_at a m p) (turn_at a b p) at_start))
+    (λ x y z. same_negative (a.y -ℤ b.y) (m.y -ℤ b.y) (turn_at m b p) (turn_at a b p) (up b a z x) (up b m z y)
+    (negated a.y b.y m.y b.y (turn_at m b p) (turn_at a b p) at_end))
 
 -- m on the edge from a to b
 pub crossing_cut : (p : Point) (a b m : Corner) → IsOnEdge (corner_point m) a b → crossing p a m +ℤ crossing p m b ≡ crossing p a b

@@ -1,5 +1,5 @@
 -- A point moved a little, off every line through two corners, with everything else about it kept.
-use Rattle.std.proofs.Common.{◌≡◌, ◌∙◌, sym, ap, refl, arith, Bool, true, false, if◌then◌else◌, List, [], ◌∷◌, inl, inr}
+use Rattle.std.proofs.Common.{◌≡◌, ◌∙◌, sym, ap, refl, arith, true, false, List, [], ◌∷◌, inl, inr}
 use Rattle.std.proofs.lemmas.Int.{ints, by_lt_z, clamps}
 use Rattle.std.specs.Int.{int_min, int_max}
 use lib.IntN.{ℤ, pos, negsuc, ◌+ℤ◌, ◌-ℤ◌, ◌*ℤ◌, neg_ℤ, *ℤ_comm}
@@ -16,7 +16,8 @@ use Rattle.geo_exact.proofs.Signs.{zero_factor, mul_pos, mul_neg, mul_le, mul_lt
 use Rattle.geo_exact.proofs.Polynomials.{var, add, mul, neg, same_by}
 use Rattle.geo_exact.proofs.TurnLaws.{turn_at_expr}
 use Rattle.geo_exact.proofs.SameCorner.{corner_same}
-use Rattle.geo_exact.proofs.Crossings.{crossed}
+use Rattle.geo_exact.proofs.Orders.{Decides-int_le, le_of_lt, le_both, positive_not_zero}
+use Rattle.geo_exact.proofs.Crossings.{crossed, crossed_kept}
 
 -- ---- the bounds, over plain numbers: w and h are the width and the height of an edge, within r
 least : (d r n : ℤ) → pos 0 <ℤ d → pos 1 ≤ℤ r → (d *ℤ (r +ℤ r)) <ℤ n → (d <ℤ n) × (r <ℤ n) × (pos 0 <ℤ n)
@@ -56,8 +57,8 @@ drift : (d r n w h : ℤ) → pos 0 <ℤ d → pos 1 ≤ℤ r → (d *ℤ (r +�
 drift d r n w h hd hr hn hw hh =
     let m : pos 0 <ℤ n = (least d r n hd hr hn).2 in
     let s : IsSmall ((r +ℤ r) *ℤ n) (w -ℤ h *ℤ n) = slope r n w h hr m hw hh in
-    let top : ((w -ℤ h *ℤ n) *ℤ d) ≤ℤ (((r +ℤ r) *ℤ n) *ℤ d) = mul_le (w -ℤ h *ℤ n) ((r +ℤ r) *ℤ n) d (not_neg d hd) s.high in
-    let bottom : (neg_ℤ ((r +ℤ r) *ℤ n) *ℤ d) ≤ℤ ((w -ℤ h *ℤ n) *ℤ d) = mul_le (neg_ℤ ((r +ℤ r) *ℤ n)) (w -ℤ h *ℤ n) d (not_neg d hd) s.low in
+    let top : ((w -ℤ h *ℤ n) *ℤ d) ≤ℤ (((r +ℤ r) *ℤ n) *ℤ d) = mul_le (w -ℤ h *ℤ n) ((r +ℤ r) *ℤ n) d (le_of_lt (pos 0) d hd) s.high in
+    let bottom : (neg_ℤ ((r +ℤ r) *ℤ n) *ℤ d) ≤ℤ ((w -ℤ h *ℤ n) *ℤ d) = mul_le (neg_ℤ ((r +ℤ r) *ℤ n)) (w -ℤ h *ℤ n) d (le_of_lt (pos 0) d hd) s.low in
     let far : ((d *ℤ (r +ℤ r)) *ℤ n) <ℤ (n *ℤ n) = mul_lt (d *ℤ (r +ℤ r)) n n m hn in
     let e : (w -ℤ h *ℤ n) *ℤ d ≡ d *ℤ (w -ℤ h *ℤ n) = *ℤ_comm (w -ℤ h *ℤ n) d in
     let f : ((r +ℤ r) *ℤ n) *ℤ d ≡ (d *ℤ (r +ℤ r)) *ℤ n =
@@ -66,9 +67,6 @@ drift d r n w h hd hr hn hw hh =
     same_by (d ∷ r ∷ n ∷ []) (mul (neg (mul (add (var 1) (var 1)) (var 2))) (var 0)) (neg (mul (mul (var 0) (add (var 1) (var 1))) (var 2))) refl in
     (under ((d *ℤ (r +ℤ r)) *ℤ n) (n *ℤ n) _ _ _ far g bottom e, over ((d *ℤ (r +ℤ r)) *ℤ n) (n *ℤ n) _ _ _ far f top e)
   where
-    not_neg : (z : ℤ) → pos 0 <ℤ z → pos 0 ≤ℤ z
-    not_neg z q = omega (arith, ints)
-
     under : (k nn z y x : ℤ) → k <ℤ nn → z ≡ neg_ℤ k → z ≤ℤ y → y ≡ x → neg_ℤ nn <ℤ x
     under k nn z y x a b c q = omega (arith, ints)
 
@@ -194,23 +192,18 @@ moved_right a b p h =
 off_line : (a b : Corner) (p : Point) → (b.x -ℤ a.x ≡ pos 0 → b.y -ℤ a.y ≡ pos 0 → ⊥) → turn_at a b (moved p) ≡ pos 0 → ⊥
 off_line a b p apart e =
     by_lt_z (pos 0) (turn_at a b p)
-    (λ q. above (turn_at a b (moved p)) (moved_left a b p q) e)
+    (λ q. positive_not_zero (turn_at a b (moved p)) (moved_left a b p q) e)
     (λ q. by_lt_z (turn_at a b p) (pos 0)
     (λ r. below (turn_at a b (moved p)) (moved_right a b p r) e)
     (λ r. not_level (pos 20000000000) (steps p) (b.x -ℤ a.x) (b.y -ℤ a.y) (steps_least p).1 (steps_least p).2
     (apart_small a.x b.x a.x_in_range b.x_in_range)
     (zero_factor p.d ((b.x -ℤ a.x) -ℤ (b.y -ℤ a.y) *ℤ steps p) p.d_positive
-    (rest (turn_at a b p) (steps p *ℤ steps p) (p.d *ℤ ((b.x -ℤ a.x) -ℤ (b.y -ℤ a.y) *ℤ steps p)) (turn_at a b (moved p)) (moved_turn a b p) e (level (turn_at a b p) q r)))
+    (rest (turn_at a b p) (steps p *ℤ steps p) (p.d *ℤ ((b.x -ℤ a.x) -ℤ (b.y -ℤ a.y) *ℤ steps p)) (turn_at a b (moved p))
+    (moved_turn a b p) e (le_both (turn_at a b p) (pos 0) q r)))
     apart))
   where
-    above : (t : ℤ) → pos 0 <ℤ t → t ≡ pos 0 → ⊥
-    above t h i = omega (arith, ints)
-
     below : (t : ℤ) → t <ℤ pos 0 → t ≡ pos 0 → ⊥
     below t h i = omega (arith, ints)
-
-    level : (t : ℤ) → t ≤ℤ pos 0 → pos 0 ≤ℤ t → t ≡ pos 0
-    level t h i = omega (arith, ints)
 
     rest : (t nn s z : ℤ) → z ≡ t *ℤ nn +ℤ s → z ≡ pos 0 → t ≡ pos 0 → s ≡ pos 0
     rest t nn s z h i k = omega (arith, ints, i, rw k at h)
@@ -227,7 +220,7 @@ pub moved_off_edge : (a b : Corner) (p : Point) → IsOnEdge (moved p) a b → �
 moved_off_edge a b p h =
     off_line a b p
     (λ x y. moved_off_height a p
-    (between (a.y *ℤ (moved p).d) (moved p).y (rw (lowest a.y b.y y) at h.from_y) (rw (highest a.y b.y y) at h.to_y)))
+    (le_both (a.y *ℤ (moved p).d) (moved p).y (rw (lowest a.y b.y y) at h.from_y) (rw (highest a.y b.y y) at h.to_y)))
     h.on_line
   where
     lowest : (u v : ℤ) → v -ℤ u ≡ pos 0 → int_min u v ≡ u
@@ -235,9 +228,6 @@ moved_off_edge a b p h =
 
     highest : (u v : ℤ) → v -ℤ u ≡ pos 0 → int_max u v ≡ u
     highest u v e = omega (arith, ints, clamps)
-
-    between : (u v : ℤ) → u ≤ℤ v → v ≤ℤ u → u ≡ v
-    between u v k l = omega (arith, ints)
 
 pub moved_off_some : (es : List Edge) (p : Point) → IsOnSome (moved p) es → ⊥
 moved_off_some [] p h = h
@@ -285,17 +275,6 @@ moved_from_down a b p h =
     goes_left (pos 20000000000) (turn_at a b p) (steps p *ℤ steps p) p.d (steps p) (b.x -ℤ a.x) (b.y -ℤ a.y) (turn_at a b (moved p)) (moved_turn a b p)
     p.d_positive (steps_least p).1 (steps_least p).2 (apart_small a.x b.x a.x_in_range b.x_in_range) (omega (arith, ints, h))
 
-crossed_kept : (la lb : Bool) (t z : ℤ)
-    → (la ≡ true → lb ≡ false → lt_z (pos 0) z ≡ lt_z (pos 0) t) → (la ≡ false → lb ≡ true → lt_z z (pos 0) ≡ lt_z t (pos 0))
-    → crossed la lb z ≡ crossed la lb t
-crossed_kept true true t z h k = refl
-crossed_kept true false t z h k = ap (λ b. if b then pos 1 else pos 0) (h refl refl)
-crossed_kept false true t z h k = ap (λ b. if b then negsuc 0 else pos 0) (k refl refl)
-crossed_kept false false t z h k = refl
-
-not_above : (u v : ℤ) → le_z u v ≡ true → u ≤ℤ v
-not_above u v h = omega (arith, ints)
-
 is_above : (u v : ℤ) → le_z u v ≡ false → v <ℤ u
 is_above u v h = omega (arith, ints)
 
@@ -306,9 +285,9 @@ moved_crossing a b p =
     ∙ ap (λ l. crossed (is_not_above a p) l (turn_at a b (moved p))) (moved_height b p)
     ∙ crossed_kept (is_not_above a p) (is_not_above b p) (turn_at a b p) (turn_at a b (moved p))
     (λ x y. same_left (turn_at a b p) (turn_at a b (moved p)) (moved_left a b p) (moved_right a b p)
-    (moved_from_up a b p (rises a.y b.y p.y p.d p.d_positive (not_above (a.y *ℤ p.d) p.y x) (is_above (b.y *ℤ p.d) p.y y))))
+    (moved_from_up a b p (rises a.y b.y p.y p.d p.d_positive ((Decides-int_le (a.y *ℤ p.d) p.y).0 x) (is_above (b.y *ℤ p.d) p.y y))))
     (λ x y. same_right (turn_at a b p) (turn_at a b (moved p)) (moved_left a b p) (moved_right a b p)
-    (moved_from_down a b p (rises b.y a.y p.y p.d p.d_positive (not_above (b.y *ℤ p.d) p.y y) (is_above (a.y *ℤ p.d) p.y x))))
+    (moved_from_down a b p (rises b.y a.y p.y p.d p.d_positive ((Decides-int_le (b.y *ℤ p.d) p.y).0 y) (is_above (a.y *ℤ p.d) p.y x))))
 
 pub moved_crossings : (es : List Edge) (p : Point) → crossings (moved p) es ≡ crossings p es
 moved_crossings [] p = refl

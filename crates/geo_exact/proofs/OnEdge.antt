@@ -8,15 +8,13 @@ use Rattle.geo_exact.specs.declared.corner.Corner.{Corner}
 use Rattle.geo_exact.specs.Point.{Point, corner_point}
 use Rattle.geo_exact.specs.Turn.{turn, turn_at, IsOnEdge}
 use Rattle.geo_exact.proofs.Differences.{expand}
+use Rattle.geo_exact.proofs.Orders.{le_of_lt, lt_not_ge}
 use Rattle.geo_exact.proofs.Signs.{mul_le, mul_zero, convex}
 use Rattle.geo_exact.proofs.Polynomials.{var, lit, add, mul, neg, same_by}
 use Rattle.geo_exact.proofs.TurnLaws.{turn_expr, turn_at_expr, turn_at_back}
 use Rattle.geo_exact.proofs.CornerPoints.{on_edge_from_box}
 
 -- ---- the lesser and the greater of two numbers
-pub le_of_lt : (u v : ℤ) → u <ℤ v → u ≤ℤ v
-le_of_lt u v h = omega (arith, ints)
-
 pub min_left : (u v : ℤ) → u ≤ℤ v → int_min u v ≡ u
 min_left u v h = omega (arith, ints, clamps)
 
@@ -113,8 +111,8 @@ on_edge_between a b p e low high =
       on_line = e;
       from_x = min_reaches a.x b.x p.d p.x p.d_positive (mean_low (b.y *ℤ p.d -ℤ p.y) (p.y -ℤ a.y *ℤ p.d) (a.x *ℤ p.d) (b.x *ℤ p.d) p.x k l s mean);
       to_x = max_reaches a.x b.x p.d p.x p.d_positive (mean_high (b.y *ℤ p.d -ℤ p.y) (p.y -ℤ a.y *ℤ p.d) (a.x *ℤ p.d) (b.x *ℤ p.d) p.x k l s mean);
-      from_y = min_reaches a.y b.y p.d p.y p.d_positive (λ i j. crossed_over (a.y *ℤ p.d) p.y low i);
-      to_y = max_reaches a.y b.y p.d p.y p.d_positive (λ i j. crossed_over p.y (b.y *ℤ p.d) (le_of_lt p.y (b.y *ℤ p.d) high) j);
+      from_y = min_reaches a.y b.y p.d p.y p.d_positive (λ i j. lt_not_ge p.y (a.y *ℤ p.d) i low);
+      to_y = max_reaches a.y b.y p.d p.y p.d_positive (λ i j. lt_not_ge (b.y *ℤ p.d) p.y j (le_of_lt p.y (b.y *ℤ p.d) high));
     }
   where
     apart : (u v : ℤ) → u <ℤ v → pos 0 ≤ℤ (v -ℤ u)
@@ -125,6 +123,3 @@ on_edge_between a b p e low high =
 
     total : (u v w : ℤ) → u ≤ℤ v → v <ℤ w → pos 0 <ℤ ((w -ℤ v) +ℤ (v -ℤ u))
     total u v w h k = omega (arith, ints)
-
-    crossed_over : (u v : ℤ) → u ≤ℤ v → v <ℤ u → ⊥
-    crossed_over u v h k = omega (arith, ints)

@@ -1,18 +1,19 @@
 -- Rational points at one place, with different denominators: turns, edges, crossings and interiors do not tell them apart.
-use Rattle.std.proofs.Common.{◌≡◌, ◌∙◌, sym, ap, refl, arith, Bool, true, false, if◌then◌else◌, List, [], ◌∷◌, inl, inr}
+use Rattle.std.proofs.Common.{◌≡◌, ◌∙◌, sym, ap, refl, arith, true, false, List, [], ◌∷◌, inl, inr}
 use Rattle.std.proofs.lemmas.Int.{ints, by_lt_z}
 use Rattle.std.specs.Int.{int_min, int_max}
-use lib.IntN.{ℤ, pos, negsuc, ◌+ℤ◌, ◌-ℤ◌, ◌*ℤ◌}
-use lib.Signed.{◌<ℤ◌, ◌≤ℤ◌, lt_z, le_z}
+use lib.IntN.{ℤ, pos, ◌+ℤ◌, ◌-ℤ◌, ◌*ℤ◌}
+use lib.Signed.{◌<ℤ◌, ◌≤ℤ◌, le_z}
 use Rattle.geo_exact.specs.declared.corner.Corner.{Corner}
 use Rattle.geo_exact.specs.Point.{Point}
 use Rattle.geo_exact.specs.Rings.{Edge, edges}
 use Rattle.geo_exact.specs.Turn.{turn_at, IsOnEdge, IsOnSome}
 use Rattle.geo_exact.specs.Winding.{is_not_above, crossing, crossings, winding, IsInterior}
+use Rattle.geo_exact.proofs.Orders.{le_of_lt, lt_not_ge}
 use Rattle.geo_exact.proofs.Signs.{zero_factor, mul_zero, mul_le, mul_lt, same_positive, same_negative}
 use Rattle.geo_exact.proofs.Polynomials.{var, add, mul, neg, same_by}
 use Rattle.geo_exact.proofs.TurnLaws.{turn_at_expr}
-use Rattle.geo_exact.proofs.Crossings.{crossed}
+use Rattle.geo_exact.proofs.Crossings.{crossed, crossed_kept}
 
 -- p and q are one place
 pub record IsSamePlace (p q : Point) : Type 0 where
@@ -50,13 +51,10 @@ turn_at_place a b p q h =
 at_most : (u d e y z : ℤ) → pos 0 <ℤ d → pos 0 <ℤ e → y *ℤ e ≡ z *ℤ d → (u *ℤ d) ≤ℤ y → (u *ℤ e) ≤ℤ z
 at_most u d e y z hd he h k =
     by_lt_z z (u *ℤ e)
-    (λ p. absurd (clash (mul_lt z (u *ℤ e) d hd p) (mul_le (u *ℤ d) y e (weak e he) k)
+    (λ p. absurd (clash (mul_lt z (u *ℤ e) d hd p) (mul_le (u *ℤ d) y e (le_of_lt (pos 0) e he) k)
     (same_by (u ∷ d ∷ e ∷ []) (mul (mul (var 0) (var 2)) (var 1)) (mul (mul (var 0) (var 1)) (var 2)) refl)))
     (λ p. p)
   where
-    weak : (t : ℤ) → pos 0 <ℤ t → pos 0 ≤ℤ t
-    weak t i = omega (arith, ints)
-
     clash : (z *ℤ d) <ℤ ((u *ℤ e) *ℤ d) → ((u *ℤ d) *ℤ e) ≤ℤ (y *ℤ e) → (u *ℤ e) *ℤ d ≡ (u *ℤ d) *ℤ e → ⊥
     clash i j f = over (z *ℤ d) ((u *ℤ e) *ℤ d) ((u *ℤ d) *ℤ e) (y *ℤ e) i j f h
       where
@@ -66,13 +64,10 @@ at_most u d e y z hd he h k =
 at_least : (u d e y z : ℤ) → pos 0 <ℤ d → pos 0 <ℤ e → y *ℤ e ≡ z *ℤ d → y ≤ℤ (u *ℤ d) → z ≤ℤ (u *ℤ e)
 at_least u d e y z hd he h k =
     by_lt_z (u *ℤ e) z
-    (λ p. absurd (clash (mul_lt (u *ℤ e) z d hd p) (mul_le y (u *ℤ d) e (weak e he) k)
+    (λ p. absurd (clash (mul_lt (u *ℤ e) z d hd p) (mul_le y (u *ℤ d) e (le_of_lt (pos 0) e he) k)
     (same_by (u ∷ d ∷ e ∷ []) (mul (mul (var 0) (var 2)) (var 1)) (mul (mul (var 0) (var 1)) (var 2)) refl)))
     (λ p. p)
   where
-    weak : (t : ℤ) → pos 0 <ℤ t → pos 0 ≤ℤ t
-    weak t i = omega (arith, ints)
-
     clash : ((u *ℤ e) *ℤ d) <ℤ (z *ℤ d) → (y *ℤ e) ≤ℤ ((u *ℤ d) *ℤ e) → (u *ℤ e) *ℤ d ≡ (u *ℤ d) *ℤ e → ⊥
     clash i j f = over (z *ℤ d) ((u *ℤ e) *ℤ d) ((u *ℤ d) *ℤ e) (y *ℤ e) i j f h
       where
@@ -84,11 +79,8 @@ same_test u v y z there back =
     by_lt_z y u
     (λ p. by_lt_z z v
     (λ q. let x : false ≡ le_z v z = omega (arith, ints) in sym x ∙ omega (arith, ints))
-    (λ q. absurd (over y u p (back q))))
+    (λ q. absurd (lt_not_ge y u p (back q))))
     (λ p. let q : v ≤ℤ z = there p in let x : true ≡ le_z v z = omega (arith, ints) in sym x ∙ omega (arith, ints))
-  where
-    over : (s t : ℤ) → s <ℤ t → t ≤ℤ s → ⊥
-    over s t a b = omega (arith, ints)
 
 pub height_place : (a : Corner) (p q : Point) → IsSamePlace p q → is_not_above a q ≡ is_not_above a p
 height_place a p q h =
@@ -96,19 +88,13 @@ height_place a p q h =
     (at_most a.y p.d q.d p.y q.y p.d_positive q.d_positive h.same_y)
     (at_most a.y q.d p.d q.y p.y q.d_positive p.d_positive (sym h.same_y))
 
-crossed_alike : (la lb : Bool) (t z : ℤ) → lt_z (pos 0) z ≡ lt_z (pos 0) t → lt_z z (pos 0) ≡ lt_z t (pos 0) → crossed la lb z ≡ crossed la lb t
-crossed_alike true true t z h k = refl
-crossed_alike true false t z h k = ap (λ b. if b then pos 1 else pos 0) h
-crossed_alike false true t z h k = ap (λ b. if b then negsuc 0 else pos 0) k
-crossed_alike false false t z h k = refl
-
 pub crossing_place : (a b : Corner) (p q : Point) → IsSamePlace p q → crossing q a b ≡ crossing p a b
 crossing_place a b p q h =
     ap (λ l. crossed l (is_not_above b q) (turn_at a b q)) (height_place a p q h)
     ∙ ap (λ l. crossed (is_not_above a p) l (turn_at a b q)) (height_place b p q h)
-    ∙ crossed_alike (is_not_above a p) (is_not_above b p) (turn_at a b p) (turn_at a b q)
-    (same_positive p.d q.d (turn_at a b q) (turn_at a b p) p.d_positive q.d_positive (sym (turn_at_place a b p q h)))
-    (same_negative p.d q.d (turn_at a b q) (turn_at a b p) p.d_positive q.d_positive (sym (turn_at_place a b p q h)))
+    ∙ crossed_kept (is_not_above a p) (is_not_above b p) (turn_at a b p) (turn_at a b q)
+    (λ u v. same_positive p.d q.d (turn_at a b q) (turn_at a b p) p.d_positive q.d_positive (sym (turn_at_place a b p q h)))
+    (λ u v. same_negative p.d q.d (turn_at a b q) (turn_at a b p) p.d_positive q.d_positive (sym (turn_at_place a b p q h)))
 
 zero_after : (k l s t : ℤ) → pos 0 <ℤ l → k *ℤ s ≡ l *ℤ t → s ≡ pos 0 → t ≡ pos 0
 zero_after k l s t h e z = zero_factor l t h (sym e ∙ ap (λ y. k *ℤ y) z ∙ mul_zero k)

@@ -1,21 +1,19 @@
 -- Signs of products over ℤ.
-use Rattle.std.proofs.Common.{◌≡◌, ℕ, ◌+◌, ◌-◌, ◌*◌, ◌<◌, ◌≤◌, sym, ◌∙◌, ap, arith, true, false}
+use Rattle.std.proofs.Common.{◌≡◌, ◌≢◌, ℕ, ◌+◌, ◌-◌, ◌*◌, ◌<◌, ◌≤◌, sym, ◌∙◌, ap, arith, true, false}
+use Rattle.std.proofs.Math.Nat.{mul-pos}
 use Rattle.std.proofs.lemmas.Int.{ints, by_lt_z}
 use lib.IntN.{ℤ, pos, ◌+ℤ◌, ◌-ℤ◌, ◌*ℤ◌, neg_ℤ}
 use lib.Signed.{◌<ℤ◌, ◌≤ℤ◌, lt_z}
 use borrow.Author.Differences.{up, down}
-use Rattle.geo_exact.proofs.Differences.{expand}
+use Rattle.geo_exact.proofs.Differences.{expand, neg-mul}
 
 -- (a - a')(b - b') is at least 0, and above it where both are
 atmost_times : (a a' b b' n m : ℕ) → a ≡ a' + n → b ≡ b' + m → a * b + a' * b' ≡ a * b' + a' * b + n * m
 atmost_times a a' b b' n m h k = rw (h, k) (omega arith)
 
-product_pos : (n m : ℕ) → 0 < n → 0 < m → 0 < n * m
-product_pos n m h k = grind arith
-
 less_times : (a a' b b' : ℕ) → a' < a → b' < b → a * b' + a' * b < a * b + a' * b'
 less_times a a' b b' h k =
-    omega (arith, atmost_times a a' b b' (a - a') (b - b') (omega arith) (omega arith), product_pos (a - a') (b - b') (omega arith) (omega arith))
+    omega (arith, atmost_times a a' b b' (a - a') (b - b') (omega arith) (omega arith), mul-pos {m = a - a'} {n = b - b'} (omega arith) (omega arith))
 
 atmost : (a a' b b' : ℕ) → a' ≤ a → b' ≤ b → a * b' + a' * b ≤ a * b + a' * b'
 atmost a a' b b' h k = omega (arith, atmost_times a a' b b' (a - a') (b - b') (omega arith) (omega arith))
@@ -100,3 +98,10 @@ zero_factor d z h e =
     by_lt_z (pos 0) z
     (λ p. absurd (omega (arith, ints, e, mul_pos d z h p)))
     (λ p. by_lt_z z (pos 0) (λ q. absurd (omega (arith, ints, e, mul_neg d z h q))) (λ q. omega (arith, ints)))
+
+-- a factor of 0 beside one that is not 0
+pub zero_of_mul : (k z : ℤ) → k ≢ pos 0 → k *ℤ z ≡ pos 0 → z ≡ pos 0
+zero_of_mul k z h e =
+    by_lt_z (pos 0) k
+    (λ p. zero_factor k z p e)
+    (λ p. by_lt_z k (pos 0) (λ q. zero_factor (neg_ℤ k) z (omega (arith, ints)) (neg-mul k z ∙ ap neg_ℤ e)) (λ q. absurd (h (omega (arith, ints)))))

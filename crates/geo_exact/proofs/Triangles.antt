@@ -7,6 +7,7 @@ use Rattle.geo_exact.specs.declared.corner.Corner.{Corner}
 use Rattle.geo_exact.specs.Point.{Point}
 use Rattle.geo_exact.specs.Turn.{turn, turn_at, IsOnEdge, IsOnRing}
 use Rattle.geo_exact.specs.Winding.{winding, IsInterior}
+use Rattle.geo_exact.proofs.Orders.{le_both, positive_not_zero}
 use Rattle.geo_exact.proofs.Signs.{mul_pos, mul_not_neg, mul_neg, mul_not_pos, mul_falling, mul_sinking, mul_neg_pos}
 use Rattle.geo_exact.proofs.Polynomials.{var, add, mul, neg, same_by}
 use Rattle.geo_exact.proofs.TurnLaws.{turn_at_expr, turn_cycle, turn_at_cycle, weighed_x, weighed_y}
@@ -53,12 +54,20 @@ two_edges : (u d v w : ℤ) → w ≡ spins u d → (u ≤ℤ pos 0 → d <ℤ p
 two_edges u d v w e never turned =
     by_lt_z (pos 0) u
     (λ p. by_lt_z d (pos 0)
-    (λ q. let z : w ≡ pos 0 = e ∙ spins_both u d p q in record { either = inl z; inside = λ x y _. absurd (omega (arith, ints)); off_u = λ _. z; off_d = λ _. z; off_v = λ _. z })
+    (λ q. let z : w ≡ pos 0 = e ∙ spins_both u d p q in
+    record { either = inl z; inside = λ x y _. absurd (omega (arith, ints)); off_u = λ _. z; off_d = λ _. z; off_v = λ _. z })
     (λ q. let z : w ≡ pos 1 = e ∙ spins_up u d p q in
-    record { either = inr z; inside = λ _ _ _. z; off_u = λ x. absurd (omega (arith, ints)); off_d = λ x. absurd (omega (arith, ints)); off_v = λ x. absurd (turned x p q) }))
+    record {
+      either = inr z;
+      inside = λ _ _ _. z;
+      off_u = λ x. absurd (omega (arith, ints));
+      off_d = λ x. absurd (omega (arith, ints));
+      off_v = λ x. absurd (turned x p q);
+    }))
     (λ p. by_lt_z d (pos 0)
     (λ q. absurd (never p q))
-    (λ q. let z : w ≡ pos 0 = e ∙ spins_none u d p q in record { either = inl z; inside = λ x _ _. absurd (omega (arith, ints)); off_u = λ _. z; off_d = λ _. z; off_v = λ _. z }))
+    (λ q. let z : w ≡ pos 0 = e ∙ spins_none u d p q in
+    record { either = inl z; inside = λ x _ _. absurd (omega (arith, ints)); off_u = λ _. z; off_d = λ _. z; off_v = λ _. z }))
 
 -- the corner opposite the edge that does not cross is the only one not above the point
 one_below : (u d v yu yd yv w : ℤ) → w ≡ spins u d → pos 0 <ℤ (u +ℤ d +ℤ v) → u *ℤ yu +ℤ d *ℤ yd +ℤ v *ℤ yv ≡ pos 0
@@ -121,15 +130,18 @@ by_heights false false false u d v ya yb yc a a' b b' c c' area mean flat =
 by_heights true false false u d v ya yb yc a a' b b' c c' area mean flat =
     goes_swap v d u _ (one_below v d u yc yb ya _ (omega (arith, ints)) (omega (arith, ints)) (omega (arith, ints, mean)) (c' refl) (b' refl) (a refl))
 by_heights false true false u d v ya yb yc a a' b b' c c' area mean flat =
-    goes_swap v d u _ (goes_cycle u v d _ (one_below u v d ya yc yb _ (omega (arith, ints)) (omega (arith, ints)) (omega (arith, ints, mean)) (a' refl) (c' refl) (b refl)))
+    goes_swap v d u _ (goes_cycle u v d _
+    (one_below u v d ya yc yb _ (omega (arith, ints)) (omega (arith, ints)) (omega (arith, ints, mean)) (a' refl) (c' refl) (b refl)))
 by_heights false false true u d v ya yb yc a a' b b' c c' area mean flat =
-    goes_cycle v u d _ (goes_swap d u v _ (one_below d u v yb ya yc _ (omega (arith, ints)) (omega (arith, ints)) (omega (arith, ints, mean)) (b' refl) (a' refl) (c refl)))
+    goes_cycle v u d _ (goes_swap d u v _
+    (one_below d u v yb ya yc _ (omega (arith, ints)) (omega (arith, ints)) (omega (arith, ints, mean)) (b' refl) (a' refl) (c refl)))
 by_heights true true false u d v ya yb yc a a' b b' c c' area mean flat =
     one_above u d v ya yb yc _ (omega (arith, ints)) area mean (a refl) (b refl) (c' refl)
 by_heights true false true u d v ya yb yc a a' b b' c c' area mean flat =
     goes_cycle v u d _ (one_above v u d yc ya yb _ (omega (arith, ints)) (omega (arith, ints)) (omega (arith, ints, mean)) (c refl) (a refl) (b' refl))
 by_heights false true true u d v ya yb yc a a' b b' c c' area mean flat =
-    goes_cycle v u d _ (goes_cycle d v u _ (one_above d v u yb yc ya _ (omega (arith, ints)) (omega (arith, ints)) (omega (arith, ints, mean)) (b refl) (c refl) (a' refl)))
+    goes_cycle v u d _ (goes_cycle d v u _
+    (one_above d v u yb yc ya _ (omega (arith, ints)) (omega (arith, ints)) (omega (arith, ints, mean)) (b refl) (c refl) (a' refl)))
 
 -- where both ends are at the height of p, so is the line
 turn_at_heights : (a b : Corner) (p : Point)
@@ -184,10 +196,7 @@ triangle_winds_not_outside a b c p h (inr (inr x)) = (winding_goes a b c p h).of
 
 -- ---- interiors
 no_edge : (a b : Corner) (p : Point) → pos 0 <ℤ turn_at a b p → IsOnEdge p a b → ⊥
-no_edge a b p h o = above_none (turn_at a b p) h o.on_line
-  where
-    above_none : (t : ℤ) → pos 0 <ℤ t → t ≡ pos 0 → ⊥
-    above_none t k e = omega (arith, ints)
+no_edge a b p h o = positive_not_zero (turn_at a b p) h o.on_line
 
 -- p is left of the three edges
 abbrev IsLeft : Corner → Corner → Corner → Point → Type 0
@@ -233,10 +242,7 @@ on_triangle_edge a b c p h e hu hd =
 left_edge : (a b c : Corner) (p : Point) → pos 0 <ℤ turn a b c → pos 0 ≤ℤ turn_at a b p → pos 0 ≤ℤ turn_at b c p → pos 0 ≤ℤ turn_at c a p
     → (IsOnEdge p a b → ⊥) → pos 0 <ℤ turn_at a b p
 left_edge a b c p h hv hu hd off =
-    by_lt_z (pos 0) (turn_at a b p) (λ q. q) (λ q. absurd (off (on_triangle_edge a b c p h (level (turn_at a b p) hv q) hu hd)))
-  where
-    level : (t : ℤ) → pos 0 ≤ℤ t → t ≤ℤ pos 0 → t ≡ pos 0
-    level t i j = omega (arith, ints)
+    by_lt_z (pos 0) (turn_at a b p) (λ q. q) (λ q. absurd (off (on_triangle_edge a b c p h (le_both (turn_at a b p) (pos 0) q hv) hu hd)))
 
 not_right : (t w : ℤ) → pos 1 ≤ℤ w → (t <ℤ pos 0 → w ≡ pos 0) → pos 0 ≤ℤ t
 not_right t w h off = by_lt_z t (pos 0) (λ q. absurd (none w h (off q))) (λ q. q)

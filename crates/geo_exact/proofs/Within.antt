@@ -30,3 +30,6 @@ min_within {u = u} {v = v} e i j = let f = int_min_is u v in record { low = omeg
 
 pub max_within : {n : ℕ} {z u v : ℤ} → z ≡ int_max u v → IsWithin n u → IsWithin n v → IsWithin n z
 max_within {u = u} {v = v} e i j = let f = int_max_is u v in record { low = omega (arith, ints, i, j); high = omega (arith, ints, i, j) }
+
+pub within_more : {m n : ℕ} {z : ℤ} → m ≤ n → IsWithin m z → IsWithin n z
+within_more l h = record { low = omega (arith, ints, l, h); high = omega (arith, ints, l, h) }

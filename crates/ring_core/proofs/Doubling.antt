@@ -7,11 +7,11 @@ use lib.Signed.{◌<ℤ◌, ◌≤ℤ◌}
 use Rattle.geo_exact.specs.declared.corner.Corner.{Corner}
 use Rattle.geo_exact.specs.Point.{Point, IsPlaceOf, corner_point}
 use Rattle.geo_exact.specs.Turn.{turn, turn_at, IsOnEdge}
-use Rattle.geo_exact.proofs.Differences.{expand}
-use Rattle.geo_exact.proofs.Signs.{zero_factor}
+use Rattle.geo_exact.proofs.Signs.{zero_factor, zero_of_mul}
 use Rattle.geo_exact.proofs.Polynomials.{var, add, mul, neg, same_by}
 use Rattle.geo_exact.proofs.TurnLaws.{turn_at_expr, turn_expr, turn_cycle, turn_swap}
-use Rattle.geo_exact.proofs.OnEdge.{le_of_lt, min_left, min_swap, max_left, max_swap, on_edge_back, on_edge_start, on_edge_end}
+use Rattle.geo_exact.proofs.Orders.{le_of_lt, le_both}
+use Rattle.geo_exact.proofs.OnEdge.{min_left, min_swap, max_left, max_swap, on_edge_back, on_edge_start, on_edge_end}
 use Rattle.ring_core.specs.Simple.{DoublesBack}
 use Rattle.ring_core.proofs.CommonPoints.{on_edge_by_x, on_edge_by_y}
 
@@ -60,10 +60,6 @@ line_y a b c p =
 vanishes : (l m s t z : ℤ) → z ≡ l *ℤ s -ℤ m *ℤ t → s ≡ pos 0 → t ≡ pos 0 → z ≡ pos 0
 vanishes l m s t z e h k = e ∙ rw (h, k) (omega (arith, ints))
 
--- a negative factor of 0
-zero_negative_factor : (k t : ℤ) → k <ℤ pos 0 → k *ℤ t ≡ pos 0 → t ≡ pos 0
-zero_negative_factor k t h e = zero_factor (neg_ℤ k) t (omega (arith, ints)) (simp expand (ap neg_ℤ e))
-
 turn_end : (a b c : Corner) → turn a b c ≡ pos 0 → turn b c a ≡ pos 0
 turn_end a b c e = turn_cycle a b c ∙ e
 
@@ -91,7 +87,7 @@ below_x a b c p h k o =
     let first : a.x <ℤ b.x = ends_below b.x a.x p.d p.x o (rw (min_swap b.x a.x) h.from_x) in
     let second : c.x <ℤ b.x = ends_below b.x c.x p.d p.x o k.from_x in
     let line : turn a b c ≡ pos 0 =
-    zero_negative_factor (p.x -ℤ b.x *ℤ p.d) (turn a b c) (omega (arith, ints))
+    zero_of_mul (p.x -ℤ b.x *ℤ p.d) (turn a b c) (λ same. omega (arith, ints, same))
     (vanishes (c.x -ℤ b.x) (b.x -ℤ a.x) (turn_at a b p) (turn_at b c p) _ (line_x a b c p) h.on_line k.on_line) in
     by_lt_z c.x a.x
     (λ q. inr (on_edge_by_x c b a second (le_of_lt c.x a.x q) (le_of_lt a.x b.x first) (turn_round a b c line), λ r. apart_below b.x a.x first r.same_x))
@@ -115,14 +111,11 @@ below_y a b c p h k o =
     let first : a.y <ℤ b.y = ends_below b.y a.y p.d p.y o (rw (min_swap b.y a.y) h.from_y) in
     let second : c.y <ℤ b.y = ends_below b.y c.y p.d p.y o k.from_y in
     let line : turn a b c ≡ pos 0 =
-    zero_negative_factor (p.y -ℤ b.y *ℤ p.d) (turn a b c) (omega (arith, ints))
+    zero_of_mul (p.y -ℤ b.y *ℤ p.d) (turn a b c) (λ same. omega (arith, ints, same))
     (vanishes (c.y -ℤ b.y) (b.y -ℤ a.y) (turn_at a b p) (turn_at b c p) _ (line_y a b c p) h.on_line k.on_line) in
     by_lt_z c.y a.y
     (λ q. inr (on_edge_by_y c b a second (le_of_lt c.y a.y q) (le_of_lt a.y b.y first) (turn_round a b c line), λ r. apart_below b.y a.y first r.same_y))
     (λ q. inl (on_edge_by_y a b c first q (le_of_lt c.y b.y second) line, λ r. apart_below b.y c.y second r.same_y))
-
-level : (u v : ℤ) → v ≤ℤ u → u ≤ℤ v → u ≡ v
-level u v h k = omega (arith, ints)
 
 pub end_of_doubling_back : (a b c : Corner) → DoublesBack a b c → EndDoublesBack a b c
 end_of_doubling_back a b c h =
@@ -131,4 +124,4 @@ end_of_doubling_back a b c h =
     (λ k. by_lt_z p.x (b.x *ℤ p.d) (λ o. below_x a b c p h.1 h.2 o)
     (λ l. by_lt_z (b.y *ℤ p.d) p.y (λ o. above_y a b c p h.1 h.2 o)
     (λ m. by_lt_z p.y (b.y *ℤ p.d) (λ o. below_y a b c p h.1 h.2 o)
-    (λ n. absurd (h.3 (record { same_x = level p.x (b.x *ℤ p.d) l k; same_y = level p.y (b.y *ℤ p.d) n m }))))))
+    (λ n. absurd (h.3 (record { same_x = le_both p.x (b.x *ℤ p.d) k l; same_y = le_both p.y (b.y *ℤ p.d) m n }))))))

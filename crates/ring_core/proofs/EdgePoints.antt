@@ -11,7 +11,8 @@ use Rattle.geo_exact.proofs.Signs.{mul_pos, pos_of_mul, convex, mul_lt}
 use Rattle.geo_exact.proofs.Polynomials.{var, add, mul, neg, same_by}
 use Rattle.geo_exact.proofs.TurnLaws.{turn_at_expr, turn_expr, turn_at_back, turn_at_corner, turn_swap}
 use Rattle.geo_exact.proofs.SamePlace.{turn_at_place}
-use Rattle.geo_exact.proofs.OnEdge.{le_of_lt, min_left, max_right, on_edge_back}
+use Rattle.geo_exact.proofs.Orders.{le_of_lt, positive_not_zero}
+use Rattle.geo_exact.proofs.OnEdge.{min_left, max_right, on_edge_back}
 
 -- the range of an edge whose first end is not beyond its second
 range : (u v d w : ℤ) → u ≤ℤ v → (int_min u v *ℤ d) ≤ℤ w → w ≤ℤ (int_max u v *ℤ d) → ((u *ℤ d) ≤ℤ w) × (w ≤ℤ (v *ℤ d))
@@ -94,15 +95,12 @@ AreOneSide a b c d = ((pos 0 <ℤ turn a b c) × (pos 0 <ℤ turn a b d)) ⊎ ((
 pub not_one_side : (a b c d : Corner) (p : Point) → IsOnEdge p a b → IsOnEdge p c d → AreOneSide a b c d → ⊥
 not_one_side a b c d p h k s =
     elim s [
-      | inl q ↦ above (turn_at a b p) (left_of_line a b c d p k q.0 q.1) h.on_line
+      | inl q ↦ positive_not_zero (turn_at a b p) (left_of_line a b c d p k q.0 q.1) h.on_line
       | inr q ↦ let left_c = turned (turn b a c) (turn a b c) (turn_swap a b c) q.0 in
           let left_d = turned (turn b a d) (turn a b d) (turn_swap a b d) q.1 in
-          above (turn_at b a p) (left_of_line b a c d p k left_c left_d) (turn_at_back a b p ∙ ap neg_ℤ h.on_line)
+          positive_not_zero (turn_at b a p) (left_of_line b a c d p k left_c left_d) (turn_at_back a b p ∙ ap neg_ℤ h.on_line)
     ]
   where
-    above : (t : ℤ) → pos 0 <ℤ t → t ≡ pos 0 → ⊥
-    above t g e = omega (arith, ints)
-
     turned : (t s : ℤ) → t ≡ neg_ℤ s → s <ℤ pos 0 → pos 0 <ℤ t
     turned t s e g = omega (arith, ints)
 

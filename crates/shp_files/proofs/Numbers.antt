@@ -1,5 +1,5 @@
 -- Tests on numbers that come from bytes.
-use Rattle.std.proofs.Common.{◌≡◌, ℕ, ◌≤◌, ℤ, pos, negsuc, Bool, true, false, not, ◌||◌, refl, ap, ◌∙◌}
+use Rattle.std.proofs.Common.{◌≡◌, ℕ, ◌≤◌, ℤ, pos, negsuc, false, not, refl, ap, ◌∙◌}
 use Rattle.std.specs.Prelude.{int_lt}
 use Rattle.std.proofs.lemmas.Bool.{ltb-false, le-ltb, not-false}
 use Rattle.std.proofs.lemmas.Bool.Decides.{Decides-int_eq}
@@ -29,10 +29,3 @@ same_from_is_not a b e = (Decides-int_eq a b).0 (not-false _ e)
 
 pub is_not_same : (a b : ℤ) → a ≡ b → is_not a b ≡ false
 is_not_same a b e = ap not ((Decides-int_eq a b).1 e)
-
-pub neither : (a b : Bool) → (a || b) ≡ false → (a ≡ false) × (b ≡ false)
-neither true b e = absurd cc
-neither false b e = (refl, e)
-
-pub neither_from : (a b : Bool) → a ≡ false → b ≡ false → (a || b) ≡ false
-neither_from a b e f = rw (e, f) refl

@@ -1,14 +1,15 @@
 -- What a header and a record say that pass their checks.
 use Rattle.std.proofs.Common.{◌≡◌, ℕ, ◌+◌, ◌*◌, ◌-◌, ◌≤◌, pos, not, ◌&&◌, cond, Bool, true, false, List, [], length, None, refl, sym, ◌∙◌, ap, arith}
-use Rattle.std.proofs.lemmas.Bool.{ltb-false, le-ltb, eqb-true, eq-eqb, not-false, and_left, and_right, false≢true}
+use Rattle.std.proofs.lemmas.Bool.{ltb-false, le-ltb, eqb-true, eq-eqb, not-false, and_left, and_right, false≢true, or_parts, or_from}
 use Rattle.std.proofs.lemmas.Bool.Decides.{Decides-int_eq}
 use Rattle.std.specs.Ordering.{int_eq}
 use Rattle.geo_exact.specs.declared.coord.Unit.{Unit as LengthUnit}
 use Rattle.shp_files.specs.declared.fault.FileName.{FileName}
 use Rattle.shp_files.specs.Layout.{file_code, file_words, version, header_shape_type, content_words, shape_type, part_count, point_count, first_part, natural}
-use Rattle.shp_files.specs.Checks.{first_failure, is_not, declared_end, record_end, points_of, header_checks, frame_checks, shape_checks, count_checks, ring_checks, corner_checks, polygon_checks, distinct_points, is_null, record_checks}
+use Rattle.shp_files.specs.Checks.{first_failure, is_not, declared_end, record_end, points_of, header_checks, frame_checks, shape_checks, count_checks}
+use Rattle.shp_files.specs.Checks.{ring_checks, corner_checks, polygon_checks, distinct_points, is_null, record_checks}
 use Rattle.shp_files.proofs.Lines.{pass, pass_from, pass_parts, pass_both, first_failure_none}
-use Rattle.shp_files.proofs.Numbers.{natural_from, pos_natural, not_below, same_from_is_not, is_not_same, neither, neither_from}
+use Rattle.shp_files.proofs.Numbers.{natural_from, pos_natural, not_below, same_from_is_not, is_not_same}
 
 pub record HeaderPasses (main : List ℕ) : Type 0 where
   pub whole : 100 ≤ length main
@@ -101,7 +102,7 @@ counts_pass main position start before e =
     let p4 = pass _ _ _ p3.1 in
     let p5 = pass _ _ _ p4.1 in
     let p6 = pass _ _ _ p5.1 in
-    let many = neither _ _ p4.0 in
+    let many = or_parts _ _ p4.0 in
     record {
       words = pos_natural 22 _ p0.0;
       long = natural_from 22 _ p0.0;
@@ -122,7 +123,7 @@ counts_pass_from main position start before h =
     (pass_from _ _ _ (is_not_same _ _ h.parts)
     (pass_from _ _ _ (le-ltb _ _ (omega (arith, h.long)))
     (pass_from _ _ _ (not_below 4 _ _ h.points h.enough)
-    (pass_from _ _ _ (neither_from _ _ (le-ltb _ _ h.few) (le-ltb _ _ h.few_together))
+    (pass_from _ _ _ (or_from _ _ (le-ltb _ _ h.few) (le-ltb _ _ h.few_together))
     (pass_from _ _ _ (ap not (eq-eqb _ _ h.filled))
     (pass_from _ _ _ (is_not_same _ _ h.first) first_failure_none))))))
 

@@ -1,5 +1,7 @@
 -- The lines on a ring's points: all points but the last, the last, and that it is the first again.
-use Rattle.std.proofs.Common.{◌≡◌, ℕ, suc, ◌+◌, ◌*◌, ◌-◌, ◌<◌, false, ◌||◌, List, [], ◌∷◌, ◌++◌, length, get_or, Option, Some, None, subst, refl, sym, ap, ◌∙◌, arith, append_assoc, length-append}
+use Rattle.std.proofs.Common.{◌≡◌, ℕ, suc, ◌+◌, ◌*◌, ◌-◌, ◌<◌, false, ◌||◌, List, [], ◌∷◌, ◌++◌, length}
+use Rattle.std.proofs.Common.{get_or, Option, Some, None, subst, refl, sym, ap, ◌∙◌, arith, append_assoc, length-append}
+use Rattle.std.proofs.lemmas.Bool.{or_parts, or_from}
 use Rattle.geo_exact.specs.declared.corner.Corner.{Corner}
 use Rattle.geo_exact.specs.declared.coord.Unit.{Unit as LengthUnit}
 use Rattle.geo_exact.proofs.SameCorner.{corner_same}
@@ -9,14 +11,15 @@ use Rattle.shp_files.specs.declared.fault.LayerFault.{LayerFault}
 use Rattle.shp_files.specs.LayerFile.{closed}
 use Rattle.shp_files.specs.Checks.{Check, check, fault, first_failure, is_not, is_other_point, coordinate_checks, closing_checks, ring_checks}
 use Rattle.shp_files.specs.Reading.{Fails, IsReadAs, AreReadAs}
-use Rattle.shp_files.proofs.Numbers.{same_from_is_not, is_not_same, neither, neither_from}
+use Rattle.shp_files.proofs.Numbers.{same_from_is_not, is_not_same}
 use Rattle.shp_files.proofs.Lines.{goes_on, stops, pass_from, pass_both, first_failure_none}
 use Rattle.shp_files.proofs.Finding.{fails_stops}
 use Rattle.shp_files.proofs.Points.{none_left, point_read, coordinates_append, reads_push}
 
 pub ring_parts : (main : List ℕ) (unit : LengthUnit) (position at count : ℕ) → 0 < count
     → ring_checks main unit position at count
-    ≡ coordinate_checks main unit position at (2 * (count - 1)) ++ (coordinate_checks main unit position (at + 16 * (count - 1)) 2 ++ closing_checks main unit position at (at + 16 * (count - 1)))
+    ≡ coordinate_checks main unit position at (2 * (count - 1))
+    ++ (coordinate_checks main unit position (at + 16 * (count - 1)) 2 ++ closing_checks main unit position at (at + 16 * (count - 1)))
 unfolding ring_checks
 ring_parts main unit position at count some =
     let all : 2 * count ≡ 2 * (count - 1) + 2 = omega arith in
@@ -31,7 +34,7 @@ other_point main unit a b p q h k = rw (h.x, h.y, k.x, k.y) refl
 -- corners none of whose coordinates differ are one
 pub same_corner : (p q : Corner) → (is_not p.x q.x || is_not p.y q.y) ≡ false → p ≡ q
 same_corner p q e =
-    let both = neither _ _ e in
+    let both = or_parts _ _ e in
     corner_same p q (same_from_is_not _ _ both.0) (same_from_is_not _ _ both.1)
 
 -- a ring's first corner closes it
@@ -50,7 +53,8 @@ pub corners_refused : (main : List ℕ) (unit : LengthUnit) (position at count :
 corners_refused main unit position at count e some fails =
     let closing : List Check = closing_checks main unit position at (at + 16 * (count - 1)) in
     rw (ring_parts main unit position at count some)
-    (fails_stops e (coordinate_checks main unit position at (2 * (count - 1))) (coordinate_checks main unit position (at + 16 * (count - 1)) 2 ++ closing) fails)
+    (fails_stops e (coordinate_checks main unit position at (2 * (count - 1)))
+    (coordinate_checks main unit position (at + 16 * (count - 1)) 2 ++ closing) fails)
 
 -- what is found at the last point, where those before it are read
 pub last_refused : (main : List ℕ) (unit : LengthUnit) (position at count : ℕ) (found : FileFault) → 0 < count
@@ -59,7 +63,8 @@ pub last_refused : (main : List ℕ) (unit : LengthUnit) (position at count : �
     → Some found ≡ first_failure (ring_checks main unit position at count)
 last_refused main unit position at count found some before here =
     let closing : List Check = closing_checks main unit position at (at + 16 * (count - 1)) in
-    rw (ring_parts main unit position at count some, goes_on _ (coordinate_checks main unit position (at + 16 * (count - 1)) 2 ++ closing) before) (stops _ closing found here)
+    rw (ring_parts main unit position at count some, goes_on _ (coordinate_checks main unit position (at + 16 * (count - 1)) 2 ++ closing) before)
+    (stops _ closing found here)
 
 -- what is found where all points are read: whether the last is the first
 pub closing_answer : (main : List ℕ) (unit : LengthUnit) (position at count : ℕ) (first closing : Corner) (found : Option FileFault) → 0 < count
@@ -83,7 +88,8 @@ pub closed_read : (unit : LengthUnit) (bytes : List ℕ) (at : ℕ) (corners : L
     → 0 < length corners
     → first ≡ get_or corners 0 first → IsReadAs unit bytes (at + 16 * length corners) closing → first ≡ closing → AreReadAs unit bytes at (closed corners)
 closed_read unit bytes at corners first closing are some is last same =
-    rw (closes corners first some is) (reads_push unit bytes at corners first are (let P : Corner → Type 0 = IsReadAs unit bytes (at + 16 * length corners) in subst P (sym same) last))
+    rw (closes corners first some is) (reads_push unit bytes at corners first are
+    (let P : Corner → Type 0 = IsReadAs unit bytes (at + 16 * length corners) in subst P (sym same) last))
 
 -- points that are read have no failure
 pub coordinates_pass : (main : List ℕ) (unit : LengthUnit) (position at : ℕ) (corners : List Corner) → AreReadAs unit main at corners
@@ -120,5 +126,5 @@ ring_passes main unit position at count (first ∷ rest) some is h =
     let place : at + 16 * length (first ∷ rest) ≡ at + 16 * (count - 1) = omega (arith, is) in
     let P : ℕ → Type 0 = λ n. IsReadAs unit main n first in
     let last = subst P place (last_read unit main at (first ∷ rest) first h) in
-    let same = neither_from _ _ (is_not_same first.x first.x refl) (is_not_same first.y first.y refl) in
+    let same = or_from _ _ (is_not_same first.x first.x refl) (is_not_same first.y first.y refl) in
     pass_both _ _ all (pass_from _ _ [] (other_point main unit at (at + 16 * (count - 1)) first first h.0 last ∙ same) first_failure_none)

@@ -1,11 +1,12 @@
 -- A ring in its normal form has no equal neighbours and is not clockwise.
-use Rattle.std.proofs.Common.{◌≡◌, ◌≢◌, ℤ, pos, neg_ℤ, ◌≤ℤ◌, Bool, true, false, ◌&&◌, cond, List, [], ◌∷◌, ◌++◌, length, reverse, refl, sym, ap, subst, ◌∙◌, arith}
+use Rattle.std.proofs.Common.{◌≡◌, ◌≢◌, ℤ, pos, neg_ℤ, ◌≤ℤ◌, Bool, true, false, ◌&&◌, cond, List, [], ◌∷◌, ◌++◌, length, reverse}
+use Rattle.std.proofs.Common.{refl, sym, ap, subst, ◌∙◌, arith}
 use Rattle.std.specs.Prelude.{int_lt}
 use Rattle.std.specs.List.{AllByRecursion}
 use Rattle.std.specs.Ordering.{int_eq}
 use Rattle.std.proofs.lemmas.Int.{ints}
 use Rattle.std.proofs.lemmas.List.{length-reverse, reverse-append}
-use Rattle.std.proofs.lemmas.Bool.{and_parts, false≢true}
+use Rattle.std.proofs.lemmas.Bool.{and_parts, false_from_ne_true, false≢true}
 use Rattle.std.proofs.lemmas.Bool.Decides.{Decides-int_eq}
 use Rattle.geo_exact.specs.declared.corner.Corner.{Corner}
 use Rattle.geo_exact.specs.Rings.{Edge, path, turned_round, AreApart}
@@ -62,7 +63,8 @@ path_apart a (y ∷ ys) x b h k = (h.0, path_apart y ys x b h.1 k)
 back_apart : (a : Corner) (xs : List Corner) (b : Corner) → AllApart (path a xs b) → AllApart (path b (reverse xs) a)
 back_apart a [] b h = (λ e. h.0 (sym e), tt)
 back_apart a (x ∷ xs) b h =
-    subst (λ (back : List Corner). AllApart (path b back a)) (sym (reverse-append (x ∷ []) xs)) (path_apart b (reverse xs) x a (back_apart x xs b h.1) (λ e. h.0 (sym e)))
+    subst (λ (back : List Corner). AllApart (path b back a)) (sym (reverse-append (x ∷ []) xs))
+    (path_apart b (reverse xs) x a (back_apart x xs b h.1) (λ e. h.0 (sym e)))
 
 pub turned_apart : (ring : List Corner) → AreApart ring → AreApart (turned_round ring)
 turned_apart [] h = tt
@@ -108,12 +110,8 @@ is_normal drawn =
     record { same_length = turned.same_length; apart = turned.apart (kept_apart drawn); area = turned.area }
 
 -- ---- a ring without equal neighbours is kept whole
-no_if : (b : Bool) → (b ≡ true → ⊥) → b ≡ false
-no_if true h = absurd (h refl)
-no_if false h = refl
-
 not_nowhere : (p q : Corner) → p ≢ q → (int_eq p.x q.x && int_eq p.y q.y) ≡ false
-not_nowhere p q apart = no_if _ (λ e. apart (nowhere_same p q e))
+not_nowhere p q apart = false_from_ne_true _ (λ e. apart (nowhere_same p q e))
 
 whole_path : (from : Corner) (xs : List Corner) (to : Corner) → AllApart (path from xs to) → starts (path from xs to) ≡ from ∷ xs
 whole_path from [] to h = rw (not_nowhere from to h.0) refl

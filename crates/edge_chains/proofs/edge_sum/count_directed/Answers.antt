@@ -1,11 +1,11 @@
-use Rattle.std.proofs.Common.{◌≡◌, sym, ◌∙◌, pos, neg_ℤ, ◌+ℤ◌, true, ℤ, [], ◌∷◌, arith}
+use Rattle.std.proofs.Common.{◌≡◌, sym, ◌∙◌, pos, neg_ℤ, ◌+ℤ◌, ◌+◌, true, ℤ, [], ◌∷◌, arith}
 use Rattle.std.proofs.lemmas.Int.{ints}
 use Rattle.geo_exact.specs.Limit.{IsWithin}
 use Rattle.geo_exact.proofs.EdgeSums.{edge_of}
 use Rattle.edge_chains.specs.Net.{net_of_edges}
 use Rattle.edge_chains.specs.Counts.{is_before, net_at}
 use Rattle.edge_chains.proofs.Corners.{Decides-is_before, same_unless_before}
-use Rattle.edge_chains.proofs.Changes.{net_at_up, net_at_down, net_of_no_length, AreCounts-changed, AreCounts-more}
+use Rattle.edge_chains.proofs.Changes.{net_at_up, net_at_down, net_of_no_length, AreCounts-changed, AreCounts-upto}
 use Rattle.edge_chains.proofs.edge_sum.count_directed.Goals as goal
 
 one : IsWithin 1 (pos 1)
@@ -55,4 +55,4 @@ returns-else-comes_before-2-clause-net g c =
     unmoved x y h = omega (arith, ints)
 
 pub returns-else-comes_before-2-clause-kept : goal.returns-else-comes_before-2-clause-kept
-returns-else-comes_before-2-clause-kept g c = λ n k. AreCounts-more c.args.numbers.now.entries n k
+returns-else-comes_before-2-clause-kept g c = λ n k. AreCounts-upto c.args.numbers.now.entries n (n + 1) (omega arith) k

@@ -1,9 +1,9 @@
 use Rattle.std.proofs.Common.{◌≡◌, sym, ◌∙◌, ap, subst, Bool, IfOk}
 use Rattle.std.specs.List.{filter}
+use Rattle.std.proofs.lemmas.Result.{IfOk-weaker}
 use Rattle.geo_exact.specs.declared.corner.Corner.{Corner}
 use Rattle.edge_chains.specs.Inside.{is_inside, is_in_bounds}
 use Rattle.edge_chains.proofs.Boxes.{filter_within}
-use Rattle.edge_chains.proofs.NodedEdges.{if_ok_too}
 use Rattle.edge_chains.proofs.search.Search.inside.Goals.{then-covers, else-covers, then-not-covers+in_ok-move_to, else-not-covers}
 use Rattle.edge_chains.proofs.search.Search.inside.Goals as goal
 
@@ -17,10 +17,10 @@ returns-clause-found g c =
     ] in
     elim c.if-covers.branch [
       | then-covers w ↦ subst (λ r. IfOk r (λ found. found.items ≡ filter tests c.args.self.now)) (sym w.result-is)
-          (if_ok_too _ _ w.inside_of.result
+          (IfOk-weaker w.inside_of.result _ _
           (λ found h. h ∙ ap (filter tests) (w.deref.ensures.value ∙ c.self-2.invariant)
           ∙ filter_within tests (λ x. is_in_bounds x c.self-2.inside.bounds) blocks (c.covers-2.ensures w.if-covers.true) ∙ ap (filter tests) same)
           w.inside_of.ensures)
       | else-covers w ↦ subst (λ r. IfOk r (λ found. found.items ≡ filter tests c.args.self.now)) (sym w.result-is)
-          (if_ok_too _ _ w.inside.result (λ found h. h ∙ ap (filter tests) same) w.inside.ensures)
+          (IfOk-weaker w.inside.result _ _ (λ found h. h ∙ ap (filter tests) same) w.inside.ensures)
     ]
