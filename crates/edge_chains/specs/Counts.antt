@@ -35,7 +35,7 @@ net_at counts a b =
     then number_at counts a b
     else (if is_before b a then neg_ℤ (number_at counts b a) else pos 0)
 
--- the entry of a number: none for 0
+-- the entry of a number: none for 0. Public contracts do not speak of it.
 abbrev pub entry_of : ℤ → Option ℤ
 entry_of n = if int_eq n (pos 0) then None else Some n
 

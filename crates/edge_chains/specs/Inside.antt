@@ -20,7 +20,7 @@ is_between u v z = is_from_to (int_min u v) (int_max u v) z
 abbrev pub is_inside : Corner → Corner → Corner → Bool
 is_inside c a b = (is_between a.x b.x c.x && is_between a.y b.y c.y) && (int_eq (turn a b c) (pos 0) && (not (is_same c a) && not (is_same c b)))
 
--- the order of corners: by x, then by y
+-- the order of `is_before` (`Counts`), as std's sorting states it: by x, then by y
 abbrev pub corner_cmp : Corner → Corner → Ordering
 corner_cmp a b = ordering_then (int_cmp a.x b.x) (int_cmp a.y b.y)
 

@@ -115,6 +115,8 @@ fn node_all<A: Allocator + Copy>(
 }
 
 /// Puts corners in order, by x and then by y, and keeps each once.
+///
+/// A search gives each corner once already. They are gone through again so that this holds for whatever list comes.
 fn sort_once<A: Allocator>(corners: &mut Vec<Corner, A>)
     ensures rises { IsStrictlySortedBy corner_cmp corners.new.items }
     ensures keeps { (c : Corner) → Contains corners.old.items c → Contains corners.new.items c }
