@@ -8,7 +8,7 @@ use Rattle.shp_files.specs.declared.fault.LayerFault.TheVariants.{File}
 use Rattle.shp_files.specs.LayerFile.{NumberedRing, normal_rings, corner_count, IsLayerFile}
 use Rattle.shp_files.specs.Checks.{first_failure, header_checks, record_checks, declared_end, record_end, points_of, is_null}
 use Rattle.shp_files.specs.IndexChecks.{index_end_checks, index_record_checks}
-use Rattle.shp_files.specs.FirstFault.{Reaches, IsMainFault, IsAccepted, IsIndexFault, IsFirstFault}
+use Rattle.shp_files.specs.FirstFault.{Reaches, IsMainFault, IsAccepted, IsIndexFault, IsDecided}
 use Rattle.shp_files.specs.FirstFault.Reaches.{first, next}
 use Rattle.shp_files.specs.Reading.{Agrees}
 use Rattle.shp_files.proofs.Checking.{IsChecked, checked_first, checked_next, header_fault, fault_at_record, agrees_where, fault_where}
@@ -114,8 +114,7 @@ index_decided main index unit all =
     ]
 
 -- a text, with an index or none, is a layer's files or has a first fault
-pub layer_or_fault : (main : List ℕ) (index : Option (List ℕ)) (unit : LengthUnit)
-    → ((rings : List NumberedRing) × IsLayerFile main index unit rings) ⊎ ((fault : FileFault) × IsFirstFault main index unit fault)
+pub layer_or_fault : (main : List ℕ) (index : Option (List ℕ)) (unit : LengthUnit) → IsDecided main index unit
 layer_or_fault main None unit = main_decided main unit
 layer_or_fault main (Some index) unit =
     elim (main_decided main unit) [

@@ -6,6 +6,7 @@ use Rattle.shp_files.specs.declared.fault.FileFault.{FileFault}
 use Rattle.shp_files.specs.declared.fault.FileName.TheVariants.{Main, Index}
 use Rattle.shp_files.specs.Checks.{first_failure, header_checks, record_checks, declared_end, record_end, drawn_corners}
 use Rattle.shp_files.specs.IndexChecks.{entry_checks}
+use Rattle.shp_files.specs.LayerFile.{NumberedRing, IsLayerFile}
 
 -- The record at this position begins at this byte, and the polygons before it have so many corners together: the header and all records before it
 -- pass their checks.
@@ -53,3 +54,7 @@ IsIndexFault main index unit fault = (first_failure (header_checks Index index) 
 abbrev pub IsFirstFault : List ℕ → Option (List ℕ) → LengthUnit → FileFault → Type 0
 IsFirstFault main None unit fault = IsMainFault main unit fault
 IsFirstFault main (Some index) unit fault = IsMainFault main unit fault ⊎ (IsAccepted main unit × IsIndexFault main index unit fault)
+
+-- a text is a layer's files, or has a first fault
+abbrev pub IsDecided : List ℕ → Option (List ℕ) → LengthUnit → Type 0
+IsDecided main index unit = ((rings : List NumberedRing) × IsLayerFile main index unit rings) ⊎ ((fault : FileFault) × IsFirstFault main index unit fault)

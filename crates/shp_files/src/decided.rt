@@ -1,14 +1,11 @@
 //! The law that decides every text: it is a layer, or it has a first fault.
 
-ghost use Rattle.std.specs.Prelude.{◌⊎◌, ℕ, List, Option};
+ghost use Rattle.std.specs.Prelude.{ℕ, List, Option};
 ghost use Rattle.geo_exact.specs.declared.coord.Unit.{Unit as LengthUnit};
-ghost use Rattle.shp_files.specs.declared.fault.FileFault.{FileFault};
-ghost use Rattle.shp_files.specs.LayerFile.{NumberedRing, IsLayerFile};
-ghost use Rattle.shp_files.specs.FirstFault.{IsFirstFault};
+ghost use Rattle.shp_files.specs.FirstFault.{IsDecided};
 
 /// Each text, with an index or none, is a layer's files or has a first fault (and never both, as
 /// [`a_layer_file_has_no_fault`](crate::a_layer_file_has_no_fault) says).
 pub fn a_text_is_a_layer_or_has_a_fault()
-    ensures { (main : List ℕ) (index : Option (List ℕ)) (unit : LengthUnit)
-        → ((rings : List NumberedRing) × IsLayerFile main index unit rings) ⊎ ((fault : FileFault) × IsFirstFault main index unit fault) }
+    ensures { (main : List ℕ) (index : Option (List ℕ)) (unit : LengthUnit) → IsDecided main index unit }
 {}

@@ -87,10 +87,10 @@ fn read_records<A: Allocator + Copy>(
         position: 1,
         start: HEADER,
     };
-    let mut corners = 0;
+    let mut corners_before = 0;
     while head.start != end {
-        let found = read_record(alloc, main, unit, end, head, corners)?;
-        corners += found.drawn;
+        let found = read_record(alloc, main, unit, end, head, corners_before)?;
+        corners_before += found.drawn;
         let next = RecordHead {
             position: head.position + 1,
             start: found.end,

@@ -92,25 +92,25 @@ fn check_shape(main: &[u8], head: RecordHead) -> Result<bool, FileFault>
     Ok(null)
 }
 
-/// The polygon's counts; answers the number of its points. The polygons before it have `corners`
-/// corners together.
+/// The polygon's counts; answers the number of its points. The polygons before it have
+/// `corners_before` corners together.
 #[tactic(auto, unfolding(crate::specs::Checks::count_checks, crate::specs::Checks::first_failure))]
 fn check_counts(
     main: &[u8],
     content_end: usize,
     head: RecordHead,
-    corners: usize,
+    corners_before: usize,
 ) -> Result<usize, FileFault>
     requires end { content_end ≡ record_end main.now head.start }
     requires within { content_end ≤ length main.now }
     requires bound { content_end < 2 ^ 32 }
     requires room { head.start + 12 ≤ content_end }
-    requires corners { corners ≤ 1000000 }
-    ensures checked { result_err result ≡ first_failure (count_checks main.now head.position head.start corners) }
+    requires corners { corners_before ≤ 1000000 }
+    ensures checked { result_err result ≡ first_failure (count_checks main.now head.position head.start corners_before) }
     ensures count { IfOk result (λ count. count ≡ points_of main.now head.start) }
     ensures enough { IfOk result (λ count. 4 ≤ count) }
     ensures few { IfOk result (λ count. count ≤ 4097) }
-    ensures few_together { IfOk result (λ count. corners + (count - 1) ≤ 1000000) }
+    ensures few_together { IfOk result (λ count. corners_before + (count - 1) ≤ 1000000) }
     ensures filled { IfOk result (λ count. head.start + 56 + 16 * count ≡ content_end) }
 {
     let start = head.start;
@@ -122,7 +122,7 @@ fn check_counts(
     let points = little_at(main, start + 48);
     refuse_if(points < 4, head.fault(48, FaultKind::FewPoints))?;
     let count = natural(points);
-    let many = MOST_POINTS < count || MOST_CORNERS < corners + (count - 1);
+    let many = MOST_POINTS < count || MOST_CORNERS < corners_before + (count - 1);
     refuse_if(many, head.fault(48, FaultKind::TooMany))?;
     let bytes = content_end - (start + 8);
     refuse_if(bytes != 48 + 16 * count, head.fault(4, FaultKind::Content))?;
@@ -223,22 +223,22 @@ fn read_polygon<A: Allocator + Copy>(
     unit: Unit,
     content_end: usize,
     head: RecordHead,
-    corners: usize,
+    corners_before: usize,
 ) -> Result<Record<A>, LayerFault>
     requires end { content_end ≡ record_end main.now head.start }
     requires within { content_end ≤ length main.now }
     requires bound { content_end < 2 ^ 32 }
     requires room { head.start + 12 ≤ content_end }
-    requires corners { corners ≤ 1000000 }
-    ensures checked { Finds result (first_failure (polygon_checks main.now unit head.position head.start corners)) }
+    requires corners { corners_before ≤ 1000000 }
+    ensures checked { Finds result (first_failure (polygon_checks main.now unit head.position head.start corners_before)) }
     ensures end { IfOk result (λ polygon. polygon.end ≡ content_end) }
     ensures ring { IfOk result (λ polygon. IfSome polygon.ring (λ ring. (ring.number ≡ head.position)
         × IsDrawnAs unit main.now head.start polygon.drawn ring.corners)) }
     ensures some { IfOk result (λ polygon. IsSome polygon.ring) }
     ensures count { IfOk result (λ polygon. polygon.drawn + 1 ≡ points_of main.now head.start) }
-    ensures few_together { IfOk result (λ polygon. corners + polygon.drawn ≤ 1000000) }
+    ensures few_together { IfOk result (λ polygon. corners_before + polygon.drawn ≤ 1000000) }
 {
-    let count = check_counts(main, content_end, head, corners)?;
+    let count = check_counts(main, content_end, head, corners_before)?;
     let drawn = read_ring(alloc, main, unit, head, count)?;
     let mut corners = kept_once(alloc, drawn.as_slice())?;
     let few = corners.as_slice().len() < 3;
@@ -255,21 +255,21 @@ fn read_polygon<A: Allocator + Copy>(
 }
 
 /// Reads a record of a file that is declared to end at `end`, where the polygons before it have
-/// `corners` corners together.
+/// `corners_before` corners together.
 pub fn read_record<A: Allocator + Copy>(
     alloc: A,
     main: &[u8],
     unit: Unit,
     end: usize,
     head: RecordHead,
-    corners: usize,
+    corners_before: usize,
 ) -> Result<Record<A>, LayerFault>
     requires end { end ≡ declared_end main.now }
     requires bound { end < 2 ^ 32 }
     requires within { end ≤ length main.now }
     requires start { head.start ≤ end }
-    requires corners { corners ≤ 1000000 }
-    ensures checked { Finds result (first_failure (record_checks main.now unit head.position head.start corners)) }
+    requires corners { corners_before ≤ 1000000 }
+    ensures checked { Finds result (first_failure (record_checks main.now unit head.position head.start corners_before)) }
     ensures end { IfOk result (λ found. found.end ≡ record_end main.now head.start) }
     ensures within { IfOk result (λ found. found.end ≤ end) }
     ensures longer { IfOk result (λ found. head.start < found.end) }
@@ -278,7 +278,7 @@ pub fn read_record<A: Allocator + Copy>(
         × (ring.number ≡ head.position) × (found.drawn + 1 ≡ points_of main.now head.start)
         × IsDrawnAs unit main.now head.start found.drawn ring.corners)) }
     ensures few { IfOk result (λ found. head.position ≤ 65536) }
-    ensures few_together { IfOk result (λ found. corners + found.drawn ≤ 1000000) }
+    ensures few_together { IfOk result (λ found. corners_before + found.drawn ≤ 1000000) }
 {
     let content_end = check_frame(main, end, head)?;
     if check_shape(main, head)? {
@@ -288,5 +288,5 @@ pub fn read_record<A: Allocator + Copy>(
             ring: None,
         });
     }
-    read_polygon(alloc, main, unit, content_end, head, corners)
+    read_polygon(alloc, main, unit, content_end, head, corners_before)
 }

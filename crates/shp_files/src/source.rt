@@ -1,6 +1,7 @@
 //! All bytes of a reader.
 
-ghost use Rattle.std.specs.Prelude.{◌≡◌, ◌≤◌, ◌<◌, length, IfOk, IfSome, IsErrOf};
+ghost use Rattle.std.specs.Prelude.{◌≡◌, ◌≤◌, ◌<◌, length, IfOk, OnOk, IfSome, IsErrOf};
+ghost use Rattle.std.specs.Io.KnownBytes.{IsAtEnd};
 ghost use Rattle.geo_exact.specs.Bytes.{raised};
 ghost use Rattle.shp_files.specs.declared.source.ReadFault.TheVariants.{Device, NoMemory};
 
@@ -52,6 +53,8 @@ pub fn read_all<A: Allocator + Copy, R: ByteIn>(
 ) -> Result<Vec<u8, A>, ReadFault>
     // What is answered is all that the reader held, where it tells that.
     ensures whole { IfOk result (λ bytes. IfSome (R.remaining reader.old) (λ held. bytes.items ≡ held)) }
+    // Afterwards it holds none any more.
+    ensures at_end { OnOk result (IsAtEnd (R.remaining reader.new)) }
     ensures bound { IfOk result (λ bytes. length bytes.items ≤ 67108864) }
     ensures too_long { IsErrOf result ReadFault.TooLong →
         IfSome (R.remaining reader.old) (λ held. 67108864 < length held) }

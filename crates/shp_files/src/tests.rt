@@ -3,7 +3,7 @@ ghost use Rattle.std.specs.Prelude.{◌≤◌, ◌+◌, length};
 use crate::{
     FaultKind, FileFault, FileName, LayerFault, MOST_BYTES, ReadFault, read_all, read_layer,
 };
-use geo_exact::{ByteIn, CoordFault, Corner, Counted, FailAt, LIMIT, Unit, area2};
+use geo_exact::{ByteIn, CoordFault, Corner, Counted, FailAt, LIMIT, RawRing, Unit, area2};
 use linked_list_allocator::LocalHeap;
 use std::alloc::{Allocator, Global};
 use std::io;
@@ -88,13 +88,18 @@ fn fault_of(alloc: Global, file: &[u8]) -> Option<LayerFault> {
     read_layer(alloc, file, None, Unit::Cm).err()
 }
 
+/// There is one ring, of this number and these corners.
+fn is_ring<A: Allocator>(rings: &[RawRing<A>], number: u32, want: &[Corner]) -> bool {
+    match rings {
+        [ring] => ring.number == number && ring.corners.as_slice() == want,
+        _ => false,
+    }
+}
+
 /// The numbers and corners of a file's rings are these.
 fn reads_as(alloc: Global, file: &[u8], unit: Unit, number: u32, want: &[Corner]) -> bool {
     match read_layer(alloc, file, None, unit) {
-        Ok(rings) => match rings.as_slice() {
-            [ring] => ring.number == number && ring.corners.as_slice() == want,
-            _ => false,
-        },
+        Ok(rings) => is_ring(&rings, number, want),
         Err(_) => false,
     }
 }
@@ -242,14 +247,17 @@ fn reads_a_header_alone(rt: HostRuntime) -> Result<(), Fail> {
     Ok(())
 }
 
+/// So many units of 16 bytes suffice to read a square.
+const ENOUGH_UNITS: usize = 60;
+
 #[test]
 fn refuses_for_want_of_memory_alone(rt: HostRuntime) -> Result<(), Fail> {
     let file = square(&ZERO, &HUNDRED);
     let mut refused = 0usize;
-    for units in 1..64usize {
+    for units in 1..ENOUGH_UNITS + 4 {
         let heap = LocalHeap::new(rt.alloc(), units * 16)?;
         match read_layer(&heap, &file, None, Unit::Cm) {
-            Ok(rings) => assert_eq!(rt; rings.len(), 1, "in {units} units"),
+            Ok(rings) => assert!(rt; is_ring(&rings, 1, &SQUARE), "in {units} units"),
             Err(fault) => {
                 assert_eq!(rt; fault, LayerFault::NoMemory, "in {units} units");
                 refused = units;
@@ -257,7 +265,7 @@ fn refuses_for_want_of_memory_alone(rt: HostRuntime) -> Result<(), Fail> {
         }
     }
     assert!(rt; refused > 1);
-    assert!(rt; refused < 60);
+    assert!(rt; refused < ENOUGH_UNITS);
     Ok(())
 }
 

@@ -5,8 +5,8 @@ use Rattle.shp_files.proofs.layer.read_records.Given as goal
 
 abbrev pub invariant-loop-head : goal.invariant-loop-head
 invariant-loop-head g l = record {
-  read : IsReadTo l.main l.unit l.head.position l.head.start l.corners (rings_of l.rings.items);
-  few_together : l.corners ≤ 1000000;
+  read : IsReadTo l.main l.unit l.head.position l.head.start l.corners_before (rings_of l.rings.items);
+  few_together : l.corners_before ≤ 1000000;
   few : l.head.position ≤ 65537;
   start : l.head.start ≤ l.end;
 }

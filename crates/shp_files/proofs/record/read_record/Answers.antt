@@ -22,7 +22,7 @@ unfolding record_checks
 returns-then-branch-clause-checked g c =
     let null : is_null c.args.main.now c.args.head.start ≡ true = sym c.in_ok-check_shape.ensures.null ∙ c.if-branch.true in
     goes_on _ _ c.in_ok-content_end.ensures.checked ∙ goes_on _ _ c.in_ok-check_shape.ensures.checked
-    ∙ ap (λ b. first_failure (cond b [] (polygon_checks c.args.main.now c.args.unit c.args.head.position c.args.head.start c.args.corners))) null ∙ first_failure_none
+    ∙ ap (λ b. first_failure (cond b [] (polygon_checks c.args.main.now c.args.unit c.args.head.position c.args.head.start c.args.corners_before))) null ∙ first_failure_none
 
 pub returns-clause-checked : goal.returns-clause-checked
 unfolding record_checks
