@@ -1,6 +1,6 @@
 use crate::{
     ByteIn, ByteOut, CoordFault, Corner, Corners, Counted, FailAt, Failed, LIMIT, Unit, area2,
-    read_coord, turn, write_coord,
+    on_segment, read_coord, turn, write_coord,
 };
 use std::io;
 use std::io::{ErrorKind, Read, Write};
@@ -56,6 +56,43 @@ fn measures_rings(rt: HostRuntime) {
         -400_000_000_000_000_000_000
     );
     assert_eq!(rt; area2(&[]), 0);
+}
+
+/// Whether the third place is on the edge from the first to the second; none where one is past the
+/// limit.
+fn seen_on(a: (i64, i64), b: (i64, i64), p: (i64, i64)) -> Option<bool> {
+    Some(on_segment(
+        Corner::new(a.0, a.1)?,
+        Corner::new(b.0, b.1)?,
+        Corner::new(p.0, p.1)?,
+    ))
+}
+
+#[test]
+fn tells_places_on_an_edge(rt: HostRuntime) {
+    let west = (-LIMIT, -LIMIT);
+    let east = (LIMIT, LIMIT);
+    for (a, b, p, want) in [
+        ((0, 0), (6, 4), (0, 0), true),
+        ((0, 0), (6, 4), (6, 4), true),
+        ((0, 0), (6, 4), (3, 2), true),
+        ((6, 4), (0, 0), (3, 2), true),
+        ((0, 0), (6, 4), (9, 6), false),
+        ((0, 0), (6, 4), (-3, -2), false),
+        ((0, 0), (6, 4), (3, 3), false),
+        ((0, 0), (6, 0), (7, 0), false),
+        ((0, 0), (0, 4), (0, -1), false),
+        (west, east, (0, 0), true),
+        (west, east, east, true),
+        (west, east, (0, 1), false),
+        (west, east, (LIMIT, LIMIT - 1), false),
+        (west, (LIMIT, LIMIT - 1), (0, 0), false),
+        ((5, 5), (5, 5), (5, 5), true),
+        ((5, 5), (5, 5), (5, 6), false),
+        ((5, 5), (5, 5), (4, 5), false),
+    ] {
+        assert_eq!(rt; seen_on(a, b, p), Some(want), "at {} {}", p.0, p.1);
+    }
 }
 
 /// A stream of which each call fails.
@@ -164,5 +201,38 @@ fn collects_corners(rt: HostRuntime) -> Result<(), Fail> {
     }
     let want = [Corner { x: 3, y: -1 }, Corner { x: LIMIT, y: 0 }];
     assert_eq!(rt; corners.as_slice(), &want[..]);
+    Ok(())
+}
+
+#[test]
+fn makes_room_for_corners(rt: HostRuntime) -> Result<(), Fail> {
+    let mut corners = Corners::with_capacity(rt.alloc(), 2)?;
+    assert_eq!(rt; corners.as_slice().len(), 0);
+    let want = [
+        Corner { x: 3, y: -1 },
+        Corner { x: LIMIT, y: 0 },
+        Corner { x: 0, y: -LIMIT },
+    ];
+    for corner in want {
+        corners.push(corner)?;
+    }
+    assert_eq!(rt; corners.as_slice(), &want[..]);
+    Ok(())
+}
+
+#[test]
+fn turns_rings_round(rt: HostRuntime) -> Result<(), Fail> {
+    let mut corners = Corners::new(rt.alloc());
+    corners.turn_round();
+    assert_eq!(rt; corners.as_slice().len(), 0);
+    let first = Corner { x: 0, y: 0 };
+    let second = Corner { x: 4, y: 0 };
+    let third = Corner { x: 4, y: 3 };
+    let fourth = Corner { x: 0, y: 3 };
+    for corner in [first, second, third, fourth] {
+        corners.push(corner)?;
+    }
+    corners.turn_round();
+    assert_eq!(rt; corners.as_slice(), &[first, fourth, third, second][..]);
     Ok(())
 }

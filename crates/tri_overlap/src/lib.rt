@@ -10,7 +10,7 @@ mod triangles;
 mod windows;
 
 pub use folds::folded;
-pub use laws::triangles_are_apart_by_an_edge;
+pub use laws::{a_shape_without_overlaps_winds_at_most_once, triangles_are_apart_by_an_edge};
 pub use shapes::shapes_overlap;
 pub use triangles::triangles_overlap;
 
