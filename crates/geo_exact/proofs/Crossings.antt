@@ -108,8 +108,10 @@ crossing_splits p a b m on_line low high =
     (λ x y z. outside a.y b.y m.y low (up m a y x) (up m b y z))
     (λ x y z. same_positive (b.y -ℤ a.y) (b.y -ℤ m.y) (turn_at m b p) (turn_at a b p) (up a b x z) (up m b y z) at_end)
     (λ x y z. same_positive (b.y -ℤ a.y) (m.y -ℤ a.y) (turn_at a m p) (turn_at a b p) (up a b x z) (up a m x y) at_start)
-    (λ x y z. same_negative (a.y -ℤ b.y) (a.y -ℤ m.y) (turn_at a m p) (turn_at a b p) (up b a z x) (up m a y x) (negated a.y b.y a.y m.y (turn_at a m p) (turn_at a b p) at_start))
-    (λ x y z. same_negative (a.y -ℤ b.y) (m.y -ℤ b.y) (turn_at m b p) (turn_at a b p) (up b a z x) (up b m z y) (negated a.y b.y m.y b.y (turn_at m b p) (turn_at a b p) at_end))
+    (λ x y z. same_negative (a.y -ℤ b.y) (a.y -ℤ m.y) (turn_at a m p) (turn_at a b p) (up b a z x) (up m a y x)
+    (negated a.y b.y a.y m.y (turn_at a m p) (turn_at a b p) at_start))
+    (λ x y z. same_negative (a.y -ℤ b.y) (m.y -ℤ b.y) (turn_at m b p) (turn_at a b p) (up b a z x) (up b m z y)
+    (negated a.y b.y m.y b.y (turn_at m b p) (turn_at a b p) at_end))
 
 -- m on the edge from a to b
 pub crossing_cut : (p : Point) (a b m : Corner) → IsOnEdge (corner_point m) a b → crossing p a m +ℤ crossing p m b ≡ crossing p a b

@@ -200,7 +200,8 @@ off_line a b p apart e =
     (λ r. not_level (pos 20000000000) (steps p) (b.x -ℤ a.x) (b.y -ℤ a.y) (steps_least p).1 (steps_least p).2
     (apart_small a.x b.x a.x_in_range b.x_in_range)
     (zero_factor p.d ((b.x -ℤ a.x) -ℤ (b.y -ℤ a.y) *ℤ steps p) p.d_positive
-    (rest (turn_at a b p) (steps p *ℤ steps p) (p.d *ℤ ((b.x -ℤ a.x) -ℤ (b.y -ℤ a.y) *ℤ steps p)) (turn_at a b (moved p)) (moved_turn a b p) e (level (turn_at a b p) q r)))
+    (rest (turn_at a b p) (steps p *ℤ steps p) (p.d *ℤ ((b.x -ℤ a.x) -ℤ (b.y -ℤ a.y) *ℤ steps p)) (turn_at a b (moved p))
+    (moved_turn a b p) e (level (turn_at a b p) q r)))
     apart))
   where
     above : (t : ℤ) → pos 0 <ℤ t → t ≡ pos 0 → ⊥
