@@ -1,4 +1,4 @@
--- Crossings and edge areas: turned round, at equal ends, and under a cut.
+-- Crossings and edge areas: turned round, and under a cut.
 use Rattle.std.proofs.Common.{◌≡◌, refl, ◌∙◌, sym, ap, arith, Bool, true, false, if◌then◌else◌, [], ◌∷◌}
 use Rattle.std.proofs.lemmas.Int.{ints, clamps}
 use Rattle.std.specs.Int.{int_min, int_max}
@@ -18,9 +18,6 @@ use Rattle.geo_exact.proofs.TurnLaws.{corner_point, turn_at_back, turn_at_end, t
 -- ---- areas
 pub edge_area2_back : (a b : Corner) → edge_area2 (edge_of b a) ≡ neg_ℤ (edge_area2 (edge_of a b))
 edge_area2_back a b = omega (arith, ints)
-
-pub edge_area2_same : (a : Corner) → edge_area2 (edge_of a a) ≡ pos 0
-edge_area2_same a = omega (arith, ints)
 
 pub edge_area2_triangle : (a b c : Corner) → edge_area2 (edge_of a b) +ℤ edge_area2 (edge_of b c) +ℤ edge_area2 (edge_of c a) ≡ turn a b c
 edge_area2_triangle a b c = simp expand (omega (arith, ints))
@@ -60,6 +57,7 @@ crossing_back p a b =
     ap (crossed (le_z (b.y *ℤ p.d) p.y) (le_z (a.y *ℤ p.d) p.y)) (turn_at_back a b p)
     ∙ crossed_back (le_z (a.y *ℤ p.d) p.y) (le_z (b.y *ℤ p.d) p.y) (turn_at a b p)
 
+<<<<<<< HEAD
 crossed_level : (la : Bool) (t : ℤ) → crossed la la t ≡ pos 0
 crossed_level true t = refl
 crossed_level false t = refl
@@ -76,6 +74,8 @@ crossed_kept true false t z h k = ap (λ b. if b then pos 1 else pos 0) (h refl 
 crossed_kept false true t z h k = ap (λ b. if b then negsuc 0 else pos 0) (k refl refl)
 crossed_kept false false t z h k = refl
 
+=======
+>>>>>>> fixg
 level : (k s l t x z : ℤ) → k *ℤ s -ℤ l *ℤ t ≡ x *ℤ z → z ≡ pos 0 → k *ℤ s ≡ l *ℤ t
 level k s l t x z e h = omega (arith, ints, rw h at e)
 

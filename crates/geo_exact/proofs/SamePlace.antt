@@ -1,3 +1,4 @@
+<<<<<<< HEAD
 -- Rational points at one place, with different denominators: turns, edges, crossings and interiors do not tell them apart.
 use Rattle.std.proofs.Common.{◌≡◌, ◌∙◌, sym, ap, refl, arith, true, false, List, [], ◌∷◌, inl, inr}
 use Rattle.std.proofs.lemmas.Int.{ints, by_lt_z}
@@ -14,14 +15,22 @@ use Rattle.geo_exact.proofs.Signs.{zero_factor, mul_zero, mul_le, mul_lt, same_p
 use Rattle.geo_exact.proofs.Polynomials.{var, add, mul, neg, same_by}
 use Rattle.geo_exact.proofs.TurnLaws.{turn_at_expr}
 use Rattle.geo_exact.proofs.Crossings.{crossed, crossed_kept}
+=======
+-- Rational points at one place, with different denominators: turns do not tell them apart.
+use Rattle.std.proofs.Common.{◌≡◌, refl, arith, [], ◌∷◌}
+use Rattle.std.proofs.lemmas.Int.{ints}
+use lib.IntN.{ℤ, pos, ◌-ℤ◌, ◌*ℤ◌}
+use Rattle.geo_exact.specs.declared.corner.Corner.{Corner}
+use Rattle.geo_exact.specs.Point.{Point}
+use Rattle.geo_exact.specs.Turn.{turn_at}
+use Rattle.geo_exact.proofs.Polynomials.{var, add, mul, neg, same_by}
+use Rattle.geo_exact.proofs.TurnLaws.{turn_at_expr}
+>>>>>>> fixg
 
 -- p and q are one place
 pub record IsSamePlace (p q : Point) : Type 0 where
   pub same_x : p.x *ℤ q.d ≡ q.x *ℤ p.d
   pub same_y : p.y *ℤ q.d ≡ q.y *ℤ p.d
-
-pub same_place_back : (p q : Point) → IsSamePlace p q → IsSamePlace q p
-same_place_back p q h = record { same_x = sym h.same_x; same_y = sym h.same_y }
 
 -- q.d times the turn at p, less p.d times the turn at q
 turns_differ : (a b : Corner) (p q : Point)
@@ -46,6 +55,7 @@ pub turn_at_place : (a b : Corner) (p q : Point) → IsSamePlace p q → q.d *�
 turn_at_place a b p q h =
     cancelled (q.d *ℤ turn_at a b p) (p.d *ℤ turn_at a b q) (b.x -ℤ a.x) (b.y -ℤ a.y) (p.y *ℤ q.d -ℤ q.y *ℤ p.d) (p.x *ℤ q.d -ℤ q.x *ℤ p.d)
     (turns_differ a b p q) (difference (p.y *ℤ q.d) (q.y *ℤ p.d) h.same_y) (difference (p.x *ℤ q.d) (q.x *ℤ p.d) h.same_x)
+<<<<<<< HEAD
 
 -- an order between places u / d and y / d holds at any denominator
 at_most : (u d e y z : ℤ) → pos 0 <ℤ d → pos 0 <ℤ e → y *ℤ e ≡ z *ℤ d → (u *ℤ d) ≤ℤ y → (u *ℤ e) ≤ℤ z
@@ -128,3 +138,5 @@ interior_place ring p q h i =
       off_edges = λ o. i.off_edges (on_some_place (edges ring) q p (same_place_back p q h) o);
       is_wound = rw (crossings_place (edges ring) p q h) i.is_wound;
     }
+=======
+>>>>>>> fixg

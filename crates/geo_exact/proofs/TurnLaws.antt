@@ -25,13 +25,6 @@ turn_at_back a b p =
     (neg (turn_at_expr (var 0) (var 1) (var 2) (var 3) (var 4) (var 5) (var 6)))
     refl
 
-pub turn_at_same : (a : Corner) (p : Point) → turn_at a a p ≡ pos 0
-turn_at_same a p =
-    same_by (a.x ∷ a.y ∷ p.x ∷ p.y ∷ p.d ∷ [])
-    (turn_at_expr (var 0) (var 1) (var 0) (var 1) (var 2) (var 3) (var 4))
-    (lit (pos 0))
-    refl
-
 pub turn_at_corner : (a b c : Corner) → turn_at a b (corner_point c) ≡ turn a b c
 turn_at_corner a b c =
     same_by (a.x ∷ a.y ∷ b.x ∷ b.y ∷ c.x ∷ c.y ∷ [])

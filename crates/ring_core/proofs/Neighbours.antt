@@ -4,7 +4,8 @@ use Rattle.std.proofs.lemmas.Bool.Decides.{nat_tests}
 use Rattle.geo_exact.specs.declared.corner.Corner.{Corner}
 use Rattle.geo_exact.specs.Point.{Point}
 use Rattle.ring_core.specs.Places.{corner_at, after}
-use Rattle.ring_core.specs.Simple.{HaveCommonPoint, DoublesBack, IsSharedCorner, MeetOtherwise}
+use Rattle.ring_core.specs.EdgePairs.{HaveCommonPoint, DoublesBack}
+use Rattle.ring_core.specs.Simple.{IsSharedCorner, MeetOtherwise}
 use Rattle.ring_core.proofs.RoundNumbers.{after_inner}
 
 -- edge j follows edge i

@@ -1,5 +1,6 @@
 pub mod Places
 pub mod Simple
+pub mod EdgePairs
 pub mod Faults
 pub mod Clipping
 pub mod Sums

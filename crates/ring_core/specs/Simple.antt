@@ -7,14 +7,6 @@ use Rattle.geo_exact.specs.Turn.{IsOnEdge}
 use Rattle.geo_exact.specs.Area.{area2}
 use Rattle.ring_core.specs.Places.{corner_at, after}
 
--- some point lies on the edge from a to b and on the edge from c to d
-abbrev pub HaveCommonPoint : Corner → Corner → Corner → Corner → Type 0
-HaveCommonPoint a b c d = (p : Point) × IsOnEdge p a b × IsOnEdge p c d
-
--- some point other than b lies on the edge from a to b and on the edge from b to c
-abbrev pub DoublesBack : Corner → Corner → Corner → Type 0
-DoublesBack a b c = (p : Point) × IsOnEdge p a b × IsOnEdge p b c × (¬ IsPlaceOf p b)
-
 -- p lies on edge i of the ring, which goes from corner i to the next
 abbrev pub IsOnEdgeAt : Point → List Corner → ℕ → Type 0
 IsOnEdgeAt p ring i = IsOnEdge p (corner_at ring i) (corner_at ring (after (length ring) i))

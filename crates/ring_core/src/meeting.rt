@@ -2,7 +2,7 @@ ghost use Rattle.std.specs.Prelude.{◌↔◌, ◌⊎◌, ◌≤ℤ◌, ◌<ℤ�
 ghost use Rattle.std.specs.Int.{int_max, int_min};
 ghost use Rattle.geo_exact.specs.Point.{IsPlaceOf, corner_point};
 ghost use Rattle.geo_exact.specs.Turn.{IsOnEdge, turn as turn_of};
-ghost use Rattle.ring_core.specs.Simple.{DoublesBack, HaveCommonPoint};
+ghost use Rattle.ring_core.specs.EdgePairs.{DoublesBack, HaveCommonPoint};
 
 use geo_exact::{Corner, on_segment, turn};
 

@@ -9,7 +9,7 @@ use Rattle.ring_core.specs.declared.triangle.Tri.{Tri}
 use Rattle.ring_core.specs.Sums.{corners_of}
 use Rattle.tri_overlap.specs.declared.bounds.Bounds.{Bounds}
 use Rattle.tri_overlap.specs.Bounding.{Holds, HoldsAll, HoldsCommon, InSome, IsInside}
-use Rattle.tri_overlap.specs.Separation.{SomePairMeets}
+use Rattle.tri_overlap.specs.Pairs.{SomePairMeets}
 use Rattle.tri_overlap.proofs.Boxes.{inside_box}
 use Rattle.tri_overlap.proofs.RingPairs.{pair_meets, point_of_pair}
 

@@ -14,7 +14,7 @@ use Rattle.geo_exact.proofs.Moved.{moved, moved_off_some, moved_interior}
 use Rattle.ring_core.specs.declared.triangle.Tri.{Tri}
 use Rattle.ring_core.specs.Sums.{corners_of, winding_sum, MakeUp}
 use Rattle.tri_overlap.specs.Bounding.{InSome}
-use Rattle.tri_overlap.specs.Separation.{MeetsSome, SomePairMeets}
+use Rattle.tri_overlap.specs.Pairs.{MeetsSome, SomePairMeets}
 
 -- p is on no edge, of whatever ring
 abbrev pub IsOffEdges : Point → Type 0

@@ -15,7 +15,7 @@ use Rattle.geo_exact.proofs.Differences.{expand}
 use Rattle.geo_exact.proofs.Polynomials.{Expr, var, add, mul, same_by}
 use Rattle.geo_exact.proofs.TurnLaws.{turn_expr, turn_at_expr, corner_point, turn_at_corner, turn_cycle}
 use Rattle.geo_exact.proofs.OnEdge.{starts_on, ends_on}
-use Rattle.tri_overlap.specs.Separation.{SeesSome, NoEdgeSeparates}
+use Rattle.tri_overlap.specs.Pairs.{SeesSome, NoEdgeSeparates}
 use Rattle.tri_overlap.proofs.Convex.{IsBlend, IsLeft, left_convex, turn_at_blend}
 use Rattle.tri_overlap.proofs.Helly.{InFour, helly_six}
 

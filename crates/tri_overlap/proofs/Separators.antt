@@ -6,7 +6,8 @@ use Rattle.geo_exact.specs.Turn.{turn}
 use Rattle.geo_exact.specs.Interiors.{InteriorsMeet}
 use Rattle.ring_core.specs.declared.triangle.Tri.{Tri}
 use Rattle.ring_core.specs.Sums.{corners_of}
-use Rattle.tri_overlap.specs.Separation.{SeesSome, NoEdgeSeparates, IsBeyond, SomeEdgeSeparates}
+use Rattle.tri_overlap.specs.Pairs.{SeesSome, NoEdgeSeparates}
+use Rattle.tri_overlap.specs.Separation.{IsBeyond, SomeEdgeSeparates}
 use Rattle.tri_overlap.proofs.Separating.{meet_unseparated, unseparated_meet}
 
 up_or_not : (z : ℤ) → (pos 0 <ℤ z) ⊎ (z ≤ℤ pos 0)

@@ -1,3 +1,4 @@
 pub mod Separation
+pub mod Pairs
 pub mod Bounding
 pub mod Folding

@@ -1,7 +1,7 @@
 ghost use Rattle.std.specs.Prelude.{◌↔◌, IsTrue};
 ghost use Rattle.geo_exact.specs.Interiors.{InteriorsMeet};
 ghost use Rattle.tri_overlap.specs.Bounding.{HoldsCommon, HoldsMeetings};
-ghost use Rattle.tri_overlap.specs.Separation.{MeetsSome, SomePairMeets};
+ghost use Rattle.tri_overlap.specs.Pairs.{MeetsSome, SomePairMeets};
 
 use crate::bounds::{Bounds, bounds_of, bounds_of_all, common, is_empty};
 use crate::triangles::meet_in_box;

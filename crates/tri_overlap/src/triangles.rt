@@ -2,7 +2,7 @@ ghost use Rattle.std.specs.Prelude.{◌↔◌, pos, ◌<ℤ◌, IsTrue};
 ghost use Rattle.geo_exact.specs.Turn.{turn as turn_of};
 ghost use Rattle.geo_exact.specs.Interiors.{InteriorsMeet};
 ghost use Rattle.ring_core.specs.Sums.{corners_of};
-ghost use Rattle.tri_overlap.specs.Separation.{NoEdgeSeparates, SeesSome};
+ghost use Rattle.tri_overlap.specs.Pairs.{NoEdgeSeparates, SeesSome};
 ghost use Rattle.tri_overlap.specs.Bounding.{HoldsMeeting};
 
 use crate::bounds::{Bounds, are_apart, bounds_of};

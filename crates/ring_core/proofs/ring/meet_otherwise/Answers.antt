@@ -2,7 +2,8 @@ use Rattle.std.proofs.Common.{◌≡◌, ◌∙◌, sym, ap, ℕ, ◌+◌, ◌<�
 use Rattle.std.proofs.lemmas.List.{get_or_read}
 use Rattle.geo_exact.specs.declared.corner.Corner.{Corner}
 use Rattle.ring_core.specs.Places.{corner_at, after, origin}
-use Rattle.ring_core.specs.Simple.{HaveCommonPoint, DoublesBack, MeetOtherwise}
+use Rattle.ring_core.specs.EdgePairs.{HaveCommonPoint, DoublesBack}
+use Rattle.ring_core.specs.Simple.{MeetOtherwise}
 use Rattle.ring_core.proofs.Neighbours.{following_meet, closing_meet, apart_meet}
 use Rattle.ring_core.proofs.RoundNumbers.{after_in, after_inner}
 use Rattle.ring_core.proofs.ring.meet_otherwise.Goals as goal
