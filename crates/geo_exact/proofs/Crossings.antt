@@ -57,14 +57,6 @@ crossing_back p a b =
     ap (crossed (le_z (b.y *ℤ p.d) p.y) (le_z (a.y *ℤ p.d) p.y)) (turn_at_back a b p)
     ∙ crossed_back (le_z (a.y *ℤ p.d) p.y) (le_z (b.y *ℤ p.d) p.y) (turn_at a b p)
 
-<<<<<<< HEAD
-crossed_level : (la : Bool) (t : ℤ) → crossed la la t ≡ pos 0
-crossed_level true t = refl
-crossed_level false t = refl
-
-pub crossing_same : (p : Point) (a : Corner) → crossing p a a ≡ pos 0
-crossing_same p a = crossed_level (le_z (a.y *ℤ p.d) p.y) (turn_at a a p)
-
 -- the crossing looks at one sign of the turn alone, and only where one end is above p and the other is not
 pub crossed_kept : (la lb : Bool) (t z : ℤ)
     → (la ≡ true → lb ≡ false → lt_z (pos 0) z ≡ lt_z (pos 0) t) → (la ≡ false → lb ≡ true → lt_z z (pos 0) ≡ lt_z t (pos 0))
@@ -74,8 +66,6 @@ crossed_kept true false t z h k = ap (λ b. if b then pos 1 else pos 0) (h refl 
 crossed_kept false true t z h k = ap (λ b. if b then negsuc 0 else pos 0) (k refl refl)
 crossed_kept false false t z h k = refl
 
-=======
->>>>>>> fixg
 level : (k s l t x z : ℤ) → k *ℤ s -ℤ l *ℤ t ≡ x *ℤ z → z ≡ pos 0 → k *ℤ s ≡ l *ℤ t
 level k s l t x z e h = omega (arith, ints, rw h at e)
 

@@ -199,11 +199,7 @@ off_line a b p apart e =
     (apart_small a.x b.x a.x_in_range b.x_in_range)
     (zero_factor p.d ((b.x -ℤ a.x) -ℤ (b.y -ℤ a.y) *ℤ steps p) p.d_positive
     (rest (turn_at a b p) (steps p *ℤ steps p) (p.d *ℤ ((b.x -ℤ a.x) -ℤ (b.y -ℤ a.y) *ℤ steps p)) (turn_at a b (moved p))
-<<<<<<< HEAD
     (moved_turn a b p) e (le_both (turn_at a b p) (pos 0) q r)))
-=======
-    (moved_turn a b p) e (level (turn_at a b p) q r)))
->>>>>>> fixg
     apart))
   where
     below : (t : ℤ) → t <ℤ pos 0 → t ≡ pos 0 → ⊥

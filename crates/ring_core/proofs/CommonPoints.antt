@@ -12,14 +12,9 @@ use Rattle.geo_exact.proofs.Signs.{mul_not_neg, not_neg_of_mul, mul_not_pos, mul
 use Rattle.geo_exact.proofs.Polynomials.{Expr, var, lit, add, mul, neg, same_by}
 use Rattle.geo_exact.proofs.TurnLaws.{turn_at_expr, turn_expr, turn_swap}
 use Rattle.geo_exact.proofs.CornerPoints.{on_edge_from_box}
-<<<<<<< HEAD
 use Rattle.geo_exact.proofs.Orders.{le_of_lt}
 use Rattle.geo_exact.proofs.OnEdge.{min_left, min_right, max_left, max_right, on_edge_back, on_edge_start}
-use Rattle.ring_core.specs.Simple.{HaveCommonPoint}
-=======
-use Rattle.geo_exact.proofs.OnEdge.{le_of_lt, min_left, min_right, max_left, max_right, on_edge_back, on_edge_start}
 use Rattle.ring_core.specs.EdgePairs.{HaveCommonPoint}
->>>>>>> fixg
 use Rattle.ring_core.proofs.EdgePoints.{AreOneSide, RangesOverlap}
 
 -- ---- the point that divides the edge from a to b as s to -t

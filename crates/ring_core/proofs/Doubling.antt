@@ -10,14 +10,9 @@ use Rattle.geo_exact.specs.Turn.{turn, turn_at, IsOnEdge}
 use Rattle.geo_exact.proofs.Signs.{zero_factor, zero_of_mul}
 use Rattle.geo_exact.proofs.Polynomials.{var, add, mul, neg, same_by}
 use Rattle.geo_exact.proofs.TurnLaws.{turn_at_expr, turn_expr, turn_cycle, turn_swap}
-<<<<<<< HEAD
 use Rattle.geo_exact.proofs.Orders.{le_of_lt, le_both}
 use Rattle.geo_exact.proofs.OnEdge.{min_left, min_swap, max_left, max_swap, on_edge_back, on_edge_start, on_edge_end}
-use Rattle.ring_core.specs.Simple.{DoublesBack}
-=======
-use Rattle.geo_exact.proofs.OnEdge.{le_of_lt, min_left, min_swap, max_left, max_swap, on_edge_back, on_edge_start, on_edge_end}
 use Rattle.ring_core.specs.EdgePairs.{DoublesBack}
->>>>>>> fixg
 use Rattle.ring_core.proofs.CommonPoints.{on_edge_by_x, on_edge_by_y}
 
 -- one of the ends lies on the other edge, and not at b
