@@ -4,10 +4,12 @@ use Rattle.std.specs.Bool.{Decides}
 use Rattle.std.specs.Ordering.{int_eq}
 use Rattle.std.specs.Int.{int_min, int_max}
 use Rattle.std.proofs.lemmas.Int.{ints, clamps, by_lt_z}
+use Rattle.std.proofs.lemmas.Bool.{false≢true}
 use Rattle.std.proofs.lemmas.Bool.Decides.{Decides-int_eq, Decides-and, Decides-or, Decides-not, Decides-like, same_from_decides}
 use lib.Signed.{◌<ℤ◌, ◌≤ℤ◌, lt_z, le_z}
 use Rattle.geo_exact.specs.declared.corner.Corner.{Corner}
-use Rattle.geo_exact.specs.Turn.{turn}
+use Rattle.geo_exact.specs.Point.{corner_point}
+use Rattle.geo_exact.specs.Turn.{turn, IsOnEdge}
 use Rattle.geo_exact.proofs.Signs.{mul_not_neg}
 use Rattle.geo_exact.proofs.TurnLaws.{turn_at_corner}
 use Rattle.geo_exact.proofs.Differences.{expand}
@@ -29,12 +31,16 @@ Decides-is_between u v z = Decides-and (le_z (int_min u v) z) (le_z z (int_max u
 abbrev pub Inside : Corner → Corner → Corner → Type 0
 Inside c a b = (IsBetween a.x b.x c.x × IsBetween a.y b.y c.y) × ((turn a b c ≡ pos 0) × ((c ≢ a) × (c ≢ b)))
 
+Decides-no_end : (c a b : Corner) → Decides (not (is_same c a) && not (is_same c b)) ((c ≢ a) × (c ≢ b))
+Decides-no_end c a b =
+    Decides-and (not (is_same c a)) (not (is_same c b)) (Decides-not (is_same c a) (Decides-is_same c a)) (Decides-not (is_same c b) (Decides-is_same c b))
+
 Decides-parts : (c a b : Corner) → Decides (is_inside c a b) (Inside c a b)
 Decides-parts c a b =
     Decides-and (is_between a.x b.x c.x && is_between a.y b.y c.y) (int_eq (turn a b c) (pos 0) && (not (is_same c a) && not (is_same c b)))
     (Decides-and (is_between a.x b.x c.x) (is_between a.y b.y c.y) (Decides-is_between a.x b.x c.x) (Decides-is_between a.y b.y c.y))
     (Decides-and (int_eq (turn a b c) (pos 0)) (not (is_same c a) && not (is_same c b)) (Decides-int_eq (turn a b c) (pos 0))
-    (Decides-and (not (is_same c a)) (not (is_same c b)) (Decides-not (is_same c a) (Decides-is_same c a)) (Decides-not (is_same c b) (Decides-is_same c b))))
+    (Decides-no_end c a b))
 
 pub inside_from_strictly : (c a b : Corner) → IsStrictlyInside c a b → Inside c a b
 inside_from_strictly c a b h = (
@@ -60,6 +66,17 @@ strictly_from_inside c a b h = record {
 
 pub Decides-is_inside : (c a b : Corner) → Decides (is_inside c a b) (IsStrictlyInside c a b)
 Decides-is_inside c a b = Decides-like (is_inside c a b) (strictly_from_inside c a b) (inside_from_strictly c a b) (Decides-parts c a b)
+
+-- the test for a corner on the edge, and for one off it
+pub inside_on_edge : (c a b : Corner) (t : Bool) → t ≡ (not (is_same c a) && not (is_same c b)) → IsOnEdge (corner_point c) a b → t ≡ is_inside c a b
+inside_on_edge c a b t e o =
+    e ∙ same_from_decides (not (is_same c a) && not (is_same c b)) (is_inside c a b)
+    (Decides-like (not (is_same c a) && not (is_same c b)) (λ h. record { on_edge = o; not_start = h.0; not_end = h.1 }) (λ h. (h.not_start, h.not_end))
+    (Decides-no_end c a b))
+    (Decides-is_inside c a b)
+
+pub inside_off_edge : (c a b : Corner) (t : Bool) → (IsOnEdge (corner_point c) a b → t ≡ true) → t ≡ false → t ≡ is_inside c a b
+inside_off_edge c a b t k e = e ∙ sym (false_where (is_inside c a b) (Decides-is_inside c a b) (λ h. false≢true (sym e ∙ k h.on_edge)))
 
 -- ---- boxes
 -- a product is between those at the ends
@@ -116,12 +133,6 @@ pub none_apart_y : (bounds : Bounds) (a b : Corner) → AreApart bounds.low.y bo
     → is_inside c a b ≡ false
 none_apart_y bounds a b h c k = false_where (is_inside c a b) (Decides-parts c a b)
     (λ i. not_in_both bounds.low.y bounds.high.y a.y b.y c.y h k.from_y k.to_y i.0.1)
-
--- numbers are equal where their difference is 0, and the tests say so alike
-pub int_eq-difference : (p q : ℤ) → int_eq (p -ℤ q) (pos 0) ≡ int_eq p q
-int_eq-difference p q = same_from_decides (int_eq (p -ℤ q) (pos 0)) (int_eq p q)
-    (Decides-like (int_eq (p -ℤ q) (pos 0)) (λ e. omega (arith, ints)) (λ e. omega (arith, ints)) (Decides-int_eq (p -ℤ q) (pos 0)))
-    (Decides-int_eq p q)
 
 Decides-apart : (u v w z : ℤ) → Decides (lt_z (int_max u v) (int_min w z) || lt_z (int_max w z) (int_min u v)) (AreApart u v w z)
 Decides-apart u v w z = Decides-or (lt_z (int_max u v) (int_min w z)) (lt_z (int_max w z) (int_min u v)) (Decides-int_lt (int_max u v) (int_min w z))

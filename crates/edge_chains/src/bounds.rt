@@ -1,12 +1,10 @@
-ghost use Rattle.std.specs.Prelude.{◌≡◌, ℤ, pos, ◌-ℤ◌, ◌*ℤ◌, int_lt, ◌&&◌, ◌||◌, IsTrue, false, not};
+ghost use Rattle.std.specs.Prelude.{◌≡◌, ℤ, ◌-ℤ◌, ◌*ℤ◌, int_lt, ◌&&◌, ◌||◌, IsTrue, false, not};
 ghost use Rattle.std.specs.Int.{int_min, int_max};
-ghost use Rattle.std.specs.Ordering.{int_eq};
 ghost use Rattle.geo_exact.specs.Limit.{IsWithin, limit};
-ghost use Rattle.geo_exact.specs.Turn.{turn};
 ghost use Rattle.edge_chains.specs.Net.{is_same};
-ghost use Rattle.edge_chains.specs.Inside.{is_inside, is_between, is_from_to, is_in_bounds, IsInBounds};
+ghost use Rattle.edge_chains.specs.Inside.{is_inside, is_from_to, is_in_bounds, IsInBounds};
 
-use geo_exact::Corner;
+use geo_exact::{Corner, on_segment};
 
 /// A box whose sides are along the axes, from its lower left corner to its upper right one.
 #[derive(Clone, Copy)]
@@ -137,55 +135,20 @@ fn upper(a: Corner, b: Corner) -> Corner
 pub(crate) fn is_strictly_inside(corner: Corner, a: Corner, b: Corner) -> bool
     ensures { result ≡ is_inside corner a b }
 {
-    is_in_box(corner, a, b) && is_along(corner, a, b)
+    on_segment(a, b, corner) && is_no_end(corner, a, b)
 }
 
-/// Whether a corner is in the box of a and b.
-fn is_in_box(corner: Corner, a: Corner, b: Corner) -> bool
-    ensures { result ≡ (is_between a.x b.x corner.x && is_between a.y b.y corner.y) }
-{
-    is_within(a.x, b.x, corner.x) && is_within(a.y, b.y, corner.y)
-}
-
-/// Whether a corner is on the line through a and b, and is neither.
-fn is_along(corner: Corner, a: Corner, b: Corner) -> bool
-    ensures { result ≡ (int_eq (turn a b corner) (pos 0) && (not (is_same corner a) && not (is_same corner b))) }
-{
-    is_on_line(corner, a, b) && is_no_end(corner, a, b)
-}
-
+/// Whether a corner is neither a nor b.
 fn is_no_end(corner: Corner, a: Corner, b: Corner) -> bool
     ensures { result ≡ (not (is_same corner a) && not (is_same corner b)) }
 {
     differs(corner, a) && differs(corner, b)
 }
 
-/// Whether a corner is on the line through a and b.
-fn is_on_line(corner: Corner, a: Corner, b: Corner) -> bool
-    ensures { result ≡ int_eq (turn a b corner) (pos 0) }
-{
-    are_equal(
-        product(difference(b.x, a.x), difference(corner.y, a.y)),
-        product(difference(b.y, a.y), difference(corner.x, a.x)),
-    )
-}
-
-fn are_equal(u: i128, v: i128) -> bool
-    ensures { result ≡ int_eq u v }
-{
-    u == v
-}
-
 fn differs(a: Corner, b: Corner) -> bool
     ensures { result ≡ not (is_same a b) }
 {
     a != b
-}
-
-fn is_within(u: i64, v: i64, z: i64) -> bool
-    ensures { result ≡ is_between u v z }
-{
-    u.min(v) <= z && z <= u.max(v)
 }
 
 /// Whether no number is between u and v and also between w and z.
