@@ -8,7 +8,7 @@ use Rattle.std.proofs.Math.Nat.{pow-le-pow_right, mul-le-mul_right, mul-lt-mul_o
 use Rattle.std.proofs.lemmas.Int.{ints}
 use Rattle.std.proofs.lemmas.Nat.{leading_top, pow-add, pow_pos}
 use Rattle.geo_exact.specs.declared.coord.Unit.TheVariants.{Cm}
-use Rattle.geo_exact.specs.Doubles.{highest_place, whole_exponent, whole_fraction, whole_bits, bits_of}
+use Rattle.geo_exact.specs.Doubles.{highest_bit, whole_exponent, whole_fraction, whole_bits, bits_of}
 use Rattle.geo_exact.specs.Grid.{sign_bit, exponent_field, fraction_field, magnitude, scaled_value, IsOnGrid, coordinate}
 use Rattle.geo_exact.specs.Limit.{IsWithin, limit}
 use Rattle.geo_exact.proofs.Differences.{neg-mul}
@@ -26,10 +26,10 @@ place_below n t h k = elim (cases_lt 52 t) [
   | inr q ↦ q
 ]
 
-pub highest_is : (n : ℕ) → 0 < n → n < 2 ^ 53 → IsHighest n (highest_place n)
+pub highest_is : (n : ℕ) → 0 < n → n < 2 ^ 53 → IsHighest n (highest_bit n)
 highest_is n some small =
     let top = leading_top 64 n some (omega arith) in
-    let same : highest_place n ≡ top.0 = omega (arith, top.1) in
+    let same : highest_bit n ≡ top.0 = omega (arith, top.1) in
     let next : suc top.0 ≡ top.0 + 1 = omega arith in
     rw same (record { low = top.2; high = rw next at top.3; bound = place_below n top.0 top.2 small })
 
@@ -77,7 +77,7 @@ record IsWhole (s n bits : ℕ) : Type 0 where
 whole_is : (s n : ℕ) → 0 < n → n < 2 ^ 53 → IsWhole s n (s * 2 ^ 63 + (whole_exponent n * 2 ^ 52 + whole_fraction n))
 whole_is s n some small =
     let is = highest_is n some small in
-    let t = highest_place n in
+    let t = highest_bit n in
     let low = moved_low n t is.low is.bound in
     let high = moved_high n t is.high is.bound in
     let exponent : exponent_field (s * 2 ^ 63 + (whole_exponent n * 2 ^ 52 + whole_fraction n)) ≡ whole_exponent n =
@@ -167,7 +167,7 @@ whole_bits_fit : (n : ℕ) → n < 2 ^ 53 → whole_bits n < 2 ^ 63
 whole_bits_fit zero small = rw (← no_bits) (lit< tt)
 whole_bits_fit (suc m) small =
     let is = highest_is (suc m) (omega arith) small in
-    let high = moved_high (suc m) (highest_place (suc m)) is.high is.bound in
+    let high = moved_high (suc m) (highest_bit (suc m)) is.high is.bound in
     rw (whole_bits_of (suc m) (omega arith)) (omega (arith, is.bound, high))
 
 pub bits_fit : (k : ℤ) → IsWithin limit k → bits_of k < 2 ^ 64

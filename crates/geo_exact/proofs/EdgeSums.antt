@@ -4,7 +4,7 @@ use Rattle.std.proofs.lemmas.Int.{ints}
 use Rattle.std.proofs.lemmas.List.{reverse-append}
 use lib.IntN.{ℤ, ◌+ℤ◌, neg_ℤ}
 use Rattle.geo_exact.specs.declared.corner.Corner.{Corner}
-use Rattle.geo_exact.specs.Rings.{Edge, path, edges, sum_over, rotated, turned_round}
+use Rattle.geo_exact.specs.Rings.{Edge, path, edges, sum_over, turned_round}
 
 -- the edge from a to b
 abbrev pub edge_of : Corner → Corner → Edge
@@ -39,12 +39,6 @@ path-join from m to (x ∷ xs) ys = ap (λ es. edge_of from x ∷ es) (path-join
 pub sum_over-path : (measure : Edge → ℤ) (from m to : Corner) (xs ys : List Corner)
     → sum_over measure (path from (xs ++ m ∷ ys) to) ≡ sum_over measure (path from xs m) +ℤ sum_over measure (path m ys to)
 sum_over-path measure from m to xs ys = ap (sum_over measure) (path-join from m to xs ys) ∙ sum_over-append measure (path from xs m) (path m ys to)
-
--- a ring has no first corner
-pub sum_over-rotated : (measure : Edge → ℤ) (ring : List Corner) → sum_over measure (edges (rotated ring)) ≡ sum_over measure (edges ring)
-sum_over-rotated measure [] = refl
-sum_over-rotated measure (a ∷ []) = refl
-sum_over-rotated measure (a ∷ b ∷ rest) = omega (arith, ints, sum_over-path measure b a b rest [])
 
 -- a path walked back has the same edges, each the other way
 pub sum_over-back : (measure : Edge → ℤ) (from to : Corner) (xs : List Corner)

@@ -1,5 +1,5 @@
 -- A point moved a little, off every line through two corners, with everything else about it kept.
-use Rattle.std.proofs.Common.{◌≡◌, ◌∙◌, sym, ap, refl, arith, true, false, List, [], ◌∷◌, inl, inr}
+use Rattle.std.proofs.Common.{◌≡◌, ◌∙◌, sym, ap, refl, arith, true, false, List, [], ◌∷◌, inl, inr, ◌*◌}
 use Rattle.std.proofs.lemmas.Int.{ints, by_lt_z, clamps}
 use Rattle.std.specs.Int.{int_min, int_max}
 use lib.IntN.{ℤ, pos, negsuc, ◌+ℤ◌, ◌-ℤ◌, ◌*ℤ◌, neg_ℤ, *ℤ_comm}
@@ -10,7 +10,7 @@ use Rattle.geo_exact.specs.Rings.{Edge, edges}
 use Rattle.geo_exact.specs.Turn.{turn_at, IsOnEdge, IsOnSome}
 use Rattle.geo_exact.specs.Winding.{is_not_above, crossing, crossings, winding, IsInterior}
 use Rattle.geo_exact.specs.Interiors.{InteriorsMeet}
-use Rattle.geo_exact.specs.Limit.{IsWithin}
+use Rattle.geo_exact.specs.Limit.{IsWithin, limit}
 use Rattle.geo_exact.proofs.Differences.{expand}
 use Rattle.geo_exact.proofs.Signs.{zero_factor, mul_pos, mul_neg, mul_le, mul_lt}
 use Rattle.geo_exact.proofs.Polynomials.{var, add, mul, neg, same_by}
@@ -92,16 +92,16 @@ not_level r n w h hr hn hw e apart =
 -- ---- the moved point
 -- n, so large that no line through two corners lies between p and its neighbour at the distance 1 / n
 abbrev steps : Point → ℤ
-steps p = p.d *ℤ (pos 20000000000 +ℤ pos 20000000000) +ℤ pos 1
+steps p = p.d *ℤ (pos (2 * limit) +ℤ pos (2 * limit)) +ℤ pos 1
 
 last_step : (z : ℤ) → z <ℤ (z +ℤ pos 1)
 last_step z = omega (arith, ints)
 
-steps_far : (p : Point) → (p.d *ℤ (pos 20000000000 +ℤ pos 20000000000)) <ℤ steps p
-steps_far p = last_step (p.d *ℤ (pos 20000000000 +ℤ pos 20000000000))
+steps_far : (p : Point) → (p.d *ℤ (pos (2 * limit) +ℤ pos (2 * limit))) <ℤ steps p
+steps_far p = last_step (p.d *ℤ (pos (2 * limit) +ℤ pos (2 * limit)))
 
-steps_least : (p : Point) → (p.d <ℤ steps p) × (pos 20000000000 <ℤ steps p) × (pos 0 <ℤ steps p)
-steps_least p = least p.d (pos 20000000000) (steps p) p.d_positive (omega (arith, ints)) (steps_far p)
+steps_least : (p : Point) → (p.d <ℤ steps p) × (pos (2 * limit) <ℤ steps p) × (pos 0 <ℤ steps p)
+steps_least p = least p.d (pos (2 * limit)) (steps p) p.d_positive (omega (arith, ints)) (steps_far p)
 
 square_pos : (p : Point) → pos 0 <ℤ (steps p *ℤ steps p)
 square_pos p = mul_pos (steps p) (steps p) (steps_least p).2 (steps_least p).2
@@ -167,14 +167,14 @@ moved_off_height a p =
     other_height (a.y *ℤ p.d) p.y (steps p *ℤ steps p) p.d (a.y *ℤ (moved p).d) (moved p).y (height_moved a p) p.d_positive
     (square_far p.d (steps p) (steps_least p).0 (steps_least p).2)
 
-apart_small : (u v : ℤ) → IsWithin 10000000000 u → IsWithin 10000000000 v → IsSmall (pos 20000000000) (v -ℤ u)
+apart_small : (u v : ℤ) → IsWithin limit u → IsWithin limit v → IsSmall (pos (2 * limit)) (v -ℤ u)
 apart_small u v h k = record { low = omega (arith, ints, h.high, k.low); high = omega (arith, ints, h.low, k.high) }
 
 turn_drift : (a b : Corner) (p : Point)
     → (neg_ℤ (steps p *ℤ steps p) <ℤ (p.d *ℤ ((b.x -ℤ a.x) -ℤ (b.y -ℤ a.y) *ℤ steps p)))
     × ((p.d *ℤ ((b.x -ℤ a.x) -ℤ (b.y -ℤ a.y) *ℤ steps p)) <ℤ (steps p *ℤ steps p))
 turn_drift a b p =
-    drift p.d (pos 20000000000) (steps p) (b.x -ℤ a.x) (b.y -ℤ a.y) p.d_positive (omega (arith, ints)) (steps_far p)
+    drift p.d (pos (2 * limit)) (steps p) (b.x -ℤ a.x) (b.y -ℤ a.y) p.d_positive (omega (arith, ints)) (steps_far p)
     (apart_small a.x b.x a.x_in_range b.x_in_range)
     (apart_small a.y b.y a.y_in_range b.y_in_range)
 
@@ -195,7 +195,7 @@ off_line a b p apart e =
     (λ q. positive_not_zero (turn_at a b (moved p)) (moved_left a b p q) e)
     (λ q. by_lt_z (turn_at a b p) (pos 0)
     (λ r. below (turn_at a b (moved p)) (moved_right a b p r) e)
-    (λ r. not_level (pos 20000000000) (steps p) (b.x -ℤ a.x) (b.y -ℤ a.y) (steps_least p).1 (steps_least p).2
+    (λ r. not_level (pos (2 * limit)) (steps p) (b.x -ℤ a.x) (b.y -ℤ a.y) (steps_least p).1 (steps_least p).2
     (apart_small a.x b.x a.x_in_range b.x_in_range)
     (zero_factor p.d ((b.x -ℤ a.x) -ℤ (b.y -ℤ a.y) *ℤ steps p) p.d_positive
     (rest (turn_at a b p) (steps p *ℤ steps p) (p.d *ℤ ((b.x -ℤ a.x) -ℤ (b.y -ℤ a.y) *ℤ steps p)) (turn_at a b (moved p))
@@ -268,12 +268,12 @@ rises u v y d hd h k = by_lt_z u v (λ p. p) (λ p. omega (arith, ints, mul_le v
 
 moved_from_up : (a b : Corner) (p : Point) → a.y <ℤ b.y → turn_at a b p ≡ pos 0 → turn_at a b (moved p) <ℤ pos 0
 moved_from_up a b p h =
-    goes_right (pos 20000000000) (turn_at a b p) (steps p *ℤ steps p) p.d (steps p) (b.x -ℤ a.x) (b.y -ℤ a.y) (turn_at a b (moved p)) (moved_turn a b p)
+    goes_right (pos (2 * limit)) (turn_at a b p) (steps p *ℤ steps p) p.d (steps p) (b.x -ℤ a.x) (b.y -ℤ a.y) (turn_at a b (moved p)) (moved_turn a b p)
     p.d_positive (steps_least p).1 (steps_least p).2 (apart_small a.x b.x a.x_in_range b.x_in_range) (omega (arith, ints, h))
 
 moved_from_down : (a b : Corner) (p : Point) → b.y <ℤ a.y → turn_at a b p ≡ pos 0 → pos 0 <ℤ turn_at a b (moved p)
 moved_from_down a b p h =
-    goes_left (pos 20000000000) (turn_at a b p) (steps p *ℤ steps p) p.d (steps p) (b.x -ℤ a.x) (b.y -ℤ a.y) (turn_at a b (moved p)) (moved_turn a b p)
+    goes_left (pos (2 * limit)) (turn_at a b p) (steps p *ℤ steps p) p.d (steps p) (b.x -ℤ a.x) (b.y -ℤ a.y) (turn_at a b (moved p)) (moved_turn a b p)
     p.d_positive (steps_least p).1 (steps_least p).2 (apart_small a.x b.x a.x_in_range b.x_in_range) (omega (arith, ints, h))
 
 is_above : (u v : ℤ) → le_z u v ≡ false → v <ℤ u

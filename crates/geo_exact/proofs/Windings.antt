@@ -1,13 +1,14 @@
 -- Winding numbers and areas of rings: begun at the second corner, turned round, and with a corner more on an edge.
-use Rattle.std.proofs.Common.{◌≡◌, List, ◌∷◌, ◌++◌}
+use Rattle.std.proofs.Common.{◌≡◌, ℕ, ◌≤◌, List, ◌∷◌, ◌++◌, length}
 use lib.IntN.{ℤ, neg_ℤ}
 use Rattle.geo_exact.specs.declared.corner.Corner.{Corner}
 use Rattle.geo_exact.specs.Point.{Point}
-use Rattle.geo_exact.specs.Rings.{Edge, rotated, turned_round}
+use Rattle.geo_exact.specs.Rings.{Edge, begun_at, turned_round}
 use Rattle.geo_exact.specs.Turn.{IsOnEdge}
 use Rattle.geo_exact.specs.Winding.{crossing, winding}
 use Rattle.geo_exact.specs.Area.{edge_area2, area2}
-use Rattle.geo_exact.proofs.EdgeSums.{sum_over-rotated, sum_over-turned_sign, sum_over-inserts}
+use Rattle.geo_exact.proofs.EdgeSums.{sum_over-turned_sign, sum_over-inserts}
+use Rattle.geo_exact.proofs.Begun.{sum_over-begun}
 use Rattle.geo_exact.proofs.TurnLaws.{corner_point}
 use Rattle.geo_exact.proofs.Crossings.{crossing_back, crossing_cut, edge_area2_back, edge_area2_cut}
 
@@ -15,11 +16,11 @@ use Rattle.geo_exact.proofs.Crossings.{crossing_back, crossing_cut, edge_area2_b
 abbrev pub crossing_of : Point → Edge → ℤ
 crossing_of p edge = crossing p edge.from edge.to
 
-pub winding_rotated : (p : Point) (ring : List Corner) → winding p (rotated ring) ≡ winding p ring
-winding_rotated p = sum_over-rotated (crossing_of p)
+pub winding_begun : (k : ℕ) (p : Point) (ring : List Corner) → k ≤ length ring → winding p (begun_at k ring) ≡ winding p ring
+winding_begun k p = sum_over-begun (crossing_of p) k
 
-pub area2_rotated : (ring : List Corner) → area2 (rotated ring) ≡ area2 ring
-area2_rotated = sum_over-rotated edge_area2
+pub area2_begun : (k : ℕ) (ring : List Corner) → k ≤ length ring → area2 (begun_at k ring) ≡ area2 ring
+area2_begun = sum_over-begun edge_area2
 
 pub winding_turned_round : (p : Point) (ring : List Corner) → winding p (turned_round ring) ≡ neg_ℤ (winding p ring)
 winding_turned_round p ring = sum_over-turned_sign (crossing_of p) ring (λ edge. crossing_back p edge.from edge.to)

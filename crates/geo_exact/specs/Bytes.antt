@@ -1,5 +1,5 @@
 -- What a reader or a writer does to the bytes that it tells of, and to its count of failures (this product's own streams, over Read and Write of std).
-use Rattle.std.specs.Prelude.{◌≡◌, ℕ, ◌+◌, ◌-◌, ◌^◌, ◌<◌, min, List, length, take, Option, Result, Ok, Err}
+use Rattle.std.specs.Prelude.{◌≡◌, ◌≢◌, ℕ, ◌+◌, ◌-◌, ◌^◌, ◌<◌, min, List, length, take, Option, Result, Ok, Err, IsErr}
 use Rattle.std.specs.Io.KnownBytes.{Consumes, Appends, Keeps, IsAtEnd}
 
 -- the count after one more failure: at the greatest number it stays
@@ -25,3 +25,9 @@ Pulls old new (Err failed) buffer = Keeps old new
 abbrev pub Puts : {E : Type 0} → Option (List ℕ) → Option (List ℕ) → Result ℕ E → List ℕ → Type 0
 Puts old new (Ok n) bytes = Appends old new (take n bytes)
 Puts old new (Err failed) bytes = Keeps old new
+
+-- A call of a stream that fails at one call, from now on the one of this number: that one fails and leaves all as it was, and another is
+-- passed on.
+pub record FailsOrPassesOn {E : Type 0} (call : ℕ) (answer : Result ℕ E) (Leaves PassesOn : Type 0) : Type 0 where
+  pub fails : call ≡ 1 → IsErr answer × Leaves
+  pub passes_on : call ≢ 1 → PassesOn

@@ -1,10 +1,16 @@
 pub mod Limit
 pub mod Point
+pub mod Order
 pub mod Rings
+pub mod Places
+pub mod First
 pub mod Turn
+pub mod Segments
+pub mod Bounds
 pub mod Winding
 pub mod Area
 pub mod Interiors
 pub mod Grid
 pub mod Doubles
 pub mod Bytes
+pub mod Layers

@@ -1,8 +1,9 @@
 -- Rings as lists of corners, and their edges (OGC 06-103r4, 6.1.7, LinearRing; Technical Description, July 1998, "Polygon").
 -- Both write the first corner once more at the end, and here it is not repeated; a list need not be simple, nor have three corners.
-use Rattle.std.specs.Prelude.{◌≢◌, ℤ, pos, ◌+ℤ◌, List, [], ◌∷◌, ◌++◌, reverse}
-use Rattle.std.specs.List.{AllByRecursion}
+use Rattle.std.specs.Prelude.{◌≢◌, ℕ, ℤ, pos, ◌+ℤ◌, List, [], ◌∷◌, ◌++◌, reverse, take, drop}
+use Rattle.std.specs.List.{AllByRecursion, position_or_len}
 use Rattle.geo_exact.specs.declared.corner.Corner.{Corner}
+use Rattle.geo_exact.specs.Order.{is_least}
 
 -- the directed edge from one corner to another
 pub record Edge : Type 0 where
@@ -24,10 +25,13 @@ abbrev pub sum_over : (Edge → ℤ) → List Edge → ℤ
 sum_over measure [] = pos 0
 sum_over measure (edge ∷ rest) = measure edge +ℤ sum_over measure rest
 
--- the same ring, begun at its second corner
-abbrev pub rotated : List Corner → List Corner
-rotated [] = []
-rotated (first ∷ rest) = rest ++ first ∷ []
+-- the same round list, begun at its item k, from 0: the items before it come last
+abbrev pub begun_at : {X : Type 0} → ℕ → List X → List X
+begun_at k items = drop k items ++ take k items
+
+-- the same ring, begun at its least corner, by x and then by y: where that corner comes more than once, at the first of its places
+abbrev pub begun_at_least : List Corner → List Corner
+begun_at_least ring = begun_at (position_or_len (is_least ring) ring) ring
 
 -- the ring turned round, with its first corner kept first
 abbrev pub turned_round : List Corner → List Corner
@@ -35,5 +39,5 @@ turned_round [] = []
 turned_round (first ∷ rest) = first ∷ reverse rest
 
 -- no two neighbours of the ring are equal
-abbrev pub AreApart : List Corner → Type 0
-AreApart ring = AllByRecursion (λ edge. edge.from ≢ edge.to) (edges ring)
+abbrev pub HasNoRepeats : List Corner → Type 0
+HasNoRepeats ring = AllByRecursion (λ edge. edge.from ≢ edge.to) (edges ring)

@@ -3,7 +3,7 @@ ghost use Rattle.geo_exact.specs.Grid.{IsOnGrid, IsCoordFault, coordinate, size_
 ghost use Rattle.geo_exact.specs.Grid.{centimetres as centimetres_of, exponent_field, magnitude};
 ghost use Rattle.geo_exact.specs.Limit.{IsWithin, limit};
 
-use crate::corner::LIMIT;
+use crate::limits::LIMIT;
 
 /// The unit in which a file's coordinates are meant.
 #[derive(Clone, Copy, Debug, PartialEq, Eq)]

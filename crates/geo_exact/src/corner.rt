@@ -1,8 +1,7 @@
 ghost use Rattle.std.specs.Prelude.{◌≡◌, ◌↔◌, IsSome, IfSome};
 ghost use Rattle.geo_exact.specs.Limit.{IsWithin, limit};
 
-/// The greatest distance of a coordinate from 0, in centimetres.
-pub const LIMIT: i64 = 10_000_000_000;
+use crate::limits::LIMIT;
 
 /// A corner of a ring: a place in whole centimetres, each coordinate at most [`LIMIT`] away from 0.
 ///

@@ -1,17 +1,28 @@
-ghost use Rattle.std.specs.Prelude.{◌≡◌, ◌⊎◌, ◌↔◌, pos, neg_ℤ, ◌<ℤ◌, List, [], ◌∷◌, ◌++◌};
+ghost use Rattle.std.specs.List.{AllByRecursion};
+ghost use Rattle.std.specs.Prelude.{◌≡◌, ◌⊎◌, ◌↔◌, ℕ, ◌≤◌, pos, neg_ℤ, ◌<ℤ◌, List, [], ◌∷◌, ◌++◌, length};
 ghost use Rattle.geo_exact.specs.declared.corner.Corner.{Corner};
 ghost use Rattle.geo_exact.specs.Point.{Point, corner_point};
-ghost use Rattle.geo_exact.specs.Rings.{rotated, turned_round};
-ghost use Rattle.geo_exact.specs.Turn.{turn, turn_at, IsOnEdge};
+ghost use Rattle.geo_exact.specs.Order.{IsBefore};
+ghost use Rattle.geo_exact.specs.Rings.{begun_at, begun_at_least, edges as edges_of, path, turned_round};
+ghost use Rattle.geo_exact.specs.Segments.{IsOnSegment};
+ghost use Rattle.geo_exact.specs.Turn.{turn, turn_at, IsOnEdge, IsOnRing, IsOnSome};
 ghost use Rattle.geo_exact.specs.Winding.{winding, IsInterior};
 ghost use Rattle.geo_exact.specs.Area.{area2};
 
-/// A ring has no first corner: begun at its second corner it has the same winding number round
-/// every point, and the same signed area.
-#[tactic(auto, using(crate::proofs::Windings::winding_rotated, crate::proofs::Windings::area2_rotated))]
+/// A ring has no first corner: begun at another corner it has the same edges, begun there too, and so the same winding
+/// number round every point, the same signed area and the same boundary.
 pub fn a_ring_has_no_first_corner()
-    ensures winding_number { (p : Point) (ring : List Corner) → winding p (rotated ring) ≡ winding p ring }
-    ensures signed_area { (ring : List Corner) → area2 (rotated ring) ≡ area2 ring }
+    ensures edges { (k : ℕ) (ring : List Corner) → k ≤ length ring → edges_of (begun_at k ring) ≡ begun_at k (edges_of ring) }
+    ensures winding_number { (k : ℕ) (p : Point) (ring : List Corner) → k ≤ length ring
+        → winding p (begun_at k ring) ≡ winding p ring }
+    ensures signed_area { (k : ℕ) (ring : List Corner) → k ≤ length ring → area2 (begun_at k ring) ≡ area2 ring }
+    ensures boundary { (k : ℕ) (p : Point) (ring : List Corner) → k ≤ length ring
+        → IsOnRing p (begun_at k ring) ↔ IsOnRing p ring }
+{}
+
+/// A ring begun at its least corner is the ring begun at one of its corners.
+pub fn a_ring_is_begun_at_a_corner_of_it()
+    ensures { (ring : List Corner) → (k : ℕ) × (k ≤ length ring) × (begun_at_least ring ≡ begun_at k ring) }
 {}
 
 /// A ring turned round, its first corner kept first, has the opposite winding number round every
@@ -58,4 +69,24 @@ pub fn the_interior_of_a_triangle_is_left_of_its_edges()
     ensures interior { (a b c : Corner) (p : Point) → pos 0 <ℤ turn a b c
         → IsInterior p (a ∷ b ∷ c ∷ [])
         ↔ ((pos 0 <ℤ turn_at a b p) × (pos 0 <ℤ turn_at b c p) × (pos 0 <ℤ turn_at c a p)) }
+{}
+
+/// Along a way that meets no edge of a ring its winding number stays: where no point of the segment
+/// from p to q is on the ring, the ring goes round q as often as round p.
+#[tactic(auto, using(crate::proofs::Ways::winding_along))]
+pub fn a_way_off_the_ring_keeps_its_winding_number()
+    ensures winding_number { (p q : Point) (ring : List Corner)
+        → ((m : Point) → IsOnSegment m p q → ¬ IsOnRing m ring)
+        → winding p ring ≡ winding q ring }
+{}
+
+/// A ring that turns left at its least corner v, which comes before all others by x and then by y,
+/// does not go round a corner c that v sees outside: c comes after v, the segment from v to c meets
+/// no edge that is not at v, and c is not between the two edges at v.
+pub fn a_ring_does_not_go_round_what_its_least_corner_sees_outside()
+    ensures { (v n p c : Corner) (between : List Corner)
+        → IsBefore v n → AllByRecursion (IsBefore v) between → IsBefore v p → IsBefore v c
+        → ((m : Point) → IsOnSegment m (corner_point v) (corner_point c) → ¬ IsOnSome m (path n between p))
+        → pos 0 <ℤ turn p v n → ((turn v n c <ℤ pos 0) ⊎ (turn p v c <ℤ pos 0))
+        → winding (corner_point c) (v ∷ n ∷ (between ++ p ∷ [])) ≡ pos 0 }
 {}

@@ -3,19 +3,22 @@
 #![tactic(auto)]
 
 mod area;
+mod bounds;
 mod bytes;
 mod coord;
 mod corner;
+mod corners;
 mod laws;
+mod limits;
+mod order;
 mod orientation;
 mod products;
 mod raw_ring;
 mod segment;
-#[cfg(test)]
-mod tests;
 mod write;
 
 pub use area::area2;
+pub use bounds::{Bounds, edge_boxes_meet};
 pub use bytes::counted::Counted;
 pub use bytes::fail_at::FailAt;
 pub use bytes::{ByteIn, ByteOut, Failed};
@@ -23,13 +26,19 @@ pub use coord::{
     CoordFault, Unit, coordinate_faults_are_exact, coordinates_are_on_the_grid,
     one_centimetre_fits, read_coord,
 };
-pub use corner::{Corner, LIMIT};
+pub use corner::Corner;
+pub use corners::Corners;
 pub use laws::{
     a_corner_on_an_edge_changes_nothing, a_corner_turns_as_its_place, a_ring_has_no_first_corner,
-    a_ring_turned_round_has_the_opposite_orientation, a_triangle_winds_once_round_its_inside,
-    the_interior_of_a_triangle_is_left_of_its_edges,
+    a_ring_is_begun_at_a_corner_of_it, a_ring_turned_round_has_the_opposite_orientation,
+    a_triangle_winds_once_round_its_inside, the_interior_of_a_triangle_is_left_of_its_edges,
 };
+pub use limits::{
+    COUNTED_EDGES, FILE_BYTES, LAYER_CORNERS, LAYER_RECORDS, LIMIT, LIST_CORNERS, RING_CORNERS,
+};
+pub use order::comes_before;
 pub use orientation::turn;
-pub use raw_ring::{Corners, RawRing};
+pub use products::wide_product;
+pub use raw_ring::RawRing;
 pub use segment::on_segment;
 pub use write::write_coord;

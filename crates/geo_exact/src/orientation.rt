@@ -1,5 +1,5 @@
-ghost use Rattle.std.specs.Prelude.{◌≡◌, ◌-ℤ◌, ◌*ℤ◌};
-ghost use Rattle.geo_exact.specs.Limit.{IsWithin};
+ghost use Rattle.std.specs.Prelude.{◌≡◌, ◌-ℤ◌, ◌*ℤ◌, ◌*◌};
+ghost use Rattle.geo_exact.specs.Limit.{IsWithin, limit};
 ghost use Rattle.geo_exact.specs.Turn.{turn as turn_of};
 
 use crate::corner::Corner;
@@ -10,8 +10,8 @@ use crate::products::wide_product;
 struct Way {
     x: i64,
     y: i64,
-    ghost x_in_range: { IsWithin 20000000000 x },
-    ghost y_in_range: { IsWithin 20000000000 y },
+    ghost x_in_range: { IsWithin (2 * limit) x },
+    ghost y_in_range: { IsWithin (2 * limit) y },
 }
 
 fn way_between(from: Corner, to: Corner) -> Way
@@ -27,10 +27,10 @@ fn way_between(from: Corner, to: Corner) -> Way
 /// The product of two sides of a box.
 #[tactic(auto, using(crate::proofs::Within::product_within))]
 fn side_product(u: i64, v: i64) -> i128
-    requires first { IsWithin 20000000000 u }
-    requires second { IsWithin 20000000000 v }
+    requires first { IsWithin (2 * limit) u }
+    requires second { IsWithin (2 * limit) v }
     ensures value { result ≡ u *ℤ v }
-    ensures bound { IsWithin 400000000000000000000 result }
+    ensures bound { IsWithin (4 * (limit * limit)) result }
 {
     wide_product(u, v)
 }
@@ -38,7 +38,7 @@ fn side_product(u: i64, v: i64) -> i128
 /// Twice the signed area that two ways from one corner span.
 fn spanned(u: Way, v: Way) -> i128
     ensures value { result ≡ u.x *ℤ v.y -ℤ u.y *ℤ v.x }
-    ensures bound { IsWithin 800000000000000000000 result }
+    ensures bound { IsWithin (8 * (limit * limit)) result }
 {
     side_product(u.x, v.y) - side_product(u.y, v.x)
 }
@@ -47,7 +47,7 @@ fn spanned(u: Way, v: Way) -> i128
 /// centimetres, positive where `c` is left of the way from `a` to `b`.
 pub fn turn(a: Corner, b: Corner, c: Corner) -> i128
     ensures value { result ≡ turn_of a b c }
-    ensures bound { IsWithin 800000000000000000000 result }
+    ensures bound { IsWithin (8 * (limit * limit)) result }
 {
     spanned(way_between(a, b), way_between(a, c))
 }

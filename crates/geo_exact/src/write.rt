@@ -1,14 +1,14 @@
 ghost use Rattle.std.specs.Prelude.{◌≡◌, ◌*◌, ◌^◌, ◌+◌, ◌-◌, ◌<◌, ◌≤◌, ◌*ℤ◌, pos, Ok};
 ghost use Rattle.geo_exact.specs.declared.coord.Unit.TheVariants.{Cm};
-ghost use Rattle.geo_exact.specs.Doubles.{bits_of, highest_place as highest_place_of, whole_bits as whole_bits_of};
+ghost use Rattle.geo_exact.specs.Doubles.{bits_of, highest_bit as highest_bit_of, whole_bits as whole_bits_of};
 ghost use Rattle.geo_exact.specs.Grid.{IsOnGrid, coordinate, scaled_value};
 ghost use Rattle.geo_exact.specs.Limit.{IsWithin, limit};
 
 /// The place of the highest 1.
-fn highest_place(size: u64) -> u64
+fn highest_bit(size: u64) -> u64
     requires some { 0 < size }
     requires small { size < 2 ^ 53 }
-    ensures value { result ≡ highest_place_of size }
+    ensures value { result ≡ highest_bit_of size }
     ensures low { 2 ^ result ≤ size }
     ensures high { size < 2 ^ (result + 1) }
     ensures bound { result ≤ 52 }
@@ -36,7 +36,7 @@ fn whole_bits(size: u64) -> u64
     if size == 0 {
         return 0;
     }
-    let place = highest_place(size);
+    let place = highest_bit(size);
     ((1023 + place) << 52) + whole_fraction(size, place)
 }
 

@@ -1,5 +1,5 @@
-ghost use Rattle.std.specs.Prelude.{◌≡◌, ◌≢◌, ◌↔◌, ◌-◌, ◌≤◌, ◌<◌, length, IsErr, IfOk, IsTrue, if◌then◌else◌};
-ghost use Rattle.geo_exact.specs.Bytes.{Pulls, Puts, counted, raised, together};
+ghost use Rattle.std.specs.Prelude.{◌≡◌, ◌≢◌, ◌↔◌, ◌-◌, ◌≤◌, ◌<◌, length, IfOk, IsTrue, if◌then◌else◌};
+ghost use Rattle.geo_exact.specs.Bytes.{Pulls, Puts, FailsOrPassesOn, counted, raised, together};
 
 use super::{ByteIn, ByteOut, Failed};
 
@@ -62,14 +62,21 @@ impl<T: ByteIn> ByteIn for FailAt<T> {
 
     ghost failure_count = { λ stream. together (T.failure_count stream.inner) stream.own_failures };
 
+    ghost pull_gives = { λ old before answer new after. FailsOrPassesOn old.calls_left answer
+        ((new.inner ≡ old.inner) × (after ≡ before)) (T.pull_gives old.inner before answer new.inner after) };
+
     fn pull(&mut self, buffer: &mut [u8]) -> Result<usize, Failed>
         ensures bound { IfOk result (λ n. n ≤ length buffer.new) }
         ensures bytes { Pulls (T.remaining self.old.inner) (T.remaining self.new.inner) result buffer.new }
         ensures failures { together (T.failure_count self.new.inner) self.new.own_failures
             ≡ counted result (together (T.failure_count self.old.inner) self.old.own_failures) }
         ensures calls_left { self.new.calls_left ≡ self.old.calls_left - 1 }
-        ensures fails { self.old.calls_left ≡ 1 → IsErr result × (self.new.inner ≡ self.old.inner) }
-        ensures passes_on { self.old.calls_left ≢ 1
+        // One call fails and leaves the stream and the buffer; another is the stream's own call, into the
+        // same buffer and with the same answer.
+        ensures gives { FailsOrPassesOn self.old.calls_left result
+            ((self.new.inner ≡ self.old.inner) × (buffer.new ≡ buffer.old))
+            (T.pull_gives self.old.inner buffer.old result self.new.inner buffer.new) }
+        ensures inner_failures { self.old.calls_left ≢ 1
             → T.failure_count self.new.inner ≡ counted result (T.failure_count self.old.inner) }
     {
         if self.fails() {
@@ -88,6 +95,9 @@ impl<T: ByteOut> ByteOut for FailAt<T> {
 
     ghost failure_count = { λ stream. together (T.failure_count stream.inner) stream.own_failures };
 
+    ghost put_gives = { λ old bytes answer new. FailsOrPassesOn old.calls_left answer
+        (new.inner ≡ old.inner) (T.put_gives old.inner bytes answer new.inner) };
+
     fn put(&mut self, bytes: &[u8]) -> Result<usize, Failed>
         ensures bound { IfOk result (λ n. n ≤ length bytes.now) }
         ensures progress { IfOk result (λ n. 0 < length bytes.now → 0 < n) }
@@ -95,8 +105,11 @@ impl<T: ByteOut> ByteOut for FailAt<T> {
         ensures failures { together (T.failure_count self.new.inner) self.new.own_failures
             ≡ counted result (together (T.failure_count self.old.inner) self.old.own_failures) }
         ensures calls_left { self.new.calls_left ≡ self.old.calls_left - 1 }
-        ensures fails { self.old.calls_left ≡ 1 → IsErr result × (self.new.inner ≡ self.old.inner) }
-        ensures passes_on { self.old.calls_left ≢ 1
+        // One call fails and leaves the stream; another is the stream's own call, of the same bytes and
+        // with the same answer.
+        ensures gives { FailsOrPassesOn self.old.calls_left result (self.new.inner ≡ self.old.inner)
+            (T.put_gives self.old.inner bytes.now result self.new.inner) }
+        ensures inner_failures { self.old.calls_left ≢ 1
             → T.failure_count self.new.inner ≡ counted result (T.failure_count self.old.inner) }
     {
         if self.fails() {

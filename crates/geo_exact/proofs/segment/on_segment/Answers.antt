@@ -1,4 +1,4 @@
-use Rattle.std.proofs.Common.{◌≡◌, IsTrue, ◌↔◌, ℤ, pos, ◌≤ℤ◌, nat_eq, of_z, to_z, FitsSigned, arith, ◌∙◌, sym, ap, Bool}
+use Rattle.std.proofs.Common.{◌≡◌, IsTrue, ◌↔◌, ℤ, pos, ◌≤ℤ◌, nat_eq, of_z, to_z, FitsSigned, arith, ◌∙◌, sym, ap, Bool, ◌*◌}
 use Rattle.std.specs.Int.{w128, w64, int_min, int_max}
 use Rattle.std.proofs.lemmas.Int.{ints, to_z-of_z}
 use Rattle.std.proofs.lemmas.Bool.Decides.{nat_tests}
@@ -19,7 +19,7 @@ passed r u v w a b c h =
     let z : FitsSigned w64 w = omega (arith, ints) in
     simp to_z-of_z at h
 
-zero_bits : (z : ℤ) → IsWithin 800000000000000000000 z → IsTrue (nat_eq (of_z w128 z) 0) → z ≡ pos 0
+zero_bits : (z : ℤ) → IsWithin (8 * (limit * limit)) z → IsTrue (nat_eq (of_z w128 z) 0) → z ≡ pos 0
 zero_bits z h e = let x : FitsSigned w128 z = omega (arith, ints) in grind (arith, ints, nat_tests)
 
 pub returns-then-not-is_between : goal.returns-then-not-is_between

@@ -1,10 +1,10 @@
 use Rattle.std.proofs.Common.{◌≡◌, ℕ, ◌-◌, ap}
-use Rattle.geo_exact.specs.Doubles.{highest_place}
+use Rattle.geo_exact.specs.Doubles.{highest_bit}
 use Rattle.geo_exact.proofs.Doubles.{IsHighest, highest_is}
-use Rattle.geo_exact.proofs.write.highest_place.Goals as goal
+use Rattle.geo_exact.proofs.write.highest_bit.Goals as goal
 
 -- what the code computes
-found : (n r : ℕ) → IsHighest n (highest_place n) → 63 - r ≡ highest_place n → IsHighest n (63 - r)
+found : (n r : ℕ) → IsHighest n (highest_bit n) → 63 - r ≡ highest_bit n → IsHighest n (63 - r)
 found n r is same = rw same is
 
 pub returns-clause-low : goal.returns-clause-low

@@ -1,0 +1,23 @@
+//! The product's limits, each in one place: code, contracts and definitions name these constants, and what follows from one is
+//! written as an expression of it.
+
+/// The greatest distance of a coordinate from 0, in centimetres: 100,000 kilometres.
+pub const LIMIT: i64 = 10_000_000_000;
+
+/// The most corners that a ring of a layer has.
+pub const RING_CORNERS: usize = 4_096;
+
+/// The most corners that the rings of a layer have together.
+pub const LAYER_CORNERS: usize = 1_000_000;
+
+/// The most records of a layer file, and parcels of a layer.
+pub const LAYER_RECORDS: u32 = 65_536;
+
+/// The most bytes of a file that is read.
+pub const FILE_BYTES: usize = 67_108_864;
+
+/// The most corners of a list that is handed to a call: the condition of `area2`, `Ring::check` and `EdgeSum`.
+pub const LIST_CORNERS: usize = 10_000_000;
+
+/// The most edges that are added to an `EdgeSum` and taken from it, in all.
+pub const COUNTED_EDGES: u64 = 1_000_000_000_000;

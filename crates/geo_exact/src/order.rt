@@ -1,0 +1,11 @@
+ghost use Rattle.std.specs.Prelude.{◌≡◌};
+ghost use Rattle.geo_exact.specs.Order.{is_before};
+
+use crate::corner::Corner;
+
+/// Whether `a` comes before `b`, by `x` and then by `y`: what `<` answers.
+pub fn comes_before(a: Corner, b: Corner) -> bool
+    ensures { result ≡ is_before a b }
+{
+    a < b
+}
