@@ -10,8 +10,9 @@ use Rattle.geo_exact.proofs.Signs.{mul_pos, mul_not_neg, mul_zero, pos_of_mul, z
 use Rattle.geo_exact.proofs.Differences.{expand}
 use Rattle.geo_exact.proofs.Polynomials.{var, add, mul, sub, same_by}
 use Rattle.geo_exact.proofs.TurnLaws.{turn_expr}
-use Rattle.edge_chains.specs.Noding.{IsStrictlyInside, AreAlong}
-use Rattle.edge_chains.proofs.Corners.{IsBefore}
+use Rattle.edge_chains.specs.Noding.{AreAlong}
+use Rattle.geo_exact.specs.Segments.{IsStrictlyInside}
+use Rattle.geo_exact.proofs.CornerOrder.{IsBefore}
 use Rattle.edge_chains.proofs.Inside.{IsBetween, inside_from_strictly, strictly_from_inside}
 
 -- ---- two directions (u, v) and (e, f) on one line: u f - v e is 0

@@ -10,9 +10,10 @@ use Rattle.geo_exact.specs.Winding.{crossing}
 use Rattle.geo_exact.specs.Area.{edge_area2}
 use Rattle.geo_exact.proofs.EdgeSums.{edge_of, turned_edge, sum_over-append}
 use Rattle.geo_exact.proofs.Crossings.{crossing_back, edge_area2_back}
-use Rattle.edge_chains.specs.Net.{is_same, runs_from_to, edge_count, all_edges, net_of_edges, net_count, sum_of_rings, winding_sum, area2_sum}
+use Rattle.edge_chains.specs.Net.{runs_from_to, edge_count, all_edges, net_of_edges, net_count, sum_of_rings, winding_of_rings, area2_of_rings}
+use Rattle.geo_exact.specs.Order.{is_same}
 use Rattle.edge_chains.specs.Counts.{Counts, net_at, AreNetOf}
-use Rattle.edge_chains.proofs.Corners.{cases_of, Decides-is_same, is_same_itself}
+use Rattle.geo_exact.proofs.CornerOrder.{cases_of, Decides-is_same, is_same_itself}
 use Rattle.edge_chains.proofs.Changes.{Decides-is_same_edge, net_of_cons, net_of_turned, net_of_no_length}
 use Rattle.edge_chains.proofs.Nets.{net_of_append, edge_count-append}
 
@@ -173,16 +174,16 @@ sum_of_rings-edges measure (ring ∷ rings) =
     ap (λ z. sum_over measure (edges ring) +ℤ z) (sum_of_rings-edges measure rings) ∙ sym (sum_over-append measure (edges ring) (all_edges rings))
 
 -- sets of rings with the same net numbers go round each point equally often, and have the same area
-pub winding_sum-balanced : (added taken : List (List Corner)) → ((a b : Corner) → net_count added a b ≡ net_count taken a b) → (p : Point)
-    → winding_sum p added ≡ winding_sum p taken
-winding_sum-balanced added taken h p =
+pub winding_of_rings-balanced : (added taken : List (List Corner)) → ((a b : Corner) → net_count added a b ≡ net_count taken a b) → (p : Point)
+    → winding_of_rings p added ≡ winding_of_rings p taken
+winding_of_rings-balanced added taken h p =
     let crossing_of : Edge → ℤ = λ edge. crossing p edge.from edge.to in
     sum_of_rings-edges crossing_of added
     ∙ sum_over-balanced crossing_of (λ edge. crossing_back p edge.from edge.to) (all_edges added) (all_edges taken) h
     ∙ sym (sum_of_rings-edges crossing_of taken)
 
-pub area2_sum-balanced : (added taken : List (List Corner)) → ((a b : Corner) → net_count added a b ≡ net_count taken a b) → area2_sum added ≡ area2_sum taken
-area2_sum-balanced added taken h =
+pub area2_of_rings-balanced : (added taken : List (List Corner)) → ((a b : Corner) → net_count added a b ≡ net_count taken a b) → area2_of_rings added ≡ area2_of_rings taken
+area2_of_rings-balanced added taken h =
     sum_of_rings-edges edge_area2 added
     ∙ sum_over-balanced edge_area2 (λ edge. edge_area2_back edge.from edge.to) (all_edges added) (all_edges taken) h
     ∙ sym (sum_of_rings-edges edge_area2 taken)

@@ -1,5 +1,5 @@
 -- Points close beside an edge and close to its start: so close that each turn there has the sign of the first of three whole numbers that is not 0.
-use Rattle.std.proofs.Common.{◌≡◌, refl, arith, ℕ, ◌*◌, ℤ, pos, ◌+ℤ◌, ◌-ℤ◌, ◌*ℤ◌, [], ◌∷◌}
+use Rattle.std.proofs.Common.{◌≡◌, refl, arith, ℕ, ◌+◌, ◌*◌, ℤ, pos, ◌+ℤ◌, ◌-ℤ◌, ◌*ℤ◌, [], ◌∷◌}
 use Rattle.std.proofs.lemmas.Int.{ints}
 use lib.Signed.{◌<ℤ◌, ◌≤ℤ◌}
 use Rattle.geo_exact.specs.declared.corner.Corner.{Corner}
@@ -12,10 +12,10 @@ use Rattle.geo_exact.proofs.Within.{product_within}
 
 -- the denominator, and how much of it is one step along the edge: more than any sum of what comes behind
 abbrev pub whole : ℤ
-whole = pos 16000000000800000000020000000001
+whole = pos ((8 * (limit * limit) + 1) * (2 * limit + 1))
 
 abbrev pub step : ℤ
-step = pos 20000000001
+step = pos (2 * limit + 1)
 
 -- the point one step from a towards b, moved by (ex, ey) of the denominator
 abbrev pub near : Corner → Corner → ℤ → ℤ → Point
@@ -53,29 +53,29 @@ pub turn_near : (u v a b : Corner) (ex ey : ℤ) → turn_at u v (near a b ex ey
 turn_near u v a b ex ey = turn_near' u.x u.y v.x v.y a.x a.y b.x b.y ex ey whole step
 
 -- differences of coordinates, and their products, are not large
-apart : (p q : ℤ) → IsWithin limit p → IsWithin limit q → IsWithin 20000000000 (p -ℤ q)
+apart : (p q : ℤ) → IsWithin limit p → IsWithin limit q → IsWithin (2 * limit) (p -ℤ q)
 apart p q h k = record { low = omega (arith, ints); high = omega (arith, ints) }
 
 sum_within : (m n : ℕ) (p q : ℤ) → IsWithin m p → IsWithin m q → IsWithin (2 * m) (p -ℤ q)
 sum_within m n p q h k = record { low = omega (arith, ints); high = omega (arith, ints) }
 
-pub cross_within : (u v a b : Corner) → IsWithin 800000000000000000000 (cross u v a b)
+pub cross_within : (u v a b : Corner) → IsWithin (8 * (limit * limit)) (cross u v a b)
 cross_within u v a b =
-    sum_within 400000000000000000000 0 ((v.x -ℤ u.x) *ℤ (b.y -ℤ a.y)) ((v.y -ℤ u.y) *ℤ (b.x -ℤ a.x))
-    (product_within 20000000000 20000000000 (v.x -ℤ u.x) (b.y -ℤ a.y) (apart v.x u.x v.x_in_range u.x_in_range) (apart b.y a.y b.y_in_range a.y_in_range))
-    (product_within 20000000000 20000000000 (v.y -ℤ u.y) (b.x -ℤ a.x) (apart v.y u.y v.y_in_range u.y_in_range) (apart b.x a.x b.x_in_range a.x_in_range))
+    sum_within (4 * (limit * limit)) 0 ((v.x -ℤ u.x) *ℤ (b.y -ℤ a.y)) ((v.y -ℤ u.y) *ℤ (b.x -ℤ a.x))
+    (product_within (2 * limit) (2 * limit) (v.x -ℤ u.x) (b.y -ℤ a.y) (apart v.x u.x v.x_in_range u.x_in_range) (apart b.y a.y b.y_in_range a.y_in_range))
+    (product_within (2 * limit) (2 * limit) (v.y -ℤ u.y) (b.x -ℤ a.x) (apart v.y u.y v.y_in_range u.y_in_range) (apart b.x a.x b.x_in_range a.x_in_range))
 
 -- the sign of the first of the three that is not 0
-pub lead_up : (t x y : ℤ) → IsWithin 800000000000000000000 x → IsWithin 20000000000 y → pos 0 <ℤ t → pos 0 <ℤ (whole *ℤ t +ℤ step *ℤ x +ℤ y)
+pub lead_up : (t x y : ℤ) → IsWithin (8 * (limit * limit)) x → IsWithin (2 * limit) y → pos 0 <ℤ t → pos 0 <ℤ (whole *ℤ t +ℤ step *ℤ x +ℤ y)
 lead_up t x y h k l = omega (arith, ints)
 
-pub lead_down : (t x y : ℤ) → IsWithin 800000000000000000000 x → IsWithin 20000000000 y → t <ℤ pos 0 → (whole *ℤ t +ℤ step *ℤ x +ℤ y) <ℤ pos 0
+pub lead_down : (t x y : ℤ) → IsWithin (8 * (limit * limit)) x → IsWithin (2 * limit) y → t <ℤ pos 0 → (whole *ℤ t +ℤ step *ℤ x +ℤ y) <ℤ pos 0
 lead_down t x y h k l = omega (arith, ints)
 
-pub next_up : (t x y : ℤ) → IsWithin 20000000000 y → t ≡ pos 0 → pos 0 <ℤ x → pos 0 <ℤ (whole *ℤ t +ℤ step *ℤ x +ℤ y)
+pub next_up : (t x y : ℤ) → IsWithin (2 * limit) y → t ≡ pos 0 → pos 0 <ℤ x → pos 0 <ℤ (whole *ℤ t +ℤ step *ℤ x +ℤ y)
 next_up t x y k e l = omega (arith, ints)
 
-pub next_down : (t x y : ℤ) → IsWithin 20000000000 y → t ≡ pos 0 → x <ℤ pos 0 → (whole *ℤ t +ℤ step *ℤ x +ℤ y) <ℤ pos 0
+pub next_down : (t x y : ℤ) → IsWithin (2 * limit) y → t ≡ pos 0 → x <ℤ pos 0 → (whole *ℤ t +ℤ step *ℤ x +ℤ y) <ℤ pos 0
 next_down t x y k e l = omega (arith, ints)
 
 pub last_one : (t x y : ℤ) → t ≡ pos 0 → x ≡ pos 0 → whole *ℤ t +ℤ step *ℤ x +ℤ y ≡ y

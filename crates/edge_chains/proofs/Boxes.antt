@@ -6,9 +6,9 @@ use Rattle.std.proofs.lemmas.List.{get_or-set_same, get_or-set_other}
 use Rattle.std.proofs.lemmas.List.Elements.{filter_more}
 use Rattle.std.proofs.lemmas.Bool.{cases_eq, false≢true}
 use Rattle.geo_exact.specs.declared.corner.Corner.{Corner}
-use Rattle.edge_chains.specs.declared.bounds.Bounds.{Bounds}
-use Rattle.edge_chains.specs.Inside.{IsInBounds}
-use Rattle.edge_chains.specs.Blocks.{HasOwn, HasBlock}
+use Rattle.geo_exact.specs.declared.bounds.Bounds.{Bounds}
+use Rattle.geo_exact.specs.Bounds.{HoldsCorner}
+use Rattle.edge_chains.specs.own.Blocks.{HasOwn, HasBlock}
 
 -- a filter passes over elements of which none passes the test
 pub filter_skips : (p : Corner → Bool) (xs : List Corner) (d : Corner) (i e : ℕ) → i ≤ e → e ≤ length xs
@@ -42,21 +42,21 @@ filter_none p h [] = refl
 filter_none p h (x ∷ xs) = ap (λ t. cond t (x ∷ filter p xs) (filter p xs)) (h x) ∙ filter_none p h xs
 
 -- ---- a box that is written
-pub HasOwn-set : (corners : List Corner) (boxes : List Bounds) (i : ℕ) (v : Bounds) → i < length boxes → ((c : Corner) → IsInBounds (get_or corners i c) v)
+pub HasOwn-set : (corners : List Corner) (boxes : List Bounds) (i : ℕ) (v : Bounds) → i < length boxes → ((c : Corner) → HoldsCorner v (get_or corners i c))
     → (k : ℕ) → HasOwn corners boxes k → HasOwn corners (set boxes i v) k
 HasOwn-set corners boxes i v l h k own c b =
     ⊎_elim
-    (λ e. subst (λ n. IsInBounds (get_or corners n c) (get_or (set boxes i v) n b)) (sym e)
-    (subst (IsInBounds (get_or corners i c)) (sym (get_or-set_same boxes i v b l)) (h c)))
-    (λ n. subst (IsInBounds (get_or corners k c)) (sym (get_or-set_other boxes i k v b n)) (own c b))
+    (λ e. subst (λ n. HoldsCorner (get_or (set boxes i v) n b) (get_or corners n c)) (sym e)
+    (subst (λ box. HoldsCorner box (get_or corners i c)) (sym (get_or-set_same boxes i v b l)) (h c)))
+    (λ n. subst (λ box. HoldsCorner box (get_or corners k c)) (sym (get_or-set_other boxes i k v b n)) (own c b))
     (cases_eq k i)
 
 pub HasBlock-set : (corners : List Corner) (ends : List ℕ) (boxes : List Bounds) (i : ℕ) (v : Bounds) → i < length boxes
-    → ((k : ℕ) (c : Corner) → i ≤ k → k < slice_index ends i → IsInBounds (get_or corners k c) v)
+    → ((k : ℕ) (c : Corner) → i ≤ k → k < slice_index ends i → HoldsCorner v (get_or corners k c))
     → (j : ℕ) → (i < j → HasBlock corners ends boxes j) → i ≤ j → HasBlock corners ends (set boxes i v) j
 HasBlock-set corners ends boxes i v l h j later ij k c b jk ke =
     ⊎_elim
-    (λ e. subst (λ n. IsInBounds (get_or corners k c) (get_or (set boxes i v) n b)) (sym e)
-    (subst (IsInBounds (get_or corners k c)) (sym (get_or-set_same boxes i v b l)) (h k c (omega arith) (subst (λ n. k < slice_index ends n) e ke))))
-    (λ n. subst (IsInBounds (get_or corners k c)) (sym (get_or-set_other boxes i j v b n)) (later (omega arith) k c b jk ke))
+    (λ e. subst (λ n. HoldsCorner (get_or (set boxes i v) n b) (get_or corners k c)) (sym e)
+    (subst (λ box. HoldsCorner box (get_or corners k c)) (sym (get_or-set_same boxes i v b l)) (h k c (omega arith) (subst (λ n. k < slice_index ends n) e ke))))
+    (λ n. subst (λ box. HoldsCorner box (get_or corners k c)) (sym (get_or-set_other boxes i j v b n)) (later (omega arith) k c b jk ke))
     (cases_eq j i)

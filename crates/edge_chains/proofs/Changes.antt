@@ -14,12 +14,13 @@ use Rattle.geo_exact.specs.Rings.{Edge, path}
 use Rattle.geo_exact.proofs.Dropped.{drop_item}
 use Rattle.geo_exact.proofs.EdgeSums.{edge_of}
 use Rattle.geo_exact.proofs.Within.{within_more}
-use Rattle.edge_chains.specs.Net.{is_same, net_of_edges}
-use Rattle.edge_chains.specs.Counts.{entry_of, is_before, is_same_edge, number_at, net_at, AreCounts}
-use Rattle.edge_chains.specs.Sides.{signed}
+use Rattle.edge_chains.specs.Net.{net_of_edges}
+use Rattle.geo_exact.specs.Order.{is_same, is_before}
+use Rattle.edge_chains.specs.Counts.{is_same_edge, number_at, net_at, AreCounts}
+use Rattle.edge_chains.specs.own.Sides.{entry_of, signed}
 use Rattle.edge_chains.specs.declared.edge_sum.Side.{Side}
 use Rattle.edge_chains.specs.declared.edge_sum.Side.TheVariants.{Added, Taken}
-use Rattle.edge_chains.proofs.Corners.{false_where, Decides-is_same, Decides-is_before, IsBefore, before_irreflexive, before_asymmetric}
+use Rattle.geo_exact.proofs.CornerOrder.{false_where, Decides-is_same, Decides-is_before, IsBefore, before_irreflexive, before_asymmetric}
 
 pub entry_of_zero : (n : ℤ) → n ≡ pos 0 → entry_of n ≡ None
 entry_of_zero n h = ap (λ b. if b then None else Some n) ((Decides-int_eq n (pos 0)).1 h)

@@ -7,8 +7,10 @@ use Rattle.std.proofs.lemmas.List.Elements.{recursion_from_All}
 use Rattle.std.specs.Map.{lookup}
 use Rattle.std.proofs.lemmas.Bool.Decides.{not_from_Decides}
 use Rattle.geo_exact.specs.declared.corner.Corner.{Corner}
-use Rattle.edge_chains.specs.Counts.{Counts, is_before, is_edge_before, is_same_edge, number_at, net_at, AreCounts, IsFirstUnbalanced}
-use Rattle.edge_chains.proofs.Corners.{Decides-is_edge_before, edge_before_irreflexive, edge_before_transitive, false_where}
+use Rattle.edge_chains.specs.Counts.{Counts, is_edge_before, is_same_edge, number_at, net_at, AreCounts, IsFirstUnbalanced}
+use Rattle.geo_exact.specs.Order.{is_before}
+use Rattle.edge_chains.proofs.Corners.{Decides-is_edge_before, edge_before_irreflexive, edge_before_transitive}
+use Rattle.geo_exact.proofs.CornerOrder.{false_where}
 use Rattle.edge_chains.proofs.Changes.{Decides-is_same_edge}
 
 -- no entry comes before the edge

@@ -14,11 +14,13 @@ use Rattle.geo_exact.proofs.Signs.{mul_not_neg}
 use Rattle.geo_exact.proofs.TurnLaws.{turn_at_corner}
 use Rattle.geo_exact.proofs.Differences.{expand}
 use Rattle.geo_exact.proofs.Orders.{Decides-int_lt, Decides-int_le}
-use Rattle.edge_chains.specs.declared.bounds.Bounds.{Bounds}
-use Rattle.edge_chains.specs.Net.{is_same}
-use Rattle.edge_chains.specs.Noding.{IsStrictlyInside}
-use Rattle.edge_chains.specs.Inside.{is_between, is_from_to, is_inside, is_in_bounds, IsInBounds}
-use Rattle.edge_chains.proofs.Corners.{false_where, Decides-is_same}
+use Rattle.geo_exact.specs.declared.bounds.Bounds.{Bounds}
+use Rattle.geo_exact.specs.Order.{is_same}
+use Rattle.geo_exact.specs.Segments.{IsStrictlyInside}
+use Rattle.edge_chains.specs.own.Inside.{is_between, is_strictly_inside}
+use Rattle.geo_exact.proofs.InBoxes.{Decides-holds_corner}
+use Rattle.geo_exact.specs.Bounds.{EdgeBoxesMeet, is_from_to, holds_corner, HoldsCorner}
+use Rattle.geo_exact.proofs.CornerOrder.{false_where, Decides-is_same}
 
 -- ---- the test
 abbrev pub IsBetween : ℤ → ℤ → ℤ → Type 0
@@ -35,7 +37,7 @@ Decides-no_end : (c a b : Corner) → Decides (not (is_same c a) && not (is_same
 Decides-no_end c a b =
     Decides-and (not (is_same c a)) (not (is_same c b)) (Decides-not (is_same c a) (Decides-is_same c a)) (Decides-not (is_same c b) (Decides-is_same c b))
 
-Decides-parts : (c a b : Corner) → Decides (is_inside c a b) (Inside c a b)
+Decides-parts : (c a b : Corner) → Decides (is_strictly_inside c a b) (Inside c a b)
 Decides-parts c a b =
     Decides-and (is_between a.x b.x c.x && is_between a.y b.y c.y) (int_eq (turn a b c) (pos 0) && (not (is_same c a) && not (is_same c b)))
     (Decides-and (is_between a.x b.x c.x) (is_between a.y b.y c.y) (Decides-is_between a.x b.x c.x) (Decides-is_between a.y b.y c.y))
@@ -64,19 +66,19 @@ strictly_from_inside c a b h = record {
   not_end = h.1.1.1;
 }
 
-pub Decides-is_inside : (c a b : Corner) → Decides (is_inside c a b) (IsStrictlyInside c a b)
-Decides-is_inside c a b = Decides-like (is_inside c a b) (strictly_from_inside c a b) (inside_from_strictly c a b) (Decides-parts c a b)
+pub Decides-is_strictly_inside : (c a b : Corner) → Decides (is_strictly_inside c a b) (IsStrictlyInside c a b)
+Decides-is_strictly_inside c a b = Decides-like (is_strictly_inside c a b) (strictly_from_inside c a b) (inside_from_strictly c a b) (Decides-parts c a b)
 
 -- the test for a corner on the edge, and for one off it
-pub inside_on_edge : (c a b : Corner) (t : Bool) → t ≡ (not (is_same c a) && not (is_same c b)) → IsOnEdge (corner_point c) a b → t ≡ is_inside c a b
+pub inside_on_edge : (c a b : Corner) (t : Bool) → t ≡ (not (is_same c a) && not (is_same c b)) → IsOnEdge (corner_point c) a b → t ≡ is_strictly_inside c a b
 inside_on_edge c a b t e o =
-    e ∙ same_from_decides (not (is_same c a) && not (is_same c b)) (is_inside c a b)
+    e ∙ same_from_decides (not (is_same c a) && not (is_same c b)) (is_strictly_inside c a b)
     (Decides-like (not (is_same c a) && not (is_same c b)) (λ h. record { on_edge = o; not_start = h.0; not_end = h.1 }) (λ h. (h.not_start, h.not_end))
     (Decides-no_end c a b))
-    (Decides-is_inside c a b)
+    (Decides-is_strictly_inside c a b)
 
-pub inside_off_edge : (c a b : Corner) (t : Bool) → (IsOnEdge (corner_point c) a b → t ≡ true) → t ≡ false → t ≡ is_inside c a b
-inside_off_edge c a b t k e = e ∙ sym (false_where (is_inside c a b) (Decides-is_inside c a b) (λ h. false≢true (sym e ∙ k h.on_edge)))
+pub inside_off_edge : (c a b : Corner) (t : Bool) → (IsOnEdge (corner_point c) a b → t ≡ true) → t ≡ false → t ≡ is_strictly_inside c a b
+inside_off_edge c a b t k e = e ∙ sym (false_where (is_strictly_inside c a b) (Decides-is_strictly_inside c a b) (λ h. false≢true (sym e ∙ k h.on_edge)))
 
 -- ---- boxes
 -- a product is between those at the ends
@@ -106,100 +108,78 @@ pub none_beside : (bounds : Bounds) (a b c : Corner)
     ((b.y -ℤ a.y) *ℤ (bounds.high.x -ℤ a.x)))
     ⊎ (int_max ((b.y -ℤ a.y) *ℤ (bounds.low.x -ℤ a.x)) ((b.y -ℤ a.y) *ℤ (bounds.high.x -ℤ a.x)) <ℤ int_min ((b.x -ℤ a.x) *ℤ (bounds.low.y -ℤ a.y))
     ((b.x -ℤ a.x) *ℤ (bounds.high.y -ℤ a.y)))
-    → IsInBounds c bounds → is_inside c a b ≡ false
+    → HoldsCorner bounds c → is_strictly_inside c a b ≡ false
 none_beside bounds a b c h k =
-    false_where (is_inside c a b) (Decides-parts c a b)
+    false_where (is_strictly_inside c a b) (Decides-parts c a b)
     (λ i. apart ((b.x -ℤ a.x) *ℤ (c.y -ℤ a.y)) ((b.y -ℤ a.y) *ℤ (c.x -ℤ a.x))
     ((b.x -ℤ a.x) *ℤ (bounds.low.y -ℤ a.y)) ((b.x -ℤ a.x) *ℤ (bounds.high.y -ℤ a.y)) ((b.y -ℤ a.y) *ℤ (bounds.low.x -ℤ a.x))
     ((b.y -ℤ a.y) *ℤ (bounds.high.x -ℤ a.x))
-    (product_between (b.x -ℤ a.x) (bounds.low.y -ℤ a.y) (bounds.high.y -ℤ a.y) (c.y -ℤ a.y) (omega (arith, ints, k.from_y)) (omega (arith, ints, k.to_y)))
-    (product_between (b.y -ℤ a.y) (bounds.low.x -ℤ a.x) (bounds.high.x -ℤ a.x) (c.x -ℤ a.x) (omega (arith, ints, k.from_x)) (omega (arith, ints, k.to_x)))
+    (product_between (b.x -ℤ a.x) (bounds.low.y -ℤ a.y) (bounds.high.y -ℤ a.y) (c.y -ℤ a.y) (omega (arith, ints, k.south)) (omega (arith, ints, k.north)))
+    (product_between (b.y -ℤ a.y) (bounds.low.x -ℤ a.x) (bounds.high.x -ℤ a.x) (c.x -ℤ a.x) (omega (arith, ints, k.west)) (omega (arith, ints, k.east)))
     h i.1.0)
 
+not_both : (r : Bool) → r ≡ true → not r ≡ true → ⊥
+not_both true e t = false≢true t
+not_both false e t = false≢true e
+
 -- two ranges that nothing is in
-abbrev pub AreApart : ℤ → ℤ → ℤ → ℤ → Type 0
-AreApart u v w z = (int_max u v <ℤ int_min w z) ⊎ (int_max w z <ℤ int_min u v)
+abbrev pub RangesAreApart : ℤ → ℤ → ℤ → ℤ → Type 0
+RangesAreApart u v w z = (int_max u v <ℤ int_min w z) ⊎ (int_max w z <ℤ int_min u v)
 
-not_in_both : (l h u v z : ℤ) → AreApart l h u v → l ≤ℤ z → z ≤ℤ h → IsBetween u v z → ⊥
-not_in_both l h u v z (inl e) p q k = omega (arith, ints, clamps, k.0)
-not_in_both l h u v z (inr e) p q k = omega (arith, ints, clamps, k.1)
+-- a corner in a box and inside an edge is in the boxes of both
+boxes_meet : (bounds : Bounds) (a b c : Corner) → HoldsCorner bounds c → Inside c a b → EdgeBoxesMeet bounds.low bounds.high a b
+boxes_meet bounds a b c k i = (
+  (omega (arith, ints, clamps, k.west, i.0.0.1), omega (arith, ints, clamps, k.east, i.0.0.0)),
+  (omega (arith, ints, clamps, k.south, i.0.1.1), omega (arith, ints, clamps, k.north, i.0.1.0)),
+)
 
-pub none_apart_x : (bounds : Bounds) (a b : Corner) → AreApart bounds.low.x bounds.high.x a.x b.x → (c : Corner) → IsInBounds c bounds
-    → is_inside c a b ≡ false
-none_apart_x bounds a b h c k = false_where (is_inside c a b) (Decides-parts c a b)
-    (λ i. not_in_both bounds.low.x bounds.high.x a.x b.x c.x h k.from_x k.to_x i.0.0)
+pub none_past : (r : Bool) (bounds : Bounds) (a b : Corner) → (EdgeBoxesMeet bounds.low bounds.high a b → r ≡ true) → not r ≡ true → (c : Corner)
+    → HoldsCorner bounds c → is_strictly_inside c a b ≡ false
+none_past r bounds a b h t c k = false_where (is_strictly_inside c a b) (Decides-parts c a b) (λ i. not_both r (h (boxes_meet bounds a b c k i)) t)
 
-pub none_apart_y : (bounds : Bounds) (a b : Corner) → AreApart bounds.low.y bounds.high.y a.y b.y → (c : Corner) → IsInBounds c bounds
-    → is_inside c a b ≡ false
-none_apart_y bounds a b h c k = false_where (is_inside c a b) (Decides-parts c a b)
-    (λ i. not_in_both bounds.low.y bounds.high.y a.y b.y c.y h k.from_y k.to_y i.0.1)
-
-Decides-apart : (u v w z : ℤ) → Decides (lt_z (int_max u v) (int_min w z) || lt_z (int_max w z) (int_min u v)) (AreApart u v w z)
+Decides-apart : (u v w z : ℤ) → Decides (lt_z (int_max u v) (int_min w z) || lt_z (int_max w z) (int_min u v)) (RangesAreApart u v w z)
 Decides-apart u v w z = Decides-or (lt_z (int_max u v) (int_min w z)) (lt_z (int_max w z) (int_min u v)) (Decides-int_lt (int_max u v) (int_min w z))
     (Decides-int_lt (int_max w z) (int_min u v))
 
 -- what a test that is true tells
-pub apart_from_test : (t : Bool) (u v w z : ℤ) → t ≡ (lt_z (int_max u v) (int_min w z) || lt_z (int_max w z) (int_min u v)) → t ≡ true → AreApart u v w z
+pub apart_from_test : (t : Bool) (u v w z : ℤ) → t ≡ (lt_z (int_max u v) (int_min w z) || lt_z (int_max w z) (int_min u v)) → t ≡ true → RangesAreApart u v w z
 apart_from_test t u v w z e h = (Decides-apart u v w z).0 (sym e ∙ h)
-
--- a second test, where the first is true
-pub both_tests : (r s p q : Bool) → r ≡ p → s ≡ q → r ≡ true → s ≡ (p && q)
-both_tests r s p q h k t = k ∙ ap (λ x. x && q) (sym t ∙ h)
 
 pub none_beside_of : (bounds : Bounds) (a b c : Corner) (bottom top left right : ℤ)
     → bottom ≡ (b.x -ℤ a.x) *ℤ (bounds.low.y -ℤ a.y) → top ≡ (b.x -ℤ a.x) *ℤ (bounds.high.y -ℤ a.y)
     → left ≡ (b.y -ℤ a.y) *ℤ (bounds.low.x -ℤ a.x) → right ≡ (b.y -ℤ a.y) *ℤ (bounds.high.x -ℤ a.x)
-    → AreApart bottom top left right → IsInBounds c bounds → is_inside c a b ≡ false
+    → RangesAreApart bottom top left right → HoldsCorner bounds c → is_strictly_inside c a b ≡ false
 none_beside_of bounds a b c bottom top left right e f g h k l =
     let bottom' = (b.x -ℤ a.x) *ℤ (bounds.low.y -ℤ a.y) in
     let top' = (b.x -ℤ a.x) *ℤ (bounds.high.y -ℤ a.y) in
     let left' = (b.y -ℤ a.y) *ℤ (bounds.low.x -ℤ a.x) in
     let right' = (b.y -ℤ a.y) *ℤ (bounds.high.x -ℤ a.x) in
     none_beside bounds a b c
-    (subst (λ z. AreApart bottom' top' left' z) h (subst (λ z. AreApart bottom' top' z right) g
-    (subst (λ z. AreApart bottom' z left right) f (subst (λ z. AreApart z top left right) e k)))) l
+    (subst (λ z. RangesAreApart bottom' top' left' z) h (subst (λ z. RangesAreApart bottom' top' z right) g
+    (subst (λ z. RangesAreApart bottom' z left right) f (subst (λ z. RangesAreApart z top left right) e k)))) l
 
 -- ---- two boxes
-Decides-is_from_to : (u v z : ℤ) → Decides (is_from_to u v z) ((u ≤ℤ z) × (z ≤ℤ v))
-Decides-is_from_to u v z = Decides-and (le_z u z) (le_z z v) (Decides-int_le u z) (Decides-int_le z v)
-
-pub Decides-is_in_bounds : (c : Corner) (bounds : Bounds) → Decides (is_in_bounds c bounds) (IsInBounds c bounds)
-Decides-is_in_bounds c bounds =
-    Decides-like (is_in_bounds c bounds)
-    (λ h. record { from_x = h.0.0; to_x = h.0.1; from_y = h.1.0; to_y = h.1.1 })
-    (λ h. ((h.from_x, h.to_x), (h.from_y, h.to_y)))
-    (Decides-and (is_from_to bounds.low.x bounds.high.x c.x) (is_from_to bounds.low.y bounds.high.y c.y)
-    (Decides-is_from_to bounds.low.x bounds.high.x c.x) (Decides-is_from_to bounds.low.y bounds.high.y c.y))
-
-abbrev pub AreOff : ℤ → ℤ → ℤ → ℤ → Type 0
-AreOff u v w z = (v <ℤ w) ⊎ (z <ℤ u)
-
-pub off_from_test : (t : Bool) (u v w z : ℤ) → t ≡ (lt_z v w || lt_z z u) → t ≡ true → AreOff u v w z
-off_from_test t u v w z e h = (Decides-or (lt_z v w) (lt_z z u) (Decides-int_lt v w) (Decides-int_lt z u)).0 (sym e ∙ h)
-
--- a number of one range is not in a range off it
-not_in_off : (u v w z k : ℤ) → AreOff u v w z → u ≤ℤ k → k ≤ℤ v → w ≤ℤ k → k ≤ℤ z → ⊥
-not_in_off u v w z k (inl l) p q r s = omega (arith, ints)
-not_in_off u v w z k (inr l) p q r s = omega (arith, ints)
-
-pub none_off_x : (one other : Bounds) → AreOff one.low.x one.high.x other.low.x other.high.x → (c : Corner) → IsInBounds c one → is_in_bounds c other ≡ false
-none_off_x one other h c k = false_where (is_in_bounds c other) (Decides-is_in_bounds c other)
-    (λ i. not_in_off one.low.x one.high.x other.low.x other.high.x c.x h k.from_x k.to_x i.from_x i.to_x)
-
-pub none_off_y : (one other : Bounds) → AreOff one.low.y one.high.y other.low.y other.high.y → (c : Corner) → IsInBounds c one → is_in_bounds c other ≡ false
-none_off_y one other h c k = false_where (is_in_bounds c other) (Decides-is_in_bounds c other)
-    (λ i. not_in_off one.low.y one.high.y other.low.y other.high.y c.y h k.from_y k.to_y i.from_y i.to_y)
+-- boxes that hold one corner meet
+pub none_off : (r : Bool) (one other : Bounds) → (EdgeBoxesMeet one.low one.high other.low other.high → r ≡ true) → not r ≡ true → (c : Corner)
+    → HoldsCorner one c → holds_corner other c ≡ false
+none_off r one other h t c k = false_where (holds_corner other c) (Decides-holds_corner other c) (λ i. not_both r (h (both_hold k i)) t)
+  where
+    both_hold : HoldsCorner one c → HoldsCorner other c → EdgeBoxesMeet one.low one.high other.low other.high
+    both_hold k i = (
+      (omega (arith, ints, clamps, k.west, i.east), omega (arith, ints, clamps, k.east, i.west)),
+      (omega (arith, ints, clamps, k.south, i.north), omega (arith, ints, clamps, k.north, i.south)),
+    )
 
 -- a box with both ends of an edge has what lies inside the edge
-pub covered : (bounds : Bounds) (a b : Corner) → is_in_bounds a bounds ≡ true → is_in_bounds b bounds ≡ true → (c : Corner) → is_inside c a b ≡ true
-    → is_in_bounds c bounds ≡ true
+pub covered : (bounds : Bounds) (a b : Corner) → holds_corner bounds a ≡ true → holds_corner bounds b ≡ true → (c : Corner) → is_strictly_inside c a b ≡ true
+    → holds_corner bounds c ≡ true
 covered bounds a b h k c t =
-    let p = (Decides-is_in_bounds a bounds).0 h in
-    let q = (Decides-is_in_bounds b bounds).0 k in
+    let p = (Decides-holds_corner bounds a).0 h in
+    let q = (Decides-holds_corner bounds b).0 k in
     let i = (Decides-parts c a b).0 t in
-    (Decides-is_in_bounds c bounds).1 (record {
-      from_x = omega (arith, ints, clamps, p.from_x, q.from_x, i.0.0.0);
-      to_x = omega (arith, ints, clamps, p.to_x, q.to_x, i.0.0.1);
-      from_y = omega (arith, ints, clamps, p.from_y, q.from_y, i.0.1.0);
-      to_y = omega (arith, ints, clamps, p.to_y, q.to_y, i.0.1.1);
+    (Decides-holds_corner bounds c).1 (record {
+      west = omega (arith, ints, clamps, p.west, q.west, i.0.0.0);
+      east = omega (arith, ints, clamps, p.east, q.east, i.0.0.1);
+      south = omega (arith, ints, clamps, p.south, q.south, i.0.1.0);
+      north = omega (arith, ints, clamps, p.north, q.north, i.0.1.1);
     })

@@ -17,8 +17,9 @@ use Rattle.geo_exact.proofs.SameCorner.{corner_same}
 use Rattle.geo_exact.proofs.EdgeSums.{edge_of, sum_over-append, sum_over-plus}
 use Rattle.geo_exact.proofs.TurnLaws.{turn_at_back}
 use Rattle.geo_exact.proofs.OnEdge.{on_edge_back, on_edge_between, starts_on}
-use Rattle.edge_chains.specs.Net.{edge_count, all_edges, net_of_edges, net_count, winding_sum}
-use Rattle.edge_chains.specs.Noding.{IsStrictlyInside, all_corners, AreFullyNoded}
+use Rattle.edge_chains.specs.Net.{edge_count, all_edges, net_of_edges, net_count, winding_of_rings}
+use Rattle.edge_chains.specs.Noding.{all_corners, AreFullyNoded}
+use Rattle.geo_exact.specs.Segments.{IsStrictlyInside}
 use Rattle.edge_chains.specs.Jump.{AreBeside, Joins, MeetsOnly, winding_difference, net_difference, IsJump}
 use Rattle.edge_chains.proofs.Changes.{net_of_cons}
 use Rattle.edge_chains.proofs.Nets.{edge_count-append, all_edges-append}
@@ -26,7 +27,8 @@ use Rattle.edge_chains.proofs.Balance.{find_edge, sum_of_rings-edges}
 use Rattle.edge_chains.proofs.NodedEdges.{none_in_nil, Contains-here, Contains-there, Contains-cases, all_from_contains}
 use Rattle.edge_chains.proofs.Parts.{strictly_back}
 use Rattle.edge_chains.proofs.Beside.{whole, step, near, cross, push, turn_near, last_one, step_past, step_short}
-use Rattle.edge_chains.proofs.Segments.{start_on_segment, segment_back}
+use Rattle.edge_chains.proofs.Segments.{start_on_segment}
+use Rattle.geo_exact.proofs.Ways.{segment_back}
 use Rattle.edge_chains.proofs.Steep.{AreClear, left_of, right_of, cross_itself, steep_jump, steep_meets}
 use Rattle.edge_chains.proofs.Level.{IsLevel, above_of, below_of, shift, level_jump, level_meets}
 
@@ -65,14 +67,14 @@ climbs height (ring ∷ rings) =
 rings_jump : (l r : Point) (height : Corner → ℤ) (a b : Corner) (rings : List (List Corner))
     → ((e : Edge) → Contains (all_edges rings) e
     → crossing l e.from e.to -ℤ crossing r e.from e.to ≡ (height e.to -ℤ height e.from) +ℤ net_of_edges (e ∷ []) a b)
-    → winding_sum l rings -ℤ winding_sum r rings ≡ net_count rings a b
+    → winding_of_rings l rings -ℤ winding_of_rings r rings ≡ net_count rings a b
 rings_jump l r height a b rings h =
     let es = all_edges rings in
     let cl : Edge → ℤ = λ e. crossing l e.from e.to in
     let cr : Edge → ℤ = λ e. crossing r e.from e.to in
     let up : Edge → ℤ = λ e. height e.to -ℤ height e.from in
     let one : Edge → ℤ = λ e. net_of_edges (e ∷ []) a b in
-    total (winding_sum l rings) (winding_sum r rings) (sum_over cl es) (sum_over cr es) (sum_over (λ e. cl e -ℤ cr e) es) (sum_over (λ e. up e +ℤ one e) es)
+    total (winding_of_rings l rings) (winding_of_rings r rings) (sum_over cl es) (sum_over cr es) (sum_over (λ e. cl e -ℤ cr e) es) (sum_over (λ e. up e +ℤ one e) es)
     (sum_over up es) (sum_over one es) (net_count rings a b)
     (sum_of_rings-edges cl rings) (sum_of_rings-edges cr rings) (sum_over-minus cl cr es)
     (sum_over-on (λ e. cl e -ℤ cr e) (λ e. up e +ℤ one e) es (all_from_contains (λ e. cl e -ℤ cr e ≡ up e +ℤ one e) es h))
@@ -186,7 +188,7 @@ IsJump-from l r height a b added taken beside jumps meets = record {
   right_is_off = off_all r (all_edges (added ++ taken))
       (λ e k o. off_joined r a b e (λ z. let p = beside.is_right in omega (arith, ints)) (meets e r k (segment_back r r l (start_on_segment r l)) o) o);
   no_other_between = meets;
-  changes = differ (winding_sum l added) (winding_sum l taken) (winding_sum r added) (winding_sum r taken) (net_count added a b) (net_count taken a b)
+  changes = differ (winding_of_rings l added) (winding_of_rings l taken) (winding_of_rings r added) (winding_of_rings r taken) (net_count added a b) (net_count taken a b)
       (rings_jump l r height a b added (λ e k. jumps e (in_added added taken e k)))
       (rings_jump l r height a b taken (λ e k. jumps e (in_taken added taken e k)));
 }

@@ -1,5 +1,5 @@
 -- The two points beside a level edge, and how each edge of fully noded rings crosses there.
-use Rattle.std.proofs.Common.{◌≡◌, ◌⊎◌, inl, inr, ⊎_elim, refl, sym, ◌∙◌, ap, subst, arith, if◌then◌else◌, ◌&&◌, ℤ, pos, negsuc, ◌+ℤ◌, ◌-ℤ◌, ◌*ℤ◌, neg_ℤ}
+use Rattle.std.proofs.Common.{◌≡◌, ◌⊎◌, inl, inr, ⊎_elim, refl, sym, ◌∙◌, ap, subst, arith, if◌then◌else◌, ◌&&◌, ℤ, pos, negsuc, ◌+ℤ◌, ◌-ℤ◌, ◌*ℤ◌, neg_ℤ, ◌*◌}
 use Rattle.std.proofs.Common.{[], ◌∷◌}
 use Rattle.std.specs.Bool.{Decides}
 use Rattle.std.specs.Ordering.{int_eq}
@@ -7,7 +7,7 @@ use Rattle.std.proofs.lemmas.Int.{ints, clamps, by_lt_z}
 use Rattle.std.proofs.lemmas.Bool.Decides.{Decides-and, Decides-int_eq}
 use lib.Signed.{◌<ℤ◌, ◌≤ℤ◌, lt_z}
 use Rattle.geo_exact.specs.declared.corner.Corner.{Corner}
-use Rattle.geo_exact.specs.Limit.{IsWithin}
+use Rattle.geo_exact.specs.Limit.{IsWithin, limit}
 use Rattle.geo_exact.specs.Point.{Point}
 use Rattle.geo_exact.specs.Turn.{turn, turn_at, IsOnEdge}
 use Rattle.geo_exact.specs.Winding.{crossing}
@@ -20,9 +20,9 @@ use Rattle.geo_exact.proofs.OnEdge.{on_edge_back}
 use Rattle.geo_exact.proofs.Crossings.{crossing_back}
 use Rattle.geo_exact.proofs.Orders.{Decides-int_lt}
 use Rattle.edge_chains.specs.Net.{net_of_edges}
-use Rattle.edge_chains.specs.Noding.{IsStrictlyInside}
-use Rattle.edge_chains.specs.Jump.{IsOnSegment, Joins}
-use Rattle.edge_chains.proofs.Corners.{false_where}
+use Rattle.geo_exact.specs.Segments.{IsStrictlyInside, IsOnSegment}
+use Rattle.edge_chains.specs.Jump.{Joins}
+use Rattle.geo_exact.proofs.CornerOrder.{false_where}
 use Rattle.edge_chains.proofs.Changes.{net_of_turned}
 use Rattle.edge_chains.proofs.Beside.{whole, step, near, cross, push, turn_near, cross_within, lead_up, lead_down, next_up, next_down, step_past, step_short}
 use Rattle.edge_chains.proofs.Segments.{left_has_none, right_has_none, above_has_none, below_has_none, farther_has_none, nearer_has_none}
@@ -39,7 +39,7 @@ pub record IsLevel (a b : Corner) : Type 0 where
   pub same_height : b.y ≡ a.y
   pub to_right : a.x <ℤ b.x
 
-push_within : (u v : Corner) → IsWithin 20000000000 (push u v (pos 0) (pos 1)) × IsWithin 20000000000 (push u v (pos 0) (negsuc 0))
+push_within : (u v : Corner) → IsWithin (2 * limit) (push u v (pos 0) (pos 1)) × IsWithin (2 * limit) (push u v (pos 0) (negsuc 0))
 push_within u v = (record { low = omega (arith, ints); high = omega (arith, ints) }, record { low = omega (arith, ints); high = omega (arith, ints) })
 
 -- both turns have one sign

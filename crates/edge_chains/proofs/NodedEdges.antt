@@ -1,6 +1,6 @@
 -- Edges with the corners that were inserted into them.
 use Rattle.std.proofs.Common.{◌≡◌, ◌⊎◌, ◌↔◌, inl, inr, ⊎_elim, refl, sym, ◌∙◌, ap, subst, arith, Bool, true, false, cond, ℕ, ◌+◌}
-use Rattle.std.proofs.Common.{◌<◌, length, get_or, drop, List, [], ◌∷◌, ◌++◌, append_assoc, append-nil, reverse, map, take}
+use Rattle.std.proofs.Common.{◌<◌, length, get_or, drop, List, [], ◌∷◌, ◌++◌, append_assoc, append-nil, reverse, take}
 use Rattle.std.specs.List.{Contains, filter, AllByRecursion, AllZip}
 use Rattle.std.specs.List.Sorted.{IsStrictlySortedBy, IsPermutation}
 use Rattle.std.proofs.lemmas.List.Elements.{Contains-append_left, Contains-append_right, Contains-append_cases, Contains-push, Contains-push_cases}
@@ -10,11 +10,12 @@ use Rattle.geo_exact.specs.declared.corner.Corner.{Corner}
 use Rattle.geo_exact.specs.Rings.{Edge, path}
 use Rattle.geo_exact.proofs.Dropped.{drop_item}
 use Rattle.geo_exact.proofs.EdgeSums.{edge_of}
-use Rattle.edge_chains.specs.Noding.{IsStrictlyInside, AreAlong, IsNodedEdge, AreNodedEdges, IsNoded}
-use Rattle.edge_chains.specs.Inside.{is_inside, corner_cmp}
-use Rattle.edge_chains.proofs.Corners.{IsBefore, cases_of, Decides-is_before, same_unless_before}
-use Rattle.edge_chains.specs.Counts.{is_before}
-use Rattle.edge_chains.proofs.Inside.{Decides-is_inside}
+use Rattle.edge_chains.specs.Noding.{AreAlong, IsNodedEdge, AreNodedEdges, IsNoded}
+use Rattle.geo_exact.specs.Segments.{IsStrictlyInside}
+use Rattle.edge_chains.specs.own.Inside.{is_strictly_inside}
+use Rattle.geo_exact.specs.Order.{corner_cmp, is_before}
+use Rattle.geo_exact.proofs.CornerOrder.{IsBefore, cases_of, Decides-is_before, same_unless_before}
+use Rattle.edge_chains.proofs.Inside.{Decides-is_strictly_inside}
 use Rattle.edge_chains.proofs.Along.{LeadsOn, IsChain, IsChain-weaker, IsChain-reverse, leads_on_up, leads_on_down, along}
 use Rattle.edge_chains.proofs.Parts.{edge_has_length}
 use Rattle.edge_chains.proofs.Sorted.{IsChain-from_sorted}
@@ -61,7 +62,7 @@ all_from_contains P [] h = tt
 all_from_contains P (x ∷ xs) h = (h x (Contains-here x xs), all_from_contains P xs (λ c k. h c (Contains-there x xs c k)))
 
 -- ---- one edge
-IsNodedEdge-from : (corners found once out : List Corner) (a b : Corner) → found ≡ filter (λ c. is_inside c a b) corners
+IsNodedEdge-from : (corners found once out : List Corner) (a b : Corner) → found ≡ filter (λ c. is_strictly_inside c a b) corners
     → ((c : Corner) → Contains found c → Contains once c) → ((c : Corner) → Contains once c → Contains found c)
     → IsPermutation once out → (AllByRecursion (λ c. IsStrictlyInside c a b) out → AreAlong a out b)
     → IsNodedEdge corners (edge_of a b) out
@@ -69,19 +70,19 @@ IsNodedEdge-from corners found once out a b f keeps adds moved order = record {
   exactly = λ c. (
     λ h. is_found c h,
     λ h. Contains-permutation once out c moved
-        (keeps c (subst (λ l. Contains l c) (sym f) (Contains-filter (λ x. is_inside x a b) corners c h.0 ((Decides-is_inside c a b).1 h.1)))),
+        (keeps c (subst (λ l. Contains l c) (sym f) (Contains-filter (λ x. is_strictly_inside x a b) corners c h.0 ((Decides-is_strictly_inside c a b).1 h.1)))),
   );
   in_order = order (all_from_contains (λ c. IsStrictlyInside c a b) out (λ c h. (is_found c h).1));
 }
   where
     is_found : (c : Corner) → Contains out c → Contains corners c × IsStrictlyInside c a b
     is_found c h =
-        let k = Contains-from_filter (λ x. is_inside x a b) corners c
+        let k = Contains-from_filter (λ x. is_strictly_inside x a b) corners c
         (subst (λ l. Contains l c) f (adds c (Contains-permutation out once c (IsPermutation-sym once out moved) h))) in
-        (k.0, (Decides-is_inside c a b).0 k.1)
+        (k.0, (Decides-is_strictly_inside c a b).0 k.1)
 
 -- found corners, sorted, and turned round where the edge goes down
-pub IsNodedEdge-down : (corners found once out : List Corner) (a b : Corner) → found ≡ filter (λ c. is_inside c a b) corners
+pub IsNodedEdge-down : (corners found once out : List Corner) (a b : Corner) → found ≡ filter (λ c. is_strictly_inside c a b) corners
     → IsStrictlySortedBy corner_cmp once → ((c : Corner) → Contains found c → Contains once c) → ((c : Corner) → Contains once c → Contains found c)
     → is_before b a ≡ true → out ≡ reverse once → IsNodedEdge corners (edge_of a b) out
 IsNodedEdge-down corners found once out a b f rises keeps adds down e =
@@ -90,7 +91,7 @@ IsNodedEdge-down corners found once out a b f rises keeps adds down e =
     (λ c d p q r. leads_on_down a b c d ((Decides-is_before b a).0 down) p q r) out all
     (subst (IsChain (λ c d. IsBefore d c)) (sym e) (IsChain-reverse IsBefore once (IsChain-from_sorted once rises)))))
 
-pub IsNodedEdge-up : (corners found once out : List Corner) (a b : Corner) → found ≡ filter (λ c. is_inside c a b) corners
+pub IsNodedEdge-up : (corners found once out : List Corner) (a b : Corner) → found ≡ filter (λ c. is_strictly_inside c a b) corners
     → IsStrictlySortedBy corner_cmp once → ((c : Corner) → Contains found c → Contains once c) → ((c : Corner) → Contains once c → Contains found c)
     → is_before b a ≡ false → out ≡ once → IsNodedEdge corners (edge_of a b) out
 IsNodedEdge-up corners found once out a b f rises keeps adds up e =
@@ -161,10 +162,3 @@ noded_ring corners ring noded first rest e h = subst (λ r. IsNoded r corners no
 pub noded_nothing : (corners ring noded : List Corner) → length ring ≡ 0 → noded ≡ [] → IsNoded ring corners noded
 noded_nothing corners [] noded e h = h
 noded_nothing corners (c ∷ rest) noded e h = absurd (omega arith)
-
-pub AllZip-map : {X Y U V : Type 0} (R : U → V → Type 0) (f : X → U) (g : Y → V) (xs : List X) (ys : List Y) → AllZip (λ x y. R (f x) (g y)) xs ys
-    → AllZip R (map f xs) (map g ys)
-AllZip-map R f g [] [] h = h
-AllZip-map R f g [] (y ∷ ys) h = h
-AllZip-map R f g (x ∷ xs) [] h = h
-AllZip-map R f g (x ∷ xs) (y ∷ ys) h = (h.0, AllZip-map R f g xs ys h.1)

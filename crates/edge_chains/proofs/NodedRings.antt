@@ -7,12 +7,14 @@ use Rattle.geo_exact.specs.declared.corner.Corner.{Corner}
 use Rattle.geo_exact.specs.Point.{Point}
 use Rattle.geo_exact.specs.Rings.{Edge, path, edges, sum_over}
 use Rattle.geo_exact.specs.Turn.{IsOnEdge, IsOnSome, IsOnRing}
+use Rattle.geo_exact.proofs.OnRings.{IsOnSome-left, IsOnSome-right, IsOnSome-either}
 use Rattle.geo_exact.specs.Winding.{crossing, winding}
 use Rattle.geo_exact.specs.Area.{edge_area2, area2}
 use Rattle.geo_exact.proofs.EdgeSums.{edge_of, path-join, sum_over-path}
 use Rattle.geo_exact.proofs.Crossings.{crossing_cut, edge_area2_cut}
 use Rattle.edge_chains.specs.Net.{all_edges}
-use Rattle.edge_chains.specs.Noding.{IsStrictlyInside, AreAlong, AreNodedEdges, IsNoded, all_corners, AreFullyNoded}
+use Rattle.edge_chains.specs.Noding.{AreAlong, AreNodedEdges, IsNoded, all_corners, AreFullyNoded}
+use Rattle.geo_exact.specs.Segments.{IsStrictlyInside}
 use Rattle.edge_chains.proofs.NodedEdges.{none_in_nil, Contains-here, Contains-there, Contains-cases}
 use Rattle.edge_chains.proofs.Parts.{on_parts, on_whole_first, on_whole_second, inside_whole_first, inside_whole_second, inside_one_part}
 
@@ -70,20 +72,6 @@ pub area2_noded : (ring corners noded : List Corner) → IsNoded ring corners no
 area2_noded ring corners noded h = sum_over-noded edge_area2 (λ a b c i. edge_area2_cut a b c i.on_edge) corners ring noded h
 
 -- ---- points on edges
-IsOnSome-left : (p : Point) (es fs : List Edge) → IsOnSome p es → IsOnSome p (es ++ fs)
-IsOnSome-left p [] fs h = absurd h
-IsOnSome-left p (e ∷ es) fs (inl h) = inl h
-IsOnSome-left p (e ∷ es) fs (inr h) = inr (IsOnSome-left p es fs h)
-
-IsOnSome-right : (p : Point) (es fs : List Edge) → IsOnSome p fs → IsOnSome p (es ++ fs)
-IsOnSome-right p [] fs h = h
-IsOnSome-right p (e ∷ es) fs h = inr (IsOnSome-right p es fs h)
-
-IsOnSome-either : (p : Point) (es fs : List Edge) → IsOnSome p (es ++ fs) → IsOnSome p es ⊎ IsOnSome p fs
-IsOnSome-either p [] fs h = inr h
-IsOnSome-either p (e ∷ es) fs (inl h) = inl (inl h)
-IsOnSome-either p (e ∷ es) fs (inr h) = ⊎_elim (λ k. inl (inr k)) (λ k. inr k) (IsOnSome-either p es fs h)
-
 on_some_along : (p : Point) (a b : Corner) (xs : List Corner) → AreAlong a xs b → IsOnEdge p a b → IsOnSome p (path a xs b)
 on_some_along p a b [] h k = inl k
 on_some_along p a b (c ∷ rest) h k = ⊎_elim (λ l. inl l) (λ l. inr (on_some_along p c b rest h.1 l)) (on_parts p a b c h.0 k)

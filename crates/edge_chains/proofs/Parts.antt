@@ -12,7 +12,7 @@ use Rattle.geo_exact.proofs.Polynomials.{var, add, mul, neg, sub, same_by}
 use Rattle.geo_exact.proofs.SameCorner.{corner_same}
 use Rattle.geo_exact.proofs.TurnLaws.{turn_expr, turn_at_expr}
 use Rattle.geo_exact.proofs.OnEdge.{on_edge_back}
-use Rattle.edge_chains.specs.Noding.{IsStrictlyInside}
+use Rattle.geo_exact.specs.Segments.{IsStrictlyInside}
 use Rattle.edge_chains.proofs.Inside.{IsBetween, inside_from_strictly}
 use Rattle.edge_chains.proofs.Along.{zero_cases, both_zero, along_u, along_v, drop_zero, drop_zero', squares}
 

@@ -11,7 +11,7 @@ use Rattle.geo_exact.proofs.Orders.{lt_not_ge, positive_not_zero}
 use Rattle.geo_exact.proofs.Signs.{mul_pos, pos_of_mul, convex}
 use Rattle.geo_exact.proofs.Polynomials.{var, lit, add, mul, neg, same_by}
 use Rattle.geo_exact.proofs.TurnLaws.{turn_at_expr, turn_at_back}
-use Rattle.edge_chains.specs.Jump.{IsOnSegment}
+use Rattle.geo_exact.specs.Segments.{IsOnSegment}
 
 -- ---- the ends are on it
 pub start_on_segment : (p r : Point) → IsOnSegment p p r
@@ -26,22 +26,6 @@ start_on_segment p r = record {
   in_y = omega (arith, ints);
   in_d = omega (arith, ints);
 }
-
-pub segment_back : (q p r : Point) → IsOnSegment q p r → IsOnSegment q r p
-segment_back q p r h = record {
-  k = h.k;
-  m = h.n;
-  n = h.m;
-  k_positive = h.k_positive;
-  m_not_negative = h.n_not_negative;
-  n_not_negative = h.m_not_negative;
-  in_x = h.in_x ∙ swapped (h.m *ℤ p.x) (h.n *ℤ r.x);
-  in_y = h.in_y ∙ swapped (h.m *ℤ p.y) (h.n *ℤ r.y);
-  in_d = h.in_d ∙ swapped (h.m *ℤ p.d) (h.n *ℤ r.d);
-}
-  where
-    swapped : (u v : ℤ) → u +ℤ v ≡ v +ℤ u
-    swapped u v = omega (arith, ints)
 
 -- ---- numbers that are linear in (x, y, d)
 abbrev weigh : ℤ → ℤ → ℤ → ℤ → ℤ → ℤ → ℤ

@@ -1,10 +1,10 @@
 -- The two points beside an edge that isn't level, and how each edge of fully noded rings crosses there.
-use Rattle.std.proofs.Common.{◌≡◌, ◌⊎◌, inl, inr, ⊎_elim, refl, sym, ◌∙◌, ap, subst, arith, Bool, true, false, if◌then◌else◌, ◌+◌, ℤ, pos, negsuc, ◌+ℤ◌}
+use Rattle.std.proofs.Common.{◌≡◌, ◌⊎◌, inl, inr, ⊎_elim, refl, sym, ◌∙◌, ap, subst, arith, Bool, true, false, if◌then◌else◌, ◌+◌, ℤ, pos, negsuc, ◌+ℤ◌, ◌*◌}
 use Rattle.std.proofs.Common.{◌-ℤ◌, ◌*ℤ◌, neg_ℤ, [], ◌∷◌}
 use Rattle.std.proofs.lemmas.Int.{ints, by_lt_z}
 use lib.Signed.{◌<ℤ◌, ◌≤ℤ◌, lt_z, le_z}
 use Rattle.geo_exact.specs.declared.corner.Corner.{Corner}
-use Rattle.geo_exact.specs.Limit.{IsWithin}
+use Rattle.geo_exact.specs.Limit.{IsWithin, limit}
 use Rattle.geo_exact.specs.Point.{Point, corner_point}
 use Rattle.geo_exact.specs.Turn.{turn, turn_at, IsOnEdge}
 use Rattle.geo_exact.specs.Winding.{crossing}
@@ -16,10 +16,11 @@ use Rattle.geo_exact.proofs.Polynomials.{var, lit, add, mul, neg, same_by}
 use Rattle.geo_exact.proofs.TurnLaws.{turn_cycle, turn_swap, turn_at_corner}
 use Rattle.geo_exact.proofs.OnEdge.{on_edge_between, on_edge_back, starts_on}
 use Rattle.geo_exact.proofs.Crossings.{crossed, crossing_back}
-use Rattle.edge_chains.specs.Net.{is_same, net_of_edges}
-use Rattle.edge_chains.specs.Noding.{IsStrictlyInside}
-use Rattle.edge_chains.specs.Jump.{IsOnSegment, Joins}
-use Rattle.edge_chains.proofs.Corners.{cases_of, false_where, Decides-is_same}
+use Rattle.edge_chains.specs.Net.{net_of_edges}
+use Rattle.geo_exact.specs.Order.{is_same}
+use Rattle.geo_exact.specs.Segments.{IsStrictlyInside, IsOnSegment}
+use Rattle.edge_chains.specs.Jump.{Joins}
+use Rattle.geo_exact.proofs.CornerOrder.{cases_of, false_where, Decides-is_same}
 use Rattle.edge_chains.proofs.Changes.{Decides-is_same_edge, net_of_turned}
 use Rattle.edge_chains.specs.Counts.{is_same_edge}
 use Rattle.edge_chains.proofs.Parts.{strictly_back}
@@ -94,7 +95,7 @@ left_of a b = near a b (negsuc 0) (pos 0)
 abbrev pub right_of : Corner → Corner → Point
 right_of a b = near a b (pos 1) (pos 0)
 
-push_within : (u v : Corner) → IsWithin 20000000000 (push u v (negsuc 0) (pos 0)) × IsWithin 20000000000 (push u v (pos 1) (pos 0))
+push_within : (u v : Corner) → IsWithin (2 * limit) (push u v (negsuc 0) (pos 0)) × IsWithin (2 * limit) (push u v (pos 1) (pos 0))
 push_within u v = (record { low = omega (arith, ints); high = omega (arith, ints) }, record { low = omega (arith, ints); high = omega (arith, ints) })
 
 pub cross_itself : (a b : Corner) → cross a b a b ≡ pos 0

@@ -1,15 +1,11 @@
 -- What an `EdgeSum` shows: undirected edges with their net numbers (this product's own).
-use Rattle.std.specs.Prelude.{◌≡◌, ◌≢◌, ℕ, ℤ, pos, ◌-ℤ◌, neg_ℤ, int_lt, Bool, ◌&&◌, ◌||◌, if◌then◌else◌, IsTrue, Option, IsSome, Some, None, List}
-use Rattle.std.specs.Ordering.{int_eq}
+use Rattle.std.specs.Prelude.{◌≡◌, ◌≢◌, ℕ, ℤ, pos, ◌-ℤ◌, neg_ℤ, Bool, ◌&&◌, ◌||◌, if◌then◌else◌, IsTrue, IsSome, Some, List}
 use Rattle.std.specs.Option.{unwrap_or}
 use Rattle.std.specs.Map.{lookup}
 use Rattle.geo_exact.specs.Limit.{IsWithin}
 use Rattle.geo_exact.specs.declared.corner.Corner.{Corner}
-use Rattle.edge_chains.specs.Net.{is_same, net_count}
-
--- the order of corners: by x, then by y
-abbrev pub is_before : Corner → Corner → Bool
-is_before a b = int_lt a.x b.x || (int_eq a.x b.x && int_lt a.y b.y)
+use Rattle.edge_chains.specs.Net.{net_count}
+use Rattle.geo_exact.specs.Order.{is_same, is_before}
 
 -- the order of undirected edges: by the first corner, then by the second
 abbrev pub is_edge_before : Corner × Corner → Corner × Corner → Bool
@@ -34,10 +30,6 @@ net_at counts a b =
     if is_before a b
     then number_at counts a b
     else (if is_before b a then neg_ℤ (number_at counts b a) else pos 0)
-
--- the entry of a number: none for 0. Public contracts do not speak of it.
-abbrev pub entry_of : ℤ → Option ℤ
-entry_of n = if int_eq n (pos 0) then None else Some n
 
 -- the counts as an `EdgeSum` keeps them, a map without repeated edges: each edge has its lesser corner first, and a number other than 0 of size n at most
 pub record AreCounts (counts : List ((Corner × Corner) × ℤ)) (n : ℕ) : Type 0 where

@@ -1,37 +1,14 @@
 -- Points on the two sides of an edge, and how winding numbers differ there: the jump is this product's own. That a polygon's interior is on one side of
 -- a ring's edges, to the right of one who walks along the ring in vertex order, is the ESRI Shapefile Technical Description's, July 1998, "Polygon";
 -- here rings may run in either direction, and overlap.
-use Rattle.std.specs.Prelude.{◌≡◌, ◌⊎◌, ℤ, pos, ◌+ℤ◌, ◌-ℤ◌, ◌*ℤ◌, ◌<ℤ◌, ◌≤ℤ◌, List, ◌++◌}
+use Rattle.std.specs.Prelude.{◌≡◌, ◌⊎◌, ℤ, pos, ◌-ℤ◌, ◌<ℤ◌, List, ◌++◌}
 use Rattle.std.specs.List.{Contains}
 use Rattle.geo_exact.specs.declared.corner.Corner.{Corner}
-use Rattle.geo_exact.specs.Point.{Point, IsPlaceOf}
+use Rattle.geo_exact.specs.Point.{Point}
 use Rattle.geo_exact.specs.Rings.{Edge}
 use Rattle.geo_exact.specs.Turn.{turn_at, IsOnEdge, IsOnSome}
-use Rattle.edge_chains.specs.Net.{all_edges, net_count, winding_sum}
-
--- p lies on the edge from a to b, and at neither of its ends
-pub record IsInsideEdge (p : Point) (a b : Corner) : Type 0 where
-  pub on_edge : IsOnEdge p a b
-  pub not_start : ¬ IsPlaceOf p a
-  pub not_end : ¬ IsPlaceOf p b
-
--- m is halfway from p to q; both points have the denominator of m
-pub record IsHalfway (m p q : Point) : Type 0 where
-  pub same_d : (p.d ≡ m.d) × (q.d ≡ m.d)
-  pub in_x : p.x +ℤ q.x ≡ pos 2 *ℤ m.x
-  pub in_y : p.y +ℤ q.y ≡ pos 2 *ℤ m.y
-
--- q lies on the segment from p to r, its ends included: in homogeneous coordinates (x, y, d), k times q is m times p and n times r
-pub record IsOnSegment (q p r : Point) : Type 0 where
-  pub k : ℤ
-  pub m : ℤ
-  pub n : ℤ
-  pub k_positive : pos 0 <ℤ k
-  pub m_not_negative : pos 0 ≤ℤ m
-  pub n_not_negative : pos 0 ≤ℤ n
-  pub in_x : k *ℤ q.x ≡ m *ℤ p.x +ℤ n *ℤ r.x
-  pub in_y : k *ℤ q.y ≡ m *ℤ p.y +ℤ n *ℤ r.y
-  pub in_d : k *ℤ q.d ≡ m *ℤ p.d +ℤ n *ℤ r.d
+use Rattle.geo_exact.specs.Segments.{IsInsideEdge, IsHalfway, IsOnSegment}
+use Rattle.edge_chains.specs.Net.{all_edges, net_count, winding_of_rings}
 
 -- one point is left and one right of the edge from a to b, and the place halfway between them is on the edge and neither of its ends
 pub record AreBeside (left right : Point) (a b : Corner) : Type 0 where
@@ -49,7 +26,7 @@ MeetsOnly left right es a b = (edge : Edge) (q : Point) → Contains es edge →
 
 -- how much oftener the added rings go round p than the taken ones
 abbrev pub winding_difference : Point → List (List Corner) → List (List Corner) → ℤ
-winding_difference p added taken = winding_sum p added -ℤ winding_sum p taken
+winding_difference p added taken = winding_of_rings p added -ℤ winding_of_rings p taken
 
 -- the net count of the edge from a to b in the added rings, less the one in the taken rings
 abbrev pub net_difference : List (List Corner) → List (List Corner) → Corner → Corner → ℤ

@@ -1,7 +1,6 @@
 pub mod Net
 pub mod Counts
-pub mod Sides
+pub mod Unbalanced
 pub mod Noding
-pub mod Inside
-pub mod Blocks
 pub mod Jump
+pub mod own

@@ -1,15 +1,11 @@
 -- Net numbers of directed edges over lists of rings (this product's own; OGC 06-103r4, 6.1.6, Curve: a line runs from a start point to an end point).
 use Rattle.std.specs.Prelude.{ℕ, ◌+◌, ℤ, pos, ◌+ℤ◌, ◌-ℤ◌, Bool, ◌&&◌, if◌then◌else◌, List, [], ◌∷◌, ◌++◌}
-use Rattle.std.specs.Ordering.{int_eq}
 use Rattle.geo_exact.specs.declared.corner.Corner.{Corner}
+use Rattle.geo_exact.specs.Order.{is_same}
 use Rattle.geo_exact.specs.Point.{Point}
 use Rattle.geo_exact.specs.Rings.{Edge, edges}
 use Rattle.geo_exact.specs.Winding.{winding}
 use Rattle.geo_exact.specs.Area.{area2}
-
--- the two corners are one place
-abbrev pub is_same : Corner → Corner → Bool
-is_same a b = int_eq a.x b.x && int_eq a.y b.y
 
 -- the edge runs from a to b
 abbrev pub runs_from_to : Corner → Corner → Edge → Bool
@@ -39,8 +35,8 @@ sum_of_rings number [] = pos 0
 sum_of_rings number (ring ∷ rings) = number ring +ℤ sum_of_rings number rings
 
 -- how often all the rings together go round p, and twice their area
-abbrev pub winding_sum : Point → List (List Corner) → ℤ
-winding_sum p rings = sum_of_rings (winding p) rings
+abbrev pub winding_of_rings : Point → List (List Corner) → ℤ
+winding_of_rings p rings = sum_of_rings (winding p) rings
 
-abbrev pub area2_sum : List (List Corner) → ℤ
-area2_sum rings = sum_of_rings area2 rings
+abbrev pub area2_of_rings : List (List Corner) → ℤ
+area2_of_rings rings = sum_of_rings area2 rings

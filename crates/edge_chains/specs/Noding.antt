@@ -1,17 +1,10 @@
 -- Noding: rings with corners inserted where they lie strictly inside an edge (OGC 06-103r4, 6.1.15.1: a line's interior is what is left without its ends).
-use Rattle.std.specs.Prelude.{◌≡◌, ◌≢◌, ◌↔◌, List, [], ◌∷◌, ◌++◌, ⊤}
+use Rattle.std.specs.Prelude.{◌≡◌, ◌↔◌, List, [], ◌∷◌, ◌++◌, ⊤}
 use Rattle.std.specs.List.{Contains}
 use Rattle.geo_exact.specs.declared.corner.Corner.{Corner}
-use Rattle.geo_exact.specs.Point.{corner_point}
 use Rattle.geo_exact.specs.Rings.{Edge, edges}
-use Rattle.geo_exact.specs.Turn.{IsOnEdge}
+use Rattle.geo_exact.specs.Segments.{IsStrictlyInside}
 use Rattle.edge_chains.specs.Net.{all_edges}
-
--- c lies on the edge from a to b, and is neither of its ends
-pub record IsStrictlyInside (c a b : Corner) : Type 0 where
-  pub on_edge : IsOnEdge (corner_point c) a b
-  pub not_start : c ≢ a
-  pub not_end : c ≢ b
 
 -- corners in order along the edge from a to b, each once: the first strictly inside it, the others so inside what is left of it
 abbrev pub AreAlong : Corner → List Corner → Corner → Type 0

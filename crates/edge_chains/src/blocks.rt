@@ -1,10 +1,11 @@
 ghost use Rattle.std.specs.Prelude.{◌≡◌, ◌↔◌, ℕ, ◌<◌, ◌≤◌, List, length, slice_index, slice_index_or, IfOk, IfSome};
 ghost use Rattle.std.specs.List.{filter, Contains};
-ghost use Rattle.edge_chains.specs.Inside.{is_inside, is_in_bounds, IsInBounds};
-ghost use Rattle.edge_chains.specs.Blocks.{AreEnds, HasOwn, HasBlock, AreBlocks};
+ghost use Rattle.edge_chains.specs.own.Inside.{is_strictly_inside};
+ghost use Rattle.geo_exact.specs.Bounds.{holds_corner, HoldsCorner};
+ghost use Rattle.edge_chains.specs.own.Blocks.{AreEnds, HasOwn, HasBlock, AreBlocks};
 
-use crate::bounds::{Bounds, is_strictly_inside};
-use geo_exact::{Corner, LIMIT};
+use crate::edge_tests::{are_disjoint, is_strictly_inside, misses};
+use geo_exact::{Bounds, Corner, LIMIT};
 use std::alloc::{AllocError, Allocator};
 use std::cmp::Ordering;
 use std::marker::Model;
@@ -20,7 +21,7 @@ pub(crate) struct Blocks<A: Allocator> {
 impl<A: Allocator> Model for Blocks<A> {
     ghost use Rattle.std.specs.Prelude.{List};
     ghost use Rattle.geo_exact.specs.declared.corner.Corner.{Corner};
-    ghost use Rattle.edge_chains.specs.Blocks.{AreBlocks};
+    ghost use Rattle.edge_chains.specs.own.Blocks.{AreBlocks};
 
     ghost Value = { List Corner };
 
@@ -46,7 +47,7 @@ impl<A: Allocator + Copy> Blocks<A> {
 
     /// Those of the corners that lie strictly inside the edge from a to b, in the order of the list.
     pub fn inside(&self, a: Corner, b: Corner) -> Result<Vec<Corner, A>, AllocError>
-        ensures { IfOk result (λ found. found.items ≡ filter (λ c. is_inside c a b) self.now) }
+        ensures { IfOk result (λ found. found.items ≡ filter (λ c. is_strictly_inside c a b) self.now) }
     {
         collect(
             *self.corners.allocator(),
@@ -61,7 +62,7 @@ impl<A: Allocator + Copy> Blocks<A> {
     /// Those of the corners that are in a box, in the order of the list; `None` where they are more than `most`.
     pub fn within(&self, bounds: &Bounds, most: usize) -> Result<Option<Vec<Corner, A>>, AllocError>
         ensures { IfOk result (λ few. IfSome few (λ found.
-            found.items ≡ filter (λ c. is_in_bounds c bounds.now) self.now)) }
+            found.items ≡ filter (λ c. holds_corner bounds.now c) self.now)) }
     {
         collect_few(
             *self.corners.allocator(),
@@ -107,12 +108,12 @@ fn collect<A: Allocator + Copy>(
     b: Corner,
 ) -> Result<Vec<Corner, A>, AllocError>
     requires { AreBlocks corners.now ends.now boxes.now }
-    ensures { IfOk result (λ found. found.items ≡ filter (λ c. is_inside c a b) corners.now) }
+    ensures { IfOk result (λ found. found.items ≡ filter (λ c. is_strictly_inside c a b) corners.now) }
 {
     let mut found = Vec::new(alloc);
     let mut at = 0;
     while at < corners.len() {
-        if boxes[at].misses(a, b) {
+        if misses(boxes[at], a, b) {
             at = ends[at];
         } else {
             let corner = corners[at];
@@ -138,16 +139,16 @@ fn collect_few<A: Allocator + Copy>(
 ) -> Result<Option<Vec<Corner, A>>, AllocError>
     requires { AreBlocks corners.now ends.now boxes.now }
     ensures { IfOk result (λ few. IfSome few (λ found.
-        found.items ≡ filter (λ c. is_in_bounds c bounds.now) corners.now)) }
+        found.items ≡ filter (λ c. holds_corner bounds.now c) corners.now)) }
 {
     let mut found = Vec::with_capacity(alloc, most)?;
     let mut at = 0;
     while at < corners.len() {
-        if boxes[at].is_off(bounds) {
+        if are_disjoint(boxes[at], *bounds) {
             at = ends[at];
         } else {
             let corner = corners[at];
-            if bounds.has(corner) {
+            if bounds.holds(corner) {
                 if found.len() == most {
                     return Ok(None);
                 }
@@ -186,12 +187,12 @@ fn block_box(corners: &[Corner], ends: &[usize], boxes: &[Bounds], at: usize) ->
     requires own { HasOwn corners.now boxes.now at }
     requires later { (i : ℕ) → at < i → i < length corners.now → HasBlock corners.now ends.now boxes.now i }
     ensures { (k : ℕ) (c : Corner) → at ≤ k → k < slice_index ends.now at
-        → IsInBounds (slice_index_or corners.now k c) result }
+        → HoldsCorner result (slice_index_or corners.now k c) }
 {
     let mut bounds = boxes[at];
     let mut next = at + 1;
     while next < ends[at] {
-        bounds = bounds.joined(&boxes[next]);
+        bounds = bounds.around(boxes[next]);
         next = ends[next];
     }
     bounds

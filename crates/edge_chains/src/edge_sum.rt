@@ -1,19 +1,21 @@
-ghost use Rattle.std.specs.Prelude.{◌≡◌, ℕ, ◌+◌, ◌≤◌, ◌<◌, ℤ, pos, ◌+ℤ◌, ◌-ℤ◌, IsTrue, if◌then◌else◌, cond, length, List, [], ◌∷◌, ◌++◌};
+ghost use Rattle.std.specs.Prelude.{◌≡◌, ℕ, ◌+◌, ◌≤◌, ◌<◌, ℤ, pos, ◌+ℤ◌, ◌-ℤ◌, IsTrue, if◌then◌else◌, cond, length, List, [], ◌∷◌, ◌++◌, ◌*◌};
 ghost use Rattle.std.specs.Prelude.{OnOk, OnErr, IfSome, IfNone};
 ghost use Rattle.std.specs.HashMap.{spare};
 ghost use Rattle.std.specs.Map.{lookup};
 ghost use Rattle.geo_exact.specs.Limit.{IsWithin};
 ghost use Rattle.geo_exact.specs.Point.{Point};
 ghost use Rattle.geo_exact.specs.Rings.{edges, path};
-ghost use Rattle.edge_chains.specs.Counts.{is_before, is_same_edge, number_at, net_at, entry_of, AreCounts};
-ghost use Rattle.edge_chains.specs.Counts.{AreNetOf, is_edge_before, IsFirstUnbalanced};
-ghost use Rattle.edge_chains.specs.Net.{net_of_edges, winding_sum, area2_sum};
+ghost use Rattle.geo_exact.specs.declared.limits.TheConstants.{COUNTED_EDGES};
+ghost use Rattle.geo_exact.specs.Order.{is_before};
+ghost use Rattle.edge_chains.specs.Counts.{is_same_edge, number_at, net_at, AreCounts, AreNetOf, is_edge_before};
+ghost use Rattle.edge_chains.specs.Counts.{IsFirstUnbalanced};
+ghost use Rattle.edge_chains.specs.own.Sides.{entry_of, signed};
+ghost use Rattle.edge_chains.specs.Net.{net_of_edges, winding_of_rings, area2_of_rings};
 ghost use Rattle.edge_chains.specs.Noding.{AreFullyNoded};
 ghost use Rattle.edge_chains.specs.Jump.{IsJump};
-ghost use Rattle.edge_chains.specs.Sides.{signed};
 
-use crate::order::{comes_before, comes_first};
-use geo_exact::Corner;
+use crate::order::comes_first;
+use geo_exact::{Corner, comes_before};
 use std::alloc::{AllocError, Allocator};
 use std::collections::HashMap;
 use std::hash::{BuildHasherDefault, FoldHasher};
@@ -30,7 +32,7 @@ type Numbers<A> = HashMap<(Corner, Corner), i64, BuildHasherDefault<FoldHasher>,
 /// net number; [`edges`](EdgeSum::edges) counts it. A ring of n corners takes time in proportion to n, whatever was counted before.
 #[derive(Drop)]
 pub struct EdgeSum<A: Allocator> {
-    numbers: Numbers<A>,
+    pub(crate) numbers: Numbers<A>,
     edges: u64,
 }
 
@@ -63,14 +65,13 @@ impl<A: Allocator + Copy> EdgeSum<A> {
         self.edges
     }
 
-    /// Counts each edge of a ring: at most 10,000,000 corners, and 1,000,000,000,000 edges in all.
+    /// Counts each edge of a ring: at most 1,000,000,000,000 edges in all.
     ///
     /// # Errors
     ///
     /// [`AllocError`] where an allocation is refused; nothing has changed then.
     pub fn add(&mut self, ring: &[Corner]) -> Result<(), AllocError>
-        requires size { length ring.now ≤ 10000000 }
-        requires total { self.old.edges + length ring.now ≤ 1000000000000 }
+        requires total { self.old.edges + length ring.now ≤ COUNTED_EDGES }
         ensures net { OnOk result ((a b : Corner) → net_at self.new.counts a b
             ≡ net_at self.old.counts a b +ℤ net_of_edges (edges ring.now) a b) }
         ensures net_so_far { OnOk result ((added taken : List (List Corner)) → AreNetOf self.old added taken
@@ -81,14 +82,13 @@ impl<A: Allocator + Copy> EdgeSum<A> {
         self.count(ring, Side::Added)
     }
 
-    /// Takes each edge of a ring off: at most 10,000,000 corners, and 1,000,000,000,000 edges in all.
+    /// Takes each edge of a ring off: at most 1,000,000,000,000 edges in all.
     ///
     /// # Errors
     ///
     /// [`AllocError`] where an allocation is refused; nothing has changed then.
     pub fn take(&mut self, ring: &[Corner]) -> Result<(), AllocError>
-        requires size { length ring.now ≤ 10000000 }
-        requires total { self.old.edges + length ring.now ≤ 1000000000000 }
+        requires total { self.old.edges + length ring.now ≤ COUNTED_EDGES }
         ensures net { OnOk result ((a b : Corner) → net_at self.new.counts a b
             ≡ net_at self.old.counts a b -ℤ net_of_edges (edges ring.now) a b) }
         ensures net_so_far { OnOk result ((added taken : List (List Corner)) → AreNetOf self.old added taken
@@ -105,9 +105,9 @@ impl<A: Allocator + Copy> EdgeSum<A> {
         ensures none { IfNone result ((a b : Corner) → net_at self.now.counts a b ≡ pos 0) }
         // Where there is none, both sides go round each point equally often and have the same area.
         ensures windings { IfNone result ((added taken : List (List Corner)) → AreNetOf self.now added taken
-            → (p : Point) → winding_sum p added ≡ winding_sum p taken) }
+            → (p : Point) → winding_of_rings p added ≡ winding_of_rings p taken) }
         ensures areas { IfNone result ((added taken : List (List Corner)) → AreNetOf self.now added taken
-            → area2_sum added ≡ area2_sum taken) }
+            → area2_of_rings added ≡ area2_of_rings taken) }
         ensures first { IfSome result (λ edge. IsFirstUnbalanced self.now edge.0 edge.1 edge.2) }
         // In fully noded rings the edge found is no false alarm.
         ensures jump { IfSome result (λ edge. (added taken : List (List Corner)) → AreNetOf self.now added taken
@@ -123,8 +123,7 @@ impl<A: Allocator + Copy> EdgeSum<A> {
     }
 
     fn count(&mut self, ring: &[Corner], side: Side) -> Result<(), AllocError>
-        requires size { length ring.now ≤ 10000000 }
-        requires total { self.old.edges + length ring.now ≤ 1000000000000 }
+        requires total { self.old.edges + length ring.now ≤ COUNTED_EDGES }
         ensures net { OnOk result ((a b : Corner) → net_at self.new.counts a b
             ≡ net_at self.old.counts a b +ℤ signed side (net_of_edges (edges ring.now) a b)) }
         ensures edges { OnOk result (self.new.edges ≡ self.old.edges + length ring.now) }
@@ -147,7 +146,7 @@ enum Side {
 /// Adds `by` to the number of an edge, which has no entry where its number is 0.
 fn change<A: Allocator + Copy>(numbers: &mut Numbers<A>, edge: (Corner, Corner), by: i64)
     requires room { 0 < spare numbers.old }
-    requires small { IsWithin 2000000000000 (number_at numbers.old.entries edge.0 edge.1) }
+    requires small { IsWithin (2 * COUNTED_EDGES) (number_at numbers.old.entries edge.0 edge.1) }
     requires one { IsWithin 1 by }
     ensures changed { (q : Corner × Corner) → lookup (is_same_edge q) numbers.new.entries
         ≡ cond (is_same_edge edge q) (entry_of (number_at numbers.old.entries edge.0 edge.1 +ℤ by))
@@ -179,7 +178,7 @@ fn earlier(
 /// Counts the directed edge from one corner to another.
 fn count_directed<A: Allocator + Copy>(numbers: &mut Numbers<A>, from: Corner, to: Corner)
     requires room { 0 < spare numbers.old }
-    requires kept { AreCounts numbers.old.entries 2000000000000 }
+    requires kept { AreCounts numbers.old.entries (2 * COUNTED_EDGES) }
     ensures net { (a b : Corner) → net_at numbers.new.entries a b
         ≡ net_at numbers.old.entries a b +ℤ net_of_edges (record { from = from; to = to } ∷ []) a b }
     ensures kept { (n : ℕ) → AreCounts numbers.old.entries n → AreCounts numbers.new.entries (n + 1) }
@@ -195,7 +194,7 @@ fn count_directed<A: Allocator + Copy>(numbers: &mut Numbers<A>, from: Corner, t
 /// Counts the edge from one corner to another as it runs, or the other way.
 fn count_edge<A: Allocator + Copy>(numbers: &mut Numbers<A>, from: Corner, to: Corner, side: Side)
     requires room { 0 < spare numbers.old }
-    requires kept { AreCounts numbers.old.entries 2000000000000 }
+    requires kept { AreCounts numbers.old.entries (2 * COUNTED_EDGES) }
     ensures net { (a b : Corner) → net_at numbers.new.entries a b
         ≡ net_at numbers.old.entries a b +ℤ signed side (net_of_edges (record { from = from; to = to } ∷ []) a b) }
     ensures kept { (n : ℕ) → AreCounts numbers.old.entries n → AreCounts numbers.new.entries (n + 1) }
@@ -210,8 +209,8 @@ fn count_edge<A: Allocator + Copy>(numbers: &mut Numbers<A>, from: Corner, to: C
 /// Counts all edges of a ring.
 fn count_ring<A: Allocator + Copy>(numbers: &mut Numbers<A>, ring: &[Corner], side: Side)
     requires room { length ring.now ≤ spare numbers.old }
-    requires kept { AreCounts numbers.old.entries 1000000000000 }
-    requires size { length ring.now ≤ 10000000 }
+    requires kept { AreCounts numbers.old.entries COUNTED_EDGES }
+    requires size { length ring.now ≤ COUNTED_EDGES }
     ensures net { (a b : Corner) → net_at numbers.new.entries a b
         ≡ net_at numbers.old.entries a b +ℤ signed side (net_of_edges (edges ring.now) a b) }
     ensures kept { (n : ℕ) → AreCounts numbers.old.entries n → AreCounts numbers.new.entries (n + length ring.now) }

@@ -7,15 +7,15 @@ ghost use Rattle.geo_exact.specs.Winding.{winding};
 ghost use Rattle.geo_exact.specs.Area.{area2};
 ghost use Rattle.edge_chains.specs.Noding.{IsNoded, all_corners, AreFullyNoded};
 ghost use Rattle.edge_chains.specs.Jump.{net_difference, IsJump};
-ghost use Rattle.edge_chains.specs.Net.{net_count, winding_sum, area2_sum};
+ghost use Rattle.edge_chains.specs.Net.{net_count, winding_of_rings, area2_of_rings};
 
 /// Two sets of rings whose net numbers of directed edges are equal go round each point equally often, and have the
 /// same area.
 pub fn equal_nets_cover_alike()
     ensures windings { (added taken : List (List Corner)) → ((a b : Corner) → net_count added a b ≡ net_count taken a b)
-        → (p : Point) → winding_sum p added ≡ winding_sum p taken }
+        → (p : Point) → winding_of_rings p added ≡ winding_of_rings p taken }
     ensures areas { (added taken : List (List Corner)) → ((a b : Corner) → net_count added a b ≡ net_count taken a b)
-        → area2_sum added ≡ area2_sum taken }
+        → area2_of_rings added ≡ area2_of_rings taken }
 {}
 
 /// Noding changes neither the winding number round any point, nor the boundary, nor the area of a ring; and rings

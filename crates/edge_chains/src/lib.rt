@@ -3,8 +3,8 @@
 #![tactic(auto)]
 
 mod blocks;
-mod bounds;
 mod edge_sum;
+mod edge_tests;
 mod laws;
 mod noding;
 mod order;
@@ -13,6 +13,3 @@ mod search;
 pub use edge_sum::EdgeSum;
 pub use laws::{an_unbalanced_edge_is_a_jump, equal_nets_cover_alike, noding_changes_no_ground};
 pub use noding::node;
-
-#[cfg(test)]
-mod tests;

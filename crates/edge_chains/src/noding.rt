@@ -1,16 +1,15 @@
-ghost use Rattle.std.specs.Prelude.{◌≡◌, ◌↔◌, List, ◌++◌, ◌∷◌, map, IfOk, OnOk};
+ghost use Rattle.std.specs.Prelude.{◌≡◌, ◌↔◌, List, ◌++◌, ◌∷◌, IfOk, OnOk};
 ghost use Rattle.std.specs.List.{Contains, AllZip};
 ghost use Rattle.std.specs.List.Sorted.{IsStrictlySortedBy};
 ghost use Rattle.geo_exact.specs.Point.{Point};
 ghost use Rattle.geo_exact.specs.Turn.{IsOnRing};
 ghost use Rattle.geo_exact.specs.Winding.{winding};
 ghost use Rattle.geo_exact.specs.Area.{area2};
-ghost use Rattle.edge_chains.specs.Inside.{corner_cmp};
+ghost use Rattle.geo_exact.specs.Order.{corner_cmp};
 ghost use Rattle.edge_chains.specs.Noding.{IsNodedEdge, IsNoded, all_corners, AreFullyNoded};
 
-use crate::order::comes_before;
 use crate::search::Search;
-use geo_exact::Corner;
+use geo_exact::{Corner, Corners, comes_before};
 use std::alloc::{AllocError, Allocator};
 
 /// Those corners that lie strictly inside the edge between two corners, in order along it, each once.
@@ -54,9 +53,9 @@ fn node_ring<A: Allocator + Copy>(
     alloc: A,
     search: &mut Search<A>,
     ring: &[Corner],
-) -> Result<Vec<Corner, A>, AllocError>
+) -> Result<Corners<A>, AllocError>
     ensures same { search.new ≡ search.old }
-    ensures noded { IfOk result (λ noded. IsNoded ring.now search.old noded.items) }
+    ensures noded { IfOk result (λ noded. IsNoded ring.now search.old noded) }
 {
     let mut noded = Vec::with_capacity(alloc, ring.len())?;
     if let Some((first, rest)) = ring.split_first() {
@@ -67,7 +66,7 @@ fn node_ring<A: Allocator + Copy>(
         }
         node_edge(search, from, *first, &[], &mut noded)?;
     }
-    Ok(noded)
+    Ok(Corners::from_vec(noded))
 }
 
 /// Each ring with exactly those of the corners inserted that lie strictly inside an edge, in order along it, each once.
@@ -80,20 +79,17 @@ fn node_ring<A: Allocator + Copy>(
 /// [`AllocError`] where an allocation is refused.
 pub fn node<A: Allocator + Copy>(
     alloc: A,
-    rings: &[Vec<Corner, A>],
+    rings: &[Corners<A>],
     corners: &[Corner],
-) -> Result<Vec<Vec<Corner, A>, A>, AllocError>
-    ensures noded { IfOk result (λ noded.
-        AllZip (λ ring out. IsNoded ring.items corners.now out.items) rings.now noded.items) }
+) -> Result<Vec<Corners<A>, A>, AllocError>
+    ensures noded { IfOk result (λ noded. AllZip (λ ring out. IsNoded ring corners.now out) rings.now noded.items) }
     ensures windings { IfOk result (λ noded.
-        AllZip (λ ring out. (p : Point) → winding p out.items ≡ winding p ring.items) rings.now noded.items) }
+        AllZip (λ ring out. (p : Point) → winding p out ≡ winding p ring) rings.now noded.items) }
     ensures boundaries { IfOk result (λ noded.
-        AllZip (λ ring out. (p : Point) → IsOnRing p out.items ↔ IsOnRing p ring.items) rings.now noded.items) }
-    ensures areas { IfOk result (λ noded. AllZip (λ ring out. area2 out.items
-        ≡ area2 ring.items) rings.now noded.items) }
+        AllZip (λ ring out. (p : Point) → IsOnRing p out ↔ IsOnRing p ring) rings.now noded.items) }
+    ensures areas { IfOk result (λ noded. AllZip (λ ring out. area2 out ≡ area2 ring) rings.now noded.items) }
     ensures cuts { IfOk result (λ noded.
-        ((c : Corner) → Contains (all_corners (map (λ ring. ring.items) rings.now)) c → Contains corners.now c)
-        → AreFullyNoded (map (λ ring. ring.items) noded.items)) }
+        ((c : Corner) → Contains (all_corners rings.now) c → Contains corners.now c) → AreFullyNoded noded.items) }
 {
     let mut search = Search::new(alloc, corners)?;
     node_all(alloc, &mut search, rings)
@@ -103,13 +99,13 @@ pub fn node<A: Allocator + Copy>(
 fn node_all<A: Allocator + Copy>(
     alloc: A,
     search: &mut Search<A>,
-    rings: &[Vec<Corner, A>],
-) -> Result<Vec<Vec<Corner, A>, A>, AllocError>
-    ensures { IfOk result (λ noded. AllZip (λ ring out. IsNoded ring.items search.old out.items) rings.now noded.items) }
+    rings: &[Corners<A>],
+) -> Result<Vec<Corners<A>, A>, AllocError>
+    ensures { IfOk result (λ noded. AllZip (λ ring out. IsNoded ring search.old out) rings.now noded.items) }
 {
     let mut noded = Vec::with_capacity(alloc, rings.len())?;
     for ring in rings {
-        noded.push(node_ring(alloc, search, ring)?)?;
+        noded.push(node_ring(alloc, search, ring.as_slice())?)?;
     }
     Ok(noded)
 }

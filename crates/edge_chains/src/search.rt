@@ -1,14 +1,15 @@
 ghost use Rattle.std.specs.Prelude.{◌≡◌, ◌↔◌, List, IfOk};
 ghost use Rattle.std.specs.List.{filter, Contains};
-ghost use Rattle.edge_chains.specs.Inside.{is_inside, is_in_bounds};
+ghost use Rattle.edge_chains.specs.own.Inside.{is_strictly_inside};
+ghost use Rattle.geo_exact.specs.Bounds.{holds_corner};
 
 use crate::blocks::Blocks;
-use crate::bounds::{Bounds, is_strictly_inside};
-use geo_exact::Corner;
+use crate::edge_tests::{covers, is_strictly_inside};
+use geo_exact::{Bounds, Corner};
 use std::alloc::{AllocError, Allocator};
 use std::marker::Model;
 
-/// How many of the corners ahead a box is drawn round.
+/// How many of the corners ahead a box is put round.
 const AHEAD: usize = 16;
 
 /// How many corners a box that is kept has at most.
@@ -29,13 +30,13 @@ impl<A: Allocator> Model for Search<A> {
     ghost use Rattle.std.specs.Prelude.{◌≡◌, List};
     ghost use Rattle.std.specs.List.{filter};
     ghost use Rattle.geo_exact.specs.declared.corner.Corner.{Corner};
-    ghost use Rattle.edge_chains.specs.Inside.{is_in_bounds};
+    ghost use Rattle.geo_exact.specs.Bounds.{holds_corner};
 
     ghost Value = { List Corner };
 
     ghost view = { λ search. search.blocks };
 
-    ghost invariant = { λ search. search.near.items ≡ filter (λ c. is_in_bounds c search.bounds) search.blocks };
+    ghost invariant = { λ search. search.near.items ≡ filter (λ c. holds_corner search.bounds c) search.blocks };
 }
 
 impl<A: Allocator + Copy> Search<A> {
@@ -60,12 +61,12 @@ impl<A: Allocator + Copy> Search<A> {
         ahead: &[Corner],
     ) -> Result<Vec<Corner, A>, AllocError>
         ensures same { self.new ≡ self.old }
-        ensures found { IfOk result (λ found. found.items ≡ filter (λ c. is_inside c from to) self.old) }
+        ensures found { IfOk result (λ found. found.items ≡ filter (λ c. is_strictly_inside c from to) self.old) }
     {
-        if !self.bounds.covers(from, to) {
+        if !covers(self.bounds, from, to) {
             self.move_to(bounds_of(from, to, ahead))?;
         }
-        if self.bounds.covers(from, to) {
+        if covers(self.bounds, from, to) {
             inside_of(*self.near.allocator(), &self.near, from, to)
         } else {
             self.blocks.inside(from, to)
@@ -86,9 +87,9 @@ impl<A: Allocator + Copy> Search<A> {
 
 /// The box of an edge's ends and of the first of the corners ahead.
 fn bounds_of(from: Corner, to: Corner, ahead: &[Corner]) -> Bounds {
-    let mut bounds = Bounds::of_corner(from).joined(&Bounds::of_corner(to));
+    let mut bounds = Bounds::of_corner(from).around(Bounds::of_corner(to));
     for corner in ahead.iter().take(AHEAD) {
-        bounds = bounds.joined(&Bounds::of_corner(*corner));
+        bounds = bounds.around(Bounds::of_corner(*corner));
     }
     bounds
 }
@@ -100,7 +101,7 @@ fn inside_of<A: Allocator>(
     a: Corner,
     b: Corner,
 ) -> Result<Vec<Corner, A>, AllocError>
-    ensures { IfOk result (λ found. found.items ≡ filter (λ c. is_inside c a b) corners.now) }
+    ensures { IfOk result (λ found. found.items ≡ filter (λ c. is_strictly_inside c a b) corners.now) }
 {
     let mut found = Vec::new(alloc);
     for corner in corners {

@@ -4,7 +4,8 @@ use Rattle.std.specs.List.{remove}
 use Rattle.std.proofs.lemmas.List.Edits.{length-remove}
 use Rattle.geo_exact.specs.declared.corner.Corner.{Corner}
 use Rattle.ring_core.specs.declared.triangle.Tri.{Tri}
-use Rattle.ring_core.specs.Clipping.{IsFlat, IsEar, IsTriangleAt, HasNone, IsFirst, Clips, untouched, flat, ear}
+use Rattle.ring_core.specs.Clipping.{IsFlat, IsEar, IsTriangleAt, Clips, untouched, flat, ear}
+use Rattle.geo_exact.specs.First.{HasNone, IsFirst}
 
 pub clip_start : (ring rest : List Corner) (ts : List Tri) → ts ≡ [] → rest ≡ ring → Clips ring ts rest
 clip_start ring rest ts e f = rw (e, f) untouched

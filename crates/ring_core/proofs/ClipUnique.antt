@@ -9,7 +9,8 @@ use mathlib.Core.HLevel.{is_prop→PathP}
 use Rattle.geo_exact.specs.declared.corner.Corner.{Corner}
 use Rattle.geo_exact.specs.Turn.{turn}
 use Rattle.ring_core.specs.declared.triangle.Tri.{Tri}
-use Rattle.ring_core.specs.Clipping.{IsFlat, IsEar, IsTriangleAt, HasNone, IsFirst, Clips, untouched, flat, ear, IsEnd}
+use Rattle.ring_core.specs.Clipping.{IsFlat, IsEar, IsTriangleAt, Clips, untouched, flat, ear, IsEnd}
+use Rattle.geo_exact.specs.First.{HasNone, IsFirst}
 
 -- ---- one step is determined
 first_same : (P : ℕ → Type 0) (n j k : ℕ) → IsFirst P n j → IsFirst P n k → j ≡ k

@@ -14,18 +14,18 @@ use Rattle.geo_exact.proofs.Crossings.{crossing_back, crossing_cut, edge_area2_b
 use Rattle.geo_exact.proofs.Windings.{crossing_of}
 use Rattle.geo_exact.proofs.Triangles.{triangle_winds_at_most_once}
 use Rattle.ring_core.specs.declared.triangle.Tri.{Tri}
-use Rattle.ring_core.specs.Places.{corner_at}
+use Rattle.geo_exact.specs.Places.{corner_at}
 use Rattle.ring_core.specs.Clipping.{previous, next, IsFlat, IsTriangleAt, Clips, untouched, flat, ear, IsClippedTo}
-use Rattle.ring_core.specs.Sums.{corners_of, winding_sum, area2_sum, IsRoundAtMostOnce, MakeUp}
+use Rattle.ring_core.specs.Sums.{triangle_ring, winding_of_triangles, area2_of_triangles, IsRoundAtMostOnce, MakeUp}
 use Rattle.ring_core.proofs.Cuts.{ring_cut}
 
 -- a measure of edges summed over the triangles' edges
 abbrev triangles_sum : (Edge → ℤ) → List Tri → ℤ
 triangles_sum measure [] = pos 0
-triangles_sum measure (t ∷ ts) = sum_over measure (edges (corners_of t)) +ℤ triangles_sum measure ts
+triangles_sum measure (t ∷ ts) = sum_over measure (edges (triangle_ring t)) +ℤ triangles_sum measure ts
 
 triangles_sum-push : (measure : Edge → ℤ) (ts : List Tri) (t : Tri)
-    → triangles_sum measure (ts ++ t ∷ []) ≡ triangles_sum measure ts +ℤ sum_over measure (edges (corners_of t))
+    → triangles_sum measure (ts ++ t ∷ []) ≡ triangles_sum measure ts +ℤ sum_over measure (edges (triangle_ring t))
 triangles_sum-push measure [] t = omega (arith, ints)
 triangles_sum-push measure (u ∷ ts) t = omega (arith, ints, triangles_sum-push measure ts t)
 
@@ -47,7 +47,7 @@ module _ (measure : Edge → ℤ) (back : (a b : Corner) → measure (edge_of b 
   triangle_out ring k l h = omega (arith, ints, ring_cut measure ring k l h, back (previous ring k) (next ring k))
 
   ear_out : (ring : List Corner) (k : ℕ) (t : Tri) → 2 < length ring → k < length ring → IsTriangleAt ring k t
-      → sum_over measure (edges ring) ≡ sum_over measure (edges (remove ring k)) +ℤ sum_over measure (edges (corners_of t))
+      → sum_over measure (edges ring) ≡ sum_over measure (edges (remove ring k)) +ℤ sum_over measure (edges (triangle_ring t))
   ear_out ring k t l h s = rw (s.a, s.b, s.c) (triangle_out ring k l h)
 
   module _ (cut : (ring : List Corner) (k : ℕ) → IsFlat ring k → AddsUpAt measure ring k) where
@@ -64,19 +64,19 @@ module _ (measure : Edge → ℤ) (back : (a b : Corner) → measure (edge_of b 
   two_left (a ∷ b ∷ []) h = omega (arith, ints, back a b)
   two_left (a ∷ b ∷ c ∷ rest) h = absurd (omega arith)
 
-winding_sum_is : (p : Point) (ts : List Tri) → triangles_sum (crossing_of p) ts ≡ winding_sum p ts
+winding_sum_is : (p : Point) (ts : List Tri) → triangles_sum (crossing_of p) ts ≡ winding_of_triangles p ts
 winding_sum_is p [] = refl
-winding_sum_is p (t ∷ ts) = ap (λ z. winding p (corners_of t) +ℤ z) (winding_sum_is p ts)
+winding_sum_is p (t ∷ ts) = ap (λ z. winding p (triangle_ring t) +ℤ z) (winding_sum_is p ts)
 
-area2_sum_is : (ts : List Tri) → triangles_sum edge_area2 ts ≡ area2_sum ts
+area2_sum_is : (ts : List Tri) → triangles_sum edge_area2 ts ≡ area2_of_triangles ts
 area2_sum_is [] = refl
-area2_sum_is (t ∷ ts) = ap (λ z. area2 (corners_of t) +ℤ z) (area2_sum_is ts)
+area2_sum_is (t ∷ ts) = ap (λ z. area2 (triangle_ring t) +ℤ z) (area2_sum_is ts)
 
 once : (z : ℤ) → (z ≡ pos 0) ⊎ (z ≡ pos 1) → (pos 0 ≤ℤ z) × (z ≤ℤ pos 1)
 once z h = elim h [ inl q ↦ (omega (arith, ints), omega (arith, ints)) | inr q ↦ (omega (arith, ints), omega (arith, ints)) ]
 
 pub round_at_most_once : (p : Point) (t : Tri) → IsRoundAtMostOnce p t
-round_at_most_once p t = once (winding p (corners_of t)) (triangle_winds_at_most_once t.a t.b t.c p t.turns_left)
+round_at_most_once p t = once (winding p (triangle_ring t)) (triangle_winds_at_most_once t.a t.b t.c p t.turns_left)
 
 -- the triangles that a ring is clipped to make it up
 pub make_up : (ring : List Corner) (ts : List Tri) → IsClippedTo ring ts → MakeUp ts ring

@@ -14,8 +14,9 @@ use Rattle.geo_exact.proofs.TurnLaws.{turn_at_expr, turn_expr, turn_swap}
 use Rattle.geo_exact.proofs.CornerPoints.{on_edge_from_box}
 use Rattle.geo_exact.proofs.Orders.{le_of_lt}
 use Rattle.geo_exact.proofs.OnEdge.{min_left, min_right, max_left, max_right, on_edge_back, on_edge_start}
-use Rattle.ring_core.specs.EdgePairs.{HaveCommonPoint}
-use Rattle.ring_core.proofs.EdgePoints.{AreOneSide, RangesOverlap}
+use Rattle.ring_core.specs.own.EdgePairs.{HaveCommonPoint}
+use Rattle.ring_core.proofs.EdgePoints.{AreOneSide}
+use Rattle.geo_exact.specs.Bounds.{RangesMeet}
 
 -- ---- the point that divides the edge from a to b as s to -t
 abbrev divided : (a b : Corner) (s t : ℤ) → pos 0 <ℤ (s -ℤ t) → Point
@@ -196,25 +197,25 @@ line_turn a b c d h = record {
 line_turn_second : (a b c d : Corner) → AreOnOneLine a b c d → AreOnOneLine a b d c
 line_turn_second a b c d h = line_swap d c a b (line_turn c d a b (line_swap a b c d h))
 
-overlap_swap : (u v s t : ℤ) → RangesOverlap u v s t → RangesOverlap s t u v
+overlap_swap : (u v s t : ℤ) → RangesMeet u v s t → RangesMeet s t u v
 overlap_swap u v s t h = (h.1, h.0)
 
-overlap_turn : (u v s t : ℤ) → RangesOverlap u v s t → RangesOverlap v u s t
+overlap_turn : (u v s t : ℤ) → RangesMeet u v s t → RangesMeet v u s t
 overlap_turn u v s t h = let i = h.0 in let j = h.1 in (omega (arith, ints, clamps), omega (arith, ints, clamps))
 
-overlap_turn_second : (u v s t : ℤ) → RangesOverlap u v s t → RangesOverlap u v t s
+overlap_turn_second : (u v s t : ℤ) → RangesMeet u v s t → RangesMeet u v t s
 overlap_turn_second u v s t h = let i = h.0 in let j = h.1 in (omega (arith, ints, clamps), omega (arith, ints, clamps))
 
-overlap_low : (u v s t : ℤ) → u ≤ℤ v → s ≤ℤ t → RangesOverlap u v s t → u ≤ℤ t
+overlap_low : (u v s t : ℤ) → u ≤ℤ v → s ≤ℤ t → RangesMeet u v s t → u ≤ℤ t
 overlap_low u v s t o p h = let i = h.0 in omega (arith, ints, clamps)
 
-overlap_high : (u v s t : ℤ) → u ≤ℤ v → s ≤ℤ t → RangesOverlap u v s t → s ≤ℤ v
+overlap_high : (u v s t : ℤ) → u ≤ℤ v → s ≤ℤ t → RangesMeet u v s t → s ≤ℤ v
 overlap_high u v s t o p h = let i = h.1 in omega (arith, ints, clamps)
 
 lt_le : (u v w : ℤ) → u <ℤ v → v ≤ℤ w → u <ℤ w
 lt_le u v w h k = omega (arith, ints)
 
-in_order_x : (a b c d : Corner) → AreOnOneLine a b c d → a.x <ℤ b.x → c.x ≤ℤ d.x → RangesOverlap a.x b.x c.x d.x → HaveCommonPoint a b c d
+in_order_x : (a b c d : Corner) → AreOnOneLine a b c d → a.x <ℤ b.x → c.x ≤ℤ d.x → RangesMeet a.x b.x c.x d.x → HaveCommonPoint a b c d
 in_order_x a b c d h o q r =
     let low : a.x ≤ℤ d.x = overlap_low a.x b.x c.x d.x (le_of_lt a.x b.x o) q r in
     let high : c.x ≤ℤ b.x = overlap_high a.x b.x c.x d.x (le_of_lt a.x b.x o) q r in
@@ -223,13 +224,13 @@ in_order_x a b c d h o q r =
     (λ p. (corner_point c, on_edge_by_x a b c o p high h.ab_c, on_edge_start c d))
 
 -- edges on one line, the first rising in x
-along_x : (a b c d : Corner) → AreOnOneLine a b c d → a.x <ℤ b.x → RangesOverlap a.x b.x c.x d.x → HaveCommonPoint a b c d
+along_x : (a b c d : Corner) → AreOnOneLine a b c d → a.x <ℤ b.x → RangesMeet a.x b.x c.x d.x → HaveCommonPoint a b c d
 along_x a b c d h o r =
     by_lt_z d.x c.x
     (λ p. turn_second a b c d (in_order_x a b d c (line_turn_second a b c d h) o (le_of_lt d.x c.x p) (overlap_turn_second a.x b.x c.x d.x r)))
     (λ p. in_order_x a b c d h o p r)
 
-in_order_y : (a b c d : Corner) → AreOnOneLine a b c d → a.y <ℤ b.y → c.y ≤ℤ d.y → RangesOverlap a.y b.y c.y d.y → HaveCommonPoint a b c d
+in_order_y : (a b c d : Corner) → AreOnOneLine a b c d → a.y <ℤ b.y → c.y ≤ℤ d.y → RangesMeet a.y b.y c.y d.y → HaveCommonPoint a b c d
 in_order_y a b c d h o q r =
     let low : a.y ≤ℤ d.y = overlap_low a.y b.y c.y d.y (le_of_lt a.y b.y o) q r in
     let high : c.y ≤ℤ b.y = overlap_high a.y b.y c.y d.y (le_of_lt a.y b.y o) q r in
@@ -238,22 +239,22 @@ in_order_y a b c d h o q r =
     (λ p. (corner_point c, on_edge_by_y a b c o p high h.ab_c, on_edge_start c d))
 
 -- edges on one line, the first rising in y
-along_y : (a b c d : Corner) → AreOnOneLine a b c d → a.y <ℤ b.y → RangesOverlap a.y b.y c.y d.y → HaveCommonPoint a b c d
+along_y : (a b c d : Corner) → AreOnOneLine a b c d → a.y <ℤ b.y → RangesMeet a.y b.y c.y d.y → HaveCommonPoint a b c d
 along_y a b c d h o r =
     by_lt_z d.y c.y
     (λ p. turn_second a b c d (in_order_y a b d c (line_turn_second a b c d h) o (le_of_lt d.y c.y p) (overlap_turn_second a.y b.y c.y d.y r)))
     (λ p. in_order_y a b c d h o p r)
 
 -- two edges of no length
-single : (a b c d : Corner) → AreOnOneLine a b c d → RangesOverlap a.x b.x c.x d.x → RangesOverlap a.y b.y c.y d.y
+single : (a b c d : Corner) → AreOnOneLine a b c d → RangesMeet a.x b.x c.x d.x → RangesMeet a.y b.y c.y d.y
     → b.x ≤ℤ a.x → a.x ≤ℤ b.x → d.x ≤ℤ c.x → c.x ≤ℤ d.x → b.y ≤ℤ a.y → a.y ≤ℤ b.y → d.y ≤ℤ c.y → c.y ≤ℤ d.y → HaveCommonPoint a b c d
 single a b c d h r s k l m n k' l' m' n' =
     (corner_point a, on_edge_start a b, on_edge_from_box c d a h.cd_a (met a.x b.x c.x d.x r k l m n) (met a.y b.y c.y d.y s k' l' m' n'))
   where
-    met : (u v s t : ℤ) → RangesOverlap u v s t → v ≤ℤ u → u ≤ℤ v → t ≤ℤ s → s ≤ℤ t → (int_min s t ≤ℤ u) × (u ≤ℤ int_max s t)
+    met : (u v s t : ℤ) → RangesMeet u v s t → v ≤ℤ u → u ≤ℤ v → t ≤ℤ s → s ≤ℤ t → (int_min s t ≤ℤ u) × (u ≤ℤ int_max s t)
     met u v s t g o p q w = let i = g.0 in let j = g.1 in (omega (arith, ints, clamps), omega (arith, ints, clamps))
 
-on_one_line : (a b c d : Corner) → AreOnOneLine a b c d → RangesOverlap a.x b.x c.x d.x → RangesOverlap a.y b.y c.y d.y → HaveCommonPoint a b c d
+on_one_line : (a b c d : Corner) → AreOnOneLine a b c d → RangesMeet a.x b.x c.x d.x → RangesMeet a.y b.y c.y d.y → HaveCommonPoint a b c d
 on_one_line a b c d h r s =
     by_lt_z a.x b.x (λ o. along_x a b c d h o r)
     (λ k. by_lt_z b.x a.x (λ o. turn_first a b c d (along_x b a c d (line_turn a b c d h) o (overlap_turn a.x b.x c.x d.x r)))
@@ -301,7 +302,7 @@ below : (s t : ℤ) → (s -ℤ t) <ℤ pos 0 → pos 0 <ℤ (t -ℤ s)
 below s t h = omega (arith, ints)
 
 -- edges whose boxes overlap, and neither of which has the other's ends on one side, have a common point
-pub have_common_point : (a b c d : Corner) → RangesOverlap a.x b.x c.x d.x → RangesOverlap a.y b.y c.y d.y
+pub have_common_point : (a b c d : Corner) → RangesMeet a.x b.x c.x d.x → RangesMeet a.y b.y c.y d.y
     → (AreOneSide a b c d → ⊥) → (AreOneSide c d a b → ⊥) → HaveCommonPoint a b c d
 have_common_point a b c d r s off_ab off_cd =
     by_lt_z (pos 0) (turn c d a -ℤ turn c d b)

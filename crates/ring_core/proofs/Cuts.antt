@@ -8,7 +8,7 @@ use lib.IntN.{ℤ, ◌+ℤ◌}
 use Rattle.geo_exact.specs.declared.corner.Corner.{Corner}
 use Rattle.geo_exact.specs.Rings.{Edge, path, edges, sum_over}
 use Rattle.geo_exact.proofs.EdgeSums.{edge_of}
-use Rattle.ring_core.specs.Places.{origin, corner_at}
+use Rattle.geo_exact.specs.Places.{origin, corner_at}
 use Rattle.ring_core.specs.Clipping.{previous, next}
 use Rattle.ring_core.proofs.RoundNumbers.{after_inner, after_end, before_first, before_inner}
 

@@ -12,7 +12,7 @@ use Rattle.geo_exact.proofs.Polynomials.{var, add, mul, neg, same_by}
 use Rattle.geo_exact.proofs.TurnLaws.{turn_at_expr, turn_expr, turn_cycle, turn_swap}
 use Rattle.geo_exact.proofs.Orders.{le_of_lt, le_both}
 use Rattle.geo_exact.proofs.OnEdge.{min_left, min_swap, max_left, max_swap, on_edge_back, on_edge_start, on_edge_end}
-use Rattle.ring_core.specs.EdgePairs.{DoublesBack}
+use Rattle.ring_core.specs.own.EdgePairs.{DoublesBack}
 use Rattle.ring_core.proofs.CommonPoints.{on_edge_by_x, on_edge_by_y}
 
 -- one of the ends lies on the other edge, and not at b

@@ -10,9 +10,10 @@ use Rattle.geo_exact.specs.declared.corner.Corner.{Corner}
 use Rattle.geo_exact.specs.Turn.{turn}
 use Rattle.geo_exact.proofs.TurnLaws.{turn_cycle}
 use Rattle.geo_exact.proofs.OnEdge.{starts_on, ends_on}
-use Rattle.ring_core.specs.Places.{corner_at, after, before}
-use Rattle.ring_core.specs.Clipping.{previous, next, Blocks, HasNone}
-use Rattle.ring_core.specs.Kinds.{is_inside, count_inside, TurnsLeft}
+use Rattle.geo_exact.specs.Places.{corner_at, after, before}
+use Rattle.ring_core.specs.Clipping.{previous, next, Blocks}
+use Rattle.geo_exact.specs.First.{HasNone}
+use Rattle.ring_core.specs.own.Kinds.{is_in_triangle, count_inside, TurnsLeft}
 use Rattle.ring_core.proofs.RoundNumbers.{before_in, after_in, before_other, after_other, neighbours_apart}
 use Rattle.ring_core.proofs.TakenOut.{inside_decides}
 
@@ -108,21 +109,21 @@ not_neg z e = omega (arith, ints)
 not_neg_pos : (z w : ℤ) → z ≡ w → pos 0 <ℤ w → pos 0 ≤ℤ z
 not_neg_pos z w e h = omega (arith, ints)
 
-first_inside : (a b c : Corner) → pos 0 <ℤ turn a b c → is_inside a b c a ≡ true
+first_inside : (a b c : Corner) → pos 0 <ℤ turn a b c → is_in_triangle a b c a ≡ true
 first_inside a b c h = (inside_decides a b c a).1 (record {
   along_ab = not_neg (turn a b a) (starts_on a b);
   along_bc = not_neg_pos (turn b c a) (turn a b c) (turn_cycle a b c) h;
   along_ca = not_neg (turn c a a) (ends_on c a);
 })
 
-second_inside : (a b c : Corner) → pos 0 <ℤ turn a b c → is_inside a b c b ≡ true
+second_inside : (a b c : Corner) → pos 0 <ℤ turn a b c → is_in_triangle a b c b ≡ true
 second_inside a b c h = (inside_decides a b c b).1 (record {
   along_ab = not_neg (turn a b b) (ends_on a b);
   along_bc = not_neg (turn b c b) (starts_on b c);
   along_ca = not_neg_pos (turn c a b) (turn a b c) (turn_cycle b c a ∙ turn_cycle a b c) h;
 })
 
-third_inside : (a b c : Corner) → pos 0 <ℤ turn a b c → is_inside a b c c ≡ true
+third_inside : (a b c : Corner) → pos 0 <ℤ turn a b c → is_in_triangle a b c c ≡ true
 third_inside a b c h = (inside_decides a b c c).1 (record {
   along_ab = not_neg_pos (turn a b c) (turn a b c) refl h;
   along_bc = not_neg (turn b c c) (ends_on b c);
@@ -132,13 +133,13 @@ third_inside a b c h = (inside_decides a b c c).1 (record {
 -- ---- the tests of all corners
 abbrev tests : Corner → Corner → Corner → List Corner → List Bool
 tests a b c [] = []
-tests a b c (q ∷ qs) = is_inside a b c q ∷ tests a b c qs
+tests a b c (q ∷ qs) = is_in_triangle a b c q ∷ tests a b c qs
 
 trues-tests : (a b c : Corner) (qs : List Corner) → trues (tests a b c qs) ≡ count_inside a b c qs
 trues-tests a b c [] = refl
-trues-tests a b c (q ∷ qs) = ap (λ n. if is_inside a b c q then 1 + n else n) (trues-tests a b c qs)
+trues-tests a b c (q ∷ qs) = ap (λ n. if is_in_triangle a b c q then 1 + n else n) (trues-tests a b c qs)
 
-test_at : (a b c : Corner) (qs : List Corner) (j : ℕ) → j < length qs → get_or (tests a b c qs) j false ≡ is_inside a b c (corner_at qs j)
+test_at : (a b c : Corner) (qs : List Corner) (j : ℕ) → j < length qs → get_or (tests a b c qs) j false ≡ is_in_triangle a b c (corner_at qs j)
 test_at a b c [] j h = absurd (omega arith)
 test_at a b c (q ∷ qs) zero h = refl
 test_at a b c (q ∷ qs) (suc j) h = test_at a b c qs j (omega arith)
@@ -186,7 +187,7 @@ module _ (rest : List Corner) (k : ℕ) (l : 2 < length rest) (h : k < length re
   outside none j np nq nr =
       elim (cases_lt j (length rest)) [
         | inl b ↦ test_at (previous rest k) (corner_at rest k) (next rest k) rest j b
-            ∙ elim (cases_Bool (is_inside (previous rest k) (corner_at rest k) (next rest k) (corner_at rest j))) [
+            ∙ elim (cases_Bool (is_in_triangle (previous rest k) (corner_at rest k) (next rest k) (corner_at rest j))) [
               | inl e ↦ absurd (none j b (record {
                 not_before = np;
                 not_same = nq;

@@ -1,12 +1,12 @@
 -- The edges of a ring, by their numbers.
-use Rattle.std.proofs.Common.{◌≡◌, ◌↔◌, ℕ, zero, suc, ◌<◌, ◌≤◌, ◌∙◌, sym, ap, arith, inl, inr, List, [], ◌∷◌, length, get_or, Some, slice_get, refl}
+use Rattle.std.proofs.Common.{◌≡◌, ◌↔◌, ℕ, zero, suc, ◌<◌, ◌≤◌, ◌∙◌, sym, ap, arith, inl, inr, List, [], ◌∷◌, length, get_or, Some, slice_get}
 use Rattle.std.proofs.lemmas.List.{get_or_default, get_or_past}
 use Rattle.std.proofs.lemmas.Bool.{cases_lt}
 use Rattle.geo_exact.specs.declared.corner.Corner.{Corner}
 use Rattle.geo_exact.specs.Point.{Point}
 use Rattle.geo_exact.specs.Rings.{Edge, path, edges}
 use Rattle.geo_exact.specs.Turn.{IsOnEdge, IsOnSome, IsOnRing}
-use Rattle.ring_core.specs.Places.{origin, corner_at, after}
+use Rattle.geo_exact.specs.Places.{origin, corner_at, after}
 use Rattle.ring_core.specs.Simple.{IsOnEdgeAt}
 use Rattle.ring_core.proofs.RoundNumbers.{after_inner, after_end}
 
@@ -58,12 +58,3 @@ ring_joins [] i edge h = absurd (let f = h in cc)
 ring_joins (first ∷ rest) i edge h =
     let r = path_joins first first rest i edge h in
     (r.1, r.2 ∙ sym (edge_end first rest i r.0))
-
-path_count : (from to : Corner) (xs : List Corner) → length (path from xs to) ≡ suc (length xs)
-path_count from to [] = refl
-path_count from to (x ∷ xs) = ap suc (path_count x to xs)
-
--- it has as many edges as corners
-pub ring_count : (ring : List Corner) → length (edges ring) ≡ length ring
-ring_count [] = refl
-ring_count (first ∷ rest) = path_count first first rest

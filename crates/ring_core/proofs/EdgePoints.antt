@@ -6,6 +6,7 @@ use lib.IntN.{ℤ, pos, ◌+ℤ◌, ◌-ℤ◌, ◌*ℤ◌, neg_ℤ}
 use lib.Signed.{◌<ℤ◌, ◌≤ℤ◌}
 use Rattle.geo_exact.specs.declared.corner.Corner.{Corner}
 use Rattle.geo_exact.specs.Point.{Point, corner_point}
+use Rattle.geo_exact.specs.Bounds.{RangesMeet}
 use Rattle.geo_exact.specs.Turn.{turn, turn_at, IsOnEdge}
 use Rattle.geo_exact.proofs.Signs.{mul_pos, pos_of_mul, convex, mul_lt}
 use Rattle.geo_exact.proofs.Polynomials.{var, add, mul, neg, same_by}
@@ -104,18 +105,14 @@ not_one_side a b c d p h k s =
     turned : (t s : ℤ) → t ≡ neg_ℤ s → s <ℤ pos 0 → pos 0 <ℤ t
     turned t s e g = omega (arith, ints)
 
--- two ranges have a common number
-abbrev pub RangesOverlap : ℤ → ℤ → ℤ → ℤ → Type 0
-RangesOverlap u v s t = (int_min u v ≤ℤ int_max s t) × (int_min s t ≤ℤ int_max u v)
-
 le_cancel : (u v d : ℤ) → pos 0 <ℤ d → (u *ℤ d) ≤ℤ (v *ℤ d) → u ≤ℤ v
 le_cancel u v d h k = by_lt_z v u (λ q. absurd (omega (arith, ints, mul_lt v u d h q))) (λ q. q)
 
 overlap : (u v s t d w : ℤ) → pos 0 <ℤ d → (int_min u v *ℤ d) ≤ℤ w → w ≤ℤ (int_max u v *ℤ d) → (int_min s t *ℤ d) ≤ℤ w → w ≤ℤ (int_max s t *ℤ d)
-    → RangesOverlap u v s t
+    → RangesMeet u v s t
 overlap u v s t d w h a b c e =
     (le_cancel (int_min u v) (int_max s t) d h (omega (arith, ints)), le_cancel (int_min s t) (int_max u v) d h (omega (arith, ints)))
 
-pub boxes_overlap : (a b c d : Corner) (p : Point) → IsOnEdge p a b → IsOnEdge p c d → RangesOverlap a.x b.x c.x d.x × RangesOverlap a.y b.y c.y d.y
+pub boxes_overlap : (a b c d : Corner) (p : Point) → IsOnEdge p a b → IsOnEdge p c d → RangesMeet a.x b.x c.x d.x × RangesMeet a.y b.y c.y d.y
 boxes_overlap a b c d p h k =
     (overlap a.x b.x c.x d.x p.d p.x p.d_positive h.from_x h.to_x k.from_x k.to_x, overlap a.y b.y c.y d.y p.d p.y p.d_positive h.from_y h.to_y k.from_y k.to_y)

@@ -2,9 +2,9 @@
 use Rattle.std.proofs.Common.{◌≡◌, ℕ, ◌+◌, ◌-◌, ◌<◌, ◌∙◌, ap, refl, arith, Bool, true, false, if◌then◌else◌, List, length}
 use Rattle.geo_exact.specs.declared.corner.Corner.{Corner}
 use Rattle.ring_core.specs.declared.kind.Kind.TheVariants.{Flat, Bent, Convex}
-use Rattle.ring_core.specs.Places.{corner_at, after, before}
+use Rattle.geo_exact.specs.Places.{corner_at, after, before}
 use Rattle.ring_core.specs.Clipping.{previous, next, IsFlat}
-use Rattle.ring_core.specs.Kinds.{is_inside, count_inside, IsKind, IsTakenOut, TurnsLeft, number_before}
+use Rattle.ring_core.specs.own.Kinds.{is_in_triangle, count_inside, IsKind, IsTakenOut, TurnsLeft, number_before}
 use Rattle.ring_core.proofs.ClipSteps.{one_less}
 use Rattle.ring_core.proofs.TakenOut.{WasBeside, before_kept, after_kept, corner_kept, count_remove}
 
@@ -37,7 +37,7 @@ module _ (whole rest : List Corner) (k j : ℕ) (gone : Corner) (t : IsTakenOut 
   bent_kept h = rw (at j, same_previous, same_next) h
 
   -- the count falls by one where the corner that is gone was inside
-  pub convex_kept : (r : Bool) (count count' : ℕ) → r ≡ is_inside (previous rest j) (corner_at rest j) (next rest j) gone
+  pub convex_kept : (r : Bool) (count count' : ℕ) → r ≡ is_in_triangle (previous rest j) (corner_at rest j) (next rest j) gone
       → count' ≡ (if r then count - 1 else count) → IsKind whole (number_before k j) (Convex count) → IsKind rest j (Convex count')
   convex_kept r count count' is e h =
       let a = previous rest j in let o = corner_at rest j in let c = next rest j in

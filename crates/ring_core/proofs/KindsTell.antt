@@ -8,9 +8,9 @@ use Rattle.geo_exact.specs.Turn.{turn}
 use Rattle.geo_exact.proofs.TurnLaws.{turn_cycle, turn_swap, corner_on_line}
 use Rattle.ring_core.specs.declared.kind.Kind.{Kind}
 use Rattle.ring_core.specs.declared.kind.Kind.TheVariants.{Flat, Bent, Convex}
-use Rattle.ring_core.specs.Places.{corner_at}
+use Rattle.geo_exact.specs.Places.{corner_at}
 use Rattle.ring_core.specs.Clipping.{previous, next, IsFlat, IsEar}
-use Rattle.ring_core.specs.Kinds.{IsKind, TurnsLeft}
+use Rattle.ring_core.specs.own.Kinds.{IsKind, TurnsLeft}
 use Rattle.ring_core.proofs.EarCounts.{empty_from_count, count_from_empty}
 
 pub flat_told : (rest : List Corner) (k : ℕ) (kind : Kind) → IsKind rest k kind → (kind ≡ Flat) ↔ IsFlat rest k

@@ -1,5 +1,6 @@
 pub mod EdgePoints
 pub mod CommonPoints
+pub mod Gaps
 pub mod Doubling
 pub mod RoundNumbers
 pub mod Neighbours
@@ -13,3 +14,8 @@ pub mod TakenOut
 pub mod KindsKept
 pub mod EarCounts
 pub mod KindsTell
+mod TriangleBoxes
+pub mod LeftSimple
+pub mod Diagonals
+pub mod StillLeft
+pub mod PartsOfRings

@@ -3,8 +3,8 @@ use Rattle.std.proofs.Common.{◌≡◌, ◌≢◌, ◌↔◌, ℕ, suc, ◌+◌
 use Rattle.std.proofs.lemmas.Bool.Decides.{nat_tests}
 use Rattle.geo_exact.specs.declared.corner.Corner.{Corner}
 use Rattle.geo_exact.specs.Point.{Point}
-use Rattle.ring_core.specs.Places.{corner_at, after}
-use Rattle.ring_core.specs.EdgePairs.{HaveCommonPoint, DoublesBack}
+use Rattle.geo_exact.specs.Places.{corner_at, after}
+use Rattle.ring_core.specs.own.EdgePairs.{HaveCommonPoint, DoublesBack}
 use Rattle.ring_core.specs.Simple.{IsSharedCorner, MeetOtherwise}
 use Rattle.ring_core.proofs.RoundNumbers.{after_inner}
 

@@ -1,7 +1,7 @@
 -- The numbers of corners, one after another round a ring.
 use Rattle.std.proofs.Common.{◌≡◌, ◌≢◌, ℕ, suc, ◌<◌, arith}
 use Rattle.std.proofs.lemmas.Bool.Decides.{nat_tests}
-use Rattle.ring_core.specs.Places.{after, before}
+use Rattle.geo_exact.specs.Places.{after, before}
 
 pub after_inner : (n i : ℕ) → suc i < n → after n i ≡ suc i
 after_inner n i h = grind (arith, nat_tests)

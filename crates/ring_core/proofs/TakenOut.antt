@@ -11,9 +11,9 @@ use lib.Signed.{le_z}
 use Rattle.geo_exact.specs.declared.corner.Corner.{Corner}
 use Rattle.geo_exact.specs.Turn.{turn}
 use Rattle.geo_exact.proofs.Orders.{Decides-int_le}
-use Rattle.ring_core.specs.Places.{origin, corner_at, after, before}
+use Rattle.geo_exact.specs.Places.{origin, corner_at, after, before}
 use Rattle.ring_core.specs.Clipping.{IsInTriangle}
-use Rattle.ring_core.specs.Kinds.{is_inside, count_inside, number_before}
+use Rattle.ring_core.specs.own.Kinds.{is_in_triangle, count_inside, number_before}
 
 -- corner j of m was a neighbour of the corner that was taken out at k
 abbrev pub WasBeside : ℕ → ℕ → ℕ → Type 0
@@ -45,9 +45,9 @@ number_in n k j h = grind (arith, nat_tests)
 pub corner_kept : (whole : List Corner) (k j : ℕ) → k < length whole → corner_at (remove whole k) j ≡ corner_at whole (number_before k j)
 corner_kept whole k j h = item_kept whole k j origin h
 
-pub inside_decides : (a b c q : Corner) → Decides (is_inside a b c q) (IsInTriangle q a b c)
+pub inside_decides : (a b c q : Corner) → Decides (is_in_triangle a b c q) (IsInTriangle q a b c)
 inside_decides a b c q =
-    Decides-like (is_inside a b c q) (λ h. record { along_ab = h.0; along_bc = h.1.0; along_ca = h.1.1 }) (λ h. (h.along_ab, (h.along_bc, h.along_ca)))
+    Decides-like (is_in_triangle a b c q) (λ h. record { along_ab = h.0; along_bc = h.1.0; along_ca = h.1.1 }) (λ h. (h.along_ab, (h.along_bc, h.along_ca)))
     (Decides-and (le_z (pos 0) (turn a b q)) _ (Decides-int_le (pos 0) (turn a b q))
     (Decides-and (le_z (pos 0) (turn b c q)) (le_z (pos 0) (turn c a q)) (Decides-int_le (pos 0) (turn b c q)) (Decides-int_le (pos 0) (turn c a q))))
 
@@ -59,9 +59,9 @@ both_counted false true m r h = omega arith
 both_counted false false m r h = omega arith
 
 pub count_remove : (a b c : Corner) (whole : List Corner) (k : ℕ) → k < length whole
-    → count_inside a b c whole ≡ (if is_inside a b c (corner_at whole k) then 1 + count_inside a b c (remove whole k) else count_inside a b c (remove whole k))
+    → count_inside a b c whole ≡ (if is_in_triangle a b c (corner_at whole k) then 1 + count_inside a b c (remove whole k) else count_inside a b c (remove whole k))
 count_remove a b c [] k h = absurd (omega arith)
 count_remove a b c (q ∷ qs) zero h = refl
 count_remove a b c (q ∷ qs) (suc k) h =
-    both_counted (is_inside a b c q) (is_inside a b c (corner_at qs k)) (count_inside a b c qs) (count_inside a b c (remove qs k))
+    both_counted (is_in_triangle a b c q) (is_in_triangle a b c (corner_at qs k)) (count_inside a b c qs) (count_inside a b c (remove qs k))
     (count_remove a b c qs k (omega arith))

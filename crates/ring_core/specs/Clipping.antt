@@ -5,7 +5,8 @@ use Rattle.geo_exact.specs.declared.corner.Corner.{Corner}
 use Rattle.geo_exact.specs.Point.{corner_point}
 use Rattle.geo_exact.specs.Turn.{turn, IsOnEdge}
 use Rattle.ring_core.specs.declared.triangle.Tri.{Tri}
-use Rattle.ring_core.specs.Places.{corner_at, after, before}
+use Rattle.geo_exact.specs.Places.{corner_at, after, before}
+use Rattle.geo_exact.specs.First.{HasNone, IsFirst}
 
 -- corner q lies in the closed triangle a b c, whose turn is positive: right of none of its edges
 pub record IsInTriangle (q a b c : Corner) : Type 0 where
@@ -30,16 +31,6 @@ pub record Blocks (rest : List Corner) (k j : ℕ) : Type 0 where
   pub not_same : j ≢ k
   pub not_after : j ≢ after (length rest) k
   pub is_inside : IsInTriangle (corner_at rest j) (previous rest k) (corner_at rest k) (next rest k)
-
--- no number below n has the property
-abbrev pub HasNone : (ℕ → Type 0) → ℕ → Type 0
-HasNone P n = (j : ℕ) → j < n → ¬ P j
-
--- k is the first number with the property, and below n
-pub record IsFirst (P : ℕ → Type 0) (n k : ℕ) : Type 0 where
-  pub below : k < n
-  pub has : P k
-  pub none_before : HasNone P k
 
 -- corner k is an ear: a left turn, with no other corner in the closed triangle of it and its neighbours
 pub record IsEar (rest : List Corner) (k : ℕ) : Type 0 where

@@ -1,8 +1,8 @@
-pub mod Places
 pub mod Simple
-pub mod EdgePairs
 pub mod Faults
 pub mod Clipping
 pub mod Sums
+pub mod Boxes
 pub mod Stuck
-pub mod Kinds
+pub mod Diagonals
+pub mod own

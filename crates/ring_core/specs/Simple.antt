@@ -5,7 +5,7 @@ use Rattle.geo_exact.specs.declared.corner.Corner.{Corner}
 use Rattle.geo_exact.specs.Point.{Point, IsPlaceOf}
 use Rattle.geo_exact.specs.Turn.{IsOnEdge}
 use Rattle.geo_exact.specs.Area.{area2}
-use Rattle.ring_core.specs.Places.{corner_at, after}
+use Rattle.geo_exact.specs.Places.{corner_at, after}
 
 -- p lies on edge i of the ring, which goes from corner i to the next
 abbrev pub IsOnEdgeAt : Point → List Corner → ℕ → Type 0
@@ -20,7 +20,11 @@ IsSharedCorner p ring i j =
 abbrev pub MeetOtherwise : List Corner → ℕ → ℕ → Type 0
 MeetOtherwise ring i j = (p : Point) × IsOnEdgeAt p ring i × IsOnEdgeAt p ring j × (¬ IsSharedCorner p ring i j)
 
+-- the edges of the ring meet only as neighbours, in their shared corner
+abbrev pub MeetOnlyAsNeighbours : List Corner → Type 0
+MeetOnlyAsNeighbours ring = (i j : ℕ) → i < j → j < length ring → ¬ MeetOtherwise ring i j
+
 -- the ring is counterclockwise, with an area, and its edges meet only as neighbours, in their shared corner
 pub record IsSimpleRing (ring : List Corner) : Type 0 where
   pub counterclockwise : pos 0 <ℤ area2 ring
-  pub simple : (i j : ℕ) → i < j → j < length ring → ¬ MeetOtherwise ring i j
+  pub simple : MeetOnlyAsNeighbours ring

@@ -1,6 +1,6 @@
 ghost use Rattle.std.specs.Prelude.{◌≡◌, ◌↔◌, ◌<◌, pos, ◌<ℤ◌, ◌≤ℤ◌, IsTrue, length};
 ghost use Rattle.geo_exact.specs.Turn.{turn as turn_of};
-ghost use Rattle.ring_core.specs.Places.{corner_at};
+ghost use Rattle.geo_exact.specs.Places.{corner_at};
 ghost use Rattle.ring_core.specs.Clipping.{IsFlat, IsInTriangle, IsTriangleAt, next, previous};
 
 use crate::places::{following, preceding};

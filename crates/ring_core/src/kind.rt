@@ -1,9 +1,10 @@
 ghost use Rattle.std.specs.Prelude.{◌≡◌, ◌⊎◌, ◌↔◌, ℕ, ◌+◌, ◌<◌, ◌≤◌, IfOk, IsTrue, MatchOption};
 ghost use Rattle.std.specs.Prelude.{List, length, slice_index_or};
 ghost use Rattle.geo_exact.specs.declared.corner.Corner.{Corner};
-ghost use Rattle.ring_core.specs.Places.{after, before};
-ghost use Rattle.ring_core.specs.Clipping.{HasNone, IsEar, IsFirst, IsFlat};
-ghost use Rattle.ring_core.specs.Kinds.{AreKinds, IsKind, IsTakenOut, count_inside as inside_of, number_before};
+ghost use Rattle.geo_exact.specs.Places.{after, before};
+ghost use Rattle.ring_core.specs.Clipping.{IsEar, IsFlat};
+ghost use Rattle.geo_exact.specs.First.{HasNone, IsFirst};
+ghost use Rattle.ring_core.specs.own.Kinds.{AreKinds, IsKind, IsTakenOut, count_inside as inside_of, number_before};
 
 use crate::ear::{corner_after, corner_before, is_flat, is_in_triangle, is_left};
 use geo_exact::Corner;

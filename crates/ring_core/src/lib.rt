@@ -2,23 +2,20 @@
 //! every rational point.
 #![tactic(auto)]
 
+mod boxes;
 mod ear;
 mod kind;
 mod laws;
 mod meeting;
 mod places;
-#[cfg(test)]
-mod plain;
 mod rest;
 mod ring;
 mod shape;
 mod triangle;
 
+pub use boxes::bounds_of;
 pub use laws::{a_ring_is_clipped_in_one_way, edges_are_those_of_their_numbers};
 pub use rest::Rest;
 pub use ring::{Ring, RingFault};
 pub use shape::{ClipFault, Shape};
 pub use triangle::{Tri, Triangles};
-
-#[cfg(test)]
-mod tests;

@@ -1,44 +1,9 @@
-ghost use Rattle.std.specs.Prelude.{◌↔◌, ◌⊎◌, ◌≤ℤ◌, ◌<ℤ◌, pos, IsTrue};
-ghost use Rattle.std.specs.Int.{int_max, int_min};
+ghost use Rattle.std.specs.Prelude.{◌↔◌, ◌⊎◌, ◌<ℤ◌, pos, IsTrue};
 ghost use Rattle.geo_exact.specs.Point.{IsPlaceOf, corner_point};
 ghost use Rattle.geo_exact.specs.Turn.{IsOnEdge, turn as turn_of};
-ghost use Rattle.ring_core.specs.EdgePairs.{DoublesBack, HaveCommonPoint};
+ghost use Rattle.ring_core.specs.own.EdgePairs.{DoublesBack, HaveCommonPoint};
 
-use geo_exact::{Corner, on_segment, turn};
-
-/// Whether the range from `low` to `high` has a number between `s` and `t`, all ends included.
-fn reaches(low: i64, high: i64, s: i64, t: i64) -> bool
-    ensures { IsTrue result ↔ ((low ≤ℤ int_max s t) × (int_min s t ≤ℤ high)) }
-{
-    if s <= t {
-        low <= t && s <= high
-    } else {
-        low <= s && t <= high
-    }
-}
-
-/// Whether a number lies both between `u` and `v` and between `s` and `t`, all ends included.
-fn ranges_overlap(u: i64, v: i64, s: i64, t: i64) -> bool
-    ensures { IsTrue result ↔ ((int_min u v ≤ℤ int_max s t) × (int_min s t ≤ℤ int_max u v)) }
-{
-    if u <= v {
-        reaches(u, v, s, t)
-    } else {
-        reaches(v, u, s, t)
-    }
-}
-
-/// Whether the boxes of the edges `a`, `b` and `c`, `d` have a common point.
-fn boxes_overlap(a: Corner, b: Corner, c: Corner, d: Corner) -> bool
-    ensures { IsTrue result
-        ↔ (((int_min a.x b.x ≤ℤ int_max c.x d.x) × (int_min c.x d.x ≤ℤ int_max a.x b.x))
-        × ((int_min a.y b.y ≤ℤ int_max c.y d.y) × (int_min c.y d.y ≤ℤ int_max a.y b.y))) }
-{
-    if !ranges_overlap(a.x, b.x, c.x, d.x) {
-        return false;
-    }
-    ranges_overlap(a.y, b.y, c.y, d.y)
-}
+use geo_exact::{Corner, edge_boxes_meet, on_segment, turn};
 
 /// Whether both numbers are above 0, or both below it.
 fn have_one_sign(first: i128, second: i128) -> bool
@@ -64,7 +29,7 @@ fn are_on_one_side(a: Corner, b: Corner, c: Corner, d: Corner) -> bool
 pub fn have_common_point(a: Corner, b: Corner, c: Corner, d: Corner) -> bool
     ensures { IsTrue result ↔ HaveCommonPoint a b c d }
 {
-    if !boxes_overlap(a, b, c, d) {
+    if !edge_boxes_meet(a, b, c, d) {
         return false;
     }
     if are_on_one_side(a, b, c, d) {

@@ -1,5 +1,5 @@
 ghost use Rattle.std.specs.Prelude.{◌≡◌, ◌<◌};
-ghost use Rattle.ring_core.specs.Places.{after, before};
+ghost use Rattle.geo_exact.specs.Places.{after, before};
 
 /// The number that follows `i` round a ring of `count` corners.
 pub fn following(count: usize, i: usize) -> usize

@@ -1,6 +1,7 @@
 ghost use Rattle.std.specs.Prelude.{◌≡◌, ◌<◌, length, IfOk, MatchOption};
 ghost use Rattle.std.specs.List.{remove};
-ghost use Rattle.ring_core.specs.Clipping.{HasNone, IsEar, IsFirst, IsFlat};
+ghost use Rattle.ring_core.specs.Clipping.{IsEar, IsFlat};
+ghost use Rattle.geo_exact.specs.First.{HasNone, IsFirst};
 
 use crate::kind::{Kind, first_ear, first_flat, kinds_of, update_kinds};
 use geo_exact::Corner;
@@ -21,7 +22,7 @@ pub struct Rest<A: Allocator> {
 impl<A: Allocator> Model for Rest<A> {
     ghost use Rattle.geo_exact.specs.declared.corner.Corner.{Corner};
     ghost use Rattle.std.specs.Prelude.{List};
-    ghost use Rattle.ring_core.specs.Kinds.{AreKinds};
+    ghost use Rattle.ring_core.specs.own.Kinds.{AreKinds};
 
     ghost Value = { List Corner };
 

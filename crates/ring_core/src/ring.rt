@@ -1,18 +1,19 @@
 ghost use Rattle.std.specs.Prelude.{◌≡◌, ◌↔◌, ℕ, ◌<◌, ◌≤◌, pos, ◌<ℤ◌, length, IsTrue, IsOk, IfOk, IfErr, MatchOption};
 ghost use Rattle.geo_exact.specs.Area.{area2 as area2_of};
+ghost use Rattle.geo_exact.specs.declared.limits.TheConstants.{LIST_CORNERS};
 ghost use Rattle.ring_core.specs.Simple.{IsSimpleRing, MeetOtherwise};
 ghost use Rattle.ring_core.specs.Faults.{IsFirstMeeting, IsRingFault};
 
 use crate::meeting::{doubles_back, have_common_point};
 use crate::places::following;
 use geo_exact::{Corner, Corners, area2};
-use std::alloc::Allocator;
+use std::alloc::{AllocError, Allocator};
 
 /// A simple ring: counterclockwise, of positive area, and its edges meet only as neighbours, in their
 /// shared corner alone (OGC 06-103r4, 6.1.7, LinearRing). Edge `i` joins corner `i` to the next, and the
 /// last corner to the first; corners are in whole centimetres. A corner may lie on the edge between its
 /// neighbours.
-#[derive(Debug, Drop)]
+#[derive(Debug, Drop, PartialEq, Eq)]
 pub struct Ring<A: Allocator> {
     /// Its corners, counterclockwise, the first not repeated.
     pub corners: Corners<A>,
@@ -85,6 +86,17 @@ fn first_meeting(ring: &[Corner]) -> Option<(usize, usize)>
     None
 }
 
+impl<A: Allocator + Copy> Clone for Ring<A> {
+    ghost use Rattle.std.specs.Prelude.{◌≡◌};
+
+    ghost is_clone = { λ ring copy. copy.corners ≡ ring.corners };
+
+    fn clone(&self) -> Result<Ring<A>, AllocError> {
+        let corners = self.corners.clone()?;
+        Ok(Ring { corners })
+    }
+}
+
 impl<A: Allocator> Ring<A> {
     /// The ring of these corners, at most 10,000,000. It takes no memory; the corners are dropped on a
     /// fault.
@@ -96,7 +108,7 @@ impl<A: Allocator> Ring<A> {
     /// The first of these that applies: [`RingFault::ZeroArea`] (G1), [`RingFault::Clockwise`] (G3),
     /// [`RingFault::EdgesMeet`] (G2).
     pub fn check(corners: Corners<A>) -> Result<Ring<A>, RingFault>
-        requires { length corners ≤ 10000000 }
+        requires { length corners ≤ LIST_CORNERS }
         ensures valid { IsOk result ↔ IsSimpleRing corners }
         ensures ok { IfOk result (λ ring. ring.corners ≡ corners) }
         ensures err { IfErr result (λ fault. IsRingFault corners fault) }

@@ -4,13 +4,16 @@ ghost use Rattle.std.specs.List.{All};
 ghost use Rattle.geo_exact.specs.Point.{Point};
 ghost use Rattle.geo_exact.specs.Winding.{winding};
 ghost use Rattle.geo_exact.specs.Area.{area2};
-ghost use Rattle.ring_core.specs.Sums.{IsRoundAtMostOnce, MakeUp, area2_sum, winding_sum};
+ghost use Rattle.ring_core.specs.Boxes.{HoldsTriangle};
+ghost use Rattle.ring_core.specs.Sums.{IsRoundAtMostOnce, MakeUp, area2_of_triangles, winding_of_triangles};
 ghost use Rattle.ring_core.specs.Stuck.{IsClipFault};
 
+use crate::boxes::bounds_of_all;
 use crate::ear::triangle_at;
 use crate::rest::Rest;
 use crate::ring::Ring;
 use crate::triangle::Triangles;
+use geo_exact::Bounds;
 use std::alloc::{AllocError, Allocator};
 
 /// A simple ring with triangles that make it up: at every point the ring's winding number is the sum
@@ -21,7 +24,26 @@ pub struct Shape<A: Allocator> {
     pub ring: Ring<A>,
     /// Its triangles, in the order in which they are clipped.
     pub triangles: Triangles<A>,
+    /// The least box that holds its triangles.
+    pub bounds: Bounds,
+    pub ghost bounded: { All (HoldsTriangle bounds) triangles },
     pub ghost made_up: { MakeUp triangles ring.corners },
+}
+
+impl<A: Allocator + Copy> Clone for Shape<A> {
+    ghost use Rattle.std.specs.Prelude.{◌≡◌};
+
+    ghost is_clone = { λ shape copy. (copy.ring.corners ≡ shape.ring.corners) × (copy.triangles ≡ shape.triangles) };
+
+    fn clone(&self) -> Result<Shape<A>, AllocError> {
+        let ring = self.ring.clone()?;
+        let triangles = self.triangles.clone()?;
+        Ok(Shape {
+            ring,
+            triangles,
+            bounds: self.bounds,
+        })
+    }
 }
 
 /// Why a ring was not clipped.
@@ -57,9 +79,9 @@ impl<A: Allocator + Copy> Shape<A> {
     pub fn clip(alloc: A, ring: Ring<A>) -> Result<Shape<A>, ClipFault<A>>
         ensures ring { IfOk result (λ shape. shape.ring.corners ≡ ring.corners) }
         ensures clipped { IfOk result (λ shape. IsClippedTo ring.corners shape.triangles) }
-        ensures windings { IfOk result (λ shape. (p : Point) → winding p ring.corners ≡ winding_sum p shape.triangles) }
+        ensures windings { IfOk result (λ shape. (p : Point) → winding p ring.corners ≡ winding_of_triangles p shape.triangles) }
         ensures each_once { IfOk result (λ shape. (p : Point) → All (IsRoundAtMostOnce p) shape.triangles) }
-        ensures areas { IfOk result (λ shape. area2 ring.corners ≡ area2_sum shape.triangles) }
+        ensures areas { IfOk result (λ shape. area2 ring.corners ≡ area2_of_triangles shape.triangles) }
         ensures stuck { IfErr result (λ fault. IsClipFault ring.corners fault) }
     {
         let mut rest = Rest::of(alloc, ring.corners.as_slice())?;
@@ -74,6 +96,11 @@ impl<A: Allocator + Copy> Shape<A> {
                 return Err(ClipFault::NoEar(triangles, rest));
             }
         }
-        Ok(Shape { ring, triangles })
+        let bounds = bounds_of_all(triangles.as_slice());
+        Ok(Shape {
+            ring,
+            triangles,
+            bounds,
+        })
     }
 }

@@ -1,4 +1,4 @@
-ghost use Rattle.std.specs.Prelude.{◌≡◌, ◌↔◌, pos, ◌<ℤ◌, IsSome, IfSome, OnOk, OnErr, ◌++◌, ◌∷◌, []};
+ghost use Rattle.std.specs.Prelude.{◌≡◌, ◌↔◌, pos, ◌<ℤ◌, IsSome, IfSome, OnOk, OnErr, ◌++◌, ◌∷◌, [], length, IsTrue};
 ghost use Rattle.geo_exact.specs.Turn.{turn as turn_of};
 
 use geo_exact::{Corner, turn};
@@ -70,10 +70,35 @@ impl<A: Allocator> Triangles<A> {
         Ok(())
     }
 
+    /// How many triangles there are.
+    pub fn len(&self) -> usize
+        ensures { result ≡ length self.now }
+    {
+        self.list.len()
+    }
+
+    /// Whether there is no triangle.
+    pub fn is_empty(&self) -> bool
+        ensures { IsTrue result ↔ (self.now ≡ []) }
+    {
+        self.list.is_empty()
+    }
+
     /// The triangles in order.
     pub fn as_slice(&self) -> &[Tri]
         ensures { result.now ≡ self.now }
     {
         self.list.as_slice()
+    }
+}
+
+impl<A: Allocator + Copy> Clone for Triangles<A> {
+    ghost use Rattle.std.specs.Prelude.{◌≡◌};
+
+    ghost is_clone = { λ triangles copy. copy ≡ triangles };
+
+    fn clone(&self) -> Result<Triangles<A>, AllocError> {
+        let list = Vec::from_slice(*self.list.allocator(), self.list.as_slice())?;
+        Ok(Triangles { list })
     }
 }

@@ -13,9 +13,12 @@ use Rattle.geo_exact.proofs.Signs.{mul_neg, mul_not_pos, mul_lt, mul_le}
 use Rattle.geo_exact.proofs.Triangles.{triangle_interior}
 use Rattle.geo_exact.proofs.TurnLaws.{weighed_x, weighed_y}
 use Rattle.ring_core.specs.declared.triangle.Tri.{Tri}
-use Rattle.ring_core.specs.Sums.{corners_of}
-use Rattle.tri_overlap.specs.declared.bounds.Bounds.{Bounds}
-use Rattle.tri_overlap.specs.Bounding.{HoldsCorner, Holds, HoldsMeeting, BoxesAreApart, IsEmpty, IsInside, IsRightOfSome, IsWider}
+use Rattle.ring_core.specs.Sums.{triangle_ring}
+use Rattle.geo_exact.specs.declared.bounds.Bounds.{Bounds}
+use Rattle.geo_exact.specs.Bounds.{BoxesAreApart, IsInsideBox}
+use Rattle.geo_exact.proofs.InBoxes.{not_in_both}
+use Rattle.ring_core.specs.Boxes.{HoldsTriangle}
+use Rattle.tri_overlap.specs.own.Bounding.{HoldsMeeting, IsRightOfSome}
 
 -- a weighed sum without a positive term, one of which is negative, is negative
 some_negative : (u v w a b c : ℤ) → pos 0 <ℤ u → pos 0 <ℤ v → pos 0 <ℤ w → a <ℤ pos 0 → b ≤ℤ pos 0 → c ≤ℤ pos 0
@@ -72,7 +75,7 @@ flat_in_y a b c m h e = let t : turn a b c ≡ pos 0 = rw (e.0, e.1, e.2) (level
     level m u v w = simp expand (omega (arith, ints))
 
 -- what is inside a triangle is inside each box that holds it
-pub inside_box : (t : Tri) (p : Point) (box : Bounds) → Holds box t → IsInterior p (corners_of t) → IsInside p box
+pub inside_box : (t : Tri) (p : Point) (box : Bounds) → HoldsTriangle box t → IsInterior p (triangle_ring t) → IsInsideBox p box
 inside_box t p box h i =
     let left = (triangle_interior t.a t.b t.c p t.turns_left).0 i in
     let u = turn_at t.b t.c p in
@@ -86,48 +89,12 @@ inside_box t p box h i =
       north = mean_below u v w t.a.y t.b.y t.c.y p.y p.d box.high.y left.1 left.2 left.0 p.d_positive y h.a.north h.b.north h.c.north (flat_in_y t.a t.b t.c box.high.y t.turns_left);
     }
 
--- no place lies inside two boxes that are apart
-not_in_both : (p : Point) (s t : Bounds) → BoxesAreApart s t → IsInside p s → IsInside p t → ⊥
-not_in_both p s t (inl (inl h)) i j = omega (arith, ints, mul_le s.high.x t.low.x p.d (omega (arith, ints, p.d_positive)) h, i.east, j.west)
-not_in_both p s t (inl (inr h)) i j = omega (arith, ints, mul_le t.high.x s.low.x p.d (omega (arith, ints, p.d_positive)) h, i.west, j.east)
-not_in_both p s t (inr (inl h)) i j = omega (arith, ints, mul_le s.high.y t.low.y p.d (omega (arith, ints, p.d_positive)) h, i.north, j.south)
-not_in_both p s t (inr (inr h)) i j = omega (arith, ints, mul_le t.high.y s.low.y p.d (omega (arith, ints, p.d_positive)) h, i.south, j.north)
-
 -- triangles have no common inner point where one is in a box that is apart from another that has all of them
-pub apart_triangles : (s t : Tri) (box other : Bounds) → HoldsMeeting box s t → Holds other t → BoxesAreApart box other → ¬ InteriorsMeet (corners_of s) (corners_of t)
+pub apart_triangles : (s t : Tri) (box other : Bounds) → HoldsMeeting box s t → HoldsTriangle other t → BoxesAreApart box other → ¬ InteriorsMeet (triangle_ring s) (triangle_ring t)
 apart_triangles s t box other h k a m = not_in_both m.0 box other a (h m.0 m.1 m.2) (inside_box t m.0 other k m.2)
 
-holds_corner : (box wider : Bounds) → IsWider box wider → (corner : Corner) → HoldsCorner box corner → HoldsCorner wider corner
-holds_corner box wider w corner h = record {
-  west = omega (arith, ints, w.0.0, h.west);
-  east = omega (arith, ints, w.0.1, h.east);
-  south = omega (arith, ints, w.1.0, h.south);
-  north = omega (arith, ints, w.1.1, h.north);
-}
-
--- the wider of two boxes holds what the other does
-pub wider_holds : (box wider : Bounds) → IsWider box wider → (t : Tri) → Holds box t → Holds wider t
-wider_holds box wider w t h = record {
-  a = holds_corner box wider w t.a h.a;
-  b = holds_corner box wider w t.b h.b;
-  c = holds_corner box wider w t.c h.c;
-}
-
-pub inside_wider : (box wider : Bounds) → IsWider box wider → (p : Point) → IsInside p box → IsInside p wider
-inside_wider box wider w p i =
-    let d : pos 0 ≤ℤ p.d = omega (arith, ints, p.d_positive) in record {
-      west = omega (arith, ints, mul_le wider.low.x box.low.x p.d d w.0.0, i.west);
-      east = omega (arith, ints, mul_le box.high.x wider.high.x p.d d w.0.1, i.east);
-      south = omega (arith, ints, mul_le wider.low.y box.low.y p.d d w.1.0, i.south);
-      north = omega (arith, ints, mul_le box.high.y wider.high.y p.d d w.1.1, i.north);
-    }
-
-pub nothing_in_empty : (box : Bounds) → IsEmpty box → (p : Point) → ¬ IsInside p box
-nothing_in_empty box (inl h) p i = omega (arith, ints, mul_le box.high.x box.low.x p.d (omega (arith, ints, p.d_positive)) h, i.west, i.east)
-nothing_in_empty box (inr h) p i = omega (arith, ints, mul_le box.high.y box.low.y p.d (omega (arith, ints, p.d_positive)) h, i.south, i.north)
-
 -- what is inside a triangle is left of each of its edges
-pub not_right : (box : Bounds) (t : Tri) → IsRightOfSome box t → (p : Point) → IsInside p box → ¬ IsInterior p (corners_of t)
+pub not_right : (box : Bounds) (t : Tri) → IsRightOfSome box t → (p : Point) → IsInsideBox p box → ¬ IsInterior p (triangle_ring t)
 not_right box t r p i k =
     let left = (triangle_interior t.a t.b t.c p t.turns_left).0 k in
     elim r [

@@ -10,8 +10,8 @@ use Rattle.geo_exact.specs.Turn.{turn_at}
 use Rattle.geo_exact.proofs.Polynomials.{Expr, var, add, mul, neg, same_by}
 use Rattle.geo_exact.proofs.Signs.{mul_not_neg, mul_falling, mul_le}
 use Rattle.geo_exact.proofs.TurnLaws.{turn_at_expr}
-use Rattle.tri_overlap.specs.declared.bounds.Bounds.{Bounds}
-use Rattle.tri_overlap.specs.Bounding.{IsInside}
+use Rattle.geo_exact.specs.declared.bounds.Bounds.{Bounds}
+use Rattle.geo_exact.specs.Bounds.{IsInsideBox}
 
 -- the number picked for a way from u to v: t where it does not fall, else s
 pub record IsPicked (u v s t y : ℤ) : Type 0 where
@@ -46,7 +46,7 @@ gap ax ay bx by kx ky px py d = same_by (ax ∷ ay ∷ bx ∷ by ∷ kx ∷ ky �
     refl
 
 pub farthest : (g h : Corner) (kx ky : ℤ) (box : Bounds) (p : Point) → IsPicked g.y h.y box.high.x box.low.x kx → IsPicked g.x h.x box.low.y box.high.y ky
-    → IsInside p box → turn_at g h p ≤ℤ (((h.x -ℤ g.x) *ℤ (ky -ℤ g.y) -ℤ (h.y -ℤ g.y) *ℤ (kx -ℤ g.x)) *ℤ p.d)
+    → IsInsideBox p box → turn_at g h p ≤ℤ (((h.x -ℤ g.x) *ℤ (ky -ℤ g.y) -ℤ (h.y -ℤ g.y) *ℤ (kx -ℤ g.x)) *ℤ p.d)
 farthest g h kx ky box p x y i =
     let e = gap g.x g.y h.x h.y kx ky p.x p.y p.d in
     let north = ahead_of p.d p.y y i.south i.north in

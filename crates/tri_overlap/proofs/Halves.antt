@@ -6,10 +6,14 @@ use Rattle.geo_exact.specs.Point.{Point}
 use Rattle.geo_exact.specs.Winding.{IsInterior}
 use Rattle.geo_exact.proofs.Dropped.{drop_item}
 use Rattle.ring_core.specs.declared.triangle.Tri.{Tri}
-use Rattle.ring_core.specs.Sums.{corners_of}
-use Rattle.tri_overlap.specs.declared.bounds.Bounds.{Bounds}
-use Rattle.tri_overlap.specs.Bounding.{Holds, HoldsAll, HoldsCommon, InSome, IsInside}
-use Rattle.tri_overlap.specs.Pairs.{SomePairMeets}
+use Rattle.ring_core.specs.Sums.{triangle_ring}
+use Rattle.std.specs.List.{All}
+use Rattle.geo_exact.specs.declared.bounds.Bounds.{Bounds}
+use Rattle.geo_exact.specs.Bounds.{IsInsideBox, BoxesAreApart}
+use Rattle.geo_exact.proofs.InBoxes.{not_in_both}
+use Rattle.ring_core.specs.Boxes.{HoldsTriangle}
+use Rattle.tri_overlap.specs.own.Bounding.{InSome}
+use Rattle.tri_overlap.specs.own.Pairs.{SomePairMeets}
 use Rattle.tri_overlap.proofs.Boxes.{inside_box}
 use Rattle.tri_overlap.proofs.RingPairs.{pair_meets, point_of_pair}
 
@@ -38,7 +42,7 @@ pub of_back : (p : Point) (i : ℕ) (us : List Tri) → InSome p (drop i us) →
 of_back p i us h = rw (take-append-drop i us) at (in_back p (take i us) (drop i us) h)
 
 -- what is in an item of the list is in the list
-pub in_item : (p : Point) (ts : List Tri) (i : ℕ) (t : Tri) → i < length ts → t ≡ get_or ts i t → IsInterior p (corners_of t) → InSome p ts
+pub in_item : (p : Point) (ts : List Tri) (i : ℕ) (t : Tri) → i < length ts → t ≡ get_or ts i t → IsInterior p (triangle_ring t) → InSome p ts
 in_item p ts i t h e k = of_back p i ts (rw (drop_item ts i t h e) (inl k))
 
 -- some pair meets exactly where one does of a half and the other list
@@ -55,11 +59,15 @@ halves_meet i ts us = (
   ],
 )
 
--- a box that holds one list holds all that it has in common with another
-pub common_in_box : (box : Bounds) (ts us : List Tri) → HoldsAll box us → HoldsCommon box ts us
-common_in_box box ts us h p i j = inside_all box us h p j
-  where
-    inside_all : (box : Bounds) (us : List Tri) → HoldsAll box us → (p : Point) → InSome p us → IsInside p box
-    inside_all box [] h p j = absurd j
-    inside_all box (u ∷ us) h p (inl j) = inside_box u p box (h 0 u (omega arith)) j
-    inside_all box (u ∷ us) h p (inr j) = inside_all box us (All-tail (Holds box) u us h) p j
+-- a box that holds all triangles has each point that is inside one of them
+pub inside_all : (box : Bounds) (us : List Tri) → All (HoldsTriangle box) us → (p : Point) → InSome p us → IsInsideBox p box
+inside_all box [] h p j = absurd j
+inside_all box (u ∷ us) h p (inl j) = inside_box u p box (h 0 u (omega arith)) j
+inside_all box (u ∷ us) h p (inr j) = inside_all box us (All-tail (HoldsTriangle box) u us h) p j
+
+-- lists of triangles in boxes that are apart have no two that meet
+pub apart_lists : (box other : Bounds) (ts us : List Tri) → All (HoldsTriangle box) ts → All (HoldsTriangle other) us → BoxesAreApart box other
+    → ¬ SomePairMeets ts us
+apart_lists box other ts us h k a m =
+    let w = point_of_pair ts us m in
+    not_in_both w.0 box other a (inside_all box ts h w.0 w.2) (inside_all other us k w.0 w.3)

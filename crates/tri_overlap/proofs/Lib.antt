@@ -1,8 +1,6 @@
 pub mod Convex
 pub mod Helly
 pub mod Separating
-pub mod Extremes
-pub mod Fits
 pub mod Farthest
 pub mod Halves
 pub mod Boxes

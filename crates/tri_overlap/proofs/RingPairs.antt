@@ -12,32 +12,32 @@ use Rattle.geo_exact.specs.Interiors.{InteriorsMeet}
 use Rattle.geo_exact.proofs.Triangles.{triangle_winds_at_most_once}
 use Rattle.geo_exact.proofs.Moved.{moved, moved_off_some, moved_interior}
 use Rattle.ring_core.specs.declared.triangle.Tri.{Tri}
-use Rattle.ring_core.specs.Sums.{corners_of, winding_sum, MakeUp}
-use Rattle.tri_overlap.specs.Bounding.{InSome}
-use Rattle.tri_overlap.specs.Pairs.{MeetsSome, SomePairMeets}
+use Rattle.ring_core.specs.Sums.{triangle_ring, winding_of_triangles, MakeUp}
+use Rattle.tri_overlap.specs.own.Bounding.{InSome}
+use Rattle.tri_overlap.specs.own.Pairs.{MeetsSome, SomePairMeets}
 
 -- p is on no edge, of whatever ring
 abbrev pub IsOffEdges : Point → Type 0
 IsOffEdges p = (es : List Edge) → IsOnSome p es → ⊥
 
-pub round_once : (p : Point) (t : Tri) → (winding p (corners_of t) ≡ pos 0) ⊎ (winding p (corners_of t) ≡ pos 1)
+pub round_once : (p : Point) (t : Tri) → (winding p (triangle_ring t) ≡ pos 0) ⊎ (winding p (triangle_ring t) ≡ pos 1)
 round_once p t = triangle_winds_at_most_once t.a t.b t.c p t.turns_left
 
-sum_not_negative : (p : Point) (ts : List Tri) → pos 0 ≤ℤ winding_sum p ts
+sum_not_negative : (p : Point) (ts : List Tri) → pos 0 ≤ℤ winding_of_triangles p ts
 sum_not_negative p [] = omega (arith, ints)
 sum_not_negative p (t ∷ ts) = elim (round_once p t) [
   | inl e ↦ omega (arith, ints, e, sum_not_negative p ts)
   | inr e ↦ omega (arith, ints, e, sum_not_negative p ts)
 ]
 
-pub in_some : (p : Point) → IsOffEdges p → (ts : List Tri) → pos 1 ≤ℤ winding_sum p ts → InSome p ts
+pub in_some : (p : Point) → IsOffEdges p → (ts : List Tri) → pos 1 ≤ℤ winding_of_triangles p ts → InSome p ts
 in_some p off [] h = absurd (omega (arith, ints, h))
 in_some p off (t ∷ ts) h = elim (round_once p t) [
   | inl e ↦ inr (in_some p off ts (omega (arith, ints, e, h)))
-  | inr e ↦ inl (record { off_edges = off (edges (corners_of t)); is_wound = omega (arith, ints, e) })
+  | inr e ↦ inl (record { off_edges = off (edges (triangle_ring t)); is_wound = omega (arith, ints, e) })
 ]
 
-wound_in_some : (p : Point) (ts : List Tri) → InSome p ts → pos 1 ≤ℤ winding_sum p ts
+wound_in_some : (p : Point) (ts : List Tri) → InSome p ts → pos 1 ≤ℤ winding_of_triangles p ts
 wound_in_some p [] h = absurd h
 wound_in_some p (t ∷ ts) (inl h) = omega (arith, ints, h.is_wound, sum_not_negative p ts)
 wound_in_some p (t ∷ ts) (inr h) = elim (round_once p t) [
@@ -45,7 +45,7 @@ wound_in_some p (t ∷ ts) (inr h) = elim (round_once p t) [
   | inr e ↦ omega (arith, ints, e, wound_in_some p ts h)
 ]
 
-one_meets : (p : Point) (t : Tri) (us : List Tri) → IsInterior p (corners_of t) → InSome p us → MeetsSome t us
+one_meets : (p : Point) (t : Tri) (us : List Tri) → IsInterior p (triangle_ring t) → InSome p us → MeetsSome t us
 one_meets p t [] i h = h
 one_meets p t (u ∷ us) i (inl h) = inl (p, i, h)
 one_meets p t (u ∷ us) i (inr h) = inr (one_meets p t us i h)
@@ -62,11 +62,11 @@ CommonPoint ts us = (p : Point) × IsOffEdges p × InSome p ts × InSome p us
 pub off_edges : (p : Point) → IsOffEdges (moved p)
 off_edges p es = moved_off_some es p
 
-meeting_point : (t u : Tri) → InteriorsMeet (corners_of t) (corners_of u)
-    → (p : Point) × IsOffEdges p × IsInterior p (corners_of t) × IsInterior p (corners_of u)
-meeting_point t u m = (moved m.0, off_edges m.0, moved_interior (corners_of t) m.0 m.1, moved_interior (corners_of u) m.0 m.2)
+meeting_point : (t u : Tri) → InteriorsMeet (triangle_ring t) (triangle_ring u)
+    → (p : Point) × IsOffEdges p × IsInterior p (triangle_ring t) × IsInterior p (triangle_ring u)
+meeting_point t u m = (moved m.0, off_edges m.0, moved_interior (triangle_ring t) m.0 m.1, moved_interior (triangle_ring u) m.0 m.2)
 
-pub point_of_one : (t : Tri) (us : List Tri) → MeetsSome t us → (p : Point) × IsOffEdges p × IsInterior p (corners_of t) × InSome p us
+pub point_of_one : (t : Tri) (us : List Tri) → MeetsSome t us → (p : Point) × IsOffEdges p × IsInterior p (triangle_ring t) × InSome p us
 point_of_one t [] h = absurd h
 point_of_one t (u ∷ us) (inl h) = let w = meeting_point t u h in (w.0, w.1, w.2, inl w.3)
 point_of_one t (u ∷ us) (inr h) = let w = point_of_one t us h in (w.0, w.1, w.2, inr w.3)

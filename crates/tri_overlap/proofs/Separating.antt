@@ -9,13 +9,13 @@ use Rattle.geo_exact.specs.Turn.{turn, turn_at}
 use Rattle.geo_exact.specs.Interiors.{InteriorsMeet}
 use Rattle.geo_exact.proofs.Triangles.{triangle_interior}
 use Rattle.ring_core.specs.declared.triangle.Tri.{Tri}
-use Rattle.ring_core.specs.Sums.{corners_of}
+use Rattle.ring_core.specs.Sums.{triangle_ring}
 use Rattle.geo_exact.proofs.Signs.{mul_pos, mul_not_neg, mul_not_pos}
 use Rattle.geo_exact.proofs.Differences.{expand}
 use Rattle.geo_exact.proofs.Polynomials.{Expr, var, add, mul, same_by}
 use Rattle.geo_exact.proofs.TurnLaws.{turn_expr, turn_at_expr, corner_point, turn_at_corner, turn_cycle}
 use Rattle.geo_exact.proofs.OnEdge.{starts_on, ends_on}
-use Rattle.tri_overlap.specs.Pairs.{SeesSome, NoEdgeSeparates}
+use Rattle.tri_overlap.specs.own.Pairs.{SeesSome, NoEdgeSeparates}
 use Rattle.tri_overlap.proofs.Convex.{IsBlend, IsLeft, left_convex, turn_at_blend}
 use Rattle.tri_overlap.proofs.Helly.{InFour, helly_six}
 
@@ -148,13 +148,13 @@ unseparated a b c d e f p h k i j = record {
 }
 
 -- ---- triangles of ring_core
-pub meet_unseparated : (s t : Tri) → NoEdgeSeparates s t → NoEdgeSeparates t s → InteriorsMeet (corners_of s) (corners_of t)
+pub meet_unseparated : (s t : Tri) → NoEdgeSeparates s t → NoEdgeSeparates t s → InteriorsMeet (triangle_ring s) (triangle_ring t)
 meet_unseparated s t h k =
     let w = common_place s.a s.b s.c t.a t.b t.c s.turns_left t.turns_left
     (record { by_ab = h.0; by_bc = h.1; by_ca = h.2; by_de = k.0; by_ef = k.1; by_fd = k.2 }) in
     (w.0, (triangle_interior s.a s.b s.c w.0 s.turns_left).1 w.1, (triangle_interior t.a t.b t.c w.0 t.turns_left).1 (w.2, w.3, w.4))
 
-pub unseparated_meet : (s t : Tri) → InteriorsMeet (corners_of s) (corners_of t) → NoEdgeSeparates s t × NoEdgeSeparates t s
+pub unseparated_meet : (s t : Tri) → InteriorsMeet (triangle_ring s) (triangle_ring t) → NoEdgeSeparates s t × NoEdgeSeparates t s
 unseparated_meet s t m =
     let u = unseparated s.a s.b s.c t.a t.b t.c m.0 s.turns_left t.turns_left
     ((triangle_interior s.a s.b s.c m.0 s.turns_left).0 m.1) ((triangle_interior t.a t.b t.c m.0 t.turns_left).0 m.2) in

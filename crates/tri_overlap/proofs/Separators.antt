@@ -5,8 +5,8 @@ use Rattle.geo_exact.specs.declared.corner.Corner.{Corner}
 use Rattle.geo_exact.specs.Turn.{turn}
 use Rattle.geo_exact.specs.Interiors.{InteriorsMeet}
 use Rattle.ring_core.specs.declared.triangle.Tri.{Tri}
-use Rattle.ring_core.specs.Sums.{corners_of}
-use Rattle.tri_overlap.specs.Pairs.{SeesSome, NoEdgeSeparates}
+use Rattle.ring_core.specs.Sums.{triangle_ring}
+use Rattle.tri_overlap.specs.own.Pairs.{SeesSome, NoEdgeSeparates}
 use Rattle.tri_overlap.specs.Separation.{IsBeyond, SomeEdgeSeparates}
 use Rattle.tri_overlap.proofs.Separating.{meet_unseparated, unseparated_meet}
 
@@ -57,7 +57,7 @@ none_nor_some s t none some =
       | inr o ↦ elim o [ inl bc ↦ not_both s.b s.c t none.1 bc | inr ca ↦ not_both s.c s.a t none.2 ca ]
     ]
 
-separated : (s t : Tri) → (InteriorsMeet (corners_of s) (corners_of t) → ⊥) → SomeEdgeSeparates s t ⊎ SomeEdgeSeparates t s
+separated : (s t : Tri) → (InteriorsMeet (triangle_ring s) (triangle_ring t) → ⊥) → SomeEdgeSeparates s t ⊎ SomeEdgeSeparates t s
 separated s t apart =
     elim (none_or_some s t) [
       | inr some ↦ inl some
@@ -67,11 +67,11 @@ separated s t apart =
       ]
     ]
 
-apart_from_edge : (s t : Tri) → SomeEdgeSeparates s t ⊎ SomeEdgeSeparates t s → InteriorsMeet (corners_of s) (corners_of t) → ⊥
+apart_from_edge : (s t : Tri) → SomeEdgeSeparates s t ⊎ SomeEdgeSeparates t s → InteriorsMeet (triangle_ring s) (triangle_ring t) → ⊥
 apart_from_edge s t some meet =
     let none = unseparated_meet s t meet in
     elim some [ inl h ↦ none_nor_some s t none.0 h | inr h ↦ none_nor_some t s none.1 h ]
 
 -- two triangles have no common inner point exactly where an edge of one separates it from the other
-pub apart_by_an_edge : (s t : Tri) → (¬ InteriorsMeet (corners_of s) (corners_of t)) ↔ (SomeEdgeSeparates s t ⊎ SomeEdgeSeparates t s)
+pub apart_by_an_edge : (s t : Tri) → (¬ InteriorsMeet (triangle_ring s) (triangle_ring t)) ↔ (SomeEdgeSeparates s t ⊎ SomeEdgeSeparates t s)
 apart_by_an_edge s t = (separated s t, λ some meet. apart_from_edge s t some meet)

@@ -1,4 +1,3 @@
 pub mod Separation
-pub mod Pairs
-pub mod Bounding
 pub mod Folding
+pub mod own

@@ -1,9 +1,8 @@
 ghost use Rattle.std.specs.Prelude.{◌<◌, ℕ, length, MatchOption};
 ghost use Rattle.tri_overlap.specs.Folding.{HasNoOverlap, IsFirstOverlap, OverlapAt};
 
-use crate::bounds::bounds_of;
 use crate::triangles::meet_in_box;
-use ring_core::{Shape, Tri};
+use ring_core::{Shape, Tri, bounds_of};
 use std::alloc::Allocator;
 
 /// The first triangle after triangle `i` of the list that overlaps it.

@@ -1,12 +1,12 @@
 ghost use Rattle.std.specs.Prelude.{◌↔◌, IsTrue};
 ghost use Rattle.geo_exact.specs.Interiors.{InteriorsMeet};
-ghost use Rattle.tri_overlap.specs.Bounding.{HoldsCommon, HoldsMeetings};
-ghost use Rattle.tri_overlap.specs.Pairs.{MeetsSome, SomePairMeets};
+ghost use Rattle.tri_overlap.specs.own.Bounding.{HoldsCommon, HoldsMeetings};
+ghost use Rattle.tri_overlap.specs.own.Pairs.{MeetsSome, SomePairMeets};
 
-use crate::bounds::{Bounds, bounds_of, bounds_of_all, common, is_empty};
 use crate::triangles::meet_in_box;
 use crate::windows::narrowed;
-use ring_core::{Shape, Tri};
+use geo_exact::Bounds;
+use ring_core::{Shape, Tri, bounds_of};
 use std::alloc::Allocator;
 
 /// Where either list has so few triangles, each pair is tried.
@@ -17,8 +17,8 @@ fn meets_some(window: Bounds, triangle: &Tri, others: &[Tri]) -> bool
     requires { HoldsMeetings window triangle.now others.now }
     ensures { IsTrue result ↔ MeetsSome triangle.now others.now }
 {
-    let bounds = common(window, bounds_of(triangle));
-    if is_empty(bounds) {
+    let bounds = window.common(bounds_of(triangle));
+    if bounds.is_empty() {
         return false;
     }
     for other in others {
@@ -55,7 +55,7 @@ fn meet_within(window: Bounds, first: &[Tri], second: &[Tri]) -> bool
         return some_pair_meets(window, first, second);
     }
     let part = narrowed(window, first);
-    if is_empty(part) {
+    if part.is_empty() {
         return false;
     }
     let (front, back) = second.split_at(second.len() / 2);
@@ -65,11 +65,18 @@ fn meet_within(window: Bounds, first: &[Tri], second: &[Tri]) -> bool
 /// Whether the interiors of two shapes have a common point, with fractions: the first entry of the
 /// nine-intersection matrix (OGC 06-103r4, 6.1.15.2). Touching is no overlap; it takes no memory.
 ///
-/// The lists of triangles are halved and halved again, and parts that have no place in common are left out. At worst, where
+/// Shapes whose boxes are apart are told so at once. Else the lists of triangles are halved and halved again, and parts that have no place in common are left out. At worst, where
 /// nearly all boxes meet, the time grows with the product of the numbers of triangles.
 pub fn shapes_overlap<A: Allocator, B: Allocator>(first: &Shape<A>, second: &Shape<B>) -> bool
     ensures { IsTrue result ↔ InteriorsMeet first.now.ring.corners second.now.ring.corners }
 {
-    let others = second.triangles.as_slice();
-    meet_within(bounds_of_all(others), first.triangles.as_slice(), others)
+    if first.bounds.is_apart(second.bounds) {
+        return false;
+    }
+    let window = first.bounds.common(second.bounds);
+    meet_within(
+        window,
+        first.triangles.as_slice(),
+        second.triangles.as_slice(),
+    )
 }

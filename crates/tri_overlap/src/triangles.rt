@@ -1,13 +1,12 @@
 ghost use Rattle.std.specs.Prelude.{◌↔◌, pos, ◌<ℤ◌, IsTrue};
 ghost use Rattle.geo_exact.specs.Turn.{turn as turn_of};
 ghost use Rattle.geo_exact.specs.Interiors.{InteriorsMeet};
-ghost use Rattle.ring_core.specs.Sums.{corners_of};
-ghost use Rattle.tri_overlap.specs.Pairs.{NoEdgeSeparates, SeesSome};
-ghost use Rattle.tri_overlap.specs.Bounding.{HoldsMeeting};
+ghost use Rattle.ring_core.specs.Sums.{triangle_ring};
+ghost use Rattle.tri_overlap.specs.own.Pairs.{NoEdgeSeparates, SeesSome};
+ghost use Rattle.tri_overlap.specs.own.Bounding.{HoldsMeeting};
 
-use crate::bounds::{Bounds, are_apart, bounds_of};
-use geo_exact::{Corner, turn};
-use ring_core::Tri;
+use geo_exact::{Bounds, Corner, turn};
+use ring_core::{Tri, bounds_of};
 
 /// Whether a corner is left of the way from one corner to another.
 fn is_left(from: Corner, to: Corner, corner: Corner) -> bool
@@ -35,9 +34,9 @@ fn each_edge_sees(first: &Tri, second: &Tri) -> bool
 /// Whether the interiors of two triangles have a common point, where a box is known that has all such points.
 pub fn meet_in_box(first: &Tri, bounds: Bounds, second: &Tri) -> bool
     requires { HoldsMeeting bounds first.now second.now }
-    ensures { IsTrue result ↔ InteriorsMeet (corners_of first.now) (corners_of second.now) }
+    ensures { IsTrue result ↔ InteriorsMeet (triangle_ring first.now) (triangle_ring second.now) }
 {
-    if are_apart(bounds, bounds_of(second)) {
+    if bounds.is_apart(bounds_of(second)) {
         return false;
     }
     each_edge_sees(first, second) && each_edge_sees(second, first)
@@ -48,7 +47,7 @@ pub fn meet_in_box(first: &Tri, bounds: Bounds, second: &Tri) -> bool
 /// Two triangles of positive area have none exactly when some edge of one has all corners of the other
 /// on its right or on its line (the separating edge). Touching is no overlap.
 pub fn triangles_overlap(first: &Tri, second: &Tri) -> bool
-    ensures { IsTrue result ↔ InteriorsMeet (corners_of first.now) (corners_of second.now) }
+    ensures { IsTrue result ↔ InteriorsMeet (triangle_ring first.now) (triangle_ring second.now) }
 {
     meet_in_box(first, bounds_of(first), second)
 }

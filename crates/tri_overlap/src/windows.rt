@@ -2,12 +2,12 @@ ghost use Rattle.std.specs.Prelude.{◌≡◌, ◌*ℤ◌, ◌<ℤ◌, ◌≤ℤ
 ghost use Rattle.geo_exact.specs.Point.{Point};
 ghost use Rattle.geo_exact.specs.Turn.{turn as turn_of, turn_at};
 ghost use Rattle.geo_exact.specs.Winding.{IsInterior};
-ghost use Rattle.ring_core.specs.Sums.{corners_of};
-ghost use Rattle.tri_overlap.specs.Bounding.{InSome, IsInside, IsRightOf, IsRightOfSome};
+ghost use Rattle.ring_core.specs.Sums.{triangle_ring};
+ghost use Rattle.geo_exact.specs.Bounds.{IsInsideBox};
+ghost use Rattle.tri_overlap.specs.own.Bounding.{InSome, IsRightOf, IsRightOfSome};
 
-use crate::bounds::{Bounds, around, bounds_of, common, is_empty, is_wider, nowhere};
-use geo_exact::{Corner, turn};
-use ring_core::Tri;
+use geo_exact::{Bounds, Corner, turn};
+use ring_core::{Tri, bounds_of};
 
 /// Of the two ends of a range, the one that lies ahead on a way from `from` to `to`: `high` where the way does not fall.
 fn ahead(from: i64, to: i64, low: i64, high: i64) -> i64
@@ -19,7 +19,7 @@ fn ahead(from: i64, to: i64, low: i64, high: i64) -> i64
 
 /// The corner of the box that is farthest to the left of the way from one corner to another.
 fn farthest_left(bounds: Bounds, from: Corner, to: Corner) -> Corner
-    ensures { (p : Point) → IsInside p bounds → turn_at from to p ≤ℤ (turn_of from to result *ℤ p.d) }
+    ensures { (p : Point) → IsInsideBox p bounds → turn_at from to p ≤ℤ (turn_of from to result *ℤ p.d) }
 {
     Corner {
         x: ahead(from.y, to.y, bounds.high.x, bounds.low.x),
@@ -45,21 +45,21 @@ fn misses(triangle: &Tri, bounds: Bounds) -> bool
 
 /// The box, widened to what the triangle has in the window.
 fn widened(bounds: Bounds, window: Bounds, triangle: &Tri) -> Bounds
-    ensures kept { (p : Point) → IsInside p bounds → IsInside p result }
-    ensures added { (p : Point) → IsInterior p (corners_of triangle.now) → IsInside p window → IsInside p result }
+    ensures kept { (p : Point) → IsInsideBox p bounds → IsInsideBox p result }
+    ensures added { (p : Point) → IsInterior p (triangle_ring triangle.now) → IsInsideBox p window → IsInsideBox p result }
 {
-    let part = common(window, bounds_of(triangle));
-    if is_empty(part) || is_wider(bounds, part) || misses(triangle, part) {
+    let part = window.common(bounds_of(triangle));
+    if part.is_empty() || bounds.is_wider(part) || misses(triangle, part) {
         return bounds;
     }
-    around(bounds, part)
+    bounds.around(part)
 }
 
 /// A box round all that the triangles have in the window.
 pub fn narrowed(window: Bounds, triangles: &[Tri]) -> Bounds
-    ensures { (p : Point) → InSome p triangles.now → IsInside p window → IsInside p result }
+    ensures { (p : Point) → InSome p triangles.now → IsInsideBox p window → IsInsideBox p result }
 {
-    let mut bounds = nowhere();
+    let mut bounds = Bounds::nowhere();
     for triangle in triangles {
         bounds = widened(bounds, window, triangle);
     }

@@ -1,5 +1,5 @@
 use Rattle.std.proofs.Common.{◌≡◌, ℕ, ◌<◌, ◌≤◌, length, vec_len}
-use Rattle.edge_chains.specs.Blocks.{HasOwn, HasBlock}
+use Rattle.edge_chains.specs.own.Blocks.{HasOwn, HasBlock}
 use Rattle.edge_chains.proofs.blocks.block_boxes.Given as goal
 
 abbrev pub invariant-loop-corner : goal.invariant-loop-corner

@@ -1,4 +1,4 @@
-use Rattle.edge_chains.specs.Blocks.{AreEnds}
+use Rattle.edge_chains.specs.own.Blocks.{AreEnds}
 use Rattle.edge_chains.proofs.blocks.block_ends.Given as goal
 
 abbrev pub invariant-loop-at : goal.invariant-loop-at

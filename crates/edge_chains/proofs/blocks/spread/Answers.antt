@@ -3,7 +3,8 @@ use Rattle.std.proofs.lemmas.List.Kept.{Contains-dedup, Contains-from_dedup}
 use Rattle.std.proofs.lemmas.List.Sorted.{Contains-permutation, IsPermutation-sym}
 use Rattle.std.proofs.Common.{subst, sym}
 use Rattle.std.specs.List.{Contains}
-use Rattle.edge_chains.proofs.Sorted.{is_same_equivalence, same_from_test}
+use Rattle.geo_exact.proofs.CornerOrder.{same_from_test}
+use Rattle.geo_exact.specs.Order.{is_same_equivalence}
 use Rattle.edge_chains.proofs.blocks.spread.Goals as goal
 
 pub returns : goal.returns

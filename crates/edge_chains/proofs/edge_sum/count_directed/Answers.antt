@@ -3,8 +3,9 @@ use Rattle.std.proofs.lemmas.Int.{ints}
 use Rattle.geo_exact.specs.Limit.{IsWithin}
 use Rattle.geo_exact.proofs.EdgeSums.{edge_of}
 use Rattle.edge_chains.specs.Net.{net_of_edges}
-use Rattle.edge_chains.specs.Counts.{is_before, net_at}
-use Rattle.edge_chains.proofs.Corners.{Decides-is_before, same_unless_before}
+use Rattle.edge_chains.specs.Counts.{net_at}
+use Rattle.geo_exact.specs.Order.{is_before}
+use Rattle.geo_exact.proofs.CornerOrder.{Decides-is_before, same_unless_before}
 use Rattle.edge_chains.proofs.Changes.{net_at_up, net_at_down, net_of_no_length, AreCounts-changed, AreCounts-upto}
 use Rattle.edge_chains.proofs.edge_sum.count_directed.Goals as goal
 

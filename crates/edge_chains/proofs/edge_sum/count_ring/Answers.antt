@@ -1,21 +1,22 @@
-use Rattle.std.proofs.Common.{◌+◌, arith}
+use Rattle.std.proofs.Common.{◌+◌, arith, ◌*◌}
 use Rattle.edge_chains.specs.Counts.{net_at}
 use Rattle.edge_chains.specs.Net.{net_of_edges}
 use Rattle.geo_exact.specs.Rings.{path}
+use Rattle.geo_exact.specs.declared.limits.TheConstants.{COUNTED_EDGES}
 use Rattle.std.proofs.Common.{◌+ℤ◌}
-use Rattle.edge_chains.specs.Sides.{signed}
+use Rattle.edge_chains.specs.own.Sides.{signed}
 use Rattle.edge_chains.proofs.Changes.{counted_more, AreCounts-upto}
 use Rattle.edge_chains.proofs.edge_sum.count_ring.Goals as goal
 
 pub count_edge-requires-clause-kept : goal.count_edge-requires-clause-kept
 count_edge-requires-clause-kept g c =
-    AreCounts-upto c.loop-to.numbers.entries (1000000000000 + c.loop-to.to-index) 2000000000000 (omega (arith, c.in-Some.ensures.cases))
-    (c.loop-to.invariant.kept 1000000000000 c.requires.kept)
+    AreCounts-upto c.loop-to.numbers.entries (COUNTED_EDGES + c.loop-to.to-index) (2 * COUNTED_EDGES) (omega (arith, c.in-Some.ensures.cases))
+    (c.loop-to.invariant.kept COUNTED_EDGES c.requires.kept)
 
 pub count_edge-requires-in-Some-clause-kept : goal.count_edge-requires-in-Some-clause-kept
 count_edge-requires-in-Some-clause-kept g c =
-    AreCounts-upto c.loop-to.numbers.entries (1000000000000 + c.loop-to.to-index) 2000000000000 (omega (arith, c.in-Some.ensures.cases))
-    (c.loop-to.invariant.kept 1000000000000 c.requires.kept)
+    AreCounts-upto c.loop-to.numbers.entries (COUNTED_EDGES + c.loop-to.to-index) (2 * COUNTED_EDGES) (omega (arith, c.in-Some.ensures.cases))
+    (c.loop-to.invariant.kept COUNTED_EDGES c.requires.kept)
 
 pub loop-to-preserved : goal.loop-to-preserved
 loop-to-preserved g c = record {

@@ -4,7 +4,7 @@ use Rattle.geo_exact.specs.declared.corner.Corner.{Corner}
 use Rattle.geo_exact.specs.Rings.{path}
 use Rattle.edge_chains.specs.Counts.{net_at, AreCounts}
 use Rattle.edge_chains.specs.Net.{net_of_edges}
-use Rattle.edge_chains.specs.Sides.{signed}
+use Rattle.edge_chains.specs.own.Sides.{signed}
 use Rattle.edge_chains.proofs.edge_sum.count_ring.Given as goal
 
 abbrev pub invariant-loop-to : goal.invariant-loop-to

@@ -2,7 +2,7 @@ use Rattle.std.proofs.Common.{◌≡◌, sym, ◌∙◌, ap, subst, arith, List,
 use Rattle.geo_exact.specs.declared.corner.Corner.{Corner}
 use Rattle.geo_exact.specs.Rings.{path}
 use Rattle.geo_exact.proofs.EdgeSums.{edge_of}
-use Rattle.edge_chains.specs.Noding.{IsNodedEdge, AreNodedEdges}
+use Rattle.edge_chains.specs.Noding.{IsNodedEdge, AreNodedEdges, IsNoded}
 use Rattle.edge_chains.proofs.NodedEdges.{noded_more, noded_all, noded_ring, noded_nothing}
 use Rattle.edge_chains.proofs.noding.node_ring.Goals.{in-Some+else-loop-at-test+in_ok-node_edge-2, in_default}
 use Rattle.edge_chains.proofs.noding.node_ring.Goals as goal
@@ -23,7 +23,7 @@ loop-at-preserved g c =
     }
 
 pub returns-clause-noded : goal.returns-clause-noded
-returns-clause-noded g c = elim c.match-split_first.branch [
+returns-clause-noded g c = subst (IsNoded c.args.ring.now c.args.search.now) (sym c.from_vec.ensures) (elim c.match-split_first.branch [
   | in-Some+else-loop-at-test+in_ok-node_edge-2 w ↦
       let corners = c.args.search.now in
       let inv = w.loop-at.invariant in
@@ -38,4 +38,4 @@ returns-clause-noded g c = elim c.match-split_first.branch [
       × (w.node_edge-in-Some.new.noded.items ≡ w.loop-at.noded.items ++ w.loop-at.from ∷ inner)) inv.same w.in_ok-node_edge-2.ensures.noded) inv.so_far))
   | in_default w ↦ noded_nothing c.args.search.now c.args.ring.now c.match-split_first.noded.items w.in_default.ensures.cases
       (ap (λ v. v.items) w.noded-is ∙ c.in_ok-noded.ensures.items)
-]
+])

@@ -1,5 +1,5 @@
 use Rattle.std.proofs.Common.{◌≡◌, ◌+◌, ◌≤◌, drop}
-use Rattle.ring_core.specs.Kinds.{count_inside}
+use Rattle.ring_core.specs.own.Kinds.{count_inside}
 use Rattle.ring_core.proofs.kind.count_inside.Given as goal
 
 abbrev pub invariant-loop-corner : goal.invariant-loop-corner

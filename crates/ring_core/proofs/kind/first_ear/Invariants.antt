@@ -1,7 +1,8 @@
 use Rattle.std.proofs.Common.{◌<◌, List, length}
 use Rattle.geo_exact.specs.declared.corner.Corner.{Corner}
-use Rattle.ring_core.specs.Clipping.{HasNone, IsEar}
-use Rattle.ring_core.specs.Kinds.{AreKinds}
+use Rattle.ring_core.specs.Clipping.{IsEar}
+use Rattle.geo_exact.specs.First.{HasNone}
+use Rattle.ring_core.specs.own.Kinds.{AreKinds}
 use Rattle.ring_core.proofs.kind.first_ear.Given as goal
 
 abbrev pub invariant-loop-k : goal.invariant-loop-k

@@ -5,9 +5,9 @@ use Rattle.std.proofs.lemmas.Bool.Decides.{same_from_decides}
 use Rattle.geo_exact.specs.declared.corner.Corner.{Corner}
 use Rattle.ring_core.specs.declared.kind.Kind.{Kind}
 use Rattle.ring_core.specs.declared.kind.Kind.TheVariants.{Flat, Bent, Convex}
-use Rattle.ring_core.specs.Places.{origin, corner_at}
+use Rattle.geo_exact.specs.Places.{origin, corner_at}
 use Rattle.ring_core.specs.Clipping.{previous, next, IsInTriangle}
-use Rattle.ring_core.specs.Kinds.{is_inside, IsKind, IsTakenOut, number_before}
+use Rattle.ring_core.specs.own.Kinds.{is_in_triangle, IsKind, IsTakenOut, number_before}
 use Rattle.ring_core.proofs.TakenOut.{inside_decides, WasBeside}
 use Rattle.ring_core.proofs.KindsKept.{flat_kept, bent_kept, convex_kept}
 use Rattle.ring_core.proofs.kind.kind_after.Goals as goal
@@ -22,8 +22,8 @@ kept whole rest k j gone Bent t b off never h = bent_kept whole rest k j gone t 
 kept whole rest k j gone (Convex count) t b off never h = absurd (never count refl)
 
 tested : (r : Bool) (rest : List Corner) (j : ℕ) (gone a o c : Corner) → a ≡ previous rest j → o ≡ corner_at rest j → c ≡ next rest j
-    → (IsTrue r ↔ IsInTriangle gone a o c) → r ≡ is_inside (previous rest j) (corner_at rest j) (next rest j) gone
-tested r rest j gone a o c e f g h = rw (← e, ← f, ← g) (same_from_decides r (is_inside a o c gone) h (inside_decides a o c gone))
+    → (IsTrue r ↔ IsInTriangle gone a o c) → r ≡ is_in_triangle (previous rest j) (corner_at rest j) (next rest j) gone
+tested r rest j gone a o c e f g h = rw (← e, ← f, ← g) (same_from_decides r (is_in_triangle a o c gone) h (inside_decides a o c gone))
 
 pub returns-in_default : goal.returns-in_default
 returns-in_default c = λ whole t h.

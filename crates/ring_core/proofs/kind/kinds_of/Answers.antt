@@ -1,7 +1,7 @@
 use Rattle.std.proofs.Common.{◌∙◌, ap, arith, length, get_or, below_more, ◌++◌, ◌∷◌, []}
 use Rattle.std.proofs.lemmas.List.{get_or_append_left, get_or_push, length_push}
 use Rattle.ring_core.specs.declared.kind.Kind.TheVariants.{Flat}
-use Rattle.ring_core.specs.Kinds.{IsKind}
+use Rattle.ring_core.specs.own.Kinds.{IsKind}
 use Rattle.ring_core.proofs.kind.kinds_of.Goals as goal
 
 pub loop-k-preserved : goal.loop-k-preserved

@@ -1,6 +1,6 @@
 use Rattle.std.proofs.Common.{◌≡◌, ℕ, ◌<◌, length, slice_index_or}
 use Rattle.ring_core.specs.declared.kind.Kind.TheVariants.{Flat}
-use Rattle.ring_core.specs.Kinds.{IsKind}
+use Rattle.ring_core.specs.own.Kinds.{IsKind}
 use Rattle.ring_core.proofs.kind.kinds_of.Given as goal
 
 abbrev pub invariant-loop-k : goal.invariant-loop-k

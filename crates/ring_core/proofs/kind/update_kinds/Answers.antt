@@ -1,7 +1,7 @@
 use Rattle.std.proofs.Common.{◌<◌, ◌≢◌, ◌∙◌, arith, length, get_or, below_more, slice_set}
 use Rattle.std.proofs.lemmas.List.{get_or-set_same, get_or-set_other}
 use Rattle.ring_core.specs.declared.kind.Kind.TheVariants.{Flat}
-use Rattle.ring_core.specs.Kinds.{IsKind}
+use Rattle.ring_core.specs.own.Kinds.{IsKind}
 use Rattle.ring_core.proofs.kind.update_kinds.Goals as goal
 
 pub loop-j-preserved : goal.loop-j-preserved

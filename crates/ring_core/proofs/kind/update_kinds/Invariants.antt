@@ -1,7 +1,7 @@
 use Rattle.std.proofs.Common.{◌≡◌, ℕ, ◌<◌, ◌≤◌, List, length, slice_index_or}
 use Rattle.geo_exact.specs.declared.corner.Corner.{Corner}
 use Rattle.ring_core.specs.declared.kind.Kind.TheVariants.{Flat}
-use Rattle.ring_core.specs.Kinds.{IsKind, IsTakenOut, number_before}
+use Rattle.ring_core.specs.own.Kinds.{IsKind, IsTakenOut, number_before}
 use Rattle.ring_core.proofs.kind.update_kinds.Given as goal
 
 abbrev pub invariant-loop-j : goal.invariant-loop-j

@@ -1,10 +1,10 @@
-use Rattle.std.proofs.Common.{◌≡◌, ◌⊎◌, ◌<ℤ◌, IsTrue, ◌↔◌, Bool, ℤ, pos, to_z, of_z, FitsSigned, arith}
+use Rattle.std.proofs.Common.{◌≡◌, ◌⊎◌, ◌<ℤ◌, IsTrue, ◌↔◌, Bool, ℤ, pos, to_z, of_z, FitsSigned, arith, ◌*◌}
 use Rattle.std.specs.Int.{w128}
 use Rattle.std.proofs.lemmas.Int.{ints, to_z-of_z}
-use Rattle.geo_exact.specs.Limit.{IsWithin}
+use Rattle.geo_exact.specs.Limit.{IsWithin, limit}
 use Rattle.ring_core.proofs.meeting.are_on_one_side.Goals as goal
 
-passed : (r : Bool) (m n s t : ℤ) → IsWithin 800000000000000000000 m → IsWithin 800000000000000000000 n → m ≡ s → n ≡ t
+passed : (r : Bool) (m n s t : ℤ) → IsWithin (8 * (limit * limit)) m → IsWithin (8 * (limit * limit)) n → m ≡ s → n ≡ t
     → (IsTrue r ↔ (((pos 0 <ℤ to_z w128 (of_z w128 m)) × (pos 0 <ℤ to_z w128 (of_z w128 n)))
     ⊎ ((to_z w128 (of_z w128 m) <ℤ pos 0) × (to_z w128 (of_z w128 n) <ℤ pos 0))))
     → (IsTrue r ↔ (((pos 0 <ℤ s) × (pos 0 <ℤ t)) ⊎ ((s <ℤ pos 0) × (t <ℤ pos 0))))

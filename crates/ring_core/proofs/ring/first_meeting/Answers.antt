@@ -7,8 +7,8 @@ returns-in-Some c =
     let ring = c.args.ring.now in let i = c.loop-i.i in let j = c.in-Some.j in let e = c.in-Some.ensures in
     record {
       ordered = e.0;
-      in_ring = e.1;
-      meet = e.2;
+      below = e.1;
+      has = e.2;
       is_first = λ k l o b s. elim s [
         | inl q ↦ c.loop-i.invariant k l q o b
         | inr q ↦ let P : ℕ → Type 0 = λ m. m < l → ¬ MeetOtherwise ring m l in subst P (sym q.0) (λ r. e.3 l r q.1) o

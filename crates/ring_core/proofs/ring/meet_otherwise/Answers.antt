@@ -1,8 +1,8 @@
 use Rattle.std.proofs.Common.{◌≡◌, ◌∙◌, sym, ap, ℕ, ◌+◌, ◌<◌, length, List, get_or, arith, Bool, IsTrue, ◌↔◌}
 use Rattle.std.proofs.lemmas.List.{get_or_read}
 use Rattle.geo_exact.specs.declared.corner.Corner.{Corner}
-use Rattle.ring_core.specs.Places.{corner_at, after, origin}
-use Rattle.ring_core.specs.EdgePairs.{HaveCommonPoint, DoublesBack}
+use Rattle.geo_exact.specs.Places.{corner_at, after, origin}
+use Rattle.ring_core.specs.own.EdgePairs.{HaveCommonPoint, DoublesBack}
 use Rattle.ring_core.specs.Simple.{MeetOtherwise}
 use Rattle.ring_core.proofs.Neighbours.{following_meet, closing_meet, apart_meet}
 use Rattle.ring_core.proofs.RoundNumbers.{after_in, after_inner}

@@ -1,5 +1,5 @@
 use Rattle.std.proofs.Common.{◌↔◌, drop}
-use Rattle.tri_overlap.specs.Pairs.{MeetsSome}
+use Rattle.tri_overlap.specs.own.Pairs.{MeetsSome}
 use Rattle.tri_overlap.proofs.shapes.meets_some.Given as goal
 
 abbrev pub invariant-loop-other : goal.invariant-loop-other

@@ -18,8 +18,8 @@ returns-else-each_edge_sees c =
     let t = c.args.second.now in
     (λ b. absurd (false≢true cc), λ m. c.each_edge_sees.ensures.1 (unseparated_meet s t m).0)
 
-pub returns-then-are_apart : goal.returns-then-are_apart
-returns-then-are_apart c = (
+pub returns-then-is_apart : goal.returns-then-is_apart
+returns-then-is_apart c = (
   λ b. absurd (false≢true b),
-  λ m. absurd (apart_triangles c.args.first.now c.args.second.now _ _ c.requires c.bounds_of.ensures (c.are_apart.ensures.0 c.if-are_apart.true) m),
+  λ m. absurd (apart_triangles c.args.first.now c.args.second.now _ _ c.requires c.bounds_of.ensures (c.is_apart.ensures.0 c.if-is_apart.true) m),
 )

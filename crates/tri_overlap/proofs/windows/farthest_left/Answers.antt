@@ -1,7 +1,7 @@
 use Rattle.std.proofs.Common.{arith, FitsSigned, w64}
 use Rattle.std.proofs.lemmas.Int.{ints, to_z-of_z}
 use Rattle.tri_overlap.proofs.Farthest.{IsPicked, picked_within, farthest}
-use Rattle.tri_overlap.proofs.Fits.{fits_x, fits_y}
+use Rattle.geo_exact.proofs.Fits.{fits_x, fits_y}
 use Rattle.tri_overlap.proofs.windows.farthest_left.Goals as goal
 
 pub invariant_of-result : goal.invariant_of-result

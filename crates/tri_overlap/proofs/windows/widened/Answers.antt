@@ -1,4 +1,5 @@
-use Rattle.tri_overlap.proofs.Boxes.{inside_box, nothing_in_empty, inside_wider, not_right}
+use Rattle.tri_overlap.proofs.Boxes.{inside_box, not_right}
+use Rattle.geo_exact.proofs.InBoxes.{nothing_in_empty, inside_wider}
 use Rattle.tri_overlap.proofs.windows.widened.Goals.{then-is_empty-via-then-is_empty, then-is_empty-via-else-is_empty+then-is_wider}
 use Rattle.tri_overlap.proofs.windows.widened.Goals.{then-is_empty-via-else-is_empty+else-is_wider+then-misses}
 use Rattle.tri_overlap.proofs.windows.widened.Goals as goal

@@ -1,14 +1,15 @@
 use Rattle.std.proofs.Common.{◌≡◌, ◌∙◌, ap, ◌+ℤ◌, arith}
 use Rattle.edge_chains.specs.Net.{net_of_edges}
 use Rattle.geo_exact.specs.Rings.{edges}
+use Rattle.geo_exact.specs.declared.limits.TheConstants.{COUNTED_EDGES}
 use Rattle.edge_chains.specs.Counts.{Counts}
-use Rattle.edge_chains.specs.Sides.{signed}
+use Rattle.edge_chains.specs.own.Sides.{signed}
 use Rattle.edge_chains.proofs.Changes.{AreCounts-alike, AreCounts-upto, net_at_alike}
 use Rattle.edge_chains.proofs.edge_sum.EdgeSum.count.Goals as goal
 
 pub count_ring-requires-clause-kept : goal.count_ring-requires-clause-kept
 count_ring-requires-clause-kept g c =
-    AreCounts-upto c.reserve.new.self.entries c.self.inside.edges 1000000000000 (let e : c.self.inside.edges ≡ c.args.self.now.edges =
+    AreCounts-upto c.reserve.new.self.entries c.self.inside.edges COUNTED_EDGES (let e : c.self.inside.edges ≡ c.args.self.now.edges =
     ap (λ (sum : Counts). sum.edges) c.self.view_is in omega arith)
     (AreCounts-alike c.self.inside.numbers.entries c.reserve.new.self.entries c.self.inside.edges c.in_ok-reserve.ensures.entries.2 c.self.invariant)
 

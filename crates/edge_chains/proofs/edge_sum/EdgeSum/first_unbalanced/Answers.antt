@@ -5,7 +5,7 @@ use Rattle.edge_chains.specs.Counts.{net_at, Counts, AreCounts}
 use Rattle.edge_chains.proofs.Firsts.{IsFirstOf, IsFirstOf-more, IsFirstOf-whole, IsFirstUnbalanced-from_first}
 use Rattle.edge_chains.proofs.Firsts.{found_next, one_more_done, none_counted, if_none_always}
 use Rattle.edge_chains.proofs.Jumps.{jump_beside}
-use Rattle.edge_chains.proofs.Balance.{winding_sum-balanced, area2_sum-balanced, balanced_where_zero}
+use Rattle.edge_chains.proofs.Balance.{winding_of_rings-balanced, area2_of_rings-balanced, balanced_where_zero}
 use Rattle.edge_chains.proofs.edge_sum.EdgeSum.first_unbalanced.Goals as goal
 
 pub loop-edge-preserved : goal.loop-edge-preserved
@@ -41,7 +41,7 @@ returns-in_err-a-clause-windings g c =
     subst (λ x. IsFirstOf c.args.self.now.counts x c.args.self.now.counts) c.in_err-a.was
     (IsFirstOf-whole c.args.self.now.counts h.0 c.loop-edge.edge-iterator c.loop-edge.first c.in-None.ensures.steps.0 h.1 h.2) in
     if_none_always _ c.from_residual.result
-    (λ added taken k. winding_sum-balanced added taken (balanced_where_zero c.args.self.now added taken k (none_counted c.args.self.now.counts none)))
+    (λ added taken k. winding_of_rings-balanced added taken (balanced_where_zero c.args.self.now added taken k (none_counted c.args.self.now.counts none)))
 
 pub returns-in_err-a-clause-areas : goal.returns-in_err-a-clause-areas
 returns-in_err-a-clause-areas g c =
@@ -50,7 +50,7 @@ returns-in_err-a-clause-areas g c =
     subst (λ x. IsFirstOf c.args.self.now.counts x c.args.self.now.counts) c.in_err-a.was
     (IsFirstOf-whole c.args.self.now.counts h.0 c.loop-edge.edge-iterator c.loop-edge.first c.in-None.ensures.steps.0 h.1 h.2) in
     if_none_always _ c.from_residual.result
-    (λ added taken k. area2_sum-balanced added taken (balanced_where_zero c.args.self.now added taken k (none_counted c.args.self.now.counts none)))
+    (λ added taken k. area2_of_rings-balanced added taken (balanced_where_zero c.args.self.now added taken k (none_counted c.args.self.now.counts none)))
 
 pub returns-clause-jump : goal.returns-clause-jump
 returns-clause-jump g c =

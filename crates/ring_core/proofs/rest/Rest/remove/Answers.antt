@@ -4,8 +4,8 @@ use Rattle.std.proofs.lemmas.List.{take_at, get_or_read}
 use Rattle.geo_exact.specs.declared.corner.Corner.{Corner}
 use Rattle.ring_core.specs.declared.kind.Kind.{Kind}
 use Rattle.ring_core.specs.declared.kind.Kind.TheVariants.{Flat}
-use Rattle.ring_core.specs.Places.{origin}
-use Rattle.ring_core.specs.Kinds.{IsKind, AreKinds, IsTakenOut, number_before}
+use Rattle.geo_exact.specs.Places.{origin}
+use Rattle.ring_core.specs.own.Kinds.{IsKind, AreKinds, IsTakenOut, number_before}
 use Rattle.ring_core.proofs.ClipSteps.{one_less}
 use Rattle.ring_core.proofs.TakenOut.{item_kept, number_in}
 use Rattle.ring_core.proofs.rest.Rest.remove.Goals as goal

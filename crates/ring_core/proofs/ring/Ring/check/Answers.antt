@@ -21,7 +21,7 @@ positive z area fits some h e =
     by_lt_z (pos 0) area (λ q. q) (λ q. let n : z ≡ pos 0 = omega (arith, ints) in absurd (some (ap (of_z w128) n)))
 
 first_is_some : (ring : List Corner) (i j : ℕ) → IsFirstMeeting ring i j → IsSimpleRing ring → ⊥
-first_is_some ring i j h s = s.simple i j h.ordered h.in_ring h.meet
+first_is_some ring i j h s = s.simple i j h.ordered h.below h.has
 
 pub first_meeting-requires : goal.first_meeting-requires
 first_meeting-requires g c =

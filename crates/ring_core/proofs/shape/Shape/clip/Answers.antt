@@ -46,4 +46,7 @@ loop-rest-preserved g c =
 pub invariant_of-result : goal.invariant_of-result
 invariant_of-result g c =
     let two : length c.loop-rest.rest ≡ 2 = omega (arith, c.loop-rest.invariant.two_left, ap length c.as_slice-in-loop-rest.ensures) in
-    record { made_up = make_up c.args.ring.corners c.loop-rest.triangles (c.loop-rest.rest, c.loop-rest.invariant.clipped, two) }
+    record {
+      bounded = rw c.as_slice-2.ensures at c.bounds_of_all-bounds.ensures;
+      made_up = make_up c.args.ring.corners c.loop-rest.triangles (c.loop-rest.rest, c.loop-rest.invariant.clipped, two);
+    }

@@ -1,0 +1,5 @@
+use Rattle.edge_chains.proofs.Inside.{none_off}
+use Rattle.edge_chains.proofs.edge_tests.are_disjoint.Goals as goal
+
+pub returns : goal.returns
+returns c = none_off c.edge_boxes_meet.result c.args.one c.args.other c.edge_boxes_meet.ensures.1

@@ -1,0 +1,4 @@
+-- Words of the code's own bookkeeping: no public contract speaks of them, and a reader need not believe them.
+pub mod Blocks
+pub mod Inside
+pub mod Sides
