@@ -9,7 +9,7 @@ use Rattle.shp_files.specs.Checks.{first_failure, header_checks, declared_end, r
 use Rattle.shp_files.specs.IndexChecks.{entry_checks, index_end_checks, index_record_checks}
 use Rattle.shp_files.specs.FirstFault.{Reaches, IsAccepted, IsIndexFault}
 use Rattle.shp_files.specs.FirstFault.Reaches.{first, next}
-use Rattle.shp_files.specs.Reading.{Agrees}
+use Rattle.shp_files.specs.own.Reading.{Agrees}
 use Rattle.shp_files.proofs.Indexes.{checks_at_record, checks_at_end}
 use Rattle.shp_files.proofs.Passing.{FramePasses}
 use Rattle.shp_files.proofs.Reaching.{position_from_1, reached_header, same_place, passed, not_past_end, passes_here, frame_of}

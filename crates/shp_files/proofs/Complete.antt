@@ -2,6 +2,7 @@
 use Rattle.std.proofs.Common.{inl, inr, ◌≡◌, ◌≢◌, ℕ, suc, ◌+◌, ◌≤◌, List, [], ◌∷◌, ◌++◌, length, drop, Option, refl, sym, ap, subst, ◌∙◌, arith, append_assoc}
 use Rattle.std.proofs.lemmas.List.{append-nil, length-append, drop-drop, drop_at}
 use Rattle.geo_exact.specs.declared.coord.Unit.{Unit as LengthUnit}
+use Rattle.geo_exact.specs.declared.limits.TheConstants.{LAYER_CORNERS, LAYER_RECORDS}
 use Rattle.shp_files.specs.declared.fault.FileName.TheVariants.{Main}
 use Rattle.shp_files.specs.LayerFile.{NumberedRing, AreRecords, joined, corner_count, IsNullShape, IsPolygon, numbered, IsLayerFile}
 use Rattle.shp_files.specs.Checks.{declared_end, record_end}
@@ -28,8 +29,8 @@ pub record Stand (main : List ℕ) (unit : LengthUnit) (number start : ℕ) (don
   pub reads : Reads main unit number start done
   pub text : drop start main ≡ joined records ++ ignored
   pub end : start + length (joined records) ≡ declared_end main
-  pub few : number + length records ≤ 65537
-  pub together : corner_count done + corner_count rings ≤ 1000000
+  pub few : number + length records ≤ LAYER_RECORDS + 1
+  pub together : corner_count done + corner_count rings ≤ LAYER_CORNERS
 
 -- a null shape is read
 pub stand_null : (main : List ℕ) (unit : LengthUnit) (number start : ℕ) (done : List NumberedRing) (bytes : List ℕ) (records : List (List ℕ)) (rings : List NumberedRing) (ignored : List ℕ)

@@ -10,7 +10,7 @@ use Rattle.shp_files.specs.Checks.{first_failure, header_checks, record_checks, 
 use Rattle.shp_files.specs.IndexChecks.{index_end_checks, index_record_checks}
 use Rattle.shp_files.specs.FirstFault.{Reaches, IsMainFault, IsAccepted, IsIndexFault, IsDecided}
 use Rattle.shp_files.specs.FirstFault.Reaches.{first, next}
-use Rattle.shp_files.specs.Reading.{Agrees}
+use Rattle.shp_files.specs.own.Reading.{Agrees}
 use Rattle.shp_files.proofs.Checking.{IsChecked, checked_first, checked_next, header_fault, fault_at_record, agrees_where, fault_where}
 use Rattle.shp_files.proofs.Drawn.{ring_found}
 use Rattle.shp_files.proofs.Indexes.{file_of_agrees}

@@ -8,7 +8,7 @@ use Rattle.shp_files.specs.LayerFile.{closed}
 use Rattle.shp_files.specs.NormalForm.{starts, kept_once}
 use Rattle.shp_files.specs.Checks.{distinct_points, check, fault, first_failure, points_of, corner_checks}
 use Rattle.shp_files.specs.declared.fault.FaultKind.TheVariants.{FewPoints}
-use Rattle.shp_files.specs.Reading.{AreReadAs}
+use Rattle.shp_files.specs.own.Reading.{AreReadAs}
 use Rattle.shp_files.proofs.Ring.{other_point}
 
 -- one more edge, of some length or of none

@@ -8,7 +8,7 @@ use Rattle.geo_exact.proofs.Coordinates.{accepted_is}
 use Rattle.shp_files.specs.Layout.{double_at}
 use Rattle.shp_files.specs.LayerFile.{closed}
 use Rattle.shp_files.specs.Checks.{first_failure, coordinate_checks, closing_checks, ring_checks}
-use Rattle.shp_files.specs.Reading.{IsReadAs, AreReadAs}
+use Rattle.shp_files.specs.own.Reading.{IsReadAs, AreReadAs}
 use Rattle.shp_files.proofs.Lines.{pass, pass_parts}
 use Rattle.shp_files.proofs.Points.{one_read, one_refused, point_read}
 use Rattle.shp_files.proofs.Ring.{ring_parts, other_point, same_corner, closed_read}

@@ -3,7 +3,7 @@ use Rattle.std.proofs.Common.{◌≡◌, List, ◌++◌, None, Result, Ok, Err, 
 use Rattle.shp_files.specs.declared.fault.LayerFault.{LayerFault}
 use Rattle.shp_files.specs.declared.fault.LayerFault.TheVariants.{File, NoMemory}
 use Rattle.shp_files.specs.Checks.{Check, first_failure}
-use Rattle.shp_files.specs.Reading.{Fails, Finds}
+use Rattle.shp_files.specs.own.Reading.{Fails, Finds}
 use Rattle.shp_files.proofs.Lines.{goes_on, stops}
 
 -- what is refused stays refused, whatever lines follow

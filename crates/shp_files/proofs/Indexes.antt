@@ -10,7 +10,7 @@ use Rattle.shp_files.specs.LayerFile.{NumberedRing, numbered, AreRecords, joined
 use Rattle.shp_files.specs.Checks.{first_failure, declared_end, record_end}
 use Rattle.shp_files.specs.IndexChecks.{entry_place, entry_checks, index_end_checks, index_record_checks}
 use Rattle.shp_files.specs.FirstFault.{Reaches}
-use Rattle.shp_files.specs.Reading.{Agrees}
+use Rattle.shp_files.specs.own.Reading.{Agrees}
 use Rattle.shp_files.proofs.Complete.{Stand, stand_null, stand_polygon, stand_of_file, behind}
 use Rattle.shp_files.proofs.Headers.{end_is, header_found, header_text}
 use Rattle.shp_files.proofs.Lines.{pass, pass_from, first_failure_none}

@@ -11,7 +11,7 @@ use Rattle.shp_files.specs.LayerFile.{NumberedRing, closed, normal_rings, IsLaye
 use Rattle.shp_files.specs.Checks.{first_failure, header_checks, record_checks, declared_end, record_end, points_of, is_null}
 use Rattle.shp_files.specs.FirstFault.{Reaches, StopsAt, IsMainFault, IsAccepted, IndexStopsAt, IsIndexFault, IsFirstFault}
 use Rattle.shp_files.specs.IndexChecks.{entry_checks}
-use Rattle.shp_files.specs.Reading.{AreReadAs, Agrees}
+use Rattle.shp_files.specs.own.Reading.{AreReadAs, Agrees}
 use Rattle.shp_files.proofs.Reaching.{position_from_1, reached_header, same_place, IsPassed, passed, not_past_end}
 use Rattle.shp_files.proofs.Walk.{Reads, reached}
 use Rattle.shp_files.proofs.Walk.Reads.{none, null, more}

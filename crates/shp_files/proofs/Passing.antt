@@ -4,6 +4,7 @@ use Rattle.std.proofs.lemmas.Bool.{ltb-false, le-ltb, eqb-true, eq-eqb, not-fals
 use Rattle.std.proofs.lemmas.Bool.Decides.{Decides-int_eq}
 use Rattle.std.specs.Ordering.{int_eq}
 use Rattle.geo_exact.specs.declared.coord.Unit.{Unit as LengthUnit}
+use Rattle.geo_exact.specs.declared.limits.TheConstants.{LAYER_CORNERS, LAYER_RECORDS, RING_CORNERS}
 use Rattle.shp_files.specs.declared.fault.FileName.{FileName}
 use Rattle.shp_files.specs.Layout.{file_code, file_words, version, header_shape_type, content_words, shape_type, part_count, point_count, first_part, natural}
 use Rattle.shp_files.specs.Checks.{first_failure, is_not, declared_end, record_end, points_of, header_checks, frame_checks, shape_checks, count_checks}
@@ -51,7 +52,7 @@ header_passes_from name main h =
 
 -- the frame of the record at this position that begins at this byte passes
 pub record FramePasses (main : List ℕ) (position start : ℕ) : Type 0 where
-  pub few_records : position ≤ 65536
+  pub few_records : position ≤ LAYER_RECORDS
   pub room : start + 8 ≤ declared_end main
   pub words : content_words main start ≡ pos (natural (content_words main start))
   pub some : 2 ≤ natural (content_words main start)
@@ -87,8 +88,8 @@ pub record CountsPass (main : List ℕ) (start before : ℕ) : Type 0 where
   pub parts : part_count main start ≡ pos 1
   pub points : point_count main start ≡ pos (points_of main start)
   pub enough : 4 ≤ points_of main start
-  pub few : points_of main start ≤ 4097
-  pub few_together : before + (points_of main start - 1) ≤ 1000000
+  pub few : points_of main start ≤ RING_CORNERS + 1
+  pub few_together : before + (points_of main start - 1) ≤ LAYER_CORNERS
   pub filled : 2 * natural (content_words main start) ≡ 48 + 16 * points_of main start
   pub first : first_part main start ≡ pos 0
 

@@ -9,7 +9,7 @@ use Rattle.shp_files.specs.declared.fault.FaultKind.TheVariants as kinds
 use Rattle.shp_files.specs.Layout.{double_at}
 use Rattle.shp_files.specs.Checks.{Check, first_failure, fault, refusal, coordinate_checks}
 use Rattle.shp_files.proofs.Lines.{goes_on, stops}
-use Rattle.shp_files.specs.Reading.{IsReadAs, AreReadAs}
+use Rattle.shp_files.specs.own.Reading.{IsReadAs, AreReadAs}
 
 -- a coordinate that is read leaves the answer to the others
 pub one_read : (main : List ℕ) (unit : LengthUnit) (position at count : ℕ) (k : ℤ) → coordinate (double_at main at) unit ≡ Ok k

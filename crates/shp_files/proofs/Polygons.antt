@@ -5,10 +5,11 @@ use Rattle.geo_exact.specs.declared.corner.Corner.{Corner}
 use Rattle.geo_exact.specs.declared.coord.Unit.{Unit as LengthUnit}
 use Rattle.geo_exact.specs.Grid.{IsOnGrid, coordinate}
 use Rattle.geo_exact.proofs.Coordinates.{accepted_is, accepted_when}
+use Rattle.geo_exact.specs.declared.limits.TheConstants.{LAYER_CORNERS, LAYER_RECORDS}
 use Rattle.shp_files.specs.Layout.{double_at, content_words, point_count, natural}
 use Rattle.shp_files.specs.LayerFile.{ArePoints, closed, IsNullShape, IsPolygon}
 use Rattle.shp_files.specs.Checks.{declared_end, record_end, points_of, distinct_points}
-use Rattle.shp_files.specs.Reading.{AreReadAs}
+use Rattle.shp_files.specs.own.Reading.{AreReadAs}
 use Rattle.shp_files.proofs.Numbers.{natural_pos}
 use Rattle.shp_files.proofs.Passing.{NullPasses, PolygonPasses}
 use Rattle.shp_files.proofs.Places.{StandsAt, big_at_part, little_at_part, double_at_part}
@@ -67,7 +68,7 @@ pub record IsReadNull (file : List ℕ) (position start : ℕ) (bytes : List ℕ
   pub passes : NullPasses file position start
   pub end : record_end file start ≡ start + length bytes
 
-pub read_from_null : (file : List ℕ) (position start : ℕ) (bytes : List ℕ) → IsNullShape bytes → StandsAt file start bytes → position ≤ 65536
+pub read_from_null : (file : List ℕ) (position start : ℕ) (bytes : List ℕ) → IsNullShape bytes → StandsAt file start bytes → position ≤ LAYER_RECORDS
     → start + length bytes ≤ declared_end file → IsReadNull file position start bytes
 read_from_null file position start bytes null h few within =
     let whole = null.is_whole in
@@ -120,7 +121,7 @@ pub record IsReadPolygon (file : List ℕ) (unit : LengthUnit) (position start b
   pub are : AreReadAs unit file (start + 56) (closed corners)
 
 pub read_from_polygon : (file : List ℕ) (unit : LengthUnit) (position start before : ℕ) (bytes : List ℕ) (corners : List Corner) → IsPolygon unit bytes corners
-    → StandsAt file start bytes → position ≤ 65536 → start + length bytes ≤ declared_end file → before + length corners ≤ 1000000
+    → StandsAt file start bytes → position ≤ LAYER_RECORDS → start + length bytes ≤ declared_end file → before + length corners ≤ LAYER_CORNERS
     → IsReadPolygon file unit position start before bytes corners
 read_from_polygon file unit position start before bytes corners polygon h few within together =
     let three : 3 ≤ length corners = omega (arith, polygon.has_enough, kept_fewer corners) in

@@ -10,7 +10,7 @@ use Rattle.shp_files.specs.declared.fault.FaultKind.TheVariants.{NotClosed}
 use Rattle.shp_files.specs.declared.fault.LayerFault.{LayerFault}
 use Rattle.shp_files.specs.LayerFile.{closed}
 use Rattle.shp_files.specs.Checks.{Check, check, fault, first_failure, is_not, is_other_point, coordinate_checks, closing_checks, ring_checks}
-use Rattle.shp_files.specs.Reading.{Fails, IsReadAs, AreReadAs}
+use Rattle.shp_files.specs.own.Reading.{Fails, IsReadAs, AreReadAs}
 use Rattle.shp_files.proofs.Numbers.{same_from_is_not, is_not_same}
 use Rattle.shp_files.proofs.Lines.{goes_on, stops, pass_from, pass_both, first_failure_none}
 use Rattle.shp_files.proofs.Finding.{fails_stops}

@@ -9,8 +9,9 @@ use Rattle.geo_exact.specs.Area.{area2}
 use Rattle.geo_exact.specs.Rings.{turned_round}
 use Rattle.geo_exact.specs.declared.raw_ring.RawRing.{RawRing}
 use Rattle.geo_exact.proofs.Dropped.{drop_item}
+use Rattle.geo_exact.specs.declared.limits.TheConstants.{LAYER_CORNERS, LAYER_RECORDS}
 use Rattle.shp_files.specs.LayerFile.{closed, joined}
-use Rattle.shp_files.specs.Written.{big, words, points, content, record_bytes, records, corners_of, index_records}
+use Rattle.shp_files.specs.Written.{big, words, points, content, record_bytes, records, all_corners, index_records}
 use Rattle.shp_files.proofs.Puts.{more}
 use Rattle.shp_files.proofs.Sizes.{length-content, words_of_content, length-record}
 
@@ -27,25 +28,25 @@ lists_end f xs i h = ap (map f) (drop_all i xs h)
 
 -- the corners of the rings below an index, and of one more
 pub corners_push : {X : Type 0} (f : X → List Corner) (xs : List X) (i : ℕ) (x : X) → i < length xs → x ≡ get_or xs i x
-    → corners_of (map f (take i xs)) ++ f x ≡ corners_of (map f (take (i + 1) xs))
+    → all_corners (map f (take i xs)) ++ f x ≡ all_corners (map f (take (i + 1) xs))
 corners_push f xs i x h e =
-    sym (ap (λ ys. corners_of (map f ys)) (take_more xs i x h ∙ ap (λ y. take i xs ++ y ∷ []) (sym e))
-    ∙ ap corners_of (map-append f (take i xs) (x ∷ []))
+    sym (ap (λ ys. all_corners (map f ys)) (take_more xs i x h ∙ ap (λ y. take i xs ++ y ∷ []) (sym e))
+    ∙ ap all_corners (map-append f (take i xs) (x ∷ []))
     ∙ flat_map-append (λ ring. ring) (map f (take i xs)) (f x ∷ [])
-    ∙ ap (λ ring. corners_of (map f (take i xs)) ++ ring) (append-nil (f x)))
+    ∙ ap (λ ring. all_corners (map f (take i xs)) ++ ring) (append-nil (f x)))
 
-corners_left : (i : ℕ) (rings : List (List Corner)) → length (corners_of (drop i rings)) ≤ length (corners_of rings)
+corners_left : (i : ℕ) (rings : List (List Corner)) → length (all_corners (drop i rings)) ≤ length (all_corners rings)
 corners_left zero rings = omega arith
 corners_left (suc i) [] = omega arith
 corners_left (suc i) (ring ∷ rings) = simp length-append (omega (arith, corners_left i rings))
 
 -- a ring has at most as many corners as all together
 pub corners_of_one : {X : Type 0} (f : X → List Corner) (xs : List X) (i : ℕ) (x : X) → i < length xs → x ≡ get_or xs i x
-    → length (f x) ≤ length (corners_of (map f xs))
+    → length (f x) ≤ length (all_corners (map f xs))
 corners_of_one f xs i x h e =
     let left = corners_left i (map f xs) in
-    let here : length (corners_of (drop i (map f xs))) ≡ length (f x) + length (corners_of (map f (drop (i + 1) xs))) =
-    ap (λ rings. length (corners_of rings)) (drop-map f i xs ∙ lists_drop f xs i x h e) ∙ length-append (f x) (corners_of (map f (drop (i + 1) xs))) in
+    let here : length (all_corners (drop i (map f xs))) ≡ length (f x) + length (all_corners (map f (drop (i + 1) xs))) =
+    ap (λ rings. length (all_corners rings)) (drop-map f i xs ∙ lists_drop f xs i x h e) ∙ length-append (f x) (all_corners (map f (drop (i + 1) xs))) in
     omega (arith, left, here)
 
 -- ---- the bytes of the records
@@ -70,14 +71,14 @@ closed_few false (first ∷ rest) = simp length-append (omega arith)
 pub points_few : (ring : List Corner) → length (points ring) ≤ length ring + 1
 points_few ring = closed_few (int_lt (pos 0) (area2 ring)) ring
 
-pub words_few : (number : ℕ) (rings : List (List Corner)) → words (joined (records number rings)) ≤ 36 * length rings + 8 * length (corners_of rings)
+pub words_few : (number : ℕ) (rings : List (List Corner)) → words (joined (records number rings)) ≤ 36 * length rings + 8 * length (all_corners rings)
 words_few number [] = omega arith
 words_few number (ring ∷ rings) =
     rw (words_of_records number ring rings, length-append) (omega (arith, words_of_content ring, points_few ring, words_few (number + 1) rings))
 
 -- ---- the records from an index on
 pub ring_small : {X : Type 0} (f : X → List Corner) (xs : List X) (i : ℕ) (x : X) (ring : List Corner) → i < length xs → x ≡ get_or xs i x → ring ≡ f x
-    → length (corners_of (map f xs)) ≤ 1000000 → length ring ≤ 1000000
+    → length (all_corners (map f xs)) ≤ LAYER_CORNERS → length ring ≤ LAYER_CORNERS
 ring_small f xs i x ring h e is few = let small = corners_of_one f xs i x h e in rw is (omega (arith, small, few))
 
 pub words_from : {X : Type 0} (f : X → List Corner) (xs : List X) (i n : ℕ) (x : X) (ring : List Corner) → i < length xs → x ≡ get_or xs i x → ring ≡ f x
@@ -88,8 +89,8 @@ words_from f xs i n x ring h e is size =
     ap (λ rings. words (joined (records (i + 1) rings))) here ∙ words_of_records (i + 1) ring (map f (drop (i + 1) xs))
     ∙ ap (λ m. 4 + m + words (joined (records (i + 1 + 1) (map f (drop (i + 1) xs))))) (sym size)
 
-pub words_all : {X : Type 0} (f : X → List Corner) (xs : List X) (number : ℕ) → length xs ≤ 65536 → length (corners_of (map f xs)) ≤ 1000000
-    → words (joined (records number (map f xs))) ≤ 12000000
+pub words_all : {X : Type 0} (f : X → List Corner) (xs : List X) (number : ℕ) → length xs ≤ LAYER_RECORDS → length (all_corners (map f xs)) ≤ LAYER_CORNERS
+    → words (joined (records number (map f xs))) ≤ 36 * LAYER_RECORDS + 8 * LAYER_CORNERS
 words_all f xs number h k = let count : length (map f xs) ≡ length xs = simp length-map in omega (arith, words_few number (map f xs), count)
 
 pub words_end : {X : Type 0} (f : X → List Corner) (xs : List X) (i number : ℕ) → length xs ≤ i → words (joined (records number (map f (drop i xs)))) ≡ 0

@@ -4,6 +4,7 @@ use Rattle.std.proofs.lemmas.List.{append-nil, length-append, length-drop, lengt
 use Rattle.std.proofs.Math.Seq.{take-add}
 use Rattle.geo_exact.specs.declared.corner.Corner.{Corner}
 use Rattle.geo_exact.specs.declared.coord.Unit.{Unit as LengthUnit}
+use Rattle.geo_exact.specs.declared.limits.TheConstants.{LAYER_CORNERS, LAYER_RECORDS}
 use Rattle.shp_files.specs.declared.fault.FileName.TheVariants.{Main}
 use Rattle.shp_files.specs.LayerFile.{NumberedRing, numbered, normal_rings, IsNullShape, IsPolygon, AreRecords, joined, corner_count, IsHeader, IsLayerFile}
 use Rattle.shp_files.specs.Checks.{declared_end, record_end}
@@ -50,8 +51,8 @@ pub record Parsed (main : List ℕ) (unit : LengthUnit) (position start : ℕ) (
   pub count : 1 + length records ≡ position
   pub long : 100 ≤ start
   pub within : start ≤ declared_end main
-  pub few : position ≤ 65537
-  pub few_together : corner_count rings ≤ 1000000
+  pub few : position ≤ LAYER_RECORDS + 1
+  pub few_together : corner_count rings ≤ LAYER_CORNERS
   pub header : HeaderPasses main
 
 -- the next record as text

@@ -9,7 +9,7 @@ use Rattle.std.proofs.lemmas.List.{length-reverse, reverse-append}
 use Rattle.std.proofs.lemmas.Bool.{and_parts, false_from_ne_true, false≢true}
 use Rattle.std.proofs.lemmas.Bool.Decides.{Decides-int_eq}
 use Rattle.geo_exact.specs.declared.corner.Corner.{Corner}
-use Rattle.geo_exact.specs.Rings.{Edge, path, turned_round, AreApart}
+use Rattle.geo_exact.specs.Rings.{Edge, path, turned_round, HasNoRepeats}
 use Rattle.geo_exact.specs.Area.{area2}
 use Rattle.geo_exact.proofs.SameCorner.{corner_same}
 use Rattle.geo_exact.proofs.Windings.{area2_turned_round}
@@ -47,12 +47,12 @@ kept_path from [] to = kept_last (int_eq from.x to.x && int_eq from.y to.y) from
 kept_path from (next ∷ rest) to =
     kept_step (int_eq from.x next.x && int_eq from.y next.y) from next (starts (path next rest to)) to refl (kept_path next rest to)
 
-kept_round : (first : Corner) (ks : List Corner) → Kept first ks first → AreApart ks
+kept_round : (first : Corner) (ks : List Corner) → Kept first ks first → HasNoRepeats ks
 unfolding Kept
 kept_round first [] h = tt
 kept_round first (k ∷ ks) h = subst (λ (c : Corner). AllApart (path k ks c)) (sym h.0) h.1
 
-pub kept_apart : (ring : List Corner) → AreApart (kept_once ring)
+pub kept_apart : (ring : List Corner) → HasNoRepeats (kept_once ring)
 kept_apart [] = tt
 kept_apart (first ∷ rest) = kept_round first (starts (path first rest first)) (kept_path first rest first)
 
@@ -66,7 +66,7 @@ back_apart a (x ∷ xs) b h =
     subst (λ (back : List Corner). AllApart (path b back a)) (sym (reverse-append (x ∷ []) xs))
     (path_apart b (reverse xs) x a (back_apart x xs b h.1) (λ e. h.0 (sym e)))
 
-pub turned_apart : (ring : List Corner) → AreApart ring → AreApart (turned_round ring)
+pub turned_apart : (ring : List Corner) → HasNoRepeats ring → HasNoRepeats (turned_round ring)
 turned_apart [] h = tt
 turned_apart (first ∷ rest) h = back_apart first rest first h
 
@@ -77,7 +77,7 @@ turned_length (first ∷ rest) = omega (arith, length-reverse rest)
 -- what the turned or the same ring has, by the sign of its area
 pub record IsCounterclockwise (ring turned : List Corner) : Type 0 where
   pub same_length : length turned ≡ length ring
-  pub apart : AreApart ring → AreApart turned
+  pub apart : HasNoRepeats ring → HasNoRepeats turned
   pub area : pos 0 ≤ℤ area2 turned
 
 turned_by : (b : Bool) (ring : List Corner) → int_lt (area2 ring) (pos 0) ≡ b → IsCounterclockwise ring (cond b (turned_round ring) ring)
@@ -101,7 +101,7 @@ is_counterclockwise ring = turned_by (int_lt (area2 ring) (pos 0)) ring refl
 -- a ring in its normal form
 pub record IsNormal (drawn ring : List Corner) : Type 0 where
   pub same_length : length ring ≡ length (kept_once drawn)
-  pub apart : AreApart ring
+  pub apart : HasNoRepeats ring
   pub area : pos 0 ≤ℤ area2 ring
 
 pub is_normal : (drawn : List Corner) → IsNormal drawn (normal_form drawn)
@@ -117,6 +117,6 @@ whole_path : (from : Corner) (xs : List Corner) (to : Corner) → AllApart (path
 whole_path from [] to h = rw (not_nowhere from to h.0) refl
 whole_path from (next ∷ rest) to h = rw (not_nowhere from next h.0) (ap (λ (cs : List Corner). from ∷ cs) (whole_path next rest to h.1))
 
-pub kept_whole : (ring : List Corner) → AreApart ring → kept_once ring ≡ ring
+pub kept_whole : (ring : List Corner) → HasNoRepeats ring → kept_once ring ≡ ring
 kept_whole [] h = refl
 kept_whole (first ∷ rest) h = whole_path first rest first h

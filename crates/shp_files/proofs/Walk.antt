@@ -13,7 +13,7 @@ use Rattle.shp_files.specs.declared.fault.FileFault.{FileFault}
 use Rattle.shp_files.specs.declared.fault.FileName.TheVariants.{Main}
 use Rattle.shp_files.specs.declared.fault.LayerFault.{LayerFault}
 use Rattle.shp_files.specs.declared.fault.LayerFault.TheVariants.{File}
-use Rattle.shp_files.specs.Reading.{Fails, AreReadAs, IsDrawnAs}
+use Rattle.shp_files.specs.own.Reading.{Fails, AreReadAs, IsDrawnAs}
 
 -- The record at this position begins at this byte, and the polygons among those before it were read as these rings, as they are drawn.
 pub data Reads (main : List ℕ) (unit : LengthUnit) : ℕ → ℕ → List NumberedRing → Type 0 where

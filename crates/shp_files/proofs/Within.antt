@@ -1,6 +1,7 @@
 -- A layer file keeps to the limits: how many rings and corners it has, and their numbers.
 use Rattle.std.proofs.Common.{ℕ, ◌+◌, ◌≤◌, ◌<◌, List, [], ◌∷◌, length, Option, inl, inr, ap, sym, subst, arith}
 use Rattle.geo_exact.specs.declared.coord.Unit.{Unit as LengthUnit}
+use Rattle.geo_exact.specs.declared.limits.TheConstants.{LAYER_CORNERS, LAYER_RECORDS}
 use Rattle.shp_files.specs.LayerFile.{NumberedRing, AreRecords, corner_count, normal_rings, IsLayerFile}
 use Rattle.shp_files.specs.Limits.{NumbersRise}
 use Rattle.shp_files.proofs.Distinct.{kept_fewer}
@@ -40,21 +41,21 @@ corners_fewer [] = omega arith
 corners_fewer (ring ∷ rings) = omega (arith, (is_normal ring.corners).same_length, kept_fewer ring.corners, corners_fewer rings)
 
 -- a layer file has no more rings than records
-pub rings_within : (main : List ℕ) (index : Option (List ℕ)) (unit : LengthUnit) (rings : List NumberedRing) → IsLayerFile main index unit rings → length rings ≤ 65536
+pub rings_within : (main : List ℕ) (index : Option (List ℕ)) (unit : LengthUnit) (rings : List NumberedRing) → IsLayerFile main index unit rings → length rings ≤ LAYER_RECORDS
 rings_within main index unit rings file =
     let fewer = rings_fewer unit 1 file.records file.drawn file.has_records in
     let is = ap (λ (rs : List NumberedRing). length rs) file.has_rings in
     omega (arith, is, fewer, file.records_within)
 
 -- and no more corners than are drawn
-pub corners_within : (main : List ℕ) (index : Option (List ℕ)) (unit : LengthUnit) (rings : List NumberedRing) → IsLayerFile main index unit rings → corner_count rings ≤ 1000000
+pub corners_within : (main : List ℕ) (index : Option (List ℕ)) (unit : LengthUnit) (rings : List NumberedRing) → IsLayerFile main index unit rings → corner_count rings ≤ LAYER_CORNERS
 corners_within main index unit rings file =
     let fewer = corners_fewer file.drawn in
     let is = ap (λ rs. corner_count rs) file.has_rings in
     omega (arith, is, fewer, file.corners_within)
 
 -- its numbers rise from record to record
-pub numbers_within : (main : List ℕ) (index : Option (List ℕ)) (unit : LengthUnit) (rings : List NumberedRing) → IsLayerFile main index unit rings → NumbersRise 0 65536 rings
+pub numbers_within : (main : List ℕ) (index : Option (List ℕ)) (unit : LengthUnit) (rings : List NumberedRing) → IsLayerFile main index unit rings → NumbersRise 0 LAYER_RECORDS rings
 numbers_within main index unit rings file =
-    subst (λ (rs : List NumberedRing). NumbersRise 0 65536 rs) (sym file.has_rings)
-    (numbers_rise unit 1 0 65536 file.records file.drawn file.has_records (omega arith) (omega (arith, file.records_within)))
+    subst (λ (rs : List NumberedRing). NumbersRise 0 LAYER_RECORDS rs) (sym file.has_rings)
+    (numbers_rise unit 1 0 LAYER_RECORDS file.records file.drawn file.has_records (omega arith) (omega (arith, file.records_within)))

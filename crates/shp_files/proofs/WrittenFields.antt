@@ -10,6 +10,7 @@ use Rattle.geo_exact.specs.Doubles.{bits_of}
 use Rattle.geo_exact.specs.Grid.{IsOnGrid}
 use Rattle.geo_exact.specs.Limit.{IsWithin, limit}
 use Rattle.geo_exact.proofs.Doubles.{bits_fit, bits_on_grid}
+use Rattle.geo_exact.specs.declared.limits.TheConstants.{RING_CORNERS}
 use Rattle.shp_files.specs.Layout.{big_at, little_at, double_at}
 use Rattle.shp_files.specs.LayerFile.{ArePoints, IsHeader, IsPolygon}
 use Rattle.shp_files.specs.NormalForm.{kept_once}
@@ -129,7 +130,7 @@ length-before_points : (number : ℕ) (ring : List Corner) → length (before_po
 unfolding before_points big little box double
 length-before_points number ring = refl
 
-pub record_is : (number : ℕ) (ring : List Corner) → 3 ≤ length ring → length ring ≤ 4096 → length (as_written ring) ≡ length ring
+pub record_is : (number : ℕ) (ring : List Corner) → 3 ≤ length ring → length ring ≤ RING_CORNERS → length (as_written ring) ≡ length ring
     → kept_once (as_written ring) ≡ as_written ring → IsPolygon Cm (record_bytes number ring) (as_written ring)
 record_is number ring enough few same whole =
     let count = points_few ring in

@@ -2,8 +2,9 @@
 use Rattle.std.proofs.Common.{◌≡◌, ℕ, ◌+◌, ◌*◌, ◌^◌, ◌<◌, ◌≤◌, List, [], ◌∷◌, ◌++◌, length, drop, refl, sym, ap, ◌∙◌, arith, length-append}
 use Rattle.std.proofs.lemmas.List.{append-nil}
 use Rattle.geo_exact.specs.declared.corner.Corner.{Corner}
+use Rattle.geo_exact.specs.declared.limits.TheConstants.{LAYER_CORNERS, LAYER_RECORDS}
 use Rattle.shp_files.specs.LayerFile.{IsIndexRecord, AreIndexRecords, IsIndexFile, joined}
-use Rattle.shp_files.specs.Written.{big, words, content, record_bytes, records, header, corners_of, index_records, written_index}
+use Rattle.shp_files.specs.Written.{big, words, content, record_bytes, records, header, all_corners, index_records, written_index}
 use Rattle.shp_files.proofs.Sizes.{length-big, length-content, length-record, words_of_content}
 use Rattle.shp_files.proofs.Rings.{words_of_records, words_few}
 use Rattle.shp_files.proofs.WrittenFields.{big_read, header_whole, header_is, at_content_words}
@@ -53,16 +54,16 @@ are_entries place number start (ring ∷ rings) is few =
           (omega (arith, is, length-record number ring, length-content ring, words_of_content ring)) (omega (arith, few, more)),
     )
 
-pub index_is : (rings : List (List Corner)) → length rings ≤ 65536 → length (corners_of rings) ≤ 1000000 → IsIndexFile (written_index rings) (records 1 rings)
+pub index_is : (rings : List (List Corner)) → length rings ≤ LAYER_RECORDS → length (all_corners rings) ≤ LAYER_CORNERS → IsIndexFile (written_index rings) (records 1 rings)
 unfolding written_index
 index_is rings few total =
     let n : ℕ = 50 + 4 * length rings in
-    let front : List ℕ = header n (corners_of rings) in
+    let front : List ℕ = header n (all_corners rings) in
     record {
       header = front;
       entries = entries 50 rings;
       ignored = [];
       is_text = ap (λ t. front ++ t) (sym (joined_entries 50 rings)) ∙ sym (append-nil (front ++ joined (entries 50 rings)));
-      has_header = header_is n _ (corners_of rings) (omega (arith, few)) (omega (arith, header_whole n (corners_of rings), length-entries 50 rings));
+      has_header = header_is n _ (all_corners rings) (omega (arith, few)) (omega (arith, header_whole n (all_corners rings), length-entries 50 rings));
       has_entries = are_entries 50 1 100 rings refl (omega (arith, words_few 1 rings, few, total));
     }

@@ -7,11 +7,12 @@ use Rattle.geo_exact.proofs.Windings.{area2_turned_round}
 use Rattle.geo_exact.specs.declared.corner.Corner.{Corner}
 use Rattle.geo_exact.specs.declared.coord.Unit.TheVariants.{Cm}
 use Rattle.geo_exact.specs.Area.{area2}
-use Rattle.geo_exact.specs.Rings.{turned_round, AreApart}
+use Rattle.geo_exact.specs.Rings.{turned_round, HasNoRepeats}
+use Rattle.geo_exact.specs.declared.limits.TheConstants.{LAYER_CORNERS, LAYER_RECORDS}
 use Rattle.shp_files.specs.LayerFile.{IsIndexFile, IsLayerFile, AreRecords, NumberedRing, numbered, joined, corner_count, normal_rings}
 use Rattle.shp_files.specs.NormalForm.{kept_once, counterclockwise, normal_form, IsNormal}
 use Rattle.shp_files.proofs.Turned.{turned_apart, kept_whole}
-use Rattle.shp_files.specs.Written.{as_written, words, record_bytes, records, header, corners_of, numbered_from, written_main, written_index}
+use Rattle.shp_files.specs.Written.{as_written, words, record_bytes, records, header, all_corners, numbered_from, written_main, written_index}
 use Rattle.shp_files.proofs.Sizes.{length-content, length-record, words_of_content}
 use Rattle.shp_files.proofs.Rings.{words_of_records, words_few}
 use Rattle.shp_files.proofs.WrittenIndex.{index_is}
@@ -25,11 +26,11 @@ length-turned false ring = refl
 length-as_written : (ring : List Corner) → length (as_written ring) ≡ length ring
 length-as_written ring = length-turned (int_lt (pos 0) (area2 ring)) ring
 
-apart_where : (turned : Bool) (ring : List Corner) → AreApart ring → AreApart (cond turned (turned_round ring) ring)
+apart_where : (turned : Bool) (ring : List Corner) → HasNoRepeats ring → HasNoRepeats (cond turned (turned_round ring) ring)
 apart_where true ring h = turned_apart ring h
 apart_where false ring h = h
 
-written_whole : (ring : List Corner) → AreApart ring → kept_once (as_written ring) ≡ as_written ring
+written_whole : (ring : List Corner) → HasNoRepeats ring → kept_once (as_written ring) ≡ as_written ring
 written_whole ring h = kept_whole (as_written ring) (apart_where (int_lt (pos 0) (area2 ring)) ring h)
 
 are_records : (number : ℕ) (rings : List (List Corner)) → All IsNormal rings
@@ -50,7 +51,7 @@ whole_words number (ring ∷ rings) =
     let all : length (joined (records number (ring ∷ rings))) ≡ length (record_bytes number ring) + length (joined (records (number + 1) rings)) = simp length-append in
     omega (arith, all, words_of_records number ring rings, length-record number ring, length-content ring, words_of_content ring, whole_words (number + 1) rings)
 
-corners_counted : (number : ℕ) (rings : List (List Corner)) → corner_count (numbered_from number (map as_written rings)) ≡ length (corners_of rings)
+corners_counted : (number : ℕ) (rings : List (List Corner)) → corner_count (numbered_from number (map as_written rings)) ≡ length (all_corners rings)
 corners_counted number [] = refl
 corners_counted number (ring ∷ rings) = simp length-append (omega (arith, length-as_written ring, corners_counted (number + 1) rings))
 
@@ -95,18 +96,18 @@ rings_again number (ring ∷ rings) each =
     ∙ ap (λ (later : List NumberedRing). numbered number (normal_form (as_written ring)) ∷ later) others
 
 -- the main file that is written, with an index of its records or with none
-layer_with : (index : Option (List ℕ)) (rings : List (List Corner)) → All IsNormal rings → length rings ≤ 65536 → length (corners_of rings) ≤ 1000000
+layer_with : (index : Option (List ℕ)) (rings : List (List Corner)) → All IsNormal rings → length rings ≤ LAYER_RECORDS → length (all_corners rings) ≤ LAYER_CORNERS
     → IfSome index (λ bytes. IsIndexFile bytes (records 1 rings)) → IsLayerFile (written_main rings) index Cm (numbered_from 1 rings)
 unfolding written_main
 layer_with index rings each few total is_index =
     let n : ℕ = 50 + words (joined (records 1 rings)) in
     record {
-      header = header n (corners_of rings);
+      header = header n (all_corners rings);
       records = records 1 rings;
       ignored = [];
       drawn = numbered_from 1 (map as_written rings);
-      is_text = sym (append-nil (header n (corners_of rings) ++ joined (records 1 rings)));
-      has_header = header_is n _ (corners_of rings) (omega (arith, words_few 1 rings, few, total)) (omega (arith, header_whole n (corners_of rings), whole_words 1 rings));
+      is_text = sym (append-nil (header n (all_corners rings) ++ joined (records 1 rings)));
+      has_header = header_is n _ (all_corners rings) (omega (arith, words_few 1 rings, few, total)) (omega (arith, header_whole n (all_corners rings), whole_words 1 rings));
       has_records = are_records 1 rings each;
       records_within = omega (arith, length-records 1 rings, few);
       corners_within = omega (arith, corners_counted 1 rings, total);
@@ -114,10 +115,10 @@ layer_with index rings each few total is_index =
       has_rings = rings_again 1 rings each;
     }
 
-pub written_layer : (rings : List (List Corner)) → All IsNormal rings → length rings ≤ 65536 → length (corners_of rings) ≤ 1000000
+pub written_layer : (rings : List (List Corner)) → All IsNormal rings → length rings ≤ LAYER_RECORDS → length (all_corners rings) ≤ LAYER_CORNERS
     → IsLayerFile (written_main rings) None Cm (numbered_from 1 rings)
 written_layer rings each few total = layer_with None rings each few total tt
 
-pub written_with_index : (rings : List (List Corner)) → All IsNormal rings → length rings ≤ 65536 → length (corners_of rings) ≤ 1000000
+pub written_with_index : (rings : List (List Corner)) → All IsNormal rings → length rings ≤ LAYER_RECORDS → length (all_corners rings) ≤ LAYER_CORNERS
     → IsLayerFile (written_main rings) (Some (written_index rings)) Cm (numbered_from 1 rings)
 written_with_index rings each few total = layer_with (Some (written_index rings)) rings each few total (index_is rings few total)

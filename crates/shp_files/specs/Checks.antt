@@ -4,6 +4,7 @@ use Rattle.std.specs.Ordering.{int_eq}
 use Rattle.geo_exact.specs.declared.coord.Unit.{Unit as LengthUnit}
 use Rattle.geo_exact.specs.declared.coord.CoordFault.{CoordFault}
 use Rattle.geo_exact.specs.Grid.{coordinate}
+use Rattle.geo_exact.specs.declared.limits.TheConstants.{LAYER_CORNERS, LAYER_RECORDS, RING_CORNERS}
 use Rattle.shp_files.specs.declared.fault.FileName.{FileName}
 use Rattle.shp_files.specs.declared.fault.FileName.TheVariants.{Main}
 use Rattle.shp_files.specs.declared.fault.FaultKind.{FaultKind}
@@ -61,7 +62,7 @@ points_of main start = natural (point_count main start)
 -- the checks of the record's frame: the record at this position begins at this byte
 unfoldable pub frame_checks : List ℕ → ℕ → ℕ → List Check
 frame_checks main position start =
-    check (nat_lt 65536 position) (fault position start kinds.TooMany)
+    check (nat_lt LAYER_RECORDS position) (fault position start kinds.TooMany)
     ∷ check (nat_lt (declared_end main) (start + 8)) (fault position start kinds.Short)
     ∷ check (int_lt (content_words main start) (pos 2)) (fault position (start + 4) kinds.Content)
     ∷ check (nat_lt (declared_end main) (record_end main start)) (fault position (start + 4) kinds.Short)
@@ -86,7 +87,7 @@ count_checks main position start corners_before =
     ∷ check (is_not (part_count main start) (pos 1)) (fault position (start + 44) kinds.Parts)
     ∷ check (nat_lt (record_end main start) (start + 52)) (fault position (start + 4) kinds.Content)
     ∷ check (int_lt (point_count main start) (pos 4)) (fault position (start + 48) kinds.FewPoints)
-    ∷ check (nat_lt 4097 (points_of main start) || nat_lt 1000000 (corners_before + (points_of main start - 1)))
+    ∷ check (nat_lt (RING_CORNERS + 1) (points_of main start) || nat_lt LAYER_CORNERS (corners_before + (points_of main start - 1)))
     (fault position (start + 48) kinds.TooMany)
     ∷ check (not (2 * natural (content_words main start) == 48 + 16 * points_of main start)) (fault position (start + 4) kinds.Content)
     ∷ check (is_not (first_part main start) (pos 0)) (fault position (start + 52) kinds.Parts)

@@ -6,22 +6,11 @@
 use Rattle.std.specs.Prelude.{◌≡◌, ◌⊎◌, ℕ, ◌+◌, ◌*◌, ◌≤◌, pos, ◌+ℤ◌, ◌*ℤ◌, List, [], ◌∷◌, ◌++◌, length, map, Option, IfSome}
 use Rattle.geo_exact.specs.declared.corner.Corner.{Corner}
 use Rattle.geo_exact.specs.declared.coord.Unit.{Unit as LengthUnit}
-use Rattle.geo_exact.specs.declared.raw_ring.RawRing.{RawRing}
 use Rattle.geo_exact.specs.Grid.{IsOnGrid}
+use Rattle.geo_exact.specs.declared.limits.TheConstants.{LAYER_CORNERS, LAYER_RECORDS, RING_CORNERS}
+pub use Rattle.geo_exact.specs.Layers.{NumberedRing, numbered, rings_of, corner_count}
 use Rattle.shp_files.specs.NormalForm.{kept_once, normal_form}
 use Rattle.shp_files.specs.Layout.{double_at, file_code, file_words, version, header_shape_type, content_words, shape_type, part_count, point_count, first_part, offset_words}
-
--- a record's number, from 1, and the corners of its ring
-pub record NumberedRing : Type 0 where
-  pub number : ℕ
-  pub corners : List Corner
-
-abbrev pub numbered : ℕ → List Corner → NumberedRing
-numbered number corners = record { number = number; corners = corners }
-
--- the rings that a reader answers
-abbrev pub rings_of : {A : Type 0} → List (RawRing A) → List NumberedRing
-rings_of rings = map (λ ring. numbered ring.number ring.corners) rings
 
 -- the header of a file that is `declared` bytes long
 pub record IsHeader (header : List ℕ) (declared : ℕ) : Type 0 where
@@ -59,7 +48,7 @@ pub record IsPolygon (unit : LengthUnit) (bytes : List ℕ) (corners : List Corn
   pub is_filled : length bytes ≡ 56 + 16 * length (closed corners)
   pub has_points : ArePoints unit bytes 56 (closed corners)
   pub has_enough : 3 ≤ length (kept_once corners)
-  pub has_not_too_many : length corners ≤ 4096
+  pub has_not_too_many : length corners ≤ RING_CORNERS
 
 -- The records, the first of which has this number, are null shapes and polygons, and these are the rings of the polygons as they are drawn.
 abbrev pub AreRecords : LengthUnit → ℕ → List (List ℕ) → List NumberedRing → Type 0
@@ -74,11 +63,6 @@ AreRecords unit number (bytes ∷ records) (ring ∷ rings) =
 abbrev pub joined : List (List ℕ) → List ℕ
 joined [] = []
 joined (piece ∷ pieces) = piece ++ joined pieces
-
--- how many corners the rings have together
-abbrev pub corner_count : List NumberedRing → ℕ
-corner_count [] = 0
-corner_count (ring ∷ rings) = length ring.corners + corner_count rings
 
 -- the rings as they are kept
 abbrev pub normal_rings : List NumberedRing → List NumberedRing
@@ -116,7 +100,7 @@ pub record IsLayerFile (main : List ℕ) (index : Option (List ℕ)) (unit : Len
   pub is_text : main ≡ header ++ joined records ++ ignored
   pub has_header : IsHeader header (length header + length (joined records))
   pub has_records : AreRecords unit 1 records drawn
-  pub records_within : length records ≤ 65536
-  pub corners_within : corner_count drawn ≤ 1000000
+  pub records_within : length records ≤ LAYER_RECORDS
+  pub corners_within : corner_count drawn ≤ LAYER_CORNERS
   pub has_index : IfSome index (λ bytes. IsIndexFile bytes records)
   pub has_rings : rings ≡ normal_rings drawn

@@ -5,6 +5,5 @@ pub mod Limits
 pub mod Checks
 pub mod IndexChecks
 pub mod FirstFault
-pub mod Reading
 pub mod Written
-pub mod Writing
+pub mod own

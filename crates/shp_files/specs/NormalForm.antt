@@ -3,8 +3,9 @@
 use Rattle.std.specs.Prelude.{◌≤◌, pos, ◌≤ℤ◌, int_lt, Bool, ◌&&◌, if◌then◌else◌, List, [], ◌∷◌, length}
 use Rattle.std.specs.Ordering.{int_eq}
 use Rattle.geo_exact.specs.declared.corner.Corner.{Corner}
-use Rattle.geo_exact.specs.Rings.{Edge, edges, AreApart, turned_round}
+use Rattle.geo_exact.specs.Rings.{Edge, edges, HasNoRepeats, turned_round}
 use Rattle.geo_exact.specs.Area.{area2}
+use Rattle.geo_exact.specs.declared.limits.TheConstants.{RING_CORNERS}
 
 -- the edge ends where it begins
 abbrev pub is_nowhere : Edge → Bool
@@ -29,4 +30,4 @@ normal_form ring = counterclockwise (kept_once ring)
 
 -- a ring of a polygon in that form
 abbrev pub IsNormal : List Corner → Type 0
-IsNormal ring = (3 ≤ length ring) × (length ring ≤ 4096) × AreApart ring × (pos 0 ≤ℤ area2 ring)
+IsNormal ring = (3 ≤ length ring) × (length ring ≤ RING_CORNERS) × HasNoRepeats ring × (pos 0 ≤ℤ area2 ring)

@@ -78,12 +78,12 @@ unfoldable pub header : ℕ → List Corner → List ℕ
 header file_words corners = big 9994 ++ zeros 20 ++ big file_words ++ little 1000 ++ little 5 ++ box corners ++ zeros 32
 
 -- all corners of the rings
-abbrev pub corners_of : List (List Corner) → List Corner
-corners_of rings = flat_map (λ ring. ring) rings
+abbrev pub all_corners : List (List Corner) → List Corner
+all_corners rings = flat_map (λ ring. ring) rings
 
 -- the main file: its header, of 50 words, and its records
 unfoldable pub written_main : List (List Corner) → List ℕ
-written_main rings = header (50 + words (joined (records 1 rings))) (corners_of rings) ++ joined (records 1 rings)
+written_main rings = header (50 + words (joined (records 1 rings))) (all_corners rings) ++ joined (records 1 rings)
 
 -- "Index Records": for each record the place in the main file at which it begins, and its content's length, both in words. A record's header has
 -- 4 words. The first of these rings' records begins at this place.
@@ -93,7 +93,7 @@ index_records place (ring ∷ rings) = big place ++ big (words (content ring)) +
 
 -- the index file: its header, of 50 words, and 4 words for each record
 unfoldable pub written_index : List (List Corner) → List ℕ
-written_index rings = header (50 + 4 * length rings) (corners_of rings) ++ index_records 50 rings
+written_index rings = header (50 + 4 * length rings) (all_corners rings) ++ index_records 50 rings
 
 -- the corners of each ring of a list
 abbrev pub corner_lists : {A : Type 0} → List (RawRing A) → List (List Corner)

@@ -2,11 +2,12 @@
 
 ghost use Rattle.std.specs.Prelude.{◌≡◌, ◌≤◌, ◌<◌, ◌^◌, ◌+◌, ℕ, List, length, IsOk, IfErr};
 ghost use Rattle.geo_exact.specs.declared.coord.Unit.{Unit as LengthUnit};
+ghost use Rattle.geo_exact.specs.declared.limits.TheConstants.{LAYER_RECORDS};
 ghost use Rattle.std.specs.Result.{result_err};
 ghost use Rattle.shp_files.specs.Checks.{first_failure, declared_end, record_end};
 ghost use Rattle.shp_files.specs.IndexChecks.{index_record_checks, index_end_checks, disagreement as disagreement_at, entry_place as place_of_entry};
 ghost use Rattle.shp_files.specs.FirstFault.{IsAccepted, IsIndexFault};
-ghost use Rattle.shp_files.specs.Reading.{Agrees};
+ghost use Rattle.shp_files.specs.own.Reading.{Agrees};
 
 use crate::fault::{FaultKind, FileFault, FileName};
 use crate::fields::{big_at, natural, refuse_if};
@@ -37,7 +38,7 @@ pub fn check_index(main: &[u8], end: usize, index: &[u8]) -> Result<(), FileFaul
 
 /// The record behind one that passes its checks.
 fn next_head(main: &[u8], head: RecordHead) -> RecordHead
-    requires few { head.position ≤ 65536 }
+    requires few { head.position ≤ LAYER_RECORDS }
     requires room { head.start + 8 ≤ length main.now }
     requires bound { head.start < 2 ^ 32 }
     ensures position { result.position ≡ head.position + 1 }

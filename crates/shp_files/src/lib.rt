@@ -8,19 +8,13 @@ mod fault;
 mod fields;
 mod header;
 mod index;
-#[cfg(test)]
-mod index_rows;
 mod layer;
 mod limits;
 mod normal;
 mod put;
 mod record;
 mod source;
-#[cfg(test)]
-mod tests;
 mod write;
-#[cfg(test)]
-mod write_rows;
 
 pub use decided::a_text_is_a_layer_or_has_a_fault;
 pub use fault::{FaultKind, FileFault, FileName, LayerFault};
@@ -29,5 +23,5 @@ pub use layer::{
     read_layer,
 };
 pub use limits::a_layer_file_is_within_the_limits;
-pub use source::{MOST_BYTES, ReadFault, read_all};
+pub use source::{ReadFault, read_all};
 pub use write::{a_written_file_is_a_layer_file, a_written_ring_is_turned_back, write_layer};

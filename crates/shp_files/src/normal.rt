@@ -3,6 +3,7 @@
 ghost use Rattle.std.specs.Prelude.{◌≡◌, ◌≤◌, ◌||◌, length, IfOk};
 ghost use Rattle.shp_files.specs.Checks.{is_not};
 ghost use Rattle.shp_files.specs.NormalForm.{kept_once as kept_once_of, counterclockwise};
+ghost use Rattle.geo_exact.specs.declared.limits.TheConstants.{RING_CORNERS};
 
 use geo_exact::{Corner, Corners, area2};
 use std::alloc::{AllocError, Allocator};
@@ -37,7 +38,7 @@ pub fn kept_once<A: Allocator + Copy>(alloc: A, drawn: &[Corner]) -> Result<Corn
 
 /// Turns a clockwise ring round, with its first corner kept first.
 pub fn turn_counterclockwise<A: Allocator>(ring: &mut Corners<A>)
-    requires { length ring.old ≤ 4096 }
+    requires { length ring.old ≤ RING_CORNERS }
     ensures { ring.new ≡ counterclockwise ring.old }
 {
     if area2(ring.as_slice()) < 0 {

@@ -6,15 +6,18 @@ ghost use Rattle.shp_files.specs.Layout as layout;
 ghost use Rattle.shp_files.specs.Layout.{content_words};
 ghost use Rattle.geo_exact.specs.Grid.{coordinate};
 ghost use Rattle.geo_exact.specs.Limit.{IsWithin, limit};
+ghost use Rattle.geo_exact.specs.declared.limits.TheConstants.{LAYER_CORNERS, LAYER_RECORDS, RING_CORNERS};
 ghost use Rattle.shp_files.specs.Checks.{first_failure, frame_checks, shape_checks, count_checks, coordinate_checks, ring_checks, polygon_checks, record_checks, is_null, declared_end, record_end, points_of, fault, is_not};
 ghost use Rattle.shp_files.specs.LayerFile.{closed};
-ghost use Rattle.shp_files.specs.Reading.{Finds, IsReadAs, AreReadAs, IsDrawnAs};
+ghost use Rattle.shp_files.specs.own.Reading.{Finds, IsReadAs, AreReadAs, IsDrawnAs};
 
 use crate::fault::{FaultKind, FileFault, FileName, LayerFault};
 use crate::fields::{big_at, double_at, little_at, natural, refuse_if};
 use crate::header::POLYGON;
 use crate::normal::{is_other, kept_once, turn_counterclockwise};
-use geo_exact::{Corner, Corners, RawRing, Unit, read_coord};
+use geo_exact::{
+    Corner, Corners, LAYER_CORNERS, LAYER_RECORDS, RING_CORNERS, RawRing, Unit, read_coord,
+};
 use std::alloc::Allocator;
 
 const NULL_SHAPE: i32 = 0;
@@ -22,12 +25,8 @@ const NULL_SHAPE: i32 = 0;
 /// The bytes of a record before its points.
 const POINTS: usize = 56;
 
-/// The most records that a file may have.
-const MOST_RECORDS: u32 = 65536;
 /// The most points of a ring, the closing one included.
-const MOST_POINTS: usize = 4097;
-/// The most corners that the rings of a file may have together.
-const MOST_CORNERS: usize = 1_000_000;
+const MOST_POINTS: usize = RING_CORNERS + 1;
 
 /// Where a record begins.
 #[derive(Clone, Copy)]
@@ -63,10 +62,10 @@ fn check_frame(main: &[u8], end: usize, head: RecordHead) -> Result<usize, FileF
     ensures end { IfOk result (λ content_end. content_end ≡ record_end main.now head.start) }
     ensures within { IfOk result (λ content_end. content_end ≤ end) }
     ensures room { IfOk result (λ content_end. head.start + 12 ≤ content_end) }
-    ensures few { IfOk result (λ content_end. head.position ≤ 65536) }
+    ensures few { IfOk result (λ content_end. head.position ≤ LAYER_RECORDS) }
 {
     let RecordHead { position, start } = head;
-    refuse_if(position > MOST_RECORDS, head.fault(0, FaultKind::TooMany))?;
+    refuse_if(position > LAYER_RECORDS, head.fault(0, FaultKind::TooMany))?;
     refuse_if(end < start + 8, head.fault(0, FaultKind::Short))?;
     let words = big_at(main, start + 4);
     refuse_if(words < 2, head.fault(4, FaultKind::Content))?;
@@ -105,12 +104,12 @@ fn check_counts(
     requires within { content_end ≤ length main.now }
     requires bound { content_end < 2 ^ 32 }
     requires room { head.start + 12 ≤ content_end }
-    requires corners { corners_before ≤ 1000000 }
+    requires corners { corners_before ≤ LAYER_CORNERS }
     ensures checked { result_err result ≡ first_failure (count_checks main.now head.position head.start corners_before) }
     ensures count { IfOk result (λ count. count ≡ points_of main.now head.start) }
     ensures enough { IfOk result (λ count. 4 ≤ count) }
-    ensures few { IfOk result (λ count. count ≤ 4097) }
-    ensures few_together { IfOk result (λ count. corners_before + (count - 1) ≤ 1000000) }
+    ensures few { IfOk result (λ count. count ≤ RING_CORNERS + 1) }
+    ensures few_together { IfOk result (λ count. corners_before + (count - 1) ≤ LAYER_CORNERS) }
     ensures filled { IfOk result (λ count. head.start + 56 + 16 * count ≡ content_end) }
 {
     let start = head.start;
@@ -122,7 +121,7 @@ fn check_counts(
     let points = little_at(main, start + 48);
     refuse_if(points < 4, head.fault(48, FaultKind::FewPoints))?;
     let count = natural(points);
-    let many = MOST_POINTS < count || MOST_CORNERS < corners_before + (count - 1);
+    let many = MOST_POINTS < count || LAYER_CORNERS < corners_before + (count - 1);
     refuse_if(many, head.fault(48, FaultKind::TooMany))?;
     let bytes = content_end - (start + 8);
     refuse_if(bytes != 48 + 16 * count, head.fault(4, FaultKind::Content))?;
@@ -229,14 +228,14 @@ fn read_polygon<A: Allocator + Copy>(
     requires within { content_end ≤ length main.now }
     requires bound { content_end < 2 ^ 32 }
     requires room { head.start + 12 ≤ content_end }
-    requires corners { corners_before ≤ 1000000 }
+    requires corners { corners_before ≤ LAYER_CORNERS }
     ensures checked { Finds result (first_failure (polygon_checks main.now unit head.position head.start corners_before)) }
     ensures end { IfOk result (λ polygon. polygon.end ≡ content_end) }
     ensures ring { IfOk result (λ polygon. IfSome polygon.ring (λ ring. (ring.number ≡ head.position)
         × IsDrawnAs unit main.now head.start polygon.drawn ring.corners)) }
     ensures some { IfOk result (λ polygon. IsSome polygon.ring) }
     ensures count { IfOk result (λ polygon. polygon.drawn + 1 ≡ points_of main.now head.start) }
-    ensures few_together { IfOk result (λ polygon. corners_before + polygon.drawn ≤ 1000000) }
+    ensures few_together { IfOk result (λ polygon. corners_before + polygon.drawn ≤ LAYER_CORNERS) }
 {
     let count = check_counts(main, content_end, head, corners_before)?;
     let drawn = read_ring(alloc, main, unit, head, count)?;
@@ -268,7 +267,7 @@ pub fn read_record<A: Allocator + Copy>(
     requires bound { end < 2 ^ 32 }
     requires within { end ≤ length main.now }
     requires start { head.start ≤ end }
-    requires corners { corners_before ≤ 1000000 }
+    requires corners { corners_before ≤ LAYER_CORNERS }
     ensures checked { Finds result (first_failure (record_checks main.now unit head.position head.start corners_before)) }
     ensures end { IfOk result (λ found. found.end ≡ record_end main.now head.start) }
     ensures within { IfOk result (λ found. found.end ≤ end) }
@@ -277,8 +276,8 @@ pub fn read_record<A: Allocator + Copy>(
     ensures ring { IfOk result (λ found. IfSome found.ring (λ ring. (is_null main.now head.start ≡ false)
         × (ring.number ≡ head.position) × (found.drawn + 1 ≡ points_of main.now head.start)
         × IsDrawnAs unit main.now head.start found.drawn ring.corners)) }
-    ensures few { IfOk result (λ found. head.position ≤ 65536) }
-    ensures few_together { IfOk result (λ found. corners_before + found.drawn ≤ 1000000) }
+    ensures few { IfOk result (λ found. head.position ≤ LAYER_RECORDS) }
+    ensures few_together { IfOk result (λ found. corners_before + found.drawn ≤ LAYER_CORNERS) }
 {
     let content_end = check_frame(main, end, head)?;
     if check_shape(main, head)? {

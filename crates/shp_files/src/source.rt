@@ -3,13 +3,11 @@
 ghost use Rattle.std.specs.Prelude.{◌≡◌, ◌≤◌, ◌<◌, length, IfOk, OnOk, IfSome, IsErrOf};
 ghost use Rattle.std.specs.Io.KnownBytes.{IsAtEnd};
 ghost use Rattle.geo_exact.specs.Bytes.{raised};
+ghost use Rattle.geo_exact.specs.declared.limits.TheConstants.{FILE_BYTES};
 ghost use Rattle.shp_files.specs.declared.source.ReadFault.TheVariants.{Device, NoMemory};
 
-use geo_exact::{ByteIn, Failed};
+use geo_exact::{ByteIn, FILE_BYTES, Failed};
 use std::alloc::{AllocError, Allocator};
-
-/// The most bytes of a file that is read.
-pub const MOST_BYTES: usize = 67_108_864;
 
 /// The bytes that are pulled at once.
 const CHUNK: usize = 16384;
@@ -19,7 +17,7 @@ const CHUNK: usize = 16384;
 pub enum ReadFault {
     /// The reader failed.
     Device,
-    /// It holds more than [`MOST_BYTES`].
+    /// It holds more than [`FILE_BYTES`](geo_exact::FILE_BYTES).
     TooLong,
     /// A growth was refused.
     NoMemory,
@@ -41,7 +39,7 @@ impl From<AllocError> for ReadFault {
     }
 }
 
-/// Reads all that a reader holds, up to [`MOST_BYTES`].
+/// Reads all that a reader holds, up to [`FILE_BYTES`](geo_exact::FILE_BYTES).
 ///
 /// # Errors
 ///
@@ -55,9 +53,9 @@ pub fn read_all<A: Allocator + Copy, R: ByteIn>(
     ensures whole { IfOk result (λ bytes. IfSome (R.remaining reader.old) (λ held. bytes.items ≡ held)) }
     // Afterwards it holds none any more.
     ensures at_end { OnOk result (IsAtEnd (R.remaining reader.new)) }
-    ensures bound { IfOk result (λ bytes. length bytes.items ≤ 67108864) }
+    ensures bound { IfOk result (λ bytes. length bytes.items ≤ FILE_BYTES) }
     ensures too_long { IsErrOf result ReadFault.TooLong →
-        IfSome (R.remaining reader.old) (λ held. 67108864 < length held) }
+        IfSome (R.remaining reader.old) (λ held. FILE_BYTES < length held) }
     ensures device { IsErrOf result ReadFault.Device → R.failure_count reader.new ≡ raised (R.failure_count reader.old) }
     ensures no_failure { (¬ IsErrOf result ReadFault.Device) → R.failure_count reader.new ≡ R.failure_count reader.old }
 {
@@ -68,7 +66,7 @@ pub fn read_all<A: Allocator + Copy, R: ByteIn>(
         if count == 0 {
             return Ok(bytes);
         }
-        if MOST_BYTES - bytes.len() < count {
+        if FILE_BYTES - bytes.len() < count {
             return Err(ReadFault::TooLong);
         }
         bytes.extend_from_slice(&chunk[..count])?;

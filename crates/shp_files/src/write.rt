@@ -5,21 +5,22 @@ ghost use Rattle.geo_exact.specs.declared.coord.Unit.TheVariants.{Cm};
 ghost use Rattle.geo_exact.specs.declared.corner.Corner.{Corner as CornerValue};
 ghost use Rattle.geo_exact.specs.Area.{area2 as area2_of};
 ghost use Rattle.geo_exact.specs.Rings.{turned_round};
+ghost use Rattle.geo_exact.specs.declared.limits.TheConstants.{LAYER_CORNERS, LAYER_RECORDS};
 ghost use Rattle.shp_files.specs.LayerFile.{joined, rings_of, corner_count, IsLayerFile};
 ghost use Rattle.shp_files.specs.NormalForm.{IsNormal};
 ghost use Rattle.shp_files.specs.Written as written;
-ghost use Rattle.shp_files.specs.Written.{as_written, corner_lists, corners_of, numbered_from, written_main, written_index};
-ghost use Rattle.shp_files.specs.Writing.{MayBeBounds};
+ghost use Rattle.shp_files.specs.Written.{as_written, corner_lists, all_corners, numbered_from, written_main, written_index};
+ghost use Rattle.shp_files.specs.own.Writing.{MayBeBounds};
 
-use crate::bounds::{Bounds, put_box, with_corners};
+use crate::bounds::{put_box, with_corners};
 use crate::header::{FILE_CODE, POLYGON, VERSION};
 use crate::put::{put_big, put_little, put_point};
-use geo_exact::{Corner, RawRing, area2};
+use geo_exact::{Bounds, Corner, RawRing, area2};
 use std::alloc::{AllocError, Allocator};
 
 /// How many points a ring is written with: its corners, and the first once more.
 fn point_count(ring: &[Corner]) -> u32
-    requires { length ring.now ≤ 1000000 }
+    requires { length ring.now ≤ LAYER_CORNERS }
     ensures { result ≡ length (written.points ring.now) }
 {
     if ring.is_empty() {
@@ -31,7 +32,7 @@ fn point_count(ring: &[Corner]) -> u32
 
 /// The length of a record's content in words.
 fn content_words(ring: &[Corner]) -> u32
-    requires { length ring.now ≤ 1000000 }
+    requires { length ring.now ≤ LAYER_CORNERS }
     ensures { result ≡ written.words (written.content ring.now) }
 {
     24 + 8 * point_count(ring)
@@ -57,7 +58,7 @@ fn put_backwards<A: Allocator>(out: &mut Vec<u8, A>, corners: &[Corner]) -> Resu
 
 /// A ring's points: clockwise where it has an area, and its first corner first and last.
 fn put_points<A: Allocator>(out: &mut Vec<u8, A>, ring: &[Corner]) -> Result<(), AllocError>
-    requires { length ring.now ≤ 1000000 }
+    requires { length ring.now ≤ LAYER_CORNERS }
     ensures { OnOk result (out.new.items ≡ out.old.items ++ flat_map written.point (written.points ring.now)) }
 {
     let Some(first) = ring.first() else {
@@ -74,7 +75,7 @@ fn put_points<A: Allocator>(out: &mut Vec<u8, A>, ring: &[Corner]) -> Result<(),
 
 /// A polygon.
 fn put_content<A: Allocator>(out: &mut Vec<u8, A>, ring: &[Corner]) -> Result<(), AllocError>
-    requires { length ring.now ≤ 1000000 }
+    requires { length ring.now ≤ LAYER_CORNERS }
     ensures { OnOk result (out.new.items ≡ out.old.items ++ written.content ring.now) }
 {
     put_little(out, POLYGON as u32)?;
@@ -90,7 +91,7 @@ fn put_record<A: Allocator>(
     number: u32,
     ring: &[Corner],
 ) -> Result<(), AllocError>
-    requires { length ring.now ≤ 1000000 }
+    requires { length ring.now ≤ LAYER_CORNERS }
     ensures { OnOk result (out.new.items ≡ out.old.items ++ written.record_bytes number ring.now) }
 {
     put_big(out, number)?;
@@ -118,7 +119,7 @@ fn put_header<A: Allocator>(
 
 /// The bounds of all corners of the rings.
 fn layer_bounds<A: Allocator>(rings: &[RawRing<A>]) -> Option<Bounds>
-    ensures { MayBeBounds result (corners_of (corner_lists rings.now)) }
+    ensures { MayBeBounds result (all_corners (corner_lists rings.now)) }
 {
     let mut bounds = None;
     for ring in rings {
@@ -129,10 +130,10 @@ fn layer_bounds<A: Allocator>(rings: &[RawRing<A>]) -> Option<Bounds>
 
 /// The length of the records in words.
 fn records_words<A: Allocator>(rings: &[RawRing<A>]) -> u32
-    requires rings { length rings.now ≤ 65536 }
-    requires corners { length (corners_of (corner_lists rings.now)) ≤ 1000000 }
+    requires rings { length rings.now ≤ LAYER_RECORDS }
+    requires corners { length (all_corners (corner_lists rings.now)) ≤ LAYER_CORNERS }
     ensures value { result ≡ written.words (joined (written.records 1 (corner_lists rings.now))) }
-    ensures bound { result ≤ 12000000 }
+    ensures bound { result ≤ 36 * LAYER_RECORDS + 8 * LAYER_CORNERS }
 {
     let mut words = 0;
     for ring in rings {
@@ -143,8 +144,8 @@ fn records_words<A: Allocator>(rings: &[RawRing<A>]) -> u32
 
 /// The records, numbered from 1.
 fn put_records<A: Allocator>(out: &mut Vec<u8, A>, rings: &[RawRing<A>]) -> Result<(), AllocError>
-    requires rings { length rings.now ≤ 65536 }
-    requires corners { length (corners_of (corner_lists rings.now)) ≤ 1000000 }
+    requires rings { length rings.now ≤ LAYER_RECORDS }
+    requires corners { length (all_corners (corner_lists rings.now)) ≤ LAYER_CORNERS }
     ensures { OnOk result
         (out.new.items ≡ out.old.items ++ joined (written.records 1 (corner_lists rings.now))) }
 {
@@ -161,8 +162,8 @@ fn put_index_records<A: Allocator>(
     out: &mut Vec<u8, A>,
     rings: &[RawRing<A>],
 ) -> Result<(), AllocError>
-    requires rings { length rings.now ≤ 65536 }
-    requires corners { length (corners_of (corner_lists rings.now)) ≤ 1000000 }
+    requires rings { length rings.now ≤ LAYER_RECORDS }
+    requires corners { length (all_corners (corner_lists rings.now)) ≤ LAYER_CORNERS }
     ensures { OnOk result
         (out.new.items ≡ out.old.items ++ written.index_records 50 (corner_lists rings.now)) }
 {
@@ -181,9 +182,9 @@ fn write_main<A: Allocator + Copy>(
     rings: &[RawRing<A>],
     bounds: Option<Bounds>,
 ) -> Result<Vec<u8, A>, AllocError>
-    requires rings { length rings.now ≤ 65536 }
-    requires corners { length (corners_of (corner_lists rings.now)) ≤ 1000000 }
-    requires bounds { MayBeBounds bounds (corners_of (corner_lists rings.now)) }
+    requires rings { length rings.now ≤ LAYER_RECORDS }
+    requires corners { length (all_corners (corner_lists rings.now)) ≤ LAYER_CORNERS }
+    requires bounds { MayBeBounds bounds (all_corners (corner_lists rings.now)) }
     ensures { IfOk result (λ file. file.items ≡ written_main (corner_lists rings.now)) }
 {
     let words = 50 + records_words(rings);
@@ -198,9 +199,9 @@ fn write_index<A: Allocator + Copy>(
     rings: &[RawRing<A>],
     bounds: Option<Bounds>,
 ) -> Result<Vec<u8, A>, AllocError>
-    requires rings { length rings.now ≤ 65536 }
-    requires corners { length (corners_of (corner_lists rings.now)) ≤ 1000000 }
-    requires bounds { MayBeBounds bounds (corners_of (corner_lists rings.now)) }
+    requires rings { length rings.now ≤ LAYER_RECORDS }
+    requires corners { length (all_corners (corner_lists rings.now)) ≤ LAYER_CORNERS }
+    requires bounds { MayBeBounds bounds (all_corners (corner_lists rings.now)) }
     ensures { IfOk result (λ file. file.items ≡ written_index (corner_lists rings.now)) }
 {
     let words = 50 + 4 * rings.len() as u32;
@@ -224,8 +225,8 @@ pub fn write_layer<A: Allocator + Copy>(
     alloc: A,
     rings: &[RawRing<A>],
 ) -> Result<(Vec<u8, A>, Vec<u8, A>), AllocError>
-    requires rings { length rings.now ≤ 65536 }
-    requires corners { corner_count (rings_of rings.now) ≤ 1000000 }
+    requires rings { length rings.now ≤ LAYER_RECORDS }
+    requires corners { corner_count (rings_of rings.now) ≤ LAYER_CORNERS }
     ensures main { IfOk result (λ files. files.0.items ≡ written_main (corner_lists rings.now)) }
     ensures index { IfOk result (λ files. files.1.items ≡ written_index (corner_lists rings.now)) }
     // Reading the two back gives the same corner lists, numbered from 1.
@@ -243,10 +244,10 @@ pub fn write_layer<A: Allocator + Copy>(
 #[tactic(auto, using(crate::proofs::WrittenLayer::written_layer, crate::proofs::WrittenLayer::written_with_index))]
 pub fn a_written_file_is_a_layer_file()
     ensures alone { (rings : List (List CornerValue))
-        → All IsNormal rings → length rings ≤ 65536 → length (corners_of rings) ≤ 1000000
+        → All IsNormal rings → length rings ≤ LAYER_RECORDS → length (all_corners rings) ≤ LAYER_CORNERS
         → IsLayerFile (written_main rings) None Cm (numbered_from 1 rings) }
     ensures with_index { (rings : List (List CornerValue))
-        → All IsNormal rings → length rings ≤ 65536 → length (corners_of rings) ≤ 1000000
+        → All IsNormal rings → length rings ≤ LAYER_RECORDS → length (all_corners rings) ≤ LAYER_CORNERS
         → IsLayerFile (written_main rings) (Some (written_index rings)) Cm (numbered_from 1 rings) }
 {}
 

@@ -1,6 +1,6 @@
 use Rattle.std.proofs.Common.{◌++◌, List, take}
 use Rattle.geo_exact.specs.declared.corner.Corner.{Corner}
-use Rattle.shp_files.specs.Writing.{MayBeBounds}
+use Rattle.shp_files.specs.own.Writing.{MayBeBounds}
 use Rattle.shp_files.proofs.bounds.with_corners.Given as goal
 
 abbrev pub invariant-loop-corner : goal.invariant-loop-corner

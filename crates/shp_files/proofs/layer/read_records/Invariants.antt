@@ -1,13 +1,14 @@
-use Rattle.std.proofs.Common.{◌≤◌, ◌-◌}
+use Rattle.std.proofs.Common.{◌≤◌, ◌-◌, ◌+◌}
 use Rattle.shp_files.specs.LayerFile.{rings_of}
 use Rattle.shp_files.proofs.Walk.{IsReadTo}
 use Rattle.shp_files.proofs.layer.read_records.Given as goal
+use Rattle.geo_exact.specs.declared.limits.TheConstants.{LAYER_CORNERS, LAYER_RECORDS}
 
 abbrev pub invariant-loop-head : goal.invariant-loop-head
 invariant-loop-head g l = record {
   read : IsReadTo l.main l.unit l.head.position l.head.start l.corners_before (rings_of l.rings.items);
-  few_together : l.corners_before ≤ 1000000;
-  few : l.head.position ≤ 65537;
+  few_together : l.corners_before ≤ LAYER_CORNERS;
+  few : l.head.position ≤ LAYER_RECORDS + 1;
   start : l.head.start ≤ l.end;
 }
 

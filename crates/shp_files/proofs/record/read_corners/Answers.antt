@@ -1,7 +1,7 @@
 use Rattle.std.proofs.Common.{◌≡◌, ◌+◌, ◌*◌, ℕ, [], ◌∷◌, length, length-append, sym, ap, subst, ◌∙◌, Some, None, arith}
 use Rattle.std.proofs.lemmas.Result.{err_from_is_err_and}
 use Rattle.shp_files.specs.Checks.{first_failure, coordinate_checks}
-use Rattle.shp_files.specs.Reading.{IsReadAs}
+use Rattle.shp_files.specs.own.Reading.{IsReadAs}
 use Rattle.shp_files.proofs.Points.{none_left, read_more, refused_at, reads_push}
 use Rattle.shp_files.proofs.record.read_corners.Goals as goal
 

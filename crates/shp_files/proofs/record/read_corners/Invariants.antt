@@ -1,6 +1,6 @@
 use Rattle.std.proofs.Common.{◌≡◌, ◌+◌, ◌*◌, length, None}
 use Rattle.shp_files.specs.Checks.{first_failure, coordinate_checks}
-use Rattle.shp_files.specs.Reading.{AreReadAs}
+use Rattle.shp_files.specs.own.Reading.{AreReadAs}
 use Rattle.shp_files.proofs.record.read_corners.Given as goal
 
 abbrev pub invariant-loop-i : goal.invariant-loop-i

@@ -3,7 +3,7 @@ use Rattle.std.proofs.lemmas.Bool.{ltb-false}
 use Rattle.std.proofs.lemmas.Result.{err_from_is_err_and}
 use Rattle.shp_files.specs.NormalForm.{kept_once, counterclockwise, normal_form}
 use Rattle.shp_files.specs.Checks.{check, first_failure, ring_checks, polygon_checks}
-use Rattle.shp_files.specs.Reading.{Fails}
+use Rattle.shp_files.specs.own.Reading.{Fails}
 use Rattle.shp_files.proofs.Lines.{goes_on, stops, passed}
 use Rattle.shp_files.proofs.Finding.{fails_stops, fails_on}
 use Rattle.shp_files.proofs.Distinct.{corners_line, kept_fewer}
@@ -51,7 +51,7 @@ invariant_of-result g c =
     record {
       enough = rw ring (omega (arith, normal.same_length, sizes));
       few = rw ring (omega (arith, normal.same_length, kept_fewer c.in_ok-drawn.drawn, c.in_ok-drawn.ensures.count, c.in_ok-count.ensures.few));
-      apart = rw ring normal.apart;
+      no_repeats = rw ring normal.apart;
       not_clockwise = rw ring normal.area;
     }
 

@@ -3,7 +3,7 @@ use Rattle.std.proofs.lemmas.Result.{err_from_is_err_and}
 use Rattle.geo_exact.specs.declared.corner.Corner.{Corner}
 use Rattle.shp_files.specs.Checks.{Check, check, fault, first_failure, coordinate_checks, is_not}
 use Rattle.shp_files.specs.declared.fault.FaultKind.TheVariants.{NotClosed}
-use Rattle.shp_files.specs.Reading.{IsReadAs}
+use Rattle.shp_files.specs.own.Reading.{IsReadAs}
 use Rattle.shp_files.proofs.Lines.{passed}
 use Rattle.shp_files.proofs.Ring.{corners_refused, same_corner, first_read, last_refused, closing_answer, closed_read}
 use Rattle.shp_files.proofs.record.read_ring.Goals as goal
