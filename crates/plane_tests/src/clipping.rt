@@ -1,0 +1,329 @@
+//! Simple rings, their faults, and the triangles that they are clipped to.
+
+use crate::plain::plainly_clipped;
+use geo_exact::turn;
+use ring_core::{Ring, RingFault, Tri, Triangles};
+use std::alloc::Global;
+use std::test::Fail;
+use test_builders::{Place, corner, corners, shape, shape_of, simple_ring, triangle};
+
+/// The limit of the coordinates, in centimetres.
+const FAR: i64 = 10_000_000_000;
+
+const WITH_FLAT_CORNER: [Place; 5] = [(0, 0), (50, 0), (100, 0), (100, 100), (0, 100)];
+
+/// Two bays, one from the right and one from the left.
+const S_SHAPE: [Place; 12] = [
+    (0, 0),
+    (300, 0),
+    (300, 30),
+    (200, 30),
+    (200, 60),
+    (300, 60),
+    (300, 90),
+    (0, 90),
+    (0, 60),
+    (100, 60),
+    (100, 30),
+    (0, 30),
+];
+
+/// Three teeth of 10 by 20 on a base of 50 by 10.
+const COMB: [Place; 12] = [
+    (0, 0),
+    (50, 0),
+    (50, 30),
+    (40, 30),
+    (40, 10),
+    (30, 10),
+    (30, 30),
+    (20, 30),
+    (20, 10),
+    (10, 10),
+    (10, 30),
+    (0, 30),
+];
+
+const SPIRAL: [Place; 14] = [
+    (0, 0),
+    (60, 0),
+    (60, 60),
+    (0, 60),
+    (0, 20),
+    (40, 20),
+    (40, 40),
+    (30, 40),
+    (30, 30),
+    (10, 30),
+    (10, 50),
+    (50, 50),
+    (50, 10),
+    (0, 10),
+];
+
+const STAR: [Place; 8] = [
+    (50, 0),
+    (60, 40),
+    (100, 50),
+    (60, 60),
+    (50, 100),
+    (40, 60),
+    (0, 50),
+    (40, 40),
+];
+
+const FLAT_SIDE: [Place; 7] = [
+    (0, 0),
+    (10, 0),
+    (20, 0),
+    (30, 0),
+    (40, 0),
+    (40, 10),
+    (0, 10),
+];
+
+/// A bay that ends half a square centimetre left of the first edge, whose way is (F(50), F(49)) in
+/// Fibonacci numbers: it ends at (F(48), F(47)) from the start, and F(50) F(47) is F(49) F(48) + 1. In
+/// doubles these products, above 2^65, are equal.
+const SHORT_BAY: [Place; 5] = [
+    (-FAR, -FAR),
+    (2_586_269_025, -2_221_257_951),
+    (FAR, FAR),
+    (-5_192_473_024, -7_028_784_927),
+    (-FAR, FAR),
+];
+
+/// A bay that ends half a square centimetre right of the first edge, at (F(49), F(48)) from the start:
+/// F(50) F(48) is F(49) F(49) - 1.
+const LONG_BAY: [Place; 5] = [
+    (-FAR, -FAR),
+    (2_586_269_025, -2_221_257_951),
+    (FAR, FAR),
+    (-2_221_257_951, -5_192_473_024),
+    (-FAR, FAR),
+];
+
+const WIDEST: [Place; 4] = [(-FAR, -FAR), (FAR, -FAR), (FAR, FAR), (-FAR, FAR)];
+
+fn fault(alloc: Global, places: &[Place]) -> Result<Option<RingFault>, Fail> {
+    let list = corners(alloc, places)?;
+    if list.as_slice().len() > 100 {
+        return Err(Fail::new("more than 100 corners"));
+    }
+    match Ring::check(list) {
+        Ok(_) => Ok(None),
+        Err(fault) => Ok(Some(fault)),
+    }
+}
+
+#[test]
+fn finds_the_first_fault(rt: HostRuntime) -> Result<(), Fail> {
+    let alloc = rt.alloc();
+    let touched = [(0, 0), (100, 0), (100, 100), (50, 0), (0, 100)];
+    assert_eq!(rt; fault(alloc, &touched)?, Some(RingFault::EdgesMeet(0, 2)));
+    let turned_back = [(0, 0), (100, 0), (60, 0), (60, 100)];
+    assert_eq!(rt;
+        fault(alloc, &turned_back)?,
+        Some(RingFault::EdgesMeet(0, 1))
+    );
+    let spike = [(0, 0), (100, 0), (150, 0), (100, 0), (100, 100)];
+    assert_eq!(rt; fault(alloc, &spike)?, Some(RingFault::EdgesMeet(0, 2)));
+    let bow_tie = [(0, 0), (100, 100), (100, 0), (0, 100)];
+    assert_eq!(rt; fault(alloc, &bow_tie)?, Some(RingFault::ZeroArea));
+    let uneven_bow_tie = [(0, 0), (100, 100), (100, 0), (0, 60)];
+    assert_eq!(rt; fault(alloc, &uneven_bow_tie)?, Some(RingFault::Clockwise));
+    assert_eq!(rt; fault(alloc, &WITH_FLAT_CORNER)?, None);
+    Ok(())
+}
+
+#[test]
+fn finds_the_first_two_edges(rt: HostRuntime) -> Result<(), Fail> {
+    let alloc = rt.alloc();
+    let first_corner_twice = [(0, 0), (0, 0), (100, 0), (0, 100)];
+    assert_eq!(rt;
+        fault(alloc, &first_corner_twice)?,
+        Some(RingFault::EdgesMeet(1, 3))
+    );
+    let spike_at_the_first = [(150, 0), (100, 0), (100, 100), (0, 100), (0, 0)];
+    assert_eq!(rt;
+        fault(alloc, &spike_at_the_first)?,
+        Some(RingFault::EdgesMeet(0, 4))
+    );
+    // Edges 0 and 4 cross, and 0 and 5, 1 and 3, 1 and 4.
+    let four_crossings = [
+        (0, 0),
+        (60, 0),
+        (60, 40),
+        (40, 40),
+        (80, 20),
+        (40, -10),
+        (0, 80),
+    ];
+    assert_eq!(rt;
+        fault(alloc, &four_crossings)?,
+        Some(RingFault::EdgesMeet(0, 4))
+    );
+    assert_eq!(rt; fault(alloc, &SHORT_BAY)?, None);
+    assert_eq!(rt; fault(alloc, &LONG_BAY)?, Some(RingFault::EdgesMeet(0, 2)));
+    Ok(())
+}
+
+#[test]
+fn few_corners_have_no_area(rt: HostRuntime) -> Result<(), Fail> {
+    let alloc = rt.alloc();
+    assert_eq!(rt; fault(alloc, &[])?, Some(RingFault::ZeroArea));
+    assert_eq!(rt; fault(alloc, &[(10, 20)])?, Some(RingFault::ZeroArea));
+    assert_eq!(rt;
+        fault(alloc, &[(0, 0), (100, 100)])?,
+        Some(RingFault::ZeroArea)
+    );
+    assert_eq!(rt;
+        fault(alloc, &[(0, 0), (50, 50), (100, 100)])?,
+        Some(RingFault::ZeroArea)
+    );
+    Ok(())
+}
+
+#[test]
+fn a_ring_keeps_its_corners(rt: HostRuntime) -> Result<(), Fail> {
+    let alloc = rt.alloc();
+    let ring = simple_ring(alloc, &COMB)?;
+    let given = corners(alloc, &COMB)?;
+    assert_eq!(rt; ring.corners.as_slice(), given.as_slice());
+    let shape = shape_of(alloc, ring)?;
+    assert_eq!(rt; shape.ring.corners.as_slice(), given.as_slice());
+    Ok(())
+}
+
+#[test]
+fn the_first_ear_is_clipped_first(rt: HostRuntime) -> Result<(), Fail> {
+    let alloc = rt.alloc();
+    let flat = shape(alloc, &WITH_FLAT_CORNER)?;
+    let halves = [
+        triangle((0, 100), (0, 0), (100, 0))?,
+        triangle((0, 100), (100, 0), (100, 100))?,
+    ];
+    assert_eq!(rt; flat.triangles.as_slice(), halves.as_slice());
+    let bent = shape(alloc, &SHORT_BAY)?;
+    let bay = (-5_192_473_024, -7_028_784_927);
+    let around = [
+        triangle((2_586_269_025, -2_221_257_951), (FAR, FAR), bay)?,
+        triangle((-FAR, -FAR), (2_586_269_025, -2_221_257_951), bay)?,
+        triangle((-FAR, FAR), (-FAR, -FAR), bay)?,
+    ];
+    assert_eq!(rt; bent.triangles.as_slice(), around.as_slice());
+    Ok(())
+}
+
+/// Twice the area of all the triangles that a ring is clipped to, and their number.
+fn clipped(rt: &HostRuntime, places: &[Place]) -> Result<(i128, usize), Fail> {
+    let shape = shape(rt.alloc(), places)?;
+    let mut sum = 0i128;
+    for tri in shape.triangles.as_slice() {
+        sum = sum.wrapping_add(turn(tri.a, tri.b, tri.c));
+    }
+    Ok((sum, shape.triangles.as_slice().len()))
+}
+
+#[test]
+fn clips_rings(rt: HostRuntime) -> Result<(), Fail> {
+    assert_eq!(rt; clipped(&rt, &WITH_FLAT_CORNER)?, (20000, 2));
+    assert_eq!(rt; clipped(&rt, &S_SHAPE)?, (42000, 9));
+    assert_eq!(rt; clipped(&rt, &COMB)?, (2200, 9));
+    assert_eq!(rt; clipped(&rt, &SPIRAL)?, (4600, 12));
+    assert_eq!(rt; clipped(&rt, &STAR)?, (4000, 6));
+    assert_eq!(rt; clipped(&rt, &FLAT_SIDE)?, (800, 2));
+    assert_eq!(rt; clipped(&rt, &WIDEST)?, (800_000_000_000_000_000_000, 2));
+    assert_eq!(rt; clipped(&rt, &SHORT_BAY)?, (155_574_840_980_000_000_000, 3));
+    Ok(())
+}
+
+/// Whether the clipping gives the triangles of the plain clipping.
+fn agrees(rt: &HostRuntime, places: &[Place]) -> Result<bool, Fail> {
+    let alloc = rt.alloc();
+    let ring = simple_ring(alloc, places)?;
+    let plain = plainly_clipped(alloc, ring.corners.as_slice())?;
+    let shape = shape_of(alloc, ring)?;
+    Ok(shape.triangles.as_slice() == plain.as_slice())
+}
+
+#[test]
+fn agrees_with_the_plain_clipping(rt: HostRuntime) -> Result<(), Fail> {
+    assert!(rt; agrees(&rt, &WITH_FLAT_CORNER)?);
+    assert!(rt; agrees(&rt, &S_SHAPE)?);
+    assert!(rt; agrees(&rt, &COMB)?);
+    assert!(rt; agrees(&rt, &SPIRAL)?);
+    assert!(rt; agrees(&rt, &STAR)?);
+    assert!(rt; agrees(&rt, &FLAT_SIDE)?);
+    assert!(rt; agrees(&rt, &WIDEST)?);
+    assert!(rt; agrees(&rt, &SHORT_BAY)?);
+    Ok(())
+}
+
+#[test]
+fn a_triangle_turns_left(rt: HostRuntime) -> Result<(), Fail> {
+    let (a, b, c) = (corner((0, 0))?, corner((60, 0))?, corner((0, 60))?);
+    let Some(tri) = Tri::new(a, b, c) else {
+        return Err(Fail::new("no left turn"));
+    };
+    assert_eq!(rt; (tri.a, tri.b, tri.c), (a, b, c));
+    assert!(rt; Tri::new(a, c, b).is_none());
+    assert!(rt; Tri::new(a, b, b).is_none());
+    Ok(())
+}
+
+#[test]
+fn triangles_are_kept_in_order(rt: HostRuntime) -> Result<(), Fail> {
+    let mut triangles = Triangles::new(rt.alloc());
+    assert_eq!(rt; triangles.as_slice().len(), 0);
+    let pushed = [
+        triangle((0, 0), (60, 0), (0, 60))?,
+        triangle((60, 0), (60, 60), (0, 60))?,
+    ];
+    for tri in pushed {
+        triangles.push(tri)?;
+    }
+    assert_eq!(rt; triangles.as_slice(), pushed.as_slice());
+    Ok(())
+}
+
+/// A triangle with a flat corner in one side and a dent in another, which keeps the first corner from being an ear.
+#[test]
+fn a_dent_is_gone_round(rt: HostRuntime) -> Result<(), Fail> {
+    let dented = [(0, 0), (50, 0), (100, 0), (40, 40), (0, 100)];
+    let shape = shape(rt.alloc(), &dented)?;
+    let around = [
+        triangle((0, 0), (100, 0), (40, 40))?,
+        triangle((0, 100), (0, 0), (40, 40))?,
+    ];
+    assert_eq!(rt; shape.triangles.as_slice(), around.as_slice());
+    Ok(())
+}
+
+/// The corner (50, 50) lies on the way from (100, 0) to (0, 100), an edge of the first corner's triangle.
+#[test]
+fn a_corner_on_an_edge_of_a_triangle_is_in_it(rt: HostRuntime) -> Result<(), Fail> {
+    let dented = [(0, 0), (100, 0), (50, 50), (40, 90), (0, 100)];
+    let shape = shape(rt.alloc(), &dented)?;
+    let around = [
+        triangle((0, 0), (100, 0), (50, 50))?,
+        triangle((0, 100), (0, 0), (50, 50))?,
+        triangle((0, 100), (50, 50), (40, 90))?,
+    ];
+    assert_eq!(rt; shape.triangles.as_slice(), around.as_slice());
+    Ok(())
+}
+
+#[test]
+fn a_shape_is_copied(rt: HostRuntime) -> Result<(), Fail> {
+    let alloc = rt.alloc();
+    let ring = simple_ring(alloc, &COMB)?;
+    assert!(rt; ring.clone()? == ring);
+    let shape = shape_of(alloc, ring)?;
+    let copy = shape.clone()?;
+    assert!(rt; copy.ring == shape.ring);
+    assert_eq!(rt; copy.triangles.as_slice(), shape.triangles.as_slice());
+    assert_eq!(rt; copy.triangles.len(), 9);
+    assert!(rt; !copy.triangles.is_empty());
+    Ok(())
+}

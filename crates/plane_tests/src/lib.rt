@@ -1,0 +1,20 @@
+//! Tests of numbers and corners, of rings and the triangles that they are clipped to, of overlaps, and of edges: outside vectors,
+//! growths that are refused, and rings of the greatest size.
+#![tactic(auto)]
+
+#[cfg(test)]
+mod chains;
+#[cfg(test)]
+mod clipping;
+#[cfg(test)]
+mod edge_sums;
+#[cfg(test)]
+mod exact;
+#[cfg(test)]
+mod overlaps;
+#[cfg(test)]
+mod plain;
+#[cfg(test)]
+mod refusals;
+#[cfg(test)]
+mod size;

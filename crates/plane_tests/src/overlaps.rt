@@ -1,0 +1,254 @@
+//! Triangles and shapes that overlap, or only touch.
+
+use geo_exact::Corners;
+use ring_core::Shape;
+use std::alloc::Global;
+use std::test::Fail;
+use test_builders::{Place, corner, ring_of, shape, shape_of, triangle};
+use tri_overlap::{first_overlap, folded, shapes_overlap, triangles_overlap};
+
+/// A border that goes east.
+const JAGGED: [Place; 24] = [
+    (0, 331),
+    (100, 970),
+    (200, 154),
+    (300, 404),
+    (400, 666),
+    (500, 49),
+    (600, 74),
+    (700, 840),
+    (800, 548),
+    (900, 96),
+    (1000, 374),
+    (1100, 596),
+    (1200, 59),
+    (1300, 931),
+    (1400, 519),
+    (1500, 219),
+    (1600, 38),
+    (1700, 88),
+    (1800, 444),
+    (1900, 428),
+    (2000, 71),
+    (2100, 246),
+    (2200, 92),
+    (2300, 564),
+];
+
+/// A border that goes north, over the same places again and again.
+const TO_AND_FRO: [Place; 24] = [
+    (3369, 0),
+    (121, 100),
+    (3658, 200),
+    (253, 300),
+    (2957, 400),
+    (1291, 500),
+    (3784, 600),
+    (1193, 700),
+    (2626, 800),
+    (1181, 900),
+    (3699, 1000),
+    (812, 1100),
+    (2601, 1200),
+    (452, 1300),
+    (2595, 1400),
+    (1140, 1500),
+    (2772, 1600),
+    (593, 1700),
+    (3358, 1800),
+    (295, 1900),
+    (3607, 2000),
+    (241, 2100),
+    (3669, 2200),
+    (631, 2300),
+];
+
+/// The shape on the left of a border, with two more corners.
+fn left_of(alloc: Global, border: &[Place], far: (Place, Place)) -> Result<Shape<Global>, Fail> {
+    let mut corners = Corners::new(alloc);
+    for place in border {
+        corners.push(corner(*place)?)?;
+    }
+    corners.push(corner(far.0)?)?;
+    corners.push(corner(far.1)?)?;
+    shape_of(alloc, ring_of(corners)?)
+}
+
+/// The shape on the right of a border, with two more corners.
+fn right_of(alloc: Global, border: &[Place], far: (Place, Place)) -> Result<Shape<Global>, Fail> {
+    let mut corners = Corners::new(alloc);
+    for place in border.iter().rev() {
+        corners.push(corner(*place)?)?;
+    }
+    corners.push(corner(far.0)?)?;
+    corners.push(corner(far.1)?)?;
+    shape_of(alloc, ring_of(corners)?)
+}
+
+/// Whether some triangle of one shape overlaps some triangle of the other, each with each.
+fn some_triangles_overlap(first: &Shape<Global>, second: &Shape<Global>) -> bool {
+    for one in first.triangles.as_slice() {
+        for other in second.triangles.as_slice() {
+            if triangles_overlap(one, other) {
+                return true;
+            }
+        }
+    }
+    false
+}
+
+#[test]
+fn triangles_that_cross_or_touch(rt: HostRuntime) -> Result<(), Fail> {
+    let upright = triangle((0, 0), (60, 0), (30, 60))?;
+    let upside_down = triangle((0, 40), (30, -20), (60, 40))?;
+    assert!(rt; triangles_overlap(&upright, &upside_down));
+    let half = triangle((0, 0), (60, 0), (0, 60))?;
+    let other_half = triangle((60, 0), (60, 60), (0, 60))?;
+    assert!(rt; !triangles_overlap(&half, &other_half));
+    let beside = triangle((60, 0), (120, 0), (60, 60))?;
+    assert!(rt; !triangles_overlap(&half, &beside));
+    assert!(rt; triangles_overlap(&half, &half));
+    let within = triangle((10, 10), (20, 10), (10, 20))?;
+    assert!(rt; triangles_overlap(&half, &within));
+    assert!(rt; triangles_overlap(&within, &half));
+    Ok(())
+}
+
+/// Slivers along the way of (12586269025, 7778742049), two Fibonacci numbers F(50) and F(49), from the
+/// south-western end of the coordinates. Of three in a row the square of the middle one and the product
+/// of the others differ by 1, and so do F(50) F(47) and F(49) F(48): so the place (F(49), F(48)) from
+/// there lies right of the way by half a square centimetre, and (F(48), F(47)) left of it by as much.
+/// In doubles these products, above 2^65, are multiples of 8192: each difference is 0.
+#[test]
+fn slivers_at_the_limits(rt: HostRuntime) -> Result<(), Fail> {
+    let far = 10_000_000_000;
+    let start = (-far, -far);
+    let end = (2_586_269_025, -2_221_257_951);
+    let on_the_right = (-2_221_257_951, -5_192_473_024);
+    let on_the_left = (-5_192_473_024, -7_028_784_927);
+    let sliver = triangle(start, on_the_right, end)?;
+    let left_side = triangle(start, end, (-far, far))?;
+    let right_side = triangle(start, (far, -far), end)?;
+    assert!(rt; triangles_overlap(&sliver, &right_side));
+    assert!(rt; !triangles_overlap(&sliver, &left_side));
+    let reaching_over = triangle(on_the_left, (0, -far), (far, -far))?;
+    assert!(rt; triangles_overlap(&left_side, &reaching_over));
+    assert!(rt; triangles_overlap(&sliver, &reaching_over));
+    let falling_short = triangle(on_the_right, (0, -far), (far, -far))?;
+    assert!(rt; !triangles_overlap(&left_side, &falling_short));
+    assert!(rt; !triangles_overlap(&sliver, &falling_short));
+    Ok(())
+}
+
+#[test]
+fn shapes_that_meet_between_whole_points(rt: HostRuntime) -> Result<(), Fail> {
+    let alloc = rt.alloc();
+    let parcel = shape(alloc, &[(0, 0), (100, 100), (0, 100)])?;
+    let zone = shape(alloc, &[(0, 0), (100, 0), (100, 100), (50, 51)])?;
+    assert!(rt; shapes_overlap(&parcel, &zone));
+    assert!(rt; shapes_overlap(&zone, &parcel));
+    let neighbour = shape(alloc, &[(0, 0), (100, 0), (100, 100)])?;
+    assert!(rt; !shapes_overlap(&parcel, &neighbour));
+    assert!(rt; shapes_overlap(&zone, &neighbour));
+    let other_zone = shape(alloc, &[(0, 0), (50, 51), (100, 100), (0, 100)])?;
+    assert!(rt; shapes_overlap(&parcel, &other_zone));
+    assert!(rt; !shapes_overlap(&neighbour, &other_zone));
+    assert!(rt; !shapes_overlap(&zone, &other_zone));
+    assert_eq!(rt; folded(&parcel), None);
+    assert_eq!(rt; folded(&neighbour), None);
+    assert_eq!(rt; folded(&zone), None);
+    assert_eq!(rt; folded(&other_zone), None);
+    Ok(())
+}
+
+/// A ring round a bay, and what lies in the bay.
+#[test]
+fn shapes_with_a_bay(rt: HostRuntime) -> Result<(), Fail> {
+    let alloc = rt.alloc();
+    let around = [
+        (0, 0),
+        (100, 0),
+        (100, 20),
+        (40, 20),
+        (40, 80),
+        (100, 80),
+        (100, 100),
+        (0, 100),
+    ];
+    let bay = shape(alloc, &around)?;
+    assert_eq!(rt; folded(&bay), None);
+    let in_the_bay = shape(alloc, &[(40, 20), (100, 20), (100, 80), (40, 80)])?;
+    assert!(rt; !shapes_overlap(&bay, &in_the_bay));
+    let west_part = shape(alloc, &[(40, 20), (70, 20), (70, 80), (40, 80)])?;
+    let east_part = shape(alloc, &[(70, 20), (100, 20), (100, 80), (70, 80)])?;
+    assert!(rt; !shapes_overlap(&west_part, &east_part));
+    assert!(rt; !shapes_overlap(&bay, &west_part));
+    assert!(rt; shapes_overlap(&in_the_bay, &west_part));
+    assert_eq!(rt; folded(&west_part), None);
+    assert_eq!(rt; folded(&east_part), None);
+    let over_the_edge = shape(alloc, &[(39, 30), (100, 30), (100, 70), (39, 70)])?;
+    assert!(rt; shapes_overlap(&bay, &over_the_edge));
+    Ok(())
+}
+
+/// Lists of 24 triangles are halved until one has 6; each corner of the border in turn is moved.
+#[test]
+fn shapes_with_a_long_border(rt: HostRuntime) -> Result<(), Fail> {
+    let alloc = rt.alloc();
+    let north = left_of(alloc, &JAGGED, ((2300, 2000), (0, 2000)))?;
+    let south = right_of(alloc, &JAGGED, ((0, -1000), (2300, -1000)))?;
+    assert!(rt; !shapes_overlap(&north, &south));
+    assert!(rt; !shapes_overlap(&south, &north));
+    assert!(rt; !some_triangles_overlap(&north, &south));
+    for k in 0..24 {
+        let mut border = JAGGED;
+        border[k].1 = border[k].1.saturating_add(1);
+        let moved = right_of(alloc, &border, ((0, -1000), (2300, -1000)))?;
+        assert!(rt; shapes_overlap(&north, &moved));
+        assert!(rt; shapes_overlap(&moved, &north));
+        assert!(rt; some_triangles_overlap(&north, &moved));
+        border[k].1 = border[k].1.saturating_sub(2);
+        let short = right_of(alloc, &border, ((0, -1000), (2300, -1000)))?;
+        assert!(rt; !shapes_overlap(&north, &short));
+    }
+    Ok(())
+}
+
+#[test]
+fn shapes_with_a_border_to_and_fro(rt: HostRuntime) -> Result<(), Fail> {
+    let alloc = rt.alloc();
+    let west = left_of(alloc, &TO_AND_FRO, ((-1000, 2300), (-1000, 0)))?;
+    let east = right_of(alloc, &TO_AND_FRO, ((5000, 0), (5000, 2300)))?;
+    assert!(rt; !shapes_overlap(&west, &east));
+    assert!(rt; !shapes_overlap(&east, &west));
+    assert!(rt; !some_triangles_overlap(&west, &east));
+    for k in 0..24 {
+        let mut border = TO_AND_FRO;
+        border[k].0 = border[k].0.saturating_add(1);
+        let moved = left_of(alloc, &border, ((-1000, 2300), (-1000, 0)))?;
+        assert!(rt; shapes_overlap(&moved, &east));
+        assert!(rt; shapes_overlap(&east, &moved));
+        assert!(rt; some_triangles_overlap(&east, &moved));
+    }
+    Ok(())
+}
+
+/// Triangle 0 overlaps none; 1 overlaps 3, and 2 overlaps 3 too.
+#[test]
+fn the_first_overlap_of_a_list(rt: HostRuntime) -> Result<(), Fail> {
+    let apart = triangle((200, 0), (260, 0), (200, 60))?;
+    let half = triangle((0, 0), (60, 0), (0, 60))?;
+    let other_half = triangle((60, 0), (60, 60), (0, 60))?;
+    let over_both = triangle((10, 10), (50, 40), (10, 40))?;
+    assert_eq!(rt;
+        first_overlap(&[apart, half, other_half, over_both]),
+        Some((1, 3))
+    );
+    assert_eq!(rt;
+        first_overlap(&[apart, over_both, other_half, half]),
+        Some((1, 2))
+    );
+    assert_eq!(rt; first_overlap(&[apart, half, other_half]), None);
+    assert_eq!(rt; first_overlap(&[]), None);
+    Ok(())
+}
