@@ -1,2 +1,4 @@
 pub mod Puts
 pub mod Passing
+pub mod TilingFaults
+pub mod CityLimit

@@ -1,6 +1,6 @@
 -- An error that a `?` passes on as it is.
 use Rattle.std.proofs.Common.{◌≡◌, Result, Ok, Err, subst, sym}
-use Rattle.std.specs.Result.{IsErrAnd, IfErr}
+use Rattle.std.specs.Result.{IsErrAnd, IfErr, MatchResult}
 
 -- what holds of the call's error holds of the answer's
 pub passed_on : {Y E : Type 0} (answer : Result Y E) (e : E) (P : E → Type 0) → IsErrAnd answer (λ y. y ≡ e) → P e → IsErrAnd answer P
@@ -11,3 +11,8 @@ passed_on (Err y) e P h k = subst P (sym h) k
 pub passed_if : {Y E : Type 0} (answer : Result Y E) (e : E) (P : E → Type 0) → IsErrAnd answer (λ y. y ≡ e) → P e → IfErr answer P
 passed_if (Ok y) e P h k = absurd h
 passed_if (Err y) e P h k = subst P (sym h) k
+
+-- the same, where something else holds of a value
+pub passed_match : {Y E : Type 0} (answer : Result Y E) (e : E) (P : Y → Type 0) (Q : E → Type 0) → IsErrAnd answer (λ y. y ≡ e) → Q e → MatchResult answer P Q
+passed_match (Ok y) e P Q h k = absurd h
+passed_match (Err y) e P Q h k = subst Q (sym h) k

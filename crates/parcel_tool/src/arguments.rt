@@ -1,3 +1,8 @@
+ghost use Rattle.std.specs.Prelude.{◌≡◌, ◌≢◌, Some, IfSome, IfNone, codes};
+ghost use Rattle.clap.specs.Words.{first_value, found_of};
+ghost use Rattle.parcel_tool.specs.Arguments.{unit_word};
+ghost use Rattle.geo_exact.specs.declared.coord.Unit.{Unit as LengthUnit};
+
 use clap::error::ErrorKind;
 use clap::{Arg, ArgAction, ArgMatches, Command, Error};
 use geo_exact::Unit;
@@ -14,6 +19,15 @@ pub enum Request<'a> {
         /// The unit of its coordinates.
         unit: Unit,
     },
+    /// Whether parcels tile their city.
+    Check {
+        /// The path of the main file of the city's layer.
+        city: &'a str,
+        /// The path of the main file of the parcels' layer.
+        parcels: &'a str,
+        /// The unit of the coordinates of both.
+        unit: Unit,
+    },
 }
 
 /// Reads a command line, the program's own name first. A refused one is an error whose text helps; `--help` and
@@ -21,10 +35,13 @@ pub enum Request<'a> {
 pub fn parse<'a, S: AsStr>(alloc: Global, words: &'a [S]) -> Result<Request<'a>, Error> {
     let mut command = tool_command(alloc)?;
     let matches = command.try_get_matches_from_mut(words)?;
-    if let Some(("area", given)) = matches.subcommand() {
-        if let (Some(main), Some(unit)) = (given.get_str("MAIN"), unit_of(given)) {
-            return Ok(Request::Area { main, unit });
-        }
+    let asked = match matches.subcommand() {
+        Some(("area", given)) => area_request(given),
+        Some(("check", given)) => check_request(given),
+        _ => None,
+    };
+    if let Some(request) = asked {
+        return Ok(request);
     }
     Err(command.error(
         ErrorKind::MissingSubcommand,
@@ -32,8 +49,29 @@ pub fn parse<'a, S: AsStr>(alloc: Global, words: &'a [S]) -> Result<Request<'a>,
     )?)
 }
 
+/// What the words of `area` ask for.
+fn area_request<'a>(given: &ArgMatches<'a>) -> Option<Request<'a>> {
+    Some(Request::Area {
+        main: given.get_str("MAIN")?,
+        unit: unit_of(given)?,
+    })
+}
+
+/// What the words of `check` ask for.
+fn check_request<'a>(given: &ArgMatches<'a>) -> Option<Request<'a>> {
+    Some(Request::Check {
+        city: given.get_str("CITY")?,
+        parcels: given.get_str("PARCELS")?,
+        unit: unit_of(given)?,
+    })
+}
+
 /// The unit that was given.
-fn unit_of(given: &ArgMatches<'_>) -> Option<Unit> {
+fn unit_of(given: &ArgMatches<'_>) -> Option<Unit>
+    ensures named { IfSome result (λ unit. first_value (found_of given.now) (codes "unit") ≡ Some (unit_word unit)) }
+    ensures none { IfNone result
+        ((unit : LengthUnit) → first_value (found_of given.now) (codes "unit") ≢ Some (unit_word unit)) }
+{
     match given.get_str("unit") {
         Some("cm") => Some(Unit::Cm),
         Some("m") => Some(Unit::M),
@@ -48,25 +86,46 @@ fn tool_command<'a>(alloc: Global) -> Result<Command<'a>, AllocError> {
         .about("Exact answers about parcel layers in shapefiles, in whole centimetres")
         .subcommand_required(true)
         .arg_required_else_help(true)
-        .subcommand(area_command(alloc)?)
+        .subcommand(area_command(alloc)?)?
+        .subcommand(check_command(alloc)?)
 }
 
 fn area_command<'a>(alloc: Global) -> Result<Command<'a>, AllocError> {
-    let main = Arg::new(alloc, "MAIN")
+    Command::new(alloc, "area")
+        .about(
+            "Prints for each polygon its record's number and twice its area, in square centimetres",
+        )
+        .arg(file(alloc, "MAIN", "The layer's main file, .shp"))?
+        .arg(unit(alloc, "The unit of the file's coordinates"))
+}
+
+fn check_command<'a>(alloc: Global) -> Result<Command<'a>, AllocError> {
+    Command::new(alloc, "check")
+        .about("Prints, where parcels tile their city, their number and twice the city's area")
+        .arg(file(alloc, "CITY", "The main file of the city's layer, .shp"))?
+        .arg(file(
+            alloc,
+            "PARCELS",
+            "The main file of the parcels' layer, .shp",
+        ))?
+        .arg(unit(alloc, "The unit of the files' coordinates"))
+}
+
+/// A layer's main file, which has to be given.
+fn file<'a>(alloc: Global, name: &'a str, help: &'a str) -> Arg<'a> {
+    Arg::new(alloc, name)
         .required(true)
         .action(ArgAction::Set)
-        .help("The layer's main file, .shp");
-    let unit = Arg::new(alloc, "unit")
+        .help(help)
+}
+
+/// The unit, which has to be given.
+fn unit<'a>(alloc: Global, help: &'a str) -> Arg<'a> {
+    Arg::new(alloc, "unit")
         .long("unit")
         .required(true)
         .action(ArgAction::Set)
         .value_name("UNIT")
         .value_parser(["cm", "m"].as_slice())
-        .help("The unit of the file's coordinates");
-    Command::new(alloc, "area")
-        .about(
-            "Prints for each polygon its record's number and twice its area, in square centimetres",
-        )
-        .arg(main)?
-        .arg(unit)
+        .help(help)
 }

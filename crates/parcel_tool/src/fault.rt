@@ -1,7 +1,9 @@
 ghost use Rattle.std.specs.Prelude.{◌≡◌};
 ghost use Rattle.parcel_tool.specs.declared.fault.ToolFault.TheVariants.{NoMemory, Output};
 
+use fabric_core::{CityFault, LoadFault};
 use geo_exact::{CoordFault, Failed};
+use ring_core::RingFault;
 use shp_files::{FaultKind, FileFault, FileName};
 use std::alloc::AllocError;
 use std::fmt;
@@ -41,6 +43,12 @@ pub enum ToolFault<'a> {
     Output,
     /// A layer's files are refused: their first fault.
     File(Role, FileFault),
+    /// S3: the city's file has this number of polygons, and not one.
+    CityCount(usize),
+    /// G1, G2, G5: the city's ring is refused.
+    CityRing(CityFault),
+    /// H1 to H3: the rings of the layer do not tile the city.
+    NoTiling(Role, LoadFault),
     /// A growth was refused.
     NoMemory,
 }
@@ -74,8 +82,36 @@ impl<'a> fmt::Display for ToolFault<'a> {
                 let place = fault.place;
                 write!(f, "{role}: {code} {file} record {position} at {place}")
             }
-            ToolFault::NoMemory => write!(f, "no memory"),
+            ToolFault::CityCount(count) => write!(f, "city: S3 {count}"),
+            ToolFault::CityRing(CityFault::Ring(fault)) => {
+                write!(f, "city: ")?;
+                write_ring_fault(f, *fault)
+            }
+            ToolFault::CityRing(CityFault::Folded(i, j)) => write!(f, "city: G5 {i} {j}"),
+            ToolFault::NoTiling(role, LoadFault::TooMany(record)) => {
+                write!(f, "{role}: H3 {record}")
+            }
+            ToolFault::NoTiling(role, LoadFault::Ring(record, fault)) => {
+                write!(f, "{role}: H1 {record} ")?;
+                write_ring_fault(f, *fault)
+            }
+            ToolFault::NoTiling(role, LoadFault::Gap(a, b, net)) => {
+                let (ax, ay, bx, by) = (a.x, a.y, b.x, b.y);
+                write!(f, "{role}: H2 {ax} {ay} {bx} {by} net {net}")
+            }
+            ToolFault::NoMemory
+            | ToolFault::CityRing(CityFault::NoMemory)
+            | ToolFault::NoTiling(_, LoadFault::NoMemory) => write!(f, "no memory"),
         }
+    }
+}
+
+/// The text of a ring's fault.
+fn write_ring_fault<W: fmt::Write>(f: &mut fmt::Formatter<W>, fault: RingFault) -> fmt::Result {
+    match fault {
+        RingFault::ZeroArea => write!(f, "G1"),
+        RingFault::EdgesMeet(i, j) => write!(f, "G2 {i} {j}"),
+        RingFault::Clockwise => write!(f, "G3"),
     }
 }
 

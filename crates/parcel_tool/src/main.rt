@@ -3,6 +3,7 @@
 
 mod area;
 mod arguments;
+mod check;
 mod fault;
 mod layers;
 mod output;
@@ -10,14 +11,16 @@ mod report;
 mod sources;
 #[cfg(test)]
 mod tests;
+mod tiles;
 
 use area::area;
 use arguments::Request;
+use check::check;
 use clap::Error;
 use clap::error::ErrorKind;
 use fault::ToolFault;
 use geo_exact::Counted;
-use sources::read_source;
+use sources::{Disk, read_source};
 use std::process::ExitCode;
 use std::rt::{Env, Files};
 use std::{env, io};
@@ -59,8 +62,18 @@ fn answer<'a, R: Files + Print + AllocGlobal>(
     let mut out = Counted::new(io::writer(rt));
     match request {
         Request::Area { main, unit } => {
-            let source = read_source(rt, rt.alloc(), main)?;
+            let source = read_source(&Disk(rt), rt.alloc(), main)?;
             area(rt.alloc(), &source, unit, &mut out)
+        }
+        Request::Check {
+            city,
+            parcels,
+            unit,
+        } => {
+            let heap = rt.alloc();
+            let city = read_source(&Disk(rt), heap, city)?;
+            let parcels = read_source(&Disk(rt), heap, parcels)?;
+            check(&heap, &city, &parcels, unit, &mut out)
         }
     }
 }

@@ -8,13 +8,30 @@ fn reads_requests(rt: HostRuntime) -> Result<(), Fail> {
     for (line, want) in [
         (
             "parcel_tool area city.shp --unit cm",
-            ("city.shp", Unit::Cm),
+            Request::Area {
+                main: "city.shp",
+                unit: Unit::Cm,
+            },
         ),
-        ("parcel_tool area --unit=m -- --unit", ("--unit", Unit::M)),
+        (
+            "parcel_tool area --unit=m -- --unit",
+            Request::Area {
+                main: "--unit",
+                unit: Unit::M,
+            },
+        ),
+        (
+            "parcel_tool check --unit m city.shp parcels.shp",
+            Request::Check {
+                city: "city.shp",
+                parcels: "parcels.shp",
+                unit: Unit::M,
+            },
+        ),
     ] {
         let words: Vec<&str> = line.split(' ').collect(rt.alloc())?;
         match parse(rt.alloc(), words.as_slice()) {
-            Ok(Request::Area { main, unit }) => assert_eq!(rt; (main, unit), want),
+            Ok(request) => assert_eq!(rt; request, want),
             Err(error) => return Err(Fail::new(error)),
         }
     }

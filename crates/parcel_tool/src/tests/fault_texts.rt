@@ -1,5 +1,7 @@
 use crate::fault::{Role, ToolFault};
-use geo_exact::CoordFault;
+use fabric_core::{CityFault, LoadFault};
+use geo_exact::{CoordFault, Corner};
+use ring_core::RingFault;
 use shp_files::{FaultKind, FileFault, FileName};
 use std::test::Fail;
 
@@ -10,6 +12,46 @@ fn tells_faults(rt: HostRuntime) -> Result<(), Fail> {
         (ToolFault::UnreadableIndex("a b/city"), "S1 a b/city.shx"),
         (ToolFault::Output, "S2"),
         (ToolFault::NoMemory, "no memory"),
+    ] {
+        assert_eq!(rt; format!(in rt.alloc(); "{fault}")?.as_str(), want);
+    }
+    Ok(())
+}
+
+#[test]
+fn tells_faults_of_tilings(rt: HostRuntime) -> Result<(), Fail> {
+    let a = Corner { x: 60, y: 0 };
+    let b = Corner { x: 60, y: -100 };
+    for (fault, want) in [
+        (ToolFault::CityCount(3), "city: S3 3"),
+        (
+            ToolFault::CityRing(CityFault::Ring(RingFault::ZeroArea)),
+            "city: G1",
+        ),
+        (
+            ToolFault::CityRing(CityFault::Ring(RingFault::EdgesMeet(1, 3))),
+            "city: G2 1 3",
+        ),
+        (
+            ToolFault::CityRing(CityFault::Ring(RingFault::Clockwise)),
+            "city: G3",
+        ),
+        (ToolFault::CityRing(CityFault::Folded(0, 2)), "city: G5 0 2"),
+        (
+            ToolFault::NoTiling(Role::Parcels, LoadFault::TooMany(7)),
+            "parcels: H3 7",
+        ),
+        (
+            ToolFault::NoTiling(
+                Role::Parcels,
+                LoadFault::Ring(2, RingFault::EdgesMeet(1, 3)),
+            ),
+            "parcels: H1 2 G2 1 3",
+        ),
+        (
+            ToolFault::NoTiling(Role::Zones, LoadFault::Gap(a, b, -1)),
+            "zones: H2 60 0 60 -100 net -1",
+        ),
     ] {
         assert_eq!(rt; format!(in rt.alloc(); "{fault}")?.as_str(), want);
     }

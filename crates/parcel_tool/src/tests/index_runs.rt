@@ -1,25 +1,16 @@
 use super::area_runs::{changed, run};
-use super::square::{HUNDRED, header, index, null_and_polygon, polygon, square};
+use super::square::{HUNDRED, POINTS, header, index, null_and_polygon, polygon, square, squares};
 use crate::sources::Source;
 use geo_exact::Unit;
 use std::alloc::{AllocError, Global};
 use std::test::Fail;
 
 /// The bits of 0, of 1 and of 100.
-const ZERO: u64 = 0;
+const ZERO: u64 = HUNDRED.0;
 
 const ONE: u64 = 0x3FF0_0000_0000_0000;
 
 const FAR: u64 = HUNDRED.1;
-
-/// The square's points, clockwise from its least corner, and the first once more.
-const POINTS: [(u64, u64); 5] = [
-    (ZERO, ZERO),
-    (ZERO, FAR),
-    (FAR, FAR),
-    (FAR, ZERO),
-    (ZERO, ZERO),
-];
 
 /// What a run over a main file and an index prints, in centimetres.
 fn printed(alloc: Global, main: Vec<u8>, index: Vec<u8>) -> Result<String, AllocError> {
@@ -28,6 +19,18 @@ fn printed(alloc: Global, main: Vec<u8>, index: Vec<u8>) -> Result<String, Alloc
         index: Some(index),
     };
     run(alloc, source, Unit::Cm)
+}
+
+#[test]
+fn reports_the_most_rings(rt: HostRuntime) -> Result<(), Fail> {
+    let alloc = rt.alloc();
+    let (main, index) = squares(alloc, 65_536)?;
+    let mut want = String::new(alloc);
+    for number in 1..=65_536u32 {
+        want.push_str(format!(in alloc; "{number} 20000\n")?.as_str())?;
+    }
+    assert_eq!(rt; printed(alloc, main, index)?.as_str(), want.as_str());
+    Ok(())
 }
 
 #[test]

@@ -1,6 +1,6 @@
 use super::square::{HUNDRED, index, square};
 use crate::fault::ToolFault;
-use crate::sources::read_source;
+use crate::sources::{Disk, read_source};
 use std::fs;
 use std::test::Fail;
 
@@ -19,7 +19,7 @@ fn reads_the_index_beside_the_main_file(rt: HostRuntime) -> Result<(), Fail> {
         ("upper.SHP", false),
         ("alone.shp", false),
     ] {
-        match read_source(&rt, alloc, path) {
+        match read_source(&Disk(&rt), alloc, path) {
             Ok(source) => {
                 assert_eq!(rt; source.main.as_slice(), main.as_slice());
                 let want = if has_index {
@@ -46,7 +46,7 @@ fn names_the_file_that_it_could_not_read(rt: HostRuntime) -> Result<(), Fail> {
         ("folder.shp", ToolFault::Unreadable("folder.shp")),
         ("torn.shp", ToolFault::UnreadableIndex("torn")),
     ] {
-        let answer = read_source(&rt, alloc, path).map(|_| ());
+        let answer = read_source(&Disk(&rt), alloc, path).map(|_| ());
         assert_eq!(rt; answer, Err(want), "at {path}");
     }
     Ok(())

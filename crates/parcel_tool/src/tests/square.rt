@@ -6,6 +6,15 @@ pub const HUNDRED: (u64, u64) = (0, 0x4059_0000_0000_0000);
 /// The bits of -10,000,000,000 and of 10,000,000,000.
 pub const FARTHEST: (u64, u64) = (0xC202_A05F_2000_0000, 0x4202_A05F_2000_0000);
 
+/// The points of a square with sides of 100, clockwise from its least corner, and the first once more.
+pub const POINTS: [(u64, u64); 5] = [
+    (0, 0),
+    (0, HUNDRED.1),
+    (HUNDRED.1, HUNDRED.1),
+    (HUNDRED.1, 0),
+    (0, 0),
+];
+
 /// A main file of 236 bytes whose one record is a square, clockwise from its least corner.
 pub fn square(alloc: Global, (low, high): (u64, u64)) -> Result<Vec<u8>, AllocError> {
     let mut file = header(alloc, 118, [low, low, high, high])?;
@@ -79,6 +88,24 @@ pub fn null_and_polygon(alloc: Global, points: &[(u64, u64); 5]) -> Result<Vec<u
     push_words(&mut file, &[0])?;
     push_record(&mut file, 2, 64, points)?;
     Ok(file)
+}
+
+/// A main file and its index: so many squares with sides of 100.
+pub fn squares(alloc: Global, number: u32) -> Result<(Vec<u8>, Vec<u8>), AllocError> {
+    let mut place = 50u32;
+    let mut main = header(
+        alloc,
+        68u32.wrapping_mul(number).wrapping_add(place),
+        [0; 4],
+    )?;
+    let mut entries = Vec::new(alloc);
+    for position in 1..=number {
+        push_record(&mut main, position, 64, &POINTS)?;
+        entries.push((place, 64))?;
+        place = place.wrapping_add(68);
+    }
+    let beside = index(alloc, entries.as_slice())?;
+    Ok((main, beside))
 }
 
 /// A count as a file has it.

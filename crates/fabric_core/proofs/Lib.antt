@@ -1,0 +1,14 @@
+pub mod Tilings
+pub mod OneFault
+pub mod Refusals
+pub mod Lists
+pub mod RefinedRings
+pub mod RingChecks
+pub mod NetSums
+pub mod RowGaps
+pub mod Loaded
+pub mod OneNoding
+pub mod Beginning
+pub mod OneLoadFault
+pub mod Searches
+pub mod FullyNoded

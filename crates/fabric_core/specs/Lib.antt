@@ -1,0 +1,5 @@
+pub mod Tiling
+pub mod Rows
+pub mod Limits
+pub mod Faults
+pub mod own

@@ -1,0 +1,49 @@
+-- How the code keeps rows: their numbers in one list, and their rings in another. Public contracts do not speak of it.
+use Rattle.std.specs.Prelude.{◌≡◌, ℕ, ◌≤◌, List, [], ◌∷◌, length, map, ◌+◌, ◌*◌}
+use Rattle.std.specs.List.{AllZip}
+use Rattle.std.specs.List.Sorted.{IsStrictlyIncreasing}
+use Rattle.geo_exact.specs.declared.corner.Corner.{Corner}
+use Rattle.geo_exact.specs.Rings.{begun_at_least}
+use Rattle.geo_exact.specs.Layers.{NumberedRing, numbered}
+use Rattle.geo_exact.specs.declared.limits.TheConstants.{LAYER_CORNERS, RING_CORNERS}
+use Rattle.ring_core.specs.declared.ring.Ring.{Ring}
+use Rattle.ring_core.specs.declared.shape.Shape.{Shape}
+use Rattle.edge_chains.specs.Noding.{IsNoded, all_corners}
+use Rattle.fabric_core.specs.Tiling.{IsTiling}
+use Rattle.fabric_core.specs.Rows.{corners_of_layer, numbers}
+
+-- the rings under the numbers at their places
+abbrev pub numbered_rows : List ℕ → List (List Corner) → List NumberedRing
+numbered_rows [] rings = []
+numbered_rows (number ∷ rest) [] = []
+numbered_rows (number ∷ rest) (ring ∷ rings) = numbered number ring ∷ numbered_rows rest rings
+
+-- the corners of checked rings, and of shapes
+abbrev pub corners_of_rings : {A : Type 0} → List (Ring A) → List (List Corner)
+corners_of_rings rings = map (λ ring. ring.corners) rings
+
+abbrev pub corners_of_shapes : {A : Type 0} → List (Shape A) → List (List Corner)
+corners_of_shapes shapes = map (λ shape. shape.ring.corners) shapes
+
+-- the rings are the records', noded for all corners of the layer and begun at their least corners, and their numbers stand beside them
+pub record AreNodedRings (records : List NumberedRing) (city : List Corner) (ids : List ℕ) (rings : List (List Corner)) (refined : List Corner) : Type 0 where
+  pub noded : List (List Corner)
+  pub are_numbers : ids ≡ numbers records
+  pub are_noded : AllZip (λ record_ring out. IsNoded record_ring.corners (corners_of_layer records city) out) records noded
+  pub are_begun : rings ≡ map begun_at_least noded
+  pub is_refined : IsNoded city (corners_of_layer records city) refined
+
+-- what a `Layer` keeps: an id for each shape, in ascending order, and shapes that tile the city
+pub record IsLayer (ids : List ℕ) (rings : List (List Corner)) (city : List Corner) : Type 0 where
+  pub same_length : length ids ≡ length rings
+  pub ids_rise : IsStrictlyIncreasing ids
+  pub tiles : IsTiling (numbered_rows ids rings) city
+
+-- the most corners of a refined city: each edge is cut at most at all corners of the layer and the city
+abbrev pub most_refined : ℕ
+most_refined = RING_CORNERS * (LAYER_CORNERS + RING_CORNERS + 1)
+
+-- so few corners that their edges can be counted
+pub record AreFewCorners (rings : List (List Corner)) (refined : List Corner) : Type 0 where
+  pub together : length (all_corners rings) ≤ LAYER_CORNERS
+  pub in_city : length refined ≤ most_refined

@@ -1,0 +1,46 @@
+ghost use Rattle.std.specs.Prelude.{◌≡◌, ◌≤◌, ◌+◌, length, ◌⊎◌, IfOk, IfErr, OnOk, List, ◌∷◌, []};
+ghost use Rattle.geo_exact.specs.declared.corner.Corner.{Corner};
+ghost use Rattle.edge_chains.specs.Counts.{AreNetOf};
+ghost use Rattle.fabric_core.specs.own.Lists.{corners_of_rings, AreFewCorners};
+ghost use Rattle.fabric_core.specs.declared.layer.LoadFault.TheVariants.{NoMemory};
+ghost use Rattle.fabric_core.specs.own.Checks.{HaveEqualNets, IsNetsFault};
+
+use crate::layer::LoadFault;
+use edge_chains::EdgeSum;
+use geo_exact::Corner;
+use ring_core::Ring;
+use std::alloc::{AllocError, Allocator};
+
+/// The net numbers of the rings, less those of the city's.
+fn net_numbers<A: Allocator + Copy>(
+    alloc: A,
+    rings: &[Ring<A>],
+    refined: &[Corner],
+) -> Result<EdgeSum<A>, AllocError>
+    requires { AreFewCorners (corners_of_rings rings.now) refined.now }
+    ensures { IfOk result (λ sum. AreNetOf sum (corners_of_rings rings.now) (refined.now ∷ [])) }
+{
+    let mut sum = EdgeSum::new(alloc);
+    for ring in rings {
+        sum.add(ring.corners.as_slice())?;
+    }
+    sum.take(refined)?;
+    Ok(sum)
+}
+
+/// Refuses rings that do not have each edge as often as the city, with the least such edge and how much oftener they have it.
+pub(crate) fn check_nets<A: Allocator + Copy>(
+    alloc: A,
+    rings: &[Ring<A>],
+    refined: &[Corner],
+) -> Result<(), LoadFault>
+    requires { AreFewCorners (corners_of_rings rings.now) refined.now }
+    ensures ok { OnOk result (HaveEqualNets (corners_of_rings rings.now) refined.now) }
+    ensures err { IfErr result (λ fault. IsNetsFault (corners_of_rings rings.now) refined.now fault ⊎ (fault ≡ NoMemory)) }
+{
+    let sum = net_numbers(alloc, rings, refined)?;
+    match sum.first_unbalanced() {
+        None => Ok(()),
+        Some((a, b, net)) => Err(LoadFault::Gap(a, b, net)),
+    }
+}

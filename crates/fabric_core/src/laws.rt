@@ -1,0 +1,50 @@
+ghost use Rattle.std.specs.Prelude.{◌≡◌, ◌≢◌, ◌↔◌, pos, List, ◌∷◌, [], ◌++◌};
+ghost use Rattle.std.specs.List.{AllByRecursion};
+ghost use Rattle.geo_exact.specs.declared.corner.Corner.{Corner};
+ghost use Rattle.geo_exact.specs.Point.{Point};
+ghost use Rattle.geo_exact.specs.Turn.{IsOnRing};
+ghost use Rattle.geo_exact.specs.Winding.{winding};
+ghost use Rattle.geo_exact.specs.Area.{area2};
+ghost use Rattle.geo_exact.specs.Layers.{NumberedRing};
+ghost use Rattle.ring_core.specs.declared.triangle.Tri.{Tri};
+ghost use Rattle.ring_core.specs.Sums.{MakeUp};
+ghost use Rattle.edge_chains.specs.Net.{net_count};
+ghost use Rattle.edge_chains.specs.Noding.{IsNoded, AreFullyNoded};
+ghost use Rattle.edge_chains.specs.Jump.{net_difference};
+ghost use Rattle.fabric_core.specs.Tiling.{corner_lists, IsTiling, IsWoundAtMostOnce};
+ghost use Rattle.fabric_core.specs.Rows.{AreRefined, IsUntiledBeside};
+
+/// Rows that are made up of counterclockwise triangles, and have the net edges of a city that goes round no place twice, tile the
+/// city. The city's edges may be noded.
+///
+/// Each row's winding number is the sum of its triangles', so it is not negative. All together they are the city's, which is 0 or 1.
+/// So where it is 1 exactly one row has 1, and where it is 0 none has.
+pub fn rows_with_the_nets_of_a_city_tile_it()
+    ensures { (rows : List NumberedRing) (city corners refined : List Corner)
+        → AllByRecursion (λ row. (ts : List Tri) × MakeUp ts row.corners) rows
+        → ((p : Point) → IsWoundAtMostOnce p city)
+        → IsNoded city corners refined
+        → ((a b : Corner) → net_count (corner_lists rows) a b ≡ net_count (refined ∷ []) a b)
+        → IsTiling rows city }
+{}
+
+/// An edge whose net number is not the city's is no false alarm: where no corner lies strictly inside an edge, the rows do not tile
+/// the city. Of two points beside that edge, one has a sum of winding numbers that is not the city's.
+pub fn an_unbalanced_edge_is_no_tiling()
+    ensures beside { (rows : List NumberedRing) (city corners refined : List Corner) (a b : Corner)
+        → IsNoded city corners refined → AreFullyNoded (corner_lists rows ++ refined ∷ [])
+        → net_difference (corner_lists rows) (refined ∷ []) a b ≢ pos 0
+        → IsUntiledBeside rows city refined a b }
+    ensures no_tiling { (rows : List NumberedRing) (city refined : List Corner) (a b : Corner)
+        → IsUntiledBeside rows city refined a b → ¬ IsTiling rows city }
+{}
+
+/// A city keeps its ground when it is refined: its winding number round every rational point, its boundary and its area.
+pub fn a_refined_city_keeps_its_ground()
+    ensures windings { (records rows : List NumberedRing) (city refined : List Corner) (p : Point)
+        → AreRefined records city rows refined → winding p refined ≡ winding p city }
+    ensures boundary { (records rows : List NumberedRing) (city refined : List Corner) (p : Point)
+        → AreRefined records city rows refined → IsOnRing p refined ↔ IsOnRing p city }
+    ensures area { (records rows : List NumberedRing) (city refined : List Corner)
+        → AreRefined records city rows refined → area2 refined ≡ area2 city }
+{}

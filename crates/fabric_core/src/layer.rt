@@ -1,0 +1,227 @@
+ghost use Rattle.std.specs.Prelude.{◌≡◌, ◌≢◌, ◌⊎◌, ◌≤◌, ℤ, length, List, IfOk, IfErr, IsErrOf, IsErrAnd, MatchResult, MatchOption};
+ghost use Rattle.std.specs.List.{Contains};
+ghost use Rattle.std.specs.List.Sorted.{IsStrictlyIncreasing};
+ghost use Rattle.geo_exact.specs.declared.corner.Corner.{Corner};
+ghost use Rattle.geo_exact.specs.Layers.{NumberedRing, numbered, rings_of, corner_count, NumbersRise};
+ghost use Rattle.geo_exact.specs.declared.limits.TheConstants.{LAYER_CORNERS, LAYER_RECORDS};
+ghost use Rattle.fabric_core.specs.declared.layer.LoadFault.{LoadFault};
+ghost use Rattle.fabric_core.specs.declared.layer.LoadFault.TheVariants.{Gap, NoMemory};
+ghost use Rattle.fabric_core.specs.Tiling.{IsTiling};
+ghost use Rattle.fabric_core.specs.Rows.{AreRefined, numbers, IsUntiledBeside};
+ghost use Rattle.fabric_core.specs.Limits.{AreWithinLimits};
+ghost use Rattle.fabric_core.specs.Faults.{AreSimple, IsFirstFault, IsLoadFault};
+ghost use Rattle.fabric_core.specs.own.Checks.{HaveNoFault, IsRefinedCity};
+ghost use Rattle.fabric_core.specs.own.Lists.{numbered_rows};
+
+use crate::city::City;
+use crate::gaps::check_nets;
+use crate::limits::first_too_many;
+use crate::refine::{Refined, refine};
+use crate::rings::{checked, clip_all};
+use geo_exact::{Corner, Corners, RawRing};
+use ring_core::{Ring, RingFault, Shape};
+use std::alloc::{AllocError, AllocFailed, Allocator};
+use std::marker::Model;
+
+/// Why rings are no layer of a city: the first that applies, in this order.
+#[derive(Clone, Copy, Debug, PartialEq, Eq)]
+pub enum LoadFault {
+    /// H3: the first record whose noded ring has more than 4,096 corners, or with the rings before it more than 1,000,000.
+    TooMany(u32),
+    /// H1: the first record whose noded ring, begun at its least corner, is no simple ring.
+    Ring(u32, RingFault),
+    /// H2: the least edge, by its first corner and then by its second, that the rings do not have as often as the city: its two
+    /// corners in order, and how much oftener the rings have it, each edge counted less the edge back.
+    Gap(Corner, Corner, i64),
+    /// An allocation was refused.
+    NoMemory,
+}
+
+impl From<AllocError> for LoadFault {
+    ghost from_gives = { λ _ e. e ≡ NoMemory };
+
+    fn from(_: AllocError) -> LoadFault {
+        LoadFault::NoMemory
+    }
+}
+
+impl<T: Drop> From<AllocFailed<T>> for LoadFault {
+    ghost from_gives = { λ _ e. e ≡ NoMemory };
+
+    fn from(_: AllocFailed<T>) -> LoadFault {
+        LoadFault::NoMemory
+    }
+}
+
+/// A layer of parcels that tiles its city, exactly: off all edges each place of the city is in one parcel, and no other place is in
+/// any. Contracts see its rows (each parcel's ring under its id, by ascending id), the city's ring as it was read, and that ring with
+/// the layer's corners in it.
+///
+/// Every corner of the layer and the city that lies inside an edge of a parcel or of the city is a corner of that ring, so that
+/// neighbours have whole edges in common. Each ring begins at its least corner. Corners are in whole centimetres; the memory is that of
+/// the heap that was lent.
+#[derive(Drop)]
+pub struct Layer<'a, H: Allocator> {
+    city: Corners<&'a H>,
+    refined: Corners<&'a H>,
+    ids: Vec<u64, &'a H>,
+    shapes: Vec<Shape<&'a H>, &'a H>,
+}
+
+impl<'a, H: Allocator> Model for Layer<'a, H> {
+    ghost use Rattle.fabric_core.specs.Rows.{Tiles};
+    ghost use Rattle.fabric_core.specs.own.Lists.{numbered_rows, corners_of_shapes, IsLayer};
+
+    ghost Value = { Tiles };
+
+    ghost view = { λ layer. record {
+      rows = numbered_rows layer.ids.items (corners_of_shapes layer.shapes.items);
+      city = layer.city;
+      refined = layer.refined;
+    } };
+
+    ghost invariant = { λ layer. IsLayer layer.ids.items (corners_of_shapes layer.shapes.items) layer.city };
+}
+
+impl<'a, H: Allocator> Layer<'a, H> {
+    /// The layer of the rings of a layer file, in a city. All rings and the city's are noded for all corners of all of them first; each
+    /// is then begun at its least corner. The rings are dropped on a fault.
+    ///
+    /// The time grows with the number of all corners (times its logarithm), and with the square of the number of corners of each ring.
+    ///
+    /// # Errors
+    ///
+    /// The first of these that applies: [`LoadFault::TooMany`] (H3), [`LoadFault::Ring`] (H1), [`LoadFault::Gap`] (H2); and
+    /// [`LoadFault::NoMemory`] where an allocation is refused. No tiling is refused by H2.
+    pub fn load(
+        heap: &'a H,
+        city: &City<'a, H>,
+        records: Vec<RawRing<&'a H>, &'a H>,
+    ) -> Result<Layer<'a, H>, LoadFault>
+        requires numbers { NumbersRise 0 LAYER_RECORDS (rings_of records.items) }
+        requires corners { corner_count (rings_of records.items) ≤ LAYER_CORNERS }
+        // The rows are all records' rings, noded for all corners, under the record numbers.
+        ensures rows { IfOk result (λ layer. AreRefined (rings_of records.entry.items) city.now.ring.corners layer.rows layer.refined) }
+        ensures city { IfOk result (λ layer. layer.city ≡ city.now.ring.corners) }
+        ensures tiling { IfOk result (λ layer. IsTiling layer.rows city.now.ring.corners) }
+        // A fault that is answered is the first of the layer, and a layer with a first fault is refused by it, unless memory runs out.
+        ensures fault { IfErr result (λ fault. IsLoadFault (rings_of records.entry.items) city.now.ring.corners fault
+            ⊎ (fault ≡ NoMemory)) }
+        ensures refuses { (fault : LoadFault) → IsLoadFault (rings_of records.entry.items) city.now.ring.corners fault
+            → IsErrAnd result (λ e. (e ≡ fault) ⊎ (e ≡ NoMemory)) }
+        // No tiling is refused: simple rings within the limits that tile the city are loaded, unless memory runs out.
+        ensures loads { (rows : List NumberedRing) (refined : List Corner)
+            → AreRefined (rings_of records.entry.items) city.now.ring.corners rows refined
+            → AreWithinLimits rows → AreSimple rows → IsTiling rows city.now.ring.corners
+            → MatchResult result (λ layer. layer.rows ≡ rows) (λ e. e ≡ NoMemory) }
+        // Beside an edge that is told as a gap, the rows do not go round each place as often as the city.
+        ensures gap { (rows : List NumberedRing) (refined : List Corner) (a b : Corner) (net : ℤ)
+            → AreRefined (rings_of records.entry.items) city.now.ring.corners rows refined
+            → IsErrOf result (Gap a b net) → IsUntiledBeside rows city.now.ring.corners refined a b }
+    {
+        let refined = refine(heap, &city.ring.corners, records)?;
+        load_refined(heap, refined)
+    }
+
+    /// The rows tile the city.
+    pub fn tiles(&self)
+        ensures { IsTiling self.now.rows self.now.city }
+    {
+        let _ = &self.city;
+    }
+
+    /// The parcels' ids, ascending.
+    pub fn ids(&self) -> &[u64]
+        ensures ids { result.now ≡ numbers self.now.rows }
+        ensures ascending { IsStrictlyIncreasing result.now }
+    {
+        self.ids.as_slice()
+    }
+
+    /// The ring of a parcel, begun at its least corner; `None` where the id is no parcel's. It takes time that grows with the
+    /// logarithm of the number of parcels.
+    pub fn ring(&self, id: u64) -> Option<&Ring<&'a H>>
+        ensures { MatchOption result
+            ((row : NumberedRing) → Contains self.now.rows row → row.number ≢ id)
+            (λ ring. Contains self.now.rows (numbered id ring.now.corners)) }
+    {
+        let shape = self.shape(id)?;
+        Some(&shape.ring)
+    }
+
+    /// The shape of a parcel, which is its ring with the triangles that it is clipped to; `None` where the id is no parcel's. It takes
+    /// time that grows with the logarithm of the number of parcels.
+    pub fn shape(&self, id: u64) -> Option<&Shape<&'a H>>
+        ensures { MatchOption result
+            ((row : NumberedRing) → Contains self.now.rows row → row.number ≢ id)
+            (λ shape. Contains self.now.rows (numbered id shape.now.ring.corners)) }
+    {
+        match self.ids.as_slice().binary_search(&id) {
+            Ok(place) => Some(&self.shapes[place]),
+            Err(_) => None,
+        }
+    }
+
+    /// The city's ring, with the corners that were read, begun at its least corner.
+    pub fn city(&self) -> &[Corner]
+        ensures { result.now ≡ self.now.city }
+    {
+        self.city.as_slice()
+    }
+
+    /// The city's ring with all corners of the layer in it that lie inside its edges.
+    pub fn refined(&self) -> &[Corner]
+        ensures { result.now ≡ self.now.refined }
+    {
+        self.refined.as_slice()
+    }
+}
+
+/// The layer of rings that are noded and begun at their least corners, in a city that is refined.
+fn load_refined<'a, H: Allocator>(
+    heap: &'a H,
+    refined: Refined<&'a H>,
+) -> Result<Layer<'a, H>, LoadFault>
+    requires numbered { length refined.numbers.items ≡ length refined.rings.items }
+    requires rising { IsStrictlyIncreasing refined.numbers.items }
+    requires city { IsRefinedCity refined.city refined.refined }
+    ensures rows { IfOk result (λ layer. layer.rows ≡ numbered_rows refined.entry.numbers.items refined.entry.rings.items) }
+    ensures city { IfOk result (λ layer. layer.city ≡ refined.entry.city) }
+    ensures refined { IfOk result (λ layer. layer.refined ≡ refined.entry.refined) }
+    ensures no_fault { IfOk result (λ layer. HaveNoFault layer.rows layer.refined) }
+    ensures tiling { IfOk result (λ layer. IsTiling layer.rows layer.city) }
+    ensures fault { IfErr result (λ fault.
+        IsFirstFault (numbered_rows refined.entry.numbers.items refined.entry.rings.items) refined.entry.refined fault
+        ⊎ (fault ≡ NoMemory)) }
+{
+    let Refined {
+        numbers,
+        rings,
+        city,
+        refined,
+    } = refined;
+    if let Some(record) = first_too_many(&numbers, &rings) {
+        return Err(LoadFault::TooMany(record));
+    }
+    let rings = checked(heap, &numbers, rings)?;
+    check_nets(heap, &rings, refined.as_slice())?;
+    let shapes = clip_all(heap, rings)?;
+    let ids = ids_of(heap, &numbers)?;
+    Ok(Layer {
+        city,
+        refined,
+        ids,
+        shapes,
+    })
+}
+
+/// The records' numbers as ids.
+fn ids_of<A: Allocator + Copy>(alloc: A, numbers: &[u32]) -> Result<Vec<u64, A>, AllocError>
+    ensures { IfOk result (λ ids. ids.items ≡ numbers.now) }
+{
+    let mut ids = Vec::with_capacity(alloc, numbers.len())?;
+    for number in numbers {
+        ids.push(u64::from(*number))?;
+    }
+    Ok(ids)
+}

@@ -1,0 +1,18 @@
+//! The fabric of a city's parcels: a layer that tiles its city exactly, with no tolerance.
+#![tactic(auto)]
+
+mod city;
+mod gaps;
+mod laws;
+mod layer;
+mod limits;
+mod refine;
+mod rings;
+mod shaping;
+
+pub use city::{City, CityFault};
+pub use laws::{
+    a_refined_city_keeps_its_ground, an_unbalanced_edge_is_no_tiling,
+    rows_with_the_nets_of_a_city_tile_it,
+};
+pub use layer::{Layer, LoadFault};
