@@ -1,0 +1,90 @@
+"""Files for the runs, made by a recipe of words.
+
+The first word is a file of examples/ or says what is made:
+    polygon X,Y X,Y .. / ..  a main file of polygons with these points, the first not repeated; `null` is a null shape
+    squares N                a main file of N squares with sides of 100
+    nulls N                  a main file of N null shapes
+    index PLACE,LENGTH ..    an index file with these records, in words of 16 bits
+    folder                   no file, but a folder
+Then follow changes, from left to right:
+    cut N                    only the first N bytes
+    put PLACE HEX            these bytes from this place on
+    long N                   zeros behind it, up to N bytes in all
+"""
+
+import os
+import struct
+
+EXAMPLES = os.path.join(os.path.dirname(__file__), "..", "examples")
+
+
+def header(content, shape_type=5):
+    words = (100 + len(content)) // 2
+    return struct.pack(">7i", 9994, 0, 0, 0, 0, 0, words) + struct.pack("<2i8d", 1000, shape_type, *[0.0] * 8)
+
+
+def record(number, content):
+    return struct.pack(">2i", number, len(content) // 2) + content
+
+
+def polygon(points):
+    content = struct.pack("<i4d3i", 5, 0, 0, 0, 0, 1, len(points), 0)
+    return content + b"".join(struct.pack("<2d", x, y) for x, y in points)
+
+
+def main_file(contents):
+    records = b"".join(record(number, content) for number, content in enumerate(contents, 1))
+    return header(records) + records
+
+
+def pairs(words):
+    return [tuple(float(part) for part in word.split(",")) for word in words]
+
+
+def shape(words):
+    if words == ["null"]:
+        return struct.pack("<i", 0)
+    points = pairs(words)
+    return polygon(points + points[:1])
+
+
+def begun(kind, words):
+    """The file before its changes."""
+    if kind == "polygon":
+        return main_file([shape(part.split()) for part in " ".join(words).split("/")])
+    if kind == "squares":
+        square = polygon([(0, 0), (0, 100), (100, 100), (100, 0), (0, 0)])
+        return main_file([square] * int(words[0]))
+    if kind == "nulls":
+        return main_file([struct.pack("<i", 0)] * int(words[0]))
+    if kind == "index":
+        entries = b"".join(struct.pack(">2i", *(int(part) for part in word.split(","))) for word in words)
+        return header(entries) + entries
+    with open(os.path.join(EXAMPLES, kind), "rb") as file:
+        return file.read()
+
+
+CHANGES = ("cut", "put", "long")
+
+
+def make(path, recipe):
+    """Makes the file at the path, as the recipe says."""
+    words = recipe.split()
+    if words == ["folder"]:
+        os.mkdir(path)
+        return
+    first = next((at for at, word in enumerate(words) if word in CHANGES), len(words))
+    data, size, rest = begun(words[0], words[1:first]), None, words[first:]
+    while rest:
+        change, number, *rest = rest
+        if change == "cut":
+            data = data[: int(number)]
+        elif change == "long":
+            size = int(number)
+        else:
+            at, new, *rest = int(number), bytes.fromhex(rest[0]), *rest[1:]
+            data = data[:at] + new + data[at + len(new) :]
+    with open(path, "wb") as file:
+        file.write(data)
+        if size is not None:
+            file.truncate(size)

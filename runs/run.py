@@ -1,0 +1,140 @@
+#!/usr/bin/env python3
+"""Runs the built program on each row of the tables beside this script, and compares what it writes and its status.
+
+    runs/run.py [PROGRAM ..]
+
+With no word it takes the programs that `rt ci` leaves, one by each compiler. A table has rows such as
+
+    == A layer without an index
+    + square.shp: square.shp
+    $ area square.shp --unit cm
+    > 1 20000
+
++ NAME: RECIPE        a file in the row's empty folder; layers.py has the recipes
+$ WORDS               the command line, in which \\xFF is a byte
+> TEXT, 2> TEXT       a line of standard output, of standard error; all lines that must come
+>* FIRST LAST TEXT    a line TEXT for each number, which stands for {}
+[N]                   the status, 0 where it is left out
+! HOW                 standard output is `closed` or `full`, standard error is `silent` (closed), or there are `N MiB` of memory
+# ..                  a comment
+"""
+
+import os
+import re
+import resource
+import shlex
+import subprocess
+import sys
+import tempfile
+
+sys.dont_write_bytecode = True
+import layers  # noqa: E402
+
+HERE = os.path.dirname(os.path.abspath(__file__))
+BUILT = os.path.join(HERE, "..", "crates", "parcel_tool", "out", "parcel_tool")
+SECONDS = 60
+
+
+class Row:
+    def __init__(self, title):
+        self.title, self.files, self.words, self.how = title, [], None, []
+        self.stdout, self.stderr, self.status = [], [], 0
+
+
+def rows_of(path):
+    """The rows of a table."""
+    rows = []
+    with open(path, encoding="utf-8") as table:
+        for number, line in enumerate(table, 1):
+            mark, _, text = line.rstrip("\n").partition(" ")
+            if not mark or mark == "#":
+                continue
+            if mark == "==":
+                rows.append(Row(text))
+            elif mark == "+":
+                rows[-1].files.append(text.split(": ", 1))
+            elif mark == "$":
+                rows[-1].words = [plain(word) for word in shlex.split(text.replace("\\", "\\\\"))]
+            elif mark == "!":
+                rows[-1].how.append(text)
+            elif mark == ">":
+                rows[-1].stdout.append(text)
+            elif mark == ">*":
+                first, last, each = text.split(" ", 2)
+                rows[-1].stdout += [each.replace("{}", str(it)) for it in range(int(first), int(last) + 1)]
+            elif mark == "2>":
+                rows[-1].stderr.append(text)
+            elif re.fullmatch(r"\[[0-9]+\]", mark):
+                rows[-1].status = int(mark[1:-1])
+            else:
+                sys.exit(f"{path}:{number}: this line begins with no mark of a table")
+    return rows
+
+
+def plain(word):
+    """The bytes of a word, in which \\xFF is a byte."""
+    return re.sub(rb"\\x([0-9A-Fa-f]{2})", lambda it: bytes.fromhex(it[1].decode()), word.encode())
+
+
+def begin(how):
+    """Closes or limits what a row asks for, in the new process."""
+    for it in how:
+        if it == "closed":
+            os.close(1)
+        elif it == "silent":
+            os.close(2)
+        elif it.endswith(" MiB"):
+            most = int(it.split()[0]) << 20
+            resource.setrlimit(resource.RLIMIT_AS, (most, most))
+
+
+def text_of(lines):
+    return "".join(line + "\n" for line in lines).encode()
+
+
+def run(program, row):
+    """What is wrong with a row's run, nothing where all is as it must be."""
+    with tempfile.TemporaryDirectory(prefix="run-") as room:
+        for name, recipe in row.files:
+            layers.make(os.path.join(room, name), recipe)
+        full = open("/dev/full", "wb") if "full" in row.how else None
+        try:
+            ran = subprocess.run([program.encode(), *row.words], cwd=room, stdin=subprocess.DEVNULL, timeout=SECONDS,
+                                 stdout=full or subprocess.PIPE, stderr=subprocess.PIPE, preexec_fn=lambda: begin(row.how))
+        except subprocess.TimeoutExpired:
+            return [f"it ran for more than {SECONDS} seconds"]
+        finally:
+            if full:
+                full.close()
+    wrong = []
+    streams = [("standard output", ran.stdout or b"", row.stdout), ("standard error", ran.stderr, row.stderr)]
+    for what, came, wanted in [(what, came, text_of(lines)) for what, came, lines in streams]:
+        if came != wanted:
+            wrong.append(f"{what} has {came[:400]!r} and not {wanted[:400]!r}")
+    if ran.returncode != row.status:
+        wrong.append(f"the status is {ran.returncode} and not {row.status}")
+    return wrong
+
+
+def main():
+    built = [it for it in (BUILT, BUILT + ".by-rattle") if os.path.isfile(it)]
+    programs = [os.path.abspath(it) for it in sys.argv[1:]] or built
+    if not programs:
+        sys.exit("no program is built: rt ci builds it, or rt run in crates/parcel_tool")
+    tables = sorted(it for it in os.listdir(HERE) if it.endswith(".table"))
+    rows = [(table, row) for table in tables for row in rows_of(os.path.join(HERE, table))]
+    any_failed = not rows
+    for program in programs:
+        name, failed = os.path.basename(program), 0
+        for table, row in rows:
+            wrong = run(program, row)
+            failed += bool(wrong)
+            for it in wrong:
+                print(f"runs/{table}: {row.title}: {it}")
+        print(f"runs of {name}: {len(rows) - failed} passed, {failed} failed")
+        any_failed |= failed > 0
+    sys.exit(1 if any_failed else 0)
+
+
+if __name__ == "__main__":
+    main()

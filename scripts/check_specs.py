@@ -1,0 +1,90 @@
+#!/usr/bin/env python3
+"""Fails where a public contract cites a word of the code's own (crates/NAME/specs/own), and counts the lines of
+definitions: those that a reader has to believe, and the code's own.
+
+A contract is public where its function is `pub` and can be reached from the crate's `lib.rt`: it is named in a
+`pub use` there, or is a method of a type that is. A definition beside the own folder may cite nothing of it either.
+"""
+import re
+import sys
+from pathlib import Path
+
+ROOT = Path(__file__).resolve().parent.parent
+CLAUSE = re.compile(r"\s*(ensures|requires|ghost)\b")
+FUNCTION = re.compile(r"(\s*)(pub(\([a-z]+\))?\s+)?(unsafe\s+|const\s+)*fn\s+(\w+)")
+OWNER = re.compile(r"(impl|trait|pub trait|pub struct|pub enum|struct|enum)\b(.*)")
+
+
+def words_of_own(text):
+    """The names that a file imports from an own folder, as it calls them."""
+    words = set()
+    for names in re.findall(r"use Rattle\.\w+\.specs\.own(?:\.\w+)*\.\{([^}]*)\}", text):
+        for name in names.split(","):
+            if name.strip():
+                words.add(name.split(" as ")[-1].strip().strip("◌"))
+    return words
+
+
+def public_names(crate):
+    """What the crate's root hands out."""
+    root = crate / "src/lib.rt"
+    if not root.exists():
+        return set()
+    names = set()
+    for tree in re.findall(r"pub use ([^;]*);", root.read_text()):
+        names.update(re.findall(r"\w+", tree.split("::", 1)[-1]))
+    return names
+
+
+def cited(text, words):
+    return sorted(w for w in words if re.search(rf"(?<![\w.]){re.escape(w)}(?![\w-])", text))
+
+
+def check_code(crate, path, public):
+    """The faults of one source file: public clauses and public types' ghost facts that cite the code's own words."""
+    text = path.read_text()
+    words = words_of_own(text)
+    faults = []
+    owner, of_trait, is_public, name = "", False, False, ""
+    for number, line in enumerate(text.split("\n"), 1):
+        top = OWNER.match(line)
+        if top:
+            named = re.findall(r"\w+", re.sub(r"<[^<>]*(<[^<>]*>)?[^<>]*>", " ", top.group(2)))
+            owner = named[-1] if named else ""
+            of_trait = " for " in line and "Model for" not in line
+            is_public = owner in public and not line.startswith("impl")
+            name = owner
+        elif line.startswith("}"):
+            owner, of_trait, is_public = "", False, False
+        function = FUNCTION.match(line)
+        if function:
+            name = function.group(5)
+            handed_out = function.group(2) and not function.group(3)
+            is_public = bool(handed_out or of_trait) and (owner in public if function.group(1) else name in public)
+        if is_public and words and not line.lstrip().startswith(("//", "ghost use")):
+            in_clause = CLAUSE.match(line) or "{ " in line or "→" in line or "λ" in line or "pub ghost" in line
+            for word in cited(line, words) if in_clause else []:
+                faults.append(f"{path.relative_to(ROOT)}:{number}: `{name}` cites `{word}` of the code's own words")
+    return faults
+
+
+def main():
+    believed = own = 0
+    faults = []
+    for crate in sorted((ROOT / "crates").iterdir()):
+        public = public_names(crate)
+        for path in sorted(crate.glob("src/**/*.rt")):
+            faults += check_code(crate, path, public)
+        for path in sorted(crate.glob("specs/**/*.antt")):
+            lines = len(path.read_text().splitlines())
+            inside = path.relative_to(crate / "specs").parts[0] in ("own", "own.antt")
+            own, believed = own + lines * inside, believed + lines * (not inside)
+            if not inside and words_of_own(path.read_text()):
+                faults.append(f"{path.relative_to(ROOT)}: a definition to believe cites the code's own words")
+    print(f"lines of definitions: {believed} to believe, {own} of the code's own")
+    for fault in faults:
+        print(fault)
+    sys.exit(1 if faults else 0)
+
+
+main()
