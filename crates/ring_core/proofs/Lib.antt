@@ -20,3 +20,5 @@ pub mod Diagonals
 pub mod StillLeft
 pub mod PartsOfRings
 pub mod EarWords
+pub mod Renumbered
+pub mod BegunElsewhere

@@ -50,7 +50,7 @@ module _ (part ring : List Corner) (number : ℕ → ℕ) (g : ℕ) (h : IsPart 
         subst (IsPlaceOf q) (sym (h.corners i bi)) s.1,
       )
 
-  part_simple : MeetOnlyAsNeighbours part
+  pub part_simple : MeetOnlyAsNeighbours part
   part_simple i j o b m =
       ⊎_elim
       (λ e. free j b (λ f. absurd (let s : i ≡ j = e ∙ sym f in omega arith)) (subst (λ z. z < length part) e (omega arith)) m.0
