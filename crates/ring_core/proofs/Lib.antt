@@ -22,3 +22,5 @@ pub mod PartsOfRings
 pub mod EarWords
 pub mod Renumbered
 pub mod BegunElsewhere
+pub mod WithoutCorner
+pub mod TurnedRound
