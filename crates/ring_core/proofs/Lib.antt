@@ -24,3 +24,4 @@ pub mod Renumbered
 pub mod BegunElsewhere
 pub mod WithoutCorner
 pub mod TurnedRound
+pub mod LeastCorners

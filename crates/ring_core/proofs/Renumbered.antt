@@ -66,6 +66,25 @@ pub same_number : (other ring : List Corner) (to back : ℕ → ℕ) → AreSame
     → (i j : ℕ) → i < length ring → j < length ring → to i ≡ to j → i ≡ j
 same_number other ring to back h i j bi bj e = sym (h.and_back i bi) ∙ ap back e ∙ h.and_back j bj
 
+-- corner v comes before all the others
+pub record IsLeast (ring : List Corner) (v : ℕ) : Type 0 where
+  pub below : v < length ring
+  pub least : (i : ℕ) → i < length ring → i ≢ v → IsTrue (is_before (corner_at ring v) (corner_at ring i))
+
+pub is_least_there : (other ring : List Corner) (to back : ℕ → ℕ) → AreSameCorners other ring to back → (v : ℕ)
+    → IsLeast other v → IsLeast ring (to v)
+is_least_there other ring to back h v l =
+    let b : v < length ring = subst (λ n. v < n) h.as_many l.below in
+    record {
+      below = h.inside v b;
+      least = λ i c off.
+          let d : back i < length ring = h.back_inside i c in
+          subst (λ z. IsTrue (is_before z (corner_at ring i))) (h.corners v b)
+          (subst (λ z. IsTrue (is_before (corner_at other v) z)) (h.corners (back i) d ∙ ap (corner_at ring) (h.and_forth i c))
+          (l.least (back i) (subst (λ n. back i < n) (sym h.as_many) d)
+          (λ e. off (sym (h.and_forth i c) ∙ ap to e))));
+    }
+
 module _ (other ring : List Corner) (to back : ℕ → ℕ) (h : IsBegunElsewhere other ring to back) where
   precedes : (i : ℕ) → i < length ring → to (before (length ring) i) ≡ before (length ring) (to i)
   precedes i b = before_of_after (length ring) (to i) (to (before (length ring) i))
@@ -109,16 +128,11 @@ module _ (other ring : List Corner) (to back : ℕ → ℕ) (h : IsBegunElsewher
 
   pub least_there : (v : ℕ) → IsLeftAtLeast other v → IsLeftAtLeast ring (to v)
   least_there v l =
-      let b : v < length ring = subst (λ n. v < n) h.same.as_many l.below in
+      let m : IsLeast ring (to v) = is_least_there other ring to back h.same v (record { below = l.below; least = l.least }) in
       record {
-        below = h.same.inside v b;
-        least = λ i c off.
-            let d : back i < length ring = h.same.back_inside i c in
-            subst (λ z. IsTrue (is_before z (corner_at ring i))) (h.same.corners v b)
-            (subst (λ z. IsTrue (is_before (corner_at other v) z)) (h.same.corners (back i) d ∙ ap (corner_at ring) (h.same.and_forth i c))
-            (l.least (back i) (subst (λ n. back i < n) (sym h.same.as_many) d)
-            (λ e. off (sym (h.same.and_forth i c) ∙ ap to e))));
-        turns_left = left_there v b l.turns_left;
+        below = m.below;
+        least = m.least;
+        turns_left = left_there v (subst (λ n. v < n) h.same.as_many l.below) l.turns_left;
       }
 
   -- the edges of the ring meet only as neighbours, and so do those of `other`
