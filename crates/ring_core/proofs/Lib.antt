@@ -25,3 +25,5 @@ pub mod BegunElsewhere
 pub mod WithoutCorner
 pub mod TurnedRound
 pub mod LeastCorners
+pub mod PutBack
+pub mod EarOffEdge

@@ -7,6 +7,7 @@ use Rattle.geo_exact.specs.declared.corner.Corner.{Corner}
 use Rattle.geo_exact.specs.Places.{corner_at, after, before}
 use Rattle.ring_core.specs.Clipping.{previous, next}
 use Rattle.ring_core.specs.own.Kinds.{number_before}
+use Rattle.ring_core.proofs.RoundNumbers.{before_in, before_other}
 use Rattle.ring_core.proofs.TakenOut.{corner_kept}
 use Rattle.ring_core.proofs.ClipSteps.{one_less}
 use Rattle.ring_core.proofs.LeftSimple.{number_kept, number_over, number_in}
@@ -46,13 +47,22 @@ module _ (ring : List Corner) (k : ℕ) (below : k < length ring) where
   pub corner_left : (i : ℕ) → i ≢ k → corner_at (remove ring k) (number_left k i) ≡ corner_at ring i
   corner_left i off = corner_kept ring k (number_left k i) below ∙ ap (corner_at ring) (before_left k i off)
 
-  -- its neighbours, away from the gap and beside it
+  -- the numbers of its neighbours, and they, away from the gap and beside it
+  pub number_next : (i : ℕ) → i < length ring → i ≢ k → i ≢ before (length ring) k
+      → number_before k (after (length (remove ring k)) (number_left k i)) ≡ after (length ring) i
+  number_next i b off far =
+      number_kept (length (remove ring k)) (length ring) k (number_left k i) one_fewer (left_within i b off) below
+      (λ e. far (sym (before_left k i off) ∙ e)) ∙ ap (after (length ring)) (before_left k i off)
+
+  pub number_previous : (i : ℕ) → i < length ring → i ≢ k → i ≢ after (length ring) k
+      → number_before k (before (length (remove ring k)) (number_left k i)) ≡ before (length ring) i
+  number_previous i b off far =
+      number_back (length (remove ring k)) (length ring) k (number_left k i) one_fewer (left_within i b off) below
+      (λ e. far (sym (before_left k i off) ∙ e)) ∙ ap (before (length ring)) (before_left k i off)
+
   pub next_kept : (i : ℕ) → i < length ring → i ≢ k → i ≢ before (length ring) k → next (remove ring k) (number_left k i) ≡ next ring i
   next_kept i b off far =
-      corner_kept ring k (after (length (remove ring k)) (number_left k i)) below
-      ∙ ap (corner_at ring)
-      (number_kept (length (remove ring k)) (length ring) k (number_left k i) one_fewer (left_within i b off) below
-      (λ e. far (sym (before_left k i off) ∙ e)) ∙ ap (after (length ring)) (before_left k i off))
+      corner_kept ring k (after (length (remove ring k)) (number_left k i)) below ∙ ap (corner_at ring) (number_next i b off far)
 
   pub next_over : (i : ℕ) → 2 < length ring → i < length ring → i ≢ k → i ≡ before (length ring) k
       → next (remove ring k) (number_left k i) ≡ next ring k
@@ -65,10 +75,7 @@ module _ (ring : List Corner) (k : ℕ) (below : k < length ring) where
   pub previous_kept : (i : ℕ) → i < length ring → i ≢ k → i ≢ after (length ring) k
       → previous (remove ring k) (number_left k i) ≡ previous ring i
   previous_kept i b off far =
-      corner_kept ring k (before (length (remove ring k)) (number_left k i)) below
-      ∙ ap (corner_at ring)
-      (number_back (length (remove ring k)) (length ring) k (number_left k i) one_fewer (left_within i b off) below
-      (λ e. far (sym (before_left k i off) ∙ e)) ∙ ap (before (length ring)) (before_left k i off))
+      corner_kept ring k (before (length (remove ring k)) (number_left k i)) below ∙ ap (corner_at ring) (number_previous i b off far)
 
   pub previous_over : (i : ℕ) → 2 < length ring → i < length ring → i ≢ k → i ≡ after (length ring) k
       → previous (remove ring k) (number_left k i) ≡ previous ring k
@@ -77,3 +84,14 @@ module _ (ring : List Corner) (k : ℕ) (below : k < length ring) where
       ∙ ap (corner_at ring)
       (number_back_over (length (remove ring k)) (length ring) k (number_left k i) one_fewer (left_within i b off) below
       (omega (arith, one_fewer)) (before_left k i off ∙ on))
+
+  -- the edge that closes the gap
+  pub gap_closes : 2 < length ring
+      → after (length (remove ring k)) (number_left k (before (length ring) k)) ≡ number_left k (after (length ring) k)
+  gap_closes big =
+      let off : before (length ring) k ≢ k = λ e. before_other (length ring) k big below (sym e) in
+      sym (left_before k (after (length (remove ring k)) (number_left k (before (length ring) k))))
+      ∙ ap (number_left k)
+      (number_over (length (remove ring k)) (length ring) k (number_left k (before (length ring) k)) one_fewer
+      (left_within (before (length ring) k) (before_in (length ring) k below) off) below
+      (omega (arith, one_fewer)) (before_left k (before (length ring) k) off))
