@@ -27,3 +27,5 @@ pub mod TurnedRound
 pub mod LeastCorners
 pub mod PutBack
 pub mod EarOffEdge
+pub mod FourCorners
+pub mod DirectionKept

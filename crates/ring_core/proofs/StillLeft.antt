@@ -115,7 +115,7 @@ before_before_not n v h i = grind (arith, nat_tests)
 module _ (ring : List Corner) (v : ℕ) (big : 3 < length ring) (below : v < length ring) (simple : MeetOnlyAsNeighbours ring)
     (left : pos 0 <ℤ turn (previous ring v) (corner_at ring v) (next ring v)) where
   -- the edge to v and the edge behind the next corner have no common point
-  sides_apart : (m : Point) → IsOnEdge m (previous ring v) (corner_at ring v) → IsOnEdge m (next ring v)
+  pub sides_apart : (m : Point) → IsOnEdge m (previous ring v) (corner_at ring v) → IsOnEdge m (next ring v)
       (next ring (after (length ring) v)) → ⊥
   sides_apart m i j =
       apart_meet ring simple (before (length ring) v) (after (length ring) v) (before_in (length ring) v below)
@@ -145,7 +145,7 @@ module _ (ring : List Corner) (v : ℕ) (big : 3 < length ring) (below : v < len
       sides_apart
 
   -- nor have the edge from v and the edge to the corner before
-  sides_apart_before : (m : Point) → IsOnEdge m (corner_at ring v) (next ring v)
+  pub sides_apart_before : (m : Point) → IsOnEdge m (corner_at ring v) (next ring v)
       → IsOnEdge m (previous ring (before (length ring) v)) (previous ring v) → ⊥
   sides_apart_before m i j =
       apart_meet ring simple v (before (length ring) (before (length ring) v)) below

@@ -120,10 +120,10 @@ module _ (other ring : List Corner) (to back : ℕ → ℕ) (h : IsTurnedRound o
 module _ (other ring : List Corner) (to back : ℕ → ℕ) (h : IsTurnedRound other ring to back) (k : ℕ) (below : k < length ring)
     (big : 2 < length ring) where
   -- the number that corner j of what is left of `other` has in what is left of the ring
-  abbrev to_left : ℕ → ℕ
+  abbrev pub to_left : ℕ → ℕ
   to_left j = number_left (to k) (to (number_before k j))
 
-  abbrev back_left : ℕ → ℕ
+  abbrev pub back_left : ℕ → ℕ
   back_left j = number_left k (back (number_before (to k) j))
 
   other_below : k < length other
@@ -216,10 +216,10 @@ turned_clipped_simple other ring to back h k big below simple x =
 abbrev pub number_round : ℕ → ℕ → ℕ
 number_round n i = if i == 0 then 0 else n - i
 
-round_in : (n i : ℕ) → i < n → number_round n i < n
+pub round_in : (n i : ℕ) → i < n → number_round n i < n
 round_in n i b = grind (arith, nat_tests)
 
-round_round : (n i : ℕ) → i < n → number_round n (number_round n i) ≡ i
+pub round_round : (n i : ℕ) → i < n → number_round n (number_round n i) ≡ i
 round_round n i b = grind (arith, nat_tests)
 
 round_after : (n i : ℕ) → i < n → number_round n (after n i) ≡ before n (number_round n i)

@@ -1,5 +1,6 @@
 -- A ring without one of its corners: the numbers of the other corners, and their neighbours.
-use Rattle.std.proofs.Common.{◌≡◌, ◌≢◌, ℕ, ◌+◌, ◌-◌, ◌<◌, ◌∙◌, sym, ap, refl, arith, if◌then◌else◌, List, length}
+use Rattle.std.proofs.Common.{◌≡◌, ◌≢◌, ℕ, zero, suc, ◌+◌, ◌-◌, ◌<◌, ◌∙◌, sym, ap, refl, arith, if◌then◌else◌}
+use Rattle.std.proofs.Common.{List, [], ◌∷◌, length}
 use Rattle.std.specs.Prelude.{nat_lt}
 use Rattle.std.specs.List.{remove}
 use Rattle.std.proofs.lemmas.Bool.Decides.{nat_tests}
@@ -95,3 +96,24 @@ module _ (ring : List Corner) (k : ℕ) (below : k < length ring) where
       (number_over (length (remove ring k)) (length ring) k (number_left k (before (length ring) k)) one_fewer
       (left_within (before (length ring) k) (before_in (length ring) k below) off) below
       (omega (arith, one_fewer)) (before_left k (before (length ring) k) off))
+
+-- two corners may be taken out in either order
+left_of_first : (j : ℕ) → number_left 0 (suc j) ≡ j
+left_of_first j = grind (arith, nat_tests)
+
+left_first : (j : ℕ) → number_left (suc j) 0 ≡ 0
+left_first j = grind (arith, nat_tests)
+
+left_next : (i j : ℕ) → i ≢ j → number_left (suc i) (suc j) ≡ suc (number_left i j)
+left_next i j h = grind (arith, nat_tests)
+
+pub remove_twice : {X : Type 0} (xs : List X) (i j : ℕ) → i < length xs → j < length xs → i ≢ j
+    → remove (remove xs i) (number_left i j) ≡ remove (remove xs j) (number_left j i)
+remove_twice [] i j bi bj off = absurd (omega arith)
+remove_twice (x ∷ xs) zero zero bi bj off = absurd (off refl)
+remove_twice (x ∷ xs) zero (suc j) bi bj off = ap (remove xs) (left_of_first j) ∙ sym (ap (remove (x ∷ remove xs j)) (left_first j))
+remove_twice (x ∷ xs) (suc i) zero bi bj off = ap (remove (x ∷ remove xs i)) (left_first i) ∙ sym (ap (remove xs) (left_of_first i))
+remove_twice (x ∷ xs) (suc i) (suc j) bi bj off =
+    ap (remove (x ∷ remove xs i)) (left_next i j (λ e. off (ap suc e)))
+    ∙ ap (λ rest. x ∷ rest) (remove_twice xs i j (omega arith) (omega arith) (λ e. off (ap suc e)))
+    ∙ sym (ap (remove (x ∷ remove xs j)) (left_next j i (λ e. off (ap suc (sym e)))))
