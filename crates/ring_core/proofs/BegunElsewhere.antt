@@ -4,7 +4,8 @@ use Rattle.std.proofs.Common.{List, length, take, drop}
 use Rattle.std.specs.Prelude.{nat_lt}
 use Rattle.std.proofs.lemmas.Bool.{cases_lt}
 use Rattle.std.proofs.lemmas.Bool.Decides.{nat_tests}
-use Rattle.std.proofs.lemmas.List.{get_or_append_left, get_or-append_right, get_or-take, get_or-drop, length-append, length-take-le, length-drop}
+use Rattle.std.proofs.lemmas.List.{get_or_append_left, get_or-append_right, get_or-take, get_or-drop}
+use Rattle.std.proofs.lemmas.List.{length-append, length-take-le, length-drop}
 use Rattle.geo_exact.specs.declared.corner.Corner.{Corner}
 use Rattle.geo_exact.specs.Rings.{begun_at}
 use Rattle.geo_exact.specs.Places.{corner_at, origin, after}
@@ -113,11 +114,13 @@ module _ (ring : List Corner) (k : ℕ) (h : k < length ring) where
   -- and by those that the corners of the ring have in the ring begun elsewhere
   pub flat_begun : (j : ℕ) → j < length ring → IsFlat ring j → IsFlat (begun_at k ring) (number_to (length ring) k j)
   flat_begun j b =
-      flat_there ring (begun_at k ring) (number_to (length ring) k) (number_from (length ring) k) (is_begun_back ring k h) j (inside_begun j b)
+      flat_there ring (begun_at k ring) (number_to (length ring) k) (number_from (length ring) k) (is_begun_back ring k h) j
+      (inside_begun j b)
 
   pub ear_begun : (j : ℕ) → j < length ring → IsEar ring j → IsEar (begun_at k ring) (number_to (length ring) k j)
   ear_begun j b =
-      ear_there ring (begun_at k ring) (number_to (length ring) k) (number_from (length ring) k) (is_begun_back ring k h) j (inside_begun j b)
+      ear_there ring (begun_at k ring) (number_to (length ring) k) (number_from (length ring) k) (is_begun_back ring k h) j
+      (inside_begun j b)
 
   pub flat_or_ear_begun : (j : ℕ) → j < length ring → IsFlatOrEar ring j → IsFlatOrEar (begun_at k ring) (number_to (length ring) k j)
   flat_or_ear_begun j b =

@@ -100,7 +100,7 @@ in_triangle_or q a b c =
     never : (t : ℤ) → t <ℤ pos 0 → pos 0 ≤ℤ t → ⊥
     never t h i = omega (arith, ints)
 
-blocks_or : (ring : List Corner) (k j : ℕ) → Blocks ring k j ⊎ (¬ Blocks ring k j)
+pub blocks_or : (ring : List Corner) (k j : ℕ) → Blocks ring k j ⊎ (¬ Blocks ring k j)
 blocks_or ring k j =
     ⊎_elim (λ e. inr (λ b. b.not_before e)) (λ p. ⊎_elim (λ e. inr (λ b. b.not_same e)) (λ q. ⊎_elim (λ e. inr (λ b. b.not_after e))
     (λ r. ⊎_elim (λ i. inl (record { not_before = p; not_same = q; not_after = r; is_inside = i })) (λ i. inr (λ b. i b.is_inside))

@@ -78,7 +78,8 @@ module _ (other ring : List Corner) (to back : ℕ → ℕ) (h : IsTurnedRound o
     not_following e =
         far.not_before (
         same_number other ring to back h.same (number_before w k) (before (length ring) w) was_below (before_in (length ring) w below)
-        (sym (after_before (length ring) there there_below) ∙ ap (after (length ring)) (sym e) ∙ sym (turns_back other ring to back h w below))
+        (sym (after_before (length ring) there there_below) ∙ ap (after (length ring)) (sym e)
+        ∙ sym (turns_back other ring to back h w below))
         ∙ ap (λ n. before n w) (sym h.same.as_many))
 
     not_preceding : to w ≢ after (length ring) there
@@ -112,7 +113,8 @@ module _ (other ring : List Corner) (to back : ℕ → ℕ) (h : IsTurnedRound o
     -- but turned round it keeps its direction too
     ear_at_least : IsFlatOrEar (remove other w) r → (u : ℕ) × IsLeftAtLeast (remove (remove other w) r) u
     ear_at_least (inl flat) =
-        absurd (positive_not_zero (turn (previous (remove other w) r) (corner_at (remove other w) r) (next (remove other w) r)) turned.turns_left
+        absurd (positive_not_zero (turn (previous (remove other w) r) (corner_at (remove other w) r) (next (remove other w) r))
+        turned.turns_left
         (straight (previous (remove other w) r) (next (remove other w) r) (corner_at (remove other w) r) flat))
       where
         straight : (p n c : Corner) → IsOnEdge (corner_point c) p n → turn p c n ≡ pos 0
@@ -122,7 +124,8 @@ module _ (other ring : List Corner) (to back : ℕ → ℕ) (h : IsTurnedRound o
     turned_out : (u : ℕ) × IsLeftAtLeast (remove (remove other w) k) u
     turned_out =
         ⊎_elim
-        (λ e. subst (λ z. (u : ℕ) × IsLeftAtLeast (remove (remove other w) z) u) (sym e) (ear_at_least (subst (IsFlatOrEar (remove other w)) e x)))
+        (λ e. subst (λ z. (u : ℕ) × IsLeftAtLeast (remove (remove other w) z) u) (sym e)
+        (ear_at_least (subst (IsFlatOrEar (remove other w)) e x)))
         (λ off. (number_left k r, stays_left (remove other w) r k (omega (arith, rest_length)) rest_simple turned b off x))
         (same_or k r)
 

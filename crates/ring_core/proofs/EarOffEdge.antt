@@ -24,7 +24,8 @@ ear_off_gap m ears ring g u below big e simple l =
     (λ f. before_other (length ring) g big below (sym f)) in
     subst (λ n. (k : ℕ) × (k < n) × (k ≢ number_left g (before (length ring) g))
     × (k ≢ after n (number_left g (before (length ring) g))) × IsFlatOrEar (remove ring g) k) (sym e)
-    (ears (remove ring g) u e simple l (number_left g (before (length ring) g)) (subst (λ n. number_left g (before (length ring) g) < n) e b))
+    (ears (remove ring g) u e simple l (number_left g (before (length ring) g))
+    (subst (λ n. number_left g (before (length ring) g) < n) e b))
 
 module _ (ring : List Corner) (v : ℕ) (big : 3 < length ring) (simple : MeetOnlyAsNeighbours ring) (l : IsLeftAtLeast ring v)
     (ear : IsEar ring v) (keep : KeepTheirDirection (length ring)) (ears : HaveEarsOff (length ring - 1)) where

@@ -72,7 +72,7 @@ module _ (v a o p : Corner) (left : pos 0 <ℤ turn p v a) (right : turn a o p <
 
 -- ---- a ring of four corners
 -- a triangle turns alike at its three corners
-turns_alike : (ring : List Corner) (i : ℕ) → length ring ≡ 3 → i < 3
+pub turns_alike : (ring : List Corner) (i : ℕ) → length ring ≡ 3 → i < 3
     → turn (previous ring i) (corner_at ring i) (next ring i) ≡ turn (previous ring 0) (corner_at ring 0) (next ring 0)
 turns_alike [] i e b = absurd (omega arith)
 turns_alike (a ∷ []) i e b = absurd (omega arith)

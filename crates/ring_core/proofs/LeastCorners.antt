@@ -87,7 +87,8 @@ least_among : (ring : List Corner) → AreApart ring → (m : ℕ) → m < lengt
     → (v : ℕ) × (v ≤ m) × ((i : ℕ) → i ≤ m → i ≢ v → IsBefore (corner_at ring v) (corner_at ring i))
 least_among ring h zero b = (0, omega arith, λ i c off. absurd (off (omega arith)))
 least_among ring h (suc m) b =
-    let x : (v : ℕ) × (v ≤ m) × ((i : ℕ) → i ≤ m → i ≢ v → IsBefore (corner_at ring v) (corner_at ring i)) = least_among ring h m (omega arith) in
+    let x : (v : ℕ) × (v ≤ m) × ((i : ℕ) → i ≤ m → i ≢ v → IsBefore (corner_at ring v) (corner_at ring i)) =
+    least_among ring h m (omega arith) in
     ⊎_elim
     (λ l. (
       x.0,
@@ -211,10 +212,12 @@ module _ (other ring : List Corner) (to back : ℕ → ℕ) (h : IsTurnedRound o
   pub not_both_left : (v w : ℕ) → IsLeftAtLeast other v → IsLeftAtLeast ring w → ⊥
   not_both_left v w l m =
       let b : v < length ring = subst (λ n. v < n) h.same.as_many l.below in
-      let e : to v ≡ w = one_least ring (to v) w (is_least_there other ring to back h.same v (least_of_left other v l)) (least_of_left ring w m) in
+      let e : to v ≡ w =
+      one_least ring (to v) w (is_least_there other ring to back h.same v (least_of_left other v l)) (least_of_left ring w m) in
       both_signs (turn (previous other v) (corner_at other v) (next other v))
       (turn (previous ring w) (corner_at ring w) (next ring w))
-      (subst (λ z. turn (previous other v) (corner_at other v) (next other v) ≡ neg_ℤ (turn (previous ring z) (corner_at ring z) (next ring z)))
+      (subst (λ z. turn (previous other v) (corner_at other v) (next other v)
+      ≡ neg_ℤ (turn (previous ring z) (corner_at ring z) (next ring z)))
       e (turn_there other ring to back h v b))
       l.turns_left m.turns_left
 
@@ -289,6 +292,6 @@ module _ (ring : List Corner) (v k : ℕ) (big : 3 < length ring) (simple : Meet
       record { below = m.below; least = m.least; turns_left = still_left }
 
 -- a ring stays left at its least corner where another corner is clipped
-pub stays_left : (ring : List Corner) (v k : ℕ) → 3 < length ring → MeetOnlyAsNeighbours ring → IsLeftAtLeast ring v → k < length ring → k ≢ v
-    → IsFlatOrEar ring k → IsLeftAtLeast (remove ring k) (number_left k v)
+pub stays_left : (ring : List Corner) (v k : ℕ) → 3 < length ring → MeetOnlyAsNeighbours ring → IsLeftAtLeast ring v → k < length ring
+    → k ≢ v → IsFlatOrEar ring k → IsLeftAtLeast (remove ring k) (number_left k v)
 stays_left = stays

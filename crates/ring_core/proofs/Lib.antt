@@ -29,3 +29,4 @@ pub mod PutBack
 pub mod EarOffEdge
 pub mod FourCorners
 pub mod DirectionKept
+pub mod HaveEars

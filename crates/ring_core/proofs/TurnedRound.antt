@@ -1,5 +1,5 @@
--- A ring turned round: its corners the other way round. It is as simple and as flat, and turns left where the ring turns right; and without a corner
--- it is the ring without that corner, turned round.
+-- A ring turned round: its corners the other way round. It is as simple and as flat, and turns left where the ring turns right; and without
+-- a corner it is the ring without that corner, turned round.
 use Rattle.std.proofs.Common.{◌≡◌, ◌≢◌, inl, inr, ⊎_elim, ℕ, ◌+◌, ◌-◌, ◌<◌, ◌∙◌, sym, ap, subst, refl, arith, if◌then◌else◌}
 use Rattle.std.proofs.Common.{List, [], ◌∷◌, length, zero, suc, ◌==◌}
 use Rattle.std.proofs.lemmas.List.{length-reverse, get_or-reverse}
@@ -21,7 +21,8 @@ use Rattle.ring_core.proofs.TakenOut.{corner_kept}
 use Rattle.ring_core.proofs.LeftSimple.{same_or, apart_meet, after_before, number_kept, number_over, number_not, clipped_simple}
 use Rattle.ring_core.proofs.EarWords.{IsFlatOrEar}
 use Rattle.ring_core.proofs.Renumbered.{AreSameCorners, same_back, same_number, flat_like}
-use Rattle.ring_core.proofs.WithoutCorner.{number_left, left_before, before_left, number_back, number_back_over, one_fewer, number_within, left_within}
+use Rattle.ring_core.proofs.WithoutCorner.{number_left, left_before, before_left, number_back, number_back_over}
+use Rattle.ring_core.proofs.WithoutCorner.{one_fewer, number_within, left_within}
 
 -- `other` has the same corners, the other way round
 pub record IsTurnedRound (other ring : List Corner) (to back : ℕ → ℕ) : Type 0 where
@@ -32,7 +33,8 @@ module _ (other ring : List Corner) (to back : ℕ → ℕ) (h : IsTurnedRound o
   pub turns_back : (i : ℕ) → i < length ring → to (before (length ring) i) ≡ after (length ring) (to i)
   turns_back i b =
       sym (after_before (length ring) (to (before (length ring) i)) (h.same.inside (before (length ring) i) (before_in (length ring) i b)))
-      ∙ ap (after (length ring)) (sym (h.turns (before (length ring) i) (before_in (length ring) i b)) ∙ ap to (after_before (length ring) i b))
+      ∙ ap (after (length ring))
+      (sym (h.turns (before (length ring) i) (before_in (length ring) i b)) ∙ ap to (after_before (length ring) i b))
 
   pub next_is : (i : ℕ) → i < length ring → next other i ≡ previous ring (to i)
   next_is i b =
@@ -174,9 +176,10 @@ module _ (other ring : List Corner) (to back : ℕ → ℕ) (h : IsTurnedRound o
         ∙ left_before (to k) j;
   }
 
-  -- the corner after corner j of what is left of `other`, and the one before its corner of what is left of the ring: by their numbers in the ring
+  -- what follows corner j in what is left of `other` precedes its corner in what is left of the ring: by the numbers in the ring
   after_there : (j : ℕ) → j < length (remove ring (to k))
-      → to (number_before k (after (length (remove ring (to k))) j)) ≡ number_before (to k) (before (length (remove ring (to k))) (to_left j))
+      → to (number_before k (after (length (remove ring (to k))) j))
+      ≡ number_before (to k) (before (length (remove ring (to k))) (to_left j))
   after_there j b =
       let fewer : length (remove ring (to k)) + 1 ≡ length ring = one_fewer ring (to k) (h.same.inside k below) in
       let c : to_left j < length (remove ring (to k)) = left_same.inside j b in
@@ -232,13 +235,15 @@ pub turned_length : (ring : List Corner) → length (turned_round ring) ≡ leng
 turned_length [] = refl
 turned_length (first ∷ rest) = ap suc (length-reverse rest)
 
-turned_corner : (ring : List Corner) (i : ℕ) → i < length ring → corner_at (turned_round ring) i ≡ corner_at ring (number_round (length ring) i)
+turned_corner : (ring : List Corner) (i : ℕ) → i < length ring
+    → corner_at (turned_round ring) i ≡ corner_at ring (number_round (length ring) i)
 turned_corner [] i b = absurd (omega arith)
 turned_corner (first ∷ rest) zero b = refl
 turned_corner (first ∷ rest) (suc i) b =
     get_or-reverse rest i origin (omega arith) ∙ ap (corner_at (first ∷ rest)) (round_next (length rest) i (omega arith))
 
-pub is_turned_round : (ring : List Corner) → IsTurnedRound (turned_round ring) ring (number_round (length ring)) (number_round (length ring))
+pub is_turned_round : (ring : List Corner)
+    → IsTurnedRound (turned_round ring) ring (number_round (length ring)) (number_round (length ring))
 is_turned_round ring = record {
   same = record {
     as_many = turned_length ring;
