@@ -19,3 +19,5 @@ pub mod LeftSimple
 pub mod Diagonals
 pub mod StillLeft
 pub mod PartsOfRings
+pub mod EarWords
+pub mod StaysLeft
