@@ -37,11 +37,11 @@ AddsUpAt measure ring k =
 
 -- the measure changes its sign with the edge, and adds up at a flat corner
 module _ (measure : Edge → ℤ) (back : (a b : Corner) → measure (edge_of b a) ≡ neg_ℤ (measure (edge_of a b))) where
-  flat_out : (ring : List Corner) (k : ℕ) → 2 < length ring → k < length ring → AddsUpAt measure ring k
+  pub flat_out : (ring : List Corner) (k : ℕ) → 2 < length ring → k < length ring → AddsUpAt measure ring k
       → sum_over measure (edges ring) ≡ sum_over measure (edges (remove ring k))
   flat_out ring k l h e = omega (arith, ints, ring_cut measure ring k l h, e)
 
-  triangle_out : (ring : List Corner) (k : ℕ) → 2 < length ring → k < length ring
+  pub triangle_out : (ring : List Corner) (k : ℕ) → 2 < length ring → k < length ring
       → sum_over measure (edges ring)
       ≡ sum_over measure (edges (remove ring k)) +ℤ sum_over measure (edges (previous ring k ∷ corner_at ring k ∷ next ring k ∷ []))
   triangle_out ring k l h = omega (arith, ints, ring_cut measure ring k l h, back (previous ring k) (next ring k))

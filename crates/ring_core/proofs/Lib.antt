@@ -21,3 +21,4 @@ pub mod StillLeft
 pub mod PartsOfRings
 pub mod EarWords
 pub mod StaysLeft
+pub mod NoNegativeWinding
