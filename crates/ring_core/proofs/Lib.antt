@@ -22,3 +22,4 @@ pub mod PartsOfRings
 pub mod EarWords
 pub mod StaysLeft
 pub mod NoNegativeWinding
+pub mod SeenOutside
