@@ -23,3 +23,4 @@ pub mod EarWords
 pub mod StaysLeft
 pub mod NoNegativeWinding
 pub mod SeenOutside
+pub mod CutOff
