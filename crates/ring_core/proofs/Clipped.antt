@@ -58,7 +58,7 @@ module _ (measure : Edge → ℤ) (back : (a b : Corner) → measure (edge_of b 
     clips_sum ring _ _ (ear {ts = ts} {rest = rest} k t c l none f s) =
         clips_sum ring ts rest c ∙ omega (arith, ints, ear_out rest k t l f.below s, triangles_sum-push measure ts t)
 
-  two_left : (rest : List Corner) → length rest ≡ 2 → sum_over measure (edges rest) ≡ pos 0
+  pub two_left : (rest : List Corner) → length rest ≡ 2 → sum_over measure (edges rest) ≡ pos 0
   two_left [] h = absurd (omega arith)
   two_left (a ∷ []) h = absurd (omega arith)
   two_left (a ∷ b ∷ []) h = omega (arith, ints, back a b)

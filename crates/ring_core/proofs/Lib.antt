@@ -24,3 +24,4 @@ pub mod StaysLeft
 pub mod NoNegativeWinding
 pub mod SeenOutside
 pub mod CutOff
+pub mod EarTriangles
