@@ -25,3 +25,4 @@ pub mod NoNegativeWinding
 pub mod SeenOutside
 pub mod CutOff
 pub mod EarTriangles
+pub mod PartEars
