@@ -26,3 +26,4 @@ pub mod SeenOutside
 pub mod CutOff
 pub mod EarTriangles
 pub mod PartEars
+pub mod DiagonalParts

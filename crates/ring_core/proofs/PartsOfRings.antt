@@ -103,7 +103,7 @@ module _ (ring : List Corner) (z : ℕ) (within : z + 1 < length ring) (simple :
   pub first_length : length (take (z + 1) ring) ≡ z + 1
   first_length = length-take-le (z + 1) ring (omega arith)
 
-  first_corner : (i : ℕ) → i < length (take (z + 1) ring) → corner_at (take (z + 1) ring) i ≡ corner_at ring i
+  pub first_corner : (i : ℕ) → i < length (take (z + 1) ring) → corner_at (take (z + 1) ring) i ≡ corner_at ring i
   first_corner i b = get_or-take (z + 1) ring i origin (omega (arith, first_length))
 
   pub first_is_part : IsPart (take (z + 1) ring) ring (λ i. i) z
@@ -163,6 +163,14 @@ pub second_number : ℕ → ℕ → ℕ
 second_number z zero = 0
 second_number z (suc i) = z + i
 
+pub number_of_first : (z : ℕ) → second_number z 0 ≡ 0
+unfolding second_number
+number_of_first z = refl
+
+pub number_of_later : (z i : ℕ) → second_number z (suc i) ≡ z + i
+unfolding second_number
+number_of_later z i = refl
+
 past_end : (n i : ℕ) → n ≡ suc i → after n i ≡ 0
 past_end n i h = grind (arith, nat_tests)
 
@@ -195,7 +203,7 @@ module _ (ring : List Corner) (z : ℕ) (late : 1 < z) (within : z + 1 < length 
   pub second_length : length (corner_at ring 0 ∷ drop z ring) + z ≡ length ring + 1
   second_length = omega (arith, length-drop z ring)
 
-  second_corner : (i : ℕ) → corner_at (corner_at ring 0 ∷ drop z ring) i ≡ corner_at ring (second_number z i)
+  pub second_corner : (i : ℕ) → corner_at (corner_at ring 0 ∷ drop z ring) i ≡ corner_at ring (second_number z i)
   unfolding second_number
   second_corner zero = refl
   second_corner (suc i) = get_or-drop z ring i origin
