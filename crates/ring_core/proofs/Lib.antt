@@ -27,3 +27,4 @@ pub mod CutOff
 pub mod EarTriangles
 pub mod PartEars
 pub mod DiagonalParts
+pub mod EarsOfParts

@@ -1,4 +1,4 @@
--- Flat corners and ears of the part that a diagonal cuts off a ring are the ring's, where the part goes round none of the corners beyond it.
+-- Flat corners and ears of the part that a diagonal cuts off a ring are the ring's, where the part goes round no corner beyond it.
 use Rattle.std.proofs.Common.{◌≡◌, ◌≢◌, ◌⊎◌, inl, inr, ⊎_elim, ℕ, zero, suc, ◌<◌, ◌≤◌, ◌∙◌, sym, ap, subst, arith, List, length}
 use Rattle.std.specs.List.{remove}
 use Rattle.std.proofs.lemmas.Bool.{cases_lt}

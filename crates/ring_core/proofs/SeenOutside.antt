@@ -1,4 +1,4 @@
--- A ring whose first corner comes before all its others does not go round a corner that the first one sees outside: by the corners' numbers.
+-- A ring whose first corner comes before all its others does not go round a corner that the first one sees outside: by numbers.
 use Rattle.std.proofs.Common.{◌≡◌, ◌⊎◌, ℕ, zero, suc, ◌+◌, ◌<◌, ◌≤◌, ◌∙◌, sym, ap, subst, refl, arith}
 use Rattle.std.proofs.Common.{List, [], ◌∷◌, ◌++◌, length, get_or}
 use Rattle.std.specs.List.{AllByRecursion}
