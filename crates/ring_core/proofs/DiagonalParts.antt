@@ -15,7 +15,6 @@ use Rattle.geo_exact.specs.Segments.{IsOnSegment}
 use Rattle.geo_exact.specs.Turn.{turn, IsOnEdge}
 use Rattle.geo_exact.specs.Winding.{winding}
 use Rattle.geo_exact.specs.Places.{corner_at, after, before}
-use Rattle.geo_exact.proofs.CornerOrder.{Decides-is_before}
 use Rattle.geo_exact.proofs.Means.{edge_of_segment}
 use Rattle.geo_exact.proofs.OnEdge.{on_edge_back}
 use Rattle.geo_exact.proofs.TurnLaws.{turn_cycle, turn_swap}
@@ -25,10 +24,11 @@ use Rattle.ring_core.specs.Diagonals.{IsDiagonal}
 use Rattle.ring_core.proofs.CutOff.{IsBeyond, IsCutOff, winding_beyond}
 use Rattle.ring_core.proofs.Diagonals.{off_first, off_second}
 use Rattle.ring_core.proofs.EarWords.{IsLeftAtLeast}
+use Rattle.ring_core.proofs.LeastCorners.{is_before_of}
 use Rattle.ring_core.proofs.LeftSimple.{apart_meet, after_before, before_of_after}
 use Rattle.ring_core.proofs.PartsOfRings.{IsPart, first_length, first_corner, first_is_part, closes}
 use Rattle.ring_core.proofs.PartsOfRings.{second_number, second_length, second_corner, second_is_part, number_of_first, number_of_later}
-use Rattle.ring_core.proofs.PartsOfRings.{after_zero, ring_edge}
+use Rattle.ring_core.proofs.PartsOfRings.{after_zero, last_follows, ring_edge}
 use Rattle.ring_core.proofs.RoundNumbers.{before_in, before_first, after_inner}
 use Rattle.ring_core.proofs.SeenOutside.{seen_outside}
 
@@ -43,9 +43,6 @@ second_part ring z = corner_at ring 0 ∷ drop z ring
 before_round : (n : ℕ) → 1 < n → before n 0 ≡ n - 1
 before_round n h = grind (arith, nat_tests)
 
-after_last : (n : ℕ) → 1 < n → after n (n - 1) ≡ 0
-after_last n h = grind (arith, nat_tests)
-
 not_to_last : (n z i : ℕ) → z + 1 < n → i < z → n - 1 ≡ after n i → ⊥
 not_to_last n z i h k e = grind (arith, nat_tests)
 
@@ -57,9 +54,6 @@ not_to_first n j h e = grind (arith, nat_tests)
 
 right_of : (x y : ℤ) → y ≡ neg_ℤ x → pos 0 <ℤ x → y <ℤ pos 0
 right_of x y e h = omega (arith, ints)
-
-is_before_of : (a b : Corner) → IsTrue (is_before a b) → IsBefore a b
-is_before_of a b h = (Decides-is_before a b).0 h
 
 -- the numbers of the second part's corners
 number_high : (z i : ℕ) → 0 < i → z ≤ second_number z i
@@ -151,14 +145,14 @@ module _ (ring : List Corner) (z : ℕ) (late : 1 < z) (within : z + 1 < length 
             (λ e. omega (arith, first_length ring z within simple diagonal)) q
             (ring_edge (first_part ring z) ring (λ j. j) z first_cut.is_part q i (omega arith)
             (λ e. omega (arith, first_length ring z within simple diagonal)) on)
-            (subst (λ j. IsOnEdge q (corner_at ring (length ring - 1)) (corner_at ring j)) (sym (after_last (length ring) (omega arith)))
+            (subst (λ j. IsOnEdge q (corner_at ring (length ring - 1)) (corner_at ring j)) (sym (last_follows (length ring) (omega arith)))
             (on_edge_back (corner_at ring 0) (corner_at ring (length ring - 1)) q
             (edge_of_segment (corner_at ring 0) (corner_at ring (length ring - 1)) q
             (subst (λ c. IsOnSegment q (corner_point c) (corner_point (corner_at ring (length ring - 1))))
             (first_at 0 (omega (arith, first_above))) way))))
             (λ s. ⊎_elim
             (λ x. not_to_last (length ring) z i within (omega (arith, first_length ring z within simple diagonal)) x.0)
-            (λ x. let e = x.0 ∙ after_last (length ring) (omega arith) in omega arith) s);
+            (λ x. let e = x.0 ∙ last_follows (length ring) (omega arith) in omega arith) s);
         left = first_left.turns_left;
         outside = inr
             (subst (λ c. turn c (corner_at (first_part ring z) 0) (corner_at ring (length ring - 1)) <ℤ pos 0) (sym first_previous)

@@ -13,7 +13,6 @@ use Rattle.geo_exact.specs.Places.{after, before}
 use Rattle.ring_core.specs.Simple.{MeetOnlyAsNeighbours}
 use Rattle.ring_core.specs.Clipping.{Blocks}
 use Rattle.ring_core.specs.Diagonals.{IsDiagonal}
-use Rattle.ring_core.specs.own.Kinds.{number_before}
 use Rattle.ring_core.proofs.ClipSteps.{one_less}
 use Rattle.ring_core.proofs.DiagonalParts.{first_part, first_cut, first_left, first_not_round}
 use Rattle.ring_core.proofs.DiagonalParts.{second_part, second_cut, second_left, second_not_round}
@@ -23,14 +22,12 @@ use Rattle.ring_core.proofs.LeftSimple.{clipped_simple}
 use Rattle.ring_core.proofs.NoNegativeWinding.{winds_forward}
 use Rattle.ring_core.proofs.PartEars.{is_of_ring}
 use Rattle.ring_core.proofs.PartsOfRings.{parts_simple, first_length, closes, second_number, second_length, number_of_later, after_zero}
-use Rattle.ring_core.proofs.StaysLeft.{stays_left}
+use Rattle.ring_core.proofs.LeastCorners.{stays_left}
+use Rattle.ring_core.proofs.WithoutCorner.{number_left}
 
 -- ---- numbers
 not_beside_first : (n z : ℕ) → z < n → 2 < n → z ≢ before n 0 → z ≢ 0 → z ≢ after n 0 → (1 < z) × (z + 1 < n)
 not_beside_first n z h k a b c = (grind (arith, nat_tests), grind (arith, nat_tests))
-
-first_stays : (k : ℕ) → k ≢ 0 → number_before k 0 ≡ 0
-first_stays k h = grind (arith, nat_tests)
 
 not_after : (n z k i : ℕ) → k < z → k ≢ 0 → z ≤ i → k ≢ after n i
 not_after n z k i h a b e = grind (arith, nat_tests)
@@ -49,9 +46,9 @@ without_ear : (n : ℕ) → ((m : ℕ) → 2 < m → m < n → HaveEarsOff m) �
     → (q : Point) → pos 0 ≤ℤ winding q (remove part k)
 without_ear n ears part few simple left k below off which big =
     let fewer = one_less part (remove part k) k below refl in
-    (winds_forward (length (remove part k)) (omega arith) (λ m a b. ears m a (omega arith)) (remove part k) 0 refl
+    (winds_forward (length (remove part k)) (omega arith) (λ m a b. ears m a (omega arith)) (remove part k) (number_left k 0) refl
     (clipped_simple part k big below simple which)
-    (stays_left part 0 k 0 big below simple left which (first_stays k off))).windings
+    (stays_left part 0 k big simple left below off which)).windings
 
 module _ (n : ℕ) (ears : (m : ℕ) → 2 < m → m < n → HaveEarsOff m) (ring : List Corner) (z : ℕ) (l : length ring ≡ n)
     (late : 1 < z) (within : z + 1 < length ring) (simple : MeetOnlyAsNeighbours ring) (left : IsLeftAtLeast ring 0)

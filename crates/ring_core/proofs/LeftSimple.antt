@@ -16,20 +16,20 @@ use Rattle.ring_core.proofs.ClipSteps.{one_less}
 use Rattle.ring_core.proofs.Gaps.{IsBeside, IsOutside, ear_gap, flat_gap}
 
 -- ---- numbers round a ring of n corners, and of m without corner k
-number_kept : (m n k j : ℕ) → m + 1 ≡ n → j < m → k < n → number_before k j ≢ before n k → number_before k (after m j) ≡ after n
+pub number_kept : (m n k j : ℕ) → m + 1 ≡ n → j < m → k < n → number_before k j ≢ before n k → number_before k (after m j) ≡ after n
     (number_before k j)
 number_kept m n k j e h i off = grind (arith, nat_tests)
 
-number_over : (m n k j : ℕ) → m + 1 ≡ n → j < m → k < n → 1 < m → number_before k j ≡ before n k → number_before k (after m j) ≡ after n k
+pub number_over : (m n k j : ℕ) → m + 1 ≡ n → j < m → k < n → 1 < m → number_before k j ≡ before n k → number_before k (after m j) ≡ after n k
 number_over m n k j e h i l on = grind (arith, nat_tests)
 
-number_same : (k i j : ℕ) → number_before k i ≡ number_before k j → i ≡ j
+pub number_same : (k i j : ℕ) → number_before k i ≡ number_before k j → i ≡ j
 number_same k i j e = grind (arith, nat_tests)
 
-number_in : (m n k j : ℕ) → m + 1 ≡ n → j < m → number_before k j < n
+pub number_in : (m n k j : ℕ) → m + 1 ≡ n → j < m → number_before k j < n
 number_in m n k j e h = grind (arith, nat_tests)
 
-number_not : (k j : ℕ) → number_before k j ≢ k
+pub number_not : (k j : ℕ) → number_before k j ≢ k
 number_not k j = grind (arith, nat_tests)
 
 pub after_before : (n k : ℕ) → k < n → after n (before n k) ≡ k
@@ -38,7 +38,7 @@ after_before n k h = grind (arith, nat_tests)
 pub before_of_after : (n k f : ℕ) → f < n → k ≡ after n f → f ≡ before n k
 before_of_after n k f h e = grind (arith, nat_tests)
 
-after_same : (n k f : ℕ) → f < n → k < n → after n f ≡ after n k → f ≡ k
+pub after_same : (n k f : ℕ) → f < n → k < n → after n f ≡ after n k → f ≡ k
 after_same n k f h i e = grind (arith, nat_tests)
 
 not_three : (n k f : ℕ) → 3 < n → k < n → f ≡ after n k → after n f ≡ before n k → ⊥

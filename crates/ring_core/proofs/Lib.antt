@@ -20,7 +20,6 @@ pub mod Diagonals
 pub mod StillLeft
 pub mod PartsOfRings
 pub mod EarWords
-pub mod StaysLeft
 pub mod NoNegativeWinding
 pub mod SeenOutside
 pub mod CutOff
@@ -28,3 +27,12 @@ pub mod EarTriangles
 pub mod PartEars
 pub mod DiagonalParts
 pub mod EarsOfParts
+pub mod Renumbered
+pub mod BegunElsewhere
+pub mod WithoutCorner
+pub mod TurnedRound
+pub mod LeastCorners
+pub mod PutBack
+pub mod EarOffEdge
+pub mod FourCorners
+pub mod DirectionKept

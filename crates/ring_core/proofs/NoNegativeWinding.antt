@@ -1,10 +1,8 @@
 -- A ring that turns left at its least corner goes round no point clockwise, and has a positive area.
-use Rattle.std.proofs.Common.{◌≡◌, ◌≢◌, ◌⊎◌, ⊎_elim, inl, inr, ℕ, zero, suc, ◌+◌, ◌-◌, ◌<◌, ◌≤◌, ◌∙◌, sym, subst, refl, arith}
+use Rattle.std.proofs.Common.{◌≡◌, ◌⊎◌, inl, inr, ℕ, zero, suc, ◌+◌, ◌-◌, ◌<◌, ◌≤◌, ◌∙◌, sym, subst, refl, arith}
 use Rattle.std.proofs.Common.{List, [], ◌∷◌, length}
 use Rattle.std.specs.List.{remove}
 use Rattle.std.proofs.lemmas.Int.{ints}
-use Rattle.std.proofs.lemmas.Bool.{cases_lt}
-use Rattle.std.proofs.lemmas.Bool.Decides.{nat_tests}
 use lib.IntN.{ℤ, pos, ◌+ℤ◌}
 use lib.Signed.{◌<ℤ◌, ◌≤ℤ◌}
 use Rattle.geo_exact.specs.declared.corner.Corner.{Corner}
@@ -20,12 +18,12 @@ use Rattle.geo_exact.proofs.Windings.{crossing_of}
 use Rattle.geo_exact.proofs.Triangles.{triangle_winds_at_most_once}
 use Rattle.ring_core.specs.Simple.{MeetOnlyAsNeighbours}
 use Rattle.ring_core.specs.Clipping.{previous, next}
-use Rattle.ring_core.specs.own.Kinds.{number_before}
 use Rattle.ring_core.proofs.ClipSteps.{one_less}
 use Rattle.ring_core.proofs.Clipped.{flat_out, triangle_out}
 use Rattle.ring_core.proofs.EarWords.{IsLeftAtLeast, IsFlatOrEar, HaveEarsOff}
 use Rattle.ring_core.proofs.LeftSimple.{clipped_simple}
-use Rattle.ring_core.proofs.StaysLeft.{stays_left}
+use Rattle.ring_core.proofs.LeastCorners.{stays_left}
+use Rattle.ring_core.proofs.WithoutCorner.{number_left}
 
 -- the ring goes round no point clockwise, and has a positive area
 pub record GoesForward (ring : List Corner) : Type 0 where
@@ -92,27 +90,17 @@ forward_with ring k big below (inr ear) rest =
     }
 
 -- ---- by the number of corners
-number_below : (k v : ℕ) → k ≢ v → (u : ℕ) × (number_before k u ≡ v)
-number_below k v off = ⊎_elim (λ h. (v, small k v h)) (λ h. (v - 1, large k v off h)) (cases_lt v k)
-  where
-    small : (k v : ℕ) → v < k → number_before k v ≡ v
-    small k v h = grind (arith, nat_tests)
-
-    large : (k v : ℕ) → k ≢ v → k ≤ v → number_before k (v - 1) ≡ v
-    large k v off h = grind (arith, nat_tests)
-
 forward : (e : ℕ) → ((m : ℕ) → 2 < m → m ≤ e + 3 → HaveEarsOff m) → (ring : List Corner) (v : ℕ) → length ring ≡ e + 3
     → MeetOnlyAsNeighbours ring → IsLeftAtLeast ring v → GoesForward ring
 forward zero ears ring v l simple left = three_forward ring v l left
 forward (suc e) ears ring v l simple left =
     let k = ears (e + 4) (omega arith) (omega arith) ring v (omega arith) simple left v (let b = left.below in omega arith) in
     let below : k.0 < length ring = (let b = k.1 in omega arith) in
-    let u = number_below k.0 v k.2 in
     forward_with ring k.0 (omega arith) below k.4
-    (forward e (λ m a b. ears m a (omega arith)) (remove ring k.0) u.0
+    (forward e (λ m a b. ears m a (omega arith)) (remove ring k.0) (number_left k.0 v)
     (let f = one_less ring (remove ring k.0) k.0 below refl in omega arith)
     (clipped_simple ring k.0 (omega arith) below simple k.4)
-    (stays_left ring v k.0 u.0 (omega arith) below simple left k.4 u.1))
+    (stays_left ring v k.0 (omega arith) simple left below k.2 k.4))
 
 pub winds_forward : (n : ℕ) → 2 < n → ((m : ℕ) → 2 < m → m ≤ n → HaveEarsOff m) → (ring : List Corner) (v : ℕ) → length ring ≡ n
     → MeetOnlyAsNeighbours ring → IsLeftAtLeast ring v → GoesForward ring

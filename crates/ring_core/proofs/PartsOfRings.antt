@@ -51,7 +51,7 @@ module _ (part ring : List Corner) (number : ℕ → ℕ) (g : ℕ) (h : IsPart 
         subst (IsPlaceOf q) (sym (h.corners i bi)) s.1,
       )
 
-  part_simple : MeetOnlyAsNeighbours part
+  pub part_simple : MeetOnlyAsNeighbours part
   part_simple i j o b m =
       ⊎_elim
       (λ e. free j b (λ f. absurd (let s : i ≡ j = e ∙ sym f in omega arith)) (subst (λ z. z < length part) e (omega arith)) m.0
@@ -95,7 +95,7 @@ from_last n f h e = grind (arith, nat_tests)
 not_to_last : (n m z f : ℕ) → m ≡ z + 1 → z + 1 < n → f < m → f ≢ z → n - 1 ≡ after n f → ⊥
 not_to_last n m z f e h k off i = grind (arith, nat_tests)
 
-last_follows : (n : ℕ) → 1 < n → after n (n - 1) ≡ 0
+pub last_follows : (n : ℕ) → 1 < n → after n (n - 1) ≡ 0
 last_follows n h = grind (arith, nat_tests)
 
 module _ (ring : List Corner) (z : ℕ) (within : z + 1 < length ring) (simple : MeetOnlyAsNeighbours ring)

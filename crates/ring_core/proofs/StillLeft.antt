@@ -34,7 +34,7 @@ mean_of_zero k m n t z hk hn e hz =
     by_lt_z (pos 0) t (λ h. h) (λ h. absurd (omega (arith, ints, e, mul_pos k z hk hz, mul_not_pos n t hn h, mul_zero m)))
 
 -- ---- what a way from v to q crosses: the edge from u to w, where v is left of it and q right, and the ends are on both sides of the way
-crosses : (v q u w : Corner) → pos 0 <ℤ turn u w v → turn u w q <ℤ pos 0 → turn v q u ≤ℤ pos 0 → pos 0 ≤ℤ turn v q w
+pub crosses : (v q u w : Corner) → pos 0 <ℤ turn u w v → turn u w q <ℤ pos 0 → turn v q u ≤ℤ pos 0 → pos 0 ≤ℤ turn v q w
     → ((m : Point) → IsOnEdge m v q → IsOnEdge m u w → ⊥) → ⊥
 crosses v q u w a b c d none =
     let m = meets_rising (corner_point v) (corner_point q) u w
@@ -91,10 +91,10 @@ flat_ahead d a v b left on =
     (subst (λ z. pos 0 <ℤ z) (sym (turn_at_corner v b a)) (subst (λ z. pos 0 <ℤ z) (sym (turn_cycle a v b)) left)))
 
 -- ---- by the numbers of the corners
-before_after : (n v : ℕ) → v < n → before n (after n v) ≡ v
+pub before_after : (n v : ℕ) → v < n → before n (after n v) ≡ v
 before_after n v h = grind (arith, nat_tests)
 
-apart_after : (n v : ℕ) → 3 < n → v < n → before n v ≢ after n v
+pub apart_after : (n v : ℕ) → 3 < n → v < n → before n v ≢ after n v
 apart_after n v h i = grind (arith, nat_tests)
 
 not_following : (n v : ℕ) → 3 < n → v < n → after n (after n v) ≢ before n v
@@ -115,7 +115,7 @@ before_before_not n v h i = grind (arith, nat_tests)
 module _ (ring : List Corner) (v : ℕ) (big : 3 < length ring) (below : v < length ring) (simple : MeetOnlyAsNeighbours ring)
     (left : pos 0 <ℤ turn (previous ring v) (corner_at ring v) (next ring v)) where
   -- the edge to v and the edge behind the next corner have no common point
-  sides_apart : (m : Point) → IsOnEdge m (previous ring v) (corner_at ring v) → IsOnEdge m (next ring v)
+  pub sides_apart : (m : Point) → IsOnEdge m (previous ring v) (corner_at ring v) → IsOnEdge m (next ring v)
       (next ring (after (length ring) v)) → ⊥
   sides_apart m i j =
       apart_meet ring simple (before (length ring) v) (after (length ring) v) (before_in (length ring) v below)
@@ -145,7 +145,7 @@ module _ (ring : List Corner) (v : ℕ) (big : 3 < length ring) (below : v < len
       sides_apart
 
   -- nor have the edge from v and the edge to the corner before
-  sides_apart_before : (m : Point) → IsOnEdge m (corner_at ring v) (next ring v)
+  pub sides_apart_before : (m : Point) → IsOnEdge m (corner_at ring v) (next ring v)
       → IsOnEdge m (previous ring (before (length ring) v)) (previous ring v) → ⊥
   sides_apart_before m i j =
       apart_meet ring simple v (before (length ring) (before (length ring) v)) below
