@@ -37,11 +37,11 @@ AddsUpAt measure ring k =
 
 -- the measure changes its sign with the edge, and adds up at a flat corner
 module _ (measure : Edge → ℤ) (back : (a b : Corner) → measure (edge_of b a) ≡ neg_ℤ (measure (edge_of a b))) where
-  flat_out : (ring : List Corner) (k : ℕ) → 2 < length ring → k < length ring → AddsUpAt measure ring k
+  pub flat_out : (ring : List Corner) (k : ℕ) → 2 < length ring → k < length ring → AddsUpAt measure ring k
       → sum_over measure (edges ring) ≡ sum_over measure (edges (remove ring k))
   flat_out ring k l h e = omega (arith, ints, ring_cut measure ring k l h, e)
 
-  triangle_out : (ring : List Corner) (k : ℕ) → 2 < length ring → k < length ring
+  pub triangle_out : (ring : List Corner) (k : ℕ) → 2 < length ring → k < length ring
       → sum_over measure (edges ring)
       ≡ sum_over measure (edges (remove ring k)) +ℤ sum_over measure (edges (previous ring k ∷ corner_at ring k ∷ next ring k ∷ []))
   triangle_out ring k l h = omega (arith, ints, ring_cut measure ring k l h, back (previous ring k) (next ring k))
@@ -58,7 +58,7 @@ module _ (measure : Edge → ℤ) (back : (a b : Corner) → measure (edge_of b 
     clips_sum ring _ _ (ear {ts = ts} {rest = rest} k t c l none f s) =
         clips_sum ring ts rest c ∙ omega (arith, ints, ear_out rest k t l f.below s, triangles_sum-push measure ts t)
 
-  two_left : (rest : List Corner) → length rest ≡ 2 → sum_over measure (edges rest) ≡ pos 0
+  pub two_left : (rest : List Corner) → length rest ≡ 2 → sum_over measure (edges rest) ≡ pos 0
   two_left [] h = absurd (omega arith)
   two_left (a ∷ []) h = absurd (omega arith)
   two_left (a ∷ b ∷ []) h = omega (arith, ints, back a b)

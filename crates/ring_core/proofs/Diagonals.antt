@@ -108,7 +108,7 @@ blocks_or ring k j =
     (same_or j (after (length ring) k))) (same_or j k)) (same_or j (before (length ring) k))
 
 -- ---- signs, over plain numbers
-four_numbers : (n k z : ℕ) → z < n → k < n → z ≢ before n k → z ≢ k → z ≢ after n k → 3 < n
+pub four_numbers : (n k z : ℕ) → z < n → k < n → z ≢ before n k → z ≢ k → z ≢ after n k → 3 < n
 four_numbers n k z h i a b c = grind (arith, nat_tests)
 
 before_same : (n k z : ℕ) → k < n → z < n → before n k ≡ before n z → k ≡ z
@@ -181,7 +181,7 @@ level_start : (m n t : ℤ) → pos 0 <ℤ n → pos 0 <ℤ t → pos 0 <ℤ (m 
 level_start m n t h i = omega (arith, ints, mul_pos n t h i, mul_zero m)
 
 -- ---- a corner d in the triangle p c n, off the sides at c, and the way from c to d
-inside_off : (p c n d : Corner) → pos 0 <ℤ turn p c n → IsInTriangle d p c n → ¬ IsOnEdge (corner_point d) p c → pos 0 <ℤ turn p c d
+pub inside_off : (p c n d : Corner) → pos 0 <ℤ turn p c n → IsInTriangle d p c n → ¬ IsOnEdge (corner_point d) p c → pos 0 <ℤ turn p c d
 inside_off p c n d left i off =
     by_lt_z (pos 0) (turn p c d) (λ h. h)
     (λ h. absurd (off (on_triangle_edge p c n (corner_point d) left
@@ -189,7 +189,7 @@ inside_off p c n d left i off =
     (subst (λ z. pos 0 ≤ℤ z) (sym (turn_at_corner c n d)) i.along_bc)
     (subst (λ z. pos 0 ≤ℤ z) (sym (turn_at_corner n p d)) i.along_ca))))
 
-left_round : (p c n : Corner) → pos 0 <ℤ turn p c n → pos 0 <ℤ turn c n p
+pub left_round : (p c n : Corner) → pos 0 <ℤ turn p c n → pos 0 <ℤ turn c n p
 left_round p c n h = subst (λ z. pos 0 <ℤ z) (sym (turn_cycle p c n)) h
 
 inside_lower : (p c n d : Corner) → pos 0 <ℤ turn p c d → pos 0 <ℤ turn c n d → turn n p d <ℤ turn n p c
@@ -259,6 +259,39 @@ module _ (p c n d s t : Corner) (U W : Type 0) (left : pos 0 <ℤ turn p c n) (e
       mean_low r.k r.m r.n (turn n p s) (turn n p t) (turn n p d) (turn_at n p q) q.d r.k_positive r.m_not_negative r.n_not_negative
       (corner_mean n p s t q r) r.in_d low_s low_t higher))
 
+-- ---- a corner z in the closed triangle of corner k is on neither side at k
+module _ (ring : List Corner) (k z : ℕ) (below : k < length ring) (simple : MeetOnlyAsNeighbours ring)
+    (left : pos 0 <ℤ turn (previous ring k) (corner_at ring k) (next ring k)) (inside : z < length ring) (blocks : Blocks ring k z) where
+  not_touching_first : IsOnEdge (corner_point (corner_at ring z)) (previous ring k) (corner_at ring k) → ⊥
+  not_touching_first on =
+      apart_meet ring simple (before (length ring) k) (before (length ring) z) (before_in (length ring) k below)
+      (before_in (length ring) z inside)
+      (λ e. blocks.not_same (sym (before_same (length ring) k z below inside e)))
+      (corner_point (corner_at ring z))
+      (subst (λ x. IsOnEdge (corner_point (corner_at ring z)) (previous ring k) (corner_at ring x))
+      (sym (after_before (length ring) k below)) on)
+      (subst (λ x. IsOnEdge (corner_point (corner_at ring z)) (corner_at ring (before (length ring) z)) (corner_at ring x))
+      (sym (after_before (length ring) z inside)) (on_edge_end (corner_at ring (before (length ring) z)) (corner_at ring z)))
+      (λ s. ⊎_elim
+      (λ x. blocks.not_after (after_of_before (length ring) k z inside (x.0 ∙ after_before (length ring) k below)))
+      (λ x. blocks.not_before (sym (x.0 ∙ after_before (length ring) z inside))) s)
+
+  not_touching_second : IsOnEdge (corner_point (corner_at ring z)) (corner_at ring k) (next ring k) → ⊥
+  not_touching_second on =
+      apart_meet ring simple k z below inside (λ e. blocks.not_same (sym e)) (corner_point (corner_at ring z)) on
+      (on_edge_start (corner_at ring z) (corner_at ring (after (length ring) z)))
+      (λ s. ⊎_elim (λ x. blocks.not_after x.0) (λ x. blocks.not_before (before_of_after (length ring) k z inside x.0)) s)
+
+  pub off_first : pos 0 <ℤ turn (previous ring k) (corner_at ring k) (corner_at ring z)
+  off_first = inside_off (previous ring k) (corner_at ring k) (next ring k) (corner_at ring z) left blocks.is_inside not_touching_first
+
+  pub off_second : pos 0 <ℤ turn (corner_at ring k) (next ring k) (corner_at ring z)
+  off_second =
+      inside_off (corner_at ring k) (next ring k) (previous ring k) (corner_at ring z)
+      (left_round (previous ring k) (corner_at ring k) (next ring k) left)
+      (record { along_ab = blocks.is_inside.along_bc; along_bc = blocks.is_inside.along_ca; along_ca = blocks.is_inside.along_ab })
+      not_touching_second
+
 -- ---- the corner z in the closed triangle of corner k that is farthest from the side opposite
 module _ (ring : List Corner) (k z : ℕ) (below : k < length ring) (simple : MeetOnlyAsNeighbours ring)
     (left : pos 0 <ℤ turn (previous ring k) (corner_at ring k) (next ring k))
@@ -268,36 +301,6 @@ module _ (ring : List Corner) (k z : ℕ) (below : k < length ring) (simple : Me
 
   height : Corner → ℤ
   height c = turn (next ring k) (previous ring k) c
-
-  not_touching_first : IsOnEdge (corner_point (corner_at ring z)) (previous ring k) (corner_at ring k) → ⊥
-  not_touching_first on =
-      apart_meet ring simple (before (length ring) k) (before (length ring) z) (before_in (length ring) k below)
-      (before_in (length ring) z top.below)
-      (λ e. top.has.not_same (sym (before_same (length ring) k z below top.below e)))
-      (corner_point (corner_at ring z))
-      (subst (λ x. IsOnEdge (corner_point (corner_at ring z)) (previous ring k) (corner_at ring x))
-      (sym (after_before (length ring) k below)) on)
-      (subst (λ x. IsOnEdge (corner_point (corner_at ring z)) (corner_at ring (before (length ring) z)) (corner_at ring x))
-      (sym (after_before (length ring) z top.below)) (on_edge_end (corner_at ring (before (length ring) z)) (corner_at ring z)))
-      (λ s. ⊎_elim
-      (λ x. top.has.not_after (after_of_before (length ring) k z top.below (x.0 ∙ after_before (length ring) k below)))
-      (λ x. top.has.not_before (sym (x.0 ∙ after_before (length ring) z top.below))) s)
-
-  not_touching_second : IsOnEdge (corner_point (corner_at ring z)) (corner_at ring k) (next ring k) → ⊥
-  not_touching_second on =
-      apart_meet ring simple k z below top.below (λ e. top.has.not_same (sym e)) (corner_point (corner_at ring z)) on
-      (on_edge_start (corner_at ring z) (corner_at ring (after (length ring) z)))
-      (λ s. ⊎_elim (λ x. top.has.not_after x.0) (λ x. top.has.not_before (before_of_after (length ring) k z top.below x.0)) s)
-
-  off_first : pos 0 <ℤ turn (previous ring k) (corner_at ring k) (corner_at ring z)
-  off_first = inside_off (previous ring k) (corner_at ring k) (next ring k) (corner_at ring z) left top.has.is_inside not_touching_first
-
-  off_second : pos 0 <ℤ turn (corner_at ring k) (next ring k) (corner_at ring z)
-  off_second =
-      inside_off (corner_at ring k) (next ring k) (previous ring k) (corner_at ring z)
-      (left_round (previous ring k) (corner_at ring k) (next ring k) left)
-      (record { along_ab = top.has.is_inside.along_bc; along_bc = top.has.is_inside.along_ca; along_ca = top.has.is_inside.along_ab })
-      not_touching_second
 
   -- what is higher than corner z is not in the triangle
   out : (f : ℕ) → f < length ring → f ≢ k
@@ -338,7 +341,9 @@ module _ (ring : List Corner) (k z : ℕ) (below : k < length ring) (simple : Me
       (λ not_before. none_across (previous ring k) (corner_at ring k) (next ring k) (corner_at ring z)
       (corner_at ring f) (corner_at ring (after (length ring) f))
       (f ≡ after (length ring) k) (after (length ring) f ≡ before (length ring) k) left
-      (beside ring k big below simple f b not_before not_k) off_first off_second top.has.is_inside.along_ca
+      (beside ring k big below simple f b not_before not_k)
+      (off_first ring k z below simple left top.below top.has) (off_second ring k z below simple left top.below top.has)
+      top.has.is_inside.along_ca
       (out f b not_k) (out (after (length ring) f) (after_in (length ring) f b)
       (λ e. not_before (before_of_after (length ring) k f b (sym e))))
       q way m n on)
@@ -347,11 +352,11 @@ module _ (ring : List Corner) (k z : ℕ) (below : k < length ring) (simple : Me
     where
       at_second : pos 0 <ℤ turn_at (corner_at ring k) (next ring k) q
       at_second = left_of_way (corner_at ring k) (next ring k) (corner_at ring k) (corner_at ring z)
-          (starts_on (corner_at ring k) (next ring k)) off_second q way n
+          (starts_on (corner_at ring k) (next ring k)) (off_second ring k z below simple left top.below top.has) q way n
 
       at_first_side : pos 0 <ℤ turn_at (previous ring k) (corner_at ring k) q
       at_first_side = left_of_way (previous ring k) (corner_at ring k) (corner_at ring k) (corner_at ring z)
-          (ends_on (previous ring k) (corner_at ring k)) off_first q way n
+          (ends_on (previous ring k) (corner_at ring k)) (off_first ring k z below simple left top.below top.has) q way n
 
   is_diagonal : IsDiagonal ring k z
   is_diagonal f q b on way =

@@ -11,10 +11,10 @@ use Rattle.ring_core.specs.Simple.{IsOnEdgeAt}
 use Rattle.ring_core.proofs.RoundNumbers.{after_inner, after_end}
 
 -- edge i of a path
-abbrev IsOnPathAt : Point → Corner → List Corner → Corner → ℕ → Type 0
+abbrev pub IsOnPathAt : Point → Corner → List Corner → Corner → ℕ → Type 0
 IsOnPathAt p from xs to i = IsOnEdge p (get_or (from ∷ xs) i origin) (get_or xs i to)
 
-number_on_path : (p : Point) (from to : Corner) (xs : List Corner) → IsOnSome p (path from xs to) → (i : ℕ) × (i ≤ length xs) × IsOnPathAt p from xs to i
+pub number_on_path : (p : Point) (from to : Corner) (xs : List Corner) → IsOnSome p (path from xs to) → (i : ℕ) × (i ≤ length xs) × IsOnPathAt p from xs to i
 number_on_path p from to [] h = elim h [ inl q ↦ (zero, omega arith, q) | inr q ↦ absurd q ]
 number_on_path p from to (x ∷ xs) h = elim h [
   | inl q ↦ (zero, omega arith, q)

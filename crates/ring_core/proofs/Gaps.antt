@@ -286,7 +286,7 @@ module _ (p k n u w : Corner) (U W : Type 0) (left : pos 0 <ℤ turn p k n) (e :
           exchanged x y = omega (arith, ints)
 
   -- a point of the edge in the closed triangle
-  ear_meets : IsOutside p k n u w U W → pos 0 ≤ℤ turn_at p k q → pos 0 ≤ℤ turn_at k n q → pos 0 ≤ℤ turn_at n p q → ¬
+  pub ear_meets : IsOutside p k n u w U W → pos 0 ≤ℤ turn_at p k q → pos 0 ≤ℤ turn_at k n q → pos 0 ≤ℤ turn_at n p q → ¬
       (U × IsPlaceOf q n) → ¬ (W × IsPlaceOf q p) → ⊥
   ear_meets o a b c not_start not_end =
       by_lt_z (pos 0) (turn_at p k q)

@@ -94,7 +94,7 @@ module _ (ring : List Corner) (k : ℕ) (big : 3 < length ring) (below : k < len
       flat_gap (previous ring k) (corner_at ring k) (next ring k) (corner_at ring f) (corner_at ring (after (length ring) f))
       (f ≡ after (length ring) k) (after (length ring) f ≡ before (length ring) k) flat (beside f b not_before not_k)
 
-  outside : ((j : ℕ) → j < length ring → ¬ Blocks ring k j) → (f : ℕ) → f < length ring → f ≢ before (length ring) k → f ≢ k
+  pub outside : ((j : ℕ) → j < length ring → ¬ Blocks ring k j) → (f : ℕ) → f < length ring → f ≢ before (length ring) k → f ≢ k
       → IsOutside (previous ring k) (corner_at ring k) (next ring k) (corner_at ring f) (corner_at ring (after (length ring) f))
       (f ≡ after (length ring) k) (after (length ring) f ≡ before (length ring) k)
   outside none f b not_before not_k = record {

@@ -20,6 +20,13 @@ pub mod Diagonals
 pub mod StillLeft
 pub mod PartsOfRings
 pub mod EarWords
+pub mod NoNegativeWinding
+pub mod SeenOutside
+pub mod CutOff
+pub mod EarTriangles
+pub mod PartEars
+pub mod DiagonalParts
+pub mod EarsOfParts
 pub mod Renumbered
 pub mod BegunElsewhere
 pub mod WithoutCorner

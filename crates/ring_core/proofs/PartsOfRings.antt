@@ -23,16 +23,17 @@ pub record IsPart (part ring : List Corner) (number : ℕ → ℕ) (g : ℕ) : T
   pub apart : (i j : ℕ) → i < length part → j < length part → number i ≡ number j → i ≡ j
   pub follows : (i : ℕ) → i < length part → i ≢ g → number (after (length part) i) ≡ after (length ring) (number i)
 
-module _ (part ring : List Corner) (number : ℕ → ℕ) (g : ℕ) (h : IsPart part ring number g) (simple : MeetOnlyAsNeighbours ring)
-    (free : (f : ℕ) → f < length part → f ≢ g → g < length part → (q : Point) → IsOnEdgeAt q part g → IsOnEdgeAt q ring (number f)
-    → ¬ IsSharedCorner q part g f → ⊥) where
+module _ (part ring : List Corner) (number : ℕ → ℕ) (g : ℕ) (h : IsPart part ring number g) where
   -- an edge that is the ring's
-  ring_edge : (q : Point) (i : ℕ) → i < length part → i ≢ g → IsOnEdgeAt q part i → IsOnEdgeAt q ring (number i)
+  pub ring_edge : (q : Point) (i : ℕ) → i < length part → i ≢ g → IsOnEdgeAt q part i → IsOnEdgeAt q ring (number i)
   ring_edge q i b off on =
       subst (λ z. IsOnEdge q (corner_at ring (number i)) (corner_at ring z)) (h.follows i b off)
       (subst (λ z. IsOnEdge q (corner_at ring (number i)) z) (h.corners (after (length part) i) (after_in (length part) i b))
       (subst (λ z. IsOnEdge q z (corner_at part (after (length part) i))) (h.corners i b) on))
 
+module _ (part ring : List Corner) (number : ℕ → ℕ) (g : ℕ) (h : IsPart part ring number g) (simple : MeetOnlyAsNeighbours ring)
+    (free : (f : ℕ) → f < length part → f ≢ g → g < length part → (q : Point) → IsOnEdgeAt q part g → IsOnEdgeAt q ring (number f)
+    → ¬ IsSharedCorner q part g f → ⊥) where
   back_back : (q : Point) (i j : ℕ) → IsSharedCorner q part i j → IsSharedCorner q part j i
   back_back q i j (inl s) = inr s
   back_back q i j (inr s) = inl s
@@ -55,31 +56,31 @@ module _ (part ring : List Corner) (number : ℕ → ℕ) (g : ℕ) (h : IsPart 
       ⊎_elim
       (λ e. free j b (λ f. absurd (let s : i ≡ j = e ∙ sym f in omega arith)) (subst (λ z. z < length part) e (omega arith)) m.0
       (subst (λ z. IsOnEdgeAt m.0 part z) e m.1)
-      (ring_edge m.0 j b (λ f. absurd (let s : i ≡ j = e ∙ sym f in omega arith)) m.2)
+      (ring_edge part ring number g h m.0 j b (λ f. absurd (let s : i ≡ j = e ∙ sym f in omega arith)) m.2)
       (λ s. m.3 (subst (λ z. IsSharedCorner m.0 part z j) (sym e) s)))
       (λ off_i. ⊎_elim
       (λ e. free i (omega arith) off_i (subst (λ z. z < length part) e b) m.0 (subst (λ z. IsOnEdgeAt m.0 part z) e m.2)
-      (ring_edge m.0 i (omega arith) off_i m.1)
+      (ring_edge part ring number g h m.0 i (omega arith) off_i m.1)
       (λ s. m.3 (back_back m.0 j i (subst (λ z. IsSharedCorner m.0 part z i) (sym e) s))))
       (λ off_j. apart_meet ring simple (number i) (number j) (h.inside i (omega arith)) (h.inside j b)
       (λ e. absurd (let s : i ≡ j = h.apart i j (omega arith) b e in omega arith)) m.0
-      (ring_edge m.0 i (omega arith) off_i m.1) (ring_edge m.0 j b off_j m.2)
+      (ring_edge part ring number g h m.0 i (omega arith) off_i m.1) (ring_edge part ring number g h m.0 j b off_j m.2)
       (λ s. m.3 (shared_in_part m.0 i j (omega arith) b off_i off_j s)))
       (same_or j g))
       (same_or i g)
 
 -- ---- the place of an end is on the edge
-on_place_start : (u w : Corner) (q : Point) → IsPlaceOf q u → IsOnEdge q u w
+pub on_place_start : (u w : Corner) (q : Point) → IsPlaceOf q u → IsOnEdge q u w
 on_place_start u w q h = edge_of_segment u w q (place_on_segment u w q h.same_x h.same_y)
 
-on_place_end : (u w : Corner) (q : Point) → IsPlaceOf q w → IsOnEdge q u w
+pub on_place_end : (u w : Corner) (q : Point) → IsPlaceOf q w → IsOnEdge q u w
 on_place_end u w q h = on_edge_back w u q (on_place_start w u q h)
 
 -- ---- the part from corner 0 to corner z, beside the diagonal between the two
 first_follows : (n m z i : ℕ) → m ≡ z + 1 → z < n → i < m → i ≢ z → after m i ≡ after n i
 first_follows n m z i e h k off = grind (arith, nat_tests)
 
-closes : (m z : ℕ) → m ≡ z + 1 → after m z ≡ 0
+pub closes : (m z : ℕ) → m ≡ z + 1 → after m z ≡ 0
 closes m z e = grind (arith, nat_tests)
 
 before_z : (n m z f : ℕ) → m ≡ z + 1 → z < n → f < m → f ≢ z → z ≡ after n f → z ≡ after m f
@@ -94,18 +95,18 @@ from_last n f h e = grind (arith, nat_tests)
 not_to_last : (n m z f : ℕ) → m ≡ z + 1 → z + 1 < n → f < m → f ≢ z → n - 1 ≡ after n f → ⊥
 not_to_last n m z f e h k off i = grind (arith, nat_tests)
 
-last_follows : (n : ℕ) → 1 < n → after n (n - 1) ≡ 0
+pub last_follows : (n : ℕ) → 1 < n → after n (n - 1) ≡ 0
 last_follows n h = grind (arith, nat_tests)
 
 module _ (ring : List Corner) (z : ℕ) (within : z + 1 < length ring) (simple : MeetOnlyAsNeighbours ring)
     (diagonal : IsDiagonal ring 0 z) where
-  first_length : length (take (z + 1) ring) ≡ z + 1
+  pub first_length : length (take (z + 1) ring) ≡ z + 1
   first_length = length-take-le (z + 1) ring (omega arith)
 
-  first_corner : (i : ℕ) → i < length (take (z + 1) ring) → corner_at (take (z + 1) ring) i ≡ corner_at ring i
+  pub first_corner : (i : ℕ) → i < length (take (z + 1) ring) → corner_at (take (z + 1) ring) i ≡ corner_at ring i
   first_corner i b = get_or-take (z + 1) ring i origin (omega (arith, first_length))
 
-  first_is_part : IsPart (take (z + 1) ring) ring (λ i. i) z
+  pub first_is_part : IsPart (take (z + 1) ring) ring (λ i. i) z
   first_is_part = record {
     inside = λ i b. omega (arith, first_length);
     corners = first_corner;
@@ -158,9 +159,17 @@ module _ (ring : List Corner) (z : ℕ) (within : z + 1 < length ring) (simple :
       (segment_of_edge (corner_at ring 0) (corner_at ring z) q (on_edge_back (corner_at ring z) (corner_at ring 0) q (across q on)))))
 
 -- ---- the part from corner z on round to corner 0
-second_number : ℕ → ℕ → ℕ
+pub second_number : ℕ → ℕ → ℕ
 second_number z zero = 0
 second_number z (suc i) = z + i
+
+pub number_of_first : (z : ℕ) → second_number z 0 ≡ 0
+unfolding second_number
+number_of_first z = refl
+
+pub number_of_later : (z i : ℕ) → second_number z (suc i) ≡ z + i
+unfolding second_number
+number_of_later z i = refl
 
 past_end : (n i : ℕ) → n ≡ suc i → after n i ≡ 0
 past_end n i h = grind (arith, nat_tests)
@@ -174,7 +183,7 @@ second_follows n m z i e h k b = grind (arith, nat_tests)
 second_closes : (n m z i : ℕ) → m + z ≡ n + 1 → 1 < z → z + 1 < n → suc i + 1 ≡ m → after n (z + i) ≡ 0
 second_closes n m z i e h k b = grind (arith, nat_tests)
 
-after_zero : (m : ℕ) → 1 < m → after m 0 ≡ 1
+pub after_zero : (m : ℕ) → 1 < m → after m 0 ≡ 1
 after_zero m h = grind (arith, nat_tests)
 
 to_zero : (n m z i : ℕ) → m + z ≡ n + 1 → z + 1 < n → suc i < m → 0 ≡ after n (z + i) → 0 ≡ after m (suc i)
@@ -191,10 +200,10 @@ at_z n z h k = grind (arith, nat_tests)
 
 module _ (ring : List Corner) (z : ℕ) (late : 1 < z) (within : z + 1 < length ring) (simple : MeetOnlyAsNeighbours ring)
     (diagonal : IsDiagonal ring 0 z) where
-  second_length : length (corner_at ring 0 ∷ drop z ring) + z ≡ length ring + 1
+  pub second_length : length (corner_at ring 0 ∷ drop z ring) + z ≡ length ring + 1
   second_length = omega (arith, length-drop z ring)
 
-  second_corner : (i : ℕ) → corner_at (corner_at ring 0 ∷ drop z ring) i ≡ corner_at ring (second_number z i)
+  pub second_corner : (i : ℕ) → corner_at (corner_at ring 0 ∷ drop z ring) i ≡ corner_at ring (second_number z i)
   unfolding second_number
   second_corner zero = refl
   second_corner (suc i) = get_or-drop z ring i origin
@@ -224,7 +233,7 @@ module _ (ring : List Corner) (z : ℕ) (late : 1 < z) (within : z + 1 < length 
       ∙ sym (second_closes (length ring) (length (corner_at ring 0 ∷ drop z ring)) z i second_length late within (omega arith)))
       (cases_lt (suc (suc i)) (length (corner_at ring 0 ∷ drop z ring)))
 
-  second_is_part : IsPart (corner_at ring 0 ∷ drop z ring) ring (second_number z) 0
+  pub second_is_part : IsPart (corner_at ring 0 ∷ drop z ring) ring (second_number z) 0
   second_is_part = record {
     inside = second_inside;
     corners = λ i b. second_corner i;
