@@ -18,12 +18,7 @@ use Rattle.ring_core.proofs.BegunElsewhere.{ears_off_by_first}
 use Rattle.ring_core.proofs.FourCorners.{turns_alike}
 use Rattle.ring_core.proofs.DirectionKept.{direction_kept}
 use Rattle.ring_core.proofs.EarOffEdge.{ear_beside_ear}
-
--- where smaller rings have ears off each edge, so has one of n corners whose least corner, its first, is no ear
-abbrev pub HaveEarsByParts : ℕ → Type 0
-HaveEarsByParts n = ((m : ℕ) → 2 < m → m < n → HaveEarsOff m) → (ring : List Corner) (j : ℕ) → length ring ≡ n → j < length ring
-    → MeetOnlyAsNeighbours ring → IsLeftAtLeast ring 0 → Blocks ring 0 j
-    → (i : ℕ) → i < n → (k : ℕ) × (k < n) × (k ≢ i) × (k ≢ after n i) × IsFlatOrEar ring k
+use Rattle.ring_core.proofs.EarsOfParts.{ears_of_parts}
 
 -- ---- an ear, or a corner that blocks it
 blocked_or : (ring : List Corner) (k m : ℕ) → ((j : ℕ) × (j < m) × Blocks ring k j) ⊎ HasNone (Blocks ring k) m
@@ -63,37 +58,36 @@ three_have_ears ring v e simple l i b =
     (before 3 i, before_in 3 i b, third_not_from i b, third_not_to i b, inr (ear_of_three ring v (before 3 i) e l (before_in 3 i b)))
 
 -- ---- more corners
-module _ (by_parts : (n : ℕ) → HaveEarsByParts n) where
-  by_first : (n : ℕ) → 3 < n → ((m : ℕ) → 2 < m → m < n → HaveEarsOff m) → KeepTheirDirection n
-      → (ring : List Corner) → length ring ≡ n → MeetOnlyAsNeighbours ring → IsLeftAtLeast ring 0
-      → (i : ℕ) → i < n → (k : ℕ) × (k < n) × (k ≢ i) × (k ≢ after n i) × IsFlatOrEar ring k
-  by_first n big smaller keep ring e simple l i b =
+by_first : (n : ℕ) → 3 < n → ((m : ℕ) → 2 < m → m < n → HaveEarsOff m) → KeepTheirDirection n
+    → (ring : List Corner) → length ring ≡ n → MeetOnlyAsNeighbours ring → IsLeftAtLeast ring 0
+    → (i : ℕ) → i < n → (k : ℕ) × (k < n) × (k ≢ i) × (k ≢ after n i) × IsFlatOrEar ring k
+by_first n big smaller keep ring e simple l i b =
+    ⊎_elim
+    (λ x. ears_of_parts n smaller ring x.0 e x.1 simple l x.2 i b)
+    (λ none. ear_beside_ear n big (smaller (n - 1) (omega arith) (omega arith)) keep ring 0 e simple l
+    (record { turns_left = l.turns_left; is_empty = none }) i b)
+    (blocked_or ring 0 (length ring))
+
+-- both facts for up to n corners
+up_to : (n m : ℕ) → m ≤ n → 2 < m → HaveEarsOff m × (3 < m → KeepTheirDirection m)
+up_to zero m b big = absurd (omega arith)
+up_to (suc n) m b big =
+    ⊎_elim
+    (λ less. up_to n m (omega arith) big)
+    (λ not_less.
+    let keep : 3 < m → KeepTheirDirection m = λ more.
+    direction_kept m more (up_to n (m - 1) (omega arith) (omega arith)).0
+    (λ still. (up_to n (m - 1) (omega arith) (omega arith)).1 (omega arith)) in (
       ⊎_elim
-      (λ x. by_parts n smaller ring x.0 e x.1 simple l x.2 i b)
-      (λ none. ear_beside_ear n big (smaller (n - 1) (omega arith) (omega arith)) keep ring 0 e simple l
-      (record { turns_left = l.turns_left; is_empty = none }) i b)
-      (blocked_or ring 0 (length ring))
+          (λ more. ears_off_by_first m (by_first m more (λ k h c. (up_to n k (omega arith) h).0) (keep more)))
+          (λ no_more. subst HaveEarsOff (let e : 3 ≡ m = omega arith in e) three_have_ears)
+          (cases_lt 3 m),
+      keep,
+    ))
+    (cases_lt m (suc n))
 
-  -- both facts for up to n corners
-  up_to : (n m : ℕ) → m ≤ n → 2 < m → HaveEarsOff m × (3 < m → KeepTheirDirection m)
-  up_to zero m b big = absurd (omega arith)
-  up_to (suc n) m b big =
-      ⊎_elim
-      (λ less. up_to n m (omega arith) big)
-      (λ not_less.
-      let keep : 3 < m → KeepTheirDirection m = λ more.
-      direction_kept m more (up_to n (m - 1) (omega arith) (omega arith)).0
-      (λ still. (up_to n (m - 1) (omega arith) (omega arith)).1 (omega arith)) in (
-        ⊎_elim
-            (λ more. ears_off_by_first m (by_first m more (λ k h c. (up_to n k (omega arith) h).0) (keep more)))
-            (λ no_more. subst HaveEarsOff (let e : 3 ≡ m = omega arith in e) three_have_ears)
-            (cases_lt 3 m),
-        keep,
-      ))
-      (cases_lt m (suc n))
+pub have_ears_off : (n : ℕ) → 2 < n → HaveEarsOff n
+have_ears_off n big = (up_to n n (omega arith) big).0
 
-  pub have_ears_off : (n : ℕ) → 2 < n → HaveEarsOff n
-  have_ears_off n big = (up_to n n (omega arith) big).0
-
-  pub keep_their_direction : (n : ℕ) → 3 < n → KeepTheirDirection n
-  keep_their_direction n big = (up_to n n (omega arith) (omega arith)).1 big
+pub keep_their_direction : (n : ℕ) → 3 < n → KeepTheirDirection n
+keep_their_direction n big = (up_to n n (omega arith) (omega arith)).1 big
