@@ -1,14 +1,13 @@
 -- A ring that turns left at its least corner does so without it too, where that corner is an ear.
-use Rattle.std.proofs.Common.{◌≡◌, ◌≢◌, inl, inr, ⊎_elim, ℕ, ◌-◌, ◌<◌, ◌∙◌, sym, ap, subst, arith}
+use Rattle.std.proofs.Common.{◌≡◌, ◌≢◌, inl, inr, ⊎_elim, ℕ, ◌-◌, ◌<◌, ◌∙◌, sym, ap, subst, refl, arith}
 use Rattle.std.proofs.Common.{List, length}
 use Rattle.std.specs.List.{remove}
 use Rattle.std.proofs.lemmas.Bool.{cases_lt}
 use lib.IntN.{pos, neg_ℤ}
 use lib.Signed.{◌<ℤ◌}
 use Rattle.geo_exact.specs.declared.corner.Corner.{Corner}
-use Rattle.geo_exact.specs.Point.{corner_point}
 use Rattle.geo_exact.specs.Rings.{turned_round}
-use Rattle.geo_exact.specs.Turn.{turn, IsOnEdge}
+use Rattle.geo_exact.specs.Turn.{turn}
 use Rattle.geo_exact.specs.Places.{corner_at, after, before}
 use Rattle.geo_exact.proofs.Orders.{positive_not_zero}
 use Rattle.geo_exact.proofs.TurnLaws.{corner_on_line}
@@ -27,6 +26,23 @@ use Rattle.ring_core.proofs.LeastCorners.{not_both_left, right_turned, stays_lef
 use Rattle.ring_core.proofs.PutBack.{IsFarEar, far_ear, left_left, ear_left}
 use Rattle.ring_core.proofs.EarOffEdge.{ear_off_gap}
 use Rattle.ring_core.proofs.FourCorners.{turn_ends, not_right_of_four}
+
+-- ---- where any corner is clipped
+at_least : (ring : List Corner) (v : ℕ) → KeepTheirDirection (length ring) → MeetOnlyAsNeighbours ring → IsLeftAtLeast ring v
+    → IsFlatOrEar ring v → (u : ℕ) × IsLeftAtLeast (remove ring v) u
+at_least ring v keep simple l (inl flat) =
+    absurd (positive_not_zero (turn (previous ring v) (corner_at ring v) (next ring v)) l.turns_left
+    (turn_ends (previous ring v) (next ring v) (corner_at ring v)
+    ∙ ap neg_ℤ (corner_on_line (previous ring v) (next ring v) (corner_at ring v) flat)))
+at_least ring v keep simple l (inr ear) = keep ring v refl simple l ear
+
+pub clipped_left : (ring : List Corner) (v k : ℕ) → 3 < length ring → KeepTheirDirection (length ring) → MeetOnlyAsNeighbours ring
+    → IsLeftAtLeast ring v → k < length ring → IsFlatOrEar ring k → (u : ℕ) × IsLeftAtLeast (remove ring k) u
+clipped_left ring v k big keep simple l b x =
+    ⊎_elim
+    (λ e. subst (λ z. (u : ℕ) × IsLeftAtLeast (remove ring z) u) (sym e) (at_least ring v keep simple l (subst (IsFlatOrEar ring) e x)))
+    (λ off. (number_left k v, stays_left ring v k big simple l b off x))
+    (same_or k v)
 
 -- ---- a ring of more than four corners, and the same turned round, `other`: w is the least corner's number there
 module _ (other ring : List Corner) (to back : ℕ → ℕ) (h : IsTurnedRound other ring to back) (w : ℕ) (below : w < length ring)
@@ -90,8 +106,8 @@ module _ (other ring : List Corner) (to back : ℕ → ℕ) (h : IsTurnedRound o
         ∙ ap (λ n. after n w) (sym h.same.as_many))
 
     -- the ring without it turns left at its least corner, an ear still
-    clipped_left : IsLeftAtLeast (remove ring there) (number_left there (to w))
-    clipped_left =
+    left_there : IsLeftAtLeast (remove ring there) (number_left there (to w))
+    left_there =
         let m : IsLeast (remove ring there) (number_left there (to w)) =
         least_left ring (to w) there (least_of_left ring (to w) l) there_below not_least in
         record {
@@ -107,27 +123,13 @@ module _ (other ring : List Corner) (to back : ℕ → ℕ) (h : IsTurnedRound o
         (remove_twice ring there (to w) there_below l.below not_least)
         (keep (remove ring there) (number_left there (to w)) (omega (arith, one_fewer ring there there_below))
         (turned_clipped_simple other ring to back h (number_before w k) (omega arith) was_below simple far.flat_or_ear)
-        clipped_left
+        left_there
         (ear_left ring there (to w) there_below l.below (λ e. not_least (sym e)) not_following not_preceding ear))
 
     -- but turned round it keeps its direction too
-    ear_at_least : IsFlatOrEar (remove other w) r → (u : ℕ) × IsLeftAtLeast (remove (remove other w) r) u
-    ear_at_least (inl flat) =
-        absurd (positive_not_zero (turn (previous (remove other w) r) (corner_at (remove other w) r) (next (remove other w) r))
-        turned.turns_left
-        (straight (previous (remove other w) r) (next (remove other w) r) (corner_at (remove other w) r) flat))
-      where
-        straight : (p n c : Corner) → IsOnEdge (corner_point c) p n → turn p c n ≡ pos 0
-        straight p n c on = turn_ends p n c ∙ ap neg_ℤ (corner_on_line p n c on)
-    ear_at_least (inr e) = keep (remove other w) r rest_length rest_simple turned e
-
     turned_out : (u : ℕ) × IsLeftAtLeast (remove (remove other w) k) u
     turned_out =
-        ⊎_elim
-        (λ e. subst (λ z. (u : ℕ) × IsLeftAtLeast (remove (remove other w) z) u) (sym e)
-        (ear_at_least (subst (IsFlatOrEar (remove other w)) e x)))
-        (λ off. (number_left k r, stays_left (remove other w) r k (omega (arith, rest_length)) rest_simple turned b off x))
-        (same_or k r)
+        clipped_left (remove other w) r k (omega (arith, rest_length)) (subst KeepTheirDirection (sym rest_length) keep) rest_simple turned b x
 
     not_both_turned : ⊥
     not_both_turned =

@@ -37,3 +37,4 @@ pub mod EarOffEdge
 pub mod FourCorners
 pub mod DirectionKept
 pub mod HaveEars
+pub mod NeverStuck

@@ -35,7 +35,7 @@ zero_or_one : (w : ℤ) → (w ≡ pos 0) ⊎ (w ≡ pos 1) → pos 0 ≤ℤ w
 zero_or_one w (inl e) = omega (arith, ints)
 zero_or_one w (inr e) = omega (arith, ints)
 
-triangle_area : (a b c : Corner) → area2 (a ∷ b ∷ c ∷ []) ≡ turn a b c
+pub triangle_area : (a b c : Corner) → area2 (a ∷ b ∷ c ∷ []) ≡ turn a b c
 triangle_area a b c =
     grouped (edge_area2 (edge_of a b)) (edge_area2 (edge_of b c)) (edge_area2 (edge_of c a)) ∙ edge_area2_triangle a b c
   where
