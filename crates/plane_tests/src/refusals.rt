@@ -4,7 +4,7 @@
 use edge_chains::node;
 use geo_exact::{Corner, Corners};
 use refusing_alloc::Refusing;
-use ring_core::{ClipFault, Shape};
+use ring_core::Shape;
 use std::test::Fail;
 use test_builders::{corners, rectangle, shape_of, simple_ring, triangle};
 
@@ -62,10 +62,7 @@ fn clipping(rt: HostRuntime) -> Result<(), Fail> {
             assert!(rt; number > 1);
             return Ok(());
         }
-        assert!(rt;
-            matches!(clipped, Err(ClipFault::NoMemory)),
-            "at growth {number}"
-        );
+        assert!(rt; clipped.is_err(), "at growth {number}");
         let again = shape_of(&heap, simple_ring(&heap, &BENT)?)?;
         assert_eq!(rt;
             again.triangles.as_slice(),

@@ -3,6 +3,5 @@ pub mod Faults
 pub mod Clipping
 pub mod Sums
 pub mod Boxes
-pub mod Stuck
 pub mod Diagonals
 pub mod own

@@ -15,7 +15,6 @@ mod triangle;
 
 pub use boxes::bounds_of;
 pub use laws::{a_ring_is_clipped_in_one_way, edges_are_those_of_their_numbers};
-pub use rest::Rest;
 pub use ring::{Ring, RingFault};
-pub use shape::{ClipFault, Shape};
+pub use shape::Shape;
 pub use triangle::{Tri, Triangles};

@@ -1,4 +1,4 @@
-ghost use Rattle.std.specs.Prelude.{◌≡◌, IfOk, IfErr};
+ghost use Rattle.std.specs.Prelude.{◌≡◌, IfOk};
 ghost use Rattle.ring_core.specs.Clipping.{IsClippedTo};
 ghost use Rattle.std.specs.List.{All};
 ghost use Rattle.geo_exact.specs.Point.{Point};
@@ -6,7 +6,6 @@ ghost use Rattle.geo_exact.specs.Winding.{winding};
 ghost use Rattle.geo_exact.specs.Area.{area2};
 ghost use Rattle.ring_core.specs.Boxes.{HoldsTriangle};
 ghost use Rattle.ring_core.specs.Sums.{IsRoundAtMostOnce, MakeUp, area2_of_triangles, winding_of_triangles};
-ghost use Rattle.ring_core.specs.Stuck.{IsClipFault};
 
 use crate::boxes::bounds_of_all;
 use crate::ear::triangle_at;
@@ -46,43 +45,22 @@ impl<A: Allocator + Copy> Clone for Shape<A> {
     }
 }
 
-/// Why a ring was not clipped.
-#[derive(Debug, Drop)]
-pub enum ClipFault<A: Allocator> {
-    /// G4: after these triangles a rest of more than two corners has neither a flat corner nor an ear.
-    NoEar(Triangles<A>, Rest<A>),
-    /// An allocation was refused.
-    NoMemory,
-}
-
-impl<A: Allocator> From<AllocError> for ClipFault<A> {
-    ghost use Rattle.std.specs.Prelude.{◌≡◌};
-    ghost use Rattle.ring_core.specs.declared.shape.ClipFault.TheVariants.{NoMemory};
-
-    ghost from_gives = { λ _ fault. fault ≡ NoMemory };
-
-    fn from(_: AllocError) -> Self {
-        ClipFault::NoMemory
-    }
-}
-
 impl<A: Allocator + Copy> Shape<A> {
     /// Clips a ring to triangles: while more than two corners are left, the first flat corner is taken
-    /// out or, where there is none, the first ear, which becomes a triangle.
+    /// out or, where there is none, the first ear, which becomes a triangle. There always is one or the
+    /// other ([`a_simple_ring_has_two_ears`](crate::a_simple_ring_has_two_ears)).
     ///
     /// The time grows with the square of the number of corners. The ring is dropped on a fault.
     ///
     /// # Errors
     ///
-    /// [`ClipFault::NoEar`] (G4) where a rest has neither a flat corner nor an ear,
-    /// [`ClipFault::NoMemory`] where an allocation is refused.
-    pub fn clip(alloc: A, ring: Ring<A>) -> Result<Shape<A>, ClipFault<A>>
+    /// [`AllocError`] where an allocation is refused.
+    pub fn clip(alloc: A, ring: Ring<A>) -> Result<Shape<A>, AllocError>
         ensures ring { IfOk result (λ shape. shape.ring.corners ≡ ring.corners) }
         ensures clipped { IfOk result (λ shape. IsClippedTo ring.corners shape.triangles) }
         ensures windings { IfOk result (λ shape. (p : Point) → winding p ring.corners ≡ winding_of_triangles p shape.triangles) }
         ensures each_once { IfOk result (λ shape. (p : Point) → All (IsRoundAtMostOnce p) shape.triangles) }
         ensures areas { IfOk result (λ shape. area2 ring.corners ≡ area2_of_triangles shape.triangles) }
-        ensures stuck { IfErr result (λ fault. IsClipFault ring.corners fault) }
     {
         let mut rest = Rest::of(alloc, ring.corners.as_slice())?;
         let mut triangles = Triangles::new(alloc);
@@ -93,7 +71,7 @@ impl<A: Allocator + Copy> Shape<A> {
                 triangles.push(triangle_at(rest.as_slice(), k))?;
                 rest.remove(k);
             } else {
-                return Err(ClipFault::NoEar(triangles, rest));
+                unreachable!()
             }
         }
         let bounds = bounds_of_all(triangles.as_slice());

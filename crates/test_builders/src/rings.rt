@@ -102,12 +102,9 @@ pub fn simple_ring<A: Allocator>(alloc: A, places: &[Place]) -> Result<Ring<A>, 
 ///
 /// # Errors
 ///
-/// Where it is not clipped.
+/// Where memory is wanting.
 pub fn shape_of<A: Allocator + Copy>(alloc: A, ring: Ring<A>) -> Result<Shape<A>, Fail> {
-    match Shape::clip(alloc, ring) {
-        Ok(shape) => Ok(shape),
-        Err(_) => Err(Fail::new("not clipped")),
-    }
+    Ok(Shape::clip(alloc, ring)?)
 }
 
 /// The shape of the simple ring of the corners at these places.

@@ -1,6 +1,7 @@
 use Rattle.std.proofs.Common.{◌≡◌, ◌∙◌, ap, ◌<◌, length, arith}
 use Rattle.ring_core.proofs.Corners.{three_corners}
 use Rattle.ring_core.proofs.Clipped.{make_up}
+use Rattle.ring_core.proofs.NeverStuck.{never_stuck}
 use Rattle.ring_core.proofs.ClipSteps.{clip_start, clip_flat, clip_ear, one_less}
 use Rattle.ring_core.proofs.shape.Shape.clip.Goals as goal
 
@@ -50,3 +51,8 @@ invariant_of-result g c =
       bounded = rw c.as_slice-2.ensures at c.bounds_of_all-bounds.ensures;
       made_up = make_up c.args.ring.corners c.loop-rest.triangles (c.loop-rest.rest, c.loop-rest.invariant.clipped, two);
     }
+
+pub unreachable-requires : goal.unreachable-requires
+unreachable-requires g c =
+    never_stuck c.args.ring.corners c.args.ring.is_simple c.loop-rest.triangles c.loop-rest.rest c.loop-rest.invariant.clipped
+    (omega (arith, ap length c.as_slice-in-loop-rest.ensures)) c.in_default.ensures c.in_default-first_ear.ensures
