@@ -22,14 +22,14 @@ use Rattle.geo_exact.proofs.Sides.{side, side_expr}
 use Rattle.geo_exact.proofs.Ways.{beside, count_beside, path_changes, segment_back}
 
 -- ---- corners after v, by x and then by y: (a, b) is the way there from v
-abbrev IsAhead : ℤ → ℤ → Type 0
+abbrev pub IsAhead : ℤ → ℤ → Type 0
 IsAhead a b = (pos 0 <ℤ a) ⊎ ((a ≡ pos 0) × (pos 0 <ℤ b))
 
-ahead : (v u : Corner) → IsBefore v u → IsAhead (u.x -ℤ v.x) (u.y -ℤ v.y)
+pub ahead : (v u : Corner) → IsBefore v u → IsAhead (u.x -ℤ v.x) (u.y -ℤ v.y)
 ahead v u (inl h) = inl (omega (arith, ints))
 ahead v u (inr h) = inr (omega (arith, ints, h.0), omega (arith, ints, h.1))
 
-not_behind : (a b : ℤ) → IsAhead a b → pos 0 ≤ℤ a
+pub not_behind : (a b : ℤ) → IsAhead a b → pos 0 ≤ℤ a
 not_behind a b (inl h) = omega (arith, ints)
 not_behind a b (inr h) = omega (arith, ints, h.0)
 

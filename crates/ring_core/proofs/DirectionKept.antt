@@ -129,7 +129,8 @@ module _ (other ring : List Corner) (to back : ℕ → ℕ) (h : IsTurnedRound o
     -- but turned round it keeps its direction too
     turned_out : (u : ℕ) × IsLeftAtLeast (remove (remove other w) k) u
     turned_out =
-        clipped_left (remove other w) r k (omega (arith, rest_length)) (subst KeepTheirDirection (sym rest_length) keep) rest_simple turned b x
+        clipped_left (remove other w) r k (omega (arith, rest_length)) (subst KeepTheirDirection (sym rest_length) keep) rest_simple turned
+        b x
 
     not_both_turned : ⊥
     not_both_turned =

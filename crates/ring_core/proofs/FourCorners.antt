@@ -17,7 +17,7 @@ use Rattle.geo_exact.proofs.TurnLaws.{turn_cycle, turn_swap}
 use Rattle.ring_core.specs.Simple.{MeetOnlyAsNeighbours}
 use Rattle.ring_core.specs.Clipping.{IsInTriangle, previous, next, IsEar}
 use Rattle.ring_core.proofs.RoundNumbers.{before_in, after_in, before_other, after_other}
-use Rattle.ring_core.proofs.StillLeft.{crosses, before_after, sides_apart, sides_apart_before}
+use Rattle.ring_core.proofs.StillLeft.{opposite, opposite_up, crosses, before_after, sides_apart, sides_apart_before}
 use Rattle.ring_core.proofs.EarWords.{IsLeftAtLeast}
 use Rattle.ring_core.proofs.WithoutCorner.{number_left, one_fewer, left_within, corner_left, next_kept, previous_kept}
 use Rattle.ring_core.proofs.TurnedRound.{turn_back}
@@ -28,14 +28,8 @@ use Rattle.ring_core.proofs.PutBack.{before_is_outside}
 pub turn_ends : (a b c : Corner) → turn a c b ≡ neg_ℤ (turn a b c)
 turn_ends a b c = sym (turn_cycle a c b) ∙ turn_swap b c a ∙ ap neg_ℤ (turn_cycle a b c)
 
-opposite_up : (x y : ℤ) → y ≡ neg_ℤ x → x ≤ℤ pos 0 → pos 0 ≤ℤ y
-opposite_up x y e h = omega (arith, ints)
-
 opposite_above : (x y : ℤ) → y ≡ neg_ℤ x → x <ℤ pos 0 → pos 0 <ℤ y
 opposite_above x y e h = omega (arith, ints)
-
-opposite_down : (x y : ℤ) → y ≡ neg_ℤ x → pos 0 <ℤ x → y ≤ℤ pos 0
-opposite_down x y e h = omega (arith, ints)
 
 -- v is before the three others, and o is not in its left turn: where a o p is a right turn, two of the four edges cross
 module _ (v a o p : Corner) (left : pos 0 <ℤ turn p v a) (right : turn a o p <ℤ pos 0) (first : IsBefore v a) (second : IsBefore v o)
@@ -52,7 +46,7 @@ module _ (v a o p : Corner) (left : pos 0 <ℤ turn p v a) (right : turn a o p <
   beyond_to : turn p v o ≤ℤ pos 0 → pos 0 <ℤ turn v a o → ⊥
   beyond_to h k =
       crosses v p a o (subst (λ z. pos 0 <ℤ z) (sym (turn_cycle v a o)) k) right
-      (opposite_down (turn p v a) (turn v p a) (turn_swap p v a) left) (opposite_up (turn p v o) (turn v p o) (turn_swap p v o) h) none_to
+      (opposite (turn p v a) (turn v p a) (turn_swap p v a) left) (opposite_up (turn p v o) (turn v p o) (turn_swap p v o) h) none_to
 
   before_all : turn p v o ≤ℤ pos 0 → turn v a o ≤ℤ pos 0 → ⊥
   before_all h k =

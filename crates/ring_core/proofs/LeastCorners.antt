@@ -204,10 +204,13 @@ pub least_of_left : (ring : List Corner) (v : ℕ) → IsLeftAtLeast ring v → 
 least_of_left ring v l = record { below = l.below; least = l.least }
 
 -- ---- the ring turned round
-module _ (other ring : List Corner) (to back : ℕ → ℕ) (h : IsTurnedRound other ring to back) where
-  both_signs : (x y : ℤ) → x ≡ neg_ℤ y → pos 0 <ℤ x → pos 0 <ℤ y → ⊥
-  both_signs x y e i j = omega (arith, ints)
+pub both_signs : (x y : ℤ) → x ≡ neg_ℤ y → pos 0 <ℤ x → pos 0 <ℤ y → ⊥
+both_signs x y e i j = omega (arith, ints)
 
+turned_sign : (x y : ℤ) → x ≡ neg_ℤ y → x <ℤ pos 0 → pos 0 <ℤ y
+turned_sign x y e i = omega (arith, ints)
+
+module _ (other ring : List Corner) (to back : ℕ → ℕ) (h : IsTurnedRound other ring to back) where
   -- both do not turn left at their least corner
   pub not_both_left : (v w : ℕ) → IsLeftAtLeast other v → IsLeftAtLeast ring w → ⊥
   not_both_left v w l m =
@@ -220,9 +223,6 @@ module _ (other ring : List Corner) (to back : ℕ → ℕ) (h : IsTurnedRound o
       ≡ neg_ℤ (turn (previous ring z) (corner_at ring z) (next ring z)))
       e (turn_there other ring to back h v b))
       l.turns_left m.turns_left
-
-  turned_sign : (x y : ℤ) → x ≡ neg_ℤ y → x <ℤ pos 0 → pos 0 <ℤ y
-  turned_sign x y e i = omega (arith, ints)
 
   -- where the one turns right there, the other turns left
   pub right_turned : (v : ℕ) → IsLeast other v → turn (previous other v) (corner_at other v) (next other v) <ℤ pos 0

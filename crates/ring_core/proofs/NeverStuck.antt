@@ -2,8 +2,7 @@
 use Rattle.std.proofs.Common.{◌≡◌, inl, inr, ⊎_elim, ℕ, zero, suc, ◌<◌, ◌∙◌, sym, ap, subst, refl, arith, List, [], ◌∷◌, length}
 use Rattle.std.specs.List.{remove}
 use Rattle.std.proofs.lemmas.Bool.{cases_lt}
-use Rattle.std.proofs.lemmas.Int.{ints}
-use lib.IntN.{ℤ, pos, neg_ℤ}
+use lib.IntN.{pos}
 use lib.Signed.{◌<ℤ◌}
 use Rattle.geo_exact.specs.declared.corner.Corner.{Corner}
 use Rattle.geo_exact.specs.Turn.{turn}
@@ -22,7 +21,7 @@ use Rattle.ring_core.proofs.EarWords.{IsLeftAtLeast, IsFlatOrEar}
 use Rattle.ring_core.proofs.Renumbered.{IsLeast}
 use Rattle.ring_core.proofs.WithoutCorner.{one_fewer}
 use Rattle.ring_core.proofs.TurnedRound.{turned_back, is_turned_round, turned_length, simple_here, number_round}
-use Rattle.ring_core.proofs.LeastCorners.{AreApart, are_apart, has_least, left_or_right, right_turned}
+use Rattle.ring_core.proofs.LeastCorners.{AreApart, are_apart, has_least, left_or_right, both_signs, right_turned}
 use Rattle.ring_core.proofs.NoNegativeWinding.{triangle_area, winds_forward}
 use Rattle.ring_core.proofs.DirectionKept.{clipped_left}
 use Rattle.ring_core.proofs.HaveEars.{have_ears_off, keep_their_direction}
@@ -67,14 +66,11 @@ module _ (ring : List Corner) (big : 2 < length ring) (simple : IsSimpleRing rin
       (λ no_more. triangle_apart ring (omega arith) simple.counterclockwise)
       (cases_lt 3 (length ring))
 
-  clockwise : (x y : ℤ) → x ≡ neg_ℤ y → pos 0 <ℤ x → pos 0 <ℤ y → ⊥
-  clockwise x y e h k = omega (arith, ints)
-
   -- turned round it would have a positive area too
   not_right : (v : ℕ) → IsLeast ring v → turn (previous ring v) (corner_at ring v) (next ring v) <ℤ pos 0 → ⊥
   not_right v l right =
       let to : ℕ → ℕ = number_round (length ring) in
-      clockwise (area2 (turned_round ring)) (area2 ring) (area2_turned_round ring)
+      both_signs (area2 (turned_round ring)) (area2 ring) (area2_turned_round ring)
       (winds_forward (length (turned_round ring)) (omega (arith, turned_length ring)) (λ m h b. have_ears_off m h) (turned_round ring) (to v) refl
       (simple_here (turned_round ring) ring to to (is_turned_round ring) simple.simple)
       (right_turned ring (turned_round ring) to to (turned_back (turned_round ring) ring to to (is_turned_round ring)) v l right)).area

@@ -12,6 +12,7 @@ use Rattle.geo_exact.proofs.Orders.{le_both, positive_not_zero}
 use Rattle.geo_exact.proofs.Signs.{mul_pos, mul_not_neg}
 use Rattle.geo_exact.proofs.Polynomials.{var, lit, add, mul, sub, same_by}
 use Rattle.geo_exact.proofs.TurnLaws.{turn_expr}
+use Rattle.geo_exact.proofs.Wedges.{IsAhead, ahead, not_behind}
 use Rattle.ring_core.specs.Clipping.{IsInTriangle, previous, next, IsFlat, Blocks, IsEar}
 use Rattle.ring_core.specs.own.Kinds.{number_before}
 use Rattle.ring_core.proofs.RoundNumbers.{before_in, after_in}
@@ -24,18 +25,6 @@ use Rattle.ring_core.proofs.WithoutCorner.{gap_closes, number_next, number_previ
 use Rattle.ring_core.proofs.LeastCorners.{is_before_of}
 
 -- ---- a corner before the three of a left turn is not in their closed triangle
--- (x, y) is the way from a corner to one after it
-abbrev IsAhead : ℤ → ℤ → Type 0
-IsAhead x y = (pos 0 <ℤ x) ⊎ ((x ≡ pos 0) × (pos 0 <ℤ y))
-
-ahead : (q c : Corner) → IsBefore q c → IsAhead (c.x -ℤ q.x) (c.y -ℤ q.y)
-ahead q c (inl h) = inl (omega (arith, ints))
-ahead q c (inr h) = inr (omega (arith, ints, h.0), omega (arith, ints, h.1))
-
-not_behind : (x y : ℤ) → IsAhead x y → pos 0 ≤ℤ x
-not_behind x y (inl h) = omega (arith, ints)
-not_behind x y (inr h) = omega (arith, ints, h.0)
-
 no_times : (k y : ℤ) → k ≡ pos 0 → k *ℤ y ≡ pos 0
 no_times k y e = ap (λ z. z *ℤ y) e ∙ zero y
   where

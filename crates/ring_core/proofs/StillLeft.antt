@@ -22,10 +22,10 @@ use Rattle.ring_core.proofs.Gaps.{corner_mean}
 use Rattle.ring_core.proofs.LeftSimple.{apart_meet, after_before}
 
 -- ---- signs, over plain numbers
-opposite : (x y : ℤ) → y ≡ neg_ℤ x → pos 0 <ℤ x → y ≤ℤ pos 0
+pub opposite : (x y : ℤ) → y ≡ neg_ℤ x → pos 0 <ℤ x → y ≤ℤ pos 0
 opposite x y e h = omega (arith, ints)
 
-opposite_up : (x y : ℤ) → y ≡ neg_ℤ x → x ≤ℤ pos 0 → pos 0 ≤ℤ y
+pub opposite_up : (x y : ℤ) → y ≡ neg_ℤ x → x ≤ℤ pos 0 → pos 0 ≤ℤ y
 opposite_up x y e h = omega (arith, ints)
 
 -- a mean of 0 and t that is positive
