@@ -15,6 +15,7 @@ use Rattle.geo_exact.proofs.Ways.{winding_along}
 use Rattle.ring_core.specs.Simple.{IsOnEdgeAt, MeetOnlyAsNeighbours}
 use Rattle.ring_core.specs.Diagonals.{IsDiagonal}
 use Rattle.ring_core.proofs.EdgeNumbers.{on_ring_by_number}
+use Rattle.ring_core.proofs.LeastCorners.{are_apart, place_of}
 use Rattle.ring_core.proofs.LeftSimple.{same_or, apart_meet, after_before}
 use Rattle.ring_core.proofs.PartsOfRings.{IsPart, ring_edge, on_place_start, on_place_end}
 use Rattle.ring_core.proofs.RoundNumbers.{before_in, after_in}
@@ -22,9 +23,6 @@ use Rattle.ring_core.proofs.RoundNumbers.{before_in, after_in}
 -- ---- corners and edges of a ring whose edges meet only as neighbours
 not_in_a_row : (n c j : ℕ) → 3 < n → c < n → j ≡ after n c → before n c ≢ after n j
 not_in_a_row n c j h i e = grind (arith, nat_tests)
-
-not_two_before : (n c d : ℕ) → 3 < n → c < n → d < n → after n d ≡ c → before n d ≢ c
-not_two_before n c d h i j e = grind (arith, nat_tests)
 
 place_itself : (c : Corner) → IsPlaceOf (corner_point c) c
 place_itself c = record { same_x = once c.x; same_y = once c.y }
@@ -48,19 +46,6 @@ module _ (ring : List Corner) (big : 3 < length ring) (simple : MeetOnlyAsNeighb
       (on_place_start (corner_at ring c) (corner_at ring (after (length ring) c)) q at)
       (λ s. ⊎_elim (λ x. not_to (sym x.0)) (λ x. off x.0) s))
       (same_or j (after (length ring) c))
-
-  -- no two corners are at one place
-  pub corners_apart : (c d : ℕ) → c < length ring → d < length ring → d ≢ c
-      → (q : Point) → IsPlaceOf q (corner_at ring c) → IsPlaceOf q (corner_at ring d) → ⊥
-  corners_apart c d bc bd not q at_c at_d =
-      ⊎_elim
-      (λ e. off_other_edges c (before (length ring) d) bc (before_in (length ring) d bd)
-      (not_two_before (length ring) c d big bc bd e) (λ f. not (sym (after_before (length ring) d bd) ∙ f)) q
-      (subst (λ k. IsOnEdge q (corner_at ring (before (length ring) d)) (corner_at ring k)) (sym (after_before (length ring) d bd))
-      (on_place_end (corner_at ring (before (length ring) d)) (corner_at ring d) q at_d)) at_c)
-      (λ off. off_other_edges c d bc bd not off q
-      (on_place_start (corner_at ring d) (corner_at ring (after (length ring) d)) q at_d) at_c)
-      (same_or (after (length ring) d) c)
 
 -- ---- parts
 -- corner j of the ring is none of the part, whose corner i is corner `number i` of the ring
@@ -127,10 +112,10 @@ module _ (part ring : List Corner) (number : ℕ → ℕ) (g z : ℕ) (big : 3 <
       let r = (on_ring_by_number (corner_point (corner_at ring d)) part).0 on_part in
       ⊎_elim
       (λ e. ⊎_elim
-      (λ at. corners_apart ring big simple 0 d (subst (λ k. k < length ring) has_start.2 (h.is_part.inside has_start.0 has_start.1)) b
-      (λ f. beyond has_start.0 has_start.1 (has_start.2 ∙ sym f)) (corner_point (corner_at ring d)) at (place_itself (corner_at ring d)))
-      (λ at. corners_apart ring big simple z d end_below b
-      (λ f. beyond has_end.0 has_end.1 (has_end.2 ∙ sym f)) (corner_point (corner_at ring d)) at (place_itself (corner_at ring d)))
+      (λ at. are_apart ring big simple d 0 b (subst (λ k. k < length ring) has_start.2 (h.is_part.inside has_start.0 has_start.1))
+      (λ f. beyond has_start.0 has_start.1 (has_start.2 ∙ sym f)) (place_of (corner_at ring d) (corner_at ring 0) at))
+      (λ at. are_apart ring big simple d z b end_below
+      (λ f. beyond has_end.0 has_end.1 (has_end.2 ∙ sym f)) (place_of (corner_at ring d) (corner_at ring z) at))
       (h.diagonal d (corner_point (corner_at ring d)) b (on_edge_start (corner_at ring d) (corner_at ring (after (length ring) d)))
       (across (corner_point (corner_at ring d)) (subst (λ i. IsOnEdgeAt (corner_point (corner_at ring d)) part i) e r.2))))
       (λ off. off_other_edges ring big simple d (number r.0) b (h.is_part.inside r.0 r.1) (beyond r.0 r.1)

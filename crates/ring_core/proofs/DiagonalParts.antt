@@ -28,8 +28,8 @@ use Rattle.ring_core.proofs.LeastCorners.{is_before_of}
 use Rattle.ring_core.proofs.LeftSimple.{apart_meet, after_before, before_of_after}
 use Rattle.ring_core.proofs.PartsOfRings.{IsPart, first_length, first_corner, first_is_part, closes}
 use Rattle.ring_core.proofs.PartsOfRings.{second_number, second_length, second_corner, second_is_part, number_of_first, number_of_later}
-use Rattle.ring_core.proofs.PartsOfRings.{after_zero, last_follows, ring_edge}
-use Rattle.ring_core.proofs.RoundNumbers.{before_in, before_first, after_inner}
+use Rattle.ring_core.proofs.PartsOfRings.{after_zero, last_follows, not_to_last, ring_edge}
+use Rattle.ring_core.proofs.RoundNumbers.{before_in, before_other, before_first, after_inner}
 use Rattle.ring_core.proofs.SeenOutside.{seen_outside}
 
 -- the part from corner 0 to corner z, and that from corner z on round to corner 0
@@ -40,15 +40,6 @@ abbrev pub second_part : List Corner → ℕ → List Corner
 second_part ring z = corner_at ring 0 ∷ drop z ring
 
 -- ---- numbers and signs
-before_round : (n : ℕ) → 1 < n → before n 0 ≡ n - 1
-before_round n h = grind (arith, nat_tests)
-
-not_to_last : (n z i : ℕ) → z + 1 < n → i < z → n - 1 ≡ after n i → ⊥
-not_to_last n z i h k e = grind (arith, nat_tests)
-
-not_to_second : (n z i : ℕ) → 1 < n → 1 < z → z + i ≡ after n 0 → ⊥
-not_to_second n z i h k e = grind (arith, nat_tests)
-
 not_to_first : (n j : ℕ) → j + 1 < n → 0 ≡ after n j → ⊥
 not_to_first n j h e = grind (arith, nat_tests)
 
@@ -82,7 +73,7 @@ module _ (ring : List Corner) (z : ℕ) (late : 1 < z) (within : z + 1 < length 
   next_is = ap (corner_at ring) (after_inner (length ring) 0 (omega arith))
 
   previous_is : previous ring 0 ≡ corner_at ring (length ring - 1)
-  previous_is = ap (corner_at ring) (before_round (length ring) (omega arith))
+  previous_is = ap (corner_at ring) (before_first (length ring) (length ring - 1) (omega arith))
 
   -- ---- the first part
   first_above : z < length (first_part ring z)
@@ -151,7 +142,8 @@ module _ (ring : List Corner) (z : ℕ) (late : 1 < z) (within : z + 1 < length 
             (subst (λ c. IsOnSegment q (corner_point c) (corner_point (corner_at ring (length ring - 1))))
             (first_at 0 (omega (arith, first_above))) way))))
             (λ s. ⊎_elim
-            (λ x. not_to_last (length ring) z i within (omega (arith, first_length ring z within simple diagonal)) x.0)
+            (λ x. not_to_last (length ring) (length (first_part ring z)) z i (first_length ring z within simple diagonal) within
+            (omega arith) (λ e. omega (arith, first_length ring z within simple diagonal)) x.0)
             (λ x. let e = x.0 ∙ last_follows (length ring) (omega arith) in omega arith) s);
         left = first_left.turns_left;
         outside = inr
@@ -213,7 +205,7 @@ module _ (ring : List Corner) (z : ℕ) (late : 1 < z) (within : z + 1 < length 
       (sym (number_of_first z)
       ∙ sym (ap (second_number z) (after_before (length (second_part ring z)) 0 (omega (arith, second_long))))
       ∙ second_of.follows (before (length (second_part ring z)) 0) (before_in (length (second_part ring z)) 0 (omega (arith, second_long)))
-      (λ e. let f = before_round (length (second_part ring z)) (omega (arith, second_long)) in omega (arith, second_long)))
+      (λ e. before_other (length (second_part ring z)) 0 second_long (omega (arith, second_long)) (sym e)))
 
   second_previous : previous (second_part ring z) 0 ≡ previous ring 0
   second_previous = second_at (before (length (second_part ring z)) 0) ∙ ap (corner_at ring) number_of_last

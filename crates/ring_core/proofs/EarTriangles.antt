@@ -28,7 +28,7 @@ use Rattle.ring_core.proofs.ClipSteps.{one_less}
 use Rattle.ring_core.proofs.Clipped.{triangle_out, two_left}
 use Rattle.ring_core.proofs.Diagonals.{inside_off, left_round}
 use Rattle.ring_core.proofs.EdgeNumbers.{on_ring_by_number}
-use Rattle.ring_core.proofs.Gaps.{ear_meets}
+use Rattle.ring_core.proofs.Gaps.{both, ear_meets}
 use Rattle.ring_core.proofs.LeftSimple.{same_or, after_before, beside, outside}
 use Rattle.ring_core.proofs.PartsOfRings.{on_place_start, on_place_end}
 use Rattle.ring_core.proofs.RoundNumbers.{before_in, after_in}
@@ -62,9 +62,6 @@ not_right_between a b q p r s h i =
     (subst (λ z. pos 0 ≤ℤ z) (sym (turn_mean a b q p r s))
     (both (s.m *ℤ turn_at a b p) (s.n *ℤ turn_at a b r) (mul_not_neg s.m (turn_at a b p) s.m_not_negative h)
     (mul_not_neg s.n (turn_at a b r) s.n_not_negative i)))
-  where
-    both : (x y : ℤ) → pos 0 ≤ℤ x → pos 0 ≤ℤ y → pos 0 ≤ℤ (x +ℤ y)
-    both x y h k = omega (arith, ints)
 
 -- ---- numbers and signs
 closes_three : (n k : ℕ) → 2 < n → n ≤ 3 → k < n → after n (after n k) ≡ before n k

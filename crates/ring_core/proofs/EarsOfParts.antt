@@ -40,7 +40,7 @@ number_past z zero a b = absurd (a refl)
 number_past z (suc zero) a b = absurd (b refl)
 number_past z (suc (suc i)) a b = let e = number_of_later z (suc i) in omega arith
 
--- without a flat corner or an ear, other than its first corner, the least, a ring goes round nothing clockwise
+-- without a flat corner or an ear that is not its first corner, the least, a ring goes round nothing clockwise
 without_ear : (n : ℕ) → ((m : ℕ) → 2 < m → m < n → HaveEarsOff m) → (part : List Corner) → length part ≤ n → MeetOnlyAsNeighbours part
     → IsLeftAtLeast part 0 → (k : ℕ) → k < length part → k ≢ 0 → IsFlatOrEar part k → 3 < length part
     → (q : Point) → pos 0 ≤ℤ winding q (remove part k)

@@ -32,7 +32,7 @@ cancels s t = same (s *ℤ t) (neg_ℤ t *ℤ s) (opposite s t)
     same : (x y : ℤ) → y ≡ neg_ℤ x → y +ℤ x ≡ pos 0
     same x y e = omega (arith, ints)
 
-both : (x y : ℤ) → pos 0 ≤ℤ x → pos 0 ≤ℤ y → pos 0 ≤ℤ (x +ℤ y)
+pub both : (x y : ℤ) → pos 0 ≤ℤ x → pos 0 ≤ℤ y → pos 0 ≤ℤ (x +ℤ y)
 both x y h k = omega (arith, ints)
 
 -- ---- in the triangle p k n, counterclockwise: a point q off the sides at k, and a corner v outside

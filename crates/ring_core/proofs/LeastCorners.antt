@@ -35,7 +35,7 @@ abbrev pub AreApart : List Corner → Type 0
 AreApart ring = (i j : ℕ) → i < length ring → j < length ring → i ≢ j → corner_at ring i ≢ corner_at ring j
 
 -- ---- simple rings of more than three corners have no corner twice
-place_of : (c d : Corner) → IsPlaceOf (corner_point c) d → c ≡ d
+pub place_of : (c d : Corner) → IsPlaceOf (corner_point c) d → c ≡ d
 place_of c d h = corner_same c d (one c.x d.x h.same_x) (one c.y d.y h.same_y)
   where
     one : (x y : ℤ) → x ≡ y *ℤ pos 1 → x ≡ y

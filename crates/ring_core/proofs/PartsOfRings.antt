@@ -92,7 +92,7 @@ not_behind_z n m z f e h k off i = grind (arith, nat_tests)
 from_last : (n f : ℕ) → 1 < n → f ≡ after n (n - 1) → f ≡ 0
 from_last n f h e = grind (arith, nat_tests)
 
-not_to_last : (n m z f : ℕ) → m ≡ z + 1 → z + 1 < n → f < m → f ≢ z → n - 1 ≡ after n f → ⊥
+pub not_to_last : (n m z f : ℕ) → m ≡ z + 1 → z + 1 < n → f < m → f ≢ z → n - 1 ≡ after n f → ⊥
 not_to_last n m z f e h k off i = grind (arith, nat_tests)
 
 pub last_follows : (n : ℕ) → 1 < n → after n (n - 1) ≡ 0
