@@ -1,9 +1,9 @@
 //! The bytes of layer files.
 
 ghost use Rattle.std.specs.Prelude.{◌≤◌, ◌+◌, length};
-ghost use Rattle.geo_exact.specs.declared.limits.TheConstants.{LAYER_RECORDS, RING_CORNERS};
+ghost use Rattle.geo_exact.specs.declared.limits.TheConstants.{LAYER_RECORDS};
 
-use geo_exact::{Corner, write_coord};
+use geo_exact::{Corner, Corners, write_coord};
 use std::alloc::{AllocError, Allocator};
 
 /// The double 0.
@@ -147,25 +147,74 @@ pub fn squares_in_a_row<A: Allocator + Copy>(
 /// # Errors
 ///
 /// [`AllocError`] where memory is wanting.
-pub fn ring_file<A: Allocator + Copy>(alloc: A, ring: &[Corner]) -> Result<Vec<u8, A>, AllocError>
-    requires { length ring.now ≤ RING_CORNERS }
-{
-    let points = ring.len() as u32 + 1;
-    let mut file = header(alloc, 50 + 4 + 24 + 8 * points)?;
-    file.extend_from_slice(&[0, 0, 0, 1])?;
-    file.extend_from_slice(&(24 + 8 * points).to_be_bytes())?;
+pub fn ring_file<A: Allocator + Copy>(alloc: A, ring: &[Corner]) -> Result<Vec<u8, A>, AllocError> {
+    let mut file = header(alloc, 50u32.wrapping_add(record_words(ring)))?;
+    extend_by_record(&mut file, 1, ring)?;
+    Ok(file)
+}
+
+/// The main file of these rings, as [`ring_file`] has one, numbered from 1; a list of no corner is a null shape.
+///
+/// # Errors
+///
+/// [`AllocError`] where memory is wanting.
+pub fn layer_file<A: Allocator + Copy>(
+    alloc: A,
+    rings: &[Corners<A>],
+) -> Result<Vec<u8, A>, AllocError> {
+    let mut words = 50u32;
+    for ring in rings {
+        words = words.wrapping_add(record_words(ring.as_slice()));
+    }
+    let mut file = header(alloc, words)?;
+    let mut number = 0u32;
+    for ring in rings {
+        number = number.wrapping_add(1);
+        extend_by_record(&mut file, number, ring.as_slice())?;
+    }
+    Ok(file)
+}
+
+/// How many words the record of a ring takes, its own header among them; a ring of no corner is a null shape.
+fn record_words(ring: &[Corner]) -> u32 {
+    content_words(ring).wrapping_add(4)
+}
+
+fn content_words(ring: &[Corner]) -> u32 {
+    if ring.is_empty() {
+        2
+    } else {
+        point_count(ring).wrapping_mul(8).wrapping_add(24)
+    }
+}
+
+/// The points of a ring that is closed by its first corner.
+fn point_count(ring: &[Corner]) -> u32 {
+    u32::try_from(ring.len())
+        .unwrap_or(u32::MAX)
+        .wrapping_add(1)
+}
+
+fn extend_by_record<A: Allocator>(
+    file: &mut Vec<u8, A>,
+    number: u32,
+    ring: &[Corner],
+) -> Result<(), AllocError> {
+    file.extend_from_slice(&number.to_be_bytes())?;
+    file.extend_from_slice(&content_words(ring).to_be_bytes())?;
+    let Some(first) = ring.first() else {
+        return file.extend_from_slice(&[0; 4]);
+    };
     file.extend_from_slice(&[5, 0, 0, 0])?;
     file.extend_from_slice(&[0; 32])?;
     file.extend_from_slice(&[1, 0, 0, 0])?;
-    file.extend_from_slice(&points.to_le_bytes())?;
+    file.extend_from_slice(&point_count(ring).to_le_bytes())?;
     file.extend_from_slice(&[0, 0, 0, 0])?;
-    if let Some(first) = ring.first() {
-        extend_by_point(&mut file, *first)?;
-    }
+    extend_by_point(file, *first)?;
     for corner in ring.iter().rev() {
-        extend_by_point(&mut file, *corner)?;
+        extend_by_point(file, *corner)?;
     }
-    Ok(file)
+    Ok(())
 }
 
 fn extend_by_point<A: Allocator>(file: &mut Vec<u8, A>, corner: Corner) -> Result<(), AllocError> {

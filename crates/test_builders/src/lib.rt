@@ -7,8 +7,8 @@ mod files;
 mod rings;
 
 pub use files::{
-    HUNDRED, ONE, SQUARE, ZERO, behind_a_null_shape, empty_file, index_of, put, put_header,
-    put_point, ring_file, square_file, squares_in_a_row,
+    HUNDRED, ONE, SQUARE, ZERO, behind_a_null_shape, empty_file, index_of, layer_file, put,
+    put_header, put_point, ring_file, square_file, squares_in_a_row,
 };
 pub use rings::{
     Place, corner, corners, rectangle, ring_of, saw, shape, shape_of, simple_ring, triangle,
