@@ -4,6 +4,7 @@
 mod area;
 mod arguments;
 mod check;
+mod export;
 mod fault;
 mod layers;
 mod output;
