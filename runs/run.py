@@ -11,11 +11,15 @@ With no word it takes the programs that `rt ci` leaves, one by each compiler. A 
     > 1 20000
 
 + NAME: RECIPE        a file in the row's empty folder; layers.py has the recipes
-$ WORDS               the command line, in which \\xFF is a byte
+$ WORDS               the command line, in which \\xFF is a byte; further ones run behind it in the same folder, and what they write comes
+                      one after the other
 > TEXT, 2> TEXT       a line of standard output, of standard error; all lines that must come
 >* FIRST LAST TEXT    a line TEXT for each number, which stands for {}
-[N]                   the status, 0 where it is left out
-! HOW                 standard output is `closed` or `full`, standard error is `silent` (closed), or there are `N MiB` of memory
+[N]                   the last one's status, 0 where it is left out; the others' is 0
+= NAME: RECIPE        a file that has to stand in the folder then, with these bytes
+~ NAME ..             all that stands in the folder then
+! HOW                 standard output is `closed` or `full`, standard error is `silent` (closed), there are `N MiB` of memory, or a file
+                      can have `N bytes` at most
 # ..                  a comment
 """
 
@@ -23,6 +27,7 @@ import os
 import re
 import resource
 import shlex
+import signal
 import subprocess
 import sys
 import tempfile
@@ -37,8 +42,9 @@ SECONDS = 60
 
 class Row:
     def __init__(self, title):
-        self.title, self.files, self.words, self.how = title, [], None, []
+        self.title, self.files, self.lines, self.how = title, [], [], []
         self.stdout, self.stderr, self.status = [], [], 0
+        self.left, self.names = [], None
 
 
 def rows_of(path):
@@ -54,9 +60,13 @@ def rows_of(path):
             elif mark == "+":
                 rows[-1].files.append(text.split(": ", 1))
             elif mark == "$":
-                rows[-1].words = [plain(word) for word in shlex.split(text.replace("\\", "\\\\"))]
+                rows[-1].lines.append([plain(word) for word in shlex.split(text.replace("\\", "\\\\"))])
             elif mark == "!":
                 rows[-1].how.append(text)
+            elif mark == "=":
+                rows[-1].left.append(text.split(": ", 1))
+            elif mark == "~":
+                rows[-1].names = sorted(text.split())
             elif mark == ">":
                 rows[-1].stdout.append(text)
             elif mark == ">*":
@@ -86,33 +96,71 @@ def begin(how):
         elif it.endswith(" MiB"):
             most = int(it.split()[0]) << 20
             resource.setrlimit(resource.RLIMIT_AS, (most, most))
+        elif it.endswith(" bytes"):
+            most = int(it.split()[0])
+            signal.signal(signal.SIGXFSZ, signal.SIG_IGN)
+            resource.setrlimit(resource.RLIMIT_FSIZE, (most, most))
 
 
 def text_of(lines):
     return "".join(line + "\n" for line in lines).encode()
 
 
+def run_line(program, row, room, words):
+    """What a command line writes, on both streams, and its status; nothing where it does not end."""
+    full = open("/dev/full", "wb") if "full" in row.how else None
+    try:
+        ran = subprocess.run([program.encode(), *words], cwd=room, stdin=subprocess.DEVNULL, timeout=SECONDS,
+                             stdout=full or subprocess.PIPE, stderr=subprocess.PIPE, preexec_fn=lambda: begin(row.how))
+    except subprocess.TimeoutExpired:
+        return None
+    finally:
+        if full:
+            full.close()
+    return ran.stdout or b"", ran.stderr, ran.returncode
+
+
+def bytes_at(path):
+    """What a file holds, nothing where none is there."""
+    if not os.path.isfile(path):
+        return None
+    with open(path, "rb") as file:
+        return file.read()
+
+
+def left_wrong(room, row):
+    """What is wrong with what stands in the folder behind the runs."""
+    wrong = []
+    for name, recipe in row.left:
+        with tempfile.TemporaryDirectory(prefix="wanted-") as other:
+            wanted = os.path.join(other, "file")
+            layers.make(wanted, recipe)
+            if bytes_at(os.path.join(room, name)) != bytes_at(wanted):
+                wrong.append(f"{name} has other bytes")
+    names = sorted(os.listdir(room))
+    if row.names is not None and names != row.names:
+        wrong.append(f"the folder has {names} and not {row.names}")
+    return wrong
+
+
 def run(program, row):
-    """What is wrong with a row's run, nothing where all is as it must be."""
+    """What is wrong with a row's runs, nothing where all is as it must be."""
+    wrong = []
     with tempfile.TemporaryDirectory(prefix="run-") as room:
         for name, recipe in row.files:
             layers.make(os.path.join(room, name), recipe)
-        full = open("/dev/full", "wb") if "full" in row.how else None
-        try:
-            ran = subprocess.run([program.encode(), *row.words], cwd=room, stdin=subprocess.DEVNULL, timeout=SECONDS,
-                                 stdout=full or subprocess.PIPE, stderr=subprocess.PIPE, preexec_fn=lambda: begin(row.how))
-        except subprocess.TimeoutExpired:
+        answers = [run_line(program, row, room, words) for words in row.lines]
+        if None in answers:
             return [f"it ran for more than {SECONDS} seconds"]
-        finally:
-            if full:
-                full.close()
-    wrong = []
-    streams = [("standard output", ran.stdout or b"", row.stdout), ("standard error", ran.stderr, row.stderr)]
+        wrong += left_wrong(room, row)
+    came_out, came_err = (b"".join(answer[at] for answer in answers) for at in (0, 1))
+    streams = [("standard output", came_out, row.stdout), ("standard error", came_err, row.stderr)]
     for what, came, wanted in [(what, came, text_of(lines)) for what, came, lines in streams]:
         if came != wanted:
             wrong.append(f"{what} has {came[:400]!r} and not {wanted[:400]!r}")
-    if ran.returncode != row.status:
-        wrong.append(f"the status is {ran.returncode} and not {row.status}")
+    statuses, wanted = [answer[2] for answer in answers], [0] * (len(answers) - 1) + [row.status]
+    if statuses != wanted:
+        wrong.append(f"the status is {statuses} and not {wanted}")
     return wrong
 
 

@@ -39,6 +39,7 @@ from_shapes ids shapes city refined h =
       is_layer = record {
         same_length = h.same_length;
         ids_rise = h.rise;
+        within = h.within;
         tiles = tiles_where_nets_are_equal (numbered_rows ids (corners_of_shapes shapes)) city h.is_city.corners refined (made_rows ids shapes)
             h.is_city.wound_once h.is_city.is_noded nets;
       };

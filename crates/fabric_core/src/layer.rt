@@ -1,4 +1,4 @@
-ghost use Rattle.std.specs.Prelude.{◌≡◌, ◌≢◌, ◌⊎◌, ◌≤◌, ℤ, length, List, IfOk, IfErr, IsErrOf, IsErrAnd, MatchResult, MatchOption};
+ghost use Rattle.std.specs.Prelude.{◌≡◌, ◌≢◌, ◌⊎◌, ◌≤◌, ℤ, length, map, List, IfOk, IfErr, IsErrOf, IsErrAnd, MatchResult, MatchOption};
 ghost use Rattle.std.specs.List.{Contains};
 ghost use Rattle.std.specs.List.Sorted.{IsStrictlyIncreasing};
 ghost use Rattle.geo_exact.specs.declared.corner.Corner.{Corner};
@@ -6,7 +6,7 @@ ghost use Rattle.geo_exact.specs.Layers.{NumberedRing, numbered, rings_of, corne
 ghost use Rattle.geo_exact.specs.declared.limits.TheConstants.{LAYER_CORNERS, LAYER_RECORDS};
 ghost use Rattle.fabric_core.specs.declared.layer.LoadFault.{LoadFault};
 ghost use Rattle.fabric_core.specs.declared.layer.LoadFault.TheVariants.{Gap, NoMemory};
-ghost use Rattle.fabric_core.specs.Tiling.{IsTiling};
+ghost use Rattle.fabric_core.specs.Tiling.{corner_lists, IsTiling};
 ghost use Rattle.fabric_core.specs.Rows.{AreRefined, numbers, IsUntiledBeside};
 ghost use Rattle.fabric_core.specs.Limits.{AreWithinLimits};
 ghost use Rattle.fabric_core.specs.Faults.{AreSimple, IsFirstFault, IsLoadFault};
@@ -123,9 +123,10 @@ impl<'a, H: Allocator> Layer<'a, H> {
         load_refined(heap, refined)
     }
 
-    /// The rows tile the city.
+    /// The rows tile the city, and are within the limits of a layer.
     pub fn tiles(&self)
-        ensures { IsTiling self.now.rows self.now.city }
+        ensures tiling { IsTiling self.now.rows self.now.city }
+        ensures within { AreWithinLimits self.now.rows }
     {
         let _ = &self.city;
     }
@@ -160,6 +161,14 @@ impl<'a, H: Allocator> Layer<'a, H> {
             Ok(place) => Some(&self.shapes[place]),
             Err(_) => None,
         }
+    }
+
+    /// The shapes of all parcels, by ascending id: each is a parcel's ring, begun at its least corner, with the triangles that it is
+    /// clipped to.
+    pub fn shapes(&self) -> &[Shape<&'a H>]
+        ensures { map (λ shape. shape.ring.corners) result.now ≡ corner_lists self.now.rows }
+    {
+        self.shapes.as_slice()
     }
 
     /// The city's ring, with the corners that were read, begun at its least corner.

@@ -2,3 +2,5 @@ pub mod Puts
 pub mod Passing
 pub mod TilingFaults
 pub mod CityLimit
+pub mod SimpleRings
+pub mod RowLimits

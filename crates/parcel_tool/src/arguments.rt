@@ -28,6 +28,17 @@ pub enum Request<'a> {
         /// The unit of the coordinates of both.
         unit: Unit,
     },
+    /// The parcels that tile their city, written anew.
+    Export {
+        /// The path of the main file of the city's layer.
+        city: &'a str,
+        /// The path of the main file of the parcels' layer.
+        parcels: &'a str,
+        /// The unit of the coordinates of both.
+        unit: Unit,
+        /// The path of the files that are written, without their endings .shp and .shx.
+        base: &'a str,
+    },
 }
 
 /// Reads a command line, the program's own name first. A refused one is an error whose text helps; `--help` and
@@ -38,6 +49,7 @@ pub fn parse<'a, S: AsStr>(alloc: Global, words: &'a [S]) -> Result<Request<'a>,
     let asked = match matches.subcommand() {
         Some(("area", given)) => area_request(given),
         Some(("check", given)) => check_request(given),
+        Some(("export", given)) => export_request(given),
         _ => None,
     };
     if let Some(request) = asked {
@@ -66,6 +78,16 @@ fn check_request<'a>(given: &ArgMatches<'a>) -> Option<Request<'a>> {
     })
 }
 
+/// What the words of `export` ask for.
+fn export_request<'a>(given: &ArgMatches<'a>) -> Option<Request<'a>> {
+    Some(Request::Export {
+        city: given.get_str("CITY")?,
+        parcels: given.get_str("PARCELS")?,
+        unit: unit_of(given)?,
+        base: given.get_str("out")?,
+    })
+}
+
 /// The unit that was given.
 fn unit_of(given: &ArgMatches<'_>) -> Option<Unit>
     ensures named { IfSome result (λ unit. first_value (found_of given.now) (codes "unit") ≡ Some (unit_word unit)) }
@@ -87,7 +109,8 @@ fn tool_command<'a>(alloc: Global) -> Result<Command<'a>, AllocError> {
         .subcommand_required(true)
         .arg_required_else_help(true)
         .subcommand(area_command(alloc)?)?
-        .subcommand(check_command(alloc)?)
+        .subcommand(check_command(alloc)?)?
+        .subcommand(export_command(alloc)?)
 }
 
 fn area_command<'a>(alloc: Global) -> Result<Command<'a>, AllocError> {
@@ -109,6 +132,31 @@ fn check_command<'a>(alloc: Global) -> Result<Command<'a>, AllocError> {
             "The main file of the parcels' layer, .shp",
         ))?
         .arg(unit(alloc, "The unit of the files' coordinates"))
+}
+
+fn export_command<'a>(alloc: Global) -> Result<Command<'a>, AllocError> {
+    Command::new(alloc, "export")
+        .about(
+            "Writes, where parcels tile their city, their layer anew, in centimetres, and prints their number",
+        )
+        .arg(file(alloc, "CITY", "The main file of the city's layer, .shp"))?
+        .arg(file(
+            alloc,
+            "PARCELS",
+            "The main file of the parcels' layer, .shp",
+        ))?
+        .arg(unit(alloc, "The unit of the files' coordinates"))?
+        .arg(base(alloc))
+}
+
+/// Where an export is written, which has to be given.
+fn base<'a>(alloc: Global) -> Arg<'a> {
+    Arg::new(alloc, "out")
+        .long("out")
+        .required(true)
+        .action(ArgAction::Set)
+        .value_name("BASE")
+        .help("The files that are written: BASE.shp and BASE.shx")
 }
 
 /// A layer's main file, which has to be given.

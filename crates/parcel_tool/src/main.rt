@@ -4,9 +4,11 @@
 mod area;
 mod arguments;
 mod check;
+mod export;
 mod fault;
 mod layers;
 mod output;
+mod replace;
 mod report;
 mod sources;
 #[cfg(test)]
@@ -18,8 +20,11 @@ use arguments::Request;
 use check::check;
 use clap::Error;
 use clap::error::ErrorKind;
+use export::export;
 use fault::ToolFault;
 use geo_exact::Counted;
+use output::put_all;
+use replace::replace_layer;
 use sources::{Disk, read_source};
 use std::process::ExitCode;
 use std::rt::{Env, Files};
@@ -74,6 +79,20 @@ fn answer<'a, R: Files + Print + AllocGlobal>(
             let city = read_source(&Disk(rt), heap, city)?;
             let parcels = read_source(&Disk(rt), heap, parcels)?;
             check(&heap, &city, &parcels, unit, &mut out)
+        }
+        Request::Export {
+            city,
+            parcels,
+            unit,
+            base,
+        } => {
+            let heap = rt.alloc();
+            let city = read_source(&Disk(rt), heap, city)?;
+            let parcels = read_source(&Disk(rt), heap, parcels)?;
+            let exported = export(&heap, &city, &parcels, unit)?;
+            replace_layer(rt, heap, base, &exported.main, &exported.index)?;
+            put_all(&exported.lines, &mut out)?;
+            Ok(())
         }
     }
 }

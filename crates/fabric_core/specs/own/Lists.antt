@@ -11,6 +11,7 @@ use Rattle.ring_core.specs.declared.shape.Shape.{Shape}
 use Rattle.edge_chains.specs.Noding.{IsNoded, all_corners}
 use Rattle.fabric_core.specs.Tiling.{IsTiling}
 use Rattle.fabric_core.specs.Rows.{corners_of_layer, numbers}
+use Rattle.fabric_core.specs.Limits.{AreWithinLimits}
 
 -- the rings under the numbers at their places
 abbrev pub numbered_rows : List ℕ → List (List Corner) → List NumberedRing
@@ -33,10 +34,11 @@ pub record AreNodedRings (records : List NumberedRing) (city : List Corner) (ids
   pub are_begun : rings ≡ map begun_at_least noded
   pub is_refined : IsNoded city (corners_of_layer records city) refined
 
--- what a `Layer` keeps: an id for each shape, in ascending order, and shapes that tile the city
+-- what a `Layer` keeps: an id for each shape, in ascending order, and shapes within the limits that tile the city
 pub record IsLayer (ids : List ℕ) (rings : List (List Corner)) (city : List Corner) : Type 0 where
   pub same_length : length ids ≡ length rings
   pub ids_rise : IsStrictlyIncreasing ids
+  pub within : AreWithinLimits (numbered_rows ids rings)
   pub tiles : IsTiling (numbered_rows ids rings) city
 
 -- the most corners of a refined city: each edge is cut at most at all corners of the layer and the city

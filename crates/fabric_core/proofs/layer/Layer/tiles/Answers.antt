@@ -1,7 +1,11 @@
 use Rattle.std.proofs.Common.{subst}
 use Rattle.fabric_core.specs.Tiling.{IsTiling}
+use Rattle.fabric_core.specs.Limits.{AreWithinLimits}
 use Rattle.fabric_core.specs.Rows.{Tiles}
 use Rattle.fabric_core.proofs.layer.Layer.tiles.Goals as goal
 
-pub returns : goal.returns
-returns g c = subst (λ (t : Tiles). IsTiling t.rows t.city) c.self.view_is c.self.invariant.tiles
+pub returns-clause-tiling : goal.returns-clause-tiling
+returns-clause-tiling g c = subst (λ (t : Tiles). IsTiling t.rows t.city) c.self.view_is c.self.invariant.tiles
+
+pub returns-clause-within : goal.returns-clause-within
+returns-clause-within g c = subst (λ (t : Tiles). AreWithinLimits t.rows) c.self.view_is c.self.invariant.within
