@@ -1,11 +1,14 @@
 -- All edges of a sum, in order.
 use Rattle.std.proofs.Common.{◌≡◌, ◌≢◌, ◌↔◌, inl, inr, arith, suc, refl, sym, ◌∙◌, ap, subst, Bool, true, false, IsTrue, ℕ, ◌<◌, ℤ, pos}
-use Rattle.std.proofs.Common.{List, [], ◌∷◌, ◌++◌, append-nil, map, Some, IsSome, length, get_or}
+use Rattle.std.proofs.Common.{if◌then◌else◌, neg_ℤ, List, [], ◌∷◌, ◌++◌, append-nil, map, Some, IsSome, length, get_or}
 use Rattle.std.specs.List.{AllByRecursion, Contains, IsDistinct}
 use Rattle.std.specs.List.Sorted.{IsSorted, IsPermutation}
 use Rattle.std.specs.declared.cmp.Ordering.{Ordering}
 use Rattle.std.specs.declared.cmp.Ordering.TheVariants.{Less, Equal, Greater}
 use Rattle.std.specs.Ordering.{int_cmp, is_lt, is_eq, ordering_then, ordering_reverse}
+use Rattle.std.specs.Ordering.{int_eq}
+use Rattle.std.specs.Bool.{Decides}
+use Rattle.std.proofs.lemmas.Bool.Decides.{Decides-int_eq}
 use Rattle.std.specs.Map.{lookup, keys_of}
 use Rattle.std.proofs.lemmas.Map.Views.{Contains-from_lookup, lookup-from_Contains}
 use Rattle.std.proofs.lemmas.Map.Keys.{IsDistinct-IsPermutation}
@@ -162,3 +165,29 @@ pub told_whole : (items : List (Corner × Corner × ℤ)) (rest counts : List ((
     → items ++ map told rest ≡ map told counts
     → items ≡ map told counts
 told_whole items rest counts h e = sym (append-nil items) ∙ ap (λ r. items ++ map told r) (sym h) ∙ e
+
+-- a sum that has no such edge is 0 everywhere
+pub all_balanced : (sum : Counts) → AreUnbalanced sum [] → (a b : Corner) → net_at sum.counts a b ≡ pos 0
+all_balanced sum h a b = read (is_before a b) (is_before b a) refl refl (in_order a b) (in_order b a)
+  where
+    in_order : (a b : Corner) → is_before a b ≡ true → number_at sum.counts a b ≡ pos 0
+    in_order a b before =
+        is_zero (number_at sum.counts a b)
+        (λ other. none_in_nil (a, b, number_at sum.counts a b)
+        ((h.exactly a b (number_at sum.counts a b)).1 (true_from (is_before a b) before, net_in_order sum.counts a b before, other)))
+      where
+        is_zero : (n : ℤ) → (n ≢ pos 0 → ⊥) → n ≡ pos 0
+        is_zero n not = zero_or n (int_eq n (pos 0)) (Decides-int_eq n (pos 0)) not
+          where
+            zero_or : (n : ℤ) (t : Bool) → Decides t (n ≡ pos 0) → (n ≢ pos 0 → ⊥) → n ≡ pos 0
+            zero_or n true d not = d.0 refl
+            zero_or n false d not = absurd (not (λ e. true_is_not_false (d.1 e)))
+              where
+                true_is_not_false : false ≡ true → ⊥
+                true_is_not_false e = cc
+    read : (x y : Bool) → is_before a b ≡ x → is_before b a ≡ y → (is_before a b ≡ true → number_at sum.counts a b ≡ pos 0)
+        → (is_before b a ≡ true → number_at sum.counts b a ≡ pos 0)
+        → (if x then number_at sum.counts a b else (if y then neg_ℤ (number_at sum.counts b a) else pos 0)) ≡ pos 0
+    read true y e f first second = first e
+    read false true e f first second = ap neg_ℤ (second f)
+    read false false e f first second = refl
