@@ -91,14 +91,14 @@ found_not_before (e ∷ entries) first q n l h = read (is_same_edge q e.0) (Deci
     read true same k later = let s = same refl in ap (λ x. is_edge_before (x, q.1) first) s.0 ∙ ap (λ y. is_edge_before (e.0.0, y) first) s.1 ∙ h.0
     read false same k later = later k
 
-net_in_order : (counts : List ((Corner × Corner) × ℤ)) (a b : Corner) → is_before a b ≡ true → net_at counts a b ≡ number_at counts a b
+pub net_in_order : (counts : List ((Corner × Corner) × ℤ)) (a b : Corner) → is_before a b ≡ true → net_at counts a b ≡ number_at counts a b
 net_in_order counts a b h = ap (λ t. if t then number_at counts a b else (if is_before b a then neg_ℤ (number_at counts b a) else pos 0)) h
 
-found_where_not_zero : (o : Option ℤ) → unwrap_or o (pos 0) ≢ pos 0 → (n : ℤ) × (o ≡ Some n)
+pub found_where_not_zero : (o : Option ℤ) → unwrap_or o (pos 0) ≢ pos 0 → (n : ℤ) × (o ≡ Some n)
 found_where_not_zero None h = absurd (h refl)
 found_where_not_zero (Some n) h = (n, refl)
 
-is_true : (t : Bool) → IsTrue t → t ≡ true
+pub is_true : (t : Bool) → IsTrue t → t ≡ true
 is_true true h = refl
 is_true false h = cc
 

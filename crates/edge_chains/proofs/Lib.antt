@@ -2,6 +2,7 @@ pub mod Corners
 pub mod Changes
 pub mod Nets
 pub mod Firsts
+pub mod Unbalanced
 pub mod Balance
 pub mod Inside
 pub mod Boxes

@@ -1,5 +1,5 @@
 ghost use Rattle.std.specs.Prelude.{◌≡◌, ℕ, ◌+◌, ◌≤◌, ◌<◌, ℤ, pos, ◌+ℤ◌, ◌-ℤ◌, IsTrue, if◌then◌else◌, cond, length, List, [], ◌∷◌, ◌++◌, ◌*◌};
-ghost use Rattle.std.specs.Prelude.{OnOk, OnErr, IfSome, IfNone};
+ghost use Rattle.std.specs.Prelude.{OnOk, OnErr, IfOk, IfSome, IfNone};
 ghost use Rattle.std.specs.HashMap.{spare};
 ghost use Rattle.std.specs.Map.{lookup};
 ghost use Rattle.geo_exact.specs.Limit.{IsWithin};
@@ -9,6 +9,7 @@ ghost use Rattle.geo_exact.specs.declared.limits.TheConstants.{COUNTED_EDGES};
 ghost use Rattle.geo_exact.specs.Order.{is_before};
 ghost use Rattle.edge_chains.specs.Counts.{is_same_edge, number_at, net_at, AreCounts, AreNetOf, is_edge_before};
 ghost use Rattle.edge_chains.specs.Counts.{IsFirstUnbalanced};
+ghost use Rattle.edge_chains.specs.Unbalanced.{AreUnbalanced};
 ghost use Rattle.edge_chains.specs.own.Sides.{entry_of, signed};
 ghost use Rattle.edge_chains.specs.Net.{net_of_edges, winding_of_rings, area2_of_rings};
 ghost use Rattle.edge_chains.specs.Noding.{AreFullyNoded};
@@ -120,6 +121,23 @@ impl<A: Allocator + Copy> EdgeSum<A> {
         }
         let ((a, b), number) = first?;
         Some((a, b, number))
+    }
+
+    /// All edges with a number other than 0, each with its lesser corner first and with that number, by their first corners and
+    /// then by their second. The time grows with the number of edges, times its logarithm.
+    ///
+    /// # Errors
+    ///
+    /// [`AllocError`] where an allocation is refused.
+    pub fn unbalanced(&self, alloc: A) -> Result<Vec<(Corner, Corner, i64), A>, AllocError>
+        ensures { IfOk result (λ edges. AreUnbalanced self.now edges.items) }
+    {
+        let mut edges = Vec::with_capacity(alloc, self.numbers.len())?;
+        for ((a, b), number) in self.numbers.iter() {
+            edges.push((*a, *b, *number))?;
+        }
+        edges.sort_unstable();
+        Ok(edges)
     }
 
     fn count(&mut self, ring: &[Corner], side: Side) -> Result<(), AllocError>

@@ -12,3 +12,5 @@ pub mod Beginning
 pub mod OneLoadFault
 pub mod Searches
 pub mod FullyNoded
+pub mod ToldRings
+pub mod ToldGaps

@@ -10,20 +10,11 @@ use Rattle.geo_exact.specs.declared.limits.TheConstants.{LAYER_RECORDS}
 use Rattle.fabric_core.specs.Rows.{numbers}
 use Rattle.fabric_core.specs.Limits.{AreWithinLimits}
 use Rattle.fabric_core.specs.Faults.{AreSimple}
-use Rattle.fabric_core.specs.own.Checks.{HaveEqualNets, HaveNoFault, IsRefinedCity}
+use Rattle.fabric_core.specs.own.Checks.{HaveEqualNets, HaveNoFault, IsRefinedCity, IsChecked}
 use Rattle.fabric_core.specs.own.Lists.{numbered_rows, corners_of_rings, corners_of_shapes, IsLayer}
 use Rattle.fabric_core.proofs.Lists.{lists_of_rows}
 use Rattle.fabric_core.proofs.RingChecks.{made_rows, simple_rows}
 use Rattle.fabric_core.proofs.Tilings.{tiles_where_nets_are_equal}
-
--- what was checked of the numbers and the rings
-pub record IsChecked (numbers : List ℕ) (rings : List (List Corner)) (city refined : List Corner) : Type 0 where
-  pub same_length : length numbers ≡ length rings
-  pub rise : IsStrictlyIncreasing numbers
-  pub is_city : IsRefinedCity city refined
-  pub within : AreWithinLimits (numbered_rows numbers rings)
-  pub simple : AreSimple (numbered_rows numbers rings)
-  pub nets : HaveEqualNets rings refined
 
 -- what a layer is
 pub record IsLoaded (ids : List ℕ) (rings : List (List Corner)) (city refined : List Corner) : Type 0 where
@@ -52,21 +43,20 @@ loaded numbers ids rings shapes city refined same_ids same_rings h =
     from_shapes ids shapes city refined (subst (λ xs. IsChecked xs (corners_of_shapes shapes) city refined) (sym same_ids)
     (subst (λ xs. IsChecked numbers xs city refined) (sym same_rings) h))
 
--- the same, of the values that the steps of loading hand on
-pub loaded_from : {A : Type 0} (ids d5 new_ids : List ℕ) (rings : List (List Corner)) (d : List ℕ) (d2 : List (List Corner)) (checked d4 : List (Ring A)) (shapes : List (Shape A))
-    (slice city refined : List Corner)
-    → d ≡ ids → d2 ≡ rings → AreWithinLimits (numbered_rows d d2) → corners_of_rings checked ≡ rings → d4 ≡ checked → slice ≡ refined
-    → HaveEqualNets (corners_of_rings d4) slice → corners_of_shapes shapes ≡ corners_of_rings checked → new_ids ≡ d5 → d5 ≡ ids
-    → length ids ≡ length rings → IsStrictlyIncreasing ids → IsRefinedCity city refined → IsLoaded new_ids (corners_of_shapes shapes) city refined
-loaded_from ids d5 new_ids rings d d2 checked d4 shapes slice city refined e e2 within f e4 s nets shapes_are n e5 same rise is_city =
-    loaded ids new_ids rings shapes city refined (n ∙ e5) (shapes_are ∙ f) (record {
+-- what was checked, of the values that the steps of loading hand on
+pub checked_from : {A : Type 0} (ids d5 : List ℕ) (rings : List (List Corner)) (d : List ℕ) (d2 : List (List Corner)) (checked d4 : List (Ring A))
+    (slice city refined : List Corner) → d ≡ ids → d2 ≡ rings → AreWithinLimits (numbered_rows d d2) → corners_of_rings checked ≡ rings → d4 ≡ checked
+    → slice ≡ refined → HaveEqualNets (corners_of_rings d4) slice → d5 ≡ ids → length ids ≡ length rings → IsStrictlyIncreasing ids
+    → IsRefinedCity city refined → IsChecked d5 (corners_of_rings checked) city refined
+checked_from ids d5 rings d d2 checked d4 slice city refined e e2 within f e4 s nets e5 same rise is_city =
+    subst (λ xs. IsChecked xs (corners_of_rings checked) city refined) (sym e5) (subst (λ xs. IsChecked ids xs city refined) (sym f) (record {
       same_length = same;
       rise = rise;
       is_city = is_city;
       within = subst (λ xs. AreWithinLimits (numbered_rows xs rings)) e (subst (λ xs. AreWithinLimits (numbered_rows d xs)) e2 within);
       simple = subst (λ xs. AreSimple (numbered_rows ids xs)) f (simple_rows ids checked);
       nets = subst (λ xs. HaveEqualNets xs refined) (ap corners_of_rings e4 ∙ f) (subst (λ xs. HaveEqualNets (corners_of_rings d4) xs) s nets);
-    })
+    }))
 
 -- numbers that rise
 rising : (above last : ℕ) (records : List NumberedRing) → NumbersRise above last records → (k : ℕ) → suc k < length (numbers records)

@@ -196,13 +196,13 @@ pub record AreFaultless (records : List NumberedRing) (city : List Corner) : Typ
   pub are_refined : AreRefined records city rows refined
   pub no_fault : HaveNoFault rows refined
 
-faultless : (records : List NumberedRing) (city : List Corner) (fault : LoadFault) → AreFaultless records city → IsLoadFault records city fault → ⊥
+pub faultless : (records : List NumberedRing) (city : List Corner) (fault : LoadFault) → AreFaultless records city → IsLoadFault records city fault → ⊥
 faultless records city fault h k =
     let e = one_refinement records city k.rows h.rows k.refined h.refined k.are_refined h.are_refined in
     no_fault_has_none h.rows h.refined fault h.no_fault
     (subst (λ rows. IsFirstFault rows h.refined fault) e.0 (subst (λ refined. IsFirstFault k.rows refined fault) e.1 k.is_first))
 
-one_load_fault : (records : List NumberedRing) (city : List Corner) (f g : LoadFault) → IsLoadFault records city f → IsLoadFault records city g → f ≡ g
+pub one_load_fault : (records : List NumberedRing) (city : List Corner) (f g : LoadFault) → IsLoadFault records city f → IsLoadFault records city g → f ≡ g
 one_load_fault records city f g h k =
     let e = one_refinement records city k.rows h.rows k.refined h.refined k.are_refined h.are_refined in
     one_first_fault h.rows h.refined f g h.is_first

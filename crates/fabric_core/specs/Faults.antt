@@ -1,6 +1,7 @@
 -- Why a ring is no city, and why the rows of a layer are not loaded: the first reason that applies (this product's own order).
-use Rattle.std.specs.Prelude.{◌≡◌, ◌≢◌, ◌⊎◌, ◌↔◌, ℕ, ℤ, pos, IsTrue, List, [], ◌∷◌, ◌++◌}
+use Rattle.std.specs.Prelude.{◌≡◌, ◌≢◌, ◌↔◌, ℕ, ℤ, pos, IsTrue, List, [], ◌∷◌, ◌++◌, map}
 use Rattle.std.specs.List.{AllByRecursion, Contains}
+use Rattle.std.specs.List.Sorted.{IsStrictlyIncreasing}
 use Rattle.geo_exact.specs.declared.corner.Corner.{Corner}
 use Rattle.geo_exact.specs.Order.{is_before}
 use Rattle.geo_exact.specs.Layers.{NumberedRing}
@@ -17,6 +18,8 @@ use Rattle.fabric_core.specs.declared.city.CityFault.{CityFault}
 use Rattle.fabric_core.specs.declared.city.CityFault.TheVariants.{Ring as CityRing, Folded, NoMemory as CityMemory}
 use Rattle.fabric_core.specs.declared.layer.LoadFault.{LoadFault}
 use Rattle.fabric_core.specs.declared.layer.LoadFault.TheVariants.{TooMany, Ring, Gap, NoMemory}
+use Rattle.fabric_core.specs.declared.all_faults.AllFaults.{AllFaults}
+use Rattle.fabric_core.specs.declared.all_faults.AllFaults.TheVariants.{TooMany as AllTooMany, Rings, Gaps, NoMemory as AllNoMemory}
 use Rattle.fabric_core.specs.Tiling.{corner_lists}
 use Rattle.fabric_core.specs.Rows.{AreRefined}
 use Rattle.fabric_core.specs.Limits.{AreWithinLimits, IsFirstTooMany}
@@ -56,14 +59,19 @@ pub record IsFirstGap (rows : List NumberedRing) (refined : List Corner) (a b : 
   pub is_gap : IsGap rows refined a b net
   pub is_least : (c d : Corner) (n : ℤ) → IsGap rows refined c d n → ¬ IsTrue (is_edge_before (c, d) (a, b))
 
--- the faults of all rows that are no simple rings, under their numbers, in the rows' order
-abbrev pub AreRingFaults : List NumberedRing → List (ℕ × RingFault) → Type 0
-AreRingFaults [] faults = faults ≡ []
-AreRingFaults (row ∷ rows) faults =
-    (IsSimpleRing row.corners × AreRingFaults rows faults)
-    ⊎ ((fault : RingFault) × (rest : List (ℕ × RingFault)) × IsRingFault row.corners fault × AreRingFaults rows rest × (faults ≡ (row.number, fault) ∷ rest))
+-- a row with this number is no simple ring, and has this fault
+pub record IsFaulty (rows : List NumberedRing) (number : ℕ) (fault : RingFault) : Type 0 where
+  pub row : NumberedRing
+  pub is_row : Contains rows row
+  pub has_number : row.number ≡ number
+  pub is_fault : IsRingFault row.corners fault
 
--- all gaps, in ascending order, each once
+-- all rows that are no simple rings, with their faults, by ascending number, each once
+pub record AreRingFaults (rows : List NumberedRing) (faults : List (ℕ × RingFault)) : Type 0 where
+  pub ascend : IsStrictlyIncreasing (map (λ told. told.0) faults)
+  pub exactly : (number : ℕ) (fault : RingFault) → Contains faults (number, fault) ↔ IsFaulty rows number fault
+
+-- all gaps, by a and then by b, each once
 pub record AreGaps (rows : List NumberedRing) (refined : List Corner) (gaps : List (Corner × Corner × ℤ)) : Type 0 where
   pub ascend : AreInEdgeOrder gaps
   pub exactly : (a b : Corner) (net : ℤ) → Contains gaps (a, b, net) ↔ IsGap rows refined a b net
@@ -81,3 +89,29 @@ pub record IsLoadFault (records : List NumberedRing) (city : List Corner) (fault
   pub refined : List Corner
   pub are_refined : AreRefined records city rows refined
   pub is_first : IsFirstFault rows refined fault
+
+-- these are all faults of the rows and the refined ring that are of the first fault's kind: limits before rings, and rings before gaps; of limits, the
+-- first row that passes one
+abbrev pub AreAllFaults : {A : Type 0} → List NumberedRing → List Corner → AllFaults A → Type 0
+AreAllFaults rows refined (AllTooMany number) = IsFirstTooMany rows number
+AreAllFaults rows refined (Rings faults) = AreWithinLimits rows × AreRingFaults rows faults.items
+AreAllFaults rows refined (Gaps gaps) = AreWithinLimits rows × AreSimple rows × AreGaps rows refined gaps.items
+AreAllFaults rows refined AllNoMemory = ⊥
+
+-- the fault is the first of these
+abbrev pub BeginsWith : {A : Type 0} → AllFaults A → LoadFault → Type 0
+BeginsWith (AllTooMany number) fault = fault ≡ TooMany number
+BeginsWith (Rings faults) fault = (told : ℕ × RingFault) × (rest : List (ℕ × RingFault)) × (faults.items ≡ told ∷ rest) × (fault ≡ Ring told.0 told.1)
+BeginsWith (Gaps gaps) fault =
+    (told : Corner × Corner × ℤ) × (rest : List (Corner × Corner × ℤ)) × (gaps.items ≡ told ∷ rest) × (fault ≡ Gap told.0 told.1 told.2)
+BeginsWith AllNoMemory fault = fault ≡ NoMemory
+
+-- these are all faults, of the first's kind, of the layer of these records in this city; they begin with the layer's first fault
+pub record AreLoadFaults {A : Type 0} (records : List NumberedRing) (city : List Corner) (all : AllFaults A) : Type 0 where
+  pub rows : List NumberedRing
+  pub refined : List Corner
+  pub are_refined : AreRefined records city rows refined
+  pub are_all : AreAllFaults rows refined all
+  pub first : LoadFault
+  pub begins : BeginsWith all first
+  pub is_first : IsFirstFault rows refined first

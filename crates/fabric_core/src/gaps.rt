@@ -12,7 +12,7 @@ use ring_core::Ring;
 use std::alloc::{AllocError, Allocator};
 
 /// The net numbers of the rings, less those of the city's.
-fn net_numbers<A: Allocator + Copy>(
+pub(crate) fn net_numbers<A: Allocator + Copy>(
     alloc: A,
     rings: &[Ring<A>],
     refined: &[Corner],

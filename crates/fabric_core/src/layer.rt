@@ -10,8 +10,8 @@ ghost use Rattle.fabric_core.specs.Tiling.{corner_lists, IsTiling};
 ghost use Rattle.fabric_core.specs.Rows.{AreRefined, numbers, IsUntiledBeside};
 ghost use Rattle.fabric_core.specs.Limits.{AreWithinLimits};
 ghost use Rattle.fabric_core.specs.Faults.{AreSimple, IsFirstFault, IsLoadFault};
-ghost use Rattle.fabric_core.specs.own.Checks.{HaveNoFault, IsRefinedCity};
-ghost use Rattle.fabric_core.specs.own.Lists.{numbered_rows};
+ghost use Rattle.fabric_core.specs.own.Checks.{HaveNoFault, IsRefinedCity, IsChecked};
+ghost use Rattle.fabric_core.specs.own.Lists.{numbered_rows, corners_of_rings};
 
 use crate::city::City;
 use crate::gaps::check_nets;
@@ -214,8 +214,26 @@ fn load_refined<'a, H: Allocator>(
     }
     let rings = checked(heap, &numbers, rings)?;
     check_nets(heap, &rings, refined.as_slice())?;
+    Ok(layer_of(heap, &numbers, rings, city, refined)?)
+}
+
+/// The layer of rings that have no fault, in a city that is refined.
+pub(crate) fn layer_of<'a, H: Allocator>(
+    heap: &'a H,
+    numbers: &[u32],
+    rings: Vec<Ring<&'a H>, &'a H>,
+    city: Corners<&'a H>,
+    refined: Corners<&'a H>,
+) -> Result<Layer<'a, H>, AllocError>
+    requires { IsChecked numbers.now (corners_of_rings rings.items) city refined }
+    ensures rows { IfOk result (λ layer. layer.rows ≡ numbered_rows numbers.now (corners_of_rings rings.entry.items)) }
+    ensures city { IfOk result (λ layer. layer.city ≡ city.entry) }
+    ensures refined { IfOk result (λ layer. layer.refined ≡ refined.entry) }
+    ensures no_fault { IfOk result (λ layer. HaveNoFault layer.rows layer.refined) }
+    ensures tiling { IfOk result (λ layer. IsTiling layer.rows layer.city) }
+{
     let shapes = clip_all(heap, rings)?;
-    let ids = ids_of(heap, &numbers)?;
+    let ids = ids_of(heap, numbers)?;
     Ok(Layer {
         city,
         refined,

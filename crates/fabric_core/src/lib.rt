@@ -1,6 +1,7 @@
 //! The fabric of a city's parcels: a layer that tiles its city exactly, with no tolerance.
 #![tactic(auto)]
 
+mod all_faults;
 mod city;
 mod gaps;
 mod laws;
@@ -10,6 +11,7 @@ mod refine;
 mod rings;
 mod shaping;
 
+pub use all_faults::AllFaults;
 pub use city::{City, CityFault};
 pub use laws::{
     a_refined_city_keeps_its_ground, an_unbalanced_edge_is_no_tiling,

@@ -8,7 +8,7 @@ use Rattle.fabric_core.specs.own.Lists.{numbered_rows, corners_of_rings, most_re
 use Rattle.fabric_core.proofs.RowGaps.{short_rings, few_corners, fault_of_nets}
 use Rattle.fabric_core.proofs.RingChecks.{simple_rows}
 use Rattle.fabric_core.proofs.Refusals.{IfErr-passed_on}
-use Rattle.fabric_core.proofs.Loaded.{loaded_from}
+use Rattle.fabric_core.proofs.Loaded.{checked_from}
 use Rattle.fabric_core.proofs.layer.load_refined.Goals as goal
 use Rattle.geo_exact.specs.declared.limits.TheConstants.{LAYER_CORNERS}
 
@@ -53,23 +53,9 @@ returns-in_err-check_nets-clause-fault g c =
       | inr e ↦ inr e
     ])
 
-pub invariant_of-result : goal.invariant_of-result
-invariant_of-result g c =
-    (loaded_from c.args.refined.numbers.items c.deref-5.result.now c.in_ok-ids.ids.items c.args.refined.rings.items c.deref.result.now c.deref-2.result.now
-    c.in_ok-rings.rings.items c.deref-4.result.now c.in_ok-shapes.shapes.items c.as_slice.result.now c.args.refined.city c.args.refined.refined
+pub layer_of-requires : goal.layer_of-requires
+layer_of-requires g c =
+    checked_from c.args.refined.numbers.items c.deref-5.result.now c.args.refined.rings.items c.deref.result.now c.deref-2.result.now
+    c.in_ok-rings.rings.items c.deref-4.result.now c.as_slice.result.now c.args.refined.city c.args.refined.refined
     c.deref.ensures.value c.deref-2.ensures.value c.in_default.ensures c.in_ok-rings.ensures.ok c.deref-4.ensures.value c.as_slice.ensures
-    c.in_ok-check_nets.ensures.ok c.in_ok-shapes.ensures c.in_ok-ids.ensures c.deref-5.ensures.value c.requires.numbered c.requires.rising c.requires.city).is_layer
-
-pub returns-clause-no_fault : goal.returns-clause-no_fault
-returns-clause-no_fault g c =
-    (loaded_from c.args.refined.numbers.items c.deref-5.result.now c.in_ok-ids.ids.items c.args.refined.rings.items c.deref.result.now c.deref-2.result.now
-    c.in_ok-rings.rings.items c.deref-4.result.now c.in_ok-shapes.shapes.items c.as_slice.result.now c.args.refined.city c.args.refined.refined
-    c.deref.ensures.value c.deref-2.ensures.value c.in_default.ensures c.in_ok-rings.ensures.ok c.deref-4.ensures.value c.as_slice.ensures
-    c.in_ok-check_nets.ensures.ok c.in_ok-shapes.ensures c.in_ok-ids.ensures c.deref-5.ensures.value c.requires.numbered c.requires.rising c.requires.city).no_fault
-
-pub returns-clause-tiling : goal.returns-clause-tiling
-returns-clause-tiling g c =
-    (loaded_from c.args.refined.numbers.items c.deref-5.result.now c.in_ok-ids.ids.items c.args.refined.rings.items c.deref.result.now c.deref-2.result.now
-    c.in_ok-rings.rings.items c.deref-4.result.now c.in_ok-shapes.shapes.items c.as_slice.result.now c.args.refined.city c.args.refined.refined
-    c.deref.ensures.value c.deref-2.ensures.value c.in_default.ensures c.in_ok-rings.ensures.ok c.deref-4.ensures.value c.as_slice.ensures
-    c.in_ok-check_nets.ensures.ok c.in_ok-shapes.ensures c.in_ok-ids.ensures c.deref-5.ensures.value c.requires.numbered c.requires.rising c.requires.city).is_layer.tiles
+    c.in_ok-check_nets.ensures.ok c.deref-5.ensures.value c.requires.numbered c.requires.rising c.requires.city
