@@ -7,7 +7,6 @@ ghost use Rattle.geo_exact.specs.declared.limits.TheConstants.{RING_CORNERS};
 ghost use Rattle.fabric_core.specs.Tiling.{IsWoundAtMostOnce};
 ghost use Rattle.fabric_core.specs.Faults.{IsCityFault};
 
-use crate::shaping::clipped;
 use geo_exact::RawRing;
 use ring_core::{Ring, RingFault, Shape};
 use std::alloc::{AllocError, Allocator};
@@ -72,7 +71,7 @@ impl<'a, H: Allocator> City<'a, H> {
         let RawRing { mut corners, .. } = ring;
         corners.begin_at_least();
         let ring = Ring::check(corners)?;
-        let shape = clipped(heap, ring)?;
+        let shape = Shape::clip(heap, ring)?;
         if let Some((i, j)) = folded(&shape) {
             return Err(CityFault::Folded(i, j));
         }

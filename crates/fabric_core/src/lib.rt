@@ -9,7 +9,6 @@ mod layer;
 mod limits;
 mod refine;
 mod rings;
-mod shaping;
 
 pub use all_faults::AllFaults;
 pub use city::{City, CityFault};

@@ -6,7 +6,6 @@ ghost use Rattle.fabric_core.specs.own.Checks.{IsRingsFault};
 ghost use Rattle.geo_exact.specs.declared.limits.TheConstants.{RING_CORNERS};
 
 use crate::layer::LoadFault;
-use crate::shaping::clipped;
 use geo_exact::Corners;
 use ring_core::{Ring, Shape};
 use std::alloc::{AllocError, Allocator};
@@ -41,7 +40,7 @@ pub(crate) fn clip_all<A: Allocator + Copy>(
 {
     let mut shapes = Vec::with_capacity(alloc, rings.len())?;
     for ring in rings {
-        shapes.push(clipped(alloc, ring)?)?;
+        shapes.push(Shape::clip(alloc, ring)?)?;
     }
     Ok(shapes)
 }
