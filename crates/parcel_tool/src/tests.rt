@@ -5,5 +5,6 @@ mod area_runs;
 mod command_lines;
 mod fault_texts;
 mod index_runs;
+mod refused_growths;
 mod source_files;
 mod square;
