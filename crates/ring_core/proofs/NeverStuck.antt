@@ -9,13 +9,14 @@ use Rattle.geo_exact.specs.Turn.{turn}
 use Rattle.geo_exact.specs.Area.{area2}
 use Rattle.geo_exact.specs.Rings.{turned_round}
 use Rattle.geo_exact.specs.Places.{corner_at}
+use Rattle.geo_exact.specs.First.{HasNone}
 use Rattle.geo_exact.proofs.Orders.{positive_not_zero}
 use Rattle.geo_exact.proofs.OnEdge.{starts_on, ends_on}
 use Rattle.geo_exact.proofs.TurnLaws.{turn_cycle}
 use Rattle.geo_exact.proofs.Windings.{area2_turned_round}
 use Rattle.ring_core.specs.declared.triangle.Tri.{Tri}
 use Rattle.ring_core.specs.Simple.{MeetOnlyAsNeighbours, IsSimpleRing}
-use Rattle.ring_core.specs.Clipping.{previous, next, Clips, untouched, flat, ear, IsStuck}
+use Rattle.ring_core.specs.Clipping.{previous, next, IsFlat, IsEar, Clips, untouched, flat, ear}
 use Rattle.ring_core.proofs.LeftSimple.{clipped_simple}
 use Rattle.ring_core.proofs.EarWords.{IsLeftAtLeast, IsFlatOrEar}
 use Rattle.ring_core.proofs.Renumbered.{IsLeast}
@@ -104,8 +105,9 @@ module _ (ring : List Corner) (simple : IsSimpleRing ring) where
   still_left _ _ (ear {ts = ts} {rest = rest} k t c l none f s) big = one_more rest k (still_left ts rest c) f.below (inr f.has) big
 
 -- no rest of a simple ring has neither a flat corner nor an ear
-pub never_stuck : (ring : List Corner) → IsSimpleRing ring → (ts : List Tri) (rest : List Corner) → ¬ IsStuck ring ts rest
-never_stuck ring simple ts rest stuck =
-    let s = still_left ring simple ts rest stuck.clipped stuck.more_than_two in
-    let k = have_ears_off (length rest) stuck.more_than_two rest s.1.0 refl s.0 s.1.1 0 (let big = stuck.more_than_two in omega arith) in
-    ⊎_elim (λ f. stuck.no_flat k.0 k.1 f) (λ e. stuck.no_ear k.0 k.1 e) k.4
+pub never_stuck : (ring : List Corner) → IsSimpleRing ring → (ts : List Tri) (rest : List Corner) → Clips ring ts rest → 2 < length rest
+    → HasNone (IsFlat rest) (length rest) → HasNone (IsEar rest) (length rest) → ⊥
+never_stuck ring simple ts rest clipped big no_flat no_ear =
+    let s = still_left ring simple ts rest clipped big in
+    let k = have_ears_off (length rest) big rest s.1.0 refl s.0 s.1.1 0 (omega arith) in
+    ⊎_elim (λ f. no_flat k.0 k.1 f) (λ e. no_ear k.0 k.1 e) k.4
