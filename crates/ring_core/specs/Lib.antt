@@ -5,4 +5,5 @@ pub mod Sums
 pub mod Boxes
 pub mod Stuck
 pub mod Diagonals
+pub mod Ears
 pub mod own
