@@ -12,7 +12,7 @@ use Rattle.ring_core.specs.declared.triangle.Tri.{Tri}
 use Rattle.ring_core.specs.Simple.{IsSimpleRing}
 use Rattle.ring_core.specs.Faults.{IsRingFault}
 use Rattle.ring_core.specs.Clipping.{IsClippedTo}
-use Rattle.ring_core.proofs.ClipUnique.{one_end}
+use Rattle.ring_core.proofs.ClipUnique.{one_way}
 use Rattle.tri_overlap.specs.Folding.{OverlapAt, HasNoOverlap, IsFirstOverlap}
 use Rattle.fabric_core.specs.declared.city.CityFault.{CityFault}
 use Rattle.fabric_core.specs.declared.city.CityFault.TheVariants.{Ring, Folded, NoMemory}
@@ -48,9 +48,6 @@ simple_has_no_fault ring Clockwise s h = let a : pos 0 <ℤ area2 ring = s.count
 simple_has_no_fault ring (EdgesMeet i j) s h = s.simple i j h.1.ordered h.1.below h.1.has
 
 -- ---- cities
-one_clipping : (ring : List Corner) (ts us : List Tri) → IsClippedTo ring ts → IsClippedTo ring us → ts ≡ us
-one_clipping ring ts us h k = (one_end ring ts us h.0 k.0 h.1 (inl (omega (arith, h.2))) k.1 (inl (omega (arith, k.2)))).0
-
 -- a ring that is no simple one has that fault alone
 pub same_ring_fault : (ring : List Corner) (f : RingFault) (fault : CityFault) → IsRingFault ring f → IsCityFault ring fault → Ring f ≡ fault
 same_ring_fault ring f (Ring g) h k = ap Ring (one_ring_fault ring f g h k)
@@ -62,7 +59,7 @@ pub same_fold : (ring : List Corner) (ts : List Tri) (i j : ℕ) (fault : CityFa
     → IsCityFault ring fault → Folded i j ≡ fault
 same_fold ring ts i j (Ring g) s c h k = absurd (simple_has_no_fault ring g s k)
 same_fold ring ts i j (Folded m n) s c h k =
-    same (first_pair_is_one (OverlapAt ts) (length ts) i j m n h (subst (λ us. IsFirstOverlap us m n) (one_clipping ring k.1.0 ts k.1.1 c) k.1.2))
+    same (first_pair_is_one (OverlapAt ts) (length ts) i j m n h (subst (λ us. IsFirstOverlap us m n) (one_way ring k.1.0 ts k.1.1 c) k.1.2))
   where
     same : (i ≡ m) × (j ≡ n) → Folded i j ≡ Folded m n
     same e = ap (λ l. Folded l j) e.0 ∙ ap (λ l. Folded m l) e.1
@@ -72,5 +69,5 @@ pub no_city_fault : (ring : List Corner) (ts : List Tri) (fault : CityFault) →
     → IsCityFault ring fault → ⊥
 no_city_fault ring ts (Ring g) s c none k = simple_has_no_fault ring g s k
 no_city_fault ring ts (Folded m n) s c none k =
-    let h : IsFirstOverlap ts m n = subst (λ us. IsFirstOverlap us m n) (one_clipping ring k.1.0 ts k.1.1 c) k.1.2 in none m n h.ordered h.below h.has
+    let h : IsFirstOverlap ts m n = subst (λ us. IsFirstOverlap us m n) (one_way ring k.1.0 ts k.1.1 c) k.1.2 in none m n h.ordered h.below h.has
 no_city_fault ring ts NoMemory s c none k = absurd k

@@ -1,6 +1,7 @@
 pub mod Differences
 pub mod Dropped
 pub mod Orders
+pub mod Firsts
 pub mod Polynomials
 pub mod Signs
 pub mod Within

@@ -1,7 +1,6 @@
 -- The clipping of a ring ends in one way.
 use Rattle.std.proofs.Common.{◌≡◌, ◌⊎◌, ℕ, ◌<◌, ◌∙◌, sym, refl, subst, arith, inl, inr, List, [], ◌∷◌, ◌++◌, length}
 use Rattle.std.specs.List.{remove}
-use Rattle.std.proofs.lemmas.Bool.{cases_lt}
 use lib.IntN.{ℤ, pos}
 use lib.Signed.{◌<ℤ◌}
 use lib.Dec.{T_prop}
@@ -9,19 +8,11 @@ use mathlib.Core.HLevel.{is_prop→PathP}
 use Rattle.geo_exact.specs.declared.corner.Corner.{Corner}
 use Rattle.geo_exact.specs.Turn.{turn}
 use Rattle.ring_core.specs.declared.triangle.Tri.{Tri}
-use Rattle.ring_core.specs.Clipping.{IsFlat, IsEar, IsTriangleAt, Clips, untouched, flat, ear, IsEnd}
+use Rattle.ring_core.specs.Clipping.{IsFlat, IsEar, IsTriangleAt, Clips, untouched, flat, ear, IsClippedTo}
 use Rattle.geo_exact.specs.First.{HasNone, IsFirst}
+use Rattle.geo_exact.proofs.Firsts.{first_same}
 
 -- ---- one step is determined
-first_same : (P : ℕ → Type 0) (n j k : ℕ) → IsFirst P n j → IsFirst P n k → j ≡ k
-first_same P n j k f g = elim (cases_lt j k) [
-  | inl q ↦ absurd (g.none_before j q f.has)
-  | inr q ↦ elim (cases_lt k j) [
-    | inl r ↦ absurd (f.none_before k r g.has)
-    | inr r ↦ omega arith
-  ]
-]
-
 above_prop : (z : ℤ) → IsProp (pos 0 <ℤ z)
 above_prop z = hlevel T_prop
 
@@ -86,14 +77,14 @@ compare untouched d = inl (leads_from_clips d)
 compare (flat k c l f) d = elim (compare c d) [ inl w ↦ past_flat k w l f | inr w ↦ inr (leads_flat k w l f) ]
 compare (ear k t c l n f s) d = elim (compare c d) [ inl w ↦ past_ear k t w l n f s | inr w ↦ inr (leads_ear k t w l n f s) ]
 
-at_end : {ts us : List Tri} {rest other : List Corner} → IsEnd rest → Leads ts rest us other → (ts ≡ us) × (rest ≡ other)
-at_end h here = (refl, refl)
-at_end h (by_flat k l f c) = elim h [ inl q ↦ absurd (omega arith) | inr q ↦ absurd (q.0 k f.below f.has) ]
-at_end h (by_ear k t l n f s c) = elim h [ inl q ↦ absurd (omega arith) | inr q ↦ absurd (q.1 k f.below f.has) ]
+-- two corners are left: there is no further step
+at_end : {ts us : List Tri} {rest other : List Corner} → length rest ≡ 2 → Leads ts rest us other → ts ≡ us
+at_end e here = refl
+at_end e (by_flat k l f c) = absurd (omega arith)
+at_end e (by_ear k t l n f s c) = absurd (omega arith)
 
-pub one_end : (ring : List Corner) (ts us : List Tri) (rest other : List Corner) → Clips ring ts rest → IsEnd rest → Clips ring us other → IsEnd other
-    → (ts ≡ us) × (rest ≡ other)
-one_end ring ts us rest other c h d g = elim (compare c d) [
-  | inl w ↦ at_end h w
-  | inr w ↦ let e = at_end g w in (sym e.0, sym e.1)
+pub one_way : (ring : List Corner) (ts us : List Tri) → IsClippedTo ring ts → IsClippedTo ring us → ts ≡ us
+one_way ring ts us (rest, c, e) (other, d, f) = elim (compare c d) [
+  | inl w ↦ at_end e w
+  | inr w ↦ sym (at_end f w)
 ]

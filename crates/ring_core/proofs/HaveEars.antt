@@ -1,17 +1,16 @@
 -- Rings whose edges meet only as neighbours, and that turn left at their least corner, have a flat corner or an ear off each edge
 -- (G. H. Meisters, Polygons have ears, 1975): by induction on the number of corners.
-use Rattle.std.proofs.Common.{◌≡◌, ◌≢◌, ◌⊎◌, inl, inr, ⊎_elim, ℕ, zero, suc, ◌-◌, ◌<◌, ◌≤◌, ◌∙◌, sym, subst, arith, List, length}
+use Rattle.std.proofs.Common.{◌≡◌, ◌≢◌, inr, ⊎_elim, ℕ, zero, suc, ◌-◌, ◌<◌, ◌≤◌, ◌∙◌, sym, subst, arith, List, length}
 use Rattle.std.proofs.lemmas.Bool.{cases_lt}
 use Rattle.std.proofs.lemmas.Bool.Decides.{nat_tests}
 use lib.IntN.{pos}
 use lib.Signed.{◌<ℤ◌}
 use Rattle.geo_exact.specs.declared.corner.Corner.{Corner}
-use Rattle.geo_exact.specs.First.{HasNone}
 use Rattle.geo_exact.specs.Places.{after, before}
+use Rattle.geo_exact.proofs.Firsts.{first_or_none}
 use Rattle.ring_core.specs.Simple.{MeetOnlyAsNeighbours}
 use Rattle.ring_core.specs.Clipping.{Blocks, IsEar}
 use Rattle.ring_core.proofs.RoundNumbers.{before_in}
-use Rattle.ring_core.proofs.LeftSimple.{same_or}
 use Rattle.ring_core.proofs.Diagonals.{blocks_or}
 use Rattle.ring_core.proofs.EarWords.{IsLeftAtLeast, IsFlatOrEar, HaveEarsOff, KeepTheirDirection}
 use Rattle.ring_core.proofs.BegunElsewhere.{ears_off_by_first}
@@ -19,21 +18,6 @@ use Rattle.ring_core.proofs.FourCorners.{turns_alike}
 use Rattle.ring_core.proofs.DirectionKept.{direction_kept}
 use Rattle.ring_core.proofs.EarOffEdge.{ear_beside_ear}
 use Rattle.ring_core.proofs.EarsOfParts.{ears_of_parts}
-
--- ---- an ear, or a corner that blocks it
-blocked_or : (ring : List Corner) (k m : ℕ) → ((j : ℕ) × (j < m) × Blocks ring k j) ⊎ HasNone (Blocks ring k) m
-blocked_or ring k zero = inr (λ j b. absurd (omega arith))
-blocked_or ring k (suc m) =
-    ⊎_elim
-    (λ x. inl (x.0, omega (arith, x.1), x.2))
-    (λ none. ⊎_elim
-    (λ x. inl (m, omega arith, x))
-    (λ no. inr (λ j b x. ⊎_elim
-    (λ e. no (subst (Blocks ring k) e x))
-    (λ off. none j (omega arith) x)
-    (same_or j m)))
-    (blocks_or ring k m))
-    (blocked_or ring k m)
 
 -- ---- three corners
 third_not_from : (i : ℕ) → i < 3 → before 3 i ≢ i
@@ -63,10 +47,10 @@ by_first : (n : ℕ) → 3 < n → ((m : ℕ) → 2 < m → m < n → HaveEarsOf
     → (i : ℕ) → i < n → (k : ℕ) × (k < n) × (k ≢ i) × (k ≢ after n i) × IsFlatOrEar ring k
 by_first n big smaller keep ring e simple l i b =
     ⊎_elim
-    (λ x. ears_of_parts n smaller ring x.0 e x.1 simple l x.2 i b)
+    (λ x. ears_of_parts n smaller ring x.0 e x.1.below simple l x.1.has i b)
     (λ none. ear_beside_ear n big (smaller (n - 1) (omega arith) (omega arith)) keep ring 0 e simple l
     (record { turns_left = l.turns_left; is_empty = none }) i b)
-    (blocked_or ring 0 (length ring))
+    (first_or_none (Blocks ring 0) (blocks_or ring 0) (length ring))
 
 -- both facts for up to n corners
 up_to : (n m : ℕ) → m ≤ n → 2 < m → HaveEarsOff m × (3 < m → KeepTheirDirection m)

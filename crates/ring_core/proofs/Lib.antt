@@ -38,3 +38,5 @@ pub mod FourCorners
 pub mod DirectionKept
 pub mod HaveEars
 pub mod NeverStuck
+pub mod TwoEars
+pub mod WholeClipping

@@ -9,14 +9,14 @@ use Rattle.geo_exact.specs.Turn.{turn}
 use Rattle.geo_exact.specs.Area.{area2}
 use Rattle.geo_exact.specs.Rings.{turned_round}
 use Rattle.geo_exact.specs.Places.{corner_at}
+use Rattle.geo_exact.specs.First.{HasNone}
 use Rattle.geo_exact.proofs.Orders.{positive_not_zero}
 use Rattle.geo_exact.proofs.OnEdge.{starts_on, ends_on}
 use Rattle.geo_exact.proofs.TurnLaws.{turn_cycle}
 use Rattle.geo_exact.proofs.Windings.{area2_turned_round}
 use Rattle.ring_core.specs.declared.triangle.Tri.{Tri}
-use Rattle.geo_exact.specs.First.{HasNone}
 use Rattle.ring_core.specs.Simple.{MeetOnlyAsNeighbours, IsSimpleRing}
-use Rattle.ring_core.specs.Clipping.{previous, next, Clips, untouched, flat, ear, IsFlat, IsEar}
+use Rattle.ring_core.specs.Clipping.{previous, next, IsFlat, IsEar, Clips, untouched, flat, ear}
 use Rattle.ring_core.proofs.LeftSimple.{clipped_simple}
 use Rattle.ring_core.proofs.EarWords.{IsLeftAtLeast, IsFlatOrEar}
 use Rattle.ring_core.proofs.Renumbered.{IsLeast}

@@ -1,5 +1,5 @@
 -- Ear clipping: a ring is cut into triangles, ear by ear (G. H. Meisters, Polygons have ears, 1975). Which corner comes first is this product's own rule.
-use Rattle.std.specs.Prelude.{◌≡◌, ◌≢◌, ◌⊎◌, ℕ, ◌<◌, ◌≤◌, pos, ◌≤ℤ◌, ◌<ℤ◌, List, [], ◌∷◌, ◌++◌, length}
+use Rattle.std.specs.Prelude.{◌≡◌, ◌≢◌, ℕ, ◌<◌, pos, ◌≤ℤ◌, ◌<ℤ◌, List, [], ◌∷◌, ◌++◌, length}
 use Rattle.std.specs.List.{remove}
 use Rattle.geo_exact.specs.declared.corner.Corner.{Corner}
 use Rattle.geo_exact.specs.Point.{corner_point}
@@ -63,7 +63,3 @@ pub record IsStuck (ring : List Corner) (ts : List Tri) (rest : List Corner) : T
   pub more_than_two : 2 < length rest
   pub no_flat : HasNone (IsFlat rest) (length rest)
   pub no_ear : HasNone (IsEar rest) (length rest)
-
--- the clipping ends: two corners are left (or fewer, where there were not more), or there is neither a flat corner nor an ear
-abbrev pub IsEnd : List Corner → Type 0
-IsEnd rest = (length rest ≤ 2) ⊎ (HasNone (IsFlat rest) (length rest) × HasNone (IsEar rest) (length rest))

@@ -4,4 +4,5 @@ pub mod Clipping
 pub mod Sums
 pub mod Boxes
 pub mod Diagonals
+pub mod Ears
 pub mod own

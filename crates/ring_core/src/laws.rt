@@ -5,9 +5,11 @@ ghost use Rattle.geo_exact.specs.Rings.{Edge, edges};
 ghost use Rattle.geo_exact.specs.Turn.{IsOnRing, turn};
 ghost use Rattle.ring_core.specs.declared.triangle.Tri.{Tri};
 ghost use Rattle.geo_exact.specs.Places.{corner_at, after, before};
-ghost use Rattle.ring_core.specs.Simple.{IsOnEdgeAt, MeetOnlyAsNeighbours};
-ghost use Rattle.ring_core.specs.Clipping.{Blocks, Clips, IsEar, IsEnd, IsFlat, next, previous};
+ghost use Rattle.ring_core.specs.Simple.{IsOnEdgeAt, IsSimpleRing, MeetOnlyAsNeighbours};
+ghost use Rattle.ring_core.specs.Clipping.{Blocks, IsClippedTo, IsEar, IsFlat, next, previous};
 ghost use Rattle.ring_core.specs.Diagonals.{IsDiagonal};
+ghost use Rattle.ring_core.specs.Ears.{AreNoNeighbours};
+ghost use Rattle.geo_exact.specs.First.{HasNone};
 ghost use Rattle.std.specs.List.{remove};
 
 /// The edges by number are the ring's: it has as many as corners, edge i joins corner i to the next and the last to the first, and a
@@ -20,12 +22,19 @@ pub fn edges_are_those_of_their_numbers()
         → IsOnRing p ring ↔ ((i : ℕ) × (i < length ring) × IsOnEdgeAt p ring i) }
 {}
 
-/// A ring is clipped in one way: where the clipping ends, its triangles and its rest are determined
-/// by the ring.
-#[tactic(auto, using(crate::proofs::ClipUnique::one_end))]
+/// A simple ring of more than three corners has two ears that are no neighbours, so that they do not
+/// overlap; where it has flat corners, each of the two is flat or an ear.
+pub fn a_simple_ring_has_two_ears()
+    ensures ears { (ring : List Corner) → IsSimpleRing ring → 3 < length ring → HasNone (IsFlat ring) (length ring)
+        → (j k : ℕ) × AreNoNeighbours (length ring) j k × IsEar ring j × IsEar ring k }
+    ensures flat_or_ears { (ring : List Corner) → IsSimpleRing ring → 3 < length ring
+        → (j k : ℕ) × AreNoNeighbours (length ring) j k × (IsFlat ring j ⊎ IsEar ring j) × (IsFlat ring k ⊎ IsEar ring k) }
+{}
+
+/// A simple ring is clipped to triangles, and a ring is clipped to one list of them alone.
 pub fn a_ring_is_clipped_in_one_way()
-    ensures { (ring : List Corner) (ts us : List Tri) (rest other : List Corner)
-        → Clips ring ts rest → IsEnd rest → Clips ring us other → IsEnd other → (ts ≡ us) × (rest ≡ other) }
+    ensures to_triangles { (ring : List Corner) → IsSimpleRing ring → (ts : List Tri) × IsClippedTo ring ts }
+    ensures one_way { (ring : List Corner) (ts us : List Tri) → IsClippedTo ring ts → IsClippedTo ring us → ts ≡ us }
 {}
 
 /// What clipping takes out, a flat corner or an ear, leaves a ring whose edges still meet only as

@@ -14,7 +14,12 @@ mod shape;
 mod triangle;
 
 pub use boxes::bounds_of;
-pub use laws::{a_ring_is_clipped_in_one_way, edges_are_those_of_their_numbers};
+pub use laws::{
+    a_diagonal_cuts_a_ring_in_two, a_left_turn_stays_where_a_neighbour_is_clipped,
+    a_left_turn_that_is_no_ear_has_a_diagonal, a_ring_is_clipped_in_one_way,
+    a_simple_ring_has_two_ears, edges_are_those_of_their_numbers,
+    what_clipping_takes_out_leaves_a_simple_ring,
+};
 pub use ring::{Ring, RingFault};
 pub use shape::Shape;
 pub use triangle::{Tri, Triangles};
