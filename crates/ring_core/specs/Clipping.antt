@@ -56,10 +56,3 @@ pub data Clips (ring : List Corner) : List Tri → List Corner → Type 0 where
 -- the ring is clipped to the triangles down to two corners
 abbrev pub IsClippedTo : List Corner → List Tri → Type 0
 IsClippedTo ring ts = (rest : List Corner) × Clips ring ts rest × (length rest ≡ 2)
-
--- the ring is clipped to triangles and a rest of more than two corners that has neither a flat corner nor an ear
-pub record IsStuck (ring : List Corner) (ts : List Tri) (rest : List Corner) : Type 0 where
-  pub clipped : Clips ring ts rest
-  pub more_than_two : 2 < length rest
-  pub no_flat : HasNone (IsFlat rest) (length rest)
-  pub no_ear : HasNone (IsEar rest) (length rest)
