@@ -1,7 +1,8 @@
 """Files for the runs, made by a recipe of words.
 
 The first word is a file of examples/ or says what is made:
-    polygon X,Y X,Y .. / ..  a main file of polygons with these points, the first not repeated; `null` is a null shape
+    polygon X,Y X,Y .. / ..  a main file of polygons with these points, the first not repeated; `null` is a null shape, and A..B,Y the points
+                             with this y and each x from A to B
     squares N                a main file of N squares with sides of 100
     nulls N                  a main file of N null shapes
     index PLACE,LENGTH ..    an index file with these records, in words of 16 bits
@@ -38,7 +39,15 @@ def main_file(contents):
 
 
 def pairs(words):
-    return [tuple(float(part) for part in word.split(",")) for word in words]
+    return [point for word in words for point in points_of(word)]
+
+
+def points_of(word):
+    """The point of a word X,Y; of A..B,Y one for each whole x from A to B."""
+    x, y = word.split(",")
+    first, dots, last = x.partition("..")
+    xs = range(int(first), int(last) + 1) if dots else [x]
+    return [(float(it), float(y)) for it in xs]
 
 
 def shape(words):

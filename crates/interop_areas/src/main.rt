@@ -11,16 +11,18 @@ use std::io;
 use std::rt::Files;
 
 /// The layers, each with the unit of its coordinates.
-const LAYERS: [(&str, Unit); 9] = [
+const LAYERS: [(&str, Unit); 11] = [
     ("gdal_cm", Unit::Cm),
     ("gdal_metres", Unit::M),
     ("gdal_null_shapes_cm", Unit::Cm),
     ("gdal_repeated_points_cm", Unit::Cm),
+    ("gdal_town_cm", Unit::Cm),
     ("pyshp_clockwise_cm", Unit::Cm),
     ("pyshp_counterclockwise_cm", Unit::Cm),
     ("pyshp_metres", Unit::M),
     ("pyshp_null_shapes_cm", Unit::Cm),
     ("pyshp_repeated_points_cm", Unit::Cm),
+    ("pyshp_town_cm", Unit::Cm),
 ];
 
 /// All bytes of a file.

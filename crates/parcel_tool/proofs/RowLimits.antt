@@ -33,7 +33,8 @@ pub as_many : {S : Type 0} (ring : S → List Corner) (shapes : List S) (rows : 
 as_many ring shapes rows e = sym (length-map shapes ring) ∙ ap length e ∙ length-map rows (λ row. row.corners)
 
 pub few_rows : (files : Files) (unit : LengthUnit) (city : List Corner) (tiles : Tiles) → IsTiledBy files unit city tiles
-    → ((records : List NumberedRing) → IsLayerFile files.main files.index unit records → length records ≤ LAYER_RECORDS) → length tiles.rows ≤ LAYER_RECORDS
+    → ((records : List NumberedRing) → IsLayerFile files.main files.index unit records → length records ≤ LAYER_RECORDS)
+    → length tiles.rows ≤ LAYER_RECORDS
 few_rows files unit city tiles h few =
     subst (λ n. n ≤ LAYER_RECORDS) (length_all_zip (IsRowOf (corners_of_layer h.records city)) h.records tiles.rows h.are_refined.are_rows)
     (few h.records h.are_records)
@@ -57,6 +58,6 @@ same_corner_count (ring ∷ rings) (row ∷ rows) e =
     let here : length ring.corners ≡ length row.corners = ap length (ap (first []) e) in
     omega (arith, here, same_corner_count rings rows (ap rest e))
 
-pub few_corners : {A : Type 0} (rings : List (RawRing A)) (rows : List NumberedRing) → lists_of_rings rings ≡ corner_lists rows → AreWithinLimits rows
-    → corner_count (rings_of rings) ≤ LAYER_CORNERS
+pub few_corners : {A : Type 0} (rings : List (RawRing A)) (rows : List NumberedRing) → lists_of_rings rings ≡ corner_lists rows
+    → AreWithinLimits rows → corner_count (rings_of rings) ≤ LAYER_CORNERS
 few_corners rings rows e h = subst (λ n. n ≤ LAYER_CORNERS) (sym (same_corner_count rings rows e)) h.together

@@ -62,9 +62,11 @@ apart_at ring long simple i below e =
     let a = after n i in
     let back : after n b ≡ i = after_before n i long below in
     let ends : IsOnEdge (corner_point (corner_at ring i)) (corner_at ring b) (corner_at ring (after n b)) =
-    subst (λ k. IsOnEdge (corner_point (corner_at ring i)) (corner_at ring b) (corner_at ring k)) (sym back) (on_edge_end (corner_at ring b) (corner_at ring i)) in
+    subst (λ k. IsOnEdge (corner_point (corner_at ring i)) (corner_at ring b) (corner_at ring k)) (sym back)
+    (on_edge_end (corner_at ring b) (corner_at ring i)) in
     let starts : IsOnEdge (corner_point (corner_at ring i)) (corner_at ring a) (corner_at ring (after n a)) =
-    subst (λ c. IsOnEdge (corner_point c) (corner_at ring a) (corner_at ring (after n a))) (sym e) (on_edge_start (corner_at ring a) (corner_at ring (after n a))) in
+    subst (λ c. IsOnEdge (corner_point c) (corner_at ring a) (corner_at ring (after n a))) (sym e)
+    (on_edge_start (corner_at ring a) (corner_at ring (after n a))) in
     apart_meet ring simple b a (before_in n i below) (after_in n i below) (λ f. neighbours_apart n i (omega (arith, long)) below (sym f))
     (corner_point (corner_at ring i)) ends starts
     (λ s. elim s [ inl q ↦ not_itself n i long below (q.0 ∙ back) | inr q ↦ not_round n i long below q.0 ])

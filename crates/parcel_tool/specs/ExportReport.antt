@@ -10,8 +10,8 @@ use Rattle.parcel_tool.specs.TilingFiles.{Files, AreTiles}
 abbrev pub exported_line : Tiles → List ℕ
 exported_line tiles = codes "exported " ++ decimal (length tiles.rows) ++ codes "\n"
 
--- the parcels' files tile the city of the city's files; the main file and the index file are those of their rings, by ascending id, and the line tells
--- how many they are
+-- the parcels' files tile the city of the city's files; the main file and the index file are those of their rings, by ascending id, and
+-- the line tells how many they are
 pub record IsExport (city parcels : Files) (unit : LengthUnit) (main index lines : List ℕ) : Type 0 where
   pub tiles : Tiles
   pub are_tiles : AreTiles city parcels unit tiles

@@ -30,9 +30,9 @@ pub struct Exported<A: Allocator> {
     pub lines: Vec<u8, A>,
 }
 
-/// The two files of the parcels' layer, where the parcels tile their city exactly: its rings, each with all corners of the layer
-/// and the city that lie inside its edges, by ascending id and numbered anew from 1. Coordinates are in centimetres, whatever the
-/// unit that was read.
+/// The two files of the parcels' layer, where the parcels tile their city exactly: its rings, each with all corners of the
+/// layer and the city that lie inside its edges, by ascending id and numbered anew from 1. Coordinates are in centimetres,
+/// whatever the unit that was read.
 ///
 /// # Errors
 ///

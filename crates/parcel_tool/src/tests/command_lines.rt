@@ -28,6 +28,15 @@ fn reads_requests(rt: HostRuntime) -> Result<(), Fail> {
                 unit: Unit::M,
             },
         ),
+        (
+            "parcel_tool export city.shp parcels.shp --unit cm --out new/town",
+            Request::Export {
+                city: "city.shp",
+                parcels: "parcels.shp",
+                unit: Unit::Cm,
+                base: "new/town",
+            },
+        ),
     ] {
         let words: Vec<&str> = line.split(' ').collect(rt.alloc())?;
         match parse(rt.alloc(), words.as_slice()) {
@@ -67,6 +76,11 @@ fn refuses_command_lines(rt: HostRuntime) -> Result<(), Fail> {
             "[possible values: cm, m]",
         ),
         (
+            "parcel_tool export a.shp b.shp --unit cm",
+            ErrorKind::MissingRequiredArgument,
+            "--out <BASE>",
+        ),
+        (
             "parcel_tool area a.shp b.shp --unit cm",
             ErrorKind::UnknownArgument,
             "'b.shp'",
@@ -103,6 +117,10 @@ fn shows_help_and_version(rt: HostRuntime) -> Result<(), Fail> {
         (
             "parcel_tool area --help",
             "Usage: parcel_tool area --unit <UNIT> <MAIN>",
+        ),
+        (
+            "parcel_tool export --help",
+            "Usage: parcel_tool export --unit <UNIT> --out <BASE> <CITY> <PARCELS>",
         ),
         ("parcel_tool --version", "parcel_tool 0.1.0"),
     ] {

@@ -114,7 +114,7 @@ fn count_of(count: usize) -> u32 {
 }
 
 /// The record of a polygon of one part, with so many 16-bit words of content.
-fn push_record(
+pub fn push_record(
     file: &mut Vec<u8>,
     number: u32,
     content: u32,

@@ -8,7 +8,8 @@ use Rattle.parcel_tool.proofs.export.export.Goals as goal
 pub rings_to_write-requires-clause-count : goal.rings_to_write-requires-clause-count
 rings_to_write-requires-clause-count g c =
     let tiled = c.in_ok-layer.ensures.tiles.is_tiled in
-    subst (λ n. n ≤ LAYER_RECORDS) (sym (as_many (λ shape. shape.ring.corners) c.shapes.result.now c.in_ok-layer.layer.rows c.shapes.ensures))
+    subst (λ n. n ≤ LAYER_RECORDS)
+    (sym (as_many (λ shape. shape.ring.corners) c.shapes.result.now c.in_ok-layer.layer.rows c.shapes.ensures))
     (few_rows _ _ _ _ tiled (λ records h. c.a_layer_file_is_within_the_limits.ensures.rings _ _ _ records h))
 
 pub rings_to_write-requires-clause-short : goal.rings_to_write-requires-clause-short
