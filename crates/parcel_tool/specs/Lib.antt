@@ -5,3 +5,4 @@ pub mod Sources
 pub mod Arguments
 pub mod TilingFiles
 pub mod CheckReport
+pub mod FaultLines
