@@ -58,7 +58,7 @@ data TwoPlaces {X : Type 0} (before : List X) (x : X) (before' : List X) (x' : X
   earlier : (rest : List X) → before' ≡ before ++ x ∷ rest → TwoPlaces before x before' x'
   later : (rest : List X) → before ≡ before' ++ x' ∷ rest → TwoPlaces before x before' x'
 
-head_of : {X : Type 0} (x y : X) (xs ys : List X) → x ∷ xs ≡ y ∷ ys → x ≡ y
+pub head_of : {X : Type 0} (x y : X) (xs ys : List X) → x ∷ xs ≡ y ∷ ys → x ≡ y
 head_of x y xs ys e = cc
 
 tail_of : {X : Type 0} (x y : X) (xs ys : List X) → x ∷ xs ≡ y ∷ ys → xs ≡ ys

@@ -21,7 +21,8 @@ use Rattle.fabric_core.specs.Rows.{numbers}
 use Rattle.fabric_core.specs.Limits.{AreWithinLimits, IsFirstTooMany}
 use Rattle.fabric_core.specs.Faults.{AreSimple, IsFirstGap, AreGaps, BeginsWith, IsLoadFault, AreLoadFaults}
 use Rattle.fabric_core.specs.own.Checks.{HaveEqualNets, AreRingsFaults, AreNetsFaults, AreTold}
-use Rattle.fabric_core.proofs.OneLoadFault.{AreFaultless, faultless, one_load_fault}
+use Rattle.fabric_core.proofs.OneLoadFault.{AreFaultless, faultless, one_load_fault, head_of}
+use Rattle.ring_core.specs.declared.ring.RingFault.{RingFault}
 use Rattle.fabric_core.proofs.ToldRings.{are_ring_faults, first_faulty}
 use Rattle.fabric_core.proofs.RowGaps.{equal_nets}
 
@@ -121,3 +122,10 @@ refused_by_all (Err all) records city none (inl k) fault h =
     inl (one_beginning all k.first fault k.begins (one_load_fault records city k.first fault
     (record { rows = k.rows; refined = k.refined; are_refined = k.are_refined; is_first = k.is_first }) h))
 refused_by_all (Err all) records city none (inr e) fault h = inr e
+
+-- they begin with one fault
+pub begins_once : {A : Type 0} (all : AllFaults A) (f g : LoadFault) → BeginsWith all f → BeginsWith all g → f ≡ g
+begins_once (AllTooMany n) f g h k = h ∙ sym k
+begins_once (Rings faults) f g h k = h.3 ∙ ap (λ (t : ℕ × RingFault). Ring t.0 t.1) (head_of h.0 k.0 h.1 k.1 (sym h.2 ∙ k.2)) ∙ sym k.3
+begins_once (Gaps gaps) f g h k = h.3 ∙ ap (λ (t : Corner × Corner × ℤ). Gap t.0 t.1 t.2) (head_of h.0 k.0 h.1 k.1 (sym h.2 ∙ k.2)) ∙ sym k.3
+begins_once AllNoMemory f g h k = h ∙ sym k

@@ -4,3 +4,4 @@ pub mod TilingFaults
 pub mod CityLimit
 pub mod SimpleRings
 pub mod RowLimits
+pub mod AllTiles

@@ -6,3 +6,4 @@ pub mod Arguments
 pub mod TilingFiles
 pub mod CheckReport
 pub mod ExportReport
+pub mod FaultLines

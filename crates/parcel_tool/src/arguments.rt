@@ -27,6 +27,8 @@ pub enum Request<'a> {
         parcels: &'a str,
         /// The unit of the coordinates of both.
         unit: Unit,
+        /// Whether all faults of a layer that does not tile its city are told, and not only the first.
+        all: bool,
     },
     /// The parcels that tile their city, written anew.
     Export {
@@ -75,6 +77,7 @@ fn check_request<'a>(given: &ArgMatches<'a>) -> Option<Request<'a>> {
         city: given.get_str("CITY")?,
         parcels: given.get_str("PARCELS")?,
         unit: unit_of(given)?,
+        all: given.get_flag("all"),
     })
 }
 
@@ -131,7 +134,16 @@ fn check_command<'a>(alloc: Global) -> Result<Command<'a>, AllocError> {
             "PARCELS",
             "The main file of the parcels' layer, .shp",
         ))?
-        .arg(unit(alloc, "The unit of the files' coordinates"))
+        .arg(unit(alloc, "The unit of the files' coordinates"))?
+        .arg(all(alloc))
+}
+
+/// Whether all faults are told.
+fn all<'a>(alloc: Global) -> Arg<'a> {
+    Arg::new(alloc, "all")
+        .long("all")
+        .action(ArgAction::SetTrue)
+        .help("Prints a line for every faulty ring or edge, and not only the first")
 }
 
 fn export_command<'a>(alloc: Global) -> Result<Command<'a>, AllocError> {

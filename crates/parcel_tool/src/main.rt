@@ -1,11 +1,13 @@
 //! `parcel_tool`: exact answers about the parcel layers of a land registry.
 #![tactic(auto)]
 
+mod all_tiles;
 mod area;
 mod arguments;
 mod check;
 mod export;
 mod fault;
+mod fault_lines;
 mod layers;
 mod output;
 mod replace;
@@ -17,7 +19,7 @@ mod tiles;
 
 use area::area;
 use arguments::Request;
-use check::check;
+use check::{check, check_all};
 use clap::Error;
 use clap::error::ErrorKind;
 use export::export;
@@ -74,11 +76,16 @@ fn answer<'a, R: Files + Print + AllocGlobal>(
             city,
             parcels,
             unit,
+            all,
         } => {
             let heap = rt.alloc();
             let city = read_source(&Disk(rt), heap, city)?;
             let parcels = read_source(&Disk(rt), heap, parcels)?;
-            check(&heap, &city, &parcels, unit, &mut out)
+            if all {
+                check_all(&heap, &city, &parcels, unit, &mut out)
+            } else {
+                check(&heap, &city, &parcels, unit, &mut out)
+            }
         }
         Request::Export {
             city,

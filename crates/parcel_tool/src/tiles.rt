@@ -15,7 +15,7 @@ use shp_files::a_layer_file_is_within_the_limits;
 use std::alloc::Allocator;
 
 /// The city of a city's files: their one ring.
-fn read_city<'h, H: Allocator, A: Allocator>(
+pub fn read_city<'h, H: Allocator, A: Allocator>(
     heap: &'h H,
     files: &Source<A>,
     unit: Unit,
@@ -58,7 +58,7 @@ fn told_of_city(fault: CityFault) -> ToolFault<'static>
 }
 
 /// What the fault of a layer's rings is to the user; the layer has this role in the run.
-fn told_of_load(role: Role, fault: LoadFault) -> ToolFault<'static>
+pub fn told_of_load(role: Role, fault: LoadFault) -> ToolFault<'static>
     ensures { result ≡ told_of_load_fault role fault }
 {
     match fault {

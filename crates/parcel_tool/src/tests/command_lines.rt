@@ -26,6 +26,16 @@ fn reads_requests(rt: HostRuntime) -> Result<(), Fail> {
                 city: "city.shp",
                 parcels: "parcels.shp",
                 unit: Unit::M,
+                all: false,
+            },
+        ),
+        (
+            "parcel_tool check city.shp --all parcels.shp --unit cm",
+            Request::Check {
+                city: "city.shp",
+                parcels: "parcels.shp",
+                unit: Unit::Cm,
+                all: true,
             },
         ),
         (
