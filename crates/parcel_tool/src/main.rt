@@ -1,33 +1,18 @@
 //! `parcel_tool`: exact answers about the parcel layers of a land registry.
 #![tactic(auto)]
 
-mod all_tiles;
-mod area;
 mod arguments;
-mod check;
-mod export;
-mod fault;
-mod fault_lines;
-mod layers;
-mod output;
-mod replace;
-mod report;
-mod sources;
 #[cfg(test)]
 mod tests;
-mod tiles;
 
-use area::area;
 use arguments::Request;
-use check::{check, check_all};
 use clap::Error;
 use clap::error::ErrorKind;
-use export::export;
-use fault::ToolFault;
 use geo_exact::Counted;
-use output::put_all;
-use replace::replace_layer;
-use sources::{Disk, read_source};
+use parcel_runs::area::area;
+use parcel_runs::check::{check, check_all};
+use parcel_runs::export::export;
+use parcel_runs::{Disk, ToolFault, put_all, read_source, replace_layer};
 use std::process::ExitCode;
 use std::rt::{Env, Files};
 use std::{env, io};

@@ -1,0 +1,22 @@
+use Rattle.std.proofs.Common.{inl, inr, ◌≡◌, ◌⊎◌, sym, subst}
+use Rattle.fabric_core.proofs.Refusals.{IsErrAnd-weaker}
+use Rattle.parcel_runs.specs.declared.fault.Role.TheVariants.{Parcels}
+use Rattle.parcel_runs.specs.declared.fault.ToolFault.TheVariants.{NoMemory}
+use Rattle.parcel_runs.specs.TilingFiles.{files_of, IsFaultOfLayer}
+use Rattle.parcel_runs.proofs.all_tiles.load_tiles_or_lines.Goals as goal
+
+pub returns-in_err-city-clause-refuses : goal.returns-in_err-city-clause-refuses
+returns-in_err-city-clause-refuses g c = λ fault h.
+    IsErrAnd-weaker c.from_residual.result _ (λ refusal. (refusal.fault ≡ fault) ⊎ (refusal.fault ≡ NoMemory))
+    (λ refusal told. subst (λ x. (x ≡ fault) ⊎ (x ≡ NoMemory)) (sym told.0) (elim h [
+      | inl k ↦ c.in_err-city.ensures.refuses fault k
+      | inr k ↦ inr (c.in_err-city.ensures.reads k.corners k.is_city)
+    ])) c.from_residual.ensures.1
+
+pub returns-clause-refuses : goal.returns-clause-refuses
+returns-clause-refuses g c = λ fault h. elim h [
+  | inl k ↦ absurd (c.in_ok-city.ensures.refuses fault k)
+  | inr k ↦ c.read_tiles_or_lines.ensures.refuses fault
+      (subst (λ corners. IsFaultOfLayer Parcels (files_of c.args.parcels.now) c.args.unit corners fault)
+      (sym (c.in_ok-city.ensures.reads k.corners k.is_city)) k.is_fault)
+]

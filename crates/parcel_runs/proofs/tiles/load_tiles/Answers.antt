@@ -1,0 +1,19 @@
+use Rattle.std.proofs.Common.{inl, inr, sym, subst}
+use Rattle.parcel_runs.proofs.Passing.{passed_on}
+use Rattle.parcel_runs.proofs.tiles.load_tiles.Goals as goal
+use Rattle.parcel_runs.specs.TilingFiles.{files_of, IsFaultOfLayer}
+use Rattle.parcel_runs.specs.declared.fault.Role.TheVariants.{Parcels}
+
+pub returns-in_err-city-clause-refuses : goal.returns-in_err-city-clause-refuses
+returns-in_err-city-clause-refuses g c = λ fault h. passed_on _ _ _ c.from_residual.ensures.1 (elim h [
+  | inl k ↦ c.in_err-city.ensures.refuses fault k
+  | inr k ↦ inr (c.in_err-city.ensures.reads k.corners k.is_city)
+])
+
+pub returns-clause-refuses : goal.returns-clause-refuses
+returns-clause-refuses g c = λ fault h. elim h [
+  | inl k ↦ absurd (c.in_ok-city.ensures.refuses fault k)
+  | inr k ↦ c.read_tiles.ensures.refuses fault
+      (subst (λ corners. IsFaultOfLayer Parcels (files_of c.args.parcels.now) c.args.unit corners fault)
+      (sym (c.in_ok-city.ensures.reads k.corners k.is_city)) k.is_fault)
+]

@@ -1,0 +1,18 @@
+-- The faults that end a run (this product's own).
+use Rattle.std.specs.Prelude.{◌≡◌, ℕ, List, Option}
+use Rattle.geo_exact.specs.declared.coord.Unit.{Unit as LengthUnit}
+use Rattle.shp_files.specs.FirstFault.{IsFirstFault}
+use Rattle.parcel_runs.specs.declared.fault.Role.{Role}
+use Rattle.parcel_runs.specs.declared.fault.ToolFault.{ToolFault}
+use Rattle.parcel_runs.specs.declared.fault.ToolFault.TheVariants.{Unreadable, UnreadableIndex, Output, File, CityCount, CityRing, NoTiling, NoMemory}
+
+-- why the files of the layer with this role gave no rings: its first fault, or want of memory
+abbrev pub IsLayerFault : Role → List ℕ → Option (List ℕ) → LengthUnit → ToolFault → Type 0
+IsLayerFault role main index unit (File told fault) = (told ≡ role) × IsFirstFault main index unit fault
+IsLayerFault role main index unit NoMemory = Unit {0}
+IsLayerFault role main index unit Output = ⊥
+IsLayerFault role main index unit (Unreadable path) = ⊥
+IsLayerFault role main index unit (UnreadableIndex stem) = ⊥
+IsLayerFault role main index unit (CityCount count) = ⊥
+IsLayerFault role main index unit (CityRing fault) = ⊥
+IsLayerFault role main index unit (NoTiling told fault) = ⊥

@@ -1,0 +1,102 @@
+//! The files that hold a layer anew.
+
+ghost use Rattle.std.specs.Prelude.{◌≡◌, ◌⊎◌, ◌≤◌, map, length, IfOk, IfErr, IsErrAnd};
+ghost use Rattle.std.specs.List.{AllByRecursion};
+ghost use Rattle.geo_exact.specs.declared.limits.TheConstants.{LAYER_RECORDS, RING_CORNERS};
+ghost use Rattle.shp_files.specs.Written.{corner_lists as lists_of_rings};
+ghost use Rattle.fabric_core.specs.Tiling.{corner_lists};
+ghost use Rattle.parcel_runs.specs.declared.fault.ToolFault.{ToolFault as ToolFaultValue};
+ghost use Rattle.parcel_runs.specs.ExportReport.{exported_line, IsExport};
+ghost use Rattle.parcel_runs.specs.TilingFiles.{files_of, IsTilesFault};
+
+use crate::fault::ToolFault;
+use crate::sources::Source;
+use crate::tiles::load_tiles;
+use fabric_core::Layer;
+use geo_exact::{RawRing, Unit};
+use itoa::Buffer;
+use ring_core::{Ring, Shape};
+use shp_files::{a_layer_file_is_within_the_limits, write_layer};
+use std::alloc::{AllocError, Allocator};
+
+/// What an export writes, and what it prints.
+#[derive(Drop)]
+pub struct Exported<A: Allocator> {
+    /// The bytes of the main file.
+    pub main: Vec<u8, A>,
+    /// The bytes of the index file.
+    pub index: Vec<u8, A>,
+    /// The text that is printed: `exported N`, the number of parcels.
+    pub lines: Vec<u8, A>,
+}
+
+/// The two files of the parcels' layer, where the parcels tile their city exactly: its rings, each with all corners of the
+/// layer and the city that lie inside its edges, by ascending id and numbered anew from 1. Coordinates are in centimetres,
+/// whatever the unit that was read.
+///
+/// # Errors
+///
+/// The first fault of the city's files and ring, and then of the parcels' files and rings, and [`ToolFault::NoMemory`].
+pub fn export<'h, H: Allocator, A: Allocator>(
+    heap: &'h H,
+    city: &Source<A>,
+    parcels: &Source<A>,
+    unit: Unit,
+) -> Result<Exported<&'h H>, ToolFault<'static>>
+    ensures ok { IfOk result (λ exported. IsExport (files_of city.now) (files_of parcels.now) unit
+        exported.main.items exported.index.items exported.lines.items) }
+    ensures fault { IfErr result (λ fault. IsTilesFault (files_of city.now) (files_of parcels.now) unit fault
+        ⊎ (fault ≡ ToolFault.NoMemory)) }
+    ensures refuses { (fault : ToolFaultValue) → IsTilesFault (files_of city.now) (files_of parcels.now) unit fault
+        → IsErrAnd result (λ told. (told ≡ fault) ⊎ (told ≡ ToolFault.NoMemory)) }
+{
+    let layer = load_tiles(heap, city, parcels, unit)?;
+    a_layer_file_is_within_the_limits();
+    layer.tiles();
+    let rings = rings_to_write(heap, layer.shapes())?;
+    let (main, index) = write_layer(heap, &rings)?;
+    let lines = exported_text(heap, &layer)?;
+    Ok(Exported { main, index, lines })
+}
+
+/// The rings of shapes, each numbered as the record that it is written as.
+fn rings_to_write<A: Allocator + Copy>(
+    alloc: A,
+    shapes: &[Shape<A>],
+) -> Result<Vec<RawRing<A>, A>, AllocError>
+    requires count { length shapes.now ≤ LAYER_RECORDS }
+    requires short { AllByRecursion (λ shape. length shape.ring.corners ≤ RING_CORNERS) shapes.now }
+    ensures { IfOk result (λ rings. lists_of_rings rings.items ≡ map (λ shape. shape.ring.corners) shapes.now) }
+{
+    let mut rings = Vec::with_capacity(alloc, shapes.len())?;
+    let mut number = 0;
+    for shape in shapes {
+        number += 1;
+        rings.push(ring_to_write(number, &shape.ring)?)?;
+    }
+    Ok(rings)
+}
+
+/// A ring under a record's number.
+fn ring_to_write<A: Allocator + Copy>(number: u32, ring: &Ring<A>) -> Result<RawRing<A>, AllocError>
+    requires { length ring.now.corners ≤ RING_CORNERS }
+    ensures { IfOk result (λ written. written.corners ≡ ring.now.corners) }
+{
+    let corners = ring.corners.clone()?;
+    Ok(RawRing { number, corners })
+}
+
+/// The line of an export.
+fn exported_text<'h, H: Allocator, A: Allocator>(
+    alloc: A,
+    layer: &Layer<'h, H>,
+) -> Result<Vec<u8, A>, AllocError>
+    ensures { IfOk result (λ text. text.items ≡ exported_line layer.now) }
+{
+    let mut digits = Buffer::new();
+    let mut text = Vec::new(alloc);
+    text.extend_from_slice(b"exported ")?;
+    text.extend_from_slice(digits.format(layer.ids().len()).as_bytes())?;
+    text.push(b'\n')?;
+    Ok(text)
+}

@@ -1,0 +1,124 @@
+use crate::square::{FARTHEST, HUNDRED, header, square};
+use parcel_runs::area::area;
+use parcel_runs::ToolFault;
+use parcel_runs::Source;
+use geo_exact::{Counted, FailAt, Unit};
+use std::alloc::{AllocError, Global};
+use std::io;
+use std::io::Write;
+use std::test::Fail;
+
+/// What a run over these bytes of a main file prints, on whichever stream.
+fn printed(alloc: Global, main: Vec<u8>) -> Result<String, AllocError> {
+    run(alloc, Source { main, index: None }, Unit::Cm)
+}
+
+/// What a run over these files prints, on whichever stream.
+pub fn run(alloc: Global, source: Source<Global>, unit: Unit) -> Result<String, AllocError> {
+    let mut out = Counted::new(Vec::new(alloc));
+    match area(alloc, &source, unit, &mut out) {
+        Ok(()) => String::from_utf8_lossy(alloc, out.into_inner().as_slice()),
+        Err(fault) => format!(in alloc; "error: {fault}"),
+    }
+}
+
+/// A file with the bytes from a place on exchanged.
+pub fn changed(
+    alloc: Global,
+    file: &[u8],
+    place: usize,
+    bytes: &[u8],
+) -> Result<Vec<u8>, AllocError> {
+    let mut out = Vec::new(alloc);
+    for (i, byte) in file.iter().enumerate() {
+        let new = i.checked_sub(place).and_then(|k| bytes.get(k)).copied();
+        out.push(new.unwrap_or(*byte))?;
+    }
+    Ok(out)
+}
+
+#[test]
+fn prints_areas(rt: HostRuntime) -> Result<(), Fail> {
+    let alloc = rt.alloc();
+    assert_eq!(rt;
+        printed(alloc, square(alloc, HUNDRED)?)?.as_str(),
+        "1 20000\n"
+    );
+    let farthest = printed(alloc, square(alloc, FARTHEST)?)?;
+    assert_eq!(rt; farthest.as_str(), "1 800000000000000000000\n");
+    let empty = printed(alloc, header(alloc, 50, [0; 4])?)?;
+    assert_eq!(rt; empty.as_str(), "");
+    Ok(())
+}
+
+#[test]
+fn tells_the_first_fault(rt: HostRuntime) -> Result<(), Fail> {
+    let alloc = rt.alloc();
+    for (place, bytes, want) in [
+        (144, [2u8, 0], "error: file: F6 main record 1 at 144"),
+        (234, [0xF0, 0x3F], "error: file: F7 main record 1 at 220"),
+        (162, [0xF0, 0x7F], "error: file: F9 C1 main record 1 at 156"),
+    ] {
+        let file = changed(alloc, &square(alloc, HUNDRED)?, place, bytes.as_slice())?;
+        let text = printed(alloc, file)?;
+        assert_eq!(rt; text.as_str(), want);
+    }
+    Ok(())
+}
+
+#[test]
+fn refuses_each_torn_file(rt: HostRuntime) -> Result<(), Fail> {
+    let alloc = rt.alloc();
+    for length in 0..236usize {
+        let mut file = square(alloc, HUNDRED)?;
+        file.truncate(length);
+        let want = format!(in alloc; "error: file: F1 main record 0 at {length}")?;
+        assert_eq!(rt; printed(alloc, file)?.as_str(), want.as_str());
+    }
+    Ok(())
+}
+
+/// A writer that takes one byte a call.
+#[derive(Drop)]
+struct ByteByByte(Vec<u8>);
+
+impl Write for ByteByByte {
+    fn write(&mut self, bytes: &[u8]) -> io::Result<usize> {
+        match bytes.first() {
+            Some(byte) => {
+                self.0.push(*byte)?;
+                Ok(1)
+            }
+            None => Ok(0),
+        }
+    }
+
+    fn flush(&mut self) -> io::Result<()> {
+        Ok(())
+    }
+}
+
+#[test]
+fn tells_each_failed_write(rt: HostRuntime) -> Result<(), Fail> {
+    let alloc = rt.alloc();
+    let text = "1 20000\n";
+    for call in 1..=9u64 {
+        let source = Source {
+            main: square(alloc, HUNDRED)?,
+            index: None,
+        };
+        let writer = Counted::new(ByteByByte(Vec::new(alloc)));
+        let mut out = FailAt::new(writer, call);
+        let answer = area(alloc, &source, Unit::Cm, &mut out);
+        let held = out.into_inner().into_inner().0;
+        let want = if call < 9 {
+            Err(ToolFault::Output)
+        } else {
+            Ok(())
+        };
+        assert_eq!(rt; answer, want, "at call {call}");
+        assert_eq!(rt; held.len() as u64, call - 1);
+        assert!(rt; text.as_bytes().starts_with(held.as_slice()));
+    }
+    Ok(())
+}

@@ -1,0 +1,20 @@
+//! Tests of runs: what they print and write, the texts of faults, which files are read and how files are replaced, and what a run
+//! answers whose growths are refused.
+#![tactic(auto)]
+
+#[cfg(test)]
+mod area_runs;
+#[cfg(test)]
+mod export_runs;
+#[cfg(test)]
+mod fault_texts;
+#[cfg(test)]
+mod index_runs;
+#[cfg(test)]
+mod refused_growths;
+#[cfg(test)]
+mod replacing;
+#[cfg(test)]
+mod source_files;
+#[cfg(test)]
+mod square;

@@ -1,0 +1,53 @@
+use crate::square::{HUNDRED, index, square};
+use parcel_runs::ToolFault;
+use parcel_runs::{Disk, read_source};
+use std::fs;
+use std::test::Fail;
+
+#[test]
+fn reads_the_index_beside_the_main_file(rt: HostRuntime) -> Result<(), Fail> {
+    let alloc = rt.alloc();
+    let main = square(alloc, HUNDRED)?;
+    let beside = index(alloc, &[(50, 64)])?;
+    fs::write(&rt, "both.shp", main.as_slice())?;
+    fs::write(&rt, "both.shx", beside.as_slice())?;
+    fs::write(&rt, "upper.SHP", main.as_slice())?;
+    fs::write(&rt, "upper.shx", beside.as_slice())?;
+    fs::write(&rt, "alone.shp", main.as_slice())?;
+    for (path, has_index) in [
+        ("both.shp", true),
+        ("upper.SHP", false),
+        ("alone.shp", false),
+    ] {
+        match read_source(&Disk(&rt), alloc, path) {
+            Ok(source) => {
+                assert_eq!(rt; source.main.as_slice(), main.as_slice());
+                let want = if has_index {
+                    Some(beside.as_slice())
+                } else {
+                    None
+                };
+                assert_eq!(rt; source.index_bytes(), want, "beside {path}");
+            }
+            Err(fault) => assert_eq!(rt; Err(fault), Ok(()), "at {path}"),
+        }
+    }
+    Ok(())
+}
+
+#[test]
+fn names_the_file_that_it_could_not_read(rt: HostRuntime) -> Result<(), Fail> {
+    let alloc = rt.alloc();
+    fs::write(&rt, "torn.shp", square(alloc, HUNDRED)?.as_slice())?;
+    fs::create_dir(&rt, "torn.shx")?;
+    fs::create_dir(&rt, "folder.shp")?;
+    for (path, want) in [
+        ("missing.shp", ToolFault::Unreadable("missing.shp")),
+        ("folder.shp", ToolFault::Unreadable("folder.shp")),
+        ("torn.shp", ToolFault::UnreadableIndex("torn")),
+    ] {
+        let answer = read_source(&Disk(&rt), alloc, path).map(|_| ());
+        assert_eq!(rt; answer, Err(want), "at {path}");
+    }
+    Ok(())
+}
