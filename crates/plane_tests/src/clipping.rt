@@ -1,11 +1,12 @@
 //! Simple rings, their faults, and the triangles that they are clipped to.
 
-use crate::plain::plainly_clipped;
 use geo_exact::turn;
 use ring_core::{Ring, RingFault, Tri, Triangles};
 use std::alloc::Global;
 use std::test::Fail;
-use test_builders::{Place, corner, corners, shape, shape_of, simple_ring, triangle};
+use test_builders::{
+    Place, clipped_as_plainly, corner, corners, shape, shape_of, simple_ring, triangle,
+};
 
 /// The limit of the coordinates, in centimetres.
 const FAR: i64 = 10_000_000_000;
@@ -238,13 +239,10 @@ fn clips_rings(rt: HostRuntime) -> Result<(), Fail> {
     Ok(())
 }
 
-/// Whether the clipping gives the triangles of the plain clipping.
+/// Whether these corners are a simple ring that is clipped as the plain clipping clips it.
 fn agrees(rt: &HostRuntime, places: &[Place]) -> Result<bool, Fail> {
     let alloc = rt.alloc();
-    let ring = simple_ring(alloc, places)?;
-    let plain = plainly_clipped(alloc, ring.corners.as_slice())?;
-    let shape = shape_of(alloc, ring)?;
-    Ok(shape.triangles.as_slice() == plain.as_slice())
+    clipped_as_plainly(alloc, corners(alloc, places)?)
 }
 
 #[test]

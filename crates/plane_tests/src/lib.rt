@@ -7,13 +7,13 @@ mod chains;
 #[cfg(test)]
 mod clipping;
 #[cfg(test)]
+mod ears;
+#[cfg(test)]
 mod edge_sums;
 #[cfg(test)]
 mod exact;
 #[cfg(test)]
 mod overlaps;
-#[cfg(test)]
-mod plain;
 #[cfg(test)]
 mod refusals;
 #[cfg(test)]

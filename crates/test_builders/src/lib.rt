@@ -4,12 +4,16 @@
 #![tactic(auto)]
 
 mod files;
+mod plain;
+mod polygons;
 mod rings;
 
 pub use files::{
     HUNDRED, ONE, SQUARE, ZERO, behind_a_null_shape, empty_file, index_of, layer_file, put,
     put_header, put_point, ring_file, square_file, squares_in_a_row,
 };
+pub use plain::plainly_clipped;
+pub use polygons::{Ways, clipped_as_plainly, count_clipped};
 pub use rings::{
     Place, corner, corners, rectangle, ring_of, saw, shape, shape_of, simple_ring, triangle,
 };

@@ -4,7 +4,7 @@ ghost use Rattle.std.specs.Prelude.{◌<◌, IfSome, length};
 
 use geo_exact::{Corner, turn};
 use ring_core::Tri;
-use std::alloc::Global;
+use std::alloc::Allocator;
 use std::test::Fail;
 
 /// Which corners come before and after corner `k`, round a ring of `count` corners.
@@ -77,7 +77,14 @@ fn first_ear(rest: &[Corner]) -> Option<usize>
 }
 
 /// The triangles of the plain clipping, up to a rest without a flat corner and without an ear.
-pub fn plainly_clipped(alloc: Global, corners: &[Corner]) -> Result<Vec<Tri>, Fail> {
+///
+/// # Errors
+///
+/// Where memory is wanting.
+pub fn plainly_clipped<A: Allocator + Copy>(
+    alloc: A,
+    corners: &[Corner],
+) -> Result<Vec<Tri, A>, Fail> {
     let mut rest = Vec::from_slice(alloc, corners)?;
     let mut triangles = Vec::new(alloc);
     for _ in 0..corners.len() {
