@@ -7,8 +7,10 @@ mod gaps;
 mod laws;
 mod layer;
 mod limits;
+mod locate;
 mod refine;
 mod rings;
+mod side;
 
 pub use all_faults::AllFaults;
 pub use city::{City, CityFault};
@@ -17,3 +19,4 @@ pub use laws::{
     rows_with_the_nets_of_a_city_tile_it,
 };
 pub use layer::{Layer, LoadFault};
+pub use locate::At;
