@@ -16,3 +16,4 @@ pub mod ToldRings
 pub mod ToldGaps
 pub mod Sides
 pub mod Located
+pub mod OneParcel

@@ -77,7 +77,11 @@ module _ (p : Point) (rows : List NumberedRing) (n : ℕ) (ring : List Corner) w
   inside_cases : (id : ℕ) → IsInsideOf more p id → IsInsideOf rows p id ⊎ ((n ≡ id) × IsInterior p ring)
   inside_cases id h = ⊎_elim
       (λ old. inl (record { row = h.row; is_row = old; has_id = h.has_id; is_inside = h.is_inside }))
-      (λ e. inr (ap (λ (r : NumberedRing). r.number) e ∙ h.has_id, subst (λ (r : NumberedRing). IsInterior p r.corners) (sym e) h.is_inside))
+      (λ e. inr (
+        ap (λ (r : NumberedRing). r.number) e ∙ h.has_id,
+        subst (λ (r : NumberedRing). IsInterior p r.corners)
+            (sym e) h.is_inside,
+      ))
       (Contains-push_cases rows (numbered n ring) h.row h.is_row)
 
   same_edges : (ids : List ℕ) → ¬ IsOnRing p ring → AreAllOnEdge rows p ids → AreAllOnEdge more p ids
@@ -118,7 +122,8 @@ module _ (p : Point) (rows : List NumberedRing) (n : ℕ) (ring : List Corner) w
     is_inside = record { row = numbered n ring; is_row = Contains-push rows (numbered n ring); has_id = refl; is_inside = i };
   }
 
-  pub outside_more : (ids : List ℕ) (inside : Option ℕ) → ¬ IsOnRing p ring → ¬ IsInterior p ring → IsFound rows p ids inside → IsFound more p ids inside
+  pub outside_more : (ids : List ℕ) (inside : Option ℕ) → ¬ IsOnRing p ring → ¬ IsInterior p ring → IsFound rows p ids inside
+      → IsFound more p ids inside
   outside_more ids inside off out h = record { are_all = same_edges ids off h.are_all; is_inside = still_inside inside out h.is_inside }
 
 -- the ids before place i are below the one at i
@@ -150,30 +155,40 @@ module _ (p : Point) (ids : List ℕ) (rings : List (List Corner)) (i : ℕ) (ri
   abbrev found_more : List ℕ → Option ℕ → Type 0
   found_more on now = IsFound (numbered_rows (take (i + 1) ids) (take (i + 1) rings)) p on now
 
-  moved_on : (on : List ℕ) (now : Option ℕ) → IsFound (numbered_rows (take i ids) (take i rings) ++ numbered (get_or ids i 0) ring ∷ []) p on now
+  moved_on : (on : List ℕ) (now : Option ℕ) → IsFound (numbered_rows (take i ids) (take i rings) ++ numbered
+      (get_or ids i 0) ring ∷ []) p on now
       → found_more on now
-  moved_on on now k = rw add-one (subst (λ rows. IsFound rows p on now) (sym (rows_more ids rings i (get_or ids i 0) ring same h refl at)) k)
+  moved_on on now k = rw add-one (subst (λ rows. IsFound rows p on now) (sym (rows_more ids rings i
+      (get_or ids i 0) ring same h refl at)) k)
 
-  pub step_on_edge : IsOnRing p ring → IsFound (numbered_rows (take (i + 1) ids) (take (i + 1) rings)) p (on_edge ++ get_or ids i 0 ∷ []) inside
-  step_on_edge on = moved_on (on_edge ++ get_or ids i 0 ∷ []) inside (on_edge_more p (numbered_rows (take i ids) (take i rings)) (get_or ids i 0) ring on_edge
-      inside on (λ id e. subst (λ m. m < get_or ids i 0) e.has_id (below_next ids rings i e.row up (omega (arith, h, same)) e.is_row)) found)
+  pub step_on_edge : IsOnRing p ring → IsFound (numbered_rows (take (i + 1) ids) (take (i + 1) rings)) p
+      (on_edge ++ get_or ids i 0 ∷ []) inside
+  step_on_edge on = moved_on (on_edge ++ get_or ids i 0 ∷ []) inside (on_edge_more p (numbered_rows (take i ids) (take i rings))
+      (get_or ids i 0) ring on_edge
+      inside on (λ id e. subst (λ m. m < get_or ids i 0) e.has_id (below_next ids rings i e.row up (omega
+      (arith, h, same)) e.is_row)) found)
 
   pub step_inside : IsInterior p ring → IsFound (numbered_rows (take (i + 1) ids) (take (i + 1) rings)) p on_edge (Some (get_or ids i 0))
   step_inside is = moved_on on_edge (Some (get_or ids i 0))
       (inside_more p (numbered_rows (take i ids) (take i rings)) (get_or ids i 0) ring on_edge inside is found)
 
-  pub step_outside : ¬ IsOnRing p ring → ¬ IsInterior p ring → IsFound (numbered_rows (take (i + 1) ids) (take (i + 1) rings)) p on_edge inside
-  step_outside off out = moved_on on_edge inside (outside_more p (numbered_rows (take i ids) (take i rings)) (get_or ids i 0) ring on_edge inside off out found)
+  pub step_outside : ¬ IsOnRing p ring → ¬ IsInterior p ring → IsFound (numbered_rows (take (i + 1) ids) (take
+      (i + 1) rings)) p on_edge inside
+  step_outside off out = moved_on on_edge inside (outside_more p (numbered_rows (take i ids) (take i rings))
+      (get_or ids i 0) ring on_edge inside off out found)
 
-pub all_at : (P : List Corner → Type 0) (rings : List (List Corner)) (i : ℕ) (ring : List Corner) → AllByRecursion P rings → i < length rings
+pub all_at : (P : List Corner → Type 0) (rings : List (List Corner)) (i : ℕ) (ring : List Corner) → AllByRecursion P rings
+    → i < length rings
     → ring ≡ get_or rings i ring → P ring
 all_at P [] i ring h l e = absurd (omega (arith, l))
 all_at P (r ∷ rings) zero ring h l e = subst P (sym e) h.0
 all_at P (r ∷ rings) (suc i) ring h l e = all_at P rings i ring h.1 (omega (arith, l)) e
 
 -- all shapes gone through
-pub found_all : (p : Point) (ids : List ℕ) (rings : List (List Corner)) (i : ℕ) (on_edge : List ℕ) (inside : Option ℕ) → length ids ≡ length rings
-    → length rings ≤ i → IsFound (numbered_rows (take i ids) (take i rings)) p on_edge inside → IsFound (numbered_rows ids rings) p on_edge inside
+pub found_all : (p : Point) (ids : List ℕ) (rings : List (List Corner)) (i : ℕ) (on_edge : List ℕ) (inside : Option ℕ)
+    → length ids ≡ length rings
+    → length rings ≤ i → IsFound (numbered_rows (take i ids) (take i rings)) p on_edge inside
+    → IsFound (numbered_rows ids rings) p on_edge inside
 found_all p ids rings i on_edge inside same h found =
     subst (λ xs. IsFound (numbered_rows xs rings) p on_edge inside) (take_all i ids (omega (arith, h, same)))
     (subst (λ ys. IsFound (numbered_rows (take i ids) ys) p on_edge inside) (take_all i rings h) found)
@@ -194,7 +209,8 @@ outside_found p rows on_edge inside e k h = (
 
 -- rows within the limits have short rings
 pub short_rings : (ids : List ℕ) (rings : List (List Corner)) → length ids ≡ length rings
-    → AllByRecursion (λ row. length row.corners ≤ RING_CORNERS) (numbered_rows ids rings) → AllByRecursion (λ ring. length ring ≤ RING_CORNERS) rings
+    → AllByRecursion (λ row. length row.corners ≤ RING_CORNERS) (numbered_rows ids rings)
+    → AllByRecursion (λ ring. length ring ≤ RING_CORNERS) rings
 short_rings [] [] e h = tt
 short_rings [] (ring ∷ rings) e h = absurd (omega (arith, e))
 short_rings (id ∷ ids) [] e h = absurd (omega (arith, e))

@@ -1,4 +1,4 @@
--- Where a place lies among parcels: in the interior of one, on the boundary of some, or outside of all (OGC 06-103r4, 6.1.11, Polygon, for a parcel's
+-- Where a place lies among parcels: in the interior of one, on the boundary of some, or outside of all (OGC 06-103r4, 6.1.11, Polygon, for
 -- interior and boundary). It is said over all rows; a row is a parcel's ring under the parcel's id.
 use Rattle.std.specs.Prelude.{◌≡◌, ◌≢◌, ◌↔◌, ℕ, List, []}
 use Rattle.std.specs.List.{Contains}
@@ -28,6 +28,13 @@ pub record IsInsideOf (rows : List NumberedRing) (p : Point) (id : ℕ) : Type 0
 pub record AreAllOnEdge (rows : List NumberedRing) (p : Point) (ids : List ℕ) : Type 0 where
   pub ascend : IsStrictlyIncreasing ids
   pub exactly : (id : ℕ) → Contains ids id ↔ IsOnEdgeOf rows p id
+
+-- p lies inside exactly one parcel, and on no edge of one
+pub record IsInsideOneOnly (rows : List NumberedRing) (p : Point) : Type 0 where
+  pub id : ℕ
+  pub is_inside : IsInsideOf rows p id
+  pub no_other : (other : ℕ) → IsInsideOf rows p other → other ≡ id
+  pub no_edge : (other : ℕ) → ¬ IsOnEdgeOf rows p other
 
 -- on edges, where p lies on any: of all parcels that have it there; else inside the one that has it inside; else outside
 abbrev pub IsLocatedAt : {A : Type 0} → List NumberedRing → Point → At A → Type 0

@@ -32,7 +32,8 @@ pub(crate) fn locate_among<A: Allocator + Copy>(
     requires same_length { length ids.now ≡ length (corners_of_shapes shapes.now) }
     requires ids_rise { IsStrictlyIncreasing ids.now }
     requires short { AllByRecursion (λ ring. length ring ≤ RING_CORNERS) (corners_of_shapes shapes.now) }
-    ensures { IfOk result (λ at. IsLocatedAt (numbered_rows ids.now (corners_of_shapes shapes.now)) (corner_point place) at) }
+    ensures { IfOk result (λ at.
+        IsLocatedAt (numbered_rows ids.now (corners_of_shapes shapes.now)) (corner_point place) at) }
 {
     let mut on_edge = Vec::new(alloc);
     let mut inside = None;

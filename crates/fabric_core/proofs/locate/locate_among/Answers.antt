@@ -15,7 +15,8 @@ side_of-requires g c =
     let rings = corners_of_shapes c.args.shapes.now in
     let below : c.loop-i.i < length rings = omega (arith, c.loop-i-test.true, length-map c.args.shapes.now (λ shape. shape.ring.corners)) in
     subst (λ ring. length ring ≤ RING_CORNERS) (sym c.as_slice.ensures) (all_at (λ ring. length ring ≤ RING_CORNERS) rings c.loop-i.i
-    c.index-shapes-i.result.ring.corners c.requires.short below (ring_of_shape c.args.shapes.now c.loop-i.i c.index-shapes-i.result c.index-shapes-i.is))
+    c.index-shapes-i.result.ring.corners c.requires.short below
+    (ring_of_shape c.args.shapes.now c.loop-i.i c.index-shapes-i.result c.index-shapes-i.is))
 
 pub loop-i-preserved : goal.loop-i-preserved
 loop-i-preserved g c =
@@ -44,7 +45,8 @@ loop-i-preserved g c =
 pub returns-in-Some : goal.returns-in-Some
 returns-in-Some g c =
     let rings = corners_of_shapes c.args.shapes.now in
-    let all = found_all (corner_point c.args.place) c.args.ids.now rings c.loop-i.i c.loop-i.on_edge.items c.loop-i.inside c.requires.same_length
+    let all = found_all (corner_point c.args.place) c.args.ids.now rings c.loop-i.i c.loop-i.on_edge.items c.loop-i.inside
+    c.requires.same_length
     (omega (arith, c.loop-i-test.false, length-map c.args.shapes.now (λ shape. shape.ring.corners))) c.loop-i.invariant in
     inside_found (corner_point c.args.place) (numbered_rows c.args.ids.now rings) c.loop-i.on_edge.items c.loop-i.inside c.in-Some.id
     (none_where_empty c.loop-i.on_edge.items (vec_len c.loop-i.on_edge) (search) c.if-not-is_empty.ensures) c.in-Some.is all
@@ -52,7 +54,8 @@ returns-in-Some g c =
 pub returns : goal.returns
 returns g c =
     let rings = corners_of_shapes c.args.shapes.now in
-    let all = found_all (corner_point c.args.place) c.args.ids.now rings c.loop-i.i c.loop-i.on_edge.items c.loop-i.inside c.requires.same_length
+    let all = found_all (corner_point c.args.place) c.args.ids.now rings c.loop-i.i c.loop-i.on_edge.items c.loop-i.inside
+    c.requires.same_length
     (omega (arith, c.loop-i-test.false, length-map c.args.shapes.now (λ shape. shape.ring.corners))) c.loop-i.invariant in
     outside_found (corner_point c.args.place) (numbered_rows c.args.ids.now rings) c.loop-i.on_edge.items c.loop-i.inside
     (none_where_empty c.loop-i.on_edge.items (vec_len c.loop-i.on_edge) (search) c.if-not-is_empty.ensures) c.in-None.is all
