@@ -14,3 +14,6 @@ pub mod Searches
 pub mod FullyNoded
 pub mod ToldRings
 pub mod ToldGaps
+pub mod Sides
+pub mod Located
+pub mod OneParcel

@@ -11,7 +11,7 @@ use Rattle.edge_chains.proofs.NodedEdges.{none_in_nil, Contains-cases}
 use Rattle.fabric_core.specs.own.Lists.{numbered_rows}
 use Rattle.fabric_core.proofs.Lists.{row_at}
 
-rises : (xs : List ℕ) → IsStrictlyIncreasing xs → (i j : ℕ) → i ≤ j → j < length xs → get_or xs i 0 ≤ get_or xs j 0
+pub rises : (xs : List ℕ) → IsStrictlyIncreasing xs → (i j : ℕ) → i ≤ j → j < length xs → get_or xs i 0 ≤ get_or xs j 0
 rises xs h i zero l m = let e : i ≡ 0 = omega (arith, l) in omega (arith, ap (λ k. get_or xs k 0) e)
 rises xs h i (suc j) l m =
     ⊎_elim (λ before. let step : get_or xs j 0 < get_or xs (j + 1) 0 = h j (omega (arith, m)) in
@@ -21,7 +21,7 @@ rises xs h i (suc j) l m =
     (cases_lt i (suc j))
 
 -- the number of a row stands among the numbers
-place_of : (ids : List ℕ) (rings : List (List Corner)) (row : NumberedRing) → Contains (numbered_rows ids rings) row
+pub place_of : (ids : List ℕ) (rings : List (List Corner)) (row : NumberedRing) → Contains (numbered_rows ids rings) row
     → (k : ℕ) × (k < length ids) × (get_or ids k 0 ≡ row.number)
 place_of [] rings row h = absurd (none_in_nil row h)
 place_of (id ∷ ids) [] row h = absurd (none_in_nil row h)

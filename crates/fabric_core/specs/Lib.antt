@@ -2,4 +2,5 @@ pub mod Tiling
 pub mod Rows
 pub mod Limits
 pub mod Faults
+pub mod Locate
 pub mod own

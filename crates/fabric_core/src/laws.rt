@@ -3,7 +3,7 @@ ghost use Rattle.std.specs.List.{AllByRecursion};
 ghost use Rattle.geo_exact.specs.declared.corner.Corner.{Corner};
 ghost use Rattle.geo_exact.specs.Point.{Point};
 ghost use Rattle.geo_exact.specs.Turn.{IsOnRing};
-ghost use Rattle.geo_exact.specs.Winding.{winding};
+ghost use Rattle.geo_exact.specs.Winding.{winding, IsInterior};
 ghost use Rattle.geo_exact.specs.Area.{area2};
 ghost use Rattle.geo_exact.specs.Layers.{NumberedRing};
 ghost use Rattle.ring_core.specs.declared.triangle.Tri.{Tri};
@@ -11,7 +11,8 @@ ghost use Rattle.ring_core.specs.Sums.{MakeUp};
 ghost use Rattle.edge_chains.specs.Net.{net_count};
 ghost use Rattle.edge_chains.specs.Noding.{IsNoded, AreFullyNoded};
 ghost use Rattle.edge_chains.specs.Jump.{net_difference};
-ghost use Rattle.fabric_core.specs.Tiling.{corner_lists, IsTiling, IsWoundAtMostOnce};
+ghost use Rattle.fabric_core.specs.Tiling.{corner_lists, IsTiling, IsWoundAtMostOnce, IsOffEdges};
+ghost use Rattle.fabric_core.specs.Locate.{IsInsideOneOnly};
 ghost use Rattle.fabric_core.specs.Rows.{AreRefined, IsUntiledBeside};
 
 /// Rows that are made up of counterclockwise triangles, and have the net edges of a city that goes round no place twice, tile the
@@ -47,4 +48,11 @@ pub fn a_refined_city_keeps_its_ground()
         → AreRefined records city rows refined → IsOnRing p refined ↔ IsOnRing p city }
     ensures area { (records rows : List NumberedRing) (city refined : List Corner)
         → AreRefined records city rows refined → area2 refined ≡ area2 city }
+{}
+
+/// In a tiling, a place inside the city and off all edges is inside exactly one parcel, and on no edge of one.
+#[tactic(auto, using(crate::proofs::OneParcel::inside_one_only))]
+pub fn a_place_off_all_edges_is_inside_one_parcel()
+    ensures { (rows : List NumberedRing) (city : List Corner) (p : Point) → IsTiling rows city → IsOffEdges p rows city
+        → IsInterior p city → IsInsideOneOnly rows p }
 {}

@@ -2,6 +2,7 @@ ghost use Rattle.std.specs.Prelude.{◌≡◌, ◌≢◌, ◌⊎◌, ◌≤◌, 
 ghost use Rattle.std.specs.List.{Contains};
 ghost use Rattle.std.specs.List.Sorted.{IsStrictlyIncreasing};
 ghost use Rattle.geo_exact.specs.declared.corner.Corner.{Corner};
+ghost use Rattle.geo_exact.specs.Point.{corner_point};
 ghost use Rattle.geo_exact.specs.Layers.{NumberedRing, numbered, rings_of, corner_count, NumbersRise};
 ghost use Rattle.geo_exact.specs.declared.limits.TheConstants.{LAYER_CORNERS, LAYER_RECORDS};
 ghost use Rattle.fabric_core.specs.declared.layer.LoadFault.{LoadFault};
@@ -9,6 +10,7 @@ ghost use Rattle.fabric_core.specs.declared.layer.LoadFault.TheVariants.{Gap, No
 ghost use Rattle.fabric_core.specs.Tiling.{corner_lists, IsTiling};
 ghost use Rattle.fabric_core.specs.Rows.{AreRefined, numbers, IsUntiledBeside};
 ghost use Rattle.fabric_core.specs.Limits.{AreWithinLimits};
+ghost use Rattle.fabric_core.specs.Locate.{IsLocatedAt};
 ghost use Rattle.fabric_core.specs.Faults.{AreSimple, IsFirstFault, IsLoadFault};
 ghost use Rattle.fabric_core.specs.own.Checks.{HaveNoFault, IsRefinedCity, IsChecked};
 ghost use Rattle.fabric_core.specs.own.Lists.{numbered_rows, corners_of_rings};
@@ -16,6 +18,7 @@ ghost use Rattle.fabric_core.specs.own.Lists.{numbered_rows, corners_of_rings};
 use crate::city::City;
 use crate::gaps::check_nets;
 use crate::limits::first_too_many;
+use crate::locate::{At, locate_among};
 use crate::refine::{Refined, refine};
 use crate::rings::{checked, clip_all};
 use geo_exact::{Corner, Corners, RawRing};
@@ -169,6 +172,18 @@ impl<'a, H: Allocator> Layer<'a, H> {
         ensures { map (λ shape. shape.ring.corners) result.now ≡ corner_lists self.now.rows }
     {
         self.shapes.as_slice()
+    }
+
+    /// Where a corner lies among the parcels: on the edges of all that have it on one, by ascending id, where there is any; else inside
+    /// the one that it is inside of; else outside, as each corner beyond the city is. The time grows with the number of all corners.
+    ///
+    /// # Errors
+    ///
+    /// [`AllocError`] where the list of ids is refused.
+    pub fn locate(&self, corner: Corner) -> Result<At<&'a H>, AllocError>
+        ensures { IfOk result (λ at. IsLocatedAt self.now.rows (corner_point corner) at) }
+    {
+        locate_among(*self.ids.allocator(), &self.ids, &self.shapes, corner)
     }
 
     /// The city's ring, with the corners that were read, begun at its least corner.

@@ -7,6 +7,8 @@ mod cities;
 #[cfg(test)]
 mod loading;
 #[cfg(test)]
+mod locating;
+#[cfg(test)]
 mod refusals;
 #[cfg(test)]
 mod size;

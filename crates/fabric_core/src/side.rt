@@ -1,0 +1,65 @@
+ghost use Rattle.std.specs.Prelude.{◌≡◌, ◌≤◌, length};
+ghost use Rattle.geo_exact.specs.Limit.{IsWithin};
+ghost use Rattle.geo_exact.specs.Point.{corner_point};
+ghost use Rattle.geo_exact.specs.Winding.{crossing as crossing_of};
+ghost use Rattle.geo_exact.specs.declared.limits.TheConstants.{RING_CORNERS};
+ghost use Rattle.fabric_core.specs.own.Sides.{IsSide};
+
+use geo_exact::{Corner, on_segment, turn};
+
+/// How a place lies to a ring.
+#[derive(Clone, Copy, Debug, PartialEq, Eq)]
+pub(crate) enum Side {
+    /// Inside the ring.
+    Inside,
+    /// On one of its edges.
+    OnEdge,
+    /// Neither.
+    Outside,
+}
+
+/// How the edge crosses the ray from a place to the right: 1 upward, -1 downward, else 0.
+fn crossing(from: Corner, to: Corner, place: Corner) -> i64
+    ensures value { result ≡ crossing_of (corner_point place) from to }
+    ensures bound { IsWithin 1 result }
+{
+    if from.y <= place.y {
+        if to.y <= place.y {
+            return 0;
+        }
+        if turn(from, to, place) > 0 { 1 } else { 0 }
+    } else {
+        if to.y > place.y {
+            return 0;
+        }
+        if turn(from, to, place) < 0 { -1 } else { 0 }
+    }
+}
+
+/// How a place lies to a ring, by the winding number.
+pub(crate) fn side_of(ring: &[Corner], place: Corner) -> Side
+    requires { length ring.now ≤ RING_CORNERS }
+    ensures { IsSide (corner_point place) ring.now result }
+{
+    let Some((first, rest)) = ring.split_first() else {
+        return Side::Outside;
+    };
+    let first = *first;
+    let mut from = first;
+    let mut sum = 0i64;
+    for to in rest {
+        if on_segment(from, *to, place) {
+            return Side::OnEdge;
+        }
+        sum += crossing(from, *to, place);
+        from = *to;
+    }
+    if on_segment(from, first, place) {
+        return Side::OnEdge;
+    }
+    if sum + crossing(from, first, place) >= 1 {
+        Side::Inside
+    } else {
+        Side::Outside
+    }
+}
