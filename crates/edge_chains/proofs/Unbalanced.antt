@@ -185,6 +185,7 @@ all_balanced sum h a b = read (is_before a b) (is_before b a) refl refl (in_orde
               where
                 true_is_not_false : false ≡ true → ⊥
                 true_is_not_false e = cc
+
     read : (x y : Bool) → is_before a b ≡ x → is_before b a ≡ y → (is_before a b ≡ true → number_at sum.counts a b ≡ pos 0)
         → (is_before b a ≡ true → number_at sum.counts b a ≡ pos 0)
         → (if x then number_at sum.counts a b else (if y then neg_ℤ (number_at sum.counts b a) else pos 0)) ≡ pos 0

@@ -1,8 +1,7 @@
 use crate::square::{FARTHEST, HUNDRED, header, square};
-use parcel_runs::area::area;
-use parcel_runs::ToolFault;
-use parcel_runs::Source;
 use geo_exact::{Counted, FailAt, Unit};
+use parcel_runs::area::area;
+use parcel_runs::{Source, ToolFault};
 use std::alloc::{AllocError, Global};
 use std::io;
 use std::io::Write;

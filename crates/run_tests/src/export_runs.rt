@@ -1,8 +1,8 @@
 use crate::area_runs::run;
 use crate::square::{header, push_record};
-use parcel_runs::export::export;
-use parcel_runs::Source;
 use geo_exact::{Unit, write_coord};
+use parcel_runs::Source;
+use parcel_runs::export::export;
 use std::alloc::{AllocError, Global};
 use std::test::Fail;
 

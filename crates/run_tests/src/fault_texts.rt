@@ -1,6 +1,6 @@
-use parcel_runs::{Role, ToolFault};
 use fabric_core::{CityFault, LoadFault};
 use geo_exact::{CoordFault, Corner};
+use parcel_runs::{Role, ToolFault};
 use ring_core::RingFault;
 use shp_files::{FaultKind, FileFault, FileName};
 use std::test::Fail;

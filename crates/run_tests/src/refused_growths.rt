@@ -2,11 +2,10 @@
 //! has to print.
 
 use crate::square::{HUNDRED, square};
+use geo_exact::{Counted, Unit};
 use parcel_runs::area::area;
 use parcel_runs::check::check;
-use parcel_runs::ToolFault;
-use parcel_runs::Source;
-use geo_exact::{Counted, Unit};
+use parcel_runs::{Source, ToolFault};
 use refusing_alloc::Refusing;
 use std::alloc::{AllocError, Global};
 use std::test::Fail;

@@ -1,5 +1,4 @@
-use parcel_runs::ToolFault;
-use parcel_runs::replace_layer;
+use parcel_runs::{ToolFault, replace_layer};
 use std::alloc::Allocator;
 use std::cell::Cell;
 use std::fs::{Metadata, OpenFile, OpenOptions};

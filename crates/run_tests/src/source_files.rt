@@ -1,6 +1,5 @@
 use crate::square::{HUNDRED, index, square};
-use parcel_runs::ToolFault;
-use parcel_runs::{Disk, read_source};
+use parcel_runs::{Disk, ToolFault, read_source};
 use std::fs;
 use std::test::Fail;
 
