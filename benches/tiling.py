@@ -7,7 +7,7 @@ PROGRAM is the built parcel_tool (benches/README.md says where it lies). The lay
 fixed seed. Each job is a whole process, run N times in turn with the others; the best time and the largest memory are
 printed, and the answer. Over the cities GEOS is asked too (geos_tiling.cpp, with Debian's libgeos-dev and g++): whether the
 parcels' union equals the city and their areas sum to it, and whether two parcels' interiors meet (relate); without it these
-rows are left out. `wrong` is a city M with one parcel moved by a centimetre over its neighbour, and one taken out.
+rows are left out. `wrong` is a city M with one parcel moved by a centimetre over the city's border, and one taken out.
 """
 import argparse, os, shutil, subprocess, sys, tempfile
 
@@ -60,7 +60,7 @@ def pairs(path_of, count, side):
 
 
 def wrong(folder):
-    """City M with a parcel that lies a centimetre over its neighbour, and another that is missing."""
+    """City M with a parcel that lies a centimetre over the city's border, and another that is missing."""
     keep = gencity.write
 
     def write(path, rings, dbf):
