@@ -10,10 +10,11 @@ pub mod Loaded
 pub mod OneNoding
 pub mod Beginning
 pub mod OneLoadFault
-pub mod Searches
 pub mod FullyNoded
 pub mod ToldRings
 pub mod ToldGaps
 pub mod Sides
 pub mod Located
+pub mod Tables
 pub mod OneParcel
+pub mod Clipped

@@ -1,11 +1,15 @@
-use Rattle.std.proofs.Common.{sym, ◌∙◌, ap}
+use Rattle.std.proofs.Common.{sym, ◌∙◌, ap, subst, map}
+use Rattle.std.specs.List.Sorted.{IsStrictlyIncreasing}
 use Rattle.fabric_core.specs.Rows.{numbers, Tiles}
-use Rattle.fabric_core.specs.own.Lists.{corners_of_shapes}
-use Rattle.fabric_core.proofs.Lists.{numbers_of_rows}
+use Rattle.fabric_core.proofs.Tables.{ids_of_shapes}
 use Rattle.fabric_core.proofs.layer.Layer.ids.Goals as goal
 
 pub returns-clause-ids : goal.returns-clause-ids
 returns-clause-ids g c =
-    c.as_slice.ensures.value
-    ∙ sym (numbers_of_rows c.self.inside.ids.items (corners_of_shapes c.self.inside.shapes.items) c.self.invariant.same_length)
+    c.of.ensures ∙ ap (λ shapes. map (λ shape. shape.0) shapes) c.shapes.ensures ∙ ids_of_shapes c.self.inside.parcels.parcels
     ∙ ap (λ (t : Tiles). numbers t.rows) c.self.view_is
+
+pub returns-clause-ascending : goal.returns-clause-ascending
+returns-clause-ascending g c =
+    subst IsStrictlyIncreasing (sym (c.of.ensures ∙ ap (λ shapes. map (λ shape. shape.0) shapes) c.shapes.ensures
+    ∙ ids_of_shapes c.self.inside.parcels.parcels)) c.self.invariant.ids_rise

@@ -1,12 +1,8 @@
-use Rattle.std.proofs.Common.{sym, ◌∙◌, ap}
-use Rattle.fabric_core.specs.Tiling.{corner_lists}
+use Rattle.std.proofs.Common.{◌∙◌, ap}
 use Rattle.fabric_core.specs.Rows.{Tiles}
-use Rattle.fabric_core.specs.own.Lists.{corners_of_shapes}
-use Rattle.fabric_core.proofs.Lists.{lists_of_rows}
+use Rattle.fabric_core.specs.own.Table.{rows_of}
+use Rattle.fabric_core.proofs.Tables.{rows_of_shapes}
 use Rattle.fabric_core.proofs.layer.Layer.shapes.Goals as goal
 
 pub returns : goal.returns
-returns g c =
-    ap corners_of_shapes c.as_slice.ensures.value
-    ∙ sym (lists_of_rows c.self.inside.ids.items (corners_of_shapes c.self.inside.shapes.items) c.self.invariant.same_length)
-    ∙ ap (λ (t : Tiles). corner_lists t.rows) c.self.view_is
+returns g c = ap rows_of c.shapes.ensures ∙ rows_of_shapes c.self.inside.parcels.parcels ∙ ap (λ (t : Tiles). t.rows) c.self.view_is
