@@ -22,6 +22,7 @@ pub mod Means
 pub mod Wedges
 pub mod Windings
 pub mod Triangles
+pub mod BeyondBoxes
 pub mod Moved
 pub mod Paths
 pub mod Nearest
