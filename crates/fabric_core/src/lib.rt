@@ -2,6 +2,7 @@
 #![tactic(auto)]
 
 mod all_faults;
+mod box_laws;
 mod city;
 mod gaps;
 mod laws;
@@ -13,6 +14,7 @@ mod rings;
 mod side;
 
 pub use all_faults::AllFaults;
+pub use box_laws::rows_lie_in_the_box_of_their_city;
 pub use city::{City, CityFault};
 pub use laws::{
     a_place_off_all_edges_is_inside_one_parcel, a_refined_city_keeps_its_ground,
