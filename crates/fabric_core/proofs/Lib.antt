@@ -1,4 +1,5 @@
 pub mod Tilings
+pub mod InTheCity
 pub mod OneFault
 pub mod Refusals
 pub mod Lists

@@ -2,6 +2,7 @@
 #![tactic(auto)]
 
 mod all_faults;
+mod box_laws;
 mod city;
 mod gaps;
 mod iter;
@@ -15,6 +16,7 @@ mod rings;
 mod side;
 
 pub use all_faults::AllFaults;
+pub use box_laws::rows_lie_in_the_box_of_their_city;
 pub use city::{City, CityFault};
 pub use iter::{Ids, Shapes};
 pub use laws::{
