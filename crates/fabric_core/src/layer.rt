@@ -137,6 +137,7 @@ impl<'a, H: Allocator> Layer<'a, H> {
     }
 
     /// The parcels' ids, ascending.
+    #[tactic(auto, using(crate::proofs::Tables::ids_of_shapes))]
     pub fn ids(&self) -> Ids<'_, &'a H>
         ensures ids { result ≡ numbers self.now.rows }
         ensures ascending { IsStrictlyIncreasing result }
@@ -166,6 +167,7 @@ impl<'a, H: Allocator> Layer<'a, H> {
 
     /// The shapes of all parcels, each beside its id, by ascending id: a shape is a parcel's ring, begun at its least corner, with the
     /// triangles that it is clipped to.
+    #[tactic(auto, using(crate::proofs::Tables::rows_of_shapes))]
     pub fn shapes(&self) -> Shapes<'_, &'a H>
         ensures { map (λ shape. numbered shape.0 shape.1.ring.corners) result ≡ self.now.rows }
     {
