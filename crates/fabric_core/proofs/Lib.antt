@@ -1,4 +1,5 @@
 pub mod Tilings
+pub mod InTheCity
 pub mod OneFault
 pub mod Refusals
 pub mod Lists
@@ -10,10 +11,11 @@ pub mod Loaded
 pub mod OneNoding
 pub mod Beginning
 pub mod OneLoadFault
-pub mod Searches
 pub mod FullyNoded
 pub mod ToldRings
 pub mod ToldGaps
 pub mod Sides
 pub mod Located
+pub mod Tables
 pub mod OneParcel
+pub mod Clipped

@@ -1,11 +1,10 @@
 -- Rows kept as two lists, their numbers and their rings, and loops that go through them.
-use Rattle.std.proofs.Common.{◌≡◌, refl, sym, ◌∙◌, ap, subst, arith, ℕ, zero, suc, ◌+◌, ◌<◌, List, [], ◌∷◌, ◌++◌, length, get_or, take, drop, map, append_assoc, drop-cons}
+use Rattle.std.proofs.Common.{◌≡◌, refl, sym, ◌∙◌, ap, arith, ℕ, zero, suc, ◌+◌, ◌<◌, List, [], ◌∷◌, ◌++◌, length, get_or, take, drop, map, append_assoc, drop-cons}
 use Rattle.std.proofs.lemmas.List.{length-append, take-append-drop}
-use Rattle.std.specs.List.{AllByRecursion, Contains, slice_set}
+use Rattle.std.specs.List.{AllByRecursion, slice_set}
 use Rattle.geo_exact.specs.declared.corner.Corner.{Corner}
 use Rattle.geo_exact.specs.Layers.{NumberedRing, numbered, corner_count}
 use Rattle.edge_chains.specs.Noding.{all_corners}
-use Rattle.edge_chains.proofs.NodedEdges.{Contains-here, Contains-there}
 use Rattle.fabric_core.specs.Tiling.{corner_lists}
 use Rattle.fabric_core.specs.Rows.{numbers}
 use Rattle.fabric_core.specs.own.Lists.{numbered_rows}
@@ -79,18 +78,6 @@ rows_more (id ∷ ids) (r ∷ rings) zero n ring e h k l =
     ap (λ x. numbered x r ∷ []) (sym k) ∙ ap (λ x. numbered n x ∷ []) (sym l)
 rows_more (id ∷ ids) (r ∷ rings) (suc i) n ring e h k l =
     ap (λ rows. numbered id r ∷ rows) (rows_more ids rings i n ring (one_less (length ids) (length rings) e) (omega (arith, h)) k l)
-
--- a row has the ring at its number's place
-pub row_at : (ids : List ℕ) (rings : List (List Corner)) (i id : ℕ) (ring : List Corner) → length ids ≡ length rings → i < length ids
-    → get_or ids i id ≡ id → get_or rings i ring ≡ ring → Contains (numbered_rows ids rings) (numbered id ring)
-row_at [] rings i id ring e h k l = absurd (omega (arith, h))
-row_at (m ∷ ids) [] i id ring e h k l = absurd (omega (arith, e))
-row_at (m ∷ ids) (r ∷ rings) zero id ring e h k l =
-    subst (λ row. Contains (row ∷ numbered_rows ids rings) (numbered id ring)) (ap (λ x. numbered x ring) (sym k) ∙ ap (λ x. numbered m x) (sym l))
-    (Contains-here (numbered id ring) (numbered_rows ids rings))
-row_at (m ∷ ids) (r ∷ rings) (suc i) id ring e h k l =
-    Contains-there (numbered m r) (numbered_rows ids rings) (numbered id ring)
-    (row_at ids rings i id ring (one_less (length ids) (length rings) e) (omega (arith, h)) k l)
 
 -- ---- a loop that changes each item
 pub changed_at : {X : Type 0} (f : X → X) (xs : List X) (i : ℕ) (d : X) → i < length xs

@@ -3,7 +3,7 @@ use Rattle.std.proofs.Common.{◌≡◌, sym, ◌∙◌, ap, subst, arith, ℕ, 
 use Rattle.std.specs.List.Sorted.{IsStrictlyIncreasing}
 use Rattle.geo_exact.specs.declared.corner.Corner.{Corner}
 use Rattle.ring_core.specs.declared.ring.Ring.{Ring}
-use Rattle.ring_core.specs.declared.shape.Shape.{Shape}
+use Rattle.fabric_core.specs.declared.parcels.Parcel.{Parcel}
 use Rattle.fabric_core.specs.Tiling.{corner_lists}
 use Rattle.geo_exact.specs.Layers.{NumberedRing, NumbersRise}
 use Rattle.geo_exact.specs.declared.limits.TheConstants.{LAYER_RECORDS}
@@ -11,37 +11,34 @@ use Rattle.fabric_core.specs.Rows.{numbers}
 use Rattle.fabric_core.specs.Limits.{AreWithinLimits}
 use Rattle.fabric_core.specs.Faults.{AreSimple}
 use Rattle.fabric_core.specs.own.Checks.{HaveEqualNets, HaveNoFault, IsRefinedCity, IsChecked}
-use Rattle.fabric_core.specs.own.Lists.{numbered_rows, corners_of_rings, corners_of_shapes, IsLayer}
-use Rattle.fabric_core.proofs.Lists.{lists_of_rows}
+use Rattle.fabric_core.specs.own.Lists.{numbered_rows, corners_of_rings, IsLayer}
+use Rattle.fabric_core.specs.own.Table.{rows_of_keyed}
+use Rattle.fabric_core.proofs.Lists.{numbers_of_rows, lists_of_rows}
 use Rattle.fabric_core.proofs.RingChecks.{made_rows, simple_rows}
 use Rattle.fabric_core.proofs.Tilings.{tiles_where_nets_are_equal}
 
 -- what a layer is
-pub record IsLoaded (ids : List ℕ) (rings : List (List Corner)) (city refined : List Corner) : Type 0 where
-  pub is_layer : IsLayer ids rings city
-  pub no_fault : HaveNoFault (numbered_rows ids rings) refined
+pub record IsLoaded (rows : List NumberedRing) (city refined : List Corner) : Type 0 where
+  pub is_layer : IsLayer rows city
+  pub no_fault : HaveNoFault rows refined
 
-from_shapes : {A : Type 0} (ids : List ℕ) (shapes : List (Shape A)) (city refined : List Corner) → IsChecked ids (corners_of_shapes shapes) city refined
-    → IsLoaded ids (corners_of_shapes shapes) city refined
-from_shapes ids shapes city refined h =
-    let nets : HaveEqualNets (corner_lists (numbered_rows ids (corners_of_shapes shapes))) refined =
-    subst (λ lists. HaveEqualNets lists refined) (sym (lists_of_rows ids (corners_of_shapes shapes) h.same_length)) h.nets in
-    record {
-      is_layer = record {
-        same_length = h.same_length;
-        ids_rise = h.rise;
-        within = h.within;
-        tiles = tiles_where_nets_are_equal (numbered_rows ids (corners_of_shapes shapes)) city h.is_city.corners refined (made_rows ids shapes)
-            h.is_city.wound_once h.is_city.is_noded nets;
-      };
-      no_fault = record { within = h.within; simple = h.simple; nets = nets };
-    }
+pub loaded : {A : Type 0} (numbers : List ℕ) (rings : List (List Corner)) (parcels : List (ℕ × Parcel A)) (city refined : List Corner)
+    → rows_of_keyed parcels ≡ numbered_rows numbers rings → IsChecked numbers rings city refined → IsLoaded (rows_of_keyed parcels) city refined
+loaded {A} number_list rings parcels city refined same h = record {
+  is_layer = record {
+    ids_rise = subst IsStrictlyIncreasing (sym (ap numbers same ∙ numbers_of_rows number_list rings h.same_length)) h.rise;
+    within = within;
+    tiles = tiles_where_nets_are_equal (rows_of_keyed parcels) city h.is_city.corners refined (made_rows parcels) h.is_city.wound_once
+        h.is_city.is_noded nets;
+  };
+  no_fault = record { within = within; simple = subst AreSimple (sym same) h.simple; nets = nets };
+}
+  where
+    within : AreWithinLimits (rows_of_keyed parcels)
+    within = subst AreWithinLimits (sym same) h.within
 
-pub loaded : {A : Type 0} (numbers ids : List ℕ) (rings : List (List Corner)) (shapes : List (Shape A)) (city refined : List Corner)
-    → ids ≡ numbers → corners_of_shapes shapes ≡ rings → IsChecked numbers rings city refined → IsLoaded ids (corners_of_shapes shapes) city refined
-loaded numbers ids rings shapes city refined same_ids same_rings h =
-    from_shapes ids shapes city refined (subst (λ xs. IsChecked xs (corners_of_shapes shapes) city refined) (sym same_ids)
-    (subst (λ xs. IsChecked numbers xs city refined) (sym same_rings) h))
+    nets : HaveEqualNets (corner_lists (rows_of_keyed parcels)) refined
+    nets = subst (λ lists. HaveEqualNets lists refined) (sym (ap corner_lists same ∙ lists_of_rows number_list rings h.same_length)) h.nets
 
 -- what was checked, of the values that the steps of loading hand on
 pub checked_from : {A : Type 0} (ids d5 : List ℕ) (rings : List (List Corner)) (d : List ℕ) (d2 : List (List Corner)) (checked d4 : List (Ring A))

@@ -1,10 +1,11 @@
 -- Going through rows to find out where a place lies among them.
-use Rattle.std.proofs.Common.{true, ◌==◌, ◌≡◌, ◌⊎◌, inl, inr, ⊎_elim, refl, sym, ◌∙◌, ap, subst, arith, ℕ, zero, suc, ◌+◌, ◌<◌, ◌≤◌, List, [], ◌∷◌, ◌++◌, length, take, get_or, Option, Some, None, MatchOption, add-one}
-use Rattle.std.specs.List.{Contains, AllByRecursion}
+use Rattle.std.proofs.Common.{true, ◌==◌, ◌≡◌, ◌⊎◌, inl, inr, ⊎_elim, refl, sym, ◌∙◌, ap, subst, arith, ℕ, zero, suc, ◌+◌, ◌<◌, ◌≤◌, List, [], ◌∷◌, ◌++◌, length, map, get_or, Option, Some, None, MatchOption, append_assoc}
+use Rattle.std.specs.List.{Contains, AllByRecursion, AllPairs}
 use Rattle.std.specs.List.Sorted.{IsStrictlyIncreasing}
 use Rattle.std.proofs.lemmas.Bool.{cases_lt}
 use Rattle.std.proofs.lemmas.Bool.Decides.{nat_tests}
-use Rattle.std.proofs.lemmas.List.{length-append, get_or-take, take_all}
+use Rattle.std.proofs.lemmas.List.{append-nil, length-append, length-map}
+use Rattle.std.proofs.lemmas.List.Kept.{AllPairs-from_increasing}
 use Rattle.std.proofs.lemmas.List.Elements.{Contains-append_left, Contains-push, Contains-push_cases}
 use Rattle.geo_exact.specs.declared.corner.Corner.{Corner}
 use Rattle.geo_exact.specs.Point.{Point}
@@ -12,12 +13,11 @@ use Rattle.geo_exact.specs.Turn.{IsOnRing}
 use Rattle.geo_exact.specs.Winding.{IsInterior}
 use Rattle.geo_exact.specs.Layers.{NumberedRing, numbered}
 use Rattle.geo_exact.specs.declared.limits.TheConstants.{RING_CORNERS}
-use Rattle.edge_chains.proofs.NodedEdges.{none_in_nil, Contains-here, Contains-there}
+use Rattle.ring_core.specs.declared.shape.Shape.{Shape}
+use Rattle.edge_chains.proofs.NodedEdges.{none_in_nil, Contains-cases, Contains-here, Contains-there}
 use Rattle.fabric_core.specs.Locate.{IsOnEdgeOf, IsInsideOf, AreAllOnEdge}
-use Rattle.fabric_core.specs.own.Lists.{numbered_rows}
-use Rattle.fabric_core.proofs.Lists.{rows_more}
+use Rattle.fabric_core.specs.own.Table.{rows_of}
 use Rattle.fabric_core.specs.own.Sides.{IsFound}
-use Rattle.fabric_core.proofs.Searches.{place_of, rises}
 
 last_of : (x : ℕ) (xs : List ℕ) (n : ℕ) → get_or (xs ++ n ∷ []) (length xs) x ≡ n
 last_of x [] n = refl
@@ -126,72 +126,81 @@ module _ (p : Point) (rows : List NumberedRing) (n : ℕ) (ring : List Corner) w
       → IsFound more p ids inside
   outside_more ids inside off out h = record { are_all = same_edges ids off h.are_all; is_inside = still_inside inside out h.is_inside }
 
--- the ids before place i are below the one at i
-pub below_next : (ids : List ℕ) (rings : List (List Corner)) (i : ℕ) (row : NumberedRing) → IsStrictlyIncreasing ids → i < length ids
-    → Contains (numbered_rows (take i ids) (take i rings)) row → row.number < get_or ids i 0
-below_next ids rings i row up h c =
-    let w = place_of (take i ids) (take i rings) row c in
-    let l : w.0 < i = omega (arith, w.1, length_take i ids) in
-    omega (arith, w.2, get_or-take i ids w.0 0 l, up w.0 (omega (arith, l, h)), rises ids up (w.0 + 1) i (omega (arith, l)) h)
+-- ---- parcels gone through one after the other
+number_behind : {A : Type 0} (done rest : List (ℕ × Shape A)) (x : ℕ × Shape A)
+    → get_or (map (λ shape. shape.0) (done ++ x ∷ rest)) (length done) 0 ≡ x.0
+number_behind [] rest x = refl
+number_behind (d ∷ done) rest x = number_behind done rest x
+
+-- the ids of the parcels before one are below its id
+below_next : {A : Type 0} (done rest : List (ℕ × Shape A)) (x : ℕ × Shape A) (row : NumberedRing)
+    → AllPairs (λ m n. m < n) (map (λ shape. shape.0) (done ++ x ∷ rest)) → Contains (rows_of done) row → row.number < x.0
+below_next [] rest x row up c = absurd (none_in_nil row c)
+below_next (d ∷ done) rest x row up c = ⊎_elim
+    (λ e. let first : d.0 < get_or (map (λ shape. shape.0) (done ++ x ∷ rest)) (length done) 0 =
+    up 0 (suc (length done)) 0 (omega arith)
+    (omega (arith, length-append done (x ∷ rest), length-map (done ++ x ∷ rest) (λ shape. shape.0))) in
+    omega (arith, first, number_behind done rest x, ap (λ (r : NumberedRing). r.number) e))
+    (λ later. below_next done rest x row (λ i j d' l m. up (suc i) (suc j) d' (omega (arith, l)) (omega (arith, m))) later)
+    (Contains-cases (numbered d.0 d.1.ring.corners) (rows_of done) row c)
+
+rows_of-push : {A : Type 0} (done : List (ℕ × Shape A)) (x : ℕ × Shape A) → rows_of (done ++ x ∷ []) ≡ rows_of done ++ numbered x.0 x.1.ring.corners ∷ []
+rows_of-push [] x = refl
+rows_of-push (d ∷ done) x = ap (λ rows. numbered d.0 d.1.ring.corners ∷ rows) (rows_of-push done x)
+
+-- what is found out when some of the parcels are left
+pub record AreSearched {A : Type 0} (p : Point) (all rest : List (ℕ × Shape A)) (on_edge : List ℕ) (inside : Option ℕ) : Type 0 where
+  pub done : List (ℕ × Shape A)
+  pub are_all : done ++ rest ≡ all
+  pub found : IsFound (rows_of done) p on_edge inside
+
+-- one parcel more
+module _ {A : Type 0} (p : Point) (all rest left : List (ℕ × Shape A)) (x : ℕ × Shape A) (on_edge : List ℕ) (inside : Option ℕ)
+    (searched : AreSearched p all rest on_edge inside) (next : rest ≡ x ∷ left) where
+  moved_on : (on : List ℕ) (now : Option ℕ) → IsFound (rows_of searched.done ++ numbered x.0 x.1.ring.corners ∷ []) p on now
+      → AreSearched p all left on now
+  moved_on on now h = record {
+    done = searched.done ++ x ∷ [];
+    are_all = append_assoc searched.done (x ∷ []) left ∙ ap (λ xs. searched.done ++ xs) (sym next) ∙ searched.are_all;
+    found = subst (λ rows. IsFound rows p on now) (sym (rows_of-push searched.done x)) h;
+  }
+
+  pub searched_on_edge : IsStrictlyIncreasing (map (λ shape. shape.0) all) → IsOnRing p x.1.ring.corners
+      → AreSearched p all left (on_edge ++ x.0 ∷ []) inside
+  searched_on_edge up on = moved_on (on_edge ++ x.0 ∷ []) inside (on_edge_more p (rows_of searched.done) x.0 x.1.ring.corners on_edge inside on
+      (λ id e. subst (λ m. m < x.0) e.has_id (below_next searched.done left x e.row pairs e.is_row)) searched.found)
+    where
+      pairs : AllPairs (λ m n. m < n) (map (λ shape. shape.0) (searched.done ++ x ∷ left))
+      pairs = AllPairs-from_increasing (map (λ shape. shape.0) (searched.done ++ x ∷ left)) (subst (λ xs. IsStrictlyIncreasing (map (λ shape. shape.0) xs))
+          (sym searched.are_all ∙ ap (λ xs. searched.done ++ xs) next) up)
+
+  pub searched_inside : IsInterior p x.1.ring.corners → AreSearched p all left on_edge (Some x.0)
+  searched_inside is = moved_on on_edge (Some x.0) (inside_more p (rows_of searched.done) x.0 x.1.ring.corners on_edge inside is searched.found)
+
+  pub searched_outside : ¬ IsOnRing p x.1.ring.corners → ¬ IsInterior p x.1.ring.corners → AreSearched p all left on_edge inside
+  searched_outside off out =
+      moved_on on_edge inside (outside_more p (rows_of searched.done) x.0 x.1.ring.corners on_edge inside off out searched.found)
+
+-- the parcel's ring is as short as all are
+pub short_next : {A : Type 0} → (p : Point) (all rest left : List (ℕ × Shape A)) (x : ℕ × Shape A) (on_edge : List ℕ) (inside : Option ℕ)
+    → AreSearched p all rest on_edge inside → rest ≡ x ∷ left → AllByRecursion (λ row. length row.corners ≤ RING_CORNERS) (rows_of all)
+    → length x.1.ring.corners ≤ RING_CORNERS
+short_next {A} p all rest left x on_edge inside h next short =
+    behind h.done (subst (λ xs. AllByRecursion (λ row. length row.corners ≤ RING_CORNERS) (rows_of xs))
+    (sym h.are_all ∙ ap (λ xs. h.done ++ xs) next) short)
   where
-    length_take : (i : ℕ) (xs : List ℕ) → length (take i xs) ≤ i
-    length_take zero xs = omega arith
-    length_take (suc i) [] = omega arith
-    length_take (suc i) (x ∷ xs) = omega (arith, length_take i xs)
+    behind : (done : List (ℕ × Shape A)) → AllByRecursion (λ row. length row.corners ≤ RING_CORNERS) (rows_of (done ++ x ∷ left))
+        → length x.1.ring.corners ≤ RING_CORNERS
+    behind [] k = k.0
+    behind (d ∷ done) k = behind done k.1
 
-pub none_yet : (p : Point) (ids : List ℕ) (rings : List (List Corner)) → IsFound (numbered_rows (take 0 ids) (take 0 rings)) p [] None
-none_yet p ids rings = record {
-  are_all = record {
-    ascend = λ k h. absurd (omega (arith, h));
-    exactly = λ id. (λ c. absurd (none_in_nil id c), λ h. absurd (none_in_nil h.row h.is_row));
-  };
-  is_inside = λ id h. none_in_nil h.row h.is_row;
-}
-
--- ---- one shape more, of shapes kept with their ids
-module _ (p : Point) (ids : List ℕ) (rings : List (List Corner)) (i : ℕ) (ring : List Corner) (on_edge : List ℕ) (inside : Option ℕ)
-    (same : length ids ≡ length rings) (up : IsStrictlyIncreasing ids) (h : i < length rings) (at : ring ≡ get_or rings i ring)
-    (found : IsFound (numbered_rows (take i ids) (take i rings)) p on_edge inside) where
-  abbrev found_more : List ℕ → Option ℕ → Type 0
-  found_more on now = IsFound (numbered_rows (take (i + 1) ids) (take (i + 1) rings)) p on now
-
-  moved_on : (on : List ℕ) (now : Option ℕ) → IsFound (numbered_rows (take i ids) (take i rings) ++ numbered
-      (get_or ids i 0) ring ∷ []) p on now
-      → found_more on now
-  moved_on on now k = rw add-one (subst (λ rows. IsFound rows p on now) (sym (rows_more ids rings i
-      (get_or ids i 0) ring same h refl at)) k)
-
-  pub step_on_edge : IsOnRing p ring → IsFound (numbered_rows (take (i + 1) ids) (take (i + 1) rings)) p
-      (on_edge ++ get_or ids i 0 ∷ []) inside
-  step_on_edge on = moved_on (on_edge ++ get_or ids i 0 ∷ []) inside (on_edge_more p (numbered_rows (take i ids) (take i rings))
-      (get_or ids i 0) ring on_edge
-      inside on (λ id e. subst (λ m. m < get_or ids i 0) e.has_id (below_next ids rings i e.row up (omega
-      (arith, h, same)) e.is_row)) found)
-
-  pub step_inside : IsInterior p ring → IsFound (numbered_rows (take (i + 1) ids) (take (i + 1) rings)) p on_edge (Some (get_or ids i 0))
-  step_inside is = moved_on on_edge (Some (get_or ids i 0))
-      (inside_more p (numbered_rows (take i ids) (take i rings)) (get_or ids i 0) ring on_edge inside is found)
-
-  pub step_outside : ¬ IsOnRing p ring → ¬ IsInterior p ring → IsFound (numbered_rows (take (i + 1) ids) (take
-      (i + 1) rings)) p on_edge inside
-  step_outside off out = moved_on on_edge inside (outside_more p (numbered_rows (take i ids) (take i rings))
-      (get_or ids i 0) ring on_edge inside off out found)
-
-pub all_at : (P : List Corner → Type 0) (rings : List (List Corner)) (i : ℕ) (ring : List Corner) → AllByRecursion P rings
-    → i < length rings
-    → ring ≡ get_or rings i ring → P ring
-all_at P [] i ring h l e = absurd (omega (arith, l))
-all_at P (r ∷ rings) zero ring h l e = subst P (sym e) h.0
-all_at P (r ∷ rings) (suc i) ring h l e = all_at P rings i ring h.1 (omega (arith, l)) e
-
--- all shapes gone through
-pub found_all : (p : Point) (ids : List ℕ) (rings : List (List Corner)) (i : ℕ) (on_edge : List ℕ) (inside : Option ℕ)
-    → length ids ≡ length rings
-    → length rings ≤ i → IsFound (numbered_rows (take i ids) (take i rings)) p on_edge inside
-    → IsFound (numbered_rows ids rings) p on_edge inside
-found_all p ids rings i on_edge inside same h found =
-    subst (λ xs. IsFound (numbered_rows xs rings) p on_edge inside) (take_all i ids (omega (arith, h, same)))
-    (subst (λ ys. IsFound (numbered_rows (take i ids) ys) p on_edge inside) (take_all i rings h) found)
+-- all parcels gone through
+pub found_all : {A : Type 0} (p : Point) (all rest : List (ℕ × Shape A)) (on_edge : List ℕ) (inside : Option ℕ) → rest ≡ []
+    → AreSearched p all rest on_edge inside → IsFound (rows_of all) p on_edge inside
+found_all p all rest on_edge inside none h = subst (λ xs. IsFound (rows_of xs) p on_edge inside) whole h.found
+  where
+    whole : h.done ≡ all
+    whole = sym (append-nil h.done) ∙ ap (λ xs. h.done ++ xs) (sym none) ∙ h.are_all
 
 pub inside_found : (p : Point) (rows : List NumberedRing) (on_edge : List ℕ) (inside : Option ℕ) (id : ℕ) → on_edge ≡ [] → inside ≡ Some id
     → IsFound rows p on_edge inside → AreAllOnEdge rows p [] × IsInsideOf rows p id
@@ -206,15 +215,6 @@ outside_found p rows on_edge inside e k h = (
   subst (AreAllOnEdge rows p) e h.are_all,
   subst (λ found. MatchOption found ((other : ℕ) → ¬ IsInsideOf rows p other) (IsInsideOf rows p)) k h.is_inside,
 )
-
--- rows within the limits have short rings
-pub short_rings : (ids : List ℕ) (rings : List (List Corner)) → length ids ≡ length rings
-    → AllByRecursion (λ row. length row.corners ≤ RING_CORNERS) (numbered_rows ids rings)
-    → AllByRecursion (λ ring. length ring ≤ RING_CORNERS) rings
-short_rings [] [] e h = tt
-short_rings [] (ring ∷ rings) e h = absurd (omega (arith, e))
-short_rings (id ∷ ids) [] e h = absurd (omega (arith, e))
-short_rings (id ∷ ids) (ring ∷ rings) e h = (h.0, short_rings ids rings (omega (arith, e)) h.1)
 
 pub none_where_empty : (xs : List ℕ) (n : ℕ) → n ≡ length xs → true ≡ (n == 0) → xs ≡ []
 none_where_empty [] n e h = refl

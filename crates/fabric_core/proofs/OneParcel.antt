@@ -1,5 +1,5 @@
 -- In a tiling, a place off all edges is inside one parcel at most.
-use Rattle.std.proofs.Common.{◌≡◌, ⊎_elim, refl, sym, ◌∙◌, ap, subst, arith, ℕ, pos, List, [], ◌∷◌, ◌++◌}
+use Rattle.std.proofs.Common.{◌≡◌, ⊎_elim, refl, sym, ◌∙◌, ap, subst, arith, pos, List, [], ◌∷◌}
 use Rattle.std.proofs.lemmas.Int.{ints}
 use Rattle.std.specs.List.{Contains, AllByRecursion}
 use Rattle.std.proofs.lemmas.List.Elements.{Contains-append_right, Contains-append_cases}
@@ -10,8 +10,8 @@ use Rattle.geo_exact.specs.Turn.{IsOnRing}
 use Rattle.geo_exact.specs.Winding.{winding, IsInterior}
 use Rattle.geo_exact.specs.Layers.{NumberedRing}
 use Rattle.edge_chains.proofs.NodedEdges.{none_in_nil, Contains-cases, Contains-here}
-use Rattle.fabric_core.specs.Tiling.{IsTiling, IsOffEdges, IsInNone, IsInOne}
-use Rattle.fabric_core.specs.Locate.{IsInsideOf, IsOnEdgeOf, IsInsideOneOnly}
+use Rattle.fabric_core.specs.Tiling.{IsTiling, IsOffEdges, IsInNone}
+use Rattle.fabric_core.specs.Locate.{IsInsideOneOnly}
 
 -- what holds of all rows holds of each
 of_each : (P : NumberedRing → Type 0) (rows : List NumberedRing) (row : NumberedRing) → AllByRecursion P rows → Contains rows row → P row

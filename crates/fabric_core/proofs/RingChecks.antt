@@ -1,14 +1,15 @@
 -- Rings that are checked one after the other.
-use Rattle.std.proofs.Common.{◌≡◌, refl, sym, ◌∙◌, ap, subst, arith, ℕ, zero, suc, List, [], ◌∷◌, ◌++◌, length, get_or}
+use Rattle.std.proofs.Common.{◌≡◌, refl, sym, ◌∙◌, ap, subst, arith, ℕ, suc, List, [], ◌∷◌, ◌++◌, length, get_or}
 use Rattle.std.specs.List.{AllByRecursion}
 use Rattle.geo_exact.specs.declared.corner.Corner.{Corner}
 use Rattle.geo_exact.specs.Layers.{numbered}
 use Rattle.ring_core.specs.declared.ring.Ring.{Ring}
 use Rattle.ring_core.specs.declared.ring.RingFault.{RingFault}
-use Rattle.ring_core.specs.declared.shape.Shape.{Shape}
+use Rattle.fabric_core.specs.declared.parcels.Parcel.{Parcel}
 use Rattle.ring_core.specs.Faults.{IsRingFault}
 use Rattle.fabric_core.specs.Faults.{AreSimple, IsFirstFaulty}
-use Rattle.fabric_core.specs.own.Lists.{numbered_rows, corners_of_rings, corners_of_shapes}
+use Rattle.fabric_core.specs.own.Lists.{numbered_rows, corners_of_rings}
+use Rattle.fabric_core.specs.own.Table.{rows_of_keyed}
 use Rattle.fabric_core.proofs.Tilings.{IsMadeUp}
 
 -- the first faulty ring stands behind those that are simple
@@ -55,18 +56,7 @@ simple_rows [] rings = tt
 simple_rows (id ∷ ids) [] = tt
 simple_rows (id ∷ ids) (ring ∷ rings) = (ring.is_simple, simple_rows ids rings)
 
--- and rings that are clipped are made up of triangles
-pub made_rows : {A : Type 0} (ids : List ℕ) (shapes : List (Shape A)) → AllByRecursion IsMadeUp (numbered_rows ids (corners_of_shapes shapes))
-made_rows [] shapes = tt
-made_rows (id ∷ ids) [] = tt
-made_rows (id ∷ ids) (shape ∷ shapes) = ((shape.triangles, shape.made_up), made_rows ids shapes)
-
-pub ring_of_shape : {A : Type 0} (shapes : List (Shape A)) (k : ℕ) (shape : Shape A) → shape ≡ get_or shapes k shape
-    → shape.ring.corners ≡ get_or (corners_of_shapes shapes) k shape.ring.corners
-ring_of_shape shapes k shape e = ap (λ s. s.ring.corners) e ∙ mapped shapes k shape
-  where
-    mapped : {A : Type 0} (shapes : List (Shape A)) (k : ℕ) (d : Shape A)
-        → (get_or shapes k d).ring.corners ≡ get_or (corners_of_shapes shapes) k d.ring.corners
-    mapped [] k d = refl
-    mapped (s ∷ shapes) zero d = refl
-    mapped (s ∷ shapes) (suc k) d = mapped shapes k d
+-- and parcels are made up of triangles
+pub made_rows : {A : Type 0} (parcels : List (ℕ × Parcel A)) → AllByRecursion IsMadeUp (rows_of_keyed parcels)
+made_rows [] = tt
+made_rows (parcel ∷ parcels) = ((parcel.1.shape.triangles, parcel.1.shape.made_up), made_rows parcels)

@@ -48,7 +48,7 @@ sum_not_negative : (p : Point) (rows : List NumberedRing) → AreNotNegative p r
 sum_not_negative p [] h = omega (arith, ints)
 sum_not_negative p (row ∷ rows) h = omega (arith, ints, h.0, sum_not_negative p rows h.1)
 
-in_none : (p : Point) (rows : List NumberedRing) → AreNotNegative p rows → winding_of_rings p (corner_lists rows) ≡ pos 0 → IsInNone p rows
+pub in_none : (p : Point) (rows : List NumberedRing) → AreNotNegative p rows → winding_of_rings p (corner_lists rows) ≡ pos 0 → IsInNone p rows
 in_none p [] h e = tt
 in_none p (row ∷ rows) h e =
     let rest : pos 0 ≤ℤ winding_of_rings p (corner_lists rows) = sum_not_negative p rows h.1 in
@@ -101,7 +101,7 @@ plus_nothing : (z : ℤ) → z +ℤ pos 0 ≡ z
 plus_nothing z = omega (arith, ints)
 
 -- one side is a single ring, the noded city
-city_alone : (p : Point) (city corners refined : List Corner) → IsNoded city corners refined → winding_of_rings p (refined ∷ []) ≡ winding p city
+pub city_alone : (p : Point) (city corners refined : List Corner) → IsNoded city corners refined → winding_of_rings p (refined ∷ []) ≡ winding p city
 city_alone p city corners refined h = plus_nothing (winding p refined) ∙ winding_noded p city corners refined h
 
 pub tiles_where_nets_are_equal : (rows : List NumberedRing) (city corners refined : List Corner) → AllByRecursion IsMadeUp rows

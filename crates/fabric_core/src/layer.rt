@@ -7,7 +7,7 @@ ghost use Rattle.geo_exact.specs.Layers.{NumberedRing, numbered, rings_of, corne
 ghost use Rattle.geo_exact.specs.declared.limits.TheConstants.{LAYER_CORNERS, LAYER_RECORDS};
 ghost use Rattle.fabric_core.specs.declared.layer.LoadFault.{LoadFault};
 ghost use Rattle.fabric_core.specs.declared.layer.LoadFault.TheVariants.{Gap, NoMemory};
-ghost use Rattle.fabric_core.specs.Tiling.{corner_lists, IsTiling};
+ghost use Rattle.fabric_core.specs.Tiling.{IsTiling};
 ghost use Rattle.fabric_core.specs.Rows.{AreRefined, numbers, IsUntiledBeside};
 ghost use Rattle.fabric_core.specs.Limits.{AreWithinLimits};
 ghost use Rattle.fabric_core.specs.Locate.{IsLocatedAt};
@@ -17,10 +17,12 @@ ghost use Rattle.fabric_core.specs.own.Lists.{numbered_rows, corners_of_rings};
 
 use crate::city::City;
 use crate::gaps::check_nets;
+use crate::iter::{Ids, Shapes};
 use crate::limits::first_too_many;
 use crate::locate::{At, locate_among};
+use crate::parcels::Parcels;
 use crate::refine::{Refined, refine};
-use crate::rings::{checked, clip_all};
+use crate::rings::checked;
 use geo_exact::{Corner, Corners, RawRing};
 use ring_core::{Ring, RingFault, Shape};
 use std::alloc::{AllocError, AllocFailed, Allocator};
@@ -67,23 +69,23 @@ impl<T: Drop> From<AllocFailed<T>> for LoadFault {
 pub struct Layer<'a, H: Allocator> {
     city: Corners<&'a H>,
     refined: Corners<&'a H>,
-    ids: Vec<u64, &'a H>,
-    shapes: Vec<Shape<&'a H>, &'a H>,
+    parcels: Parcels<&'a H>,
 }
 
 impl<'a, H: Allocator> Model for Layer<'a, H> {
     ghost use Rattle.fabric_core.specs.Rows.{Tiles};
-    ghost use Rattle.fabric_core.specs.own.Lists.{numbered_rows, corners_of_shapes, IsLayer};
+    ghost use Rattle.fabric_core.specs.own.Lists.{IsLayer};
+    ghost use Rattle.fabric_core.specs.own.Table.{rows_of_keyed};
 
     ghost Value = { Tiles };
 
     ghost view = { λ layer. record {
-      rows = numbered_rows layer.ids.items (corners_of_shapes layer.shapes.items);
+      rows = rows_of_keyed layer.parcels.parcels;
       city = layer.city;
       refined = layer.refined;
     } };
 
-    ghost invariant = { λ layer. IsLayer layer.ids.items (corners_of_shapes layer.shapes.items) layer.city };
+    ghost invariant = { λ layer. IsLayer (rows_of_keyed layer.parcels.parcels) layer.city };
 }
 
 impl<'a, H: Allocator> Layer<'a, H> {
@@ -135,15 +137,15 @@ impl<'a, H: Allocator> Layer<'a, H> {
     }
 
     /// The parcels' ids, ascending.
-    pub fn ids(&self) -> &[u64]
-        ensures ids { result.now ≡ numbers self.now.rows }
-        ensures ascending { IsStrictlyIncreasing result.now }
+    #[tactic(auto, using(crate::proofs::Tables::ids_of_shapes))]
+    pub fn ids(&self) -> Ids<'_, &'a H>
+        ensures ids { result ≡ numbers self.now.rows }
+        ensures ascending { IsStrictlyIncreasing result }
     {
-        self.ids.as_slice()
+        Ids::of(self.parcels.shapes())
     }
 
-    /// The ring of a parcel, begun at its least corner; `None` where the id is no parcel's. It takes time that grows with the
-    /// logarithm of the number of parcels.
+    /// The ring of a parcel, begun at its least corner; `None` where the id is no parcel's. It is found at once.
     pub fn ring(&self, id: u64) -> Option<&Ring<&'a H>>
         ensures { MatchOption result
             ((row : NumberedRing) → Contains self.now.rows row → row.number ≢ id)
@@ -153,25 +155,23 @@ impl<'a, H: Allocator> Layer<'a, H> {
         Some(&shape.ring)
     }
 
-    /// The shape of a parcel, which is its ring with the triangles that it is clipped to; `None` where the id is no parcel's. It takes
-    /// time that grows with the logarithm of the number of parcels.
+    /// The shape of a parcel, which is its ring with the triangles that it is clipped to; `None` where the id is no parcel's. It is
+    /// found at once.
     pub fn shape(&self, id: u64) -> Option<&Shape<&'a H>>
         ensures { MatchOption result
             ((row : NumberedRing) → Contains self.now.rows row → row.number ≢ id)
             (λ shape. Contains self.now.rows (numbered id shape.now.ring.corners)) }
     {
-        match self.ids.as_slice().binary_search(&id) {
-            Ok(place) => Some(&self.shapes[place]),
-            Err(_) => None,
-        }
+        self.parcels.shape(id)
     }
 
-    /// The shapes of all parcels, by ascending id: each is a parcel's ring, begun at its least corner, with the triangles that it is
-    /// clipped to.
-    pub fn shapes(&self) -> &[Shape<&'a H>]
-        ensures { map (λ shape. shape.ring.corners) result.now ≡ corner_lists self.now.rows }
+    /// The shapes of all parcels, each beside its id, by ascending id: a shape is a parcel's ring, begun at its least corner, with the
+    /// triangles that it is clipped to.
+    #[tactic(auto, using(crate::proofs::Tables::rows_of_shapes))]
+    pub fn shapes(&self) -> Shapes<'_, &'a H>
+        ensures { map (λ shape. numbered shape.0 shape.1.ring.corners) result ≡ self.now.rows }
     {
-        self.shapes.as_slice()
+        self.parcels.shapes()
     }
 
     /// Where a corner lies among the parcels: on the edges of all that have it on one, by ascending id, where there is any; else inside
@@ -183,7 +183,7 @@ impl<'a, H: Allocator> Layer<'a, H> {
     pub fn locate(&self, corner: Corner) -> Result<At<&'a H>, AllocError>
         ensures { IfOk result (λ at. IsLocatedAt self.now.rows (corner_point corner) at) }
     {
-        locate_among(*self.ids.allocator(), &self.ids, &self.shapes, corner)
+        locate_among(self.parcels.allocator(), self.parcels.shapes(), corner)
     }
 
     /// The city's ring, with the corners that were read, begun at its least corner.
@@ -247,23 +247,10 @@ pub(crate) fn layer_of<'a, H: Allocator>(
     ensures no_fault { IfOk result (λ layer. HaveNoFault layer.rows layer.refined) }
     ensures tiling { IfOk result (λ layer. IsTiling layer.rows layer.city) }
 {
-    let shapes = clip_all(heap, rings)?;
-    let ids = ids_of(heap, numbers)?;
+    let parcels = Parcels::clip_all(heap, numbers, rings)?;
     Ok(Layer {
         city,
         refined,
-        ids,
-        shapes,
+        parcels,
     })
-}
-
-/// The records' numbers as ids.
-fn ids_of<A: Allocator + Copy>(alloc: A, numbers: &[u32]) -> Result<Vec<u64, A>, AllocError>
-    ensures { IfOk result (λ ids. ids.items ≡ numbers.now) }
-{
-    let mut ids = Vec::with_capacity(alloc, numbers.len())?;
-    for number in numbers {
-        ids.push(u64::from(*number))?;
-    }
-    Ok(ids)
 }

@@ -2,18 +2,23 @@
 #![tactic(auto)]
 
 mod all_faults;
+mod box_laws;
 mod city;
 mod gaps;
+mod iter;
 mod laws;
 mod layer;
 mod limits;
 mod locate;
+mod parcels;
 mod refine;
 mod rings;
 mod side;
 
 pub use all_faults::AllFaults;
+pub use box_laws::rows_lie_in_the_box_of_their_city;
 pub use city::{City, CityFault};
+pub use iter::{Ids, Shapes};
 pub use laws::{
     a_place_off_all_edges_is_inside_one_parcel, a_refined_city_keeps_its_ground,
     an_unbalanced_edge_is_no_tiling, rows_with_the_nets_of_a_city_tile_it,

@@ -1,14 +1,14 @@
-ghost use Rattle.std.specs.Prelude.{◌≡◌, ◌≤◌, length, IfOk};
+ghost use Rattle.std.specs.Prelude.{◌≤◌, length, map, IfOk};
 ghost use Rattle.std.specs.List.{AllByRecursion};
 ghost use Rattle.std.specs.List.Sorted.{IsStrictlyIncreasing};
 ghost use Rattle.geo_exact.specs.Point.{corner_point};
 ghost use Rattle.geo_exact.specs.declared.limits.TheConstants.{RING_CORNERS};
 ghost use Rattle.fabric_core.specs.Locate.{IsLocatedAt};
-ghost use Rattle.fabric_core.specs.own.Lists.{numbered_rows, corners_of_shapes};
+ghost use Rattle.fabric_core.specs.own.Table.{rows_of};
 
+use crate::iter::Shapes;
 use crate::side::{Side, side_of};
 use geo_exact::Corner;
-use ring_core::Shape;
 use std::alloc::{AllocError, Allocator};
 
 /// Where a corner lies among the parcels of a layer.
@@ -22,25 +22,22 @@ pub enum At<A: Allocator> {
     Outside,
 }
 
-/// Where a place lies among shapes, each under the id at its place.
+/// Where a place lies among the parcels of these ids and shapes.
 pub(crate) fn locate_among<A: Allocator + Copy>(
     alloc: A,
-    ids: &[u64],
-    shapes: &[Shape<A>],
+    shapes: Shapes<'_, A>,
     place: Corner,
 ) -> Result<At<A>, AllocError>
-    requires same_length { length ids.now ≡ length (corners_of_shapes shapes.now) }
-    requires ids_rise { IsStrictlyIncreasing ids.now }
-    requires short { AllByRecursion (λ ring. length ring ≤ RING_CORNERS) (corners_of_shapes shapes.now) }
-    ensures { IfOk result (λ at.
-        IsLocatedAt (numbered_rows ids.now (corners_of_shapes shapes.now)) (corner_point place) at) }
+    requires ids_rise { IsStrictlyIncreasing (map (λ shape. shape.0) shapes) }
+    requires short { AllByRecursion (λ row. length row.corners ≤ RING_CORNERS) (rows_of shapes) }
+    ensures { IfOk result (λ at. IsLocatedAt (rows_of shapes.entry) (corner_point place) at) }
 {
     let mut on_edge = Vec::new(alloc);
     let mut inside = None;
-    for (i, shape) in shapes.iter().enumerate() {
+    for (id, shape) in shapes {
         match side_of(shape.ring.corners.as_slice(), place) {
-            Side::OnEdge => on_edge.push(ids[i])?,
-            Side::Inside => inside = Some(ids[i]),
+            Side::OnEdge => on_edge.push(id)?,
+            Side::Inside => inside = Some(id),
             Side::Outside => {}
         }
     }

@@ -1,14 +1,14 @@
 ghost use Rattle.std.specs.Prelude.{◌≡◌, ◌⊎◌, ◌≤◌, length, IfOk, IfErr};
 ghost use Rattle.std.specs.List.{AllByRecursion};
 ghost use Rattle.fabric_core.specs.declared.layer.LoadFault.TheVariants.{NoMemory};
-ghost use Rattle.fabric_core.specs.own.Lists.{numbered_rows, corners_of_rings, corners_of_shapes};
+ghost use Rattle.fabric_core.specs.own.Lists.{numbered_rows, corners_of_rings};
 ghost use Rattle.fabric_core.specs.own.Checks.{IsRingsFault};
 ghost use Rattle.geo_exact.specs.declared.limits.TheConstants.{RING_CORNERS};
 
 use crate::layer::LoadFault;
 use geo_exact::Corners;
-use ring_core::{Ring, Shape};
-use std::alloc::{AllocError, Allocator};
+use ring_core::Ring;
+use std::alloc::Allocator;
 
 /// The rings, each a simple one, or the fault of the first that is not.
 pub(crate) fn checked<A: Allocator + Copy>(
@@ -29,18 +29,4 @@ pub(crate) fn checked<A: Allocator + Copy>(
         }
     }
     Ok(checked)
-}
-
-/// The rings clipped to triangles.
-pub(crate) fn clip_all<A: Allocator + Copy>(
-    alloc: A,
-    rings: Vec<Ring<A>, A>,
-) -> Result<Vec<Shape<A>, A>, AllocError>
-    ensures { IfOk result (λ shapes. corners_of_shapes shapes.items ≡ corners_of_rings rings.items) }
-{
-    let mut shapes = Vec::with_capacity(alloc, rings.len())?;
-    for ring in rings {
-        shapes.push(Shape::clip(alloc, ring)?)?;
-    }
-    Ok(shapes)
 }

@@ -44,7 +44,7 @@ fn a_tiling(rt: HostRuntime) -> Result<(), Fail> {
             let Ok(layer) = layer else {
                 return Err(Fail::new("no tiling"));
             };
-            assert_eq!(rt; layer.ids(), [1, 2].as_slice());
+            assert!(rt; layer.ids().eq([1, 2]));
             assert!(rt; number > 10);
             return Ok(());
         }

@@ -57,7 +57,7 @@ fn gap_of(heap: &Global, columns: &[Place]) -> Result<(Place, Place, i64), Fail>
 fn loads_two_parcels(rt: HostRuntime) -> Result<(), Fail> {
     let heap = &rt.alloc();
     let layer = tiling(heap, &SQUARE, &[&WEST, &EAST])?;
-    assert_eq!(rt; layer.ids(), [1, 2].as_slice());
+    assert!(rt; layer.ids().eq([1, 2]));
     assert!(rt; is_parcel(&layer, 1, &WEST, 12_000)?);
     assert!(rt; is_parcel(&layer, 2, &EAST, 8_000)?);
     assert!(rt; are_at(layer.city(), &SQUARE));
@@ -142,7 +142,7 @@ fn loads_a_junction(rt: HostRuntime) -> Result<(), Fail> {
 fn keeps_the_numbers_of_records(rt: HostRuntime) -> Result<(), Fail> {
     let heap = &rt.alloc();
     let layer = tiling(heap, &SQUARE, &[&[], &WEST, &[], &EAST, &[]])?;
-    assert_eq!(rt; layer.ids(), [2, 4].as_slice());
+    assert!(rt; layer.ids().eq([2, 4]));
     assert!(rt; is_parcel(&layer, 2, &WEST, 12_000)?);
     assert!(rt; is_parcel(&layer, 4, &EAST, 8_000)?);
     assert!(rt; layer.ring(1).is_none() && layer.ring(3).is_none());
@@ -155,7 +155,7 @@ fn loads_the_city_alone(rt: HostRuntime) -> Result<(), Fail> {
     // begun at another corner than the city
     let turned = [(100, 0), (100, 100), (0, 100), (0, 0)];
     let layer = tiling(heap, &SQUARE, &[&turned])?;
-    assert_eq!(rt; layer.ids(), [1].as_slice());
+    assert!(rt; layer.ids().eq([1]));
     assert!(rt; is_parcel(&layer, 1, &SQUARE, 20_000)?);
     assert!(rt; are_at(layer.refined(), &SQUARE));
     Ok(())

@@ -22,6 +22,8 @@ pub mod Means
 pub mod Wedges
 pub mod Windings
 pub mod Triangles
+pub mod BeyondBoxes
+pub mod NearCorners
 pub mod Moved
 pub mod Paths
 pub mod Nearest

@@ -144,7 +144,7 @@ by_heights false true true u d v ya yb yc a a' b b' c c' area mean flat =
     (one_above d v u yb yc ya _ (omega (arith, ints)) (omega (arith, ints)) (omega (arith, ints, mean)) (b refl) (c refl) (a' refl)))
 
 -- where both ends are at the height of p, so is the line
-turn_at_heights : (a b : Corner) (p : Point)
+pub turn_at_heights : (a b : Corner) (p : Point)
     → p.d *ℤ turn_at a b p ≡ (p.x -ℤ b.x *ℤ p.d) *ℤ (a.y *ℤ p.d -ℤ p.y) -ℤ (p.x -ℤ a.x *ℤ p.d) *ℤ (b.y *ℤ p.d -ℤ p.y)
 turn_at_heights a b p =
     same_by (a.x ∷ a.y ∷ b.x ∷ b.y ∷ p.x ∷ p.y ∷ p.d ∷ [])
@@ -157,10 +157,10 @@ turn_at_heights a b p =
 flat_line : (d t k l y z : ℤ) → pos 0 <ℤ d → d *ℤ t ≡ k *ℤ y -ℤ l *ℤ z → y ≡ pos 0 → z ≡ pos 0 → pos 0 <ℤ t → ⊥
 flat_line d t k l y z h e i j q = omega (arith, ints, mul_pos d t h q, rw (i, j) at e)
 
-not_above : (s t : ℤ) → le_z s t ≡ true → (s -ℤ t) ≤ℤ pos 0
+pub not_above : (s t : ℤ) → le_z s t ≡ true → (s -ℤ t) ≤ℤ pos 0
 not_above s t h = omega (arith, ints)
 
-is_above : (s t : ℤ) → le_z s t ≡ false → pos 0 <ℤ (s -ℤ t)
+pub is_above : (s t : ℤ) → le_z s t ≡ false → pos 0 <ℤ (s -ℤ t)
 is_above s t h = omega (arith, ints)
 
 sum_above : (s t r z : ℤ) → s +ℤ t +ℤ r ≡ z → pos 0 <ℤ z → pos 0 <ℤ (t +ℤ r +ℤ s)

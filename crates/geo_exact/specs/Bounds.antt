@@ -1,6 +1,7 @@
--- Boxes with sides along the axes (OGC 06-103r4, 6.1.2.2, Envelope, is the least such box of a figure; these hold what they are of).
-use Rattle.std.specs.Prelude.{◌⊎◌, ℤ, ◌*ℤ◌, ◌<ℤ◌, ◌≤ℤ◌, int_le, Bool, ◌&&◌}
+-- Boxes with sides along the axes (OGC 06-103r4, 6.1.2.2, Envelope: the least such box of a figure).
+use Rattle.std.specs.Prelude.{◌⊎◌, ℤ, ◌*ℤ◌, ◌<ℤ◌, ◌≤ℤ◌, int_le, Bool, ◌&&◌, List}
 use Rattle.std.specs.Int.{int_min, int_max}
+use Rattle.std.specs.List.{All}
 use Rattle.geo_exact.specs.declared.corner.Corner.{Corner}
 use Rattle.geo_exact.specs.declared.bounds.Bounds.{Bounds}
 use Rattle.geo_exact.specs.Point.{Point}
@@ -27,6 +28,11 @@ pub record IsInsideBox (p : Point) (box : Bounds) : Type 0 where
   pub south : (box.low.y *ℤ p.d) <ℤ p.y
   pub north : p.y <ℤ (box.high.y *ℤ p.d)
 
+-- p is beyond a side of the box, and not on it
+abbrev pub IsBeyondBox : Point → Bounds → Type 0
+IsBeyondBox p box =
+    (p.x <ℤ (box.low.x *ℤ p.d)) ⊎ ((box.high.x *ℤ p.d) <ℤ p.x) ⊎ (p.y <ℤ (box.low.y *ℤ p.d)) ⊎ ((box.high.y *ℤ p.d) <ℤ p.y)
+
 -- the box has no inner place: in x or in y it ends where it begins, or before
 abbrev pub IsEmptyBox : Bounds → Type 0
 IsEmptyBox box = (box.high.x ≤ℤ box.low.x) ⊎ (box.high.y ≤ℤ box.low.y)
@@ -46,6 +52,11 @@ LiesBetween u v s t = (u ≤ℤ s) × (t ≤ℤ v)
 -- the second box reaches as far as the first on each side
 abbrev pub IsWider : Bounds → Bounds → Type 0
 IsWider box wider = LiesBetween wider.low.x wider.high.x box.low.x box.high.x × LiesBetween wider.low.y wider.high.y box.low.y box.high.y
+
+-- the least box of the corners: it holds them all, and every box that does reaches as far
+pub record IsLeastBox (box : Bounds) (corners : List Corner) : Type 0 where
+  pub holds : All (HoldsCorner box) corners
+  pub is_least : (other : Bounds) → All (HoldsCorner other) corners → IsWider box other
 
 -- a number lies both between u and v and between s and t, in either order, all ends included
 abbrev pub RangesMeet : (u v s t : ℤ) → Type 0

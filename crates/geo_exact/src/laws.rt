@@ -1,6 +1,8 @@
-ghost use Rattle.std.specs.List.{AllByRecursion};
+ghost use Rattle.std.specs.List.{All, AllByRecursion};
 ghost use Rattle.std.specs.Prelude.{◌≡◌, ◌⊎◌, ◌↔◌, ℕ, ◌≤◌, pos, neg_ℤ, ◌<ℤ◌, List, [], ◌∷◌, ◌++◌, length};
+ghost use Rattle.geo_exact.specs.declared.bounds.Bounds.{Bounds};
 ghost use Rattle.geo_exact.specs.declared.corner.Corner.{Corner};
+ghost use Rattle.geo_exact.specs.Bounds.{HoldsCorner, IsBeyondBox};
 ghost use Rattle.geo_exact.specs.Point.{Point, corner_point};
 ghost use Rattle.geo_exact.specs.Order.{IsBefore};
 ghost use Rattle.geo_exact.specs.Rings.{begun_at, begun_at_least, edges as edges_of, path, turned_round};
@@ -89,4 +91,10 @@ pub fn a_ring_does_not_go_round_what_its_least_corner_sees_outside()
         → ((m : Point) → IsOnSegment m (corner_point v) (corner_point c) → ¬ IsOnSome m (path n between p))
         → pos 0 <ℤ turn p v n → ((turn v n c <ℤ pos 0) ⊎ (turn p v c <ℤ pos 0))
         → winding (corner_point c) (v ∷ n ∷ (between ++ p ∷ [])) ≡ pos 0 }
+{}
+
+/// A place beyond a box that holds all corners of a ring is on no edge of the ring, and the ring does not go round it.
+pub fn a_place_beyond_a_box_is_off_the_rings_in_it()
+    ensures { (p : Point) (bounds : Bounds) (ring : List Corner) → All (HoldsCorner bounds) ring → IsBeyondBox p bounds
+        → (¬ IsOnRing p ring) × (winding p ring ≡ pos 0) }
 {}

@@ -1,13 +1,14 @@
 -- The rows of a layer are within the limits of what is written.
-use Rattle.std.proofs.Common.{◌≡◌, refl, ◌≤◌, ◌∙◌, sym, ap, subst, arith, map, List, [], ◌∷◌, length}
+use Rattle.std.proofs.Common.{◌≡◌, refl, ◌≤◌, ◌∙◌, sym, ap, subst, arith, map, ℕ, List, [], ◌∷◌, length}
 use Rattle.std.proofs.lemmas.List.{length-map}
 use Rattle.std.proofs.lemmas.List.Elements.{length_all_zip}
 use Rattle.std.specs.List.{AllByRecursion}
 use Rattle.geo_exact.specs.declared.corner.Corner.{Corner}
 use Rattle.geo_exact.specs.declared.coord.Unit.{Unit as LengthUnit}
 use Rattle.geo_exact.specs.declared.raw_ring.RawRing.{RawRing}
-use Rattle.geo_exact.specs.Layers.{NumberedRing, rings_of, corner_count}
+use Rattle.geo_exact.specs.Layers.{NumberedRing, numbered, rings_of, corner_count}
 use Rattle.geo_exact.specs.declared.limits.TheConstants.{LAYER_RECORDS, LAYER_CORNERS, RING_CORNERS}
+use Rattle.ring_core.specs.declared.shape.Shape.{Shape}
 use Rattle.shp_files.specs.LayerFile.{IsLayerFile}
 use Rattle.shp_files.specs.Written.{corner_lists as lists_of_rings}
 use Rattle.fabric_core.specs.Tiling.{corner_lists}
@@ -38,6 +39,16 @@ pub few_rows : (files : Files) (unit : LengthUnit) (city : List Corner) (tiles :
 few_rows files unit city tiles h few =
     subst (λ n. n ≤ LAYER_RECORDS) (length_all_zip (IsRowOf (corners_of_layer h.records city)) h.records tiles.rows h.are_refined.are_rows)
     (few h.records h.are_records)
+
+-- the rings of shapes, where their rows are these
+pub lists_of_shapes : {A : Type 0} (shapes : List (ℕ × Shape A)) (rows : List NumberedRing)
+    → map (λ shape. numbered shape.0 shape.1.ring.corners) shapes ≡ rows → map (λ shape. shape.1.ring.corners) shapes ≡ corner_lists rows
+lists_of_shapes shapes rows e = rings shapes ∙ ap corner_lists e
+  where
+    rings : {A : Type 0} (shapes : List (ℕ × Shape A))
+        → map (λ shape. shape.1.ring.corners) shapes ≡ corner_lists (map (λ shape. numbered shape.0 shape.1.ring.corners) shapes)
+    rings [] = refl
+    rings (shape ∷ shapes) = ap (λ lists. shape.1.ring.corners ∷ lists) (rings shapes)
 
 -- ---- how many corners
 pub each_short : {S : Type 0} (ring : S → List Corner) (shapes : List S) (rows : List NumberedRing) → map ring shapes ≡ corner_lists rows

@@ -12,10 +12,10 @@ ghost use Rattle.parcel_runs.specs.TilingFiles.{files_of, IsTilesFault};
 use crate::fault::ToolFault;
 use crate::sources::Source;
 use crate::tiles::load_tiles;
-use fabric_core::Layer;
+use fabric_core::{Layer, Shapes};
 use geo_exact::{RawRing, Unit};
 use itoa::Buffer;
-use ring_core::{Ring, Shape};
+use ring_core::Ring;
 use shp_files::{a_layer_file_is_within_the_limits, write_layer};
 use std::alloc::{AllocError, Allocator};
 
@@ -62,15 +62,15 @@ pub fn export<'h, H: Allocator, A: Allocator>(
 /// The rings of shapes, each numbered as the record that it is written as.
 fn rings_to_write<A: Allocator + Copy>(
     alloc: A,
-    shapes: &[Shape<A>],
+    shapes: Shapes<'_, A>,
 ) -> Result<Vec<RawRing<A>, A>, AllocError>
-    requires count { length shapes.now ≤ LAYER_RECORDS }
-    requires short { AllByRecursion (λ shape. length shape.ring.corners ≤ RING_CORNERS) shapes.now }
-    ensures { IfOk result (λ rings. lists_of_rings rings.items ≡ map (λ shape. shape.ring.corners) shapes.now) }
+    requires count { length shapes ≤ LAYER_RECORDS }
+    requires short { AllByRecursion (λ shape. length shape.1.ring.corners ≤ RING_CORNERS) shapes }
+    ensures { IfOk result (λ rings. lists_of_rings rings.items ≡ map (λ shape. shape.1.ring.corners) shapes.entry) }
 {
     let mut rings = Vec::with_capacity(alloc, shapes.len())?;
     let mut number = 0;
-    for shape in shapes {
+    for (_, shape) in shapes {
         number += 1;
         rings.push(ring_to_write(number, &shape.ring)?)?;
     }

@@ -14,7 +14,6 @@ pub mod TakenOut
 pub mod KindsKept
 pub mod EarCounts
 pub mod KindsTell
-mod TriangleBoxes
 pub mod LeftSimple
 pub mod Diagonals
 pub mod StillLeft
@@ -38,5 +37,7 @@ pub mod FourCorners
 pub mod DirectionKept
 pub mod HaveEars
 pub mod NeverStuck
+pub mod CornersInBoxes
+pub mod LeastBoxes
 pub mod TwoEars
 pub mod WholeClipping

@@ -99,7 +99,7 @@ module _ (ring : List Corner) (simple : IsSimpleRing ring) where
         clipped_left rest s.1.0 k more (keep_their_direction (length rest) more) s.0 s.1.1 b x,
       )
 
-  still_left : (ts : List Tri) (rest : List Corner) → Clips ring ts rest → 2 < length rest → IsStillLeft rest
+  pub still_left : (ts : List Tri) (rest : List Corner) → Clips ring ts rest → 2 < length rest → IsStillLeft rest
   still_left ts _ untouched big = (simple.simple, left_at_least ring big simple)
   still_left ts _ (flat {rest = rest} k c l f) big = one_more rest k (still_left ts rest c) f.below (inl f.has) big
   still_left _ _ (ear {ts = ts} {rest = rest} k t c l none f s) big = one_more rest k (still_left ts rest c) f.below (inr f.has) big

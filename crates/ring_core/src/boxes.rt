@@ -1,8 +1,9 @@
-ghost use Rattle.std.specs.List.{All};
+ghost use Rattle.std.specs.Prelude.{◌<◌, length};
+ghost use Rattle.geo_exact.specs.Bounds.{IsLeastBox};
 ghost use Rattle.ring_core.specs.Boxes.{HoldsTriangle};
 
 use crate::triangle::Tri;
-use geo_exact::Bounds;
+use geo_exact::{Bounds, Corner};
 
 /// The least box that holds a triangle.
 pub fn bounds_of(triangle: &Tri) -> Bounds
@@ -12,13 +13,14 @@ pub fn bounds_of(triangle: &Tri) -> Bounds
     edge.around(Bounds::of_corner(triangle.c))
 }
 
-/// The least box that holds all of the triangles; for none, a box that holds no corner.
-pub fn bounds_of_all(triangles: &[Tri]) -> Bounds
-    ensures { All (HoldsTriangle result) triangles.now }
+/// The least box of a ring's corners.
+pub fn bounds_of_ring(corners: &[Corner]) -> Bounds
+    requires { 0 < length corners.now }
+    ensures { IsLeastBox result corners.now }
 {
-    let mut bounds = Bounds::nowhere();
-    for triangle in triangles {
-        bounds = bounds.around(bounds_of(triangle));
+    let mut bounds = Bounds::of_corner(corners[0]);
+    for corner in corners {
+        bounds = bounds.around(Bounds::of_corner(*corner));
     }
     bounds
 }

@@ -4,10 +4,11 @@ ghost use Rattle.std.specs.List.{All};
 ghost use Rattle.geo_exact.specs.Point.{Point};
 ghost use Rattle.geo_exact.specs.Winding.{winding};
 ghost use Rattle.geo_exact.specs.Area.{area2};
+ghost use Rattle.geo_exact.specs.Bounds.{IsLeastBox};
 ghost use Rattle.ring_core.specs.Boxes.{HoldsTriangle};
 ghost use Rattle.ring_core.specs.Sums.{IsRoundAtMostOnce, MakeUp, area2_of_triangles, winding_of_triangles};
 
-use crate::boxes::bounds_of_all;
+use crate::boxes::bounds_of_ring;
 use crate::ear::triangle_at;
 use crate::rest::Rest;
 use crate::ring::Ring;
@@ -23,8 +24,9 @@ pub struct Shape<A: Allocator> {
     pub ring: Ring<A>,
     /// Its triangles, in the order in which they are clipped.
     pub triangles: Triangles<A>,
-    /// The least box that holds its triangles.
+    /// The least box of its corners, which holds its triangles too.
     pub bounds: Bounds,
+    pub ghost least_box: { IsLeastBox bounds ring.corners },
     pub ghost bounded: { All (HoldsTriangle bounds) triangles },
     pub ghost made_up: { MakeUp triangles ring.corners },
 }
@@ -61,6 +63,7 @@ impl<A: Allocator + Copy> Shape<A> {
         ensures windings { IfOk result (λ shape. (p : Point) → winding p ring.corners ≡ winding_of_triangles p shape.triangles) }
         ensures each_once { IfOk result (λ shape. (p : Point) → All (IsRoundAtMostOnce p) shape.triangles) }
         ensures areas { IfOk result (λ shape. area2 ring.corners ≡ area2_of_triangles shape.triangles) }
+        ensures bounds { IfOk result (λ shape. IsLeastBox shape.bounds ring.corners) }
     {
         let mut rest = Rest::of(alloc, ring.corners.as_slice())?;
         let mut triangles = Triangles::new(alloc);
@@ -74,7 +77,7 @@ impl<A: Allocator + Copy> Shape<A> {
                 unreachable!()
             }
         }
-        let bounds = bounds_of_all(triangles.as_slice());
+        let bounds = bounds_of_ring(ring.corners.as_slice());
         Ok(Shape {
             ring,
             triangles,

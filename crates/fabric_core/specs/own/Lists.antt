@@ -7,7 +7,6 @@ use Rattle.geo_exact.specs.Rings.{begun_at_least}
 use Rattle.geo_exact.specs.Layers.{NumberedRing, numbered}
 use Rattle.geo_exact.specs.declared.limits.TheConstants.{LAYER_CORNERS, RING_CORNERS}
 use Rattle.ring_core.specs.declared.ring.Ring.{Ring}
-use Rattle.ring_core.specs.declared.shape.Shape.{Shape}
 use Rattle.edge_chains.specs.Noding.{IsNoded, all_corners}
 use Rattle.fabric_core.specs.Tiling.{IsTiling}
 use Rattle.fabric_core.specs.Rows.{corners_of_layer, numbers}
@@ -19,12 +18,9 @@ numbered_rows [] rings = []
 numbered_rows (number ∷ rest) [] = []
 numbered_rows (number ∷ rest) (ring ∷ rings) = numbered number ring ∷ numbered_rows rest rings
 
--- the corners of checked rings, and of shapes
+-- the corners of checked rings
 abbrev pub corners_of_rings : {A : Type 0} → List (Ring A) → List (List Corner)
 corners_of_rings rings = map (λ ring. ring.corners) rings
-
-abbrev pub corners_of_shapes : {A : Type 0} → List (Shape A) → List (List Corner)
-corners_of_shapes shapes = map (λ shape. shape.ring.corners) shapes
 
 -- the rings are the records', noded for all corners of the layer and begun at their least corners, and their numbers stand beside them
 pub record AreNodedRings (records : List NumberedRing) (city : List Corner) (ids : List ℕ) (rings : List (List Corner)) (refined : List Corner) : Type 0 where
@@ -34,12 +30,11 @@ pub record AreNodedRings (records : List NumberedRing) (city : List Corner) (ids
   pub are_begun : rings ≡ map begun_at_least noded
   pub is_refined : IsNoded city (corners_of_layer records city) refined
 
--- what a `Layer` keeps: an id for each shape, in ascending order, and shapes within the limits that tile the city
-pub record IsLayer (ids : List ℕ) (rings : List (List Corner)) (city : List Corner) : Type 0 where
-  pub same_length : length ids ≡ length rings
-  pub ids_rise : IsStrictlyIncreasing ids
-  pub within : AreWithinLimits (numbered_rows ids rings)
-  pub tiles : IsTiling (numbered_rows ids rings) city
+-- what a `Layer` keeps: rows by ascending id, within the limits, that tile the city
+pub record IsLayer (rows : List NumberedRing) (city : List Corner) : Type 0 where
+  pub ids_rise : IsStrictlyIncreasing (numbers rows)
+  pub within : AreWithinLimits rows
+  pub tiles : IsTiling rows city
 
 -- the most corners of a refined city: each edge is cut at most at all corners of the layer and the city
 abbrev pub most_refined : ℕ

@@ -1,61 +1,49 @@
-use Rattle.std.proofs.Common.{◌≤◌, ◌<◌, sym, subst, arith, length, take}
-use Rattle.std.proofs.lemmas.List.{length-map}
+use Rattle.std.proofs.Common.{◌≤◌, sym, subst, length}
 use Rattle.std.specs.Vec.{vec_len}
 use Rattle.geo_exact.specs.Point.{corner_point}
 use Rattle.geo_exact.specs.declared.limits.TheConstants.{RING_CORNERS}
-use Rattle.fabric_core.specs.own.Lists.{corners_of_shapes, numbered_rows}
-use Rattle.fabric_core.specs.own.Sides.{IsSide, IsFound}
-use Rattle.fabric_core.proofs.RingChecks.{ring_of_shape}
-use Rattle.fabric_core.proofs.Located.{step_on_edge, step_inside, step_outside, all_at, found_all, inside_found, outside_found, none_where_empty}
-use Rattle.fabric_core.proofs.locate.locate_among.Goals.{in-OnEdge+in_ok-push-in-OnEdge, in-Inside, in-Outside}
+use Rattle.fabric_core.specs.own.Sides.{IsSide}
+use Rattle.fabric_core.specs.own.Table.{rows_of}
+use Rattle.fabric_core.proofs.Located.{searched_on_edge, searched_inside, searched_outside, short_next, found_all, inside_found, outside_found, none_where_empty}
 use Rattle.fabric_core.proofs.locate.locate_among.Goals as goal
 
 pub side_of-requires : goal.side_of-requires
 side_of-requires g c =
-    let rings = corners_of_shapes c.args.shapes.now in
-    let below : c.loop-i.i < length rings = omega (arith, c.loop-i-test.true, length-map c.args.shapes.now (λ shape. shape.ring.corners)) in
-    subst (λ ring. length ring ≤ RING_CORNERS) (sym c.as_slice.ensures) (all_at (λ ring. length ring ≤ RING_CORNERS) rings c.loop-i.i
-    c.index-shapes-i.result.ring.corners c.requires.short below
-    (ring_of_shape c.args.shapes.now c.loop-i.i c.index-shapes-i.result c.index-shapes-i.is))
+    subst (λ ring. length ring ≤ RING_CORNERS) (sym c.as_slice.ensures) (short_next (corner_point c.args.place) c.args.shapes c.loop-id.id-iterator
+    c.next.new.self (c.in-Some.id, c.in-Some.shape.now) c.loop-id.on_edge.items c.loop-id.inside c.loop-id.invariant c.in-Some.ensures.steps
+    c.requires.short)
 
-pub loop-i-preserved : goal.loop-i-preserved
-loop-i-preserved g c =
-    let p = corner_point c.args.place in
-    let rings = corners_of_shapes c.args.shapes.now in
-    let ring = c.index-shapes-i.result.ring.corners in
-    let below : c.loop-i.i < length rings = omega (arith, c.loop-i-test.true, length-map c.args.shapes.now (λ shape. shape.ring.corners)) in
-    let at = ring_of_shape c.args.shapes.now c.loop-i.i c.index-shapes-i.result c.index-shapes-i.is in
-    let side = subst (λ r. IsSide p r c.side_of.result) c.as_slice.ensures c.side_of.ensures in
-    let ids = c.args.ids.now in
-    let same = c.requires.same_length in
-    let up = c.requires.ids_rise in
-    let on_edge = c.loop-i.on_edge.items in
-    let inside = c.loop-i.inside in
-    let found : IsFound (numbered_rows (take c.loop-i.i ids) (take c.loop-i.i rings)) p on_edge inside = c.loop-i.invariant in
-    elim c.match-side_of.branch [
-      | in-OnEdge+in_ok-push-in-OnEdge w ↦ rw (w.on_edge-is, w.inside-is, w.in_ok-push-in-OnEdge.ensures.items)
-          (step_on_edge p ids rings c.loop-i.i ring on_edge inside same up below at found (subst (IsSide p ring) w.in-OnEdge.is side))
-      | in-Inside w ↦ rw (w.on_edge-is, w.inside-is)
-          (step_inside p ids rings c.loop-i.i ring on_edge inside same up below at found (subst (IsSide p ring) w.in-Inside.is side))
-      | in-Outside w ↦ rw (w.on_edge-is, w.inside-is)
-          (let out = subst (IsSide p ring) w.in-Outside.is side in
-          step_outside p ids rings c.loop-i.i ring on_edge inside same up below at found out.0 out.1)
-    ]
+pub loop-id-preserved-in-Continue-1 : goal.loop-id-preserved-in-Continue-1
+loop-id-preserved-in-Continue-1 g c =
+    let p = corner_point c.args.place in let ring = c.in-Some.shape.now.ring.corners in
+    rw c.in_ok-push-in-OnEdge.ensures.items (searched_on_edge p c.args.shapes c.loop-id.id-iterator
+    c.next.new.self (c.in-Some.id, c.in-Some.shape.now) c.loop-id.on_edge.items c.loop-id.inside c.loop-id.invariant c.in-Some.ensures.steps
+    c.requires.ids_rise (subst (IsSide p ring) c.in-OnEdge.is (subst (λ r. IsSide p r c.side_of.result) c.as_slice.ensures c.side_of.ensures)))
 
-pub returns-in-Some : goal.returns-in-Some
-returns-in-Some g c =
-    let rings = corners_of_shapes c.args.shapes.now in
-    let all = found_all (corner_point c.args.place) c.args.ids.now rings c.loop-i.i c.loop-i.on_edge.items c.loop-i.inside
-    c.requires.same_length
-    (omega (arith, c.loop-i-test.false, length-map c.args.shapes.now (λ shape. shape.ring.corners))) c.loop-i.invariant in
-    inside_found (corner_point c.args.place) (numbered_rows c.args.ids.now rings) c.loop-i.on_edge.items c.loop-i.inside c.in-Some.id
-    (none_where_empty c.loop-i.on_edge.items (vec_len c.loop-i.on_edge) (search) c.if-not-is_empty.ensures) c.in-Some.is all
+pub loop-id-preserved-in-Inside : goal.loop-id-preserved-in-Inside
+loop-id-preserved-in-Inside g c =
+    let p = corner_point c.args.place in let ring = c.in-Some.shape.now.ring.corners in
+    searched_inside p c.args.shapes c.loop-id.id-iterator
+    c.next.new.self (c.in-Some.id, c.in-Some.shape.now) c.loop-id.on_edge.items c.loop-id.inside c.loop-id.invariant c.in-Some.ensures.steps
+    (subst (IsSide p ring) c.in-Inside.is (subst (λ r. IsSide p r c.side_of.result) c.as_slice.ensures c.side_of.ensures))
+
+pub loop-id-preserved : goal.loop-id-preserved
+loop-id-preserved g c =
+    let p = corner_point c.args.place in let ring = c.in-Some.shape.now.ring.corners in
+    let out = subst (IsSide p ring) c.in-Outside.is (subst (λ r. IsSide p r c.side_of.result) c.as_slice.ensures c.side_of.ensures) in
+    searched_outside p c.args.shapes c.loop-id.id-iterator
+    c.next.new.self (c.in-Some.id, c.in-Some.shape.now) c.loop-id.on_edge.items c.loop-id.inside c.loop-id.invariant c.in-Some.ensures.steps out.0 out.1
+
+pub returns-in-Some-inside : goal.returns-in-Some-inside
+returns-in-Some-inside g c =
+    let all = found_all (corner_point c.args.place) c.args.shapes c.loop-id.id-iterator c.loop-id.on_edge.items c.loop-id.inside
+    c.in-None.ensures.steps.0 c.loop-id.invariant in
+    inside_found (corner_point c.args.place) (rows_of c.args.shapes) c.loop-id.on_edge.items c.loop-id.inside c.in-Some-inside.id
+    (none_where_empty c.loop-id.on_edge.items (vec_len c.loop-id.on_edge) (search) c.if-not-is_empty.ensures) c.in-Some-inside.is all
 
 pub returns : goal.returns
 returns g c =
-    let rings = corners_of_shapes c.args.shapes.now in
-    let all = found_all (corner_point c.args.place) c.args.ids.now rings c.loop-i.i c.loop-i.on_edge.items c.loop-i.inside
-    c.requires.same_length
-    (omega (arith, c.loop-i-test.false, length-map c.args.shapes.now (λ shape. shape.ring.corners))) c.loop-i.invariant in
-    outside_found (corner_point c.args.place) (numbered_rows c.args.ids.now rings) c.loop-i.on_edge.items c.loop-i.inside
-    (none_where_empty c.loop-i.on_edge.items (vec_len c.loop-i.on_edge) (search) c.if-not-is_empty.ensures) c.in-None.is all
+    let all = found_all (corner_point c.args.place) c.args.shapes c.loop-id.id-iterator c.loop-id.on_edge.items c.loop-id.inside
+    c.in-None.ensures.steps.0 c.loop-id.invariant in
+    outside_found (corner_point c.args.place) (rows_of c.args.shapes) c.loop-id.on_edge.items c.loop-id.inside
+    (none_where_empty c.loop-id.on_edge.items (vec_len c.loop-id.on_edge) (search) c.if-not-is_empty.ensures) c.in-None-inside.is all

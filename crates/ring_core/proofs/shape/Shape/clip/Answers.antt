@@ -1,6 +1,7 @@
 use Rattle.std.proofs.Common.{◌≡◌, ◌∙◌, ap, ◌<◌, length, arith}
 use Rattle.ring_core.proofs.Corners.{three_corners}
 use Rattle.ring_core.proofs.Clipped.{make_up}
+use Rattle.ring_core.proofs.CornersInBoxes.{box_of_corners}
 use Rattle.ring_core.proofs.NeverStuck.{never_stuck}
 use Rattle.ring_core.proofs.ClipSteps.{clip_start, clip_flat, clip_ear, one_less}
 use Rattle.ring_core.proofs.shape.Shape.clip.Goals as goal
@@ -47,8 +48,11 @@ loop-rest-preserved g c =
 pub invariant_of-result : goal.invariant_of-result
 invariant_of-result g c =
     let two : length c.loop-rest.rest ≡ 2 = omega (arith, c.loop-rest.invariant.two_left, ap length c.as_slice-in-loop-rest.ensures) in
+    let least = rw c.as_slice-2.ensures at c.bounds_of_ring-bounds.ensures in
     record {
-      bounded = rw c.as_slice-2.ensures at c.bounds_of_all-bounds.ensures;
+      least_box = least;
+      bounded = box_of_corners c.bounds_of_ring-bounds.result c.args.ring.corners c.loop-rest.triangles c.loop-rest.rest c.loop-rest.invariant.clipped
+          least.holds;
       made_up = make_up c.args.ring.corners c.loop-rest.triangles (c.loop-rest.rest, c.loop-rest.invariant.clipped, two);
     }
 

@@ -1,0 +1,25 @@
+use Rattle.std.proofs.Common.{◌≡◌, arith, ◌∙◌, ◌+◌, ◌*◌, ◌<◌, ap, length, []}
+use Rattle.std.proofs.lemmas.List.{get_or-map, length_push}
+use Rattle.std.proofs.lemmas.List.Elements.{All-push}
+use Rattle.cell_index.specs.own.Ranges.{no_cell}
+use Rattle.cell_index.proofs.index.CellIndex.new.Goals as goal
+
+pub loop-init : goal.loop-init
+loop-init g c = record {
+  so_many = ap length c.in_ok-cells.ensures.items;
+  empty = rw c.in_ok-cells.ensures.items (λ k d h. absurd (omega (arith, h)));
+}
+
+pub loop-preserved : goal.loop-preserved
+loop-preserved g c = record {
+  so_many = ap length c.in_ok-push.ensures.items ∙ length_push c.loop.cells.items c.new.result ∙ ap (λ n. n + 1) c.loop.invariant.so_many;
+  empty = rw c.in_ok-push.ensures.items (All-push (λ x. x.items ≡ []) c.loop.cells.items c.new.result c.loop.invariant.empty c.new.ensures.items);
+}
+
+pub invariant_of-result : goal.invariant_of-result
+invariant_of-result g c = omega (arith, c.loop.invariant.so_many, c.loop-test.false, c.loop.auto.counter-end)
+
+pub returns-clause-empty : goal.returns-clause-empty
+returns-clause-empty g c i j h k =
+    let inside : 64 * i + j < length c.loop.cells.items = omega (arith, c.loop.invariant.so_many, c.loop-test.false, h, k) in
+    get_or-map (λ x. x.items) c.loop.cells.items (64 * i + j) no_cell [] inside ∙ c.loop.invariant.empty (64 * i + j) no_cell inside

@@ -1,0 +1,33 @@
+ghost use Rattle.std.specs.Prelude.{◌≡◌};
+ghost use Rattle.cell_index.specs.Cells.{is_same_entry};
+
+use geo_exact::Bounds;
+
+/// A key with its box beside it. Coordinates are in whole centimetres.
+#[derive(Clone, Copy, Debug, PartialEq, Eq)]
+pub struct Entry {
+    /// What the entry stands for, as its owner numbers it.
+    pub key: usize,
+    /// The box that says in which cells the entry stands.
+    pub bounds: Bounds,
+}
+
+impl Default for Entry {
+    /// An entry with a box that holds no corner.
+    fn default() -> Entry {
+        Entry {
+            key: 0,
+            bounds: Bounds::nowhere(),
+        }
+    }
+}
+
+/// Whether two entries have the same key and the same box.
+pub(crate) fn is_entry(a: &Entry, b: &Entry) -> bool
+    ensures { result ≡ is_same_entry a.now b.now }
+{
+    if a.key != b.key {
+        return false;
+    }
+    a.bounds.low == b.bounds.low && a.bounds.high == b.bounds.high
+}

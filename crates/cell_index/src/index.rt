@@ -1,0 +1,133 @@
+ghost use Rattle.std.specs.Prelude.{◌≡◌, ◌≢◌, ◌↔◌, ℕ, ◌≤ℤ◌, List, [], ◌∷◌, ◌++◌, IfOk, OnOk, OnErr, slice_index_or};
+ghost use Rattle.std.specs.List.{filter, Contains, AllPairs};
+ghost use Rattle.geo_exact.specs.Bounds.{HoldsCorner};
+ghost use Rattle.cell_index.specs.declared.entry.Entry.{Entry};
+ghost use Rattle.cell_index.specs.Cells.{cell, column, row, stands_at, Indexes, without, HaveOwnKeys, IsKeyBetween};
+ghost use Rattle.cell_index.specs.own.Ranges.{cell_count, gathered};
+
+use crate::axis::{ACROSS, cell_of};
+use crate::cells::{Cell, make_room, push_all, take_out};
+use crate::entry::Entry;
+use crate::range::{CellRange, cells_of, cells_toward};
+use geo_exact::{Bounds, Corner};
+use smallvec::SmallVec;
+use std::alloc::{AllocError, Allocator};
+use std::marker::Model;
+
+/// Which boxes stand in which cells of a grid of 64 by 64 cells over an area. Contracts see the area and what stands in each cell.
+///
+/// A cell is `(high - low) / 64 + 1` centimetres wide, whole division, and likewise high. A box stands in the cells between those of its two corners,
+/// these included. An entry lies in each cell where its box stands, its key and its box side by side, so that a search reads one cell and nothing else.
+/// The memory is that of the heap that was lent.
+#[derive(Drop)]
+pub struct CellIndex<'a, H: Allocator> {
+    area: Bounds,
+    cells: Vec<Cell<'a, H>, &'a H>,
+}
+
+impl<'a, H: Allocator> Model for CellIndex<'a, H> {
+    ghost use Rattle.std.specs.Prelude.{◌≡◌, length};
+    ghost use Rattle.cell_index.specs.Cells.{Grid};
+    ghost use Rattle.cell_index.specs.own.Ranges.{contents};
+
+    ghost Value = { Grid };
+
+    ghost view = { λ index. record { area = index.area; cells = contents index.cells.items } };
+
+    ghost invariant = { λ index. length index.cells.items ≡ 4096 };
+}
+
+impl<'a, H: Allocator> CellIndex<'a, H> {
+    /// An index of no boxes, over an area.
+    ///
+    /// # Errors
+    ///
+    /// [`AllocError`] where the memory of the cells is refused.
+    pub fn new(heap: &'a H, area: Bounds) -> Result<CellIndex<'a, H>, AllocError>
+        ensures area { IfOk result (λ index. index.area ≡ area) }
+        ensures empty { IfOk result (λ index. Indexes index []) }
+    {
+        let mut cells = Vec::with_capacity(heap, ACROSS * ACROSS)?;
+        for _ in 0..ACROSS * ACROSS {
+            cells.push(SmallVec::new(heap))?;
+        }
+        Ok(CellIndex { area, cells })
+    }
+
+    /// The area that the cells cover.
+    pub fn area(&self) -> Bounds
+        ensures { result ≡ self.now.area }
+    {
+        self.area
+    }
+
+    /// Adds an entry. It costs the cells where its box stands; where memory is refused, nothing has changed.
+    ///
+    /// # Errors
+    ///
+    /// [`AllocError`] where the memory of a cell is refused.
+    pub fn add(&mut self, entry: Entry) -> Result<(), AllocError>
+        ensures area { self.new.area ≡ self.old.area }
+        ensures ok { (entries : List Entry) → Indexes self.old entries → OnOk result (Indexes self.new (entries ++ entry ∷ [])) }
+        ensures err { OnErr result (self.new ≡ self.old) }
+    {
+        let range = cells_of(self.area, entry.bounds);
+        make_room(self.cells.as_mut_slice(), range, 1)?;
+        push_all(self.cells.as_mut_slice(), range, entry);
+        Ok(())
+    }
+
+    /// Takes an entry out, its key and its box both the same; where there is none, nothing changes.
+    pub fn remove(&mut self, entry: Entry)
+        ensures area { self.new.area ≡ self.old.area }
+        ensures removed { (entries : List Entry) → Indexes self.old entries → Indexes self.new (without (entry ∷ []) entries) }
+    {
+        take_out(
+            self.cells.as_mut_slice(),
+            cells_of(self.area, entry.bounds),
+            entry,
+        );
+    }
+
+    /// What stands in the cell of a corner in the area.
+    pub fn at(&self, corner: Corner) -> &[Entry]
+        requires { HoldsCorner self.now.area corner }
+        ensures { (entries : List Entry) → Indexes self.now entries
+            → result.now ≡ filter (λ entry. stands_at self.now.area corner entry.bounds) entries }
+    {
+        let column = cell_of(self.area.low.x, self.area.high.x, corner.x);
+        let row = cell_of(self.area.low.y, self.area.high.y, corner.y);
+        self.cells[ACROSS * column + row].as_slice()
+    }
+
+    /// The keys of the entries that stand in some cell between the cells of two corners, these included, each once. The corners, the first west and south
+    /// of the second, are brought into the area first, to the nearer end where a coordinate lies outside.
+    ///
+    /// # Errors
+    ///
+    /// [`AllocError`] where the list of keys is refused.
+    pub fn between(&self, low: Corner, high: Corner) -> Result<Vec<usize, &'a H>, AllocError>
+        requires { (low.x ≤ℤ high.x) × (low.y ≤ℤ high.y) }
+        ensures found { (entries : List Entry) → Indexes self.now entries
+            → IfOk result (λ keys. (key : ℕ) → Contains keys.items key ↔ IsKeyBetween self.now.area low high entries key) }
+        ensures once { (entries : List Entry) → Indexes self.now entries → HaveOwnKeys entries
+            → IfOk result (λ keys. AllPairs (λ a b. a ≢ b) keys.items) }
+    {
+        self.gather(cells_toward(self.area, low, high))
+    }
+
+    /// The keys of the entries in the cells of a range, each from the first cell where it stands.
+    fn gather(&self, range: CellRange) -> Result<Vec<usize, &'a H>, AllocError>
+        ensures { IfOk result (λ keys. keys.items ≡ gathered self.now.area range self.now.cells (cell_count range)) }
+    {
+        let mut keys = Vec::new(*self.cells.allocator());
+        for n in 0..range.count() {
+            for entry in self.cells[range.number(n)].as_slice() {
+                if range.is_first(self.area, n, entry.bounds) {
+                    keys.push(entry.key)?;
+                }
+            }
+        }
+        Ok(keys)
+    }
+}

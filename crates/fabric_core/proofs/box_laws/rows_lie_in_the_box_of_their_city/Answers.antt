@@ -1,0 +1,5 @@
+use Rattle.fabric_core.proofs.InTheCity.{rows_in_box}
+use Rattle.fabric_core.proofs.box_laws.rows_lie_in_the_box_of_their_city.Goals as goal
+
+pub returns : goal.returns
+returns c = rows_in_box

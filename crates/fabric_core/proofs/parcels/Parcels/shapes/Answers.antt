@@ -1,0 +1,17 @@
+use Rattle.std.proofs.Common.{sym, ◌∙◌, ap, length}
+use Rattle.std.proofs.lemmas.List.{length-map}
+use Rattle.fabric_core.specs.own.Table.{keyed, shapes_at, shapes_of}
+use Rattle.fabric_core.proofs.Tables.{shapes_of_keyed}
+use Rattle.fabric_core.proofs.parcels.Parcels.shapes.Goals as goal
+
+pub of-requires : goal.of-requires
+of-requires g c =
+    let slab = c.self.inside.slab in let places = c.self.inside.places.items in
+    c.self.invariant.are_all ∙ sym (length-map (keyed slab places) (λ parcel. (parcel.1.id, parcel.1.shape)))
+    ∙ ap length (shapes_of_keyed slab places) ∙ ap (λ xs. length (shapes_at slab xs)) (sym c.as_slice.ensures.value)
+
+pub returns : goal.returns
+returns g c =
+    let slab = c.self.inside.slab in let places = c.self.inside.places.items in
+    c.of.ensures ∙ ap (λ xs. shapes_at slab xs) c.as_slice.ensures.value ∙ sym (shapes_of_keyed slab places)
+    ∙ ap (λ t. shapes_of t.parcels) c.self.view_is
