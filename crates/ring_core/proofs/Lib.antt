@@ -12,9 +12,9 @@ pub mod ClipUnique
 pub mod EdgeNumbers
 pub mod TakenOut
 pub mod KindsKept
-pub mod EarCounts
 pub mod KindsTell
 mod TriangleBoxes
+pub mod HeldInside
 pub mod LeftSimple
 pub mod Diagonals
 pub mod StillLeft
