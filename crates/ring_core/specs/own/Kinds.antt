@@ -1,5 +1,5 @@
--- What the code of the clipping remembers of each corner that is left: flat, bent (neither flat nor a left turn), or a left turn, and then where another
--- corner stands in its closed triangle, once one was found there. Public contracts do not speak of it.
+-- What the code of the clipping remembers of each corner that is left: flat, bent (neither flat nor a left turn), or a left turn, and then
+-- where another corner stands in its closed triangle, once one was found there. Public contracts do not speak of it.
 use Rattle.std.specs.Prelude.{◌≡◌, ◌⊎◌, ℕ, ◌+◌, ◌<◌, pos, ◌<ℤ◌, if◌then◌else◌, nat_lt, List, length, slice_index_or}
 use Rattle.std.specs.List.{remove}
 use Rattle.geo_exact.specs.declared.corner.Corner.{Corner}
