@@ -119,3 +119,9 @@ pub size_whole : (k : ℕ) → limit < k → size_of k 1 ≡ Err TooFar
 size_whole k h =
     let n : nearest k 1 ≡ k = only_near k 1 k (lit< tt) (omega arith) in
     size_far k 1 (rw n (omega arith)) (rw n h)
+
+-- and one within it
+pub size_same : (k : ℕ) → k ≤ limit → size_of k 1 ≡ Ok k
+size_same k h =
+    let n : nearest k 1 ≡ k = only_near k 1 k (lit< tt) (omega arith) in
+    size_ok k 1 (rw n (omega arith)) (rw n h) ∙ ap Ok n

@@ -1,4 +1,4 @@
-ghost use Rattle.std.specs.Prelude.{◌≡◌, ◌↔◌, ℕ, ◌+◌, ◌*◌, ◌^◌, ◌<◌, ◌≤◌, max, ℤ, Ok, Err, IfOk, IfErr};
+ghost use Rattle.std.specs.Prelude.{◌≡◌, ◌↔◌, ℕ, ◌+◌, ◌*◌, ◌^◌, ◌<◌, ◌≤◌, max, ℤ, Ok, Err, IfOk, IfErr, IfSome};
 ghost use Rattle.geo_exact.specs.Grid.{IsOnGrid, IsCoordFault, coordinate, size_of};
 ghost use Rattle.geo_exact.specs.Grid.{centimetres as centimetres_of, exponent_field, magnitude};
 ghost use Rattle.geo_exact.specs.Limit.{IsWithin, limit};
@@ -54,8 +54,38 @@ fn significand(bits: u64) -> u64
     }
 }
 
-/// The whole number within 1/1024 of `numerator / 2 ^ shift`.
+/// The quotient `numerator / 2 ^ shift`, where it is whole.
+fn whole_quotient(numerator: u64, shift: u64) -> Option<u64>
+    ensures { IfSome result (λ whole. whole * 2 ^ shift ≡ numerator) }
+{
+    if shift >= 64 {
+        return None;
+    }
+    let whole = numerator >> shift;
+    if whole << shift == numerator {
+        Some(whole)
+    } else {
+        None
+    }
+}
+
+/// The whole number within 1/1024 of `numerator / 2 ^ shift`: most often that is whole itself.
 fn whole_size(numerator: u64, shift: u64) -> Result<u64, CoordFault>
+    requires small { numerator < 2 ^ 60 }
+    ensures value { result ≡ size_of numerator (2 ^ shift) }
+    ensures bound { IfOk result (λ size. size ≤ limit) }
+{
+    let Some(whole) = whole_quotient(numerator, shift) else {
+        return near_size(numerator, shift);
+    };
+    if whole > LIMIT as u64 {
+        return Err(CoordFault::TooFar);
+    }
+    Ok(whole)
+}
+
+/// The whole number within 1/1024 of `numerator / 2 ^ shift`, whether that is whole or not.
+fn near_size(numerator: u64, shift: u64) -> Result<u64, CoordFault>
     requires small { numerator < 2 ^ 60 }
     ensures value { result ≡ size_of numerator (2 ^ shift) }
     ensures bound { IfOk result (λ size. size ≤ limit) }

@@ -1,16 +1,25 @@
 -- The kind of a corner away from the one that was taken out.
-use Rattle.std.proofs.Common.{◌≡◌, ℕ, ◌+◌, ◌-◌, ◌<◌, ◌∙◌, ap, refl, arith, Bool, true, false, if◌then◌else◌, List, length}
+use Rattle.std.proofs.Common.{◌≡◌, ◌≢◌, ℕ, ◌+◌, ◌<◌, ◌∙◌, sym, ap, subst, arith, List, length}
+use Rattle.std.specs.List.{remove}
+use Rattle.std.proofs.lemmas.Bool.Decides.{nat_tests}
 use Rattle.geo_exact.specs.declared.corner.Corner.{Corner}
-use Rattle.ring_core.specs.declared.kind.Kind.TheVariants.{Flat, Bent, Convex}
+use Rattle.ring_core.specs.declared.kind.Kind.{Kind}
+use Rattle.ring_core.specs.declared.kind.Kind.TheVariants.{Flat, Bent, Candidate, Blocked}
 use Rattle.geo_exact.specs.Places.{corner_at, after, before}
-use Rattle.ring_core.specs.Clipping.{previous, next, IsFlat}
-use Rattle.ring_core.specs.own.Kinds.{is_in_triangle, count_inside, IsKind, IsTakenOut, TurnsLeft, number_before}
+use Rattle.ring_core.specs.Clipping.{previous, next, Blocks}
+use Rattle.ring_core.specs.own.Kinds.{IsKind, IsTakenOut, IsWitness, TurnsLeft, WasBeside, number_before}
 use Rattle.ring_core.proofs.ClipSteps.{one_less}
-use Rattle.ring_core.proofs.TakenOut.{WasBeside, before_kept, after_kept, corner_kept, count_remove}
+use Rattle.ring_core.proofs.TakenOut.{before_kept, after_kept, corner_kept, number_in}
+use Rattle.ring_core.proofs.LeftSimple.{number_not}
+use Rattle.ring_core.proofs.WithoutCorner.{number_left, left_before, left_within, corner_left}
+use Rattle.ring_core.proofs.PutBack.{blocks_left}
 
-lessened : (r : Bool) (count count' w m : ℕ) → count ≡ w → w ≡ (if r then 1 + m else m) → count' ≡ (if r then count - 1 else count) → count' ≡ m
-lessened true count count' w m h e f = omega arith
-lessened false count count' w m h e f = omega arith
+-- a corner that was not beside the gap was no neighbour of the corner that went
+far_before : (m n k j : ℕ) → m + 1 ≡ n → j < m → k < n → ¬ WasBeside m k j → number_before k j ≢ before n k
+far_before m n k j e b h off = grind (arith, nat_tests)
+
+far_after : (m n k j : ℕ) → m + 1 ≡ n → j < m → k < n → ¬ WasBeside m k j → number_before k j ≢ after n k
+far_after m n k j e b h off = grind (arith, nat_tests)
 
 module _ (whole rest : List Corner) (k j : ℕ) (gone : Corner) (t : IsTakenOut whole k gone rest)
     (b : j < length rest) (off : ¬ WasBeside (length rest) k j) where
@@ -20,28 +29,46 @@ module _ (whole rest : List Corner) (k j : ℕ) (gone : Corner) (t : IsTakenOut 
   at : (i : ℕ) → corner_at rest i ≡ corner_at whole (number_before k i)
   at i = ap (λ r. corner_at r i) t.is_rest ∙ corner_kept whole k i t.below
 
-  pub same_previous : previous rest j ≡ previous whole (number_before k j)
+  same_previous : previous rest j ≡ previous whole (number_before k j)
   same_previous =
       at (before (length rest) j)
       ∙ ap (corner_at whole) (before_kept (length rest) k j b (omega (arith, shorter, t.below)) off ∙ ap (λ n. before n (number_before k j)) shorter)
 
-  pub same_next : next rest j ≡ next whole (number_before k j)
+  same_next : next rest j ≡ next whole (number_before k j)
   same_next =
       at (after (length rest) j)
       ∙ ap (corner_at whole) (after_kept (length rest) k j b (omega (arith, shorter, t.below)) off ∙ ap (λ n. after n (number_before k j)) shorter)
 
-  pub flat_kept : IsKind whole (number_before k j) Flat → IsKind rest j Flat
+  flat_kept : IsKind whole (number_before k j) Flat → IsKind rest j Flat
   flat_kept h = rw (at j, same_previous, same_next) h
 
-  pub bent_kept : IsKind whole (number_before k j) Bent → IsKind rest j Bent
+  bent_kept : IsKind whole (number_before k j) Bent → IsKind rest j Bent
   bent_kept h = rw (at j, same_previous, same_next) h
 
-  -- the count falls by one where the corner that is gone was inside
-  pub convex_kept : (r : Bool) (count count' : ℕ) → r ≡ is_in_triangle (previous rest j) (corner_at rest j) (next rest j) gone
-      → count' ≡ (if r then count - 1 else count) → IsKind whole (number_before k j) (Convex count) → IsKind rest j (Convex count')
-  convex_kept r count count' is e h =
-      let a = previous rest j in let o = corner_at rest j in let c = next rest j in
-      let moved : (¬ IsFlat rest j) × TurnsLeft rest j × (count ≡ count_inside a o c whole) = rw (at j, same_previous, same_next) h in
-      let split : count_inside a o c whole ≡ (if r then 1 + count_inside a o c rest else count_inside a o c rest) =
-      count_remove a o c whole k t.below ∙ rw (← t.is_gone, ← is, ← t.is_rest) refl in
-      (moved.0, moved.1, lessened r count count' (count_inside a o c whole) (count_inside a o c rest) moved.2 split e)
+  left_kept : TurnsLeft whole (number_before k j) → TurnsLeft rest j
+  left_kept h = rw (at j, same_previous, same_next) h
+
+  -- a witness that stands elsewhere than the corner that is gone lives
+  witness_kept : (place : Corner) → place ≢ gone → IsWitness whole (number_before k j) place → IsWitness rest j place
+  witness_kept place other w =
+      let far : w.0 ≢ k = λ e. other (sym w.2 ∙ ap (corner_at whole) e ∙ sym t.is_gone) in
+      let blocks : Blocks (remove whole k) (number_left k (number_before k j)) (number_left k w.0) =
+      blocks_left whole k (number_before k j) t.below (number_in (length whole) k j (omega (arith, shorter))) (number_not k j)
+      (far_before (length rest) (length whole) k j shorter b t.below off) (far_after (length rest) (length whole) k j shorter b t.below off)
+      w.0 w.1 far w.3 in
+      subst (λ r. IsWitness r j place) (sym t.is_rest) (
+        number_left k w.0,
+        left_within whole k t.below w.0 w.1 far,
+        corner_left whole k t.below w.0 far ∙ w.2,
+        subst (λ i. Blocks (remove whole k) i (number_left k w.0)) (left_before k j) blocks,
+      )
+
+  pub kept : (kind : Kind) → kind ≢ Blocked gone → IsKind whole (number_before k j) kind → IsKind rest j kind
+  kept Flat other h = flat_kept h
+  kept Bent other h = bent_kept h
+  kept Candidate other h = left_kept h
+  kept (Blocked place) other h = (left_kept h.0, witness_kept place (λ e. other (ap Blocked e)) h.1)
+
+  -- the corner that is gone was the witness
+  pub released : (kind : Kind) → kind ≡ Blocked gone → IsKind whole (number_before k j) kind → IsKind rest j Candidate
+  released kind e h = left_kept ((subst (IsKind whole (number_before k j)) e h).0)

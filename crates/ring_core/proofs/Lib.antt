@@ -12,8 +12,8 @@ pub mod ClipUnique
 pub mod EdgeNumbers
 pub mod TakenOut
 pub mod KindsKept
-pub mod EarCounts
 pub mod KindsTell
+pub mod HeldInside
 pub mod LeftSimple
 pub mod Diagonals
 pub mod StillLeft

@@ -83,7 +83,7 @@ weightless k l m a b c u v w hk hl hm ha hb hc e f =
     both : (x y : ℤ) → pos 0 ≤ℤ x → pos 0 ≤ℤ y → pos 0 ≤ℤ (x +ℤ y)
     both x y h i = omega (arith, ints)
 
-weighed_x : (a b c q : Corner)
+pub weighed_x : (a b c q : Corner)
     → turn b c q *ℤ (a.x -ℤ q.x) +ℤ turn c a q *ℤ (b.x -ℤ q.x) +ℤ turn a b q *ℤ (c.x -ℤ q.x) ≡ pos 0
 weighed_x a b c q =
     same_by (a.x ∷ a.y ∷ b.x ∷ b.y ∷ c.x ∷ c.y ∷ q.x ∷ q.y ∷ [])
@@ -95,7 +95,7 @@ weighed_x a b c q =
     (lit (pos 0))
     refl
 
-weighed_y : (a b c q : Corner)
+pub weighed_y : (a b c q : Corner)
     → turn b c q *ℤ (a.y -ℤ q.y) +ℤ turn c a q *ℤ (b.y -ℤ q.y) +ℤ turn a b q *ℤ (c.y -ℤ q.y) ≡ pos 0
 weighed_y a b c q =
     same_by (a.x ∷ a.y ∷ b.x ∷ b.y ∷ c.x ∷ c.y ∷ q.x ∷ q.y ∷ [])
@@ -168,7 +168,7 @@ module _ (ring : List Corner) (g k : ℕ) (below : g < length ring) (b : k < len
   }
 
   -- and what blocks it in the ring, but g, blocks it without g
-  blocks_left : (j : ℕ) → j < length ring → j ≢ g → Blocks ring k j → Blocks (remove ring g) (number_left g k) (number_left g j)
+  pub blocks_left : (j : ℕ) → j < length ring → j ≢ g → Blocks ring k j → Blocks (remove ring g) (number_left g k) (number_left g j)
   blocks_left j c far x = record {
     not_before = λ e. x.not_before (sym (before_left g j far) ∙ ap (number_before g) e ∙ number_previous ring g below k b off not_after);
     not_same = λ e. x.not_same (sym (before_left g j far) ∙ ap (number_before g) e ∙ before_left g k off);

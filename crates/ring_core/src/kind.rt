@@ -1,55 +1,49 @@
-ghost use Rattle.std.specs.Prelude.{◌≡◌, ◌⊎◌, ◌↔◌, ℕ, ◌+◌, ◌<◌, ◌≤◌, IfOk, IsTrue, MatchOption};
+ghost use Rattle.std.specs.Prelude.{◌≡◌, ◌⊎◌, ◌↔◌, ℕ, ◌<◌, ◌≤◌, IfOk, IsTrue, MatchOption};
 ghost use Rattle.std.specs.Prelude.{List, length, slice_index_or};
 ghost use Rattle.geo_exact.specs.declared.corner.Corner.{Corner};
-ghost use Rattle.geo_exact.specs.Places.{after, before};
-ghost use Rattle.ring_core.specs.Clipping.{IsEar, IsFlat};
 ghost use Rattle.geo_exact.specs.First.{HasNone, IsFirst};
-ghost use Rattle.ring_core.specs.own.Kinds.{AreKinds, IsKind, IsTakenOut, count_inside as inside_of, number_before};
+ghost use Rattle.geo_exact.specs.Places.{before};
+ghost use Rattle.ring_core.specs.Boxes.{HoldsTriangle};
+ghost use Rattle.ring_core.specs.Clipping.{Blocks, IsEar, IsFlat, IsInTriangle};
+ghost use Rattle.ring_core.specs.own.Kinds.{AreKinds, IsKind, IsTakenOut, IsWitness, TurnsLeft, WasBeside, number_before};
 
-use crate::ear::{corner_after, corner_before, is_flat, is_in_triangle, is_left};
-use geo_exact::Corner;
+use crate::boxes::bounds_of;
+use crate::ear::{corner_after, corner_before, is_flat, is_in_triangle, is_left, triangle_at};
+use crate::places::{following, preceding};
+use crate::triangle::Tri;
+use geo_exact::{Bounds, Corner};
 use std::alloc::{AllocError, Allocator};
 
-/// What a corner of a ring is, for the clipping.
+/// What the clipping knows of a corner of a ring.
 #[derive(Clone, Copy, Debug)]
 pub enum Kind {
     /// It lies on the edge between its neighbours.
     Flat,
     /// It is neither flat nor a left turn.
     Bent,
-    /// A left turn, with the number of corners in the closed triangle of it and its neighbours,
-    /// these three among them.
-    Convex(usize),
+    /// A left turn of which no more is known: it may be an ear.
+    Candidate,
+    /// A left turn that is no ear: another corner, its witness, stands at this place in the closed
+    /// triangle of it and its neighbours.
+    Blocked(Corner),
 }
 
-/// How many of the corners lie in the closed triangle `a`, `b`, `c`.
-fn count_inside(corners: &[Corner], a: Corner, b: Corner, c: Corner) -> usize
-    ensures { result ≡ inside_of a b c corners.now }
-{
-    let mut count = 0;
-    for corner in corners {
-        if is_in_triangle(*corner, a, b, c) {
-            count += 1;
-        }
-    }
-    count
-}
-
-/// The kind of corner `k`, by looking at all corners.
+/// The kind of corner `k`, by its neighbours alone.
 pub fn kind_at(corners: &[Corner], k: usize) -> Kind
     requires { k < length corners.now }
     ensures { IsKind corners.now k result }
 {
+    if is_left(
+        corner_before(corners, k),
+        corners[k],
+        corner_after(corners, k),
+    ) {
+        return Kind::Candidate;
+    }
     if is_flat(corners, k) {
         return Kind::Flat;
     }
-    let a = corner_before(corners, k);
-    let b = corners[k];
-    let c = corner_after(corners, k);
-    if !is_left(a, b, c) {
-        return Kind::Bent;
-    }
-    Kind::Convex(count_inside(corners, a, b, c))
+    Kind::Bent
 }
 
 /// The kinds of all corners, in order.
@@ -74,12 +68,19 @@ fn is_flat_kind(kind: Kind) -> bool
     matches!(kind, Kind::Flat)
 }
 
-/// Whether the kind is an ear's: its triangle has three corners, its own.
-fn is_ear_kind(kind: Kind) -> bool
-    ensures { IsTrue result ↔ kind ≡ Kind.Convex 3 }
+/// Whether the kind is that of a left turn of which no more is known.
+fn is_candidate(kind: Kind) -> bool
+    ensures { IsTrue result ↔ kind ≡ Kind.Candidate }
+{
+    matches!(kind, Kind::Candidate)
+}
+
+/// Whether the kind is that of a left turn whose witness stands at `place`.
+fn is_blocked_by(kind: Kind, place: Corner) -> bool
+    ensures { IsTrue result ↔ kind ≡ Kind.Blocked place }
 {
     match kind {
-        Kind::Convex(count) => count == 3,
+        Kind::Blocked(witness) => witness == place,
         _ => false,
     }
 }
@@ -97,65 +98,94 @@ pub fn first_flat(kinds: &[Kind]) -> Option<usize>
     None
 }
 
-/// The first ear, by the corners' kinds.
-pub fn first_ear(kinds: &[Kind]) -> Option<usize>
-    ensures { (rest : List Corner) → AreKinds rest kinds.now → 2 < length rest
-        → MatchOption result (HasNone (IsEar rest) (length rest)) (λ k. IsFirst (IsEar rest) (length rest) k) }
+/// Whether `q` lies in the closed triangle, which the box holds: the box is looked at first.
+fn is_in_boxed(bounds: Bounds, triangle: Tri, q: Corner) -> bool
+    requires { HoldsTriangle bounds triangle }
+    ensures { IsTrue result ↔ IsInTriangle q triangle.a triangle.b triangle.c }
 {
-    for k in 0..kinds.len() {
-        if is_ear_kind(kinds[k]) {
-            return Some(k);
+    if !bounds.holds(q) {
+        return false;
+    }
+    is_in_triangle(q, triangle.a, triangle.b, triangle.c)
+}
+
+/// The place of a corner that keeps corner `k`, a left turn, from being an ear.
+fn witness_of(corners: &[Corner], k: usize) -> Option<Corner>
+    requires in_rest { k < length corners.now }
+    requires turns_left { TurnsLeft corners.now k }
+    ensures { MatchOption result
+        (HasNone (Blocks corners.now k) (length corners.now))
+        (λ place. IsWitness corners.now k place) }
+{
+    let triangle = triangle_at(corners, k);
+    let bounds = bounds_of(&triangle);
+    let before = preceding(corners.len(), k);
+    let after = following(corners.len(), k);
+    for j in 0..corners.len() {
+        let corner = corners[j];
+        if is_in_boxed(bounds, triangle, corner) && j != before && j != k && j != after {
+            return Some(corner);
         }
     }
     None
 }
 
-/// Whether corner `j` of `count` was a neighbour of the corner that was taken out at `k`.
-fn was_beside(count: usize, k: usize, j: usize) -> bool
-    requires above { j < count }
+/// The first ear: the first candidate that has no witness. Those before it are marked by theirs.
+pub fn first_ear(corners: &[Corner], kinds: &mut [Kind]) -> Option<usize>
+    requires { AreKinds corners.now kinds.old }
+    ensures kinds { AreKinds corners.now kinds.new }
+    ensures ear { MatchOption result
+        (HasNone (IsEar corners.now) (length corners.now))
+        (λ k. IsFirst (IsEar corners.now) (length corners.now) k) }
+{
+    for k in 0..kinds.len() {
+        if is_candidate(kinds[k]) {
+            let Some(place) = witness_of(corners, k) else {
+                return Some(k);
+            };
+            kinds[k] = Kind::Blocked(place);
+        }
+    }
+    None
+}
+
+/// Makes those candidates again whose witness stood at `gone`, the corner that was taken out at `k`: the
+/// kinds away from the gap are then up to date.
+fn release(kinds: &mut [Kind], gone: Corner)
+    ensures { (whole rest : List Corner) (k : ℕ) → IsTakenOut whole k gone rest → length kinds.old ≡ length rest
+        → ((j : ℕ) → j < length rest → IsKind whole (number_before k j) (slice_index_or kinds.old j Kind.Flat))
+        → (j : ℕ) → j < length rest → ¬ WasBeside (length rest) k j → IsKind rest j (slice_index_or kinds.new j Kind.Flat) }
+{
+    for j in 0..kinds.len() {
+        if is_blocked_by(kinds[j], gone) {
+            kinds[j] = Kind::Candidate;
+        }
+    }
+}
+
+/// Of `count` corners, the one that followed the corner that was taken out at `k`.
+fn after_gap(count: usize, k: usize) -> usize
     requires within { k ≤ count }
-    ensures { IsTrue result ↔ ((j + 1 ≡ k) ⊎ (j ≡ k) ⊎ ((k ≡ 0) × (j + 1 ≡ count)) ⊎ ((k ≡ count) × (j ≡ 0))) }
+    requires some { 0 < count }
+    ensures below { result < count }
+    ensures beside { (j : ℕ) → j < count → WasBeside count k j → (j ≡ result) ⊎ (j ≡ before count result) }
 {
-    if j + 1 == k || j == k {
-        return true;
-    }
-    (k == 0 && j + 1 == count) || (k == count && j == 0)
+    if k == count { 0 } else { k }
 }
 
-/// The kind of corner `j` after the corner `gone` was taken out at `k`, from its kind before.
-fn kind_after(corners: &[Corner], k: usize, j: usize, gone: Corner, old: Kind) -> Kind
-    requires below { j < length corners.now }
-    requires within { k ≤ length corners.now }
-    ensures { (whole : List Corner) → IsTakenOut whole k gone corners.now
-        → IsKind whole (number_before k j) old → IsKind corners.now j result }
-{
-    if was_beside(corners.len(), k, j) {
-        return kind_at(corners, j);
-    }
-    let Kind::Convex(count) = old else {
-        return old;
-    };
-    if is_in_triangle(
-        gone,
-        corner_before(corners, j),
-        corners[j],
-        corner_after(corners, j),
-    ) {
-        return Kind::Convex(count.saturating_sub(1));
-    }
-    old
-}
-
-/// Brings the kinds up to date after the corner `gone` was taken out at `k`.
+/// Brings the kinds up to date after the corner `gone` was taken out at `k`: those that it was a witness
+/// of are candidates again, and its two neighbours are looked at anew.
 pub fn update_kinds(corners: &[Corner], kinds: &mut [Kind], k: usize, gone: Corner)
     requires same_length { length kinds.old ≡ length corners.now }
     requires within { k ≤ length corners.now }
+    requires some { 0 < length corners.now }
     ensures { (whole : List Corner) → IsTakenOut whole k gone corners.now
         → ((j : ℕ) → j < length corners.now → IsKind whole (number_before k j) (slice_index_or kinds.old j Kind.Flat))
         → AreKinds corners.now kinds.new }
 {
-    for j in 0..kinds.len() {
-        let old = kinds[j];
-        kinds[j] = kind_after(corners, k, j, gone, old);
-    }
+    release(kinds, gone);
+    let after = after_gap(corners.len(), k);
+    let before = preceding(corners.len(), after);
+    kinds[after] = kind_at(corners, after);
+    kinds[before] = kind_at(corners, before);
 }

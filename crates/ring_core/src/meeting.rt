@@ -1,9 +1,12 @@
-ghost use Rattle.std.specs.Prelude.{◌↔◌, ◌⊎◌, ◌<ℤ◌, pos, IsTrue};
+ghost use Rattle.std.specs.Prelude.{◌≡◌, ◌↔◌, ◌⊎◌, ◌<ℤ◌, pos, int_le, ◌&&◌, IsTrue};
+ghost use Rattle.std.specs.Int.{int_max, int_min};
+ghost use Rattle.geo_exact.specs.Bounds.{EdgeBoxesMeet};
+ghost use Rattle.geo_exact.specs.declared.corner.Corner.{Corner as CornerValue};
 ghost use Rattle.geo_exact.specs.Point.{IsPlaceOf, corner_point};
 ghost use Rattle.geo_exact.specs.Turn.{IsOnEdge, turn as turn_of};
-ghost use Rattle.ring_core.specs.own.EdgePairs.{DoublesBack, HaveCommonPoint};
+ghost use Rattle.ring_core.specs.own.EdgePairs.{DoublesBack, HaveCommonPoint, IsEdgeBox};
 
-use geo_exact::{Corner, edge_boxes_meet, on_segment, turn};
+use geo_exact::{Bounds, Corner, on_segment, turn};
 
 /// Whether both numbers are above 0, or both below it.
 fn have_one_sign(first: i128, second: i128) -> bool
@@ -25,13 +28,33 @@ fn are_on_one_side(a: Corner, b: Corner, c: Corner, d: Corner) -> bool
     have_one_sign(turn(a, b, c), turn(a, b, d))
 }
 
-/// Whether some point lies on the edge from `a` to `b` and on the edge from `c` to `d`.
+/// The least box that holds the edge from `a` to `b`.
+pub fn edge_box(a: Corner, b: Corner) -> Bounds
+    ensures { IsEdgeBox result a b }
+{
+    Bounds::of_corner(a).around(Bounds::of_corner(b))
+}
+
+/// Whether the range from `low` to `high` has a number between `s` and `t`, all ends included.
+fn is_reached(low: i64, high: i64, s: i64, t: i64) -> bool
+    ensures { result ≡ (int_le low (int_max s t) && int_le (int_min s t) high) }
+{
+    low <= s.max(t) && s.min(t) <= high
+}
+
+/// Whether the box of one edge has a point in common with that of the edge from `c` to `d`.
+pub fn box_meets(bounds: Bounds, c: Corner, d: Corner) -> bool
+    ensures { (a b : CornerValue) → IsEdgeBox bounds a b → IsTrue result ↔ EdgeBoxesMeet a b c d }
+{
+    is_reached(bounds.low.x, bounds.high.x, c.x, d.x)
+        && is_reached(bounds.low.y, bounds.high.y, c.y, d.y)
+}
+
+/// Whether some point lies on the edge from `a` to `b` and on the edge from `c` to `d`, whose boxes meet.
 pub fn have_common_point(a: Corner, b: Corner, c: Corner, d: Corner) -> bool
+    requires { EdgeBoxesMeet a b c d }
     ensures { IsTrue result ↔ HaveCommonPoint a b c d }
 {
-    if !edge_boxes_meet(a, b, c, d) {
-        return false;
-    }
     if are_on_one_side(a, b, c, d) {
         return false;
     }

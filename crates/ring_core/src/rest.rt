@@ -10,9 +10,9 @@ use std::marker::Model;
 
 /// What the clipping has left of a ring: a list of corners, which contracts see as that list.
 ///
-/// Beside each corner stands its kind, which is brought up to date when a corner is taken out: its
-/// two neighbours are looked at again, and every other triangle that it lay in counts one less. So
-/// each step takes time that grows with the number of corners, and no more.
+/// Beside each corner stands its kind. A left turn is a candidate until another corner is found in its
+/// triangle, its witness; it is a candidate again when its witness is taken out. A corner that is taken
+/// out leaves its two neighbours to be looked at again, and no other.
 #[derive(Debug, Drop)]
 pub struct Rest<A: Allocator> {
     corners: Vec<Corner, A>,
@@ -32,7 +32,7 @@ impl<A: Allocator> Model for Rest<A> {
 }
 
 impl<A: Allocator + Copy> Rest<A> {
-    /// All the corners, with their kinds; the time grows with the square of their number.
+    /// All the corners, with their kinds.
     ///
     /// # Errors
     ///
@@ -78,13 +78,13 @@ impl<A: Allocator> Rest<A> {
         first_flat(self.kinds.as_slice())
     }
 
-    /// The first ear.
-    pub(crate) fn first_ear(&self) -> Option<usize>
-        requires { 2 < length self.now }
-        ensures { MatchOption result
-            (HasNone (IsEar self.now) (length self.now))
-            (λ k. IsFirst (IsEar self.now) (length self.now) k) }
+    /// The first ear. The corners stay; what is found out about those before it is kept.
+    pub(crate) fn first_ear(&mut self) -> Option<usize>
+        ensures same { self.new ≡ self.old }
+        ensures ear { MatchOption result
+            (HasNone (IsEar self.new) (length self.new))
+            (λ k. IsFirst (IsEar self.new) (length self.new) k) }
     {
-        first_ear(self.kinds.as_slice())
+        first_ear(self.corners.as_slice(), self.kinds.as_mut_slice())
     }
 }

@@ -1,10 +1,12 @@
 ghost use Rattle.std.specs.Prelude.{◌≡◌, ◌↔◌, ℕ, ◌<◌, ◌≤◌, pos, ◌<ℤ◌, length, IsTrue, IsOk, IfOk, IfErr, MatchOption};
 ghost use Rattle.geo_exact.specs.Area.{area2 as area2_of};
+ghost use Rattle.geo_exact.specs.Bounds.{EdgeBoxesMeet};
+ghost use Rattle.geo_exact.specs.Places.{after, corner_at};
 ghost use Rattle.geo_exact.specs.declared.limits.TheConstants.{LIST_CORNERS};
 ghost use Rattle.ring_core.specs.Simple.{IsSimpleRing, MeetOtherwise};
 ghost use Rattle.ring_core.specs.Faults.{IsFirstMeeting, IsRingFault};
 
-use crate::meeting::{doubles_back, have_common_point};
+use crate::meeting::{box_meets, doubles_back, edge_box, have_common_point};
 use crate::places::following;
 use geo_exact::{Corner, Corners, area2};
 use std::alloc::{AllocError, Allocator};
@@ -32,11 +34,14 @@ pub enum RingFault {
     EdgesMeet(usize, usize),
 }
 
-/// Whether the edges `i` and `j` of the ring meet otherwise than as neighbours in their shared corner.
+/// Whether the edges `i` and `j` of the ring, whose boxes meet, meet otherwise than as neighbours in their
+/// shared corner.
 fn meet_otherwise(ring: &[Corner], i: usize, j: usize) -> bool
     requires long { 3 ≤ length ring.now }
     requires ordered { i < j }
     requires in_ring { j < length ring.now }
+    requires boxes_meet { EdgeBoxesMeet (corner_at ring.now i) (corner_at ring.now (after (length ring.now) i))
+        (corner_at ring.now j) (corner_at ring.now (after (length ring.now) j)) }
     ensures { IsTrue result ↔ MeetOtherwise ring.now i j }
 {
     let next = following(ring.len(), j);
@@ -62,8 +67,11 @@ fn first_meeting_with(ring: &[Corner], i: usize) -> Option<usize>
         (λ j. (i < j) × (j < length ring.now) × MeetOtherwise ring.now i j
         × ((l : ℕ) → i < l → l < j → ¬ MeetOtherwise ring.now i l)) }
 {
+    let bounds = edge_box(ring[i], ring[following(ring.len(), i)]);
     for j in i + 1..ring.len() {
-        if meet_otherwise(ring, i, j) {
+        if box_meets(bounds, ring[j], ring[following(ring.len(), j)])
+            && meet_otherwise(ring, i, j)
+        {
             return Some(j);
         }
     }

@@ -23,7 +23,6 @@ invariant_of-self g c =
     let whole = c.self.inside.corners.items in let rest = c.as_slice.result.now in let k = c.args.k in
     let taken : IsTakenOut whole k c.remove-gone.result rest = record {
       below = omega (arith, c.requires.below, ap length c.self.view_is);
-      two_left = omega (arith, c.requires.more_than_two, ap length c.self.view_is);
       is_rest = c.as_slice.ensures.value ∙ c.remove-gone.ensures.items;
       is_gone = get_or_read whole k c.remove-gone.result (omega (arith, c.requires.below, ap length c.self.view_is)) c.remove-gone.ensures.value origin;
     } in

@@ -29,16 +29,16 @@ loop-rest-preserved-in-Some g c =
 
 pub loop-rest-smaller : goal.loop-rest-smaller
 loop-rest-smaller g c =
-    let ear = c.in-Some-first_ear.ensures in
-    let taken = c.remove-in-Some-first_ear.ensures in
+    let ear = rw c.in-Some-first_ear.ensures.same at c.in-Some-first_ear.ensures.ear in
+    let taken = rw c.in-Some-first_ear.ensures.same at c.remove-in-Some-first_ear.ensures in
     omega (arith, one_less c.loop-rest.rest c.remove-in-Some-first_ear.new.self c.in-Some-first_ear.k ear.below taken)
 
 pub loop-rest-preserved : goal.loop-rest-preserved
 loop-rest-preserved g c =
     let more : 2 < length c.loop-rest.rest = omega (arith, ap length c.as_slice-in-loop-rest.ensures) in
-    let ear = c.in-Some-first_ear.ensures in
-    let taken = c.remove-in-Some-first_ear.ensures in
-    let made = rw c.as_slice-in-Some-first_ear.ensures at c.triangle_at.ensures in
+    let ear = rw c.in-Some-first_ear.ensures.same at c.in-Some-first_ear.ensures.ear in
+    let taken = rw c.in-Some-first_ear.ensures.same at c.remove-in-Some-first_ear.ensures in
+    let made = rw (c.as_slice-in-Some-first_ear.ensures ∙ c.in-Some-first_ear.ensures.same) at c.triangle_at.ensures in
     record {
       clipped = clip_ear c.args.ring.corners c.loop-rest.rest _ _ _ c.in-Some-first_ear.k c.triangle_at.result c.loop-rest.invariant.clipped more
           c.in_default.ensures ear made c.in_ok-push.ensures.ok taken;
@@ -59,4 +59,5 @@ invariant_of-result g c =
 pub unreachable-requires : goal.unreachable-requires
 unreachable-requires g c =
     never_stuck c.args.ring.corners c.args.ring.is_simple c.loop-rest.triangles c.loop-rest.rest c.loop-rest.invariant.clipped
-    (omega (arith, ap length c.as_slice-in-loop-rest.ensures)) c.in_default.ensures c.in_default-first_ear.ensures
+    (omega (arith, ap length c.as_slice-in-loop-rest.ensures)) c.in_default.ensures
+    (rw c.in_default-first_ear.ensures.same at c.in_default-first_ear.ensures.ear)
