@@ -4,14 +4,9 @@ use edge_chains::{EdgeSum, node};
 use geo_exact::{Corner, Corners, LIST_CORNERS};
 use std::alloc::{AllocError, Allocator, Global};
 use std::test::Fail;
-use test_builders::{corner, corners as ring, rectangle};
+use test_builders::{Place, corner, corners as ring};
 
 type Rings = Vec<Corners<Global>, Global>;
-
-/// The rectangle from (a, 0) to (b, 100).
-fn strip(alloc: Global, a: i64, b: i64) -> Result<Corners<Global>, Fail> {
-    rectangle(alloc, (a, b), (0, 100))
-}
 
 /// The corners of all rings.
 fn corners_of(alloc: Global, rings: &[Corners<Global>]) -> Result<Vec<Corner, Global>, AllocError> {
@@ -51,87 +46,86 @@ fn compare_noded(
     compare(alloc, &noded)
 }
 
-/// Three parcels with a T junction, and their city.
-fn junction(alloc: Global) -> Result<Rings, Fail> {
+/// The rings of these places.
+fn rings_of(alloc: Global, lists: &[&[Place]]) -> Result<Rings, Fail> {
     let mut rings = Vec::new(alloc);
-    rings.push(strip(alloc, 0, 60)?)?;
-    rings.push(ring(alloc, &[(60, 0), (100, 0), (100, 50), (60, 50)])?)?;
-    rings.push(ring(alloc, &[(60, 50), (100, 50), (100, 100), (60, 100)])?)?;
-    rings.push(strip(alloc, 0, 100)?)?;
+    for places in lists {
+        rings.push(ring(alloc, places)?)?;
+    }
     Ok(rings)
 }
+
+/// An edge that is unbalanced, and its count.
+fn gap(from: Place, to: Place, net: i64) -> Result<Option<(Corner, Corner, i64)>, Fail> {
+    Ok(Some((corner(from)?, corner(to)?, net)))
+}
+
+const CITY: [Place; 4] = [(0, 0), (100, 0), (100, 100), (0, 100)];
+
+const WEST: [Place; 4] = [(0, 0), (60, 0), (60, 100), (0, 100)];
+
+/// Two parcels that meet the western one in a T junction.
+const SOUTH_EAST: [Place; 4] = [(60, 0), (100, 0), (100, 50), (60, 50)];
+
+const NORTH_EAST: [Place; 4] = [(60, 50), (100, 50), (100, 100), (60, 100)];
+
+/// The western parcel and the city with the corners of the others in them.
+const WEST_NODED: [Place; 5] = [(0, 0), (60, 0), (60, 50), (60, 100), (0, 100)];
+
+const CITY_NODED: [Place; 7] = [
+    (0, 0),
+    (60, 0),
+    (100, 0),
+    (100, 50),
+    (100, 100),
+    (60, 100),
+    (0, 100),
+];
 
 #[test]
 fn nodes_a_junction(rt: HostRuntime) -> Result<(), Fail> {
     let alloc = rt.alloc();
-    let rings = junction(alloc)?;
-    let corners = corners_of(alloc, &rings)?;
-    let noded = node(alloc, &rings, &corners)?;
-    assert_eq!(rt; noded.len(), 4);
-    let first = ring(alloc, &[(0, 0), (60, 0), (60, 50), (60, 100), (0, 100)])?;
-    let city = ring(
-        alloc,
-        &[
-            (0, 0),
-            (60, 0),
-            (100, 0),
-            (100, 50),
-            (100, 100),
-            (60, 100),
-            (0, 100),
-        ],
-    )?;
-    assert_eq!(rt; noded[0].as_slice(), first.as_slice());
-    assert_eq!(rt; noded[1].as_slice(), rings[1].as_slice());
-    assert_eq!(rt; noded[3].as_slice(), city.as_slice());
-    assert_eq!(rt; compare(alloc, &noded)?, None);
-    let want = Some((Corner { x: 0, y: 0 }, Corner { x: 60, y: 0 }, 1));
-    assert_eq!(rt; compare(alloc, &rings)?, want);
+    let rings = rings_of(alloc, &[&WEST, &SOUTH_EAST, &NORTH_EAST, &CITY])?;
+    let noded = node(alloc, &rings, &corners_of(alloc, &rings)?)?;
+    let want = rings_of(alloc, &[&WEST_NODED, &SOUTH_EAST, &NORTH_EAST, &CITY_NODED])?;
+    assert_eq!(rt; noded.as_slice(), want.as_slice());
     Ok(())
 }
 
+/// What is unbalanced of rings as they are: a junction, and a ring that is begun elsewhere.
 #[test]
-fn finds_a_gap(rt: HostRuntime) -> Result<(), Fail> {
+fn compares_rings_as_they_are(rt: HostRuntime) -> Result<(), Fail> {
     let alloc = rt.alloc();
-    let mut rings = Vec::new(alloc);
-    rings.push(strip(alloc, 0, 60)?)?;
-    rings.push(strip(alloc, 61, 100)?)?;
-    rings.push(strip(alloc, 0, 100)?)?;
-    let want = Some((Corner { x: 60, y: 0 }, Corner { x: 60, y: 100 }, 1));
-    assert_eq!(rt; compare_noded(alloc, &rings)?, want);
+    let junction = rings_of(alloc, &[&WEST, &SOUTH_EAST, &NORTH_EAST, &CITY])?;
+    assert_eq!(rt; compare(alloc, &junction)?, gap((0, 0), (60, 0), 1)?);
+    let begun_elsewhere = [(100, 100), (0, 100), (0, 0), (100, 0)];
+    let same = rings_of(alloc, &[&CITY, &begun_elsewhere])?;
+    assert_eq!(rt; compare(alloc, &same)?, None);
     Ok(())
 }
 
-#[test]
-fn finds_an_overlap_that_a_gap_makes_up_for(rt: HostRuntime) -> Result<(), Fail> {
-    let alloc = rt.alloc();
-    let mut rings = Vec::new(alloc);
-    rings.push(strip(alloc, 0, 60)?)?;
-    rings.push(strip(alloc, 50, 80)?)?;
-    rings.push(strip(alloc, 90, 100)?)?;
-    rings.push(strip(alloc, 0, 100)?)?;
-    let want = Some((Corner { x: 50, y: 0 }, Corner { x: 50, y: 100 }, -1));
-    assert_eq!(rt; compare_noded(alloc, &rings)?, want);
-    Ok(())
+/// The first unbalanced edge of these rings, noded, the last being the city's.
+fn first_gap(alloc: Global, lists: &[&[Place]]) -> Result<Option<(Corner, Corner, i64)>, Fail> {
+    compare_noded(alloc, &rings_of(alloc, lists)?)
 }
 
+/// Parcels and their city, noded: a junction, a gap, an overlap that a gap makes up for, and no parcel at all.
 #[test]
-fn finds_that_all_is_missing(rt: HostRuntime) -> Result<(), Fail> {
+fn finds_gaps(rt: HostRuntime) -> Result<(), Fail> {
     let alloc = rt.alloc();
-    let mut rings = Vec::new(alloc);
-    rings.push(strip(alloc, 0, 100)?)?;
-    let want = Some((Corner { x: 0, y: 0 }, Corner { x: 0, y: 100 }, 1));
-    assert_eq!(rt; compare_noded(alloc, &rings)?, want);
-    Ok(())
-}
-
-#[test]
-fn takes_a_ring_begun_elsewhere(rt: HostRuntime) -> Result<(), Fail> {
-    let alloc = rt.alloc();
-    let mut rings = Vec::new(alloc);
-    rings.push(strip(alloc, 0, 100)?)?;
-    rings.push(ring(alloc, &[(100, 100), (0, 100), (0, 0), (100, 0)])?)?;
-    assert_eq!(rt; compare(alloc, &rings)?, None);
+    let behind_a_gap = [(61, 0), (100, 0), (100, 100), (61, 100)];
+    let over_the_west = [(50, 0), (80, 0), (80, 100), (50, 100)];
+    let far_east = [(90, 0), (100, 0), (100, 100), (90, 100)];
+    let junction = [&WEST[..], &SOUTH_EAST, &NORTH_EAST, &CITY];
+    assert_eq!(rt; first_gap(alloc, &junction)?, None);
+    let with_a_gap = [&WEST[..], &behind_a_gap, &CITY];
+    assert_eq!(rt; first_gap(alloc, &with_a_gap)?, gap((60, 0), (60, 100), 1)?);
+    let with_an_overlap = [&WEST[..], &over_the_west, &far_east, &CITY];
+    assert_eq!(rt;
+        first_gap(alloc, &with_an_overlap)?,
+        gap((50, 0), (50, 100), -1)?
+    );
+    assert_eq!(rt; first_gap(alloc, &[&CITY])?, gap((0, 0), (0, 100), 1)?);
     Ok(())
 }
 

@@ -117,40 +117,35 @@ fn fault(alloc: Global, places: &[Place]) -> Result<Option<RingFault>, Fail> {
     }
 }
 
+/// A ring's places, and its fault where it is no simple ring.
+type FaultRow<'a> = (&'a [Place], Option<RingFault>);
+
 #[test]
 fn finds_the_first_fault(rt: HostRuntime) -> Result<(), Fail> {
-    let alloc = rt.alloc();
     let touched = [(0, 0), (100, 0), (100, 100), (50, 0), (0, 100)];
-    assert_eq!(rt; fault(alloc, &touched)?, Some(RingFault::EdgesMeet(0, 2)));
     let turned_back = [(0, 0), (100, 0), (60, 0), (60, 100)];
-    assert_eq!(rt;
-        fault(alloc, &turned_back)?,
-        Some(RingFault::EdgesMeet(0, 1))
-    );
     let spike = [(0, 0), (100, 0), (150, 0), (100, 0), (100, 100)];
-    assert_eq!(rt; fault(alloc, &spike)?, Some(RingFault::EdgesMeet(0, 2)));
     let bow_tie = [(0, 0), (100, 100), (100, 0), (0, 100)];
-    assert_eq!(rt; fault(alloc, &bow_tie)?, Some(RingFault::ZeroArea));
     let uneven_bow_tie = [(0, 0), (100, 100), (100, 0), (0, 60)];
-    assert_eq!(rt; fault(alloc, &uneven_bow_tie)?, Some(RingFault::Clockwise));
-    assert_eq!(rt; fault(alloc, &WITH_FLAT_CORNER)?, None);
+    let rows: [FaultRow; 6] = [
+        (&touched, Some(RingFault::EdgesMeet(0, 2))),
+        (&turned_back, Some(RingFault::EdgesMeet(0, 1))),
+        (&spike, Some(RingFault::EdgesMeet(0, 2))),
+        (&bow_tie, Some(RingFault::ZeroArea)),
+        (&uneven_bow_tie, Some(RingFault::Clockwise)),
+        (&WITH_FLAT_CORNER, None),
+    ];
+    for (places, want) in rows {
+        assert_eq!(rt; fault(rt.alloc(), places)?, want);
+    }
     Ok(())
 }
 
+/// In the third ring edges 0 and 4 cross, and 0 and 5, 1 and 3, 1 and 4.
 #[test]
 fn finds_the_first_two_edges(rt: HostRuntime) -> Result<(), Fail> {
-    let alloc = rt.alloc();
     let first_corner_twice = [(0, 0), (0, 0), (100, 0), (0, 100)];
-    assert_eq!(rt;
-        fault(alloc, &first_corner_twice)?,
-        Some(RingFault::EdgesMeet(1, 3))
-    );
     let spike_at_the_first = [(150, 0), (100, 0), (100, 100), (0, 100), (0, 0)];
-    assert_eq!(rt;
-        fault(alloc, &spike_at_the_first)?,
-        Some(RingFault::EdgesMeet(0, 4))
-    );
-    // Edges 0 and 4 cross, and 0 and 5, 1 and 3, 1 and 4.
     let four_crossings = [
         (0, 0),
         (60, 0),
@@ -160,28 +155,27 @@ fn finds_the_first_two_edges(rt: HostRuntime) -> Result<(), Fail> {
         (40, -10),
         (0, 80),
     ];
-    assert_eq!(rt;
-        fault(alloc, &four_crossings)?,
-        Some(RingFault::EdgesMeet(0, 4))
-    );
-    assert_eq!(rt; fault(alloc, &SHORT_BAY)?, None);
-    assert_eq!(rt; fault(alloc, &LONG_BAY)?, Some(RingFault::EdgesMeet(0, 2)));
+    let rows: [FaultRow; 5] = [
+        (&first_corner_twice, Some(RingFault::EdgesMeet(1, 3))),
+        (&spike_at_the_first, Some(RingFault::EdgesMeet(0, 4))),
+        (&four_crossings, Some(RingFault::EdgesMeet(0, 4))),
+        (&SHORT_BAY, None),
+        (&LONG_BAY, Some(RingFault::EdgesMeet(0, 2))),
+    ];
+    for (places, want) in rows {
+        assert_eq!(rt; fault(rt.alloc(), places)?, want);
+    }
     Ok(())
 }
 
 #[test]
 fn few_corners_have_no_area(rt: HostRuntime) -> Result<(), Fail> {
-    let alloc = rt.alloc();
-    assert_eq!(rt; fault(alloc, &[])?, Some(RingFault::ZeroArea));
-    assert_eq!(rt; fault(alloc, &[(10, 20)])?, Some(RingFault::ZeroArea));
-    assert_eq!(rt;
-        fault(alloc, &[(0, 0), (100, 100)])?,
-        Some(RingFault::ZeroArea)
-    );
-    assert_eq!(rt;
-        fault(alloc, &[(0, 0), (50, 50), (100, 100)])?,
-        Some(RingFault::ZeroArea)
-    );
+    let line = [(0, 0), (50, 50), (100, 100)];
+    for count in 0..4 {
+        let places = line.get(..count).unwrap_or(&[]);
+        assert_eq!(rt; places.len(), count);
+        assert_eq!(rt; fault(rt.alloc(), places)?, Some(RingFault::ZeroArea));
+    }
     Ok(())
 }
 
@@ -226,35 +220,25 @@ fn clipped(rt: &HostRuntime, places: &[Place]) -> Result<(i128, usize), Fail> {
     Ok((sum, shape.triangles.as_slice().len()))
 }
 
+/// A ring, twice its area, and the number of its triangles.
+type ClipRow<'a> = (&'a [Place], i128, usize);
+
 #[test]
 fn clips_rings(rt: HostRuntime) -> Result<(), Fail> {
-    assert_eq!(rt; clipped(&rt, &WITH_FLAT_CORNER)?, (20000, 2));
-    assert_eq!(rt; clipped(&rt, &S_SHAPE)?, (42000, 9));
-    assert_eq!(rt; clipped(&rt, &COMB)?, (2200, 9));
-    assert_eq!(rt; clipped(&rt, &SPIRAL)?, (4600, 12));
-    assert_eq!(rt; clipped(&rt, &STAR)?, (4000, 6));
-    assert_eq!(rt; clipped(&rt, &FLAT_SIDE)?, (800, 2));
-    assert_eq!(rt; clipped(&rt, &WIDEST)?, (800_000_000_000_000_000_000, 2));
-    assert_eq!(rt; clipped(&rt, &SHORT_BAY)?, (155_574_840_980_000_000_000, 3));
-    Ok(())
-}
-
-/// Whether these corners are a simple ring that is clipped as the plain clipping clips it.
-fn agrees(rt: &HostRuntime, places: &[Place]) -> Result<bool, Fail> {
-    let alloc = rt.alloc();
-    clipped_as_plainly(alloc, corners(alloc, places)?)
-}
-
-#[test]
-fn agrees_with_the_plain_clipping(rt: HostRuntime) -> Result<(), Fail> {
-    assert!(rt; agrees(&rt, &WITH_FLAT_CORNER)?);
-    assert!(rt; agrees(&rt, &S_SHAPE)?);
-    assert!(rt; agrees(&rt, &COMB)?);
-    assert!(rt; agrees(&rt, &SPIRAL)?);
-    assert!(rt; agrees(&rt, &STAR)?);
-    assert!(rt; agrees(&rt, &FLAT_SIDE)?);
-    assert!(rt; agrees(&rt, &WIDEST)?);
-    assert!(rt; agrees(&rt, &SHORT_BAY)?);
+    let rows: [ClipRow; 8] = [
+        (&WITH_FLAT_CORNER, 20000, 2),
+        (&S_SHAPE, 42000, 9),
+        (&COMB, 2200, 9),
+        (&SPIRAL, 4600, 12),
+        (&STAR, 4000, 6),
+        (&FLAT_SIDE, 800, 2),
+        (&WIDEST, 800_000_000_000_000_000_000, 2),
+        (&SHORT_BAY, 155_574_840_980_000_000_000, 3),
+    ];
+    for (places, area, count) in rows {
+        assert_eq!(rt; clipped(&rt, places)?, (area, count));
+        assert!(rt; clipped_as_plainly(rt.alloc(), corners(rt.alloc(), places)?)?);
+    }
     Ok(())
 }
 

@@ -4,7 +4,7 @@
 use edge_chains::EdgeSum;
 use geo_exact::{Corner, Corners};
 use refusing_alloc::Refusing;
-use std::alloc::{AllocError, Allocator};
+use std::alloc::{AllocError, Allocator, Global};
 use std::test::Fail;
 use test_builders::{rectangle, saw};
 
@@ -32,36 +32,64 @@ fn count<A: Allocator + Copy>(
     }
 }
 
-/// A square is added; then a ring of 80 corners is added or taken, for which the map has no room yet.
+/// The heap of the tests here.
+type Heap = Refusing<Global>;
+
+/// Fails unless an edge sum tells these edges, and this first that is unbalanced.
+fn expect(
+    sum: &EdgeSum<&Heap>,
+    edges: u64,
+    unbalanced: Option<(Corner, Corner, i64)>,
+) -> Result<(), Fail> {
+    if told(sum) == (edges, unbalanced) {
+        Ok(())
+    } else {
+        Err(Fail::new("other edges"))
+    }
+}
+
+/// A square is added; then a ring of 80 corners is added or taken, for which the map has no room yet. Growth `number` is refused, and
+/// then nothing has changed and with memory the ring is counted; whether it was refused.
+fn is_counting_refused(heap: &Heap, number: u64, is_added: bool) -> Result<bool, Fail> {
+    let square = rectangle(heap, (0, 10), (-20, -10))?;
+    let ring = saw(heap, 80)?;
+    let start = Some((Corner { x: 0, y: -20 }, Corner { x: 0, y: -10 }, -1));
+    let mut sum = EdgeSum::new(heap);
+    count(&mut sum, &square, true)?;
+    heap.refuse(number);
+    let counted = count(&mut sum, &ring, is_added);
+    let is_refused = heap.is_spent();
+    heap.refuse(0);
+    if counted.is_err() != is_refused {
+        return Err(Fail::new("a refusal is told, and nothing else is"));
+    }
+    if is_refused {
+        expect(&sum, 4, start)?;
+        count(&mut sum, &ring, is_added)?;
+    }
+    expect(&sum, 84, start)?;
+    count(&mut sum, &square, false)?;
+    let net = if is_added { -1 } else { 1 };
+    expect(
+        &sum,
+        88,
+        Some((Corner { x: 0, y: 0 }, Corner { x: 0, y: 100 }, net)),
+    )?;
+    count(&mut sum, &ring, !is_added)?;
+    expect(&sum, 168, None)?;
+    Ok(is_refused)
+}
+
 #[test]
 fn counting(rt: HostRuntime) -> Result<(), Fail> {
     let heap = Refusing::new(rt.alloc(), 0);
-    let square = rectangle(&heap, (0, 10), (-20, -10))?;
-    let ring = saw(&heap, 80)?;
-    let start = (Corner { x: 0, y: -20 }, Corner { x: 0, y: -10 }, -1i64);
-    for (is_added, sign) in [(true, -1i64), (false, 1)] {
-        let side = (Corner { x: 0, y: 0 }, Corner { x: 0, y: 100 }, sign);
-        let mut refused = 0u64;
+    for is_added in [true, false] {
+        let mut refused = 0;
         for number in 1..MOST {
-            let mut sum = EdgeSum::new(&heap);
-            count(&mut sum, &square, true)?;
-            heap.refuse(number);
-            let counted = count(&mut sum, &ring, is_added);
-            assert_eq!(rt; counted.is_err(), heap.is_spent(), "at growth {number}");
-            heap.refuse(0);
-            if counted.is_err() {
-                refused = number;
-                assert_eq!(rt; told(&sum), (4, Some(start)), "at growth {number}");
-                count(&mut sum, &ring, is_added)?;
-            }
-            assert_eq!(rt; told(&sum), (84, Some(start)), "at growth {number}");
-            count(&mut sum, &square, false)?;
-            assert_eq!(rt; told(&sum), (88, Some(side)), "at growth {number}");
-            count(&mut sum, &ring, !is_added)?;
-            assert_eq!(rt; told(&sum), (168, None), "at growth {number}");
-            if counted.is_ok() {
+            if !is_counting_refused(&heap, number, is_added)? {
                 break;
             }
+            refused = number;
         }
         assert!(rt; 0 < refused && refused < MOST - 1);
     }

@@ -140,54 +140,97 @@ fn slivers_at_the_limits(rt: HostRuntime) -> Result<(), Fail> {
     Ok(())
 }
 
+/// Whether the shapes of two rings overlap, which has to be answered alike from either side.
+fn overlap(alloc: Global, first: &[Place], second: &[Place]) -> Result<bool, Fail> {
+    let one = shape(alloc, first)?;
+    let other = shape(alloc, second)?;
+    let answer = shapes_overlap(&one, &other);
+    if shapes_overlap(&other, &one) != answer {
+        return Err(Fail::new("not the same from the other side"));
+    }
+    Ok(answer)
+}
+
+/// The first two triangles of a ring's shape that overlap.
+fn first_fold(alloc: Global, places: &[Place]) -> Result<Option<(usize, usize)>, Fail> {
+    Ok(folded(&shape(alloc, places)?))
+}
+
+const PARCEL: [Place; 3] = [(0, 0), (100, 100), (0, 100)];
+
+const NEIGHBOUR: [Place; 3] = [(0, 0), (100, 0), (100, 100)];
+
+const ZONE: [Place; 4] = [(0, 0), (100, 0), (100, 100), (50, 51)];
+
+const OTHER_ZONE: [Place; 4] = [(0, 0), (50, 51), (100, 100), (0, 100)];
+
+/// The common part of the parcel and the zone has no whole point inside.
 #[test]
 fn shapes_that_meet_between_whole_points(rt: HostRuntime) -> Result<(), Fail> {
-    let alloc = rt.alloc();
-    let parcel = shape(alloc, &[(0, 0), (100, 100), (0, 100)])?;
-    let zone = shape(alloc, &[(0, 0), (100, 0), (100, 100), (50, 51)])?;
-    assert!(rt; shapes_overlap(&parcel, &zone));
-    assert!(rt; shapes_overlap(&zone, &parcel));
-    let neighbour = shape(alloc, &[(0, 0), (100, 0), (100, 100)])?;
-    assert!(rt; !shapes_overlap(&parcel, &neighbour));
-    assert!(rt; shapes_overlap(&zone, &neighbour));
-    let other_zone = shape(alloc, &[(0, 0), (50, 51), (100, 100), (0, 100)])?;
-    assert!(rt; shapes_overlap(&parcel, &other_zone));
-    assert!(rt; !shapes_overlap(&neighbour, &other_zone));
-    assert!(rt; !shapes_overlap(&zone, &other_zone));
-    assert_eq!(rt; folded(&parcel), None);
-    assert_eq!(rt; folded(&neighbour), None);
-    assert_eq!(rt; folded(&zone), None);
-    assert_eq!(rt; folded(&other_zone), None);
+    let rows: [(&[Place], &[Place], bool); 6] = [
+        (&PARCEL, &ZONE, true),
+        (&PARCEL, &NEIGHBOUR, false),
+        (&ZONE, &NEIGHBOUR, true),
+        (&PARCEL, &OTHER_ZONE, true),
+        (&NEIGHBOUR, &OTHER_ZONE, false),
+        (&ZONE, &OTHER_ZONE, false),
+    ];
+    for (one, other, want) in rows {
+        assert_eq!(rt; overlap(rt.alloc(), one, other)?, want);
+    }
     Ok(())
 }
 
-/// A ring round a bay, and what lies in the bay.
+/// A ring round a bay.
+const BAY: [Place; 8] = [
+    (0, 0),
+    (100, 0),
+    (100, 20),
+    (40, 20),
+    (40, 80),
+    (100, 80),
+    (100, 100),
+    (0, 100),
+];
+
+const IN_THE_BAY: [Place; 4] = [(40, 20), (100, 20), (100, 80), (40, 80)];
+
+const WEST_PART: [Place; 4] = [(40, 20), (70, 20), (70, 80), (40, 80)];
+
+const EAST_PART: [Place; 4] = [(70, 20), (100, 20), (100, 80), (70, 80)];
+
+const OVER_THE_EDGE: [Place; 4] = [(39, 30), (100, 30), (100, 70), (39, 70)];
+
+/// What lies in the bay, whole and in two parts, and what lies a centimetre over its edge.
 #[test]
 fn shapes_with_a_bay(rt: HostRuntime) -> Result<(), Fail> {
-    let alloc = rt.alloc();
-    let around = [
-        (0, 0),
-        (100, 0),
-        (100, 20),
-        (40, 20),
-        (40, 80),
-        (100, 80),
-        (100, 100),
-        (0, 100),
+    let rows: [(&[Place], &[Place], bool); 5] = [
+        (&BAY, &IN_THE_BAY, false),
+        (&WEST_PART, &EAST_PART, false),
+        (&BAY, &WEST_PART, false),
+        (&IN_THE_BAY, &WEST_PART, true),
+        (&BAY, &OVER_THE_EDGE, true),
     ];
-    let bay = shape(alloc, &around)?;
-    assert_eq!(rt; folded(&bay), None);
-    let in_the_bay = shape(alloc, &[(40, 20), (100, 20), (100, 80), (40, 80)])?;
-    assert!(rt; !shapes_overlap(&bay, &in_the_bay));
-    let west_part = shape(alloc, &[(40, 20), (70, 20), (70, 80), (40, 80)])?;
-    let east_part = shape(alloc, &[(70, 20), (100, 20), (100, 80), (70, 80)])?;
-    assert!(rt; !shapes_overlap(&west_part, &east_part));
-    assert!(rt; !shapes_overlap(&bay, &west_part));
-    assert!(rt; shapes_overlap(&in_the_bay, &west_part));
-    assert_eq!(rt; folded(&west_part), None);
-    assert_eq!(rt; folded(&east_part), None);
-    let over_the_edge = shape(alloc, &[(39, 30), (100, 30), (100, 70), (39, 70)])?;
-    assert!(rt; shapes_overlap(&bay, &over_the_edge));
+    for (one, other, want) in rows {
+        assert_eq!(rt; overlap(rt.alloc(), one, other)?, want);
+    }
+    Ok(())
+}
+
+#[test]
+fn shapes_that_are_not_folded(rt: HostRuntime) -> Result<(), Fail> {
+    let rings: [&[Place]; 7] = [
+        &PARCEL,
+        &NEIGHBOUR,
+        &ZONE,
+        &OTHER_ZONE,
+        &BAY,
+        &WEST_PART,
+        &EAST_PART,
+    ];
+    for places in rings {
+        assert_eq!(rt; first_fold(rt.alloc(), places)?, None);
+    }
     Ok(())
 }
 
