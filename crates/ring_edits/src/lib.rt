@@ -3,5 +3,12 @@
 #![tactic(auto)]
 
 mod edit;
+mod fault;
+mod inserts;
+mod round;
+mod splits;
 
 pub use edit::Edit;
+pub use fault::EditFault;
+pub use inserts::{insert, is_between};
+pub use splits::split;
