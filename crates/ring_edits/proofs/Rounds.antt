@@ -18,10 +18,10 @@ use Rattle.ring_edits.specs.own.Between.{between, IsPathAt}
 pub from_corner : (ring : List Corner) (i : ℕ) → i < length ring → drop i ring ≡ corner_at ring i ∷ drop (i + 1) ring
 from_corner ring i h = drop_item ring i (corner_at ring i) h (get_or_default ring i origin (corner_at ring i) h)
 
-between_up : (ring : List Corner) (i j : ℕ) → i < j → between ring i j ≡ slice_range ring (i + 1) j
+pub between_up : (ring : List Corner) (i j : ℕ) → i < j → between ring i j ≡ slice_range ring (i + 1) j
 between_up ring i j h = let t : nat_lt i j ≡ true = grind (arith, nat_tests) in rw t refl
 
-between_down : (ring : List Corner) (i j : ℕ) → j ≤ i → between ring i j ≡ drop (i + 1) ring ++ take j ring
+pub between_down : (ring : List Corner) (i j : ℕ) → j ≤ i → between ring i j ≡ drop (i + 1) ring ++ take j ring
 between_down ring i j h = let t : nat_lt i j ≡ false = grind (arith, nat_tests) in rw t refl
 
 -- the part of a ring from a number on to a later one
@@ -58,12 +58,16 @@ goes_down ring i j h k =
     ∙ ap (λ xs. corner_at ring i ∷ between ring i j ++ corner_at ring j ∷ xs) (sym (between_up ring j i h))
 
 -- begun at one of two corners, a ring goes by those between on to the other, and by the rest back
+pub round_of : (ring : List Corner) (i j : ℕ) → i < length ring → j < length ring → i ≢ j
+    → begun_at i ring ≡ corner_at ring i ∷ between ring i j ++ corner_at ring j ∷ between ring j i
+round_of ring i j h k off = ⊎_elim (λ l. goes_up ring i j l k) (λ l. goes_down ring i j (omega (arith, off)) h) (cases_lt i j)
+
 pub goes_round : (ring : List Corner) (i j : ℕ) → i < length ring → j < length ring → i ≢ j
     → GoesRound ring (corner_at ring i) (between ring i j) (corner_at ring j) (between ring j i)
 goes_round ring i j h k off = record {
   start = i;
   within = h;
-  round = ⊎_elim (λ l. goes_up ring i j l k) (λ l. goes_down ring i j (omega (arith, off)) h) (cases_lt i j);
+  round = round_of ring i j h k off;
 }
 
 -- a path between two numbers of a ring goes from a corner of it to another

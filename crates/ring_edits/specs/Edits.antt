@@ -5,6 +5,8 @@ use Rattle.geo_exact.specs.declared.corner.Corner.{Corner}
 use Rattle.geo_exact.specs.declared.limits.TheConstants.{RING_CORNERS}
 use Rattle.geo_exact.specs.Places.{corner_at, after}
 use Rattle.geo_exact.specs.Rings.{Edge, path, begun_at_least}
+use Rattle.ring_edits.specs.declared.fault.EditFault.{EditFault}
+use Rattle.ring_edits.specs.declared.fault.EditFault.TheVariants.{BadPath, NotNeighbours, SharedTwice, NoMemory}
 use Rattle.ring_edits.specs.Round.{GoesRound, HasEdge, HasEdgeAt}
 
 -- a path from one corner, by those between, to another that is not the same, of at most so many corners as a ring has
@@ -71,6 +73,13 @@ IsSharedRun a b u v = (onward : List Corner) × (back : List Corner) × IsShared
 -- the rings share one unbroken run of edges
 abbrev pub ShareOneRun : List Corner → List Corner → Type 0
 ShareOneRun a b = (u : Corner) × (v : Corner) × IsSharedRun a b u v
+
+-- why two rings have no border: they share no edge, or they do, and not one unbroken run
+abbrev pub IsBorderFault : List Corner → List Corner → EditFault → Type 0
+IsBorderFault a b NotNeighbours = ¬ AreNeighbours a b
+IsBorderFault a b SharedTwice = AreNeighbours a b × (¬ ShareOneRun a b)
+IsBorderFault a b BadPath = ⊥
+IsBorderFault a b NoMemory = ⊥
 
 -- a's walk from v on to u and then b's from u on to v: the corners between u and v on the shared run go
 pub record IsMerge (a b out : List Corner) : Type 0 where

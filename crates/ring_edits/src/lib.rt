@@ -2,12 +2,14 @@
 //! journal.
 #![tactic(auto)]
 
+mod border;
 mod edit;
 mod fault;
 mod inserts;
 mod round;
 mod splits;
 
+pub use border::{Run, shared_run};
 pub use edit::Edit;
 pub use fault::EditFault;
 pub use inserts::{insert, is_between};
