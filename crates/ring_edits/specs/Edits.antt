@@ -1,0 +1,114 @@
+-- What each edit makes of rings (this product's own). Each new ring is given by its corners as they are joined, and is begun at its least one.
+use Rattle.std.specs.Prelude.{◌≡◌, ◌≢◌, ◌⊎◌, ℕ, ◌+◌, ◌<◌, ◌≤◌, List, [], ◌∷◌, ◌++◌, reverse, length, take, drop}
+use Rattle.std.specs.List.{Contains, AllByRecursion}
+use Rattle.geo_exact.specs.declared.corner.Corner.{Corner}
+use Rattle.geo_exact.specs.declared.limits.TheConstants.{RING_CORNERS}
+use Rattle.geo_exact.specs.Places.{corner_at, after}
+use Rattle.geo_exact.specs.Rings.{Edge, path, begun_at_least}
+use Rattle.ring_edits.specs.declared.fault.EditFault.{EditFault}
+use Rattle.ring_edits.specs.declared.fault.EditFault.TheVariants.{BadPath, NotNeighbours, SharedTwice, NoMemory}
+use Rattle.ring_edits.specs.Round.{GoesRound, HasEdge, HasEdgeAt}
+
+-- a path from one corner, by those between, to another that is not the same, of at most so many corners as a ring has
+pub record IsPath (corners : List Corner) (from : Corner) (between : List Corner) (to : Corner) : Type 0 where
+  pub is : corners ≡ from ∷ between ++ to ∷ []
+  pub not_closed : from ≢ to
+  pub short : length corners ≤ RING_CORNERS
+
+-- the path goes from a corner of the ring to another
+pub record IsPathAcross (ring corners : List Corner) : Type 0 where
+  pub from : Corner
+  pub between : List Corner
+  pub to : Corner
+  pub is_path : IsPath corners from between to
+  pub has_from : Contains ring from
+  pub has_to : Contains ring to
+
+-- the path cuts the ring in two: left of it the path and the run from its last corner on to its first, right of it the run from
+-- its first corner on to its last and the path backwards
+pub record IsSplit (ring corners left right : List Corner) : Type 0 where
+  pub from : Corner
+  pub between : List Corner
+  pub to : Corner
+  pub onward : List Corner
+  pub back : List Corner
+  pub is_path : IsPath corners from between to
+  pub round : GoesRound ring from onward to back
+  pub left_is : left ≡ begun_at_least (from ∷ between ++ to ∷ back)
+  pub right_is : right ≡ begun_at_least (from ∷ onward ++ to ∷ reverse between)
+
+-- a corner is put into an edge of the ring that goes from one corner to another
+pub record IsInserted (ring : List Corner) (from to at : Corner) (out : List Corner) : Type 0 where
+  pub place : ℕ
+  pub has_edge : HasEdgeAt ring from to place
+  pub out_is : out ≡ begun_at_least (take (place + 1) ring ++ at ∷ drop (place + 1) ring)
+
+-- the same, whichever way the edge goes
+abbrev pub IsInsertedBetween : List Corner → Corner → Corner → Corner → List Corner → Type 0
+IsInsertedBetween ring from to at out = (from ≢ to) × (IsInserted ring from to at out ⊎ IsInserted ring to from at out)
+
+-- edge k of ring a is shared: ring b has it in the other direction
+abbrev pub IsSharedAt : List Corner → List Corner → ℕ → Type 0
+IsSharedAt a b k = HasEdge b (corner_at a (after (length a) k)) (corner_at a k)
+
+-- the rings share an edge
+abbrev pub AreNeighbours : List Corner → List Corner → Type 0
+AreNeighbours a b = (k : ℕ) × (k < length a) × IsSharedAt a b k
+
+-- the edge is shared, as one of ring a: ring b has it in the other direction
+abbrev pub IsSharedWith : List Corner → Edge → Type 0
+IsSharedWith b edge = HasEdge b edge.to edge.from
+
+-- the edges of ring a that ring b shares are those of one run, which goes from u to another corner v in a's direction, by the
+-- corners `onward`; the others go on by the corners `back` to u
+pub record IsShared (a b : List Corner) (u : Corner) (onward : List Corner) (v : Corner) (back : List Corner) : Type 0 where
+  pub round : GoesRound a u onward v back
+  pub shared : AllByRecursion (IsSharedWith b) (path u onward v)
+  pub others_not : AllByRecursion (λ edge. ¬ IsSharedWith b edge) (path v back u)
+
+-- the shared run of a and b goes from u to v
+abbrev pub IsSharedRun : List Corner → List Corner → Corner → Corner → Type 0
+IsSharedRun a b u v = (onward : List Corner) × (back : List Corner) × IsShared a b u onward v back
+
+-- the rings share one unbroken run of edges
+abbrev pub ShareOneRun : List Corner → List Corner → Type 0
+ShareOneRun a b = (u : Corner) × (v : Corner) × IsSharedRun a b u v
+
+-- why two rings have no border: they share no edge, or they do, and not one unbroken run
+abbrev pub IsBorderFault : List Corner → List Corner → EditFault → Type 0
+IsBorderFault a b NotNeighbours = ¬ AreNeighbours a b
+IsBorderFault a b SharedTwice = AreNeighbours a b × (¬ ShareOneRun a b)
+IsBorderFault a b BadPath = ⊥
+IsBorderFault a b NoMemory = ⊥
+
+-- a's walk from v on to u and then b's from u on to v: the corners between u and v on the shared run go
+pub record IsMerge (a b out : List Corner) : Type 0 where
+  pub u : Corner
+  pub v : Corner
+  pub run : List Corner
+  pub of_a : List Corner
+  pub of_b : List Corner
+  pub back : List Corner
+  pub shared : IsShared a b u run v of_a
+  pub round_b : GoesRound b u of_b v back
+  pub out_is : out ≡ begun_at_least (v ∷ of_a ++ u ∷ of_b)
+
+-- the path goes from where the shared run begins to where it ends
+abbrev pub IsNewBorder : List Corner → List Corner → List Corner → Type 0
+IsNewBorder a b corners = (u : Corner) × (v : Corner) × (between : List Corner) × IsSharedRun a b u v × IsPath corners u between v
+
+-- a and b with the shared run exchanged for the path: for a the path and then a's walk from v on to u, for b the path backwards
+-- and then b's walk from u on to v
+pub record IsMove (a b corners out_a out_b : List Corner) : Type 0 where
+  pub u : Corner
+  pub v : Corner
+  pub run : List Corner
+  pub of_a : List Corner
+  pub of_b : List Corner
+  pub back : List Corner
+  pub between : List Corner
+  pub shared : IsShared a b u run v of_a
+  pub round_b : GoesRound b u of_b v back
+  pub is_path : IsPath corners u between v
+  pub out_a_is : out_a ≡ begun_at_least (u ∷ between ++ v ∷ of_a)
+  pub out_b_is : out_b ≡ begun_at_least (v ∷ reverse between ++ u ∷ of_b)

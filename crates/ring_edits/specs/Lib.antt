@@ -1,0 +1,3 @@
+pub mod Round
+pub mod Edits
+pub mod own

@@ -1,0 +1,16 @@
+-- Corners of a ring between two of its numbers, and paths between two: what the code copies.
+use Rattle.std.specs.Prelude.{ℕ, ◌+◌, ◌<◌, nat_lt, if◌then◌else◌, List, ◌++◌, length, take, drop, slice_range}
+use Rattle.geo_exact.specs.declared.corner.Corner.{Corner}
+use Rattle.geo_exact.specs.Places.{corner_at}
+use Rattle.ring_edits.specs.Edits.{IsPath}
+
+-- the corners behind number i and before number j, round the ring
+abbrev pub between : List Corner → ℕ → ℕ → List Corner
+between ring i j = if nat_lt i j then slice_range ring (i + 1) j else drop (i + 1) ring ++ take j ring
+
+-- the path goes from corner i of the ring to corner j
+pub record IsPathAt (ring corners : List Corner) (i j : ℕ) : Type 0 where
+  pub i_in_ring : i < length ring
+  pub j_in_ring : j < length ring
+  pub middle : List Corner
+  pub is_path : IsPath corners (corner_at ring i) middle (corner_at ring j)
