@@ -1,4 +1,4 @@
-ghost use Rattle.std.specs.Prelude.{◌≡◌, ◌≢◌, ◌↔◌, ℕ, ◌≤ℤ◌, List, [], ◌∷◌, ◌++◌, IfOk, OnOk, OnErr, slice_index_or};
+ghost use Rattle.std.specs.Prelude.{◌≡◌, ◌≢◌, ◌↔◌, ℕ, List, [], ◌∷◌, ◌++◌, IfOk, OnOk, OnErr, slice_index_or};
 ghost use Rattle.std.specs.List.{filter, Contains, AllPairs};
 ghost use Rattle.geo_exact.specs.Bounds.{HoldsCorner};
 ghost use Rattle.cell_index.specs.declared.entry.Entry.{Entry};
@@ -111,7 +111,6 @@ impl<'a, H: Allocator> CellIndex<'a, H> {
     ///
     /// [`AllocError`] where the list of keys is refused.
     pub fn between(&self, low: Corner, high: Corner) -> Result<Vec<usize, &'a H>, AllocError>
-        requires { (low.x ≤ℤ high.x) × (low.y ≤ℤ high.y) }
         ensures found { (entries : List Entry) → Indexes self.now entries
             → IfOk result (λ keys. (key : ℕ) → Contains keys.items key ↔ IsKeyBetween self.now.area low high entries key) }
         ensures once { (entries : List Entry) → Indexes self.now entries → HaveOwnKeys entries
