@@ -54,7 +54,7 @@ pub fn kind_at(corners: &[Corner], k: usize) -> Kind
 pub fn kinds_of<A: Allocator>(alloc: A, corners: &[Corner]) -> Result<Vec<Kind, A>, AllocError>
     ensures { IfOk result (λ kinds. AreKinds corners.now kinds.items) }
 {
-    let mut kinds = Vec::new(alloc);
+    let mut kinds = Vec::with_capacity(alloc, corners.len())?;
     for k in 0..corners.len() {
         kinds.push(kind_at(corners, k))?;
     }
