@@ -166,7 +166,7 @@ is_shared a b i j h =
     record { round = goes_round a i j h.i_in_ring h.j_in_ring h.apart; shared = both.0; others_not = both.1 }
 
 -- ---- what is answered
-on_its_run : (i j : ℕ) → i ≢ j → is_on_run i j i ≡ true
+pub on_its_run : (i j : ℕ) → i ≢ j → is_on_run i j i ≡ true
 on_its_run i j h = grind (arith, nat_tests)
 
 pub neighbours_of : (a b : List Corner) (i j : ℕ) → IsSharedFromTo a b i j → AreNeighbours a b

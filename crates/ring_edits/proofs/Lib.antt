@@ -1,3 +1,5 @@
 pub mod Rounds
 pub mod Alternations
 pub mod Borders
+pub mod Apart
+pub mod Ends

@@ -6,11 +6,15 @@ mod border;
 mod edit;
 mod fault;
 mod inserts;
+mod merges;
 mod round;
+mod shifts;
 mod splits;
 
 pub use border::{Run, shared_run};
 pub use edit::Edit;
 pub use fault::EditFault;
 pub use inserts::{insert, is_between};
+pub use merges::merge;
+pub use shifts::shift;
 pub use splits::split;
