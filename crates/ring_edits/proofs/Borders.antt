@@ -43,11 +43,11 @@ item_of P Q (x ∷ xs) ys h k (suc t) b =
     record { item = r.item; is = r.is; in_first = λ l. r.in_first (omega arith); in_second = λ l. r.in_second (omega arith) }
 
 -- and what holds for all items, by their numbers
-all_of : (P : Edge → Type 0) (xs : List Edge) → ((t : ℕ) (e : Edge) → slice_get xs t ≡ Some e → P e) → AllByRecursion P xs
+pub all_of : (P : Edge → Type 0) (xs : List Edge) → ((t : ℕ) (e : Edge) → slice_get xs t ≡ Some e → P e) → AllByRecursion P xs
 all_of P [] h = tt
 all_of P (x ∷ xs) h = (h 0 x refl, all_of P xs (λ t e i. h (suc t) e i))
 
-all_of_both : (P Q : Edge → Type 0) (first second : List Edge)
+pub all_of_both : (P Q : Edge → Type 0) (first second : List Edge)
     → ((t : ℕ) (e : Edge) → slice_get (first ++ second) t ≡ Some e → (t < length first → P e) × (length first ≤ t → Q e))
     → AllByRecursion P first × AllByRecursion Q second
 all_of_both P Q [] ys h = (tt, all_of Q ys (λ t e i. (h t e i).1 (omega arith)))
@@ -59,11 +59,11 @@ all_of_both P Q (x ∷ xs) ys h =
     (((h 0 x refl).0 (omega arith), r.0), r.1)
 
 -- the edges of a ring that is gone round from u by v
-edges_round : (u v : Corner) (onward back : List Corner) → edges (u ∷ onward ++ v ∷ back) ≡ path u onward v ++ path v back u
+pub edges_round : (u v : Corner) (onward back : List Corner) → edges (u ∷ onward ++ v ∷ back) ≡ path u onward v ++ path v back u
 edges_round u v onward back = path-join u v u onward back
 
 -- edge t of the ring begun at a corner, as an edge of the ring
-edge_there : (ring : List Corner) (s t : ℕ) (e : Edge) → s < length ring → t < length ring
+pub edge_there : (ring : List Corner) (s t : ℕ) (e : Edge) → s < length ring → t < length ring
     → slice_get (edges (begun_at s ring)) t ≡ Some e
     → (e.from ≡ corner_at ring (number_from (length ring) s t)) × (e.to ≡ corner_at ring (after (length ring) (number_from (length ring) s t)))
 edge_there ring s t e h b i =
@@ -143,7 +143,7 @@ below t m h = grind (arith, nat_tests)
 not_below : (t m : ℕ) → m ≤ t → nat_lt t m ≡ false
 not_below t m h = grind (arith, nat_tests)
 
-from_in : (n s t : ℕ) → s < n → t < n → number_from n s t < n
+pub from_in : (n s t : ℕ) → s < n → t < n → number_from n s t < n
 from_in n s t h b = grind (arith, nat_tests)
 
 pub is_shared : (a b : List Corner) (i j : ℕ) → IsSharedFromTo a b i j
@@ -166,7 +166,7 @@ is_shared a b i j h =
     record { round = goes_round a i j h.i_in_ring h.j_in_ring h.apart; shared = both.0; others_not = both.1 }
 
 -- ---- what is answered
-on_its_run : (i j : ℕ) → i ≢ j → is_on_run i j i ≡ true
+pub on_its_run : (i j : ℕ) → i ≢ j → is_on_run i j i ≡ true
 on_its_run i j h = grind (arith, nat_tests)
 
 pub neighbours_of : (a b : List Corner) (i j : ℕ) → IsSharedFromTo a b i j → AreNeighbours a b

@@ -93,9 +93,9 @@ pub record IsMerge (a b out : List Corner) : Type 0 where
   pub round_b : GoesRound b u of_b v back
   pub out_is : out ≡ begun_at_least (v ∷ of_a ++ u ∷ of_b)
 
--- the path goes from where the shared run begins to where it ends
-abbrev pub IsNewBorder : List Corner → List Corner → List Corner → Type 0
-IsNewBorder a b corners = (u : Corner) × (v : Corner) × (between : List Corner) × IsSharedRun a b u v × IsPath corners u between v
+-- the path does not go from where the shared run begins to where it ends
+abbrev pub IsNoBorder : List Corner → List Corner → List Corner → Type 0
+IsNoBorder a b corners = (u : Corner) × (v : Corner) × IsSharedRun a b u v × ((between : List Corner) → ¬ IsPath corners u between v)
 
 -- a and b with the shared run exchanged for the path: for a the path and then a's walk from v on to u, for b the path backwards
 -- and then b's walk from u on to v

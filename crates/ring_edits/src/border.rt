@@ -1,9 +1,10 @@
 ghost use Rattle.std.specs.Prelude.{◌↔◌, ◌<◌, ◌≤◌, length, IfOk, IfErr, IsTrue};
+ghost use Rattle.ring_core.specs.Simple.{IsSimpleRing};
 ghost use Rattle.ring_edits.specs.Edits.{IsBorderFault, IsSharedAt, IsSharedRun};
-ghost use Rattle.ring_edits.specs.own.Borders.{IsAlikeUpTo, IsSharedFromTo};
+ghost use Rattle.ring_edits.specs.own.Borders.{IsAlikeUpTo, IsBorderAt, IsSharedFromTo};
 
 use crate::fault::EditFault;
-use crate::round::{edge_place, following};
+use crate::round::{edge_place, following, place_of};
 use geo_exact::Corner;
 
 /// The ends of the run of edges that two rings share.
@@ -29,6 +30,40 @@ pub fn shared_run(a: &[Corner], b: &[Corner]) -> Result<Run, EditFault>
     Ok(Run {
         from: a[i],
         to: a[j],
+    })
+}
+
+/// Where the run of edges that two rings share begins and ends, as numbers of corners of both.
+#[derive(Clone, Copy)]
+pub(crate) struct Border {
+    /// The corner of `a` where it begins.
+    pub from_in_a: usize,
+    /// The corner of `a` where it ends.
+    pub to_in_a: usize,
+    /// The corner of `b` where it begins, in the direction of `a`.
+    pub from_in_b: usize,
+    /// The corner of `b` where it ends.
+    pub to_in_b: usize,
+}
+
+/// Where the run of edges that two rings share begins and ends in both.
+pub(crate) fn border_of(a: &[Corner], b: &[Corner]) -> Result<Border, EditFault>
+    requires { IsSimpleRing a.now }
+    ensures border { IfOk result (λ border. IsBorderAt a.now b.now border.from_in_a border.to_in_a border.from_in_b border.to_in_b) }
+    ensures err { IfErr result (λ fault. IsBorderFault a.now b.now fault) }
+{
+    let (from_in_a, to_in_a) = shared_places(a, b)?;
+    let Some(from_in_b) = place_of(b, a[from_in_a]) else {
+        unreachable!();
+    };
+    let Some(to_in_b) = place_of(b, a[to_in_a]) else {
+        unreachable!();
+    };
+    Ok(Border {
+        from_in_a,
+        to_in_a,
+        from_in_b,
+        to_in_b,
     })
 }
 

@@ -6,11 +6,17 @@ mod border;
 mod edit;
 mod fault;
 mod inserts;
+mod laws;
+mod merges;
 mod round;
+mod shifts;
 mod splits;
 
 pub use border::{Run, shared_run};
 pub use edit::Edit;
 pub use fault::EditFault;
 pub use inserts::{insert, is_between};
+pub use laws::new_rings_have_the_nets_of_the_old;
+pub use merges::merge;
+pub use shifts::shift;
 pub use splits::split;
