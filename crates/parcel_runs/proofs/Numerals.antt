@@ -139,7 +139,7 @@ pub point_by_split : (line front back : List ℕ) (corner : Corner) → IsSplitA
     → IsPointLine line corner → IsCornerText front back corner
 point_by_split line front back corner h lacks k = corner_text_split line front back corner h.whole lacks k
 
-one_corner : (x y : List ℕ) (a b : Corner) → IsCornerText x y a → IsCornerText x y b → a ≡ b
+pub one_corner : (x y : List ℕ) (a b : Corner) → IsCornerText x y a → IsCornerText x y b → a ≡ b
 one_corner x y a b h k = corner_same a b (one_signed x a.x b.x h.is_x k.is_x) (one_signed y a.y b.y h.is_y k.is_y)
 
 -- a line of points says one thing, and is not skipped
