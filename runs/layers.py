@@ -6,6 +6,7 @@ The first word is a file of examples/ or says what is made:
     squares N                a main file of N squares with sides of 100
     nulls N                  a main file of N null shapes
     index PLACE,LENGTH ..    an index file with these records, in words of 16 bits
+    text LINE / LINE ..      these lines, each with a line feed
     folder                   no file, but a folder
 Then follow changes, from left to right:
     cut N                    only the first N bytes
@@ -69,6 +70,8 @@ def begun(kind, words):
     if kind == "index":
         entries = b"".join(struct.pack(">2i", *(int(part) for part in word.split(","))) for word in words)
         return header(entries) + entries
+    if kind == "text":
+        return b"".join(line.strip().encode() + b"\n" for line in " ".join(words).split("/"))
     with open(os.path.join(EXAMPLES, kind), "rb") as file:
         return file.read()
 

@@ -13,6 +13,7 @@ With no word it takes the programs that `rt ci` leaves, one by each compiler. A 
 + NAME: RECIPE        a file in the row's empty folder; layers.py has the recipes
 $ WORDS               the command line, in which \\xFF is a byte; further ones run behind it in the same folder, and what they write comes
                       one after the other
+< TEXT                a line of standard input, of which there is none else
 > TEXT, 2> TEXT       a line of standard output, of standard error; all lines that must come
 >* FIRST LAST TEXT    a line TEXT for each number, which stands for {}
 [N]                   the last one's status, 0 where it is left out; the others' is 0
@@ -43,6 +44,7 @@ SECONDS = 60
 class Row:
     def __init__(self, title):
         self.title, self.files, self.lines, self.how = title, [], [], []
+        self.stdin = []
         self.stdout, self.stderr, self.status = [], [], 0
         self.left, self.names = [], None
 
@@ -67,6 +69,8 @@ def rows_of(path):
                 rows[-1].left.append(text.split(": ", 1))
             elif mark == "~":
                 rows[-1].names = sorted(text.split())
+            elif mark == "<":
+                rows[-1].stdin.append(text)
             elif mark == ">":
                 rows[-1].stdout.append(text)
             elif mark == ">*":
@@ -110,7 +114,7 @@ def run_line(program, row, room, words):
     """What a command line writes, on both streams, and its status; nothing where it does not end."""
     full = open("/dev/full", "wb") if "full" in row.how else None
     try:
-        ran = subprocess.run([program.encode(), *words], cwd=room, stdin=subprocess.DEVNULL, timeout=SECONDS,
+        ran = subprocess.run([program.encode(), *words], cwd=room, input=text_of(row.stdin), timeout=SECONDS,
                              stdout=full or subprocess.PIPE, stderr=subprocess.PIPE, preexec_fn=lambda: begin(row.how))
     except subprocess.TimeoutExpired:
         return None

@@ -10,12 +10,13 @@ use Rattle.fabric_core.specs.declared.city.CityFault.{CityFault}
 use Rattle.fabric_core.specs.declared.city.CityFault.TheVariants.{Ring as CityFaultRing, Folded, NoMemory as CityMemory}
 use Rattle.fabric_core.specs.declared.layer.LoadFault.{LoadFault}
 use Rattle.fabric_core.specs.declared.layer.LoadFault.TheVariants.{TooMany, Ring as LayerFaultRing, Gap, NoMemory as LayerMemory}
+use Rattle.fabric_core.specs.Rows.{Tiles}
 use Rattle.fabric_core.specs.Faults.{IsCityFault, IsLoadFault}
 use Rattle.parcel_runs.specs.declared.fault.Role.{Role}
 use Rattle.parcel_runs.specs.declared.fault.Role.TheVariants.{City}
 use Rattle.parcel_runs.specs.declared.fault.ToolFault.{ToolFault}
-use Rattle.parcel_runs.specs.declared.fault.ToolFault.TheVariants.{Unreadable, UnreadableIndex, Output, File, CityCount, CityRing, NoTiling, NoMemory}
-use Rattle.parcel_runs.specs.TilingFiles.{Files, IsCityOf, IsFaultOfCity, IsFaultOfLayer, told_of_city, told_of_load}
+use Rattle.parcel_runs.specs.declared.fault.ToolFault.TheVariants.{Unreadable, UnreadableIndex, Output, File, CityCount, CityRing, NoTiling, PointLine, NoMemory}
+use Rattle.parcel_runs.specs.TilingFiles.{Files, IsCityOf, IsFaultOfCity, IsFaultOfLayer, IsTiledBy, told_of_city, told_of_load}
 
 -- a fault is told, or memory was wanted
 abbrev pub Tells : ToolFault → ToolFault → Type 0
@@ -34,6 +35,7 @@ city_unread files unit e reads refuses (CityRing fault) h = inr (reads (h.ring �
 city_unread files unit e reads refuses (NoTiling role fault) h = absurd h
 city_unread files unit e reads refuses (Unreadable path) h = absurd h
 city_unread files unit e reads refuses (UnreadableIndex stem) h = absurd h
+city_unread files unit e reads refuses (PointLine number) h = absurd h
 city_unread files unit e reads refuses Output h = absurd h
 city_unread files unit e reads refuses NoMemory h = absurd h
 
@@ -46,6 +48,7 @@ layer_unread role files unit city e reads refuses (CityCount count) h = absurd h
 layer_unread role files unit city e reads refuses (CityRing fault) h = absurd h
 layer_unread role files unit city e reads refuses (Unreadable path) h = absurd h
 layer_unread role files unit city e reads refuses (UnreadableIndex stem) h = absurd h
+layer_unread role files unit city e reads refuses (PointLine number) h = absurd h
 layer_unread role files unit city e reads refuses Output h = absurd h
 layer_unread role files unit city e reads refuses NoMemory h = absurd h
 
@@ -59,6 +62,7 @@ city_counted files unit found count e ne only sound (CityRing fault) h = absurd 
 city_counted files unit found count e ne only sound (NoTiling role fault) h = absurd h
 city_counted files unit found count e ne only sound (Unreadable path) h = absurd h
 city_counted files unit found count e ne only sound (UnreadableIndex stem) h = absurd h
+city_counted files unit found count e ne only sound (PointLine number) h = absurd h
 city_counted files unit found count e ne only sound Output h = absurd h
 city_counted files unit found count e ne only sound NoMemory h = absurd h
 
@@ -90,6 +94,7 @@ city_refused files unit found ring P one only sound refuses (CityRing fault) h =
 city_refused files unit found ring P one only sound refuses (NoTiling role fault) h = absurd h
 city_refused files unit found ring P one only sound refuses (Unreadable path) h = absurd h
 city_refused files unit found ring P one only sound refuses (UnreadableIndex stem) h = absurd h
+city_refused files unit found ring P one only sound refuses (PointLine number) h = absurd h
 city_refused files unit found ring P one only sound refuses Output h = absurd h
 city_refused files unit found ring P one only sound refuses NoMemory h = absurd h
 
@@ -122,6 +127,15 @@ told_load_fault role files unit city records (Gap a b net) is h =
     elim h [ inl k ↦ inl (refl, record { records = records; are_records = is; is_fault = k }) | inr e ↦ inr (ap (told_of_load role) e) ]
 told_load_fault role files unit city records LayerMemory is h = inr refl
 
+-- a layer that tiles the city is refused for want of memory alone
+pub layer_loaded : (role : Role) (files : Files) (unit : LengthUnit) (city : List Corner) (tiles : Tiles) (answer : LoadFault)
+    → (h : IsTiledBy files unit city tiles) → {found : List NumberedRing} → found ≡ h.records
+    → IsLoadFault found city answer ⊎ (answer ≡ LayerMemory) → told_of_load role answer ≡ NoMemory
+layer_loaded role files unit city tiles answer h same k = elim k [
+  | inl fault ↦ absurd (h.has_no_fault answer (subst (λ records. IsLoadFault records city answer) same fault))
+  | inr e ↦ ap (told_of_load role) e
+]
+
 -- and a layer's first fault is told
 told_load_first : (role told : Role) (records : List NumberedRing) (city : List Corner) (answer fault : LoadFault) → told ≡ role → IsLoadFault records city fault
     → (answer ≡ fault) ⊎ (answer ≡ LayerMemory) → Tells (told_of_load role answer) (NoTiling told fault)
@@ -145,6 +159,7 @@ layer_refused role files unit city found answer only sound refuses (CityCount co
 layer_refused role files unit city found answer only sound refuses (CityRing fault) h = absurd h
 layer_refused role files unit city found answer only sound refuses (Unreadable path) h = absurd h
 layer_refused role files unit city found answer only sound refuses (UnreadableIndex stem) h = absurd h
+layer_refused role files unit city found answer only sound refuses (PointLine number) h = absurd h
 layer_refused role files unit city found answer only sound refuses Output h = absurd h
 layer_refused role files unit city found answer only sound refuses NoMemory h = absurd h
 
@@ -161,5 +176,6 @@ layer_has_none role files unit city found only sound none (CityCount count) h = 
 layer_has_none role files unit city found only sound none (CityRing fault) h = h
 layer_has_none role files unit city found only sound none (Unreadable path) h = h
 layer_has_none role files unit city found only sound none (UnreadableIndex stem) h = h
+layer_has_none role files unit city found only sound none (PointLine number) h = h
 layer_has_none role files unit city found only sound none Output h = h
 layer_has_none role files unit city found only sound none NoMemory h = h

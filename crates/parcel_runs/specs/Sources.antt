@@ -7,7 +7,7 @@ use Rattle.parcel_runs.specs.declared.sources.Source.{Source}
 use Rattle.parcel_runs.specs.declared.sources.PathFault.{PathFault}
 use Rattle.parcel_runs.specs.declared.sources.PathFault.TheVariants.{NotOpened, NotRead}
 use Rattle.parcel_runs.specs.declared.fault.ToolFault.{ToolFault}
-use Rattle.parcel_runs.specs.declared.fault.ToolFault.TheVariants.{Unreadable, UnreadableIndex, Output, File, CityCount, CityRing, NoTiling, NoMemory}
+use Rattle.parcel_runs.specs.declared.fault.ToolFault.TheVariants.{Unreadable, UnreadableIndex, Output, File, CityCount, CityRing, NoTiling, PointLine, NoMemory}
 
 -- the bytes of the index file, where there is one
 abbrev pub index_of : {A : Type 0} → Source A → Option (List ℕ)
@@ -19,6 +19,19 @@ bytes_of (Ok bytes) = Ok bytes.items
 bytes_of (Err fault) = Err fault
 
 -- In what follows `reads` tells what reading the file at a path may answer.
+
+-- what the bytes of a text are by its path: as they were read, or the path; memory may always be wanted
+abbrev pub IsTextBy : {A : Type 0} → (List ℕ → Result (List ℕ) PathFault → Type 0) → Bor (List ℕ) → Result (Vec ℕ A) ToolFault → Type 0
+IsTextBy reads path (Ok bytes) = reads path.now (Ok bytes.items)
+IsTextBy reads path (Err (Unreadable told)) = (told ≡ path) × (reads path.now (Err NotOpened) ⊎ reads path.now (Err NotRead))
+IsTextBy reads path (Err NoMemory) = ⊤
+IsTextBy reads path (Err (UnreadableIndex stem)) = ⊥
+IsTextBy reads path (Err Output) = ⊥
+IsTextBy reads path (Err (File role fault)) = ⊥
+IsTextBy reads path (Err (CityCount count)) = ⊥
+IsTextBy reads path (Err (CityRing fault)) = ⊥
+IsTextBy reads path (Err (NoTiling role fault)) = ⊥
+IsTextBy reads path (Err (PointLine number)) = ⊥
 
 -- the index is what was read beside the main file; there is none where nothing can be opened there, or the main file's path has no .shp
 abbrev pub IsIndexBy : (List ℕ → Result (List ℕ) PathFault → Type 0) → List ℕ → Option (List ℕ) → Type 0
@@ -44,3 +57,4 @@ IsSourceBy reads path (Err (File role fault)) = ⊥
 IsSourceBy reads path (Err (CityCount count)) = ⊥
 IsSourceBy reads path (Err (CityRing fault)) = ⊥
 IsSourceBy reads path (Err (NoTiling role fault)) = ⊥
+IsSourceBy reads path (Err (PointLine number)) = ⊥

@@ -49,6 +49,8 @@ pub enum ToolFault<'a> {
     CityRing(CityFault),
     /// H1 to H3: the rings of the layer do not tile the city.
     NoTiling(Role, LoadFault),
+    /// L1: the line of this number, counted from 1, of the points' file is no point.
+    PointLine(usize),
     /// A growth was refused.
     NoMemory,
 }
@@ -99,6 +101,7 @@ impl<'a> fmt::Display for ToolFault<'a> {
                 let (ax, ay, bx, by) = (a.x, a.y, b.x, b.y);
                 write!(f, "{role}: H2 {ax} {ay} {bx} {by} net {net}")
             }
+            ToolFault::PointLine(number) => write!(f, "points: L1 {number}"),
             ToolFault::NoMemory
             | ToolFault::CityRing(CityFault::NoMemory)
             | ToolFault::NoTiling(_, LoadFault::NoMemory) => write!(f, "no memory"),

@@ -2,9 +2,9 @@
 
 ghost use Rattle.std.specs.Prelude.{◌≡◌, ◌++◌, OnOk, IfOk};
 ghost use Rattle.std.specs.List.{flat_map};
-ghost use Rattle.std.specs.Fmt.{signed_decimal};
-ghost use Rattle.parcel_runs.specs.FaultLines.{ring_fault_text, ring_line, corner_text, edge_text, edge_line, fault_lines as fault_lines_of};
+ghost use Rattle.parcel_runs.specs.FaultLines.{ring_fault_text, ring_line, edge_text, edge_line, fault_lines as fault_lines_of};
 
+use crate::numbers::{push_corner, push_number};
 use fabric_core::AllFaults;
 use geo_exact::Corner;
 use itoa::Buffer;
@@ -109,24 +109,5 @@ fn push_edge<A: Allocator>(text: &mut Vec<u8, A>, a: Corner, b: Corner) -> Resul
     push_corner(text, a)?;
     text.push(b' ')?;
     push_corner(text, b)?;
-    Ok(())
-}
-
-/// Adds a corner's two coordinates.
-fn push_corner<A: Allocator>(text: &mut Vec<u8, A>, corner: Corner) -> Result<(), AllocError>
-    ensures { OnOk result (text.new.items ≡ text.old.items ++ corner_text corner) }
-{
-    push_number(text, corner.x)?;
-    text.push(b' ')?;
-    push_number(text, corner.y)?;
-    Ok(())
-}
-
-/// Adds a number in decimal, with a minus sign where it is below 0.
-fn push_number<A: Allocator>(text: &mut Vec<u8, A>, number: i64) -> Result<(), AllocError>
-    ensures { OnOk result (text.new.items ≡ text.old.items ++ signed_decimal number) }
-{
-    let mut digits = Buffer::new();
-    text.extend_from_slice(digits.format(number).as_bytes())?;
     Ok(())
 }

@@ -1,4 +1,5 @@
-//! What runs of the program do: layers read from their files, their areas told, whether they tile their city, and layers written anew.
+//! What runs of the program do: layers read from their files, their areas told, whether they tile their city, where points lie among
+//! their parcels, and layers written anew.
 //!
 //! Each call answers from the bytes of the files, and says to which layer a fault belongs.
 #![tactic(auto)]
@@ -10,13 +11,19 @@ pub mod export;
 mod fault;
 mod fault_lines;
 mod layers;
+pub mod locate;
+mod numbers;
 mod output;
+pub mod points;
 mod replace;
 mod report;
 mod sources;
+mod text_lines;
+mod text_numbers;
 mod tiles;
 
 pub use fault::{Role, ToolFault};
 pub use output::put_all;
 pub use replace::replace_layer;
-pub use sources::{Disk, Folder, PathFault, Source, read_source};
+pub use sources::{Disk, Folder, PathFault, Source, StandardInput, read_source, read_text};
+pub use text_numbers::read_corner;

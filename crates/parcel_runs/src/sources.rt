@@ -1,6 +1,6 @@
 ghost use Rattle.std.specs.Prelude.{◌≡◌, ⊤, ℕ, List, Result, IfOk, IfSome, IsErrOf};
 ghost use Rattle.std.specs.Option.{option_copied};
-ghost use Rattle.parcel_runs.specs.Sources.{index_of, bytes_of, IsSourceBy};
+ghost use Rattle.parcel_runs.specs.Sources.{index_of, bytes_of, IsTextBy, IsSourceBy};
 
 use crate::fault::ToolFault;
 use geo_exact::Counted;
@@ -8,7 +8,7 @@ use shp_files::{ReadFault, read_all};
 use std::alloc::Allocator;
 use std::fs::File;
 use std::io;
-use std::io::Read;
+use std::io::{Input, Read};
 use std::rt::Files;
 
 /// The bytes of a layer's files.
@@ -68,6 +68,37 @@ impl<'a, R: Files> Folder for Disk<'a, R> {
             Err(error) if error.kind() == io::ErrorKind::OutOfMemory => Err(PathFault::NoMemory),
             Err(_) => Err(PathFault::NotOpened),
         }
+    }
+}
+
+/// Standard input, which is read whatever the path. What it holds no contract can say.
+#[derive(Clone, Copy)]
+pub struct StandardInput<'a, R>(pub &'a R);
+
+impl<'a, R: Input> Folder for StandardInput<'a, R> {
+    ghost reads = { λ _ _ _. ⊤ };
+
+    fn read<A: Allocator + Copy>(&self, alloc: A, _path: &str) -> Result<Vec<u8, A>, PathFault> {
+        read_file(alloc, self.0.reader())
+    }
+}
+
+/// Reads a text by its path.
+///
+/// # Errors
+///
+/// A file that can't be opened or read, or is too long, is the fault with its path.
+pub fn read_text<'a, F: Folder, A: Allocator + Copy>(
+    folder: &F,
+    alloc: A,
+    path: &'a str,
+) -> Result<Vec<u8, A>, ToolFault<'a>>
+    ensures { IsTextBy (F.reads folder.now) path.entry result }
+{
+    match folder.read(alloc, path) {
+        Ok(text) => Ok(text),
+        Err(PathFault::NotOpened | PathFault::NotRead) => Err(ToolFault::Unreadable(path)),
+        Err(PathFault::NoMemory) => Err(ToolFault::NoMemory),
     }
 }
 

@@ -2,6 +2,7 @@
 
 ghost use Rattle.std.specs.Prelude.{◌≡◌, ◌⊎◌, List, IfOk, IfErr, IsErrAnd, MatchResult};
 ghost use Rattle.geo_exact.specs.declared.corner.Corner.{Corner};
+ghost use Rattle.fabric_core.specs.Rows.{Tiles};
 ghost use Rattle.parcel_runs.specs.declared.fault.ToolFault.{ToolFault as ToolFaultValue};
 ghost use Rattle.parcel_runs.specs.declared.fault.Role.TheVariants.{Parcels};
 ghost use Rattle.parcel_runs.specs.TilingFiles.{told_of_city as told_of_city_fault, told_of_load as told_of_load_fault, files_of, IsCityOf, IsFaultOfCity, IsTiledBy, IsFaultOfLayer, AreTiles, IsTilesFault};
@@ -80,6 +81,9 @@ fn read_tiles<'h, H: Allocator, A: Allocator>(
     ensures layer { IfOk result (λ layer. IsTiledBy (files_of files.now) unit city.now.ring.corners layer) }
     ensures fault { IfErr result (λ fault. IsFaultOfLayer role (files_of files.now) unit city.now.ring.corners fault
         ⊎ (fault ≡ ToolFault.NoMemory)) }
+    // Files whose rings tile the city are loaded, unless memory runs out.
+    ensures loads { (tiles : Tiles) → IsTiledBy (files_of files.now) unit city.now.ring.corners tiles
+        → IfErr result (λ fault. fault ≡ ToolFault.NoMemory) }
     ensures refuses { (fault : ToolFaultValue) → IsFaultOfLayer role (files_of files.now) unit city.now.ring.corners fault
         → IsErrAnd result (λ told. (told ≡ fault) ⊎ (told ≡ ToolFault.NoMemory)) }
 {
@@ -106,6 +110,9 @@ pub fn load_tiles<'h, H: Allocator, A: Allocator>(
     ensures tiles { IfOk result (AreTiles (files_of city.now) (files_of parcels.now) unit) }
     ensures fault { IfErr result (λ fault. IsTilesFault (files_of city.now) (files_of parcels.now) unit fault
         ⊎ (fault ≡ ToolFault.NoMemory)) }
+    // Files that tile their city are loaded, unless memory runs out.
+    ensures loads { (tiles : Tiles) → AreTiles (files_of city.now) (files_of parcels.now) unit tiles
+        → IfErr result (λ fault. fault ≡ ToolFault.NoMemory) }
     ensures refuses { (fault : ToolFaultValue) → IsTilesFault (files_of city.now) (files_of parcels.now) unit fault
         → IsErrAnd result (λ told. (told ≡ fault) ⊎ (told ≡ ToolFault.NoMemory)) }
 {

@@ -1,16 +1,18 @@
-ghost use Rattle.std.specs.Prelude.{◌≡◌, ◌≢◌, Some, IfSome, IfNone, codes};
+ghost use Rattle.std.specs.Prelude.{◌≡◌, ◌≢◌, List, map, Some, IfOk, IfSome, IfNone, codes};
 ghost use Rattle.clap.specs.Words.{first_value, found_of};
-ghost use Rattle.parcel_tool.specs.Arguments.{unit_word};
+ghost use Rattle.geo_exact.specs.declared.corner.Corner.{Corner};
+ghost use Rattle.parcel_tool.specs.Arguments.{unit_word, AreCornerWords};
 ghost use Rattle.geo_exact.specs.declared.coord.Unit.{Unit as LengthUnit};
 
 use clap::error::ErrorKind;
-use clap::{Arg, ArgAction, ArgMatches, Command, Error};
-use geo_exact::Unit;
+use clap::{Arg, ArgAction, ArgGroup, ArgMatches, Command, Error};
+use geo_exact::{Corners, Unit};
+use parcel_runs::read_corner;
 use std::alloc::{AllocError, Global};
 use std::convert::AsStr;
 
 /// What a command line asks for.
-#[derive(Clone, Copy, Debug, PartialEq, Eq)]
+#[derive(Debug, Drop, PartialEq, Eq)]
 pub enum Request<'a> {
     /// The area of each ring of a layer.
     Area {
@@ -41,7 +43,31 @@ pub enum Request<'a> {
         /// The path of the files that are written, without their endings .shp and .shx.
         base: &'a str,
     },
+    /// Where points lie among parcels.
+    Locate {
+        /// The path of the main file of the city's layer.
+        city: &'a str,
+        /// The path of the main file of the parcels' layer.
+        parcels: &'a str,
+        /// The unit of the coordinates of both.
+        unit: Unit,
+        /// The points.
+        points: Points<'a>,
+    },
 }
+
+/// The points that a command line asks for.
+#[derive(Debug, Drop, PartialEq, Eq)]
+pub enum Points<'a> {
+    /// These.
+    At(Corners<Global>),
+    /// Those of the file at this path; `-` is standard input.
+    File(&'a str),
+}
+
+/// What the words of `--at` have to be.
+const AT_HELP: &str =
+    "--at takes the coordinates X Y of a point, whole centimetres at most 10000000000 away from 0";
 
 /// Reads a command line, the program's own name first. A refused one is an error whose text helps; `--help` and
 /// `--version` are answered as errors too, with the status 0.
@@ -52,6 +78,10 @@ pub fn parse<'a, S: AsStr>(alloc: Global, words: &'a [S]) -> Result<Request<'a>,
         Some(("area", given)) => area_request(given),
         Some(("check", given)) => check_request(given),
         Some(("export", given)) => export_request(given),
+        Some(("locate", given)) => match points_of(alloc, given)? {
+            Some(points) => locate_request(given, points),
+            None => return Err(command.error(ErrorKind::ValueValidation, AT_HELP)?),
+        },
         _ => None,
     };
     if let Some(request) = asked {
@@ -91,6 +121,49 @@ fn export_request<'a>(given: &ArgMatches<'a>) -> Option<Request<'a>> {
     })
 }
 
+/// What the words of `locate` ask for, of these points.
+fn locate_request<'a>(given: &ArgMatches<'a>, points: Points<'a>) -> Option<Request<'a>> {
+    Some(Request::Locate {
+        city: given.get_str("CITY")?,
+        parcels: given.get_str("PARCELS")?,
+        unit: unit_of(given)?,
+        points,
+    })
+}
+
+/// The points that were given; `None` where the words of `--at` are none.
+fn points_of<'a>(alloc: Global, given: &ArgMatches<'a>) -> Result<Option<Points<'a>>, AllocError> {
+    if let Some(path) = given.get_str("points") {
+        return Ok(Some(Points::File(path)));
+    }
+    let words = given.get_strs("at").unwrap_or(&[]);
+    match corners_of(alloc, words)? {
+        Some(corners) => Ok(Some(Points::At(corners))),
+        None => Ok(None),
+    }
+}
+
+/// The corners whose coordinates the words are, two and two; `None` where they are none.
+fn corners_of(alloc: Global, words: &[&str]) -> Result<Option<Corners<Global>>, AllocError>
+    ensures found { IfOk result (λ corners. IfSome corners (AreCornerWords (map (λ word. word.now) words.now))) }
+    ensures none { IfOk result (λ corners. IfNone corners
+        ((list : List Corner) → ¬ AreCornerWords (map (λ word. word.now) words.now) list)) }
+{
+    if words.len() % 2 != 0 {
+        return Ok(None);
+    }
+    let mut corners = Corners::new(alloc);
+    for i in 0..words.len() / 2 {
+        let x = words[2 * i];
+        let y = words[2 * i + 1];
+        let Some(corner) = read_corner(x.as_bytes(), y.as_bytes()) else {
+            return Ok(None);
+        };
+        corners.push(corner)?;
+    }
+    Ok(Some(corners))
+}
+
 /// The unit that was given.
 fn unit_of(given: &ArgMatches<'_>) -> Option<Unit>
     ensures named { IfSome result (λ unit. first_value (found_of given.now) (codes "unit") ≡ Some (unit_word unit)) }
@@ -113,7 +186,8 @@ fn tool_command<'a>(alloc: Global) -> Result<Command<'a>, AllocError> {
         .arg_required_else_help(true)
         .subcommand(area_command(alloc)?)?
         .subcommand(check_command(alloc)?)?
-        .subcommand(export_command(alloc)?)
+        .subcommand(export_command(alloc)?)?
+        .subcommand(locate_command(alloc)?)
 }
 
 fn area_command<'a>(alloc: Global) -> Result<Command<'a>, AllocError> {
@@ -159,6 +233,47 @@ fn export_command<'a>(alloc: Global) -> Result<Command<'a>, AllocError> {
         ))?
         .arg(unit(alloc, "The unit of the files' coordinates"))?
         .arg(base(alloc))
+}
+
+fn locate_command<'a>(alloc: Global) -> Result<Command<'a>, AllocError> {
+    Command::new(alloc, "locate")
+        .about("Prints for each point which parcels have it inside or on an edge")
+        .arg(file(alloc, "CITY", "The main file of the city's layer, .shp"))?
+        .arg(file(
+            alloc,
+            "PARCELS",
+            "The main file of the parcels' layer, .shp",
+        ))?
+        .arg(unit(alloc, "The unit of the files' coordinates"))?
+        .arg(at(alloc))?
+        .arg(points_file(alloc))?
+        .group(asked(alloc)?)
+}
+
+/// The points, which have to be given in one way.
+fn asked<'a>(alloc: Global) -> Result<ArgGroup<'a>, AllocError> {
+    let group = ArgGroup::new(alloc, "asked").required(true);
+    group.arg("at")?.arg("points")
+}
+
+/// A point, which may be given as often as wanted.
+fn at<'a>(alloc: Global) -> Arg<'a> {
+    Arg::new(alloc, "at")
+        .long("at")
+        .action(ArgAction::Append)
+        .num_args(2)
+        .value_names(&["X", "Y"])
+        .allow_negative_numbers(true)
+        .help("A point, in whole centimetres")
+}
+
+/// The file of points.
+fn points_file<'a>(alloc: Global) -> Arg<'a> {
+    Arg::new(alloc, "points")
+        .long("points")
+        .action(ArgAction::Set)
+        .value_name("FILE")
+        .help("A file with a line X Y for each point, in whole centimetres; - reads standard input")
 }
 
 /// Where an export is written, which has to be given.

@@ -5,14 +5,19 @@ mod arguments;
 #[cfg(test)]
 mod tests;
 
-use arguments::Request;
+use arguments::{Points, Request};
 use clap::Error;
 use clap::error::ErrorKind;
 use geo_exact::Counted;
 use parcel_runs::area::area;
 use parcel_runs::check::{check, check_all};
 use parcel_runs::export::export;
-use parcel_runs::{Disk, ToolFault, put_all, read_source, replace_layer};
+use parcel_runs::locate::{locate, locate_text};
+use parcel_runs::{
+    Disk, Source, StandardInput, ToolFault, put_all, read_source, read_text, replace_layer,
+};
+use std::alloc::Global;
+use std::io::Input;
 use std::process::ExitCode;
 use std::rt::{Env, Files};
 use std::{env, io};
@@ -47,15 +52,16 @@ fn command_line<R: Env + AllocGlobal>(rt: &R) -> io::Result<Vec<String>> {
 }
 
 /// Does what the command line asks for.
-fn answer<'a, R: Files + Print + AllocGlobal>(
+fn answer<'a, R: Files + Input + Print + AllocGlobal>(
     rt: &R,
     request: Request<'a>,
 ) -> Result<(), ToolFault<'a>> {
+    let heap = rt.alloc();
     let mut out = Counted::new(io::writer(rt));
     match request {
         Request::Area { main, unit } => {
-            let source = read_source(&Disk(rt), rt.alloc(), main)?;
-            area(rt.alloc(), &source, unit, &mut out)
+            let source = read_source(&Disk(rt), heap, main)?;
+            area(heap, &source, unit, &mut out)
         }
         Request::Check {
             city,
@@ -63,9 +69,7 @@ fn answer<'a, R: Files + Print + AllocGlobal>(
             unit,
             all,
         } => {
-            let heap = rt.alloc();
-            let city = read_source(&Disk(rt), heap, city)?;
-            let parcels = read_source(&Disk(rt), heap, parcels)?;
+            let (city, parcels) = read_both(rt, city, parcels)?;
             if all {
                 check_all(&heap, &city, &parcels, unit, &mut out)
             } else {
@@ -78,14 +82,52 @@ fn answer<'a, R: Files + Print + AllocGlobal>(
             unit,
             base,
         } => {
-            let heap = rt.alloc();
-            let city = read_source(&Disk(rt), heap, city)?;
-            let parcels = read_source(&Disk(rt), heap, parcels)?;
+            let (city, parcels) = read_both(rt, city, parcels)?;
             let exported = export(&heap, &city, &parcels, unit)?;
             replace_layer(rt, heap, base, &exported.main, &exported.index)?;
             put_all(&exported.lines, &mut out)?;
             Ok(())
         }
+        Request::Locate {
+            city,
+            parcels,
+            unit,
+            points,
+        } => {
+            let (city, parcels) = read_both(rt, city, parcels)?;
+            match points {
+                Points::At(corners) => {
+                    locate(&heap, &city, &parcels, unit, corners.as_slice(), &mut out)
+                }
+                Points::File(path) => {
+                    let text = read_points(rt, path)?;
+                    locate_text(&heap, &city, &parcels, unit, &text, &mut out)
+                }
+            }
+        }
+    }
+}
+
+/// The files of a city and of its parcels, by the paths of their main files.
+fn read_both<'a, R: Files + AllocGlobal>(
+    rt: &R,
+    city: &'a str,
+    parcels: &'a str,
+) -> Result<(Source<Global>, Source<Global>), ToolFault<'a>> {
+    let city = read_source(&Disk(rt), rt.alloc(), city)?;
+    let parcels = read_source(&Disk(rt), rt.alloc(), parcels)?;
+    Ok((city, parcels))
+}
+
+/// The text of points at a path; `-` is standard input.
+fn read_points<'a, R: Files + Input + AllocGlobal>(
+    rt: &R,
+    path: &'a str,
+) -> Result<Vec<u8>, ToolFault<'a>> {
+    if path == "-" {
+        read_text(&StandardInput(rt), rt.alloc(), path)
+    } else {
+        read_text(&Disk(rt), rt.alloc(), path)
     }
 }
 

@@ -1,6 +1,6 @@
-use crate::arguments::{Request, parse};
+use crate::arguments::{Points, Request, parse};
 use clap::error::ErrorKind;
-use geo_exact::Unit;
+use geo_exact::{Corner, LIMIT, Unit};
 use std::test::Fail;
 
 #[test]
@@ -47,6 +47,15 @@ fn reads_requests(rt: HostRuntime) -> Result<(), Fail> {
                 base: "new/town",
             },
         ),
+        (
+            "parcel_tool locate --points - city.shp parcels.shp --unit m",
+            Request::Locate {
+                city: "city.shp",
+                parcels: "parcels.shp",
+                unit: Unit::M,
+                points: Points::File("-"),
+            },
+        ),
     ] {
         let words: Vec<&str> = line.split(' ').collect(rt.alloc())?;
         match parse(rt.alloc(), words.as_slice()) {
@@ -55,6 +64,29 @@ fn reads_requests(rt: HostRuntime) -> Result<(), Fail> {
         }
     }
     Ok(())
+}
+
+#[test]
+fn reads_points(rt: HostRuntime) -> Result<(), Fail> {
+    let line = "parcel_tool locate a.shp --at -5 0010 b.shp --unit cm --at 10000000000 -0";
+    let words: Vec<&str> = line.split(' ').collect(rt.alloc())?;
+    match parse(rt.alloc(), words.as_slice()) {
+        Ok(
+            Request::Locate {
+                city,
+                parcels,
+                unit,
+                points: Points::At(corners),
+            },
+        ) => {
+            assert_eq!(rt; (city, parcels, unit), ("a.shp", "b.shp", Unit::Cm));
+            let want = [Corner { x: -5, y: 10 }, Corner { x: LIMIT, y: 0 }];
+            assert_eq!(rt; corners.as_slice(), want.as_slice());
+            Ok(())
+        }
+        Ok(_) => Err(Fail::new("no points")),
+        Err(error) => Err(Fail::new(error)),
+    }
 }
 
 #[test]
@@ -89,6 +121,21 @@ fn refuses_command_lines(rt: HostRuntime) -> Result<(), Fail> {
             "parcel_tool export a.shp b.shp --unit cm",
             ErrorKind::MissingRequiredArgument,
             "--out <BASE>",
+        ),
+        (
+            "parcel_tool locate a.shp b.shp --unit cm",
+            ErrorKind::MissingRequiredArgument,
+            "--points <FILE>",
+        ),
+        (
+            "parcel_tool locate a.shp b.shp --unit cm --points c --at 0 0",
+            ErrorKind::ArgumentConflict,
+            "cannot be used with",
+        ),
+        (
+            "parcel_tool locate a.shp b.shp --unit cm --at 0 10000000001",
+            ErrorKind::ValueValidation,
+            "at most 10000000000",
         ),
         (
             "parcel_tool area a.shp b.shp --unit cm",
@@ -131,6 +178,10 @@ fn shows_help_and_version(rt: HostRuntime) -> Result<(), Fail> {
         (
             "parcel_tool export --help",
             "Usage: parcel_tool export --unit <UNIT> --out <BASE> <CITY> <PARCELS>",
+        ),
+        (
+            "parcel_tool locate --help",
+            "Usage: parcel_tool locate --unit <UNIT> <--at <X> <Y>|--points <FILE>> <CITY> <PARCELS>",
         ),
         ("parcel_tool --version", "parcel_tool 0.1.0"),
     ] {

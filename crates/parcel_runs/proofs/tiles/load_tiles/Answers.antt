@@ -1,7 +1,7 @@
 use Rattle.std.proofs.Common.{inl, inr, sym, subst}
-use Rattle.parcel_runs.proofs.Passing.{passed_on}
+use Rattle.parcel_runs.proofs.Passing.{passed_on, passed_if}
 use Rattle.parcel_runs.proofs.tiles.load_tiles.Goals as goal
-use Rattle.parcel_runs.specs.TilingFiles.{files_of, IsFaultOfLayer}
+use Rattle.parcel_runs.specs.TilingFiles.{files_of, IsFaultOfLayer, IsTiledBy}
 use Rattle.parcel_runs.specs.declared.fault.Role.TheVariants.{Parcels}
 
 pub returns-in_err-city-clause-refuses : goal.returns-in_err-city-clause-refuses
@@ -9,6 +9,16 @@ returns-in_err-city-clause-refuses g c = λ fault h. passed_on _ _ _ c.from_resi
   | inl k ↦ c.in_err-city.ensures.refuses fault k
   | inr k ↦ inr (c.in_err-city.ensures.reads k.corners k.is_city)
 ])
+
+pub returns-in_err-city-clause-loads : goal.returns-in_err-city-clause-loads
+returns-in_err-city-clause-loads g c = λ tiles h.
+    passed_if _ _ _ c.from_residual.ensures.1 (c.in_err-city.ensures.reads tiles.city h.is_city)
+
+pub returns-clause-loads : goal.returns-clause-loads
+returns-clause-loads g c = λ tiles h.
+    c.read_tiles.ensures.loads tiles
+    (subst (λ corners. IsTiledBy (files_of c.args.parcels.now) c.args.unit corners tiles)
+    (sym (c.in_ok-city.ensures.reads tiles.city h.is_city)) h.is_tiled)
 
 pub returns-clause-refuses : goal.returns-clause-refuses
 returns-clause-refuses g c = λ fault h. elim h [

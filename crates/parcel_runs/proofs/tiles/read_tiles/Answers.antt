@@ -1,6 +1,6 @@
 use Rattle.geo_exact.specs.Layers.{rings_of}
-use Rattle.parcel_runs.proofs.Passing.{passed_on}
-use Rattle.parcel_runs.proofs.TilingFaults.{layer_unread, layer_refused, layer_has_none}
+use Rattle.parcel_runs.proofs.Passing.{passed_on, passed_if}
+use Rattle.parcel_runs.proofs.TilingFaults.{layer_unread, layer_refused, layer_has_none, layer_loaded}
 use Rattle.parcel_runs.proofs.tiles.read_tiles.Goals as goal
 
 pub returns-in_err-records-clause-refuses : goal.returns-in_err-records-clause-refuses
@@ -9,6 +9,17 @@ returns-in_err-records-clause-refuses g c = λ fault h.
     (λ rings k. c.in_err-records.ensures.reads rings (rw (c.as_slice.ensures.value, c.index_bytes.ensures.bytes) k))
     (λ first k. c.in_err-records.ensures.refuses first (rw (c.as_slice.ensures.value, c.index_bytes.ensures.bytes) k))
     fault h)
+
+pub returns-in_err-records-clause-loads : goal.returns-in_err-records-clause-loads
+returns-in_err-records-clause-loads g c = λ tiles h.
+    passed_if _ _ _ c.from_residual.ensures.1
+    (c.in_err-records.ensures.reads h.records (rw (c.as_slice.ensures.value, c.index_bytes.ensures.bytes) h.are_records))
+
+pub returns-in-Err-clause-loads : goal.returns-in-Err-clause-loads
+returns-in-Err-clause-loads g c = λ tiles h.
+    rw c.told_of_load.ensures (layer_loaded _ _ _ _ _ _ h
+    (c.in_ok-records.ensures.reads h.records (rw (c.as_slice.ensures.value, c.index_bytes.ensures.bytes) h.are_records))
+    c.in-Err.ensures.fault)
 
 pub returns-in-Err-clause-refuses : goal.returns-in-Err-clause-refuses
 returns-in-Err-clause-refuses g c = λ fault h.

@@ -1,0 +1,57 @@
+-- The lines that tell where points lie (this product's own). Numbers are in decimal, with a minus sign where they are below 0; points in centimetres.
+use Rattle.std.specs.Prelude.{◌≡◌, ◌≢◌, ◌⊎◌, ℕ, List, [], ◌∷◌, ◌++◌, codes, decimal, Option}
+use Rattle.std.specs.List.{flat_map}
+use Rattle.std.specs.Io.KnownBytes.{Appends}
+use Rattle.geo_exact.specs.Point.{corner_point, Point}
+use Rattle.geo_exact.specs.Layers.{NumberedRing}
+use Rattle.geo_exact.specs.declared.coord.Unit.{Unit as LengthUnit}
+use Rattle.geo_exact.specs.declared.corner.Corner.{Corner}
+use Rattle.fabric_core.specs.Locate.{AreAllOnEdge, IsInsideOf}
+use Rattle.fabric_core.specs.Rows.{Tiles}
+use Rattle.parcel_runs.specs.declared.fault.ToolFault.{ToolFault}
+use Rattle.parcel_runs.specs.declared.fault.ToolFault.TheVariants.{PointLine}
+use Rattle.parcel_runs.specs.FaultLines.{corner_text}
+use Rattle.parcel_runs.specs.PointLines.{ArePoints, IsFirstBadPoint}
+use Rattle.parcel_runs.specs.TilingFiles.{Files, AreTiles, IsTilesFault}
+
+-- ` ID`
+abbrev pub id_text : ℕ → List ℕ
+id_text id = codes " " ++ decimal id
+
+-- `edge ID ID ..` with all parcels on whose edges p lies, ascending, where there is one; else `inside ID` with the one that it is inside of; else `outside`
+abbrev pub IsPlaceText : List NumberedRing → Point → List ℕ → Type 0
+IsPlaceText rows p text = ((ids : List ℕ) × AreAllOnEdge rows p ids × (ids ≢ []) × (text ≡ codes "edge" ++ flat_map id_text ids))
+    ⊎ ((id : ℕ) × AreAllOnEdge rows p [] × IsInsideOf rows p id × (text ≡ codes "inside" ++ id_text id))
+    ⊎ (AreAllOnEdge rows p [] × ((id : ℕ) → ¬ IsInsideOf rows p id) × (text ≡ codes "outside"))
+
+-- the lines of points, in order: the point's coordinates, and where it lies among the rows
+abbrev pub ArePlaceLines : List NumberedRing → List Corner → List ℕ → Type 0
+ArePlaceLines rows [] text = text ≡ []
+ArePlaceLines rows (point ∷ points) text = (place : List ℕ) × (rest : List ℕ) × IsPlaceText rows (corner_point point) place
+    × (text ≡ corner_text point ++ codes " " ++ place ++ codes "\n" ++ rest) × ArePlaceLines rows points rest
+
+-- the parcels' files tile the city of the city's files, and the lines of the points among the parcels were written after the told bytes
+pub record WritesPlaces (city parcels : Files) (unit : LengthUnit) (points : List Corner) (old new : Option (List ℕ)) : Type 0 where
+  pub tiles : Tiles
+  pub are_tiles : AreTiles city parcels unit tiles
+  pub lines : List ℕ
+  pub are_lines : ArePlaceLines tiles.rows points lines
+  pub is_written : Appends old new lines
+
+-- the same of the points of a text
+pub record WritesPlacesOfText (city parcels : Files) (unit : LengthUnit) (text : List ℕ) (old new : Option (List ℕ)) : Type 0 where
+  pub points : List Corner
+  pub are_points : ArePoints text points
+  pub are_written : WritesPlaces city parcels unit points old new
+
+-- the parcels' files tile the city of the city's files, and the fault is the text's first bad line
+pub record IsPointsFault (city parcels : Files) (unit : LengthUnit) (text : List ℕ) (fault : ToolFault) : Type 0 where
+  pub tiles : Tiles
+  pub are_tiles : AreTiles city parcels unit tiles
+  pub number : ℕ
+  pub is_first : IsFirstBadPoint text number
+  pub is_told : fault ≡ PointLine number
+
+-- the fault is the first: the city's, then the parcels', then the points'
+abbrev pub IsLocateFault : Files → Files → LengthUnit → List ℕ → ToolFault → Type 0
+IsLocateFault city parcels unit text fault = IsTilesFault city parcels unit fault ⊎ IsPointsFault city parcels unit text fault
