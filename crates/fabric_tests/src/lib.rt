@@ -3,6 +3,8 @@
 #![tactic(auto)]
 
 #[cfg(test)]
+mod all_faults_refused;
+#[cfg(test)]
 mod cities;
 #[cfg(test)]
 mod loading;

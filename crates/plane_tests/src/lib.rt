@@ -18,3 +18,5 @@ mod overlaps;
 mod refusals;
 #[cfg(test)]
 mod size;
+#[cfg(test)]
+mod unbalanced_refused;

@@ -79,7 +79,7 @@ fn refuses_each_torn_file(rt: HostRuntime) -> Result<(), Fail> {
 
 /// A writer that takes one byte a call.
 #[derive(Drop)]
-struct ByteByByte(Vec<u8>);
+pub struct ByteByByte(pub Vec<u8>);
 
 impl Write for ByteByByte {
     fn write(&mut self, bytes: &[u8]) -> io::Result<usize> {

@@ -7,16 +7,16 @@ use std::alloc::{AllocError, Global};
 use std::test::Fail;
 
 /// A place, in centimetres.
-type Place = (u16, u16);
+pub type Place = (u16, u16);
 
 /// The city of most rows.
-const CITY: [Place; 4] = [(0, 0), (100, 0), (100, 100), (0, 100)];
+pub const CITY: [Place; 4] = [(0, 0), (100, 0), (100, 100), (0, 100)];
 
 /// The rectangle from x = 0 to 60 in it.
-const WEST: [Place; 4] = [(0, 0), (60, 0), (60, 100), (0, 100)];
+pub const WEST: [Place; 4] = [(0, 0), (60, 0), (60, 100), (0, 100)];
 
 /// A main file with a record for each ring, or a null shape for a ring of no corners.
-fn layer(alloc: Global, rings: &[&[Place]]) -> Result<Vec<u8>, AllocError> {
+pub fn layer(alloc: Global, rings: &[&[Place]]) -> Result<Vec<u8>, AllocError> {
     let mut records = Vec::new(alloc);
     for (k, ring) in rings.iter().enumerate() {
         push_ring(

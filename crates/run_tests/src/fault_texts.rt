@@ -11,6 +11,7 @@ fn tells_faults(rt: HostRuntime) -> Result<(), Fail> {
         (ToolFault::Unreadable("a b/city.shp"), "S1 a b/city.shp"),
         (ToolFault::UnreadableIndex("a b/city"), "S1 a b/city.shx"),
         (ToolFault::Output, "S2"),
+        (ToolFault::PointLine(3), "points: L1 3"),
         (ToolFault::NoMemory, "no memory"),
     ] {
         assert_eq!(rt; format!(in rt.alloc(); "{fault}")?.as_str(), want);

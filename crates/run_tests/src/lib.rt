@@ -11,6 +11,10 @@ mod fault_texts;
 #[cfg(test)]
 mod index_runs;
 #[cfg(test)]
+mod locate_runs;
+#[cfg(test)]
+mod point_lines;
+#[cfg(test)]
 mod refused_growths;
 #[cfg(test)]
 mod replacing;

@@ -1,5 +1,5 @@
 use crate::square::{HUNDRED, index, square};
-use parcel_runs::{Disk, ToolFault, read_source};
+use parcel_runs::{Disk, ToolFault, read_source, read_text};
 use std::fs;
 use std::test::Fail;
 
@@ -47,6 +47,22 @@ fn names_the_file_that_it_could_not_read(rt: HostRuntime) -> Result<(), Fail> {
     ] {
         let answer = read_source(&Disk(&rt), alloc, path).map(|_| ());
         assert_eq!(rt; answer, Err(want), "at {path}");
+    }
+    Ok(())
+}
+
+#[test]
+fn reads_a_text_at_its_path(rt: HostRuntime) -> Result<(), Fail> {
+    let alloc = rt.alloc();
+    fs::write(&rt, "points.txt", "0 0\n")?;
+    match read_text(&Disk(&rt), alloc, "points.txt") {
+        Ok(text) => assert_eq!(rt; text.as_slice(), b"0 0\n".as_slice()),
+        Err(fault) => return Err(Fail::new(fault)),
+    }
+    fs::create_dir(&rt, "folder.txt")?;
+    for path in ["missing.txt", "folder.txt"] {
+        let answer = read_text(&Disk(&rt), alloc, path).map(|_| ());
+        assert_eq!(rt; answer, Err(ToolFault::Unreadable(path)), "at {path}");
     }
     Ok(())
 }
