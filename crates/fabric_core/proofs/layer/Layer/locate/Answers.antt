@@ -12,12 +12,12 @@ use Rattle.fabric_core.proofs.layer.Layer.locate.Goals as goal
 pub locate_among-requires-clause-ids_rise : goal.locate_among-requires-clause-ids_rise
 locate_among-requires-clause-ids_rise g c =
     subst IsStrictlyIncreasing (sym (ap (λ shapes. map (λ shape. shape.0) shapes) c.shapes.ensures
-    ∙ ids_of_shapes c.self.inside.parcels.parcels)) c.self.invariant.ids_rise
+    ∙ ids_of_shapes c.self.inside.parcels.parcels)) c.self.invariant.is_layer.ids_rise
 
 pub locate_among-requires-clause-short : goal.locate_among-requires-clause-short
 locate_among-requires-clause-short g c =
     subst (AllByRecursion (λ row. length row.corners ≤ RING_CORNERS)) (sym (ap rows_of c.shapes.ensures
-    ∙ rows_of_shapes c.self.inside.parcels.parcels)) c.self.invariant.within.each
+    ∙ rows_of_shapes c.self.inside.parcels.parcels)) c.self.invariant.is_layer.within.each
 
 pub returns : goal.returns
 returns g c =
