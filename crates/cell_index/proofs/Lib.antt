@@ -5,3 +5,4 @@ pub mod Standing
 pub mod Members
 pub mod Indexed
 pub mod Gathered
+pub mod Searches

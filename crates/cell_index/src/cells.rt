@@ -8,11 +8,12 @@ use crate::range::CellRange;
 use smallvec::SmallVec;
 use std::alloc::{AllocError, Allocator};
 
-/// What stands in one cell. Four entries lie in the cell itself, so that the cells of a town of some thousand parcels, most of which have fewer, need no
-/// memory of their own.
+/// What stands in one cell. Four entries lie in the cell itself: most cells over a town of a thousand parcels have no more, and
+/// need no memory of their own.
 pub type Cell<'a, H> = SmallVec<Entry, 4, &'a H>;
 
-/// Makes room for `count` more entries in each cell of a range. What stands in them does not change, also where memory is refused.
+/// Makes room for `count` more entries in each cell of a range. What stands in them does not change, also where memory is
+/// refused.
 pub fn make_room<'a, H: Allocator>(
     cells: &mut [Cell<'a, H>],
     range: CellRange,

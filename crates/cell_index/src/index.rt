@@ -1,4 +1,4 @@
-ghost use Rattle.std.specs.Prelude.{◌≡◌, ◌≢◌, ◌↔◌, ℕ, ◌≤ℤ◌, List, [], ◌∷◌, ◌++◌, IfOk, OnOk, OnErr, slice_index_or};
+ghost use Rattle.std.specs.Prelude.{◌≡◌, ◌≢◌, ◌↔◌, ℕ, List, [], ◌∷◌, ◌++◌, IfOk, OnOk, OnErr, slice_index_or};
 ghost use Rattle.std.specs.List.{filter, Contains, AllPairs};
 ghost use Rattle.geo_exact.specs.Bounds.{HoldsCorner};
 ghost use Rattle.cell_index.specs.declared.entry.Entry.{Entry};
@@ -14,11 +14,12 @@ use smallvec::SmallVec;
 use std::alloc::{AllocError, Allocator};
 use std::marker::Model;
 
-/// Which boxes stand in which cells of a grid of 64 by 64 cells over an area. Contracts see the area and what stands in each cell.
+/// Which boxes stand in which cells of a grid of 64 by 64 cells over an area. Contracts see the area and what stands in each
+/// cell.
 ///
-/// A cell is `(high - low) / 64 + 1` centimetres wide, whole division, and likewise high. A box stands in the cells between those of its two corners,
-/// these included. An entry lies in each cell where its box stands, its key and its box side by side, so that a search reads one cell and nothing else.
-/// The memory is that of the heap that was lent.
+/// A cell is `(high - low) / 64 + 1` centimetres wide, whole division, and likewise high. A box stands in the cells between
+/// those of its two corners, these included. An entry lies in each cell where its box stands, its key and its box side by
+/// side, so that a search reads one cell and nothing else. The memory is that of the heap that was lent.
 #[derive(Drop)]
 pub struct CellIndex<'a, H: Allocator> {
     area: Bounds,
@@ -68,7 +69,8 @@ impl<'a, H: Allocator> CellIndex<'a, H> {
     /// [`AllocError`] where the memory of a cell is refused.
     pub fn add(&mut self, entry: Entry) -> Result<(), AllocError>
         ensures area { self.new.area ≡ self.old.area }
-        ensures ok { (entries : List Entry) → Indexes self.old entries → OnOk result (Indexes self.new (entries ++ entry ∷ [])) }
+        ensures ok { (entries : List Entry) → Indexes self.old entries
+            → OnOk result (Indexes self.new (entries ++ entry ∷ [])) }
         ensures err { OnErr result (self.new ≡ self.old) }
     {
         let range = cells_of(self.area, entry.bounds);
@@ -80,7 +82,8 @@ impl<'a, H: Allocator> CellIndex<'a, H> {
     /// Takes an entry out, its key and its box both the same; where there is none, nothing changes.
     pub fn remove(&mut self, entry: Entry)
         ensures area { self.new.area ≡ self.old.area }
-        ensures removed { (entries : List Entry) → Indexes self.old entries → Indexes self.new (without (entry ∷ []) entries) }
+        ensures removed { (entries : List Entry) → Indexes self.old entries
+            → Indexes self.new (without (entry ∷ []) entries) }
     {
         take_out(
             self.cells.as_mut_slice(),
@@ -100,14 +103,14 @@ impl<'a, H: Allocator> CellIndex<'a, H> {
         self.cells[ACROSS * column + row].as_slice()
     }
 
-    /// The keys of the entries that stand in some cell between the cells of two corners, these included, each once. The corners, the first west and south
-    /// of the second, are brought into the area first, to the nearer end where a coordinate lies outside.
+    /// The keys of the entries that stand in some cell between the cells of two corners, these included, each once. The corners,
+    /// the first west and south of the second, are brought into the area first, to the nearer end where a coordinate lies
+    /// outside.
     ///
     /// # Errors
     ///
     /// [`AllocError`] where the list of keys is refused.
     pub fn between(&self, low: Corner, high: Corner) -> Result<Vec<usize, &'a H>, AllocError>
-        requires { (low.x ≤ℤ high.x) × (low.y ≤ℤ high.y) }
         ensures found { (entries : List Entry) → Indexes self.now entries
             → IfOk result (λ keys. (key : ℕ) → Contains keys.items key ↔ IsKeyBetween self.now.area low high entries key) }
         ensures once { (entries : List Entry) → Indexes self.now entries → HaveOwnKeys entries

@@ -6,7 +6,11 @@ mod axis;
 mod cells;
 mod entry;
 mod index;
+mod laws;
 mod range;
 
 pub use entry::Entry;
 pub use index::CellIndex;
+pub use laws::{
+    a_corner_is_off_what_does_not_stand_in_its_cell, rings_whose_interiors_meet_share_a_cell,
+};

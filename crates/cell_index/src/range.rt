@@ -1,6 +1,7 @@
 ghost use Rattle.std.specs.Prelude.{◌≡◌, ◌+◌, ◌<◌, ◌≤◌, ◌↔◌, ℕ, IsTrue};
 ghost use Rattle.cell_index.specs.Cells.{cell_of as cell_along, stands_in, IsCellBetween};
-ghost use Rattle.cell_index.specs.own.Ranges.{HasCell, cell_count, column_at, row_at, number_at, is_first_at, is_first_common as first_common};
+ghost use Rattle.cell_index.specs.own.Ranges.{HasCell, cell_count, column_at, row_at, number_at};
+ghost use Rattle.cell_index.specs.own.Ranges.{is_first_at, is_first_common as first_common};
 ghost use Rattle.cell_index.specs.declared.axis.TheConstants.{ACROSS};
 
 use crate::axis::{ACROSS, Span, cell_of, cells_from_to, into_range};
@@ -73,7 +74,8 @@ impl CellRange {
         self.rows.first + n % self.rows.count
     }
 
-    /// Whether the `n`-th cell is the first, in both directions, that the range has in common with the cells of a box that stands there.
+    /// Whether the `n`-th cell is the first, in both directions, that the range has in common with the cells of a box that
+    /// stands there.
     pub fn is_first(self, area: Bounds, n: usize, bounds: Bounds) -> bool
         requires { n < cell_count self }
         ensures { result ≡ is_first_at area self n bounds }
