@@ -18,7 +18,7 @@ module _ {A : Type 0} where
   no_parcel : (parcel : Parcel A) → Some parcel ≡ None → ⊥
   no_parcel parcel e = absurd (cc)
 
-  same_parcel : (p q : Parcel A) → Some p ≡ Some q → p ≡ q
+  pub same_parcel : (p q : Parcel A) → Some p ≡ Some q → p ≡ q
   same_parcel p q e = cc
 
   -- ---- tables put together

@@ -1,5 +1,5 @@
 -- Which parcels stand in which cells of a layer's grid (this product's own; the cells of a grid are cell_index').
-use Rattle.std.specs.Prelude.{ℕ, List}
+use Rattle.std.specs.Prelude.{List}
 use Rattle.std.specs.List.{AllZip}
 use Rattle.geo_exact.specs.declared.corner.Corner.{Corner}
 use Rattle.geo_exact.specs.Bounds.{IsLeastBox}

@@ -22,10 +22,11 @@ use crate::gaps::check_nets;
 use crate::grid_index::clip_all;
 use crate::iter::{Ids, Shapes};
 use crate::limits::first_too_many;
-use crate::locate::{At, locate_among};
+use crate::locate::At;
 use crate::parcels::Parcels;
 use crate::refine::{Refined, refine};
 use crate::rings::checked;
+use crate::side::{Side, side_of};
 use cell_index::CellIndex;
 use geo_exact::{Bounds, Corner, Corners, RawRing};
 use ring_core::{Ring, RingFault, Shape};
@@ -183,7 +184,8 @@ impl<'a, H: Allocator> Layer<'a, H> {
     }
 
     /// Where a corner lies among the parcels: on the edges of all that have it on one, by ascending id, where there is any; else inside
-    /// the one that it is inside of; else outside, as each corner beyond the city is. The time grows with the number of all corners.
+    /// the one that it is inside of; else outside, as each corner beyond the city is. It is found among the parcels that stand in the
+    /// corner's cell of the grid index: the time grows with the number of these, and with the corners of those whose boxes hold it.
     ///
     /// # Errors
     ///
@@ -191,7 +193,30 @@ impl<'a, H: Allocator> Layer<'a, H> {
     pub fn locate(&self, corner: Corner) -> Result<At<&'a H>, AllocError>
         ensures { IfOk result (λ at. IsLocatedAt self.now.rows (corner_point corner) at) }
     {
-        locate_among(self.parcels.allocator(), self.parcels.shapes(), corner)
+        if !self.index.area().holds(corner) {
+            return Ok(At::Outside);
+        }
+        let mut on_edge = Vec::new(self.parcels.allocator());
+        let mut inside = None;
+        let entries = self.index.at(corner);
+        for entry in entries {
+            if !entry.bounds.holds(corner) {
+                continue;
+            }
+            let parcel = self.parcels.at(entry.key);
+            match side_of(parcel.shape.ring.corners.as_slice(), corner) {
+                Side::OnEdge => on_edge.push(parcel.id)?,
+                Side::Inside => inside = Some(parcel.id),
+                Side::Outside => {}
+            }
+        }
+        if !on_edge.is_empty() {
+            return Ok(At::OnEdge(on_edge));
+        }
+        match inside {
+            Some(id) => Ok(At::Inside(id)),
+            None => Ok(At::Outside),
+        }
     }
 
     /// The city's ring, with the corners that were read, begun at its least corner.

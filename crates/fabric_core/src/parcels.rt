@@ -111,6 +111,14 @@ impl<A: Allocator> Parcels<A> {
         self.slab.len()
     }
 
+    /// The parcel under this key.
+    pub(crate) fn at(&self, key: usize) -> &Parcel<A>
+        requires { (parcel : ParcelValue A) × Contains self.now.parcels (key, parcel) }
+        ensures { (parcel : ParcelValue A) → Contains self.now.parcels (key, parcel) → result.now ≡ parcel }
+    {
+        &self.slab[key]
+    }
+
     /// The shape of the parcel with this id.
     pub(crate) fn shape(&self, id: u64) -> Option<&Shape<A>>
         ensures { MatchOption result
