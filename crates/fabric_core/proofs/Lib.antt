@@ -19,3 +19,4 @@ pub mod Located
 pub mod Tables
 pub mod OneParcel
 pub mod Clipped
+pub mod FromOneCell

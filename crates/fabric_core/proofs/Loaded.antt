@@ -11,8 +11,14 @@ use Rattle.fabric_core.specs.Rows.{numbers}
 use Rattle.fabric_core.specs.Limits.{AreWithinLimits}
 use Rattle.fabric_core.specs.Faults.{AreSimple}
 use Rattle.fabric_core.specs.own.Checks.{HaveEqualNets, HaveNoFault, IsRefinedCity, IsChecked}
-use Rattle.fabric_core.specs.own.Lists.{numbered_rows, corners_of_rings, IsLayer}
-use Rattle.fabric_core.specs.own.Table.{rows_of_keyed}
+use Rattle.fabric_core.specs.own.Lists.{numbered_rows, corners_of_rings, IsLayer, IsKept}
+use Rattle.fabric_core.specs.own.Table.{rows_of_keyed, entries_of}
+use Rattle.std.specs.List.{All, AllZip, AllByRecursion}
+use Rattle.geo_exact.specs.declared.bounds.Bounds.{Bounds}
+use Rattle.geo_exact.specs.Bounds.{HoldsCorner, IsLeastBox}
+use Rattle.cell_index.specs.Cells.{Grid, Indexes}
+use Rattle.fabric_core.specs.GridIndex.{IsIndexed}
+use Rattle.fabric_core.proofs.InTheCity.{rows_in_box}
 use Rattle.fabric_core.proofs.Lists.{numbers_of_rows, lists_of_rows}
 use Rattle.fabric_core.proofs.RingChecks.{made_rows, simple_rows}
 use Rattle.fabric_core.proofs.Tilings.{tiles_where_nets_are_equal}
@@ -39,6 +45,33 @@ loaded {A} number_list rings parcels city refined same h = record {
 
     nets : HaveEqualNets (corner_lists (rows_of_keyed parcels)) refined
     nets = subst (λ lists. HaveEqualNets lists refined) (sym (ap corner_lists same ∙ lists_of_rows number_list rings h.same_length)) h.nets
+
+-- the parcels' boxes are their rows'
+boxes_of_rows : {A : Type 0} (parcels : List (ℕ × Parcel A))
+    → AllZip (λ row entry. IsLeastBox entry.bounds row.corners) (rows_of_keyed parcels) (entries_of parcels)
+boxes_of_rows [] = tt
+boxes_of_rows (parcel ∷ parcels) = (parcel.1.shape.least_box, boxes_of_rows parcels)
+
+pub is_indexed : {A : Type 0} (parcels : List (ℕ × Parcel A)) (city : List Corner) (index : Grid) → IsKept parcels city index
+    → IsIndexed (rows_of_keyed parcels) city index
+is_indexed parcels city index h = record {
+  area = h.area;
+  entries = entries_of parcels;
+  have_their_boxes = boxes_of_rows parcels;
+  stand = h.indexed;
+}
+
+pub kept : {A : Type 0} (numbers : List ℕ) (rings : List (List Corner)) (parcels : List (ℕ × Parcel A)) (city refined : List Corner) (area : Bounds)
+    (index : Grid) → rows_of_keyed parcels ≡ numbered_rows numbers rings → IsChecked numbers rings city refined → IsLeastBox area city
+    → index.area ≡ area → Indexes index (entries_of parcels) → IsKept parcels city index
+kept numbers rings parcels city refined area index same h least e indexed =
+    let all = loaded numbers rings parcels city refined same h in record {
+      is_layer = all.is_layer;
+      area = subst (λ box. IsLeastBox box city) (sym e) least;
+      in_area = subst (λ box. AllByRecursion (λ row. All (HoldsCorner box) row.corners) (rows_of_keyed parcels)) (sym e)
+          (rows_in_box (rows_of_keyed parcels) city h.is_city.corners refined area all.no_fault.simple h.is_city.is_noded all.no_fault.nets least.holds);
+      indexed = indexed;
+    }
 
 -- what was checked, of the values that the steps of loading hand on
 pub checked_from : {A : Type 0} (ids d5 : List ℕ) (rings : List (List Corner)) (d : List ℕ) (d2 : List (List Corner)) (checked d4 : List (Ring A))

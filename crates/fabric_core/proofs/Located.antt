@@ -1,22 +1,19 @@
 -- Going through rows to find out where a place lies among them.
-use Rattle.std.proofs.Common.{true, ◌==◌, ◌≡◌, ◌⊎◌, inl, inr, ⊎_elim, refl, sym, ◌∙◌, ap, subst, arith, ℕ, zero, suc, ◌+◌, ◌<◌, ◌≤◌, List, [], ◌∷◌, ◌++◌, length, map, get_or, Option, Some, None, MatchOption, append_assoc}
-use Rattle.std.specs.List.{Contains, AllByRecursion, AllPairs}
+use Rattle.std.proofs.Common.{true, ◌==◌, ◌≡◌, ◌⊎◌, inl, inr, ⊎_elim, refl, sym, ◌∙◌, ap, subst, arith, ℕ, zero, suc, ◌+◌, ◌<◌, List, [], ◌∷◌, ◌++◌, length, get_or, Option, Some, None, MatchOption, append_assoc}
+use Rattle.std.specs.Bool.{⊤}
+use Rattle.std.specs.List.{Contains, AllByRecursion}
 use Rattle.std.specs.List.Sorted.{IsStrictlyIncreasing}
 use Rattle.std.proofs.lemmas.Bool.{cases_lt}
 use Rattle.std.proofs.lemmas.Bool.Decides.{nat_tests}
-use Rattle.std.proofs.lemmas.List.{append-nil, length-append, length-map}
-use Rattle.std.proofs.lemmas.List.Kept.{AllPairs-from_increasing}
+use Rattle.std.proofs.lemmas.List.{append-nil, length-append}
 use Rattle.std.proofs.lemmas.List.Elements.{Contains-append_left, Contains-push, Contains-push_cases}
 use Rattle.geo_exact.specs.declared.corner.Corner.{Corner}
 use Rattle.geo_exact.specs.Point.{Point}
 use Rattle.geo_exact.specs.Turn.{IsOnRing}
 use Rattle.geo_exact.specs.Winding.{IsInterior}
 use Rattle.geo_exact.specs.Layers.{NumberedRing, numbered}
-use Rattle.geo_exact.specs.declared.limits.TheConstants.{RING_CORNERS}
-use Rattle.ring_core.specs.declared.shape.Shape.{Shape}
 use Rattle.edge_chains.proofs.NodedEdges.{none_in_nil, Contains-cases, Contains-here, Contains-there}
 use Rattle.fabric_core.specs.Locate.{IsOnEdgeOf, IsInsideOf, AreAllOnEdge}
-use Rattle.fabric_core.specs.own.Table.{rows_of}
 use Rattle.fabric_core.specs.own.Sides.{IsFound}
 
 last_of : (x : ℕ) (xs : List ℕ) (n : ℕ) → get_or (xs ++ n ∷ []) (length xs) x ≡ n
@@ -126,81 +123,67 @@ module _ (p : Point) (rows : List NumberedRing) (n : ℕ) (ring : List Corner) w
       → IsFound more p ids inside
   outside_more ids inside off out h = record { are_all = same_edges ids off h.are_all; is_inside = still_inside inside out h.is_inside }
 
--- ---- parcels gone through one after the other
-number_behind : {A : Type 0} (done rest : List (ℕ × Shape A)) (x : ℕ × Shape A)
-    → get_or (map (λ shape. shape.0) (done ++ x ∷ rest)) (length done) 0 ≡ x.0
-number_behind [] rest x = refl
-number_behind (d ∷ done) rest x = number_behind done rest x
+-- ---- rows gone through one after the other, by ascending number
+abbrev pub Ascend : List NumberedRing → Type 0
+Ascend [] = ⊤
+Ascend (row ∷ rows) = AllByRecursion (λ later. row.number < later.number) rows × Ascend rows
 
--- the ids of the parcels before one are below its id
-below_next : {A : Type 0} (done rest : List (ℕ × Shape A)) (x : ℕ × Shape A) (row : NumberedRing)
-    → AllPairs (λ m n. m < n) (map (λ shape. shape.0) (done ++ x ∷ rest)) → Contains (rows_of done) row → row.number < x.0
-below_next [] rest x row up c = absurd (none_in_nil row c)
-below_next (d ∷ done) rest x row up c = ⊎_elim
-    (λ e. let first : d.0 < get_or (map (λ shape. shape.0) (done ++ x ∷ rest)) (length done) 0 =
-    up 0 (suc (length done)) 0 (omega arith)
-    (omega (arith, length-append done (x ∷ rest), length-map (done ++ x ∷ rest) (λ shape. shape.0))) in
-    omega (arith, first, number_behind done rest x, ap (λ (r : NumberedRing). r.number) e))
-    (λ later. below_next done rest x row (λ i j d' l m. up (suc i) (suc j) d' (omega (arith, l)) (omega (arith, m))) later)
-    (Contains-cases (numbered d.0 d.1.ring.corners) (rows_of done) row c)
+below_next : (done rest : List NumberedRing) (next row : NumberedRing) → Ascend (done ++ next ∷ rest) → Contains done row → row.number < next.number
+below_next [] rest next row up c = absurd (none_in_nil row c)
+below_next (d ∷ done) rest next row up c = ⊎_elim
+    (λ e. subst (λ (r : NumberedRing). r.number < next.number) e (behind done up.0))
+    (λ later. below_next done rest next row up.1 later)
+    (Contains-cases d done row c)
+  where
+    behind : (done : List NumberedRing) → AllByRecursion (λ later. d.number < later.number) (done ++ next ∷ rest) → d.number < next.number
+    behind [] h = h.0
+    behind (e ∷ done) h = behind done h.1
 
-rows_of-push : {A : Type 0} (done : List (ℕ × Shape A)) (x : ℕ × Shape A) → rows_of (done ++ x ∷ []) ≡ rows_of done ++ numbered x.0 x.1.ring.corners ∷ []
-rows_of-push [] x = refl
-rows_of-push (d ∷ done) x = ap (λ rows. numbered d.0 d.1.ring.corners ∷ rows) (rows_of-push done x)
-
--- what is found out when some of the parcels are left
-pub record AreSearched {A : Type 0} (p : Point) (all rest : List (ℕ × Shape A)) (on_edge : List ℕ) (inside : Option ℕ) : Type 0 where
-  pub done : List (ℕ × Shape A)
+-- what is found out when some of the rows are left
+pub record AreSearched (p : Point) (all rest : List NumberedRing) (on_edge : List ℕ) (inside : Option ℕ) : Type 0 where
+  pub done : List NumberedRing
   pub are_all : done ++ rest ≡ all
-  pub found : IsFound (rows_of done) p on_edge inside
+  pub found : IsFound done p on_edge inside
 
--- one parcel more
-module _ {A : Type 0} (p : Point) (all rest left : List (ℕ × Shape A)) (x : ℕ × Shape A) (on_edge : List ℕ) (inside : Option ℕ)
-    (searched : AreSearched p all rest on_edge inside) (next : rest ≡ x ∷ left) where
-  moved_on : (on : List ℕ) (now : Option ℕ) → IsFound (rows_of searched.done ++ numbered x.0 x.1.ring.corners ∷ []) p on now
-      → AreSearched p all left on now
+pub none_searched : (p : Point) (all : List NumberedRing) → AreSearched p all all [] None
+none_searched p all = record {
+  done = [];
+  are_all = refl;
+  found = record {
+    are_all = record {
+      ascend = λ k h. absurd (omega (arith, h));
+      exactly = λ id. (λ c. absurd (none_in_nil id c), λ h. absurd (none_in_nil h.row h.is_row));
+    };
+    is_inside = λ id h. none_in_nil h.row h.is_row;
+  };
+}
+
+-- one row more
+module _ (p : Point) (all rest left : List NumberedRing) (n : ℕ) (ring : List Corner) (on_edge : List ℕ) (inside : Option ℕ)
+    (searched : AreSearched p all rest on_edge inside) (next : rest ≡ numbered n ring ∷ left) where
+  moved_on : (on : List ℕ) (now : Option ℕ) → IsFound (searched.done ++ numbered n ring ∷ []) p on now → AreSearched p all left on now
   moved_on on now h = record {
-    done = searched.done ++ x ∷ [];
-    are_all = append_assoc searched.done (x ∷ []) left ∙ ap (λ xs. searched.done ++ xs) (sym next) ∙ searched.are_all;
-    found = subst (λ rows. IsFound rows p on now) (sym (rows_of-push searched.done x)) h;
+    done = searched.done ++ numbered n ring ∷ [];
+    are_all = append_assoc searched.done (numbered n ring ∷ []) left ∙ ap (λ xs. searched.done ++ xs) (sym next) ∙ searched.are_all;
+    found = h;
   }
 
-  pub searched_on_edge : IsStrictlyIncreasing (map (λ shape. shape.0) all) → IsOnRing p x.1.ring.corners
-      → AreSearched p all left (on_edge ++ x.0 ∷ []) inside
-  searched_on_edge up on = moved_on (on_edge ++ x.0 ∷ []) inside (on_edge_more p (rows_of searched.done) x.0 x.1.ring.corners on_edge inside on
-      (λ id e. subst (λ m. m < x.0) e.has_id (below_next searched.done left x e.row pairs e.is_row)) searched.found)
-    where
-      pairs : AllPairs (λ m n. m < n) (map (λ shape. shape.0) (searched.done ++ x ∷ left))
-      pairs = AllPairs-from_increasing (map (λ shape. shape.0) (searched.done ++ x ∷ left)) (subst (λ xs. IsStrictlyIncreasing (map (λ shape. shape.0) xs))
-          (sym searched.are_all ∙ ap (λ xs. searched.done ++ xs) next) up)
+  pub searched_on_edge : Ascend all → IsOnRing p ring → AreSearched p all left (on_edge ++ n ∷ []) inside
+  searched_on_edge up on = moved_on (on_edge ++ n ∷ []) inside (on_edge_more p searched.done n ring on_edge inside on
+      (λ id e. subst (λ m. m < n) e.has_id (below_next searched.done left (numbered n ring) e.row
+      (subst Ascend (sym searched.are_all ∙ ap (λ xs. searched.done ++ xs) next) up) e.is_row)) searched.found)
 
-  pub searched_inside : IsInterior p x.1.ring.corners → AreSearched p all left on_edge (Some x.0)
-  searched_inside is = moved_on on_edge (Some x.0) (inside_more p (rows_of searched.done) x.0 x.1.ring.corners on_edge inside is searched.found)
+  pub searched_inside : IsInterior p ring → AreSearched p all left on_edge (Some n)
+  searched_inside is = moved_on on_edge (Some n) (inside_more p searched.done n ring on_edge inside is searched.found)
 
-  pub searched_outside : ¬ IsOnRing p x.1.ring.corners → ¬ IsInterior p x.1.ring.corners → AreSearched p all left on_edge inside
-  searched_outside off out =
-      moved_on on_edge inside (outside_more p (rows_of searched.done) x.0 x.1.ring.corners on_edge inside off out searched.found)
+  pub searched_outside : ¬ IsOnRing p ring → ¬ IsInterior p ring → AreSearched p all left on_edge inside
+  searched_outside off out = moved_on on_edge inside (outside_more p searched.done n ring on_edge inside off out searched.found)
 
--- the parcel's ring is as short as all are
-pub short_next : {A : Type 0} → (p : Point) (all rest left : List (ℕ × Shape A)) (x : ℕ × Shape A) (on_edge : List ℕ) (inside : Option ℕ)
-    → AreSearched p all rest on_edge inside → rest ≡ x ∷ left → AllByRecursion (λ row. length row.corners ≤ RING_CORNERS) (rows_of all)
-    → length x.1.ring.corners ≤ RING_CORNERS
-short_next {A} p all rest left x on_edge inside h next short =
-    behind h.done (subst (λ xs. AllByRecursion (λ row. length row.corners ≤ RING_CORNERS) (rows_of xs))
-    (sym h.are_all ∙ ap (λ xs. h.done ++ xs) next) short)
-  where
-    behind : (done : List (ℕ × Shape A)) → AllByRecursion (λ row. length row.corners ≤ RING_CORNERS) (rows_of (done ++ x ∷ left))
-        → length x.1.ring.corners ≤ RING_CORNERS
-    behind [] k = k.0
-    behind (d ∷ done) k = behind done k.1
-
--- all parcels gone through
-pub found_all : {A : Type 0} (p : Point) (all rest : List (ℕ × Shape A)) (on_edge : List ℕ) (inside : Option ℕ) → rest ≡ []
-    → AreSearched p all rest on_edge inside → IsFound (rows_of all) p on_edge inside
-found_all p all rest on_edge inside none h = subst (λ xs. IsFound (rows_of xs) p on_edge inside) whole h.found
-  where
-    whole : h.done ≡ all
-    whole = sym (append-nil h.done) ∙ ap (λ xs. h.done ++ xs) (sym none) ∙ h.are_all
+-- all rows gone through
+pub found_all : (p : Point) (all rest : List NumberedRing) (on_edge : List ℕ) (inside : Option ℕ) → rest ≡ []
+    → AreSearched p all rest on_edge inside → IsFound all p on_edge inside
+found_all p all rest on_edge inside none h =
+    subst (λ xs. IsFound xs p on_edge inside) (sym (append-nil h.done) ∙ ap (λ xs. h.done ++ xs) (sym none) ∙ h.are_all) h.found
 
 pub inside_found : (p : Point) (rows : List NumberedRing) (on_edge : List ℕ) (inside : Option ℕ) (id : ℕ) → on_edge ≡ [] → inside ≡ Some id
     → IsFound rows p on_edge inside → AreAllOnEdge rows p [] × IsInsideOf rows p id

@@ -14,7 +14,7 @@ use Rattle.fabric_core.specs.Tiling.{IsTiling, IsOffEdges, IsInNone}
 use Rattle.fabric_core.specs.Locate.{IsInsideOneOnly}
 
 -- what holds of all rows holds of each
-of_each : (P : NumberedRing → Type 0) (rows : List NumberedRing) (row : NumberedRing) → AllByRecursion P rows → Contains rows row → P row
+pub of_each : (P : NumberedRing → Type 0) (rows : List NumberedRing) (row : NumberedRing) → AllByRecursion P rows → Contains rows row → P row
 of_each P [] row h c = absurd (none_in_nil row c)
 of_each P (r ∷ rows) row h c = ⊎_elim (λ e. subst P e h.0) (λ later. of_each P rows row h.1 later) (Contains-cases r rows row c)
 

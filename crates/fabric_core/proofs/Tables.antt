@@ -12,13 +12,13 @@ use Rattle.fabric_core.specs.declared.parcels.Parcel.{Parcel}
 use Rattle.fabric_core.specs.declared.parcels.Place.{Place}
 use Rattle.fabric_core.specs.declared.parcels.Place.TheVariants.{Unused, Here}
 use Rattle.fabric_core.specs.Rows.{numbers}
-use Rattle.fabric_core.specs.own.Table.{parcel_at, keyed_at, keyed, shapes_at, shapes_of, rows_of, rows_of_keyed, ArePlaced, IsTable}
+use Rattle.fabric_core.specs.own.Table.{parcel_at, keyed_at, keyed, shapes_at, shapes_of, rows_of, rows_of_keyed, entries_of, ArePlaced, IsTable}
 
 module _ {A : Type 0} where
   no_parcel : (parcel : Parcel A) → Some parcel ≡ None → ⊥
   no_parcel parcel e = absurd (cc)
 
-  same_parcel : (p q : Parcel A) → Some p ≡ Some q → p ≡ q
+  pub same_parcel : (p q : Parcel A) → Some p ≡ Some q → p ≡ q
   same_parcel p q e = cc
 
   -- ---- tables put together
@@ -190,6 +190,12 @@ module _ {A : Type 0} where
   rows_of_keyed-push [] key parcel = refl
   rows_of_keyed-push (first ∷ parcels) key parcel =
       ap (λ rows. numbered first.1.id first.1.shape.ring.corners ∷ rows) (rows_of_keyed-push parcels key parcel)
+
+  pub entries_of-push : (parcels : List (ℕ × Parcel A)) (key : ℕ) (parcel : Parcel A)
+      → entries_of (parcels ++ (key, parcel) ∷ []) ≡ entries_of parcels ++ record { key = key; bounds = parcel.shape.bounds } ∷ []
+  entries_of-push [] key parcel = refl
+  entries_of-push (first ∷ parcels) key parcel =
+      ap (λ entries. record { key = first.0; bounds = first.1.shape.bounds } ∷ entries) (entries_of-push parcels key parcel)
 
   pub ids_of_shapes : (parcels : List (ℕ × Parcel A)) → map (λ shape. shape.0) (shapes_of parcels) ≡ numbers (rows_of_keyed parcels)
   ids_of_shapes [] = refl

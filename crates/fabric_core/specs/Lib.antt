@@ -3,4 +3,5 @@ pub mod Rows
 pub mod Limits
 pub mod Faults
 pub mod Locate
+pub mod GridIndex
 pub mod own

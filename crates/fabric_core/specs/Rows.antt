@@ -5,6 +5,7 @@ use Rattle.geo_exact.specs.declared.corner.Corner.{Corner}
 use Rattle.geo_exact.specs.Point.{Point}
 use Rattle.geo_exact.specs.Winding.{winding}
 use Rattle.geo_exact.specs.Layers.{NumberedRing}
+use Rattle.cell_index.specs.Cells.{Grid}
 use Rattle.edge_chains.specs.Net.{all_edges, winding_of_rings}
 use Rattle.edge_chains.specs.Noding.{IsNoded, all_corners}
 use Rattle.edge_chains.specs.Jump.{AreBeside, MeetsOnly}
@@ -31,11 +32,12 @@ pub record AreRefined (records : List NumberedRing) (city : List Corner) (rows :
 abbrev pub numbers : List NumberedRing → List ℕ
 numbers rows = map (λ row. row.number) rows
 
--- what a layer shows: its rows by ascending number, the city's ring as it was read, and that ring refined
+-- what a layer shows: its rows by ascending number, the city's ring as it was read, that ring refined, and the grid index
 pub record Tiles : Type 0 where
   pub rows : List NumberedRing
   pub city : List Corner
   pub refined : List Corner
+  pub index : Grid
 
 -- Of two points beside the edge from a to b, off all edges and with no other edge of the rows and the refined city between them, there is one that the
 -- rows go round another number of times, all together, than the city.

@@ -1,12 +1,14 @@
 ghost use Rattle.std.specs.Prelude.{◌≡◌, ◌⊎◌, ◌≤◌, length, List, IfOk, IfErr, OnOk, IsErrAnd};
 ghost use Rattle.std.specs.List.{AllByRecursion};
 ghost use Rattle.std.specs.List.Sorted.{IsStrictlyIncreasing};
+ghost use Rattle.geo_exact.specs.Bounds.{IsLeastBox};
 ghost use Rattle.geo_exact.specs.Layers.{NumberedRing, rings_of, corner_count, NumbersRise};
 ghost use Rattle.geo_exact.specs.declared.limits.TheConstants.{LAYER_CORNERS, LAYER_RECORDS, RING_CORNERS};
 ghost use Rattle.fabric_core.specs.declared.all_faults.AllFaults.TheVariants.{NoMemory};
 ghost use Rattle.fabric_core.specs.declared.layer.LoadFault.{LoadFault as FirstFault};
 ghost use Rattle.fabric_core.specs.Tiling.{corner_lists, IsTiling};
 ghost use Rattle.fabric_core.specs.Rows.{AreRefined};
+ghost use Rattle.fabric_core.specs.GridIndex.{IsIndexed};
 ghost use Rattle.fabric_core.specs.Faults.{IsLoadFault, AreLoadFaults, BeginsWith};
 ghost use Rattle.fabric_core.specs.own.Checks.{HaveEqualNets, HaveNoFault, IsRefinedCity, AreRingsFaults, AreNetsFaults, AreTold};
 ghost use Rattle.fabric_core.specs.own.Lists.{numbered_rows, corners_of_rings, AreFewCorners};
@@ -16,7 +18,7 @@ use crate::gaps::net_numbers;
 use crate::layer::{Layer, LoadFault, layer_of};
 use crate::limits::first_too_many;
 use crate::refine::{Refined, refine};
-use geo_exact::{Corner, Corners, RawRing};
+use geo_exact::{Bounds, Corner, Corners, RawRing};
 use ring_core::{Ring, RingFault};
 use std::alloc::{AllocError, AllocFailed, Allocator};
 
@@ -89,6 +91,7 @@ impl<'a, H: Allocator> Layer<'a, H> {
         ensures rows { IfOk result (λ layer. AreRefined (rings_of records.entry.items) city.now.ring.corners layer.rows layer.refined) }
         ensures city { IfOk result (λ layer. layer.city ≡ city.now.ring.corners) }
         ensures tiling { IfOk result (λ layer. IsTiling layer.rows city.now.ring.corners) }
+        ensures indexed { IfOk result (λ layer. IsIndexed layer.rows city.now.ring.corners layer.index) }
         // The faults that are answered are all of the first's kind, and a layer with a first fault is refused by a list that begins
         // with it, unless memory runs out.
         ensures faults { IfErr result (λ all. AreLoadFaults (rings_of records.entry.items) city.now.ring.corners all
@@ -97,23 +100,26 @@ impl<'a, H: Allocator> Layer<'a, H> {
             → IsErrAnd result (λ all. BeginsWith all fault ⊎ (all ≡ NoMemory)) }
     {
         let refined = refine(heap, &city.ring.corners, records)?;
-        load_refined_or_all(heap, refined)
+        load_refined_or_all(heap, city.bounds, refined)
     }
 }
 
 /// The layer of rings that are noded and begun at their least corners, in a city that is refined, or all faults of the first's kind.
 fn load_refined_or_all<'a, H: Allocator>(
     heap: &'a H,
+    area: Bounds,
     refined: Refined<&'a H>,
 ) -> Result<Layer<'a, H>, AllFaults<&'a H>>
     requires numbered { length refined.numbers.items ≡ length refined.rings.items }
     requires rising { IsStrictlyIncreasing refined.numbers.items }
     requires city { IsRefinedCity refined.city refined.refined }
+    requires area { IsLeastBox area refined.city }
     ensures rows { IfOk result (λ layer. layer.rows ≡ numbered_rows refined.entry.numbers.items refined.entry.rings.items) }
     ensures city { IfOk result (λ layer. layer.city ≡ refined.entry.city) }
     ensures refined { IfOk result (λ layer. layer.refined ≡ refined.entry.refined) }
     ensures no_fault { IfOk result (λ layer. HaveNoFault layer.rows layer.refined) }
     ensures tiling { IfOk result (λ layer. IsTiling layer.rows layer.city) }
+    ensures indexed { IfOk result (λ layer. IsIndexed layer.rows layer.city layer.index) }
     ensures faults { IfErr result (λ all.
         AreTold (numbered_rows refined.entry.numbers.items refined.entry.rings.items) refined.entry.refined all
         ⊎ (all ≡ NoMemory)) }
@@ -129,7 +135,7 @@ fn load_refined_or_all<'a, H: Allocator>(
     }
     let rings = checked_or_all(heap, &numbers, rings)?;
     all_gaps(heap, &rings, refined.as_slice())?;
-    Ok(layer_of(heap, &numbers, rings, city, refined)?)
+    Ok(layer_of(heap, area, &numbers, rings, city, refined)?)
 }
 
 /// The rings, each a simple one, or the faults of all that are not.

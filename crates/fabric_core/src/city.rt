@@ -1,4 +1,5 @@
 ghost use Rattle.std.specs.Prelude.{◌≡◌, ◌⊎◌, ◌≤◌, length, IfOk, IfErr, IsErrAnd};
+ghost use Rattle.geo_exact.specs.Bounds.{IsLeastBox};
 ghost use Rattle.geo_exact.specs.Point.{Point};
 ghost use Rattle.fabric_core.specs.declared.city.CityFault.{CityFault};
 ghost use Rattle.fabric_core.specs.declared.city.CityFault.TheVariants.{NoMemory};
@@ -7,7 +8,7 @@ ghost use Rattle.geo_exact.specs.declared.limits.TheConstants.{RING_CORNERS};
 ghost use Rattle.fabric_core.specs.Tiling.{IsWoundAtMostOnce};
 ghost use Rattle.fabric_core.specs.Faults.{IsCityFault};
 
-use geo_exact::RawRing;
+use geo_exact::{Bounds, RawRing};
 use ring_core::{Ring, RingFault, Shape};
 use std::alloc::{AllocError, Allocator};
 use tri_overlap::folded;
@@ -19,7 +20,10 @@ use tri_overlap::folded;
 pub struct City<'a, H: Allocator> {
     /// Its ring, counterclockwise, with the corners that were read.
     pub ring: Ring<&'a H>,
+    /// The least box of its ring.
+    pub bounds: Bounds,
     pub ghost few: { length ring.corners ≤ RING_CORNERS },
+    pub ghost least_box: { IsLeastBox bounds ring.corners },
     pub ghost wound_once: { (p : Point) → IsWoundAtMostOnce p ring.corners },
 }
 
@@ -75,7 +79,7 @@ impl<'a, H: Allocator> City<'a, H> {
         if let Some((i, j)) = folded(&shape) {
             return Err(CityFault::Folded(i, j));
         }
-        let Shape { ring, .. } = shape;
-        Ok(City { ring })
+        let Shape { ring, bounds, .. } = shape;
+        Ok(City { ring, bounds })
     }
 }

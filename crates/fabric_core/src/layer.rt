@@ -3,6 +3,7 @@ ghost use Rattle.std.specs.List.{Contains};
 ghost use Rattle.std.specs.List.Sorted.{IsStrictlyIncreasing};
 ghost use Rattle.geo_exact.specs.declared.corner.Corner.{Corner};
 ghost use Rattle.geo_exact.specs.Point.{corner_point};
+ghost use Rattle.geo_exact.specs.Bounds.{IsLeastBox};
 ghost use Rattle.geo_exact.specs.Layers.{NumberedRing, numbered, rings_of, corner_count, NumbersRise};
 ghost use Rattle.geo_exact.specs.declared.limits.TheConstants.{LAYER_CORNERS, LAYER_RECORDS};
 ghost use Rattle.fabric_core.specs.declared.layer.LoadFault.{LoadFault};
@@ -10,6 +11,7 @@ ghost use Rattle.fabric_core.specs.declared.layer.LoadFault.TheVariants.{Gap, No
 ghost use Rattle.fabric_core.specs.Tiling.{IsTiling};
 ghost use Rattle.fabric_core.specs.Rows.{AreRefined, numbers, IsUntiledBeside};
 ghost use Rattle.fabric_core.specs.Limits.{AreWithinLimits};
+ghost use Rattle.fabric_core.specs.GridIndex.{IsIndexed};
 ghost use Rattle.fabric_core.specs.Locate.{IsLocatedAt};
 ghost use Rattle.fabric_core.specs.Faults.{AreSimple, IsFirstFault, IsLoadFault};
 ghost use Rattle.fabric_core.specs.own.Checks.{HaveNoFault, IsRefinedCity, IsChecked};
@@ -17,13 +19,16 @@ ghost use Rattle.fabric_core.specs.own.Lists.{numbered_rows, corners_of_rings};
 
 use crate::city::City;
 use crate::gaps::check_nets;
+use crate::grid_index::clip_all;
 use crate::iter::{Ids, Shapes};
 use crate::limits::first_too_many;
-use crate::locate::{At, locate_among};
+use crate::locate::At;
 use crate::parcels::Parcels;
 use crate::refine::{Refined, refine};
 use crate::rings::checked;
-use geo_exact::{Corner, Corners, RawRing};
+use crate::side::{Side, side_of};
+use cell_index::CellIndex;
+use geo_exact::{Bounds, Corner, Corners, RawRing};
 use ring_core::{Ring, RingFault, Shape};
 use std::alloc::{AllocError, AllocFailed, Allocator};
 use std::marker::Model;
@@ -70,11 +75,12 @@ pub struct Layer<'a, H: Allocator> {
     city: Corners<&'a H>,
     refined: Corners<&'a H>,
     parcels: Parcels<&'a H>,
+    index: CellIndex<'a, H>,
 }
 
 impl<'a, H: Allocator> Model for Layer<'a, H> {
     ghost use Rattle.fabric_core.specs.Rows.{Tiles};
-    ghost use Rattle.fabric_core.specs.own.Lists.{IsLayer};
+    ghost use Rattle.fabric_core.specs.own.Lists.{IsKept};
     ghost use Rattle.fabric_core.specs.own.Table.{rows_of_keyed};
 
     ghost Value = { Tiles };
@@ -83,9 +89,10 @@ impl<'a, H: Allocator> Model for Layer<'a, H> {
       rows = rows_of_keyed layer.parcels.parcels;
       city = layer.city;
       refined = layer.refined;
+      index = layer.index;
     } };
 
-    ghost invariant = { λ layer. IsLayer (rows_of_keyed layer.parcels.parcels) layer.city };
+    ghost invariant = { λ layer. IsKept layer.parcels.parcels layer.city layer.index };
 }
 
 impl<'a, H: Allocator> Layer<'a, H> {
@@ -109,6 +116,7 @@ impl<'a, H: Allocator> Layer<'a, H> {
         ensures rows { IfOk result (λ layer. AreRefined (rings_of records.entry.items) city.now.ring.corners layer.rows layer.refined) }
         ensures city { IfOk result (λ layer. layer.city ≡ city.now.ring.corners) }
         ensures tiling { IfOk result (λ layer. IsTiling layer.rows city.now.ring.corners) }
+        ensures indexed { IfOk result (λ layer. IsIndexed layer.rows city.now.ring.corners layer.index) }
         // A fault that is answered is the first of the layer, and a layer with a first fault is refused by it, unless memory runs out.
         ensures fault { IfErr result (λ fault. IsLoadFault (rings_of records.entry.items) city.now.ring.corners fault
             ⊎ (fault ≡ NoMemory)) }
@@ -125,13 +133,14 @@ impl<'a, H: Allocator> Layer<'a, H> {
             → IsErrOf result (Gap a b net) → IsUntiledBeside rows city.now.ring.corners refined a b }
     {
         let refined = refine(heap, &city.ring.corners, records)?;
-        load_refined(heap, refined)
+        load_refined(heap, city.bounds, refined)
     }
 
-    /// The rows tile the city, and are within the limits of a layer.
+    /// The rows tile the city, and are within the limits of a layer; and in the cells of the grid index stand exactly the rows.
     pub fn tiles(&self)
         ensures tiling { IsTiling self.now.rows self.now.city }
         ensures within { AreWithinLimits self.now.rows }
+        ensures indexed { IsIndexed self.now.rows self.now.city self.now.index }
     {
         let _ = &self.city;
     }
@@ -175,7 +184,8 @@ impl<'a, H: Allocator> Layer<'a, H> {
     }
 
     /// Where a corner lies among the parcels: on the edges of all that have it on one, by ascending id, where there is any; else inside
-    /// the one that it is inside of; else outside, as each corner beyond the city is. The time grows with the number of all corners.
+    /// the one that it is inside of; else outside, as each corner beyond the city is. It is found among the parcels that stand in the
+    /// corner's cell of the grid index: the time grows with the number of these, and with the corners of those whose boxes hold it.
     ///
     /// # Errors
     ///
@@ -183,7 +193,30 @@ impl<'a, H: Allocator> Layer<'a, H> {
     pub fn locate(&self, corner: Corner) -> Result<At<&'a H>, AllocError>
         ensures { IfOk result (λ at. IsLocatedAt self.now.rows (corner_point corner) at) }
     {
-        locate_among(self.parcels.allocator(), self.parcels.shapes(), corner)
+        if !self.index.area().holds(corner) {
+            return Ok(At::Outside);
+        }
+        let mut on_edge = Vec::new(self.parcels.allocator());
+        let mut inside = None;
+        let entries = self.index.at(corner);
+        for entry in entries {
+            if !entry.bounds.holds(corner) {
+                continue;
+            }
+            let parcel = self.parcels.at(entry.key);
+            match side_of(parcel.shape.ring.corners.as_slice(), corner) {
+                Side::OnEdge => on_edge.push(parcel.id)?,
+                Side::Inside => inside = Some(parcel.id),
+                Side::Outside => {}
+            }
+        }
+        if !on_edge.is_empty() {
+            return Ok(At::OnEdge(on_edge));
+        }
+        match inside {
+            Some(id) => Ok(At::Inside(id)),
+            None => Ok(At::Outside),
+        }
     }
 
     /// The city's ring, with the corners that were read, begun at its least corner.
@@ -204,16 +237,19 @@ impl<'a, H: Allocator> Layer<'a, H> {
 /// The layer of rings that are noded and begun at their least corners, in a city that is refined.
 fn load_refined<'a, H: Allocator>(
     heap: &'a H,
+    area: Bounds,
     refined: Refined<&'a H>,
 ) -> Result<Layer<'a, H>, LoadFault>
     requires numbered { length refined.numbers.items ≡ length refined.rings.items }
     requires rising { IsStrictlyIncreasing refined.numbers.items }
     requires city { IsRefinedCity refined.city refined.refined }
+    requires area { IsLeastBox area refined.city }
     ensures rows { IfOk result (λ layer. layer.rows ≡ numbered_rows refined.entry.numbers.items refined.entry.rings.items) }
     ensures city { IfOk result (λ layer. layer.city ≡ refined.entry.city) }
     ensures refined { IfOk result (λ layer. layer.refined ≡ refined.entry.refined) }
     ensures no_fault { IfOk result (λ layer. HaveNoFault layer.rows layer.refined) }
     ensures tiling { IfOk result (λ layer. IsTiling layer.rows layer.city) }
+    ensures indexed { IfOk result (λ layer. IsIndexed layer.rows layer.city layer.index) }
     ensures fault { IfErr result (λ fault.
         IsFirstFault (numbered_rows refined.entry.numbers.items refined.entry.rings.items) refined.entry.refined fault
         ⊎ (fault ≡ NoMemory)) }
@@ -229,28 +265,32 @@ fn load_refined<'a, H: Allocator>(
     }
     let rings = checked(heap, &numbers, rings)?;
     check_nets(heap, &rings, refined.as_slice())?;
-    Ok(layer_of(heap, &numbers, rings, city, refined)?)
+    Ok(layer_of(heap, area, &numbers, rings, city, refined)?)
 }
 
 /// The layer of rings that have no fault, in a city that is refined.
 pub(crate) fn layer_of<'a, H: Allocator>(
     heap: &'a H,
+    area: Bounds,
     numbers: &[u32],
     rings: Vec<Ring<&'a H>, &'a H>,
     city: Corners<&'a H>,
     refined: Corners<&'a H>,
 ) -> Result<Layer<'a, H>, AllocError>
-    requires { IsChecked numbers.now (corners_of_rings rings.items) city refined }
+    requires checked { IsChecked numbers.now (corners_of_rings rings.items) city refined }
+    requires area { IsLeastBox area city }
     ensures rows { IfOk result (λ layer. layer.rows ≡ numbered_rows numbers.now (corners_of_rings rings.entry.items)) }
     ensures city { IfOk result (λ layer. layer.city ≡ city.entry) }
     ensures refined { IfOk result (λ layer. layer.refined ≡ refined.entry) }
     ensures no_fault { IfOk result (λ layer. HaveNoFault layer.rows layer.refined) }
     ensures tiling { IfOk result (λ layer. IsTiling layer.rows layer.city) }
+    ensures indexed { IfOk result (λ layer. IsIndexed layer.rows layer.city layer.index) }
 {
-    let parcels = Parcels::clip_all(heap, numbers, rings)?;
+    let (parcels, index) = clip_all(heap, area, numbers, rings)?;
     Ok(Layer {
         city,
         refined,
         parcels,
+        index,
     })
 }

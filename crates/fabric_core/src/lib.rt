@@ -5,6 +5,7 @@ mod all_faults;
 mod box_laws;
 mod city;
 mod gaps;
+mod grid_index;
 mod iter;
 mod laws;
 mod layer;

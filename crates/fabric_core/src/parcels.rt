@@ -1,13 +1,11 @@
 ghost use Rattle.std.specs.Prelude.{◌≡◌, ◌≢◌, ◌+◌, ◌<◌, ◌≤◌, ℕ, [], ◌∷◌, ◌++◌, length, IfOk, OnOk, OnErr, MatchOption, option_copied, slice_index_or, replicate, vec_len, vec_capacity};
 ghost use Rattle.std.specs.List.{Contains};
-ghost use Rattle.std.specs.List.Sorted.{IsStrictlyIncreasing};
 ghost use Rattle.ring_core.specs.declared.shape.Shape.{Shape as ShapeValue};
 ghost use Rattle.fabric_core.specs.declared.parcels.Parcel.{Parcel as ParcelValue};
-ghost use Rattle.fabric_core.specs.own.Lists.{numbered_rows, corners_of_rings};
-ghost use Rattle.fabric_core.specs.own.Table.{parcel_at, shapes_of, rows_of_keyed};
+ghost use Rattle.fabric_core.specs.own.Table.{parcel_at, shapes_of};
 
 use crate::iter::Shapes;
-use ring_core::{Ring, Shape};
+use ring_core::Shape;
 use slab::Slab;
 use std::alloc::{AllocError, Allocator};
 use std::marker::Model;
@@ -82,7 +80,7 @@ fn make_room<A: Allocator>(places: &mut Vec<Place, A>, id: usize) -> Result<(), 
 
 impl<A: Allocator + Copy> Parcels<A> {
     /// No parcel yet, and room for so many.
-    fn with_capacity(alloc: A, capacity: usize) -> Result<Parcels<A>, AllocError>
+    pub(crate) fn with_capacity(alloc: A, capacity: usize) -> Result<Parcels<A>, AllocError>
         ensures empty { IfOk result (λ parcels. parcels.parcels ≡ []) }
         ensures next { IfOk result (λ parcels. parcels.next ≡ 0) }
     {
@@ -92,7 +90,7 @@ impl<A: Allocator + Copy> Parcels<A> {
     }
 
     /// Puts a parcel in, under an id that is not below the next one; its key.
-    fn push(&mut self, id: u64, shape: Shape<A>) -> Result<usize, AllocError>
+    pub(crate) fn push(&mut self, id: u64, shape: Shape<A>) -> Result<usize, AllocError>
         requires { self.old.next ≤ id }
         ensures parcels { IfOk result (λ key. self.new.parcels ≡ self.old.parcels ++ (key, record { id = id; shape = shape }) ∷ []) }
         ensures next { IfOk result (λ _. self.new.next ≡ id + 1) }
@@ -103,33 +101,22 @@ impl<A: Allocator + Copy> Parcels<A> {
         self.places.push_reserved(Place::Here(key));
         Ok(key)
     }
-
-    /// The parcels of rings under their numbers, each clipped to triangles.
-    pub(crate) fn clip_all(
-        alloc: A,
-        numbers: &[u32],
-        rings: Vec<Ring<A>, A>,
-    ) -> Result<Parcels<A>, AllocError>
-        requires numbered { length numbers.now ≡ length rings.items }
-        requires rising { IsStrictlyIncreasing numbers.now }
-        ensures { IfOk result (λ parcels. rows_of_keyed parcels.parcels ≡ numbered_rows numbers.now (corners_of_rings rings.items)) }
-    {
-        let mut parcels = Parcels::with_capacity(alloc, rings.len())?;
-        for ring in rings {
-            let number = numbers[parcels.len()];
-            let shape = Shape::clip(alloc, ring)?;
-            parcels.push(u64::from(number), shape)?;
-        }
-        Ok(parcels)
-    }
 }
 
 impl<A: Allocator> Parcels<A> {
     /// How many parcels there are.
-    fn len(&self) -> usize
+    pub(crate) fn len(&self) -> usize
         ensures { result ≡ length self.now.parcels }
     {
         self.slab.len()
+    }
+
+    /// The parcel under this key.
+    pub(crate) fn at(&self, key: usize) -> &Parcel<A>
+        requires { (parcel : ParcelValue A) × Contains self.now.parcels (key, parcel) }
+        ensures { (parcel : ParcelValue A) → Contains self.now.parcels (key, parcel) → result.now ≡ parcel }
+    {
+        &self.slab[key]
     }
 
     /// The shape of the parcel with this id.

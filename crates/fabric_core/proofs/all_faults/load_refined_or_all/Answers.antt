@@ -72,8 +72,8 @@ returns-in_err-all_gaps-clause-faults g c =
       | inr e ↦ inr e
     ])
 
-pub layer_of-requires : goal.layer_of-requires
-layer_of-requires g c =
+pub layer_of-requires-clause-checked : goal.layer_of-requires-clause-checked
+layer_of-requires-clause-checked g c =
     checked_from c.args.refined.numbers.items c.deref-5.result.now c.args.refined.rings.items c.deref.result.now c.deref-2.result.now
     c.in_ok-rings.rings.items c.deref-4.result.now c.as_slice.result.now c.args.refined.city c.args.refined.refined
     c.deref.ensures.value c.deref-2.ensures.value c.in_default.ensures c.in_ok-rings.ensures.ok c.deref-4.ensures.value c.as_slice.ensures

@@ -34,6 +34,7 @@ pub invariant_of-result : goal.invariant_of-result
 invariant_of-result g c = record {
   few = subst (λ ring. length ring ≤ RING_CORNERS) (sym (c.in_ok-shape.ensures.ring ∙ c.in_ok-ring.ensures.ok ∙ c.begin_at_least.ensures))
       (omega (arith, begun_length c.args.ring.corners, c.args.ring.few));
+  least_box = c.in_ok-shape.shape.least_box;
   wound_once = λ p. once _ (ring_at_most_once c.in_ok-shape.shape.ring.corners c.in_ok-shape.shape.triangles c.in_ok-shape.shape.made_up
       c.in_default.ensures p);
 }

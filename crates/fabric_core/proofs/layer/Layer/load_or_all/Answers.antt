@@ -2,6 +2,7 @@ use Rattle.std.proofs.Common.{◌≡◌, ◌⊎◌, inl, inr, sym, subst, arith,
 use Rattle.std.proofs.lemmas.Result.{IfErr-weaker}
 use Rattle.std.proofs.lemmas.List.{length-append}
 use Rattle.std.specs.List.Sorted.{IsStrictlyIncreasing}
+use Rattle.geo_exact.specs.Bounds.{IsLeastBox}
 use Rattle.geo_exact.specs.Layers.{rings_of}
 use Rattle.geo_exact.specs.declared.limits.TheConstants.{LAYER_CORNERS, RING_CORNERS}
 use Rattle.edge_chains.specs.Noding.{all_corners}
@@ -49,6 +50,9 @@ load_refined_or_all-requires-clause-city g c =
       is_short = noded_short city
           (corners_of_layer records city) c.in_ok-refined.refined.refined c.args.city.now.few few c.in_ok-refined.ensures.noded.is_refined;
     })
+
+pub load_refined_or_all-requires-clause-area : goal.load_refined_or_all-requires-clause-area
+load_refined_or_all-requires-clause-area g c = subst (IsLeastBox c.args.city.now.bounds) (sym c.in_ok-refined.ensures.city) c.args.city.now.least_box
 
 pub returns-clause-rows : goal.returns-clause-rows
 returns-clause-rows g c =

@@ -1,0 +1,51 @@
+use Rattle.std.proofs.Common.{rules, ◌≡◌, ◌∙◌, ap, subst, sym, [], ◌∷◌, ◌++◌, length, get_or}
+use Rattle.std.proofs.lemmas.List.{length-append, length-map}
+use Rattle.geo_exact.specs.Layers.{numbered}
+use Rattle.fabric_core.specs.own.Lists.{corners_of_rings}
+use Rattle.cell_index.specs.Cells.{Indexes}
+use Rattle.fabric_core.specs.own.Table.{rows_of_keyed, entries_of}
+use Rattle.fabric_core.proofs.Clipped.{none_clipped, one_clipped, all_clipped}
+use Rattle.fabric_core.proofs.ToldRings.{nil_of_no_length}
+use Rattle.fabric_core.proofs.Tables.{rows_of_keyed-push, entries_of-push}
+use Rattle.fabric_core.proofs.grid_index.clip_all.Goals as goal
+
+pub loop-ring-init : goal.loop-ring-init
+loop-ring-init g c =
+    let all : c.into_iter-ring-iterator.result.rest.items ≡ c.args.rings.items = search rules in record {
+      clipped =
+          none_clipped c.args.numbers.now (corners_of_rings c.args.rings.items) (corners_of_rings c.into_iter-ring-iterator.result.rest.items)
+          (rows_of_keyed c.in_ok-parcels.parcels.parcels) c.in_ok-parcels.parcels.next (length c.in_ok-parcels.parcels.parcels)
+          (c.requires.numbered ∙ sym (length-map c.args.rings.items (λ ring. ring.corners)))
+          (ap corners_of_rings all) (ap rows_of_keyed c.in_ok-parcels.ensures.empty) c.in_ok-parcels.ensures.next
+          (ap length c.in_ok-parcels.ensures.empty);
+      area = c.in_ok-index.ensures.area;
+      indexed = subst (λ parcels. Indexes c.in_ok-index.index (entries_of parcels)) (sym c.in_ok-parcels.ensures.empty) c.in_ok-index.ensures.empty;
+    }
+
+pub loop-ring-preserved : goal.loop-ring-preserved
+loop-ring-preserved g c =
+    let numbers = c.args.numbers.now in let old = c.loop-ring.parcels.parcels in let shape = c.in_ok-shape.shape in
+    let key = c.in_ok-key.key in record {
+      clipped =
+          one_clipped numbers (corners_of_rings c.args.rings.items) (corners_of_rings c.loop-ring.ring-iterator.rest.items)
+          (corners_of_rings c.next.new.self.rest.items) (rows_of_keyed old) (rows_of_keyed c.push.new.self.parcels) c.loop-ring.parcels.next
+          c.push.new.self.next (length old) (length c.push.new.self.parcels) c.from.result c.in-Some.ring.corners
+          c.requires.rising (ap corners_of_rings c.in-Some.ensures.steps.0)
+          (c.from.ensures ∙ ap (λ k. get_or numbers k 0) c.len-in-loop-ring.ensures)
+          (ap rows_of_keyed c.in_ok-key.ensures.parcels ∙ rows_of_keyed-push old key (record { id = c.from.result; shape = shape })
+          ∙ ap (λ ring. rows_of_keyed old ++ numbered c.from.result ring ∷ []) c.in_ok-shape.ensures.ring)
+          c.in_ok-key.ensures.next
+          (ap length c.in_ok-key.ensures.parcels
+          ∙ length-append old ((key, record { id = c.from.result; shape = shape }) ∷ []))
+          c.loop-ring.invariant.clipped;
+      area = c.add.ensures.area ∙ c.loop-ring.invariant.area;
+      indexed = subst (Indexes c.add.new.self)
+          (sym (ap entries_of c.in_ok-key.ensures.parcels ∙ entries_of-push old key (record { id = c.from.result; shape = shape })))
+          (c.in_ok-add.ensures.ok (entries_of old) c.loop-ring.invariant.indexed);
+    }
+
+pub returns-clause-rows : goal.returns-clause-rows
+returns-clause-rows g c =
+    all_clipped c.args.numbers.now (corners_of_rings c.args.rings.items) (corners_of_rings c.loop-ring.ring-iterator.rest.items)
+    (rows_of_keyed c.loop-ring.parcels.parcels) c.loop-ring.parcels.next (length c.loop-ring.parcels.parcels)
+    (ap corners_of_rings (nil_of_no_length _ (sym c.loop-ring.ring-iterator.rest.ok.0 ∙ c.in-None.ensures.steps.0))) c.loop-ring.invariant.clipped

@@ -1,0 +1,15 @@
+use Rattle.std.proofs.Common.{◌≡◌, length}
+use Rattle.cell_index.specs.Cells.{Indexes}
+use Rattle.fabric_core.specs.own.Lists.{corners_of_rings}
+use Rattle.fabric_core.specs.own.Table.{rows_of_keyed, entries_of}
+use Rattle.fabric_core.proofs.Clipped.{AreClipped}
+use Rattle.fabric_core.proofs.grid_index.clip_all.Given as goal
+
+abbrev pub invariant-loop-ring : goal.invariant-loop-ring
+invariant-loop-ring g l = record {
+  clipped :
+      AreClipped l.numbers (corners_of_rings l.fn.rings.items) (corners_of_rings l.ring-iterator.rest.items)
+      (rows_of_keyed l.parcels.parcels) l.parcels.next (length l.parcels.parcels);
+  area : l.index.area ≡ l.fn.area;
+  indexed : Indexes l.index (entries_of l.parcels.parcels);
+}

@@ -1,0 +1,36 @@
+ghost use Rattle.std.specs.Prelude.{◌≡◌, length, IfOk};
+ghost use Rattle.std.specs.List.Sorted.{IsStrictlyIncreasing};
+ghost use Rattle.cell_index.specs.Cells.{Indexes};
+ghost use Rattle.fabric_core.specs.own.Lists.{numbered_rows, corners_of_rings};
+ghost use Rattle.fabric_core.specs.own.Table.{rows_of_keyed, entries_of};
+
+use crate::parcels::Parcels;
+use cell_index::{CellIndex, Entry};
+use geo_exact::Bounds;
+use ring_core::{Ring, Shape};
+use std::alloc::{AllocError, Allocator};
+
+/// The parcels of rings under their numbers, each clipped to triangles, and the index of their boxes over an area.
+pub(crate) fn clip_all<'a, H: Allocator>(
+    heap: &'a H,
+    area: Bounds,
+    numbers: &[u32],
+    rings: Vec<Ring<&'a H>, &'a H>,
+) -> Result<(Parcels<&'a H>, CellIndex<'a, H>), AllocError>
+    requires numbered { length numbers.now ≡ length rings.items }
+    requires rising { IsStrictlyIncreasing numbers.now }
+    ensures rows { IfOk result (λ kept. rows_of_keyed kept.0.parcels ≡ numbered_rows numbers.now (corners_of_rings rings.entry.items)) }
+    ensures area { IfOk result (λ kept. kept.1.area ≡ area) }
+    ensures indexed { IfOk result (λ kept. Indexes kept.1 (entries_of kept.0.parcels)) }
+{
+    let mut parcels = Parcels::with_capacity(heap, rings.len())?;
+    let mut index = CellIndex::new(heap, area)?;
+    for ring in rings {
+        let number = numbers[parcels.len()];
+        let shape = Shape::clip(heap, ring)?;
+        let bounds = shape.bounds;
+        let key = parcels.push(u64::from(number), shape)?;
+        index.add(Entry { key, bounds })?;
+    }
+    Ok((parcels, index))
+}
