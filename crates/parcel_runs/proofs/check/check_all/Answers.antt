@@ -1,4 +1,5 @@
-use Rattle.std.proofs.Common.{inl, inr, refl}
+use Rattle.std.proofs.Common.{inl, inr, refl, ◌∙◌, subst}
+use Rattle.std.specs.Io.KnownBytes.{Appends}
 use Rattle.parcel_runs.specs.TilingFiles.{files_of}
 use Rattle.parcel_runs.specs.FaultLines.{text_or_none}
 use Rattle.parcel_runs.proofs.AllTiles.{lines_written, none_written}
@@ -11,6 +12,14 @@ pub tiling_text-requires : goal.tiling_text-requires
 tiling_text-requires g c =
     let city = c.in-Ok.ensures.tiles.is_city in
     city_short _ _ _ city (c.a_layer_file_is_within_the_limits.ensures.corners _ _ _ _ city.is_only)
+
+pub returns-in_ok-put_all-in-Ok-clause-ok : goal.returns-in_ok-put_all-in-Ok-clause-ok
+returns-in_ok-put_all-in-Ok-clause-ok g c = record {
+  tiles = c.in-Ok.layer;
+  are_tiles = c.in-Ok.ensures.tiles;
+  is_written = subst (Appends (g.W.ByteOut.written c.args.out.now) (g.W.ByteOut.written c.put_all.new.out))
+      (c.as_slice.ensures.value ∙ c.in_ok-text-in-Ok.ensures) c.in_ok-put_all-in-Ok.ensures.ok;
+}
 
 pub returns-in_ok-put_all-in-Err-clause-fault : goal.returns-in_ok-put_all-in-Err-clause-fault
 returns-in_ok-put_all-in-Err-clause-fault g c =
