@@ -34,7 +34,7 @@ one_before ring h u v w x y =
     sym x.1.from ∙ sym (ap (corner_at ring) f) ∙ y.1.from
 
 -- ---- a corner at which two runs meet is on neither
-split_apart : (v : Corner) (front back : List Corner) → AreApart (front ++ v ∷ back) → (Contains front v → ⊥) × (Contains back v → ⊥)
+pub split_apart : (v : Corner) (front back : List Corner) → AreApart (front ++ v ∷ back) → (Contains front v → ⊥) × (Contains back v → ⊥)
 split_apart v front back h =
     let whole = front ++ v ∷ back in
     let n : length whole ≡ length front + (length back + 1) = length-append front (v ∷ back) ∙ omega arith in
@@ -57,7 +57,7 @@ split_apart v front back h =
 number_apart : (n k i j : ℕ) → k < n → i < n → j < n → i ≢ j → number_from n k i ≢ number_from n k j
 number_apart n k i j h b c off e = grind (arith, nat_tests)
 
-begun_apart : (ring : List Corner) (k : ℕ) → k < length ring → AreApart ring → AreApart (begun_at k ring)
+pub begun_apart : (ring : List Corner) (k : ℕ) → k < length ring → AreApart ring → AreApart (begun_at k ring)
 begun_apart ring k h apart i j bi bj off e =
     let n = begun_length ring k h in
     let ci : i < length ring = omega (arith, n, bi) in
