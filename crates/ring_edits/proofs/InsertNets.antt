@@ -1,5 +1,6 @@
 -- The net numbers of directed edges where a corner is put into an edge.
-use Rattle.std.proofs.Common.{◌≡◌, ◌≢◌, ⊎_elim, sym, ◌∙◌, ap, subst, arith, ℕ, ◌+◌, ◌<◌, ◌≤◌, ℤ, ◌+ℤ◌, List, [], ◌∷◌, ◌++◌, length, take, drop, append_assoc}
+use Rattle.std.proofs.Common.{◌≡◌, ◌≢◌, ⊎_elim, sym, ◌∙◌, ap, subst, arith, ℕ, ◌+◌, ◌<◌}
+use Rattle.std.proofs.Common.{◌≤◌, ℤ, ◌+ℤ◌, List, [], ◌∷◌, ◌++◌, length, take, drop, append_assoc}
 use Rattle.std.proofs.lemmas.Int.{ints}
 use Rattle.std.proofs.lemmas.Bool.{cases_lt}
 use Rattle.std.proofs.lemmas.Bool.Decides.{nat_tests}
@@ -84,11 +85,13 @@ net_inserted ring out u v at off h c d =
     ∙ ap (λ x. x ∷ at ∷ v ∷ w.others) h.has_edge.from)
     ∙ net_of_append (edge_of u at ∷ []) (path at (v ∷ w.others) u) c d
     ∙ ap (λ z. net_of_edges (edge_of u at ∷ []) c d +ℤ z) (net_of_append (edge_of at v ∷ []) (path v w.others u) c d) in
-    total (net_of_edges (edges ring) c d) (net_of_edges (edges out) c d) (net_of_edges (edge_of u v ∷ []) c d) (net_of_edges (edge_of u at ∷ []) c d)
+    total (net_of_edges (edges ring) c d) (net_of_edges (edges out) c d) (net_of_edges (edge_of u v ∷ []) c d)
+    (net_of_edges (edge_of u at ∷ []) c d)
     (net_of_edges (edge_of at v ∷ []) c d) (net_of_edges (path v w.others u) c d) old new
   where
     put_length : (ring : List Corner) (k : ℕ) (at : Corner) → k < length ring → k ≤ length (take (k + 1) ring ++ at ∷ drop (k + 1) ring)
-    put_length ring k at h = omega (arith, length-append (take (k + 1) ring) (at ∷ drop (k + 1) ring), length-take-le (k + 1) ring (omega arith))
+    put_length ring k at h = omega
+        (arith, length-append (take (k + 1) ring) (at ∷ drop (k + 1) ring), length-take-le (k + 1) ring (omega arith))
 
     total : (ring out uv ua av rest : ℤ) → ring ≡ uv +ℤ rest → out ≡ ua +ℤ (av +ℤ rest) → out +ℤ uv ≡ ring +ℤ (ua +ℤ av)
     total ring out uv ua av rest h k = omega (arith, ints)

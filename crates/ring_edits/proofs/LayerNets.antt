@@ -1,5 +1,6 @@
 -- The net numbers of a whole layer, where a corner is put into an edge of its rings.
-use Rattle.std.proofs.Common.{◌≡◌, ◌≢◌, inl, inr, ⊎_elim, refl, sym, ◌∙◌, ap, subst, arith, Bool, true, false, ◌&&◌, if◌then◌else◌, ℕ, suc, ◌+◌, ◌<◌, ℤ, ◌+ℤ◌, ◌-ℤ◌, ◌*ℤ◌, neg_ℤ, List, [], ◌∷◌, ◌++◌, length, Some}
+use Rattle.std.proofs.Common.{◌≡◌, ◌≢◌, inl, inr, ⊎_elim, refl, sym, ◌∙◌, ap, subst, arith, Bool, true, false, ◌&&◌}
+use Rattle.std.proofs.Common.{if◌then◌else◌, ℕ, suc, ◌+◌, ◌<◌, ℤ, ◌+ℤ◌, ◌-ℤ◌, ◌*ℤ◌, neg_ℤ, List, [], ◌∷◌, ◌++◌, length, Some}
 use Rattle.std.specs.List.{AllByRecursion, AllZip, Contains}
 use Rattle.std.specs.Prelude.{slice_get}
 use Rattle.std.proofs.lemmas.Int.{ints}
@@ -73,7 +74,8 @@ rest_none u v (o ∷ others) h k l b =
     (none_from o u others v u (λ e. l (0, omega arith, e)) (λ c. l (suc c.0, omega (arith, c.1), c.2))) in
     omega (arith, ints, there, back)
 
-pub edge_once : (ring : List Corner) (u v : Corner) → HasApartCorners ring → HasEdge ring u v → u ≢ v → net_of_edges (edges ring) u v ≡ pos 1
+pub edge_once : (ring : List Corner) (u v : Corner) → HasApartCorners ring → HasEdge ring u v → u ≢ v
+    → net_of_edges (edges ring) u v ≡ pos 1
 edge_once ring u v h e off =
     let k = e.0 in
     let w = begins_with ring k u v off e.1 in
@@ -96,7 +98,8 @@ count_none : (ring : List Corner) (u v : Corner) → ¬ HasEdge ring u v → edg
 count_none ring u v h =
     ⊎_elim
     (λ l. absurd (let w = find_edge (edges ring) u v l in
-    let here : slice_get (edges ring) (length w.front) ≡ Some (edge_of u v) = ap (λ es. slice_get es (length w.front)) w.is ∙ seam w.front w.back (edge_of u v) in
+    let here : slice_get (edges ring) (length w.front) ≡ Some (edge_of u v) = ap (λ es. slice_get es (length w.front)) w.is
+    ∙ seam w.front w.back (edge_of u v) in
     let j = ring_joins ring (length w.front) (edge_of u v) here in
     h (
       length w.front,
@@ -138,7 +141,8 @@ detour u v at c d =
 one_way : (out ring uv ua av s : ℤ) → out +ℤ uv ≡ ring +ℤ (ua +ℤ av) → s ≡ pos 1 → out ≡ ring +ℤ s *ℤ ((ua +ℤ av) -ℤ uv)
 one_way out ring uv ua av s h k = rw k (omega (arith, ints))
 
-other_way : (out ring uv ua av vu va au s : ℤ) → out +ℤ vu ≡ ring +ℤ (va +ℤ au) → s ≡ neg_ℤ (pos 1) → vu ≡ neg_ℤ uv → va ≡ neg_ℤ av → au ≡ neg_ℤ ua
+other_way : (out ring uv ua av vu va au s : ℤ) → out +ℤ vu ≡ ring +ℤ (va +ℤ au) → s ≡ neg_ℤ (pos 1) → vu ≡ neg_ℤ uv → va ≡ neg_ℤ av
+    → au ≡ neg_ℤ ua
     → out ≡ ring +ℤ s *ℤ ((ua +ℤ av) -ℤ uv)
 other_way out ring uv ua av vu va au s h k l m n = rw k (omega (arith, ints))
 
@@ -151,12 +155,14 @@ turned_count m n h = omega (arith, ints)
 net_after : (u v at : Corner) (ring out : List Corner) → HasApartCorners ring → IsAfterInsert u v at ring out → (c d : Corner)
     → net_of_edges (edges out) c d ≡ net_of_edges (edges ring) c d +ℤ net_of_edges (edges ring) u v *ℤ detour u v at c d
 net_after u v at ring out h (inl (off, inl k)) c d =
-    one_way (net_of_edges (edges out) c d) (net_of_edges (edges ring) c d) (net_of_edges (edge_of u v ∷ []) c d) (net_of_edges (edge_of u at ∷ []) c d)
+    one_way (net_of_edges (edges out) c d) (net_of_edges (edges ring) c d) (net_of_edges (edge_of u v ∷ []) c d)
+    (net_of_edges (edge_of u at ∷ []) c d)
     (net_of_edges (edge_of at v ∷ []) c d) (net_of_edges (edges ring) u v) (net_inserted ring out u v at off k c d)
     (edge_once ring u v h (k.place, k.has_edge) off)
 net_after u v at ring out h (inl (off, inr k)) c d =
     let back : v ≢ u = λ e. off (sym e) in
-    other_way (net_of_edges (edges out) c d) (net_of_edges (edges ring) c d) (net_of_edges (edge_of u v ∷ []) c d) (net_of_edges (edge_of u at ∷ []) c d)
+    other_way (net_of_edges (edges out) c d) (net_of_edges (edges ring) c d) (net_of_edges (edge_of u v ∷ []) c d)
+    (net_of_edges (edge_of u at ∷ []) c d)
     (net_of_edges (edge_of at v ∷ []) c d) (net_of_edges (edge_of v u ∷ []) c d) (net_of_edges (edge_of v at ∷ []) c d)
     (net_of_edges (edge_of at u ∷ []) c d) (net_of_edges (edges ring) u v) (net_inserted ring out v u at back k c d)
     (turned_count (edge_count (edges ring) v u) (edge_count (edges ring) u v) (edge_once ring v u h (k.place, k.has_edge) back))
@@ -166,7 +172,8 @@ net_after u v at ring out h (inr (none, same)) c d =
     (ap (λ xs. net_of_edges (edges xs) c d) same) (no_edge ring u v none)
 
 -- and of all together
-nets_after : (u v at : Corner) (rows outs : List (List Corner)) → AllByRecursion HasApartCorners rows → AllZip (IsAfterInsert u v at) rows outs
+nets_after : (u v at : Corner) (rows outs : List (List Corner)) → AllByRecursion HasApartCorners rows
+    → AllZip (IsAfterInsert u v at) rows outs
     → (c d : Corner) → net_count outs c d ≡ net_count rows c d +ℤ net_count rows u v *ℤ detour u v at c d
 nets_after u v at [] [] h k c d = no_way (net_count [] c d) (net_count [] c d) (net_count [] u v) (detour u v at c d) refl refl
 nets_after u v at [] (out ∷ outs) h k c d = absurd k
@@ -176,7 +183,8 @@ nets_after u v at (ring ∷ rows) (out ∷ outs) h k c d =
     ∙ together (net_of_edges (edges out) c d) (net_count outs c d) (net_of_edges (edges ring) c d) (net_count rows c d)
     (net_of_edges (edges ring) u v) (net_count rows u v) (detour u v at c d)
     (net_after u v at ring out h.0 k.0 c d) (nets_after u v at rows outs h.1 k.1 c d)
-    ∙ ap (λ z. z +ℤ (net_of_edges (edges ring) u v +ℤ net_count rows u v) *ℤ detour u v at c d) (sym (net_of_append (edges ring) (all_edges rows) c d))
+    ∙ ap (λ z. z +ℤ (net_of_edges (edges ring) u v +ℤ net_count rows u v) *ℤ detour u v at c d)
+    (sym (net_of_append (edges ring) (all_edges rows) c d))
     ∙ ap (λ z. net_count (ring ∷ rows) c d +ℤ z *ℤ detour u v at c d) (sym (net_of_append (edges ring) (all_edges rows) u v))
   where
     together : (out outs ring rows s t z : ℤ) → out ≡ ring +ℤ s *ℤ z → outs ≡ rows +ℤ t *ℤ z → out +ℤ outs ≡ (ring +ℤ rows) +ℤ (s +ℤ t) *ℤ z

@@ -1,4 +1,4 @@
--- What each edit makes of rings (this product's own). Each new ring is given by its corners as they are joined, and is begun at its least one.
+-- What each edit makes of rings (this product's own). Each new ring is given by its corners as they are joined, and begun at its least.
 use Rattle.std.specs.Prelude.{◌≡◌, ◌≢◌, ◌⊎◌, ℕ, ◌+◌, ◌<◌, ◌≤◌, List, [], ◌∷◌, ◌++◌, reverse, length, take, drop}
 use Rattle.std.specs.List.{Contains, AllByRecursion}
 use Rattle.geo_exact.specs.declared.corner.Corner.{Corner}
