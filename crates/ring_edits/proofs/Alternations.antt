@@ -1,5 +1,6 @@
 -- Numbers below n in a circle, of which some have a property: whether these are one run.
-use Rattle.std.proofs.Common.{◌≡◌, ◌≢◌, ◌⊎◌, ⊎_elim, inl, inr, ◌↔◌, refl, sym, ◌∙◌, subst, arith, ℕ, suc, ◌+◌, ◌-◌, ◌<◌, ◌≤◌, zero, Bool, true, false, not, IsTrue, nat_eq}
+use Rattle.std.proofs.Common.{◌≡◌, ◌≢◌, ◌⊎◌, ⊎_elim, inl, inr, ◌↔◌, refl, sym, ◌∙◌, subst, arith}
+use Rattle.std.proofs.Common.{ℕ, suc, ◌+◌, ◌-◌, ◌<◌, ◌≤◌, zero, Bool, true, false, not, IsTrue, nat_eq}
 use Rattle.std.specs.Prelude.{if◌then◌else◌}
 use Rattle.std.proofs.lemmas.Bool.{cases_lt, false≢true}
 use Rattle.std.proofs.lemmas.Bool.Decides.{nat_tests}
@@ -118,7 +119,8 @@ apart_r P n false p q h b = never ((h.to_q.there b).0 ((h.to_r.there b).1 refl))
 
 q_above : (P : ℕ → Type 0) (n : ℕ) (first : Bool) (p q r : ℕ) → AreThree P n first p q r → p < q
 q_above P n first p q r h =
-    ⊎_elim (λ l. l) (λ l. absurd (let e : q ≡ p = omega (arith, h.to_q.low) in apart_q P n first p r (subst (λ z. AreThree P n first p z r) e h)))
+    ⊎_elim (λ l. l) (λ l. absurd
+    (let e : q ≡ p = omega (arith, h.to_q.low) in apart_q P n first p r (subst (λ z. AreThree P n first p z r) e h)))
     (cases_lt p q)
 
 r_above : (P : ℕ → Type 0) (n : ℕ) (first : Bool) (p q r : ℕ) → AreThree P n first p q r → r < n → q < r

@@ -8,6 +8,7 @@ use Rattle.geo_exact.specs.declared.corner.Corner.{Corner}
 use Rattle.geo_exact.specs.Area.{area2}
 use Rattle.geo_exact.specs.Places.{corner_at}
 use Rattle.ring_core.specs.Simple.{IsSimpleRing}
+use Rattle.ring_edits.specs.Round.{HasApartCorners}
 use Rattle.ring_core.proofs.Corners.{three_corners}
 use Rattle.ring_core.proofs.LeastCorners.{AreApart, are_apart}
 
@@ -55,3 +56,6 @@ simple_apart ring h =
     (λ l. are_apart ring l h.simple)
     (λ l. three_apart ring (omega (arith, three_corners ring h.counterclockwise)) h.counterclockwise)
     (cases_lt 3 (length ring))
+
+pub has_apart_corners : (ring : List Corner) → IsSimpleRing ring → HasApartCorners ring
+has_apart_corners ring h = record { three = three_corners ring h.counterclockwise; apart = simple_apart ring h }

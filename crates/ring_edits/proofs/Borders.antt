@@ -1,5 +1,6 @@
 -- Which edges two rings share, by their numbers and as paths.
-use Rattle.std.proofs.Common.{◌≡◌, ◌≢◌, ⊎_elim, ◌↔◌, refl, sym, ◌∙◌, ap, subst, arith, zero, ℕ, suc, ◌+◌, ◌-◌, ◌<◌, ◌≤◌, List, [], ◌∷◌, ◌++◌, length, take, drop}
+use Rattle.std.proofs.Common.{◌≡◌, ◌≢◌, ⊎_elim, ◌↔◌, refl, sym, ◌∙◌, ap, subst, arith, zero, ℕ}
+use Rattle.std.proofs.Common.{suc, ◌+◌, ◌-◌, ◌<◌, ◌≤◌, List, [], ◌∷◌, ◌++◌, length, take, drop}
 use Rattle.std.proofs.Common.{Bool, true, false, Some}
 use Rattle.std.specs.Prelude.{nat_lt, slice_get}
 use Rattle.std.specs.List.{AllByRecursion}
@@ -65,7 +66,8 @@ edges_round u v onward back = path-join u v u onward back
 -- edge t of the ring begun at a corner, as an edge of the ring
 pub edge_there : (ring : List Corner) (s t : ℕ) (e : Edge) → s < length ring → t < length ring
     → slice_get (edges (begun_at s ring)) t ≡ Some e
-    → (e.from ≡ corner_at ring (number_from (length ring) s t)) × (e.to ≡ corner_at ring (after (length ring) (number_from (length ring) s t)))
+    → (e.from ≡ corner_at ring (number_from (length ring) s t))
+    × (e.to ≡ corner_at ring (after (length ring) (number_from (length ring) s t)))
 edge_there ring s t e h b i =
     let begun = is_begun ring s h in
     let j = ring_joins (begun_at s ring) t e i in
@@ -155,7 +157,8 @@ is_shared a b i j h =
     let both = all_of_both (IsSharedWith b) (λ e. ¬ IsSharedWith b e) (path u (between a i j) v) (path v (between a j i) u)
     (λ t e x.
     let y : slice_get (edges (begun_at i a)) t ≡ Some e = ap (λ xs. slice_get xs t) es ∙ x in
-    let k : t < length a = omega (arith, slice_get_within (edges (begun_at i a)) t e y, ring_count (begun_at i a), begun_length a i h.i_in_ring) in
+    let k : t < length a = omega
+    (arith, slice_get_within (edges (begun_at i a)) t e y, ring_count (begun_at i a), begun_length a i h.i_in_ring) in
     let w = shared_there a b i t e h.i_in_ring k y in
     let z = h.exactly (number_from (length a) i t) (from_in (length a) i t h.i_in_ring k) in
     let o = on_run_from a i j t h.i_in_ring h.j_in_ring h.apart k in
@@ -172,7 +175,8 @@ on_its_run i j h = grind (arith, nat_tests)
 pub neighbours_of : (a b : List Corner) (i j : ℕ) → IsSharedFromTo a b i j → AreNeighbours a b
 neighbours_of a b i j h = (i, h.i_in_ring, (h.exactly i h.i_in_ring).1 (on_its_run i j h.apart))
 
-pub shared_ends : (a b : List Corner) (i j : ℕ) (u v : Corner) → IsSharedFromTo a b i j → u ≡ corner_at a i → v ≡ corner_at a j → IsSharedRun a b u v
+pub shared_ends : (a b : List Corner) (i j : ℕ) (u v : Corner) → IsSharedFromTo a b i j → u ≡ corner_at a i → v ≡ corner_at a j
+    → IsSharedRun a b u v
 shared_ends a b i j u v h e f = (between a i j, between a j i, rw (e, f) (is_shared a b i j h))
 
 pub all_are_shared : (a b : List Corner) → 0 < length a → IsAlikeUpTo (IsSharedAt a b) (length a) 0 true (length a)

@@ -6,3 +6,6 @@ pub mod Ends
 pub mod RoundNets
 pub mod SameRuns
 pub mod EditNets
+pub mod InsertNets
+pub mod LayerNets
+pub mod Lengths

@@ -39,7 +39,8 @@ net_closed u v onward back c d =
 pub net_round : (ring : List Corner) (u v : Corner) (onward back : List Corner) (c d : Corner) → GoesRound ring u onward v back
     → net_of_edges (edges ring) c d ≡ net_of_edges (path u onward v) c d +ℤ net_of_edges (path v back u) c d
 net_round ring u v onward back c d h =
-    sym (net_begun h.start ring c d (omega (arith, h.within))) ∙ ap (λ xs. net_of_edges (edges xs) c d) h.round ∙ net_closed u v onward back c d
+    sym (net_begun h.start ring c d (omega (arith, h.within))) ∙ ap (λ xs. net_of_edges (edges xs) c d) h.round
+    ∙ net_closed u v onward back c d
 
 -- an edge the other way has the opposite net numbers
 pub net_turned : (u v c d : Corner) → net_of_edges (edge_of u v ∷ []) c d +ℤ net_of_edges (edge_of v u ∷ []) c d ≡ pos 0

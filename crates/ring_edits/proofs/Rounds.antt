@@ -1,5 +1,6 @@
 -- Rings cut in two at two of their corners.
-use Rattle.std.proofs.Common.{◌≡◌, ◌≢◌, ⊎_elim, refl, sym, ◌∙◌, ap, arith, ℕ, suc, ◌+◌, ◌-◌, ◌<◌, ◌≤◌, List, [], ◌∷◌, ◌++◌, length, take, drop, reverse, append_assoc, nat_lt, true, false}
+use Rattle.std.proofs.Common.{◌≡◌, ◌≢◌, ⊎_elim, refl, sym, ◌∙◌, ap, arith, ℕ, suc, ◌+◌, ◌-◌, ◌<◌}
+use Rattle.std.proofs.Common.{◌≤◌, List, [], ◌∷◌, ◌++◌, length, take, drop, reverse, append_assoc, nat_lt, true, false}
 use Rattle.std.specs.List.{slice_range}
 use Rattle.std.proofs.lemmas.Bool.{cases_lt}
 use Rattle.std.proofs.lemmas.Bool.Decides.{nat_tests}
@@ -53,7 +54,8 @@ goes_down : (ring : List Corner) (i j : ℕ) → j < i → i < length ring
 goes_down ring i j h k =
     ap (λ xs. xs ++ take i ring) (from_corner ring i k)
     ∙ ap (λ xs. corner_at ring i ∷ drop (i + 1) ring ++ xs) (up_to ring i j h k)
-    ∙ ap (λ xs. corner_at ring i ∷ xs) (sym (append_assoc (drop (i + 1) ring) (take j ring) (corner_at ring j ∷ slice_range ring (j + 1) i)))
+    ∙ ap (λ xs. corner_at ring i ∷ xs)
+    (sym (append_assoc (drop (i + 1) ring) (take j ring) (corner_at ring j ∷ slice_range ring (j + 1) i)))
     ∙ ap (λ xs. corner_at ring i ∷ xs ++ corner_at ring j ∷ slice_range ring (j + 1) i) (sym (between_down ring i j (omega arith)))
     ∙ ap (λ xs. corner_at ring i ∷ between ring i j ++ corner_at ring j ∷ xs) (sym (between_up ring j i h))
 
@@ -93,7 +95,8 @@ numbers_apart ring i j h e = h (ap (corner_at ring) e)
 
 pub is_split : (ring corners left right : List Corner) (i j : ℕ) → IsPathAt ring corners i j
     → left ≡ begun_at_least (corners ++ between ring j i)
-    → right ≡ begun_at_least (corner_at ring i ∷ between ring i j ++ corner_at ring j ∷ reverse (slice_range corners 1 (length corners - 1)))
+    → right ≡ begun_at_least
+    (corner_at ring i ∷ between ring i j ++ corner_at ring j ∷ reverse (slice_range corners 1 (length corners - 1)))
     → IsSplit ring corners left right
 is_split ring corners left right i j h l r = record {
   from = corner_at ring i;

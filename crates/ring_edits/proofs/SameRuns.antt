@@ -1,5 +1,6 @@
 -- The run of edges that two simple rings share is, walked back, a run of the other.
-use Rattle.std.proofs.Common.{◌≡◌, ◌≢◌, ⊎_elim, refl, sym, ◌∙◌, ap, subst, arith, ℕ, suc, ◌+◌, ◌-◌, ◌<◌, List, [], ◌∷◌, ◌++◌, length, reverse, Some}
+use Rattle.std.proofs.Common.{◌≡◌, ◌≢◌, ⊎_elim, refl, sym, ◌∙◌, ap, subst, arith, ℕ}
+use Rattle.std.proofs.Common.{suc, ◌+◌, ◌-◌, ◌<◌, List, [], ◌∷◌, ◌++◌, length, reverse, Some}
 use Rattle.std.specs.Prelude.{slice_get}
 use Rattle.std.specs.List.{AllByRecursion, Contains}
 use Rattle.std.proofs.lemmas.Option.{slice_get_within}
@@ -22,19 +23,21 @@ use Rattle.ring_edits.proofs.Apart.{simple_apart}
 use Rattle.ring_edits.proofs.Borders.{all_of_both, edge_there, edges_round, from_in}
 
 -- ---- a simple ring has one edge to each corner
-same_number : (ring : List Corner) → AreApart ring → (i j : ℕ) → i < length ring → j < length ring → corner_at ring i ≡ corner_at ring j → i ≡ j
+same_number : (ring : List Corner) → AreApart ring → (i j : ℕ) → i < length ring → j < length ring
+    → corner_at ring i ≡ corner_at ring j → i ≡ j
 same_number ring h i j k l e = ⊎_elim (λ s. s) (λ off. absurd (h i j k l off e)) (same_or i j)
 
 pub one_before : (ring : List Corner) → AreApart ring → (u v w : Corner) → HasEdge ring u w → HasEdge ring v w → u ≡ v
 one_before ring h u v w x y =
     let n = length ring in
-    let e : after n x.0 ≡ after n y.0 = same_number ring h (after n x.0) (after n y.0) (after_in n x.0 x.1.in_ring) (after_in n y.0 y.1.in_ring)
+    let e : after n x.0 ≡ after n y.0 = same_number ring h (after n x.0) (after n y.0) (after_in n x.0 x.1.in_ring)
+    (after_in n y.0 y.1.in_ring)
     (x.1.to ∙ sym y.1.to) in
     let f : y.0 ≡ x.0 = after_same n x.0 y.0 y.1.in_ring x.1.in_ring (sym e) in
     sym x.1.from ∙ sym (ap (corner_at ring) f) ∙ y.1.from
 
 -- ---- a corner at which two runs meet is on neither
-split_apart : (v : Corner) (front back : List Corner) → AreApart (front ++ v ∷ back) → (Contains front v → ⊥) × (Contains back v → ⊥)
+pub split_apart : (v : Corner) (front back : List Corner) → AreApart (front ++ v ∷ back) → (Contains front v → ⊥) × (Contains back v → ⊥)
 split_apart v front back h =
     let whole = front ++ v ∷ back in
     let n : length whole ≡ length front + (length back + 1) = length-append front (v ∷ back) ∙ omega arith in
@@ -57,7 +60,7 @@ split_apart v front back h =
 number_apart : (n k i j : ℕ) → k < n → i < n → j < n → i ≢ j → number_from n k i ≢ number_from n k j
 number_apart n k i j h b c off e = grind (arith, nat_tests)
 
-begun_apart : (ring : List Corner) (k : ℕ) → k < length ring → AreApart ring → AreApart (begun_at k ring)
+pub begun_apart : (ring : List Corner) (k : ℕ) → k < length ring → AreApart ring → AreApart (begun_at k ring)
 begun_apart ring k h apart i j bi bj off e =
     let n = begun_length ring k h in
     let ci : i < length ring = omega (arith, n, bi) in

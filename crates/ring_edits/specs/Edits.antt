@@ -1,4 +1,4 @@
--- What each edit makes of rings (this product's own). Each new ring is given by its corners as they are joined, and is begun at its least one.
+-- What each edit makes of rings (this product's own). Each new ring is given by its corners as they are joined, and begun at its least.
 use Rattle.std.specs.Prelude.{◌≡◌, ◌≢◌, ◌⊎◌, ℕ, ◌+◌, ◌<◌, ◌≤◌, List, [], ◌∷◌, ◌++◌, reverse, length, take, drop}
 use Rattle.std.specs.List.{Contains, AllByRecursion}
 use Rattle.geo_exact.specs.declared.corner.Corner.{Corner}
@@ -7,7 +7,7 @@ use Rattle.geo_exact.specs.Places.{corner_at, after}
 use Rattle.geo_exact.specs.Rings.{Edge, path, begun_at_least}
 use Rattle.ring_edits.specs.declared.fault.EditFault.{EditFault}
 use Rattle.ring_edits.specs.declared.fault.EditFault.TheVariants.{BadPath, NotNeighbours, SharedTwice, NoMemory}
-use Rattle.ring_edits.specs.Round.{GoesRound, HasEdge, HasEdgeAt}
+use Rattle.ring_edits.specs.Round.{GoesRound, HasEdge, HasEdgeAt, HasEdgeBetween}
 
 -- a path from one corner, by those between, to another that is not the same, of at most so many corners as a ring has
 pub record IsPath (corners : List Corner) (from : Corner) (between : List Corner) (to : Corner) : Type 0 where
@@ -46,6 +46,11 @@ pub record IsInserted (ring : List Corner) (from to at : Corner) (out : List Cor
 -- the same, whichever way the edge goes
 abbrev pub IsInsertedBetween : List Corner → Corner → Corner → Corner → List Corner → Type 0
 IsInsertedBetween ring from to at out = (from ≢ to) × (IsInserted ring from to at out ⊎ IsInserted ring to from at out)
+
+-- what becomes of a ring: the corner is put in where it has the edge, and else it stays
+abbrev pub IsAfterInsert : Corner → Corner → Corner → List Corner → List Corner → Type 0
+IsAfterInsert from to at ring out =
+    IsInsertedBetween ring from to at out ⊎ ((¬ HasEdgeBetween ring from to) × (out ≡ ring))
 
 -- edge k of ring a is shared: ring b has it in the other direction
 abbrev pub IsSharedAt : List Corner → List Corner → ℕ → Type 0

@@ -20,8 +20,8 @@ pub struct Run {
 ///
 /// # Errors
 ///
-/// [`EditFault::NotNeighbours`] (E4) where there are none. [`EditFault::SharedTwice`] (E5) where they are not one unbroken run round
-/// the ring `a`, and where they are all its edges, since that run would begin nowhere.
+/// [`EditFault::NotNeighbours`] (E4) where there are none. [`EditFault::SharedTwice`] (E5) where they are not one
+/// unbroken run round the ring `a`, and where they are all its edges, since that run would begin nowhere.
 pub fn shared_run(a: &[Corner], b: &[Corner]) -> Result<Run, EditFault>
     ensures run { IfOk result (λ run. IsSharedRun a.now b.now run.from run.to) }
     ensures err { IfErr result (λ fault. IsBorderFault a.now b.now fault) }
@@ -49,7 +49,8 @@ pub(crate) struct Border {
 /// Where the run of edges that two rings share begins and ends in both.
 pub(crate) fn border_of(a: &[Corner], b: &[Corner]) -> Result<Border, EditFault>
     requires { IsSimpleRing a.now }
-    ensures border { IfOk result (λ border. IsBorderAt a.now b.now border.from_in_a border.to_in_a border.from_in_b border.to_in_b) }
+    ensures border { IfOk result (λ border.
+        IsBorderAt a.now b.now border.from_in_a border.to_in_a border.from_in_b border.to_in_b) }
     ensures err { IfErr result (λ fault. IsBorderFault a.now b.now fault) }
 {
     let (from_in_a, to_in_a) = shared_places(a, b)?;
@@ -95,8 +96,8 @@ pub(crate) fn shared_places(a: &[Corner], b: &[Corner]) -> Result<(usize, usize)
     }
 }
 
-/// The number of the first edge, from this one on, that is shared where `shared` is false, and is not where it is true; or the
-/// number of edges, where there is none.
+/// The number of the first edge, from this one on, that is shared where `shared` is false, and is not where it is
+/// true; or the number of edges, where there is none.
 fn first_other(a: &[Corner], b: &[Corner], from: usize, shared: bool) -> usize
     requires { from ≤ length a.now }
     ensures { IsAlikeUpTo (IsSharedAt a.now b.now) (length a.now) from shared result }

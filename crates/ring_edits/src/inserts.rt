@@ -8,15 +8,17 @@ use crate::round::{are_same, edge_place};
 use geo_exact::{Corner, Corners, on_segment};
 use std::alloc::{AllocError, Allocator};
 
-/// Whether a corner lies strictly between two others on the edge that joins them; where it does not, an edit is refused (E8).
+/// Whether a corner lies strictly between two others on the edge that joins them; where it does not, an edit is
+/// refused (E8).
 pub fn is_between(from: Corner, to: Corner, at: Corner) -> bool
     ensures { IsTrue result ↔ IsStrictlyInside at from to }
 {
     on_segment(from, to, at) && !are_same(at, from) && !are_same(at, to)
 }
 
-/// The ring with a corner put into its edge between two corners, in whichever direction it has that edge, begun at its least
-/// corner; or `None` where it has no such edge, as where the two are one corner (E7, where no parcel has it).
+/// The ring with a corner put into its edge between two corners, in whichever direction it has that edge, begun at
+/// its least corner; or `None` where it has no such edge, as where the two are one corner (E7, where no parcel has
+/// it).
 ///
 /// Whether the corner lies on the edge is not looked at: see [`is_between`].
 ///

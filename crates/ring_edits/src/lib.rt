@@ -1,5 +1,5 @@
-//! What each edit of a fabric makes of the rings concerned: lists of corners alone, with no parcel numbers, no fabric and no
-//! journal.
+//! What each edit of a fabric makes of the rings concerned: lists of corners alone, with no parcel numbers, no fabric
+//! and no journal.
 #![tactic(auto)]
 
 mod border;
@@ -16,7 +16,10 @@ pub use border::{Run, shared_run};
 pub use edit::Edit;
 pub use fault::EditFault;
 pub use inserts::{insert, is_between};
-pub use laws::new_rings_have_the_nets_of_the_old;
+pub use laws::{
+    a_simple_ring_has_its_corners_apart, inserting_into_all_keeps_equal_nets,
+    new_rings_have_so_many_corners, new_rings_have_the_nets_of_the_old,
+};
 pub use merges::merge;
 pub use shifts::shift;
 pub use splits::split;

@@ -12,15 +12,16 @@ use crate::round::push_between;
 use geo_exact::{Corner, Corners};
 use std::alloc::{AllocError, Allocator};
 
-/// The ring of two neighbours without the border between them, begun at its least corner. The ends of the border stay, the corners
-/// between them go. Corners are in whole centimetres.
+/// The ring of two neighbours without the border between them, begun at its least corner. The ends of the border
+/// stay, the corners between them go. Corners are in whole centimetres.
 ///
 /// It need not be simple, and has at most as many corners as the two rings together.
 ///
 /// # Errors
 ///
-/// [`EditFault::NotNeighbours`] (E4) where the rings share no edge. [`EditFault::SharedTwice`] (E5) where the edges that they share
-/// are not one unbroken run, or are all of `a`. [`EditFault::NoMemory`] where an allocation is refused.
+/// [`EditFault::NotNeighbours`] (E4) where the rings share no edge. [`EditFault::SharedTwice`] (E5) where the edges
+/// that they share are not one unbroken run, or are all of `a`. [`EditFault::NoMemory`] where an allocation is
+/// refused.
 pub fn merge<A: Allocator + Copy>(
     alloc: A,
     a: &[Corner],
@@ -43,8 +44,8 @@ pub fn merge<A: Allocator + Copy>(
     Ok(ring)
 }
 
-/// The run of one ring from number `i` on to number `j`, and then that of the other from number `k` on to number `l`, each without
-/// its last corner.
+/// The run of one ring from number `i` on to number `j`, and then that of the other from number `k` on to number `l`,
+/// each without its last corner.
 fn two_runs<A: Allocator>(
     alloc: A,
     a: &[Corner],

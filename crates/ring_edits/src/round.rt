@@ -10,7 +10,8 @@ use std::alloc::{AllocError, Allocator};
 
 /// The number of the first place where the corner stands.
 pub(crate) fn place_of(ring: &[Corner], corner: Corner) -> Option<usize>
-    ensures { MatchOption result (¬ Contains ring.now corner) (λ i. (i < length ring.now) × (corner_at ring.now i ≡ corner)) }
+    ensures { MatchOption result (¬ Contains ring.now corner)
+        (λ i. (i < length ring.now) × (corner_at ring.now i ≡ corner)) }
 {
     for i in 0..ring.len() {
         if ring[i] == corner {

@@ -11,18 +11,18 @@ use crate::round::{are_same, path_and_run};
 use geo_exact::{Corner, Corners, RING_CORNERS};
 use std::alloc::{AllocError, Allocator};
 
-/// The rings of two neighbours with the border between them exchanged for a path: first that of `a`, then that of `b`, each begun
-/// at its least corner. The path goes from where the border begins, in the direction of `a`, to where it ends. Corners are in whole
-/// centimetres.
+/// The rings of two neighbours with the border between them exchanged for a path: first that of `a`, then that of
+/// `b`, each begun at its least corner. The path goes from where the border begins, in the direction of `a`, to where
+/// it ends. Corners are in whole centimetres.
 ///
 /// The rings need not be simple, and may have as many corners as the old one and the path together.
 ///
 /// # Errors
 ///
-/// The first of these that applies: [`EditFault::NotNeighbours`] (E4) where the rings share no edge; [`EditFault::SharedTwice`]
-/// (E5) where the edges that they share are not one unbroken run, or are all of `a`; [`EditFault::BadPath`] (E3) where the path has
-/// fewer than 2 or more than [`RING_CORNERS`] corners, or does not go from the one end of the border to the other.
-/// [`EditFault::NoMemory`] where an allocation is refused.
+/// The first of these that applies: [`EditFault::NotNeighbours`] (E4) where the rings share no edge;
+/// [`EditFault::SharedTwice`] (E5) where the edges that they share are not one unbroken run, or are all of `a`;
+/// [`EditFault::BadPath`] (E3) where the path has fewer than 2 or more than [`RING_CORNERS`] corners, or does not go
+/// from the one end of the border to the other. [`EditFault::NoMemory`] where an allocation is refused.
 pub fn shift<A: Allocator + Copy>(
     alloc: A,
     a: &[Corner],
@@ -49,7 +49,8 @@ fn joins(path: &[Corner], ring: &[Corner], i: usize, j: usize) -> bool
     requires i_in_ring { i < length ring.now }
     requires j_in_ring { j < length ring.now }
     requires apart { corner_at ring.now i ≢ corner_at ring.now j }
-    ensures { IsTrue result ↔ ((between : List Corner) × IsPath path.now (corner_at ring.now i) between (corner_at ring.now j)) }
+    ensures { IsTrue result
+        ↔ ((between : List Corner) × IsPath path.now (corner_at ring.now i) between (corner_at ring.now j)) }
 {
     let [first, .., last] = path else {
         return false;

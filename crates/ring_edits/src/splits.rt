@@ -51,15 +51,15 @@ fn run_and_back<A: Allocator + Copy>(
     Ok(corners)
 }
 
-/// The two rings that a path from a corner of the ring to another cuts it into: first the one left of the path, then the one
-/// right of it, each begun at its least corner. Corners are in whole centimetres.
+/// The two rings that a path from a corner of the ring to another cuts it into: first the one left of the path, then
+/// the one right of it, each begun at its least corner. Corners are in whole centimetres.
 ///
 /// They need not be simple, and may have as many corners as the ring and the path together.
 ///
 /// # Errors
 ///
-/// [`EditFault::BadPath`] (E3) where the path has fewer than 2 or more than [`RING_CORNERS`] corners, its first is its last, or one
-/// of these two is no corner of the ring. [`EditFault::NoMemory`] where an allocation is refused.
+/// [`EditFault::BadPath`] (E3) where the path has fewer than 2 or more than [`RING_CORNERS`] corners, its first is
+/// its last, or one of these two is no corner of the ring. [`EditFault::NoMemory`] where an allocation is refused.
 #[tactic(auto, using(crate::proofs::Rounds::across, crate::proofs::Rounds::is_split))]
 pub fn split<A: Allocator + Copy>(
     alloc: A,

@@ -17,7 +17,8 @@ same false false h = refl
 
 pub loop-i-preserved : goal.loop-i-preserved
 loop-i-preserved c = one_more (IsSharedAt c.args.a.now c.args.b.now) c.args.from c.loop-i.i c.args.shared c.loop-i.invariant
-    (subst (λ r. IsSharedAt c.args.a.now c.args.b.now c.loop-i.i ↔ IsTrue r) (same c.is_shared_at.result c.args.shared c.if-is_shared_at-shared.false)
+    (subst (λ r. IsSharedAt c.args.a.now c.args.b.now c.loop-i.i ↔ IsTrue r)
+    (same c.is_shared_at.result c.args.shared c.if-is_shared_at-shared.false)
     (λ h. c.is_shared_at.ensures.1 h, λ h. c.is_shared_at.ensures.0 h))
 
 pub returns : goal.returns

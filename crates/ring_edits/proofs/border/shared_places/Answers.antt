@@ -31,7 +31,8 @@ returns-then-first-a-clause-err c =
 
 pub returns-then-first_other-a-clause-err : goal.returns-then-first_other-a-clause-err
 returns-then-first_other-a-clause-err c =
-    not_one c.args.a.now c.args.b.now c.is_shared_at-begins_shared.result c.first_other-first.result c.first_other-second.result c.first_other.result
+    not_one c.args.a.now c.args.b.now c.is_shared_at-begins_shared.result c.first_other-first.result c.first_other-second.result
+    c.first_other.result
     (record {
       to_p = c.first_other-first.ensures;
       to_q = c.first_other-second.ensures;

@@ -23,7 +23,8 @@ pub returns-clause-rings : goal.returns-clause-rings
 returns-clause-rings g c =
     let border = c.in_ok-border.border in
     let path = c.joins.ensures.0 c.if-not-joins.false in
-    is_move c.args.a.now c.args.b.now c.args.path.now path.0 c.in_ok-of_a.of_a c.in_ok-of_b.of_b border.from_in_a border.to_in_a border.from_in_b
+    is_move c.args.a.now c.args.b.now c.args.path.now path.0 c.in_ok-of_a.of_a c.in_ok-of_b.of_b border.from_in_a border.to_in_a
+    border.from_in_b
     border.to_in_b c.in_ok-border.ensures.border path.1 c.in_ok-of_a.ensures
     (c.in_ok-of_b.ensures ∙ ap (λ xs. begun_at_least (xs ++ between c.args.b.now border.from_in_b border.to_in_b))
     (c.deref.ensures.value ∙ c.in_ok-back.ensures))

@@ -1,0 +1,63 @@
+//! Corners that are put into edges.
+
+use geo_exact::Corners;
+use ring_edits::{insert, is_between};
+use std::alloc::Global;
+use std::test::Fail;
+use test_builders::{Place, corner, corners};
+
+const WEST: [Place; 4] = [(0, 0), (60, 0), (60, 100), (0, 100)];
+
+/// The ring with the last of three corners put into the edge between the other two.
+fn with_corner(
+    alloc: Global,
+    ring: &[Place],
+    edit: (Place, Place, Place),
+) -> Result<Option<Corners<Global>>, Fail> {
+    let ring = corners(alloc, ring)?;
+    let found = insert(
+        alloc,
+        ring.as_slice(),
+        corner(edit.0)?,
+        corner(edit.1)?,
+        corner(edit.2)?,
+    )?;
+    Ok(found)
+}
+
+#[test]
+fn into_an_edge(rt: HostRuntime) -> Result<(), Fail> {
+    let alloc = rt.alloc();
+    let south = Some(corners(alloc, &[(0, 0), (30, 0), (60, 0), (60, 100), (0, 100)])?);
+    assert!(rt; with_corner(alloc, &WEST, ((0, 0), (60, 0), (30, 0)))? == south);
+    assert!(rt; with_corner(alloc, &WEST, ((60, 0), (0, 0), (30, 0)))? == south);
+    // between the last corner and the first
+    let west = Some(corners(alloc, &[(0, 0), (60, 0), (60, 100), (0, 100), (0, 50)])?);
+    assert!(rt; with_corner(alloc, &WEST, ((0, 0), (0, 100), (0, 50)))? == west);
+    assert!(rt; with_corner(alloc, &WEST, ((0, 100), (0, 0), (0, 50)))? == west);
+    Ok(())
+}
+
+#[test]
+fn into_no_edge(rt: HostRuntime) -> Result<(), Fail> {
+    let alloc = rt.alloc();
+    assert!(rt; with_corner(alloc, &WEST, ((0, 0), (100, 0), (30, 0)))?.is_none());
+    assert!(rt; with_corner(alloc, &WEST, ((0, 0), (60, 100), (30, 50)))?.is_none());
+    assert!(rt; with_corner(alloc, &WEST, ((0, 0), (0, 0), (0, 0)))?.is_none());
+    assert!(rt; with_corner(alloc, &[], ((0, 0), (60, 0), (30, 0)))?.is_none());
+    Ok(())
+}
+
+#[test]
+fn between_two_corners(rt: HostRuntime) -> Result<(), Fail> {
+    let a = corner((0, 0))?;
+    let b = corner((60, 30))?;
+    assert!(rt; is_between(a, b, corner((20, 10))?));
+    assert!(rt; is_between(b, a, corner((20, 10))?));
+    assert!(rt; !is_between(a, b, corner((20, 11))?));
+    assert!(rt; !is_between(a, b, corner((80, 40))?));
+    assert!(rt; !is_between(a, b, a));
+    assert!(rt; !is_between(a, b, b));
+    assert!(rt; !is_between(a, a, a));
+    Ok(())
+}

@@ -1,0 +1,17 @@
+use Rattle.ring_edits.proofs.Lengths.{split_lengths, split_bound, insert_length, merge_bound, move_bound}
+use Rattle.ring_edits.proofs.laws.new_rings_have_so_many_corners.Goals as goal
+
+pub returns-clause-split_both : goal.returns-clause-split_both
+returns-clause-split_both c = split_lengths
+
+pub returns-clause-split_each : goal.returns-clause-split_each
+returns-clause-split_each c = split_bound
+
+pub returns-clause-inserted : goal.returns-clause-inserted
+returns-clause-inserted c = insert_length
+
+pub returns-clause-merged : goal.returns-clause-merged
+returns-clause-merged c = merge_bound
+
+pub returns-clause-moved : goal.returns-clause-moved
+returns-clause-moved c = move_bound
