@@ -1,0 +1,125 @@
+#!/usr/bin/env python3
+"""locate.py - `Layer::locate` at random points of cities S, M and L and of layers made to be slow, beside Boost and GEOS.
+
+  locate.py [--ours PROGRAM] [--old PROGRAM] [--runs N] [--only WORD]
+
+PROGRAM is programs/bench_locate, built by build.sh unless it is given. The layers are made in a temporary folder with a
+fixed seed. All programs draw the same points from the box of the city (or of its crowded corner), and run in turn, N times;
+the best time of each is printed, and how many points are inside a parcel, on an edge and outside. Boost (boost_locate.cpp,
+Debian's libboost-dev) and GEOS (geos_locate.cpp, libgeos-dev) are built by g++ and left out where they can't be; how many
+points they have inside, and the sum of the ids, are compared. To make the layer is to make its index, too: its seconds and
+the peak memory of the process are printed, and with --old, the same program built over an earlier state of the crates, how
+long it takes as long as that one's.
+"""
+import argparse, os, shutil, struct, subprocess, sys, tempfile
+
+HERE = os.path.dirname(os.path.abspath(__file__))
+sys.dont_write_bytecode = True
+import nodes
+
+
+
+def slanted(folder):
+    """4,096 strips that lean so far that the box of each stands in nearly all cells."""
+    wide, high, slant = 100, 10 ** 9, 5 * 10 ** 9
+    rings = [nodes.box(wide * k, 0, wide * (k + 1), high, slant) for k in range(4096)]
+    nodes.layers(folder, nodes.box(0, 0, 4096 * wide, high, slant), rings)
+
+
+# the layer, its maker, how many points, and the box that they are drawn from: the city's, or of this side at its low corner
+JOBS = (("city S", nodes.city("S"), 200000, None), ("city M", nodes.city("M"), 200000, None),
+        ("city L", nodes.city("L"), 200000, None), ("corner, anywhere", nodes.corner, 200000, None),
+        ("corner, crowded", nodes.corner, 2000, 256 * 100 - 1), ("strips", nodes.strips(0, False), 20000, None),
+        ("strips, shuffled", nodes.strips(0, True), 20000, None), ("slanted, 4096", slanted, 1000, None))
+
+PEERS = (("boost", []), ("geos", ["-lgeos_c"]))
+
+
+def peers(folder):
+    """The programs of the others that can be built."""
+    made = []
+    for name, libraries in PEERS:
+        source, program = os.path.join(HERE, name + "_locate.cpp"), os.path.join(folder, name)
+        words = ["g++", "-O2", "-o", program, source, *libraries]
+        if shutil.which("g++") and subprocess.run(words, stderr=subprocess.DEVNULL).returncode == 0:
+            made.append((name, program))
+    return made
+
+
+def box_of(path, side):
+    """The box in the header of a main file, or the square of this side at its low corner: four whole numbers."""
+    with open(path, "rb") as file:
+        west, south, east, north = (int(z) for z in struct.unpack("<4d", file.read(68)[36:]))
+    return (west, south, west + side, south + side) if side else (west, south, east, north)
+
+
+def answer(words):
+    """The numbers that a program prints, the first two of them microseconds, and the peak KiB of its process."""
+    text, kib = nodes.run(words, 600)
+    numbers = [int(word) for word in (text or "").split()]
+    if len(numbers) < 4:
+        sys.exit("%s answered: %s" % (words[0], text))
+    return numbers + [kib]
+
+
+def keep_least(best, name, numbers):
+    old = best.get(name, numbers)
+    best[name] = [min(a, b) for a, b in zip(old[:2], numbers[:2])] + numbers[2:]
+
+
+def measure(programs, folder, points, side, runs):
+    """Each program's least microseconds of loading and of locating, and its other numbers."""
+    city, parcels = (os.path.join(folder, part + ".shp") for part in ("city", "parcels"))
+    area = [str(z) for z in box_of(city, side)]
+    best = {}
+    for _ in range(runs):
+        for name, program in programs:
+            files = [parcels] if name in dict(PEERS) else [city, parcels]
+            count = 0 if name == "old" else points
+            keep_least(best, name, answer([program, *files, str(count), *area]))
+    return best
+
+
+def show(layer, points, best):
+    loading, locating, inside, on_edge, outside, ids, kib = best["ours"]
+    print("%-17s %7d %9.3f %7d %7d %7d %8.3f %6.0f" % (layer, points, locating / points, inside, on_edge, outside,
+                                                       loading / 1e6, kib / 1024), end="")
+    if "old" in best:
+        print("  %.3f of the old" % (loading / best["old"][0]), end="")
+    for name, _ in PEERS:
+        if name in best:
+            same = "the same" if best[name][2:4] == [inside, ids] else "NOT THE SAME: %s" % best[name][2:4]
+            print("  %s %.3f us, x %.2f, %s" % (name, best[name][1] / points, best[name][1] / locating, same), end="")
+    print(flush=True)
+
+
+def main():
+    parser = argparse.ArgumentParser(description=__doc__, formatter_class=argparse.RawDescriptionHelpFormatter)
+    parser.add_argument("--ours")
+    parser.add_argument("--old")
+    parser.add_argument("--runs", type=int, default=5)
+    parser.add_argument("--only", default="")
+    given = parser.parse_args()
+    home = tempfile.mkdtemp()
+    try:
+        if not given.ours:
+            subprocess.run([os.path.join(HERE, "build.sh"), "bench_locate", home], check=True)
+        programs = [("ours", given.ours or os.path.join(home, "bench_locate"))] + peers(home)
+        if given.old:
+            programs.append(("old", given.old))
+        print("%-17s %7s %9s %7s %7s %7s %8s %6s" % ("layer", "points", "us each", "inside", "on edge", "outside", "load s", "MiB"))
+        for name, make, points, side in JOBS:
+            if given.only not in name:
+                continue
+            folder = tempfile.mkdtemp()
+            try:
+                nodes.apart(make, folder)
+                show(name, points, measure(programs, folder, points, side, given.runs))
+            finally:
+                shutil.rmtree(folder)
+    finally:
+        shutil.rmtree(home)
+
+
+if __name__ == "__main__":
+    main()
