@@ -20,3 +20,4 @@ pub mod Tables
 pub mod OneParcel
 pub mod Clipped
 pub mod FromOneCell
+pub mod Between

@@ -1,11 +1,12 @@
 -- Which parcels stand in which cells of a layer's grid (this product's own; the cells of a grid are cell_index').
-use Rattle.std.specs.Prelude.{List}
-use Rattle.std.specs.List.{AllZip}
+use Rattle.std.specs.Prelude.{◌≡◌, ℕ, List}
+use Rattle.std.specs.List.{AllZip, Contains}
+use Rattle.geo_exact.specs.declared.bounds.Bounds.{Bounds}
 use Rattle.geo_exact.specs.declared.corner.Corner.{Corner}
 use Rattle.geo_exact.specs.Bounds.{IsLeastBox}
 use Rattle.geo_exact.specs.Layers.{NumberedRing}
 use Rattle.cell_index.specs.declared.entry.Entry.{Entry}
-use Rattle.cell_index.specs.Cells.{Grid, Indexes}
+use Rattle.cell_index.specs.Cells.{Grid, Indexes, StandsBetween}
 
 -- The index agrees with the rows: its area is the city's least box, and in its cells stand exactly the rows, each in those of its least box.
 pub record IsIndexed (rows : List NumberedRing) (city : List Corner) (index : Grid) : Type 0 where
@@ -13,3 +14,14 @@ pub record IsIndexed (rows : List NumberedRing) (city : List Corner) (index : Gr
   pub entries : List Entry
   pub have_their_boxes : AllZip (λ row entry. IsLeastBox entry.bounds row.corners) rows entries
   pub stand : Indexes index entries
+
+-- the parcel with this id stands, by its least box, in some cell between those of two corners, in the grid over the city's least box
+pub record IsCandidate (rows : List NumberedRing) (city : List Corner) (low high : Corner) (id : ℕ) : Type 0 where
+  pub row : NumberedRing
+  pub is_row : Contains rows row
+  pub has_id : row.number ≡ id
+  pub area : Bounds
+  pub is_area : IsLeastBox area city
+  pub box : Bounds
+  pub is_its_box : IsLeastBox box row.corners
+  pub stands : StandsBetween area low high box

@@ -1,9 +1,10 @@
-ghost use Rattle.std.specs.Prelude.{◌≡◌, ◌≢◌, ◌⊎◌, ◌≤◌, ℤ, length, map, List, IfOk, IfErr, IsErrOf, IsErrAnd, MatchResult, MatchOption};
-ghost use Rattle.std.specs.List.{Contains};
+ghost use Rattle.std.specs.Prelude.{◌≡◌, ◌≢◌, ◌⊎◌, ◌↔◌, ◌≤◌, ◌≤ℤ◌, ℕ, ℤ, length, map, List, IfOk, IfErr, IsErrOf, IsErrAnd, MatchResult, MatchOption};
+ghost use Rattle.std.specs.List.{All, Contains};
 ghost use Rattle.std.specs.List.Sorted.{IsStrictlyIncreasing};
 ghost use Rattle.geo_exact.specs.declared.corner.Corner.{Corner};
 ghost use Rattle.geo_exact.specs.Point.{corner_point};
-ghost use Rattle.geo_exact.specs.Bounds.{IsLeastBox};
+ghost use Rattle.geo_exact.specs.Bounds.{HoldsCorner, IsLeastBox};
+ghost use Rattle.geo_exact.specs.Interiors.{InteriorsMeet};
 ghost use Rattle.geo_exact.specs.Layers.{NumberedRing, numbered, rings_of, corner_count, NumbersRise};
 ghost use Rattle.geo_exact.specs.declared.limits.TheConstants.{LAYER_CORNERS, LAYER_RECORDS};
 ghost use Rattle.fabric_core.specs.declared.layer.LoadFault.{LoadFault};
@@ -11,12 +12,13 @@ ghost use Rattle.fabric_core.specs.declared.layer.LoadFault.TheVariants.{Gap, No
 ghost use Rattle.fabric_core.specs.Tiling.{IsTiling};
 ghost use Rattle.fabric_core.specs.Rows.{AreRefined, numbers, IsUntiledBeside};
 ghost use Rattle.fabric_core.specs.Limits.{AreWithinLimits};
-ghost use Rattle.fabric_core.specs.GridIndex.{IsIndexed};
+ghost use Rattle.fabric_core.specs.GridIndex.{IsIndexed, IsCandidate};
 ghost use Rattle.fabric_core.specs.Locate.{IsLocatedAt};
 ghost use Rattle.fabric_core.specs.Faults.{AreSimple, IsFirstFault, IsLoadFault};
 ghost use Rattle.fabric_core.specs.own.Checks.{HaveNoFault, IsRefinedCity, IsChecked};
 ghost use Rattle.fabric_core.specs.own.Lists.{numbered_rows, corners_of_rings};
 
+use crate::candidates::{ids_under, sort_once};
 use crate::city::City;
 use crate::gaps::check_nets;
 use crate::grid_index::clip_all;
@@ -217,6 +219,31 @@ impl<'a, H: Allocator> Layer<'a, H> {
             Some(id) => Ok(At::Inside(id)),
             None => Ok(At::Outside),
         }
+    }
+
+    /// The ids, ascending, of the parcels that stand in some cell of the grid index between the cells of two corners, these included; a
+    /// coordinate that lies outside the city's box is first brought to its nearer end. These are the candidates of a search: no other
+    /// parcel's interior meets that of a ring between the corners. The time grows with the number of these cells, and with the number of
+    /// parcels that stand in each.
+    ///
+    /// # Errors
+    ///
+    /// [`AllocError`] where the list of ids is refused.
+    pub fn candidates(&self, low: Corner, high: Corner) -> Result<Vec<u64, &'a H>, AllocError>
+        requires eastward { low.x ≤ℤ high.x }
+        requires northward { low.y ≤ℤ high.y }
+        ensures ascend { IfOk result (λ ids. IsStrictlyIncreasing ids.items) }
+        ensures exactly { IfOk result (λ ids. (id : ℕ)
+            → Contains ids.items id ↔ IsCandidate self.now.rows self.now.city low high id) }
+        // No parcel that a search between the corners has to find is left out.
+        ensures meeting { IfOk result (λ ids. (row : NumberedRing) (ring : List Corner) → Contains self.now.rows row
+            → All (HoldsCorner (record { low = low; high = high })) ring → InteriorsMeet row.corners ring
+            → Contains ids.items row.number) }
+    {
+        let keys = self.index.between(low, high)?;
+        let mut ids = ids_under(&self.parcels, &keys)?;
+        sort_once(&mut ids);
+        Ok(ids)
     }
 
     /// The city's ring, with the corners that were read, begun at its least corner.

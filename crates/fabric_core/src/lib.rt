@@ -3,6 +3,7 @@
 
 mod all_faults;
 mod box_laws;
+mod candidates;
 mod city;
 mod gaps;
 mod grid_index;
@@ -17,7 +18,7 @@ mod rings;
 mod side;
 
 pub use all_faults::AllFaults;
-pub use box_laws::rows_lie_in_the_box_of_their_city;
+pub use box_laws::{a_parcel_that_meets_a_ring_is_a_candidate, rows_lie_in_the_box_of_their_city};
 pub use city::{City, CityFault};
 pub use iter::{Ids, Shapes};
 pub use laws::{

@@ -87,7 +87,7 @@ fn no_fault(rt: HostRuntime) -> Result<(), Fail> {
         match layer {
             Ok(layer) => {
                 assert!(rt; !is_refused && number > 10);
-                assert_eq!(rt; layer.ids(), [1, 2].as_slice());
+                assert!(rt; layer.ids().eq([1, 2]));
                 return Ok(());
             }
             Err(all) => {

@@ -1,5 +1,6 @@
 -- How parcels are kept: each in a slab under a key, and for each id below the next one what has become of it. Public contracts do not speak of it.
 use Rattle.std.specs.Prelude.{⊤, ◌≡◌, ℕ, ◌+◌, List, [], ◌∷◌, map, filter_map, length, Option, Some, None, option_map}
+use Rattle.std.specs.List.{Contains}
 use Rattle.cell_index.specs.declared.entry.Entry.{Entry}
 use Rattle.slab.specs.Slab.{Slab, get, slab_len}
 use Rattle.geo_exact.specs.Layers.{NumberedRing, numbered}
@@ -39,6 +40,10 @@ module _ {A : Type 0} where
   -- parcels as the entries of the grid index: each one's box under its key
   abbrev pub entries_of : List (ℕ × Parcel A) → List Entry
   entries_of parcels = map (λ parcel. record { key = parcel.0; bounds = parcel.1.shape.bounds }) parcels
+
+  -- the parcel under this key, where there is one, has this id
+  abbrev pub IsIdOf : List (ℕ × Parcel A) → ℕ → ℕ → Type 0
+  IsIdOf parcels key id = (parcel : Parcel A) → Contains parcels (key, parcel) → parcel.id ≡ id
 
   -- the places of the ids from this one on: each leads to no parcel, or to the one with that id
   abbrev pub ArePlaced : Slab (Parcel A) → ℕ → List Place → Type 0
