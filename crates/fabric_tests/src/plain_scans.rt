@@ -1,0 +1,173 @@
+//! A layer's answers beside those of a scan over all its parcels, for tilings and corners that are drawn at random. The generator
+//! begins with the same words each time.
+
+use crate::loading::{read, sound_city};
+use fabric_core::{At, Layer};
+use geo_exact::{Corner, Corners, on_segment, turn};
+use rand_core::utils::NextWord;
+use rand_pcg::Pcg32;
+use std::alloc::{Allocator, Global};
+use std::test::Fail;
+use test_builders::{corner, corners, rectangle};
+
+/// The city's side; its cells are 2 wide and high.
+const SIDE: i64 = 100;
+
+/// Adds the block between these ends: one rectangle, or two triangles.
+fn add_block<'a>(
+    heap: &'a Global,
+    words: &mut Pcg32,
+    x: (i64, i64),
+    y: (i64, i64),
+    lists: &mut Vec<Corners<&'a Global>, Global>,
+) -> Result<(), Fail> {
+    if words.next_word() % 3 > 0 {
+        lists.push(rectangle(heap, x, y)?)?;
+        return Ok(());
+    }
+    lists.push(corners(heap, &[(x.0, y.0), (x.1, y.0), (x.1, y.1)])?)?;
+    lists.push(corners(heap, &[(x.0, y.0), (x.1, y.1), (x.0, y.1)])?)?;
+    Ok(())
+}
+
+/// Adds the blocks of one column, cut at random.
+fn add_column<'a>(
+    heap: &'a Global,
+    words: &mut Pcg32,
+    x: (i64, i64),
+    lists: &mut Vec<Corners<&'a Global>, Global>,
+) -> Result<(), Fail> {
+    let mut south = 0;
+    for north in 1..=SIDE {
+        if north == SIDE || words.next_word() % 12 == 0 {
+            add_block(heap, words, x, (south, north), lists)?;
+            south = north;
+        }
+    }
+    Ok(())
+}
+
+/// A layer of columns and blocks, cut at random.
+fn drawn<'a>(heap: &'a Global, words: &mut Pcg32) -> Result<Layer<'a, Global>, Fail> {
+    let mut lists = Vec::new(*heap);
+    let mut west = 0;
+    for east in 1..=SIDE {
+        if east == SIDE || words.next_word() % 12 == 0 {
+            add_column(heap, words, (west, east), &mut lists)?;
+            west = east;
+        }
+    }
+    let city = sound_city(heap, &[(0, 0), (SIDE, 0), (SIDE, SIDE), (0, SIDE)])?;
+    match Layer::load(heap, &city, read(heap, &lists)?) {
+        Ok(layer) => Ok(layer),
+        Err(_) => Err(Fail::new("no tiling")),
+    }
+}
+
+/// A corner in the city, or up to 10 centimetres beyond it.
+fn drawn_corner(words: &mut Pcg32) -> Result<Corner, Fail> {
+    let x = i64::from(words.next_word() % 121);
+    let y = i64::from(words.next_word() % 121);
+    corner((x - 10, y - 10))
+}
+
+/// Whether a corner lies on an edge of a ring.
+fn is_on_edge(ring: &[Corner], place: Corner) -> bool {
+    let Some(last) = ring.last() else {
+        return false;
+    };
+    let mut from = *last;
+    for to in ring {
+        if on_segment(from, *to, place) {
+            return true;
+        }
+        from = *to;
+    }
+    false
+}
+
+/// How many times a ring goes round a corner: the edges that pass it upward on its right, less those that pass it downward there.
+fn winding(ring: &[Corner], place: Corner) -> i64 {
+    let Some(last) = ring.last() else {
+        return 0;
+    };
+    let mut wound = 0i64;
+    let mut from = *last;
+    for to in ring {
+        let side = turn(from, *to, place);
+        if from.y <= place.y && place.y < to.y && side > 0 {
+            wound = wound.saturating_add(1);
+        }
+        if to.y <= place.y && place.y < from.y && side < 0 {
+            wound = wound.saturating_sub(1);
+        }
+        from = *to;
+    }
+    wound
+}
+
+/// Whether a corner is located where a scan over all parcels finds it.
+fn is_located<H: Allocator>(
+    heap: &Global,
+    layer: &Layer<'_, H>,
+    place: Corner,
+) -> Result<bool, Fail> {
+    let mut on_edge = Vec::new(*heap);
+    let mut inside = None;
+    for (id, shape) in layer.shapes() {
+        let ring = shape.ring.corners.as_slice();
+        if is_on_edge(ring, place) {
+            on_edge.push(id)?;
+        } else if winding(ring, place) > 0 {
+            inside = Some(id);
+        }
+    }
+    match layer.locate(place)? {
+        At::OnEdge(ids) => Ok(!ids.is_empty() && ids.as_slice() == on_edge.as_slice()),
+        At::Inside(id) => Ok(on_edge.is_empty() && inside == Some(id)),
+        At::Outside => Ok(on_edge.is_empty() && inside.is_none()),
+    }
+}
+
+/// The cell along an axis of a coordinate that is brought into the city.
+fn cell(z: i64) -> i64 {
+    z.max(0).min(SIDE) / 2
+}
+
+/// Whether the candidates between two corners are those that a scan over all parcels finds.
+fn are_candidates<H: Allocator>(
+    heap: &Global,
+    layer: &Layer<'_, H>,
+    low: Corner,
+    high: Corner,
+) -> Result<bool, Fail> {
+    if low.x > high.x || low.y > high.y {
+        return Ok(true);
+    }
+    let mut want = Vec::new(*heap);
+    for (id, shape) in layer.shapes() {
+        let (least, greatest) = (shape.bounds.low, shape.bounds.high);
+        let is_across = cell(least.x) <= cell(high.x) && cell(low.x) <= cell(greatest.x);
+        if is_across && cell(least.y) <= cell(high.y) && cell(low.y) <= cell(greatest.y) {
+            want.push(id)?;
+        }
+    }
+    Ok(layer.candidates(low, high)?.as_slice() == want.as_slice())
+}
+
+#[test]
+fn answers_as_a_scan_does(rt: HostRuntime) -> Result<(), Fail> {
+    let heap = &rt.alloc();
+    let mut words = Pcg32::new(42, 54);
+    for _ in 0..20u32 {
+        let layer = drawn(heap, &mut words)?;
+        let mut before = drawn_corner(&mut words)?;
+        for _ in 0..50u32 {
+            let place = drawn_corner(&mut words)?;
+            assert!(rt; is_located(heap, &layer, place)?);
+            assert!(rt; are_candidates(heap, &layer, before, place)?);
+            before = place;
+        }
+    }
+    Ok(())
+}

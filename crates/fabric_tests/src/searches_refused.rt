@@ -1,0 +1,85 @@
+//! Each growth of a search of a layer refused in turn: the answer is want of memory, and with memory the same search finds what it
+//! has to find.
+
+use crate::candidates::between;
+use crate::loading::{EAST, SQUARE, WEST, tiling};
+use fabric_core::{At, Layer};
+use refusing_alloc::Refusing;
+use std::alloc::Global;
+use std::test::Fail;
+use test_builders::corner;
+
+/// No call here has so many growths.
+const MOST: u64 = 100;
+
+/// The heap of the tests here.
+type Heap = Refusing<Global>;
+
+/// A corner is located on the edge of both parcels, or growth `number` is refused, and then it is located with memory; whether it was
+/// refused.
+fn is_locating_refused(heap: &Heap, layer: &Layer<'_, Heap>, number: u64) -> Result<bool, Fail> {
+    let corner = corner((60, 50))?;
+    heap.refuse(number);
+    let located = layer.locate(corner);
+    let is_refused = heap.is_spent();
+    heap.refuse(0);
+    if located.is_err() != is_refused {
+        return Err(Fail::new("a refusal is told, and nothing else is"));
+    }
+    let at = match located {
+        Ok(at) => at,
+        Err(_) => layer.locate(corner)?,
+    };
+    let want: &[u64] = &[1, 2];
+    match at {
+        At::OnEdge(ids) if ids.as_slice() == want => Ok(is_refused),
+        At::OnEdge(_) | At::Inside(_) | At::Outside => Err(Fail::new("located elsewhere")),
+    }
+}
+
+#[test]
+fn locating(rt: HostRuntime) -> Result<(), Fail> {
+    let heap = Refusing::new(rt.alloc(), 0);
+    let layer = tiling(&heap, &SQUARE, &[&WEST, &EAST])?;
+    for number in 1..MOST {
+        if !is_locating_refused(&heap, &layer, number)? {
+            assert!(rt; number > 1);
+            return Ok(());
+        }
+    }
+    Err(Fail::new("each growth was refused"))
+}
+
+/// The candidates of both parcels' border are found, or growth `number` is refused, and then they are found with memory; whether it
+/// was refused.
+fn is_finding_refused(heap: &Heap, layer: &Layer<'_, Heap>, number: u64) -> Result<bool, Fail> {
+    heap.refuse(number);
+    let found = between(layer, (60, 0), (60, 100))?;
+    let is_refused = heap.is_spent();
+    heap.refuse(0);
+    if found.is_err() != is_refused {
+        return Err(Fail::new("a refusal is told, and nothing else is"));
+    }
+    let ids = match found {
+        Ok(ids) => ids,
+        Err(_) => between(layer, (60, 0), (60, 100))??,
+    };
+    let want: &[u64] = &[1, 2];
+    if ids.as_slice() != want {
+        return Err(Fail::new("other candidates"));
+    }
+    Ok(is_refused)
+}
+
+#[test]
+fn finding_candidates(rt: HostRuntime) -> Result<(), Fail> {
+    let heap = Refusing::new(rt.alloc(), 0);
+    let layer = tiling(&heap, &SQUARE, &[&WEST, &EAST])?;
+    for number in 1..MOST {
+        if !is_finding_refused(&heap, &layer, number)? {
+            assert!(rt; number > 2);
+            return Ok(());
+        }
+    }
+    Err(Fail::new("each growth was refused"))
+}
