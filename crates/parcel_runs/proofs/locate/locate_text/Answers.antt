@@ -12,13 +12,16 @@ returns-in_err-layer-clause-refuses g c = λ fault h. passed_on _ _ _ c.from_res
 
 pub returns-in_err-points-clause-fault : goal.returns-in_err-points-clause-fault
 returns-in_err-points-clause-fault g c = passed_if _ _ _ c.from_residual-in_err-points.ensures.1 (elim c.in_err-points.ensures.fault [
-  | inl k ↦ inl (inr record {
+  | inl k ↦ inl (
+    inr record {
       tiles = c.in_ok-layer.layer;
       are_tiles = c.in_ok-layer.ensures.tiles;
       number = k.0;
       is_first = k.2;
       is_told = k.1;
-    }, refl)
+    },
+    refl,
+  )
   | inr e ↦ inr (inl (e, refl))
 ])
 
