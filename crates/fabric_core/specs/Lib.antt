@@ -4,4 +4,8 @@ pub mod Limits
 pub mod Faults
 pub mod Locate
 pub mod GridIndex
+pub mod Journal
+pub mod JournalRows
+pub mod EditResults
+pub mod Refusals
 pub mod own

@@ -1,10 +1,11 @@
 -- What each edit makes of rings (this product's own). Each new ring is given by its corners as they are joined, and begun at its least.
-use Rattle.std.specs.Prelude.{◌≡◌, ◌≢◌, ◌⊎◌, ℕ, ◌+◌, ◌<◌, ◌≤◌, List, [], ◌∷◌, ◌++◌, reverse, length, take, drop}
-use Rattle.std.specs.List.{Contains, AllByRecursion}
+use Rattle.std.specs.Prelude.{◌≡◌, ◌≢◌, ◌⊎◌, ℕ, ◌+◌, ◌<◌, ◌≤◌, List, [], ◌∷◌, ◌++◌, reverse, length, take, drop, Bool, ◌&&◌, ◌||◌, if◌then◌else◌, flat_map}
+use Rattle.std.specs.List.{Contains, AllByRecursion, list_any}
 use Rattle.geo_exact.specs.declared.corner.Corner.{Corner}
 use Rattle.geo_exact.specs.declared.limits.TheConstants.{RING_CORNERS}
 use Rattle.geo_exact.specs.Places.{corner_at, after}
-use Rattle.geo_exact.specs.Rings.{Edge, path, begun_at_least}
+use Rattle.geo_exact.specs.Order.{is_same}
+use Rattle.geo_exact.specs.Rings.{Edge, path, edges, begun_at_least}
 use Rattle.ring_edits.specs.declared.fault.EditFault.{EditFault}
 use Rattle.ring_edits.specs.declared.fault.EditFault.TheVariants.{BadPath, NotNeighbours, SharedTwice, NoMemory}
 use Rattle.ring_edits.specs.Round.{GoesRound, HasEdge, HasEdgeAt, HasEdgeBetween}
@@ -46,6 +47,22 @@ pub record IsInserted (ring : List Corner) (from to at : Corner) (out : List Cor
 -- the same, whichever way the edge goes
 abbrev pub IsInsertedBetween : List Corner → Corner → Corner → Corner → List Corner → Type 0
 IsInsertedBetween ring from to at out = (from ≢ to) × (IsInserted ring from to at out ⊎ IsInserted ring to from at out)
+
+-- the edge goes between two corners, in either direction
+abbrev pub joins : Corner → Corner → Edge → Bool
+joins from to edge = (is_same edge.from from && is_same edge.to to) || (is_same edge.from to && is_same edge.to from)
+
+-- some edge of the ring goes between two corners
+abbrev pub has_edge_between : Corner → Corner → List Corner → Bool
+has_edge_between from to ring = list_any (joins from to) (edges ring)
+
+-- the ring with a corner put into each of its edges between two corners
+abbrev pub put_between : (from to at : Corner) → List Corner → List Corner
+put_between from to at ring = flat_map (λ edge. if joins from to edge then edge.from ∷ at ∷ [] else edge.from ∷ []) (edges ring)
+
+-- the same ring, begun at its least corner
+abbrev pub with_corner : (from to at : Corner) → List Corner → List Corner
+with_corner from to at ring = begun_at_least (put_between from to at ring)
 
 -- what becomes of a ring: the corner is put in where it has the edge, and else it stays
 abbrev pub IsAfterInsert : Corner → Corner → Corner → List Corner → List Corner → Type 0
@@ -99,8 +116,8 @@ pub record IsMerge (a b out : List Corner) : Type 0 where
   pub out_is : out ≡ begun_at_least (v ∷ of_a ++ u ∷ of_b)
 
 -- the path does not go from where the shared run begins to where it ends
-abbrev pub IsNoBorder : List Corner → List Corner → List Corner → Type 0
-IsNoBorder a b corners = (u : Corner) × (v : Corner) × IsSharedRun a b u v × ((between : List Corner) → ¬ IsPath corners u between v)
+abbrev pub IsBadBorder : List Corner → List Corner → List Corner → Type 0
+IsBadBorder a b corners = (u : Corner) × (v : Corner) × IsSharedRun a b u v × ((between : List Corner) → ¬ IsPath corners u between v)
 
 -- a and b with the shared run exchanged for the path: for a the path and then a's walk from v on to u, for b the path backwards
 -- and then b's walk from u on to v

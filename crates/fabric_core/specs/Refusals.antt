@@ -1,0 +1,116 @@
+-- Why an edit is refused: the first reason that applies, in this order (this product's own): the journal is full; an id that it names is no parcel's; what the
+-- edit itself asks of paths, borders and edges; the limits of a layer; a new ring that is not simple.
+use Rattle.std.specs.Prelude.{◌≡◌, ◌≢◌, ◌⊎◌, ⊤, ℕ, ◌+◌, ◌<◌, ◌≤◌, List, [], ◌∷◌, ◌++◌, length}
+use Rattle.std.specs.List.{Contains}
+use Rattle.geo_exact.specs.declared.corner.Corner.{Corner}
+use Rattle.geo_exact.specs.Layers.{NumberedRing, numbered}
+use Rattle.geo_exact.specs.Segments.{IsStrictlyInside}
+use Rattle.ring_core.specs.declared.ring.RingFault.{RingFault}
+use Rattle.ring_core.specs.Faults.{IsRingFault}
+use Rattle.ring_edits.specs.declared.edit.Edit.{Edit}
+use Rattle.ring_edits.specs.declared.edit.Edit.TheVariants.{Split, Merge, Move, Insert}
+use Rattle.ring_edits.specs.declared.fault.EditFault.{EditFault}
+use Rattle.ring_edits.specs.declared.fault.EditFault.TheVariants.{NotNeighbours as NoBorder, SharedTwice as TwoBorders}
+use Rattle.ring_edits.specs.Edits.{IsPathAcross, IsBorderFault, IsBadBorder}
+use Rattle.fabric_core.specs.declared.journal.TheConstants.{JOURNAL_ENTRIES}
+use Rattle.fabric_core.specs.declared.refusal.Refusal.{Refusal}
+use Rattle.fabric_core.specs.declared.refusal.Refusal.TheVariants.{Unknown, Retired, BadPath, NotNeighbours, SharedTwice, Ring, NoSuchEdge, NotOnEdge, JournalFull, TooMany}
+use Rattle.fabric_core.specs.Rows.{numbers}
+use Rattle.fabric_core.specs.Faults.{AreSimple}
+use Rattle.fabric_core.specs.Journal.{State, JournalEntry, with_rows, without_ids}
+use Rattle.fabric_core.specs.EditResults.{IsChange, AreWithinAll, rows_with_edge}
+
+-- the entry takes the id out for good
+pub record Retires {A : Type 0} (entry : JournalEntry A) (id : ℕ) : Type 0 where
+  pub is_out : Contains entry.out id
+  pub is_not_back : ¬ Contains (numbers entry.rows) id
+
+-- the id was retired by the entry with this number
+pub record IsRetiredBy {A : Type 0} (journal : List (JournalEntry A)) (id by : ℕ) : Type 0 where
+  pub entry : JournalEntry A
+  pub is_entry : Contains journal entry
+  pub has_number : entry.number ≡ by
+  pub retires : Retires entry id
+
+-- the ids that an edit names, in its order
+abbrev pub named_ids : {A : Type 0} → Edit A → List ℕ
+named_ids (Split id path) = id ∷ []
+named_ids (Merge a b) = a ∷ b ∷ []
+named_ids (Move a b path) = a ∷ b ∷ []
+named_ids (Insert from to at) = []
+
+-- all ids are those of parcels
+abbrev pub AreHere : List NumberedRing → List ℕ → Type 0
+AreHere rows [] = ⊤
+AreHere rows (id ∷ rest) = Contains (numbers rows) id × AreHere rows rest
+
+-- the first of the ids that is no parcel's is this one
+pub record IsFirstGone (rows : List NumberedRing) (ids : List ℕ) (id : ℕ) : Type 0 where
+  pub before : List ℕ
+  pub behind : List ℕ
+  pub are_all : ids ≡ before ++ id ∷ behind
+  pub are_here : AreHere rows before
+  pub is_gone : ¬ Contains (numbers rows) id
+
+-- a path that does not go from one corner of the parcel to another
+abbrev pub IsBadCut : State → ℕ → List Corner → Type 0
+IsBadCut state id path = (ring : List Corner) × Contains state.rows (numbered id ring) × (¬ IsPathAcross ring path)
+
+-- two parcels have no border, for this reason
+abbrev pub HaveNoBorder : State → ℕ → ℕ → EditFault → Type 0
+HaveNoBorder state a b fault =
+    (ring_a : List Corner) × (ring_b : List Corner) × Contains state.rows (numbered a ring_a) × Contains state.rows (numbered b ring_b)
+    × IsBorderFault ring_a ring_b fault
+
+-- a path that does not go from where the border of two parcels begins to where it ends
+abbrev pub IsBadMove : State → ℕ → ℕ → List Corner → Type 0
+IsBadMove state a b path =
+    (ring_a : List Corner) × (ring_b : List Corner) × Contains state.rows (numbered a ring_a) × Contains state.rows (numbered b ring_b)
+    × IsBadBorder ring_a ring_b path
+
+-- no parcel has the edge between two corners
+abbrev pub HasNoEdge : State → Corner → Corner → Type 0
+HasNoEdge state from to = (from ≡ to) ⊎ (rows_with_edge from to state.rows ≡ [])
+
+-- what the edit itself asks for, of parcels that are there, is not so
+abbrev pub IsOwnRefusal : {A : Type 0} → State → Edit A → Refusal → Type 0
+IsOwnRefusal state (Split id path) refusal = (refusal ≡ BadPath) × IsBadCut state id path
+IsOwnRefusal state (Merge a b) refusal =
+    ((refusal ≡ NotNeighbours) × HaveNoBorder state a b NoBorder) ⊎ ((refusal ≡ SharedTwice) × HaveNoBorder state a b TwoBorders)
+IsOwnRefusal state (Move a b path) refusal =
+    ((refusal ≡ NotNeighbours) × HaveNoBorder state a b NoBorder) ⊎ ((refusal ≡ SharedTwice) × HaveNoBorder state a b TwoBorders)
+    ⊎ ((refusal ≡ BadPath) × IsBadMove state a b path)
+IsOwnRefusal state (Insert from to at) refusal =
+    ((refusal ≡ NoSuchEdge) × HasNoEdge state from to)
+    ⊎ ((refusal ≡ NotOnEdge) × (¬ HasNoEdge state from to) × (¬ IsStrictlyInside at from to))
+
+-- the first of the new rings that is not simple is this one, counted from 1, and has this fault
+pub record IsFirstBadRing (rows : List NumberedRing) (which : ℕ) (fault : RingFault) : Type 0 where
+  pub before : List NumberedRing
+  pub row : NumberedRing
+  pub behind : List NumberedRing
+  pub are_all : rows ≡ before ++ row ∷ behind
+  pub is_number : which ≡ length before + 1
+  pub is_fault : IsRingFault row.corners fault
+  pub simple_before : AreSimple before
+
+-- the rows of a change pass a limit of the layer, or keep to all of them and one is not simple
+abbrev pub IsChangeRefusal : State → List ℕ → List NumberedRing → Refusal → Type 0
+IsChangeRefusal state out rows TooMany = ¬ AreWithinAll (with_rows rows (without_ids out state.rows))
+IsChangeRefusal state out rows (Ring which fault) =
+    AreWithinAll (with_rows rows (without_ids out state.rows)) × IsFirstBadRing rows which fault
+IsChangeRefusal state out rows other = ⊥
+
+-- a refusal for the ids that are named: the first that is no parcel's was never one's, or was retired by this entry
+abbrev pub IsIdRefusal : {A : Type 0} → State → List (JournalEntry A) → Edit A → Refusal → Type 0
+IsIdRefusal state journal edit (Unknown id) = IsFirstGone state.rows (named_ids edit) id × ((by : ℕ) → ¬ IsRetiredBy journal id by)
+IsIdRefusal state journal edit (Retired id by) = IsFirstGone state.rows (named_ids edit) id × IsRetiredBy journal id by
+IsIdRefusal state journal edit other = ⊥
+
+-- the edit is refused for this reason, in the state that the journal has led to; want of memory is none of these
+abbrev pub IsRefusal : {A : Type 0} → State → List (JournalEntry A) → Edit A → Refusal → Type 0
+IsRefusal {A} state journal edit refusal =
+    ((refusal ≡ JournalFull) × (JOURNAL_ENTRIES ≤ length journal))
+    ⊎ ((length journal < JOURNAL_ENTRIES) × (IsIdRefusal state journal edit refusal
+    ⊎ (AreHere state.rows (named_ids edit) × (IsOwnRefusal state edit refusal
+    ⊎ ((out : List ℕ) × (rows : List NumberedRing) × IsChange state edit out rows × IsChangeRefusal state out rows refusal)))))

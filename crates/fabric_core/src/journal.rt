@@ -1,0 +1,138 @@
+ghost use Rattle.std.specs.Prelude.{◌≡◌, map};
+ghost use Rattle.fabric_core.specs.JournalRows.{row_of};
+
+use geo_exact::Corners;
+use ring_edits::Edit;
+use std::alloc::{AllocError, Allocator};
+use std::marker::Model;
+
+/// The most entries of a journal.
+pub const JOURNAL_ENTRIES: usize = 1_048_576;
+
+/// A parcel as a journal has it: its ring under its id. Corners are in whole centimetres.
+#[derive(Debug, Drop)]
+pub struct Row<A: Allocator> {
+    /// The parcel's id.
+    pub id: u64,
+    /// Its ring, begun at its least corner.
+    pub corners: Corners<A>,
+}
+
+impl<A: Allocator + Copy> Clone for Row<A> {
+    ghost use Rattle.std.specs.Prelude.{◌≡◌};
+
+    ghost is_clone = { λ row copy. copy ≡ row };
+
+    fn clone(&self) -> Result<Row<A>, AllocError> {
+        let corners = self.corners.clone()?;
+        Ok(Row {
+            id: self.id,
+            corners,
+        })
+    }
+}
+
+/// An edit that was accepted: an entry of the journal. It says all that the edit changed, so that the journal can be replayed.
+#[derive(Debug, Drop)]
+pub struct Entry<A: Allocator> {
+    number: u64,
+    clerk: u32,
+    edit: Edit<A>,
+    out: Vec<u64, A>,
+    rows: Vec<Row<A>, A>,
+}
+
+impl<A: Allocator> Model for Entry<A> {
+    ghost use Rattle.std.specs.Prelude.{map};
+    ghost use Rattle.fabric_core.specs.Journal.{JournalEntry};
+    ghost use Rattle.fabric_core.specs.JournalRows.{row_of};
+
+    ghost Value = { JournalEntry A };
+
+    ghost view = { λ entry. record {
+      number = entry.number;
+      clerk = entry.clerk;
+      edit = entry.edit;
+      out = entry.out.items;
+      rows = map row_of entry.rows.items;
+    } };
+}
+
+impl<A: Allocator> Entry<A> {
+    /// An entry of these parts.
+    pub(crate) fn of(
+        number: u64,
+        clerk: u32,
+        edit: Edit<A>,
+        out: Vec<u64, A>,
+        rows: Vec<Row<A>, A>,
+    ) -> Entry<A>
+        ensures number { result.number ≡ number }
+        ensures clerk { result.clerk ≡ clerk }
+        ensures edit { result.edit ≡ edit }
+        ensures out { result.out ≡ out.items }
+        ensures rows { result.rows ≡ map row_of rows.items }
+    {
+        Entry {
+            number,
+            clerk,
+            edit,
+            out,
+            rows,
+        }
+    }
+
+    /// Its number in the journal, from 1.
+    pub fn number(&self) -> u64
+        ensures { result ≡ self.now.number }
+    {
+        self.number
+    }
+
+    /// Who made the edit.
+    pub fn clerk(&self) -> u32
+        ensures { result ≡ self.now.clerk }
+    {
+        self.clerk
+    }
+
+    /// The edit.
+    pub fn edit(&self) -> &Edit<A>
+        ensures { result.now ≡ self.now.edit }
+    {
+        &self.edit
+    }
+
+    /// The ids of the parcels that it took out, in the order of the edit.
+    pub fn out(&self) -> &[u64]
+        ensures { result.now ≡ self.now.out }
+    {
+        self.out.as_slice()
+    }
+
+    /// The parcels that it brought: their rings under their ids.
+    pub fn rows(&self) -> &[Row<A>]
+        ensures { map row_of result.now ≡ self.now.rows }
+    {
+        self.rows.as_slice()
+    }
+}
+
+impl<A: Allocator + Copy> Clone for Entry<A> {
+    ghost use Rattle.std.specs.Prelude.{◌≡◌};
+
+    ghost is_clone = { λ entry copy. copy ≡ entry };
+
+    fn clone(&self) -> Result<Entry<A>, AllocError> {
+        let edit = self.edit.clone()?;
+        let out = self.out.clone()?;
+        let rows = self.rows.clone()?;
+        Ok(Entry {
+            number: self.number,
+            clerk: self.clerk,
+            edit,
+            out,
+            rows,
+        })
+    }
+}
