@@ -7,12 +7,10 @@ mod candidates;
 mod city;
 mod gaps;
 mod grid_index;
-mod iter;
 mod laws;
 mod layer;
 mod limits;
 mod locate;
-mod parcels;
 mod refine;
 mod rings;
 mod side;
@@ -20,10 +18,10 @@ mod side;
 pub use all_faults::AllFaults;
 pub use box_laws::{a_parcel_that_meets_a_ring_is_a_candidate, rows_lie_in_the_box_of_their_city};
 pub use city::{City, CityFault};
-pub use iter::{Ids, Shapes};
 pub use laws::{
     a_place_off_all_edges_is_inside_one_parcel, a_refined_city_keeps_its_ground,
     an_unbalanced_edge_is_no_tiling, rows_with_the_nets_of_a_city_tile_it,
 };
 pub use layer::{Layer, LoadFault};
 pub use locate::At;
+pub use parcel_table::{Ids, Shapes};
