@@ -15,12 +15,13 @@ use Rattle.cell_index.proofs.Members.{mapped, from_mapped}
 use Rattle.cell_index.proofs.Searches.{interiors_share_a_cell}
 use Rattle.edge_chains.specs.Noding.{IsNoded}
 use Rattle.edge_chains.proofs.NodedEdges.{none_in_nil, Contains-cases, Contains-here, Contains-there}
-use Rattle.fabric_core.specs.declared.parcels.Parcel.{Parcel}
+use Rattle.parcel_table.specs.declared.parcels.Parcel.{Parcel}
 use Rattle.fabric_core.specs.Faults.{AreSimple}
 use Rattle.fabric_core.specs.GridIndex.{IsCandidate}
 use Rattle.fabric_core.specs.Tiling.{corner_lists}
 use Rattle.fabric_core.specs.own.Checks.{HaveEqualNets}
-use Rattle.fabric_core.specs.own.Table.{rows_of_keyed, entries_of, IsIdOf}
+use Rattle.parcel_table.specs.Table.{rows_of_keyed, entries_of}
+use Rattle.fabric_core.specs.own.Lists.{IsIdOf}
 use Rattle.fabric_core.proofs.InTheCity.{rows_in_box}
 use Rattle.fabric_core.proofs.OneParcel.{of_each}
 

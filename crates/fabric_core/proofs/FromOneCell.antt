@@ -16,11 +16,11 @@ use Rattle.cell_index.specs.declared.entry.Entry.{Entry}
 use Rattle.cell_index.specs.Cells.{stands_at}
 use Rattle.cell_index.proofs.Searches.{off_ring, off_what_stands_elsewhere}
 use Rattle.edge_chains.proofs.NodedEdges.{none_in_nil, Contains-cases, Contains-here, Contains-there}
-use Rattle.fabric_core.specs.declared.parcels.Parcel.{Parcel}
+use Rattle.parcel_table.specs.declared.parcels.Parcel.{Parcel}
 use Rattle.fabric_core.specs.Locate.{IsOnEdgeOf, IsInsideOf, AreAllOnEdge}
 use Rattle.fabric_core.specs.Rows.{numbers}
 use Rattle.fabric_core.specs.own.Sides.{IsFound}
-use Rattle.fabric_core.specs.own.Table.{rows_of_keyed, entries_of}
+use Rattle.parcel_table.specs.Table.{rows_of_keyed, entries_of}
 use Rattle.fabric_core.proofs.Located.{Ascend}
 use Rattle.fabric_core.proofs.OneParcel.{of_each}
 

@@ -16,7 +16,6 @@ pub mod ToldRings
 pub mod ToldGaps
 pub mod Sides
 pub mod Located
-pub mod Tables
 pub mod OneParcel
 pub mod Clipped
 pub mod FromOneCell

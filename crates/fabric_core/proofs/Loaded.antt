@@ -3,7 +3,7 @@ use Rattle.std.proofs.Common.{◌≡◌, sym, ◌∙◌, ap, subst, arith, ℕ, 
 use Rattle.std.specs.List.Sorted.{IsStrictlyIncreasing}
 use Rattle.geo_exact.specs.declared.corner.Corner.{Corner}
 use Rattle.ring_core.specs.declared.ring.Ring.{Ring}
-use Rattle.fabric_core.specs.declared.parcels.Parcel.{Parcel}
+use Rattle.parcel_table.specs.declared.parcels.Parcel.{Parcel}
 use Rattle.fabric_core.specs.Tiling.{corner_lists}
 use Rattle.geo_exact.specs.Layers.{NumberedRing, NumbersRise}
 use Rattle.geo_exact.specs.declared.limits.TheConstants.{LAYER_RECORDS}
@@ -12,7 +12,7 @@ use Rattle.fabric_core.specs.Limits.{AreWithinLimits}
 use Rattle.fabric_core.specs.Faults.{AreSimple}
 use Rattle.fabric_core.specs.own.Checks.{HaveEqualNets, HaveNoFault, IsRefinedCity, IsChecked}
 use Rattle.fabric_core.specs.own.Lists.{numbered_rows, corners_of_rings, IsLayer, IsKept}
-use Rattle.fabric_core.specs.own.Table.{rows_of_keyed, entries_of}
+use Rattle.parcel_table.specs.Table.{rows_of_keyed, entries_of}
 use Rattle.std.specs.List.{All, AllZip, AllByRecursion}
 use Rattle.geo_exact.specs.declared.bounds.Bounds.{Bounds}
 use Rattle.geo_exact.specs.Bounds.{HoldsCorner, IsLeastBox}

@@ -1,6 +1,6 @@
 -- What follows from a refusal.
 use Rattle.std.proofs.Common.{◌≡◌, sym, subst, Result, Ok, Err}
-use Rattle.std.specs.Result.{IsErrAnd, IfErr, IfOk, OnErr}
+use Rattle.std.specs.Result.{IsErrAnd, IfErr, IfOk}
 
 pub IsErrAnd-weaker : {T E : Type 0} (r : Result T E) (P Q : E → Type 0) → ((e : E) → P e → Q e) → IsErrAnd r P → IsErrAnd r Q
 IsErrAnd-weaker (Ok x) P Q w h = absurd h
@@ -15,8 +15,3 @@ IfErr-passed_on (Err f) e P h p = subst P (sym h) p
 pub IfOk-both : {T E : Type 0} (r : Result T E) (P Q S : T → Type 0) → ((x : T) → P x → Q x → S x) → IfOk r P → IfOk r Q → IfOk r S
 IfOk-both (Ok x) P Q S w h k = w x h k
 IfOk-both (Err e) P Q S w h k = tt
-
--- what holds either way holds at a refusal
-pub OnErr-always : {T E : Type 0} (r : Result T E) (P : Type 0) → P → OnErr r P
-OnErr-always (Ok x) P p = tt
-OnErr-always (Err e) P p = p

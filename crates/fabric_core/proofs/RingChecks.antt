@@ -5,11 +5,11 @@ use Rattle.geo_exact.specs.declared.corner.Corner.{Corner}
 use Rattle.geo_exact.specs.Layers.{numbered}
 use Rattle.ring_core.specs.declared.ring.Ring.{Ring}
 use Rattle.ring_core.specs.declared.ring.RingFault.{RingFault}
-use Rattle.fabric_core.specs.declared.parcels.Parcel.{Parcel}
+use Rattle.parcel_table.specs.declared.parcels.Parcel.{Parcel}
 use Rattle.ring_core.specs.Faults.{IsRingFault}
 use Rattle.fabric_core.specs.Faults.{AreSimple, IsFirstFaulty}
 use Rattle.fabric_core.specs.own.Lists.{numbered_rows, corners_of_rings}
-use Rattle.fabric_core.specs.own.Table.{rows_of_keyed}
+use Rattle.parcel_table.specs.Table.{rows_of_keyed}
 use Rattle.fabric_core.proofs.Tilings.{IsMadeUp}
 
 -- the first faulty ring stands behind those that are simple

@@ -1,4 +1,3 @@
 pub mod Lists
 pub mod Checks
 pub mod Sides
-pub mod Table

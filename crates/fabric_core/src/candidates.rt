@@ -1,10 +1,10 @@
 ghost use Rattle.std.specs.Prelude.{◌≡◌, ◌↔◌, ℕ, IfOk};
 ghost use Rattle.std.specs.List.{AllZip, Contains};
 ghost use Rattle.std.specs.List.Sorted.{IsStrictlyIncreasing};
-ghost use Rattle.fabric_core.specs.declared.parcels.Parcel.{Parcel as ParcelValue};
-ghost use Rattle.fabric_core.specs.own.Table.{IsIdOf};
+ghost use Rattle.parcel_table.specs.declared.parcels.Parcel.{Parcel as ParcelValue};
+ghost use Rattle.fabric_core.specs.own.Lists.{IsIdOf};
 
-use crate::parcels::Parcels;
+use parcel_table::Parcels;
 use std::alloc::{AllocError, Allocator};
 
 /// The ids of the parcels under these keys, one for each.

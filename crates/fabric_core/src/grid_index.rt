@@ -2,11 +2,11 @@ ghost use Rattle.std.specs.Prelude.{◌≡◌, length, IfOk};
 ghost use Rattle.std.specs.List.Sorted.{IsStrictlyIncreasing};
 ghost use Rattle.cell_index.specs.Cells.{Indexes};
 ghost use Rattle.fabric_core.specs.own.Lists.{numbered_rows, corners_of_rings};
-ghost use Rattle.fabric_core.specs.own.Table.{rows_of_keyed, entries_of};
+ghost use Rattle.parcel_table.specs.Table.{rows_of_keyed, entries_of};
 
-use crate::parcels::Parcels;
 use cell_index::{CellIndex, Entry};
 use geo_exact::Bounds;
+use parcel_table::Parcels;
 use ring_core::{Ring, Shape};
 use std::alloc::{AllocError, Allocator};
 

@@ -22,15 +22,14 @@ use crate::candidates::{ids_under, sort_once};
 use crate::city::City;
 use crate::gaps::check_nets;
 use crate::grid_index::clip_all;
-use crate::iter::{Ids, Shapes};
 use crate::limits::first_too_many;
 use crate::locate::At;
-use crate::parcels::Parcels;
 use crate::refine::{Refined, refine};
 use crate::rings::checked;
 use crate::side::{Side, side_of};
 use cell_index::CellIndex;
 use geo_exact::{Bounds, Corner, Corners, RawRing};
+use parcel_table::{Ids, Parcels, Shapes};
 use ring_core::{Ring, RingFault, Shape};
 use std::alloc::{AllocError, AllocFailed, Allocator};
 use std::marker::Model;
@@ -83,7 +82,7 @@ pub struct Layer<'a, H: Allocator> {
 impl<'a, H: Allocator> Model for Layer<'a, H> {
     ghost use Rattle.fabric_core.specs.Rows.{Tiles};
     ghost use Rattle.fabric_core.specs.own.Lists.{IsKept};
-    ghost use Rattle.fabric_core.specs.own.Table.{rows_of_keyed};
+    ghost use Rattle.parcel_table.specs.Table.{rows_of_keyed};
 
     ghost Value = { Tiles };
 
@@ -148,12 +147,12 @@ impl<'a, H: Allocator> Layer<'a, H> {
     }
 
     /// The parcels' ids, ascending.
-    #[tactic(auto, using(crate::proofs::Tables::ids_of_shapes))]
+    #[tactic(auto, using(parcel_table::proofs::Tables::ids_of_rows))]
     pub fn ids(&self) -> Ids<'_, &'a H>
         ensures ids { result ≡ numbers self.now.rows }
         ensures ascending { IsStrictlyIncreasing result }
     {
-        Ids::of(self.parcels.shapes())
+        self.parcels.ids()
     }
 
     /// The ring of a parcel, begun at its least corner; `None` where the id is no parcel's. It is found at once.
@@ -178,7 +177,7 @@ impl<'a, H: Allocator> Layer<'a, H> {
 
     /// The shapes of all parcels, each beside its id, by ascending id: a shape is a parcel's ring, begun at its least corner, with the
     /// triangles that it is clipped to.
-    #[tactic(auto, using(crate::proofs::Tables::rows_of_shapes))]
+    #[tactic(auto, using(parcel_table::proofs::Tables::rows_of_shapes))]
     pub fn shapes(&self) -> Shapes<'_, &'a H>
         ensures { map (λ shape. numbered shape.0 shape.1.ring.corners) result ≡ self.now.rows }
     {

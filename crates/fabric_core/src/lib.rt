@@ -7,13 +7,11 @@ mod candidates;
 mod city;
 mod gaps;
 mod grid_index;
-mod iter;
 mod journal;
 mod laws;
 mod layer;
 mod limits;
 mod locate;
-mod parcels;
 mod refine;
 mod refusal;
 mod rings;
@@ -22,7 +20,6 @@ mod side;
 pub use all_faults::AllFaults;
 pub use box_laws::{a_parcel_that_meets_a_ring_is_a_candidate, rows_lie_in_the_box_of_their_city};
 pub use city::{City, CityFault};
-pub use iter::{Ids, Shapes};
 pub use journal::{Entry, JOURNAL_ENTRIES, Row};
 pub use laws::{
     a_place_off_all_edges_is_inside_one_parcel, a_refined_city_keeps_its_ground,
@@ -30,4 +27,5 @@ pub use laws::{
 };
 pub use layer::{Layer, LoadFault};
 pub use locate::At;
+pub use parcel_table::{Ids, Shapes};
 pub use refusal::Refusal;

@@ -1,6 +1,6 @@
 -- How the code keeps rows: their numbers in one list, and their rings in another. Public contracts do not speak of it.
 use Rattle.std.specs.Prelude.{◌≡◌, ℕ, ◌≤◌, List, [], ◌∷◌, length, map, ◌+◌, ◌*◌}
-use Rattle.std.specs.List.{All, AllZip, AllByRecursion}
+use Rattle.std.specs.List.{All, AllZip, AllByRecursion, Contains}
 use Rattle.std.specs.List.Sorted.{IsStrictlyIncreasing}
 use Rattle.geo_exact.specs.declared.corner.Corner.{Corner}
 use Rattle.geo_exact.specs.Bounds.{HoldsCorner, IsLeastBox}
@@ -10,8 +10,8 @@ use Rattle.geo_exact.specs.Layers.{NumberedRing, numbered}
 use Rattle.geo_exact.specs.declared.limits.TheConstants.{LAYER_CORNERS, RING_CORNERS}
 use Rattle.ring_core.specs.declared.ring.Ring.{Ring}
 use Rattle.edge_chains.specs.Noding.{IsNoded, all_corners}
-use Rattle.fabric_core.specs.declared.parcels.Parcel.{Parcel}
-use Rattle.fabric_core.specs.own.Table.{rows_of_keyed, entries_of}
+use Rattle.parcel_table.specs.declared.parcels.Parcel.{Parcel}
+use Rattle.parcel_table.specs.Table.{rows_of_keyed, entries_of}
 use Rattle.fabric_core.specs.Tiling.{IsTiling}
 use Rattle.fabric_core.specs.Rows.{corners_of_layer, numbers}
 use Rattle.fabric_core.specs.Limits.{AreWithinLimits}
@@ -46,6 +46,10 @@ pub record IsKept {A : Type 0} (parcels : List (ℕ × Parcel A)) (city : List C
   pub area : IsLeastBox index.area city
   pub in_area : AllByRecursion (λ row. All (HoldsCorner index.area) row.corners) (rows_of_keyed parcels)
   pub indexed : Indexes index (entries_of parcels)
+
+-- the parcel under this key, where there is one, has this id
+abbrev pub IsIdOf : {A : Type 0} → List (ℕ × Parcel A) → ℕ → ℕ → Type 0
+IsIdOf {A} parcels key id = (parcel : Parcel A) → Contains parcels (key, parcel) → parcel.id ≡ id
 
 -- the most corners of a refined city: each edge is cut at most at all corners of the layer and the city
 abbrev pub most_refined : ℕ

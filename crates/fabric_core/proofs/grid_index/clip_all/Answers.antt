@@ -3,10 +3,10 @@ use Rattle.std.proofs.lemmas.List.{length-append, length-map}
 use Rattle.geo_exact.specs.Layers.{numbered}
 use Rattle.fabric_core.specs.own.Lists.{corners_of_rings}
 use Rattle.cell_index.specs.Cells.{Indexes}
-use Rattle.fabric_core.specs.own.Table.{rows_of_keyed, entries_of}
+use Rattle.parcel_table.specs.Table.{rows_of_keyed, entries_of}
 use Rattle.fabric_core.proofs.Clipped.{none_clipped, one_clipped, all_clipped}
 use Rattle.fabric_core.proofs.ToldRings.{nil_of_no_length}
-use Rattle.fabric_core.proofs.Tables.{rows_of_keyed-push, entries_of-push}
+use Rattle.parcel_table.proofs.Tables.{rows_of_keyed-push, entries_of-push}
 use Rattle.fabric_core.proofs.grid_index.clip_all.Goals as goal
 
 pub loop-ring-init : goal.loop-ring-init

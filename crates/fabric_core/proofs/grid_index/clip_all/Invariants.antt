@@ -1,7 +1,7 @@
 use Rattle.std.proofs.Common.{◌≡◌, length}
 use Rattle.cell_index.specs.Cells.{Indexes}
 use Rattle.fabric_core.specs.own.Lists.{corners_of_rings}
-use Rattle.fabric_core.specs.own.Table.{rows_of_keyed, entries_of}
+use Rattle.parcel_table.specs.Table.{rows_of_keyed, entries_of}
 use Rattle.fabric_core.proofs.Clipped.{AreClipped}
 use Rattle.fabric_core.proofs.grid_index.clip_all.Given as goal
 

@@ -6,7 +6,8 @@ use Rattle.geo_exact.specs.Interiors.{InteriorsMeet}
 use Rattle.geo_exact.specs.Layers.{NumberedRing}
 use Rattle.fabric_core.specs.GridIndex.{IsCandidate}
 use Rattle.fabric_core.specs.Rows.{Tiles}
-use Rattle.fabric_core.specs.own.Table.{entries_of, IsIdOf}
+use Rattle.parcel_table.specs.Table.{entries_of}
+use Rattle.fabric_core.specs.own.Lists.{IsIdOf}
 use Rattle.fabric_core.proofs.Between.{parcel_between, ids_exactly, meeting_parcel}
 use Rattle.fabric_core.proofs.layer.Layer.candidates.Goals as goal
 

@@ -9,11 +9,11 @@ use Rattle.cell_index.specs.Cells.{stands_at}
 use Rattle.fabric_core.specs.Locate.{AreAllOnEdge, IsInsideOf}
 use Rattle.fabric_core.specs.Rows.{Tiles}
 use Rattle.fabric_core.specs.own.Sides.{IsSide, IsFound}
-use Rattle.fabric_core.specs.own.Table.{rows_of_keyed, entries_of}
+use Rattle.parcel_table.specs.Table.{rows_of_keyed, entries_of}
 use Rattle.fabric_core.proofs.Located.{none_searched, searched_on_edge, searched_inside, searched_outside, found_all, inside_found, outside_found, none_where_empty}
 use Rattle.fabric_core.proofs.FromOneCell.{off_box, found_in_all, ascend_kept, ascending, nothing_beyond, off_elsewhere, kept_item, next_parcel, next_row, none_left, entries_kept}
 use Rattle.fabric_core.proofs.OneParcel.{of_each}
-use Rattle.fabric_core.proofs.Tables.{row_of_parcel}
+use Rattle.parcel_table.proofs.Tables.{row_of_parcel}
 use Rattle.fabric_core.proofs.layer.Layer.locate.Goals.{in-OnEdge+in_ok-push-in-OnEdge, in-Inside, in-Outside}
 use Rattle.fabric_core.proofs.layer.Layer.locate.Goals as goal
 

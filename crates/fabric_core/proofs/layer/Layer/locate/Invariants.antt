@@ -2,7 +2,7 @@ use Rattle.std.proofs.Common.{drop}
 use Rattle.std.specs.List.{filter}
 use Rattle.geo_exact.specs.Point.{corner_point}
 use Rattle.cell_index.specs.Cells.{stands_at}
-use Rattle.fabric_core.specs.own.Table.{rows_of_keyed}
+use Rattle.parcel_table.specs.Table.{rows_of_keyed}
 use Rattle.fabric_core.proofs.Located.{AreSearched}
 use Rattle.fabric_core.proofs.layer.Layer.locate.Given as goal
 

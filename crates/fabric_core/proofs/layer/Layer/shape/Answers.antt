@@ -2,7 +2,7 @@ use Rattle.std.proofs.Common.{◌≢◌, subst, MatchOption}
 use Rattle.std.specs.List.{Contains}
 use Rattle.geo_exact.specs.Layers.{NumberedRing, numbered}
 use Rattle.fabric_core.specs.Rows.{Tiles}
-use Rattle.fabric_core.proofs.Tables.{shape_of_row}
+use Rattle.parcel_table.proofs.Tables.{shape_of_row}
 use Rattle.fabric_core.proofs.layer.Layer.shape.Goals as goal
 
 pub returns : goal.returns

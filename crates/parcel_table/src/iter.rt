@@ -1,7 +1,7 @@
 ghost use Rattle.std.specs.Prelude.{◌≡◌, length, map};
 ghost use Rattle.slab.specs.Slab.{slab_len};
 ghost use Rattle.std.specs.Iterator.{YieldsFirst, YieldsFirstBy, item_count};
-ghost use Rattle.fabric_core.specs.own.Table.{shapes_at};
+ghost use Rattle.parcel_table.specs.own.Places.{shapes_at};
 
 use crate::parcels::{Parcel, Place, parcel_of};
 use ring_core::Shape;
@@ -25,7 +25,7 @@ impl<'l, A: Allocator> Model for Shapes<'l, A> {
 
     ghost Value = { List (ℕ × Shape A) };
 
-    ghost use Rattle.fabric_core.specs.own.Table.{shapes_at};
+    ghost use Rattle.parcel_table.specs.own.Places.{shapes_at};
 
     ghost view = { λ it. shapes_at it.slab.now it.places.now };
 

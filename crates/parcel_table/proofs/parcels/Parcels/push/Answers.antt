@@ -1,8 +1,7 @@
 use Rattle.std.proofs.Common.{◌≡◌, sym, ◌∙◌, ap, subst, [], ◌∷◌, ◌++◌}
-use Rattle.fabric_core.specs.own.Table.{IsTable, keyed}
-use Rattle.fabric_core.proofs.Refusals.{OnErr-always}
-use Rattle.fabric_core.proofs.Tables.{filled, filled_table, roomier, pushed}
-use Rattle.fabric_core.proofs.parcels.Parcels.push.Goals as goal
+use Rattle.parcel_table.specs.own.Places.{IsTable, keyed}
+use Rattle.parcel_table.proofs.Tables.{OnErr-always, filled, filled_table, roomier, pushed}
+use Rattle.parcel_table.proofs.parcels.Parcels.push.Goals as goal
 
 pub invariant_of-self : goal.invariant_of-self
 invariant_of-self g c =

@@ -1,18 +1,25 @@
 -- Parcels kept in a slab, and found by a table of ids.
 use Rattle.std.specs.Prelude.{option_map}
-use Rattle.std.proofs.Common.{◌≡◌, ◌≢◌, ⊎_elim, refl, sym, ◌∙◌, ap, subst, arith, ℕ, zero, suc, ◌+◌, ◌<◌, List, [], ◌∷◌, ◌++◌, length, map, filter_map, replicate, get_or, Option, Some, None, MatchOption, Bor}
+use Rattle.std.proofs.Common.{◌≡◌, ◌≢◌, ⊎_elim, refl, sym, ◌∙◌, ap, subst, arith, ℕ, zero, suc, ◌+◌, ◌<◌, List, [], ◌∷◌, ◌++◌, length, map, filter_map, replicate, get_or, Option, Some, None, MatchOption, Bor, Result, Ok, Err}
 use Rattle.std.specs.List.{Contains, cons_option}
+use Rattle.std.specs.Result.{OnErr}
 use Rattle.std.proofs.lemmas.List.{append-nil, length-append}
 use Rattle.std.proofs.lemmas.List.Elements.{filter_map-append}
 use Rattle.slab.specs.Slab.{Slab, get, slab_len, Updates}
+use Rattle.slab.proofs.SlabLemmas.{Contains-cons, Contains-cons_cases}
 use Rattle.geo_exact.specs.Layers.{NumberedRing, numbered}
 use Rattle.ring_core.specs.declared.shape.Shape.{Shape}
-use Rattle.edge_chains.proofs.NodedEdges.{none_in_nil, Contains-cases, Contains-here, Contains-there}
-use Rattle.fabric_core.specs.declared.parcels.Parcel.{Parcel}
-use Rattle.fabric_core.specs.declared.parcels.Place.{Place}
-use Rattle.fabric_core.specs.declared.parcels.Place.TheVariants.{Unused, Here}
-use Rattle.fabric_core.specs.Rows.{numbers}
-use Rattle.fabric_core.specs.own.Table.{parcel_at, keyed_at, keyed, shapes_at, shapes_of, rows_of, rows_of_keyed, entries_of, ArePlaced, IsTable}
+use Rattle.parcel_table.specs.declared.parcels.Parcel.{Parcel}
+use Rattle.parcel_table.specs.declared.parcels.Place.{Place}
+use Rattle.parcel_table.specs.declared.parcels.Place.TheVariants.{Unused, Here}
+use Rattle.parcel_table.specs.Table.{ids_of, shapes_of, rows_of, rows_of_keyed, entries_of}
+use Rattle.parcel_table.specs.own.Places.{parcel_at, keyed_at, keyed, shapes_at, ArePlaced, IsTable}
+
+none_in_nil : {X : Type 0} (x : X) → Contains [] x → ⊥
+none_in_nil x h = omega (arith, h.1)
+
+Contains-here : {X : Type 0} (x : X) (xs : List X) → Contains (x ∷ xs) x
+Contains-here x xs = (0, omega arith, refl)
 
 module _ {A : Type 0} where
   no_parcel : (parcel : Parcel A) → Some parcel ≡ None → ⊥
@@ -112,7 +119,7 @@ module _ {A : Type 0} where
   found_at slab first (Here other ∷ places) (suc k) parcel h is =
       let w = found_at slab (first + 1) places k parcel h.1 is in
       let number : parcel.id ≡ first + 1 + k = w.2 in
-      (w.0, rw h.0.1 (Contains-there (other, h.0.0) (keyed slab places) (w.0, parcel) w.1), omega (arith, number))
+      (w.0, rw h.0.1 (Contains-cons (other, h.0.0) (w.0, parcel) (keyed slab places) w.1), omega (arith, number))
 
   -- each parcel that is here stands at its id
   pub record StandsAt (slab : Slab (Parcel A)) (first : ℕ) (places : List Place) (key : ℕ) (parcel : Parcel A) : Type 0 where
@@ -138,7 +145,7 @@ module _ {A : Type 0} where
   stands_at slab first (Here other ∷ places) key parcel h c = ⊎_elim
       (λ e. here (ap (λ (p : ℕ × Parcel A). p.0) e) (ap (λ (p : ℕ × Parcel A). p.1) e))
       (λ c'. later (stands_at slab (first + 1) places key parcel h.1 c'))
-      (Contains-cases (other, h.0.0) (keyed slab places) (key, parcel) (subst (λ o. Contains (cons_option (with_key o) (keyed slab places)) (key, parcel)) h.0.1 c))
+      (Contains-cons_cases (other, h.0.0) (key, parcel) (keyed slab places) (subst (λ o. Contains (cons_option (with_key o) (keyed slab places)) (key, parcel)) h.0.1 c))
     where
       with_key : Option (Parcel A) → Option (ℕ × Parcel A)
       with_key o = option_map (λ p. (other, p)) o
@@ -197,9 +204,13 @@ module _ {A : Type 0} where
   entries_of-push (first ∷ parcels) key parcel =
       ap (λ entries. record { key = first.0; bounds = first.1.shape.bounds } ∷ entries) (entries_of-push parcels key parcel)
 
-  pub ids_of_shapes : (parcels : List (ℕ × Parcel A)) → map (λ shape. shape.0) (shapes_of parcels) ≡ numbers (rows_of_keyed parcels)
+  pub ids_of_shapes : (parcels : List (ℕ × Parcel A)) → map (λ shape. shape.0) (shapes_of parcels) ≡ ids_of parcels
   ids_of_shapes [] = refl
   ids_of_shapes (parcel ∷ parcels) = ap (λ ids. parcel.1.id ∷ ids) (ids_of_shapes parcels)
+
+  pub ids_of_rows : (parcels : List (ℕ × Parcel A)) → map (λ row. row.number) (rows_of_keyed parcels) ≡ ids_of parcels
+  ids_of_rows [] = refl
+  ids_of_rows (parcel ∷ parcels) = ap (λ ids. parcel.1.id ∷ ids) (ids_of_rows parcels)
 
   -- a row is that of a parcel
   pub row_of_parcel : (parcels : List (ℕ × Parcel A)) (key : ℕ) (parcel : Parcel A) → Contains parcels (key, parcel)
@@ -208,17 +219,17 @@ module _ {A : Type 0} where
   row_of_parcel (first ∷ parcels) key parcel c = ⊎_elim
       (λ e. subst (λ (p : Parcel A). Contains (rows_of_keyed (first ∷ parcels)) (numbered p.id p.shape.ring.corners)) (ap (λ (p : ℕ × Parcel A). p.1) e)
       (Contains-here (numbered first.1.id first.1.shape.ring.corners) (rows_of_keyed parcels)))
-      (λ later. Contains-there (numbered first.1.id first.1.shape.ring.corners) (rows_of_keyed parcels) (numbered parcel.id parcel.shape.ring.corners)
+      (λ later. Contains-cons (numbered first.1.id first.1.shape.ring.corners) (numbered parcel.id parcel.shape.ring.corners) (rows_of_keyed parcels)
       (row_of_parcel parcels key parcel later))
-      (Contains-cases first parcels (key, parcel) c)
+      (Contains-cons_cases first (key, parcel) parcels c)
 
   pub no_row : (parcels : List (ℕ × Parcel A)) (id : ℕ) → ((key : ℕ) (parcel : Parcel A) → Contains parcels (key, parcel) → parcel.id ≢ id)
       → (row : NumberedRing) → Contains (rows_of_keyed parcels) row → row.number ≢ id
   no_row [] id none row c e = none_in_nil row c
   no_row (first ∷ parcels) id none row c e = ⊎_elim
       (λ here. none first.0 first.1 (Contains-here first parcels) (ap (λ (r : NumberedRing). r.number) here ∙ e))
-      (λ later. no_row parcels id (λ key parcel h. none key parcel (Contains-there first parcels (key, parcel) h)) row later e)
-      (Contains-cases (numbered first.1.id first.1.shape.ring.corners) (rows_of_keyed parcels) row c)
+      (λ later. no_row parcels id (λ key parcel h. none key parcel (Contains-cons first (key, parcel) parcels h)) row later e)
+      (Contains-cons_cases (numbered first.1.id first.1.shape.ring.corners) row (rows_of_keyed parcels) c)
 
   -- what is found among the parcels is found among their rows
   pub shape_of_row : (parcels : List (ℕ × Parcel A)) (id : ℕ) (found : Option (Bor (Shape A)))
@@ -228,3 +239,8 @@ module _ {A : Type 0} where
       (λ shape. Contains (rows_of_keyed parcels) (numbered id shape.now.ring.corners))
   shape_of_row parcels id None h = no_row parcels id h
   shape_of_row parcels id (Some shape) h = row_of_parcel parcels h.0 (record { id = id; shape = shape.now }) h.1
+
+-- what holds either way holds at a refusal
+pub OnErr-always : {T E : Type 0} (r : Result T E) (P : Type 0) → P → OnErr r P
+OnErr-always (Ok x) P p = tt
+OnErr-always (Err e) P p = p

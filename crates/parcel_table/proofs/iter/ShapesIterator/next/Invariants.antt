@@ -1,6 +1,6 @@
 use Rattle.std.proofs.Common.{◌≡◌, length}
-use Rattle.fabric_core.specs.own.Table.{shapes_at}
-use Rattle.fabric_core.proofs.iter.ShapesIterator.next.Given as goal
+use Rattle.parcel_table.specs.own.Places.{shapes_at}
+use Rattle.parcel_table.proofs.iter.ShapesIterator.next.Given as goal
 
 -- only places that lead to no parcel were passed over
 abbrev pub invariant-loop-place : goal.invariant-loop-place

@@ -1,8 +1,9 @@
 use Rattle.std.proofs.Common.{sym, ◌∙◌, ap, length}
 use Rattle.std.proofs.lemmas.List.{length-map}
-use Rattle.fabric_core.specs.own.Table.{keyed, shapes_at, shapes_of}
-use Rattle.fabric_core.proofs.Tables.{shapes_of_keyed}
-use Rattle.fabric_core.proofs.parcels.Parcels.shapes.Goals as goal
+use Rattle.parcel_table.specs.Table.{shapes_of}
+use Rattle.parcel_table.specs.own.Places.{keyed, shapes_at}
+use Rattle.parcel_table.proofs.Tables.{shapes_of_keyed}
+use Rattle.parcel_table.proofs.parcels.Parcels.shapes.Goals as goal
 
 pub of-requires : goal.of-requires
 of-requires g c =

@@ -1,10 +1,11 @@
 ghost use Rattle.std.specs.Prelude.{◌≡◌, ◌≢◌, ◌+◌, ◌<◌, ◌≤◌, ℕ, [], ◌∷◌, ◌++◌, length, IfOk, OnOk, OnErr, MatchOption, option_copied, slice_index_or, replicate, vec_len, vec_capacity};
 ghost use Rattle.std.specs.List.{Contains};
 ghost use Rattle.ring_core.specs.declared.shape.Shape.{Shape as ShapeValue};
-ghost use Rattle.fabric_core.specs.declared.parcels.Parcel.{Parcel as ParcelValue};
-ghost use Rattle.fabric_core.specs.own.Table.{parcel_at, shapes_of};
+ghost use Rattle.parcel_table.specs.declared.parcels.Parcel.{Parcel as ParcelValue};
+ghost use Rattle.parcel_table.specs.Table.{ids_of, shapes_of};
+ghost use Rattle.parcel_table.specs.own.Places.{parcel_at};
 
-use crate::iter::Shapes;
+use crate::iter::{Ids, Shapes};
 use ring_core::Shape;
 use slab::Slab;
 use std::alloc::{AllocError, Allocator};
@@ -12,7 +13,7 @@ use std::marker::Model;
 
 /// A parcel of a layer.
 #[derive(Drop)]
-pub(crate) struct Parcel<A: Allocator> {
+pub struct Parcel<A: Allocator> {
     /// Its id.
     pub id: u64,
     /// Its ring, with the triangles that it is clipped to.
@@ -31,14 +32,15 @@ pub(crate) enum Place {
 /// The parcels of a layer, each under a key that stays its own, and found by its id at once. To put a parcel in takes no time that
 /// grows with the number of the others.
 #[derive(Drop)]
-pub(crate) struct Parcels<A: Allocator> {
+pub struct Parcels<A: Allocator> {
     slab: Slab<Parcel<A>, A>,
     places: Vec<Place, A>,
 }
 
 impl<A: Allocator> Model for Parcels<A> {
     ghost use Rattle.std.specs.Prelude.{length};
-    ghost use Rattle.fabric_core.specs.own.Table.{Table, IsTable, keyed};
+    ghost use Rattle.parcel_table.specs.Table.{Table};
+    ghost use Rattle.parcel_table.specs.own.Places.{IsTable, keyed};
 
     ghost Value = { Table A };
 
@@ -80,7 +82,7 @@ fn make_room<A: Allocator>(places: &mut Vec<Place, A>, id: usize) -> Result<(), 
 
 impl<A: Allocator + Copy> Parcels<A> {
     /// No parcel yet, and room for so many.
-    pub(crate) fn with_capacity(alloc: A, capacity: usize) -> Result<Parcels<A>, AllocError>
+    pub fn with_capacity(alloc: A, capacity: usize) -> Result<Parcels<A>, AllocError>
         ensures empty { IfOk result (λ parcels. parcels.parcels ≡ []) }
         ensures next { IfOk result (λ parcels. parcels.next ≡ 0) }
     {
@@ -90,7 +92,7 @@ impl<A: Allocator + Copy> Parcels<A> {
     }
 
     /// Puts a parcel in, under an id that is not below the next one; its key.
-    pub(crate) fn push(&mut self, id: u64, shape: Shape<A>) -> Result<usize, AllocError>
+    pub fn push(&mut self, id: u64, shape: Shape<A>) -> Result<usize, AllocError>
         requires { self.old.next ≤ id }
         ensures parcels { IfOk result (λ key. self.new.parcels ≡ self.old.parcels ++ (key, record { id = id; shape = shape }) ∷ []) }
         ensures next { IfOk result (λ _. self.new.next ≡ id + 1) }
@@ -105,14 +107,14 @@ impl<A: Allocator + Copy> Parcels<A> {
 
 impl<A: Allocator> Parcels<A> {
     /// How many parcels there are.
-    pub(crate) fn len(&self) -> usize
+    pub fn len(&self) -> usize
         ensures { result ≡ length self.now.parcels }
     {
         self.slab.len()
     }
 
     /// The parcel under this key.
-    pub(crate) fn at(&self, key: usize) -> &Parcel<A>
+    pub fn at(&self, key: usize) -> &Parcel<A>
         requires { (parcel : ParcelValue A) × Contains self.now.parcels (key, parcel) }
         ensures { (parcel : ParcelValue A) → Contains self.now.parcels (key, parcel) → result.now ≡ parcel }
     {
@@ -120,7 +122,7 @@ impl<A: Allocator> Parcels<A> {
     }
 
     /// The shape of the parcel with this id.
-    pub(crate) fn shape(&self, id: u64) -> Option<&Shape<A>>
+    pub fn shape(&self, id: u64) -> Option<&Shape<A>>
         ensures { MatchOption result
             ((key : ℕ) (parcel : ParcelValue A) → Contains self.now.parcels (key, parcel) → parcel.id ≢ id)
             (λ shape. (key : ℕ) × Contains self.now.parcels (key, record { id = id; shape = shape.now })) }
@@ -130,15 +132,23 @@ impl<A: Allocator> Parcels<A> {
     }
 
     /// The allocator of all that is kept.
-    pub(crate) fn allocator(&self) -> A
+    pub fn allocator(&self) -> A
     where
         A: Copy,
     {
         *self.places.allocator()
     }
 
+    /// The ids of all parcels, ascending.
+    #[tactic(auto, using(crate::proofs::Tables::ids_of_shapes))]
+    pub fn ids(&self) -> Ids<'_, A>
+        ensures { result ≡ ids_of self.now.parcels }
+    {
+        Ids::of(self.shapes())
+    }
+
     /// The ids and the shapes of all parcels, by ascending id.
-    pub(crate) fn shapes(&self) -> Shapes<'_, A>
+    pub fn shapes(&self) -> Shapes<'_, A>
         ensures { result ≡ shapes_of self.now.parcels }
     {
         Shapes::of(&self.slab, self.places.as_slice())

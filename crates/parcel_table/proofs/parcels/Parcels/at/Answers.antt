@@ -1,7 +1,7 @@
 use Rattle.std.proofs.Common.{sym, ◌∙◌, ap, subst, is_some}
 use Rattle.std.specs.List.{Contains}
-use Rattle.fabric_core.proofs.Tables.{stands_at, same_parcel}
-use Rattle.fabric_core.proofs.parcels.Parcels.at.Goals as goal
+use Rattle.parcel_table.proofs.Tables.{stands_at, same_parcel}
+use Rattle.parcel_table.proofs.parcels.Parcels.at.Goals as goal
 
 pub index-requires : goal.index-requires
 index-requires g c =

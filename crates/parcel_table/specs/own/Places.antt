@@ -1,13 +1,10 @@
 -- How parcels are kept: each in a slab under a key, and for each id below the next one what has become of it. Public contracts do not speak of it.
 use Rattle.std.specs.Prelude.{⊤, ◌≡◌, ℕ, ◌+◌, List, [], ◌∷◌, map, filter_map, length, Option, Some, None, option_map}
-use Rattle.std.specs.List.{Contains}
-use Rattle.cell_index.specs.declared.entry.Entry.{Entry}
 use Rattle.slab.specs.Slab.{Slab, get, slab_len}
-use Rattle.geo_exact.specs.Layers.{NumberedRing, numbered}
 use Rattle.ring_core.specs.declared.shape.Shape.{Shape}
-use Rattle.fabric_core.specs.declared.parcels.Parcel.{Parcel}
-use Rattle.fabric_core.specs.declared.parcels.Place.{Place}
-use Rattle.fabric_core.specs.declared.parcels.Place.TheVariants.{Unused, Here}
+use Rattle.parcel_table.specs.declared.parcels.Parcel.{Parcel}
+use Rattle.parcel_table.specs.declared.parcels.Place.{Place}
+use Rattle.parcel_table.specs.declared.parcels.Place.TheVariants.{Unused, Here}
 
 module _ {A : Type 0} where
   -- the parcel that an id's place leads to, where it is here
@@ -24,26 +21,9 @@ module _ {A : Type 0} where
   abbrev pub keyed : Slab (Parcel A) → List Place → List (ℕ × Parcel A)
   keyed slab places = filter_map (keyed_at slab) places
 
-  -- parcels as their ids and shapes, and as rows
+  -- parcels as their ids and shapes
   abbrev pub shapes_at : Slab (Parcel A) → List Place → List (ℕ × Shape A)
   shapes_at slab places = map (λ parcel. (parcel.id, parcel.shape)) (filter_map (parcel_at slab) places)
-
-  abbrev pub shapes_of : List (ℕ × Parcel A) → List (ℕ × Shape A)
-  shapes_of parcels = map (λ parcel. (parcel.1.id, parcel.1.shape)) parcels
-
-  abbrev pub rows_of : List (ℕ × Shape A) → List NumberedRing
-  rows_of shapes = map (λ shape. numbered shape.0 shape.1.ring.corners) shapes
-
-  abbrev pub rows_of_keyed : List (ℕ × Parcel A) → List NumberedRing
-  rows_of_keyed parcels = map (λ parcel. numbered parcel.1.id parcel.1.shape.ring.corners) parcels
-
-  -- parcels as the entries of the grid index: each one's box under its key
-  abbrev pub entries_of : List (ℕ × Parcel A) → List Entry
-  entries_of parcels = map (λ parcel. record { key = parcel.0; bounds = parcel.1.shape.bounds }) parcels
-
-  -- the parcel under this key, where there is one, has this id
-  abbrev pub IsIdOf : List (ℕ × Parcel A) → ℕ → ℕ → Type 0
-  IsIdOf parcels key id = (parcel : Parcel A) → Contains parcels (key, parcel) → parcel.id ≡ id
 
   -- the places of the ids from this one on: each leads to no parcel, or to the one with that id
   abbrev pub ArePlaced : Slab (Parcel A) → ℕ → List Place → Type 0
@@ -56,8 +36,3 @@ module _ {A : Type 0} where
   pub record IsTable (slab : Slab (Parcel A)) (places : List Place) : Type 0 where
     pub are_placed : ArePlaced slab 0 places
     pub are_all : slab_len slab ≡ length (keyed slab places)
-
--- what contracts see of such a table: its parcels beside their keys, by ascending id, and the next id, which is above all of them
-pub record Table (A : Type 0) : Type 0 where
-  pub parcels : List (ℕ × Parcel A)
-  pub next : ℕ

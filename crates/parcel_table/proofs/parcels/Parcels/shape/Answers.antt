@@ -1,9 +1,9 @@
 use Rattle.std.proofs.Common.{◌≡◌, sym, ◌∙◌, ap, subst, ◌+◌, Some, None, get_or, arith}
 use Rattle.std.specs.List.{Contains}
-use Rattle.fabric_core.specs.declared.parcels.Place.TheVariants.{Unused}
-use Rattle.fabric_core.specs.own.Table.{parcel_at, keyed}
-use Rattle.fabric_core.proofs.Tables.{found_at, none_at}
-use Rattle.fabric_core.proofs.parcels.Parcels.shape.Goals as goal
+use Rattle.parcel_table.specs.declared.parcels.Place.TheVariants.{Unused}
+use Rattle.parcel_table.specs.own.Places.{parcel_at, keyed}
+use Rattle.parcel_table.proofs.Tables.{found_at, none_at}
+use Rattle.parcel_table.proofs.parcels.Parcels.shape.Goals as goal
 
 pub returns-in_err-parcel : goal.returns-in_err-parcel
 returns-in_err-parcel g c =
