@@ -23,6 +23,7 @@ use Rattle.fabric_core.specs.own.Checks.{HaveEqualNets}
 use Rattle.parcel_table.specs.Table.{rows_of_keyed, entries_of}
 use Rattle.fabric_core.specs.own.Lists.{IsIdOf}
 use Rattle.fabric_core.proofs.InTheCity.{rows_in_box}
+use Rattle.fabric_core.proofs.Tilings.{noded_ground}
 use Rattle.fabric_core.proofs.OneParcel.{of_each}
 
 -- ---- two lists side by side
@@ -75,7 +76,7 @@ pub meeting_in_city : (rows : List NumberedRing) (city corners refined : List Co
 meeting_in_city rows city corners refined area box low high row ring simple noded nets is_area is_row is_box between meet =
     meeting_is_candidate rows city area box low high row ring is_area
     (of_each (λ r. All (HoldsCorner area) r.corners) rows row
-    (rows_in_box rows city corners refined area simple noded nets is_area.holds) is_row)
+    (rows_in_box rows city refined area simple (noded_ground city corners refined noded) nets is_area.holds) is_row)
     is_row is_box between meet
 
 -- ---- parcels, rows and entries

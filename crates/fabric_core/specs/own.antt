@@ -1,3 +1,4 @@
 pub mod Lists
 pub mod Checks
+pub mod Kept
 pub mod Sides

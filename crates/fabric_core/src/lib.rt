@@ -16,6 +16,7 @@ mod refine;
 mod refusal;
 mod rings;
 mod side;
+mod tiled;
 
 pub use all_faults::AllFaults;
 pub use box_laws::{a_parcel_that_meets_a_ring_is_a_candidate, rows_lie_in_the_box_of_their_city};

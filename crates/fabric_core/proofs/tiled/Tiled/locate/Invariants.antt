@@ -4,7 +4,7 @@ use Rattle.geo_exact.specs.Point.{corner_point}
 use Rattle.cell_index.specs.Cells.{stands_at}
 use Rattle.parcel_table.specs.Table.{rows_of_keyed}
 use Rattle.fabric_core.proofs.Located.{AreSearched}
-use Rattle.fabric_core.proofs.layer.Layer.locate.Given as goal
+use Rattle.fabric_core.proofs.tiled.Tiled.locate.Given as goal
 
 abbrev pub invariant-loop-entry : goal.invariant-loop-entry
 invariant-loop-entry g l =
