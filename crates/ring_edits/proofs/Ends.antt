@@ -10,7 +10,7 @@ use Rattle.ring_core.specs.Simple.{IsSimpleRing}
 use Rattle.ring_core.proofs.RoundNumbers.{after_in, before_in}
 use Rattle.ring_core.proofs.LeftSimple.{after_before}
 use Rattle.ring_edits.specs.Round.{GoesRound, HasEdge}
-use Rattle.ring_edits.specs.Edits.{IsPath, IsMerge, IsMove, IsNoBorder}
+use Rattle.ring_edits.specs.Edits.{IsPath, IsMerge, IsMove, IsBadBorder}
 use Rattle.ring_edits.specs.own.Between.{between}
 use Rattle.ring_edits.specs.own.Borders.{is_on_run, IsSharedFromTo, IsBorderAt}
 use Rattle.ring_edits.proofs.Rounds.{goes_round}
@@ -104,6 +104,6 @@ is_move a b corners middle out_a out_b i j k l h path e f = record {
 }
 
 pub no_border : (a b corners : List Corner) (i j : ℕ) → IsSharedFromTo a b i j
-    → ((middle : List Corner) × IsPath corners (corner_at a i) middle (corner_at a j) → ⊥) → IsNoBorder a b corners
+    → ((middle : List Corner) × IsPath corners (corner_at a i) middle (corner_at a j) → ⊥) → IsBadBorder a b corners
 no_border a b corners i j h k =
     (corner_at a i, corner_at a j, shared_ends a b i j (corner_at a i) (corner_at a j) h refl refl, λ middle p. k (middle, p))

@@ -3,7 +3,7 @@ ghost use Rattle.geo_exact.specs.declared.corner.Corner.{Corner};
 ghost use Rattle.geo_exact.specs.Places.{corner_at};
 ghost use Rattle.ring_core.specs.Simple.{IsSimpleRing};
 ghost use Rattle.ring_edits.specs.declared.fault.EditFault.TheVariants.{BadPath, NoMemory};
-ghost use Rattle.ring_edits.specs.Edits.{IsBorderFault, IsMove, IsNoBorder, IsPath};
+ghost use Rattle.ring_edits.specs.Edits.{IsBorderFault, IsMove, IsBadBorder, IsPath};
 
 use crate::border::border_of;
 use crate::fault::EditFault;
@@ -32,7 +32,7 @@ pub fn shift<A: Allocator + Copy>(
     requires { IsSimpleRing a.now }
     ensures rings { IfOk result (λ rings. IsMove a.now b.now path.now rings.0 rings.1) }
     ensures err { IfErr result (λ fault. (fault ≡ NoMemory) ⊎ IsBorderFault a.now b.now fault
-        ⊎ ((fault ≡ BadPath) × IsNoBorder a.now b.now path.now)) }
+        ⊎ ((fault ≡ BadPath) × IsBadBorder a.now b.now path.now)) }
 {
     let border = border_of(a, b)?;
     if !joins(path, a, border.from_in_a, border.to_in_a) {
