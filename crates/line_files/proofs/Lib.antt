@@ -1,0 +1,3 @@
+pub mod Splits
+pub mod Said
+pub mod Numerals

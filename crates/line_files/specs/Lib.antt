@@ -1,0 +1,4 @@
+pub mod TextLines
+pub mod TextNumbers
+pub mod PointLines
+pub mod own
