@@ -12,6 +12,7 @@ mod laws;
 mod layer;
 mod limits;
 mod locate;
+mod opening;
 mod refine;
 mod refusal;
 mod rings;

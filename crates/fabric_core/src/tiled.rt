@@ -1,4 +1,4 @@
-ghost use Rattle.std.specs.Prelude.{◌≡◌, ◌≢◌, ◌↔◌, ◌+◌, ◌≤◌, ◌≤ℤ◌, ℕ, List, map, IfOk, MatchOption};
+ghost use Rattle.std.specs.Prelude.{◌≡◌, ◌≢◌, ◌↔◌, ◌+◌, ◌≤◌, ◌≤ℤ◌, ℕ, List, length, map, IfOk, MatchOption};
 ghost use Rattle.std.specs.List.{All, Contains};
 ghost use Rattle.std.specs.List.Sorted.{IsStrictlyIncreasing};
 ghost use Rattle.geo_exact.specs.declared.corner.Corner.{Corner};
@@ -86,6 +86,25 @@ impl<'a, H: Allocator> Tiled<'a, H> {
         ensures ground { CoversAlike self.now.city self.now.refined }
     {
         let _ = &self.city;
+    }
+
+    /// The allocator of all that is kept.
+    pub(crate) fn allocator(&self) -> &'a H {
+        self.parcels.allocator()
+    }
+
+    /// How many parcels there are.
+    pub(crate) fn len(&self) -> usize
+        ensures { result ≡ length self.now.rows }
+    {
+        self.parcels.len()
+    }
+
+    /// The next id.
+    pub(crate) fn next_id(&self) -> u64
+        ensures { result ≡ self.now.next }
+    {
+        self.parcels.next_id()
     }
 
     /// The parcels' ids, ascending.

@@ -131,6 +131,13 @@ impl<A: Allocator> Parcels<A> {
         Some(&parcel.shape)
     }
 
+    /// The next id.
+    pub fn next_id(&self) -> u64
+        ensures { result ≡ self.now.next }
+    {
+        self.places.len() as u64
+    }
+
     /// The allocator of all that is kept.
     pub fn allocator(&self) -> A
     where
