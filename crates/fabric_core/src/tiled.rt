@@ -1,4 +1,4 @@
-ghost use Rattle.std.specs.Prelude.{◌≡◌, ◌≢◌, ◌↔◌, ◌+◌, ◌≤◌, ◌≤ℤ◌, ℕ, List, length, map, IfOk, MatchOption};
+ghost use Rattle.std.specs.Prelude.{◌≡◌, ◌≢◌, ◌↔◌, ◌+◌, ◌≤◌, ◌≤ℤ◌, ℕ, List, [], ◌∷◌, ◌++◌, length, map, IfOk, OnOk, OnErr, MatchOption};
 ghost use Rattle.std.specs.List.{All, Contains};
 ghost use Rattle.std.specs.List.Sorted.{IsStrictlyIncreasing};
 ghost use Rattle.geo_exact.specs.declared.corner.Corner.{Corner};
@@ -13,15 +13,18 @@ ghost use Rattle.fabric_core.specs.Limits.{AreWithinLimits};
 ghost use Rattle.fabric_core.specs.GridIndex.{IsIndexed, IsCandidate};
 ghost use Rattle.fabric_core.specs.Locate.{IsLocatedAt};
 ghost use Rattle.fabric_core.specs.own.Checks.{HaveNoFault, IsChecked};
-ghost use Rattle.fabric_core.specs.own.Lists.{numbered_rows, corners_of_rings};
+ghost use Rattle.fabric_core.specs.Journal.{without_ids};
+ghost use Rattle.fabric_core.specs.own.Kept.{IsExchanged, MayBeKept};
+ghost use Rattle.fabric_core.specs.own.Lists.{numbered_rows, corners_of_rings, IsEntryAt};
+ghost use Rattle.parcel_table.specs.Table.{IsKeyOf};
 
 use crate::candidates::{ids_under, sort_once};
 use crate::grid_index::clip_all;
 use crate::locate::At;
 use crate::side::{Side, side_of};
-use cell_index::CellIndex;
+use cell_index::{CellIndex, Entry};
 use geo_exact::{Bounds, Corner, Corners};
-use parcel_table::{Ids, Parcels, Shapes};
+use parcel_table::{Fate, Ids, Parcels, Shapes};
 use ring_core::{Ring, Shape};
 use std::alloc::{AllocError, Allocator};
 use std::marker::Model;
@@ -47,6 +50,7 @@ impl<'a, H: Allocator> Model for Tiled<'a, H> {
       refined = tiled.refined;
       index = tiled.index;
       next = tiled.parcels.next;
+      fates = tiled.parcels.fates;
     } };
 
     ghost invariant = { λ tiled. IsKept tiled.parcels.parcels tiled.city tiled.refined tiled.index };
@@ -194,5 +198,121 @@ impl<'a, H: Allocator> Tiled<'a, H> {
         ensures { result.now ≡ self.now.refined }
     {
         self.refined.as_slice()
+    }
+}
+
+/// The entry that the parcel with this id has in the index.
+fn entry_of<A: Allocator>(parcels: &Parcels<A>, id: u64) -> Entry
+    requires { (key : ℕ) × IsKeyOf parcels.now.parcels id key }
+    ensures { IsEntryAt parcels.now.parcels id result }
+{
+    match parcels.fate(id) {
+        Fate::Here(key) => Entry {
+            key,
+            bounds: parcels.at(key).shape.bounds,
+        },
+        _ => unreachable!(),
+    }
+}
+
+impl<'a, H: Allocator> Tiled<'a, H> {
+    /// One parcel becomes two, under the next ids. Where an allocation is refused, nothing has changed.
+    pub(crate) fn divide(
+        &mut self,
+        id: u64,
+        by: u64,
+        left: Shape<&'a H>,
+        right: Shape<&'a H>,
+    ) -> Result<(), AllocError>
+        requires here { Contains (numbers self.old.rows) id }
+        requires kept { MayBeKept (without_ids (id ∷ []) self.old.rows
+            ++ numbered self.old.next left.ring.corners ∷ numbered (self.old.next + 1) right.ring.corners ∷ []) self.old.refined }
+        ensures ok { OnOk result (IsExchanged self.old self.new (id ∷ []) by
+            (numbered self.old.next left.entry.ring.corners ∷ numbered (self.old.next + 1) right.entry.ring.corners ∷ [])) }
+        ensures err { OnErr result (self.new ≡ self.old) }
+    {
+        self.parcels.stand_apart();
+        self.parcels.reserve(2)?;
+        let gone = entry_of(&self.parcels, id);
+        let first = Entry {
+            key: gone.key,
+            bounds: left.bounds,
+        };
+        let second = Entry {
+            key: self.parcels.vacant_key(),
+            bounds: right.bounds,
+        };
+        self.index.change(&[gone], &[first, second])?;
+        self.parcels.succeed(id, by, left);
+        self.parcels.push_reserved(right);
+        self.parcels.stand_apart();
+        Ok(())
+    }
+
+    /// Two parcels become one, under the next id. Where an allocation is refused, nothing has changed.
+    pub(crate) fn unite(
+        &mut self,
+        a: u64,
+        b: u64,
+        by: u64,
+        shape: Shape<&'a H>,
+    ) -> Result<(), AllocError>
+        requires a_here { Contains (numbers self.old.rows) a }
+        requires b_here { Contains (numbers self.old.rows) b }
+        requires apart { a ≢ b }
+        requires kept { MayBeKept (without_ids (a ∷ b ∷ []) self.old.rows ++ numbered self.old.next shape.ring.corners ∷ [])
+            self.old.refined }
+        ensures ok { OnOk result (IsExchanged self.old self.new (a ∷ b ∷ []) by
+            (numbered self.old.next shape.entry.ring.corners ∷ [])) }
+        ensures err { OnErr result (self.new ≡ self.old) }
+    {
+        self.parcels.stand_apart();
+        self.parcels.reserve(1)?;
+        let gone = [entry_of(&self.parcels, a), entry_of(&self.parcels, b)];
+        let come = Entry {
+            key: gone[0].key,
+            bounds: shape.bounds,
+        };
+        self.index.change(&gone, &[come])?;
+        self.parcels.succeed(a, by, shape);
+        self.parcels.retire(b, by);
+        self.parcels.stand_apart();
+        Ok(())
+    }
+
+    /// Two parcels become two others, under the next ids. Where an allocation is refused, nothing has changed.
+    pub(crate) fn renew(
+        &mut self,
+        a: u64,
+        b: u64,
+        by: u64,
+        of_a: Shape<&'a H>,
+        of_b: Shape<&'a H>,
+    ) -> Result<(), AllocError>
+        requires a_here { Contains (numbers self.old.rows) a }
+        requires b_here { Contains (numbers self.old.rows) b }
+        requires apart { a ≢ b }
+        requires kept { MayBeKept (without_ids (a ∷ b ∷ []) self.old.rows
+            ++ numbered self.old.next of_a.ring.corners ∷ numbered (self.old.next + 1) of_b.ring.corners ∷ []) self.old.refined }
+        ensures ok { OnOk result (IsExchanged self.old self.new (a ∷ b ∷ []) by
+            (numbered self.old.next of_a.entry.ring.corners ∷ numbered (self.old.next + 1) of_b.entry.ring.corners ∷ [])) }
+        ensures err { OnErr result (self.new ≡ self.old) }
+    {
+        self.parcels.stand_apart();
+        self.parcels.reserve(2)?;
+        let gone = [entry_of(&self.parcels, a), entry_of(&self.parcels, b)];
+        let first = Entry {
+            key: gone[0].key,
+            bounds: of_a.bounds,
+        };
+        let second = Entry {
+            key: gone[1].key,
+            bounds: of_b.bounds,
+        };
+        self.index.change(&gone, &[first, second])?;
+        self.parcels.succeed(a, by, of_a);
+        self.parcels.succeed(b, by, of_b);
+        self.parcels.stand_apart();
+        Ok(())
     }
 }

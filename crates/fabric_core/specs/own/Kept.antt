@@ -1,6 +1,6 @@
 -- What the parcels that tile a city keep, with the index of their boxes. Public contracts do not speak of it.
-use Rattle.std.specs.Prelude.{ℕ, List}
-use Rattle.std.specs.List.{All, AllByRecursion}
+use Rattle.std.specs.Prelude.{◌≡◌, ℕ, ◌+◌, nat_eq, if◌then◌else◌, List, ◌++◌, length, Option, Some, None, slice_index_or}
+use Rattle.std.specs.List.{All, AllByRecursion, list_any}
 use Rattle.std.specs.List.Sorted.{IsStrictlyIncreasing}
 use Rattle.geo_exact.specs.declared.corner.Corner.{Corner}
 use Rattle.geo_exact.specs.Point.{Point}
@@ -13,15 +13,35 @@ use Rattle.fabric_core.specs.Tiling.{corner_lists, IsWoundAtMostOnce}
 use Rattle.ring_edits.specs.Edits.{CoversAlike}
 use Rattle.fabric_core.specs.Rows.{numbers}
 use Rattle.fabric_core.specs.Limits.{AreWithinLimits}
+use Rattle.fabric_core.specs.Journal.{without_ids}
 use Rattle.fabric_core.specs.own.Checks.{HaveEqualNets}
 
--- what they show: their rows by ascending id, the city's ring as it was read, that ring refined, the grid index, and the next id
+-- what they show: their rows by ascending id, the city's ring as it was read, that ring refined, the grid index, the next id, and for each id
+-- below it the number by which its parcel went, where one did
 pub record Kept : Type 0 where
   pub rows : List NumberedRing
   pub city : List Corner
   pub refined : List Corner
   pub index : Grid
   pub next : ℕ
+  pub fates : List (Option ℕ)
+
+-- the number by which the parcel with this id went, where one did
+abbrev pub gone_by : Kept → ℕ → Option ℕ
+gone_by kept id = slice_index_or kept.fates id None
+
+-- parcels with these ids went, by this number, and these rows came under the next ids
+pub record IsExchanged (old new : Kept) (gone : List ℕ) (by : ℕ) (news : List NumberedRing) : Type 0 where
+  pub rows : new.rows ≡ without_ids gone old.rows ++ news
+  pub city : new.city ≡ old.city
+  pub refined : new.refined ≡ old.refined
+  pub next : new.next ≡ old.next + length news
+  pub fates : (id : ℕ) → gone_by new id ≡ (if list_any (nat_eq id) gone then Some by else gone_by old id)
+
+-- rows that may be kept: within the limits, with the net edges of the refined city
+pub record MayBeKept (rows : List NumberedRing) (refined : List Corner) : Type 0 where
+  pub within : AreWithinLimits rows
+  pub nets : HaveEqualNets (corner_lists rows) refined
 
 -- what is so at each moment: the rows rise by id, are within the limits, and have the net edges of the refined city, which has the city's ground; the
 -- city goes round no place twice; and the index is that of the parcels' boxes over the city's least box, in which all rows lie

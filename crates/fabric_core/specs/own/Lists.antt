@@ -2,6 +2,7 @@
 use Rattle.std.specs.Prelude.{◌≡◌, ℕ, ◌≤◌, List, [], ◌∷◌, length, map, ◌+◌, ◌*◌}
 use Rattle.std.specs.List.{AllZip, Contains}
 use Rattle.geo_exact.specs.declared.corner.Corner.{Corner}
+use Rattle.cell_index.specs.declared.entry.Entry.{Entry}
 use Rattle.geo_exact.specs.Rings.{begun_at_least}
 use Rattle.geo_exact.specs.Layers.{NumberedRing, numbered}
 use Rattle.geo_exact.specs.declared.limits.TheConstants.{LAYER_CORNERS, RING_CORNERS}
@@ -27,6 +28,13 @@ pub record AreNodedRings (records : List NumberedRing) (city : List Corner) (ids
   pub are_noded : AllZip (λ record_ring out. IsNoded record_ring.corners (corners_of_layer records city) out) records noded
   pub are_begun : rings ≡ map begun_at_least noded
   pub is_refined : IsNoded city (corners_of_layer records city) refined
+
+-- the entry is that of the parcel with this id: its key and its box
+pub record IsEntryAt {A : Type 0} (parcels : List (ℕ × Parcel A)) (id : ℕ) (entry : Entry) : Type 0 where
+  pub parcel : Parcel A
+  pub is_here : Contains parcels (entry.key, parcel)
+  pub has_id : parcel.id ≡ id
+  pub has_box : entry.bounds ≡ parcel.shape.bounds
 
 -- the parcel under this key, where there is one, has this id
 abbrev pub IsIdOf : {A : Type 0} → List (ℕ × Parcel A) → ℕ → ℕ → Type 0
