@@ -1,6 +1,6 @@
 use Rattle.std.proofs.Common.{◌≡◌, sym, ◌∙◌, ap, subst, ◌+◌, Some, None, get_or, arith}
 use Rattle.std.specs.List.{Contains}
-use Rattle.parcel_table.specs.declared.parcels.Place.TheVariants.{Unused}
+use Rattle.parcel_table.specs.declared.place.Place.TheVariants.{Unused}
 use Rattle.parcel_table.specs.own.Places.{parcel_at, keyed}
 use Rattle.parcel_table.proofs.Tables.{found_at, none_at}
 use Rattle.parcel_table.proofs.parcels.Parcels.shape.Goals as goal
