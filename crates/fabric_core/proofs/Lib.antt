@@ -19,5 +19,6 @@ pub mod Located
 pub mod OneParcel
 pub mod Clipped
 pub mod Exchanged
+pub mod Exchanges
 pub mod FromOneCell
 pub mod Between

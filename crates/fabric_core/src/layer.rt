@@ -16,6 +16,7 @@ ghost use Rattle.fabric_core.specs.GridIndex.{IsIndexed, IsCandidate};
 ghost use Rattle.fabric_core.specs.Locate.{IsLocatedAt};
 ghost use Rattle.fabric_core.specs.Faults.{AreSimple, IsFirstFault, IsLoadFault};
 ghost use Rattle.fabric_core.specs.own.Checks.{HaveNoFault, IsRefinedCity, IsChecked};
+ghost use Rattle.fabric_core.specs.own.Kept.{IsFresh, IsShownBy};
 ghost use Rattle.fabric_core.specs.own.Lists.{numbered_rows, corners_of_rings};
 
 use crate::city::City;
@@ -75,6 +76,7 @@ pub struct Layer<'a, H: Allocator> {
 
 impl<'a, H: Allocator> Model for Layer<'a, H> {
     ghost use Rattle.fabric_core.specs.Rows.{Tiles};
+    ghost use Rattle.fabric_core.specs.own.Kept.{IsFresh};
 
     ghost Value = { Tiles };
 
@@ -84,6 +86,8 @@ impl<'a, H: Allocator> Model for Layer<'a, H> {
       refined = layer.tiled.refined;
       index = layer.tiled.index;
     } };
+
+    ghost invariant = { λ layer. IsFresh layer.tiled };
 }
 
 impl<'a, H: Allocator> Layer<'a, H> {
@@ -125,6 +129,23 @@ impl<'a, H: Allocator> Layer<'a, H> {
     {
         let refined = refine(heap, &city.ring.corners, records)?;
         load_refined(heap, city.bounds, refined)
+    }
+
+    /// What the layer keeps, in which no parcel has gone.
+    pub(crate) fn tiled(&self) -> &Tiled<'a, H>
+        ensures shown { IsShownBy result.now self.now }
+        ensures fresh { IsFresh result.now }
+    {
+        &self.tiled
+    }
+
+    /// The layer taken apart.
+    pub(crate) fn into_tiled(self) -> Tiled<'a, H>
+        ensures shown { IsShownBy result self.entry }
+        ensures fresh { IsFresh result }
+    {
+        let Layer { tiled } = self;
+        tiled
     }
 
     /// The rows tile the city, and are within the limits of a layer; and in the cells of the grid index stand exactly the rows.

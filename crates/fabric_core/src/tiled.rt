@@ -14,9 +14,9 @@ ghost use Rattle.fabric_core.specs.GridIndex.{IsIndexed, IsCandidate};
 ghost use Rattle.fabric_core.specs.Locate.{IsLocatedAt};
 ghost use Rattle.fabric_core.specs.own.Checks.{HaveNoFault, IsChecked};
 ghost use Rattle.fabric_core.specs.Journal.{without_ids};
-ghost use Rattle.fabric_core.specs.own.Kept.{IsExchanged, MayBeKept};
+ghost use Rattle.fabric_core.specs.own.Kept.{IsExchanged, IsFresh, MayBeKept};
 ghost use Rattle.fabric_core.specs.own.Lists.{numbered_rows, corners_of_rings, IsEntryAt};
-ghost use Rattle.parcel_table.specs.Table.{IsKeyOf};
+ghost use Rattle.parcel_table.specs.Table.{HasId};
 
 use crate::candidates::{ids_under, sort_once};
 use crate::grid_index::clip_all;
@@ -72,6 +72,7 @@ impl<'a, H: Allocator> Tiled<'a, H> {
         ensures city { IfOk result (λ tiled. tiled.city ≡ city.entry) }
         ensures refined { IfOk result (λ tiled. tiled.refined ≡ refined.entry) }
         ensures no_fault { IfOk result (λ tiled. HaveNoFault tiled.rows tiled.refined) }
+        ensures fresh { IfOk result (λ tiled. IsFresh tiled) }
     {
         let (parcels, index) = clip_all(heap, area, numbers, rings)?;
         Ok(Tiled {
@@ -203,7 +204,7 @@ impl<'a, H: Allocator> Tiled<'a, H> {
 
 /// The entry that the parcel with this id has in the index.
 fn entry_of<A: Allocator>(parcels: &Parcels<A>, id: u64) -> Entry
-    requires { (key : ℕ) × IsKeyOf parcels.now.parcels id key }
+    requires { HasId parcels.now.parcels id }
     ensures { IsEntryAt parcels.now.parcels id result }
 {
     match parcels.fate(id) {
@@ -268,12 +269,13 @@ impl<'a, H: Allocator> Tiled<'a, H> {
     {
         self.parcels.stand_apart();
         self.parcels.reserve(1)?;
-        let gone = [entry_of(&self.parcels, a), entry_of(&self.parcels, b)];
+        let from_a = entry_of(&self.parcels, a);
+        let from_b = entry_of(&self.parcels, b);
         let come = Entry {
-            key: gone[0].key,
+            key: from_a.key,
             bounds: shape.bounds,
         };
-        self.index.change(&gone, &[come])?;
+        self.index.change(&[from_a, from_b], &[come])?;
         self.parcels.succeed(a, by, shape);
         self.parcels.retire(b, by);
         self.parcels.stand_apart();
@@ -300,16 +302,17 @@ impl<'a, H: Allocator> Tiled<'a, H> {
     {
         self.parcels.stand_apart();
         self.parcels.reserve(2)?;
-        let gone = [entry_of(&self.parcels, a), entry_of(&self.parcels, b)];
+        let from_a = entry_of(&self.parcels, a);
+        let from_b = entry_of(&self.parcels, b);
         let first = Entry {
-            key: gone[0].key,
+            key: from_a.key,
             bounds: of_a.bounds,
         };
         let second = Entry {
-            key: gone[1].key,
+            key: from_b.key,
             bounds: of_b.bounds,
         };
-        self.index.change(&gone, &[first, second])?;
+        self.index.change(&[from_a, from_b], &[first, second])?;
         self.parcels.succeed(a, by, of_a);
         self.parcels.succeed(b, by, of_b);
         self.parcels.stand_apart();

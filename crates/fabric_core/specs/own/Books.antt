@@ -1,7 +1,7 @@
 -- What a fabric keeps. Public contracts do not speak of it.
-use Rattle.std.specs.Prelude.{◌≡◌, ◌↔◌, ◌≤◌, ℕ, List, Some, None, length}
+use Rattle.std.specs.Prelude.{◌≡◌, ◌↔◌, ◌≤◌, ℕ, List, Some, length}
 use Rattle.fabric_core.specs.declared.journal.TheConstants.{JOURNAL_ENTRIES}
-use Rattle.fabric_core.specs.Journal.{State, JournalEntry, replay, next_after}
+use Rattle.fabric_core.specs.Journal.{State, JournalEntry, replay}
 use Rattle.fabric_core.specs.EditResults.{IsLawful}
 use Rattle.fabric_core.specs.Refusals.{IsRetiredBy}
 use Rattle.fabric_core.specs.own.Kept.{Kept, gone_by}
@@ -9,11 +9,6 @@ use Rattle.fabric_core.specs.own.Kept.{Kept, gone_by}
 -- the state of what is kept
 abbrev pub state_of : Kept → State
 state_of kept = record { rows = kept.rows; refined = kept.refined; next = kept.next }
-
--- no parcel has gone yet, and the next id is one above the greatest
-pub record IsFresh (kept : Kept) : Type 0 where
-  pub none_gone : (id : ℕ) → gone_by kept id ≡ None
-  pub next_is : kept.next ≡ next_after kept.rows 0
 
 -- the journal is lawful on the opening, and leads to what is kept; it knows by which entry each parcel went
 pub record IsBook {A : Type 0} (opening : State) (journal : List (JournalEntry A)) (kept : Kept) : Type 0 where

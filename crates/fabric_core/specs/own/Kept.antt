@@ -11,9 +11,9 @@ use Rattle.parcel_table.specs.declared.parcels.Parcel.{Parcel}
 use Rattle.parcel_table.specs.Table.{rows_of_keyed, entries_of}
 use Rattle.fabric_core.specs.Tiling.{corner_lists, IsWoundAtMostOnce}
 use Rattle.ring_edits.specs.Edits.{CoversAlike}
-use Rattle.fabric_core.specs.Rows.{numbers}
+use Rattle.fabric_core.specs.Rows.{numbers, Tiles}
 use Rattle.fabric_core.specs.Limits.{AreWithinLimits}
-use Rattle.fabric_core.specs.Journal.{without_ids}
+use Rattle.fabric_core.specs.Journal.{without_ids, next_after}
 use Rattle.fabric_core.specs.own.Checks.{HaveEqualNets}
 
 -- what they show: their rows by ascending id, the city's ring as it was read, that ring refined, the grid index, the next id, and for each id
@@ -29,6 +29,18 @@ pub record Kept : Type 0 where
 -- the number by which the parcel with this id went, where one did
 abbrev pub gone_by : Kept → ℕ → Option ℕ
 gone_by kept id = slice_index_or kept.fates id None
+
+-- no parcel has gone yet, and the next id is one above the greatest
+pub record IsFresh (kept : Kept) : Type 0 where
+  pub none_gone : (id : ℕ) → gone_by kept id ≡ None
+  pub next_is : kept.next ≡ next_after kept.rows 0
+
+-- a layer shows what is kept
+pub record IsShownBy (kept : Kept) (layer : Tiles) : Type 0 where
+  pub rows : layer.rows ≡ kept.rows
+  pub city : layer.city ≡ kept.city
+  pub refined : layer.refined ≡ kept.refined
+  pub index : layer.index ≡ kept.index
 
 -- parcels with these ids went, by this number, and these rows came under the next ids
 pub record IsExchanged (old new : Kept) (gone : List ℕ) (by : ℕ) (news : List NumberedRing) : Type 0 where
