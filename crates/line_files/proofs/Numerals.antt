@@ -11,7 +11,6 @@ use Rattle.std.proofs.lemmas.Int.Digits.{digits_value-lt}
 use Rattle.geo_exact.specs.Limit.{IsWithin, limit}
 use Rattle.geo_exact.specs.declared.corner.Corner.{Corner}
 use Rattle.geo_exact.proofs.SameCorner.{corner_same}
-use Rattle.line_files.specs.TextLines.{IsSkipped}
 use Rattle.line_files.specs.TextNumbers.{IsNumber, IsSigned, IsCornerText}
 use Rattle.line_files.specs.PointLines.{IsPointLine, IsNumberedPointLine}
 use Rattle.line_files.specs.own.Splitting.{IsSplitAt}
@@ -94,18 +93,6 @@ signed_lacks_space text z h = elim h [
       (λ e. absurd (omega (arith, e)), digits_lack_space p.0 p.4.are_digits.1)
 ]
 
--- ---- a number is no skipped line, whatever follows
-number_not_skipped : (text more : List ℕ) (n : ℕ) → IsNumber text n → ¬ IsSkipped (text ++ more)
-number_not_skipped [] more n h k = absurd (omega (arith, h.are_digits.0))
-number_not_skipped (b ∷ bs) more n h k =
-    absurd (let d : digit_value 35 < 10 = subst (λ x. digit_value x < 10) k h.are_digits.1.0 in omega arith)
-
-signed_not_skipped : (text more : List ℕ) (z : ℤ) → IsSigned text z → ¬ IsSkipped (text ++ more)
-signed_not_skipped text more z h k = elim h [
-  | inl p ↦ number_not_skipped text more p.0 p.2 k
-  | inr p ↦ let e : 45 ≡ 35 = subst (λ t. IsSkipped (t ++ more)) p.2 k in absurd (omega (arith, e))
-]
-
 -- ---- a text is split in one way at the first such byte
 pub same_split : (c : ℕ) (xs ys others rest : List ℕ) → AllByRecursion (λ b. b ≢ c) xs → AllByRecursion (λ b. b ≢ c) others
     → xs ++ c ∷ ys ≡ others ++ c ∷ rest → (xs ≡ others) × (ys ≡ rest)
@@ -142,11 +129,9 @@ point_by_split line front back corner h lacks k = corner_text_split line front b
 pub one_corner : (x y : List ℕ) (a b : Corner) → IsCornerText x y a → IsCornerText x y b → a ≡ b
 one_corner x y a b h k = corner_same a b (one_signed x a.x b.x h.is_x k.is_x) (one_signed y a.y b.y h.is_y k.is_y)
 
--- a line of points says one thing, and is not skipped
+-- a line of points says one thing
 pub points_are_grammar : IsGrammar IsNumberedPointLine
 points_are_grammar = record {
-  apart = λ number line corner h skipped.
-      signed_not_skipped h.x (32 ∷ h.y) corner.x h.is_corner.is_x (subst IsSkipped (spaced line corner h) skipped);
   unique = λ number line a b h k.
       one_corner h.x h.y a b h.is_corner
       (corner_text_split line h.x h.y b (spaced line a h) (signed_lacks_space h.x a.x h.is_corner.is_x) k);

@@ -2,9 +2,8 @@
 use Rattle.std.proofs.Common.{◌≡◌, inl, inr, ℕ, ◌+◌, List, [], ◌∷◌, ◌++◌, refl, ap, sym, ◌∙◌, subst, append_assoc, append-nil}
 use Rattle.line_files.specs.TextLines.{IsSkipped, AreSaid, IsBad, IsFirstBad}
 
--- a line that says something is not skipped, and says one thing
+-- a line says one thing at most
 pub record IsGrammar {X : Type 0} (Says : ℕ → List ℕ → X → Type 0) : Type 0 where
-  pub apart : (n : ℕ) (line : List ℕ) (x : X) → Says n line x → ¬ IsSkipped line
   pub unique : (n : ℕ) (line : List ℕ) (x y : X) → Says n line x → Says n line y → x ≡ y
 
 -- lines before the one of this number say these things, and these lines are left
@@ -30,7 +29,7 @@ module _ {X : Type 0} (Says : ℕ → List ℕ → X → Type 0) (grammar : IsGr
     adds = λ more m. h.adds more (inl (k, m));
     only = λ whole w. let o = h.only whole w in elim o.1 [
       | inl m ↦ (o.0, m.1, o.2)
-      | inr m ↦ absurd (grammar.apart number line m.0 m.3 k)
+      | inr m ↦ absurd (m.3 k)
     ];
     bad = λ n b. h.bad n (inr (λ wrong. wrong.is_not_skipped k, b));
     same_bad = λ n b. elim (h.same_bad n b) [
@@ -40,15 +39,15 @@ module _ {X : Type 0} (Says : ℕ → List ℕ → X → Type 0) (grammar : IsGr
   }
 
   -- one that says something
-  pub said_read : (x : X) → AreRead Says all number (line ∷ left) said → Says number line x → AreRead Says all (number + 1) left (said ++ x ∷ [])
-  said_read x h k = record {
-    adds = λ more m. subst (AreSaid Says 1 all) (sym (append_assoc said (x ∷ []) more)) (h.adds (x ∷ more) (inr (x, more, refl, k, m)));
+  pub said_read : (x : X) → AreRead Says all number (line ∷ left) said → ¬ IsSkipped line → Says number line x → AreRead Says all (number + 1) left (said ++ x ∷ [])
+  said_read x h apart k = record {
+    adds = λ more m. subst (AreSaid Says 1 all) (sym (append_assoc said (x ∷ []) more)) (h.adds (x ∷ more) (inr (x, more, refl, apart, k, m)));
     only = λ whole w. let o = h.only whole w in elim o.1 [
-      | inl m ↦ absurd (grammar.apart number line x k m.0)
+      | inl m ↦ absurd (apart m.0)
       | inr m ↦ (
         m.1,
-        m.4,
-        o.2 ∙ ap (λ more. said ++ more) (m.2 ∙ ap (λ y. y ∷ m.1) (grammar.unique number line m.0 x m.3 k)) ∙ sym (append_assoc said (x ∷ []) m.1),
+        m.5,
+        o.2 ∙ ap (λ more. said ++ more) (m.2 ∙ ap (λ y. y ∷ m.1) (grammar.unique number line m.0 x m.4 k)) ∙ sym (append_assoc said (x ∷ []) m.1),
       )
     ];
     bad = λ n b. h.bad n (inr (λ wrong. wrong.says_nothing x k, b));
@@ -62,7 +61,7 @@ module _ {X : Type 0} (Says : ℕ → List ℕ → X → Type 0) (grammar : IsGr
   pub none_said : AreRead Says all number (line ∷ left) said → IsBad Says number line → (whole : List X) → ¬ AreSaid Says 1 all whole
   none_said h k whole w = let o = h.only whole w in elim o.1 [
     | inl m ↦ absurd (k.is_not_skipped m.0)
-    | inr m ↦ absurd (k.says_nothing m.0 m.3)
+    | inr m ↦ absurd (k.says_nothing m.0 m.4)
   ]
 
   pub bad_read : AreRead Says all number (line ∷ left) said → IsBad Says number line → IsFirstBad Says 1 all number

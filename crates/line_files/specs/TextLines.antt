@@ -24,11 +24,11 @@ IsSkipped (b ∷ bs) = b ≡ 35
 
 -- In what follows `Says` tells what a line with a number may say, and lines are numbered on from a first one's number.
 
--- the lines that are not skipped say these things, in order
+-- each line is skipped or says something, and these things are said, in order
 abbrev pub AreSaid : {X : Type 0} → (ℕ → List ℕ → X → Type 0) → ℕ → List (List ℕ) → List X → Type 0
 AreSaid Says number [] said = said ≡ []
 AreSaid {X} Says number (line ∷ lines) said = (IsSkipped line × AreSaid Says (number + 1) lines said)
-    ⊎ ((x : X) × (rest : List X) × (said ≡ x ∷ rest) × Says number line x × AreSaid Says (number + 1) lines rest)
+    ⊎ ((x : X) × (rest : List X) × (said ≡ x ∷ rest) × (¬ IsSkipped line) × Says number line x × AreSaid Says (number + 1) lines rest)
 
 -- a line that is neither skipped nor says anything
 pub record IsBad {X : Type 0} (Says : ℕ → List ℕ → X → Type 0) (number : ℕ) (line : List ℕ) : Type 0 where

@@ -1,12 +1,8 @@
-use Rattle.std.proofs.Common.{◌≢◌, Option, None, Some}
-use Rattle.std.specs.Option.{IfNone}
+use Rattle.std.proofs.Common.{◌≢◌}
 use Rattle.std.proofs.lemmas.List.Elements.{recursion_from_All}
 use Rattle.line_files.proofs.Numerals.{point_by_split}
+use Rattle.line_files.proofs.Passing.{if_none}
 use Rattle.line_files.proofs.points.read_point.Goals as goal
-
-if_none : {X : Type 0} (r : Option X) (P Q : Type 0) → (P → Q) → IfNone r P → IfNone r Q
-if_none None P Q f h = f h
-if_none (Some x) P Q f h = tt
 
 pub returns-clause-none : goal.returns-clause-none
 returns-clause-none c =

@@ -15,7 +15,7 @@ loop-rest-preserved-in-Skipped g c = record {
 pub loop-rest-preserved : goal.loop-rest-preserved
 loop-rest-preserved g c = record {
   read = rw c.in_ok-push-in-Point.ensures.items (said_read IsNumberedPointLine points_are_grammar _ _ _ _ _ c.in-Point.point
-      (rw c.split_line.ensures.lines at c.loop-rest.invariant.read) c.in-Point.ensures.1);
+      (rw c.split_line.ensures.lines at c.loop-rest.invariant.read) c.in-Point.ensures.0 c.in-Point.ensures.1);
   counted = omega arith;
 }
 
