@@ -40,7 +40,8 @@ module _ {A : Type 0} where
       same : w.place ≡ id
       same = omega (arith, w.is_id, k.has_id)
 
-  pub one_key : (slab : Slab (Parcel A)) (places : List Place) (id key other : ℕ) → ArePlaced slab 0 places → IsKeyOf (keyed slab places) id key
+  pub one_key : (slab : Slab (Parcel A)) (places : List Place) (id key other : ℕ) → ArePlaced slab 0 places
+      → IsKeyOf (keyed slab places) id key
       → IsKeyOf (keyed slab places) id other → key ≡ other
   one_key slab places id key other h k o =
       let v : get_or places id Unused ≡ Here key = (leads_to slab places id key h k).leads in
@@ -48,7 +49,8 @@ module _ {A : Type 0} where
       let both : Here key ≡ Here other = sym v ∙ w in cc
 
   -- ---- the parcel with an id is taken out of a list of parcels, or its shape is exchanged
-  pub record Exchanges (id key : ℕ) (here : Parcel A) (to : Option (ℕ × Parcel A)) (F : List (ℕ × Parcel A) → List (ℕ × Parcel A)) : Type 0 where
+  pub record Exchanges (id key : ℕ) (here : Parcel A) (to : Option (ℕ × Parcel A))
+      (F : List (ℕ × Parcel A) → List (ℕ × Parcel A)) : Type 0 where
     pub nil : F [] ≡ []
     pub kept : (x : ℕ × Parcel A) (xs : List (ℕ × Parcel A)) → x.1.id ≢ id → F (x ∷ xs) ≡ x ∷ F xs
     pub changed : (xs : List (ℕ × Parcel A)) → F ((key, here) ∷ xs) ≡ cons_option to (F xs)
@@ -71,7 +73,8 @@ module _ {A : Type 0} where
   }
 
   -- ---- the slab's slot under the key of an id's parcel has changed
-  module _ (old new : Slab (Parcel A)) (id key : ℕ) (place : Place) (here : Parcel A) (slot : Option (Parcel A)) (is : get old key ≡ Some here)
+  module _ (old new : Slab (Parcel A)) (id key : ℕ) (place : Place) (here : Parcel A) (slot : Option (Parcel A))
+      (is : get old key ≡ Some here)
       (its : here.id ≡ id) (up : Updates old new key slot) where
     other_slot : (k : ℕ) (parcel : Parcel A) → get old k ≡ Some parcel → parcel.id ≢ id → get new k ≡ get old k
     other_slot k parcel there differs = up.others k (λ e. differs
@@ -183,7 +186,8 @@ module _ {A : Type 0} where
             0 id places h.are_placed (omega arith) w.below w.leads,
       );
     };
-    one_less = keyed-at old new id key (Retired by) w.parcel None w.is_there w.has_id up (without_id id) (takes_out id key w.parcel w.has_id)
+    one_less = keyed-at old new id key (Retired by) w.parcel None w.is_there w.has_id up (without_id id)
+        (takes_out id key w.parcel w.has_id)
         0 id places h.are_placed (omega arith) w.below w.leads;
   }
     where
@@ -218,11 +222,13 @@ module _ {A : Type 0} where
         h.are_all,
         ap length both,
         length-append (keyed new (set places id (Retired by))) ((key, parcel) ∷ []),
-        length-at old new id key (Retired by) w.parcel (Some parcel) w.is_there w.has_id up 0 id places h.are_placed (omega arith) w.below w.leads,
+        length-at old new id key (Retired by) w.parcel (Some parcel) w.is_there w.has_id up 0 id places h.are_placed
+            (omega arith) w.below w.leads,
       );
     };
     one_for_one = both ∙ ap (λ xs. xs ++ (key, parcel) ∷ [])
-        (keyed-at old new id key (Retired by) w.parcel (Some parcel) w.is_there w.has_id up (without_id id) (takes_out id key w.parcel w.has_id)
+        (keyed-at old new id key (Retired by) w.parcel (Some parcel) w.is_there w.has_id up (without_id id)
+        (takes_out id key w.parcel w.has_id)
         0 id places h.are_placed (omega arith) w.below w.leads);
   }
     where
@@ -257,7 +263,8 @@ module _ {A : Type 0} where
         h.are_all,
         ap (λ xs. length (keyed new xs)) same,
         as_many,
-        length-at old new id key (Here key) w.parcel (Some parcel) w.is_there w.has_id up 0 id places h.are_placed (omega arith) w.below w.leads,
+        length-at old new id key (Here key) w.parcel (Some parcel) w.is_there w.has_id up 0 id places h.are_placed
+            (omega arith) w.below w.leads,
       );
     };
     other_shape = ap (keyed new) (sym same)

@@ -49,7 +49,12 @@ module _ {A : Type 0} where
   slots_count (None ∷ xs) (Some y ∷ ys) h = let no : Some y ≡ None = h.0 in cc
   slots_count (Some x ∷ xs) (None ∷ ys) h = absurd h.0
   slots_count (Some x ∷ xs) (Some y ∷ ys) h =
-      omega (arith, slots_count xs ys h.1, sum_by-cons (λ o. cond (is_some o) 1 0) (Some x) xs, sum_by-cons (λ o. cond (is_some o) 1 0) (Some y) ys)
+      omega (
+        arith,
+        slots_count xs ys h.1,
+        sum_by-cons (λ o. cond (is_some o) 1 0) (Some x) xs,
+        sum_by-cons (λ o. cond (is_some o) 1 0) (Some y) ys,
+      )
 
   module _ (slab copy : Slab (Parcel A)) (zip : AllZip (IsSlotClone IsParcelClone) slab.slots copy.slots) where
     pub keyed_clones : (places : List Place) → AllZip IsKeyedClone (keyed slab places) (keyed copy places)
@@ -75,14 +80,16 @@ module _ {A : Type 0} where
       placed_clones (first + 1) places h.1,
     )
       where
-        by_slot : (y : Option (Parcel A)) → IsSomeAnd y (IsParcelClone h.0.0) → (parcel : Parcel A) × (y ≡ Some parcel) × (parcel.id ≡ first)
+        by_slot : (y : Option (Parcel A)) → IsSomeAnd y (IsParcelClone h.0.0)
+            → (parcel : Parcel A) × (y ≡ Some parcel) × (parcel.id ≡ first)
         by_slot None c = absurd c
         by_slot (Some y) c = (y, refl, c.id ∙ h.0.2)
 
     pub table_clone : (places : List Place) → IsTable slab places → IsTable copy places
     table_clone places h = record {
       are_placed = placed_clones 0 places h.are_placed;
-      are_all = slots_count slab.slots copy.slots zip ∙ h.are_all ∙ length_all_zip IsKeyedClone (keyed slab places) (keyed copy places) (keyed_clones places);
+      are_all = slots_count slab.slots copy.slots zip ∙ h.are_all
+          ∙ length_all_zip IsKeyedClone (keyed slab places) (keyed copy places) (keyed_clones places);
     }
 
   -- ---- copies of parcels have the same rows and the same entries

@@ -38,7 +38,8 @@ module _ {A : Type 0} where
   ids_ascend slab first (Unused ∷ places) h = ids_ascend slab (first + 1) places h
   ids_ascend slab first (Retired by ∷ places) h = ids_ascend slab (first + 1) places h
   ids_ascend slab first (Here key ∷ places) h =
-      rw h.0.1 (AllPairs-cons (λ x y. x < y) h.0.0.id (ids_of (keyed slab places)) (all_of (λ y. h.0.0.id < y) (ids_of (keyed slab places)) later)
+      rw h.0.1 (AllPairs-cons (λ x y. x < y) h.0.0.id (ids_of (keyed slab places))
+      (all_of (λ y. h.0.0.id < y) (ids_of (keyed slab places)) later)
       (ids_ascend slab (first + 1) places h.1))
     where
       later : (y : ℕ) → Contains (ids_of (keyed slab places)) y → h.0.0.id < y
@@ -47,7 +48,8 @@ module _ {A : Type 0} where
           let w = stands_at slab (first + 1) places m.0.0 m.0.1 h.1 m.1 in
           omega (arith, w.is_id, m.2, h.0.2)
 
-  pub own_keys : (slab : Slab (Parcel A)) (first : ℕ) (places : List Place) → ArePlaced slab first places → HaveOwnKeys (entries_of (keyed slab places))
+  pub own_keys : (slab : Slab (Parcel A)) (first : ℕ) (places : List Place) → ArePlaced slab first places
+      → HaveOwnKeys (entries_of (keyed slab places))
   own_keys slab first [] h = λ i j d l m. absurd (omega (arith, m))
   own_keys slab first (Unused ∷ places) h = own_keys slab (first + 1) places h
   own_keys slab first (Retired by ∷ places) h = own_keys slab (first + 1) places h
@@ -59,7 +61,8 @@ module _ {A : Type 0} where
       later b c e =
           let m = from_mapped (λ parcel. record { key = parcel.0; bounds = parcel.1.shape.bounds }) (keyed slab places) b c in
           let w = stands_at slab (first + 1) places m.0.0 m.0.1 h.1 m.1 in
-          let same : h.0.0 ≡ m.0.1 = same_parcel h.0.0 m.0.1 (sym h.0.1 ∙ ap (get slab) (e ∙ sym (ap (λ (x : Entry). x.key) m.2)) ∙ w.is_there) in
+          let same : h.0.0 ≡ m.0.1 = same_parcel h.0.0 m.0.1
+          (sym h.0.1 ∙ ap (get slab) (e ∙ sym (ap (λ (x : Entry). x.key) m.2)) ∙ w.is_there) in
           let ids : h.0.0.id ≡ m.0.1.id = ap (λ (p : Parcel A). p.id) same in
           omega (arith, w.is_id, ids, h.0.2)
 
@@ -76,7 +79,8 @@ module _ {A : Type 0} where
   found_here slab first (Retired by ∷ places) zero key h leads = absurd (cc)
   found_here slab first (Here k ∷ places) zero key h leads = record {
     parcel = h.0.0;
-    is_here = subst (λ n. Contains (keyed slab (Here k ∷ places)) (n, h.0.0)) same (rw h.0.1 (Contains-here (k, h.0.0) (keyed slab places)));
+    is_here = subst (λ n. Contains (keyed slab (Here k ∷ places)) (n, h.0.0)) same
+        (rw h.0.1 (Contains-here (k, h.0.0) (keyed slab places)));
     has_id = omega (arith, h.0.2);
   }
     where
@@ -100,7 +104,8 @@ module _ {A : Type 0} where
       → retired_by t id ≡ fate_at (get_or places id Unused)
   retired_at t places id e = sym (ap (λ fates. get_or fates id None) e) ∙ get_or-map fate_at places id Unused
 
-  none_here : (t : Table A) (slab : Slab (Parcel A)) (places : List Place) (id : ℕ) → ArePlaced slab 0 places → keyed slab places ≡ t.parcels
+  none_here : (t : Table A) (slab : Slab (Parcel A)) (places : List Place) (id : ℕ) → ArePlaced slab 0 places
+      → keyed slab places ≡ t.parcels
       → parcel_at slab (get_or places id Unused) ≡ None → HasId t.parcels id → ⊥
   none_here t slab places id h e at (key, k) =
       none_at slab places id h at key k.parcel (subst (λ parcels. Contains parcels (key, k.parcel)) (sym e) k.is_here) k.has_id
@@ -113,7 +118,11 @@ module _ {A : Type 0} where
       (none_here t slab places id h e (ap (parcel_at slab) at), retired_at t places id f ∙ ap fate_at at)
   fate_of_place t slab places id (Here key) h e f at =
       let w = found_here slab 0 places id key h at in (
-        record { parcel = w.parcel; is_here = subst (λ parcels. Contains parcels (key, w.parcel)) e w.is_here; has_id = omega (arith, w.has_id) },
+        record {
+          parcel = w.parcel;
+          is_here = subst (λ parcels. Contains parcels (key, w.parcel)) e w.is_here;
+          has_id = omega (arith, w.has_id);
+        },
         retired_at t places id f ∙ ap fate_at at,
       )
 
@@ -125,7 +134,8 @@ module _ {A : Type 0} where
   known t id key (HereFate other) k f is = elim is [ inl e ↦ cc | inr e ↦ let no : HereFate other ≡ RetiredFate e.0 = e.1 in cc ]
 
   -- a parcel that is here is below the next id, and is not retired
-  pub here_below : (slab : Slab (Parcel A)) (places : List Place) (id key : ℕ) → ArePlaced slab 0 places → IsKeyOf (keyed slab places) id key
+  pub here_below : (slab : Slab (Parcel A)) (places : List Place) (id key : ℕ) → ArePlaced slab 0 places
+      → IsKeyOf (keyed slab places) id key
       → id < length places
   here_below slab places id key h k =
       let w = stands_at slab 0 places key k.parcel h k.is_here in omega (arith, w.below, w.is_id, k.has_id)

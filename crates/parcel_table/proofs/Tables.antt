@@ -51,7 +51,8 @@ module _ {A : Type 0} where
       (h.0, placed-append slab (id + 1) xs ys h.1 (subst (λ n. ArePlaced slab n ys) (omega arith) k))
 
   -- ---- a slab that has one parcel more
-  module _ (old new : Slab (Parcel A)) (key : ℕ) (slot : Option (Parcel A)) (none : get old key ≡ None) (up : Updates old new key slot) where
+  module _ (old new : Slab (Parcel A)) (key : ℕ) (slot : Option (Parcel A)) (none : get old key ≡ None)
+      (up : Updates old new key slot) where
     kept_at : (k : ℕ) (parcel : Parcel A) → get old k ≡ Some parcel → get new k ≡ get old k
     kept_at k parcel is = up.others k (λ e. no_parcel parcel (sym is ∙ ap (λ n. get old n) e ∙ none))
 
@@ -75,19 +76,23 @@ module _ {A : Type 0} where
 
   -- ids that were never given out change no parcel
   pub filled : (slab : Slab (Parcel A)) (places : List Place) (n : ℕ) → keyed slab (places ++ replicate n Unused) ≡ keyed slab places
-  filled slab places n = keyed-append slab places (replicate n Unused) ∙ ap (λ xs. keyed slab places ++ xs) (keyed-unused slab n) ∙ append-nil (keyed slab places)
+  filled slab places n = keyed-append slab places (replicate n Unused) ∙ ap (λ xs. keyed slab places ++ xs) (keyed-unused slab n)
+      ∙ append-nil (keyed slab places)
 
-  pub filled_table : (slab : Slab (Parcel A)) (places : List Place) (n : ℕ) → IsTable slab places → IsTable slab (places ++ replicate n Unused)
+  pub filled_table : (slab : Slab (Parcel A)) (places : List Place) (n : ℕ) → IsTable slab places
+      → IsTable slab (places ++ replicate n Unused)
   filled_table slab places n h = record {
     are_placed = placed-append slab 0 places (replicate n Unused) h.are_placed (placed-unused slab (0 + length places) n);
     are_all = h.are_all ∙ ap length (sym (filled slab places n));
   }
 
   -- only the slab's room has changed
-  pub roomier : (old new : Slab (Parcel A)) (places : List Place) (n : ℕ) → new ≡ record old { capacity = n } → IsTable old places → IsTable new places
+  pub roomier : (old new : Slab (Parcel A)) (places : List Place) (n : ℕ) → new ≡ record old { capacity = n } → IsTable old places
+      → IsTable new places
   roomier old new places n e h = subst (λ slab. IsTable slab places) (sym e) (record { are_placed = h.are_placed; are_all = h.are_all })
 
-  pub pushed : (old new : Slab (Parcel A)) (places : List Place) (key : ℕ) (parcel : Parcel A) → IsTable old places → length places ≡ parcel.id
+  pub pushed : (old new : Slab (Parcel A)) (places : List Place) (key : ℕ) (parcel : Parcel A) → IsTable old places
+      → length places ≡ parcel.id
       → get old key ≡ None → Updates old new key (Some parcel) → slab_len new ≡ slab_len old + 1
       → IsPushed old new places (places ++ Here key ∷ []) key parcel
   pushed old new places key parcel h at none up more = record {
@@ -163,7 +168,8 @@ module _ {A : Type 0} where
   stands_at slab first (Here other ∷ places) key parcel h c = ⊎_elim
       (λ e. here (ap (λ (p : ℕ × Parcel A). p.0) e) (ap (λ (p : ℕ × Parcel A). p.1) e))
       (λ c'. later (stands_at slab (first + 1) places key parcel h.1 c'))
-      (Contains-cons_cases (other, h.0.0) (key, parcel) (keyed slab places) (subst (λ o. Contains (cons_option (with_key o) (keyed slab places)) (key, parcel)) h.0.1 c))
+      (Contains-cons_cases (other, h.0.0) (key, parcel) (keyed slab places)
+      (subst (λ o. Contains (cons_option (with_key o) (keyed slab places)) (key, parcel)) h.0.1 c))
     where
       with_key : Option (Parcel A) → Option (ℕ × Parcel A)
       with_key o = option_map (λ p. (other, p)) o
@@ -236,9 +242,11 @@ module _ {A : Type 0} where
       → Contains (rows_of_keyed parcels) (numbered parcel.id parcel.shape.ring.corners)
   row_of_parcel [] key parcel c = absurd (none_in_nil (key, parcel) c)
   row_of_parcel (first ∷ parcels) key parcel c = ⊎_elim
-      (λ e. subst (λ (p : Parcel A). Contains (rows_of_keyed (first ∷ parcels)) (numbered p.id p.shape.ring.corners)) (ap (λ (p : ℕ × Parcel A). p.1) e)
+      (λ e. subst (λ (p : Parcel A). Contains (rows_of_keyed (first ∷ parcels)) (numbered p.id p.shape.ring.corners))
+      (ap (λ (p : ℕ × Parcel A). p.1) e)
       (Contains-here (numbered first.1.id first.1.shape.ring.corners) (rows_of_keyed parcels)))
-      (λ later. Contains-cons (numbered first.1.id first.1.shape.ring.corners) (numbered parcel.id parcel.shape.ring.corners) (rows_of_keyed parcels)
+      (λ later. Contains-cons (numbered first.1.id first.1.shape.ring.corners) (numbered parcel.id parcel.shape.ring.corners)
+      (rows_of_keyed parcels)
       (row_of_parcel parcels key parcel later))
       (Contains-cons_cases first (key, parcel) parcels c)
 

@@ -36,8 +36,11 @@ impl<A: Allocator + Copy> Clone for Parcel<A> {
     }
 }
 
-/// The parcels of a layer, each under a key that stays its own, and found by its id at once. To put a parcel in takes no time that
-/// grows with the number of the others.
+/// The parcels of a layer, each under a key that stays its own, and found by its id at once. A change of one takes no time
+/// that grows with the number of the others; it may have to move them to get room, which [`Parcels::reserve`] does before.
+///
+/// A parcel's id is never given out again. Contracts see the parcels beside their keys, by ascending id, and what became of
+/// all ids that were given out.
 #[derive(Drop)]
 pub struct Parcels<A: Allocator> {
     slab: Slab<Parcel<A>, A>,
@@ -77,6 +80,10 @@ impl<A: Allocator + Copy> Clone for Parcels<A> {
 
 impl<A: Allocator + Copy> Parcels<A> {
     /// No parcel yet, and room for so many.
+    ///
+    /// # Errors
+    ///
+    /// [`AllocError`] where that room is refused.
     pub fn with_capacity(alloc: A, capacity: usize) -> Result<Parcels<A>, AllocError>
         ensures empty { IfOk result (λ parcels. parcels.parcels ≡ []) }
         ensures next { IfOk result (λ parcels. parcels.next ≡ 0) }
@@ -87,10 +94,15 @@ impl<A: Allocator + Copy> Parcels<A> {
         Ok(Parcels { slab, places })
     }
 
-    /// Puts a parcel in, under an id that is not below the next one; its key.
+    /// Puts a parcel in, under an id that is not below the next one; its key. The ids that are passed over stay unknown.
+    ///
+    /// # Errors
+    ///
+    /// [`AllocError`] where an allocation is refused; the parcels are then as before, and the shape is dropped.
     pub fn push(&mut self, id: u64, shape: Shape<A>) -> Result<usize, AllocError>
         requires { self.old.next ≤ id }
-        ensures parcels { IfOk result (λ key. self.new.parcels ≡ self.old.parcels ++ (key, record { id = id; shape = shape }) ∷ []) }
+        ensures parcels { IfOk result (λ key.
+            self.new.parcels ≡ self.old.parcels ++ (key, record { id = id; shape = shape }) ∷ []) }
         ensures next { IfOk result (λ _. self.new.next ≡ id + 1) }
         ensures fates { (other : ℕ) → retired_by self.new other ≡ retired_by self.old other }
         ensures key { IfOk result (λ key. key ≡ self.old.vacant) }
@@ -105,6 +117,10 @@ impl<A: Allocator + Copy> Parcels<A> {
 
 impl<A: Allocator> Parcels<A> {
     /// Makes room for so many more parcels, each under a new id.
+    ///
+    /// # Errors
+    ///
+    /// [`AllocError`] where that room is refused; all but the room is as before.
     pub fn reserve(&mut self, count: usize) -> Result<(), AllocError>
         ensures room { OnOk result (count ≤ self.new.room) }
         ensures kept { self.new ≡ record self.old { room = self.new.room } }

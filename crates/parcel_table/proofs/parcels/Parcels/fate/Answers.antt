@@ -11,7 +11,8 @@ returns-in-Unused g c =
 
 pub returns-in-Retired : goal.returns-in-Retired
 returns-in-Retired g c =
-    fate_of_place c.args.self.now c.self.inside.slab c.self.inside.places.items c.args.id (Retired c.in-Retired.by) c.self.invariant.are_placed
+    fate_of_place c.args.self.now c.self.inside.slab c.self.inside.places.items c.args.id
+    (Retired c.in-Retired.by) c.self.invariant.are_placed
     (ap (λ t. t.parcels) c.self.view_is) (ap (λ t. t.fates) c.self.view_is)
     (sym (c.place_of.ensures ∙ ap (λ xs. get_or xs c.args.id Unused) c.deref.ensures.value) ∙ c.in-Retired.is)
 

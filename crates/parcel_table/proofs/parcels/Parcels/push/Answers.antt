@@ -34,7 +34,8 @@ returns-in_err-key-clause-err g c =
 pub invariant_of-self-2 : goal.invariant_of-self-2
 invariant_of-self-2 g c =
     subst (IsTable c.insert.new.self) (sym c.push_reserved.ensures.items)
-    (pushed c.self.inside.slab c.insert.new.self c.make_room.new.places.items c.in_ok-key.key (record { id = c.args.id; shape = c.args.shape })
+    (pushed c.self.inside.slab c.insert.new.self c.make_room.new.places.items c.in_ok-key.key
+    (record { id = c.args.id; shape = c.args.shape })
     (subst (IsTable c.self.inside.slab) (sym c.in_ok-make_room.ensures.items.1)
     (filled_table c.self.inside.slab c.self.inside.places.items c.in_ok-make_room.ensures.items.0 c.self.invariant))
     c.in_ok-make_room.ensures.next c.in_ok-key.ensures.was_vacant c.in_ok-key.ensures.updates c.in_ok-key.ensures.len).is_table
@@ -42,7 +43,8 @@ invariant_of-self-2 g c =
 pub returns-clause-parcels : goal.returns-clause-parcels
 returns-clause-parcels g c =
     ap (keyed c.insert.new.self) c.push_reserved.ensures.items
-    ∙ (pushed c.self.inside.slab c.insert.new.self c.make_room.new.places.items c.in_ok-key.key (record { id = c.args.id; shape = c.args.shape })
+    ∙ (pushed c.self.inside.slab c.insert.new.self c.make_room.new.places.items c.in_ok-key.key
+    (record { id = c.args.id; shape = c.args.shape })
     (subst (IsTable c.self.inside.slab) (sym c.in_ok-make_room.ensures.items.1)
     (filled_table c.self.inside.slab c.self.inside.places.items c.in_ok-make_room.ensures.items.0 c.self.invariant))
     c.in_ok-make_room.ensures.next c.in_ok-key.ensures.was_vacant c.in_ok-key.ensures.updates c.in_ok-key.ensures.len).one_more

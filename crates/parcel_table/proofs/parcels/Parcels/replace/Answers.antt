@@ -37,4 +37,5 @@ returns g c =
       vacant = slab.vacant_key;
       room = room_in slab (vec_capacity places) (vec_len places);
     }) (replaced slab places.items c.args.id key c.args.shape c.self.invariant k).other_shape
-    ∙ ap {A = Table g.row.A.Denot} {B = Table g.row.A.Denot} (λ t. record t { parcels = with_shape c.args.id c.args.shape t.parcels }) c.self.view_is
+    ∙ ap {A = Table g.row.A.Denot} {B = Table g.row.A.Denot}
+    (λ t. record t { parcels = with_shape c.args.id c.args.shape t.parcels }) c.self.view_is

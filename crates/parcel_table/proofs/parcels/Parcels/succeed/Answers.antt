@@ -35,13 +35,16 @@ returns-clause-parcels g c key k =
     one_key slab places c.args.id c.key_of-key.result key c.self.invariant.are_placed
     (subst (λ t. IsKeyOf t.parcels c.args.id c.key_of-key.result) (sym c.self.view_is) c.key_of-key.ensures)
     (subst (λ t. IsKeyOf t.parcels c.args.id key) (sym c.self.view_is) k) in
-    ap (keyed (with_value slab c.key_of-key.result (record { id = c.next_id-next.result; shape = c.args.shape }))) c.push_reserved.ensures.items
+    ap (keyed (with_value slab c.key_of-key.result
+    (record { id = c.next_id-next.result; shape = c.args.shape }))) c.push_reserved.ensures.items
     ∙ (succeeded slab places c.args.id c.key_of-key.result c.args.by
     (record { id = c.next_id-next.result; shape = c.args.shape }) c.self.invariant
     (subst (λ t. IsKeyOf t.parcels c.args.id c.key_of-key.result) (sym c.self.view_is) c.key_of-key.ensures)
     (c.next_id-next.ensures ∙ sym (ap (λ t. t.next) c.self.view_is))).one_for_one
-    ∙ ap (λ t. without_id c.args.id t.parcels ++ (c.key_of-key.result, record { id = c.next_id-next.result; shape = c.args.shape }) ∷ []) c.self.view_is
-    ∙ ap (λ n. without_id c.args.id c.args.self.now.parcels ++ (c.key_of-key.result, record { id = n; shape = c.args.shape }) ∷ []) c.next_id-next.ensures
+    ∙ ap (λ t. without_id c.args.id t.parcels ++
+    (c.key_of-key.result, record { id = c.next_id-next.result; shape = c.args.shape }) ∷ []) c.self.view_is
+    ∙ ap (λ n. without_id c.args.id c.args.self.now.parcels ++
+    (c.key_of-key.result, record { id = n; shape = c.args.shape }) ∷ []) c.next_id-next.ensures
     ∙ ap (λ n. without_id c.args.id c.args.self.now.parcels ++ (n, record { id = c.args.self.now.next; shape = c.args.shape }) ∷ []) first
 
 pub returns-clause-fates : goal.returns-clause-fates
