@@ -20,3 +20,4 @@ pub mod OneParcel
 pub mod Clipped
 pub mod FromOneCell
 pub mod Between
+pub mod RowLists
