@@ -21,3 +21,4 @@ pub mod Clipped
 pub mod FromOneCell
 pub mod Between
 pub mod RowLists
+pub mod Replays
