@@ -22,3 +22,4 @@ pub mod FromOneCell
 pub mod Between
 pub mod RowLists
 pub mod Replays
+pub mod Retirements
