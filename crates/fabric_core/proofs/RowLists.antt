@@ -8,14 +8,14 @@ use Rattle.std.specs.List.Sorted.{IsStrictlyIncreasing}
 use Rattle.std.proofs.lemmas.Bool.{cond-true, cond-false, lt-ltb, le-ltb, eq-eqb, ne_eqb, or_from, or_left, not_from_true}
 use Rattle.std.proofs.lemmas.Bool.{not-true, not_from_false, false≢true}
 use Rattle.std.proofs.lemmas.Bool.Decides.{Decides-eqb, Decides-or}
-use Rattle.std.proofs.lemmas.List.{append-nil}
+use Rattle.std.proofs.lemmas.List.{append-nil, length-append}
 use Rattle.std.proofs.lemmas.List.Elements.{All-from_recursion, recursion_from_All, All-filter}
 use Rattle.geo_exact.specs.declared.corner.Corner.{Corner}
 use Rattle.geo_exact.specs.Layers.{NumberedRing, numbered, corner_count}
 use Rattle.edge_chains.proofs.NodedEdges.{none_in_nil, Contains-here, Contains-there, Contains-cases}
 use Rattle.fabric_core.specs.Rows.{numbers}
 use Rattle.fabric_core.specs.Journal.{next_after, without_ids, with_row, with_rows}
-use Rattle.fabric_core.proofs.Lists.{AllByRecursion-push}
+use Rattle.fabric_core.proofs.Lists.{AllByRecursion-push, corner_count-append}
 use Rattle.fabric_core.proofs.Located.{Ascend}
 use Rattle.fabric_core.proofs.OneParcel.{of_each}
 
@@ -425,20 +425,29 @@ none_without id rows h = without_first id [] rows h ∙ all_stay rows
     all_stay [] = refl
     all_stay (row ∷ rows) = ap (λ xs. row ∷ xs) (all_stay rows)
 
--- a row that is taken out takes its corners along
-pub record IsOneLess (rows rest : List NumberedRing) (ring : List Corner) : Type 0 where
-  pub corners : corner_count rest + length ring ≡ corner_count rows
-  pub number : length rest + 1 ≡ length rows
+-- a row that is taken out leaves those before it and behind it
+pub record IsTakenOut (rows rest : List NumberedRing) (row : NumberedRing) : Type 0 where
+  pub before : List NumberedRing
+  pub behind : List NumberedRing
+  pub were_all : rows ≡ before ++ row ∷ behind
+  pub are_left : rest ≡ before ++ behind
 
-pub one_less_row : (id : ℕ) (ring : List Corner) (rows : List NumberedRing) → Ascend rows → Contains rows (numbered id ring)
-    → IsOneLess rows (without_ids (id ∷ []) rows) ring
-one_less_row id ring [] up h = absurd (none_in_nil (numbered id ring) h)
-one_less_row id ring (row ∷ rows) up h = ⊎_elim
-    (λ s. subst (λ xs. IsOneLess (row ∷ rows) xs ring) (sym (here (ap (λ (r : NumberedRing). r.number) s)))
-    (record { corners = omega (arith, ap (λ (r : NumberedRing). length r.corners) s); number = omega arith }))
-    (λ k. let less = one_less_row id ring rows up.1 k in
-    subst (λ xs. IsOneLess (row ∷ rows) xs ring) (sym (there (of_each (λ later. row.number < later.number) rows (numbered id ring) up.0 k)))
-    (record { corners = omega (arith, less.corners); number = omega (arith, less.number) }))
+pub taken_out : (id : ℕ) (ring : List Corner) (rows : List NumberedRing) → Ascend rows → Contains rows (numbered id ring)
+    → IsTakenOut rows (without_ids (id ∷ []) rows) (numbered id ring)
+taken_out id ring [] up h = absurd (none_in_nil (numbered id ring) h)
+taken_out id ring (row ∷ rows) up h = ⊎_elim
+    (λ s. record {
+      before = [];
+      behind = rows;
+      were_all = ap (λ r. r ∷ rows) s;
+      are_left = here (ap (λ (r : NumberedRing). r.number) s);
+    })
+    (λ k. let w = taken_out id ring rows up.1 k in record {
+      before = row ∷ w.before;
+      behind = w.behind;
+      were_all = ap (λ xs. row ∷ xs) w.were_all;
+      are_left = there (of_each (λ later. row.number < later.number) rows (numbered id ring) up.0 k) ∙ ap (λ xs. row ∷ xs) w.are_left;
+    })
     (Contains-cases row rows (numbered id ring) h)
   where
     here : row.number ≡ id → without_ids (id ∷ []) (row ∷ rows) ≡ rows
@@ -449,6 +458,31 @@ one_less_row id ring (row ∷ rows) up h = ⊎_elim
     there : row.number < id → without_ids (id ∷ []) (row ∷ rows) ≡ row ∷ without_ids (id ∷ []) rows
     there l = ap (λ b. cond (not (b || false)) (row ∷ without_ids (id ∷ []) rows) (without_ids (id ∷ []) rows))
         (ne_eqb row.number id (λ e. omega (arith, l, e)))
+
+-- it takes its corners along
+pub record IsOneLess (rows rest : List NumberedRing) (ring : List Corner) : Type 0 where
+  pub corners : corner_count rest + length ring ≡ corner_count rows
+  pub number : length rest + 1 ≡ length rows
+
+pub one_less_row : (id : ℕ) (ring : List Corner) (rows : List NumberedRing) → Ascend rows → Contains rows (numbered id ring)
+    → IsOneLess rows (without_ids (id ∷ []) rows) ring
+one_less_row id ring rows up h =
+    let w = taken_out id ring rows up h in record {
+      corners = omega (
+        arith,
+        ap corner_count w.were_all,
+        ap corner_count w.are_left,
+        corner_count-append w.before (numbered id ring ∷ w.behind),
+        corner_count-append w.before w.behind,
+      );
+      number = omega (
+        arith,
+        ap length w.were_all,
+        ap length w.are_left,
+        length-append w.before (numbered id ring ∷ w.behind),
+        length-append w.before w.behind,
+      );
+    }
 
 -- and so do two
 pub record AreTwoLess (rows rest : List NumberedRing) (ring other : List Corner) : Type 0 where
