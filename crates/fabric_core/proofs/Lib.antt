@@ -23,3 +23,4 @@ pub mod Between
 pub mod RowLists
 pub mod Replays
 pub mod Retirements
+pub mod Neighbours

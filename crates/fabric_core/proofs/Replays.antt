@@ -1,7 +1,7 @@
 -- Journals with one entry more, beginnings of journals, and the ids of the states that they lead to.
 use Rattle.std.proofs.Common.{Bool, ◌≡◌, ⊎_elim, refl, sym, ◌∙◌, ap, subst, arith, ℕ, zero, suc, ◌+◌, ◌<◌, ◌≤◌, List, [], ◌∷◌}
 use Rattle.std.proofs.Common.{◌++◌, length, get_or, take, map}
-use Rattle.std.specs.List.{Contains, filter}
+use Rattle.std.specs.List.{AllByRecursion, Contains, filter}
 use Rattle.std.proofs.lemmas.List.{take-append-drop}
 use Rattle.std.specs.Prelude.{drop}
 use Rattle.geo_exact.specs.declared.corner.Corner.{Corner}
@@ -14,7 +14,8 @@ use Rattle.fabric_core.specs.Rows.{numbers}
 use Rattle.fabric_core.specs.Journal.{State, JournalEntry, after_entry, opening_state, replay, next_after, with_rows, without_ids}
 use Rattle.fabric_core.specs.EditResults.{IsChange, IsEntryOf, IsInsertOf, AreLawfulFrom, IsLawful}
 use Rattle.fabric_core.proofs.Located.{Ascend}
-use Rattle.fabric_core.proofs.RowLists.{AllByRecursion-filter, AreBelow, AreNumberedFrom, Ascend-filter, put_behind}
+use Rattle.fabric_core.proofs.RowLists.{all_changed, AllByRecursion-append, AllByRecursion-filter, AreBelow, AreNumberedFrom}
+use Rattle.fabric_core.proofs.RowLists.{Ascend-filter, put_behind}
 use Rattle.fabric_core.proofs.RowLists.{ascend_behind, next_above}
 use Rattle.fabric_core.proofs.RowLists.{all_below_next, changed, put_back, put_back_next, ascend_changed, below_changed, numbers_changed}
 
@@ -159,6 +160,25 @@ pub next_after_insert : (state : State) (from to at : Corner) (out : List ℕ) (
 next_after_insert state from to at out rows ids h =
     ap (λ xs. next_after xs state.next) h.rows_are
     ∙ put_back_next (has_edge from to) (with_corner_in from to at) (λ row. refl) state.next state.rows ids.below
+
+-- ---- what holds of the rows and of the new ones holds of all behind it
+pub all_after : {A : Type 0} (P : NumberedRing → Type 0) (state : State) (edit : Edit A) (out : List ℕ) (rows : List NumberedRing)
+    → HasRisingIds state → IsChange state edit out rows → AllByRecursion P state.rows → AllByRecursion P rows
+    → AllByRecursion P (with_rows rows (without_ids out state.rows))
+all_after {A} P state edit out rows ids h olds news = by_edit edit h
+  where
+    by_new : (edit : Edit A) → BringsNew edit → IsChange state edit out rows
+        → AllByRecursion P (with_rows rows (without_ids out state.rows))
+    by_new edit new h = subst (AllByRecursion P) (sym (rows_after_new state edit out rows ids new h))
+        (AllByRecursion-append P (without_ids out state.rows) rows (AllByRecursion-filter P _ state.rows olds) news)
+
+    by_edit : (edit : Edit A) → IsChange state edit out rows → AllByRecursion P (with_rows rows (without_ids out state.rows))
+    by_edit (Split id path) h = by_new (Split id path) tt h
+    by_edit (Merge a b) h = by_new (Merge a b) tt h
+    by_edit (Move a b path) h = by_new (Move a b path) tt h
+    by_edit (Insert from to at) h = subst (AllByRecursion P) (sym (rows_after_insert state from to at out rows ids h))
+        (all_changed (has_edge from to) (with_corner_in from to at) (λ row. refl) P state.rows olds
+        (subst (AllByRecursion P) h.rows_are news))
 
 -- ---- they stay so
 rising_after_new : {A : Type 0} (state : State) (entry : JournalEntry A) → HasRisingIds state → BringsNew entry.edit
