@@ -24,3 +24,4 @@ pub mod RowLists
 pub mod Replays
 pub mod Retirements
 pub mod Neighbours
+pub mod OneRefusal
