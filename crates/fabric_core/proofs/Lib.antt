@@ -25,3 +25,4 @@ pub mod Replays
 pub mod Retirements
 pub mod Neighbours
 pub mod OneRefusal
+pub mod EntryNets
