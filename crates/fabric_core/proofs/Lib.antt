@@ -22,3 +22,9 @@ pub mod Exchanged
 pub mod Exchanges
 pub mod FromOneCell
 pub mod Between
+pub mod RowLists
+pub mod Replays
+pub mod Retirements
+pub mod Neighbours
+pub mod OneRefusal
+pub mod EntryNets

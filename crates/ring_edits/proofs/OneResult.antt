@@ -108,7 +108,7 @@ same_count P n h k = ⊎_elim
         let m : h.m < h.m = (h.exactly h.m h.m_below).0 there in omega (arith, m)
 
 -- ---- the run of shared edges
-same_shared : (a b : List Corner) (u v w z : Corner) (xs ys cs bs : List Corner) → IsShared a b u xs v cs → IsShared a b w ys z bs
+pub same_shared : (a b : List Corner) (u v w z : Corner) (xs ys cs bs : List Corner) → IsShared a b u xs v cs → IsShared a b w ys z bs
     → (u ≡ w) × (xs ≡ ys) × (v ≡ z) × (cs ≡ bs)
 same_shared a b u v w z xs ys cs bs h k =
     let one = one_run a b (u, v, (xs, cs, h)) in
