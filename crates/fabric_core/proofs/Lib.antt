@@ -20,6 +20,7 @@ pub mod OneParcel
 pub mod Clipped
 pub mod Exchanged
 pub mod Exchanges
+pub mod PutIn
 pub mod FromOneCell
 pub mod Between
 pub mod RowLists

@@ -1,5 +1,5 @@
 ghost use Rattle.std.specs.Prelude.{◌≡◌, ◌≢◌, ◌↔◌, ◌+◌, ◌≤◌, ◌≤ℤ◌, ℕ, List, [], ◌∷◌, ◌++◌, length, map, IfOk, OnOk, OnErr, MatchOption};
-ghost use Rattle.std.specs.List.{All, Contains};
+ghost use Rattle.std.specs.List.{All, AllByRecursion, Contains};
 ghost use Rattle.std.specs.List.Sorted.{IsStrictlyIncreasing};
 ghost use Rattle.geo_exact.specs.declared.corner.Corner.{Corner};
 ghost use Rattle.geo_exact.specs.Point.{corner_point};
@@ -7,15 +7,17 @@ ghost use Rattle.geo_exact.specs.Bounds.{HoldsCorner, IsLeastBox};
 ghost use Rattle.geo_exact.specs.Interiors.{InteriorsMeet};
 ghost use Rattle.geo_exact.specs.Layers.{NumberedRing, numbered};
 ghost use Rattle.fabric_core.specs.Tiling.{IsTiling};
-ghost use Rattle.ring_edits.specs.Edits.{CoversAlike};
+ghost use Rattle.ring_edits.specs.Edits.{CoversAlike, put_between};
 ghost use Rattle.fabric_core.specs.Rows.{numbers};
 ghost use Rattle.fabric_core.specs.Limits.{AreWithinLimits};
 ghost use Rattle.fabric_core.specs.GridIndex.{IsIndexed, IsCandidate};
 ghost use Rattle.fabric_core.specs.Locate.{IsLocatedAt};
 ghost use Rattle.fabric_core.specs.own.Checks.{HaveNoFault, IsChecked};
 ghost use Rattle.fabric_core.specs.Journal.{without_ids};
-ghost use Rattle.fabric_core.specs.own.Kept.{IsExchanged, IsFresh, MayBeKept};
-ghost use Rattle.fabric_core.specs.own.Lists.{numbered_rows, corners_of_rings, IsEntryAt};
+ghost use Rattle.fabric_core.specs.own.Kept.{AreShapesWith, IsExchanged, IsFresh, MayBeKept, put_in_row};
+ghost use Rattle.fabric_core.specs.EditResults.{rows_with_edge};
+ghost use Rattle.geo_exact.specs.Segments.{IsStrictlyInside};
+ghost use Rattle.fabric_core.specs.own.Lists.{numbered_rows, corners_of_rings, IsEntryAt, replaced};
 ghost use Rattle.parcel_table.specs.Table.{HasId};
 
 use crate::candidates::{ids_under, sort_once};
@@ -26,6 +28,7 @@ use cell_index::{CellIndex, Entry};
 use geo_exact::{Bounds, Corner, Corners};
 use parcel_table::{Fate, Ids, Parcels, Shapes};
 use ring_core::{Ring, Shape};
+use ring_edits::{inserting_covers_alike, inserting_keeps_the_least_box, put_into};
 use std::alloc::{AllocError, Allocator};
 use std::marker::Model;
 
@@ -216,6 +219,22 @@ fn entry_of<A: Allocator>(parcels: &Parcels<A>, id: u64) -> Entry
     }
 }
 
+/// Exchanges the shapes of parcels, whose ids and keys stay.
+fn replace_all<A: Allocator>(parcels: &mut Parcels<A>, ids: &[u64], shapes: Vec<Shape<A>, A>)
+    requires same_length { length ids.now ≡ length shapes.items }
+    requires here { AllByRecursion (HasId parcels.old.parcels) ids.now }
+    ensures { parcels.new ≡ record parcels.old { parcels = replaced ids.now shapes.items parcels.old.parcels } }
+{
+    let mut left = ids;
+    for shape in shapes {
+        let Some((id, rest)) = left.split_first() else {
+            unreachable!();
+        };
+        parcels.replace(*id, shape);
+        left = rest;
+    }
+}
+
 impl<'a, H: Allocator> Tiled<'a, H> {
     /// One parcel becomes two, under the next ids. Where an allocation is refused, nothing has changed.
     pub(crate) fn divide(
@@ -315,6 +334,38 @@ impl<'a, H: Allocator> Tiled<'a, H> {
         self.index.change(&[from_a, from_b], &[first, second])?;
         self.parcels.succeed(a, by, of_a);
         self.parcels.succeed(b, by, of_b);
+        self.parcels.stand_apart();
+        Ok(())
+    }
+
+    /// A corner is put into an edge of parcels, which keep their ids and get these shapes, and of the city's refined ring, where that
+    /// has the edge. Where an allocation is refused, nothing has changed.
+    pub(crate) fn put_in(
+        &mut self,
+        edge: (Corner, Corner),
+        at: Corner,
+        ids: &[u64],
+        shapes: Vec<Shape<&'a H>, &'a H>,
+    ) -> Result<(), AllocError>
+        requires ids { ids.now ≡ numbers (rows_with_edge edge.0 edge.1 self.old.rows) }
+        requires shapes { AreShapesWith edge.0 edge.1 at self.old.rows shapes.items }
+        requires between { IsStrictlyInside at edge.0 edge.1 }
+        requires kept { MayBeKept (map (put_in_row edge.0 edge.1 at) self.old.rows) (put_between edge.0 edge.1 at self.old.refined) }
+        ensures ok { OnOk result (self.new ≡ record self.old {
+            rows = map (put_in_row edge.0 edge.1 at) self.old.rows;
+            refined = put_between edge.0 edge.1 at self.old.refined;
+        }) }
+        ensures err { OnErr result (self.new ≡ self.old) }
+    {
+        let (from, to) = edge;
+        self.parcels.stand_apart();
+        inserting_covers_alike();
+        inserting_keeps_the_least_box();
+        let with_it = put_into(self.parcels.allocator(), self.refined.as_slice(), from, to, at)?;
+        replace_all(&mut self.parcels, ids, shapes);
+        if let Some(refined) = with_it {
+            self.refined = refined;
+        }
         self.parcels.stand_apart();
         Ok(())
     }

@@ -1,19 +1,21 @@
 -- What the parcels that tile a city keep, with the index of their boxes. Public contracts do not speak of it.
-use Rattle.std.specs.Prelude.{◌≡◌, ℕ, ◌+◌, nat_eq, if◌then◌else◌, List, ◌++◌, length, Option, Some, None, slice_index_or}
+use Rattle.std.specs.Prelude.{◌≡◌, ℕ, ◌+◌, nat_eq, if◌then◌else◌, List, ◌++◌, length, map, Option, Some, None, slice_index_or}
 use Rattle.std.specs.List.{All, AllByRecursion, list_any}
 use Rattle.std.specs.List.Sorted.{IsStrictlyIncreasing}
 use Rattle.geo_exact.specs.declared.corner.Corner.{Corner}
 use Rattle.geo_exact.specs.Point.{Point}
 use Rattle.geo_exact.specs.Bounds.{HoldsCorner, IsLeastBox}
-use Rattle.geo_exact.specs.Layers.{NumberedRing}
+use Rattle.geo_exact.specs.Layers.{NumberedRing, numbered}
+use Rattle.ring_core.specs.declared.shape.Shape.{Shape}
 use Rattle.cell_index.specs.Cells.{Grid, Indexes}
 use Rattle.parcel_table.specs.declared.parcels.Parcel.{Parcel}
 use Rattle.parcel_table.specs.Table.{rows_of_keyed, entries_of}
 use Rattle.fabric_core.specs.Tiling.{corner_lists, IsWoundAtMostOnce}
-use Rattle.ring_edits.specs.Edits.{CoversAlike}
+use Rattle.ring_edits.specs.Edits.{CoversAlike, has_edge_between, with_corner}
 use Rattle.fabric_core.specs.Rows.{numbers, Tiles}
 use Rattle.fabric_core.specs.Limits.{AreWithinLimits}
 use Rattle.fabric_core.specs.Journal.{without_ids, next_after}
+use Rattle.fabric_core.specs.EditResults.{rows_with_edge}
 use Rattle.fabric_core.specs.own.Checks.{HaveEqualNets}
 
 -- what they show: their rows by ascending id, the city's ring as it was read, that ring refined, the grid index, the next id, and for each id
@@ -66,3 +68,12 @@ pub record IsKept {A : Type 0} (parcels : List (ℕ × Parcel A)) (city refined 
   pub area : IsLeastBox index.area city
   pub in_area : AllByRecursion (λ row. All (HoldsCorner index.area) row.corners) (rows_of_keyed parcels)
   pub indexed : Indexes index (entries_of parcels)
+
+-- a row after a corner is put into its ring's edge between two others, where it has that edge
+abbrev pub put_in_row : (from to at : Corner) → NumberedRing → NumberedRing
+put_in_row from to at row = if has_edge_between from to row.corners then numbered row.number (with_corner from to at row.corners) else row
+
+-- shapes of the rings that have the edge, with the corner in it
+abbrev pub AreShapesWith : {A : Type 0} → (from to at : Corner) → List NumberedRing → List (Shape A) → Type 0
+AreShapesWith from to at rows shapes =
+    map (λ shape. shape.ring.corners) shapes ≡ map (λ row. with_corner from to at row.corners) (rows_with_edge from to rows)

@@ -8,7 +8,9 @@ use Rattle.geo_exact.specs.Layers.{NumberedRing, numbered}
 use Rattle.geo_exact.specs.declared.limits.TheConstants.{LAYER_CORNERS, RING_CORNERS}
 use Rattle.ring_core.specs.declared.ring.Ring.{Ring}
 use Rattle.edge_chains.specs.Noding.{IsNoded, all_corners}
+use Rattle.ring_core.specs.declared.shape.Shape.{Shape}
 use Rattle.parcel_table.specs.declared.parcels.Parcel.{Parcel}
+use Rattle.parcel_table.specs.Table.{with_shape}
 use Rattle.fabric_core.specs.Rows.{corners_of_layer, numbers}
 
 -- the rings under the numbers at their places
@@ -48,3 +50,9 @@ most_refined = RING_CORNERS * (LAYER_CORNERS + RING_CORNERS + 1)
 pub record AreFewCorners (rings : List (List Corner)) (refined : List Corner) : Type 0 where
   pub together : length (all_corners rings) ≤ LAYER_CORNERS
   pub in_city : length refined ≤ most_refined
+
+-- the parcels, those with these ids one after the other with these shapes
+abbrev pub replaced : {A : Type 0} → List ℕ → List (Shape A) → List (ℕ × Parcel A) → List (ℕ × Parcel A)
+replaced [] shapes parcels = parcels
+replaced (id ∷ ids) [] parcels = parcels
+replaced (id ∷ ids) (shape ∷ shapes) parcels = replaced ids shapes (with_shape id shape parcels)
