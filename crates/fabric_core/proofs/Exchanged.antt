@@ -137,7 +137,7 @@ module _ {A : Type 0} where
     entries_without heres all = filter_mapped entry_of (λ entry. not (list_any (is_same_entry entry) (map entry_of heres)))
         (λ parcel. not (list_any (nat_eq parcel.1.id) (map id_of heres))) parcels (λ x h. ap not (any_same heres all x h))
 
-  simple_keyed : (parcels : List (ℕ × Parcel A)) → AreSimple (rows_of_keyed parcels)
+  pub simple_keyed : (parcels : List (ℕ × Parcel A)) → AreSimple (rows_of_keyed parcels)
   simple_keyed [] = tt
   simple_keyed (parcel ∷ parcels) = (parcel.1.shape.ring.is_simple, simple_keyed parcels)
 

@@ -20,7 +20,6 @@ pub mod OneParcel
 pub mod Clipped
 pub mod Exchanged
 pub mod Exchanges
-pub mod PutIn
 pub mod FromOneCell
 pub mod Between
 pub mod RowLists
@@ -29,3 +28,4 @@ pub mod Retirements
 pub mod Neighbours
 pub mod OneRefusal
 pub mod EntryNets
+pub mod PutIn

@@ -28,7 +28,10 @@ use cell_index::{CellIndex, Entry};
 use geo_exact::{Bounds, Corner, Corners};
 use parcel_table::{Fate, Ids, Parcels, Shapes};
 use ring_core::{Ring, Shape};
-use ring_edits::{inserting_covers_alike, inserting_keeps_the_least_box, put_into};
+use ring_edits::{
+    inserting_covers_alike, inserting_keeps_the_least_box, inserting_keeps_where_a_ring_begins,
+    put_into,
+};
 use std::alloc::{AllocError, Allocator};
 use std::marker::Model;
 
@@ -219,6 +222,15 @@ fn entry_of<A: Allocator>(parcels: &Parcels<A>, id: u64) -> Entry
     }
 }
 
+/// Exchanges a ring for another, where there is one.
+fn change_ring<A: Allocator>(ring: &mut Corners<A>, other: Option<Corners<A>>)
+    ensures { (expected : List Corner) → MatchOption other (ring.old ≡ expected) (λ new. new ≡ expected) → ring.new ≡ expected }
+{
+    if let Some(new) = other {
+        *ring = new;
+    }
+}
+
 /// Exchanges the shapes of parcels, whose ids and keys stay.
 fn replace_all<A: Allocator>(parcels: &mut Parcels<A>, ids: &[u64], shapes: Vec<Shape<A>, A>)
     requires same_length { length ids.now ≡ length shapes.items }
@@ -347,6 +359,7 @@ impl<'a, H: Allocator> Tiled<'a, H> {
         ids: &[u64],
         shapes: Vec<Shape<&'a H>, &'a H>,
     ) -> Result<(), AllocError>
+        requires two_ends { edge.0 ≢ edge.1 }
         requires ids { ids.now ≡ numbers (rows_with_edge edge.0 edge.1 self.old.rows) }
         requires shapes { AreShapesWith edge.0 edge.1 at self.old.rows shapes.items }
         requires between { IsStrictlyInside at edge.0 edge.1 }
@@ -361,11 +374,10 @@ impl<'a, H: Allocator> Tiled<'a, H> {
         self.parcels.stand_apart();
         inserting_covers_alike();
         inserting_keeps_the_least_box();
+        inserting_keeps_where_a_ring_begins();
         let with_it = put_into(self.parcels.allocator(), self.refined.as_slice(), from, to, at)?;
         replace_all(&mut self.parcels, ids, shapes);
-        if let Some(refined) = with_it {
-            self.refined = refined;
-        }
+        change_ring(&mut self.refined, with_it);
         self.parcels.stand_apart();
         Ok(())
     }
