@@ -18,5 +18,6 @@ pub mod Sides
 pub mod Located
 pub mod OneParcel
 pub mod Clipped
+pub mod Exchanged
 pub mod FromOneCell
 pub mod Between

@@ -1,6 +1,6 @@
 -- A tiling: rows that cover a city and nothing else, without a gap, an overlap or a tolerance (this product's own; interiors and winding numbers are those
 -- of OGC 06-103r4, 6.1.11, Polygon). It is said of all rational points that lie on no edge; a row is a parcel's ring under the parcel's number.
-use Rattle.std.specs.Prelude.{◌≡◌, ◌↔◌, pos, ◌≤ℤ◌, List, ◌∷◌, ◌++◌, map}
+use Rattle.std.specs.Prelude.{◌≡◌, pos, ◌≤ℤ◌, List, ◌∷◌, ◌++◌, map}
 use Rattle.std.specs.List.{AllByRecursion}
 use Rattle.geo_exact.specs.declared.corner.Corner.{Corner}
 use Rattle.geo_exact.specs.Point.{Point}
@@ -43,9 +43,3 @@ pub record IsTiling (rows : List NumberedRing) (city : List Corner) : Type 0 whe
 -- the ring goes round p once or not at all
 abbrev pub IsWoundAtMostOnce : Point → List Corner → Type 0
 IsWoundAtMostOnce p ring = (pos 0 ≤ℤ winding p ring) × (winding p ring ≤ℤ pos 1)
-
--- another ring has the same ground: its winding number round every point, its boundary and its area
-pub record HasSameGround (ring other : List Corner) : Type 0 where
-  pub windings : (p : Point) → winding p other ≡ winding p ring
-  pub boundary : (p : Point) → IsOnRing p other ↔ IsOnRing p ring
-  pub area : area2 other ≡ area2 ring

@@ -6,7 +6,8 @@ ghost use Rattle.geo_exact.specs.Point.{corner_point};
 ghost use Rattle.geo_exact.specs.Bounds.{HoldsCorner, IsLeastBox};
 ghost use Rattle.geo_exact.specs.Interiors.{InteriorsMeet};
 ghost use Rattle.geo_exact.specs.Layers.{NumberedRing, numbered};
-ghost use Rattle.fabric_core.specs.Tiling.{IsTiling, HasSameGround};
+ghost use Rattle.fabric_core.specs.Tiling.{IsTiling};
+ghost use Rattle.ring_edits.specs.Edits.{CoversAlike};
 ghost use Rattle.fabric_core.specs.Rows.{numbers};
 ghost use Rattle.fabric_core.specs.Limits.{AreWithinLimits};
 ghost use Rattle.fabric_core.specs.GridIndex.{IsIndexed, IsCandidate};
@@ -81,7 +82,7 @@ impl<'a, H: Allocator> Tiled<'a, H> {
         ensures tiling { IsTiling self.now.rows self.now.city }
         ensures within { AreWithinLimits self.now.rows }
         ensures indexed { IsIndexed self.now.rows self.now.city self.now.index }
-        ensures ground { HasSameGround self.now.city self.now.refined }
+        ensures ground { CoversAlike self.now.city self.now.refined }
     {
         let _ = &self.city;
     }

@@ -9,7 +9,8 @@ use Rattle.geo_exact.specs.Layers.{NumberedRing}
 use Rattle.cell_index.specs.Cells.{Grid, Indexes}
 use Rattle.parcel_table.specs.declared.parcels.Parcel.{Parcel}
 use Rattle.parcel_table.specs.Table.{rows_of_keyed, entries_of}
-use Rattle.fabric_core.specs.Tiling.{corner_lists, IsWoundAtMostOnce, HasSameGround}
+use Rattle.fabric_core.specs.Tiling.{corner_lists, IsWoundAtMostOnce}
+use Rattle.ring_edits.specs.Edits.{CoversAlike}
 use Rattle.fabric_core.specs.Rows.{numbers}
 use Rattle.fabric_core.specs.Limits.{AreWithinLimits}
 use Rattle.fabric_core.specs.own.Checks.{HaveEqualNets}
@@ -29,7 +30,7 @@ pub record IsKept {A : Type 0} (parcels : List (ℕ × Parcel A)) (city refined 
   pub within : AreWithinLimits (rows_of_keyed parcels)
   pub nets : HaveEqualNets (corner_lists (rows_of_keyed parcels)) refined
   pub wound_once : (p : Point) → IsWoundAtMostOnce p city
-  pub ground : HasSameGround city refined
+  pub ground : CoversAlike city refined
   pub area : IsLeastBox index.area city
   pub in_area : AllByRecursion (λ row. All (HoldsCorner index.area) row.corners) (rows_of_keyed parcels)
   pub indexed : Indexes index (entries_of parcels)

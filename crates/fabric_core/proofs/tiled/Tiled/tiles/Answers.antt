@@ -1,5 +1,6 @@
 use Rattle.std.proofs.Common.{subst}
-use Rattle.fabric_core.specs.Tiling.{IsTiling, HasSameGround}
+use Rattle.fabric_core.specs.Tiling.{IsTiling}
+use Rattle.ring_edits.specs.Edits.{CoversAlike}
 use Rattle.fabric_core.specs.Limits.{AreWithinLimits}
 use Rattle.fabric_core.specs.GridIndex.{IsIndexed}
 use Rattle.fabric_core.specs.own.Kept.{Kept}
@@ -20,4 +21,4 @@ returns-clause-indexed g c =
     (is_indexed c.self.inside.parcels.parcels c.self.inside.city c.self.inside.refined c.self.inside.index c.self.invariant)
 
 pub returns-clause-ground : goal.returns-clause-ground
-returns-clause-ground g c = subst (λ (t : Kept). HasSameGround t.city t.refined) c.self.view_is c.self.invariant.ground
+returns-clause-ground g c = subst (λ (t : Kept). CoversAlike t.city t.refined) c.self.view_is c.self.invariant.ground
