@@ -84,7 +84,7 @@ impl<'a, H: Allocator> Tiled<'a, H> {
         ensures indexed { IsIndexed self.now.rows self.now.city self.now.index }
         ensures ground { CoversAlike self.now.city self.now.refined }
     {
-        let _ = &self.city;
+        self.parcels.have_own_keys();
     }
 
     /// The parcels' ids, ascending.

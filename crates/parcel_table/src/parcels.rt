@@ -2,7 +2,8 @@ ghost use Rattle.std.specs.Prelude.{◌≡◌, ◌≢◌, ◌+◌, ◌<◌, ◌�
 ghost use Rattle.std.specs.List.{Contains};
 ghost use Rattle.ring_core.specs.declared.shape.Shape.{Shape as ShapeValue};
 ghost use Rattle.parcel_table.specs.declared.parcels.Parcel.{Parcel as ParcelValue};
-ghost use Rattle.parcel_table.specs.Table.{ids_of, shapes_of};
+ghost use Rattle.cell_index.specs.Cells.{HaveOwnKeys};
+ghost use Rattle.parcel_table.specs.Table.{ids_of, shapes_of, entries_of};
 ghost use Rattle.parcel_table.specs.own.Places.{parcel_at};
 
 use crate::iter::{Ids, Shapes};
@@ -111,6 +112,13 @@ impl<A: Allocator> Parcels<A> {
         ensures { result ≡ length self.now.parcels }
     {
         self.slab.len()
+    }
+
+    /// No two parcels have one key.
+    pub fn have_own_keys(&self)
+        ensures { HaveOwnKeys (entries_of self.now.parcels) }
+    {
+        let _ = &self.slab;
     }
 
     /// The parcel under this key.
