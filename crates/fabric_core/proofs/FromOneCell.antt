@@ -1,27 +1,27 @@
 -- What lies at a corner is found among the parcels whose boxes stand in its cell.
-use Rattle.std.proofs.Common.{true, false, ◌≡◌, ◌⊎◌, inl, inr, ⊎_elim, refl, sym, ◌∙◌, ap, subst, arith, ℕ, zero, suc, ◌+◌, ◌<◌, ◌≤◌, Bool, List, [], ◌∷◌, length, drop, get_or, cond, IsTrue, Option, Some, None, MatchOption}
+use Rattle.std.proofs.Common.{true, false, ◌≡◌, ◌⊎◌, inl, inr, ⊎_elim, refl, sym, ◌∙◌, ap, subst, arith, ℕ, zero, suc, ◌+◌, ◌<◌, ◌≤◌, Bool, List, [], ◌∷◌, ◌++◌, not, length, drop, get_or, cond, IsTrue, Option, Some, None, MatchOption}
 use Rattle.std.specs.List.{All, AllByRecursion, Contains, filter}
-use Rattle.std.specs.List.Sorted.{IsStrictlyIncreasing}
 use Rattle.std.proofs.lemmas.Int.{ints, by_lt_z}
-use Rattle.std.proofs.lemmas.List.Kept.{AllPairs-from_increasing}
+use Rattle.std.proofs.lemmas.List.Elements.{Contains-append_left, Contains-append_right, Contains-append_cases}
 use Rattle.geo_exact.specs.declared.bounds.Bounds.{Bounds}
 use Rattle.geo_exact.specs.declared.corner.Corner.{Corner}
 use Rattle.geo_exact.specs.Bounds.{HoldsCorner, IsBeyondBox, holds_corner}
+use Rattle.geo_exact.specs.declared.limits.TheConstants.{RING_CORNERS}
 use Rattle.geo_exact.specs.Layers.{NumberedRing, numbered}
 use Rattle.geo_exact.specs.Point.{Point, corner_point}
 use Rattle.geo_exact.specs.Turn.{IsOnRing}
 use Rattle.geo_exact.specs.Winding.{IsInterior}
 use Rattle.geo_exact.proofs.InBoxes.{Decides-holds_corner}
 use Rattle.cell_index.specs.declared.entry.Entry.{Entry}
-use Rattle.cell_index.specs.Cells.{stands_at}
+use Rattle.cell_index.specs.Cells.{is_wide, wide, narrow, stands_at}
+use Rattle.cell_index.proofs.Members.{filtered, from_filtered, mapped, from_mapped}
 use Rattle.cell_index.proofs.Searches.{off_ring, off_what_stands_elsewhere}
 use Rattle.edge_chains.proofs.NodedEdges.{none_in_nil, Contains-cases, Contains-here, Contains-there}
 use Rattle.parcel_table.specs.declared.parcels.Parcel.{Parcel}
 use Rattle.fabric_core.specs.Locate.{IsOnEdgeOf, IsInsideOf, AreAllOnEdge}
-use Rattle.fabric_core.specs.Rows.{numbers}
 use Rattle.fabric_core.specs.own.Sides.{IsFound}
 use Rattle.parcel_table.specs.Table.{rows_of_keyed, entries_of}
-use Rattle.fabric_core.proofs.Located.{Ascend}
+use Rattle.parcel_table.proofs.Tables.{row_of_parcel}
 use Rattle.fabric_core.proofs.OneParcel.{of_each}
 
 -- neither on an edge nor inside
@@ -77,69 +77,46 @@ module _ {A : Type 0} (keep : ℕ × Parcel A → Bool) where
       by_test true t (inr c) later = ⊎_elim (λ l. inl (Contains-there (row_of x) (rows_of_keyed (filter keep all)) row l)) (λ q. inr q) (later c)
       by_test false t (inr c) later = later c
 
-  -- what is found among those that are kept is found among all, where the others are off
-  pub found_in_all : (p : Point) (all : List (ℕ × Parcel A)) (on_edge : List ℕ) (inside : Option ℕ)
-      → ((x : ℕ × Parcel A) → keep x ≡ false → IsOff p x.1.shape.ring.corners)
-      → IsFound (rows_of_keyed (filter keep all)) p on_edge inside → IsFound (rows_of_keyed all) p on_edge inside
-  found_in_all p all on_edge inside off h = record {
-    are_all = record {
-      ascend = h.are_all.ascend;
-      exactly = λ id. (λ c. lifted id ((h.are_all.exactly id).0 c), λ on. (h.are_all.exactly id).1 (lowered id on));
-    };
-    is_inside = both inside h.is_inside;
-  }
-    where
-      lifted : (id : ℕ) → IsOnEdgeOf (rows_of_keyed (filter keep all)) p id → IsOnEdgeOf (rows_of_keyed all) p id
-      lifted id e = record { row = e.row; is_row = kept_row all e.row e.is_row; has_id = e.has_id; is_on_edge = e.is_on_edge }
-
-      lowered : (id : ℕ) → IsOnEdgeOf (rows_of_keyed all) p id → IsOnEdgeOf (rows_of_keyed (filter keep all)) p id
-      lowered id e = ⊎_elim
-          (λ kept. record { row = e.row; is_row = kept; has_id = e.has_id; is_on_edge = e.is_on_edge })
-          (λ out. absurd (out e.is_on_edge))
-          (kept_or (λ row. ¬ IsOnRing p row.corners) all e.row (λ x t. (off x t).0) e.is_row)
-
-      both : (inside : Option ℕ) → MatchOption inside ((id : ℕ) → ¬ IsInsideOf (rows_of_keyed (filter keep all)) p id) (IsInsideOf
-          (rows_of_keyed (filter keep all)) p) → MatchOption inside ((id : ℕ) → ¬ IsInsideOf (rows_of_keyed all) p id) (IsInsideOf (rows_of_keyed all) p)
-      both None none = λ id i. ⊎_elim
-          (λ kept. none id (record { row = i.row; is_row = kept; has_id = i.has_id; is_inside = i.is_inside }))
-          (λ out. out i.is_inside)
-          (kept_or (λ row. ¬ IsInterior p row.corners) all i.row (λ x t. (off x t).1) i.is_row)
-      both (Some id) i = record { row = i.row; is_row = kept_row all i.row i.is_row; has_id = i.has_id; is_inside = i.is_inside }
-
-  all_kept : (P : NumberedRing → Type 0) (all : List (ℕ × Parcel A)) → AllByRecursion P (rows_of_keyed all)
-      → AllByRecursion P (rows_of_keyed (filter keep all))
-  all_kept P [] h = tt
-  all_kept P (x ∷ all) h = by_test (keep x) (all_kept P all h.1)
-    where
-      by_test : (b : Bool) → AllByRecursion P (rows_of_keyed (filter keep all))
-          → AllByRecursion P (rows_of_keyed (cond b (x ∷ filter keep all) (filter keep all)))
-      by_test true later = (h.0, later)
-      by_test false later = later
-
-  pub ascend_kept : (all : List (ℕ × Parcel A)) → Ascend (rows_of_keyed all) → Ascend (rows_of_keyed (filter keep all))
-  ascend_kept [] up = tt
-  ascend_kept (x ∷ all) up = by_test (keep x) (ascend_kept all up.1)
-    where
-      by_test : (b : Bool) → Ascend (rows_of_keyed (filter keep all)) → Ascend (rows_of_keyed (cond b (x ∷ filter keep all) (filter keep all)))
-      by_test true later = (all_kept (λ row. x.1.id < row.number) all up.0, later)
-      by_test false later = later
-
--- rows with rising numbers ascend
-pub ascending : (rows : List NumberedRing) → IsStrictlyIncreasing (numbers rows) → Ascend rows
-ascending rows up = from rows (λ i j l m. AllPairs-from_increasing (numbers rows) up i j 0 l m)
+-- each row is that of a parcel that is kept, or of one that is not
+pub parted : {A : Type 0} (keep other : ℕ × Parcel A → Bool) (all : List (ℕ × Parcel A)) (row : NumberedRing)
+    → ((x : ℕ × Parcel A) → (keep x ≡ true) ⊎ (other x ≡ true)) → Contains (rows_of_keyed all) row
+    → Contains (rows_of_keyed (filter keep all)) row ⊎ Contains (rows_of_keyed (filter other all)) row
+parted {A = A} keep other all row either c =
+    let w = from_mapped (λ x. numbered x.1.id x.1.shape.ring.corners) all row c in
+    ⊎_elim (λ t. inl (kept_here keep w.0 w.1 w.2 t)) (λ t. inr (kept_here other w.0 w.1 w.2 t)) (either w.0)
   where
-    heads : (n : ℕ) (rows : List NumberedRing) → ((j : ℕ) → j < length (numbers rows) → n < get_or (numbers rows) j 0)
-        → AllByRecursion (λ later. n < later.number) rows
-    heads n [] h = tt
-    heads n (row ∷ rows) h = (h 0 (omega arith), heads n rows (λ j l. h (suc j) (omega (arith, l))))
+    kept_here : (test : ℕ × Parcel A → Bool) (x : ℕ × Parcel A) → Contains all x → numbered x.1.id x.1.shape.ring.corners ≡ row → test x ≡ true
+        → Contains (rows_of_keyed (filter test all)) row
+    kept_here test x there is t =
+        subst (Contains (rows_of_keyed (filter test all))) is
+        (mapped (λ y. numbered y.1.id y.1.shape.ring.corners) (filter test all) x (filtered test all x there t))
 
-    from : (rows : List NumberedRing) → ((i j : ℕ) → i < j → j < length (numbers rows) → get_or (numbers rows) i 0 < get_or (numbers rows) j 0)
-        → Ascend rows
-    from [] h = tt
-    from (row ∷ rows) h = (
-      heads row.number rows (λ j l. h 0 (suc j) (omega arith) (omega (arith, l))),
-      from rows (λ i j l m. h (suc i) (suc j) (omega (arith, l)) (omega (arith, m))),
-    )
+-- what is found among some rows is found among all, where the others are off
+pub found_in_all : (p : Point) (some all : List NumberedRing) (on_edge : List ℕ) (inside : Option ℕ)
+    → ((row : NumberedRing) → Contains some row → Contains all row)
+    → ((row : NumberedRing) → Contains all row → Contains some row ⊎ IsOff p row.corners)
+    → IsFound some p on_edge inside → IsFound all p on_edge inside
+found_in_all p some all on_edge inside among off h = record {
+  exactly = λ id. (λ c. lifted id ((h.exactly id).0 c), λ on. (h.exactly id).1 (lowered id on));
+  is_inside = both inside h.is_inside;
+}
+  where
+    lifted : (id : ℕ) → IsOnEdgeOf some p id → IsOnEdgeOf all p id
+    lifted id e = record { row = e.row; is_row = among e.row e.is_row; has_id = e.has_id; is_on_edge = e.is_on_edge }
+
+    lowered : (id : ℕ) → IsOnEdgeOf all p id → IsOnEdgeOf some p id
+    lowered id e = ⊎_elim
+        (λ kept. record { row = e.row; is_row = kept; has_id = e.has_id; is_on_edge = e.is_on_edge })
+        (λ out. absurd (out.0 e.is_on_edge))
+        (off e.row e.is_row)
+
+    both : (inside : Option ℕ) → MatchOption inside ((id : ℕ) → ¬ IsInsideOf some p id) (IsInsideOf some p)
+        → MatchOption inside ((id : ℕ) → ¬ IsInsideOf all p id) (IsInsideOf all p)
+    both None none = λ id i. ⊎_elim
+        (λ kept. none id (record { row = i.row; is_row = kept; has_id = i.has_id; is_inside = i.is_inside }))
+        (λ out. out.1 i.is_inside)
+        (off i.row i.is_row)
+    both (Some id) i = record { row = i.row; is_row = among i.row i.is_row; has_id = i.has_id; is_inside = i.is_inside }
 
 -- ---- where nothing lies
 pub nothing_at : (p : Point) (rows : List NumberedRing) → ((row : NumberedRing) → Contains rows row → IsOff p row.corners)
@@ -236,3 +213,73 @@ module _ {A : Type 0} (stands : Bounds → Bool) where
           ≡ entries_of (cond b (x ∷ filter (λ parcel. stands parcel.1.shape.bounds) all) (filter (λ parcel. stands parcel.1.shape.bounds) all))
       by_test true e = ap (λ entries. record { key = x.0; bounds = x.1.shape.bounds } ∷ entries) e
       by_test false e = e
+
+-- ---- the parcels of a cell's entries and those beside the cells
+module _ {A : Type 0} (area : Bounds) (corner : Corner) (all : List (ℕ × Parcel A)) where
+  abbrev wide_parcel : ℕ × Parcel A → Bool
+  wide_parcel x = is_wide area x.1.shape.bounds
+
+  abbrev stands_there : ℕ × Parcel A → Bool
+  stands_there x = stands_at area corner x.1.shape.bounds
+
+  abbrev pub in_cell : List (ℕ × Parcel A)
+  in_cell = filter stands_there (filter (λ x. not (wide_parcel x)) all)
+
+  abbrev pub beside_cells : List (ℕ × Parcel A)
+  beside_cells = filter wide_parcel all
+
+  pub entries_in_cell : filter (λ entry. stands_at area corner entry.bounds) (narrow area (entries_of all)) ≡ entries_of in_cell
+  entries_in_cell =
+      ap (filter (λ entry. stands_at area corner entry.bounds)) (entries_kept (λ box. not (is_wide area box)) all)
+      ∙ entries_kept (stands_at area corner) (filter (λ x. not (wide_parcel x)) all)
+
+  pub entries_beside : wide area (entries_of all) ≡ entries_of beside_cells
+  entries_beside = entries_kept (is_wide area) all
+
+  pub in_cell_among : (x : ℕ × Parcel A) → Contains in_cell x → Contains all x
+  in_cell_among x c =
+      (from_filtered (λ y. not (wide_parcel y)) all x (from_filtered stands_there (filter (λ y. not (wide_parcel y)) all) x c).0).0
+
+  pub beside_among : (x : ℕ × Parcel A) → Contains beside_cells x → Contains all x
+  beside_among x c = (from_filtered wide_parcel all x c).0
+
+  abbrev pub searched_rows : List NumberedRing
+  searched_rows = rows_of_keyed in_cell ++ rows_of_keyed beside_cells
+
+  one_or_other : (x : ℕ × Parcel A) → (not (wide_parcel x) ≡ true) ⊎ (wide_parcel x ≡ true)
+  one_or_other x = by_test (wide_parcel x)
+    where
+      by_test : (b : Bool) → (not b ≡ true) ⊎ (b ≡ true)
+      by_test true = inr refl
+      by_test false = inl refl
+
+  pub all_located : (on_edge : List ℕ) (inside : Option ℕ) → IsFound searched_rows (corner_point corner) on_edge inside
+      → IsFound (rows_of_keyed all) (corner_point corner) on_edge inside
+  all_located on_edge inside h =
+      found_in_all (corner_point corner) searched_rows (rows_of_keyed all) on_edge inside
+      (λ row c. ⊎_elim
+      (λ left. kept_row (λ x. not (wide_parcel x)) all row (kept_row stands_there (filter (λ x. not (wide_parcel x)) all) row left))
+      (λ right. kept_row wide_parcel all row right)
+      (Contains-append_cases (rows_of_keyed in_cell) (rows_of_keyed beside_cells) row c))
+      (λ row c. ⊎_elim
+      (λ thin. ⊎_elim
+      (λ here. inl (Contains-append_left (rows_of_keyed in_cell) (rows_of_keyed beside_cells) row here))
+      (λ out. inr out)
+      (kept_or stands_there (λ r. IsOff (corner_point corner) r.corners) (filter (λ x. not (wide_parcel x)) all) row
+      (λ x t. off_elsewhere area corner x t) thin))
+      (λ broad. inl (Contains-append_right (rows_of_keyed in_cell) (rows_of_keyed beside_cells) row broad))
+      (parted (λ x. not (wide_parcel x)) wide_parcel all row one_or_other c))
+      h
+
+-- what a search asks of its entries
+pub searchable : {A : Type 0} (all some : List (ℕ × Parcel A)) → AllByRecursion (λ row. length row.corners ≤ RING_CORNERS) (rows_of_keyed all)
+    → ((x : ℕ × Parcel A) → Contains some x → Contains all x) → (entry : Entry) → Contains (entries_of some) entry
+    → (parcel : Parcel A) × Contains all (entry.key, parcel) × (length parcel.shape.ring.corners ≤ RING_CORNERS)
+searchable {A = A} all some short among entry there =
+    let w = from_mapped (λ (x : ℕ × Parcel A). record { key = x.0; bounds = x.1.shape.bounds }) some entry there in
+    let parcel : Contains all (entry.key, w.0.1) = subst (λ (k : ℕ). Contains all (k, w.0.1)) (ap (λ (e : Entry). e.key) w.2) (among w.0 w.1) in (
+      w.0.1,
+      parcel,
+      of_each (λ row. length row.corners ≤ RING_CORNERS) (rows_of_keyed all) (numbered w.0.1.id w.0.1.shape.ring.corners) short
+          (row_of_parcel all entry.key w.0.1 parcel),
+    )

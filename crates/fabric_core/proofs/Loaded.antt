@@ -17,7 +17,7 @@ use Rattle.parcel_table.specs.Table.{rows_of_keyed, entries_of}
 use Rattle.std.specs.List.{All, AllZip, AllByRecursion}
 use Rattle.geo_exact.specs.declared.bounds.Bounds.{Bounds}
 use Rattle.geo_exact.specs.Bounds.{HoldsCorner, IsLeastBox}
-use Rattle.cell_index.specs.Cells.{Grid, Indexes}
+use Rattle.cell_index.specs.Cells.{Grid, Indexes, HaveOwnKeys}
 use Rattle.fabric_core.specs.GridIndex.{IsIndexed}
 use Rattle.fabric_core.proofs.InTheCity.{rows_in_box}
 use Rattle.fabric_core.proofs.Lists.{numbers_of_rows, lists_of_rows}
@@ -44,11 +44,12 @@ boxes_of_rows [] = tt
 boxes_of_rows (parcel ∷ parcels) = (parcel.1.shape.least_box, boxes_of_rows parcels)
 
 pub is_indexed : {A : Type 0} (parcels : List (ℕ × Parcel A)) (city refined : List Corner) (index : Grid) → IsKept parcels city refined index
-    → IsIndexed (rows_of_keyed parcels) city index
-is_indexed parcels city refined index h = record {
+    → HaveOwnKeys (entries_of parcels) → IsIndexed (rows_of_keyed parcels) city index
+is_indexed parcels city refined index h own = record {
   area = h.area;
   entries = entries_of parcels;
   have_their_boxes = boxes_of_rows parcels;
+  have_own_keys = own;
   stand = h.indexed;
 }
 

@@ -1,7 +1,8 @@
 -- How a place lies to a ring, edge after edge.
 use Rattle.std.proofs.Common.{◌≡◌, ◌↔◌, inl, inr, ⊎_elim, refl, sym, ap, subst, [], ◌∷◌, arith, true, false, ℕ, ◌+◌, ◌<◌, ◌≤◌, List, length, drop, get_or, FitsSigned, to_z, of_z}
 use Rattle.std.specs.Int.{w128, w64}
-use Rattle.std.proofs.lemmas.Int.{ints, to_z-of_z}
+use Rattle.std.specs.Int.{int_min, int_max}
+use Rattle.std.proofs.lemmas.Int.{ints, clamps, to_z-of_z}
 use Rattle.std.proofs.lemmas.List.{drop_all}
 use lib.IntN.{ℤ, pos, negsuc}
 use lib.Signed.{◌≤ℤ◌, ◌<ℤ◌, le_z, lt_z}
@@ -38,6 +39,21 @@ none_below a b p h k = rw (not_above a p h, not_above b p k) refl
 
 pub none_above : (a b p : Corner) → p.y <ℤ a.y → p.y <ℤ b.y → crossing (corner_point p) a b ≡ pos 0
 none_above a b p h k = rw (above a p h, above b p k) refl
+
+-- an edge wholly below or wholly above has the place not on it
+pub off_below : (a b p : Corner) → a.y <ℤ p.y → b.y <ℤ p.y → ¬ IsOnEdge (corner_point p) a b
+off_below a b p h k on = omega (arith, ints, clamps, h, k, times_one (int_max a.y b.y), on.to_y)
+
+pub off_above : (a b p : Corner) → p.y <ℤ a.y → p.y <ℤ b.y → ¬ IsOnEdge (corner_point p) a b
+off_above a b p h k on = omega (arith, ints, clamps, h, k, times_one (int_min a.y b.y), on.from_y)
+
+pub passed_below : (a b p : Corner) → a.y <ℤ p.y → b.y <ℤ p.y
+    → (¬ IsOnEdge (corner_point p) a b) × (crossing (corner_point p) a b ≡ pos 0)
+passed_below a b p h k = (off_below a b p h k, none_below a b p (omega (arith, ints, h)) (omega (arith, ints, k)))
+
+pub passed_above : (a b p : Corner) → p.y <ℤ a.y → p.y <ℤ b.y
+    → (¬ IsOnEdge (corner_point p) a b) × (crossing (corner_point p) a b ≡ pos 0)
+passed_above a b p h k = (off_above a b p h k, none_above a b p h k)
 
 pub upward : (a b p : Corner) → a.y ≤ℤ p.y → p.y <ℤ b.y → pos 0 <ℤ turn a b p → crossing (corner_point p) a b ≡ pos 1
 upward a b p h k l = rw (not_above a p h, above b p k, turn_at_corner a b p, lt_is (pos 0) (turn a b p) l) refl
@@ -94,6 +110,12 @@ at_most u v s t h =
 
 pub not_at_most : (u v : ℤ) → IsWithin limit u → IsWithin limit v → le_z (to_z w64 (of_z w64 u)) (to_z w64 (of_z w64 v)) ≡ false → v <ℤ u
 not_at_most u v s t h =
+    let x : FitsSigned w64 u = omega (arith, ints) in
+    let y : FitsSigned w64 v = omega (arith, ints) in
+    let e = simp to_z-of_z at h in grind (arith, ints)
+
+pub is_less : (u v : ℤ) → IsWithin limit u → IsWithin limit v → lt_z (to_z w64 (of_z w64 u)) (to_z w64 (of_z w64 v)) ≡ true → u <ℤ v
+is_less u v s t h =
     let x : FitsSigned w64 u = omega (arith, ints) in
     let y : FitsSigned w64 v = omega (arith, ints) in
     let e = simp to_z-of_z at h in grind (arith, ints)

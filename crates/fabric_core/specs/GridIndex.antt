@@ -6,13 +6,15 @@ use Rattle.geo_exact.specs.declared.corner.Corner.{Corner}
 use Rattle.geo_exact.specs.Bounds.{IsLeastBox}
 use Rattle.geo_exact.specs.Layers.{NumberedRing}
 use Rattle.cell_index.specs.declared.entry.Entry.{Entry}
-use Rattle.cell_index.specs.Cells.{Grid, Indexes, StandsBetween}
+use Rattle.cell_index.specs.Cells.{Grid, Indexes, HaveOwnKeys, StandsBetween}
 
--- The index agrees with the rows: its area is the city's least box, and in its cells stand exactly the rows, each in those of its least box.
+-- The index agrees with the rows: its area is the city's least box, and in its cells stand exactly the rows, each in those of its least box
+-- and under a key of its own.
 pub record IsIndexed (rows : List NumberedRing) (city : List Corner) (index : Grid) : Type 0 where
   pub area : IsLeastBox index.area city
   pub entries : List Entry
   pub have_their_boxes : AllZip (λ row entry. IsLeastBox entry.bounds row.corners) rows entries
+  pub have_own_keys : HaveOwnKeys entries
   pub stand : Indexes index entries
 
 -- the parcel with this id stands, by its least box, in some cell between those of two corners, in the grid over the city's least box

@@ -1,6 +1,7 @@
-ghost use Rattle.std.specs.Prelude.{◌≡◌, ◌≤◌, length};
+ghost use Rattle.std.specs.Prelude.{◌≡◌, ◌≤◌, length, pos, IsTrue};
 ghost use Rattle.geo_exact.specs.Limit.{IsWithin};
 ghost use Rattle.geo_exact.specs.Point.{corner_point};
+ghost use Rattle.geo_exact.specs.Turn.{IsOnEdge};
 ghost use Rattle.geo_exact.specs.Winding.{crossing as crossing_of};
 ghost use Rattle.geo_exact.specs.declared.limits.TheConstants.{RING_CORNERS};
 ghost use Rattle.fabric_core.specs.own.Sides.{IsSide};
@@ -36,6 +37,17 @@ fn crossing(from: Corner, to: Corner, place: Corner) -> i64
     }
 }
 
+/// Whether an edge lies wholly below a place or wholly above it, as most edges of a ring do.
+fn is_passed(from: Corner, to: Corner, place: Corner) -> bool
+    ensures { IsTrue result → (¬ IsOnEdge (corner_point place) from to) × (crossing_of (corner_point place) from to ≡ pos 0) }
+{
+    if from.y < place.y {
+        to.y < place.y
+    } else {
+        from.y > place.y && to.y > place.y
+    }
+}
+
 /// How a place lies to a ring, by the winding number.
 pub(crate) fn side_of(ring: &[Corner], place: Corner) -> Side
     requires { length ring.now ≤ RING_CORNERS }
@@ -48,6 +60,10 @@ pub(crate) fn side_of(ring: &[Corner], place: Corner) -> Side
     let mut from = first;
     let mut sum = 0i64;
     for to in rest {
+        if is_passed(from, *to, place) {
+            from = *to;
+            continue;
+        }
         if on_segment(from, *to, place) {
             return Side::OnEdge;
         }

@@ -22,9 +22,14 @@ ghost use Rattle.parcel_table.specs.Table.{HasId};
 
 use crate::candidates::{ids_under, sort_once};
 use crate::grid_index::clip_all;
+<<<<<<< HEAD
 use crate::locate::At;
 use crate::side::{Side, side_of};
 use cell_index::{CellIndex, Entry};
+=======
+use crate::locate::{At, Found, search};
+use cell_index::CellIndex;
+>>>>>>> 11fb6fb6a1044dc669a17fbbc2c4a8385d278fba
 use geo_exact::{Bounds, Corner, Corners};
 use parcel_table::{Fate, Ids, Parcels, Shapes};
 use ring_core::{Ring, Shape};
@@ -96,7 +101,7 @@ impl<'a, H: Allocator> Tiled<'a, H> {
         ensures indexed { IsIndexed self.now.rows self.now.city self.now.index }
         ensures ground { CoversAlike self.now.city self.now.refined }
     {
-        let _ = &self.city;
+        self.parcels.have_own_keys();
     }
 
     /// The allocator of all that is kept.
@@ -149,27 +154,10 @@ impl<'a, H: Allocator> Tiled<'a, H> {
         if !self.index.area().holds(corner) {
             return Ok(At::Outside);
         }
-        let mut on_edge = Vec::new(self.parcels.allocator());
-        let mut inside = None;
-        let entries = self.index.at(corner);
-        for entry in entries {
-            if !entry.bounds.holds(corner) {
-                continue;
-            }
-            let parcel = self.parcels.at(entry.key);
-            match side_of(parcel.shape.ring.corners.as_slice(), corner) {
-                Side::OnEdge => on_edge.push(parcel.id)?,
-                Side::Inside => inside = Some(parcel.id),
-                Side::Outside => {}
-            }
-        }
-        if !on_edge.is_empty() {
-            return Ok(At::OnEdge(on_edge));
-        }
-        match inside {
-            Some(id) => Ok(At::Inside(id)),
-            None => Ok(At::Outside),
-        }
+        let mut found = Found::nothing(self.parcels.allocator());
+        search(&self.parcels, self.index.at(corner), corner, &mut found)?;
+        search(&self.parcels, self.index.beside(), corner, &mut found)?;
+        Ok(found.answer())
     }
 
     /// The ids, ascending, of the parcels that stand in some cell of the grid index between the cells of two corners.

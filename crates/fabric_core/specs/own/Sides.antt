@@ -1,11 +1,12 @@
 -- How a place lies to one ring, and to rows gone through one by one. Public contracts do not speak of it.
-use Rattle.std.specs.Prelude.{ℕ, List, Option, MatchOption}
+use Rattle.std.specs.Prelude.{◌↔◌, ℕ, List, Option, MatchOption}
+use Rattle.std.specs.List.{Contains}
 use Rattle.geo_exact.specs.declared.corner.Corner.{Corner}
 use Rattle.geo_exact.specs.Point.{Point}
 use Rattle.geo_exact.specs.Turn.{IsOnRing}
 use Rattle.geo_exact.specs.Winding.{IsInterior}
 use Rattle.geo_exact.specs.Layers.{NumberedRing}
-use Rattle.fabric_core.specs.Locate.{AreAllOnEdge, IsInsideOf}
+use Rattle.fabric_core.specs.Locate.{IsOnEdgeOf, IsInsideOf}
 use Rattle.fabric_core.specs.declared.side.Side.{Side}
 use Rattle.fabric_core.specs.declared.side.Side.TheVariants.{Inside, OnEdge, Outside}
 
@@ -17,5 +18,5 @@ IsSide p ring Outside = (¬ IsOnRing p ring) × (¬ IsInterior p ring)
 
 -- what is found out of rows: the ids of those with p on an edge, and one with p inside, where there is one
 pub record IsFound (rows : List NumberedRing) (p : Point) (on_edge : List ℕ) (inside : Option ℕ) : Type 0 where
-  pub are_all : AreAllOnEdge rows p on_edge
+  pub exactly : (id : ℕ) → Contains on_edge id ↔ IsOnEdgeOf rows p id
   pub is_inside : MatchOption inside ((id : ℕ) → ¬ IsInsideOf rows p id) (IsInsideOf rows p)

@@ -10,6 +10,21 @@ use Rattle.geo_exact.proofs.Paths.{path_sum-drop, path_sum-end}
 use Rattle.fabric_core.proofs.Sides.{path-drop, path-end, not_first}
 use Rattle.fabric_core.proofs.side.side_of.Goals as goal
 
+pub loop-to-preserved-then-is_passed : goal.loop-to-preserved-then-is_passed
+loop-to-preserved-then-is_passed c =
+    let p = corner_point c.args.place in
+    let last = c.in-Some.first.now in
+    let step = path-drop c.loop-to.from c.to-item.result last c.in-Some.rest.now c.loop-to.to-index c.loop-to-test.true c.to-item.is in
+    let summed = path_sum-drop (λ edge. crossing p edge.from edge.to) c.loop-to.from c.to-item.result last c.in-Some.rest.now
+    c.loop-to.to-index
+    c.loop-to-test.true c.to-item.is in
+    let passed = c.is_passed.ensures c.if-is_passed.true in
+    record {
+      so_far = omega (arith, ints, c.loop-to.invariant.so_far, passed.1, summed);
+      left = not_first p _ _ _ (IsOnRing p c.args.ring.now) step passed.0 c.loop-to.invariant.left;
+      bound = record { low = omega (arith, ints, c.loop-to.invariant.bound); high = omega (arith, ints, c.loop-to.invariant.bound) };
+    }
+
 pub loop-to-preserved : goal.loop-to-preserved
 loop-to-preserved c =
     let p = corner_point c.args.place in
