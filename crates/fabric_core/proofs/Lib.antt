@@ -26,3 +26,4 @@ pub mod Retirements
 pub mod Neighbours
 pub mod OneRefusal
 pub mod EntryNets
+pub mod EntryCounts
