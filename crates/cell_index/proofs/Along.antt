@@ -1,5 +1,5 @@
 -- Cells along an axis: their order, those of the area, and numbers that are capped at the grid's end.
-use Rattle.std.proofs.Common.{◌≡◌, ◌↔◌, sym, refl, ℕ, ◌+◌, ◌/◌, ◌<◌, ◌≤◌, min, arith, true, false, ℤ, ◌-ℤ◌}
+use Rattle.std.proofs.Common.{◌≡◌, ◌↔◌, sym, refl, ℕ, ◌+◌, ◌-◌, ◌/◌, ◌<◌, ◌≤◌, min, arith, true, false, ℤ, ◌-ℤ◌}
 use Rattle.std.specs.Prelude.{int_lt, unsigned_abs}
 use Rattle.std.specs.Int.{int_min, int_max}
 use Rattle.std.proofs.Math.Nat.{div-add-mod'}
@@ -15,6 +15,9 @@ use Rattle.cell_index.specs.Cells.{distance, cell_of, column, row, brought_into,
 -- numbers capped at n say the same of the numbers below n
 pub capped : (n a b f l : ℕ) → f ≡ min n a → l ≡ min n b → (i : ℕ) → i < n → ((f ≤ i) × (i ≤ l)) ↔ ((a ≤ i) × (i ≤ b))
 capped n a b f l e g i h = (λ p. (omega (arith, e, p.0), omega (arith, g, p.1)), λ p. (omega (arith, e, p.0), omega (arith, g, p.1)))
+
+pub count_capped : (n a b f l : ℕ) → f ≡ min n a → l ≡ min n b → min n (l + 1) - min n f ≡ min n (b + 1) - min n a
+count_capped n a b f l e g = omega (arith, e, g)
 
 pub under_cap : (n a f : ℕ) → f ≡ min n a → a < n → f ≡ a
 under_cap n a f e h = omega (arith, e, h)

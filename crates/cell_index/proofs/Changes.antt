@@ -1,27 +1,27 @@
--- The cells of a range are changed one after another.
+-- Cells are changed one after another.
 use Rattle.std.proofs.Common.{◌≡◌, ◌≢◌, ◌∙◌, inl, inr, sym, ap, subst, ℕ, ◌+◌, ◌<◌, ◌≤◌, arith, List, [], length, get_or, slice_set, below_more}
 use Rattle.std.proofs.lemmas.Bool.{cases_eq}
 use Rattle.std.proofs.lemmas.List.{get_or-set_same, get_or-set_other, get_or_default, get_or-map, map-set, set-get_or}
 use Rattle.smallvec.specs.SmallVec.{HasRoomFor}
-use Rattle.cell_index.specs.declared.range.CellRange.{CellRange}
-use Rattle.cell_index.specs.own.Ranges.{cell_count, number_at, Cell, no_cell, cell_at, contents, HaveRoom, KeepRoom, IsChanged}
-use Rattle.cell_index.proofs.Ranges.{one_number}
+use Rattle.cell_index.specs.declared.places.Places.{Places}
+use Rattle.cell_index.specs.own.Ranges.{place_count, place_at, Cell, no_cell, cell_at, contents, HaveRoom, KeepRoom, IsChanged}
+use Rattle.cell_index.proofs.KeptPlaces.{one_place}
 
 pub same_cell : (c d : Cell) → c.items ≡ d.items → c.capacity ≡ d.capacity → c ≡ d
 same_cell c d e f = λ i. record { items = e i; capacity = f i }
 
-module _ (range : CellRange) (n k : ℕ) (below : n < cell_count range) (is : k ≡ number_at range n) where
+module _ (places : Places) (n k : ℕ) (below : n < place_count places) (is : k ≡ place_at places n) where
   -- the cells before it have other numbers
-  other_number : (m : ℕ) → m < n → number_at range m ≢ k
+  other_number : (m : ℕ) → m < n → place_at places m ≢ k
   other_number m q e =
-      let same : m ≡ n = one_number range m n (omega (arith, q, below)) below (e ∙ is) in omega (arith, same, q)
+      let same : m ≡ n = one_place places m n (omega (arith, q, below)) below (e ∙ is) in omega (arith, same, q)
 
   -- one cell more is changed
   pub changed_more : (change : Cell → Cell) (old now : List Cell) (d made : Cell) → k < length now
-      → made ≡ change (get_or now k d) → IsChanged range n change old now → IsChanged range (n + 1) change old (slice_set now k made)
+      → made ≡ change (get_or now k d) → IsChanged places n change old now → IsChanged places (n + 1) change old (slice_set now k made)
   changed_more change old now d made inside e h = record {
-    changed = below_more (λ m. cell_at (slice_set now k made) (number_at range m) ≡ change (cell_at old (number_at range m))) n
-        (λ m q. get_or-set_other now k (number_at range m) made no_cell (other_number m q) ∙ h.changed m q)
+    changed = below_more (λ m. cell_at (slice_set now k made) (place_at places m) ≡ change (cell_at old (place_at places m))) n
+        (λ m q. get_or-set_other now k (place_at places m) made no_cell (other_number m q) ∙ h.changed m q)
         (subst (λ z. cell_at (slice_set now k made) z ≡ change (cell_at old z)) is
         (get_or-set_same now k made no_cell inside ∙ e
         ∙ ap change (get_or_default now k d no_cell inside ∙ h.others k other_number)));
@@ -31,10 +31,10 @@ module _ (range : CellRange) (n k : ℕ) (below : n < cell_count range) (is : k 
 
   -- one cell more has room, and what stands in the cells stays
   pub room_more : (count : ℕ) (now : List Cell) (made : Cell) → k < length now → HasRoomFor made count
-      → HaveRoom range n count now → HaveRoom range (n + 1) count (slice_set now k made)
+      → HaveRoom places n count now → HaveRoom places (n + 1) count (slice_set now k made)
   room_more count now made inside room h =
-      below_more (λ m. HasRoomFor (cell_at (slice_set now k made) (number_at range m)) count) n
-      (λ m q. subst (λ c. HasRoomFor c count) (sym (get_or-set_other now k (number_at range m) made no_cell (other_number m q))) (h m q))
+      below_more (λ m. HasRoomFor (cell_at (slice_set now k made) (place_at places m)) count) n
+      (λ m q. subst (λ c. HasRoomFor c count) (sym (get_or-set_other now k (place_at places m) made no_cell (other_number m q))) (h m q))
       (subst (λ z. HasRoomFor (cell_at (slice_set now k made) z) count) is
       (subst (λ c. HasRoomFor c count) (sym (get_or-set_same now k made no_cell inside)) room))
 

@@ -1,5 +1,5 @@
 -- The keys that are gathered from the cells of a range: those of all entries that stand in one of these, each from one cell.
-use Rattle.std.proofs.Common.{◌≡◌, ◌≢◌, ◌↔◌, ◌∙◌, ⊎_elim, refl, sym, ap, subst, ℕ, zero, suc, ◌+◌, ◌*◌, ◌<◌, ◌≤◌, max, arith, add-one, Bool, true, false, ◌&&◌, List, [], ◌++◌, map, get_or}
+use Rattle.std.proofs.Common.{◌≡◌, ◌≢◌, ◌↔◌, ◌∙◌, ⊎_elim, refl, sym, ap, subst, ℕ, zero, suc, ◌+◌, ◌*◌, ◌<◌, ◌≤◌, max, min, nat_lt, not, arith, add-one, Bool, true, false, ◌&&◌, List, [], ◌++◌, map, get_or}
 use Rattle.std.specs.List.{filter, Contains, AllPairs}
 use Rattle.std.proofs.lemmas.Bool.{cases_lt, false≢true}
 use Rattle.std.proofs.lemmas.Bool.Decides.{nat_tests}
@@ -10,10 +10,10 @@ use Rattle.geo_exact.specs.declared.corner.Corner.{Corner}
 use Rattle.geo_exact.specs.Places.{origin}
 use Rattle.cell_index.specs.declared.entry.Entry.{Entry}
 use Rattle.cell_index.specs.declared.range.CellRange.{CellRange}
-use Rattle.cell_index.specs.Cells.{column, row, stands_in, Indexes, HaveOwnKeys, IsCellBetween, IsKeyBetween}
-use Rattle.cell_index.specs.own.Ranges.{HasCell, cell_count, column_at, row_at, number_at, is_first_common, is_first_at, gathered}
+use Rattle.cell_index.specs.Cells.{column, row, stands_in, is_wide, narrow, Grid, Indexes, HaveOwnKeys, IsCellBetween, IsKeyBetween, StandsBetween}
+use Rattle.cell_index.specs.own.Ranges.{HasCell, cell_count, column_at, row_at, number_at, is_first_common, is_first_at, gathered, has_some_of}
 use Rattle.cell_index.proofs.Along.{between_in_grid}
-use Rattle.cell_index.proofs.Members.{filtered, from_filtered, mapped, from_mapped, pairs_joined, pairs_mapped, same_member}
+use Rattle.cell_index.proofs.Members.{by_test, filtered, from_filtered, mapped, from_mapped, pairs_joined, pairs_mapped, same_member}
 use Rattle.cell_index.proofs.Ranges.{has_cell, column_in_grid, row_in_grid, nth_cell, one_number}
 use Rattle.cell_index.proofs.Standing.{Stands, Decides-stands}
 
@@ -46,8 +46,12 @@ both_true false b e = absurd (false≢true e)
 and_true : (a b : Bool) → a ≡ true → b ≡ true → (a && b) ≡ true
 and_true a b e f = rw (e, f) refl
 
+-- in each cell are exactly the entries whose boxes stand there
+abbrev InCells : Bounds → List (List Entry) → List Entry → Type 0
+InCells area cells entries = (i j : ℕ) → i < 64 → j < 64 → get_or cells (64 * i + j) [] ≡ filter (λ e. stands_in area i j e.bounds) entries
+
 module _ (area : Bounds) (range : CellRange) (cells : List (List Entry)) (entries : List Entry)
-    (index : Indexes (record { area = area; cells = cells }) entries) where
+    (index : InCells area cells entries) where
   -- ---- what stands in the n-th cell
   cell_is : (n : ℕ) → n < cell_count range
       → get_or cells (number_at range n) [] ≡ filter (λ e. stands_in area (column_at range n) (row_at range n) e.bounds) entries
@@ -179,3 +183,91 @@ module _ (area : Bounds) (range : CellRange) (cells : List (List Entry)) (entrie
 
     pub exactly : Contains (gathered area range cells (cell_count range)) key ↔ IsKeyBetween area low high entries key
     exactly = (stands_between, is_gathered)
+
+-- ---- what is beside the cells
+common_test : (f n a b : ℕ) → nat_lt (max f a) (min (f + n) (b + 1)) ≡ true → (i : ℕ) × ((f ≤ i) × (i < f + n)) × ((a ≤ i) × (i ≤ b))
+common_test f n a b t =
+    let less : max f a < min (f + n) (b + 1) = grind (arith, nat_tests) in
+    (max f a, (omega arith, omega (arith, less)), (omega arith, omega (arith, less)))
+
+common_found : (f n a b i : ℕ) → f ≤ i → i < f + n → a ≤ i → i ≤ b → nat_lt (max f a) (min (f + n) (b + 1)) ≡ true
+common_found f n a b i p q r s = let less : max f a < min (f + n) (b + 1) = omega (arith, p, q, r, s) in grind (arith, nat_tests)
+
+module _ (area : Bounds) (range : CellRange) (low high : Corner)
+    (covers : (i j : ℕ) → i < 64 → j < 64 → HasCell range i j ↔ IsCellBetween area low high i j) (box : Bounds) where
+  some_stand : has_some_of area range box ≡ true → StandsBetween area low high box
+  some_stand t =
+      let both = both_true _ _ t in
+      let i = common_test range.columns.first range.columns.count (column area box.low.x) (column area box.high.x) both.0 in
+      let j = common_test range.rows.first range.rows.count (row area box.low.y) (row area box.high.y) both.1 in (
+        i.0,
+        j.0,
+        (covers i.0 j.0 (omega (arith, i.1.1, range.columns.is_in_grid)) (omega (arith, j.1.1, range.rows.is_in_grid))).0
+            (record { from_column = i.1.0; to_column = i.1.1; from_row = j.1.0; to_row = j.1.1 }),
+        (Decides-stands area i.0 j.0 box).1 (i.2, j.2),
+      )
+
+  stand_in_some : StandsBetween area low high box → has_some_of area range box ≡ true
+  stand_in_some (i, j, between, stands) =
+      let inside = between_in_grid area low high i j between in
+      let has : HasCell range i j = (covers i j inside.0 inside.1).1 between in
+      let s : Stands area i j box = (Decides-stands area i j box).0 stands in
+      and_true _ _
+      (common_found range.columns.first range.columns.count (column area box.low.x) (column area box.high.x) i has.from_column has.to_column s.0.0 s.0.1)
+      (common_found range.rows.first range.rows.count (row area box.low.y) (row area box.high.y) j has.from_row has.to_row s.1.0 s.1.1)
+
+-- ---- what is in the cells and what is beside them
+abbrev pub found_beside : Bounds → CellRange → List Entry → List ℕ
+found_beside area range beside = keys_of (filter (λ entry. has_some_of area range entry.bounds) beside)
+
+module _ (grid : Grid) (range : CellRange) (entries : List Entry) (index : Indexes grid entries) where
+  abbrev IsWide : Entry → Bool
+  IsWide e = is_wide grid.area e.bounds
+
+  abbrev all_found : List ℕ
+  all_found = gathered grid.area range grid.cells (cell_count range) ++ found_beside grid.area range grid.beside
+
+  -- an entry that is kept beside the cells, and stands in some of them
+  from_beside : (key : ℕ) → Contains (found_beside grid.area range grid.beside) key
+      → (e : Entry) × Contains entries e × (e.key ≡ key) × (IsWide e ≡ true) × (has_some_of grid.area range e.bounds ≡ true)
+  from_beside key h =
+      let m = from_mapped (λ x. x.key) (filter (λ x. has_some_of grid.area range x.bounds) grid.beside) key h in
+      let some = from_filtered (λ x. has_some_of grid.area range x.bounds) grid.beside m.0 m.1 in
+      let is = from_filtered IsWide entries m.0 (subst (λ xs. Contains xs m.0) index.beside_cells some.0) in
+      (m.0, is.0, m.2, is.1, some.1)
+
+  pub all_exactly : (low high : Corner) → ((i j : ℕ) → i < 64 → j < 64 → HasCell range i j ↔ IsCellBetween grid.area low high i j) → (key : ℕ)
+      → Contains all_found key ↔ IsKeyBetween grid.area low high entries key
+  all_exactly low high covers key = (
+    λ h. ⊎_elim
+        (λ in_cells.
+        let found = (exactly grid.area range grid.cells (narrow grid.area entries) index.in_cells low high covers key).0 in_cells in
+        (found.0, (from_filtered (λ e. not (IsWide e)) entries found.0 found.1).0, found.2, found.3))
+        (λ beside. let found = from_beside key beside in (found.0, found.1, found.2, some_stand grid.area range low high covers found.0.bounds found.4))
+        (Contains-append_cases (gathered grid.area range grid.cells (cell_count range)) (found_beside grid.area range grid.beside) key h),
+    λ k. by_test (IsWide k.0)
+        (λ w. Contains-append_right (gathered grid.area range grid.cells (cell_count range)) (found_beside grid.area range grid.beside) key
+        (subst (Contains (found_beside grid.area range grid.beside)) k.2
+        (mapped (λ x. x.key) (filter (λ x. has_some_of grid.area range x.bounds) grid.beside) k.0
+        (filtered (λ x. has_some_of grid.area range x.bounds) grid.beside k.0
+        (subst (λ xs. Contains xs k.0) (sym index.beside_cells) (filtered IsWide entries k.0 k.1 w))
+        (stand_in_some grid.area range low high covers k.0.bounds k.3)))))
+        (λ f. Contains-append_left (gathered grid.area range grid.cells (cell_count range)) (found_beside grid.area range grid.beside) key
+        ((exactly grid.area range grid.cells (narrow grid.area entries) index.in_cells low high covers key).1
+        (k.0, filtered (λ e. not (IsWide e)) entries k.0 k.1 (ap not f), k.2, k.3))),
+  )
+
+  pub all_once : HaveOwnKeys entries → AllPairs (λ a b. a ≢ b) all_found
+  all_once own =
+      pairs_joined (λ a b. a ≢ b) (gathered grid.area range grid.cells (cell_count range)) (found_beside grid.area range grid.beside)
+      (each_once grid.area range grid.cells (narrow grid.area entries) index.in_cells
+      (AllPairs-filter (λ x y. x.key ≢ y.key) (λ e. not (IsWide e)) entries own) (cell_count range) (omega arith))
+      (pairs_mapped (λ x. x.key) no_entry (filter (λ x. has_some_of grid.area range x.bounds) grid.beside)
+      (AllPairs-filter (λ x y. x.key ≢ y.key) (λ x. has_some_of grid.area range x.bounds) grid.beside
+      (subst (AllPairs (λ x y. x.key ≢ y.key)) (sym index.beside_cells) (AllPairs-filter (λ x y. x.key ≢ y.key) IsWide entries own))))
+      (λ x y hx hy same.
+      let m = from_gathered grid.area range grid.cells (narrow grid.area entries) index.in_cells (cell_count range) x (omega arith) hx in
+      let n = from_beside y hy in
+      let in_cells = from_filtered (λ e. not (IsWide e)) entries m.2.0 m.2.1.0 in
+      let one : m.2.0 ≡ n.0 = same_member (λ z. z.key) entries m.2.0 n.0 own in_cells.0 n.1 (m.2.2 ∙ same ∙ sym n.2) in
+      false≢true (ap not (sym n.3) ∙ sym (ap (λ e. not (IsWide e)) one) ∙ in_cells.1))

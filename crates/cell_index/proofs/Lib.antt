@@ -1,8 +1,10 @@
 pub mod Along
 pub mod Ranges
+pub mod KeptPlaces
 pub mod Changes
 pub mod Standing
 pub mod Members
-pub mod Indexed
+pub mod Keeping
+pub mod Batches
 pub mod Gathered
 pub mod Searches

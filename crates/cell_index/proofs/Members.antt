@@ -1,5 +1,5 @@
 -- Members of lists that are mapped, filtered and joined, and pairs of them.
-use Rattle.std.proofs.Common.{◌≡◌, ◌≢◌, ◌⊎◌, ◌∙◌, inl, inr, ⊎_elim, refl, sym, ap, subst, zero, suc, ◌-◌, ◌<◌, arith, Bool, true, false, cond, List, [], ◌∷◌, ◌++◌, length, map, get_or}
+use Rattle.std.proofs.Common.{◌≡◌, ◌≢◌, ◌⊎◌, ◌∙◌, inl, inr, ⊎_elim, refl, sym, ap, subst, zero, suc, ◌-◌, ◌<◌, arith, Bool, true, false, ◌&&◌, cond, List, [], ◌∷◌, ◌++◌, length, map, get_or}
 use Rattle.std.specs.List.{filter, Contains, AllPairs}
 use Rattle.std.proofs.lemmas.Bool.{cases_lt}
 use Rattle.std.proofs.lemmas.List.{length-map, length-append, get_or-map, get_or_append_left, get_or-append_right, get_or_default}
@@ -9,6 +9,10 @@ pub by_test : {P : Type 0} (b : Bool) → (b ≡ true → P) → (b ≡ false �
 by_test true when_true when_false = when_true refl
 by_test false when_true when_false = when_false refl
 
+-- the first of two tests fails
+pub none_test : (r p q : Bool) → r ≡ p → r ≡ false → r ≡ (p && q)
+none_test r p q h f = f ∙ ap (λ x. x && q) (sym f ∙ h)
+
 module _ {X : Type 0} where
   first_member : (x : X) (xs : List X) → Contains (x ∷ xs) x
   first_member x xs = (0, omega arith, refl)
@@ -16,7 +20,7 @@ module _ {X : Type 0} where
   later_member : (x y : X) (xs : List X) → Contains xs y → Contains (x ∷ xs) y
   later_member x y xs h = (suc h.0, omega (arith, h.1), h.2)
 
-  either_member : (x y : X) (xs : List X) → Contains (x ∷ xs) y → (x ≡ y) ⊎ Contains xs y
+  pub either_member : (x y : X) (xs : List X) → Contains (x ∷ xs) y → (x ≡ y) ⊎ Contains xs y
   either_member x y xs (zero, b, e) = inl e
   either_member x y xs (suc k, b, e) = inr (k, omega (arith, b), e)
 

@@ -1,12 +1,12 @@
 -- A grid of 64 by 64 cells over an area, and which boxes stand in which of its cells (this product's own).
-use Rattle.std.specs.Prelude.{◌≡◌, ◌≢◌, ℕ, ℤ, ◌+◌, ◌*◌, ◌/◌, ◌<◌, ◌≤◌, ◌-ℤ◌, int_lt, nat_eq, nat_le, Bool, ◌&&◌, not, IsTrue, if◌then◌else◌, unsigned_abs, List, [], slice_index_or}
+use Rattle.std.specs.Prelude.{◌≡◌, ◌≢◌, ℕ, ℤ, ◌+◌, ◌-◌, ◌*◌, ◌/◌, ◌<◌, ◌≤◌, ◌-ℤ◌, int_lt, nat_eq, nat_le, nat_lt, min, Bool, ◌&&◌, not, IsTrue, if◌then◌else◌, unsigned_abs, List, [], ◌++◌, length, slice_index_or}
 use Rattle.std.specs.Int.{int_min, int_max}
 use Rattle.std.specs.List.{filter, list_any, Contains, AllPairs}
 use Rattle.geo_exact.specs.declared.bounds.Bounds.{Bounds}
 use Rattle.geo_exact.specs.declared.corner.Corner.{Corner}
 use Rattle.geo_exact.specs.Order.{is_same}
 use Rattle.cell_index.specs.declared.entry.Entry.{Entry}
-use Rattle.cell_index.specs.declared.axis.TheConstants.{ACROSS}
+use Rattle.cell_index.specs.declared.axis.TheConstants.{ACROSS, MOST_CELLS}
 
 -- how far one coordinate is above another; 0 where it is not
 abbrev pub distance : ℤ → ℤ → ℕ
@@ -39,18 +39,46 @@ stands_in area i j box = is_among (column area box.low.x) (column area box.high.
 abbrev pub stands_at : Bounds → Corner → Bounds → Bool
 stands_at area corner box = stands_in area (column area corner.x) (row area corner.y) box
 
--- what an index shows: its area, and the lists of what stands in its cells, column by column
+-- how many of the grid's cells along an axis lie from the one that a coordinate is in to the one that another is in
+abbrev pub cells_along : (low high from to : ℤ) → ℕ
+cells_along low high from to = min ACROSS (cell_of low high to + 1) - min ACROSS (cell_of low high from)
+
+-- how many cells of the grid the box stands in
+abbrev pub box_cells : Bounds → Bounds → ℕ
+box_cells area box = cells_along area.low.x area.high.x box.low.x box.high.x * cells_along area.low.y area.high.y box.low.y box.high.y
+
+-- the box stands in so many cells that its entry is kept in none of them
+abbrev pub is_wide : Bounds → Bounds → Bool
+is_wide area box = nat_lt MOST_CELLS (box_cells area box)
+
+-- the entries whose boxes are wide, and the others, in the list's order
+abbrev pub wide : Bounds → List Entry → List Entry
+wide area entries = filter (λ entry. is_wide area entry.bounds) entries
+
+abbrev pub narrow : Bounds → List Entry → List Entry
+narrow area entries = filter (λ entry. not (is_wide area entry.bounds)) entries
+
+-- what an index shows: its area, the lists of what is kept in its cells, column by column, and the list of what is kept beside them
 pub record Grid : Type 0 where
   pub area : Bounds
   pub cells : List (List Entry)
+  pub beside : List Entry
 
--- what stands in the cell of column i and row j
+-- what is kept in the cell of column i and row j
 abbrev pub cell : Grid → ℕ → ℕ → List Entry
 cell grid i j = slice_index_or grid.cells (ACROSS * i + j) []
 
--- In each cell stand exactly the entries of the list whose boxes stand there, each as often as in the list and in its order.
-abbrev pub Indexes : Grid → List Entry → Type 0
-Indexes grid entries = (i j : ℕ) → i < ACROSS → j < ACROSS → cell grid i j ≡ filter (λ entry. stands_in grid.area i j entry.bounds) entries
+-- what stands in the cell of column i and row j: what is kept in it, and what stands there of that which is kept beside the cells
+abbrev pub standing : Grid → ℕ → ℕ → List Entry
+standing grid i j = cell grid i j ++ filter (λ entry. stands_in grid.area i j entry.bounds) grid.beside
+
+-- In each cell are kept exactly the entries of the list whose boxes stand there and are not wide, and beside the cells those whose boxes
+-- are wide, each as often as in the list and in its order. So in each cell stand exactly the entries whose boxes stand there.
+pub record Indexes (grid : Grid) (entries : List Entry) : Type 0 where
+  pub all_cells : length grid.cells ≡ ACROSS * ACROSS
+  pub in_cells : (i j : ℕ) → i < ACROSS → j < ACROSS
+      → cell grid i j ≡ filter (λ entry. stands_in grid.area i j entry.bounds) (narrow grid.area entries)
+  pub beside_cells : grid.beside ≡ wide grid.area entries
 
 -- the same key with the same box
 abbrev pub is_same_entry : Entry → Entry → Bool

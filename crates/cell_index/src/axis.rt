@@ -1,10 +1,13 @@
-ghost use Rattle.std.specs.Prelude.{◌≡◌, ◌+◌, ◌<◌, ◌≤◌, ◌↔◌, ℕ, min};
+ghost use Rattle.std.specs.Prelude.{◌≡◌, ◌+◌, ◌-◌, ◌<◌, ◌≤◌, ◌↔◌, ℕ, min};
 ghost use Rattle.std.specs.Int.{int_min, int_max};
 ghost use Rattle.cell_index.specs.declared.axis.TheConstants.{ACROSS};
-ghost use Rattle.cell_index.specs.Cells.{distance as distance_of, cell_side as side_of, cell_of as cell_along, brought_into};
+ghost use Rattle.cell_index.specs.Cells.{distance as distance_of, cell_side as side_of, cell_of as cell_along, cells_along, brought_into};
 
 /// How many cells the grid has along each axis.
 pub(crate) const ACROSS: usize = 64;
+
+/// The most cells that a box stands in and is still kept in: two columns, or two rows. A strip across the area stands in no more.
+pub(crate) const MOST_CELLS: usize = 128;
 
 /// How far `to` is above `from`, in centimetres; 0 where it is not.
 fn distance(from: i64, to: i64) -> u64
@@ -47,7 +50,8 @@ pub struct Span {
 
 /// The cells of the grid from one to another; none where the first comes after the last.
 fn cells_between(first: usize, last: usize) -> Span
-    ensures { (i : ℕ) → i < ACROSS
+    ensures count { result.count ≡ min ACROSS (last + 1) - min ACROSS first }
+    ensures cells { (i : ℕ) → i < ACROSS
         → ((result.first ≤ i) × (i < result.first + result.count)) ↔ ((first ≤ i) × (i ≤ last)) }
 {
     let begin = first.min(ACROSS);
@@ -60,7 +64,8 @@ fn cells_between(first: usize, last: usize) -> Span
 
 /// The cells along an axis from the one that a coordinate is in to the one that another is in.
 pub fn cells_from_to(low: i64, high: i64, from: i64, to: i64) -> Span
-    ensures { (i : ℕ) → i < ACROSS → ((result.first ≤ i) × (i < result.first + result.count))
+    ensures count { result.count ≡ cells_along low high from to }
+    ensures cells { (i : ℕ) → i < ACROSS → ((result.first ≤ i) × (i < result.first + result.count))
         ↔ ((cell_along low high from ≤ i) × (i ≤ cell_along low high to)) }
 {
     cells_between(cell_of(low, high, from), cell_of(low, high, to))

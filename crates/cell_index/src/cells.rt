@@ -1,43 +1,44 @@
-ghost use Rattle.std.specs.Prelude.{◌≡◌, ◌<◌, ◌≤◌, length, not, OnOk, OnErr};
+ghost use Rattle.std.specs.Prelude.{◌≡◌, ◌<◌, ◌≤◌, ◌++◌, length, not, List, OnOk, OnErr};
 ghost use Rattle.std.specs.List.{filter};
-ghost use Rattle.cell_index.specs.Cells.{is_same_entry};
-ghost use Rattle.cell_index.specs.own.Ranges.{cell_count, contents, HaveRoom, KeepRoom, IsChanged, with_entry, passing};
+ghost use Rattle.cell_index.specs.declared.entry.Entry.{Entry};
+ghost use Rattle.cell_index.specs.Cells.{is_same_entry, without};
+ghost use Rattle.cell_index.specs.own.Ranges.{place_count, contents, HaveRoom, HaveRoomForAll, KeepRoom, Keeps, IsChanged, with_entry, passing};
 
 use crate::entry::{Entry, is_entry};
-use crate::range::CellRange;
+use crate::places::{Places, places_of};
+use geo_exact::Bounds;
 use smallvec::SmallVec;
 use std::alloc::{AllocError, Allocator};
 
-/// What stands in one cell. Four entries lie in the cell itself: most cells over a town of a thousand parcels have no more, and
+/// What is kept in one cell. Four entries lie in the cell itself: most cells over a town of a thousand parcels have no more, and
 /// need no memory of their own.
 pub type Cell<'a, H> = SmallVec<Entry, 4, &'a H>;
 
-/// Makes room for `count` more entries in each cell of a range. What stands in them does not change, also where memory is
-/// refused.
+/// Makes room for `count` more entries in each of some cells. What is kept in them does not change, also where memory is refused.
 pub fn make_room<'a, H: Allocator>(
     cells: &mut [Cell<'a, H>],
-    range: CellRange,
+    places: Places,
     count: usize,
 ) -> Result<(), AllocError>
-    requires { length cells.old ≡ 4096 }
+    requires { length cells.old ≡ 4097 }
     ensures kept { contents cells.new ≡ contents cells.old }
-    ensures room { OnOk result (HaveRoom range (cell_count range) count cells.new) }
+    ensures room { OnOk result (HaveRoom places (place_count places) count cells.new) }
     ensures no_less { KeepRoom cells.old cells.new }
 {
-    for n in 0..range.count() {
-        cells[range.number(n)].reserve(count)?;
+    for n in 0..places.count() {
+        cells[places.number(n)].reserve(count)?;
     }
     Ok(())
 }
 
-/// Adds an entry to each cell of a range, which have room.
-pub fn push_all<'a, H: Allocator>(cells: &mut [Cell<'a, H>], range: CellRange, entry: Entry)
-    requires all { length cells.old ≡ 4096 }
-    requires room { HaveRoom range (cell_count range) 1 cells.old }
-    ensures { IsChanged range (cell_count range) (with_entry entry) cells.old cells.new }
+/// Adds an entry to each of some cells, which have room.
+pub fn push_all<'a, H: Allocator>(cells: &mut [Cell<'a, H>], places: Places, entry: Entry)
+    requires all { length cells.old ≡ 4097 }
+    requires room { HaveRoom places (place_count places) 1 cells.old }
+    ensures { IsChanged places (place_count places) (with_entry entry) cells.old cells.new }
 {
-    for n in 0..range.count() {
-        cells[range.number(n)].push_reserved(entry);
+    for n in 0..places.count() {
+        cells[places.number(n)].push_reserved(entry);
     }
 }
 
@@ -49,12 +50,12 @@ fn take_from<'a, H: Allocator>(cell: &mut Cell<'a, H>, gone: Entry)
     cell.retain(|entry| !is_entry(entry, &gone));
 }
 
-/// Takes an entry out of each cell of a range.
-pub fn take_out<'a, H: Allocator>(cells: &mut [Cell<'a, H>], range: CellRange, gone: Entry)
-    requires { length cells.old ≡ 4096 }
-    ensures { IsChanged range (cell_count range) (passing (λ entry. not (is_same_entry entry gone))) cells.old cells.new }
+/// Takes an entry out of each of some cells.
+pub fn take_out<'a, H: Allocator>(cells: &mut [Cell<'a, H>], places: Places, gone: Entry)
+    requires { length cells.old ≡ 4097 }
+    ensures { IsChanged places (place_count places) (passing (λ entry. not (is_same_entry entry gone))) cells.old cells.new }
 {
-    for n in 0..range.count() {
-        take_from(&mut cells[range.number(n)], gone);
+    for n in 0..places.count() {
+        take_from(&mut cells[places.number(n)], gone);
     }
 }

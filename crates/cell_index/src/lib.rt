@@ -3,14 +3,17 @@
 #![tactic(auto)]
 
 mod axis;
+mod batch;
 mod cells;
 mod entry;
 mod index;
 mod laws;
+mod places;
 mod range;
 
 pub use entry::Entry;
 pub use index::CellIndex;
 pub use laws::{
-    a_corner_is_off_what_does_not_stand_in_its_cell, rings_whose_interiors_meet_share_a_cell,
+    a_corner_is_off_what_does_not_stand_in_its_cell, in_each_cell_stand_the_entries_of_its_boxes,
+    rings_whose_interiors_meet_share_a_cell,
 };

@@ -1,7 +1,7 @@
 ghost use Rattle.std.specs.Prelude.{◌≡◌, ◌+◌, ◌<◌, ◌≤◌, ◌↔◌, ℕ, IsTrue};
-ghost use Rattle.cell_index.specs.Cells.{cell_of as cell_along, stands_in, IsCellBetween};
+ghost use Rattle.cell_index.specs.Cells.{cell_of as cell_along, box_cells, stands_in, IsCellBetween};
 ghost use Rattle.cell_index.specs.own.Ranges.{HasCell, cell_count, column_at, row_at, number_at};
-ghost use Rattle.cell_index.specs.own.Ranges.{is_first_at, is_first_common as first_common};
+ghost use Rattle.cell_index.specs.own.Ranges.{is_first_at, is_first_common as first_common, common_along, has_some_of};
 ghost use Rattle.cell_index.specs.declared.axis.TheConstants.{ACROSS};
 
 use crate::axis::{ACROSS, Span, cell_of, cells_from_to, into_range};
@@ -18,7 +18,8 @@ pub struct CellRange {
 
 /// The cells that a box stands in.
 pub fn cells_of(area: Bounds, bounds: Bounds) -> CellRange
-    ensures { (i j : ℕ) → i < ACROSS → j < ACROSS → HasCell result i j ↔ IsTrue (stands_in area i j bounds) }
+    ensures count { cell_count result ≡ box_cells area bounds }
+    ensures cells { (i j : ℕ) → i < ACROSS → j < ACROSS → HasCell result i j ↔ IsTrue (stands_in area i j bounds) }
 {
     CellRange {
         columns: cells_from_to(area.low.x, area.high.x, bounds.low.x, bounds.high.x),
@@ -46,6 +47,15 @@ fn is_first_common(first: usize, i: usize, low: i64, high: i64, z: i64) -> bool
     ensures { result ≡ first_common first (cell_along low high z) i }
 {
     i == first || i == cell_of(low, high, z)
+}
+
+/// Whether some cells of a span along an axis are among those from the one that `from` is in to the one that `to` is in.
+fn have_common(span: Span, low: i64, high: i64, from: i64, to: i64) -> bool
+    ensures { result ≡ common_along span (cell_along low high from) (cell_along low high to) }
+{
+    let first = span.first.max(cell_of(low, high, from));
+    let end = (span.first + span.count).min(cell_of(low, high, to) + 1);
+    first < end
 }
 
 impl CellRange {
@@ -92,6 +102,25 @@ impl CellRange {
             area.low.y,
             area.high.y,
             bounds.low.y,
+        )
+    }
+
+    /// Whether a box stands in some cell of the range.
+    pub fn has_some_of(self, area: Bounds, bounds: Bounds) -> bool
+        ensures { result ≡ has_some_of area self bounds }
+    {
+        have_common(
+            self.columns,
+            area.low.x,
+            area.high.x,
+            bounds.low.x,
+            bounds.high.x,
+        ) && have_common(
+            self.rows,
+            area.low.y,
+            area.high.y,
+            bounds.low.y,
+            bounds.high.y,
         )
     }
 

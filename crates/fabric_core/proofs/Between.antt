@@ -20,9 +20,11 @@ use Rattle.fabric_core.specs.Faults.{AreSimple}
 use Rattle.fabric_core.specs.GridIndex.{IsCandidate}
 use Rattle.fabric_core.specs.Tiling.{corner_lists}
 use Rattle.fabric_core.specs.own.Checks.{HaveEqualNets}
+use Rattle.parcel_table.proofs.Boxes.{one_least_box}
 use Rattle.parcel_table.specs.Table.{rows_of_keyed, entries_of}
 use Rattle.fabric_core.specs.own.Lists.{IsIdOf}
 use Rattle.fabric_core.proofs.InTheCity.{rows_in_box}
+use Rattle.fabric_core.proofs.Tilings.{noded_ground}
 use Rattle.fabric_core.proofs.OneParcel.{of_each}
 
 -- ---- two lists side by side
@@ -42,15 +44,6 @@ module _ {X Y : Type 0} (R : X → Y → Type 0) where
       (λ e. (x, Contains-here x xs, subst (R x) e h.0))
       (λ later. let w = zipped_right xs ys y h.1 later in (w.0, Contains-there x xs w.0 w.1, w.2))
       (Contains-cases z ys y c)
-
--- ---- a list of corners has one least box
-one_least_box : (a b : Bounds) (corners : List Corner) → IsLeastBox a corners → IsLeastBox b corners → a ≡ b
-one_least_box a b corners h k = let f = h.is_least b k.holds in let g = k.is_least a h.holds in
-    ap (λ low. record { low = low; high = a.high }) (corner_same a.low b.low (both g.0.0 f.0.0) (both g.1.0 f.1.0))
-    ∙ ap (λ high. record { low = b.low; high = high }) (corner_same a.high b.high (both f.0.1 g.0.1) (both f.1.1 g.1.1))
-  where
-    both : {u s : ℤ} → u ≤ℤ s → s ≤ℤ u → u ≡ s
-    both {u} {s} h k = omega (arith, ints, h, k)
 
 -- ---- a parcel whose interior meets that of a ring between two corners is a candidate of these
 pub meeting_is_candidate : (rows : List NumberedRing) (city : List Corner) (area box : Bounds) (low high : Corner) (row : NumberedRing)
@@ -75,7 +68,7 @@ pub meeting_in_city : (rows : List NumberedRing) (city corners refined : List Co
 meeting_in_city rows city corners refined area box low high row ring simple noded nets is_area is_row is_box between meet =
     meeting_is_candidate rows city area box low high row ring is_area
     (of_each (λ r. All (HoldsCorner area) r.corners) rows row
-    (rows_in_box rows city corners refined area simple noded nets is_area.holds) is_row)
+    (rows_in_box rows city refined area simple (noded_ground city corners refined noded) nets is_area.holds) is_row)
     is_row is_box between meet
 
 -- ---- parcels, rows and entries

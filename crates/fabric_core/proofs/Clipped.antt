@@ -5,13 +5,21 @@ use Rattle.std.proofs.lemmas.List.{append-nil}
 use Rattle.std.proofs.lemmas.List.Kept.{AllPairs-from_increasing}
 use Rattle.geo_exact.specs.declared.corner.Corner.{Corner}
 use Rattle.geo_exact.specs.Layers.{NumberedRing, numbered}
+use Rattle.fabric_core.specs.Journal.{next_after}
 use Rattle.fabric_core.specs.own.Lists.{numbered_rows}
 
--- the rows so far, with those of the rings that are left, are all; and no number that is left is below the next id
+-- the next id with one row more, that is not below it
+next_more : (rows : List NumberedRing) (number base : ℕ) (ring : List Corner) → next_after rows base ≤ number → base ≤ number
+    → next_after (rows ++ numbered number ring ∷ []) base ≡ number + 1
+next_more [] number base ring h b = omega (arith, b)
+next_more (row ∷ rows) number base ring h b = omega (arith, h, next_more rows number base ring (omega (arith, h)) b)
+
+-- the rows so far, with those of the rings that are left, are all; and no number that is left is below the next id, which is one above the greatest so far
 pub record AreClipped (numbers : List ℕ) (rings left : List (List Corner)) (rows : List NumberedRing) (next i : ℕ) : Type 0 where
   pub so_far : rows ++ numbered_rows (drop i numbers) left ≡ numbered_rows numbers rings
   pub as_many : i + length left ≡ length numbers
   pub above : (k : ℕ) → i ≤ k → k < length numbers → next ≤ get_or numbers k 0
+  pub next_is : next ≡ next_after rows 0
 
 pub none_clipped : (numbers : List ℕ) (rings left : List (List Corner)) (rows : List NumberedRing) (next i : ℕ) → length numbers ≡ length rings
     → left ≡ rings → rows ≡ [] → next ≡ 0 → i ≡ 0 → AreClipped numbers rings left rows next i
@@ -20,6 +28,7 @@ none_clipped numbers rings left rows next i e same none first begun = record {
       ∙ ap (numbered_rows numbers) same;
   as_many = omega (arith, e, begun, ap length same);
   above = λ k l m. omega (arith, first);
+  next_is = first ∙ sym (ap (λ xs. next_after xs 0) none);
 }
 
 pub one_clipped : (numbers : List ℕ) (rings left rest : List (List Corner)) (rows rows' : List NumberedRing) (next next' i i' number : ℕ)
@@ -39,6 +48,8 @@ one_clipped numbers rings left rest rows rows' next next' i i' number ring up e 
           ∙ append_assoc rows (numbered number ring ∷ []) (numbered_rows (drop i' numbers) rest) ∙ ap (λ xs. rows ++ xs) (sym here) ∙ h.so_far;
       as_many = omega (arith, h.as_many, ap length e, step);
       above = λ k l m. omega (arith, AllPairs-from_increasing numbers up i k 0 (omega (arith, l, step)) m, is, after);
+      next_is = after ∙ sym (ap (λ xs. next_after xs 0) more
+          ∙ next_more rows number 0 ring (omega (arith, h.above i (omega arith) below, is, h.next_is)) (omega arith));
     }
 
 pub all_clipped : (numbers : List ℕ) (rings left : List (List Corner)) (rows : List NumberedRing) (next i : ℕ) → left ≡ []

@@ -18,6 +18,8 @@ pub mod Sides
 pub mod Located
 pub mod OneParcel
 pub mod Clipped
+pub mod Exchanged
+pub mod Exchanges
 pub mod FromOneCell
 pub mod Between
 pub mod RowLists

@@ -4,14 +4,15 @@ use Rattle.std.specs.List.Sorted.{IsStrictlyIncreasing}
 use Rattle.geo_exact.specs.declared.corner.Corner.{Corner}
 use Rattle.ring_core.specs.declared.ring.Ring.{Ring}
 use Rattle.parcel_table.specs.declared.parcels.Parcel.{Parcel}
-use Rattle.fabric_core.specs.Tiling.{corner_lists}
+use Rattle.fabric_core.specs.Tiling.{corner_lists, IsTiling}
 use Rattle.geo_exact.specs.Layers.{NumberedRing, NumbersRise}
 use Rattle.geo_exact.specs.declared.limits.TheConstants.{LAYER_RECORDS}
 use Rattle.fabric_core.specs.Rows.{numbers}
 use Rattle.fabric_core.specs.Limits.{AreWithinLimits}
 use Rattle.fabric_core.specs.Faults.{AreSimple}
 use Rattle.fabric_core.specs.own.Checks.{HaveEqualNets, HaveNoFault, IsRefinedCity, IsChecked}
-use Rattle.fabric_core.specs.own.Lists.{numbered_rows, corners_of_rings, IsLayer, IsKept}
+use Rattle.fabric_core.specs.own.Lists.{numbered_rows, corners_of_rings}
+use Rattle.fabric_core.specs.own.Kept.{IsKept}
 use Rattle.parcel_table.specs.Table.{rows_of_keyed, entries_of}
 use Rattle.std.specs.List.{All, AllZip, AllByRecursion}
 use Rattle.geo_exact.specs.declared.bounds.Bounds.{Bounds}
@@ -21,30 +22,20 @@ use Rattle.fabric_core.specs.GridIndex.{IsIndexed}
 use Rattle.fabric_core.proofs.InTheCity.{rows_in_box}
 use Rattle.fabric_core.proofs.Lists.{numbers_of_rows, lists_of_rows}
 use Rattle.fabric_core.proofs.RingChecks.{made_rows, simple_rows}
-use Rattle.fabric_core.proofs.Tilings.{tiles_where_nets_are_equal}
-
--- what a layer is
-pub record IsLoaded (rows : List NumberedRing) (city refined : List Corner) : Type 0 where
-  pub is_layer : IsLayer rows city
-  pub no_fault : HaveNoFault rows refined
+use Rattle.fabric_core.proofs.Tilings.{tiles_on_ground, noded_ground}
 
 pub loaded : {A : Type 0} (numbers : List ℕ) (rings : List (List Corner)) (parcels : List (ℕ × Parcel A)) (city refined : List Corner)
-    → rows_of_keyed parcels ≡ numbered_rows numbers rings → IsChecked numbers rings city refined → IsLoaded (rows_of_keyed parcels) city refined
-loaded {A} number_list rings parcels city refined same h = record {
-  is_layer = record {
-    ids_rise = subst IsStrictlyIncreasing (sym (ap numbers same ∙ numbers_of_rows number_list rings h.same_length)) h.rise;
-    within = within;
-    tiles = tiles_where_nets_are_equal (rows_of_keyed parcels) city h.is_city.corners refined (made_rows parcels) h.is_city.wound_once
-        h.is_city.is_noded nets;
-  };
-  no_fault = record { within = within; simple = subst AreSimple (sym same) h.simple; nets = nets };
+    → rows_of_keyed parcels ≡ numbered_rows numbers rings → IsChecked numbers rings city refined → HaveNoFault (rows_of_keyed parcels) refined
+loaded number_list rings parcels city refined same h = record {
+  within = subst AreWithinLimits (sym same) h.within;
+  simple = subst AreSimple (sym same) h.simple;
+  nets = subst (λ lists. HaveEqualNets lists refined) (sym (ap corner_lists same ∙ lists_of_rows number_list rings h.same_length)) h.nets;
 }
-  where
-    within : AreWithinLimits (rows_of_keyed parcels)
-    within = subst AreWithinLimits (sym same) h.within
 
-    nets : HaveEqualNets (corner_lists (rows_of_keyed parcels)) refined
-    nets = subst (λ lists. HaveEqualNets lists refined) (sym (ap corner_lists same ∙ lists_of_rows number_list rings h.same_length)) h.nets
+-- what is kept tiles the city
+pub kept_tiles : {A : Type 0} (parcels : List (ℕ × Parcel A)) (city refined : List Corner) (index : Grid) → IsKept parcels city refined index
+    → IsTiling (rows_of_keyed parcels) city
+kept_tiles parcels city refined index h = tiles_on_ground (rows_of_keyed parcels) city refined (made_rows parcels) h.wound_once h.ground h.nets
 
 -- the parcels' boxes are their rows'
 boxes_of_rows : {A : Type 0} (parcels : List (ℕ × Parcel A))
@@ -52,9 +43,9 @@ boxes_of_rows : {A : Type 0} (parcels : List (ℕ × Parcel A))
 boxes_of_rows [] = tt
 boxes_of_rows (parcel ∷ parcels) = (parcel.1.shape.least_box, boxes_of_rows parcels)
 
-pub is_indexed : {A : Type 0} (parcels : List (ℕ × Parcel A)) (city : List Corner) (index : Grid) → IsKept parcels city index
+pub is_indexed : {A : Type 0} (parcels : List (ℕ × Parcel A)) (city refined : List Corner) (index : Grid) → IsKept parcels city refined index
     → IsIndexed (rows_of_keyed parcels) city index
-is_indexed parcels city index h = record {
+is_indexed parcels city refined index h = record {
   area = h.area;
   entries = entries_of parcels;
   have_their_boxes = boxes_of_rows parcels;
@@ -63,13 +54,18 @@ is_indexed parcels city index h = record {
 
 pub kept : {A : Type 0} (numbers : List ℕ) (rings : List (List Corner)) (parcels : List (ℕ × Parcel A)) (city refined : List Corner) (area : Bounds)
     (index : Grid) → rows_of_keyed parcels ≡ numbered_rows numbers rings → IsChecked numbers rings city refined → IsLeastBox area city
-    → index.area ≡ area → Indexes index (entries_of parcels) → IsKept parcels city index
-kept numbers rings parcels city refined area index same h least e indexed =
-    let all = loaded numbers rings parcels city refined same h in record {
-      is_layer = all.is_layer;
+    → index.area ≡ area → Indexes index (entries_of parcels) → IsKept parcels city refined index
+kept number_list rings parcels city refined area index same h least e indexed =
+    let all = loaded number_list rings parcels city refined same h in
+    let ground = noded_ground city h.is_city.corners refined h.is_city.is_noded in record {
+      ids_rise = subst IsStrictlyIncreasing (sym (ap numbers same ∙ numbers_of_rows number_list rings h.same_length)) h.rise;
+      within = all.within;
+      nets = all.nets;
+      wound_once = h.is_city.wound_once;
+      ground = ground;
       area = subst (λ box. IsLeastBox box city) (sym e) least;
       in_area = subst (λ box. AllByRecursion (λ row. All (HoldsCorner box) row.corners) (rows_of_keyed parcels)) (sym e)
-          (rows_in_box (rows_of_keyed parcels) city h.is_city.corners refined area all.no_fault.simple h.is_city.is_noded all.no_fault.nets least.holds);
+          (rows_in_box (rows_of_keyed parcels) city refined area all.simple ground all.nets least.holds);
       indexed = indexed;
     }
 

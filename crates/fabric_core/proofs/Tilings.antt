@@ -21,6 +21,7 @@ use Rattle.geo_exact.proofs.OnRings.{IsOnSome-left, IsOnSome-right}
 use Rattle.edge_chains.proofs.NodedRings.{winding_noded, area2_noded, boundary_noded}
 use Rattle.edge_chains.proofs.Jumps.{jump_beside}
 use Rattle.fabric_core.specs.Tiling.{corner_lists, IsOffEdges, IsInNone, IsInOne, IsTiling, IsWoundAtMostOnce}
+use Rattle.ring_edits.specs.Edits.{CoversAlike}
 use Rattle.fabric_core.specs.Rows.{IsUntiledBeside}
 
 -- ---- rows of triangles
@@ -100,17 +101,31 @@ tiles_where_sums_are_equal rows city made once sums areas = record {
 plus_nothing : (z : ℤ) → z +ℤ pos 0 ≡ z
 plus_nothing z = omega (arith, ints)
 
--- one side is a single ring, the noded city
-pub city_alone : (p : Point) (city corners refined : List Corner) → IsNoded city corners refined → winding_of_rings p (refined ∷ []) ≡ winding p city
-city_alone p city corners refined h = plus_nothing (winding p refined) ∙ winding_noded p city corners refined h
+-- a noded ring has the same ground
+pub noded_ground : (city corners refined : List Corner) → IsNoded city corners refined → CoversAlike city refined
+noded_ground city corners refined h = record {
+  winding_number = λ p. winding_noded p city corners refined h;
+  boundary = λ p. boundary_noded p city corners refined h;
+  signed_area = area2_noded city corners refined h;
+}
+
+-- one side is a single ring, that of the city's ground
+pub city_alone : (p : Point) (city refined : List Corner) → CoversAlike city refined → winding_of_rings p (refined ∷ []) ≡ winding p city
+city_alone p city refined h = plus_nothing (winding p refined) ∙ h.winding_number p
+
+pub tiles_on_ground : (rows : List NumberedRing) (city refined : List Corner) → AllByRecursion IsMadeUp rows
+    → ((p : Point) → IsWoundAtMostOnce p city) → CoversAlike city refined
+    → ((a b : Corner) → net_count (corner_lists rows) a b ≡ net_count (refined ∷ []) a b) → IsTiling rows city
+tiles_on_ground rows city refined made once ground nets =
+    tiles_where_sums_are_equal rows city made once
+    (λ p. winding_of_rings-balanced (corner_lists rows) (refined ∷ []) nets p ∙ city_alone p city refined ground)
+    (area2_of_rings-balanced (corner_lists rows) (refined ∷ []) nets ∙ plus_nothing (area2 refined) ∙ ground.signed_area)
 
 pub tiles_where_nets_are_equal : (rows : List NumberedRing) (city corners refined : List Corner) → AllByRecursion IsMadeUp rows
     → ((p : Point) → IsWoundAtMostOnce p city) → IsNoded city corners refined
     → ((a b : Corner) → net_count (corner_lists rows) a b ≡ net_count (refined ∷ []) a b) → IsTiling rows city
 tiles_where_nets_are_equal rows city corners refined made once noded nets =
-    tiles_where_sums_are_equal rows city made once
-    (λ p. winding_of_rings-balanced (corner_lists rows) (refined ∷ []) nets p ∙ city_alone p city corners refined noded)
-    (area2_of_rings-balanced (corner_lists rows) (refined ∷ []) nets ∙ plus_nothing (area2 refined) ∙ area2_noded city corners refined noded)
+    tiles_on_ground rows city refined made once (noded_ground city corners refined noded) nets
 
 -- ---- no tiling
 none_sum : (p : Point) (rows : List NumberedRing) → IsInNone p rows → winding_of_rings p (corner_lists rows) ≡ pos 0
@@ -190,5 +205,5 @@ untiled_beside rows city corners refined a b noded full some = from (jump_beside
       differs =
           one_differs (winding_of_rings w.0 (corner_lists rows)) (winding w.0 city) (winding_of_rings w.1 (corner_lists rows)) (winding w.1 city)
           (net_difference (corner_lists rows) (refined ∷ []) a b)
-          (rw (← city_alone w.0 city corners refined noded, ← city_alone w.1 city corners refined noded) w.2.changes) some;
+          (rw (← city_alone w.0 city refined (noded_ground city corners refined noded), ← city_alone w.1 city refined (noded_ground city corners refined noded)) w.2.changes) some;
     }

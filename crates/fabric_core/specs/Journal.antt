@@ -1,5 +1,5 @@
 -- The journal of a fabric of parcels, and the state that it leads to (this product's own).
-use Rattle.std.specs.Prelude.{◌≡◌, ℕ, ◌+◌, max, not, nat_eq, nat_lt, if◌then◌else◌, List, [], ◌∷◌}
+use Rattle.std.specs.Prelude.{ℕ, ◌+◌, max, not, nat_eq, nat_lt, if◌then◌else◌, List, [], ◌∷◌}
 use Rattle.std.specs.List.{filter, list_any}
 use Rattle.geo_exact.specs.declared.corner.Corner.{Corner}
 use Rattle.geo_exact.specs.Layers.{NumberedRing}

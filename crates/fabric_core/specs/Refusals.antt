@@ -1,6 +1,6 @@
 -- Why an edit is refused: the first reason that applies, in this order (this product's own): the journal is full; an id that it names is no parcel's; what the
 -- edit itself asks of paths, borders and edges; the limits of a layer; a new ring that is not simple.
-use Rattle.std.specs.Prelude.{◌≡◌, ◌≢◌, ◌⊎◌, ⊤, ℕ, ◌+◌, ◌<◌, ◌≤◌, List, [], ◌∷◌, ◌++◌, length}
+use Rattle.std.specs.Prelude.{◌≡◌, ◌⊎◌, ⊤, ℕ, ◌+◌, ◌<◌, ◌≤◌, List, [], ◌∷◌, ◌++◌, length}
 use Rattle.std.specs.List.{Contains}
 use Rattle.geo_exact.specs.declared.corner.Corner.{Corner}
 use Rattle.geo_exact.specs.Layers.{NumberedRing, numbered}

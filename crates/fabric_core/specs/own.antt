@@ -1,3 +1,5 @@
 pub mod Lists
 pub mod Checks
+pub mod Kept
+pub mod Books
 pub mod Sides

@@ -1,8 +1,9 @@
-ghost use Rattle.std.specs.Prelude.{◌≡◌, length, IfOk};
+ghost use Rattle.std.specs.Prelude.{◌≡◌, ℕ, None, length, IfOk};
 ghost use Rattle.std.specs.List.Sorted.{IsStrictlyIncreasing};
 ghost use Rattle.cell_index.specs.Cells.{Indexes};
 ghost use Rattle.fabric_core.specs.own.Lists.{numbered_rows, corners_of_rings};
-ghost use Rattle.parcel_table.specs.Table.{rows_of_keyed, entries_of};
+ghost use Rattle.parcel_table.specs.Table.{rows_of_keyed, entries_of, retired_by};
+ghost use Rattle.fabric_core.specs.Journal.{next_after};
 
 use cell_index::{CellIndex, Entry};
 use geo_exact::Bounds;
@@ -22,6 +23,8 @@ pub(crate) fn clip_all<'a, H: Allocator>(
     ensures rows { IfOk result (λ kept. rows_of_keyed kept.0.parcels ≡ numbered_rows numbers.now (corners_of_rings rings.entry.items)) }
     ensures area { IfOk result (λ kept. kept.1.area ≡ area) }
     ensures indexed { IfOk result (λ kept. Indexes kept.1 (entries_of kept.0.parcels)) }
+    ensures next { IfOk result (λ kept. kept.0.next ≡ next_after (rows_of_keyed kept.0.parcels) 0) }
+    ensures none_gone { IfOk result (λ kept. (id : ℕ) → retired_by kept.0 id ≡ None) }
 {
     let mut parcels = Parcels::with_capacity(heap, rings.len())?;
     let mut index = CellIndex::new(heap, area)?;

@@ -16,20 +16,18 @@ ghost use Rattle.fabric_core.specs.GridIndex.{IsIndexed, IsCandidate};
 ghost use Rattle.fabric_core.specs.Locate.{IsLocatedAt};
 ghost use Rattle.fabric_core.specs.Faults.{AreSimple, IsFirstFault, IsLoadFault};
 ghost use Rattle.fabric_core.specs.own.Checks.{HaveNoFault, IsRefinedCity, IsChecked};
+ghost use Rattle.fabric_core.specs.own.Kept.{IsFresh, IsShownBy};
 ghost use Rattle.fabric_core.specs.own.Lists.{numbered_rows, corners_of_rings};
 
-use crate::candidates::{ids_under, sort_once};
 use crate::city::City;
 use crate::gaps::check_nets;
-use crate::grid_index::clip_all;
 use crate::limits::first_too_many;
 use crate::locate::At;
 use crate::refine::{Refined, refine};
 use crate::rings::checked;
-use crate::side::{Side, side_of};
-use cell_index::CellIndex;
+use crate::tiled::Tiled;
 use geo_exact::{Bounds, Corner, Corners, RawRing};
-use parcel_table::{Ids, Parcels, Shapes};
+use parcel_table::{Ids, Shapes};
 use ring_core::{Ring, RingFault, Shape};
 use std::alloc::{AllocError, AllocFailed, Allocator};
 use std::marker::Model;
@@ -73,27 +71,23 @@ impl<T: Drop> From<AllocFailed<T>> for LoadFault {
 /// the heap that was lent.
 #[derive(Drop)]
 pub struct Layer<'a, H: Allocator> {
-    city: Corners<&'a H>,
-    refined: Corners<&'a H>,
-    parcels: Parcels<&'a H>,
-    index: CellIndex<'a, H>,
+    tiled: Tiled<'a, H>,
 }
 
 impl<'a, H: Allocator> Model for Layer<'a, H> {
     ghost use Rattle.fabric_core.specs.Rows.{Tiles};
-    ghost use Rattle.fabric_core.specs.own.Lists.{IsKept};
-    ghost use Rattle.parcel_table.specs.Table.{rows_of_keyed};
+    ghost use Rattle.fabric_core.specs.own.Kept.{IsFresh};
 
     ghost Value = { Tiles };
 
     ghost view = { λ layer. record {
-      rows = rows_of_keyed layer.parcels.parcels;
-      city = layer.city;
-      refined = layer.refined;
-      index = layer.index;
+      rows = layer.tiled.rows;
+      city = layer.tiled.city;
+      refined = layer.tiled.refined;
+      index = layer.tiled.index;
     } };
 
-    ghost invariant = { λ layer. IsKept layer.parcels.parcels layer.city layer.index };
+    ghost invariant = { λ layer. IsFresh layer.tiled };
 }
 
 impl<'a, H: Allocator> Layer<'a, H> {
@@ -137,22 +131,38 @@ impl<'a, H: Allocator> Layer<'a, H> {
         load_refined(heap, city.bounds, refined)
     }
 
+    /// What the layer keeps, in which no parcel has gone.
+    pub(crate) fn tiled(&self) -> &Tiled<'a, H>
+        ensures shown { IsShownBy result.now self.now }
+        ensures fresh { IsFresh result.now }
+    {
+        &self.tiled
+    }
+
+    /// The layer taken apart.
+    pub(crate) fn into_tiled(self) -> Tiled<'a, H>
+        ensures shown { IsShownBy result self.entry }
+        ensures fresh { IsFresh result }
+    {
+        let Layer { tiled } = self;
+        tiled
+    }
+
     /// The rows tile the city, and are within the limits of a layer; and in the cells of the grid index stand exactly the rows.
     pub fn tiles(&self)
         ensures tiling { IsTiling self.now.rows self.now.city }
         ensures within { AreWithinLimits self.now.rows }
         ensures indexed { IsIndexed self.now.rows self.now.city self.now.index }
     {
-        let _ = &self.city;
+        self.tiled.tiles();
     }
 
     /// The parcels' ids, ascending.
-    #[tactic(auto, using(parcel_table::proofs::Tables::ids_of_rows))]
     pub fn ids(&self) -> Ids<'_, &'a H>
         ensures ids { result ≡ numbers self.now.rows }
         ensures ascending { IsStrictlyIncreasing result }
     {
-        self.parcels.ids()
+        self.tiled.ids()
     }
 
     /// The ring of a parcel, begun at its least corner; `None` where the id is no parcel's. It is found at once.
@@ -172,16 +182,15 @@ impl<'a, H: Allocator> Layer<'a, H> {
             ((row : NumberedRing) → Contains self.now.rows row → row.number ≢ id)
             (λ shape. Contains self.now.rows (numbered id shape.now.ring.corners)) }
     {
-        self.parcels.shape(id)
+        self.tiled.shape(id)
     }
 
     /// The shapes of all parcels, each beside its id, by ascending id: a shape is a parcel's ring, begun at its least corner, with the
     /// triangles that it is clipped to.
-    #[tactic(auto, using(parcel_table::proofs::Tables::rows_of_shapes))]
     pub fn shapes(&self) -> Shapes<'_, &'a H>
         ensures { map (λ shape. numbered shape.0 shape.1.ring.corners) result ≡ self.now.rows }
     {
-        self.parcels.shapes()
+        self.tiled.shapes()
     }
 
     /// Where a corner lies among the parcels: on the edges of all that have it on one, by ascending id, where there is any; else inside
@@ -194,30 +203,7 @@ impl<'a, H: Allocator> Layer<'a, H> {
     pub fn locate(&self, corner: Corner) -> Result<At<&'a H>, AllocError>
         ensures { IfOk result (λ at. IsLocatedAt self.now.rows (corner_point corner) at) }
     {
-        if !self.index.area().holds(corner) {
-            return Ok(At::Outside);
-        }
-        let mut on_edge = Vec::new(self.parcels.allocator());
-        let mut inside = None;
-        let entries = self.index.at(corner);
-        for entry in entries {
-            if !entry.bounds.holds(corner) {
-                continue;
-            }
-            let parcel = self.parcels.at(entry.key);
-            match side_of(parcel.shape.ring.corners.as_slice(), corner) {
-                Side::OnEdge => on_edge.push(parcel.id)?,
-                Side::Inside => inside = Some(parcel.id),
-                Side::Outside => {}
-            }
-        }
-        if !on_edge.is_empty() {
-            return Ok(At::OnEdge(on_edge));
-        }
-        match inside {
-            Some(id) => Ok(At::Inside(id)),
-            None => Ok(At::Outside),
-        }
+        self.tiled.locate(corner)
     }
 
     /// The ids, ascending, of the parcels that stand in some cell of the grid index between the cells of two corners, these included; a
@@ -239,24 +225,21 @@ impl<'a, H: Allocator> Layer<'a, H> {
             → All (HoldsCorner (record { low = low; high = high })) ring → InteriorsMeet row.corners ring
             → Contains ids.items row.number) }
     {
-        let keys = self.index.between(low, high)?;
-        let mut ids = ids_under(&self.parcels, &keys)?;
-        sort_once(&mut ids);
-        Ok(ids)
+        self.tiled.candidates(low, high)
     }
 
     /// The city's ring, with the corners that were read, begun at its least corner.
     pub fn city(&self) -> &[Corner]
         ensures { result.now ≡ self.now.city }
     {
-        self.city.as_slice()
+        self.tiled.city()
     }
 
     /// The city's ring with all corners of the layer in it that lie inside its edges.
     pub fn refined(&self) -> &[Corner]
         ensures { result.now ≡ self.now.refined }
     {
-        self.refined.as_slice()
+        self.tiled.refined()
     }
 }
 
@@ -312,11 +295,7 @@ pub(crate) fn layer_of<'a, H: Allocator>(
     ensures tiling { IfOk result (λ layer. IsTiling layer.rows layer.city) }
     ensures indexed { IfOk result (λ layer. IsIndexed layer.rows layer.city layer.index) }
 {
-    let (parcels, index) = clip_all(heap, area, numbers, rings)?;
-    Ok(Layer {
-        city,
-        refined,
-        parcels,
-        index,
-    })
+    let tiled = Tiled::of(heap, area, numbers, rings, city, refined)?;
+    tiled.tiles();
+    Ok(Layer { tiled })
 }

@@ -5,6 +5,7 @@ mod all_faults;
 mod box_laws;
 mod candidates;
 mod city;
+mod fabric;
 mod gaps;
 mod grid_index;
 mod journal;
@@ -12,14 +13,17 @@ mod laws;
 mod layer;
 mod limits;
 mod locate;
+mod opening;
 mod refine;
 mod refusal;
 mod rings;
 mod side;
+mod tiled;
 
 pub use all_faults::AllFaults;
 pub use box_laws::{a_parcel_that_meets_a_ring_is_a_candidate, rows_lie_in_the_box_of_their_city};
 pub use city::{City, CityFault};
+pub use fabric::Fabric;
 pub use journal::{Entry, JOURNAL_ENTRIES, Row};
 pub use laws::{
     a_place_off_all_edges_is_inside_one_parcel, a_refined_city_keeps_its_ground,

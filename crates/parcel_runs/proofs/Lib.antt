@@ -5,7 +5,4 @@ pub mod CityLimit
 pub mod SimpleRings
 pub mod RowLimits
 pub mod AllTiles
-pub mod Splits
-pub mod Said
-pub mod Numerals
 pub mod Places

@@ -6,8 +6,8 @@ pub mod TilingFiles
 pub mod CheckReport
 pub mod ExportReport
 pub mod FaultLines
-pub mod TextLines
-pub mod TextNumbers
-pub mod PointLines
 pub mod LocateReport
 pub mod own
+pub use Rattle.line_files.specs.TextLines
+pub use Rattle.line_files.specs.TextNumbers
+pub use Rattle.line_files.specs.PointLines

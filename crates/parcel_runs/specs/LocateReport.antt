@@ -11,7 +11,7 @@ use Rattle.fabric_core.specs.Rows.{Tiles}
 use Rattle.parcel_runs.specs.declared.fault.ToolFault.{ToolFault}
 use Rattle.parcel_runs.specs.declared.fault.ToolFault.TheVariants.{PointLine}
 use Rattle.parcel_runs.specs.FaultLines.{corner_text}
-use Rattle.parcel_runs.specs.PointLines.{ArePoints, IsFirstBadPoint}
+use Rattle.line_files.specs.PointLines.{ArePoints, IsFirstBadPoint}
 use Rattle.parcel_runs.specs.TilingFiles.{Files, AreTiles, IsTilesFault}
 
 -- ` ID`

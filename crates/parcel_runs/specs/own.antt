@@ -1,4 +1,2 @@
 -- Words of the code's own bookkeeping: no public contract speaks of them, and a reader need not believe them.
-pub mod Splitting
-pub mod ReadLines
 pub mod PlaceTexts

@@ -14,16 +14,13 @@ mod layers;
 pub mod locate;
 mod numbers;
 mod output;
-pub mod points;
 mod replace;
 mod report;
 mod sources;
-mod text_lines;
-mod text_numbers;
 mod tiles;
 
 pub use fault::{Role, ToolFault};
+pub use line_files::{PointsFault, read_corner, read_points};
 pub use output::put_all;
 pub use replace::replace_layer;
 pub use sources::{Disk, Folder, PathFault, Source, StandardInput, read_source, read_text};
-pub use text_numbers::read_corner;

@@ -7,19 +7,19 @@ ghost use Rattle.geo_exact.specs.declared.corner.Corner.{Corner as CornerValue};
 ghost use Rattle.parcel_runs.specs.declared.fault.ToolFault.{ToolFault as ToolFaultValue};
 ghost use Rattle.parcel_runs.specs.FaultLines.{corner_text};
 ghost use Rattle.parcel_runs.specs.LocateReport.{id_text, ArePlaceLines, WritesPlaces, WritesPlacesOfText, IsLocateFault};
-ghost use Rattle.parcel_runs.specs.PointLines.{ArePoints, IsFirstBadPoint};
+ghost use Rattle.line_files.specs.PointLines.{ArePoints, IsFirstBadPoint};
 ghost use Rattle.parcel_runs.specs.TilingFiles.{files_of, IsTilesFault};
 ghost use Rattle.parcel_runs.specs.own.PlaceTexts.{place_text};
 
 use crate::fault::ToolFault;
 use crate::numbers::push_corner;
 use crate::output::put_all;
-use crate::points::{PointsFault, read_points};
 use crate::sources::Source;
 use crate::tiles::load_tiles;
 use fabric_core::{At, Layer};
 use geo_exact::{ByteOut, Corner, Unit};
 use itoa::Buffer;
+use line_files::{PointsFault, read_points};
 use std::alloc::{AllocError, Allocator};
 
 /// Writes for each point in order, where the parcels tile their city, `X Y inside ID`, `X Y edge ID ID ..` with all parcels on whose

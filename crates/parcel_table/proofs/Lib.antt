@@ -1,1 +1,5 @@
 pub mod Tables
+pub mod Changes
+pub mod Order
+pub mod Boxes
+pub mod Clones

@@ -10,15 +10,15 @@ use Rattle.slab.proofs.SlabLemmas.{Contains-cons, Contains-cons_cases}
 use Rattle.geo_exact.specs.Layers.{NumberedRing, numbered}
 use Rattle.ring_core.specs.declared.shape.Shape.{Shape}
 use Rattle.parcel_table.specs.declared.parcels.Parcel.{Parcel}
-use Rattle.parcel_table.specs.declared.parcels.Place.{Place}
-use Rattle.parcel_table.specs.declared.parcels.Place.TheVariants.{Unused, Here}
+use Rattle.parcel_table.specs.declared.place.Place.{Place}
+use Rattle.parcel_table.specs.declared.place.Place.TheVariants.{Unused, Retired, Here}
 use Rattle.parcel_table.specs.Table.{ids_of, shapes_of, rows_of, rows_of_keyed, entries_of}
 use Rattle.parcel_table.specs.own.Places.{parcel_at, keyed_at, keyed, shapes_at, ArePlaced, IsTable}
 
 none_in_nil : {X : Type 0} (x : X) → Contains [] x → ⊥
 none_in_nil x h = omega (arith, h.1)
 
-Contains-here : {X : Type 0} (x : X) (xs : List X) → Contains (x ∷ xs) x
+pub Contains-here : {X : Type 0} (x : X) (xs : List X) → Contains (x ∷ xs) x
 Contains-here x xs = (0, omega arith, refl)
 
 module _ {A : Type 0} where
@@ -29,7 +29,7 @@ module _ {A : Type 0} where
   same_parcel p q e = cc
 
   -- ---- tables put together
-  keyed-append : (slab : Slab (Parcel A)) (xs ys : List Place) → keyed slab (xs ++ ys) ≡ keyed slab xs ++ keyed slab ys
+  pub keyed-append : (slab : Slab (Parcel A)) (xs ys : List Place) → keyed slab (xs ++ ys) ≡ keyed slab xs ++ keyed slab ys
   keyed-append slab xs ys = filter_map-append (keyed_at slab) xs ys
 
   keyed-unused : (slab : Slab (Parcel A)) (n : ℕ) → keyed slab (replicate n Unused) ≡ []
@@ -40,27 +40,32 @@ module _ {A : Type 0} where
   placed-unused slab id zero = tt
   placed-unused slab id (suc n) = placed-unused slab (id + 1) n
 
-  placed-append : (slab : Slab (Parcel A)) (id : ℕ) (xs ys : List Place) → ArePlaced slab id xs → ArePlaced slab (id + length xs) ys
+  pub placed-append : (slab : Slab (Parcel A)) (id : ℕ) (xs ys : List Place) → ArePlaced slab id xs → ArePlaced slab (id + length xs) ys
       → ArePlaced slab id (xs ++ ys)
   placed-append slab id [] ys h k = subst (λ n. ArePlaced slab n ys) (omega arith) k
   placed-append slab id (Unused ∷ xs) ys h k =
+      placed-append slab (id + 1) xs ys h (subst (λ n. ArePlaced slab n ys) (omega arith) k)
+  placed-append slab id (Retired by ∷ xs) ys h k =
       placed-append slab (id + 1) xs ys h (subst (λ n. ArePlaced slab n ys) (omega arith) k)
   placed-append slab id (Here key ∷ xs) ys h k =
       (h.0, placed-append slab (id + 1) xs ys h.1 (subst (λ n. ArePlaced slab n ys) (omega arith) k))
 
   -- ---- a slab that has one parcel more
-  module _ (old new : Slab (Parcel A)) (key : ℕ) (slot : Option (Parcel A)) (none : get old key ≡ None) (up : Updates old new key slot) where
+  module _ (old new : Slab (Parcel A)) (key : ℕ) (slot : Option (Parcel A)) (none : get old key ≡ None)
+      (up : Updates old new key slot) where
     kept_at : (k : ℕ) (parcel : Parcel A) → get old k ≡ Some parcel → get new k ≡ get old k
     kept_at k parcel is = up.others k (λ e. no_parcel parcel (sym is ∙ ap (λ n. get old n) e ∙ none))
 
     pub keyed-kept : (id : ℕ) (places : List Place) → ArePlaced old id places → keyed new places ≡ keyed old places
     keyed-kept id [] h = refl
     keyed-kept id (Unused ∷ places) h = keyed-kept (id + 1) places h
+    keyed-kept id (Retired by ∷ places) h = keyed-kept (id + 1) places h
     keyed-kept id (Here k ∷ places) h = rw (kept_at k h.0.0 h.0.1, keyed-kept (id + 1) places h.1) refl
 
     pub placed-kept : (id : ℕ) (places : List Place) → ArePlaced old id places → ArePlaced new id places
     placed-kept id [] h = tt
     placed-kept id (Unused ∷ places) h = placed-kept (id + 1) places h
+    placed-kept id (Retired by ∷ places) h = placed-kept (id + 1) places h
     placed-kept id (Here k ∷ places) h =
         ((h.0.0, kept_at k h.0.0 h.0.1 ∙ h.0.1, h.0.2), placed-kept (id + 1) places h.1)
 
@@ -71,19 +76,23 @@ module _ {A : Type 0} where
 
   -- ids that were never given out change no parcel
   pub filled : (slab : Slab (Parcel A)) (places : List Place) (n : ℕ) → keyed slab (places ++ replicate n Unused) ≡ keyed slab places
-  filled slab places n = keyed-append slab places (replicate n Unused) ∙ ap (λ xs. keyed slab places ++ xs) (keyed-unused slab n) ∙ append-nil (keyed slab places)
+  filled slab places n = keyed-append slab places (replicate n Unused) ∙ ap (λ xs. keyed slab places ++ xs) (keyed-unused slab n)
+      ∙ append-nil (keyed slab places)
 
-  pub filled_table : (slab : Slab (Parcel A)) (places : List Place) (n : ℕ) → IsTable slab places → IsTable slab (places ++ replicate n Unused)
+  pub filled_table : (slab : Slab (Parcel A)) (places : List Place) (n : ℕ) → IsTable slab places
+      → IsTable slab (places ++ replicate n Unused)
   filled_table slab places n h = record {
     are_placed = placed-append slab 0 places (replicate n Unused) h.are_placed (placed-unused slab (0 + length places) n);
     are_all = h.are_all ∙ ap length (sym (filled slab places n));
   }
 
   -- only the slab's room has changed
-  pub roomier : (old new : Slab (Parcel A)) (places : List Place) (n : ℕ) → new ≡ record old { capacity = n } → IsTable old places → IsTable new places
+  pub roomier : (old new : Slab (Parcel A)) (places : List Place) (n : ℕ) → new ≡ record old { capacity = n } → IsTable old places
+      → IsTable new places
   roomier old new places n e h = subst (λ slab. IsTable slab places) (sym e) (record { are_placed = h.are_placed; are_all = h.are_all })
 
-  pub pushed : (old new : Slab (Parcel A)) (places : List Place) (key : ℕ) (parcel : Parcel A) → IsTable old places → length places ≡ parcel.id
+  pub pushed : (old new : Slab (Parcel A)) (places : List Place) (key : ℕ) (parcel : Parcel A) → IsTable old places
+      → length places ≡ parcel.id
       → get old key ≡ None → Updates old new key (Some parcel) → slab_len new ≡ slab_len old + 1
       → IsPushed old new places (places ++ Here key ∷ []) key parcel
   pushed old new places key parcel h at none up more = record {
@@ -109,11 +118,15 @@ module _ {A : Type 0} where
       → (key : ℕ) × Contains (keyed slab places) (key, parcel) × (parcel.id ≡ first + k)
   found_at slab first [] k parcel h is = absurd (no_parcel parcel (sym is))
   found_at slab first (Unused ∷ places) zero parcel h is = absurd (no_parcel parcel (sym is))
+  found_at slab first (Retired by ∷ places) zero parcel h is = absurd (no_parcel parcel (sym is))
   found_at slab first (Here other ∷ places) zero parcel h is =
       let this : h.0.0 ≡ parcel = same_parcel h.0.0 parcel (sym h.0.1 ∙ is) in
       let number : h.0.0.id ≡ parcel.id = ap (λ (p : Parcel A). p.id) this in
       (other, rw is (Contains-here (other, parcel) (keyed slab places)), sym number ∙ h.0.2 ∙ omega arith)
   found_at slab first (Unused ∷ places) (suc k) parcel h is =
+      let w = found_at slab (first + 1) places k parcel h is in
+      let number : parcel.id ≡ first + 1 + k = w.2 in (w.0, w.1, omega (arith, number))
+  found_at slab first (Retired by ∷ places) (suc k) parcel h is =
       let w = found_at slab (first + 1) places k parcel h is in
       let number : parcel.id ≡ first + 1 + k = w.2 in (w.0, w.1, omega (arith, number))
   found_at slab first (Here other ∷ places) (suc k) parcel h is =
@@ -142,10 +155,21 @@ module _ {A : Type 0} where
         leads = w.leads;
         is_there = w.is_there;
       }
+  stands_at slab first (Retired by ∷ places) key parcel h c = later (stands_at slab (first + 1) places key parcel h c)
+    where
+      later : StandsAt slab (first + 1) places key parcel → StandsAt slab first (Retired by ∷ places) key parcel
+      later w = record {
+        place = suc w.place;
+        below = omega (arith, w.below);
+        is_id = omega (arith, w.is_id);
+        leads = w.leads;
+        is_there = w.is_there;
+      }
   stands_at slab first (Here other ∷ places) key parcel h c = ⊎_elim
       (λ e. here (ap (λ (p : ℕ × Parcel A). p.0) e) (ap (λ (p : ℕ × Parcel A). p.1) e))
       (λ c'. later (stands_at slab (first + 1) places key parcel h.1 c'))
-      (Contains-cons_cases (other, h.0.0) (key, parcel) (keyed slab places) (subst (λ o. Contains (cons_option (with_key o) (keyed slab places)) (key, parcel)) h.0.1 c))
+      (Contains-cons_cases (other, h.0.0) (key, parcel) (keyed slab places)
+      (subst (λ o. Contains (cons_option (with_key o) (keyed slab places)) (key, parcel)) h.0.1 c))
     where
       with_key : Option (Parcel A) → Option (ℕ × Parcel A)
       with_key o = option_map (λ p. (other, p)) o
@@ -180,6 +204,7 @@ module _ {A : Type 0} where
   pub shapes_of_keyed : (slab : Slab (Parcel A)) (places : List Place) → shapes_of (keyed slab places) ≡ shapes_at slab places
   shapes_of_keyed slab [] = refl
   shapes_of_keyed slab (Unused ∷ places) = shapes_of_keyed slab places
+  shapes_of_keyed slab (Retired by ∷ places) = shapes_of_keyed slab places
   shapes_of_keyed slab (Here key ∷ places) = by_slot (get slab key) (shapes_of_keyed slab places)
     where
       by_slot : (slot : Option (Parcel A)) → shapes_of (keyed slab places) ≡ shapes_at slab places
@@ -217,9 +242,11 @@ module _ {A : Type 0} where
       → Contains (rows_of_keyed parcels) (numbered parcel.id parcel.shape.ring.corners)
   row_of_parcel [] key parcel c = absurd (none_in_nil (key, parcel) c)
   row_of_parcel (first ∷ parcels) key parcel c = ⊎_elim
-      (λ e. subst (λ (p : Parcel A). Contains (rows_of_keyed (first ∷ parcels)) (numbered p.id p.shape.ring.corners)) (ap (λ (p : ℕ × Parcel A). p.1) e)
+      (λ e. subst (λ (p : Parcel A). Contains (rows_of_keyed (first ∷ parcels)) (numbered p.id p.shape.ring.corners))
+      (ap (λ (p : ℕ × Parcel A). p.1) e)
       (Contains-here (numbered first.1.id first.1.shape.ring.corners) (rows_of_keyed parcels)))
-      (λ later. Contains-cons (numbered first.1.id first.1.shape.ring.corners) (numbered parcel.id parcel.shape.ring.corners) (rows_of_keyed parcels)
+      (λ later. Contains-cons (numbered first.1.id first.1.shape.ring.corners) (numbered parcel.id parcel.shape.ring.corners)
+      (rows_of_keyed parcels)
       (row_of_parcel parcels key parcel later))
       (Contains-cons_cases first (key, parcel) parcels c)
 

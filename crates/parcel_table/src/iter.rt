@@ -3,7 +3,8 @@ ghost use Rattle.slab.specs.Slab.{slab_len};
 ghost use Rattle.std.specs.Iterator.{YieldsFirst, YieldsFirstBy, item_count};
 ghost use Rattle.parcel_table.specs.own.Places.{shapes_at};
 
-use crate::parcels::{Parcel, Place, parcel_of};
+use crate::parcels::Parcel;
+use crate::place::{Place, parcel_of};
 use ring_core::Shape;
 use slab::Slab;
 use std::alloc::Allocator;

@@ -1,20 +1,15 @@
 -- How the code keeps rows: their numbers in one list, and their rings in another. Public contracts do not speak of it.
 use Rattle.std.specs.Prelude.{◌≡◌, ℕ, ◌≤◌, List, [], ◌∷◌, length, map, ◌+◌, ◌*◌}
-use Rattle.std.specs.List.{All, AllZip, AllByRecursion, Contains}
-use Rattle.std.specs.List.Sorted.{IsStrictlyIncreasing}
+use Rattle.std.specs.List.{AllZip, Contains}
 use Rattle.geo_exact.specs.declared.corner.Corner.{Corner}
-use Rattle.geo_exact.specs.Bounds.{HoldsCorner, IsLeastBox}
-use Rattle.cell_index.specs.Cells.{Grid, Indexes}
+use Rattle.cell_index.specs.declared.entry.Entry.{Entry}
 use Rattle.geo_exact.specs.Rings.{begun_at_least}
 use Rattle.geo_exact.specs.Layers.{NumberedRing, numbered}
 use Rattle.geo_exact.specs.declared.limits.TheConstants.{LAYER_CORNERS, RING_CORNERS}
 use Rattle.ring_core.specs.declared.ring.Ring.{Ring}
 use Rattle.edge_chains.specs.Noding.{IsNoded, all_corners}
 use Rattle.parcel_table.specs.declared.parcels.Parcel.{Parcel}
-use Rattle.parcel_table.specs.Table.{rows_of_keyed, entries_of}
-use Rattle.fabric_core.specs.Tiling.{IsTiling}
 use Rattle.fabric_core.specs.Rows.{corners_of_layer, numbers}
-use Rattle.fabric_core.specs.Limits.{AreWithinLimits}
 
 -- the rings under the numbers at their places
 abbrev pub numbered_rows : List ℕ → List (List Corner) → List NumberedRing
@@ -34,18 +29,12 @@ pub record AreNodedRings (records : List NumberedRing) (city : List Corner) (ids
   pub are_begun : rings ≡ map begun_at_least noded
   pub is_refined : IsNoded city (corners_of_layer records city) refined
 
--- what a `Layer` keeps: rows by ascending id, within the limits, that tile the city
-pub record IsLayer (rows : List NumberedRing) (city : List Corner) : Type 0 where
-  pub ids_rise : IsStrictlyIncreasing (numbers rows)
-  pub within : AreWithinLimits rows
-  pub tiles : IsTiling rows city
-
--- what it keeps beside: the index of the parcels' boxes over the city's least box, in which all rows lie
-pub record IsKept {A : Type 0} (parcels : List (ℕ × Parcel A)) (city : List Corner) (index : Grid) : Type 0 where
-  pub is_layer : IsLayer (rows_of_keyed parcels) city
-  pub area : IsLeastBox index.area city
-  pub in_area : AllByRecursion (λ row. All (HoldsCorner index.area) row.corners) (rows_of_keyed parcels)
-  pub indexed : Indexes index (entries_of parcels)
+-- the entry is that of the parcel with this id: its key and its box
+pub record IsEntryAt {A : Type 0} (parcels : List (ℕ × Parcel A)) (id : ℕ) (entry : Entry) : Type 0 where
+  pub parcel : Parcel A
+  pub is_here : Contains parcels (entry.key, parcel)
+  pub has_id : parcel.id ≡ id
+  pub has_box : entry.bounds ≡ parcel.shape.bounds
 
 -- the parcel under this key, where there is one, has this id
 abbrev pub IsIdOf : {A : Type 0} → List (ℕ × Parcel A) → ℕ → ℕ → Type 0

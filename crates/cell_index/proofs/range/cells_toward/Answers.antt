@@ -23,4 +23,4 @@ returns c =
     c.into_range-west.result c.into_range-east.result c.into_range-south.result c.into_range-north.result i j
     (simp to_z-of_z at c.into_range-west.ensures) (simp to_z-of_z at c.into_range-east.ensures)
     (simp to_z-of_z at c.into_range-south.ensures) (simp to_z-of_z at c.into_range-north.ensures)
-    (simp to_z-of_z at (c.cells_from_to.ensures i h)) (simp to_z-of_z at (c.cells_from_to-2.ensures j k))
+    (simp to_z-of_z at (c.cells_from_to.ensures.cells i h)) (simp to_z-of_z at (c.cells_from_to-2.ensures.cells j k))

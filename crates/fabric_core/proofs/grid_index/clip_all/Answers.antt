@@ -1,4 +1,4 @@
-use Rattle.std.proofs.Common.{rules, ◌≡◌, ◌∙◌, ap, subst, sym, [], ◌∷◌, ◌++◌, length, get_or}
+use Rattle.std.proofs.Common.{rules, refl, ℕ, zero, suc, Option, None, slice_index_or, ◌≡◌, ◌∙◌, ap, subst, sym, [], ◌∷◌, ◌++◌, length, get_or}
 use Rattle.std.proofs.lemmas.List.{length-append, length-map}
 use Rattle.geo_exact.specs.Layers.{numbered}
 use Rattle.fabric_core.specs.own.Lists.{corners_of_rings}
@@ -8,6 +8,11 @@ use Rattle.fabric_core.proofs.Clipped.{none_clipped, one_clipped, all_clipped}
 use Rattle.fabric_core.proofs.ToldRings.{nil_of_no_length}
 use Rattle.parcel_table.proofs.Tables.{rows_of_keyed-push, entries_of-push}
 use Rattle.fabric_core.proofs.grid_index.clip_all.Goals as goal
+
+-- no id has a fate in an empty list
+nothing_there : (id : ℕ) → slice_index_or {X = Option ℕ} [] id None ≡ None
+nothing_there zero = refl
+nothing_there (suc id) = refl
 
 pub loop-ring-init : goal.loop-ring-init
 loop-ring-init g c =
@@ -20,6 +25,7 @@ loop-ring-init g c =
           (ap length c.in_ok-parcels.ensures.empty);
       area = c.in_ok-index.ensures.area;
       indexed = subst (λ parcels. Indexes c.in_ok-index.index (entries_of parcels)) (sym c.in_ok-parcels.ensures.empty) c.in_ok-index.ensures.empty;
+      none_gone = λ id. ap (λ fates. slice_index_or fates id None) c.in_ok-parcels.ensures.fates ∙ nothing_there id;
     }
 
 pub loop-ring-preserved : goal.loop-ring-preserved
@@ -42,6 +48,7 @@ loop-ring-preserved g c =
       indexed = subst (Indexes c.add.new.self)
           (sym (ap entries_of c.in_ok-key.ensures.parcels ∙ entries_of-push old key (record { id = c.from.result; shape = shape })))
           (c.in_ok-add.ensures.ok (entries_of old) c.loop-ring.invariant.indexed);
+      none_gone = λ id. c.push.ensures.fates id ∙ c.loop-ring.invariant.none_gone id;
     }
 
 pub returns-clause-rows : goal.returns-clause-rows
@@ -49,3 +56,6 @@ returns-clause-rows g c =
     all_clipped c.args.numbers.now (corners_of_rings c.args.rings.items) (corners_of_rings c.loop-ring.ring-iterator.rest.items)
     (rows_of_keyed c.loop-ring.parcels.parcels) c.loop-ring.parcels.next (length c.loop-ring.parcels.parcels)
     (ap corners_of_rings (nil_of_no_length _ (sym c.loop-ring.ring-iterator.rest.ok.0 ∙ c.in-None.ensures.steps.0))) c.loop-ring.invariant.clipped
+
+pub returns-clause-next : goal.returns-clause-next
+returns-clause-next g c = c.loop-ring.invariant.clipped.next_is

@@ -1,7 +1,7 @@
-use Rattle.std.proofs.Common.{◌≡◌, length}
+use Rattle.std.proofs.Common.{◌≡◌, ℕ, None, length}
 use Rattle.cell_index.specs.Cells.{Indexes}
 use Rattle.fabric_core.specs.own.Lists.{corners_of_rings}
-use Rattle.parcel_table.specs.Table.{rows_of_keyed, entries_of}
+use Rattle.parcel_table.specs.Table.{rows_of_keyed, entries_of, retired_by}
 use Rattle.fabric_core.proofs.Clipped.{AreClipped}
 use Rattle.fabric_core.proofs.grid_index.clip_all.Given as goal
 
@@ -12,4 +12,5 @@ invariant-loop-ring g l = record {
       (rows_of_keyed l.parcels.parcels) l.parcels.next (length l.parcels.parcels);
   area : l.index.area ≡ l.fn.area;
   indexed : Indexes l.index (entries_of l.parcels.parcels);
+  none_gone : (id : ℕ) → retired_by l.parcels id ≡ None;
 }

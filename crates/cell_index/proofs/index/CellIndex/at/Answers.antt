@@ -4,10 +4,10 @@ use Rattle.std.proofs.lemmas.List.{get_or_default}
 use Rattle.geo_exact.specs.Bounds.{HoldsCorner}
 use Rattle.cell_index.specs.declared.axis.TheConstants.{ACROSS}
 use Rattle.std.specs.List.{filter}
-use Rattle.cell_index.specs.Cells.{column, row, stands_at, Indexes}
+use Rattle.cell_index.specs.Cells.{column, row, stands_at, narrow, Indexes}
 use Rattle.cell_index.specs.own.Ranges.{no_cell}
 use Rattle.cell_index.proofs.Along.{under_cap, corner_in_grid}
-use Rattle.cell_index.proofs.Indexed.{item_at}
+use Rattle.cell_index.proofs.Keeping.{items_shown}
 use Rattle.cell_index.proofs.index.CellIndex.at.Goals as goal
 
 pub index-requires : goal.index-requires
@@ -41,10 +41,10 @@ returns g c = λ entries index.
     let k : 64 * c.cell_of-column.result + c.cell_of-row.result ≡ 64 * column a p.x + row a p.y =
     ap (λ n. 64 * n + c.cell_of-row.result) i ∙ ap (λ n. 64 * column a p.x + n) j in
     let all : 64 * column a p.x + row a p.y < length c.self.inside.cells.items = omega (arith, inside.0, inside.1, c.self.invariant) in
-    subst (λ grid. c.as_slice.result.now ≡ filter (λ entry. stands_at grid.area p entry.bounds) entries) c.self.view_is
+    subst (λ grid. c.as_slice.result.now ≡ filter (λ entry. stands_at grid.area p entry.bounds) (narrow grid.area entries)) c.self.view_is
     (c.as_slice.ensures
     ∙ ap (λ x. x.items)
     (c.index.ensures ∙ ap (λ n. get_or c.self.inside.cells.items n c.index.result.now) k
     ∙ get_or_default c.self.inside.cells.items (64 * column a p.x + row a p.y) c.index.result.now no_cell all)
-    ∙ sym (item_at c.self.inside.cells.items (64 * column a p.x + row a p.y) all)
-    ∙ subst (λ grid. Indexes grid entries) (sym c.self.view_is) index (column a p.x) (row a p.y) inside.0 inside.1)
+    ∙ sym (items_shown a c.self.inside.cells.items c.self.invariant entries (64 * column a p.x + row a p.y) (omega (arith, inside.0, inside.1)))
+    ∙ (subst (λ grid. Indexes grid entries) (sym c.self.view_is) index).in_cells (column a p.x) (row a p.y) inside.0 inside.1)

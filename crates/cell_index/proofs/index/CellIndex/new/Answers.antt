@@ -1,7 +1,8 @@
-use Rattle.std.proofs.Common.{◌≡◌, arith, ◌∙◌, ◌+◌, ◌*◌, ◌<◌, ap, length, []}
-use Rattle.std.proofs.lemmas.List.{get_or-map, length_push}
+use Rattle.std.proofs.Common.{◌≡◌, arith, ◌∙◌, ◌+◌, ap, length, []}
+use Rattle.std.proofs.lemmas.List.{length_push}
 use Rattle.std.proofs.lemmas.List.Elements.{All-push}
 use Rattle.cell_index.specs.own.Ranges.{no_cell}
+use Rattle.cell_index.proofs.Keeping.{shows}
 use Rattle.cell_index.proofs.index.CellIndex.new.Goals as goal
 
 pub loop-init : goal.loop-init
@@ -20,6 +21,7 @@ pub invariant_of-result : goal.invariant_of-result
 invariant_of-result g c = omega (arith, c.loop.invariant.so_many, c.loop-test.false, c.loop.auto.counter-end)
 
 pub returns-clause-empty : goal.returns-clause-empty
-returns-clause-empty g c i j h k =
-    let inside : 64 * i + j < length c.loop.cells.items = omega (arith, c.loop.invariant.so_many, c.loop-test.false, h, k) in
-    get_or-map (λ x. x.items) c.loop.cells.items (64 * i + j) no_cell [] inside ∙ c.loop.invariant.empty (64 * i + j) no_cell inside
+returns-clause-empty g c =
+    let all : length c.loop.cells.items ≡ 4097 = omega (arith, c.loop.invariant.so_many, c.loop-test.false, c.loop.auto.counter-end) in
+    shows c.args.area c.loop.cells.items all []
+    (λ k inside. c.loop.invariant.empty k no_cell (omega (arith, inside, all)))

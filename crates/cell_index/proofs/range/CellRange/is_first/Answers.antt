@@ -1,12 +1,10 @@
-use Rattle.std.proofs.Common.{◌≡◌, ◌∙◌, ap, sym, Bool, false, ◌&&◌, arith, FitsSigned, w64}
+use Rattle.std.proofs.Common.{◌∙◌, ap, arith, FitsSigned, w64}
 use Rattle.std.proofs.lemmas.Int.{ints, to_z-of_z}
 use Rattle.geo_exact.proofs.InBoxes.{both_tests}
 use Rattle.cell_index.specs.Cells.{column, row}
 use Rattle.cell_index.specs.own.Ranges.{column_at, row_at, is_first_common}
+use Rattle.cell_index.proofs.Members.{none_test}
 use Rattle.cell_index.proofs.range.CellRange.is_first.Goals as goal
-
-none_test : (r p q : Bool) → r ≡ p → r ≡ false → r ≡ (p && q)
-none_test r p q h f = f ∙ ap (λ x. x && q) (sym f ∙ h)
 
 pub returns-then-is_first_common : goal.returns-then-is_first_common
 returns-then-is_first_common c =

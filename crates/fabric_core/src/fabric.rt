@@ -1,0 +1,198 @@
+ghost use Rattle.std.specs.Prelude.{◌≡◌, ◌≢◌, ◌⊎◌, ◌↔◌, ◌+◌, ◌≤ℤ◌, ℕ, List, [], ◌∷◌, ◌++◌, length, map, IfOk, IfErr, IsErrAnd, OnErr, MatchOption};
+ghost use Rattle.std.specs.List.{All, Contains};
+ghost use Rattle.std.specs.List.Sorted.{IsStrictlyIncreasing};
+ghost use Rattle.geo_exact.specs.declared.corner.Corner.{Corner};
+ghost use Rattle.geo_exact.specs.Point.{corner_point};
+ghost use Rattle.geo_exact.specs.Bounds.{HoldsCorner};
+ghost use Rattle.geo_exact.specs.Interiors.{InteriorsMeet};
+ghost use Rattle.geo_exact.specs.Layers.{NumberedRing, numbered};
+ghost use Rattle.ring_edits.specs.Edits.{CoversAlike};
+ghost use Rattle.fabric_core.specs.declared.refusal.Refusal.{Refusal};
+ghost use Rattle.fabric_core.specs.declared.refusal.Refusal.TheVariants.{NoMemory};
+ghost use Rattle.fabric_core.specs.Tiling.{IsTiling};
+ghost use Rattle.fabric_core.specs.Rows.{numbers};
+ghost use Rattle.fabric_core.specs.Limits.{AreWithinLimits};
+ghost use Rattle.fabric_core.specs.GridIndex.{IsIndexed, IsCandidate};
+ghost use Rattle.fabric_core.specs.Locate.{IsLocatedAt};
+ghost use Rattle.fabric_core.specs.Journal.{opening_state, after_entry, replay};
+ghost use Rattle.fabric_core.specs.EditResults.{IsEntryOf, IsLawful};
+ghost use Rattle.fabric_core.specs.Refusals.{IsRefusal};
+
+use crate::journal::Entry;
+use crate::layer::Layer;
+use crate::locate::At;
+use crate::opening::{Opening, opening_of};
+use crate::refusal::Refusal;
+use crate::tiled::Tiled;
+use geo_exact::Corner;
+use parcel_table::{Ids, Shapes};
+use ring_core::{Ring, Shape};
+use ring_edits::Edit;
+use std::alloc::{AllocError, Allocator};
+use std::marker::Model;
+
+/// A fabric of parcels: a layer that clerks edit, with the journal of all edits since it was opened. At each moment the parcels tile
+/// the city, the grid index has exactly the parcels in its cells, and the journal, replayed on the rows that were opened, gives the
+/// rows. An accepted edit adds one entry to the journal; a refused one changes nothing.
+///
+/// Contracts see the city's ring as it was read, the state in which the fabric was opened and the state now (the rows by ascending id,
+/// the city's refined ring, the next id), the index, and the journal. Corners are in whole centimetres.
+#[derive(Drop)]
+pub struct Fabric<'a, H: Allocator> {
+    tiled: Tiled<'a, H>,
+    opening: Opening<&'a H>,
+    journal: Vec<Entry<&'a H>, &'a H>,
+}
+
+impl<'a, H: Allocator> Model for Fabric<'a, H> {
+    ghost use Rattle.std.specs.Borrow.{Bor};
+    ghost use Rattle.fabric_core.specs.Journal.{Book};
+    ghost use Rattle.fabric_core.specs.own.Books.{IsBook, state_of};
+
+    ghost Value = { Book (Bor H) };
+
+    ghost view = { λ fabric. record {
+      city = fabric.tiled.city;
+      opening = fabric.opening;
+      now = state_of fabric.tiled;
+      index = fabric.tiled.index;
+      journal = fabric.journal.items;
+    } };
+
+    ghost invariant = { λ fabric. IsBook fabric.opening fabric.journal.items fabric.tiled };
+}
+
+impl<'a, H: Allocator> Fabric<'a, H> {
+    /// Opens a layer to be edited; its ids stay, and the next id is one above the greatest. The journal is empty.
+    ///
+    /// # Errors
+    ///
+    /// The layer comes back where an allocation is refused.
+    pub fn open(layer: Layer<'a, H>) -> Result<Fabric<'a, H>, Layer<'a, H>>
+        ensures city { IfOk result (λ fabric. fabric.city ≡ layer.entry.city) }
+        ensures opening { IfOk result (λ fabric. fabric.opening ≡ opening_state layer.entry.rows layer.entry.refined) }
+        ensures now { IfOk result (λ fabric. fabric.now ≡ fabric.opening) }
+        ensures index { IfOk result (λ fabric. fabric.index ≡ layer.entry.index) }
+        ensures journal { IfOk result (λ fabric. fabric.journal ≡ []) }
+        ensures back { IfErr result (λ back. back ≡ layer.entry) }
+    {
+        match opening_of(layer.tiled()) {
+            Ok(opening) => {
+                let tiled = layer.into_tiled();
+                let journal = Vec::new(tiled.allocator());
+                Ok(Fabric {
+                    tiled,
+                    opening,
+                    journal,
+                })
+            }
+            Err(_) => Err(layer),
+        }
+    }
+
+    /// The parcels tile the city and are within the limits of a layer; in the cells of the grid index stand exactly the parcels; the
+    /// city's refined ring covers what the city's ring covers; and the journal is lawful, and leads from the opening to what is now.
+    pub fn tiles(&self)
+        ensures tiling { IsTiling self.now.now.rows self.now.city }
+        ensures within { AreWithinLimits self.now.now.rows }
+        ensures indexed { IsIndexed self.now.now.rows self.now.city self.now.index }
+        ensures ground { CoversAlike self.now.city self.now.now.refined }
+        ensures lawful { IsLawful self.now.opening self.now.journal }
+        ensures replays { replay self.now.opening self.now.journal ≡ self.now.now }
+    {
+        self.tiled.tiles();
+    }
+
+    /// The journal: all entries since the fabric was opened, in order.
+    pub fn journal(&self) -> &[Entry<&'a H>]
+        ensures { result.now ≡ self.now.journal }
+    {
+        self.journal.as_slice()
+    }
+
+    /// How many entries the journal has.
+    pub fn entries(&self) -> u64
+        ensures { result ≡ length self.now.journal }
+    {
+        self.journal.len() as u64
+    }
+
+    /// The parcels' ids, ascending.
+    pub fn ids(&self) -> Ids<'_, &'a H>
+        ensures ids { result ≡ numbers self.now.now.rows }
+        ensures ascending { IsStrictlyIncreasing result }
+    {
+        self.tiled.ids()
+    }
+
+    /// The ring of a parcel, begun at its least corner; `None` where the id is no parcel's. It is found at once.
+    pub fn ring(&self, id: u64) -> Option<&Ring<&'a H>>
+        ensures { MatchOption result
+            ((row : NumberedRing) → Contains self.now.now.rows row → row.number ≢ id)
+            (λ ring. Contains self.now.now.rows (numbered id ring.now.corners)) }
+    {
+        let shape = self.shape(id)?;
+        Some(&shape.ring)
+    }
+
+    /// The shape of a parcel, which is its ring with the triangles that it is clipped to; `None` where the id is no parcel's. It is
+    /// found at once.
+    pub fn shape(&self, id: u64) -> Option<&Shape<&'a H>>
+        ensures { MatchOption result
+            ((row : NumberedRing) → Contains self.now.now.rows row → row.number ≢ id)
+            (λ shape. Contains self.now.now.rows (numbered id shape.now.ring.corners)) }
+    {
+        self.tiled.shape(id)
+    }
+
+    /// The shapes of all parcels, each beside its id, by ascending id.
+    pub fn shapes(&self) -> Shapes<'_, &'a H>
+        ensures { map (λ shape. numbered shape.0 shape.1.ring.corners) result ≡ self.now.now.rows }
+    {
+        self.tiled.shapes()
+    }
+
+    /// Where a corner lies among the parcels, as [`Layer::locate`].
+    ///
+    /// # Errors
+    ///
+    /// [`AllocError`] where the list of ids is refused.
+    pub fn locate(&self, corner: Corner) -> Result<At<&'a H>, AllocError>
+        ensures { IfOk result (λ at. IsLocatedAt self.now.now.rows (corner_point corner) at) }
+    {
+        self.tiled.locate(corner)
+    }
+
+    /// The ids, ascending, of the parcels that stand in some cell of the grid index between the cells of two corners, as
+    /// [`Layer::candidates`].
+    ///
+    /// # Errors
+    ///
+    /// [`AllocError`] where the list of ids is refused.
+    pub fn candidates(&self, low: Corner, high: Corner) -> Result<Vec<u64, &'a H>, AllocError>
+        requires eastward { low.x ≤ℤ high.x }
+        requires northward { low.y ≤ℤ high.y }
+        ensures ascend { IfOk result (λ ids. IsStrictlyIncreasing ids.items) }
+        ensures exactly { IfOk result (λ ids. (id : ℕ)
+            → Contains ids.items id ↔ IsCandidate self.now.now.rows self.now.city low high id) }
+        ensures meeting { IfOk result (λ ids. (row : NumberedRing) (ring : List Corner) → Contains self.now.now.rows row
+            → All (HoldsCorner (record { low = low; high = high })) ring → InteriorsMeet row.corners ring
+            → Contains ids.items row.number) }
+    {
+        self.tiled.candidates(low, high)
+    }
+
+    /// The city's ring, with the corners that were read, begun at its least corner.
+    pub fn city(&self) -> &[Corner]
+        ensures { result.now ≡ self.now.city }
+    {
+        self.tiled.city()
+    }
+
+    /// The city's ring with all corners of the parcels in it that lie inside its edges.
+    pub fn refined(&self) -> &[Corner]
+        ensures { result.now ≡ self.now.now.refined }
+    {
+        self.tiled.refined()
+    }
+}

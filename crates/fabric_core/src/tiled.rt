@@ -1,0 +1,321 @@
+ghost use Rattle.std.specs.Prelude.{◌≡◌, ◌≢◌, ◌↔◌, ◌+◌, ◌≤◌, ◌≤ℤ◌, ℕ, List, [], ◌∷◌, ◌++◌, length, map, IfOk, OnOk, OnErr, MatchOption};
+ghost use Rattle.std.specs.List.{All, Contains};
+ghost use Rattle.std.specs.List.Sorted.{IsStrictlyIncreasing};
+ghost use Rattle.geo_exact.specs.declared.corner.Corner.{Corner};
+ghost use Rattle.geo_exact.specs.Point.{corner_point};
+ghost use Rattle.geo_exact.specs.Bounds.{HoldsCorner, IsLeastBox};
+ghost use Rattle.geo_exact.specs.Interiors.{InteriorsMeet};
+ghost use Rattle.geo_exact.specs.Layers.{NumberedRing, numbered};
+ghost use Rattle.fabric_core.specs.Tiling.{IsTiling};
+ghost use Rattle.ring_edits.specs.Edits.{CoversAlike};
+ghost use Rattle.fabric_core.specs.Rows.{numbers};
+ghost use Rattle.fabric_core.specs.Limits.{AreWithinLimits};
+ghost use Rattle.fabric_core.specs.GridIndex.{IsIndexed, IsCandidate};
+ghost use Rattle.fabric_core.specs.Locate.{IsLocatedAt};
+ghost use Rattle.fabric_core.specs.own.Checks.{HaveNoFault, IsChecked};
+ghost use Rattle.fabric_core.specs.Journal.{without_ids};
+ghost use Rattle.fabric_core.specs.own.Kept.{IsExchanged, IsFresh, MayBeKept};
+ghost use Rattle.fabric_core.specs.own.Lists.{numbered_rows, corners_of_rings, IsEntryAt};
+ghost use Rattle.parcel_table.specs.Table.{HasId};
+
+use crate::candidates::{ids_under, sort_once};
+use crate::grid_index::clip_all;
+use crate::locate::At;
+use crate::side::{Side, side_of};
+use cell_index::{CellIndex, Entry};
+use geo_exact::{Bounds, Corner, Corners};
+use parcel_table::{Fate, Ids, Parcels, Shapes};
+use ring_core::{Ring, Shape};
+use std::alloc::{AllocError, Allocator};
+use std::marker::Model;
+
+/// Parcels that tile a city, with the grid index of their boxes: what a layer is, and what a fabric changes.
+#[derive(Drop)]
+pub(crate) struct Tiled<'a, H: Allocator> {
+    city: Corners<&'a H>,
+    refined: Corners<&'a H>,
+    parcels: Parcels<&'a H>,
+    index: CellIndex<'a, H>,
+}
+
+impl<'a, H: Allocator> Model for Tiled<'a, H> {
+    ghost use Rattle.parcel_table.specs.Table.{rows_of_keyed};
+    ghost use Rattle.fabric_core.specs.own.Kept.{Kept, IsKept};
+
+    ghost Value = { Kept };
+
+    ghost view = { λ tiled. record {
+      rows = rows_of_keyed tiled.parcels.parcels;
+      city = tiled.city;
+      refined = tiled.refined;
+      index = tiled.index;
+      next = tiled.parcels.next;
+      fates = tiled.parcels.fates;
+    } };
+
+    ghost invariant = { λ tiled. IsKept tiled.parcels.parcels tiled.city tiled.refined tiled.index };
+}
+
+impl<'a, H: Allocator> Tiled<'a, H> {
+    /// The parcels of rings that have no fault, in a city that is refined.
+    pub(crate) fn of(
+        heap: &'a H,
+        area: Bounds,
+        numbers: &[u32],
+        rings: Vec<Ring<&'a H>, &'a H>,
+        city: Corners<&'a H>,
+        refined: Corners<&'a H>,
+    ) -> Result<Tiled<'a, H>, AllocError>
+        requires checked { IsChecked numbers.now (corners_of_rings rings.items) city refined }
+        requires area { IsLeastBox area city }
+        ensures rows { IfOk result (λ tiled. tiled.rows ≡ numbered_rows numbers.now (corners_of_rings rings.entry.items)) }
+        ensures city { IfOk result (λ tiled. tiled.city ≡ city.entry) }
+        ensures refined { IfOk result (λ tiled. tiled.refined ≡ refined.entry) }
+        ensures no_fault { IfOk result (λ tiled. HaveNoFault tiled.rows tiled.refined) }
+        ensures fresh { IfOk result (λ tiled. IsFresh tiled) }
+    {
+        let (parcels, index) = clip_all(heap, area, numbers, rings)?;
+        Ok(Tiled {
+            city,
+            refined,
+            parcels,
+            index,
+        })
+    }
+
+    /// The rows tile the city, and are within the limits of a layer; and in the cells of the grid index stand exactly the rows.
+    pub(crate) fn tiles(&self)
+        ensures tiling { IsTiling self.now.rows self.now.city }
+        ensures within { AreWithinLimits self.now.rows }
+        ensures indexed { IsIndexed self.now.rows self.now.city self.now.index }
+        ensures ground { CoversAlike self.now.city self.now.refined }
+    {
+        let _ = &self.city;
+    }
+
+    /// The allocator of all that is kept.
+    pub(crate) fn allocator(&self) -> &'a H {
+        self.parcels.allocator()
+    }
+
+    /// How many parcels there are.
+    pub(crate) fn len(&self) -> usize
+        ensures { result ≡ length self.now.rows }
+    {
+        self.parcels.len()
+    }
+
+    /// The next id.
+    pub(crate) fn next_id(&self) -> u64
+        ensures { result ≡ self.now.next }
+    {
+        self.parcels.next_id()
+    }
+
+    /// The parcels' ids, ascending.
+    pub(crate) fn ids(&self) -> Ids<'_, &'a H>
+        ensures ids { result ≡ numbers self.now.rows }
+        ensures ascending { IsStrictlyIncreasing result }
+    {
+        self.parcels.ids()
+    }
+
+    /// The shape of a parcel; `None` where the id is no parcel's.
+    pub(crate) fn shape(&self, id: u64) -> Option<&Shape<&'a H>>
+        ensures { MatchOption result
+            ((row : NumberedRing) → Contains self.now.rows row → row.number ≢ id)
+            (λ shape. Contains self.now.rows (numbered id shape.now.ring.corners)) }
+    {
+        self.parcels.shape(id)
+    }
+
+    /// The shapes of all parcels, each beside its id, by ascending id.
+    pub(crate) fn shapes(&self) -> Shapes<'_, &'a H>
+        ensures { map (λ shape. numbered shape.0 shape.1.ring.corners) result ≡ self.now.rows }
+    {
+        self.parcels.shapes()
+    }
+
+    /// Where a corner lies among the parcels.
+    pub(crate) fn locate(&self, corner: Corner) -> Result<At<&'a H>, AllocError>
+        ensures { IfOk result (λ at. IsLocatedAt self.now.rows (corner_point corner) at) }
+    {
+        if !self.index.area().holds(corner) {
+            return Ok(At::Outside);
+        }
+        let mut on_edge = Vec::new(self.parcels.allocator());
+        let mut inside = None;
+        let entries = self.index.at(corner);
+        for entry in entries {
+            if !entry.bounds.holds(corner) {
+                continue;
+            }
+            let parcel = self.parcels.at(entry.key);
+            match side_of(parcel.shape.ring.corners.as_slice(), corner) {
+                Side::OnEdge => on_edge.push(parcel.id)?,
+                Side::Inside => inside = Some(parcel.id),
+                Side::Outside => {}
+            }
+        }
+        if !on_edge.is_empty() {
+            return Ok(At::OnEdge(on_edge));
+        }
+        match inside {
+            Some(id) => Ok(At::Inside(id)),
+            None => Ok(At::Outside),
+        }
+    }
+
+    /// The ids, ascending, of the parcels that stand in some cell of the grid index between the cells of two corners.
+    pub(crate) fn candidates(
+        &self,
+        low: Corner,
+        high: Corner,
+    ) -> Result<Vec<u64, &'a H>, AllocError>
+        requires eastward { low.x ≤ℤ high.x }
+        requires northward { low.y ≤ℤ high.y }
+        ensures ascend { IfOk result (λ ids. IsStrictlyIncreasing ids.items) }
+        ensures exactly { IfOk result (λ ids. (id : ℕ)
+            → Contains ids.items id ↔ IsCandidate self.now.rows self.now.city low high id) }
+        ensures meeting { IfOk result (λ ids. (row : NumberedRing) (ring : List Corner) → Contains self.now.rows row
+            → All (HoldsCorner (record { low = low; high = high })) ring → InteriorsMeet row.corners ring
+            → Contains ids.items row.number) }
+    {
+        let keys = self.index.between(low, high)?;
+        let mut ids = ids_under(&self.parcels, &keys)?;
+        sort_once(&mut ids);
+        Ok(ids)
+    }
+
+    /// The city's ring, with the corners that were read, begun at its least corner.
+    pub(crate) fn city(&self) -> &[Corner]
+        ensures { result.now ≡ self.now.city }
+    {
+        self.city.as_slice()
+    }
+
+    /// The city's ring with all corners of the parcels in it that lie inside its edges.
+    pub(crate) fn refined(&self) -> &[Corner]
+        ensures { result.now ≡ self.now.refined }
+    {
+        self.refined.as_slice()
+    }
+}
+
+/// The entry that the parcel with this id has in the index.
+fn entry_of<A: Allocator>(parcels: &Parcels<A>, id: u64) -> Entry
+    requires { HasId parcels.now.parcels id }
+    ensures { IsEntryAt parcels.now.parcels id result }
+{
+    match parcels.fate(id) {
+        Fate::Here(key) => Entry {
+            key,
+            bounds: parcels.at(key).shape.bounds,
+        },
+        _ => unreachable!(),
+    }
+}
+
+impl<'a, H: Allocator> Tiled<'a, H> {
+    /// One parcel becomes two, under the next ids. Where an allocation is refused, nothing has changed.
+    pub(crate) fn divide(
+        &mut self,
+        id: u64,
+        by: u64,
+        left: Shape<&'a H>,
+        right: Shape<&'a H>,
+    ) -> Result<(), AllocError>
+        requires here { Contains (numbers self.old.rows) id }
+        requires kept { MayBeKept (without_ids (id ∷ []) self.old.rows
+            ++ numbered self.old.next left.ring.corners ∷ numbered (self.old.next + 1) right.ring.corners ∷ []) self.old.refined }
+        ensures ok { OnOk result (IsExchanged self.old self.new (id ∷ []) by
+            (numbered self.old.next left.entry.ring.corners ∷ numbered (self.old.next + 1) right.entry.ring.corners ∷ [])) }
+        ensures err { OnErr result (self.new ≡ self.old) }
+    {
+        self.parcels.stand_apart();
+        self.parcels.reserve(2)?;
+        let gone = entry_of(&self.parcels, id);
+        let first = Entry {
+            key: gone.key,
+            bounds: left.bounds,
+        };
+        let second = Entry {
+            key: self.parcels.vacant_key(),
+            bounds: right.bounds,
+        };
+        self.index.change(&[gone], &[first, second])?;
+        self.parcels.succeed(id, by, left);
+        self.parcels.push_reserved(right);
+        self.parcels.stand_apart();
+        Ok(())
+    }
+
+    /// Two parcels become one, under the next id. Where an allocation is refused, nothing has changed.
+    pub(crate) fn unite(
+        &mut self,
+        a: u64,
+        b: u64,
+        by: u64,
+        shape: Shape<&'a H>,
+    ) -> Result<(), AllocError>
+        requires a_here { Contains (numbers self.old.rows) a }
+        requires b_here { Contains (numbers self.old.rows) b }
+        requires apart { a ≢ b }
+        requires kept { MayBeKept (without_ids (a ∷ b ∷ []) self.old.rows ++ numbered self.old.next shape.ring.corners ∷ [])
+            self.old.refined }
+        ensures ok { OnOk result (IsExchanged self.old self.new (a ∷ b ∷ []) by
+            (numbered self.old.next shape.entry.ring.corners ∷ [])) }
+        ensures err { OnErr result (self.new ≡ self.old) }
+    {
+        self.parcels.stand_apart();
+        self.parcels.reserve(1)?;
+        let from_a = entry_of(&self.parcels, a);
+        let from_b = entry_of(&self.parcels, b);
+        let come = Entry {
+            key: from_a.key,
+            bounds: shape.bounds,
+        };
+        self.index.change(&[from_a, from_b], &[come])?;
+        self.parcels.succeed(a, by, shape);
+        self.parcels.retire(b, by);
+        self.parcels.stand_apart();
+        Ok(())
+    }
+
+    /// Two parcels become two others, under the next ids. Where an allocation is refused, nothing has changed.
+    pub(crate) fn renew(
+        &mut self,
+        a: u64,
+        b: u64,
+        by: u64,
+        of_a: Shape<&'a H>,
+        of_b: Shape<&'a H>,
+    ) -> Result<(), AllocError>
+        requires a_here { Contains (numbers self.old.rows) a }
+        requires b_here { Contains (numbers self.old.rows) b }
+        requires apart { a ≢ b }
+        requires kept { MayBeKept (without_ids (a ∷ b ∷ []) self.old.rows
+            ++ numbered self.old.next of_a.ring.corners ∷ numbered (self.old.next + 1) of_b.ring.corners ∷ []) self.old.refined }
+        ensures ok { OnOk result (IsExchanged self.old self.new (a ∷ b ∷ []) by
+            (numbered self.old.next of_a.entry.ring.corners ∷ numbered (self.old.next + 1) of_b.entry.ring.corners ∷ [])) }
+        ensures err { OnErr result (self.new ≡ self.old) }
+    {
+        self.parcels.stand_apart();
+        self.parcels.reserve(2)?;
+        let from_a = entry_of(&self.parcels, a);
+        let from_b = entry_of(&self.parcels, b);
+        let first = Entry {
+            key: from_a.key,
+            bounds: of_a.bounds,
+        };
+        let second = Entry {
+            key: from_b.key,
+            bounds: of_b.bounds,
+        };
+        self.index.change(&[from_a, from_b], &[first, second])?;
+        self.parcels.succeed(a, by, of_a);
+        self.parcels.succeed(b, by, of_b);
+        self.parcels.stand_apart();
+        Ok(())
+    }
+}

@@ -1,0 +1,264 @@
+-- The words of a clerk's line, taken one after the other.
+use Rattle.std.proofs.Common.{◌≡◌, ◌≢◌, inl, inr, ℕ, ◌+◌, List, [], ◌∷◌, ◌++◌, refl, ap, sym, ◌∙◌, subst, append_assoc, append-nil, codes}
+use Rattle.std.proofs.Common.{arith}
+use Rattle.geo_exact.specs.declared.corner.Corner.{Corner}
+use Rattle.ring_edits.specs.declared.edit.Edit.{Edit}
+use Rattle.ring_edits.specs.declared.edit.Edit.TheVariants.{Split, Merge, Move, Insert}
+use Rattle.line_files.specs.TextNumbers.{IsNumber, IsCornerText}
+use Rattle.line_files.specs.ClerkFile.{AreCorners, ArePath, IsSplitLine, IsMergeLine, IsMoveLine, IsInsertLine, SayEdit, SaysEdit, words_of}
+use Rattle.line_files.specs.TextLines.{IsSkipped, IsBad, IsFirstBad}
+use Rattle.line_files.specs.own.EditWords.{TakesNumber, TakesCorner}
+use Rattle.line_files.proofs.Numerals.{one_number, one_corner}
+use Rattle.line_files.proofs.Said.{IsGrammar}
+
+-- ---- the corners that words are
+-- the first corner of words, and the others
+pub ahead : (words : List (List ℕ)) (corner : Corner) (corners : List Corner) (h : AreCorners words (corner ∷ corners))
+    → TakesCorner words corner h.2
+ahead words corner corners h = record { x = h.0; y = h.1; are_words = h.3; is_corner = h.4 }
+
+pub behind : (words left : List (List ℕ)) (taken corner : Corner) (corners : List Corner) → TakesCorner words taken left
+    → AreCorners words (corner ∷ corners) → AreCorners left corners
+behind words left taken corner corners t h =
+    let e : t.x ∷ t.y ∷ left ≡ h.0 ∷ h.1 ∷ h.2 = sym t.are_words ∙ h.3 in
+    let same : h.2 ≡ left = cc in
+    subst (λ rest. AreCorners rest corners) same h.5
+
+pub joined : (words left : List (List ℕ)) (corner : Corner) (corners : List Corner) → TakesCorner words corner left
+    → AreCorners left corners → AreCorners words (corner ∷ corners)
+joined words left corner corners t h = (t.x, t.y, left, t.are_words, t.is_corner, h)
+
+same_taken : (words left rest : List (List ℕ)) (a b : Corner) → TakesCorner words a left → TakesCorner words b rest → a ≡ b
+same_taken words left rest a b t u =
+    let e : t.x ∷ t.y ∷ left ≡ u.x ∷ u.y ∷ rest = sym t.are_words ∙ u.are_words in
+    let ex : u.x ≡ t.x = cc in
+    let ey : u.y ≡ t.y = cc in
+    one_corner t.x t.y a b t.is_corner (subst (λ y. IsCornerText t.x y b) ey (subst (λ x. IsCornerText x u.y b) ex u.is_corner))
+
+no_corner_of_none : (words : List (List ℕ)) (corner : Corner) (corners : List Corner) → words ≡ [] → ¬ AreCorners words (corner ∷ corners)
+no_corner_of_none words corner corners e h = let f : [] ≡ h.0 ∷ h.1 ∷ h.2 = sym e ∙ h.3 in absurd (cc)
+
+-- words are one list of corners
+same_corners : (words : List (List ℕ)) (p q : List Corner) → AreCorners words p → AreCorners words q → p ≡ q
+same_corners words [] [] h k = refl
+same_corners words [] (c ∷ cs) h k = absurd (no_corner_of_none words c cs h k)
+same_corners words (c ∷ cs) [] h k = absurd (no_corner_of_none words c cs k h)
+same_corners words (c ∷ cs) (d ∷ ds) h k =
+    let heads : c ≡ d = same_taken words h.2 k.2 c d (ahead words c cs h) (ahead words d ds k) in
+    let tails : cs ≡ ds = same_corners h.2 cs ds h.5 (behind words h.2 c d ds (ahead words c cs h) k) in
+    cc
+
+-- ---- a path that is read so far, and the words that are left
+pub record IsReadTo (all left : List (List ℕ)) (path : List Corner) : Type 0 where
+  pub adds : (more : List Corner) → AreCorners left more → AreCorners all (path ++ more)
+  pub only : (whole : List Corner) → AreCorners all whole → (more : List Corner) × AreCorners left more × (whole ≡ path ++ more)
+
+taken_only : (words left : List (List ℕ)) (corner : Corner) → TakesCorner words corner left → (more : List Corner) → AreCorners words more
+    → (rest : List Corner) × AreCorners left rest × (more ≡ corner ∷ rest)
+taken_only words left corner t [] h = let f : [] ≡ t.x ∷ t.y ∷ left = sym h ∙ t.are_words in absurd (cc)
+taken_only words left corner t (c ∷ cs) h =
+    (cs, behind words left corner c cs t h, ap (λ d. d ∷ cs) (same_taken words h.2 left c corner (ahead words c cs h) t))
+
+pub one_more_read : (all words left : List (List ℕ)) (path : List Corner) (corner : Corner) → IsReadTo all words path
+    → TakesCorner words corner left → IsReadTo all left (path ++ corner ∷ [])
+one_more_read all words left path corner h t = record {
+  adds = λ more m. subst (AreCorners all) (sym (append_assoc path (corner ∷ []) more)) (h.adds (corner ∷ more) (joined words left corner more t m));
+  only = λ whole w. let o = h.only whole w in let r = taken_only words left corner t o.0 o.1 in
+      (r.0, r.1, o.2 ∙ ap (λ more. path ++ more) r.2 ∙ sym (append_assoc path (corner ∷ []) r.0));
+}
+
+stuck : (words : List (List ℕ)) → words ≢ [] → ((corner : Corner) → (left : List (List ℕ)) → ¬ TakesCorner words corner left)
+    → (more : List Corner) → ¬ AreCorners words more
+stuck words some none [] h = some h
+stuck words some none (c ∷ cs) h = none c h.2 (ahead words c cs h)
+
+-- where no corner follows, but words do, all are no path
+pub no_path : (all words : List (List ℕ)) (path : List Corner) → IsReadTo all words path → words ≢ []
+    → ((corner : Corner) → (left : List (List ℕ)) → ¬ TakesCorner words corner left) → (whole : List Corner) → ¬ ArePath all whole
+no_path all words path h some none whole w = let o = h.only whole w.are_corners in stuck words some none o.0 o.1
+
+-- where no word is left, all words are the path
+pub whole_path : (all words : List (List ℕ)) (path : List Corner) → IsReadTo all words path → words ≡ [] → path ≢ [] → ArePath all path
+whole_path all words path h e some = record { are_corners = subst (AreCorners all) (append-nil path) (h.adds [] e); has_one = some }
+
+pub no_corners : (all words : List (List ℕ)) (path : List Corner) → IsReadTo all words path → words ≡ [] → path ≡ []
+    → (whole : List Corner) → ¬ ArePath all whole
+no_corners all words path h e none whole w =
+    w.has_one (same_corners all whole path w.are_corners (subst (AreCorners all) (append-nil path) (h.adds [] e)) ∙ none)
+
+-- ---- which edits words can say, by the first of them
+same_byte : (a b : ℕ) (xs ys : List ℕ) (v w : List (List ℕ)) → (a ∷ xs) ∷ v ≡ (b ∷ ys) ∷ w → a ≡ b
+same_byte a b xs ys v w e = cc
+
+split_or_merge : {v w : List (List ℕ)} → codes "split" ∷ v ≡ codes "merge" ∷ w → ⊥
+split_or_merge {v} {w} e = absurd (let k : 115 ≡ 109 = same_byte _ _ _ _ v w e in omega (arith, k))
+
+module _ {A : Type 0} (words : List (List ℕ)) where
+  pub only_split : (edit : Edit A) → SayEdit (codes "split" ∷ words) edit
+      → (id : ℕ) × (path : List Corner) × (edit ≡ Split id path) × IsSplitLine (codes "split" ∷ words) id path
+  only_split (Split id path) h = (id, path, refl, h)
+  only_split (Merge a b) h = absurd (split_or_merge h.are_words)
+  only_split (Move a b path) h = let e : codes "split" ≡ codes "move" = cc in absurd (cc)
+  only_split (Insert from to at) h = let e : codes "split" ≡ codes "insert" = cc in absurd (cc)
+
+  pub only_merge : (edit : Edit A) → SayEdit (codes "merge" ∷ words) edit
+      → (a : ℕ) × (b : ℕ) × (edit ≡ Merge a b) × IsMergeLine (codes "merge" ∷ words) a b
+  only_merge (Split id path) h = absurd (split_or_merge (sym h.are_words))
+  only_merge (Merge a b) h = (a, b, refl, h)
+  only_merge (Move a b path) h = let e : codes "merge" ≡ codes "move" = cc in absurd (cc)
+  only_merge (Insert from to at) h = let e : codes "merge" ≡ codes "insert" = cc in absurd (cc)
+
+  pub only_move : (edit : Edit A) → SayEdit (codes "move" ∷ words) edit
+      → (a : ℕ) × (b : ℕ) × (path : List Corner) × (edit ≡ Move a b path) × IsMoveLine (codes "move" ∷ words) a b path
+  only_move (Split id path) h = let e : codes "move" ≡ codes "split" = cc in absurd (cc)
+  only_move (Merge a b) h = let e : codes "move" ≡ codes "merge" = cc in absurd (cc)
+  only_move (Move a b path) h = (a, b, path, refl, h)
+  only_move (Insert from to at) h = let e : codes "move" ≡ codes "insert" = cc in absurd (cc)
+
+  pub only_insert : (edit : Edit A) → SayEdit (codes "insert" ∷ words) edit
+      → (from : Corner) × (to : Corner) × (at : Corner) × (edit ≡ Insert from to at) × IsInsertLine (codes "insert" ∷ words) from to at
+  only_insert (Split id path) h = let e : codes "insert" ≡ codes "split" = cc in absurd (cc)
+  only_insert (Merge a b) h = let e : codes "insert" ≡ codes "merge" = cc in absurd (cc)
+  only_insert (Move a b path) h = let e : codes "insert" ≡ codes "move" = cc in absurd (cc)
+  only_insert (Insert from to at) h = (from, to, at, refl, h)
+
+-- ---- words say one edit
+same_number : (n m : ℕ) (xs ys : List ℕ) → xs ≡ ys → IsNumber xs n → IsNumber ys m → n ≡ m
+same_number n m xs ys e h k = one_number ys n m (subst (λ t. IsNumber t n) e h) k
+
+same_path : (xs ys : List (List ℕ)) (p q : List Corner) → xs ≡ ys → ArePath xs p → ArePath ys q → p ≡ q
+same_path xs ys p q e h k = same_corners ys p q (subst (λ t. AreCorners t p) e h.are_corners) k.are_corners
+
+pub one_edit : {A : Type 0} (words : List (List ℕ)) (x y : Edit A) → SayEdit words x → SayEdit words y → x ≡ y
+one_edit words (Split id path) y h k =
+    let o = only_split (h.parcel ∷ h.places) y (subst (λ w. SayEdit w y) h.are_words k) in
+    let parcels : h.parcel ≡ o.3.parcel = cc (o.3.are_words) in
+    let places : h.places ≡ o.3.places = cc (o.3.are_words) in
+    let ids : id ≡ o.0 = same_number _ _ _ _ parcels h.is_parcel o.3.is_parcel in
+    let paths : path ≡ o.1 = same_path _ _ _ _ places h.are_places o.3.are_places in
+    cc (o.2)
+one_edit words (Merge a b) y h k =
+    let o = only_merge (h.first ∷ h.second ∷ []) y (subst (λ w. SayEdit w y) h.are_words k) in
+    let firsts : h.first ≡ o.3.first = cc (o.3.are_words) in
+    let seconds : h.second ≡ o.3.second = cc (o.3.are_words) in
+    let ids : a ≡ o.0 = same_number _ _ _ _ firsts h.is_first o.3.is_first in
+    let others : b ≡ o.1 = same_number _ _ _ _ seconds h.is_second o.3.is_second in
+    cc (o.2)
+one_edit words (Move a b path) y h k =
+    let o = only_move (h.first ∷ h.second ∷ h.places) y (subst (λ w. SayEdit w y) h.are_words k) in
+    let firsts : h.first ≡ o.4.first = cc (o.4.are_words) in
+    let seconds : h.second ≡ o.4.second = cc (o.4.are_words) in
+    let places : h.places ≡ o.4.places = cc (o.4.are_words) in
+    let ids : a ≡ o.0 = same_number _ _ _ _ firsts h.is_first o.4.is_first in
+    let others : b ≡ o.1 = same_number _ _ _ _ seconds h.is_second o.4.is_second in
+    let paths : path ≡ o.2 = same_path _ _ _ _ places h.are_places o.4.are_places in
+    cc (o.3)
+one_edit words (Insert from to at) y h k =
+    let o = only_insert h.places y (subst (λ w. SayEdit w y) h.are_words k) in
+    let places : h.places ≡ o.4.places = cc (o.4.are_words) in
+    let lists : from ∷ to ∷ at ∷ [] ≡ o.0 ∷ o.1 ∷ o.2 ∷ [] =
+    same_corners o.4.places _ _ (subst (λ w. AreCorners w (from ∷ to ∷ at ∷ [])) places h.are_places) o.4.are_places in
+    cc (o.3)
+
+-- ---- why they say nothing
+module _ {A : Type 0} (words : List (List ℕ)) where
+  pub no_split_number : ((n : ℕ) → (left : List (List ℕ)) → ¬ TakesNumber words n left) → (edit : Edit A)
+      → ¬ SayEdit (codes "split" ∷ words) edit
+  no_split_number none edit h =
+      let o = only_split words edit h in
+      none o.0 o.3.places record { word = o.3.parcel; are_words = cc (o.3.are_words); is_number = o.3.is_parcel }
+
+  pub no_merge_first : ((n : ℕ) → (left : List (List ℕ)) → ¬ TakesNumber words n left) → (edit : Edit A)
+      → ¬ SayEdit (codes "merge" ∷ words) edit
+  no_merge_first none edit h =
+      let o = only_merge words edit h in
+      none o.0 (o.3.second ∷ []) record { word = o.3.first; are_words = cc (o.3.are_words); is_number = o.3.is_first }
+
+  pub no_merge_second : (a : ℕ) (more : List (List ℕ)) → TakesNumber words a more
+      → ((n : ℕ) → (left : List (List ℕ)) → ¬ TakesNumber more n left)
+      → (edit : Edit A) → ¬ SayEdit (codes "merge" ∷ words) edit
+  no_merge_second a more t none edit h =
+      let o = only_merge words edit h in
+      none o.1 [] record { word = o.3.second; are_words = cc (o.3.are_words); is_number = o.3.is_second }
+
+  pub no_move_first : ((n : ℕ) → (left : List (List ℕ)) → ¬ TakesNumber words n left) → (edit : Edit A)
+      → ¬ SayEdit (codes "move" ∷ words) edit
+  no_move_first none edit h =
+      let o = only_move words edit h in
+      none o.0 (o.4.second ∷ o.4.places) record { word = o.4.first; are_words = cc (o.4.are_words); is_number = o.4.is_first }
+
+  pub no_move_second : (a : ℕ) (more : List (List ℕ)) → TakesNumber words a more
+      → ((n : ℕ) → (left : List (List ℕ)) → ¬ TakesNumber more n left)
+      → (edit : Edit A) → ¬ SayEdit (codes "move" ∷ words) edit
+  no_move_second a more t none edit h =
+      let o = only_move words edit h in
+      none o.1 o.4.places record { word = o.4.second; are_words = cc (o.4.are_words); is_number = o.4.is_second }
+
+  -- the places of an edit that puts in a corner
+  insert_places : (edit : Edit A) → SayEdit (codes "insert" ∷ words) edit
+      → (from : Corner) × (to : Corner) × (at : Corner) × AreCorners words (from ∷ to ∷ at ∷ [])
+  insert_places edit h =
+      let o = only_insert words edit h in
+      let same : o.4.places ≡ words = cc (o.4.are_words) in
+      (o.0, o.1, o.2, subst (λ w. AreCorners w (o.0 ∷ o.1 ∷ o.2 ∷ [])) same o.4.are_places)
+
+  pub no_insert_from : ((corner : Corner) → (left : List (List ℕ)) → ¬ TakesCorner words corner left) → (edit : Edit A)
+      → ¬ SayEdit (codes "insert" ∷ words) edit
+  no_insert_from none edit h = let p = insert_places edit h in none p.0 p.3.2 (ahead words p.0 (p.1 ∷ p.2 ∷ []) p.3)
+
+  pub no_insert_to : (from : Corner) (one : List (List ℕ)) → TakesCorner words from one
+      → ((corner : Corner) → (left : List (List ℕ)) → ¬ TakesCorner one corner left)
+      → (edit : Edit A) → ¬ SayEdit (codes "insert" ∷ words) edit
+  no_insert_to from one t none edit h =
+      let p = insert_places edit h in
+      let q = behind words one from p.0 (p.1 ∷ p.2 ∷ []) t p.3 in
+      none p.1 q.2 (ahead one p.1 (p.2 ∷ []) q)
+
+  pub no_insert_at : (from to : Corner) (one two : List (List ℕ)) → TakesCorner words from one → TakesCorner one to two
+      → ((corner : Corner) → (left : List (List ℕ)) → ¬ TakesCorner two corner left) → (edit : Edit A)
+      → ¬ SayEdit (codes "insert" ∷ words) edit
+  no_insert_at from to one two t u none edit h =
+      let p = insert_places edit h in
+      let q = behind words one from p.0 (p.1 ∷ p.2 ∷ []) t p.3 in
+      let r = behind one two to p.1 (p.2 ∷ []) u q in
+      none p.2 r.2 (ahead two p.2 [] r)
+
+-- ---- a line says one edit
+pair_same : {X Y : Type 0} (x y : X × Y) → x.0 ≡ y.0 → x.1 ≡ y.1 → x ≡ y
+pair_same (a, b) (c, d) p q = cc
+
+pub edits_are_grammar : {A : Type 0} → IsGrammar (SaysEdit {A = A})
+edits_are_grammar {A} = record {
+  unique = λ number line x y h k. pair_same x y (h.is_number ∙ sym k.is_number) (one_edit (words_of line) x.1 y.1 h.is_edit k.is_edit);
+}
+
+pub bad_line : {A : Type 0} (number : ℕ) (line : List ℕ) → ¬ IsSkipped line → ((edit : Edit A) → ¬ SayEdit (words_of line) edit)
+    → IsBad (SaysEdit {A = A}) number line
+bad_line number line apart none = record { is_not_skipped = apart; says_nothing = λ x k. none x.1 k.is_edit }
+
+-- ---- what an edit's corners are allocated by does not matter
+abbrev retyped : {A : Type 0} (B : Type 0) → Edit A → Edit B
+retyped B (Split id path) = Split id path
+retyped B (Merge a b) = Merge a b
+retyped B (Move a b path) = Move a b path
+retyped B (Insert from to at) = Insert from to at
+
+say_retyped : {A : Type 0} (B : Type 0) (words : List (List ℕ)) (edit : Edit A) → SayEdit words edit → SayEdit words (retyped B edit)
+say_retyped B words (Split id path) h = h
+say_retyped B words (Merge a b) h = h
+say_retyped B words (Move a b path) h = h
+say_retyped B words (Insert from to at) h = h
+
+bad_retyped : (A B : Type 0) (number : ℕ) (line : List ℕ) → IsBad (SaysEdit {A = A}) number line → IsBad (SaysEdit {A = B}) number line
+bad_retyped A B number line h = record {
+  is_not_skipped = h.is_not_skipped;
+  says_nothing = λ x k. h.says_nothing (x.0, retyped A x.1) record { is_number = k.is_number; is_edit = say_retyped A (words_of line) x.1 k.is_edit };
+}
+
+pub first_bad_retyped : (A B : Type 0) (number : ℕ) (lines : List (List ℕ)) (n : ℕ) → IsFirstBad (SaysEdit {A = A}) number lines n
+    → IsFirstBad (SaysEdit {A = B}) number lines n
+first_bad_retyped A B number [] n h = h
+first_bad_retyped A B number (line ∷ lines) n h = elim h [
+  | inl k ↦ inl (bad_retyped A B number line k.0, k.1)
+  | inr k ↦ inr (λ b. k.0 (bad_retyped B A number line b), first_bad_retyped A B (number + 1) lines n k.1)
+]

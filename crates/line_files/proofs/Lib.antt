@@ -1,0 +1,6 @@
+pub mod Splits
+pub mod Said
+pub mod Numerals
+pub mod WordLists
+pub mod ClerkWords
+pub mod Passing

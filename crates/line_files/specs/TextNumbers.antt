@@ -1,0 +1,21 @@
+-- Numbers in texts (this product's own): 1 to 19 decimal digits, leading zeros allowed.
+use Rattle.std.specs.Prelude.{◌≡◌, ◌⊎◌, ℕ, ℤ, pos, neg_ℤ, ◌≤◌, ◌++◌, List, length, codes}
+use Rattle.std.specs.Str.Parse.{IsNumeral, digits_value}
+use Rattle.geo_exact.specs.declared.corner.Corner.{Corner}
+use Rattle.line_files.specs.declared.text_numbers.TheConstants.{MOST_DIGITS}
+
+-- the text is 1 to 19 digits, and the number is theirs
+pub record IsNumber (text : List ℕ) (n : ℕ) : Type 0 where
+  pub are_digits : IsNumeral 10 text
+  pub are_few : length text ≤ MOST_DIGITS
+  pub is_theirs : n ≡ digits_value 10 text
+
+-- the text is a number, or a minus and a number
+abbrev pub IsSigned : List ℕ → ℤ → Type 0
+IsSigned text z = ((n : ℕ) × (z ≡ pos n) × IsNumber text n)
+    ⊎ ((digits : List ℕ) × (n : ℕ) × (text ≡ codes "-" ++ digits) × (z ≡ neg_ℤ (pos n)) × IsNumber digits n)
+
+-- the two texts are a corner's coordinates, in whole centimetres; a corner is within the limits by its type
+pub record IsCornerText (x y : List ℕ) (corner : Corner) : Type 0 where
+  pub is_x : IsSigned x corner.x
+  pub is_y : IsSigned y corner.y

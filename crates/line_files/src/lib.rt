@@ -1,0 +1,13 @@
+//! Files that are read line by line: the points of a text, the edits of a clerk, and the numbers in them.
+#![tactic(auto)]
+
+mod clerk;
+mod edit_words;
+mod points;
+mod text_lines;
+mod text_numbers;
+mod words;
+
+pub use clerk::{ClerkFault, read_clerk};
+pub use points::{PointsFault, read_points};
+pub use text_numbers::{MOST_DIGITS, read_corner};
