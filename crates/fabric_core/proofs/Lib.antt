@@ -28,4 +28,8 @@ pub mod Retirements
 pub mod Neighbours
 pub mod OneRefusal
 pub mod EntryNets
+<<<<<<< HEAD
 pub mod PutIn
+=======
+pub mod EntryCounts
+>>>>>>> 6112cf48c239e7d5ad2fff9d098d1bdc32a5ced8
