@@ -6,12 +6,12 @@ use Rattle.geo_exact.specs.Rings.{begun_at, begun_at_least}
 use Rattle.geo_exact.proofs.Begun.{least_within}
 use Rattle.ring_core.proofs.BegunElsewhere.{begun_length}
 use Rattle.ring_edits.specs.Round.{GoesRound}
-use Rattle.ring_edits.specs.Edits.{IsPath, IsSplit, IsInserted, IsMerge, IsMove}
+use Rattle.ring_edits.specs.Edits.{IsPath, IsSplit, IsMerge, IsMove}
 
 turned_length : (k : ℕ) (ring : List Corner) → k ≤ length ring → length (begun_at k ring) ≡ length ring
 turned_length k ring h = omega (arith, length-append (drop k ring) (take k ring), length-drop k ring, length-take-le k ring h)
 
-least_length : (ring : List Corner) → length (begun_at_least ring) ≡ length ring
+pub least_length : (ring : List Corner) → length (begun_at_least ring) ≡ length ring
 least_length ring = let h = least_within ring in ap length h.2 ∙ turned_length h.0 ring h.1
 
 two_runs : (u v : Corner) (xs ys : List Corner) → length (u ∷ xs ++ v ∷ ys) ≡ length xs + length ys + 2
@@ -47,18 +47,6 @@ split_bound ring corners left right h =
     let p = path_length h.from h.to corners h.between h.is_path in (
       omega (arith, r, p, made_length left h.from h.to h.between h.back h.left_is),
       omega (arith, r, p, made_length right h.from h.to h.onward (reverse h.between) h.right_is, length-reverse h.between),
-    )
-
-pub insert_length : (ring out : List Corner) (u v at : Corner) → IsInserted ring u v at out → length out ≡ length ring + 1
-insert_length ring out u v at h =
-    let k = h.place in
-    ap length h.out_is ∙ least_length (take (k + 1) ring ++ at ∷ drop (k + 1) ring)
-    ∙ omega (
-      arith,
-      h.has_edge.in_ring,
-      length-append (take (k + 1) ring) (at ∷ drop (k + 1) ring),
-      length-take-le (k + 1) ring (omega (arith, h.has_edge.in_ring)),
-      length-drop (k + 1) ring,
     )
 
 pub merge_bound : (a b out : List Corner) → IsMerge a b out → length out + 2 ≤ length a + length b

@@ -6,6 +6,9 @@ pub mod Ends
 pub mod RoundNets
 pub mod SameRuns
 pub mod EditNets
-pub mod InsertNets
-pub mod LayerNets
+pub mod PutEdges
+pub mod PutNets
+pub mod PutLoops
+pub mod PutGround
+pub mod OneEdge
 pub mod Lengths

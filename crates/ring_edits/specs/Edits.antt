@@ -1,14 +1,18 @@
 -- What each edit makes of rings (this product's own). Each new ring is given by its corners as they are joined, and begun at its least.
-use Rattle.std.specs.Prelude.{◌≡◌, ◌≢◌, ◌⊎◌, ℕ, ◌+◌, ◌<◌, ◌≤◌, List, [], ◌∷◌, ◌++◌, reverse, length, take, drop, Bool, ◌&&◌, ◌||◌, if◌then◌else◌, flat_map}
+use Rattle.std.specs.Prelude.{◌≡◌, ◌≢◌, ◌↔◌, ℕ, ◌<◌, ◌≤◌, Bool, ◌||◌, if◌then◌else◌, List, [], ◌∷◌, ◌++◌, reverse, length}
 use Rattle.std.specs.List.{Contains, AllByRecursion, list_any}
 use Rattle.geo_exact.specs.declared.corner.Corner.{Corner}
 use Rattle.geo_exact.specs.declared.limits.TheConstants.{RING_CORNERS}
+use Rattle.geo_exact.specs.Area.{area2}
 use Rattle.geo_exact.specs.Places.{corner_at, after}
-use Rattle.geo_exact.specs.Order.{is_same}
+use Rattle.geo_exact.specs.Point.{Point}
 use Rattle.geo_exact.specs.Rings.{Edge, path, edges, begun_at_least}
+use Rattle.geo_exact.specs.Turn.{IsOnRing}
+use Rattle.geo_exact.specs.Winding.{winding}
+use Rattle.edge_chains.specs.Net.{runs_from_to}
 use Rattle.ring_edits.specs.declared.fault.EditFault.{EditFault}
 use Rattle.ring_edits.specs.declared.fault.EditFault.TheVariants.{BadPath, NotNeighbours, SharedTwice, NoMemory}
-use Rattle.ring_edits.specs.Round.{GoesRound, HasEdge, HasEdgeAt, HasEdgeBetween}
+use Rattle.ring_edits.specs.Round.{GoesRound, HasEdge}
 
 -- a path from one corner, by those between, to another that is not the same, of at most so many corners as a ring has
 pub record IsPath (corners : List Corner) (from : Corner) (between : List Corner) (to : Corner) : Type 0 where
@@ -38,36 +42,34 @@ pub record IsSplit (ring corners left right : List Corner) : Type 0 where
   pub left_is : left ≡ begun_at_least (from ∷ between ++ to ∷ back)
   pub right_is : right ≡ begun_at_least (from ∷ onward ++ to ∷ reverse between)
 
--- a corner is put into an edge of the ring that goes from one corner to another
-pub record IsInserted (ring : List Corner) (from to at : Corner) (out : List Corner) : Type 0 where
-  pub place : ℕ
-  pub has_edge : HasEdgeAt ring from to place
-  pub out_is : out ≡ begun_at_least (take (place + 1) ring ++ at ∷ drop (place + 1) ring)
-
--- the same, whichever way the edge goes
-abbrev pub IsInsertedBetween : List Corner → Corner → Corner → Corner → List Corner → Type 0
-IsInsertedBetween ring from to at out = (from ≢ to) × (IsInserted ring from to at out ⊎ IsInserted ring to from at out)
-
--- the edge goes between two corners, in either direction
+-- the edge goes between the two corners, in either direction
 abbrev pub joins : Corner → Corner → Edge → Bool
-joins from to edge = (is_same edge.from from && is_same edge.to to) || (is_same edge.from to && is_same edge.to from)
+joins from to edge = runs_from_to from to edge || runs_from_to to from edge
 
--- some edge of the ring goes between two corners
+-- the ring has an edge between the two corners, in either direction
 abbrev pub has_edge_between : Corner → Corner → List Corner → Bool
 has_edge_between from to ring = list_any (joins from to) (edges ring)
 
--- the ring with a corner put into each of its edges between two corners
-abbrev pub put_between : (from to at : Corner) → List Corner → List Corner
-put_between from to at ring = flat_map (λ edge. if joins from to edge then edge.from ∷ at ∷ [] else edge.from ∷ []) (edges ring)
+-- of each edge the corner that it comes from, and behind that `at` where the edge goes between `from` and `to`
+abbrev pub put_along : (from to at : Corner) → List Edge → List Corner
+put_along from to at [] = []
+put_along from to at (edge ∷ rest) =
+    edge.from ∷ (if joins from to edge then at ∷ put_along from to at rest else put_along from to at rest)
 
--- the same ring, begun at its least corner
+-- the ring with `at` put into each of its edges between `from` and `to`, in either direction; its first corner stays first
+abbrev pub put_between : (from to at : Corner) → List Corner → List Corner
+put_between from to at ring = put_along from to at (edges ring)
+
+-- the same, begun at its least corner
 abbrev pub with_corner : (from to at : Corner) → List Corner → List Corner
 with_corner from to at ring = begun_at_least (put_between from to at ring)
 
--- what becomes of a ring: the corner is put in where it has the edge, and else it stays
-abbrev pub IsAfterInsert : Corner → Corner → Corner → List Corner → List Corner → Type 0
-IsAfterInsert from to at ring out =
-    IsInsertedBetween ring from to at out ⊎ ((¬ HasEdgeBetween ring from to) × (out ≡ ring))
+-- the other ring covers what the ring covers: it goes round each rational point as often, has the same points on its edges, and the
+-- same area
+pub record CoversAlike (ring other : List Corner) : Type 0 where
+  pub winding_number : (p : Point) → winding p other ≡ winding p ring
+  pub boundary : (p : Point) → IsOnRing p other ↔ IsOnRing p ring
+  pub signed_area : area2 other ≡ area2 ring
 
 -- edge k of ring a is shared: ring b has it in the other direction
 abbrev pub IsSharedAt : List Corner → List Corner → ℕ → Type 0

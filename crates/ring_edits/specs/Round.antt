@@ -1,5 +1,5 @@
 -- Going round a ring (OGC 06-103r4, 6.1.7, LinearRing: closed, so that where its list of corners begins says nothing of it).
-use Rattle.std.specs.Prelude.{◌≡◌, ◌≢◌, ◌⊎◌, ℕ, ◌<◌, ◌≤◌, List, ◌∷◌, ◌++◌, length}
+use Rattle.std.specs.Prelude.{◌≡◌, ◌≢◌, ℕ, ◌<◌, ◌≤◌, List, ◌∷◌, ◌++◌, length}
 use Rattle.geo_exact.specs.declared.corner.Corner.{Corner}
 use Rattle.geo_exact.specs.Rings.{begun_at}
 use Rattle.geo_exact.specs.Places.{corner_at, after}
@@ -20,10 +20,6 @@ pub record HasEdgeAt (ring : List Corner) (u v : Corner) (k : ℕ) : Type 0 wher
 -- the ring has an edge from u to v, in this direction
 abbrev pub HasEdge : List Corner → Corner → Corner → Type 0
 HasEdge ring u v = (k : ℕ) × HasEdgeAt ring u v k
-
--- the ring has the edge between u and v, in either direction; an edge has two ends
-abbrev pub HasEdgeBetween : List Corner → Corner → Corner → Type 0
-HasEdgeBetween ring u v = (u ≢ v) × (HasEdge ring u v ⊎ HasEdge ring v u)
 
 -- the ring has at least three corners, and no two of them are one place
 pub record HasApartCorners (ring : List Corner) : Type 0 where

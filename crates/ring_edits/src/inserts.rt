@@ -1,10 +1,9 @@
-ghost use Rattle.std.specs.Prelude.{◌≡◌, ◌↔◌, ◌+◌, ◌<◌, ◌++◌, ◌∷◌, take, drop, length, IfOk, IsTrue, MatchOption};
-ghost use Rattle.geo_exact.specs.Rings.{begun_at_least};
+ghost use Rattle.std.specs.Prelude.{◌≡◌, ◌⊎◌, ◌↔◌, ◌<◌, length, IfOk, IfSome, IsNone, IsTrue};
 ghost use Rattle.geo_exact.specs.Segments.{IsStrictlyInside};
-ghost use Rattle.ring_edits.specs.Edits.{IsInsertedBetween};
-ghost use Rattle.ring_edits.specs.Round.{HasEdgeBetween};
+ghost use Rattle.ring_edits.specs.Edits.{joins, has_edge_between, put_between, with_corner};
+ghost use Rattle.ring_edits.specs.own.Between.{edge_at};
 
-use crate::round::{are_same, edge_place};
+use crate::round::{are_same, following};
 use geo_exact::{Corner, Corners, on_segment};
 use std::alloc::{AllocError, Allocator};
 
@@ -17,8 +16,8 @@ pub fn is_between(from: Corner, to: Corner, at: Corner) -> bool
 }
 
 /// The ring with a corner put into its edge between two corners, in whichever direction it has that edge, begun at
-/// its least corner; or `None` where it has no such edge, as where the two are one corner (E7, where no parcel has
-/// it).
+/// its least corner; or `None` where it has no such edge, or the two are one corner (E7, where no parcel has it). A
+/// ring that has the edge more than once gets the corner into each.
 ///
 /// Whether the corner lies on the edge is not looked at: see [`is_between`].
 ///
@@ -32,35 +31,77 @@ pub fn insert<A: Allocator + Copy>(
     to: Corner,
     at: Corner,
 ) -> Result<Option<Corners<A>>, AllocError>
-    ensures { IfOk result (λ found. MatchOption found (¬ HasEdgeBetween ring.now from to)
-        (λ out. IsInsertedBetween ring.now from to at out)) }
+    ensures none { IfOk result (λ found. IsNone found ↔ ((from ≡ to) ⊎ (¬ IsTrue (has_edge_between from to ring.now)))) }
+    ensures some { IfOk result (λ found. IfSome found (λ out. out ≡ with_corner from to at ring.now)) }
 {
-    if are_same(from, to) {
+    let Some(mut corners) = put_into(alloc, ring, from, to, at)? else {
         return Ok(None);
-    }
-    if let Some(place) = edge_place(ring, from, to) {
-        return Ok(Some(insert_behind(alloc, ring, place, at)?));
-    }
-    if let Some(place) = edge_place(ring, to, from) {
-        return Ok(Some(insert_behind(alloc, ring, place, at)?));
-    }
-    Ok(None)
+    };
+    corners.begin_at_least();
+    Ok(Some(corners))
 }
 
-/// The ring with a corner put in behind the one with this number.
-fn insert_behind<A: Allocator>(
+/// The same, but not begun anew: the ring's first corner stays first. Where the ring has no such edge, nothing is
+/// allocated, however long it is.
+///
+/// # Errors
+///
+/// [`AllocError`] where an allocation is refused.
+pub fn put_into<A: Allocator + Copy>(
     alloc: A,
     ring: &[Corner],
-    place: usize,
+    from: Corner,
+    to: Corner,
     at: Corner,
-) -> Result<Corners<A>, AllocError>
-    requires { place < length ring.now }
-    ensures { IfOk result (λ out. out ≡ begun_at_least (take (place + 1) ring.now ++ at ∷ drop (place + 1) ring.now)) }
+) -> Result<Option<Corners<A>>, AllocError>
+    ensures none { IfOk result (λ found. IsNone found ↔ ((from ≡ to) ⊎ (¬ IsTrue (has_edge_between from to ring.now)))) }
+    ensures some { IfOk result (λ found. IfSome found (λ out. out ≡ put_between from to at ring.now)) }
 {
-    let mut list = Vec::from_slice(alloc, &ring[..place + 1])?;
-    list.push(at)?;
-    list.extend_from_slice(&ring[place + 1..])?;
-    let mut corners = Corners::from_vec(list);
-    corners.begin_at_least();
-    Ok(corners)
+    if are_same(from, to) || !has_edge(ring, from, to) {
+        return Ok(None);
+    }
+    let list = put_all(alloc, ring, from, to, at)?;
+    Ok(Some(Corners::from_vec(list)))
+}
+
+/// Whether the ring has an edge between the two corners, in either direction.
+fn has_edge(ring: &[Corner], from: Corner, to: Corner) -> bool
+    ensures { result ≡ has_edge_between from to ring.now }
+{
+    for i in 0..ring.len() {
+        if is_joining(ring, i, from, to) {
+            return true;
+        }
+    }
+    false
+}
+
+/// The corners of the ring, each with the new one behind it where its edge goes between the two corners.
+fn put_all<A: Allocator>(
+    alloc: A,
+    ring: &[Corner],
+    from: Corner,
+    to: Corner,
+    at: Corner,
+) -> Result<Vec<Corner, A>, AllocError>
+    ensures { IfOk result (λ list. list.items ≡ put_between from to at ring.now) }
+{
+    let mut list = Vec::with_capacity(alloc, ring.len() + 1)?;
+    for i in 0..ring.len() {
+        list.push(ring[i])?;
+        if is_joining(ring, i, from, to) {
+            list.push(at)?;
+        }
+    }
+    Ok(list)
+}
+
+/// Whether the edge with this number goes between the two corners, in either direction.
+fn is_joining(ring: &[Corner], i: usize, from: Corner, to: Corner) -> bool
+    requires { i < length ring.now }
+    ensures { result ≡ joins from to (edge_at ring.now i) }
+{
+    let start = ring[i];
+    let end = ring[following(ring.len(), i)];
+    (start == from && end == to) || (start == to && end == from)
 }

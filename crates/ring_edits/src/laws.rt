@@ -1,9 +1,12 @@
-ghost use Rattle.std.specs.Prelude.{◌≡◌, ◌+◌, ◌≤◌, List, [], ◌∷◌, length};
-ghost use Rattle.std.specs.List.{AllByRecursion, AllZip};
+ghost use Rattle.std.specs.Prelude.{◌≡◌, ◌≢◌, ◌+◌, ◌≤◌, IsTrue, List, [], ◌∷◌, length, map};
+ghost use Rattle.geo_exact.specs.declared.bounds.Bounds.{Bounds};
 ghost use Rattle.geo_exact.specs.declared.corner.Corner.{Corner};
+ghost use Rattle.geo_exact.specs.Bounds.{IsLeastBox};
+ghost use Rattle.geo_exact.specs.Rings.{begun_at_least};
+ghost use Rattle.geo_exact.specs.Segments.{IsStrictlyInside};
 ghost use Rattle.ring_core.specs.Simple.{IsSimpleRing};
 ghost use Rattle.edge_chains.specs.Net.{net_count};
-ghost use Rattle.ring_edits.specs.Edits.{IsSplit, IsInserted, IsAfterInsert, IsMerge, IsMove};
+ghost use Rattle.ring_edits.specs.Edits.{IsSplit, IsMerge, IsMove, CoversAlike, has_edge_between, put_between, with_corner};
 ghost use Rattle.ring_edits.specs.Round.{HasApartCorners};
 
 /// The rings that an edit makes have, for every two corners, the net number of directed edges from the one to the
@@ -17,14 +20,46 @@ pub fn new_rings_have_the_nets_of_the_old()
         → (c d : Corner) → net_count (out_a ∷ out_b ∷ []) c d ≡ net_count (a ∷ b ∷ []) c d }
 {}
 
-/// Where rows and a city have the same net numbers of directed edges, they still have them with a corner put into an
-/// edge of all the rings that have it, in either direction.
+/// Where rows and a city have the same net numbers of directed edges, they still have them with a corner put into
+/// each edge between two corners, in either direction: in all the rings that have it, whatever rings they are, and
+/// wherever the rows begin then.
+#[tactic(auto, using(crate::proofs::PutNets::put_nets, crate::proofs::PutNets::with_corner_nets))]
 pub fn inserting_into_all_keeps_equal_nets()
-    ensures { (from to at : Corner) (rows outs : List (List Corner)) (city out : List Corner)
-        → AllByRecursion HasApartCorners rows → HasApartCorners city
-        → AllZip (IsAfterInsert from to at) rows outs → IsAfterInsert from to at city out
+    ensures put { (from to at : Corner) (rows : List (List Corner)) (city : List Corner) → from ≢ to
         → ((c d : Corner) → net_count rows c d ≡ net_count (city ∷ []) c d)
-        → (c d : Corner) → net_count outs c d ≡ net_count (out ∷ []) c d }
+        → (c d : Corner) → net_count (map (put_between from to at) rows) c d
+        ≡ net_count (put_between from to at city ∷ []) c d }
+    ensures begun { (from to at : Corner) (rows : List (List Corner)) (city : List Corner) → from ≢ to
+        → ((c d : Corner) → net_count rows c d ≡ net_count (city ∷ []) c d)
+        → (c d : Corner) → net_count (map (with_corner from to at) rows) c d
+        ≡ net_count (put_between from to at city ∷ []) c d }
+{}
+
+/// A corner strictly inside an edge changes nothing that a ring covers, where it is put into each of its edges
+/// between the same two corners: neither a winding number, nor the boundary, nor the area; whatever ring it is.
+pub fn inserting_covers_alike()
+    ensures put { (from to at : Corner) (ring : List Corner) → IsStrictlyInside at from to
+        → CoversAlike ring (put_between from to at ring) }
+    ensures begun { (from to at : Corner) (ring : List Corner) → IsStrictlyInside at from to
+        → CoversAlike ring (with_corner from to at ring) }
+{}
+
+/// Nor does it change the least box that holds the ring.
+pub fn inserting_keeps_the_least_box()
+    ensures put { (bounds : Bounds) (from to at : Corner) (ring : List Corner) → IsStrictlyInside at from to
+        → IsLeastBox bounds ring → IsLeastBox bounds (put_between from to at ring) }
+    ensures begun { (bounds : Bounds) (from to at : Corner) (ring : List Corner) → IsStrictlyInside at from to
+        → IsLeastBox bounds ring → IsLeastBox bounds (with_corner from to at ring) }
+{}
+
+/// A ring that begins at its least corner still begins there where a corner is put in strictly inside an edge, and stays
+/// as it is where it has no such edge. (What is begun at its least corner begins there.)
+pub fn inserting_keeps_where_a_ring_begins()
+    ensures begun { (from to at : Corner) (ring : List Corner) → IsStrictlyInside at from to → begun_at_least ring ≡ ring
+        → with_corner from to at ring ≡ put_between from to at ring }
+    ensures unchanged { (from to at : Corner) (ring : List Corner) → ¬ IsTrue (has_edge_between from to ring)
+        → put_between from to at ring ≡ ring }
+    ensures begins { (ring : List Corner) → begun_at_least (begun_at_least ring) ≡ begun_at_least ring }
 {}
 
 /// A simple ring has three corners and more, at different places.
@@ -34,14 +69,18 @@ pub fn a_simple_ring_has_its_corners_apart()
 {}
 
 /// How many corners new rings have: of a cut, together as many as the ring and twice the path, but for two; and each
-/// at most as many as the lists that it is made of, but for two. A corner that is put in is one more.
+/// at most as many as the lists that it is made of, but for two. A corner that is put in is one more, where the ring
+/// has its corners apart and so the edge once; in any ring there are not fewer.
 pub fn new_rings_have_so_many_corners()
     ensures split_both { (ring path left right : List Corner) → IsSplit ring path left right
         → length left + length right + 2 ≡ length ring + (length path + length path) }
     ensures split_each { (ring path left right : List Corner) → IsSplit ring path left right
         → (length left + 2 ≤ length ring + length path) × (length right + 2 ≤ length ring + length path) }
-    ensures inserted { (ring out : List Corner) (from to at : Corner) → IsInserted ring from to at out
-        → length out ≡ length ring + 1 }
+    ensures inserted { (ring : List Corner) (from to at : Corner) → HasApartCorners ring → from ≢ to
+        → IsTrue (has_edge_between from to ring) → length (put_between from to at ring) ≡ length ring + 1 }
+    ensures not_fewer { (ring : List Corner) (from to at : Corner) → length ring ≤ length (put_between from to at ring) }
+    ensures begun { (ring : List Corner) (from to at : Corner)
+        → length (with_corner from to at ring) ≡ length (put_between from to at ring) }
     ensures merged { (a b out : List Corner) → IsMerge a b out → length out + 2 ≤ length a + length b }
     ensures moved { (a b path out_a out_b : List Corner) → IsMove a b path out_a out_b
         → (length out_a + 2 ≤ length a + length path) × (length out_b + 2 ≤ length b + length path) }

@@ -15,10 +15,12 @@ mod splits;
 pub use border::{Run, shared_run};
 pub use edit::Edit;
 pub use fault::EditFault;
-pub use inserts::{insert, is_between};
+pub use inserts::{insert, is_between, put_into};
 pub use laws::{
-    a_simple_ring_has_its_corners_apart, inserting_into_all_keeps_equal_nets,
-    new_rings_have_so_many_corners, new_rings_have_the_nets_of_the_old,
+    a_simple_ring_has_its_corners_apart, inserting_covers_alike,
+    inserting_into_all_keeps_equal_nets, inserting_keeps_the_least_box,
+    inserting_keeps_where_a_ring_begins, new_rings_have_so_many_corners,
+    new_rings_have_the_nets_of_the_old,
 };
 pub use merges::merge;
 pub use shifts::shift;

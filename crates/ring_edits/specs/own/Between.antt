@@ -1,7 +1,8 @@
--- Corners of a ring between two of its numbers, and paths between two: what the code copies.
+-- Corners of a ring between two of its numbers, paths between two, and edges by number: what the code copies and looks at.
 use Rattle.std.specs.Prelude.{ℕ, ◌+◌, ◌<◌, nat_lt, if◌then◌else◌, List, ◌++◌, length, take, drop, slice_range}
 use Rattle.geo_exact.specs.declared.corner.Corner.{Corner}
-use Rattle.geo_exact.specs.Places.{corner_at}
+use Rattle.geo_exact.specs.Places.{corner_at, after}
+use Rattle.geo_exact.specs.Rings.{Edge}
 use Rattle.ring_edits.specs.Edits.{IsPath}
 
 -- the corners behind number i and before number j, round the ring
@@ -14,3 +15,7 @@ pub record IsPathAt (ring corners : List Corner) (i j : ℕ) : Type 0 where
   pub j_in_ring : j < length ring
   pub middle : List Corner
   pub is_path : IsPath corners (corner_at ring i) middle (corner_at ring j)
+
+-- edge k of the ring, which goes from corner k to the next
+abbrev pub edge_at : List Corner → ℕ → Edge
+edge_at ring k = record { from = corner_at ring k; to = corner_at ring (after (length ring) k) }
