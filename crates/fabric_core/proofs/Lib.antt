@@ -20,3 +20,5 @@ pub mod OneParcel
 pub mod Clipped
 pub mod FromOneCell
 pub mod Between
+pub mod Stops
+pub mod NewShapes

@@ -2,3 +2,4 @@ pub mod Lists
 pub mod Checks
 pub mod Kept
 pub mod Sides
+pub mod Changes

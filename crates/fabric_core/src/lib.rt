@@ -4,6 +4,7 @@
 mod all_faults;
 mod box_laws;
 mod candidates;
+mod change;
 mod city;
 mod gaps;
 mod grid_index;
@@ -12,6 +13,7 @@ mod laws;
 mod layer;
 mod limits;
 mod locate;
+mod new_shapes;
 mod refine;
 mod refusal;
 mod rings;
