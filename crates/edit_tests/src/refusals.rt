@@ -1,7 +1,7 @@
 //! Each growth of an edit refused in turn: its answer is want of memory, and with memory the same call gives its rings.
 
 use refusing_alloc::Refusing;
-use ring_edits::{Edit, EditFault, insert, merge, shift, split};
+use ring_edits::{Edit, EditFault, insert, merge, put_into, shift, split};
 use std::alloc::Allocator;
 use std::test::Fail;
 use test_builders::{Place, corner, corners, simple_ring};
@@ -112,6 +112,34 @@ fn inserting(rt: HostRuntime) -> Result<(), Fail> {
     Ok(())
 }
 
+#[test]
+fn putting(rt: HostRuntime) -> Result<(), Fail> {
+    let heap = Refusing::new(rt.alloc(), 0);
+    let ring = corners(&heap, &WEST)?;
+    let from = corner((0, 0))?;
+    let to = corner((60, 0))?;
+    let at = corner((30, 0))?;
+    let off = corner((60, 100))?;
+    // a ring without the edge wants no memory
+    heap.refuse(1);
+    assert!(rt; put_into(&heap, ring.as_slice(), from, off, at)?.is_none());
+    assert!(rt; !heap.is_spent());
+    let mut refused = 0;
+    for number in 1..MOST {
+        heap.refuse(number);
+        let answer = put_into(&heap, ring.as_slice(), from, to, at);
+        if !heap.is_spent() {
+            assert!(rt; answer.is_ok());
+            break;
+        }
+        assert!(rt; answer.is_err());
+        refused = number;
+    }
+    // room for the whole ring is made at once
+    assert_eq!(rt; refused, 1);
+    Ok(())
+}
+
 /// A moved border between two parcels.
 fn move_of<A: Allocator>(alloc: A, a: u64, b: u64) -> Result<Edit<A>, Fail> {
     let path = corners(alloc, &PATH)?;
@@ -124,10 +152,9 @@ fn copies_of_edits(rt: HostRuntime) -> Result<(), Fail> {
     let edit = move_of(&heap, 1, 2)?;
     heap.refuse(1);
     assert!(rt; edit.clone().is_err());
-    let alloc = rt.alloc();
-    let edit = move_of(alloc, 1, 2)?;
+    heap.refuse(0);
     assert!(rt; edit.clone()? == edit);
-    assert!(rt; edit != move_of(alloc, 2, 1)?);
+    assert!(rt; edit != move_of(&heap, 2, 1)?);
     assert!(rt; edit != Edit::Merge { a: 1, b: 2 });
     Ok(())
 }

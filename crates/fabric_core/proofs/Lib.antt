@@ -22,3 +22,6 @@ pub mod FromOneCell
 pub mod Between
 pub mod Stops
 pub mod NewShapes
+pub mod RowLists
+pub mod Replays
+pub mod Retirements

@@ -23,7 +23,7 @@ to_below : (n s k : ℕ) → s < n → k < n → number_to n s k < n
 to_below n s k h b = grind (arith, nat_tests)
 
 -- where each number is counted from s on
-has_or_not : (P : ℕ → Type 0) (n : ℕ) (h : IsOneRun P n) (k : ℕ) → k < n → P k ↔ (number_to n h.s k < h.m)
+pub has_or_not : (P : ℕ → Type 0) (n : ℕ) (h : IsOneRun P n) (k : ℕ) → k < n → P k ↔ (number_to n h.s k < h.m)
 has_or_not P n h k b =
     subst (λ z. P z ↔ (number_to n h.s k < h.m)) (from_to n h.s k h.s_below b)
     (h.exactly (number_to n h.s k) (to_below n h.s k h.s_below b))

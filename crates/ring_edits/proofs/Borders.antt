@@ -108,6 +108,12 @@ one_run a b h =
           );
     }
 
+-- it begins where the path does, and has as many edges
+pub run_begins : (a b : List Corner) (h : ShareOneRun a b)
+    → ((one_run a b h).s ≡ h.2.2.round.start) × ((one_run a b h).m ≡ length (path h.0 h.2.0 h.1))
+unfolding one_run
+run_begins a b h = (refl, refl)
+
 -- ---- from numbers to paths
 run_length_up : (i j : ℕ) (a : List Corner) → i < j → j < length a → length (between a i j) + i + 1 ≡ j
 run_length_up i j a h k = ap (λ xs. length xs + i + 1) (between_up a i j h) ∙ omega (

@@ -11,4 +11,5 @@ pub mod PutNets
 pub mod PutLoops
 pub mod PutGround
 pub mod OneEdge
+pub mod OneResult
 pub mod Lengths

@@ -23,7 +23,7 @@ use Rattle.ring_edits.proofs.Apart.{simple_apart}
 use Rattle.ring_edits.proofs.Borders.{all_of_both, edge_there, edges_round, from_in}
 
 -- ---- a simple ring has one edge to each corner
-same_number : (ring : List Corner) → AreApart ring → (i j : ℕ) → i < length ring → j < length ring
+pub same_number : (ring : List Corner) → AreApart ring → (i j : ℕ) → i < length ring → j < length ring
     → corner_at ring i ≡ corner_at ring j → i ≡ j
 same_number ring h i j k l e = ⊎_elim (λ s. s) (λ off. absurd (h i j k l off e)) (same_or i j)
 

@@ -4,7 +4,8 @@ use geo_exact::{Corner, Corners};
 use std::alloc::{AllocError, Allocator};
 
 /// What a clerk changes in a fabric of parcels. Corners are in whole centimetres; the numbers are those of parcels.
-#[derive(Debug, Drop, PartialEq)]
+#[derive(Debug, Drop)]
+#[derive_where(PartialEq)]
 pub enum Edit<A: Allocator> {
     /// A parcel is cut in two along a path from one of its corners to another.
     Split {

@@ -68,6 +68,17 @@ pub fn a_simple_ring_has_its_corners_apart()
     ensures { (ring : List Corner) → IsSimpleRing ring → HasApartCorners ring }
 {}
 
+/// Each edit has one result: of a ring whose corners are apart a path cuts off one left and one right part, and where
+/// those of `b` are, two rings are merged, or their border is moved, in one way.
+pub fn each_edit_has_one_result()
+    ensures split { (ring path left right other_left other_right : List Corner) → HasApartCorners ring
+        → IsSplit ring path left right → IsSplit ring path other_left other_right
+        → (other_left ≡ left) × (other_right ≡ right) }
+    ensures merged { (a b out other : List Corner) → HasApartCorners b → IsMerge a b out → IsMerge a b other → other ≡ out }
+    ensures moved { (a b path out_a out_b other_a other_b : List Corner) → HasApartCorners b → IsMove a b path out_a out_b
+        → IsMove a b path other_a other_b → (other_a ≡ out_a) × (other_b ≡ out_b) }
+{}
+
 /// How many corners new rings have: of a cut, together as many as the ring and twice the path, but for two; and each
 /// at most as many as the lists that it is made of, but for two. A corner that is put in is one more, where the ring
 /// has its corners apart and so the edge once; in any ring there are not fewer.

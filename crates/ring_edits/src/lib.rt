@@ -17,7 +17,7 @@ pub use edit::Edit;
 pub use fault::EditFault;
 pub use inserts::{insert, is_between, put_into};
 pub use laws::{
-    a_simple_ring_has_its_corners_apart, inserting_covers_alike,
+    a_simple_ring_has_its_corners_apart, each_edit_has_one_result, inserting_covers_alike,
     inserting_into_all_keeps_equal_nets, inserting_keeps_the_least_box,
     inserting_keeps_where_a_ring_begins, new_rings_have_so_many_corners,
     new_rings_have_the_nets_of_the_old,
