@@ -25,3 +25,4 @@ pub mod NewShapes
 pub mod RowLists
 pub mod Replays
 pub mod Retirements
+pub mod WithEdge

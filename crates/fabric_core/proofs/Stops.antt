@@ -1,17 +1,19 @@
 -- Edits that make no change.
-use Rattle.std.proofs.Common.{◌≡◌, ◌⊎◌, inl, inr, refl, ap, ℕ, List, [], ◌∷◌}
+use Rattle.std.proofs.Common.{true, false, ◌==◌, ◌≡◌, ◌≢◌, ◌⊎◌, arith, length, map, inl, inr, refl, ap, ℕ, List, [], ◌∷◌}
 use Rattle.std.specs.List.{Contains}
+use Rattle.std.proofs.lemmas.Bool.Decides.{nat_tests}
 use Rattle.geo_exact.specs.declared.corner.Corner.{Corner}
 use Rattle.geo_exact.specs.Layers.{NumberedRing, numbered}
 use Rattle.cell_index.proofs.Members.{mapped, from_mapped}
 use Rattle.ring_edits.specs.declared.fault.EditFault.{EditFault}
 use Rattle.ring_edits.specs.declared.fault.EditFault.TheVariants.{BadPath as NoPath, NotNeighbours as NoBorder, SharedTwice as TwoBorders, NoMemory as NoRoom}
 use Rattle.ring_edits.specs.Edits.{IsBorderFault, IsBadBorder}
+use Rattle.fabric_core.specs.declared.journal.Row.{Row}
 use Rattle.fabric_core.specs.declared.refusal.Refusal.{Refusal}
-use Rattle.fabric_core.specs.declared.refusal.Refusal.TheVariants.{BadPath}
+use Rattle.fabric_core.specs.JournalRows.{rows_of_entry}
 use Rattle.fabric_core.specs.Rows.{numbers}
-use Rattle.fabric_core.specs.Refusals.{AreHere, IsBadMove}
-use Rattle.fabric_core.specs.own.Changes.{state_of, IsGone, IsStopped, IsBorderRefusal, refusal_of}
+use Rattle.fabric_core.specs.Refusals.{AreHere}
+use Rattle.fabric_core.specs.own.Changes.{state_of, IsGone, IsStopped, IsBorderRefusal, IsMoveRefusal, refusal_of}
 use Rattle.fabric_core.specs.own.Kept.{Kept}
 
 -- a row's id is one of theirs
@@ -65,17 +67,36 @@ module _ (kept : Kept) where
     -- or the path does not go from one end of it to the other
     pub no_move : (path : List Corner) (fault : EditFault)
         → (fault ≡ NoRoom) ⊎ IsBorderFault ring_a ring_b fault ⊎ ((fault ≡ NoPath) × IsBadBorder ring_a ring_b path)
-        → IsStopped kept (a ∷ b ∷ [])
-        (IsBorderRefusal (state_of kept) a b (refusal_of fault) ⊎ ((refusal_of fault ≡ BadPath) × IsBadMove (state_of kept) a b path))
-        (refusal_of fault)
+        → IsStopped kept (a ∷ b ∷ []) (IsMoveRefusal (state_of kept) a b path (refusal_of fault)) (refusal_of fault)
     no_move path fault (inl e) = inl (ap refusal_of e)
     no_move path fault (inr (inl h)) = either (no_border fault (inr h))
       where
         either : IsStopped kept (a ∷ b ∷ []) (IsBorderRefusal (state_of kept) a b (refusal_of fault)) (refusal_of fault)
-            → IsStopped kept (a ∷ b ∷ [])
-            (IsBorderRefusal (state_of kept) a b (refusal_of fault) ⊎ ((refusal_of fault ≡ BadPath) × IsBadMove (state_of kept) a b path))
-            (refusal_of fault)
+            → IsStopped kept (a ∷ b ∷ []) (IsMoveRefusal (state_of kept) a b path (refusal_of fault)) (refusal_of fault)
         either (inl k) = inl k
         either (inr (inl k)) = inr (inl k)
-        either (inr (inr k)) = inr (inr (k.0, inl k.1))
-    no_move path fault (inr (inr h)) = inr (inr (both_here, inr (ap refusal_of h.0, (ring_a, ring_b, here_a, here_b, h.1))))
+        either (inr (inr (here, inl k))) = inr (inr (here, inl k))
+        either (inr (inr (here, inr k))) = inr (inr (here, inr (inl k)))
+    no_move path fault (inr (inr h)) =
+        inr (inr (both_here, inr (inr (ap refusal_of h.0, (ring_a, ring_b, here_a, here_b, h.1)))))
+
+-- ---- rows that are made of others, one of each
+module _ {A : Type 0} (f : NumberedRing → NumberedRing) where
+  -- where none is made, there are none
+  pub none_made : (made : List (Row A)) (n : ℕ) (rows : List NumberedRing) → n ≡ length made → true ≡ (n == 0) → rows_of_entry made ≡ map f rows
+      → rows ≡ []
+  none_made [] n [] e h made = refl
+  none_made [] n (row ∷ rows) e h made = absurd (cc)
+  none_made (m ∷ more) n rows e h made = absurd (grind (arith, nat_tests, e, h))
+
+  -- where one is made, there is one
+  pub some_made : (made : List (Row A)) (n : ℕ) (rows : List NumberedRing) → n ≡ length made → false ≡ (n == 0) → rows_of_entry made ≡ map f rows
+      → rows ≢ []
+  some_made [] n rows e h made = absurd (grind (arith, nat_tests, e, h))
+  some_made (m ∷ more) n [] e h made = absurd (cc)
+  some_made (m ∷ more) n (row ∷ rows) e h made = λ k. absurd (cc)
+
+-- the ids of an entry's rows
+pub ids_of_entry : {A : Type 0} (rows : List (Row A)) → map (λ row. row.id) rows ≡ numbers (rows_of_entry rows)
+ids_of_entry [] = refl
+ids_of_entry (row ∷ rows) = ap (λ ids. row.id ∷ ids) (ids_of_entry rows)

@@ -1,18 +1,20 @@
-ghost use Rattle.std.specs.Prelude.{◌≡◌, ◌+◌, ◌^◌, ◌<◌, ◌⊎◌, ◌∷◌, [], List, IfOk, IfErr};
-ghost use Rattle.std.specs.List.{Contains};
+ghost use Rattle.std.specs.Prelude.{◌≡◌, ◌+◌, ◌^◌, ◌<◌, ◌∷◌, [], map, IfOk, IfErr};
+ghost use Rattle.std.specs.List.{All, AllByRecursion, Contains};
+ghost use Rattle.geo_exact.specs.Bounds.{HoldsCorner};
 ghost use Rattle.geo_exact.specs.Layers.{numbered};
 ghost use Rattle.fabric_core.specs.declared.refusal.Refusal.TheVariants.{BadPath};
-ghost use Rattle.fabric_core.specs.EditResults.{IsSplitOf, IsMergeOf, IsMoveOf};
+ghost use Rattle.fabric_core.specs.EditResults.{IsChange, IsSplitOf, IsMergeOf, IsMoveOf, IsInsertOf};
 ghost use Rattle.fabric_core.specs.JournalRows.{rows_of_entry};
-ghost use Rattle.fabric_core.specs.Refusals.{IsBadCut, IsBadMove};
-ghost use Rattle.fabric_core.specs.own.Changes.{state_of, IsGone, IsStopped, IsBorderRefusal};
+ghost use Rattle.fabric_core.specs.Refusals.{named_ids, IsBadCut, IsOwnRefusal};
+ghost use Rattle.fabric_core.specs.own.Changes.{state_of, IsGone, IsStopped, IsBorderRefusal, IsMoveRefusal, IsInsertRefusal};
 
+use crate::edges::rows_with_corner;
 use crate::journal::Row;
 use crate::refusal::Refusal;
 use crate::tiled::Tiled;
 use geo_exact::{Corner, Corners};
 use ring_core::Shape;
-use ring_edits::{EditFault, merge, shift, split};
+use ring_edits::{Edit, EditFault, is_between, merge, shift, split};
 use std::alloc::{AllocError, Allocator};
 
 /// What an edit takes out of a fabric, and what it brings.
@@ -154,9 +156,8 @@ fn move_change<'a, H: Allocator>(
     requires room { next + 1 < 2 ^ 64 }
     ensures change { IfOk result (λ change.
         IsMoveOf (state_of tiled.now) a b path.now change.out.items (rows_of_entry change.rows.items)) }
-    ensures err { IfErr result (λ refusal. IsStopped tiled.now (a ∷ b ∷ [])
-        (IsBorderRefusal (state_of tiled.now) a b refusal
-        ⊎ ((refusal ≡ BadPath) × IsBadMove (state_of tiled.now) a b path.now)) refusal) }
+    ensures err { IfErr result (λ refusal.
+        IsStopped tiled.now (a ∷ b ∷ []) (IsMoveRefusal (state_of tiled.now) a b path.now refusal) refusal) }
 {
     let first = here(tiled, a)?;
     let second = here(tiled, b)?;
@@ -169,4 +170,63 @@ fn move_change<'a, H: Allocator>(
     let out = Vec::from_slice(alloc, &[a, b])?;
     let rows = two_rows(alloc, next, of_a, of_b)?;
     Ok(Change { out, rows })
+}
+
+/// The rows' ids.
+fn ids_of<A: Allocator>(alloc: A, rows: &[Row<A>]) -> Result<Vec<u64, A>, AllocError>
+    ensures { IfOk result (λ ids. ids.items ≡ map (λ row. row.id) rows.now) }
+{
+    rows.iter().map(|row| row.id).collect(alloc)
+}
+
+/// A corner put into an edge of the parcels that have it.
+fn insert_change<'a, H: Allocator>(
+    alloc: &'a H,
+    tiled: &Tiled<'a, H>,
+    from: Corner,
+    to: Corner,
+    at: Corner,
+) -> Result<Change<&'a H>, Refusal>
+    requires in_area { AllByRecursion (λ row. All (HoldsCorner tiled.now.index.area) row.corners) tiled.now.rows }
+    ensures change { IfOk result (λ change.
+        IsInsertOf (state_of tiled.now) from to at change.out.items (rows_of_entry change.rows.items)) }
+    ensures err { IfErr result (λ refusal.
+        IsStopped tiled.now [] (IsInsertRefusal (state_of tiled.now) from to at refusal) refusal) }
+{
+    if from == to {
+        return Err(Refusal::NoSuchEdge);
+    }
+    let rows = rows_with_corner(alloc, tiled, from, to, at)?;
+    if rows.is_empty() {
+        return Err(Refusal::NoSuchEdge);
+    }
+    if !is_between(from, to, at) {
+        return Err(Refusal::NotOnEdge);
+    }
+    let out = ids_of(alloc, &rows)?;
+    Ok(Change { out, rows })
+}
+
+/// What an edit takes out and brings; new parcels have the next ids. Why there is nothing, else: the ids that the edit names are looked
+/// up first, in its order, and then comes what it asks of paths, borders and edges.
+pub(crate) fn change_of<'a, H: Allocator>(
+    alloc: &'a H,
+    tiled: &Tiled<'a, H>,
+    next: u64,
+    edit: &Edit<&'a H>,
+) -> Result<Change<&'a H>, Refusal>
+    requires next { next ≡ tiled.now.next }
+    requires room { next + 1 < 2 ^ 64 }
+    requires in_area { AllByRecursion (λ row. All (HoldsCorner tiled.now.index.area) row.corners) tiled.now.rows }
+    ensures change { IfOk result (λ change.
+        IsChange (state_of tiled.now) edit.now change.out.items (rows_of_entry change.rows.items)) }
+    ensures err { IfErr result (λ refusal.
+        IsStopped tiled.now (named_ids edit.now) (IsOwnRefusal (state_of tiled.now) edit.now refusal) refusal) }
+{
+    match edit {
+        Edit::Split { id, path } => split_change(alloc, tiled, next, *id, path.as_slice()),
+        Edit::Merge { a, b } => merge_change(alloc, tiled, next, *a, *b),
+        Edit::Move { a, b, path } => move_change(alloc, tiled, next, *a, *b, path.as_slice()),
+        Edit::Insert { from, to, at } => insert_change(alloc, tiled, *from, *to, *at),
+    }
 }

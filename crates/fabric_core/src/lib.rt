@@ -6,6 +6,7 @@ mod box_laws;
 mod candidates;
 mod change;
 mod city;
+mod edges;
 mod gaps;
 mod grid_index;
 mod journal;

@@ -3,15 +3,16 @@ use Rattle.std.specs.Prelude.{◌≡◌, ◌⊎◌, ℕ, List, map}
 use Rattle.std.specs.List.{Contains}
 use Rattle.geo_exact.specs.declared.corner.Corner.{Corner}
 use Rattle.geo_exact.specs.Layers.{NumberedRing}
+use Rattle.geo_exact.specs.Segments.{IsStrictlyInside}
 use Rattle.ring_core.specs.declared.shape.Shape.{Shape}
 use Rattle.ring_core.specs.declared.ring.RingFault.{RingFault}
 use Rattle.ring_edits.specs.declared.fault.EditFault.{EditFault}
 use Rattle.ring_edits.specs.declared.fault.EditFault.TheVariants.{BadPath as NoPath, NotNeighbours as NoBorder, SharedTwice as TwoBorders, NoMemory as NoRoom}
 use Rattle.fabric_core.specs.declared.refusal.Refusal.{Refusal}
-use Rattle.fabric_core.specs.declared.refusal.Refusal.TheVariants.{Unknown, BadPath, NotNeighbours, SharedTwice, Ring, NoMemory}
+use Rattle.fabric_core.specs.declared.refusal.Refusal.TheVariants.{Unknown, BadPath, NotNeighbours, SharedTwice, NoSuchEdge, NotOnEdge, Ring, NoMemory}
 use Rattle.fabric_core.specs.Rows.{numbers}
 use Rattle.fabric_core.specs.Journal.{State}
-use Rattle.fabric_core.specs.Refusals.{AreHere, IsFirstGone, IsFirstBadRing, HaveNoBorder}
+use Rattle.fabric_core.specs.Refusals.{AreHere, IsFirstGone, IsFirstBadRing, HaveNoBorder, HasNoEdge, IsBadMove}
 use Rattle.fabric_core.specs.own.Kept.{Kept}
 
 -- the state of what is kept
@@ -34,6 +35,18 @@ IsStopped kept ids own refusal = (refusal ≡ NoMemory) ⊎ IsFirstTold kept ids
 abbrev pub IsBorderRefusal : State → ℕ → ℕ → Refusal → Type 0
 IsBorderRefusal state a b refusal =
     ((refusal ≡ NotNeighbours) × HaveNoBorder state a b NoBorder) ⊎ ((refusal ≡ SharedTwice) × HaveNoBorder state a b TwoBorders)
+
+-- or whose border the path does not replace
+abbrev pub IsMoveRefusal : State → ℕ → ℕ → List Corner → Refusal → Type 0
+IsMoveRefusal state a b path refusal =
+    ((refusal ≡ NotNeighbours) × HaveNoBorder state a b NoBorder) ⊎ ((refusal ≡ SharedTwice) × HaveNoBorder state a b TwoBorders)
+    ⊎ ((refusal ≡ BadPath) × IsBadMove state a b path)
+
+-- the refusal for a corner that is put into no edge
+abbrev pub IsInsertRefusal : State → Corner → Corner → Corner → Refusal → Type 0
+IsInsertRefusal state from to at refusal =
+    ((refusal ≡ NoSuchEdge) × HasNoEdge state from to)
+    ⊎ ((refusal ≡ NotOnEdge) × (¬ HasNoEdge state from to) × (¬ IsStrictlyInside at from to))
 
 -- the refusal of an edit that makes no rings
 abbrev pub refusal_of : EditFault → Refusal
