@@ -29,7 +29,7 @@ use Rattle.fabric_core.proofs.OneParcel.{of_each}
 
 -- ---- two lists side by side
 module _ {X Y : Type 0} (R : X → Y → Type 0) where
-  zipped_left : (xs : List X) (ys : List Y) (x : X) → AllZip R xs ys → Contains xs x → (y : Y) × Contains ys y × R x y
+  pub zipped_left : (xs : List X) (ys : List Y) (x : X) → AllZip R xs ys → Contains xs x → (y : Y) × Contains ys y × R x y
   zipped_left [] ys x h c = absurd (none_in_nil x c)
   zipped_left (z ∷ xs) [] x h c = absurd h
   zipped_left (z ∷ xs) (y ∷ ys) x h c = ⊎_elim

@@ -22,9 +22,12 @@ pub mod Exchanged
 pub mod Exchanges
 pub mod FromOneCell
 pub mod Between
+pub mod Stops
+pub mod NewShapes
 pub mod RowLists
 pub mod Replays
 pub mod Retirements
+<<<<<<< HEAD
 pub mod Neighbours
 pub mod OneRefusal
 pub mod EntryNets
@@ -33,3 +36,6 @@ pub mod PutIn
 =======
 pub mod EntryCounts
 >>>>>>> 6112cf48c239e7d5ad2fff9d098d1bdc32a5ced8
+=======
+pub mod WithEdge
+>>>>>>> 24e2b47297ac8bdd21c12c2b5e2849e1bc8a9b1f

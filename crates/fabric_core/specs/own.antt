@@ -3,3 +3,4 @@ pub mod Checks
 pub mod Kept
 pub mod Books
 pub mod Sides
+pub mod Changes

@@ -4,8 +4,13 @@
 mod all_faults;
 mod box_laws;
 mod candidates;
+mod change;
 mod city;
+<<<<<<< HEAD
 mod fabric;
+=======
+mod edges;
+>>>>>>> 24e2b47297ac8bdd21c12c2b5e2849e1bc8a9b1f
 mod gaps;
 mod grid_index;
 mod journal;
@@ -13,7 +18,11 @@ mod laws;
 mod layer;
 mod limits;
 mod locate;
+<<<<<<< HEAD
 mod opening;
+=======
+mod new_shapes;
+>>>>>>> 24e2b47297ac8bdd21c12c2b5e2849e1bc8a9b1f
 mod refine;
 mod refusal;
 mod rings;

@@ -1,5 +1,5 @@
 use ring_core::RingFault;
-use std::alloc::AllocError;
+use std::alloc::{AllocError, AllocFailed};
 
 /// Why an edit is refused: the first that applies. Nothing has changed then.
 #[derive(Clone, Copy, Debug, PartialEq, Eq)]
@@ -47,6 +47,17 @@ impl From<AllocError> for Refusal {
     ghost from_gives = { λ _ refusal. refusal ≡ NoMemory };
 
     fn from(_: AllocError) -> Refusal {
+        Refusal::NoMemory
+    }
+}
+
+impl<T: Drop> From<AllocFailed<T>> for Refusal {
+    ghost use Rattle.std.specs.Prelude.{◌≡◌};
+    ghost use Rattle.fabric_core.specs.declared.refusal.Refusal.TheVariants.{NoMemory};
+
+    ghost from_gives = { λ _ refusal. refusal ≡ NoMemory };
+
+    fn from(_: AllocFailed<T>) -> Refusal {
         Refusal::NoMemory
     }
 }

@@ -1,0 +1,64 @@
+use Rattle.std.proofs.Common.{◌≡◌, ◌⊎◌, ◌↔◌, [], ◌∷◌, ◌++◌, refl, sym, ◌∙◌, ap, subst, get_or, take}
+use Rattle.std.specs.Prelude.{IsNone, IfSome, IsTrue}
+use Rattle.std.specs.List.{Contains}
+use Rattle.std.specs.List.Sorted.{IsStrictlyIncreasing}
+use Rattle.std.proofs.lemmas.Bool.{false≢true}
+use Rattle.std.proofs.lemmas.List.{take_more, take_all, map-append}
+use Rattle.std.proofs.lemmas.List.Elements.{Contains-get_or}
+use Rattle.geo_exact.specs.Layers.{numbered}
+use Rattle.ring_edits.specs.Edits.{has_edge_between, with_corner}
+use Rattle.fabric_core.specs.JournalRows.{row_of, rows_of_entry}
+use Rattle.fabric_core.proofs.FromOneCell.{ascending}
+use Rattle.fabric_core.proofs.WithEdge.{ArePut, none_put, put_one, put_none, all_put, above_before, edge_is_candidate, edge_off, edge_on}
+use Rattle.fabric_core.proofs.edges.rows_with_corner.Goals.{in-Some-2+in_ok-push, in_default-2}
+use Rattle.fabric_core.proofs.edges.rows_with_corner.Goals as goal
+
+pub loop-id-init : goal.loop-id-init
+loop-id-init g c = rw c.new-rows.ensures.items (none_put c.args.tiled.now.rows c.args.from c.args.to c.args.at)
+
+pub unreachable-requires : goal.unreachable-requires
+unreachable-requires g c =
+    let items = c.deref-id-items.result.now in let id = get_or items c.loop-id.id-index 0 in
+    let named : Contains c.in_ok-ids.ids.items id = subst (λ xs. Contains xs id) c.deref-id-items.ensures.value
+    (Contains-get_or items c.loop-id.id-index 0 c.loop-id-test.true) in
+    let w = (c.in_ok-ids.ensures.exactly id).0 named in
+    c.in_default.ensures w.row w.is_row w.has_id
+
+pub loop-id-preserved : goal.loop-id-preserved
+loop-id-preserved g c =
+    let rows = c.args.tiled.now.rows in let from = c.args.from in let to = c.args.to in let at = c.args.at in
+    let items = c.deref-id-items.result.now in let k = c.loop-id.id-index in let id = get_or items k 0 in
+    let ring = c.as_slice.result.now in let entries = c.loop-id.rows.items in
+    let up = ascending rows (subst IsStrictlyIncreasing c.ids-ids.ensures.ids c.ids-ids.ensures.ascending) in
+    let is_row = subst (λ r. Contains rows (numbered id r)) (sym c.as_slice.ensures) c.in-Some.ensures in
+    rw (take_more items k 0 c.loop-id-test.true)
+    (elim c.match-branch-3.branch [
+      | in-Some-2+in_ok-push w ↦
+          let corners = w.in-Some-2.corners in
+          let put = subst (λ o. IfSome o (λ out. out ≡ with_corner from to at ring)) w.in-Some-2.is c.in_ok-corners.ensures.some in
+          let none = subst (λ o. IsNone o ↔ ((from ≡ to) ⊎ (¬ IsTrue (has_edge_between from to ring)))) w.in-Some-2.is c.in_ok-corners.ensures.none in
+          let on = edge_on from to (has_edge_between from to ring) (λ off. false≢true (sym (none.1 off))) in
+          let rise = subst IsStrictlyIncreasing (sym c.deref-id-items.ensures.value) c.in_ok-ids.ensures.ascend in
+          subst (λ news. ArePut rows from to at (take k items ++ id ∷ []) news)
+          (ap (λ r. rows_of_entry entries ++ numbered id r ∷ []) (sym put)
+          ∙ sym (map-append row_of entries (record { id = id; corners = corners } ∷ []))
+          ∙ ap rows_of_entry (sym w.in_ok-push.ensures.items) ∙ ap (λ v. rows_of_entry v.items) (sym w.rows-is))
+          (put_one rows from to at (take k items) (rows_of_entry entries) id ring up is_row c.loop-id.invariant
+          (λ m named. above_before items k id m rise c.loop-id-test.true refl named) on)
+      | in_default-2 w ↦
+          let none = subst (λ o. IsNone o ↔ ((from ≡ to) ⊎ (¬ IsTrue (has_edge_between from to ring)))) w.in_default-2.is c.in_ok-corners.ensures.none in
+          let off = edge_off from to (has_edge_between from to ring) c.requires.apart (none.0 refl) in
+          subst (λ news. ArePut rows from to at (take k items ++ id ∷ []) news) (ap (λ v. rows_of_entry v.items) (sym w.rows-is))
+          (put_none rows from to at (take k items) (rows_of_entry entries) id ring up is_row c.loop-id.invariant off)
+    ])
+
+pub returns : goal.returns
+returns g c =
+    let rows = c.args.tiled.now.rows in let from = c.args.from in let to = c.args.to in let at = c.args.at in
+    let items = c.deref-id-items.result.now in
+    let up = ascending rows (subst IsStrictlyIncreasing c.ids-ids.ensures.ids c.ids-ids.ensures.ascending) in
+    all_put rows from to at (take c.loop-id.id-index items) (rows_of_entry c.loop-id.rows.items) up
+    (λ row is has. subst (λ ids. Contains ids row.number) (sym c.deref-id-items.ensures.value ∙ sym (take_all c.loop-id.id-index items c.loop-id-test.false))
+    ((c.in_ok-ids.ensures.exactly row.number).1
+    (edge_is_candidate rows c.args.tiled.now.city c.args.tiled.now.index from to row c.tiles.ensures.indexed c.requires.in_area is has)))
+    c.loop-id.invariant

@@ -1,0 +1,64 @@
+-- What the single steps of an edit answer. Public contracts do not speak of it.
+use Rattle.std.specs.Prelude.{◌≡◌, ◌⊎◌, ℕ, List, map}
+use Rattle.std.specs.List.{Contains}
+use Rattle.geo_exact.specs.declared.corner.Corner.{Corner}
+use Rattle.geo_exact.specs.Layers.{NumberedRing}
+use Rattle.geo_exact.specs.Segments.{IsStrictlyInside}
+use Rattle.ring_core.specs.declared.shape.Shape.{Shape}
+use Rattle.ring_core.specs.declared.ring.RingFault.{RingFault}
+use Rattle.ring_edits.specs.declared.fault.EditFault.{EditFault}
+use Rattle.ring_edits.specs.declared.fault.EditFault.TheVariants.{BadPath as NoPath, NotNeighbours as NoBorder, SharedTwice as TwoBorders, NoMemory as NoRoom}
+use Rattle.fabric_core.specs.declared.refusal.Refusal.{Refusal}
+use Rattle.fabric_core.specs.declared.refusal.Refusal.TheVariants.{Unknown, BadPath, NotNeighbours, SharedTwice, NoSuchEdge, NotOnEdge, Ring, NoMemory}
+use Rattle.fabric_core.specs.Rows.{numbers}
+use Rattle.fabric_core.specs.Journal.{State}
+use Rattle.fabric_core.specs.Refusals.{AreHere, IsFirstGone, IsFirstBadRing, HaveNoBorder, HasNoEdge, IsBadMove}
+use Rattle.fabric_core.specs.own.Kept.{Kept}
+
+-- the state of what is kept
+abbrev pub state_of : Kept → State
+state_of kept = record { rows = kept.rows; refined = kept.refined; next = kept.next }
+
+-- the id is no parcel's, and the refusal tells what has become of it
+abbrev pub IsGone : Kept → ℕ → Refusal → Type 0
+IsGone kept id refusal = (¬ Contains (numbers kept.rows) id) × (refusal ≡ Unknown id)
+
+-- the refusal tells of the first of these ids that is no parcel's
+abbrev pub IsFirstTold : Kept → List ℕ → Refusal → Type 0
+IsFirstTold kept ids refusal = (id : ℕ) × IsFirstGone kept.rows ids id × IsGone kept id refusal
+
+-- why an edit that names these ids makes no change: no memory, an id that is no parcel's, or what it asks for itself
+abbrev pub IsStopped : Kept → List ℕ → Type 0 → Refusal → Type 0
+IsStopped kept ids own refusal = (refusal ≡ NoMemory) ⊎ IsFirstTold kept ids refusal ⊎ (AreHere kept.rows ids × own)
+
+-- the refusal for two parcels that have no border
+abbrev pub IsBorderRefusal : State → ℕ → ℕ → Refusal → Type 0
+IsBorderRefusal state a b refusal =
+    ((refusal ≡ NotNeighbours) × HaveNoBorder state a b NoBorder) ⊎ ((refusal ≡ SharedTwice) × HaveNoBorder state a b TwoBorders)
+
+-- or whose border the path does not replace
+abbrev pub IsMoveRefusal : State → ℕ → ℕ → List Corner → Refusal → Type 0
+IsMoveRefusal state a b path refusal =
+    ((refusal ≡ NotNeighbours) × HaveNoBorder state a b NoBorder) ⊎ ((refusal ≡ SharedTwice) × HaveNoBorder state a b TwoBorders)
+    ⊎ ((refusal ≡ BadPath) × IsBadMove state a b path)
+
+-- the refusal for a corner that is put into no edge
+abbrev pub IsInsertRefusal : State → Corner → Corner → Corner → Refusal → Type 0
+IsInsertRefusal state from to at refusal =
+    ((refusal ≡ NoSuchEdge) × HasNoEdge state from to)
+    ⊎ ((refusal ≡ NotOnEdge) × (¬ HasNoEdge state from to) × (¬ IsStrictlyInside at from to))
+
+-- the refusal of an edit that makes no rings
+abbrev pub refusal_of : EditFault → Refusal
+refusal_of NoPath = BadPath
+refusal_of NoBorder = NotNeighbours
+refusal_of TwoBorders = SharedTwice
+refusal_of NoRoom = NoMemory
+
+-- the refusal is that of the first of the rows that is no simple ring
+abbrev pub IsRingRefusal : List NumberedRing → Refusal → Type 0
+IsRingRefusal rows refusal = (which : ℕ) × (fault : RingFault) × IsFirstBadRing rows which fault × (refusal ≡ Ring which fault)
+
+-- the rings of shapes
+abbrev pub rings_of_shapes : {A : Type 0} → List (Shape A) → List (List Corner)
+rings_of_shapes shapes = map (λ shape. shape.ring.corners) shapes

@@ -1,0 +1,232 @@
+ghost use Rattle.std.specs.Prelude.{◌≡◌, ◌+◌, ◌^◌, ◌<◌, ◌∷◌, [], map, IfOk, IfErr};
+ghost use Rattle.std.specs.List.{All, AllByRecursion, Contains};
+ghost use Rattle.geo_exact.specs.Bounds.{HoldsCorner};
+ghost use Rattle.geo_exact.specs.Layers.{numbered};
+ghost use Rattle.fabric_core.specs.declared.refusal.Refusal.TheVariants.{BadPath};
+ghost use Rattle.fabric_core.specs.EditResults.{IsChange, IsSplitOf, IsMergeOf, IsMoveOf, IsInsertOf};
+ghost use Rattle.fabric_core.specs.JournalRows.{rows_of_entry};
+ghost use Rattle.fabric_core.specs.Refusals.{named_ids, IsBadCut, IsOwnRefusal};
+ghost use Rattle.fabric_core.specs.own.Changes.{state_of, IsGone, IsStopped, IsBorderRefusal, IsMoveRefusal, IsInsertRefusal};
+
+use crate::edges::rows_with_corner;
+use crate::journal::Row;
+use crate::refusal::Refusal;
+use crate::tiled::Tiled;
+use geo_exact::{Corner, Corners};
+use ring_core::Shape;
+use ring_edits::{Edit, EditFault, is_between, merge, shift, split};
+use std::alloc::{AllocError, Allocator};
+
+/// What an edit takes out of a fabric, and what it brings.
+#[derive(Drop)]
+pub(crate) struct Change<A: Allocator> {
+    /// The ids of the parcels that it takes out.
+    pub out: Vec<u64, A>,
+    /// The parcels that it brings.
+    pub rows: Vec<Row<A>, A>,
+}
+
+impl From<EditFault> for Refusal {
+    ghost use Rattle.std.specs.Prelude.{◌≡◌};
+    ghost use Rattle.fabric_core.specs.own.Changes.{refusal_of};
+
+    ghost from_gives = { λ fault refusal. refusal ≡ refusal_of fault };
+
+    fn from(fault: EditFault) -> Refusal {
+        match fault {
+            EditFault::BadPath => Refusal::BadPath,
+            EditFault::NotNeighbours => Refusal::NotNeighbours,
+            EditFault::SharedTwice => Refusal::SharedTwice,
+            EditFault::NoMemory => Refusal::NoMemory,
+        }
+    }
+}
+
+/// The shape of a parcel that an edit names.
+fn here<'t, 'a, H: Allocator>(tiled: &'t Tiled<'a, H>, id: u64) -> Result<&'t Shape<&'a H>, Refusal>
+    ensures ok { IfOk result (λ shape. Contains tiled.now.rows (numbered id shape.now.ring.corners)) }
+    ensures err { IfErr result (λ refusal. IsGone tiled.now id refusal) }
+{
+    match tiled.shape(id) {
+        Some(shape) => Ok(shape),
+        None => Err(Refusal::Unknown(id)),
+    }
+}
+
+/// The row of a ring under the next id.
+fn one_row<A: Allocator>(
+    alloc: A,
+    next: u64,
+    ring: Corners<A>,
+) -> Result<Vec<Row<A>, A>, AllocError>
+    ensures { IfOk result (λ rows. rows_of_entry rows.items ≡ numbered next ring ∷ []) }
+{
+    let mut rows = Vec::new(alloc);
+    rows.push(Row {
+        id: next,
+        corners: ring,
+    })?;
+    Ok(rows)
+}
+
+/// The rows of two rings, the first under the next id, and the second under that after it.
+fn two_rows<A: Allocator>(
+    alloc: A,
+    next: u64,
+    first: Corners<A>,
+    second: Corners<A>,
+) -> Result<Vec<Row<A>, A>, AllocError>
+    requires { next + 1 < 2 ^ 64 }
+    ensures { IfOk result (λ rows. rows_of_entry rows.items ≡ numbered next first ∷ numbered (next + 1) second ∷ []) }
+{
+    let mut rows = Vec::new(alloc);
+    rows.push(Row {
+        id: next,
+        corners: first,
+    })?;
+    rows.push(Row {
+        id: next + 1,
+        corners: second,
+    })?;
+    Ok(rows)
+}
+
+/// A parcel cut in two along a path.
+fn split_change<'a, H: Allocator>(
+    alloc: &'a H,
+    tiled: &Tiled<'a, H>,
+    next: u64,
+    id: u64,
+    path: &[Corner],
+) -> Result<Change<&'a H>, Refusal>
+    requires next { next ≡ tiled.now.next }
+    requires room { next + 1 < 2 ^ 64 }
+    ensures change { IfOk result (λ change.
+        IsSplitOf (state_of tiled.now) id path.now change.out.items (rows_of_entry change.rows.items)) }
+    ensures err { IfErr result (λ refusal.
+        IsStopped tiled.now (id ∷ []) ((refusal ≡ BadPath) × IsBadCut (state_of tiled.now) id path.now) refusal) }
+{
+    let shape = here(tiled, id)?;
+    let (left, right) = match split(alloc, shape.ring.corners.as_slice(), path) {
+        Ok(rings) => rings,
+        Err(EditFault::BadPath) => return Err(Refusal::BadPath),
+        Err(_) => return Err(Refusal::NoMemory),
+    };
+    let out = Vec::from_slice(alloc, &[id])?;
+    let rows = two_rows(alloc, next, left, right)?;
+    Ok(Change { out, rows })
+}
+
+/// Two neighbours made one parcel.
+fn merge_change<'a, H: Allocator>(
+    alloc: &'a H,
+    tiled: &Tiled<'a, H>,
+    next: u64,
+    a: u64,
+    b: u64,
+) -> Result<Change<&'a H>, Refusal>
+    requires next { next ≡ tiled.now.next }
+    ensures change { IfOk result (λ change.
+        IsMergeOf (state_of tiled.now) a b change.out.items (rows_of_entry change.rows.items)) }
+    ensures err { IfErr result (λ refusal.
+        IsStopped tiled.now (a ∷ b ∷ []) (IsBorderRefusal (state_of tiled.now) a b refusal) refusal) }
+{
+    let first = here(tiled, a)?;
+    let second = here(tiled, b)?;
+    let ring = merge(
+        alloc,
+        first.ring.corners.as_slice(),
+        second.ring.corners.as_slice(),
+    )?;
+    let out = Vec::from_slice(alloc, &[a, b])?;
+    let rows = one_row(alloc, next, ring)?;
+    Ok(Change { out, rows })
+}
+
+/// Two neighbours with the border between them moved to a path.
+fn move_change<'a, H: Allocator>(
+    alloc: &'a H,
+    tiled: &Tiled<'a, H>,
+    next: u64,
+    a: u64,
+    b: u64,
+    path: &[Corner],
+) -> Result<Change<&'a H>, Refusal>
+    requires next { next ≡ tiled.now.next }
+    requires room { next + 1 < 2 ^ 64 }
+    ensures change { IfOk result (λ change.
+        IsMoveOf (state_of tiled.now) a b path.now change.out.items (rows_of_entry change.rows.items)) }
+    ensures err { IfErr result (λ refusal.
+        IsStopped tiled.now (a ∷ b ∷ []) (IsMoveRefusal (state_of tiled.now) a b path.now refusal) refusal) }
+{
+    let first = here(tiled, a)?;
+    let second = here(tiled, b)?;
+    let (of_a, of_b) = shift(
+        alloc,
+        first.ring.corners.as_slice(),
+        second.ring.corners.as_slice(),
+        path,
+    )?;
+    let out = Vec::from_slice(alloc, &[a, b])?;
+    let rows = two_rows(alloc, next, of_a, of_b)?;
+    Ok(Change { out, rows })
+}
+
+/// The rows' ids.
+fn ids_of<A: Allocator>(alloc: A, rows: &[Row<A>]) -> Result<Vec<u64, A>, AllocError>
+    ensures { IfOk result (λ ids. ids.items ≡ map (λ row. row.id) rows.now) }
+{
+    rows.iter().map(|row| row.id).collect(alloc)
+}
+
+/// A corner put into an edge of the parcels that have it.
+fn insert_change<'a, H: Allocator>(
+    alloc: &'a H,
+    tiled: &Tiled<'a, H>,
+    from: Corner,
+    to: Corner,
+    at: Corner,
+) -> Result<Change<&'a H>, Refusal>
+    requires in_area { AllByRecursion (λ row. All (HoldsCorner tiled.now.index.area) row.corners) tiled.now.rows }
+    ensures change { IfOk result (λ change.
+        IsInsertOf (state_of tiled.now) from to at change.out.items (rows_of_entry change.rows.items)) }
+    ensures err { IfErr result (λ refusal.
+        IsStopped tiled.now [] (IsInsertRefusal (state_of tiled.now) from to at refusal) refusal) }
+{
+    if from == to {
+        return Err(Refusal::NoSuchEdge);
+    }
+    let rows = rows_with_corner(alloc, tiled, from, to, at)?;
+    if rows.is_empty() {
+        return Err(Refusal::NoSuchEdge);
+    }
+    if !is_between(from, to, at) {
+        return Err(Refusal::NotOnEdge);
+    }
+    let out = ids_of(alloc, &rows)?;
+    Ok(Change { out, rows })
+}
+
+/// What an edit takes out and brings; new parcels have the next ids. Why there is nothing, else: the ids that the edit names are looked
+/// up first, in its order, and then comes what it asks of paths, borders and edges.
+pub(crate) fn change_of<'a, H: Allocator>(
+    alloc: &'a H,
+    tiled: &Tiled<'a, H>,
+    next: u64,
+    edit: &Edit<&'a H>,
+) -> Result<Change<&'a H>, Refusal>
+    requires next { next ≡ tiled.now.next }
+    requires room { next + 1 < 2 ^ 64 }
+    requires in_area { AllByRecursion (λ row. All (HoldsCorner tiled.now.index.area) row.corners) tiled.now.rows }
+    ensures change { IfOk result (λ change.
+        IsChange (state_of tiled.now) edit.now change.out.items (rows_of_entry change.rows.items)) }
+    ensures err { IfErr result (λ refusal.
+        IsStopped tiled.now (named_ids edit.now) (IsOwnRefusal (state_of tiled.now) edit.now refusal) refusal) }
+{
+    match edit {
+        Edit::Split { id, path } => split_change(alloc, tiled, next, *id, path.as_slice()),
+        Edit::Merge { a, b } => merge_change(alloc, tiled, next, *a, *b),
+        Edit::Move { a, b, path } => move_change(alloc, tiled, next, *a, *b, path.as_slice()),
+        Edit::Insert { from, to, at } => insert_change(alloc, tiled, *from, *to, *at),
+    }
+}
