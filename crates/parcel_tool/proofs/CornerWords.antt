@@ -3,8 +3,8 @@ use Rattle.std.proofs.Common.{◌≡◌, List, [], ◌∷◌, ◌++◌, ℕ, suc
 use Rattle.std.proofs.Math.Seq.{drop-cons}
 use Rattle.std.proofs.lemmas.List.{length-map}
 use Rattle.geo_exact.specs.declared.corner.Corner.{Corner}
-use Rattle.parcel_runs.specs.TextNumbers.{IsCornerText}
-use Rattle.parcel_runs.proofs.Numerals.{one_corner}
+use Rattle.line_files.specs.TextNumbers.{IsCornerText}
+use Rattle.line_files.proofs.Numerals.{one_corner}
 use Rattle.parcel_tool.specs.Arguments.{AreCornerWords}
 
 -- the words before these are these corners' coordinates

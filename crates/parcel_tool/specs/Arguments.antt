@@ -3,7 +3,7 @@ use Rattle.std.specs.Prelude.{◌≡◌, ℕ, List, [], ◌∷◌, codes}
 use Rattle.geo_exact.specs.declared.coord.Unit.{Unit as LengthUnit}
 use Rattle.geo_exact.specs.declared.coord.Unit.TheVariants.{Cm, M}
 use Rattle.geo_exact.specs.declared.corner.Corner.{Corner}
-use Rattle.parcel_runs.specs.TextNumbers.{IsCornerText}
+use Rattle.line_files.specs.TextNumbers.{IsCornerText}
 
 -- the word that asks for a unit
 abbrev pub unit_word : LengthUnit → List ℕ
