@@ -1,77 +1,18 @@
 -- The words of a clerk's line, taken one after the other.
-use Rattle.std.proofs.Common.{◌≡◌, ◌≢◌, inl, inr, ℕ, ◌+◌, List, [], ◌∷◌, ◌++◌, refl, ap, sym, ◌∙◌, subst, append_assoc, append-nil, codes}
+use Rattle.std.proofs.Common.{◌≡◌, ◌≢◌, inl, inr, ℕ, ◌+◌, List, [], ◌∷◌, refl, sym, ◌∙◌, subst, codes}
 use Rattle.std.proofs.Common.{arith}
 use Rattle.geo_exact.specs.declared.corner.Corner.{Corner}
 use Rattle.ring_edits.specs.declared.edit.Edit.{Edit}
 use Rattle.ring_edits.specs.declared.edit.Edit.TheVariants.{Split, Merge, Move, Insert}
-use Rattle.line_files.specs.TextNumbers.{IsNumber, IsCornerText}
-use Rattle.line_files.specs.ClerkFile.{AreCorners, ArePath, IsSplitLine, IsMergeLine, IsMoveLine, IsInsertLine, SayEdit, SaysEdit, words_of}
+use Rattle.line_files.specs.TextNumbers.{IsNumber, AreCornerWords}
+use Rattle.line_files.specs.ClerkFile.{ArePath, IsSplitLine, IsMergeLine, IsMoveLine, IsInsertLine, SayEdit, SaysEdit, words_of}
 use Rattle.line_files.specs.TextLines.{IsSkipped, IsBad, IsFirstBad}
 use Rattle.line_files.specs.own.EditWords.{TakesNumber, TakesCorner}
-use Rattle.line_files.proofs.Numerals.{one_number, one_corner}
+use Rattle.line_files.proofs.CornerWords.{ahead, behind, same_corners, IsReadTo, stuck, all_read}
+use Rattle.line_files.proofs.Numerals.{one_number}
 use Rattle.line_files.proofs.Said.{IsGrammar}
 
--- ---- the corners that words are
--- the first corner of words, and the others
-pub ahead : (words : List (List ℕ)) (corner : Corner) (corners : List Corner) (h : AreCorners words (corner ∷ corners))
-    → TakesCorner words corner h.2
-ahead words corner corners h = record { x = h.0; y = h.1; are_words = h.3; is_corner = h.4 }
-
-pub behind : (words left : List (List ℕ)) (taken corner : Corner) (corners : List Corner) → TakesCorner words taken left
-    → AreCorners words (corner ∷ corners) → AreCorners left corners
-behind words left taken corner corners t h =
-    let e : t.x ∷ t.y ∷ left ≡ h.0 ∷ h.1 ∷ h.2 = sym t.are_words ∙ h.3 in
-    let same : h.2 ≡ left = cc in
-    subst (λ rest. AreCorners rest corners) same h.5
-
-pub joined : (words left : List (List ℕ)) (corner : Corner) (corners : List Corner) → TakesCorner words corner left
-    → AreCorners left corners → AreCorners words (corner ∷ corners)
-joined words left corner corners t h = (t.x, t.y, left, t.are_words, t.is_corner, h)
-
-same_taken : (words left rest : List (List ℕ)) (a b : Corner) → TakesCorner words a left → TakesCorner words b rest → a ≡ b
-same_taken words left rest a b t u =
-    let e : t.x ∷ t.y ∷ left ≡ u.x ∷ u.y ∷ rest = sym t.are_words ∙ u.are_words in
-    let ex : u.x ≡ t.x = cc in
-    let ey : u.y ≡ t.y = cc in
-    one_corner t.x t.y a b t.is_corner (subst (λ y. IsCornerText t.x y b) ey (subst (λ x. IsCornerText x u.y b) ex u.is_corner))
-
-no_corner_of_none : (words : List (List ℕ)) (corner : Corner) (corners : List Corner) → words ≡ [] → ¬ AreCorners words (corner ∷ corners)
-no_corner_of_none words corner corners e h = let f : [] ≡ h.0 ∷ h.1 ∷ h.2 = sym e ∙ h.3 in absurd (cc)
-
--- words are one list of corners
-same_corners : (words : List (List ℕ)) (p q : List Corner) → AreCorners words p → AreCorners words q → p ≡ q
-same_corners words [] [] h k = refl
-same_corners words [] (c ∷ cs) h k = absurd (no_corner_of_none words c cs h k)
-same_corners words (c ∷ cs) [] h k = absurd (no_corner_of_none words c cs k h)
-same_corners words (c ∷ cs) (d ∷ ds) h k =
-    let heads : c ≡ d = same_taken words h.2 k.2 c d (ahead words c cs h) (ahead words d ds k) in
-    let tails : cs ≡ ds = same_corners h.2 cs ds h.5 (behind words h.2 c d ds (ahead words c cs h) k) in
-    cc
-
--- ---- a path that is read so far, and the words that are left
-pub record IsReadTo (all left : List (List ℕ)) (path : List Corner) : Type 0 where
-  pub adds : (more : List Corner) → AreCorners left more → AreCorners all (path ++ more)
-  pub only : (whole : List Corner) → AreCorners all whole → (more : List Corner) × AreCorners left more × (whole ≡ path ++ more)
-
-taken_only : (words left : List (List ℕ)) (corner : Corner) → TakesCorner words corner left → (more : List Corner) → AreCorners words more
-    → (rest : List Corner) × AreCorners left rest × (more ≡ corner ∷ rest)
-taken_only words left corner t [] h = let f : [] ≡ t.x ∷ t.y ∷ left = sym h ∙ t.are_words in absurd (cc)
-taken_only words left corner t (c ∷ cs) h =
-    (cs, behind words left corner c cs t h, ap (λ d. d ∷ cs) (same_taken words h.2 left c corner (ahead words c cs h) t))
-
-pub one_more_read : (all words left : List (List ℕ)) (path : List Corner) (corner : Corner) → IsReadTo all words path
-    → TakesCorner words corner left → IsReadTo all left (path ++ corner ∷ [])
-one_more_read all words left path corner h t = record {
-  adds = λ more m. subst (AreCorners all) (sym (append_assoc path (corner ∷ []) more)) (h.adds (corner ∷ more) (joined words left corner more t m));
-  only = λ whole w. let o = h.only whole w in let r = taken_only words left corner t o.0 o.1 in
-      (r.0, r.1, o.2 ∙ ap (λ more. path ++ more) r.2 ∙ sym (append_assoc path (corner ∷ []) r.0));
-}
-
-stuck : (words : List (List ℕ)) → words ≢ [] → ((corner : Corner) → (left : List (List ℕ)) → ¬ TakesCorner words corner left)
-    → (more : List Corner) → ¬ AreCorners words more
-stuck words some none [] h = some h
-stuck words some none (c ∷ cs) h = none c h.2 (ahead words c cs h)
-
+-- ---- a path
 -- where no corner follows, but words do, all are no path
 pub no_path : (all words : List (List ℕ)) (path : List Corner) → IsReadTo all words path → words ≢ []
     → ((corner : Corner) → (left : List (List ℕ)) → ¬ TakesCorner words corner left) → (whole : List Corner) → ¬ ArePath all whole
@@ -79,12 +20,12 @@ no_path all words path h some none whole w = let o = h.only whole w.are_corners 
 
 -- where no word is left, all words are the path
 pub whole_path : (all words : List (List ℕ)) (path : List Corner) → IsReadTo all words path → words ≡ [] → path ≢ [] → ArePath all path
-whole_path all words path h e some = record { are_corners = subst (AreCorners all) (append-nil path) (h.adds [] e); has_one = some }
+whole_path all words path h e some = record { are_corners = all_read all words path h e; has_one = some }
 
 pub no_corners : (all words : List (List ℕ)) (path : List Corner) → IsReadTo all words path → words ≡ [] → path ≡ []
     → (whole : List Corner) → ¬ ArePath all whole
 no_corners all words path h e none whole w =
-    w.has_one (same_corners all whole path w.are_corners (subst (AreCorners all) (append-nil path) (h.adds [] e)) ∙ none)
+    w.has_one (same_corners all whole path w.are_corners (all_read all words path h e) ∙ none)
 
 -- ---- which edits words can say, by the first of them
 same_byte : (a b : ℕ) (xs ys : List ℕ) (v w : List (List ℕ)) → (a ∷ xs) ∷ v ≡ (b ∷ ys) ∷ w → a ≡ b
@@ -127,7 +68,7 @@ same_number : (n m : ℕ) (xs ys : List ℕ) → xs ≡ ys → IsNumber xs n →
 same_number n m xs ys e h k = one_number ys n m (subst (λ t. IsNumber t n) e h) k
 
 same_path : (xs ys : List (List ℕ)) (p q : List Corner) → xs ≡ ys → ArePath xs p → ArePath ys q → p ≡ q
-same_path xs ys p q e h k = same_corners ys p q (subst (λ t. AreCorners t p) e h.are_corners) k.are_corners
+same_path xs ys p q e h k = same_corners ys p q (subst (λ t. AreCornerWords t p) e h.are_corners) k.are_corners
 
 pub one_edit : {A : Type 0} (words : List (List ℕ)) (x y : Edit A) → SayEdit words x → SayEdit words y → x ≡ y
 one_edit words (Split id path) y h k =
@@ -157,7 +98,7 @@ one_edit words (Insert from to at) y h k =
     let o = only_insert h.places y (subst (λ w. SayEdit w y) h.are_words k) in
     let places : h.places ≡ o.4.places = cc (o.4.are_words) in
     let lists : from ∷ to ∷ at ∷ [] ≡ o.0 ∷ o.1 ∷ o.2 ∷ [] =
-    same_corners o.4.places _ _ (subst (λ w. AreCorners w (from ∷ to ∷ at ∷ [])) places h.are_places) o.4.are_places in
+    same_corners o.4.places _ _ (subst (λ w. AreCornerWords w (from ∷ to ∷ at ∷ [])) places h.are_places) o.4.are_places in
     cc (o.3)
 
 -- ---- why they say nothing
@@ -196,11 +137,11 @@ module _ {A : Type 0} (words : List (List ℕ)) where
 
   -- the places of an edit that puts in a corner
   insert_places : (edit : Edit A) → SayEdit (codes "insert" ∷ words) edit
-      → (from : Corner) × (to : Corner) × (at : Corner) × AreCorners words (from ∷ to ∷ at ∷ [])
+      → (from : Corner) × (to : Corner) × (at : Corner) × AreCornerWords words (from ∷ to ∷ at ∷ [])
   insert_places edit h =
       let o = only_insert words edit h in
       let same : o.4.places ≡ words = cc (o.4.are_words) in
-      (o.0, o.1, o.2, subst (λ w. AreCorners w (o.0 ∷ o.1 ∷ o.2 ∷ [])) same o.4.are_places)
+      (o.0, o.1, o.2, subst (λ w. AreCornerWords w (o.0 ∷ o.1 ∷ o.2 ∷ [])) same o.4.are_places)
 
   pub no_insert_from : ((corner : Corner) → (left : List (List ℕ)) → ¬ TakesCorner words corner left) → (edit : Edit A)
       → ¬ SayEdit (codes "insert" ∷ words) edit

@@ -2,5 +2,6 @@ pub mod Splits
 pub mod Said
 pub mod Numerals
 pub mod WordLists
+pub mod CornerWords
 pub mod ClerkWords
 pub mod Passing

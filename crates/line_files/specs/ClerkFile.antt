@@ -5,21 +5,15 @@ use Rattle.geo_exact.specs.declared.corner.Corner.{Corner}
 use Rattle.ring_edits.specs.declared.edit.Edit.{Edit}
 use Rattle.ring_edits.specs.declared.edit.Edit.TheVariants.{Split, Merge, Move, Insert}
 use Rattle.line_files.specs.TextLines.{lines_of, AreSaid, IsFirstBad}
-use Rattle.line_files.specs.TextNumbers.{IsNumber, IsCornerText}
+use Rattle.line_files.specs.TextNumbers.{IsNumber, AreCornerWords}
 
 -- the words of a line, which is cut at each space (32); where two stand side by side, or one at an end of the line, there is an empty word
 abbrev pub words_of : List ℕ → List (List ℕ)
 words_of line = slice_split (λ b. b == 32) line
 
--- `X Y X Y ..`, the coordinates of these corners
-abbrev pub AreCorners : List (List ℕ) → List Corner → Type 0
-AreCorners words [] = words ≡ []
-AreCorners words (corner ∷ corners) = (x : List ℕ) × (y : List ℕ) × (rest : List (List ℕ)) × (words ≡ x ∷ y ∷ rest)
-    × IsCornerText x y corner × AreCorners rest corners
-
 -- `X Y X Y ..`, the coordinates of one or more corners
 pub record ArePath (words : List (List ℕ)) (path : List Corner) : Type 0 where
-  pub are_corners : AreCorners words path
+  pub are_corners : AreCornerWords words path
   pub has_one : path ≢ []
 
 -- `split ID X Y X Y ..`
@@ -52,7 +46,7 @@ pub record IsMoveLine (words : List (List ℕ)) (a b : ℕ) (path : List Corner)
 pub record IsInsertLine (words : List (List ℕ)) (from to at : Corner) : Type 0 where
   pub places : List (List ℕ)
   pub are_words : words ≡ codes "insert" ∷ places
-  pub are_places : AreCorners places (from ∷ to ∷ at ∷ [])
+  pub are_places : AreCornerWords places (from ∷ to ∷ at ∷ [])
 
 -- the words say this edit
 abbrev pub SayEdit : {A : Type 0} → List (List ℕ) → Edit A → Type 0

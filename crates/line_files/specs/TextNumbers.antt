@@ -1,5 +1,5 @@
 -- Numbers in texts (this product's own): 1 to 19 decimal digits, leading zeros allowed.
-use Rattle.std.specs.Prelude.{◌≡◌, ◌⊎◌, ℕ, ℤ, pos, neg_ℤ, ◌≤◌, ◌++◌, List, length, codes}
+use Rattle.std.specs.Prelude.{◌≡◌, ◌⊎◌, ℕ, ℤ, pos, neg_ℤ, ◌≤◌, List, [], ◌∷◌, ◌++◌, length, codes}
 use Rattle.std.specs.Str.Parse.{IsNumeral, digits_value}
 use Rattle.geo_exact.specs.declared.corner.Corner.{Corner}
 use Rattle.line_files.specs.declared.text_numbers.TheConstants.{MOST_DIGITS}
@@ -19,3 +19,9 @@ IsSigned text z = ((n : ℕ) × (z ≡ pos n) × IsNumber text n)
 pub record IsCornerText (x y : List ℕ) (corner : Corner) : Type 0 where
   pub is_x : IsSigned x corner.x
   pub is_y : IsSigned y corner.y
+
+-- `X Y X Y ..`: the words are the coordinates of these corners, two each
+abbrev pub AreCornerWords : List (List ℕ) → List Corner → Type 0
+AreCornerWords words [] = words ≡ []
+AreCornerWords words (corner ∷ corners) = (x : List ℕ) × (y : List ℕ) × (rest : List (List ℕ)) × (words ≡ x ∷ y ∷ rest)
+    × IsCornerText x y corner × AreCornerWords rest corners

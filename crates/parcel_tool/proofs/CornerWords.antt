@@ -1,49 +1,35 @@
--- Words that are read as corners, two by two.
-use Rattle.std.proofs.Common.{◌≡◌, List, [], ◌∷◌, ◌++◌, ℕ, suc, ◌+◌, ◌*◌, ◌%◌, ◌<◌, length, map, Bor, drop, get_or, refl, ap, sym, ◌∙◌, subst, append_assoc, append-nil, arith}
+-- Words of a command line that are read as corners, two by two.
+use Rattle.std.proofs.Common.{◌≡◌, List, [], ◌∷◌, ◌++◌, ℕ, suc, ◌+◌, ◌*◌, ◌%◌, ◌<◌, length, map, Bor, drop, get_or, refl, ap, sym, ◌∙◌, subst, arith}
 use Rattle.std.proofs.Math.Seq.{drop-cons}
 use Rattle.std.proofs.lemmas.List.{length-map}
 use Rattle.geo_exact.specs.declared.corner.Corner.{Corner}
-use Rattle.parcel_runs.specs.TextNumbers.{IsCornerText}
-use Rattle.parcel_runs.proofs.Numerals.{one_corner}
-use Rattle.parcel_tool.specs.Arguments.{AreCornerWords}
-
--- the words before these are these corners' coordinates
-pub record HaveCorners (all left : List (List ℕ)) (corners : List Corner) : Type 0 where
-  pub adds : (more : List Corner) → AreCornerWords left more → AreCornerWords all (corners ++ more)
-  pub only : (whole : List Corner) → AreCornerWords all whole → (more : List Corner) × AreCornerWords left more × (whole ≡ corners ++ more)
-
-pub no_corners : (all : List (List ℕ)) → HaveCorners all all []
-no_corners all = record { adds = λ more h. h; only = λ whole h. (whole, h, refl) }
+use Rattle.line_files.specs.TextNumbers.{IsCornerText, AreCornerWords}
+use Rattle.line_files.specs.own.EditWords.{TakesCorner}
+use Rattle.line_files.proofs.CornerWords.{IsReadTo, one_more_read, stuck}
 
 -- two words more
-pub more_corners : (all left : List (List ℕ)) (x y : List ℕ) (corners : List Corner) (corner : Corner) → HaveCorners all (x ∷ y ∷ left) corners
-    → IsCornerText x y corner → HaveCorners all left (corners ++ corner ∷ [])
-more_corners all left x y corners corner h k = record {
-  adds = λ more m. subst (AreCornerWords all) (sym (append_assoc corners (corner ∷ []) more)) (h.adds (corner ∷ more) (corner, more, refl, k, m));
-  only = λ whole w. let o = h.only whole w in let m = o.1 in (
-    m.1,
-    m.4,
-    o.2 ∙ ap (λ more. corners ++ more) (m.2 ∙ ap (λ c. c ∷ m.1) (one_corner x y m.0 corner m.3 k)) ∙ sym (append_assoc corners (corner ∷ []) m.1),
-  );
-}
-
--- no word more
-pub all_corners : (all : List (List ℕ)) (corners : List Corner) → HaveCorners all [] corners → AreCornerWords all corners
-all_corners all corners h = subst (AreCornerWords all) (append-nil corners) (h.adds [] refl)
+pub more_corners : (all left : List (List ℕ)) (x y : List ℕ) (corners : List Corner) (corner : Corner) → IsReadTo all (x ∷ y ∷ left) corners
+    → IsCornerText x y corner → IsReadTo all left (corners ++ corner ∷ [])
+more_corners all left x y corners corner h k =
+    one_more_read all (x ∷ y ∷ left) left corners corner h record { x = x; y = y; are_words = refl; is_corner = k }
 
 -- words that are no corners
-pub odd_word : (all : List (List ℕ)) (x : List ℕ) (corners whole : List Corner) → HaveCorners all (x ∷ []) corners → ¬ AreCornerWords all whole
-odd_word all x corners whole h w = (h.only whole w).1
+same_text : (left rest : List (List ℕ)) (x y : List ℕ) (corner : Corner) → TakesCorner (x ∷ y ∷ left) corner rest → IsCornerText x y corner
+same_text left rest x y corner t =
+    let ex : t.x ≡ x = cc (t.are_words) in
+    let ey : t.y ≡ y = cc (t.are_words) in
+    subst (λ x. IsCornerText x y corner) ex (subst (λ y. IsCornerText t.x y corner) ey t.is_corner)
 
-pub no_corner : (all left : List (List ℕ)) (x y : List ℕ) (corners whole : List Corner) → HaveCorners all (x ∷ y ∷ left) corners
+pub no_corner : (all left : List (List ℕ)) (x y : List ℕ) (corners whole : List Corner) → IsReadTo all (x ∷ y ∷ left) corners
     → ((corner : Corner) → ¬ IsCornerText x y corner) → ¬ AreCornerWords all whole
-no_corner all left x y corners whole h none w = let m = (h.only whole w).1 in none m.0 m.3
+no_corner all left x y corners whole h none w =
+    let o = h.only whole w in
+    stuck (x ∷ y ∷ left) (λ e. absurd (cc)) (λ corner rest t. none corner (same_text left rest x y corner t)) o.0 o.1
 
 -- words that are corners' coordinates are even in number
 even_words : (all : List (List ℕ)) (corners : List Corner) → AreCornerWords all corners → length all ≡ 2 * length corners
-even_words [] corners h = ap (λ cs. 2 * length cs) (sym h)
-even_words (x ∷ []) corners h = absurd h
-even_words (x ∷ y ∷ words) corners h = omega (arith, even_words words h.1 h.4, ap length h.2)
+even_words all [] h = ap length h
+even_words all (corner ∷ corners) h = omega (arith, even_words h.2 corners h.5, ap length h.3)
 
 pub odd_words : {A : Type 0} (text : A → List ℕ) (words : List A) (corners : List Corner) → (length words % 2 ≡ 0 → ⊥) → ¬ AreCornerWords (map text words) corners
 odd_words text words corners odd h = absurd (odd (let e = even_words (map text words) corners h in omega (arith, e, length-map words text)))

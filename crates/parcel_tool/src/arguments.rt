@@ -1,7 +1,8 @@
 ghost use Rattle.std.specs.Prelude.{◌≡◌, ◌≢◌, List, map, Some, IfOk, IfSome, IfNone, codes};
 ghost use Rattle.clap.specs.Words.{first_value, found_of};
 ghost use Rattle.geo_exact.specs.declared.corner.Corner.{Corner};
-ghost use Rattle.parcel_tool.specs.Arguments.{unit_word, AreCornerWords};
+ghost use Rattle.line_files.specs.TextNumbers.{AreCornerWords};
+ghost use Rattle.parcel_tool.specs.Arguments.{unit_word};
 ghost use Rattle.geo_exact.specs.declared.coord.Unit.{Unit as LengthUnit};
 
 use clap::error::ErrorKind;

@@ -1,5 +1,6 @@
 use Rattle.std.proofs.Common.{◌≡◌, ◌≢◌, [], rules}
-use Rattle.line_files.proofs.ClerkWords.{no_path, one_more_read, no_corners, whole_path}
+use Rattle.line_files.proofs.ClerkWords.{no_path, no_corners, whole_path}
+use Rattle.line_files.proofs.CornerWords.{one_more_read}
 use Rattle.line_files.proofs.edit_words.read_path.Goals as goal
 
 pub returns-in_default : goal.returns-in_default

@@ -1,5 +1,5 @@
 use Rattle.std.proofs.Common.{length}
-use Rattle.line_files.proofs.ClerkWords.{IsReadTo}
+use Rattle.line_files.proofs.CornerWords.{IsReadTo}
 use Rattle.line_files.proofs.edit_words.read_path.Given as goal
 
 abbrev pub invariant-loop-words : goal.invariant-loop-words

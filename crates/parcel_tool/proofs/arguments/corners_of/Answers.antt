@@ -1,6 +1,7 @@
-use Rattle.std.proofs.Common.{◌≡◌, [], drop, ◌+◌, ◌*◌, arith}
+use Rattle.std.proofs.Common.{◌≡◌, [], drop, ◌+◌, ◌*◌, refl, arith}
 use Rattle.std.proofs.lemmas.List.{drop_all}
-use Rattle.parcel_tool.proofs.CornerWords.{odd_words, two_left, more_corners, no_corner, all_corners}
+use Rattle.line_files.proofs.CornerWords.{all_read}
+use Rattle.parcel_tool.proofs.CornerWords.{odd_words, two_left, more_corners, no_corner}
 use Rattle.parcel_tool.proofs.arguments.corners_of.Goals as goal
 
 pub returns-then-words-ne0-clause-none : goal.returns-then-words-ne0-clause-none
@@ -23,4 +24,4 @@ loop-i-preserved c =
 pub returns-clause-found : goal.returns-clause-found
 returns-clause-found c =
     let none : drop (2 * c.loop-i.i) c.args.words.now ≡ [] = drop_all (2 * c.loop-i.i) c.args.words.now (omega arith) in
-    all_corners _ _ (rw none at c.loop-i.invariant)
+    all_read _ _ _ (rw none at c.loop-i.invariant) refl
