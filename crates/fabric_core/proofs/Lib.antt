@@ -27,15 +27,9 @@ pub mod NewShapes
 pub mod RowLists
 pub mod Replays
 pub mod Retirements
-<<<<<<< HEAD
 pub mod Neighbours
 pub mod OneRefusal
 pub mod EntryNets
-<<<<<<< HEAD
 pub mod PutIn
-=======
 pub mod EntryCounts
->>>>>>> 6112cf48c239e7d5ad2fff9d098d1bdc32a5ced8
-=======
 pub mod WithEdge
->>>>>>> 24e2b47297ac8bdd21c12c2b5e2849e1bc8a9b1f

@@ -6,11 +6,8 @@ mod box_laws;
 mod candidates;
 mod change;
 mod city;
-<<<<<<< HEAD
-mod fabric;
-=======
 mod edges;
->>>>>>> 24e2b47297ac8bdd21c12c2b5e2849e1bc8a9b1f
+mod fabric;
 mod gaps;
 mod grid_index;
 mod journal;
@@ -18,11 +15,8 @@ mod laws;
 mod layer;
 mod limits;
 mod locate;
-<<<<<<< HEAD
-mod opening;
-=======
 mod new_shapes;
->>>>>>> 24e2b47297ac8bdd21c12c2b5e2849e1bc8a9b1f
+mod opening;
 mod refine;
 mod refusal;
 mod rings;

@@ -22,14 +22,8 @@ ghost use Rattle.parcel_table.specs.Table.{HasId};
 
 use crate::candidates::{ids_under, sort_once};
 use crate::grid_index::clip_all;
-<<<<<<< HEAD
-use crate::locate::At;
-use crate::side::{Side, side_of};
-use cell_index::{CellIndex, Entry};
-=======
 use crate::locate::{At, Found, search};
-use cell_index::CellIndex;
->>>>>>> 11fb6fb6a1044dc669a17fbbc2c4a8385d278fba
+use cell_index::{CellIndex, Entry};
 use geo_exact::{Bounds, Corner, Corners};
 use parcel_table::{Fate, Ids, Parcels, Shapes};
 use ring_core::{Ring, Shape};
@@ -101,7 +95,7 @@ impl<'a, H: Allocator> Tiled<'a, H> {
         ensures indexed { IsIndexed self.now.rows self.now.city self.now.index }
         ensures ground { CoversAlike self.now.city self.now.refined }
     {
-        self.parcels.have_own_keys();
+        self.parcels.stand_apart();
     }
 
     /// The allocator of all that is kept.

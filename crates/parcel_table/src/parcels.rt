@@ -4,13 +4,7 @@ ghost use Rattle.std.specs.List.Sorted.{IsStrictlyIncreasing};
 ghost use Rattle.cell_index.specs.Cells.{HaveOwnKeys};
 ghost use Rattle.ring_core.specs.declared.shape.Shape.{Shape as ShapeValue};
 ghost use Rattle.parcel_table.specs.declared.parcels.Parcel.{Parcel as ParcelValue};
-<<<<<<< HEAD
 ghost use Rattle.parcel_table.specs.Table.{HasId, IsFateOf, IsKeyOf, entries_of, ids_of, retired_by, shapes_of, with_shape, without_id};
-=======
-ghost use Rattle.cell_index.specs.Cells.{HaveOwnKeys};
-ghost use Rattle.parcel_table.specs.Table.{ids_of, shapes_of, entries_of};
-ghost use Rattle.parcel_table.specs.own.Places.{parcel_at};
->>>>>>> 11fb6fb6a1044dc669a17fbbc2c4a8385d278fba
 
 use crate::fate::Fate;
 use crate::iter::{Ids, Shapes};
@@ -209,13 +203,6 @@ impl<A: Allocator> Parcels<A> {
         ensures { result ≡ length self.now.parcels }
     {
         self.slab.len()
-    }
-
-    /// No two parcels have one key.
-    pub fn have_own_keys(&self)
-        ensures { HaveOwnKeys (entries_of self.now.parcels) }
-    {
-        let _ = &self.slab;
     }
 
     /// The parcel under this key.

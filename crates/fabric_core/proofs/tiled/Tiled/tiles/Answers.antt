@@ -19,7 +19,7 @@ pub returns-clause-indexed : goal.returns-clause-indexed
 returns-clause-indexed g c =
     subst (λ (t : Kept). IsIndexed t.rows t.city t.index) c.self.view_is
     (is_indexed c.self.inside.parcels.parcels c.self.inside.city c.self.inside.refined c.self.inside.index c.self.invariant
-    c.have_own_keys.ensures)
+    c.stand_apart.ensures.keys)
 
 pub returns-clause-ground : goal.returns-clause-ground
 returns-clause-ground g c = subst (λ (t : Kept). CoversAlike t.city t.refined) c.self.view_is c.self.invariant.ground
