@@ -9,13 +9,14 @@ use Rattle.ring_edits.specs.Edits.{ShareOneRun, put_between}
 use Rattle.ring_edits.proofs.Apart.{has_apart_corners}
 use Rattle.ring_edits.proofs.Lengths.{least_length}
 use Rattle.ring_edits.proofs.OneEdge.{put_length}
+use Rattle.fabric_core.specs.own.Balanced.{HasRisingIds}
 use Rattle.fabric_core.specs.Faults.{AreSimple}
 use Rattle.fabric_core.specs.Journal.{State, with_rows, without_ids}
 use Rattle.fabric_core.specs.EditResults.{IsSplitOf, IsMergeOf, IsMoveOf, IsInsertOf}
 use Rattle.fabric_core.proofs.Lists.{corner_count-append}
 use Rattle.fabric_core.proofs.RowLists.{AllByRecursion-filter, AreNumberedFrom, put_behind, one_less_row, two_less_rows}
 use Rattle.fabric_core.proofs.Neighbours.{run_has_edge, merged_run, moved_run, two_parcels}
-use Rattle.fabric_core.proofs.Replays.{HasRisingIds, rows_after_insert, rows_with_corner, has_edge, with_corner_in}
+use Rattle.fabric_core.proofs.Replays.{rows_after_insert, rows_with_corner, has_edge, with_corner_in}
 
 -- some corners and rows were taken out, and these rows came
 pub record IsCountedBehind (state : State) (out : List ℕ) (rows : List NumberedRing) (corners number : ℕ) : Type 0 where

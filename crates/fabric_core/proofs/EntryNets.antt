@@ -17,15 +17,15 @@ use Rattle.ring_edits.proofs.EditNets.{split_nets, merge_nets, move_nets}
 use Rattle.ring_edits.proofs.PutEdges.{put_none}
 use Rattle.ring_edits.proofs.PutNets.{put_nets}
 use Rattle.ring_edits.proofs.RoundNets.{net_at_least, net_of_one}
+use Rattle.fabric_core.specs.own.Balanced.{Ascend, HasRisingIds, IsBalanced}
 use Rattle.fabric_core.specs.Tiling.{corner_lists}
 use Rattle.fabric_core.specs.Faults.{AreSimple}
 use Rattle.fabric_core.specs.Journal.{State, JournalEntry, after_entry, replay, refined_by, with_rows, without_ids}
 use Rattle.fabric_core.specs.EditResults.{IsChange, IsEntryOf, AreLawfulFrom}
 use Rattle.fabric_core.specs.own.Checks.{HaveEqualNets}
-use Rattle.fabric_core.proofs.Located.{Ascend}
 use Rattle.fabric_core.proofs.RowLists.{Ascend-filter, taken_out, still_has, without_both}
 use Rattle.fabric_core.proofs.Neighbours.{ring_is_simple, run_has_edge, merged_run, moved_run, two_parcels}
-use Rattle.fabric_core.proofs.Replays.{HasRisingIds, BringsNew, rows_after_new, rows_after_insert, rows_with_corner, has_edge}
+use Rattle.fabric_core.proofs.Replays.{BringsNew, rows_after_new, rows_after_insert, rows_with_corner, has_edge}
 use Rattle.fabric_core.proofs.Replays.{with_corner_in}
 use Rattle.fabric_core.proofs.Replays.{all_after, rising_after}
 
@@ -146,11 +146,6 @@ module _ {A : Type 0} (state : State) (out : List ℕ) (rows : List NumberedRing
       (λ c d. nets_with_corner from to at state.rows c d ∙ put_nets from to at (corner_lists state.rows) state.refined h.two_ends same c d)
 
 -- ---- states with simple rings whose net edges are the city's
-pub record IsBalanced (state : State) : Type 0 where
-  pub ids : HasRisingIds state
-  pub simple : AreSimple state.rows
-  pub nets : HaveEqualNets (corner_lists state.rows) state.refined
-
 -- entries lead from one to the next
 pub balanced_after : {A : Type 0} (state : State) (entry : JournalEntry A) → IsBalanced state → IsEntryOf state entry
     → IsBalanced (after_entry state entry)

@@ -93,6 +93,22 @@ module _ {A : Type 0} where
       let w = from_mapped id_of parcels id (subst (λ ids. Contains ids id) (ids_of_rows parcels) there) in
       (w.0.0, record { parcel = w.0.1; is_here = w.1; has_id = w.2 })
 
+  -- rows are below a number that all ids of parcels are below
+  pub rows_below : (n : ℕ) (parcels : List (ℕ × Parcel A)) → ((id : ℕ) → HasId parcels id → id < n)
+      → AllByRecursion (λ row. row.number < n) (rows_of_keyed parcels)
+  rows_below n [] h = tt
+  rows_below n (parcel ∷ parcels) h = (
+    h parcel.1.id (parcel.0, record { parcel = parcel.1; is_here = (0, omega arith, refl); has_id = refl }),
+    rows_below n parcels (λ id here. h id (
+      here.0,
+      record {
+        parcel = here.1.parcel;
+        is_here = (suc here.1.is_here.0, omega (arith, here.1.is_here.1), here.1.is_here.2);
+        has_id = here.1.has_id;
+      },
+    )),
+  )
+
   -- an entry of the index is that of its parcel
   pub entry_is : (parcels : List (ℕ × Parcel A)) (id : ℕ) (entry : Entry) → (h : IsEntryAt parcels id entry) → entry ≡ entry_of (entry.key, h.parcel)
   entry_is parcels id entry h = ap (λ box. record { key = entry.key; bounds = box }) h.has_box

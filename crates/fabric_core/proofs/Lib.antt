@@ -33,3 +33,4 @@ pub mod EntryNets
 pub mod PutIn
 pub mod EntryCounts
 pub mod WithEdge
+pub mod LawfulJournals

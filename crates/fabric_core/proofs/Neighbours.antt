@@ -13,10 +13,10 @@ use Rattle.ring_edits.specs.Edits.{IsMerge, IsMove, ShareOneRun, AreNeighbours}
 use Rattle.ring_edits.proofs.Apart.{has_apart_corners}
 use Rattle.ring_edits.proofs.Borders.{one_run, from_in}
 use Rattle.ring_edits.proofs.SameRuns.{same_number}
+use Rattle.fabric_core.specs.own.Balanced.{Ascend}
 use Rattle.fabric_core.specs.Faults.{AreSimple}
-use Rattle.fabric_core.proofs.Located.{Ascend}
-use Rattle.fabric_core.proofs.OneParcel.{of_each}
 use Rattle.fabric_core.proofs.RowLists.{one_ring}
+use Rattle.fabric_core.proofs.OneParcel.{of_each}
 
 -- rings with one shared run share an edge
 pub run_has_edge : (a b : List Corner) → ShareOneRun a b → AreNeighbours a b

@@ -17,6 +17,7 @@ use Rattle.ring_edits.specs.declared.fault.EditFault.TheVariants.{NotNeighbours 
 use Rattle.ring_edits.specs.Edits.{IsPath, IsPathAcross, IsSplit, IsMerge, IsMove, ShareOneRun, AreNeighbours, IsBadBorder}
 use Rattle.ring_edits.proofs.Apart.{has_apart_corners}
 use Rattle.ring_edits.proofs.OneResult.{one_split, one_merge, one_move, same_shared}
+use Rattle.fabric_core.specs.own.Balanced.{Ascend}
 use Rattle.fabric_core.specs.declared.journal.TheConstants.{JOURNAL_ENTRIES}
 use Rattle.fabric_core.specs.declared.refusal.Refusal.{Refusal}
 use Rattle.fabric_core.specs.declared.refusal.Refusal.TheVariants.{Unknown, Retired, BadPath, NotNeighbours, SharedTwice, Ring}
@@ -28,10 +29,9 @@ use Rattle.fabric_core.specs.Journal.{State, JournalEntry, with_rows, without_id
 use Rattle.fabric_core.specs.EditResults.{IsChange, IsSplitOf, IsMergeOf, IsMoveOf, IsInsertOf, AreWithinAll}
 use Rattle.fabric_core.specs.Refusals.{IsRetiredBy, named_ids, AreHere, IsFirstGone, HaveNoBorder, IsBadMove, IsOwnRefusal}
 use Rattle.fabric_core.specs.Refusals.{IsFirstBadRing, IsChangeRefusal, IsIdRefusal, IsRefusal}
-use Rattle.fabric_core.proofs.Located.{Ascend}
+use Rattle.fabric_core.proofs.RowLists.{one_ring}
 use Rattle.fabric_core.proofs.OneFault.{one_ring_fault, simple_has_no_fault}
 use Rattle.fabric_core.proofs.OneLoadFault.{head_of}
-use Rattle.fabric_core.proofs.RowLists.{one_ring}
 use Rattle.fabric_core.proofs.Neighbours.{ring_is_simple, run_has_edge, merged_run, moved_run}
 
 -- ---- cuts

@@ -8,11 +8,11 @@ use Rattle.geo_exact.specs.declared.corner.Corner.{Corner}
 use Rattle.geo_exact.specs.Bounds.{IsLeastBox}
 use Rattle.geo_exact.specs.Layers.{NumberedRing, numbered}
 use Rattle.cell_index.specs.Cells.{Grid, Indexes}
+use Rattle.fabric_core.specs.own.Balanced.{Ascend}
 use Rattle.fabric_core.specs.Limits.{AreWithinLimits}
 use Rattle.fabric_core.specs.Tiling.{corner_lists}
 use Rattle.fabric_core.specs.own.Checks.{HaveEqualNets}
 use Rattle.fabric_core.proofs.InTheCity.{rows_in_box}
-use Rattle.fabric_core.proofs.Located.{Ascend}
 use Rattle.fabric_core.proofs.RowLists.{Contains-from_kept, has_number}
 use Rattle.fabric_core.proofs.Exchanges.{has_id}
 use Rattle.parcel_table.proofs.Tables.{ids_of_rows}
@@ -72,106 +72,106 @@ module _ {A : Type 0} (from to at : Corner) where
 
 module _ {A : Type 0} (from to at : Corner) (box_kept : (box : Bounds) (ring : List Corner) → IsLeastBox box ring → IsLeastBox box (with_corner from to at ring))
   where
-  -- so the rows with the edge have greater ids, too
-  greater : (id : ℕ) (parcels : List (ℕ × Parcel A)) → AllByRecursion (λ other. id < id_of other) parcels
-      → AllByRecursion (λ other. id ≢ other) (numbers (filter (has_it from to) (rows_of_keyed parcels)))
-  greater id [] h = tt
-  greater id (parcel ∷ parcels) h = by_test (has_it from to (numbered parcel.1.id parcel.1.shape.ring.corners)) (greater id parcels h.1)
-    where
-      by_test : (b : Bool) → AllByRecursion (λ other. id ≢ other) (numbers (filter (has_it from to) (rows_of_keyed parcels)))
-          → AllByRecursion (λ other. id ≢ other) (numbers (cond b (numbered parcel.1.id parcel.1.shape.ring.corners ∷ filter (has_it from to) (rows_of_keyed parcels))
-          (filter (has_it from to) (rows_of_keyed parcels))))
-      by_test true rest = (λ e. omega (arith, h.0, e), rest)
-      by_test false rest = rest
+    -- so the rows with the edge have greater ids, too
+    greater : (id : ℕ) (parcels : List (ℕ × Parcel A)) → AllByRecursion (λ other. id < id_of other) parcels
+        → AllByRecursion (λ other. id ≢ other) (numbers (filter (has_it from to) (rows_of_keyed parcels)))
+    greater id [] h = tt
+    greater id (parcel ∷ parcels) h = by_test (has_it from to (numbered parcel.1.id parcel.1.shape.ring.corners)) (greater id parcels h.1)
+      where
+        by_test : (b : Bool) → AllByRecursion (λ other. id ≢ other) (numbers (filter (has_it from to) (rows_of_keyed parcels)))
+            → AllByRecursion (λ other. id ≢ other) (numbers (cond b (numbered parcel.1.id parcel.1.shape.ring.corners ∷ filter (has_it from to) (rows_of_keyed parcels))
+            (filter (has_it from to) (rows_of_keyed parcels))))
+        by_test true rest = (λ e. omega (arith, h.0, e), rest)
+        by_test false rest = rest
 
-  others : (id : ℕ) (parcels : List (ℕ × Parcel A)) → AllByRecursion (λ other. id < id_of other) parcels
-      → AllByRecursion (λ parcel. id_of parcel ≢ id) parcels
-  others id [] h = tt
-  others id (parcel ∷ parcels) h = (λ e. omega (arith, h.0, e), others id parcels h.1)
+    others : (id : ℕ) (parcels : List (ℕ × Parcel A)) → AllByRecursion (λ other. id < id_of other) parcels
+        → AllByRecursion (λ parcel. id_of parcel ≢ id) parcels
+    others id [] h = tt
+    others id (parcel ∷ parcels) h = (λ e. omega (arith, h.0, e), others id parcels h.1)
 
-  -- the parcel behind its own id with the corner in its ring, and then the others
-  abbrev with_new : ℕ × Parcel A → Shape A → ℕ × Parcel A
-  with_new parcel shape = (parcel.0, record { id = parcel.1.id; shape = shape })
+    -- the parcel behind its own id with the corner in its ring, and then the others
+    abbrev with_new : ℕ × Parcel A → Shape A → ℕ × Parcel A
+    with_new parcel shape = (parcel.0, record { id = parcel.1.id; shape = shape })
 
-  abbrev row_of : ℕ × Parcel A → NumberedRing
-  row_of parcel = numbered parcel.1.id parcel.1.shape.ring.corners
+    abbrev row_of : ℕ × Parcel A → NumberedRing
+    row_of parcel = numbered parcel.1.id parcel.1.shape.ring.corners
 
-  same_box : (parcel : ℕ × Parcel A) (shape : Shape A) → shape.ring.corners ≡ with_corner from to at parcel.1.shape.ring.corners
-      → entry_of (with_new parcel shape) ≡ entry_of parcel
-  same_box parcel shape ring = ap (λ box. record { key = parcel.0; bounds = box })
-      (one_least_box shape.bounds parcel.1.shape.bounds shape.ring.corners shape.least_box
-      (subst (IsLeastBox parcel.1.shape.bounds) (sym ring) (box_kept parcel.1.shape.bounds parcel.1.shape.ring.corners parcel.1.shape.least_box)))
+    same_box : (parcel : ℕ × Parcel A) (shape : Shape A) → shape.ring.corners ≡ with_corner from to at parcel.1.shape.ring.corners
+        → entry_of (with_new parcel shape) ≡ entry_of parcel
+    same_box parcel shape ring = ap (λ box. record { key = parcel.0; bounds = box })
+        (one_least_box shape.bounds parcel.1.shape.bounds shape.ring.corners shape.least_box
+        (subst (IsLeastBox parcel.1.shape.bounds) (sym ring) (box_kept parcel.1.shape.bounds parcel.1.shape.ring.corners parcel.1.shape.least_box)))
 
-  -- the first parcel has no such edge
-  first_stays : (parcel : ℕ × Parcel A) (parcels : List (ℕ × Parcel A)) (ids : List ℕ) (shapes : List (Shape A)) → Rise (parcel ∷ parcels)
-      → has_it from to (row_of parcel) ≡ false → ids ≡ numbers (filter (has_it from to) (rows_of_keyed parcels))
-      → ArePutIn from to at parcels (replaced ids shapes parcels) → ArePutIn from to at (parcel ∷ parcels) (replaced ids shapes (parcel ∷ parcels))
-  first_stays parcel parcels ids shapes rise off named rest =
-      let first = past ids shapes parcel parcels (subst (λ xs. HasNone xs (id_of parcel)) (sym named) (greater (id_of parcel) parcels rise.0)) in
-      record {
-        rows = ap rows_of_keyed first ∙ ap (λ rows. row_of parcel ∷ rows) rest.rows
-            ∙ ap (λ b. cond b (numbered parcel.1.id (with_corner from to at parcel.1.shape.ring.corners)) (row_of parcel)
-            ∷ map (put_in_row from to at) (rows_of_keyed parcels)) (sym off);
-        entries = ap entries_of first ∙ ap (λ entries. entry_of parcel ∷ entries) rest.entries;
-      }
+    -- the first parcel has no such edge
+    first_stays : (parcel : ℕ × Parcel A) (parcels : List (ℕ × Parcel A)) (ids : List ℕ) (shapes : List (Shape A)) → Rise (parcel ∷ parcels)
+        → has_it from to (row_of parcel) ≡ false → ids ≡ numbers (filter (has_it from to) (rows_of_keyed parcels))
+        → ArePutIn from to at parcels (replaced ids shapes parcels) → ArePutIn from to at (parcel ∷ parcels) (replaced ids shapes (parcel ∷ parcels))
+    first_stays parcel parcels ids shapes rise off named rest =
+        let first = past ids shapes parcel parcels (subst (λ xs. HasNone xs (id_of parcel)) (sym named) (greater (id_of parcel) parcels rise.0)) in
+        record {
+          rows = ap rows_of_keyed first ∙ ap (λ rows. row_of parcel ∷ rows) rest.rows
+              ∙ ap (λ b. cond b (numbered parcel.1.id (with_corner from to at parcel.1.shape.ring.corners)) (row_of parcel)
+              ∷ map (put_in_row from to at) (rows_of_keyed parcels)) (sym off);
+          entries = ap entries_of first ∙ ap (λ entries. entry_of parcel ∷ entries) rest.entries;
+        }
 
-  -- the first parcel has it
-  first_gets : (parcel : ℕ × Parcel A) (parcels : List (ℕ × Parcel A)) (ids : List ℕ) (shape : Shape A) (shapes : List (Shape A))
-      → Rise (parcel ∷ parcels) → has_it from to (row_of parcel) ≡ true → ids ≡ numbers (filter (has_it from to) (rows_of_keyed parcels))
-      → shape.ring.corners ≡ with_corner from to at parcel.1.shape.ring.corners
-      → ArePutIn from to at parcels (replaced ids shapes parcels)
-      → ArePutIn from to at (parcel ∷ parcels) (replaced (id_of parcel ∷ ids) (shape ∷ shapes) (parcel ∷ parcels))
-  first_gets parcel parcels ids shape shapes rise on named ring rest =
-      let first : replaced (id_of parcel ∷ ids) (shape ∷ shapes) (parcel ∷ parcels) ≡ with_new parcel shape ∷ replaced ids shapes parcels =
-      ap (λ b. replaced ids shapes (cond b (with_new parcel shape) parcel ∷ with_shape (id_of parcel) shape parcels)) (same_number (id_of parcel))
-      ∙ ap (λ xs. replaced ids shapes (with_new parcel shape ∷ xs)) (alone (id_of parcel) shape parcels (others (id_of parcel) parcels rise.0))
-      ∙ past ids shapes (with_new parcel shape) parcels
-      (subst (λ xs. HasNone xs (id_of parcel)) (sym named) (greater (id_of parcel) parcels rise.0)) in
-      record {
-        rows = ap rows_of_keyed first ∙ ap (λ corners. numbered parcel.1.id corners ∷ rows_of_keyed (replaced ids shapes parcels)) ring
-            ∙ ap (λ rows. numbered parcel.1.id (with_corner from to at parcel.1.shape.ring.corners) ∷ rows) rest.rows
-            ∙ ap (λ b. cond b (numbered parcel.1.id (with_corner from to at parcel.1.shape.ring.corners)) (row_of parcel)
-            ∷ map (put_in_row from to at) (rows_of_keyed parcels)) (sym on);
-        entries = ap entries_of first ∙ ap (λ entry. entry ∷ entries_of (replaced ids shapes parcels)) (same_box parcel shape ring)
-            ∙ ap (λ entries. entry_of parcel ∷ entries) rest.entries;
-      }
+    -- the first parcel has it
+    first_gets : (parcel : ℕ × Parcel A) (parcels : List (ℕ × Parcel A)) (ids : List ℕ) (shape : Shape A) (shapes : List (Shape A))
+        → Rise (parcel ∷ parcels) → has_it from to (row_of parcel) ≡ true → ids ≡ numbers (filter (has_it from to) (rows_of_keyed parcels))
+        → shape.ring.corners ≡ with_corner from to at parcel.1.shape.ring.corners
+        → ArePutIn from to at parcels (replaced ids shapes parcels)
+        → ArePutIn from to at (parcel ∷ parcels) (replaced (id_of parcel ∷ ids) (shape ∷ shapes) (parcel ∷ parcels))
+    first_gets parcel parcels ids shape shapes rise on named ring rest =
+        let first : replaced (id_of parcel ∷ ids) (shape ∷ shapes) (parcel ∷ parcels) ≡ with_new parcel shape ∷ replaced ids shapes parcels =
+        ap (λ b. replaced ids shapes (cond b (with_new parcel shape) parcel ∷ with_shape (id_of parcel) shape parcels)) (same_number (id_of parcel))
+        ∙ ap (λ xs. replaced ids shapes (with_new parcel shape ∷ xs)) (alone (id_of parcel) shape parcels (others (id_of parcel) parcels rise.0))
+        ∙ past ids shapes (with_new parcel shape) parcels
+        (subst (λ xs. HasNone xs (id_of parcel)) (sym named) (greater (id_of parcel) parcels rise.0)) in
+        record {
+          rows = ap rows_of_keyed first ∙ ap (λ corners. numbered parcel.1.id corners ∷ rows_of_keyed (replaced ids shapes parcels)) ring
+              ∙ ap (λ rows. numbered parcel.1.id (with_corner from to at parcel.1.shape.ring.corners) ∷ rows) rest.rows
+              ∙ ap (λ b. cond b (numbered parcel.1.id (with_corner from to at parcel.1.shape.ring.corners)) (row_of parcel)
+              ∷ map (put_in_row from to at) (rows_of_keyed parcels)) (sym on);
+          entries = ap entries_of first ∙ ap (λ entry. entry ∷ entries_of (replaced ids shapes parcels)) (same_box parcel shape ring)
+              ∙ ap (λ entries. entry_of parcel ∷ entries) rest.entries;
+        }
 
-  one_of_more : (parcel : ℕ × Parcel A) (parcels : List (ℕ × Parcel A)) (ids : List ℕ) (shapes : List (Shape A)) → Rise (parcel ∷ parcels)
-      → has_it from to (row_of parcel) ≡ true → ids ≡ id_of parcel ∷ numbers (filter (has_it from to) (rows_of_keyed parcels))
-      → map (λ shape. shape.ring.corners) shapes ≡ with_corner from to at parcel.1.shape.ring.corners
-      ∷ map (λ row. with_corner from to at row.corners) (filter (has_it from to) (rows_of_keyed parcels))
-      → ((later : List (Shape A)) → map (λ shape. shape.ring.corners) later ≡ map (λ row. with_corner from to at row.corners)
-      (filter (has_it from to) (rows_of_keyed parcels))
-      → ArePutIn from to at parcels (replaced (numbers (filter (has_it from to) (rows_of_keyed parcels))) later parcels))
-      → ArePutIn from to at (parcel ∷ parcels) (replaced ids shapes (parcel ∷ parcels))
-  one_of_more parcel parcels ids [] rise on named made rest = absurd (omega (arith, ap length made))
-  one_of_more parcel parcels ids (shape ∷ shapes) rise on named made rest =
-      subst (λ xs. ArePutIn from to at (parcel ∷ parcels) (replaced xs (shape ∷ shapes) (parcel ∷ parcels))) (sym named)
-      (first_gets parcel parcels (numbers (filter (has_it from to) (rows_of_keyed parcels))) shape shapes rise on refl (heads made) (rest shapes (tails made)))
-    where
-      heads : {x y : List Corner} {xs ys : List (List Corner)} → x ∷ xs ≡ y ∷ ys → x ≡ y
-      heads e = cc
+    one_of_more : (parcel : ℕ × Parcel A) (parcels : List (ℕ × Parcel A)) (ids : List ℕ) (shapes : List (Shape A)) → Rise (parcel ∷ parcels)
+        → has_it from to (row_of parcel) ≡ true → ids ≡ id_of parcel ∷ numbers (filter (has_it from to) (rows_of_keyed parcels))
+        → map (λ shape. shape.ring.corners) shapes ≡ with_corner from to at parcel.1.shape.ring.corners
+        ∷ map (λ row. with_corner from to at row.corners) (filter (has_it from to) (rows_of_keyed parcels))
+        → ((later : List (Shape A)) → map (λ shape. shape.ring.corners) later ≡ map (λ row. with_corner from to at row.corners)
+        (filter (has_it from to) (rows_of_keyed parcels))
+        → ArePutIn from to at parcels (replaced (numbers (filter (has_it from to) (rows_of_keyed parcels))) later parcels))
+        → ArePutIn from to at (parcel ∷ parcels) (replaced ids shapes (parcel ∷ parcels))
+    one_of_more parcel parcels ids [] rise on named made rest = absurd (omega (arith, ap length made))
+    one_of_more parcel parcels ids (shape ∷ shapes) rise on named made rest =
+        subst (λ xs. ArePutIn from to at (parcel ∷ parcels) (replaced xs (shape ∷ shapes) (parcel ∷ parcels))) (sym named)
+        (first_gets parcel parcels (numbers (filter (has_it from to) (rows_of_keyed parcels))) shape shapes rise on refl (heads made) (rest shapes (tails made)))
+      where
+        heads : {x y : List Corner} {xs ys : List (List Corner)} → x ∷ xs ≡ y ∷ ys → x ≡ y
+        heads e = cc
 
-      tails : {x y : List Corner} {xs ys : List (List Corner)} → x ∷ xs ≡ y ∷ ys → xs ≡ ys
-      tails e = cc
+        tails : {x y : List Corner} {xs ys : List (List Corner)} → x ∷ xs ≡ y ∷ ys → xs ≡ ys
+        tails e = cc
 
-  pub put_in : (parcels : List (ℕ × Parcel A)) (ids : List ℕ) (shapes : List (Shape A)) → Rise parcels
-      → ids ≡ numbers (rows_with_edge from to (rows_of_keyed parcels)) → AreShapesWith from to at (rows_of_keyed parcels) shapes
-      → ArePutIn from to at parcels (replaced ids shapes parcels)
-  put_in [] ids shapes rise named made = subst (λ xs. ArePutIn from to at [] (replaced xs shapes [])) (sym named) (record { rows = refl; entries = refl })
-  put_in (parcel ∷ parcels) ids shapes rise named made =
-      by_keep (has_it from to (row_of parcel)) refl named made (λ some later n m. put_in parcels some later rise.1 n m)
-    where
-      by_keep : (b : Bool) → has_it from to (row_of parcel) ≡ b
-          → ids ≡ numbers (cond b (row_of parcel ∷ filter (has_it from to) (rows_of_keyed parcels)) (filter (has_it from to) (rows_of_keyed parcels)))
-          → map (λ shape. shape.ring.corners) shapes ≡ map (λ row. with_corner from to at row.corners)
-          (cond b (row_of parcel ∷ filter (has_it from to) (rows_of_keyed parcels)) (filter (has_it from to) (rows_of_keyed parcels)))
-          → ((some : List ℕ) (later : List (Shape A)) → some ≡ numbers (filter (has_it from to) (rows_of_keyed parcels))
-          → AreShapesWith from to at (rows_of_keyed parcels) later → ArePutIn from to at parcels (replaced some later parcels))
-          → ArePutIn from to at (parcel ∷ parcels) (replaced ids shapes (parcel ∷ parcels))
-      by_keep true on n m rest = one_of_more parcel parcels ids shapes rise on n m
-          (λ later made. rest (numbers (filter (has_it from to) (rows_of_keyed parcels))) later refl made)
-      by_keep false off n m rest = first_stays parcel parcels ids shapes rise off n (rest ids shapes n m)
+    pub put_in : (parcels : List (ℕ × Parcel A)) (ids : List ℕ) (shapes : List (Shape A)) → Rise parcels
+        → ids ≡ numbers (rows_with_edge from to (rows_of_keyed parcels)) → AreShapesWith from to at (rows_of_keyed parcels) shapes
+        → ArePutIn from to at parcels (replaced ids shapes parcels)
+    put_in [] ids shapes rise named made = subst (λ xs. ArePutIn from to at [] (replaced xs shapes [])) (sym named) (record { rows = refl; entries = refl })
+    put_in (parcel ∷ parcels) ids shapes rise named made =
+        by_keep (has_it from to (row_of parcel)) refl named made (λ some later n m. put_in parcels some later rise.1 n m)
+      where
+        by_keep : (b : Bool) → has_it from to (row_of parcel) ≡ b
+            → ids ≡ numbers (cond b (row_of parcel ∷ filter (has_it from to) (rows_of_keyed parcels)) (filter (has_it from to) (rows_of_keyed parcels)))
+            → map (λ shape. shape.ring.corners) shapes ≡ map (λ row. with_corner from to at row.corners)
+            (cond b (row_of parcel ∷ filter (has_it from to) (rows_of_keyed parcels)) (filter (has_it from to) (rows_of_keyed parcels)))
+            → ((some : List ℕ) (later : List (Shape A)) → some ≡ numbers (filter (has_it from to) (rows_of_keyed parcels))
+            → AreShapesWith from to at (rows_of_keyed parcels) later → ArePutIn from to at parcels (replaced some later parcels))
+            → ArePutIn from to at (parcel ∷ parcels) (replaced ids shapes (parcel ∷ parcels))
+        by_keep true on n m rest = one_of_more parcel parcels ids shapes rise on n m
+            (λ later made. rest (numbers (filter (has_it from to) (rows_of_keyed parcels))) later refl made)
+        by_keep false off n m rest = first_stays parcel parcels ids shapes rise off n (rest ids shapes n m)
 
 -- ids stay where shapes are exchanged
 module _ {A : Type 0} where

@@ -10,14 +10,11 @@ use Rattle.edge_chains.proofs.NodedEdges.{none_in_nil, Contains-cases}
 use Rattle.ring_edits.specs.declared.edit.Edit.{Edit}
 use Rattle.ring_edits.specs.declared.edit.Edit.TheVariants.{Split, Merge, Move, Insert}
 use Rattle.ring_edits.specs.Edits.{has_edge_between, with_corner}
+use Rattle.fabric_core.specs.own.Balanced.{AreBelow, Ascend, HasRisingIds}
 use Rattle.fabric_core.specs.Rows.{numbers}
 use Rattle.fabric_core.specs.Journal.{State, JournalEntry, after_entry, opening_state, replay, next_after, with_rows, without_ids}
 use Rattle.fabric_core.specs.EditResults.{IsChange, IsEntryOf, IsInsertOf, AreLawfulFrom, IsLawful}
-use Rattle.fabric_core.proofs.Located.{Ascend}
-use Rattle.fabric_core.proofs.RowLists.{all_changed, AllByRecursion-append, AllByRecursion-filter, AreBelow, AreNumberedFrom}
-use Rattle.fabric_core.proofs.RowLists.{Ascend-filter, put_behind}
-use Rattle.fabric_core.proofs.RowLists.{ascend_behind, next_above}
-use Rattle.fabric_core.proofs.RowLists.{all_below_next, changed, put_back, put_back_next, ascend_changed, below_changed, numbers_changed}
+use Rattle.fabric_core.proofs.RowLists.{all_changed, AllByRecursion-append, AllByRecursion-filter, AreNumberedFrom, Ascend-filter, put_behind, ascend_behind, next_above, all_below_next, changed, put_back, put_back_next, ascend_changed, below_changed, numbers_changed}
 
 -- ---- two journals, one after the other
 module _ {A : Type 0} where
@@ -94,12 +91,6 @@ module _ {A : Type 0} where
     where
       behind : (z : JournalEntry A) → Contains entries z → first.number ≡ z.number → ⊥
       behind z l f = omega (arith, h.0, f, number_not_less (after_entry state first) (number + 1) entries h.2 z l)
-
--- ---- the ids of a state
--- they rise, and the next id is above them all
-pub record HasRisingIds (state : State) : Type 0 where
-  pub up : Ascend state.rows
-  pub below : AreBelow state.next state.rows
 
 -- edits that bring rows under new ids
 abbrev pub BringsNew : {A : Type 0} → Edit A → Type 0

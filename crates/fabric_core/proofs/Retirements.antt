@@ -8,13 +8,14 @@ use Rattle.geo_exact.specs.Layers.{NumberedRing, numbered}
 use Rattle.edge_chains.proofs.NodedEdges.{none_in_nil, Contains-cases}
 use Rattle.ring_edits.specs.declared.edit.Edit.{Edit}
 use Rattle.ring_edits.specs.declared.edit.Edit.TheVariants.{Split, Merge, Move, Insert}
+use Rattle.fabric_core.specs.own.Balanced.{AreBelow, HasRisingIds}
 use Rattle.fabric_core.specs.Rows.{numbers}
 use Rattle.fabric_core.specs.Journal.{State, JournalEntry, after_entry, replay, without_ids}
 use Rattle.fabric_core.specs.EditResults.{IsChange, IsInsertOf, AreLawfulFrom}
 use Rattle.fabric_core.specs.Refusals.{Retires, IsRetiredBy}
 use Rattle.fabric_core.proofs.OneParcel.{of_each}
-use Rattle.fabric_core.proofs.RowLists.{AreBelow, AreNumberedFrom, has_number, has_row, next_not_less, Contains-from_without}
-use Rattle.fabric_core.proofs.Replays.{HasRisingIds, BringsNew, new_ids, rows_after_new, rows_after_insert, numbers_with_corner}
+use Rattle.fabric_core.proofs.RowLists.{AreNumberedFrom, has_number, has_row, next_not_less, Contains-from_without}
+use Rattle.fabric_core.proofs.Replays.{BringsNew, new_ids, rows_after_new, rows_after_insert, numbers_with_corner}
 use Rattle.fabric_core.proofs.Replays.{rising_after}
 
 -- ---- one entry more

@@ -1,6 +1,6 @@
 -- Rows by ascending id: rows that come behind others, that are taken out, and that are put back changed.
 use Rattle.std.proofs.Common.{◌≡◌, ◌≢◌, ◌⊎◌, inl, inr, ⊎_elim, refl, sym, ◌∙◌, ap, subst, arith, Bool, true, false, cond, not, ◌||◌}
-use Rattle.std.proofs.Common.{ℕ, zero, suc, ◌+◌, ◌<◌, ◌≤◌, List, [], ◌∷◌, ◌++◌, length, map, append_assoc, add-one}
+use Rattle.std.proofs.Common.{ℕ, zero, suc, ◌+◌, ◌<◌, ◌≤◌, List, [], ◌∷◌, ◌++◌, length, map, append_assoc, add-one, get_or}
 use Rattle.std.specs.Prelude.{nat_eq, nat_lt, slice_index}
 use Rattle.std.specs.Bool.{⊤, Decides}
 use Rattle.std.specs.List.{AllByRecursion, Contains, filter, list_any}
@@ -16,8 +16,26 @@ use Rattle.edge_chains.proofs.NodedEdges.{none_in_nil, Contains-here, Contains-t
 use Rattle.fabric_core.specs.Rows.{numbers}
 use Rattle.fabric_core.specs.Journal.{next_after, without_ids, with_row, with_rows}
 use Rattle.fabric_core.proofs.Lists.{AllByRecursion-push, corner_count-append}
-use Rattle.fabric_core.proofs.Located.{Ascend}
+use Rattle.std.proofs.lemmas.List.Kept.{AllPairs-from_increasing}
+use Rattle.fabric_core.specs.own.Balanced.{Ascend, AreBelow}
 use Rattle.fabric_core.proofs.OneParcel.{of_each}
+
+-- rows with rising numbers ascend
+pub ascending : (rows : List NumberedRing) → IsStrictlyIncreasing (numbers rows) → Ascend rows
+ascending rows up = from rows (λ i j l m. AllPairs-from_increasing (numbers rows) up i j 0 l m)
+  where
+    heads : (n : ℕ) (rows : List NumberedRing) → ((j : ℕ) → j < length (numbers rows) → n < get_or (numbers rows) j 0)
+        → AllByRecursion (λ later. n < later.number) rows
+    heads n [] h = tt
+    heads n (row ∷ rows) h = (h 0 (omega arith), heads n rows (λ j l. h (suc j) (omega (arith, l))))
+
+    from : (rows : List NumberedRing) → ((i j : ℕ) → i < j → j < length (numbers rows) → get_or (numbers rows) i 0 < get_or (numbers rows) j 0)
+        → Ascend rows
+    from [] h = tt
+    from (row ∷ rows) h = (
+      heads row.number rows (λ j l. h 0 (suc j) (omega arith) (omega (arith, l))),
+      from rows (λ i j l m. h (suc i) (suc j) (omega (arith, l)) (omega (arith, m))),
+    )
 
 -- ---- what holds of all items
 pub AllByRecursion-append : {X : Type 0} (P : X → Type 0) (xs ys : List X) → AllByRecursion P xs → AllByRecursion P ys
@@ -38,10 +56,6 @@ pub AllByRecursion-weaker : {X : Type 0} (P Q : X → Type 0) → ((x : X) → P
     → AllByRecursion Q xs
 AllByRecursion-weaker P Q w [] h = tt
 AllByRecursion-weaker P Q w (x ∷ xs) h = (w x h.0, AllByRecursion-weaker P Q w xs h.1)
-
--- ---- rows below a number, above one, and numbered on from one
-abbrev pub AreBelow : ℕ → List NumberedRing → Type 0
-AreBelow n rows = AllByRecursion (λ row. row.number < n) rows
 
 abbrev pub AreAbove : ℕ → List NumberedRing → Type 0
 AreAbove n rows = AllByRecursion (λ row. n < row.number) rows

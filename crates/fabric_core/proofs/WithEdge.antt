@@ -22,12 +22,12 @@ use Rattle.cell_index.proofs.Along.{cell_grows}
 use Rattle.cell_index.proofs.Standing.{Decides-stands}
 use Rattle.edge_chains.proofs.NodedEdges.{none_in_nil, Contains-here, Contains-there, Contains-cases, all_from_contains}
 use Rattle.ring_edits.specs.Edits.{joins, has_edge_between, with_corner}
+use Rattle.fabric_core.specs.own.Balanced.{Ascend}
 use Rattle.fabric_core.specs.EditResults.{rows_with_edge}
 use Rattle.fabric_core.specs.GridIndex.{IsIndexed, IsCandidate}
 use Rattle.fabric_core.proofs.Between.{zipped_left}
-use Rattle.fabric_core.proofs.Located.{Ascend}
-use Rattle.fabric_core.proofs.OneParcel.{of_each}
 use Rattle.fabric_core.proofs.RowLists.{Ascend-filter, ascend_behind, Contains-kept, Contains-from_kept, same_row}
+use Rattle.fabric_core.proofs.OneParcel.{of_each}
 
 -- ---- a ring with an edge has the edge's ends
 joins_end : (from to : Corner) (edge : Edge) → joins from to edge ≡ true → (edge.from ≡ from) ⊎ (edge.to ≡ from)

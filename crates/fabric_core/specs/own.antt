@@ -1,6 +1,7 @@
 pub mod Lists
 pub mod Checks
 pub mod Kept
+pub mod Balanced
 pub mod Books
 pub mod Sides
 pub mod Changes

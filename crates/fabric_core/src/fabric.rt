@@ -21,7 +21,7 @@ ghost use Rattle.fabric_core.specs.Refusals.{IsRefusal};
 use crate::journal::Entry;
 use crate::layer::Layer;
 use crate::locate::At;
-use crate::opening::{Opening, opening_of};
+use crate::opening::{Opening, count_corners, opening_of};
 use crate::refusal::Refusal;
 use crate::tiled::Tiled;
 use geo_exact::Corner;
@@ -42,12 +42,15 @@ pub struct Fabric<'a, H: Allocator> {
     tiled: Tiled<'a, H>,
     opening: Opening<&'a H>,
     journal: Vec<Entry<&'a H>, &'a H>,
+    // How many corners the parcels' rings have together.
+    corners: usize,
 }
 
 impl<'a, H: Allocator> Model for Fabric<'a, H> {
     ghost use Rattle.std.specs.Borrow.{Bor};
     ghost use Rattle.fabric_core.specs.Journal.{Book};
-    ghost use Rattle.fabric_core.specs.own.Books.{IsBook, state_of};
+    ghost use Rattle.fabric_core.specs.own.Books.{IsBook};
+    ghost use Rattle.fabric_core.specs.own.Changes.{state_of};
 
     ghost Value = { Book (Bor H) };
 
@@ -59,7 +62,7 @@ impl<'a, H: Allocator> Model for Fabric<'a, H> {
       journal = fabric.journal.items;
     } };
 
-    ghost invariant = { λ fabric. IsBook fabric.opening fabric.journal.items fabric.tiled };
+    ghost invariant = { λ fabric. IsBook fabric.opening fabric.journal.items fabric.tiled fabric.corners };
 }
 
 impl<'a, H: Allocator> Fabric<'a, H> {
@@ -79,11 +82,14 @@ impl<'a, H: Allocator> Fabric<'a, H> {
         match opening_of(layer.tiled()) {
             Ok(opening) => {
                 let tiled = layer.into_tiled();
+                tiled.tiles();
+                let corners = count_corners(tiled.shapes());
                 let journal = Vec::new(tiled.allocator());
                 Ok(Fabric {
                     tiled,
                     opening,
                     journal,
+                    corners,
                 })
             }
             Err(_) => Err(layer),

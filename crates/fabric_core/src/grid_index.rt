@@ -1,4 +1,4 @@
-ghost use Rattle.std.specs.Prelude.{◌≡◌, ℕ, None, length, IfOk};
+ghost use Rattle.std.specs.Prelude.{◌≡◌, ◌≤◌, ◌^◌, ℕ, None, length, IfOk};
 ghost use Rattle.std.specs.List.Sorted.{IsStrictlyIncreasing};
 ghost use Rattle.cell_index.specs.Cells.{Indexes};
 ghost use Rattle.fabric_core.specs.own.Lists.{numbered_rows, corners_of_rings};
@@ -24,6 +24,7 @@ pub(crate) fn clip_all<'a, H: Allocator>(
     ensures area { IfOk result (λ kept. kept.1.area ≡ area) }
     ensures indexed { IfOk result (λ kept. Indexes kept.1 (entries_of kept.0.parcels)) }
     ensures next { IfOk result (λ kept. kept.0.next ≡ next_after (rows_of_keyed kept.0.parcels) 0) }
+    ensures small { IfOk result (λ kept. kept.0.next ≤ 2 ^ 32) }
     ensures none_gone { IfOk result (λ kept. (id : ℕ) → retired_by kept.0 id ≡ None) }
 {
     let mut parcels = Parcels::with_capacity(heap, rings.len())?;

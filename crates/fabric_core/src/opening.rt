@@ -50,7 +50,10 @@ impl<A: Allocator + Copy> Clone for Opening<A> {
 }
 
 /// Shapes under their ids as rows.
-fn rows_of<A: Allocator + Copy>(alloc: A, shapes: Shapes<'_, A>) -> Result<Vec<Row<A>, A>, AllocError>
+fn rows_of<A: Allocator + Copy>(
+    alloc: A,
+    shapes: Shapes<'_, A>,
+) -> Result<Vec<Row<A>, A>, AllocError>
     ensures { IfOk result (λ rows. map row_of rows.items ≡ rows_of_shapes shapes.entry) }
 {
     let mut rows = Vec::with_capacity(alloc, shapes.len())?;
@@ -74,7 +77,9 @@ pub(crate) fn count_corners<A: Allocator>(shapes: Shapes<'_, A>) -> usize
 }
 
 /// The state of parcels, as one in which a fabric is opened.
-pub(crate) fn opening_of<'a, H: Allocator>(tiled: &Tiled<'a, H>) -> Result<Opening<&'a H>, AllocError>
+pub(crate) fn opening_of<'a, H: Allocator>(
+    tiled: &Tiled<'a, H>,
+) -> Result<Opening<&'a H>, AllocError>
     ensures rows { IfOk result (λ opening. opening.rows ≡ tiled.now.rows) }
     ensures refined { IfOk result (λ opening. opening.refined ≡ tiled.now.refined) }
     ensures next { IfOk result (λ opening. opening.next ≡ tiled.now.next) }

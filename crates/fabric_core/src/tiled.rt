@@ -14,6 +14,8 @@ ghost use Rattle.fabric_core.specs.GridIndex.{IsIndexed, IsCandidate};
 ghost use Rattle.fabric_core.specs.Locate.{IsLocatedAt};
 ghost use Rattle.fabric_core.specs.own.Checks.{HaveNoFault, IsChecked};
 ghost use Rattle.fabric_core.specs.Journal.{without_ids};
+ghost use Rattle.fabric_core.specs.own.Balanced.{IsBalanced};
+ghost use Rattle.fabric_core.specs.own.Changes.{state_of};
 ghost use Rattle.fabric_core.specs.own.Kept.{AreShapesWith, IsExchanged, IsFresh, MayBeKept, put_in_row};
 ghost use Rattle.fabric_core.specs.EditResults.{rows_with_edge};
 ghost use Rattle.geo_exact.specs.Segments.{IsStrictlyInside};
@@ -94,6 +96,8 @@ impl<'a, H: Allocator> Tiled<'a, H> {
         ensures within { AreWithinLimits self.now.rows }
         ensures indexed { IsIndexed self.now.rows self.now.city self.now.index }
         ensures ground { CoversAlike self.now.city self.now.refined }
+        ensures in_area { AllByRecursion (λ row. All (HoldsCorner self.now.index.area) row.corners) self.now.rows }
+        ensures balanced { IsBalanced (state_of self.now) }
     {
         self.parcels.stand_apart();
     }
@@ -347,8 +351,8 @@ impl<'a, H: Allocator> Tiled<'a, H> {
         requires between { IsStrictlyInside at edge.0 edge.1 }
         requires kept { MayBeKept (map (put_in_row edge.0 edge.1 at) self.old.rows) (put_between edge.0 edge.1 at self.old.refined) }
         ensures ok { OnOk result (self.new ≡ record self.old {
-            rows = map (put_in_row edge.0 edge.1 at) self.old.rows;
-            refined = put_between edge.0 edge.1 at self.old.refined;
+          rows = map (put_in_row edge.0 edge.1 at) self.old.rows;
+          refined = put_between edge.0 edge.1 at self.old.refined;
         }) }
         ensures err { OnErr result (self.new ≡ self.old) }
     {
@@ -357,7 +361,13 @@ impl<'a, H: Allocator> Tiled<'a, H> {
         inserting_covers_alike();
         inserting_keeps_the_least_box();
         inserting_keeps_where_a_ring_begins();
-        let with_it = put_into(self.parcels.allocator(), self.refined.as_slice(), from, to, at)?;
+        let with_it = put_into(
+            self.parcels.allocator(),
+            self.refined.as_slice(),
+            from,
+            to,
+            at,
+        )?;
         replace_all(&mut self.parcels, ids, shapes);
         change_ring(&mut self.refined, with_it);
         self.parcels.stand_apart();

@@ -1,5 +1,5 @@
 -- What the parcels that tile a city keep, with the index of their boxes. Public contracts do not speak of it.
-use Rattle.std.specs.Prelude.{◌≡◌, ℕ, ◌+◌, nat_eq, if◌then◌else◌, List, ◌++◌, length, map, Option, Some, None, slice_index_or}
+use Rattle.std.specs.Prelude.{◌≡◌, ℕ, ◌+◌, ◌^◌, ◌≤◌, nat_eq, if◌then◌else◌, List, ◌++◌, length, map, Option, Some, None, slice_index_or}
 use Rattle.std.specs.List.{All, AllByRecursion, list_any}
 use Rattle.std.specs.List.Sorted.{IsStrictlyIncreasing}
 use Rattle.geo_exact.specs.declared.corner.Corner.{Corner}
@@ -32,10 +32,11 @@ pub record Kept : Type 0 where
 abbrev pub gone_by : Kept → ℕ → Option ℕ
 gone_by kept id = slice_index_or kept.fates id None
 
--- no parcel has gone yet, and the next id is one above the greatest
+-- no parcel has gone yet, and the next id is one above the greatest, and small
 pub record IsFresh (kept : Kept) : Type 0 where
   pub none_gone : (id : ℕ) → gone_by kept id ≡ None
   pub next_is : kept.next ≡ next_after kept.rows 0
+  pub small : kept.next ≤ 2 ^ 32
 
 -- a layer shows what is kept
 pub record IsShownBy (kept : Kept) (layer : Tiles) : Type 0 where

@@ -8,7 +8,7 @@ use Rattle.std.proofs.lemmas.List.Elements.{Contains-get_or}
 use Rattle.geo_exact.specs.Layers.{numbered}
 use Rattle.ring_edits.specs.Edits.{has_edge_between, with_corner}
 use Rattle.fabric_core.specs.JournalRows.{row_of, rows_of_entry}
-use Rattle.fabric_core.proofs.FromOneCell.{ascending}
+use Rattle.fabric_core.proofs.RowLists.{ascending}
 use Rattle.fabric_core.proofs.WithEdge.{ArePut, none_put, put_one, put_none, all_put, above_before, edge_is_candidate, edge_off, edge_on}
 use Rattle.fabric_core.proofs.edges.rows_with_corner.Goals.{in-Some-2+in_ok-push, in_default-2}
 use Rattle.fabric_core.proofs.edges.rows_with_corner.Goals as goal

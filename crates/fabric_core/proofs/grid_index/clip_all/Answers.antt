@@ -1,4 +1,4 @@
-use Rattle.std.proofs.Common.{rules, refl, ℕ, zero, suc, Option, None, slice_index_or, ◌≡◌, ◌∙◌, ap, subst, sym, [], ◌∷◌, ◌++◌, length, get_or}
+use Rattle.std.proofs.Common.{rules, arith, refl, ℕ, zero, suc, Option, None, List, slice_index_or, ◌≡◌, ◌∙◌, ap, subst, sym, [], ◌∷◌, ◌++◌, length, get_or}
 use Rattle.std.proofs.lemmas.List.{length-append, length-map}
 use Rattle.geo_exact.specs.Layers.{numbered}
 use Rattle.fabric_core.specs.own.Lists.{corners_of_rings}
@@ -9,8 +9,11 @@ use Rattle.fabric_core.proofs.ToldRings.{nil_of_no_length}
 use Rattle.parcel_table.proofs.Tables.{rows_of_keyed-push, entries_of-push}
 use Rattle.fabric_core.proofs.grid_index.clip_all.Goals as goal
 
+abbrev no_fates : List (Option ℕ)
+no_fates = []
+
 -- no id has a fate in an empty list
-nothing_there : (id : ℕ) → slice_index_or {X = Option ℕ} [] id None ≡ None
+nothing_there : (id : ℕ) → slice_index_or no_fates id None ≡ None
 nothing_there zero = refl
 nothing_there (suc id) = refl
 
@@ -25,6 +28,7 @@ loop-ring-init g c =
           (ap length c.in_ok-parcels.ensures.empty);
       area = c.in_ok-index.ensures.area;
       indexed = subst (λ parcels. Indexes c.in_ok-index.index (entries_of parcels)) (sym c.in_ok-parcels.ensures.empty) c.in_ok-index.ensures.empty;
+      small = omega (arith, c.in_ok-parcels.ensures.next);
       none_gone = λ id. ap (λ fates. slice_index_or fates id None) c.in_ok-parcels.ensures.fates ∙ nothing_there id;
     }
 
@@ -48,6 +52,7 @@ loop-ring-preserved g c =
       indexed = subst (Indexes c.add.new.self)
           (sym (ap entries_of c.in_ok-key.ensures.parcels ∙ entries_of-push old key (record { id = c.from.result; shape = shape })))
           (c.in_ok-add.ensures.ok (entries_of old) c.loop-ring.invariant.indexed);
+      small = omega (arith, c.in_ok-key.ensures.next, c.from.ensures, c.type_inv.numbers (length old), ap (λ k. get_or numbers k 0) c.len-in-loop-ring.ensures);
       none_gone = λ id. c.push.ensures.fates id ∙ c.loop-ring.invariant.none_gone id;
     }
 

@@ -1,4 +1,4 @@
-use Rattle.std.proofs.Common.{◌≡◌, ℕ, None, length}
+use Rattle.std.proofs.Common.{◌≡◌, ◌≤◌, ◌^◌, ℕ, None, length}
 use Rattle.cell_index.specs.Cells.{Indexes}
 use Rattle.fabric_core.specs.own.Lists.{corners_of_rings}
 use Rattle.parcel_table.specs.Table.{rows_of_keyed, entries_of, retired_by}
@@ -12,5 +12,6 @@ invariant-loop-ring g l = record {
       (rows_of_keyed l.parcels.parcels) l.parcels.next (length l.parcels.parcels);
   area : l.index.area ≡ l.fn.area;
   indexed : Indexes l.index (entries_of l.parcels.parcels);
+  small : l.parcels.next ≤ 2 ^ 32;
   none_gone : (id : ℕ) → retired_by l.parcels id ≡ None;
 }

@@ -60,6 +60,10 @@ returns-clause-ok g c =
       fates = λ id. ap (λ fates. slice_index_or fates id None) c.push_reserved.ensures.fates ∙ fate_pushed c.succeed.new.self.fates id
           ∙ ap (λ fates. slice_index_or fates id None) (c.succeed.ensures.fates ∙ ap (λ table. slice_set table.fates c.args.id (Some c.args.by) ++ None ∷ []) kept)
           ∙ fate_of_one old.fates c.args.id c.args.by id
-          (omega (arith, c.stand_apart.ensures.fates, c.stand_apart.ensures.below c.args.id
-          (has_id old.parcels c.args.id (subst (λ (t : Kept). Contains (numbers t.rows) c.args.id) (sym c.self.view_is) c.requires.here))));
+          (omega (
+            arith,
+            c.stand_apart.ensures.fates,
+            c.stand_apart.ensures.below c.args.id
+                (has_id old.parcels c.args.id (subst (λ (t : Kept). Contains (numbers t.rows) c.args.id) (sym c.self.view_is) c.requires.here)),
+          ));
     })

@@ -6,7 +6,7 @@ use Rattle.fabric_core.specs.EditResults.{rows_with_edge}
 use Rattle.fabric_core.specs.Rows.{numbers}
 use Rattle.fabric_core.specs.own.Kept.{Kept, MayBeKept, AreShapesWith, put_in_row}
 use Rattle.fabric_core.specs.own.Lists.{replaced}
-use Rattle.fabric_core.proofs.FromOneCell.{ascending}
+use Rattle.fabric_core.proofs.RowLists.{ascending}
 use Rattle.fabric_core.proofs.Exchanges.{shown}
 use Rattle.fabric_core.proofs.PutIn.{ArePutIn, put_in, put_in_kept, rise_of, ids_here, ring_after}
 use Rattle.fabric_core.proofs.tiled.Tiled.put_in.Goals as goal

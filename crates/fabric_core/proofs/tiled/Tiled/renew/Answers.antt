@@ -84,10 +84,10 @@ returns-clause-ok g c =
           (renewed old c.reserve.new.self c.succeed.new.self c.succeed-2.new.self c.args.a c.args.b from_a.key from_b.key c.args.of_a c.args.of_b
           (ap (λ table. table.parcels) kept) (ap (λ table. table.next) kept) (next_is_other old.next c.args.b below_b)
           (c.succeed.ensures.parcels from_a.key (record { parcel = a.parcel; is_here = a.is_here; has_id = a.has_id })) c.succeed.ensures.next
-    (c.succeed-2.ensures.parcels from_b.key (subst (λ parcels. IsKeyOf parcels c.args.b from_b.key)
-    (sym (c.succeed.ensures.parcels from_a.key (record { parcel = a.parcel; is_here = a.is_here; has_id = a.has_id })))
-    (still_key c.reserve.new.self.parcels ((from_a.key, record { id = c.reserve.new.self.next; shape = c.args.of_a }) ∷ [])
-    c.args.a c.args.b from_b.key c.requires.apart (record { parcel = b.parcel; is_here = b.is_here; has_id = b.has_id })))));
+          (c.succeed-2.ensures.parcels from_b.key (subst (λ parcels. IsKeyOf parcels c.args.b from_b.key)
+          (sym (c.succeed.ensures.parcels from_a.key (record { parcel = a.parcel; is_here = a.is_here; has_id = a.has_id })))
+          (still_key c.reserve.new.self.parcels ((from_a.key, record { id = c.reserve.new.self.next; shape = c.args.of_a }) ∷ [])
+          c.args.a c.args.b from_b.key c.requires.apart (record { parcel = b.parcel; is_here = b.is_here; has_id = b.has_id })))));
       city = refl;
       refined = refl;
       next = c.succeed-2.ensures.next ∙ ap (λ n. n + 1) (c.succeed.ensures.next ∙ ap (λ table. table.next + 1) kept) ∙ omega arith;
@@ -95,7 +95,13 @@ returns-clause-ok g c =
           ∙ fate_pushed (slice_set c.succeed.new.self.fates c.args.b (Some c.args.by)) id
           ∙ fate_of_two old.fates c.succeed.new.self.fates c.args.a c.args.b c.args.by id
           (omega (arith, c.stand_apart.ensures.fates, below_a))
-          (omega (arith, c.stand_apart.ensures.fates, below_b, ap length fates_a,
-          length-append (slice_set old.fates c.args.a (Some c.args.by)) (None ∷ []), length-set old.fates c.args.a (Some c.args.by)))
+          (omega (
+            arith,
+            c.stand_apart.ensures.fates,
+            below_b,
+            ap length fates_a,
+            length-append (slice_set old.fates c.args.a (Some c.args.by)) (None ∷ []),
+            length-set old.fates c.args.a (Some c.args.by),
+          ))
           fates_a;
     })

@@ -4,6 +4,14 @@ use Rattle.ring_edits.specs.Edits.{CoversAlike}
 use Rattle.fabric_core.specs.Limits.{AreWithinLimits}
 use Rattle.fabric_core.specs.GridIndex.{IsIndexed}
 use Rattle.fabric_core.specs.own.Kept.{Kept}
+use Rattle.std.specs.List.{All, AllByRecursion}
+use Rattle.geo_exact.specs.Bounds.{HoldsCorner}
+use Rattle.parcel_table.specs.Table.{rows_of_keyed}
+use Rattle.fabric_core.specs.own.Balanced.{IsBalanced}
+use Rattle.fabric_core.specs.own.Changes.{state_of}
+use Rattle.fabric_core.proofs.RowLists.{ascending}
+use Rattle.fabric_core.proofs.Exchanged.{simple_keyed}
+use Rattle.fabric_core.proofs.Exchanges.{rows_below}
 use Rattle.fabric_core.proofs.Loaded.{is_indexed, kept_tiles}
 use Rattle.fabric_core.proofs.tiled.Tiled.tiles.Goals as goal
 
@@ -23,3 +31,19 @@ returns-clause-indexed g c =
 
 pub returns-clause-ground : goal.returns-clause-ground
 returns-clause-ground g c = subst (λ (t : Kept). CoversAlike t.city t.refined) c.self.view_is c.self.invariant.ground
+
+pub returns-clause-in_area : goal.returns-clause-in_area
+returns-clause-in_area g c =
+    subst (λ (t : Kept). AllByRecursion (λ row. All (HoldsCorner t.index.area) row.corners) t.rows) c.self.view_is c.self.invariant.in_area
+
+pub returns-clause-balanced : goal.returns-clause-balanced
+returns-clause-balanced g c =
+    let parcels = c.self.inside.parcels.parcels in
+    subst (λ (t : Kept). IsBalanced (state_of t)) c.self.view_is (record {
+      ids = record {
+        up = ascending (rows_of_keyed parcels) c.self.invariant.ids_rise;
+        below = rows_below c.self.inside.parcels.next parcels (λ id here. c.stand_apart.ensures.below id here);
+      };
+      simple = simple_keyed parcels;
+      nets = c.self.invariant.nets;
+    })

@@ -84,7 +84,13 @@ returns-clause-ok g c =
       fates = λ id. ap (λ fates. slice_index_or fates id None) c.retire.ensures.fates
           ∙ fate_of_two old.fates c.succeed.new.self.fates c.args.a c.args.b c.args.by id
           (omega (arith, c.stand_apart.ensures.fates, below_a))
-          (omega (arith, c.stand_apart.ensures.fates, below_b, ap length fates_a,
-          length-append (slice_set old.fates c.args.a (Some c.args.by)) (None ∷ []), length-set old.fates c.args.a (Some c.args.by)))
+          (omega (
+            arith,
+            c.stand_apart.ensures.fates,
+            below_b,
+            ap length fates_a,
+            length-append (slice_set old.fates c.args.a (Some c.args.by)) (None ∷ []),
+            length-set old.fates c.args.a (Some c.args.by),
+          ))
           fates_a;
     })
