@@ -26,3 +26,4 @@ pub mod RowLists
 pub mod Replays
 pub mod Retirements
 pub mod WithEdge
+pub mod NewLimits

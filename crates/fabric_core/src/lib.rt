@@ -14,6 +14,7 @@ mod laws;
 mod layer;
 mod limits;
 mod locate;
+mod new_limits;
 mod new_shapes;
 mod refine;
 mod refusal;
