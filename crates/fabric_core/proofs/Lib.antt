@@ -34,3 +34,4 @@ pub mod PutIn
 pub mod EntryCounts
 pub mod WithEdge
 pub mod LawfulJournals
+pub mod NewLimits

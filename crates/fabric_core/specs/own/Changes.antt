@@ -1,8 +1,9 @@
 -- What the single steps of an edit answer. Public contracts do not speak of it.
-use Rattle.std.specs.Prelude.{◌≡◌, ◌⊎◌, ℕ, List, map}
-use Rattle.std.specs.List.{Contains}
+use Rattle.std.specs.Prelude.{◌≡◌, ◌⊎◌, ℕ, ◌+◌, ◌≤◌, List, map, length}
+use Rattle.std.specs.List.{AllByRecursion, Contains}
 use Rattle.geo_exact.specs.declared.corner.Corner.{Corner}
-use Rattle.geo_exact.specs.Layers.{NumberedRing}
+use Rattle.geo_exact.specs.declared.limits.TheConstants.{LAYER_CORNERS, LAYER_RECORDS, RING_CORNERS}
+use Rattle.geo_exact.specs.Layers.{NumberedRing, corner_count}
 use Rattle.geo_exact.specs.Segments.{IsStrictlyInside}
 use Rattle.ring_core.specs.declared.shape.Shape.{Shape}
 use Rattle.ring_core.specs.declared.ring.RingFault.{RingFault}
@@ -62,3 +63,9 @@ IsRingRefusal rows refusal = (which : ℕ) × (fault : RingFault) × IsFirstBadR
 -- the rings of shapes
 abbrev pub rings_of_shapes : {A : Type 0} → List (Shape A) → List (List Corner)
 rings_of_shapes shapes = map (λ shape. shape.ring.corners) shapes
+
+-- the rows keep to the limits of a layer, together with so many corners and rows of others
+pub record AddWithin (corners rows : ℕ) (news : List NumberedRing) : Type 0 where
+  pub each : AllByRecursion (λ row. length row.corners ≤ RING_CORNERS) news
+  pub together : corners + corner_count news ≤ LAYER_CORNERS
+  pub number : rows + length news ≤ LAYER_RECORDS

@@ -1,0 +1,41 @@
+use Rattle.std.proofs.Common.{◌≡◌, ◌-◌, ap, arith, not, length, List, ℕ}
+use Rattle.std.specs.Prelude.{nat_eq}
+use Rattle.std.specs.List.{list_any}
+use Rattle.std.proofs.lemmas.List.{length-map}
+use Rattle.geo_exact.specs.Layers.{NumberedRing}
+use Rattle.fabric_core.specs.EditResults.{AreWithinAll}
+use Rattle.fabric_core.specs.Journal.{with_rows, without_ids}
+use Rattle.fabric_core.specs.JournalRows.{rows_of_entry}
+use Rattle.fabric_core.specs.own.Changes.{AddWithin}
+use Rattle.fabric_core.proofs.NewLimits.{fewer_corners, changed_within, not_either}
+use Rattle.fabric_core.proofs.new_limits.too_many.Goals as goal
+
+pub add_within-requires : goal.add_within-requires
+add_within-requires g c =
+    let rows = c.args.tiled.now.rows in
+    omega (
+      arith,
+      c.corners_left-left.ensures.corners,
+      fewer_corners (λ row. not (list_any (nat_eq row.number) c.deref.result.now)) rows,
+      c.tiles.ensures.within.together,
+    )
+
+pub returns : goal.returns
+returns g c =
+    let rows = c.args.tiled.now.rows in let ids = c.deref.result.now in let out = c.args.change.now.out.items in
+    let news = rows_of_entry c.args.change.now.rows.items in let entries = rows_of_entry c.deref-2.result.now in
+    let left = c.corners_left-left.result in
+    let number : c.len.result - c.len-2.result ≡ length (without_ids ids rows) =
+    omega (
+      arith,
+      c.len.ensures.value,
+      ap (λ (ns : List ℕ). length ns) c.ids.ensures.ids,
+      length-map rows (λ (row : NumberedRing). row.number),
+      c.len-2.ensures,
+      c.deref.ensures.len,
+      c.corners_left-left.ensures.number,
+    ) in
+    not_either c.add_within.result (AddWithin left (c.len.result - c.len-2.result) entries) (AreWithinAll (with_rows news (without_ids out rows)))
+    c.add_within.ensures
+    (changed_within rows news entries out ids left (c.len.result - c.len-2.result) c.deref.ensures.value (ap rows_of_entry c.deref-2.ensures.value)
+    c.corners_left-left.ensures.corners number c.tiles.ensures.within.each)

@@ -1,0 +1,72 @@
+ghost use Rattle.std.specs.Prelude.{◌≡◌, ◌≢◌, ◌↔◌, ◌+◌, ◌≤◌, ℕ, length, IsTrue};
+ghost use Rattle.std.specs.List.{AllPairs, Contains};
+ghost use Rattle.geo_exact.specs.declared.limits.TheConstants.{LAYER_CORNERS};
+ghost use Rattle.geo_exact.specs.Layers.{corner_count};
+ghost use Rattle.fabric_core.specs.EditResults.{AreWithinAll};
+ghost use Rattle.fabric_core.specs.Journal.{with_rows, without_ids};
+ghost use Rattle.fabric_core.specs.JournalRows.{rows_of_entry};
+ghost use Rattle.fabric_core.specs.Rows.{numbers};
+ghost use Rattle.fabric_core.specs.own.Changes.{AddWithin};
+
+use crate::change::Change;
+use crate::journal::Row;
+use crate::tiled::Tiled;
+use geo_exact::{LAYER_CORNERS, LAYER_RECORDS, RING_CORNERS};
+use std::alloc::Allocator;
+
+/// How many corners the parcels have that stay where others go.
+fn corners_left<'a, H: Allocator>(tiled: &Tiled<'a, H>, out: &[u64], corners: usize) -> usize
+    requires corners { corners ≡ corner_count tiled.now.rows }
+    requires here { (id : ℕ) → Contains out.now id → Contains (numbers tiled.now.rows) id }
+    requires apart { AllPairs (λ a b. a ≢ b) out.now }
+    ensures corners { result ≡ corner_count (without_ids out.now tiled.now.rows) }
+    ensures number { length (without_ids out.now tiled.now.rows) + length out.now ≡ length tiled.now.rows }
+{
+    let _ids = tiled.ids();
+    let mut left = corners;
+    for id in out {
+        let Some(shape) = tiled.shape(*id) else {
+            unreachable!()
+        };
+        left -= shape.ring.corners.len();
+    }
+    left
+}
+
+/// Whether new rows keep to the limits of a layer, together with so many corners and parcels that stay.
+fn add_within<A: Allocator>(rows: &[Row<A>], corners: usize, parcels: usize) -> bool
+    requires { corners ≤ LAYER_CORNERS }
+    ensures { IsTrue result ↔ AddWithin corners parcels (rows_of_entry rows.now) }
+{
+    let most = LAYER_RECORDS as usize;
+    if rows.len() > most || parcels > most - rows.len() {
+        return false;
+    }
+    let mut total = corners;
+    for row in rows {
+        let count = row.corners.len();
+        if count > RING_CORNERS || total + count > LAYER_CORNERS {
+            return false;
+        }
+        total += count;
+    }
+    true
+}
+
+/// Whether a limit of the layer is passed by what a change makes of the parcels, which have so many corners now.
+pub(crate) fn too_many<'a, H: Allocator>(
+    tiled: &Tiled<'a, H>,
+    change: &Change<&'a H>,
+    corners: usize,
+) -> bool
+    requires corners { corners ≡ corner_count tiled.now.rows }
+    requires here { (id : ℕ) → Contains change.now.out.items id → Contains (numbers tiled.now.rows) id }
+    requires apart { AllPairs (λ a b. a ≢ b) change.now.out.items }
+    ensures { IsTrue result
+        ↔ (¬ AreWithinAll (with_rows (rows_of_entry change.now.rows.items) (without_ids change.now.out.items tiled.now.rows))) }
+{
+    tiled.tiles();
+    let left = corners_left(tiled, &change.out, corners);
+    let parcels = tiled.ids().len() - change.out.len();
+    !add_within(&change.rows, left, parcels)
+}
