@@ -1,7 +1,7 @@
 use Rattle.std.proofs.Common.{◌∙◌, sym, subst}
 use Rattle.geo_exact.specs.Bounds.{HoldsCorner}
 use Rattle.geo_exact.proofs.InBoxes.{Decides-holds_corner}
-use Rattle.cell_tests.proofs.cells.stand_at.Goals as goal
+use Rattle.cell_tests.proofs.cells.kept_at.Goals as goal
 
 pub at-requires : goal.at-requires
 at-requires g c =
