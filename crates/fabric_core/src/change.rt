@@ -6,7 +6,7 @@ ghost use Rattle.fabric_core.specs.declared.refusal.Refusal.TheVariants.{BadPath
 ghost use Rattle.fabric_core.specs.EditResults.{IsChange, IsSplitOf, IsMergeOf, IsMoveOf, IsInsertOf};
 ghost use Rattle.fabric_core.specs.JournalRows.{rows_of_entry};
 ghost use Rattle.fabric_core.specs.Refusals.{named_ids, IsBadCut, IsOwnRefusal};
-ghost use Rattle.fabric_core.specs.own.Changes.{state_of, IsGone, IsStopped, IsBorderRefusal, IsMoveRefusal, IsInsertRefusal};
+ghost use Rattle.fabric_core.specs.own.Changes.{state_of, IsGone, IsTold, IsStopped, IsBorderRefusal, IsMoveRefusal, IsInsertRefusal};
 
 use crate::edges::rows_with_corner;
 use crate::journal::Row;
@@ -49,7 +49,17 @@ fn here<'t, 'a, H: Allocator>(tiled: &'t Tiled<'a, H>, id: u64) -> Result<&'t Sh
 {
     match tiled.shape(id) {
         Some(shape) => Ok(shape),
-        None => Err(Refusal::Unknown(id)),
+        None => Err(gone(tiled, id)),
+    }
+}
+
+/// Why an id that is no parcel's is refused.
+fn gone<'a, H: Allocator>(tiled: &Tiled<'a, H>, id: u64) -> Refusal
+    ensures { IsTold tiled.now id result }
+{
+    match tiled.gone_by(id) {
+        Some(by) => Refusal::Retired { id, by },
+        None => Refusal::Unknown(id),
     }
 }
 

@@ -16,7 +16,7 @@ ghost use Rattle.fabric_core.specs.own.Checks.{HaveNoFault, IsChecked};
 ghost use Rattle.fabric_core.specs.Journal.{without_ids};
 ghost use Rattle.fabric_core.specs.own.Balanced.{IsBalanced};
 ghost use Rattle.fabric_core.specs.own.Changes.{state_of};
-ghost use Rattle.fabric_core.specs.own.Kept.{AreShapesWith, IsExchanged, IsFresh, MayBeKept, put_in_row};
+ghost use Rattle.fabric_core.specs.own.Kept.{AreShapesWith, gone_by, IsExchanged, IsFresh, MayBeKept, put_in_row};
 ghost use Rattle.fabric_core.specs.EditResults.{rows_with_edge};
 ghost use Rattle.geo_exact.specs.Segments.{IsStrictlyInside};
 ghost use Rattle.fabric_core.specs.own.Lists.{numbered_rows, corners_of_rings, IsEntryAt, replaced};
@@ -119,6 +119,16 @@ impl<'a, H: Allocator> Tiled<'a, H> {
         ensures { result ≡ self.now.next }
     {
         self.parcels.next_id()
+    }
+
+    /// The number by which the parcel with this id went, where one did.
+    pub(crate) fn gone_by(&self, id: u64) -> Option<u64>
+        ensures { result ≡ gone_by self.now id }
+    {
+        match self.parcels.fate(id) {
+            Fate::Retired(by) => Some(by),
+            _ => None,
+        }
     }
 
     /// The parcels' ids, ascending.
@@ -361,13 +371,8 @@ impl<'a, H: Allocator> Tiled<'a, H> {
         inserting_covers_alike();
         inserting_keeps_the_least_box();
         inserting_keeps_where_a_ring_begins();
-        let with_it = put_into(
-            self.parcels.allocator(),
-            self.refined.as_slice(),
-            from,
-            to,
-            at,
-        )?;
+        let ring = &self.refined;
+        let with_it = put_into(self.parcels.allocator(), ring.as_slice(), from, to, at)?;
         replace_all(&mut self.parcels, ids, shapes);
         change_ring(&mut self.refined, with_it);
         self.parcels.stand_apart();

@@ -10,19 +10,25 @@ use Rattle.ring_core.specs.declared.ring.RingFault.{RingFault}
 use Rattle.ring_edits.specs.declared.fault.EditFault.{EditFault}
 use Rattle.ring_edits.specs.declared.fault.EditFault.TheVariants.{BadPath as NoPath, NotNeighbours as NoBorder, SharedTwice as TwoBorders, NoMemory as NoRoom}
 use Rattle.fabric_core.specs.declared.refusal.Refusal.{Refusal}
-use Rattle.fabric_core.specs.declared.refusal.Refusal.TheVariants.{Unknown, BadPath, NotNeighbours, SharedTwice, NoSuchEdge, NotOnEdge, Ring, NoMemory}
+use Rattle.fabric_core.specs.declared.refusal.Refusal.TheVariants.{Unknown, Retired, BadPath, NotNeighbours, SharedTwice, NoSuchEdge, NotOnEdge, Ring, NoMemory}
 use Rattle.fabric_core.specs.Rows.{numbers}
-use Rattle.fabric_core.specs.Journal.{State}
-use Rattle.fabric_core.specs.Refusals.{AreHere, IsFirstGone, IsFirstBadRing, HaveNoBorder, HasNoEdge, IsBadMove}
-use Rattle.fabric_core.specs.own.Kept.{Kept}
+use Rattle.ring_edits.specs.declared.edit.Edit.{Edit}
+use Rattle.fabric_core.specs.EditResults.{IsChange}
+use Rattle.fabric_core.specs.Journal.{State, JournalEntry, after_entry}
+use Rattle.fabric_core.specs.Refusals.{AreHere, IsFirstGone, IsFirstBadRing, IsOwnRefusal, IsChangeRefusal, Retires, named_ids, HaveNoBorder, HasNoEdge, IsBadMove}
+use Rattle.fabric_core.specs.own.Kept.{Kept, gone_by}
 
 -- the state of what is kept
 abbrev pub state_of : Kept → State
 state_of kept = record { rows = kept.rows; refined = kept.refined; next = kept.next }
 
+-- the refusal tells what has become of an id that is no parcel's
+abbrev pub IsTold : Kept → ℕ → Refusal → Type 0
+IsTold kept id refusal = MatchOption (gone_by kept id) (refusal ≡ Unknown id) (λ by. refusal ≡ Retired id by)
+
 -- the id is no parcel's, and the refusal tells what has become of it
 abbrev pub IsGone : Kept → ℕ → Refusal → Type 0
-IsGone kept id refusal = (¬ Contains (numbers kept.rows) id) × (refusal ≡ Unknown id)
+IsGone kept id refusal = (¬ Contains (numbers kept.rows) id) × IsTold kept id refusal
 
 -- the refusal tells of the first of these ids that is no parcel's
 abbrev pub IsFirstTold : Kept → List ℕ → Refusal → Type 0
@@ -69,3 +75,16 @@ pub record AddWithin (corners rows : ℕ) (news : List NumberedRing) : Type 0 wh
   pub each : AllByRecursion (λ row. length row.corners ≤ RING_CORNERS) news
   pub together : corners + corner_count news ≤ LAYER_CORNERS
   pub number : rows + length news ≤ LAYER_RECORDS
+
+-- why an edit makes no draft: an id that is no parcel's, what the edit asks for itself, or limits and rings of what it makes
+abbrev pub IsDraftRefusal : {A : Type 0} → Kept → Edit A → Refusal → Type 0
+IsDraftRefusal kept edit refusal =
+    IsFirstTold kept (named_ids edit) refusal
+    ⊎ (AreHere kept.rows (named_ids edit) × (IsOwnRefusal (state_of kept) edit refusal
+    ⊎ ((out : List ℕ) × (rows : List NumberedRing) × IsChange (state_of kept) edit out rows × IsChangeRefusal (state_of kept) out rows refusal)))
+
+-- the entry was made of the old parcels: the new ones are those after it, and it is known which ids went by it
+pub record IsMade {A : Type 0} (old new : Kept) (entry : JournalEntry A) : Type 0 where
+  pub state : state_of new ≡ after_entry (state_of old) entry
+  pub city : new.city ≡ old.city
+  pub gone : (id by : ℕ) → (gone_by new id ≡ Some by) ↔ ((gone_by old id ≡ Some by) ⊎ (Retires entry id × (entry.number ≡ by)))
