@@ -1,12 +1,10 @@
-ghost use Rattle.std.specs.Prelude.{◌≡◌, ◌<◌, ◌≤◌, ◌++◌, length, not, List, OnOk, OnErr};
+ghost use Rattle.std.specs.Prelude.{◌≡◌, length, not, OnOk};
 ghost use Rattle.std.specs.List.{filter};
-ghost use Rattle.cell_index.specs.declared.entry.Entry.{Entry};
-ghost use Rattle.cell_index.specs.Cells.{is_same_entry, without};
-ghost use Rattle.cell_index.specs.own.Ranges.{place_count, contents, HaveRoom, HaveRoomForAll, KeepRoom, Keeps, IsChanged, with_entry, passing};
+ghost use Rattle.cell_index.specs.Cells.{is_same_entry};
+ghost use Rattle.cell_index.specs.own.Ranges.{place_count, contents, HaveRoom, KeepRoom, IsChanged, with_entry, passing};
 
 use crate::entry::{Entry, is_entry};
-use crate::places::{Places, places_of};
-use geo_exact::Bounds;
+use crate::places::Places;
 use smallvec::SmallVec;
 use std::alloc::{AllocError, Allocator};
 

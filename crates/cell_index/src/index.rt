@@ -1,8 +1,8 @@
-ghost use Rattle.std.specs.Prelude.{◌≡◌, ◌≢◌, ◌↔◌, ℕ, List, [], ◌∷◌, ◌++◌, map, IfOk, OnOk, OnErr, slice_index_or};
+ghost use Rattle.std.specs.Prelude.{◌≡◌, ◌≢◌, ◌↔◌, ℕ, List, [], ◌∷◌, ◌++◌, map, IfOk, OnOk, OnErr};
 ghost use Rattle.std.specs.List.{filter, Contains, AllPairs};
 ghost use Rattle.geo_exact.specs.Bounds.{HoldsCorner};
 ghost use Rattle.cell_index.specs.declared.entry.Entry.{Entry};
-ghost use Rattle.cell_index.specs.Cells.{cell, column, row, stands_at, wide, narrow, Indexes, without, HaveOwnKeys, IsKeyBetween};
+ghost use Rattle.cell_index.specs.Cells.{stands_at, wide, narrow, Indexes, without, HaveOwnKeys, IsKeyBetween};
 ghost use Rattle.cell_index.specs.own.Ranges.{cell_count, gathered, has_some_of};
 
 use crate::axis::{ACROSS, cell_of};
