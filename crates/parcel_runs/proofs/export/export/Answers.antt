@@ -47,3 +47,9 @@ returns-clause-ok g c =
 
 pub returns-clause-refuses : goal.returns-clause-refuses
 returns-clause-refuses g c = λ fault h. absurd (c.in_ok-layer.ensures.refuses fault h)
+
+pub returns-in_err-main-clause-refuses : goal.returns-in_err-main-clause-refuses
+returns-in_err-main-clause-refuses g c = λ fault h. absurd (c.in_ok-layer.ensures.refuses fault h)
+
+pub returns-in_err-lines-clause-refuses : goal.returns-in_err-lines-clause-refuses
+returns-in_err-lines-clause-refuses g c = λ fault h. absurd (c.in_ok-layer.ensures.refuses fault h)
