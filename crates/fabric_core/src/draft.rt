@@ -9,7 +9,7 @@ ghost use Rattle.fabric_core.specs.own.Changes.{IsDraftRefusal, rings_of_shapes,
 
 use crate::change::{Change, change_of};
 use crate::journal::Entry;
-use crate::new_limits::{corners_after, too_many};
+use crate::new_limits::{corners_after, is_within};
 use crate::new_shapes::simple_shapes;
 use crate::refusal::Refusal;
 use crate::tiled::Tiled;
@@ -50,7 +50,7 @@ pub(crate) fn draft_of<'a, H: Allocator>(
     tiled.tiles();
     let heap = tiled.allocator();
     let change = change_of(heap, tiled, tiled.next_id(), edit)?;
-    if too_many(tiled, &change, corners) {
+    if !is_within(tiled, &change, corners) {
         return Err(Refusal::TooMany);
     }
     let corners = corners_after(tiled, &change, corners);
