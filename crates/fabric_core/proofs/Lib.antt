@@ -35,3 +35,4 @@ pub mod EntryCounts
 pub mod WithEdge
 pub mod LawfulJournals
 pub mod NewLimits
+pub mod Made

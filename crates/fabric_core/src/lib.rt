@@ -15,6 +15,7 @@ mod laws;
 mod layer;
 mod limits;
 mod locate;
+mod make;
 mod new_limits;
 mod new_shapes;
 mod opening;
