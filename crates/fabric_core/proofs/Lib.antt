@@ -36,3 +36,4 @@ pub mod WithEdge
 pub mod LawfulJournals
 pub mod NewLimits
 pub mod Made
+pub mod Booked

@@ -8,12 +8,12 @@ use Rattle.std.proofs.lemmas.Bool.{false≢true}
 use Rattle.geo_exact.specs.declared.corner.Corner.{Corner}
 use Rattle.geo_exact.specs.declared.limits.TheConstants.{LAYER_CORNERS, RING_CORNERS}
 use Rattle.geo_exact.specs.Layers.{NumberedRing, numbered, corner_count}
+use Rattle.fabric_core.specs.own.Balanced.{Ascend}
 use Rattle.fabric_core.specs.declared.journal.Row.{Row}
 use Rattle.fabric_core.specs.JournalRows.{row_of, rows_of_entry}
 use Rattle.fabric_core.specs.EditResults.{AreWithinAll}
 use Rattle.fabric_core.specs.Journal.{without_ids, with_row, with_rows}
 use Rattle.fabric_core.specs.own.Changes.{AddWithin}
-use Rattle.fabric_core.proofs.Located.{Ascend}
 use Rattle.fabric_core.proofs.NewShapes.{short_at}
 use Rattle.fabric_core.proofs.RowLists.{AllByRecursion-filter, Ascend-filter, Contains-without, without_both, IsOneLess, one_less_row}
 

@@ -6,6 +6,7 @@ mod box_laws;
 mod candidates;
 mod change;
 mod city;
+mod draft;
 mod edges;
 mod fabric;
 mod gaps;

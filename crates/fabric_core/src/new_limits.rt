@@ -70,3 +70,14 @@ pub(crate) fn too_many<'a, H: Allocator>(
     let parcels = tiled.ids().len() - change.out.len();
     !add_within(&change.rows, left, parcels)
 }
+
+/// STUB
+pub(crate) fn corners_after<'a, H: Allocator>(
+    tiled: &Tiled<'a, H>,
+    change: &Change<&'a H>,
+    corners: usize,
+) -> usize
+    ensures { result ≡ corner_count (with_rows (rows_of_entry change.now.rows.items) (without_ids change.now.out.items tiled.now.rows)) }
+{
+    corners
+}

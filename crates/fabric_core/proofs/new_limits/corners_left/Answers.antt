@@ -3,9 +3,8 @@ use Rattle.std.specs.List.Sorted.{IsStrictlyIncreasing}
 use Rattle.std.proofs.lemmas.List.{take_more}
 use Rattle.std.proofs.lemmas.List.Elements.{Contains-get_or}
 use Rattle.geo_exact.specs.Layers.{numbered}
-use Rattle.fabric_core.proofs.FromOneCell.{ascending}
+use Rattle.fabric_core.proofs.RowLists.{ascending, has_row}
 use Rattle.fabric_core.proofs.NewLimits.{AreLeft, none_out, left_after}
-use Rattle.fabric_core.proofs.RowLists.{has_row}
 use Rattle.fabric_core.proofs.new_limits.corners_left.Goals as goal
 
 pub loop-id-init : goal.loop-id-init
