@@ -35,3 +35,6 @@ pub mod EntryCounts
 pub mod WithEdge
 pub mod LawfulJournals
 pub mod NewLimits
+pub mod Made
+pub mod Booked
+pub mod Drafts

@@ -56,11 +56,11 @@ module _ (row : NumberedRing) where
         by_test false k later = ((later k.1).0, (k.0, (later k.1).1))
 
 -- ---- rows that are put in, one after the other
-with_rows_corners : (news rows : List NumberedRing) → corner_count (with_rows news rows) ≡ corner_count rows + corner_count news
+pub with_rows_corners : (news rows : List NumberedRing) → corner_count (with_rows news rows) ≡ corner_count rows + corner_count news
 with_rows_corners [] rows = omega arith
 with_rows_corners (new ∷ news) rows = omega (arith, with_rows_corners news (with_row new rows), with_row_corners new rows)
 
-with_rows_length : (news rows : List NumberedRing) → length (with_rows news rows) ≡ length rows + length news
+pub with_rows_length : (news rows : List NumberedRing) → length (with_rows news rows) ≡ length rows + length news
 with_rows_length [] rows = omega arith
 with_rows_length (new ∷ news) rows = omega (arith, with_rows_length news (with_row new rows), with_row_length new rows)
 
@@ -69,7 +69,7 @@ module _ (P : NumberedRing → Type 0) where
   with_rows_all [] rows h k = k
   with_rows_all (new ∷ news) rows h k = with_rows_all news (with_row new rows) h.1 (with_row_all new P rows h.0 k)
 
-  with_rows_news : (news rows : List NumberedRing) → AllByRecursion P (with_rows news rows) → AllByRecursion P news × AllByRecursion P rows
+  pub with_rows_news : (news rows : List NumberedRing) → AllByRecursion P (with_rows news rows) → AllByRecursion P news × AllByRecursion P rows
   with_rows_news [] rows h = (tt, h)
   with_rows_news (new ∷ news) rows h =
       let w = with_rows_news news (with_row new rows) h in let v = with_row_parts new P rows w.1 in ((v.0, w.0), v.1)
@@ -163,7 +163,7 @@ module _ {A : Type 0} where
       ap rows_of_entry (take_more rows k row h) ∙ map-append row_of (take k rows) (get_or rows k row ∷ [])
       ∙ ap (λ (r : Row A). rows_of_entry (take k rows) ++ row_of r ∷ []) (sym is)
 
-  up_to : (rows : List (Row A)) (k : ℕ) (row : Row A) → k < length rows → row ≡ get_or rows k row
+  pub up_to : (rows : List (Row A)) (k : ℕ) (row : Row A) → k < length rows → row ≡ get_or rows k row
       → corner_count (rows_of_entry (take k rows)) + length row.corners ≤ corner_count (rows_of_entry rows)
   up_to [] k row h is = absurd (omega (arith, h))
   up_to (r ∷ rows) zero row h is = omega (arith, ap (λ (x : Row A). length x.corners) is)
@@ -176,10 +176,6 @@ module _ {A : Type 0} where
   pub all_too_long : (rows : List (Row A)) (corners parcels k : ℕ) (row : Row A) → k < length rows → row ≡ get_or rows k row
       → LAYER_CORNERS < corners + corner_count (rows_of_entry (take k rows)) + length row.corners → ¬ AddWithin corners parcels (rows_of_entry rows)
   all_too_long rows corners parcels k row h is long within = absurd (omega (arith, long, up_to rows k row h is, within.together))
-
-pub not_either : (r : Bool) (P Q : Type 0) → ((r ≡ true) ↔ P) → (P ↔ Q) → (not r ≡ true) ↔ (¬ Q)
-not_either true P Q h k = (λ e. absurd (false≢true e), λ none. absurd (none (k.0 (h.0 refl))))
-not_either false P Q h k = (λ e q. false≢true (h.1 (k.1 q)), λ none. refl)
 
 -- what is left when some go, with what comes
 pub changed_within : (rows news entries : List NumberedRing) (out ids : List ℕ) (left parcels : ℕ) → ids ≡ out → entries ≡ news

@@ -130,7 +130,7 @@ rows_with_corner from to at rows = changed (has_edge from to) (with_corner_in fr
 pub numbers_with_corner : (from to at : Corner) (rows : List NumberedRing) → numbers (rows_with_corner from to at rows) ≡ numbers rows
 numbers_with_corner from to at rows = numbers_changed (has_edge from to) (with_corner_in from to at) (λ row. refl) rows
 
-same_numbers : (f : NumberedRing → NumberedRing) → ((row : NumberedRing) → (f row).number ≡ row.number) → (rows : List NumberedRing)
+pub same_numbers : (f : NumberedRing → NumberedRing) → ((row : NumberedRing) → (f row).number ≡ row.number) → (rows : List NumberedRing)
     → numbers (map f rows) ≡ numbers rows
 same_numbers f same [] = refl
 same_numbers f same (row ∷ rows) = ap (λ n. n ∷ numbers (map f rows)) (same row) ∙ ap (λ ns. row.number ∷ ns) (same_numbers f same rows)

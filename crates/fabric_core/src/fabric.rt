@@ -18,9 +18,11 @@ ghost use Rattle.fabric_core.specs.Journal.{opening_state, after_entry, replay};
 ghost use Rattle.fabric_core.specs.EditResults.{IsEntryOf, IsLawful};
 ghost use Rattle.fabric_core.specs.Refusals.{IsRefusal};
 
-use crate::journal::Entry;
+use crate::draft::{Draft, draft_of};
+use crate::journal::{Entry, JOURNAL_ENTRIES};
 use crate::layer::Layer;
 use crate::locate::At;
+use crate::make::make;
 use crate::opening::{Opening, count_corners, opening_of};
 use crate::refusal::Refusal;
 use crate::tiled::Tiled;
@@ -200,5 +202,50 @@ impl<'a, H: Allocator> Fabric<'a, H> {
         ensures { result.now ≡ self.now.now.refined }
     {
         self.tiled.refined()
+    }
+
+    /// Makes an edit, if nothing refuses it: the parcels that it names go, those that it makes come, and the journal gets an entry. The
+    /// time grows with the rings concerned and the city's refined ring, and not with the other parcels.
+    ///
+    /// # Errors
+    ///
+    /// The first of these that applies; nothing has changed then. [`Refusal::JournalFull`] (E9); for each id that the edit names, in its
+    /// order, [`Refusal::Unknown`] (E1) or [`Refusal::Retired`] (E2); what the edit asks for itself: for a split
+    /// [`Refusal::BadPath`] (E3), for a merge and a move [`Refusal::NotNeighbours`] (E4) and [`Refusal::SharedTwice`] (E5), for a move then
+    /// [`Refusal::BadPath`] (E3), for an insert [`Refusal::NoSuchEdge`] (E7) and [`Refusal::NotOnEdge`] (E8); [`Refusal::TooMany`] (E10);
+    /// [`Refusal::Ring`] (E6). And [`Refusal::NoMemory`] where an allocation is refused.
+    pub fn edit(&mut self, clerk: u32, edit: &Edit<&'a H>) -> Result<Entry<&'a H>, Refusal>
+        // An accepted edit: the entry is that of this edit by this clerk on the state before, under the next number.
+        ensures is_entry { IfOk result (λ entry. IsEntryOf self.old.now entry) }
+        ensures edit { IfOk result (λ entry. entry.edit ≡ edit.now) }
+        ensures clerk { IfOk result (λ entry. entry.clerk ≡ clerk) }
+        ensures number { IfOk result (λ entry. entry.number ≡ length self.old.journal + 1) }
+        // It changes the state as the journal's replay does, and stands last in the journal.
+        ensures now { IfOk result (λ entry. self.new.now ≡ after_entry self.old.now entry) }
+        ensures journal { IfOk result (λ entry. self.new.journal ≡ self.old.journal ++ entry ∷ []) }
+        ensures city { self.new.city ≡ self.old.city }
+        ensures opening { self.new.opening ≡ self.old.opening }
+        // A refused one changes nothing.
+        ensures unchanged { OnErr result (self.new ≡ self.old) }
+        ensures refusal { IfErr result (λ refusal. IsRefusal self.old.now self.old.journal edit.now refusal ⊎ (refusal ≡ NoMemory)) }
+        ensures refuses { (refusal : Refusal) → IsRefusal self.old.now self.old.journal edit.now refusal
+            → IsErrAnd result (λ e. (e ≡ refusal) ⊎ (e ≡ NoMemory)) }
+    {
+        if self.journal.len() >= JOURNAL_ENTRIES {
+            return Err(Refusal::JournalFull);
+        }
+        let number = self.journal.len() as u64 + 1;
+        let draft = draft_of(&self.tiled, self.corners, number, clerk, edit)?;
+        let Draft {
+            entry,
+            shapes,
+            corners,
+        } = draft;
+        let kept = entry.clone()?;
+        self.journal.reserve(1)?;
+        make(&mut self.tiled, &entry, shapes)?;
+        self.corners = corners;
+        self.journal.push_reserved(kept);
+        Ok(entry)
     }
 }

@@ -53,8 +53,8 @@ fn add_within<A: Allocator>(rows: &[Row<A>], corners: usize, parcels: usize) -> 
     true
 }
 
-/// Whether a limit of the layer is passed by what a change makes of the parcels, which have so many corners now.
-pub(crate) fn too_many<'a, H: Allocator>(
+/// Whether what a change makes of the parcels, which have so many corners now, keeps to the limits of a layer.
+pub(crate) fn is_within<'a, H: Allocator>(
     tiled: &Tiled<'a, H>,
     change: &Change<&'a H>,
     corners: usize,
@@ -63,10 +63,37 @@ pub(crate) fn too_many<'a, H: Allocator>(
     requires here { (id : ℕ) → Contains change.now.out.items id → Contains (numbers tiled.now.rows) id }
     requires apart { AllPairs (λ a b. a ≢ b) change.now.out.items }
     ensures { IsTrue result
-        ↔ (¬ AreWithinAll (with_rows (rows_of_entry change.now.rows.items) (without_ids change.now.out.items tiled.now.rows))) }
+        ↔ AreWithinAll (with_rows (rows_of_entry change.now.rows.items) (without_ids change.now.out.items tiled.now.rows)) }
 {
     tiled.tiles();
     let left = corners_left(tiled, &change.out, corners);
     let parcels = tiled.ids().len() - change.out.len();
-    !add_within(&change.rows, left, parcels)
+    add_within(&change.rows, left, parcels)
+}
+
+/// How many corners rows have together.
+fn count<A: Allocator>(rows: &[Row<A>]) -> usize
+    requires { corner_count (rows_of_entry rows.now) ≤ LAYER_CORNERS }
+    ensures { result ≡ corner_count (rows_of_entry rows.now) }
+{
+    let mut sum = 0;
+    for row in rows {
+        sum += row.corners.len();
+    }
+    sum
+}
+
+/// How many corners the parcels have after a change that keeps to the limits, where they have so many now.
+pub(crate) fn corners_after<'a, H: Allocator>(
+    tiled: &Tiled<'a, H>,
+    change: &Change<&'a H>,
+    corners: usize,
+) -> usize
+    requires corners { corners ≡ corner_count tiled.now.rows }
+    requires here { (id : ℕ) → Contains change.now.out.items id → Contains (numbers tiled.now.rows) id }
+    requires apart { AllPairs (λ a b. a ≢ b) change.now.out.items }
+    requires within { AreWithinAll (with_rows (rows_of_entry change.now.rows.items) (without_ids change.now.out.items tiled.now.rows)) }
+    ensures { result ≡ corner_count (with_rows (rows_of_entry change.now.rows.items) (without_ids change.now.out.items tiled.now.rows)) }
+{
+    corners_left(tiled, &change.out, corners) + count(&change.rows)
 }

@@ -98,6 +98,7 @@ impl<'a, H: Allocator> Tiled<'a, H> {
         ensures ground { CoversAlike self.now.city self.now.refined }
         ensures in_area { AllByRecursion (λ row. All (HoldsCorner self.now.index.area) row.corners) self.now.rows }
         ensures balanced { IsBalanced (state_of self.now) }
+        ensures here { (id : ℕ) → Contains (numbers self.now.rows) id → gone_by self.now id ≡ None }
     {
         self.parcels.stand_apart();
     }

@@ -1,5 +1,5 @@
 -- What the single steps of an edit answer. Public contracts do not speak of it.
-use Rattle.std.specs.Prelude.{◌≡◌, ◌⊎◌, ℕ, ◌+◌, ◌≤◌, List, map, length, MatchOption, Some, ◌↔◌}
+use Rattle.std.specs.Prelude.{◌≡◌, ◌⊎◌, ◌↔◌, ℕ, ◌+◌, ◌≤◌, List, map, length, Some, MatchOption}
 use Rattle.std.specs.List.{AllByRecursion, Contains}
 use Rattle.geo_exact.specs.declared.corner.Corner.{Corner}
 use Rattle.geo_exact.specs.declared.limits.TheConstants.{LAYER_CORNERS, LAYER_RECORDS, RING_CORNERS}
@@ -13,6 +13,7 @@ use Rattle.fabric_core.specs.declared.refusal.Refusal.{Refusal}
 use Rattle.fabric_core.specs.declared.refusal.Refusal.TheVariants.{Unknown, Retired, BadPath, NotNeighbours, SharedTwice, NoSuchEdge, NotOnEdge, Ring, NoMemory}
 use Rattle.fabric_core.specs.Rows.{numbers}
 use Rattle.ring_edits.specs.declared.edit.Edit.{Edit}
+use Rattle.ring_edits.specs.declared.edit.Edit.TheVariants.{Split, Move}
 use Rattle.fabric_core.specs.EditResults.{IsChange}
 use Rattle.fabric_core.specs.Journal.{State, JournalEntry, after_entry}
 use Rattle.fabric_core.specs.Refusals.{AreHere, IsFirstGone, IsFirstBadRing, IsOwnRefusal, IsChangeRefusal, Retires, named_ids, HaveNoBorder, HasNoEdge, IsBadMove}
@@ -82,6 +83,16 @@ IsDraftRefusal kept edit refusal =
     IsFirstTold kept (named_ids edit) refusal
     ⊎ (AreHere kept.rows (named_ids edit) × (IsOwnRefusal (state_of kept) edit refusal
     ⊎ ((out : List ℕ) × (rows : List NumberedRing) × IsChange (state_of kept) edit out rows × IsChangeRefusal (state_of kept) out rows refusal)))
+
+-- the edit cuts this parcel
+pub record IsSplitEdit {A : Type 0} (edit : Edit A) (id : ℕ) : Type 0 where
+  pub path : List Corner
+  pub is : edit ≡ Split id path
+
+-- the edit moves the border of these two
+pub record IsMoveEdit {A : Type 0} (edit : Edit A) (a b : ℕ) : Type 0 where
+  pub path : List Corner
+  pub is : edit ≡ Move a b path
 
 -- the entry was made of the old parcels: the new ones are those after it, and it is known which ids went by it
 pub record IsMade {A : Type 0} (old new : Kept) (entry : JournalEntry A) : Type 0 where

@@ -1,4 +1,4 @@
-use Rattle.std.proofs.Common.{arith, Some, None, slice_index_or, ◌≡◌, sym, ◌∙◌, ap, subst, refl, ℕ, List, ◌+◌, [], ◌∷◌, ◌++◌}
+use Rattle.std.proofs.Common.{arith, Some, None, slice_index_or, sym, ◌∙◌, ap, subst, refl, ℕ, ◌+◌, [], ◌∷◌, ◌++◌}
 use Rattle.std.specs.List.{Contains, slice_set}
 use Rattle.geo_exact.specs.Layers.{numbered}
 use Rattle.cell_index.specs.declared.entry.Entry.{Entry}

@@ -1,4 +1,4 @@
-use Rattle.std.proofs.Common.{arith, Some, None, slice_index_or, ◌≡◌, ◌≢◌, sym, ◌∙◌, ap, subst, refl, ℕ, List, length, ◌+◌, ◌<◌, [], ◌∷◌, ◌++◌}
+use Rattle.std.proofs.Common.{arith, Some, None, slice_index_or, ◌≢◌, sym, ◌∙◌, ap, subst, refl, ℕ, length, ◌+◌, ◌<◌, [], ◌∷◌, ◌++◌}
 use Rattle.std.specs.List.{Contains, slice_set}
 use Rattle.std.proofs.lemmas.List.{length-append, length-set}
 use Rattle.geo_exact.specs.Layers.{numbered}

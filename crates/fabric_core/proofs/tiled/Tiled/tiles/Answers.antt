@@ -1,17 +1,18 @@
-use Rattle.std.proofs.Common.{subst}
+use Rattle.std.proofs.Common.{◌≡◌, subst, ℕ, None}
 use Rattle.fabric_core.specs.Tiling.{IsTiling}
 use Rattle.ring_edits.specs.Edits.{CoversAlike}
 use Rattle.fabric_core.specs.Limits.{AreWithinLimits}
 use Rattle.fabric_core.specs.GridIndex.{IsIndexed}
-use Rattle.fabric_core.specs.own.Kept.{Kept}
-use Rattle.std.specs.List.{All, AllByRecursion}
+use Rattle.fabric_core.specs.own.Kept.{Kept, gone_by}
+use Rattle.std.specs.List.{All, AllByRecursion, Contains}
+use Rattle.fabric_core.specs.Rows.{numbers}
 use Rattle.geo_exact.specs.Bounds.{HoldsCorner}
 use Rattle.parcel_table.specs.Table.{rows_of_keyed}
 use Rattle.fabric_core.specs.own.Balanced.{IsBalanced}
 use Rattle.fabric_core.specs.own.Changes.{state_of}
 use Rattle.fabric_core.proofs.RowLists.{ascending}
 use Rattle.fabric_core.proofs.Exchanged.{simple_keyed}
-use Rattle.fabric_core.proofs.Exchanges.{rows_below}
+use Rattle.fabric_core.proofs.Exchanges.{has_id, rows_below}
 use Rattle.fabric_core.proofs.Loaded.{is_indexed, kept_tiles}
 use Rattle.fabric_core.proofs.tiled.Tiled.tiles.Goals as goal
 
@@ -47,3 +48,8 @@ returns-clause-balanced g c =
       simple = simple_keyed parcels;
       nets = c.self.invariant.nets;
     })
+
+pub returns-clause-here : goal.returns-clause-here
+returns-clause-here g c =
+    subst (λ (t : Kept). (id : ℕ) → Contains (numbers t.rows) id → gone_by t id ≡ None) c.self.view_is
+    (λ id there. c.stand_apart.ensures.here id (has_id c.self.inside.parcels.parcels id there))

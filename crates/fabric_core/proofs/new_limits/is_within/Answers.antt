@@ -7,8 +7,8 @@ use Rattle.fabric_core.specs.EditResults.{AreWithinAll}
 use Rattle.fabric_core.specs.Journal.{with_rows, without_ids}
 use Rattle.fabric_core.specs.JournalRows.{rows_of_entry}
 use Rattle.fabric_core.specs.own.Changes.{AddWithin}
-use Rattle.fabric_core.proofs.NewLimits.{fewer_corners, changed_within, not_either}
-use Rattle.fabric_core.proofs.new_limits.too_many.Goals as goal
+use Rattle.fabric_core.proofs.NewLimits.{fewer_corners, changed_within}
+use Rattle.fabric_core.proofs.new_limits.is_within.Goals as goal
 
 pub add_within-requires : goal.add_within-requires
 add_within-requires g c =
@@ -35,7 +35,6 @@ returns g c =
       c.deref.ensures.len,
       c.corners_left-left.ensures.number,
     ) in
-    not_either c.add_within.result (AddWithin left (c.len.result - c.len-2.result) entries) (AreWithinAll (with_rows news (without_ids out rows)))
-    c.add_within.ensures
-    (changed_within rows news entries out ids left (c.len.result - c.len-2.result) c.deref.ensures.value (ap rows_of_entry c.deref-2.ensures.value)
-    c.corners_left-left.ensures.corners number c.tiles.ensures.within.each)
+    let same = changed_within rows news entries out ids left (c.len.result - c.len-2.result) c.deref.ensures.value
+    (ap rows_of_entry c.deref-2.ensures.value) c.corners_left-left.ensures.corners number c.tiles.ensures.within.each in
+    (λ h. same.0 (c.add_within.ensures.0 h), λ h. c.add_within.ensures.1 (same.1 h))
