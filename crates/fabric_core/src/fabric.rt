@@ -122,7 +122,7 @@ impl<'a, H: Allocator> Fabric<'a, H> {
     pub fn entries(&self) -> u64
         ensures { result ≡ length self.now.journal }
     {
-        self.journal.len() as u64
+        self.journal().len() as u64
     }
 
     /// The parcels' ids, ascending.
