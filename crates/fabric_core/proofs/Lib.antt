@@ -38,3 +38,4 @@ pub mod NewLimits
 pub mod Made
 pub mod Booked
 pub mod Drafts
+pub mod Copied

@@ -25,6 +25,7 @@ use crate::locate::At;
 use crate::make::make;
 use crate::opening::{Opening, count_corners, opening_of};
 use crate::refusal::Refusal;
+use crate::sheet::Sheet;
 use crate::tiled::Tiled;
 use geo_exact::Corner;
 use parcel_table::{Ids, Shapes};
@@ -96,6 +97,36 @@ impl<'a, H: Allocator> Fabric<'a, H> {
             }
             Err(_) => Err(layer),
         }
+    }
+
+    /// A copy: the same opening, state and journal.
+    ///
+    /// # Errors
+    ///
+    /// [`AllocError`] where an allocation is refused.
+    pub fn copy(&self) -> Result<Fabric<'a, H>, AllocError>
+        ensures { IfOk result (λ copy. copy ≡ self.now) }
+    {
+        let tiled = self.tiled.copy()?;
+        let opening = self.opening.clone()?;
+        let journal = self.journal.clone()?;
+        Ok(Fabric {
+            tiled,
+            opening,
+            journal,
+            corners: self.corners,
+        })
+    }
+
+    /// A sheet: a copy that names how many entries its journal has.
+    ///
+    /// # Errors
+    ///
+    /// [`AllocError`] where an allocation is refused.
+    pub fn sheet(&self) -> Result<Sheet<'a, H>, AllocError>
+        ensures { IfOk result (λ sheet. sheet ≡ self.now) }
+    {
+        Ok(Sheet::of(self.copy()?))
     }
 
     /// The parcels tile the city and are within the limits of a layer; in the cells of the grid index stand exactly the parcels; the

@@ -23,6 +23,7 @@ mod opening;
 mod refine;
 mod refusal;
 mod rings;
+mod sheet;
 mod side;
 mod tiled;
 
@@ -39,3 +40,4 @@ pub use layer::{Layer, LoadFault};
 pub use locate::At;
 pub use parcel_table::{Ids, Shapes};
 pub use refusal::Refusal;
+pub use sheet::Sheet;

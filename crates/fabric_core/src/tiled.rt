@@ -90,6 +90,22 @@ impl<'a, H: Allocator> Tiled<'a, H> {
         })
     }
 
+    /// A copy: the same parcels under the same keys.
+    pub(crate) fn copy(&self) -> Result<Tiled<'a, H>, AllocError>
+        ensures { IfOk result (λ copy. copy ≡ self.now) }
+    {
+        let city = self.city.clone()?;
+        let refined = self.refined.clone()?;
+        let parcels = self.parcels.clone()?;
+        let index = self.index.clone()?;
+        Ok(Tiled {
+            city,
+            refined,
+            parcels,
+            index,
+        })
+    }
+
     /// The rows tile the city, and are within the limits of a layer; and in the cells of the grid index stand exactly the rows.
     pub(crate) fn tiles(&self)
         ensures tiling { IsTiling self.now.rows self.now.city }
