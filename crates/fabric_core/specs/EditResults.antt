@@ -8,6 +8,7 @@ use Rattle.geo_exact.specs.Segments.{IsStrictlyInside}
 use Rattle.ring_edits.specs.declared.edit.Edit.{Edit}
 use Rattle.ring_edits.specs.declared.edit.Edit.TheVariants.{Split, Merge, Move, Insert}
 use Rattle.ring_edits.specs.Edits.{IsSplit, IsMerge, IsMove, has_edge_between, with_corner}
+use Rattle.fabric_core.specs.declared.journal.TheConstants.{JOURNAL_ENTRIES}
 use Rattle.fabric_core.specs.Rows.{numbers}
 use Rattle.fabric_core.specs.Limits.{AreWithinLimits}
 use Rattle.fabric_core.specs.Faults.{AreSimple}
@@ -70,8 +71,9 @@ pub record AreWithinAll (rows : List NumberedRing) : Type 0 where
   pub corners : AreWithinLimits rows
   pub number : length rows ≤ LAYER_RECORDS
 
--- the entry is that of its edit on the state: it takes out and brings what the edit does, simple rings, and the limits are kept
+-- the entry is that of its edit on the state: it has a place in a journal, takes out and brings what the edit does, simple rings, and the limits are kept
 pub record IsEntryOf {A : Type 0} (state : State) (entry : JournalEntry A) : Type 0 where
+  pub has_place : entry.number ≤ JOURNAL_ENTRIES
   pub is_change : IsChange state entry.edit entry.out entry.rows
   pub are_simple : AreSimple entry.rows
   pub within : AreWithinAll (after_entry state entry).rows

@@ -1,5 +1,6 @@
-ghost use Rattle.std.specs.Prelude.{◌≡◌, ◌⊎◌, ◌+◌, ◌<◌, ◌^◌, IfOk, IfErr};
+ghost use Rattle.std.specs.Prelude.{◌≡◌, ◌⊎◌, ◌+◌, ◌<◌, ◌≤◌, ◌^◌, IfOk, IfErr};
 ghost use Rattle.geo_exact.specs.Layers.{corner_count};
+ghost use Rattle.fabric_core.specs.declared.journal.TheConstants.{JOURNAL_ENTRIES};
 ghost use Rattle.fabric_core.specs.declared.refusal.Refusal.TheVariants.{NoMemory};
 ghost use Rattle.fabric_core.specs.EditResults.{IsEntryOf};
 ghost use Rattle.fabric_core.specs.Journal.{after_entry};
@@ -38,6 +39,7 @@ pub(crate) fn draft_of<'a, H: Allocator>(
 ) -> Result<Draft<&'a H>, Refusal>
     requires counted { corners ≡ corner_count tiled.now.rows }
     requires small { tiled.now.next + 1 < 2 ^ 64 }
+    requires place { number ≤ JOURNAL_ENTRIES }
     ensures is_entry { IfOk result (λ draft. IsEntryOf (state_of tiled.now) draft.entry) }
     ensures number { IfOk result (λ draft. draft.entry.number ≡ number) }
     ensures clerk { IfOk result (λ draft. draft.entry.clerk ≡ clerk) }

@@ -5,6 +5,7 @@ use Rattle.fabric_core.specs.Tiling.{corner_lists}
 use Rattle.std.proofs.Common.{arith, ◌≡◌, sym, ◌∙◌, ap, subst, inl, inr, ⊎_elim, ◌⊎◌, length, ◌≤◌, IsTrue}
 use Rattle.std.specs.List.{AllByRecursion}
 use Rattle.geo_exact.specs.declared.limits.TheConstants.{LAYER_RECORDS, RING_CORNERS}
+use Rattle.fabric_core.specs.declared.journal.TheConstants.{JOURNAL_ENTRIES}
 use Rattle.fabric_core.specs.declared.refusal.Refusal.TheVariants.{NoMemory}
 use Rattle.fabric_core.specs.EditResults.{AreWithinAll, IsChange}
 use Rattle.fabric_core.specs.Journal.{with_rows, without_ids}
@@ -88,6 +89,7 @@ returns-clause-is_entry g c =
     subst (λ xs. IsChange state c.args.edit.now xs c.of.result.rows) (sym c.of.ensures.out)
     (subst (λ xs. IsChange state c.args.edit.now out xs) (sym c.of.ensures.rows) c.in_ok-change.ensures.change) in
     record {
+      has_place = subst (λ n. n ≤ JOURNAL_ENTRIES) (sym c.of.ensures.number) c.requires.place;
       is_change = subst (λ e. IsChange state e c.of.result.out c.of.result.rows) (sym edit) change;
       are_simple = subst AreSimple (sym c.of.ensures.rows) (simple_news c.in_ok-shapes.shapes.items rows
           (c.in_ok-shapes.ensures.ok ∙ ap (λ entries. corner_lists (rows_of_entry entries)) c.deref.ensures.value));
