@@ -90,7 +90,7 @@ impl<'a, H: Allocator> Sheet<'a, H> {
         self.fabric.shapes()
     }
 
-    /// Where a corner lies among the parcels, as [`Layer::locate`].
+    /// Where a corner lies among the parcels, as [`Fabric::locate`].
     ///
     /// # Errors
     ///
@@ -102,7 +102,7 @@ impl<'a, H: Allocator> Sheet<'a, H> {
     }
 
     /// The ids, ascending, of the parcels that stand in some cell of the grid index between the cells of two corners, as
-    /// [`Layer::candidates`].
+    /// [`Fabric::candidates`].
     ///
     /// # Errors
     ///
