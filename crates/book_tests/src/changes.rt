@@ -1,0 +1,122 @@
+//! Edits as tables have them, and what stands after them.
+
+use fabric_core::{At, Fabric, Refusal};
+use geo_exact::{Corner, LIST_CORNERS, area2};
+use ring_edits::Edit;
+use std::alloc::Allocator;
+use std::test::Fail;
+use test_builders::{Place, corner, corners};
+
+/// The clerk of all edits here.
+pub const CLERK: u32 = 7;
+
+/// An edit, its corners given as places.
+#[derive(Clone, Copy)]
+pub enum Change {
+    /// A parcel is cut along a path.
+    Split(u64, &'static [Place]),
+    /// Two parcels become one.
+    Merge(u64, u64),
+    /// The border between two parcels is moved to a path.
+    Move(u64, u64, &'static [Place]),
+    /// The last corner is put into the edge between the first two.
+    Insert(Place, Place, Place),
+}
+
+/// A parcel's id, twice its area, and its ring.
+pub type Parcel = (u64, i128, &'static [Place]);
+
+/// An edit with its answer, the number of its entry or why it is refused, and the parcels after it.
+pub type Step = (Change, Result<u64, Refusal>, &'static [Parcel]);
+
+/// The edit of a table's row.
+pub fn edit_of<A: Allocator>(alloc: A, change: Change) -> Result<Edit<A>, Fail> {
+    match change {
+        Change::Split(id, path) => Ok(Edit::Split {
+            id,
+            path: corners(alloc, path)?,
+        }),
+        Change::Merge(a, b) => Ok(Edit::Merge { a, b }),
+        Change::Move(a, b, path) => Ok(Edit::Move {
+            a,
+            b,
+            path: corners(alloc, path)?,
+        }),
+        Change::Insert(from, to, at) => Ok(Edit::Insert {
+            from: corner(from)?,
+            to: corner(to)?,
+            at: corner(at)?,
+        }),
+    }
+}
+
+/// Whether the corners are at these places, in order.
+pub fn are_at(corners: &[Corner], places: &[Place]) -> bool {
+    corners.len() == places.len()
+        && corners.iter().zip(places).all(|(corner, place)| corner.x == place.0
+            && corner.y == place.1)
+}
+
+/// Whether a ring is at these places, and twice its area is this.
+fn is_ring(ring: &[Corner], places: &[Place], twice_area: i128) -> bool {
+    ring.len() <= LIST_CORNERS && area2(ring) == twice_area && are_at(ring, places)
+}
+
+/// Whether these are the parcels, by ascending id, each found by its id too.
+pub fn are<H: Allocator>(fabric: &Fabric<'_, H>, want: &[Parcel]) -> bool {
+    if fabric.ids().count() != want.len() {
+        return false;
+    }
+    for ((id, shape), parcel) in fabric.shapes().zip(want) {
+        let Some(ring) = fabric.ring(parcel.0) else {
+            return false;
+        };
+        if id != parcel.0
+            || !is_ring(shape.ring.corners.as_slice(), parcel.2, parcel.1)
+            || !is_ring(ring.corners.as_slice(), parcel.2, parcel.1)
+        {
+            return false;
+        }
+    }
+    true
+}
+
+/// Whether a place is inside this parcel.
+pub fn is_inside<H: Allocator>(
+    fabric: &Fabric<'_, H>,
+    place: Place,
+    parcel: u64,
+) -> Result<bool, Fail> {
+    match fabric.locate(corner(place)?)? {
+        At::Inside(id) => Ok(id == parcel),
+        At::OnEdge(_) | At::Outside => Ok(false),
+    }
+}
+
+/// Makes the edits of a table in turn. It is a failure where the answer to one, or the parcels or the number of entries after it,
+/// are others.
+pub fn take<'a, H: Allocator>(
+    heap: &'a H,
+    fabric: &mut Fabric<'a, H>,
+    steps: &[Step],
+) -> Result<(), Fail> {
+    for (change, want, parcels) in steps {
+        let before = fabric.entries();
+        let edit = edit_of(heap, *change)?;
+        let answer = match fabric.edit(CLERK, &edit) {
+            Ok(entry) => Ok(entry.number()),
+            Err(refusal) => Err(refusal),
+        };
+        if answer != *want {
+            return Err(Fail::new("another answer"));
+        }
+        let entries = match answer {
+            Ok(number) => number,
+            Err(_) => before,
+        };
+        if fabric.entries() != entries || !are(fabric, parcels) {
+            return Err(Fail::new("other parcels or entries"));
+        }
+    }
+    Ok(())
+}
