@@ -1,4 +1,4 @@
-ghost use Rattle.std.specs.Prelude.{◌≡◌, ◌↔◌, ℕ, ◌<◌, ◌≤◌, List, length, slice_index, slice_index_or, IfOk, IfSome};
+ghost use Rattle.std.specs.Prelude.{◌≡◌, ◌↔◌, ℕ, ◌<◌, ◌≤◌, List, length, map, slice_index, slice_index_or, IfOk, IfSome};
 ghost use Rattle.std.specs.List.{filter, Contains};
 ghost use Rattle.edge_chains.specs.own.Inside.{is_strictly_inside};
 ghost use Rattle.geo_exact.specs.Bounds.{holds_corner, HoldsCorner};
@@ -7,7 +7,6 @@ ghost use Rattle.edge_chains.specs.own.Blocks.{AreEnds, HasOwn, HasBlock, AreBlo
 use crate::edge_tests::{are_disjoint, is_strictly_inside, misses};
 use geo_exact::{Bounds, Corner, LIMIT};
 use std::alloc::{AllocError, Allocator};
-use std::cmp::Ordering;
 use std::marker::Model;
 
 /// Corners for many searches, as a list in some order: at each place a block of corners begins, with its box.
@@ -75,25 +74,65 @@ impl<A: Allocator + Copy> Blocks<A> {
     }
 }
 
-/// The corners, each once, so ordered that neighbours in the list are close to each other in the plane.
+/// A corner beside its place in Morton's order (Z-order), which neighbours in the plane mostly have near each other. Only the speed
+/// rests on it.
+#[derive(Clone, Copy)]
+struct Placed {
+    place: u64,
+    corner: Corner,
+}
+
+/// The corners, so ordered that neighbours in the list are close to each other in the plane.
 fn spread<A: Allocator + Copy>(alloc: A, corners: &[Corner]) -> Result<Vec<Corner, A>, AllocError>
     ensures { IfOk result (λ spread. (c : Corner) → Contains spread.items c ↔ Contains corners.now c) }
 {
-    let mut spread = Vec::from_slice(alloc, corners)?;
-    spread.sort_unstable_by(by_place);
+    let mut placed = with_places(alloc, corners)?;
+    placed.sort_unstable_by_key(|it| it.place);
+    let mut spread = corners_of(alloc, &placed)?;
     spread.dedup();
     Ok(spread)
 }
 
-/// Morton's order (Z-order): by that coordinate in which the corners differ in the higher bit. Only the speed rests on it.
-fn by_place(a: &Corner, b: &Corner) -> Ordering {
-    let across = (a.x + LIMIT) as u64 ^ (b.x + LIMIT) as u64;
-    let up = (a.y + LIMIT) as u64 ^ (b.y + LIMIT) as u64;
-    if across < up && across < (across ^ up) {
-        a.y.cmp(&b.y)
-    } else {
-        a.x.cmp(&b.x)
+/// Corners beside their places.
+fn with_places<A: Allocator>(alloc: A, corners: &[Corner]) -> Result<Vec<Placed, A>, AllocError>
+    ensures { IfOk result (λ placed. map (λ it. it.corner) placed.items ≡ corners.now) }
+{
+    let mut placed = Vec::with_capacity(alloc, corners.len())?;
+    for corner in corners {
+        placed.push(Placed {
+            place: place_of(*corner),
+            corner: *corner,
+        })?;
     }
+    Ok(placed)
+}
+
+/// Corners without their places.
+fn corners_of<A: Allocator>(alloc: A, placed: &[Placed]) -> Result<Vec<Corner, A>, AllocError>
+    ensures { IfOk result (λ corners. corners.items ≡ map (λ it. it.corner) placed.now) }
+{
+    let mut corners = Vec::with_capacity(alloc, placed.len())?;
+    for it in placed {
+        corners.push(it.corner)?;
+    }
+    Ok(corners)
+}
+
+/// The place of a corner's square of 8 by 8 centimetres: the bits of its two coordinates in turn.
+fn place_of(corner: Corner) -> u64 {
+    let across = (corner.x + LIMIT) as u64 >> 3;
+    let up = (corner.y + LIMIT) as u64 >> 3;
+    apart(across) | apart(up) << 1
+}
+
+/// The low 32 bits of a number, each with an empty one before it.
+fn apart(number: u64) -> u64 {
+    let mut bits = number & 0xffff_ffff;
+    bits = (bits | bits << 16) & 0x0000_ffff_0000_ffff;
+    bits = (bits | bits << 8) & 0x00ff_00ff_00ff_00ff;
+    bits = (bits | bits << 4) & 0x0f0f_0f0f_0f0f_0f0f;
+    bits = (bits | bits << 2) & 0x3333_3333_3333_3333;
+    (bits | bits << 1) & 0x5555_5555_5555_5555
 }
 
 /// Those of the corners that lie strictly inside the edge from a to b, in the order of the list.

@@ -60,6 +60,12 @@ has_end from to (first ∷ rest) h = ⊎_elim
     (λ later. ⊎_elim (λ k. Contains-there first rest from k) (λ e. subst (Contains (first ∷ rest)) e (Contains-here first rest)) later)
     (path_end from to first rest first h)
 
+-- a ring whose box does not hold an end has no such edge
+pub off_the_box : (bounds : Bounds) (from to : Corner) (ring : List Corner) → IsLeastBox bounds ring → ¬ HoldsCorner bounds from
+    → has_edge_between from to ring ≡ false
+off_the_box bounds from to ring box off =
+    false_from_ne_true (has_edge_between from to ring) (λ h. off (All-contains (HoldsCorner bounds) ring from box.holds (has_end from to ring h)))
+
 -- ---- what has a corner stands in the corner's cell
 brought_inside : (low high z : ℤ) → low ≤ℤ z → z ≤ℤ high → brought_into low high z ≡ z
 brought_inside low high z h k = omega (arith, ints, clamps, h, k)

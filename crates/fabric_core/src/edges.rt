@@ -33,6 +33,9 @@ pub(crate) fn rows_with_corner<'a, H: Allocator>(
         let Some(shape) = tiled.shape(*id) else {
             unreachable!()
         };
+        if !shape.bounds.holds(from) {
+            continue;
+        }
         if let Some(corners) = insert(alloc, shape.ring.corners.as_slice(), from, to, at)? {
             rows.push(Row { id: *id, corners })?;
         }

@@ -66,7 +66,7 @@ impl<A: Allocator + Copy> Shape<A> {
         ensures bounds { IfOk result (λ shape. IsLeastBox shape.bounds ring.corners) }
     {
         let mut rest = Rest::of(alloc, ring.corners.as_slice())?;
-        let mut triangles = Triangles::new(alloc);
+        let mut triangles = Triangles::with_capacity(alloc, ring.corners.len().saturating_sub(2))?;
         while rest.as_slice().len() > 2 {
             if let Some(k) = rest.first_flat() {
                 rest.remove(k);

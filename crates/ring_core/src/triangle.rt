@@ -1,4 +1,4 @@
-ghost use Rattle.std.specs.Prelude.{◌≡◌, ◌↔◌, pos, ◌<ℤ◌, IsSome, IfSome, OnOk, OnErr, ◌++◌, ◌∷◌, [], length, IsTrue};
+ghost use Rattle.std.specs.Prelude.{◌≡◌, ◌↔◌, pos, ◌<ℤ◌, IsSome, IfSome, IfOk, OnOk, OnErr, ◌++◌, ◌∷◌, [], length, IsTrue};
 ghost use Rattle.geo_exact.specs.Turn.{turn as turn_of};
 
 use geo_exact::{Corner, turn};
@@ -55,6 +55,18 @@ impl<A: Allocator> Triangles<A> {
         Triangles {
             list: Vec::new(alloc),
         }
+    }
+
+    /// No triangle yet, with room for so many.
+    ///
+    /// # Errors
+    ///
+    /// [`AllocError`] where an allocation is refused.
+    pub fn with_capacity(alloc: A, capacity: usize) -> Result<Triangles<A>, AllocError>
+        ensures { IfOk result (λ triangles. triangles ≡ []) }
+    {
+        let list = Vec::with_capacity(alloc, capacity)?;
+        Ok(Triangles { list })
     }
 
     /// Adds a triangle at the end; after a refusal the list is unchanged.

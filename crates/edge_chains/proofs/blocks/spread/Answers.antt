@@ -1,8 +1,9 @@
 use Rattle.std.proofs.lemmas.List.Filters.{dedup_is}
 use Rattle.std.proofs.lemmas.List.Kept.{Contains-dedup, Contains-from_dedup}
-use Rattle.std.proofs.lemmas.List.Sorted.{Contains-permutation, IsPermutation-sym}
-use Rattle.std.proofs.Common.{subst, sym}
+use Rattle.std.proofs.lemmas.List.Sorted.{Contains-permutation, IsPermutation-sym, IsPermutation-map}
+use Rattle.std.proofs.Common.{◌≡◌, map, subst, sym}
 use Rattle.std.specs.List.{Contains}
+use Rattle.std.specs.List.Sorted.{IsPermutation}
 use Rattle.geo_exact.proofs.CornerOrder.{same_from_test}
 use Rattle.geo_exact.specs.Order.{is_same_equivalence}
 use Rattle.edge_chains.proofs.blocks.spread.Goals as goal
@@ -10,9 +11,14 @@ use Rattle.edge_chains.proofs.blocks.spread.Goals as goal
 pub returns : goal.returns
 returns g c =
     let is = dedup_is _ _ _ c.dedup.ensures.filtered in
-    let moved = c.sort_unstable_by.ensures.permutation in
-    let whole = c.in_ok-spread.ensures.items in
+    let listed = c.in_ok-spread.ensures in
+    let began : map (λ it. it.corner) c.in_ok-placed.placed.items ≡ c.args.corners.now = c.in_ok-placed.ensures in
+    let moved : IsPermutation c.args.corners.now c.in_ok-spread.spread.items =
+        subst (λ xs. IsPermutation xs c.in_ok-spread.spread.items) began
+            (subst (IsPermutation (map (λ it. it.corner) c.in_ok-placed.placed.items)) (sym listed)
+                (IsPermutation-map (λ it. it.corner) c.in_ok-placed.placed.items c.deref.result.now
+                    (subst (IsPermutation c.in_ok-placed.placed.items) (sym c.deref.ensures.value) c.sort_unstable_by_key.ensures.permutation))) in
     λ x. (
-      λ h. subst (λ xs. Contains xs x) whole (Contains-permutation _ _ x (IsPermutation-sym c.in_ok-spread.spread.items c.sort_unstable_by.new.self.items moved) (Contains-from_dedup _ c.sort_unstable_by.new.self.items x (rw is at h))),
-      λ h. rw is (Contains-dedup is_same_equivalence same_from_test c.sort_unstable_by.new.self.items x (Contains-permutation _ _ x moved (subst (λ xs. Contains xs x) (sym whole) h))),
+      λ h. Contains-permutation _ _ x (IsPermutation-sym c.args.corners.now c.in_ok-spread.spread.items moved) (Contains-from_dedup _ c.in_ok-spread.spread.items x (rw is at h)),
+      λ h. rw is (Contains-dedup is_same_equivalence same_from_test c.in_ok-spread.spread.items x (Contains-permutation _ _ x moved h)),
     )

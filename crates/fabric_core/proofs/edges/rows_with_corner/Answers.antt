@@ -6,10 +6,11 @@ use Rattle.std.proofs.lemmas.Bool.{false≢true}
 use Rattle.std.proofs.lemmas.List.{take_more, take_all, map-append}
 use Rattle.std.proofs.lemmas.List.Elements.{Contains-get_or}
 use Rattle.geo_exact.specs.Layers.{numbered}
+use Rattle.geo_exact.proofs.InBoxes.{Decides-holds_corner}
 use Rattle.ring_edits.specs.Edits.{has_edge_between, with_corner}
 use Rattle.fabric_core.specs.JournalRows.{row_of, rows_of_entry}
 use Rattle.fabric_core.proofs.RowLists.{ascending}
-use Rattle.fabric_core.proofs.WithEdge.{ArePut, none_put, put_one, put_none, all_put, above_before, edge_is_candidate, edge_off, edge_on}
+use Rattle.fabric_core.proofs.WithEdge.{ArePut, none_put, put_one, put_none, all_put, above_before, edge_is_candidate, edge_off, edge_on, off_the_box}
 use Rattle.fabric_core.proofs.edges.rows_with_corner.Goals.{in-Some-2+in_ok-push, in_default-2}
 use Rattle.fabric_core.proofs.edges.rows_with_corner.Goals as goal
 
@@ -23,6 +24,17 @@ unreachable-requires g c =
     (Contains-get_or items c.loop-id.id-index 0 c.loop-id-test.true) in
     let w = (c.in_ok-ids.ensures.exactly id).0 named in
     c.in_default.ensures w.row w.is_row w.has_id
+
+pub loop-id-preserved-then-not-holds : goal.loop-id-preserved-then-not-holds
+loop-id-preserved-then-not-holds g c =
+    let rows = c.args.tiled.now.rows in let from = c.args.from in let to = c.args.to in let at = c.args.at in
+    let items = c.deref-id-items.result.now in let k = c.loop-id.id-index in let id = get_or items k 0 in
+    let shape = c.in-Some.shape.now in
+    let up = ascending rows (subst IsStrictlyIncreasing c.ids-ids.ensures.ids c.ids-ids.ensures.ascending) in
+    let off = off_the_box shape.bounds from to shape.ring.corners shape.least_box
+    (λ h. false≢true (c.if-not-holds.ensures ∙ (Decides-holds_corner shape.bounds from).1 h)) in
+    rw (take_more items k 0 c.loop-id-test.true)
+    (put_none rows from to at (take k items) (rows_of_entry c.loop-id.rows.items) id shape.ring.corners up c.in-Some.ensures c.loop-id.invariant off)
 
 pub loop-id-preserved : goal.loop-id-preserved
 loop-id-preserved g c =

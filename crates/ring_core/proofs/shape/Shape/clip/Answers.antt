@@ -11,7 +11,7 @@ loop-rest-init g c =
     let ring = c.args.ring.corners in
     let rest_is : c.in_ok-rest.rest ≡ ring = c.in_ok-rest.ensures ∙ c.as_slice.ensures in
     record {
-      clipped = clip_start ring _ _ c.new-triangles.ensures rest_is;
+      clipped = clip_start ring _ _ c.in_ok-triangles.ensures rest_is;
       two_left = omega (arith, three_corners ring c.args.ring.is_simple.counterclockwise, ap length rest_is);
     }
 
