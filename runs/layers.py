@@ -4,9 +4,12 @@ The first word is a file of examples/ or says what is made:
     polygon X,Y X,Y .. / ..  a main file of polygons with these points, the first not repeated; `null` is a null shape, and A..B,Y the points
                              with this y and each x from A to B
     squares N                a main file of N squares with sides of 100
+    grid COLUMNS ROWS STEP   a main file of squares with sides of 100 side by side, row by row from the south, with a corner each STEP
     nulls N                  a main file of N null shapes
     index PLACE,LENGTH ..    an index file with these records, in words of 16 bits
     text LINE / LINE ..      these lines, each with a line feed
+    moves N X,Y X,Y LINE     N lines of edits, each of which moves the border of the last two parcels, at first 1 and 2, to where it is, from
+                             the one point straight to the other; and behind them this line
     folder                   no file, but a folder
 Then follow changes, from left to right:
     cut N                    only the first N bytes
@@ -58,6 +61,21 @@ def shape(words):
     return polygon(points + points[:1])
 
 
+def points_round(x, y, step):
+    """The points round a square, clockwise as a file has them, one each step."""
+    along = range(0, 100, step)
+    west, north = [(x, y + z) for z in along], [(x + z, y + 100) for z in along]
+    east, south = [(x + 100, y + 100 - z) for z in along], [(x + 100 - z, y) for z in along]
+    return [(float(a), float(b)) for a, b in west + north + east + south + west[:1]]
+
+
+def moves(count, start, end, last):
+    """Edits that each move a border to where it is; the last line is another."""
+    path = " ".join([start, end]).replace(",", " ")
+    lines = [f"move {2 * at + 1} {2 * at + 2} {path}\n" for at in range(count)]
+    return "".join([*lines, last, "\n"]).encode()
+
+
 def begun(kind, words):
     """The file before its changes."""
     if kind == "polygon":
@@ -65,6 +83,11 @@ def begun(kind, words):
     if kind == "squares":
         square = polygon([(0, 0), (0, 100), (100, 100), (100, 0), (0, 0)])
         return main_file([square] * int(words[0]))
+    if kind == "grid":
+        columns, rows, step = (int(word) for word in words)
+        return main_file([polygon(points_round(100 * i, 100 * j, step)) for j in range(rows) for i in range(columns)])
+    if kind == "moves":
+        return moves(int(words[0]), words[1], words[2], " ".join(words[3:]))
     if kind == "nulls":
         return main_file([struct.pack("<i", 0)] * int(words[0]))
     if kind == "index":
