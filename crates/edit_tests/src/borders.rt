@@ -1,11 +1,9 @@
 //! Neighbours with the border between them: told, dropped or moved.
 
-use geo_exact::Corners;
-use ring_core::Ring;
-use ring_edits::{EditFault, Run, merge, shared_run, shift};
+use ring_edits::{EditFault, merge, shared_run, shift};
 use std::alloc::Global;
 use std::test::Fail;
-use test_builders::{Place, corner, corners, simple_ring};
+use test_builders::{Place, corners, simple_ring};
 
 const WEST: [Place; 4] = [(0, 0), (60, 0), (60, 100), (0, 100)];
 
@@ -39,154 +37,178 @@ const LOWER: [Place; 5] = [(0, 0), (100, -50), (100, 0), (50, 0), (40, -5)];
 
 const UPPER: [Place; 5] = [(0, 0), (40, 5), (50, 0), (100, 0), (100, 50)];
 
-fn border(alloc: Global, a: &[Place], b: &[Place]) -> Result<Result<Run, EditFault>, Fail> {
+/// Where the run that two rings share begins and ends, or why there is none.
+type Border = Result<(Place, Place), EditFault>;
+
+/// Two rings, and their border.
+type BorderRow = (&'static [Place], &'static [Place], Border);
+
+static BORDERS: [BorderRow; 14] = [
+    (&WEST, &EAST, Ok(((60, 0), (60, 100)))),
+    (&EAST, &WEST, Ok(((60, 100), (60, 0)))),
+    (&WEST_WITH_FIVE, &EAST_WITH_FIVE, Ok(((60, 0), (60, 100)))),
+    (&EAST_WITH_FIVE, &WEST_WITH_FIVE, Ok(((60, 100), (60, 0)))),
+    (&LOWER, &UPPER, Ok(((100, 0), (50, 0)))),
+    (&ROUND, &INNER, Ok(((70, 20), (70, 80)))),
+    (&INNER, &ROUND, Ok(((70, 80), (70, 20)))),
+    // a run round the place where the list begins
+    (
+        &[(60, 50), (60, 100), (0, 100), (0, 0), (60, 0)],
+        &EAST_WITH_FIVE,
+        Ok(((60, 0), (60, 100))),
+    ),
+    (&WEST, &WEST, Err(EditFault::NotNeighbours)),
+    (&WEST, &EAST_WITH_FIVE, Err(EditFault::NotNeighbours)),
+    (&[], &EAST, Err(EditFault::NotNeighbours)),
+    (&ROUND, &OUTER, Err(EditFault::SharedTwice)),
+    (&OUTER, &ROUND, Err(EditFault::SharedTwice)),
+    // all edges: a run that begins nowhere
+    (
+        &WEST,
+        &[(0, 0), (0, 100), (60, 100), (60, 0)],
+        Err(EditFault::SharedTwice),
+    ),
+];
+
+fn border(alloc: Global, a: &[Place], b: &[Place]) -> Result<Border, Fail> {
     let a = corners(alloc, a)?;
     let b = corners(alloc, b)?;
-    Ok(shared_run(a.as_slice(), b.as_slice()))
-}
-
-fn merged(
-    alloc: Global,
-    a: &[Place],
-    b: &[Place],
-) -> Result<Result<Corners<Global>, EditFault>, Fail> {
-    let a: Ring<Global> = simple_ring(alloc, a)?;
-    let b: Ring<Global> = simple_ring(alloc, b)?;
-    Ok(merge(alloc, a.corners.as_slice(), b.corners.as_slice()))
-}
-
-type TwoRings = (Corners<Global>, Corners<Global>);
-
-fn moved(
-    alloc: Global,
-    a: &[Place],
-    b: &[Place],
-    path: &[Place],
-) -> Result<Result<TwoRings, EditFault>, Fail> {
-    let a: Ring<Global> = simple_ring(alloc, a)?;
-    let b: Ring<Global> = simple_ring(alloc, b)?;
-    let path = corners(alloc, path)?;
-    Ok(shift(
-        alloc,
-        a.corners.as_slice(),
-        b.corners.as_slice(),
-        path.as_slice(),
-    ))
-}
-
-/// The run from one place to another.
-fn run(from: Place, to: Place) -> Result<Result<Run, EditFault>, Fail> {
-    Ok(Ok(Run {
-        from: corner(from)?,
-        to: corner(to)?,
-    }))
+    match shared_run(a.as_slice(), b.as_slice()) {
+        Ok(run) => Ok(Ok(((run.from.x, run.from.y), (run.to.x, run.to.y)))),
+        Err(fault) => Ok(Err(fault)),
+    }
 }
 
 #[test]
 fn runs(rt: HostRuntime) -> Result<(), Fail> {
-    let alloc = rt.alloc();
-    assert!(rt; border(alloc, &WEST, &EAST)? == run((60, 0), (60, 100))?);
-    assert!(rt; border(alloc, &EAST, &WEST)? == run((60, 100), (60, 0))?);
-    assert!(rt; border(alloc, &WEST_WITH_FIVE, &EAST_WITH_FIVE)? == run((60, 0), (60, 100))?);
-    assert!(rt; border(alloc, &EAST_WITH_FIVE, &WEST_WITH_FIVE)? == run((60, 100), (60, 0))?);
-    assert!(rt; border(alloc, &LOWER, &UPPER)? == run((100, 0), (50, 0))?);
-    assert!(rt; border(alloc, &ROUND, &INNER)? == run((70, 20), (70, 80))?);
-    assert!(rt; border(alloc, &INNER, &ROUND)? == run((70, 80), (70, 20))?);
-    // a run round the place where the list begins
-    let turned = [(60, 50), (60, 100), (0, 100), (0, 0), (60, 0)];
-    assert!(rt; border(alloc, &turned, &EAST_WITH_FIVE)? == run((60, 0), (60, 100))?);
+    for (number, (a, b, want)) in BORDERS.iter().enumerate() {
+        assert_eq!(rt; border(rt.alloc(), a, b)?, *want, "row {number}");
+    }
     Ok(())
 }
 
-#[test]
-fn no_runs(rt: HostRuntime) -> Result<(), Fail> {
-    let alloc = rt.alloc();
-    assert!(rt; border(alloc, &WEST, &WEST)? == Err(EditFault::NotNeighbours));
-    assert!(rt; border(alloc, &WEST, &EAST_WITH_FIVE)? == Err(EditFault::NotNeighbours));
-    assert!(rt; border(alloc, &[], &EAST)? == Err(EditFault::NotNeighbours));
-    assert!(rt; border(alloc, &ROUND, &OUTER)? == Err(EditFault::SharedTwice));
-    assert!(rt; border(alloc, &OUTER, &ROUND)? == Err(EditFault::SharedTwice));
-    // all edges: a run that begins nowhere
-    let back = [(0, 0), (0, 100), (60, 100), (60, 0)];
-    assert!(rt; border(alloc, &WEST, &back)? == Err(EditFault::SharedTwice));
-    Ok(())
+/// Two rings, and the ring that they are merged to.
+type MergeRow = (
+    &'static [Place],
+    &'static [Place],
+    Result<&'static [Place], EditFault>,
+);
+
+const BOTH: [Place; 6] = [(0, 0), (60, 0), (100, 0), (100, 100), (60, 100), (0, 100)];
+
+const LOWER_FIRST: [Place; 8] = [
+    (0, 0),
+    (100, -50),
+    (100, 0),
+    (100, 50),
+    (0, 0),
+    (40, 5),
+    (50, 0),
+    (40, -5),
+];
+
+const UPPER_FIRST: [Place; 8] = [
+    (0, 0),
+    (40, 5),
+    (50, 0),
+    (40, -5),
+    (0, 0),
+    (100, -50),
+    (100, 0),
+    (100, 50),
+];
+
+static MERGES: [MergeRow; 7] = [
+    (&WEST, &EAST, Ok(&BOTH)),
+    (&EAST, &WEST, Ok(&BOTH)),
+    // the corner on the border goes
+    (&WEST_WITH_FIVE, &EAST_WITH_FIVE, Ok(&BOTH)),
+    (&WEST, &WEST, Err(EditFault::NotNeighbours)),
+    (&ROUND, &OUTER, Err(EditFault::SharedTwice)),
+    // the least corner stands twice
+    (&LOWER, &UPPER, Ok(&LOWER_FIRST)),
+    (&UPPER, &LOWER, Ok(&UPPER_FIRST)),
+];
+
+/// Whether the rings of a row are merged as it says.
+fn is_merged(alloc: Global, row: &MergeRow) -> Result<bool, Fail> {
+    let a = simple_ring(alloc, row.0)?;
+    let b = simple_ring(alloc, row.1)?;
+    let merged = merge(alloc, a.corners.as_slice(), b.corners.as_slice());
+    match (merged, row.2) {
+        (Ok(ring), Ok(want)) => Ok(ring == corners(alloc, want)?),
+        (Err(fault), Err(want)) => Ok(fault == want),
+        _ => Ok(false),
+    }
 }
 
 #[test]
 fn merges(rt: HostRuntime) -> Result<(), Fail> {
-    let alloc = rt.alloc();
-    let both = [(0, 0), (60, 0), (100, 0), (100, 100), (60, 100), (0, 100)];
-    assert!(rt; merged(alloc, &WEST, &EAST)? == Ok(corners(alloc, &both)?));
-    assert!(rt; merged(alloc, &EAST, &WEST)? == Ok(corners(alloc, &both)?));
-    // the corner on the border goes
-    assert!(rt; merged(alloc, &WEST_WITH_FIVE, &EAST_WITH_FIVE)? == Ok(corners(alloc, &both)?));
-    assert!(rt; merged(alloc, &WEST, &WEST)? == Err(EditFault::NotNeighbours));
-    assert!(rt; merged(alloc, &ROUND, &OUTER)? == Err(EditFault::SharedTwice));
+    for (number, row) in MERGES.iter().enumerate() {
+        assert!(rt; is_merged(rt.alloc(), row)?, "row {number}");
+    }
     Ok(())
 }
 
-#[test]
-fn a_least_corner_that_stands_twice(rt: HostRuntime) -> Result<(), Fail> {
-    let alloc = rt.alloc();
-    let lower_first = [
-        (0, 0),
-        (100, -50),
-        (100, 0),
-        (100, 50),
-        (0, 0),
-        (40, 5),
-        (50, 0),
-        (40, -5),
-    ];
-    let upper_first = [
-        (0, 0),
-        (40, 5),
-        (50, 0),
-        (40, -5),
-        (0, 0),
-        (100, -50),
-        (100, 0),
-        (100, 50),
-    ];
-    assert!(rt; merged(alloc, &LOWER, &UPPER)? == Ok(corners(alloc, &lower_first)?));
-    assert!(rt; merged(alloc, &UPPER, &LOWER)? == Ok(corners(alloc, &upper_first)?));
-    Ok(())
+/// Two rings, the path that their border is moved to, and the rings then.
+type MoveRow = (
+    &'static [Place],
+    &'static [Place],
+    &'static [Place],
+    Result<(&'static [Place], &'static [Place]), EditFault>,
+);
+
+const WESTWARD: [Place; 3] = [(60, 0), (40, 50), (60, 100)];
+
+const REVERSED: [Place; 3] = [(60, 100), (40, 50), (60, 0)];
+
+const LESS: [Place; 5] = [(0, 0), (60, 0), (40, 50), (60, 100), (0, 100)];
+
+const MORE: [Place; 5] = [(40, 50), (60, 0), (100, 0), (100, 100), (60, 100)];
+
+static MOVES: [MoveRow; 9] = [
+    (&WEST, &EAST, &WESTWARD, Ok((&LESS, &MORE))),
+    // straightened: the corner on the old border goes
+    (
+        &EAST_WITH_FIVE,
+        &WEST_WITH_FIVE,
+        &[(60, 100), (60, 0)],
+        Ok((&EAST, &WEST)),
+    ),
+    (&WEST, &EAST, &REVERSED, Err(EditFault::BadPath)),
+    (&WEST, &EAST, &[], Err(EditFault::BadPath)),
+    (&WEST, &EAST, &[(60, 0)], Err(EditFault::BadPath)),
+    (&WEST, &EAST, &[(60, 0), (60, 50)], Err(EditFault::BadPath)),
+    (&WEST, &EAST, &[(0, 0), (60, 100)], Err(EditFault::BadPath)),
+    // a bad path beside no border: the border is looked for first
+    (&WEST, &WEST, &REVERSED, Err(EditFault::NotNeighbours)),
+    (&ROUND, &OUTER, &REVERSED, Err(EditFault::SharedTwice)),
+];
+
+/// Whether the border of a row's rings is moved as it says.
+fn is_moved(alloc: Global, row: &MoveRow) -> Result<bool, Fail> {
+    let a = simple_ring(alloc, row.0)?;
+    let b = simple_ring(alloc, row.1)?;
+    let path = corners(alloc, row.2)?;
+    let moved = shift(
+        alloc,
+        a.corners.as_slice(),
+        b.corners.as_slice(),
+        path.as_slice(),
+    );
+    match (moved, row.3) {
+        (Ok(rings), Ok(want)) => {
+            Ok(rings.0 == corners(alloc, want.0)? && rings.1 == corners(alloc, want.1)?)
+        }
+        (Err(fault), Err(want)) => Ok(fault == want),
+        _ => Ok(false),
+    }
 }
 
 #[test]
 fn moves(rt: HostRuntime) -> Result<(), Fail> {
-    let alloc = rt.alloc();
-    let Ok((west, east)) = moved(alloc, &WEST, &EAST, &[(60, 0), (40, 50), (60, 100)])? else {
-        return Err(Fail::new("a path that is refused"));
-    };
-    assert!(rt; west == corners(alloc, &[(0, 0), (60, 0), (40, 50), (60, 100), (0, 100)])?);
-    assert!(rt; east == corners(alloc, &[(40, 50), (60, 0), (100, 0), (100, 100), (60, 100)])?);
-    // straightened: the corner on the old border goes
-    let Ok((east, west)) = moved(
-        alloc,
-        &EAST_WITH_FIVE,
-        &WEST_WITH_FIVE,
-        &[(60, 100), (60, 0)],
-    )?
-    else {
-        return Err(Fail::new("a path that is refused"));
-    };
-    assert!(rt; west == corners(alloc, &WEST)?);
-    assert!(rt; east == corners(alloc, &EAST)?);
-    Ok(())
-}
-
-#[test]
-fn refused_moves(rt: HostRuntime) -> Result<(), Fail> {
-    let alloc = rt.alloc();
-    let reversed = [(60, 100), (40, 50), (60, 0)];
-    assert!(rt; moved(alloc, &WEST, &EAST, &reversed)? == Err(EditFault::BadPath));
-    assert!(rt; moved(alloc, &WEST, &EAST, &[])? == Err(EditFault::BadPath));
-    assert!(rt; moved(alloc, &WEST, &EAST, &[(60, 0)])? == Err(EditFault::BadPath));
-    assert!(rt; moved(alloc, &WEST, &EAST, &[(60, 0), (60, 50)])? == Err(EditFault::BadPath));
-    assert!(rt; moved(alloc, &WEST, &EAST, &[(0, 0), (60, 100)])? == Err(EditFault::BadPath));
-    // a bad path beside no border: the border is looked for first
-    assert!(rt; moved(alloc, &WEST, &WEST, &reversed)? == Err(EditFault::NotNeighbours));
-    assert!(rt; moved(alloc, &ROUND, &OUTER, &reversed)? == Err(EditFault::SharedTwice));
+    for (number, row) in MOVES.iter().enumerate() {
+        assert!(rt; is_moved(rt.alloc(), row)?, "row {number}");
+    }
     Ok(())
 }

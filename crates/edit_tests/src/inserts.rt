@@ -14,114 +14,106 @@ const WEST_BY_NORTH: [Place; 4] = [(60, 100), (0, 100), (0, 0), (60, 0)];
 /// A list that goes along an edge and back.
 const THERE_AND_BACK: [Place; 4] = [(60, 0), (0, 0), (60, 0), (60, 100)];
 
-/// The ring with the last of three corners put into the edge between the other two.
-fn with_corner(
-    alloc: Global,
-    ring: &[Place],
-    edit: (Place, Place, Place),
-) -> Result<Option<Corners<Global>>, Fail> {
-    let ring = corners(alloc, ring)?;
-    let found = insert(
-        alloc,
-        ring.as_slice(),
-        corner(edit.0)?,
-        corner(edit.1)?,
-        corner(edit.2)?,
-    )?;
-    Ok(found)
-}
+/// Whether the first corner is kept first, a ring, the last of three corners that is put into the edge between the other two, and the
+/// ring then.
+type Row = (
+    bool,
+    &'static [Place],
+    (Place, Place, Place),
+    Option<&'static [Place]>,
+);
 
-/// The same, with the first corner kept first.
-fn with_corner_put(
-    alloc: Global,
-    ring: &[Place],
-    edit: (Place, Place, Place),
-) -> Result<Option<Corners<Global>>, Fail> {
-    let ring = corners(alloc, ring)?;
-    let found = put_into(
-        alloc,
-        ring.as_slice(),
-        corner(edit.0)?,
-        corner(edit.1)?,
-        corner(edit.2)?,
-    )?;
-    Ok(found)
-}
+const SOUTH: [Place; 5] = [(0, 0), (30, 0), (60, 0), (60, 100), (0, 100)];
 
-#[test]
-fn into_an_edge(rt: HostRuntime) -> Result<(), Fail> {
-    let alloc = rt.alloc();
-    let south = Some(corners(alloc, &[(0, 0), (30, 0), (60, 0), (60, 100), (0, 100)])?);
-    assert!(rt; with_corner(alloc, &WEST, ((0, 0), (60, 0), (30, 0)))? == south);
-    assert!(rt; with_corner(alloc, &WEST, ((60, 0), (0, 0), (30, 0)))? == south);
-    // between the last corner and the first
-    let west = Some(corners(alloc, &[(0, 0), (60, 0), (60, 100), (0, 100), (0, 50)])?);
-    assert!(rt; with_corner(alloc, &WEST, ((0, 0), (0, 100), (0, 50)))? == west);
-    assert!(rt; with_corner(alloc, &WEST, ((0, 100), (0, 0), (0, 50)))? == west);
-    Ok(())
-}
+/// With a corner between the last and the first.
+const WESTERN: [Place; 5] = [(0, 0), (60, 0), (60, 100), (0, 100), (0, 50)];
 
-#[test]
-fn into_no_edge(rt: HostRuntime) -> Result<(), Fail> {
-    let alloc = rt.alloc();
-    assert!(rt; with_corner(alloc, &WEST, ((0, 0), (100, 0), (30, 0)))?.is_none());
-    assert!(rt; with_corner(alloc, &WEST, ((0, 0), (60, 100), (30, 50)))?.is_none());
-    assert!(rt; with_corner(alloc, &WEST, ((0, 0), (0, 0), (0, 0)))?.is_none());
-    assert!(rt; with_corner(alloc, &[], ((0, 0), (60, 0), (30, 0)))?.is_none());
-    Ok(())
-}
+const BY_NORTH: [Place; 5] = [(60, 100), (0, 100), (0, 0), (30, 0), (60, 0)];
 
-#[test]
-fn put_into_an_edge(rt: HostRuntime) -> Result<(), Fail> {
-    let alloc = rt.alloc();
-    let edit = ((0, 0), (60, 0), (30, 0));
-    let south = Some(corners(alloc, &[(0, 0), (30, 0), (60, 0), (60, 100), (0, 100)])?);
-    assert!(rt; with_corner_put(alloc, &WEST, edit)? == south);
-    assert!(rt; with_corner_put(alloc, &WEST, ((60, 0), (0, 0), (30, 0)))? == south);
-    // between the last corner and the first
-    let west = Some(corners(alloc, &[(0, 0), (60, 0), (60, 100), (0, 100), (0, 50)])?);
-    assert!(rt; with_corner_put(alloc, &WEST, ((0, 0), (0, 100), (0, 50)))? == west);
+const BOTH_WAYS: [Place; 6] = [(60, 0), (30, 0), (0, 0), (30, 0), (60, 0), (60, 100)];
+
+const BOTH_WAYS_BEGUN: [Place; 6] = [(0, 0), (30, 0), (60, 0), (60, 100), (60, 0), (30, 0)];
+
+/// The middle of the south edge.
+const MIDDLE: (Place, Place, Place) = ((0, 0), (60, 0), (30, 0));
+
+static ROWS: [Row; 20] = [
+    (false, &WEST, MIDDLE, Some(&SOUTH)),
+    (false, &WEST, ((60, 0), (0, 0), (30, 0)), Some(&SOUTH)),
+    (false, &WEST, ((0, 0), (0, 100), (0, 50)), Some(&WESTERN)),
+    (false, &WEST, ((0, 100), (0, 0), (0, 50)), Some(&WESTERN)),
+    (false, &WEST, ((0, 0), (100, 0), (30, 0)), None),
+    (false, &WEST, ((0, 0), (60, 100), (30, 50)), None),
+    (false, &WEST, ((0, 0), (0, 0), (0, 0)), None),
+    (false, &[], MIDDLE, None),
+    (true, &WEST, MIDDLE, Some(&SOUTH)),
+    (true, &WEST, ((60, 0), (0, 0), (30, 0)), Some(&SOUTH)),
+    (true, &WEST, ((0, 0), (0, 100), (0, 50)), Some(&WESTERN)),
     // where it begins elsewhere, it stays so, and only inserting begins it at its least corner
-    let by_north = Some(corners(alloc, &[(60, 100), (0, 100), (0, 0), (30, 0), (60, 0)])?);
-    assert!(rt; with_corner_put(alloc, &WEST_BY_NORTH, edit)? == by_north);
-    assert!(rt; with_corner(alloc, &WEST_BY_NORTH, edit)? == south);
-    Ok(())
-}
-
-#[test]
-fn into_an_edge_that_comes_twice(rt: HostRuntime) -> Result<(), Fail> {
-    let alloc = rt.alloc();
-    let edit = ((0, 0), (60, 0), (30, 0));
-    let want = [(60, 0), (30, 0), (0, 0), (30, 0), (60, 0), (60, 100)];
-    assert!(rt; with_corner_put(alloc, &THERE_AND_BACK, edit)? == Some(corners(alloc, &want)?));
-    let begun = [(0, 0), (30, 0), (60, 0), (60, 100), (60, 0), (30, 0)];
-    assert!(rt; with_corner(alloc, &THERE_AND_BACK, edit)? == Some(corners(alloc, &begun)?));
-    Ok(())
-}
-
-#[test]
-fn put_into_no_edge(rt: HostRuntime) -> Result<(), Fail> {
-    let alloc = rt.alloc();
-    assert!(rt; with_corner_put(alloc, &WEST, ((0, 0), (60, 100), (30, 50)))?.is_none());
-    assert!(rt; with_corner_put(alloc, &WEST, ((0, 0), (0, 0), (0, 0)))?.is_none());
-    assert!(rt; with_corner_put(alloc, &[], ((0, 0), (60, 0), (30, 0)))?.is_none());
+    (true, &WEST_BY_NORTH, MIDDLE, Some(&BY_NORTH)),
+    (false, &WEST_BY_NORTH, MIDDLE, Some(&SOUTH)),
+    // an edge that comes twice
+    (true, &THERE_AND_BACK, MIDDLE, Some(&BOTH_WAYS)),
+    (false, &THERE_AND_BACK, MIDDLE, Some(&BOTH_WAYS_BEGUN)),
+    (true, &WEST, ((0, 0), (60, 100), (30, 50)), None),
+    (true, &WEST, ((0, 0), (0, 0), (0, 0)), None),
+    (true, &[], MIDDLE, None),
     // an edge of no length is none between two corners
-    let doubled = [(0, 0), (0, 0), (60, 0), (60, 100)];
-    assert!(rt; with_corner_put(alloc, &doubled, ((0, 0), (0, 0), (30, 0)))?.is_none());
-    assert!(rt; with_corner_put(alloc, &[(0, 0)], ((0, 0), (0, 0), (30, 0)))?.is_none());
+    (
+        true,
+        &[(0, 0), (0, 0), (60, 0), (60, 100)],
+        ((0, 0), (0, 0), (30, 0)),
+        None,
+    ),
+    (true, &[(0, 0)], ((0, 0), (0, 0), (30, 0)), None),
+];
+
+/// The ring with a corner in it.
+fn with_corner(alloc: Global, row: &Row) -> Result<Option<Corners<Global>>, Fail> {
+    let ring = corners(alloc, row.1)?;
+    let (from, to, at) = row.2;
+    let (from, to, at) = (corner(from)?, corner(to)?, corner(at)?);
+    if row.0 {
+        Ok(put_into(alloc, ring.as_slice(), from, to, at)?)
+    } else {
+        Ok(insert(alloc, ring.as_slice(), from, to, at)?)
+    }
+}
+
+/// Whether the ring of a row is then as it says.
+fn is_inserted(alloc: Global, row: &Row) -> Result<bool, Fail> {
+    match (with_corner(alloc, row)?, row.3) {
+        (Some(ring), Some(want)) => Ok(ring == corners(alloc, want)?),
+        (found, want) => Ok(found.is_none() && want.is_none()),
+    }
+}
+
+#[test]
+fn into_edges(rt: HostRuntime) -> Result<(), Fail> {
+    for (number, row) in ROWS.iter().enumerate() {
+        assert!(rt; is_inserted(rt.alloc(), row)?, "row {number}");
+    }
     Ok(())
+}
+
+/// Whether the third place lies strictly between the first two.
+fn lies_between(a: Place, b: Place, at: Place) -> Result<bool, Fail> {
+    Ok(is_between(corner(a)?, corner(b)?, corner(at)?))
 }
 
 #[test]
 fn between_two_corners(rt: HostRuntime) -> Result<(), Fail> {
-    let a = corner((0, 0))?;
-    let b = corner((60, 30))?;
-    assert!(rt; is_between(a, b, corner((20, 10))?));
-    assert!(rt; is_between(b, a, corner((20, 10))?));
-    assert!(rt; !is_between(a, b, corner((20, 11))?));
-    assert!(rt; !is_between(a, b, corner((80, 40))?));
-    assert!(rt; !is_between(a, b, a));
-    assert!(rt; !is_between(a, b, b));
-    assert!(rt; !is_between(a, a, a));
+    let (a, b) = ((0, 0), (60, 30));
+    for (from, to, at, want) in [
+        (a, b, (20, 10), true),
+        (b, a, (20, 10), true),
+        (a, b, (20, 11), false),
+        (a, b, (80, 40), false),
+        (a, b, a, false),
+        (a, b, b, false),
+        (a, a, a, false),
+    ] {
+        assert_eq!(rt; lies_between(from, to, at)?, want, "at {} {}", at.0, at.1);
+    }
     Ok(())
 }

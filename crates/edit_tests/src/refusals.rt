@@ -2,7 +2,7 @@
 
 use refusing_alloc::Refusing;
 use ring_edits::{Edit, EditFault, insert, merge, put_into, shift, split};
-use std::alloc::Allocator;
+use std::alloc::{Allocator, Global};
 use std::test::Fail;
 use test_builders::{Place, corner, corners, simple_ring};
 
@@ -15,128 +15,131 @@ const EAST: [Place; 4] = [(60, 0), (100, 0), (100, 100), (60, 100)];
 
 const PATH: [Place; 3] = [(60, 0), (40, 50), (60, 100)];
 
+/// The heap of the tests here.
+type Heap = Refusing<Global>;
+
+/// Whether a growth was refused. The answer has to be want of memory exactly then, and else no fault.
+fn told(is_refused: bool, fault: Option<EditFault>) -> Result<bool, Fail> {
+    match (is_refused, fault) {
+        (true, Some(EditFault::NoMemory)) => Ok(true),
+        (false, None) => Ok(false),
+        _ => Err(Fail::new("another answer")),
+    }
+}
+
+/// What a call with growth `number` refused is answered: whether that growth was made.
+#[derive(Clone, Copy)]
+enum Call {
+    Split,
+    Merge,
+    Shift,
+    Insert,
+    PutInto,
+}
+
+fn splits(heap: &Heap, number: u64) -> Result<bool, Fail> {
+    let ring = corners(heap, &WEST)?;
+    let path = corners(heap, &PATH)?;
+    heap.refuse(number);
+    let answer = split(heap, ring.as_slice(), path.as_slice());
+    let is_refused = heap.is_spent();
+    heap.refuse(0);
+    match answer {
+        Ok(_) => told(is_refused, None),
+        Err(fault) => told(is_refused, Some(fault)),
+    }
+}
+
+fn merges(heap: &Heap, number: u64) -> Result<bool, Fail> {
+    let west = simple_ring(heap, &WEST)?;
+    let east = simple_ring(heap, &EAST)?;
+    heap.refuse(number);
+    let answer = merge(heap, west.corners.as_slice(), east.corners.as_slice());
+    let is_refused = heap.is_spent();
+    heap.refuse(0);
+    match answer {
+        Ok(_) => told(is_refused, None),
+        Err(fault) => told(is_refused, Some(fault)),
+    }
+}
+
+fn shifts(heap: &Heap, number: u64) -> Result<bool, Fail> {
+    let west = simple_ring(heap, &WEST)?;
+    let east = simple_ring(heap, &EAST)?;
+    let path = corners(heap, &PATH)?;
+    heap.refuse(number);
+    let answer = shift(
+        heap,
+        west.corners.as_slice(),
+        east.corners.as_slice(),
+        path.as_slice(),
+    );
+    let is_refused = heap.is_spent();
+    heap.refuse(0);
+    match answer {
+        Ok(_) => told(is_refused, None),
+        Err(fault) => told(is_refused, Some(fault)),
+    }
+}
+
+fn inserts(heap: &Heap, number: u64, is_put: bool) -> Result<bool, Fail> {
+    let ring = corners(heap, &WEST)?;
+    let (from, to, at) = (corner((0, 0))?, corner((60, 0))?, corner((30, 0))?);
+    heap.refuse(number);
+    let answer = if is_put {
+        put_into(heap, ring.as_slice(), from, to, at)
+    } else {
+        insert(heap, ring.as_slice(), from, to, at)
+    };
+    let is_refused = heap.is_spent();
+    heap.refuse(0);
+    match answer {
+        Ok(_) => told(is_refused, None),
+        Err(_) => told(is_refused, Some(EditFault::NoMemory)),
+    }
+}
+
+fn is_refused(heap: &Heap, call: Call, number: u64) -> Result<bool, Fail> {
+    match call {
+        Call::Split => splits(heap, number),
+        Call::Merge => merges(heap, number),
+        Call::Shift => shifts(heap, number),
+        Call::Insert => inserts(heap, number, false),
+        Call::PutInto => inserts(heap, number, true),
+    }
+}
+
+/// How many growths a call makes.
+fn growths(heap: &Heap, call: Call) -> Result<u64, Fail> {
+    for number in 1..MOST {
+        if !is_refused(heap, call, number)? {
+            return Ok(number - 1);
+        }
+    }
+    Err(Fail::new("each growth was refused"))
+}
+
 #[test]
-fn splitting(rt: HostRuntime) -> Result<(), Fail> {
+fn each_growth(rt: HostRuntime) -> Result<(), Fail> {
+    let heap = Refusing::new(rt.alloc(), 0);
+    assert!(rt; growths(&heap, Call::Split)? >= 3);
+    assert!(rt; growths(&heap, Call::Merge)? >= 1);
+    assert!(rt; growths(&heap, Call::Shift)? >= 3);
+    assert!(rt; growths(&heap, Call::Insert)? >= 1);
+    // room for the whole ring is made at once
+    assert_eq!(rt; growths(&heap, Call::PutInto)?, 1);
+    Ok(())
+}
+
+/// A ring without the edge wants no memory.
+#[test]
+fn no_growth(rt: HostRuntime) -> Result<(), Fail> {
     let heap = Refusing::new(rt.alloc(), 0);
     let ring = corners(&heap, &WEST)?;
-    let path = corners(&heap, &PATH)?;
-    let mut refused = 0;
-    for number in 1..MOST {
-        heap.refuse(number);
-        let answer = split(&heap, ring.as_slice(), path.as_slice());
-        if !heap.is_spent() {
-            assert!(rt; answer.is_ok());
-            break;
-        }
-        let Err(fault) = answer else {
-            return Err(Fail::new("an answer with a growth refused"));
-        };
-        assert_eq!(rt; fault, EditFault::NoMemory);
-        refused = number;
-    }
-    assert!(rt; refused >= 3);
-    Ok(())
-}
-
-#[test]
-fn merging(rt: HostRuntime) -> Result<(), Fail> {
-    let heap = Refusing::new(rt.alloc(), 0);
-    let west = simple_ring(&heap, &WEST)?;
-    let east = simple_ring(&heap, &EAST)?;
-    let mut refused = 0;
-    for number in 1..MOST {
-        heap.refuse(number);
-        let answer = merge(&heap, west.corners.as_slice(), east.corners.as_slice());
-        if !heap.is_spent() {
-            assert!(rt; answer.is_ok());
-            break;
-        }
-        let Err(fault) = answer else {
-            return Err(Fail::new("an answer with a growth refused"));
-        };
-        assert_eq!(rt; fault, EditFault::NoMemory);
-        refused = number;
-    }
-    assert!(rt; refused >= 1);
-    Ok(())
-}
-
-#[test]
-fn shifting(rt: HostRuntime) -> Result<(), Fail> {
-    let heap = Refusing::new(rt.alloc(), 0);
-    let west = simple_ring(&heap, &WEST)?;
-    let east = simple_ring(&heap, &EAST)?;
-    let path = corners(&heap, &PATH)?;
-    let mut refused = 0;
-    for number in 1..MOST {
-        heap.refuse(number);
-        let answer = shift(
-            &heap,
-            west.corners.as_slice(),
-            east.corners.as_slice(),
-            path.as_slice(),
-        );
-        if !heap.is_spent() {
-            assert!(rt; answer.is_ok());
-            break;
-        }
-        let Err(fault) = answer else {
-            return Err(Fail::new("an answer with a growth refused"));
-        };
-        assert_eq!(rt; fault, EditFault::NoMemory);
-        refused = number;
-    }
-    assert!(rt; refused >= 3);
-    Ok(())
-}
-
-#[test]
-fn inserting(rt: HostRuntime) -> Result<(), Fail> {
-    let heap = Refusing::new(rt.alloc(), 0);
-    let ring = corners(&heap, &WEST)?;
-    let from = corner((0, 0))?;
-    let to = corner((60, 0))?;
-    let at = corner((30, 0))?;
-    let mut refused = 0;
-    for number in 1..MOST {
-        heap.refuse(number);
-        let answer = insert(&heap, ring.as_slice(), from, to, at);
-        if !heap.is_spent() {
-            assert!(rt; answer.is_ok());
-            break;
-        }
-        assert!(rt; answer.is_err());
-        refused = number;
-    }
-    assert!(rt; refused >= 1);
-    Ok(())
-}
-
-#[test]
-fn putting(rt: HostRuntime) -> Result<(), Fail> {
-    let heap = Refusing::new(rt.alloc(), 0);
-    let ring = corners(&heap, &WEST)?;
-    let from = corner((0, 0))?;
-    let to = corner((60, 0))?;
-    let at = corner((30, 0))?;
-    let off = corner((60, 100))?;
-    // a ring without the edge wants no memory
+    let (from, off, at) = (corner((0, 0))?, corner((60, 100))?, corner((30, 0))?);
     heap.refuse(1);
     assert!(rt; put_into(&heap, ring.as_slice(), from, off, at)?.is_none());
     assert!(rt; !heap.is_spent());
-    let mut refused = 0;
-    for number in 1..MOST {
-        heap.refuse(number);
-        let answer = put_into(&heap, ring.as_slice(), from, to, at);
-        if !heap.is_spent() {
-            assert!(rt; answer.is_ok());
-            break;
-        }
-        assert!(rt; answer.is_err());
-        refused = number;
-    }
-    // room for the whole ring is made at once
-    assert_eq!(rt; refused, 1);
     Ok(())
 }
 

@@ -11,22 +11,113 @@ const WEST: [Place; 6] = [(0, 0), (30, 0), (60, 0), (60, 100), (30, 100), (0, 10
 
 const EAST: [Place; 4] = [(60, 0), (100, 0), (100, 100), (60, 100)];
 
-/// The two rings that the path cuts the ring into.
-fn cut(
-    alloc: Global,
-    ring: &[Place],
-    path: &[Place],
-) -> Result<(Corners<Global>, Corners<Global>), Fail> {
-    let ring = corners(alloc, ring)?;
-    let path = corners(alloc, path)?;
+/// A ring, a path, and the rings left and right of the path.
+type Row = (
+    &'static [Place],
+    &'static [Place],
+    &'static [Place],
+    &'static [Place],
+);
+
+static CUT: [Row; 6] = [
+    (
+        &WEST,
+        &[(30, 0), (30, 100)],
+        &[(0, 0), (30, 0), (30, 100), (0, 100)],
+        &[(30, 0), (60, 0), (60, 100), (30, 100)],
+    ),
+    // the other way, what was right is left
+    (
+        &WEST,
+        &[(30, 100), (20, 50), (30, 0)],
+        &[(20, 50), (30, 0), (60, 0), (60, 100), (30, 100)],
+        &[(0, 0), (30, 0), (20, 50), (30, 100), (0, 100)],
+    ),
+    // outside the ring
+    (
+        &EAST,
+        &[(60, 0), (50, 50), (60, 100)],
+        &[(50, 50), (60, 100), (60, 0)],
+        &[(50, 50), (60, 0), (100, 0), (100, 100), (60, 100)],
+    ),
+    // along the ring
+    (&EAST, &[(60, 0), (100, 0)], &EAST, &[(60, 0), (100, 0)]),
+    (&EAST, &[(100, 0), (60, 0)], &[(60, 0), (100, 0)], &EAST),
+    // with a corner twice
+    (
+        &EAST,
+        &[(60, 0), (50, 9), (55, 9), (50, 9), (60, 100)],
+        &[(50, 9), (55, 9), (50, 9), (60, 100), (60, 0)],
+        &[
+            (50, 9),
+            (55, 9),
+            (50, 9),
+            (60, 0),
+            (100, 0),
+            (100, 100),
+            (60, 100),
+        ],
+    ),
+];
+
+/// Whether the path of a row cuts its ring into the two that it says.
+fn is_cut(alloc: Global, row: &Row) -> Result<bool, Fail> {
+    let ring = corners(alloc, row.0)?;
+    let path = corners(alloc, row.1)?;
+    let left = corners(alloc, row.2)?;
+    let right = corners(alloc, row.3)?;
     match split(alloc, ring.as_slice(), path.as_slice()) {
-        Ok(rings) => Ok(rings),
-        Err(_) => Err(Fail::new("a path that is refused")),
+        Ok(rings) => Ok(rings.0 == left && rings.1 == right),
+        Err(_) => Ok(false),
     }
 }
 
-/// Why the path does not cut the ring.
-fn refused(alloc: Global, ring: &[Place], path: &[Place]) -> Result<bool, Fail> {
+#[test]
+fn cuts(rt: HostRuntime) -> Result<(), Fail> {
+    for (number, row) in CUT.iter().enumerate() {
+        assert!(rt; is_cut(rt.alloc(), row)?, "row {number}");
+    }
+    Ok(())
+}
+
+/// What the check of a part answers.
+fn fault_of(alloc: Global, part: &[Place]) -> Result<Option<RingFault>, Fail> {
+    let part = corners(alloc, part)?;
+    if part.len() > LIST_CORNERS {
+        return Err(Fail::new("more corners than a list may have"));
+    }
+    match Ring::check(part) {
+        Ok(_) => Ok(None),
+        Err(fault) => Ok(Some(fault)),
+    }
+}
+
+/// A part beside a path outside its ring, and one beside a path along it.
+#[test]
+fn parts_with_a_fault(rt: HostRuntime) -> Result<(), Fail> {
+    let outside = [(50, 50), (60, 100), (60, 0)];
+    assert_eq!(rt; fault_of(rt.alloc(), &outside)?, Some(RingFault::Clockwise));
+    let along = [(60, 0), (100, 0)];
+    assert_eq!(rt; fault_of(rt.alloc(), &along)?, Some(RingFault::ZeroArea));
+    Ok(())
+}
+
+/// A ring, a path, and whether the path is a bad one.
+type PathRow = (&'static [Place], &'static [Place], bool);
+
+static PATHS: [PathRow; 8] = [
+    (&EAST, &[], true),
+    (&EAST, &[(60, 0)], true),
+    (&EAST, &[(60, 0), (60, 0)], true),
+    (&EAST, &[(60, 0), (70, 50), (80, 50), (60, 0)], true),
+    (&EAST, &[(61, 0), (60, 100)], true),
+    (&EAST, &[(60, 0), (60, 99)], true),
+    (&[], &[(60, 0), (60, 99)], true),
+    (&EAST, &[(60, 0), (60, 100)], false),
+];
+
+/// Whether the path is told to be a bad one.
+fn is_bad(alloc: Global, ring: &[Place], path: &[Place]) -> Result<bool, Fail> {
     let ring = corners(alloc, ring)?;
     let path = corners(alloc, path)?;
     match split(alloc, ring.as_slice(), path.as_slice()) {
@@ -35,111 +126,40 @@ fn refused(alloc: Global, ring: &[Place], path: &[Place]) -> Result<bool, Fail> 
     }
 }
 
-/// What the check of a ring answers.
-fn fault_of(ring: Corners<Global>) -> Result<RingFault, Fail> {
-    if ring.len() > LIST_CORNERS {
-        return Err(Fail::new("more corners than a list may have"));
-    }
-    match Ring::check(ring) {
-        Ok(_) => Err(Fail::new("a simple ring")),
-        Err(fault) => Ok(fault),
-    }
-}
-
-#[test]
-fn across(rt: HostRuntime) -> Result<(), Fail> {
-    let alloc = rt.alloc();
-    let (left, right) = cut(alloc, &WEST, &[(30, 0), (30, 100)])?;
-    assert!(rt; left == corners(alloc, &[(0, 0), (30, 0), (30, 100), (0, 100)])?);
-    assert!(rt; right == corners(alloc, &[(30, 0), (60, 0), (60, 100), (30, 100)])?);
-    // the other way, what was right is left
-    let (left, right) = cut(alloc, &WEST, &[(30, 100), (20, 50), (30, 0)])?;
-    assert!(rt; left == corners(alloc, &[(20, 50), (30, 0), (60, 0), (60, 100), (30, 100)])?);
-    assert!(rt; right == corners(alloc, &[(0, 0), (30, 0), (20, 50), (30, 100), (0, 100)])?);
-    Ok(())
-}
-
-#[test]
-fn outside_the_ring(rt: HostRuntime) -> Result<(), Fail> {
-    let alloc = rt.alloc();
-    let (left, right) = cut(alloc, &EAST, &[(60, 0), (50, 50), (60, 100)])?;
-    assert!(rt; left == corners(alloc, &[(50, 50), (60, 100), (60, 0)])?);
-    assert!(rt; right == corners(alloc, &[(50, 50), (60, 0), (100, 0), (100, 100), (60, 100)])?);
-    assert_eq!(rt; fault_of(left)?, RingFault::Clockwise);
-    Ok(())
-}
-
-#[test]
-fn along_the_ring(rt: HostRuntime) -> Result<(), Fail> {
-    let alloc = rt.alloc();
-    let (left, right) = cut(alloc, &EAST, &[(60, 0), (100, 0)])?;
-    assert!(rt; left == corners(alloc, &EAST)?);
-    assert!(rt; right == corners(alloc, &[(60, 0), (100, 0)])?);
-    assert_eq!(rt; fault_of(right)?, RingFault::ZeroArea);
-    let (left, right) = cut(alloc, &EAST, &[(100, 0), (60, 0)])?;
-    assert!(rt; left == corners(alloc, &[(60, 0), (100, 0)])?);
-    assert!(rt; right == corners(alloc, &EAST)?);
-    Ok(())
-}
-
-#[test]
-fn a_path_with_a_corner_twice(rt: HostRuntime) -> Result<(), Fail> {
-    let alloc = rt.alloc();
-    let (left, right) = cut(
-        alloc,
-        &EAST,
-        &[(60, 0), (50, 9), (55, 9), (50, 9), (60, 100)],
-    )?;
-    assert!(rt; left == corners(alloc, &[(50, 9), (55, 9), (50, 9), (60, 100), (60, 0)])?);
-    let want = [
-        (50, 9),
-        (55, 9),
-        (50, 9),
-        (60, 0),
-        (100, 0),
-        (100, 100),
-        (60, 100),
-    ];
-    assert!(rt; right == corners(alloc, &want)?);
-    Ok(())
-}
-
 #[test]
 fn bad_paths(rt: HostRuntime) -> Result<(), Fail> {
-    let alloc = rt.alloc();
-    assert!(rt; refused(alloc, &EAST, &[])?);
-    assert!(rt; refused(alloc, &EAST, &[(60, 0)])?);
-    assert!(rt; refused(alloc, &EAST, &[(60, 0), (60, 0)])?);
-    assert!(rt; refused(alloc, &EAST, &[(60, 0), (70, 50), (80, 50), (60, 0)])?);
-    assert!(rt; refused(alloc, &EAST, &[(61, 0), (60, 100)])?);
-    assert!(rt; refused(alloc, &EAST, &[(60, 0), (60, 99)])?);
-    assert!(rt; refused(alloc, &[], &[(60, 0), (60, 99)])?);
-    assert!(rt; !refused(alloc, &EAST, &[(60, 0), (60, 100)])?);
+    for (number, (ring, path, want)) in PATHS.iter().enumerate() {
+        assert_eq!(rt; is_bad(rt.alloc(), ring, path)?, *want, "row {number}");
+    }
     Ok(())
+}
+
+/// A path from the first corner of the east to its last, with so many between.
+fn long_path(alloc: Global, between: i64) -> Result<Corners<Global>, Fail> {
+    let mut path = Corners::new(alloc);
+    path.push(corner((60, 0))?)?;
+    for y in 0..between {
+        path.push(corner((80, y.saturating_add(2)))?)?;
+    }
+    path.push(corner((60, 100))?)?;
+    Ok(path)
+}
+
+/// How many corners the parts left and right of such a path have, or why it is refused.
+fn cut_long(alloc: Global, between: i64) -> Result<Result<(usize, usize), EditFault>, Fail> {
+    let ring = corners(alloc, &EAST)?;
+    let path = long_path(alloc, between)?;
+    match split(alloc, ring.as_slice(), path.as_slice()) {
+        Ok(parts) => Ok(Ok((parts.0.len(), parts.1.len()))),
+        Err(fault) => Ok(Err(fault)),
+    }
 }
 
 #[test]
 fn the_longest_path(rt: HostRuntime) -> Result<(), Fail> {
-    let alloc = rt.alloc();
-    let ring = corners(alloc, &EAST)?;
-    let mut path = Corners::new(alloc);
-    path.push(corner((60, 0))?)?;
-    for y in 2..4096i64 {
-        path.push(corner((80, y))?)?;
-    }
-    let mut longer = path.clone()?;
-    longer.push(corner((90, 9))?)?;
-    path.push(corner((60, 100))?)?;
-    longer.push(corner((60, 100))?)?;
-    assert_eq!(rt; path.len(), RING_CORNERS);
-    let Ok((left, right)) = split(alloc, ring.as_slice(), path.as_slice()) else {
-        return Err(Fail::new("a path that is refused"));
-    };
-    assert_eq!(rt; left.len(), RING_CORNERS);
-    assert_eq!(rt; right.len(), RING_CORNERS + 2);
-    let Err(fault) = split(alloc, ring.as_slice(), longer.as_slice()) else {
-        return Err(Fail::new("a path that is too long"));
-    };
-    assert_eq!(rt; fault, EditFault::BadPath);
+    let longest = cut_long(rt.alloc(), 4094)?;
+    assert_eq!(rt; longest, Ok((RING_CORNERS, RING_CORNERS + 2)));
+    let longer = cut_long(rt.alloc(), 4095)?;
+    assert_eq!(rt; longer, Err(EditFault::BadPath));
     Ok(())
 }

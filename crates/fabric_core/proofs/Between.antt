@@ -1,14 +1,11 @@
 -- The parcels that a search of cells finds.
-use Rattle.std.proofs.Common.{◌≡◌, ◌↔◌, ⊎_elim, refl, sym, ◌∙◌, ap, subst, arith, ℕ, ℤ, List, [], ◌∷◌}
+use Rattle.std.proofs.Common.{◌≡◌, ◌↔◌, ⊎_elim, refl, sym, ◌∙◌, ap, subst, ℕ, List, [], ◌∷◌}
 use Rattle.std.specs.List.{AllByRecursion, AllZip, All, Contains}
-use Rattle.std.proofs.lemmas.Int.{ints}
-use lib.Signed.{◌≤ℤ◌}
 use Rattle.geo_exact.specs.declared.bounds.Bounds.{Bounds}
 use Rattle.geo_exact.specs.declared.corner.Corner.{Corner}
 use Rattle.geo_exact.specs.Bounds.{HoldsCorner, IsLeastBox}
 use Rattle.geo_exact.specs.Interiors.{InteriorsMeet}
 use Rattle.geo_exact.specs.Layers.{NumberedRing, numbered}
-use Rattle.geo_exact.proofs.SameCorner.{corner_same}
 use Rattle.cell_index.specs.declared.entry.Entry.{Entry}
 use Rattle.cell_index.specs.Cells.{StandsBetween, IsKeyBetween}
 use Rattle.cell_index.proofs.Members.{mapped, from_mapped}

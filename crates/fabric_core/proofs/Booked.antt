@@ -1,16 +1,15 @@
 -- What a fabric keeps when an edit is drafted and made: refusals are those of its journal, and an entry more is lawful.
-use Rattle.std.proofs.Common.{◌≡◌, ◌⊎◌, inl, inr, ⊎_elim, ◌↔◌, refl, sym, ◌∙◌, ap, subst, arith, ℕ, ◌+◌, ◌*◌, ◌^◌, ◌<◌, ◌≤◌, List, [], ◌∷◌, ◌++◌, length, Option, Some, None, MatchOption}
+use Rattle.std.proofs.Common.{◌≡◌, inl, inr, ⊎_elim, refl, sym, ◌∙◌, ap, subst, arith, ℕ, ◌+◌, ◌<◌, ◌≤◌, List, [], ◌∷◌, ◌++◌, length, Option, Some, None, MatchOption}
 use Rattle.std.proofs.lemmas.List.{length-append}
-use Rattle.geo_exact.specs.declared.corner.Corner.{Corner}
-use Rattle.geo_exact.specs.Layers.{NumberedRing, numbered, corner_count}
+use Rattle.geo_exact.specs.Layers.{NumberedRing, corner_count}
 use Rattle.ring_edits.specs.declared.edit.Edit.{Edit}
 use Rattle.ring_edits.specs.declared.edit.Edit.TheVariants.{Split, Merge, Move, Insert}
 use Rattle.fabric_core.specs.declared.journal.TheConstants.{JOURNAL_ENTRIES}
 use Rattle.fabric_core.specs.declared.refusal.Refusal.{Refusal}
 use Rattle.fabric_core.specs.declared.refusal.Refusal.TheVariants.{Unknown, Retired}
-use Rattle.fabric_core.specs.Journal.{State, JournalEntry, after_entry, next_after, replay}
+use Rattle.fabric_core.specs.Journal.{State, JournalEntry, after_entry, next_after}
 use Rattle.fabric_core.specs.EditResults.{IsChange, IsEntryOf}
-use Rattle.fabric_core.specs.Refusals.{IsRefusal, IsIdRefusal, IsFirstGone, IsRetiredBy, AreHere, named_ids}
+use Rattle.fabric_core.specs.Refusals.{IsRefusal, IsIdRefusal, IsFirstGone, AreHere, named_ids}
 use Rattle.fabric_core.specs.own.Balanced.{HasRisingIds}
 use Rattle.fabric_core.specs.own.Books.{IsBook}
 use Rattle.fabric_core.specs.own.Changes.{IsDraftRefusal, IsMade, state_of}

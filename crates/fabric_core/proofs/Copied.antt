@@ -1,5 +1,5 @@
 -- What is kept of parcels is kept of their copies, too.
-use Rattle.std.proofs.Common.{◌≡◌, sym, subst, ap, ℕ, List}
+use Rattle.std.proofs.Common.{◌≡◌, sym, subst, ℕ, List}
 use Rattle.std.specs.List.{All, AllByRecursion}
 use Rattle.std.specs.List.Sorted.{IsStrictlyIncreasing}
 use Rattle.geo_exact.specs.declared.corner.Corner.{Corner}

@@ -1,5 +1,5 @@
 -- A lawful journal on the opening of a fabric: the state that it leads to, and that an edit is refused there for one reason.
-use Rattle.std.proofs.Common.{◌≡◌, ℕ, ◌+◌, ◌<◌, List, [], ◌∷◌, ◌++◌, length}
+use Rattle.std.proofs.Common.{◌≡◌, ℕ, ◌<◌, List, length}
 use Rattle.std.specs.List.Sorted.{IsStrictlyIncreasing}
 use Rattle.geo_exact.specs.declared.corner.Corner.{Corner}
 use Rattle.geo_exact.specs.Layers.{NumberedRing}
@@ -10,7 +10,7 @@ use Rattle.fabric_core.specs.declared.refusal.Refusal.{Refusal}
 use Rattle.fabric_core.specs.Tiling.{corner_lists}
 use Rattle.fabric_core.specs.Rows.{numbers}
 use Rattle.fabric_core.specs.Faults.{AreSimple}
-use Rattle.fabric_core.specs.Journal.{State, JournalEntry, after_entry, opening_state, replay, with_rows, without_ids}
+use Rattle.fabric_core.specs.Journal.{State, JournalEntry, opening_state, replay, with_rows, without_ids}
 use Rattle.fabric_core.specs.EditResults.{IsChange, IsLawful, AreWithinAll}
 use Rattle.fabric_core.specs.Refusals.{IsRefusal, AreHere, named_ids}
 use Rattle.fabric_core.specs.own.Checks.{HaveEqualNets}

@@ -8,11 +8,11 @@ use Rattle.std.proofs.lemmas.List.{length-map}
 use Rattle.ring_core.specs.declared.shape.Shape.{Shape}
 use Rattle.geo_exact.specs.Layers.{NumberedRing, numbered}
 use Rattle.ring_edits.specs.declared.edit.Edit.{Edit}
-use Rattle.ring_edits.specs.declared.edit.Edit.TheVariants.{Split, Merge, Move, Insert}
+use Rattle.ring_edits.specs.declared.edit.Edit.TheVariants.{Insert}
 use Rattle.ring_edits.specs.Edits.{put_between, with_corner}
 use Rattle.fabric_core.specs.Tiling.{corner_lists}
 use Rattle.fabric_core.specs.Rows.{numbers}
-use Rattle.fabric_core.specs.Journal.{State, JournalEntry, after_entry, next_after, refined_by, with_rows, without_ids}
+use Rattle.fabric_core.specs.Journal.{State, JournalEntry, after_entry, next_after, refined_by, without_ids}
 use Rattle.fabric_core.specs.EditResults.{IsChange, IsEntryOf, IsInsertOf, rows_with_edge}
 use Rattle.fabric_core.specs.Refusals.{Retires}
 use Rattle.fabric_core.specs.own.Balanced.{IsBalanced}

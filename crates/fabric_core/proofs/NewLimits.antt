@@ -4,7 +4,6 @@ use Rattle.std.proofs.Common.{List, [], ◌∷◌, ◌++◌, length, take, get_o
 use Rattle.std.specs.Prelude.{nat_eq, nat_lt}
 use Rattle.std.specs.List.{AllByRecursion, AllPairs, Contains, filter, list_any}
 use Rattle.std.proofs.lemmas.List.{length-take, get_or-take, get_or_default, length-append, map-append, take_more}
-use Rattle.std.proofs.lemmas.Bool.{false≢true}
 use Rattle.geo_exact.specs.declared.corner.Corner.{Corner}
 use Rattle.geo_exact.specs.declared.limits.TheConstants.{LAYER_CORNERS, RING_CORNERS}
 use Rattle.geo_exact.specs.Layers.{NumberedRing, numbered, corner_count}

@@ -1,5 +1,5 @@
 -- Parcels whose shapes get a corner in an edge: their rows, and that their boxes and so their entries in the index stay.
-use Rattle.std.proofs.Common.{◌≡◌, ◌≢◌, ◌⊎◌, ⊎_elim, ◌↔◌, refl, sym, ◌∙◌, ap, subst, arith, ℕ, ◌<◌, Bool, true, false, nat_eq, cond, List, [], ◌∷◌, ◌++◌, map, length, zero, suc, IsTrue, Option, Some, None, MatchOption, IsNone, IfSome}
+use Rattle.std.proofs.Common.{◌≡◌, ◌≢◌, ◌⊎◌, ⊎_elim, ◌↔◌, refl, sym, ◌∙◌, ap, subst, arith, ℕ, ◌<◌, Bool, true, false, nat_eq, cond, List, [], ◌∷◌, map, length, suc, IsTrue, Option, Some, None, MatchOption, IsNone, IfSome}
 use Rattle.std.specs.List.{AllByRecursion, Contains, filter}
 use Rattle.std.specs.List.Sorted.{IsStrictlyIncreasing}
 use Rattle.std.proofs.lemmas.Bool.Decides.{nat_tests}
@@ -20,7 +20,7 @@ use Rattle.cell_index.proofs.Members.{mapped}
 use Rattle.ring_core.specs.declared.shape.Shape.{Shape}
 use Rattle.ring_edits.specs.Edits.{CoversAlike, has_edge_between, put_between, with_corner}
 use Rattle.parcel_table.specs.declared.parcels.Parcel.{Parcel}
-use Rattle.parcel_table.specs.Table.{HasId, IsKeyOf, with_shape, ids_of, rows_of_keyed, entries_of}
+use Rattle.parcel_table.specs.Table.{HasId, with_shape, ids_of, rows_of_keyed, entries_of}
 use Rattle.parcel_table.proofs.Boxes.{one_least_box}
 use Rattle.fabric_core.specs.EditResults.{rows_with_edge}
 use Rattle.fabric_core.specs.Rows.{numbers}

@@ -3,8 +3,6 @@
 #![tactic(auto)]
 
 #[cfg(test)]
-mod all_faults_refused;
-#[cfg(test)]
 mod candidates;
 #[cfg(test)]
 mod cities;

@@ -36,15 +36,21 @@ pub fn read<'a, H: Allocator>(heap: &'a H, lists: &[Corners<&'a H>]) -> Result<R
     }
 }
 
+/// The lists of corners at these places.
+fn lists<A: Allocator + Copy>(alloc: A, rings: &[&[Place]]) -> Result<Vec<Corners<A>, A>, Fail> {
+    let mut lists = Vec::new(alloc);
+    for ring in rings {
+        lists.push(corners(alloc, ring)?)?;
+    }
+    Ok(lists)
+}
+
 /// The same, of the rings at these places.
 pub fn records<'a, H: Allocator>(heap: &'a H, rings: &[&[Place]]) -> Result<Records<'a, H>, Fail>
     ensures numbers { IfOk result (λ records. NumbersRise 0 LAYER_RECORDS (rings_of records.items)) }
     ensures corners { IfOk result (λ records. corner_count (rings_of records.items) ≤ LAYER_CORNERS) }
 {
-    let mut lists = Vec::new(heap);
-    for ring in rings {
-        lists.push(corners(heap, ring)?)?;
-    }
+    let lists = lists(heap, rings)?;
     read(heap, &lists)
 }
 
@@ -67,15 +73,25 @@ pub fn sound_city<'a, H: Allocator>(heap: &'a H, ring: &[Place]) -> Result<City<
     }
 }
 
+/// What lists of corners are answered as a layer of the city.
+pub fn load_lists<'a, H: Allocator>(
+    heap: &'a H,
+    city: &[Place],
+    lists: &[Corners<&'a H>],
+) -> Result<Result<Layer<'a, H>, LoadFault>, Fail> {
+    let city = sound_city(heap, city)?;
+    let records = read(heap, lists)?;
+    Ok(Layer::load(heap, &city, records))
+}
+
 /// What the rings at these places are answered as a layer of the city.
 pub fn load<'a, H: Allocator>(
     heap: &'a H,
     city: &[Place],
     rings: &[&[Place]],
 ) -> Result<Result<Layer<'a, H>, LoadFault>, Fail> {
-    let city = sound_city(heap, city)?;
-    let records = records(heap, rings)?;
-    Ok(Layer::load(heap, &city, records))
+    let lists = lists(heap, rings)?;
+    load_lists(heap, city, &lists)
 }
 
 /// The layer of the rings at these places, in the city.

@@ -7,82 +7,106 @@ use std::alloc::Allocator;
 use std::test::Fail;
 use test_builders::{Place, corner};
 
-/// Whether a corner is inside this parcel.
-fn is_inside<H: Allocator>(layer: &Layer<'_, H>, place: Place, parcel: u64) -> Result<bool, Fail> {
+/// Where a place is: on the edges of these parcels; or inside the one; or, where there is none, outside.
+type Where = (&'static [u64], Option<u64>);
+
+/// A city's ring, the rings in it, and where places are among them.
+type Row = (
+    &'static [Place],
+    &'static [&'static [Place]],
+    &'static [(Place, Where)],
+);
+
+const LOW: i64 = -LIMIT;
+
+const HIGH: i64 = LIMIT;
+
+const WIDEST: [Place; 4] = [(LOW, LOW), (HIGH, LOW), (HIGH, HIGH), (LOW, HIGH)];
+
+const BELOW: [Place; 3] = [(LOW, LOW), (HIGH, LOW), (HIGH, HIGH)];
+
+const ABOVE: [Place; 3] = [(LOW, LOW), (HIGH, HIGH), (LOW, HIGH)];
+
+/// A parcel round two others.
+const ROUND: [Place; 8] = [
+    (0, 0),
+    (100, 0),
+    (100, 20),
+    (40, 20),
+    (40, 80),
+    (100, 80),
+    (100, 100),
+    (0, 100),
+];
+
+const NEAR: [Place; 4] = [(40, 20), (70, 20), (70, 80), (40, 80)];
+
+const FAR: [Place; 4] = [(70, 20), (100, 20), (100, 80), (70, 80)];
+
+static ROWS: [Row; 3] = [
+    (
+        &SQUARE,
+        &[&WEST, &EAST],
+        &[
+            ((0, 0), (&[1], None)),
+            ((60, 0), (&[1, 2], None)),
+            ((60, 50), (&[1, 2], None)),
+            ((59, 50), (&[], Some(1))),
+            ((61, 50), (&[], Some(2))),
+            ((100, 101), (&[], None)),
+            ((-1, 50), (&[], None)),
+        ],
+    ),
+    (
+        &WIDEST,
+        &[&BELOW, &ABOVE],
+        &[
+            ((0, 0), (&[1, 2], None)),
+            ((1, 0), (&[], Some(1))),
+            ((LOW, HIGH), (&[2], None)),
+        ],
+    ),
+    (
+        &SQUARE,
+        &[&ROUND, &NEAR, &FAR],
+        &[
+            ((40, 50), (&[1, 2], None)),
+            ((70, 20), (&[1, 2, 3], None)),
+            ((50, 50), (&[], Some(2))),
+            ((30, 50), (&[], Some(1))),
+            ((101, 50), (&[], None)),
+        ],
+    ),
+];
+
+/// Whether a place is located there.
+fn is_at<H: Allocator>(layer: &Layer<'_, H>, place: Place, want: Where) -> Result<bool, Fail> {
     match layer.locate(corner(place)?)? {
-        At::Inside(id) => Ok(id == parcel),
-        At::OnEdge(_) | At::Outside => Ok(false),
+        At::OnEdge(ids) => Ok(!ids.is_empty() && ids.as_slice() == want.0 && want.1.is_none()),
+        At::Inside(id) => Ok(want.0.is_empty() && want.1 == Some(id)),
+        At::Outside => Ok(want.0.is_empty() && want.1.is_none()),
     }
 }
 
-/// Whether a corner is on an edge of these parcels and of no others.
-fn is_on_edge<H: Allocator>(
-    layer: &Layer<'_, H>,
-    place: Place,
-    parcels: &[u64],
-) -> Result<bool, Fail> {
-    match layer.locate(corner(place)?)? {
-        At::OnEdge(ids) => Ok(ids.as_slice() == parcels),
-        At::Inside(_) | At::Outside => Ok(false),
+/// How many places of a row are located where it says, from the first on.
+fn count_located<H: Allocator>(heap: &H, row: &Row) -> Result<usize, Fail> {
+    let layer = tiling(heap, row.0, row.1)?;
+    let mut count = 0usize;
+    for (place, want) in row.2 {
+        if !is_at(&layer, *place, *want)? {
+            break;
+        }
+        count = count.wrapping_add(1);
     }
+    Ok(count)
 }
 
-/// Whether a corner is in no parcel.
-fn is_outside<H: Allocator>(layer: &Layer<'_, H>, place: Place) -> Result<bool, Fail> {
-    match layer.locate(corner(place)?)? {
-        At::Outside => Ok(true),
-        At::Inside(_) | At::OnEdge(_) => Ok(false),
+#[test]
+fn locates_corners(rt: HostRuntime) -> Result<(), Fail> {
+    let heap = &rt.alloc();
+    for (number, row) in ROWS.iter().enumerate() {
+        let count = count_located(heap, row)?;
+        assert_eq!(rt; count, row.2.len(), "row {number}");
     }
-}
-
-#[test]
-fn locates_corners_of_two_parcels(rt: HostRuntime) -> Result<(), Fail> {
-    let heap = &rt.alloc();
-    let layer = tiling(heap, &SQUARE, &[&WEST, &EAST])?;
-    assert!(rt; is_on_edge(&layer, (0, 0), &[1])?);
-    assert!(rt; is_on_edge(&layer, (60, 0), &[1, 2])?);
-    assert!(rt; is_on_edge(&layer, (60, 50), &[1, 2])?);
-    assert!(rt; is_inside(&layer, (59, 50), 1)?);
-    assert!(rt; is_inside(&layer, (61, 50), 2)?);
-    assert!(rt; is_outside(&layer, (100, 101))?);
-    assert!(rt; is_outside(&layer, (-1, 50))?);
-    Ok(())
-}
-
-#[test]
-fn locates_corners_at_the_limits(rt: HostRuntime) -> Result<(), Fail> {
-    let heap = &rt.alloc();
-    let (low, high) = (-LIMIT, LIMIT);
-    let city = [(low, low), (high, low), (high, high), (low, high)];
-    let below = [(low, low), (high, low), (high, high)];
-    let above = [(low, low), (high, high), (low, high)];
-    let layer = tiling(heap, &city, &[&below, &above])?;
-    assert!(rt; is_on_edge(&layer, (0, 0), &[1, 2])?);
-    assert!(rt; is_inside(&layer, (1, 0), 1)?);
-    assert!(rt; is_on_edge(&layer, (low, high), &[2])?);
-    Ok(())
-}
-
-#[test]
-fn locates_corners_of_a_parcel_round_two(rt: HostRuntime) -> Result<(), Fail> {
-    let heap = &rt.alloc();
-    let round = [
-        (0, 0),
-        (100, 0),
-        (100, 20),
-        (40, 20),
-        (40, 80),
-        (100, 80),
-        (100, 100),
-        (0, 100),
-    ];
-    let near = [(40, 20), (70, 20), (70, 80), (40, 80)];
-    let far = [(70, 20), (100, 20), (100, 80), (70, 80)];
-    let layer = tiling(heap, &SQUARE, &[&round, &near, &far])?;
-    assert!(rt; is_on_edge(&layer, (40, 50), &[1, 2])?);
-    assert!(rt; is_on_edge(&layer, (70, 20), &[1, 2, 3])?);
-    assert!(rt; is_inside(&layer, (50, 50), 2)?);
-    assert!(rt; is_inside(&layer, (30, 50), 1)?);
-    assert!(rt; is_outside(&layer, (101, 50))?);
     Ok(())
 }

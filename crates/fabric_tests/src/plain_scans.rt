@@ -1,7 +1,7 @@
 //! A layer's answers beside those of a scan over all its parcels, for tilings and corners that are drawn at random. The generator
 //! begins with the same words each time.
 
-use crate::loading::{read, sound_city};
+use crate::loading::load_lists;
 use fabric_core::{At, Layer};
 use geo_exact::{Corner, Corners, on_segment, turn};
 use rand_core::utils::NextWord;
@@ -57,8 +57,8 @@ fn drawn<'a>(heap: &'a Global, words: &mut Pcg32) -> Result<Layer<'a, Global>, F
             west = east;
         }
     }
-    let city = sound_city(heap, &[(0, 0), (SIDE, 0), (SIDE, SIDE), (0, SIDE)])?;
-    match Layer::load(heap, &city, read(heap, &lists)?) {
+    let city = [(0, 0), (SIDE, 0), (SIDE, SIDE), (0, SIDE)];
+    match load_lists(heap, &city, &lists)? {
         Ok(layer) => Ok(layer),
         Err(_) => Err(Fail::new("no tiling")),
     }
@@ -155,19 +155,32 @@ fn are_candidates<H: Allocator>(
     Ok(layer.candidates(low, high)?.as_slice() == want.as_slice())
 }
 
+/// Whether fifty corners that are drawn are located where a scan finds them, and the candidates between each and the one before it
+/// are those of a scan.
+fn answers_as_a_scan<H: Allocator>(
+    heap: &Global,
+    layer: &Layer<'_, H>,
+    words: &mut Pcg32,
+) -> Result<bool, Fail> {
+    let mut before = drawn_corner(words)?;
+    for _ in 0..50u32 {
+        let place = drawn_corner(words)?;
+        if !is_located(heap, layer, place)? || !are_candidates(heap, layer, before, place)? {
+            return Ok(false);
+        }
+        before = place;
+    }
+    Ok(true)
+}
+
 #[test]
 fn answers_as_a_scan_does(rt: HostRuntime) -> Result<(), Fail> {
     let heap = &rt.alloc();
     let mut words = Pcg32::new(42, 54);
-    for _ in 0..20u32 {
+    for number in 0..20u32 {
         let layer = drawn(heap, &mut words)?;
-        let mut before = drawn_corner(&mut words)?;
-        for _ in 0..50u32 {
-            let place = drawn_corner(&mut words)?;
-            assert!(rt; is_located(heap, &layer, place)?);
-            assert!(rt; are_candidates(heap, &layer, before, place)?);
-            before = place;
-        }
+        let is_so = answers_as_a_scan(heap, &layer, &mut words)?;
+        assert!(rt; is_so, "layer {number}");
     }
     Ok(())
 }

@@ -2,80 +2,239 @@
 //! has to give.
 
 use crate::loading::{EAST, SQUARE, WEST, records, sound_city};
-use fabric_core::{City, CityFault, Layer, LoadFault};
+use fabric_core::{AllFaults, City, CityFault, Layer, LoadFault};
+use geo_exact::Corner;
 use refusing_alloc::Refusing;
+use ring_core::RingFault;
+use std::alloc::Global;
 use std::test::Fail;
 use test_builders::Place;
 
 /// No call here has so many growths.
 const MOST: u64 = 1000;
 
+/// The heap of the tests here.
+type Heap = Refusing<Global>;
+
+/// A ring and its fault.
+type FaultyRing = (u32, RingFault);
+
+/// An edge that the rings do not have as often as the city, and how much oftener.
+type Edge = (Place, Place, i64);
+
+/// What rings in the square are answered.
+enum Answer {
+    /// A layer of these parcels.
+    Ids(&'static [u64]),
+    /// The first edge that is not balanced.
+    First(Edge),
+    /// All rings with a fault.
+    Rings(&'static [FaultyRing]),
+    /// All edges that are not balanced.
+    Gaps(&'static [Edge]),
+}
+
+/// Rings in the square, their answer, and a number of growths that it takes more than.
+type Row = (&'static [&'static [Place]], Answer, u64);
+
+const NARROW: [Place; 4] = [(61, 0), (100, 0), (100, 100), (61, 100)];
+
+const TWISTED: [Place; 4] = [(60, 0), (100, 100), (100, 0), (60, 60)];
+
+/// The answers of [`Layer::load`].
+static LOADED: [Row; 2] = [
+    (&[&WEST, &EAST], Answer::Ids(&[1, 2]), 10),
+    (
+        &[&WEST, &NARROW],
+        Answer::First(((60, 0), (60, 100), 1)),
+        10,
+    ),
+];
+
+const GAPS: [Edge; 4] = [
+    ((60, 0), (60, 100), 1),
+    ((60, 0), (61, 0), -1),
+    ((60, 100), (61, 100), 1),
+    ((61, 0), (61, 100), -1),
+];
+
+const FAULTY: [FaultyRing; 2] = [
+    (1, RingFault::EdgesMeet(1, 3)),
+    (3, RingFault::EdgesMeet(1, 3)),
+];
+
+/// The answers of [`Layer::load_or_all`].
+static ALL: [Row; 3] = [
+    (&[&WEST, &EAST], Answer::Ids(&[1, 2]), 10),
+    (&[&WEST, &NARROW], Answer::Gaps(&GAPS), 10),
+    (&[&TWISTED, &WEST, &TWISTED], Answer::Rings(&FAULTY), 3),
+];
+
+/// What a call with a growth refused was answered.
+#[derive(Clone, Copy)]
+enum Told {
+    NoMemory,
+    Wanted,
+    Another,
+}
+
+impl Told {
+    /// An answer that is none of want of memory.
+    fn of(is_wanted: bool) -> Told {
+        if is_wanted {
+            Told::Wanted
+        } else {
+            Told::Another
+        }
+    }
+}
+
+/// Whether a growth was refused. The answer has to be want of memory exactly then, and else the one that is wanted.
+fn refused(is_refused: bool, told: Told) -> Result<bool, Fail> {
+    match (is_refused, told) {
+        (true, Told::NoMemory) => Ok(true),
+        (false, Told::Wanted) => Ok(false),
+        _ => Err(Fail::new("another answer")),
+    }
+}
+
+/// Makes a city with growth `number` refused; whether it was.
+fn is_city_refused(heap: &Heap, number: u64) -> Result<bool, Fail> {
+    let Some(ring) = records(heap, &[&SQUARE])?.pop() else {
+        return Err(Fail::new("no ring"));
+    };
+    heap.refuse(number);
+    let city = City::new(heap, ring);
+    let is_refused = heap.is_spent();
+    heap.refuse(0);
+    match city {
+        Ok(_) => refused(is_refused, Told::Wanted),
+        Err(CityFault::NoMemory) => refused(is_refused, Told::NoMemory),
+        Err(_) => refused(is_refused, Told::Another),
+    }
+}
+
 #[test]
 fn a_city(rt: HostRuntime) -> Result<(), Fail> {
-    let heap = &Refusing::new(rt.alloc(), 0);
+    let heap = Refusing::new(rt.alloc(), 0);
     for number in 1..MOST {
-        let Some(ring) = records(heap, &[&SQUARE])?.pop() else {
-            return Err(Fail::new("no ring"));
-        };
-        heap.refuse(number);
-        let city = City::new(heap, ring);
-        if !heap.is_spent() {
-            assert!(rt; city.is_ok() && number > 1);
+        if !is_city_refused(&heap, number)? {
+            assert!(rt; number > 1);
             return Ok(());
         }
-        heap.refuse(0);
-        assert!(rt;
-            matches!(city, Err(CityFault::NoMemory)),
-            "at growth {number}"
-        );
+    }
+    Err(Fail::new("each growth was refused"))
+}
+
+/// Whether these are the layer's parcels.
+fn has_ids(layer: &Layer<'_, Heap>, want: &Answer) -> bool {
+    let Answer::Ids(ids) = want else {
+        return false;
+    };
+    layer.ids().count() == ids.len() && layer.ids().zip(*ids).all(|(id, want)| id == *want)
+}
+
+/// Whether this is the edge that is wanted.
+fn is_edge(edge: (Corner, Corner, i64), want: Edge) -> bool {
+    (edge.0.x, edge.0.y) == want.0 && (edge.1.x, edge.1.y) == want.1 && edge.2 == want.2
+}
+
+/// Whether this is the first fault.
+fn is_first(fault: LoadFault, want: &Answer) -> bool {
+    match (fault, want) {
+        (LoadFault::Gap(a, b, net), Answer::First(first)) => is_edge((a, b, net), *first),
+        _ => false,
+    }
+}
+
+/// Whether these are the edges that are wanted, in order.
+fn are_edges(edges: &[(Corner, Corner, i64)], want: &[Edge]) -> bool {
+    edges.len() == want.len()
+        && edges
+            .iter()
+            .zip(want)
+            .all(|(edge, want)| is_edge(*edge, *want))
+}
+
+/// Loads a layer with growth `number` refused; whether it was.
+fn is_loading_refused<'a>(
+    heap: &'a Heap,
+    city: &City<'a, Heap>,
+    row: &Row,
+    number: u64,
+) -> Result<bool, Fail> {
+    let rings = records(heap, row.0)?;
+    heap.refuse(number);
+    let layer = Layer::load(heap, city, rings);
+    let is_refused = heap.is_spent();
+    heap.refuse(0);
+    match layer {
+        Ok(layer) => refused(is_refused, Told::of(has_ids(&layer, &row.1))),
+        Err(LoadFault::NoMemory) => refused(is_refused, Told::NoMemory),
+        Err(fault) => refused(is_refused, Told::of(is_first(fault, &row.1))),
+    }
+}
+
+/// Whether these are all faults.
+fn are_all(faults: &AllFaults<&Heap>, want: &Answer) -> bool {
+    match (faults, want) {
+        (AllFaults::Rings(rings), Answer::Rings(want)) => rings.as_slice() == *want,
+        (AllFaults::Gaps(gaps), Answer::Gaps(want)) => are_edges(gaps.as_slice(), want),
+        _ => false,
+    }
+}
+
+/// Loads a layer, or tells all faults, with growth `number` refused; whether it was.
+fn is_telling_refused<'a>(
+    heap: &'a Heap,
+    city: &City<'a, Heap>,
+    row: &Row,
+    number: u64,
+) -> Result<bool, Fail> {
+    let rings = records(heap, row.0)?;
+    heap.refuse(number);
+    let layer = Layer::load_or_all(heap, city, rings);
+    let is_refused = heap.is_spent();
+    heap.refuse(0);
+    match layer {
+        Ok(layer) => refused(is_refused, Told::of(has_ids(&layer, &row.1))),
+        Err(AllFaults::NoMemory) => refused(is_refused, Told::NoMemory),
+        Err(faults) => refused(is_refused, Told::of(are_all(&faults, &row.1))),
+    }
+}
+
+/// The first growth that is not made any more.
+fn growths_of_loading(heap: &Heap, row: &Row) -> Result<u64, Fail> {
+    let city = sound_city(heap, &SQUARE)?;
+    for number in 1..MOST {
+        if !is_loading_refused(heap, &city, row, number)? {
+            return Ok(number);
+        }
+    }
+    Err(Fail::new("each growth was refused"))
+}
+
+/// The same, where all faults are told.
+fn growths_of_telling(heap: &Heap, row: &Row) -> Result<u64, Fail> {
+    let city = sound_city(heap, &SQUARE)?;
+    for number in 1..MOST {
+        if !is_telling_refused(heap, &city, row, number)? {
+            return Ok(number);
+        }
     }
     Err(Fail::new("each growth was refused"))
 }
 
 #[test]
-fn a_tiling(rt: HostRuntime) -> Result<(), Fail> {
-    let heap = &Refusing::new(rt.alloc(), 0);
-    let city = sound_city(heap, &SQUARE)?;
-    for number in 1..MOST {
-        let rings = records(heap, &[&WEST, &EAST])?;
-        heap.refuse(number);
-        let layer = Layer::load(heap, &city, rings);
-        if !heap.is_spent() {
-            let Ok(layer) = layer else {
-                return Err(Fail::new("no tiling"));
-            };
-            assert!(rt; layer.ids().eq([1, 2]));
-            assert!(rt; number > 10);
-            return Ok(());
-        }
-        heap.refuse(0);
-        assert!(rt;
-            matches!(layer, Err(LoadFault::NoMemory)),
-            "at growth {number}"
-        );
+fn a_layer(rt: HostRuntime) -> Result<(), Fail> {
+    let heap = Refusing::new(rt.alloc(), 0);
+    for (place, row) in LOADED.iter().enumerate() {
+        let growths = growths_of_loading(&heap, row)?;
+        assert!(rt; growths > row.2, "row {place}");
     }
-    Err(Fail::new("each growth was refused"))
-}
-
-#[test]
-fn a_layer_with_a_gap(rt: HostRuntime) -> Result<(), Fail> {
-    const NARROW: [Place; 4] = [(61, 0), (100, 0), (100, 100), (61, 100)];
-    let heap = &Refusing::new(rt.alloc(), 0);
-    let city = sound_city(heap, &SQUARE)?;
-    for number in 1..MOST {
-        let rings = records(heap, &[&WEST, &NARROW])?;
-        heap.refuse(number);
-        let layer = Layer::load(heap, &city, rings);
-        let is_refused = heap.is_spent();
-        heap.refuse(0);
-        if !is_refused {
-            assert!(rt; matches!(layer, Err(LoadFault::Gap(_, _, 1))) && number > 10);
-            return Ok(());
-        }
-        assert!(rt;
-            matches!(layer, Err(LoadFault::NoMemory)),
-            "at growth {number}"
-        );
+    for (place, row) in ALL.iter().enumerate() {
+        let growths = growths_of_telling(&heap, row)?;
+        assert!(rt; growths > row.2, "all faults, row {place}");
     }
-    Err(Fail::new("each growth was refused"))
+    Ok(())
 }

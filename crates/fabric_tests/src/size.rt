@@ -1,7 +1,7 @@
 //! A layer of the greatest number of parcels, a ring of the greatest number of corners, and one more than that.
 
-use crate::loading::{read, sound_city};
-use fabric_core::{Layer, LoadFault};
+use crate::loading::load_lists;
+use fabric_core::LoadFault;
 use geo_exact::{Corners, LAYER_RECORDS, RING_CORNERS};
 use std::alloc::Global;
 use std::test::Fail;
@@ -12,6 +12,9 @@ const WIDE: [Place; 4] = [(0, 0), (5000, 0), (5000, 100), (0, 100)];
 
 /// The parcel below the border.
 const BELOW: [Place; 4] = [(0, 0), (5000, 0), (5000, 50), (0, 50)];
+
+/// The same with one corner more.
+const MORE: [Place; 5] = [(0, 0), (1, 0), (5000, 0), (5000, 50), (0, 50)];
 
 /// The parcel above the border: 4,093 corners along it, one centimetre apart, and three more.
 fn above(heap: &Global) -> Result<Corners<&Global>, Fail> {
@@ -25,52 +28,55 @@ fn above(heap: &Global) -> Result<Corners<&Global>, Fail> {
     Ok(list)
 }
 
-#[test]
-fn nodes_a_border_of_the_most_corners(rt: HostRuntime) -> Result<(), Fail> {
-    let heap = &rt.alloc();
-    let city = sound_city(heap, &WIDE)?;
+/// How many corners the first parcel has, in a layer of a parcel with this ring and the one above the border; or why it is none.
+fn first_of_two(heap: &Global, below: &[Place]) -> Result<Result<usize, LoadFault>, Fail> {
     let mut lists = Vec::new(heap);
-    lists.push(corners(heap, &BELOW)?)?;
+    lists.push(corners(heap, below)?)?;
     lists.push(above(heap)?)?;
-    let Ok(layer) = Layer::load(heap, &city, read(heap, &lists)?) else {
-        return Err(Fail::new("no tiling"));
-    };
-    let Some(ring) = layer.ring(1) else {
-        return Err(Fail::new("no first parcel"));
-    };
-    assert_eq!(rt; ring.corners.len(), RING_CORNERS);
-    Ok(())
+    match load_lists(heap, &WIDE, &lists)? {
+        Ok(layer) => Ok(Ok(layer.ring(1).map_or(0, |ring| ring.corners.len()))),
+        Err(fault) => Ok(Err(fault)),
+    }
 }
 
 #[test]
-fn refuses_a_border_of_more_corners(rt: HostRuntime) -> Result<(), Fail> {
-    const MORE: [Place; 5] = [(0, 0), (1, 0), (5000, 0), (5000, 50), (0, 50)];
+fn nodes_a_border_of_the_most_corners(rt: HostRuntime) -> Result<(), Fail> {
     let heap = &rt.alloc();
-    let city = sound_city(heap, &WIDE)?;
-    let mut lists = Vec::new(heap);
-    lists.push(corners(heap, &MORE)?)?;
-    lists.push(above(heap)?)?;
-    let refused = Layer::load(heap, &city, read(heap, &lists)?);
-    assert!(rt; matches!(refused, Err(LoadFault::TooMany(1))));
+    let most = first_of_two(heap, &BELOW)?;
+    assert_eq!(rt; most, Ok(RING_CORNERS));
+    let more = first_of_two(heap, &MORE)?;
+    assert_eq!(rt; more, Err(LoadFault::TooMany(1)));
     Ok(())
+}
+
+/// The rectangles of one centimetre side by side, as many as a layer may have.
+fn most_rectangles(heap: &Global) -> Result<Vec<Corners<&Global>, &Global>, Fail> {
+    let mut lists = Vec::new(heap);
+    for x in 0..i64::from(LAYER_RECORDS) {
+        lists.push(rectangle(heap, (x, x.saturating_add(1)), (0, 9))?)?;
+    }
+    Ok(lists)
+}
+
+/// How many parcels a layer of these lists has, and whether the last is the last rectangle.
+fn last_of<'a>(heap: &'a Global, lists: &[Corners<&'a Global>]) -> Result<(usize, bool), Fail> {
+    let side = i64::from(LAYER_RECORDS);
+    let city = [(0, 0), (side, 0), (side, 9), (0, 9)];
+    let Ok(layer) = load_lists(heap, &city, lists)? else {
+        return Err(Fail::new("no tiling"));
+    };
+    let Some(last) = layer.ring(u64::from(LAYER_RECORDS)) else {
+        return Err(Fail::new("no last parcel"));
+    };
+    let is_last = last.corners == rectangle(heap, (side - 1, side), (0, 9))?;
+    Ok((layer.ids().len(), is_last))
 }
 
 #[test]
 fn loads_the_most_parcels(rt: HostRuntime) -> Result<(), Fail> {
     let heap = &rt.alloc();
-    let side = i64::from(LAYER_RECORDS);
-    let city = sound_city(heap, &[(0, 0), (side, 0), (side, 9), (0, 9)])?;
-    let mut lists = Vec::new(heap);
-    for x in 0..side {
-        lists.push(rectangle(heap, (x, x.saturating_add(1)), (0, 9))?)?;
-    }
-    let Ok(layer) = Layer::load(heap, &city, read(heap, &lists)?) else {
-        return Err(Fail::new("no tiling"));
-    };
-    assert_eq!(rt; layer.ids().len(), LAYER_RECORDS as usize);
-    let Some(last) = layer.ring(u64::from(LAYER_RECORDS)) else {
-        return Err(Fail::new("no last parcel"));
-    };
-    assert!(rt; last.corners == rectangle(heap, (side - 1, side), (0, 9))?);
+    let lists = most_rectangles(heap)?;
+    let last = last_of(heap, &lists)?;
+    assert_eq!(rt; last, (LAYER_RECORDS as usize, true));
     Ok(())
 }

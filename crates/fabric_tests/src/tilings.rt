@@ -1,199 +1,243 @@
 //! Layers that tile their city, and layers that do not.
 
-use crate::loading::{EAST, SQUARE, WEST, load, tiling};
+use crate::loading::{EAST, SQUARE, WEST, load};
 use fabric_core::{Layer, LoadFault};
 use geo_exact::{Corner, LIST_CORNERS, area2};
-use std::alloc::{Allocator, Global};
+use ring_core::RingFault;
+use std::alloc::Allocator;
 use std::test::Fail;
-use test_builders::{Place, corners};
+use test_builders::Place;
 
-/// Whether a parcel's ring is at these places, and twice its area is this.
-fn is_parcel<H: Allocator>(
-    layer: &Layer<'_, H>,
-    id: u64,
-    places: &[Place],
-    twice_area: i128,
-) -> Result<bool, Fail> {
-    let (Some(ring), Some(shape)) = (layer.ring(id), layer.shape(id)) else {
-        return Err(Fail::new("no such parcel"));
-    };
-    let corners = ring.corners.as_slice();
-    if corners.len() > LIST_CORNERS {
-        return Err(Fail::new("more corners than a list may have"));
-    }
-    let same = are_at(corners, places) && are_at(shape.ring.corners.as_slice(), places);
-    Ok(same && area2(corners) == twice_area)
+/// A parcel's id, twice its area, and its ring.
+type Parcel = (u64, i128, &'static [Place]);
+
+/// What rings are answered as a layer.
+enum Answer {
+    /// These parcels, by ascending id, and the city's ring with their corners in it.
+    Tiles(&'static [Parcel], &'static [Place]),
+    /// A record with a faulty ring.
+    Ring(u32, RingFault),
+    /// An edge that the rings do not have as often as the city, and how much oftener.
+    Gap(Place, Place, i64),
 }
 
+/// A city's ring, rings in it, and what they are answered.
+type Row = (&'static [Place], &'static [&'static [Place]], Answer);
+
+/// The greatest coordinate.
+const M: i64 = 10_000_000_000;
+
+/// Twice the area of half the plane's square.
+const HALF: i128 = 400_000_000_000_000_000_000;
+
+const TWO: [Parcel; 2] = [(1, 12_000, &WEST), (2, 8_000, &EAST)];
+
+const REFINED: [Place; 6] = [(0, 0), (60, 0), (100, 0), (100, 100), (60, 100), (0, 100)];
+
+/// Every other record is a null shape.
+const NUMBERED: [Parcel; 2] = [(2, 12_000, &WEST), (4, 8_000, &EAST)];
+
+/// A parcel round two that stand side by side in it.
+const BAY: [Place; 8] = [
+    (0, 0),
+    (100, 0),
+    (100, 20),
+    (40, 20),
+    (40, 80),
+    (100, 80),
+    (100, 100),
+    (0, 100),
+];
+
+const INNER: [Place; 4] = [(40, 20), (70, 20), (70, 80), (40, 80)];
+
+const OUTER: [Place; 4] = [(70, 20), (100, 20), (100, 80), (70, 80)];
+
+/// The corners of the two inner parcels lie inside two edges of the first.
+const ROUND_TWO: [Parcel; 3] = [
+    (
+        1,
+        12_800,
+        &[
+            (0, 0),
+            (100, 0),
+            (100, 20),
+            (70, 20),
+            (40, 20),
+            (40, 80),
+            (70, 80),
+            (100, 80),
+            (100, 100),
+            (0, 100),
+        ],
+    ),
+    (2, 3_600, &INNER),
+    (3, 3_600, &OUTER),
+];
+
+const REFINED_ROUND_TWO: [Place; 6] = [
+    (0, 0),
+    (100, 0),
+    (100, 20),
+    (100, 80),
+    (100, 100),
+    (0, 100),
+];
+
+const LOW: [Place; 4] = [(60, 0), (100, 0), (100, 50), (60, 50)];
+
+const HIGH: [Place; 4] = [(60, 50), (100, 50), (100, 100), (60, 100)];
+
+/// A corner of two parcels lies inside an edge of the third.
+const AT_A_JUNCTION: [Parcel; 3] = [
+    (1, 12_000, &[(0, 0), (60, 0), (60, 50), (60, 100), (0, 100)]),
+    (2, 4_000, &LOW),
+    (3, 4_000, &HIGH),
+];
+
+const REFINED_AT_A_JUNCTION: [Place; 7] = [
+    (0, 0),
+    (60, 0),
+    (100, 0),
+    (100, 50),
+    (100, 100),
+    (60, 100),
+    (0, 100),
+];
+
+/// The city's ring, begun at another corner.
+const TURNED: [Place; 4] = [(100, 0), (100, 100), (0, 100), (0, 0)];
+
+const ALONE: [Parcel; 1] = [(1, 20_000, &SQUARE)];
+
+const WIDEST: [Place; 4] = [(-M, -M), (M, -M), (M, M), (-M, M)];
+
+const RIGHT: [Place; 3] = [(-M, -M), (M, -M), (M, M)];
+
+const LEFT: [Place; 3] = [(-M, -M), (M, M), (-M, M)];
+
+const HALVES: [Parcel; 2] = [(1, HALF, &RIGHT), (2, HALF, &LEFT)];
+
+/// A centimetre is missing beside the parcel in the west.
+const NARROW: [Place; 4] = [(61, 0), (100, 0), (100, 100), (61, 100)];
+
+const OVERLAPPING: [&[Place]; 3] = [
+    &WEST,
+    &[(50, 0), (80, 0), (80, 100), (50, 100)],
+    &[(90, 0), (100, 0), (100, 100), (90, 100)],
+];
+
+const CROSSED: [Place; 4] = [(0, 0), (100, 100), (100, 0), (0, 100)];
+
+const MEETING: [Place; 4] = [(0, 0), (0, 60), (100, 0), (100, 100)];
+
+static ROWS: [Row; 10] = [
+    (&SQUARE, &[&WEST, &EAST], Answer::Tiles(&TWO, &REFINED)),
+    (
+        &SQUARE,
+        &[&[], &WEST, &[], &EAST, &[]],
+        Answer::Tiles(&NUMBERED, &REFINED),
+    ),
+    (
+        &SQUARE,
+        &[&BAY, &INNER, &OUTER],
+        Answer::Tiles(&ROUND_TWO, &REFINED_ROUND_TWO),
+    ),
+    (
+        &SQUARE,
+        &[&WEST, &LOW, &HIGH],
+        Answer::Tiles(&AT_A_JUNCTION, &REFINED_AT_A_JUNCTION),
+    ),
+    (&SQUARE, &[&TURNED], Answer::Tiles(&ALONE, &SQUARE)),
+    (&WIDEST, &[&RIGHT, &LEFT], Answer::Tiles(&HALVES, &WIDEST)),
+    (
+        &SQUARE,
+        &[&WEST, &NARROW],
+        Answer::Gap((60, 0), (60, 100), 1),
+    ),
+    (&SQUARE, &OVERLAPPING, Answer::Gap((50, 0), (50, 100), -1)),
+    (&SQUARE, &[], Answer::Gap((0, 0), (0, 100), 1)),
+    // a ring's fault comes before a gap
+    (
+        &SQUARE,
+        &[&WEST, &CROSSED, &MEETING],
+        Answer::Ring(2, RingFault::ZeroArea),
+    ),
+];
+
 /// Whether the corners are at these places, in order.
-pub fn are_at(corners: &[Corner], places: &[Place]) -> bool {
+fn are_at(corners: &[Corner], places: &[Place]) -> bool {
     corners.len() == places.len()
         && corners.iter().zip(places).all(|(corner, place)| corner.x == place.0
             && corner.y == place.1)
 }
 
-/// What a layer of rectangles over the whole height of the city is refused with.
-fn gap_of(heap: &Global, columns: &[Place]) -> Result<(Place, Place, i64), Fail> {
-    let mut rings = Vec::new(*heap);
-    for column in columns {
-        rings.push([
-            (column.0, 0),
-            (column.1, 0),
-            (column.1, 100),
-            (column.0, 100),
-        ])?;
+/// Whether a ring is at these places, and twice its area is this.
+fn is_ring(ring: &[Corner], places: &[Place], twice_area: i128) -> bool {
+    ring.len() <= LIST_CORNERS && area2(ring) == twice_area && are_at(ring, places)
+}
+
+/// Whether a ring and a shape are found under an id exactly where one of these parcels has it.
+fn is_found<H: Allocator>(layer: &Layer<'_, H>, want: &[Parcel], id: u64) -> bool {
+    let is_parcel = want.iter().any(|parcel| parcel.0 == id);
+    layer.ring(id).is_some() == is_parcel && layer.shape(id).is_some() == is_parcel
+}
+
+/// Whether the parcels are these, by ascending id, each found by its id too, and no other.
+fn are<H: Allocator>(layer: &Layer<'_, H>, want: &[Parcel]) -> bool {
+    if layer.ids().count() != want.len() {
+        return false;
     }
-    let mut slices: Vec<&[Place], Global> = Vec::new(*heap);
-    for ring in rings.iter() {
-        slices.push(ring.as_slice())?;
+    for ((id, shape), parcel) in layer.shapes().zip(want) {
+        let Some(ring) = layer.ring(parcel.0) else {
+            return false;
+        };
+        if id != parcel.0
+            || !is_ring(shape.ring.corners.as_slice(), parcel.2, parcel.1)
+            || !is_ring(ring.corners.as_slice(), parcel.2, parcel.1)
+        {
+            return false;
+        }
     }
-    match load(heap, &SQUARE, &slices)? {
-        Err(LoadFault::Gap(a, b, net)) => Ok(((a.x, a.y), (b.x, b.y), net)),
-        Ok(_) | Err(_) => Err(Fail::new("no gap")),
+    for id in 0..6 {
+        if !is_found(layer, want, id) {
+            return false;
+        }
+    }
+    true
+}
+
+/// Whether a fault is the one that is wanted.
+fn is_fault(fault: LoadFault, want: &Answer) -> bool {
+    match (fault, want) {
+        (LoadFault::Ring(record, fault), Answer::Ring(number, of_ring)) => {
+            record == *number && fault == *of_ring
+        }
+        (LoadFault::Gap(a, b, net), Answer::Gap(from, to, count)) => {
+            (a.x, a.y) == *from && (b.x, b.y) == *to && net == *count
+        }
+        _ => false,
+    }
+}
+
+/// Whether the rings of a row are answered as it says.
+fn is_answered<H: Allocator>(heap: &H, row: &Row) -> Result<bool, Fail> {
+    let answer = load(heap, row.0, row.1)?;
+    match (answer, &row.2) {
+        (Ok(layer), Answer::Tiles(parcels, refined)) => Ok(
+            are(&layer, parcels) && are_at(layer.city(), row.0) && are_at(layer.refined(), refined),
+        ),
+        (Err(fault), want) => Ok(is_fault(fault, want)),
+        _ => Ok(false),
     }
 }
 
 #[test]
-fn loads_two_parcels(rt: HostRuntime) -> Result<(), Fail> {
+fn loads_what_tiles_and_nothing_else(rt: HostRuntime) -> Result<(), Fail> {
     let heap = &rt.alloc();
-    let layer = tiling(heap, &SQUARE, &[&WEST, &EAST])?;
-    assert!(rt; layer.ids().eq([1, 2]));
-    assert!(rt; is_parcel(&layer, 1, &WEST, 12_000)?);
-    assert!(rt; is_parcel(&layer, 2, &EAST, 8_000)?);
-    assert!(rt; are_at(layer.city(), &SQUARE));
-    let refined = [(0, 0), (60, 0), (100, 0), (100, 100), (60, 100), (0, 100)];
-    assert!(rt; are_at(layer.refined(), &refined));
-    assert!(rt; layer.ring(0).is_none() && layer.ring(3).is_none());
-    assert!(rt; layer.shape(0).is_none() && layer.shape(3).is_none());
-    Ok(())
-}
-
-#[test]
-fn tells_the_least_gap(rt: HostRuntime) -> Result<(), Fail> {
-    let heap = &rt.alloc();
-    let gap = gap_of(heap, &[(0, 60), (61, 100)])?;
-    assert_eq!(rt; gap, ((60, 0), (60, 100), 1));
-    let overlap = gap_of(heap, &[(0, 60), (50, 80), (90, 100)])?;
-    assert_eq!(rt; overlap, ((50, 0), (50, 100), -1));
-    let nothing = gap_of(heap, &[])?;
-    assert_eq!(rt; nothing, ((0, 0), (0, 100), 1));
-    Ok(())
-}
-
-#[test]
-fn loads_parcels_round_a_bay(rt: HostRuntime) -> Result<(), Fail> {
-    let heap = &rt.alloc();
-    let bay = [
-        (0, 0),
-        (100, 0),
-        (100, 20),
-        (40, 20),
-        (40, 80),
-        (100, 80),
-        (100, 100),
-        (0, 100),
-    ];
-    let inner = [(40, 20), (70, 20), (70, 80), (40, 80)];
-    let outer = [(70, 20), (100, 20), (100, 80), (70, 80)];
-    let layer = tiling(heap, &SQUARE, &[&bay, &inner, &outer])?;
-    // the corners of the two inner parcels lie inside two edges of the first
-    let noded = [
-        (0, 0),
-        (100, 0),
-        (100, 20),
-        (70, 20),
-        (40, 20),
-        (40, 80),
-        (70, 80),
-        (100, 80),
-        (100, 100),
-        (0, 100),
-    ];
-    assert!(rt; is_parcel(&layer, 1, &noded, 12_800)?);
-    assert!(rt; is_parcel(&layer, 2, &inner, 3_600)?);
-    assert!(rt; is_parcel(&layer, 3, &outer, 3_600)?);
-    Ok(())
-}
-
-#[test]
-fn loads_a_junction(rt: HostRuntime) -> Result<(), Fail> {
-    let heap = &rt.alloc();
-    let low = [(60, 0), (100, 0), (100, 50), (60, 50)];
-    let high = [(60, 50), (100, 50), (100, 100), (60, 100)];
-    let layer = tiling(heap, &SQUARE, &[&WEST, &low, &high])?;
-    let noded = [(0, 0), (60, 0), (60, 50), (60, 100), (0, 100)];
-    assert!(rt; is_parcel(&layer, 1, &noded, 12_000)?);
-    assert!(rt; is_parcel(&layer, 2, &low, 4_000)?);
-    assert!(rt; is_parcel(&layer, 3, &high, 4_000)?);
-    let refined = [
-        (0, 0),
-        (60, 0),
-        (100, 0),
-        (100, 50),
-        (100, 100),
-        (60, 100),
-        (0, 100),
-    ];
-    assert!(rt; are_at(layer.refined(), &refined));
-    Ok(())
-}
-
-#[test]
-fn keeps_the_numbers_of_records(rt: HostRuntime) -> Result<(), Fail> {
-    let heap = &rt.alloc();
-    let layer = tiling(heap, &SQUARE, &[&[], &WEST, &[], &EAST, &[]])?;
-    assert!(rt; layer.ids().eq([2, 4]));
-    assert!(rt; is_parcel(&layer, 2, &WEST, 12_000)?);
-    assert!(rt; is_parcel(&layer, 4, &EAST, 8_000)?);
-    assert!(rt; layer.ring(1).is_none() && layer.ring(3).is_none());
-    Ok(())
-}
-
-#[test]
-fn loads_the_city_alone(rt: HostRuntime) -> Result<(), Fail> {
-    let heap = &rt.alloc();
-    // begun at another corner than the city
-    let turned = [(100, 0), (100, 100), (0, 100), (0, 0)];
-    let layer = tiling(heap, &SQUARE, &[&turned])?;
-    assert!(rt; layer.ids().eq([1]));
-    assert!(rt; is_parcel(&layer, 1, &SQUARE, 20_000)?);
-    assert!(rt; are_at(layer.refined(), &SQUARE));
-    Ok(())
-}
-
-#[test]
-fn loads_parcels_at_the_limits(rt: HostRuntime) -> Result<(), Fail> {
-    const M: i64 = 10_000_000_000;
-    let heap = &rt.alloc();
-    let city = [(-M, -M), (M, -M), (M, M), (-M, M)];
-    let right = [(-M, -M), (M, -M), (M, M)];
-    let left = [(-M, -M), (M, M), (-M, M)];
-    let layer = tiling(heap, &city, &[&right, &left])?;
-    let half = 400_000_000_000_000_000_000i128;
-    assert!(rt; is_parcel(&layer, 1, &right, half)?);
-    assert!(rt; is_parcel(&layer, 2, &left, half)?);
-    Ok(())
-}
-
-#[test]
-fn refuses_a_ring_before_a_gap(rt: HostRuntime) -> Result<(), Fail> {
-    let heap = &rt.alloc();
-    let crossed = [(0, 0), (100, 100), (100, 0), (0, 100)];
-    let meeting = [(0, 0), (0, 60), (100, 0), (100, 100)];
-    let refused = load(heap, &SQUARE, &[&WEST, &crossed, &meeting])?;
-    assert!(rt;
-        matches!(
-            refused,
-            Err(LoadFault::Ring(2, ring_core::RingFault::ZeroArea))
-        )
-    );
-    let refused = load(heap, &SQUARE, &[&[], &WEST, &meeting])?;
-    assert!(rt;
-        matches!(
-            refused,
-            Err(LoadFault::Ring(3, ring_core::RingFault::EdgesMeet(_, _)))
-        )
-    );
-    assert!(rt; corners(heap, &crossed)?.len() == 4);
+    for (number, row) in ROWS.iter().enumerate() {
+        let is_so = is_answered(heap, row)?;
+        assert!(rt; is_so, "row {number}");
+    }
     Ok(())
 }

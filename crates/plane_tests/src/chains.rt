@@ -55,11 +55,6 @@ fn rings_of(alloc: Global, lists: &[&[Place]]) -> Result<Rings, Fail> {
     Ok(rings)
 }
 
-/// An edge that is unbalanced, and its count.
-fn gap(from: Place, to: Place, net: i64) -> Result<Option<(Corner, Corner, i64)>, Fail> {
-    Ok(Some((corner(from)?, corner(to)?, net)))
-}
-
 const CITY: [Place; 4] = [(0, 0), (100, 0), (100, 100), (0, 100)];
 
 const WEST: [Place; 4] = [(0, 0), (60, 0), (60, 100), (0, 100)];
@@ -82,51 +77,136 @@ const CITY_NODED: [Place; 7] = [
     (0, 100),
 ];
 
+/// Rings, the corners that they are noded for (all their own, where there is none), and the rings then.
+type NodeRow = (
+    &'static [&'static [Place]],
+    Option<&'static [Place]>,
+    &'static [&'static [Place]],
+);
+
+const FAR: i64 = 10_000_000_000;
+
+static NODED: [NodeRow; 3] = [
+    (
+        &[&WEST, &SOUTH_EAST, &NORTH_EAST, &CITY],
+        None,
+        &[&WEST_NODED, &SOUTH_EAST, &NORTH_EAST, &CITY_NODED],
+    ),
+    // only what lies inside
+    (
+        &[&CITY, &[(-FAR, -FAR), (FAR, -FAR), (FAR, FAR)]],
+        Some(&[
+            (50, 0),
+            (0, 0),
+            (50, 0),
+            (50, 1),
+            (50, -1),
+            (0, -FAR),
+            (FAR - 1, FAR - 1),
+            (FAR - 1, FAR - 2),
+            (FAR, 0),
+            (0, FAR),
+        ]),
+        &[
+            &[(0, 0), (50, 0), (100, 0), (100, 100), (0, 100)],
+            &[
+                (-FAR, -FAR),
+                (0, -FAR),
+                (FAR, -FAR),
+                (FAR, 0),
+                (FAR, FAR),
+                (FAR - 1, FAR - 1),
+                (0, 0),
+            ],
+        ],
+    ),
+    (&[], Some(&[]), &[]),
+];
+
+/// Whether the rings of a row are noded as it says.
+fn are_noded(alloc: Global, row: &NodeRow) -> Result<bool, Fail> {
+    let rings = rings_of(alloc, row.0)?;
+    let corners = match row.1 {
+        Some(places) => ring(alloc, places)?.into_vec(),
+        None => corners_of(alloc, &rings)?,
+    };
+    let noded = node(alloc, &rings, &corners)?;
+    let want = rings_of(alloc, row.2)?;
+    Ok(noded.as_slice() == want.as_slice())
+}
+
 #[test]
-fn nodes_a_junction(rt: HostRuntime) -> Result<(), Fail> {
-    let alloc = rt.alloc();
-    let rings = rings_of(alloc, &[&WEST, &SOUTH_EAST, &NORTH_EAST, &CITY])?;
-    let noded = node(alloc, &rings, &corners_of(alloc, &rings)?)?;
-    let want = rings_of(alloc, &[&WEST_NODED, &SOUTH_EAST, &NORTH_EAST, &CITY_NODED])?;
-    assert_eq!(rt; noded.as_slice(), want.as_slice());
+fn nodes_rings(rt: HostRuntime) -> Result<(), Fail> {
+    for (number, row) in NODED.iter().enumerate() {
+        assert!(rt; are_noded(rt.alloc(), row)?, "row {number}");
+    }
     Ok(())
 }
 
-/// What is unbalanced of rings as they are: a junction, and a ring that is begun elsewhere.
-#[test]
-fn compares_rings_as_they_are(rt: HostRuntime) -> Result<(), Fail> {
-    let alloc = rt.alloc();
-    let junction = rings_of(alloc, &[&WEST, &SOUTH_EAST, &NORTH_EAST, &CITY])?;
-    assert_eq!(rt; compare(alloc, &junction)?, gap((0, 0), (60, 0), 1)?);
-    let begun_elsewhere = [(100, 100), (0, 100), (0, 0), (100, 0)];
-    let same = rings_of(alloc, &[&CITY, &begun_elsewhere])?;
-    assert_eq!(rt; compare(alloc, &same)?, None);
-    Ok(())
+/// Whether rings are noded first, the rings, of which the last is the city's, and their first unbalanced edge with its count.
+type GapRow = (
+    bool,
+    &'static [&'static [Place]],
+    Option<(Place, Place, i64)>,
+);
+
+static GAPS: [GapRow; 6] = [
+    (
+        false,
+        &[&WEST, &SOUTH_EAST, &NORTH_EAST, &CITY],
+        Some(((0, 0), (60, 0), 1)),
+    ),
+    // the city, begun elsewhere
+    (
+        false,
+        &[&CITY, &[(100, 100), (0, 100), (0, 0), (100, 0)]],
+        None,
+    ),
+    (true, &[&WEST, &SOUTH_EAST, &NORTH_EAST, &CITY], None),
+    (
+        true,
+        &[&WEST, &[(61, 0), (100, 0), (100, 100), (61, 100)], &CITY],
+        Some(((60, 0), (60, 100), 1)),
+    ),
+    // an overlap that a gap makes up for
+    (
+        true,
+        &[
+            &WEST,
+            &[(50, 0), (80, 0), (80, 100), (50, 100)],
+            &[(90, 0), (100, 0), (100, 100), (90, 100)],
+            &CITY,
+        ],
+        Some(((50, 0), (50, 100), -1)),
+    ),
+    (true, &[&CITY], Some(((0, 0), (0, 100), 1))),
+];
+
+/// The first unbalanced edge of a row's rings, as places.
+fn first_gap(alloc: Global, row: &GapRow) -> Result<Option<(Place, Place, i64)>, Fail> {
+    let rings = rings_of(alloc, row.1)?;
+    let found = if row.0 {
+        compare_noded(alloc, &rings)?
+    } else {
+        compare(alloc, &rings)?
+    };
+    match found {
+        Some((a, b, net)) => Ok(Some(((a.x, a.y), (b.x, b.y), net))),
+        None => Ok(None),
+    }
 }
 
-/// The first unbalanced edge of these rings, noded, the last being the city's.
-fn first_gap(alloc: Global, lists: &[&[Place]]) -> Result<Option<(Corner, Corner, i64)>, Fail> {
-    compare_noded(alloc, &rings_of(alloc, lists)?)
-}
-
-/// Parcels and their city, noded: a junction, a gap, an overlap that a gap makes up for, and no parcel at all.
 #[test]
 fn finds_gaps(rt: HostRuntime) -> Result<(), Fail> {
-    let alloc = rt.alloc();
-    let behind_a_gap = [(61, 0), (100, 0), (100, 100), (61, 100)];
-    let over_the_west = [(50, 0), (80, 0), (80, 100), (50, 100)];
-    let far_east = [(90, 0), (100, 0), (100, 100), (90, 100)];
-    let junction = [&WEST[..], &SOUTH_EAST, &NORTH_EAST, &CITY];
-    assert_eq!(rt; first_gap(alloc, &junction)?, None);
-    let with_a_gap = [&WEST[..], &behind_a_gap, &CITY];
-    assert_eq!(rt; first_gap(alloc, &with_a_gap)?, gap((60, 0), (60, 100), 1)?);
-    let with_an_overlap = [&WEST[..], &over_the_west, &far_east, &CITY];
-    assert_eq!(rt;
-        first_gap(alloc, &with_an_overlap)?,
-        gap((50, 0), (50, 100), -1)?
-    );
-    assert_eq!(rt; first_gap(alloc, &[&CITY])?, gap((0, 0), (0, 100), 1)?);
+    for (number, row) in GAPS.iter().enumerate() {
+        assert_eq!(rt; first_gap(rt.alloc(), row)?, row.2, "row {number}");
+    }
     Ok(())
+}
+
+/// What an edge sum tells: its edges, and the first that is unbalanced.
+fn told(sum: &EdgeSum<Global>) -> (u64, Option<(Corner, Corner, i64)>) {
+    (sum.edges(), sum.first_unbalanced())
 }
 
 #[test]
@@ -138,63 +218,16 @@ fn counts_edges(rt: HostRuntime) -> Result<(), Fail> {
         Corner { x: 5, y: 5 },
     );
     let mut sum = EdgeSum::new(alloc);
-    assert_eq!(rt; sum.edges(), 0);
-    assert_eq!(rt; sum.first_unbalanced(), None);
+    assert_eq!(rt; told(&sum), (0, None));
     sum.add(&[a, b])?;
-    assert_eq!(rt; sum.edges(), 2);
-    assert_eq!(rt; sum.first_unbalanced(), None);
+    assert_eq!(rt; told(&sum), (2, None));
     sum.add(&[c, b, a])?;
     sum.add(&[c, b, a])?;
-    assert_eq!(rt; sum.edges(), 8);
-    assert_eq!(rt; sum.first_unbalanced(), Some((a, b, -2)));
+    assert_eq!(rt; told(&sum), (8, Some((a, b, -2))));
     sum.take(&[b, a, c, c])?;
-    assert_eq!(rt; sum.edges(), 12);
-    assert_eq!(rt; sum.first_unbalanced(), Some((a, b, -1)));
+    assert_eq!(rt; told(&sum), (12, Some((a, b, -1))));
     sum.take(&[a, c, b])?;
-    assert_eq!(rt; sum.edges(), 15);
-    assert_eq!(rt; sum.first_unbalanced(), None);
-    Ok(())
-}
-
-#[test]
-fn nodes_only_what_lies_inside(rt: HostRuntime) -> Result<(), Fail> {
-    let alloc = rt.alloc();
-    let far = 10_000_000_000;
-    let mut rings = Vec::new(alloc);
-    rings.push(ring(alloc, &[(0, 0), (100, 0), (100, 100), (0, 100)])?)?;
-    rings.push(ring(alloc, &[(-far, -far), (far, -far), (far, far)])?)?;
-    let corners = ring(
-        alloc,
-        &[
-            (50, 0),
-            (0, 0),
-            (50, 0),
-            (50, 1),
-            (50, -1),
-            (0, -far),
-            (far - 1, far - 1),
-            (far - 1, far - 2),
-            (far, 0),
-            (0, far),
-        ],
-    )?;
-    let noded = node(alloc, &rings, corners.as_slice())?;
-    assert_eq!(rt; noded.len(), 2);
-    let square = ring(alloc, &[(0, 0), (50, 0), (100, 0), (100, 100), (0, 100)])?;
-    let triangle = ring(
-        alloc,
-        &[
-            (-far, -far),
-            (0, -far),
-            (far, -far),
-            (far, 0),
-            (far, far),
-            (far - 1, far - 1),
-            (0, 0),
-        ],
-    )?;
-    assert_eq!(rt; noded[0].as_slice(), square.as_slice());
-    assert_eq!(rt; noded[1].as_slice(), triangle.as_slice());
+    assert_eq!(rt; told(&sum), (15, None));
     Ok(())
 }
 
@@ -207,37 +240,49 @@ fn row(alloc: Global, y: i64) -> Result<Vec<Corner, Global>, Fail> {
     Ok(corners)
 }
 
-#[test]
-fn nodes_a_long_edge(rt: HostRuntime) -> Result<(), Fail> {
-    let alloc = rt.alloc();
+/// The ring of two long edges with all corners of both in it.
+fn long_ring(alloc: Global) -> Result<Corners<Global>, Fail> {
     let (low, mut high) = (row(alloc, 0)?, row(alloc, 9)?);
-    let mut rings = Vec::new(alloc);
-    rings.push(ring(alloc, &[(0, 0), (1_000, 0), (1_000, 9), (0, 9)])?)?;
-    let mut corners = Vec::from_slice(alloc, &high)?;
-    corners.extend_from_slice(&low)?;
+    high.reverse();
+    let mut list = ring(alloc, &[(0, 0)])?.into_vec();
+    list.extend_from_slice(&low)?;
+    list.extend_from_slice(ring(alloc, &[(1_000, 0), (1_000, 9)])?.as_slice())?;
+    list.extend_from_slice(&high)?;
+    list.extend_from_slice(ring(alloc, &[(0, 9)])?.as_slice())?;
+    Ok(Corners::from_vec(list))
+}
+
+/// Whether two long edges get all their corners, which are given in the other order.
+fn are_long_edges_noded(alloc: Global) -> Result<bool, Fail> {
+    let rings = rings_of(alloc, &[&[(0, 0), (1_000, 0), (1_000, 9), (0, 9)]])?;
+    let mut corners = row(alloc, 9)?;
+    corners.extend_from_slice(&row(alloc, 0)?)?;
     corners.reverse();
     let noded = node(alloc, &rings, &corners)?;
-    high.reverse();
-    let mut want = ring(alloc, &[(0, 0)])?.into_vec();
-    want.extend_from_slice(&low)?;
-    want.extend_from_slice(ring(alloc, &[(1_000, 0), (1_000, 9)])?.as_slice())?;
-    want.extend_from_slice(&high)?;
-    want.extend_from_slice(ring(alloc, &[(0, 9)])?.as_slice())?;
-    assert_eq!(rt; noded.len(), 1);
-    assert_eq!(rt; noded[0].as_slice(), want.as_slice());
+    let want = long_ring(alloc)?;
+    match noded.as_slice() {
+        [ring] => Ok(*ring == want),
+        _ => Ok(false),
+    }
+}
+
+#[test]
+fn nodes_a_long_edge(rt: HostRuntime) -> Result<(), Fail> {
+    assert!(rt; are_long_edges_noded(rt.alloc())?);
     Ok(())
+}
+
+/// Whether a ring of no corner and one of many stay as they are, where there is no corner to node them for.
+fn do_rings_stay(alloc: Global) -> Result<bool, Fail> {
+    let mut rings = Vec::new(alloc);
+    rings.push(Corners::new(alloc))?;
+    rings.push(Corners::from_vec(row(alloc, 0)?))?;
+    let noded = node(alloc, &rings, &[])?;
+    Ok(noded.as_slice() == rings.as_slice())
 }
 
 #[test]
 fn nodes_nothing(rt: HostRuntime) -> Result<(), Fail> {
-    let alloc = rt.alloc();
-    let mut rings = Vec::new(alloc);
-    assert_eq!(rt; node(alloc, &rings, &[])?.len(), 0);
-    rings.push(Corners::new(alloc))?;
-    rings.push(Corners::from_vec(row(alloc, 0)?))?;
-    let noded = node(alloc, &rings, &[])?;
-    assert_eq!(rt; noded.len(), 2);
-    assert_eq!(rt; noded[0].len(), 0);
-    assert_eq!(rt; noded[1].as_slice(), rings[1].as_slice());
+    assert!(rt; do_rings_stay(rt.alloc())?);
     Ok(())
 }

@@ -234,44 +234,64 @@ fn shapes_that_are_not_folded(rt: HostRuntime) -> Result<(), Fail> {
     Ok(())
 }
 
+/// Whether two shapes overlap, from either side and by their triangles.
+fn seen(one: &Shape<Global>, other: &Shape<Global>) -> (bool, bool, bool) {
+    (
+        shapes_overlap(one, other),
+        shapes_overlap(other, one),
+        some_triangles_overlap(one, other),
+    )
+}
+
+const ALL: (bool, bool, bool) = (true, true, true);
+
+const NONE: (bool, bool, bool) = (false, false, false);
+
+/// A border of which one corner is moved.
+fn moved(border: [Place; 24], k: usize, by: Place) -> [Place; 24] {
+    let mut moved = border;
+    if let Some(place) = moved.get_mut(k) {
+        *place = (place.0.saturating_add(by.0), place.1.saturating_add(by.1));
+    }
+    moved
+}
+
+/// Whether the shapes north and south of the jagged border overlap, where one corner of the southern one's is moved.
+fn seen_south(alloc: Global, k: usize, by: Place) -> Result<(bool, bool, bool), Fail> {
+    let north = left_of(alloc, &JAGGED, ((2300, 2000), (0, 2000)))?;
+    let south = right_of(alloc, &moved(JAGGED, k, by), ((0, -1000), (2300, -1000)))?;
+    Ok(seen(&north, &south))
+}
+
 /// Lists of 24 triangles are halved until one has 6; each corner of the border in turn is moved.
 #[test]
 fn shapes_with_a_long_border(rt: HostRuntime) -> Result<(), Fail> {
     let alloc = rt.alloc();
-    let north = left_of(alloc, &JAGGED, ((2300, 2000), (0, 2000)))?;
-    let south = right_of(alloc, &JAGGED, ((0, -1000), (2300, -1000)))?;
-    assert!(rt; !shapes_overlap(&north, &south));
-    assert!(rt; !shapes_overlap(&south, &north));
-    assert!(rt; !some_triangles_overlap(&north, &south));
-    for k in 0..24 {
-        let mut border = JAGGED;
-        border[k].1 = border[k].1.saturating_add(1);
-        let moved = right_of(alloc, &border, ((0, -1000), (2300, -1000)))?;
-        assert!(rt; shapes_overlap(&north, &moved));
-        assert!(rt; shapes_overlap(&moved, &north));
-        assert!(rt; some_triangles_overlap(&north, &moved));
-        border[k].1 = border[k].1.saturating_sub(2);
-        let short = right_of(alloc, &border, ((0, -1000), (2300, -1000)))?;
-        assert!(rt; !shapes_overlap(&north, &short));
+    assert_eq!(rt; seen_south(alloc, 0, (0, 0))?, NONE);
+    for k in 0..24usize {
+        assert_eq!(rt; seen_south(alloc, k, (0, 1))?, ALL, "at {k}");
+        assert_eq!(rt; seen_south(alloc, k, (0, -1))?, NONE, "at {k}");
     }
     Ok(())
+}
+
+/// Whether the shapes west and east of the border to and fro overlap, where one corner of the western one's is moved.
+fn seen_west(alloc: Global, k: usize, by: Place) -> Result<(bool, bool, bool), Fail> {
+    let west = left_of(
+        alloc,
+        &moved(TO_AND_FRO, k, by),
+        ((-1000, 2300), (-1000, 0)),
+    )?;
+    let east = right_of(alloc, &TO_AND_FRO, ((5000, 0), (5000, 2300)))?;
+    Ok(seen(&west, &east))
 }
 
 #[test]
 fn shapes_with_a_border_to_and_fro(rt: HostRuntime) -> Result<(), Fail> {
     let alloc = rt.alloc();
-    let west = left_of(alloc, &TO_AND_FRO, ((-1000, 2300), (-1000, 0)))?;
-    let east = right_of(alloc, &TO_AND_FRO, ((5000, 0), (5000, 2300)))?;
-    assert!(rt; !shapes_overlap(&west, &east));
-    assert!(rt; !shapes_overlap(&east, &west));
-    assert!(rt; !some_triangles_overlap(&west, &east));
-    for k in 0..24 {
-        let mut border = TO_AND_FRO;
-        border[k].0 = border[k].0.saturating_add(1);
-        let moved = left_of(alloc, &border, ((-1000, 2300), (-1000, 0)))?;
-        assert!(rt; shapes_overlap(&moved, &east));
-        assert!(rt; shapes_overlap(&east, &moved));
-        assert!(rt; some_triangles_overlap(&east, &moved));
+    assert_eq!(rt; seen_west(alloc, 0, (0, 0))?, NONE);
+    for k in 0..24usize {
+        assert_eq!(rt; seen_west(alloc, k, (1, 0))?, ALL, "at {k}");
     }
     Ok(())
 }

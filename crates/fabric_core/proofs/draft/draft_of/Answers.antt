@@ -2,9 +2,9 @@ use Rattle.std.proofs.lemmas.Bool.{false≢true}
 use Rattle.std.proofs.lemmas.List.{length-map}
 use Rattle.fabric_core.specs.Faults.{AreSimple}
 use Rattle.fabric_core.specs.Tiling.{corner_lists}
-use Rattle.std.proofs.Common.{arith, ◌≡◌, sym, ◌∙◌, ap, subst, inl, inr, ⊎_elim, ◌⊎◌, length, ◌≤◌, IsTrue}
+use Rattle.std.proofs.Common.{arith, ◌≡◌, sym, ◌∙◌, ap, subst, inl, inr, ⊎_elim, ◌⊎◌, length, ◌≤◌}
 use Rattle.std.specs.List.{AllByRecursion}
-use Rattle.geo_exact.specs.declared.limits.TheConstants.{LAYER_RECORDS, RING_CORNERS}
+use Rattle.geo_exact.specs.declared.limits.TheConstants.{RING_CORNERS}
 use Rattle.fabric_core.specs.declared.journal.TheConstants.{JOURNAL_ENTRIES}
 use Rattle.fabric_core.specs.declared.refusal.Refusal.TheVariants.{NoMemory}
 use Rattle.fabric_core.specs.EditResults.{AreWithinAll, IsChange}

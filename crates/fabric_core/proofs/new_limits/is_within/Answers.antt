@@ -3,10 +3,8 @@ use Rattle.std.specs.Prelude.{nat_eq}
 use Rattle.std.specs.List.{list_any}
 use Rattle.std.proofs.lemmas.List.{length-map}
 use Rattle.geo_exact.specs.Layers.{NumberedRing}
-use Rattle.fabric_core.specs.EditResults.{AreWithinAll}
-use Rattle.fabric_core.specs.Journal.{with_rows, without_ids}
+use Rattle.fabric_core.specs.Journal.{without_ids}
 use Rattle.fabric_core.specs.JournalRows.{rows_of_entry}
-use Rattle.fabric_core.specs.own.Changes.{AddWithin}
 use Rattle.fabric_core.proofs.NewLimits.{fewer_corners, changed_within}
 use Rattle.fabric_core.proofs.new_limits.is_within.Goals as goal
 

@@ -1,7 +1,5 @@
-use Rattle.std.proofs.Common.{rules, ◌≡◌, ◌⊎◌, inl, inr, sym, ◌∙◌, ap, subst, arith, ⊎_elim, ◌<◌, [], ◌∷◌, ◌++◌, length}
-use Rattle.std.specs.Result.{IfErr, IsErrAnd}
+use Rattle.std.proofs.Common.{rules, ◌≡◌, ◌⊎◌, inl, inr, sym, ◌∙◌, subst, arith, ⊎_elim, ◌<◌, [], ◌∷◌, ◌++◌, length}
 use Rattle.fabric_core.specs.declared.journal.TheConstants.{JOURNAL_ENTRIES}
-use Rattle.fabric_core.specs.declared.refusal.Refusal.{Refusal}
 use Rattle.fabric_core.specs.declared.refusal.Refusal.TheVariants.{NoMemory}
 use Rattle.fabric_core.specs.Journal.{Book}
 use Rattle.fabric_core.specs.Refusals.{IsRefusal, AreHere, named_ids}
