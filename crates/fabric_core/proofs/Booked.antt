@@ -9,7 +9,7 @@ use Rattle.fabric_core.specs.declared.refusal.Refusal.{Refusal}
 use Rattle.fabric_core.specs.declared.refusal.Refusal.TheVariants.{Unknown, Retired}
 use Rattle.fabric_core.specs.Journal.{State, JournalEntry, after_entry, next_after}
 use Rattle.fabric_core.specs.EditResults.{IsChange, IsEntryOf}
-use Rattle.fabric_core.specs.Refusals.{IsRefusal, IsIdRefusal, IsFirstGone, AreHere, named_ids}
+use Rattle.fabric_core.specs.Refusals.{IsRefusal, IsIdRefusal, IsFirstAbsent, AreParcels, named_ids}
 use Rattle.fabric_core.specs.own.Balanced.{HasRisingIds}
 use Rattle.fabric_core.specs.own.Books.{IsBook}
 use Rattle.fabric_core.specs.own.Changes.{IsDraftRefusal, IsMade, state_of}
@@ -28,7 +28,7 @@ next_grows state (Insert from to at) out rows ids h = omega (arith, next_after_i
 
 module _ {A : Type 0} (opening : State) (journal : List (JournalEntry A)) (kept : Kept) (corners : ℕ) (book : IsBook opening journal kept corners) where
   -- what has become of an id is what the journal knows
-  told : (edit : Edit A) (id : ℕ) (r : Refusal) → IsFirstGone kept.rows (named_ids edit) id → (o : Option ℕ) → gone_by kept id ≡ o
+  told : (edit : Edit A) (id : ℕ) (r : Refusal) → IsFirstAbsent kept.rows (named_ids edit) id → (o : Option ℕ) → gone_by kept id ≡ o
       → MatchOption o (r ≡ Unknown id) (λ by. r ≡ Retired id by) → IsIdRefusal (state_of kept) journal edit r
   told edit id r first None is e =
       subst (IsIdRefusal (state_of kept) journal edit) (sym e) (first, λ by h. no_number by (sym is ∙ (book.gone id by).1 h))
@@ -50,10 +50,10 @@ module _ {A : Type 0} (opening : State) (journal : List (JournalEntry A)) (kept 
       (subst (λ state. IsRefusal state journal edit s) (sym book.replays) k)
 
   -- an edit with an entry is not refused
-  pub for_nothing : (entry : JournalEntry A) (r : Refusal) → length journal < JOURNAL_ENTRIES → AreHere kept.rows (named_ids entry.edit)
+  pub for_nothing : (entry : JournalEntry A) (r : Refusal) → length journal < JOURNAL_ENTRIES → AreParcels kept.rows (named_ids entry.edit)
       → IsEntryOf (state_of kept) entry → IsRefusal (state_of kept) journal entry.edit r → ⊥
   for_nothing entry r room here is h =
-      subst (λ (state : State). AreHere state.rows (named_ids entry.edit) → IsEntryOf state entry → IsRefusal state journal entry.edit r → ⊥)
+      subst (λ (state : State). AreParcels state.rows (named_ids entry.edit) → IsEntryOf state entry → IsRefusal state journal entry.edit r → ⊥)
       book.replays
       (λ here is h. no_reason opening journal book.balanced book.lawful entry.edit entry.out entry.rows r room here is.is_change is.are_simple
       is.within h)

@@ -14,8 +14,8 @@ use Rattle.fabric_core.specs.Rows.{numbers}
 use Rattle.fabric_core.specs.Tiling.{corner_lists}
 use Rattle.fabric_core.specs.Faults.{AreSimple}
 use Rattle.fabric_core.specs.Journal.{State, with_rows}
-use Rattle.fabric_core.specs.EditResults.{IsChange, IsInsertOf, AreWithinAll, rows_with_edge}
-use Rattle.fabric_core.specs.Refusals.{AreHere, named_ids}
+use Rattle.fabric_core.specs.EditResults.{IsChange, IsInsertOf, AreWithinLayerLimits, rows_with_edge}
+use Rattle.fabric_core.specs.Refusals.{AreParcels, named_ids}
 use Rattle.fabric_core.specs.own.Balanced.{IsBalanced}
 use Rattle.fabric_core.specs.own.Changes.{rings_of_shapes}
 use Rattle.fabric_core.proofs.Neighbours.{two_parcels, run_has_edge, merged_run, moved_run}
@@ -82,7 +82,7 @@ module _ {A : Type 0} (state : State) (balanced : IsBalanced state) where
       (rising_apart (λ row. has_edge_between from to row.corners) state balanced)
 
   -- so are the ids that the edit names
-  pub all_here : (edit : Edit A) (out : List ℕ) (rows : List NumberedRing) → IsChange state edit out rows → AreHere state.rows (named_ids edit)
+  pub all_here : (edit : Edit A) (out : List ℕ) (rows : List NumberedRing) → IsChange state edit out rows → AreParcels state.rows (named_ids edit)
   all_here (Split id path) out rows h = (has_number state.rows (numbered id h.ring) h.has, tt)
   all_here (Merge a b) out rows h =
       (has_number state.rows (numbered a h.ring_a) h.has_a, (has_number state.rows (numbered b h.ring_b) h.has_b, tt))
@@ -91,10 +91,10 @@ module _ {A : Type 0} (state : State) (balanced : IsBalanced state) where
   all_here (Insert from to at) out rows h = tt
 
 -- new rows within the limits of a layer
-pub news_short : (news rest : List NumberedRing) → AreWithinAll (with_rows news rest) → AllByRecursion (λ row. length row.corners ≤ RING_CORNERS) news
+pub news_short : (news rest : List NumberedRing) → AreWithinLayerLimits (with_rows news rest) → AllByRecursion (λ row. length row.corners ≤ RING_CORNERS) news
 news_short news rest h = (with_rows_news (λ row. length row.corners ≤ RING_CORNERS) news rest h.corners.each).0
 
-pub news_few : (news rest : List NumberedRing) → AreWithinAll (with_rows news rest) → length news ≤ LAYER_RECORDS
+pub news_few : (news rest : List NumberedRing) → AreWithinLayerLimits (with_rows news rest) → length news ≤ LAYER_RECORDS
 news_few news rest h = omega (arith, with_rows_length news rest, h.number)
 
 -- rows whose rings are those of shapes are simple

@@ -11,8 +11,8 @@ use Rattle.fabric_core.specs.Tiling.{corner_lists}
 use Rattle.fabric_core.specs.Rows.{numbers}
 use Rattle.fabric_core.specs.Faults.{AreSimple}
 use Rattle.fabric_core.specs.Journal.{State, JournalEntry, opening_state, replay, with_rows, without_ids}
-use Rattle.fabric_core.specs.EditResults.{IsChange, IsLawful, AreWithinAll}
-use Rattle.fabric_core.specs.Refusals.{IsRefusal, AreHere, named_ids}
+use Rattle.fabric_core.specs.EditResults.{IsChange, IsLawful, AreWithinLayerLimits}
+use Rattle.fabric_core.specs.Refusals.{IsRefusal, AreParcels, named_ids}
 use Rattle.fabric_core.specs.own.Checks.{HaveEqualNets}
 use Rattle.fabric_core.proofs.RowLists.{ascending}
 use Rattle.fabric_core.proofs.Replays.{rising_opening}
@@ -44,8 +44,8 @@ module _ {A : Type 0} (opening : State) (journal : List (JournalEntry A)) (balan
 
   -- and for none where it has a lawful result
   pub no_reason : (edit : Edit A) (out : List ℕ) (rows : List NumberedRing) (r : Refusal) → length journal < JOURNAL_ENTRIES
-      → AreHere (replay opening journal).rows (named_ids edit) → IsChange (replay opening journal) edit out rows → AreSimple rows
-      → AreWithinAll (with_rows rows (without_ids out (replay opening journal).rows))
+      → AreParcels (replay opening journal).rows (named_ids edit) → IsChange (replay opening journal) edit out rows → AreSimple rows
+      → AreWithinLayerLimits (with_rows rows (without_ids out (replay opening journal).rows))
       → IsRefusal (replay opening journal) journal edit r → ⊥
   no_reason edit out rows r room here change simple within h =
       not_refused journal edit (replay opening journal) balanced_now.simple balanced_now.ids.up out rows r room here change simple

@@ -10,7 +10,7 @@ use Rattle.geo_exact.specs.Layers.{NumberedRing, numbered, corner_count}
 use Rattle.fabric_core.specs.own.Balanced.{Ascend}
 use Rattle.fabric_core.specs.declared.journal.Row.{Row}
 use Rattle.fabric_core.specs.JournalRows.{row_of, rows_of_entry}
-use Rattle.fabric_core.specs.EditResults.{AreWithinAll}
+use Rattle.fabric_core.specs.EditResults.{AreWithinLayerLimits}
 use Rattle.fabric_core.specs.Journal.{without_ids, with_row, with_rows}
 use Rattle.fabric_core.specs.own.Changes.{AddWithin}
 use Rattle.fabric_core.proofs.NewShapes.{short_at}
@@ -75,7 +75,7 @@ module _ (P : NumberedRing → Type 0) where
 
 -- the rows keep to the limits just where the new ones do, together with what stays
 pub adds_within : (news rest : List NumberedRing) → AllByRecursion (λ row. length row.corners ≤ RING_CORNERS) rest
-    → AddWithin (corner_count rest) (length rest) news ↔ AreWithinAll (with_rows news rest)
+    → AddWithin (corner_count rest) (length rest) news ↔ AreWithinLayerLimits (with_rows news rest)
 adds_within news rest short = (
   λ h. record {
     corners = record {
@@ -180,12 +180,12 @@ module _ {A : Type 0} where
 pub changed_within : (rows news entries : List NumberedRing) (out ids : List ℕ) (left parcels : ℕ) → ids ≡ out → entries ≡ news
     → left ≡ corner_count (without_ids ids rows) → parcels ≡ length (without_ids ids rows)
     → AllByRecursion (λ row. length row.corners ≤ RING_CORNERS) rows
-    → AddWithin left parcels entries ↔ AreWithinAll (with_rows news (without_ids out rows))
+    → AddWithin left parcels entries ↔ AreWithinLayerLimits (with_rows news (without_ids out rows))
 changed_within rows news entries out ids left parcels same_ids same_rows corners number short =
     let rest = without_ids ids rows in
     let few : AllByRecursion (λ row. length row.corners ≤ RING_CORNERS) rest = AllByRecursion-filter (λ row. length row.corners ≤ RING_CORNERS)
     (λ row. not (list_any (nat_eq row.number) ids)) rows short in
-    subst (λ xs. AddWithin left parcels entries ↔ AreWithinAll (with_rows news (without_ids xs rows))) same_ids
-    (subst (λ xs. AddWithin left parcels xs ↔ AreWithinAll (with_rows news rest)) (sym same_rows)
-    (subst (λ n. AddWithin left n news ↔ AreWithinAll (with_rows news rest)) (sym number)
-    (subst (λ n. AddWithin n (length rest) news ↔ AreWithinAll (with_rows news rest)) (sym corners) (adds_within news rest few))))
+    subst (λ xs. AddWithin left parcels entries ↔ AreWithinLayerLimits (with_rows news (without_ids xs rows))) same_ids
+    (subst (λ xs. AddWithin left parcels xs ↔ AreWithinLayerLimits (with_rows news rest)) (sym same_rows)
+    (subst (λ n. AddWithin left n news ↔ AreWithinLayerLimits (with_rows news rest)) (sym number)
+    (subst (λ n. AddWithin n (length rest) news ↔ AreWithinLayerLimits (with_rows news rest)) (sym corners) (adds_within news rest few))))

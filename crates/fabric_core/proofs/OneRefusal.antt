@@ -26,8 +26,8 @@ use Rattle.fabric_core.specs.declared.refusal.Refusal.TheVariants.{JournalFull, 
 use Rattle.fabric_core.specs.Rows.{numbers}
 use Rattle.fabric_core.specs.Faults.{AreSimple}
 use Rattle.fabric_core.specs.Journal.{State, JournalEntry, with_rows, without_ids}
-use Rattle.fabric_core.specs.EditResults.{IsChange, IsSplitOf, IsMergeOf, IsMoveOf, IsInsertOf, AreWithinAll}
-use Rattle.fabric_core.specs.Refusals.{IsRetiredBy, named_ids, AreHere, IsFirstGone, HaveNoBorder, IsBadMove, IsOwnRefusal}
+use Rattle.fabric_core.specs.EditResults.{IsChange, IsSplitOf, IsMergeOf, IsMoveOf, IsInsertOf, AreWithinLayerLimits}
+use Rattle.fabric_core.specs.Refusals.{IsRetiredBy, named_ids, AreParcels, IsFirstAbsent, HaveBorderFault, IsBadMovePath, IsOwnRefusal}
 use Rattle.fabric_core.specs.Refusals.{IsFirstBadRing, IsChangeRefusal, IsIdRefusal, IsRefusal}
 use Rattle.fabric_core.proofs.RowLists.{one_ring}
 use Rattle.fabric_core.proofs.OneFault.{one_ring_fault, simple_has_no_fault}
@@ -114,14 +114,14 @@ module _ (state : State) (simple : AreSimple state.rows) (up : Ascend state.rows
 
   -- ---- the refusals of each edit
   -- where there is no border for one reason, there is none for the other, and no result
-  borders_differ : (a b : ℕ) → HaveNoBorder state a b NoBorder → HaveNoBorder state a b TwoBorders → ⊥
+  borders_differ : (a b : ℕ) → HaveBorderFault state a b NoBorder → HaveBorderFault state a b TwoBorders → ⊥
   borders_differ a b h k =
       subst (λ ring. ¬ AreNeighbours ring h.1) (sym (ring_of a h.0 k.0 h.2 k.2)) h.4
       (subst (λ ring. AreNeighbours k.0 ring) (ring_of b h.1 k.1 h.3 k.3) k.4.0)
 
   border_or_run : (a b : ℕ) (ring_a ring_b : List Corner) → Contains state.rows (numbered a ring_a)
       → Contains state.rows (numbered b ring_b)
-      → ShareOneRun ring_a ring_b → HaveNoBorder state a b NoBorder ⊎ HaveNoBorder state a b TwoBorders → ⊥
+      → ShareOneRun ring_a ring_b → HaveBorderFault state a b NoBorder ⊎ HaveBorderFault state a b TwoBorders → ⊥
   border_or_run a b ring_a ring_b has_a has_b run (inl h) =
       h.4 (subst (λ ring. AreNeighbours ring h.1) (ring_of a h.0 ring_a h.2 has_a)
       (subst (λ ring. AreNeighbours ring_a ring) (ring_of b h.1 ring_b h.3 has_b) (run_has_edge ring_a ring_b run)))
@@ -129,7 +129,7 @@ module _ (state : State) (simple : AreSimple state.rows) (up : Ascend state.rows
       h.4.1 (subst (λ ring. ShareOneRun ring h.1) (ring_of a h.0 ring_a h.2 has_a)
       (subst (λ ring. ShareOneRun ring_a ring) (ring_of b h.1 ring_b h.3 has_b) run))
 
-  bad_move_run : (a b : ℕ) (path : List Corner) (k : IsBadMove state a b path) → ShareOneRun k.0 k.1
+  bad_move_run : (a b : ℕ) (path : List Corner) (k : IsBadMovePath state a b path) → ShareOneRun k.0 k.1
   bad_move_run a b path k = let bad = k.4 in (bad.0, bad.1, bad.2)
 
   pub one_own : {A : Type 0} (edit : Edit A) (r s : Refusal) → IsOwnRefusal state edit r → IsOwnRefusal state edit s → r ≡ s
@@ -158,7 +158,7 @@ module _ (state : State) (simple : AreSimple state.rows) (up : Ascend state.rows
 
   -- and what an edit itself asks for is so where it has a result
   bad_move_or_shift : (a b : ℕ) (path : List Corner) (out : List ℕ) (rows : List NumberedRing) → IsMoveOf state a b path out rows
-      → IsBadMove state a b path → ⊥
+      → IsBadMovePath state a b path → ⊥
   bad_move_or_shift a b path out rows h k =
       let bad = subst (λ ring. IsBadBorder ring h.ring_b path) (ring_of a h.ring_a k.0 h.has_a k.2)
       (subst (λ ring. IsBadBorder k.0 ring path) (ring_of b h.ring_b k.1 h.has_b k.3) k.4) in
@@ -183,8 +183,8 @@ module _ (state : State) (simple : AreSimple state.rows) (up : Ascend state.rows
   own_or_change (Insert from to at) r out rows (inr h) k = h.2 k.is_between
 
 -- ---- ids that are named
-first_is_one : (rows : List NumberedRing) (before before' behind behind' : List ℕ) (id id' : ℕ) → AreHere rows before
-    → AreHere rows before'
+first_is_one : (rows : List NumberedRing) (before before' behind behind' : List ℕ) (id id' : ℕ) → AreParcels rows before
+    → AreParcels rows before'
     → ¬ Contains (numbers rows) id → ¬ Contains (numbers rows) id' → before ++ id ∷ behind ≡ before' ++ id' ∷ behind' → id ≡ id'
 first_is_one rows [] [] behind behind' id id' h k g l e = cc
 first_is_one rows [] (x ∷ before') behind behind' id id' h k g l e =
@@ -194,17 +194,17 @@ first_is_one rows (x ∷ before) [] behind behind' id id' h k g l e =
 first_is_one rows (x ∷ before) (y ∷ before') behind behind' id id' h k g l e =
     let f : before ++ id ∷ behind ≡ before' ++ id' ∷ behind' = cc in first_is_one rows before before' behind behind' id id' h.1 k.1 g l f
 
-one_first_gone : (rows : List NumberedRing) (ids : List ℕ) (id other : ℕ) → IsFirstGone rows ids id → IsFirstGone rows ids other
+one_first_gone : (rows : List NumberedRing) (ids : List ℕ) (id other : ℕ) → IsFirstAbsent rows ids id → IsFirstAbsent rows ids other
     → id ≡ other
 one_first_gone rows ids id other h k =
     first_is_one rows h.before k.before h.behind k.behind id other h.are_here k.are_here h.is_gone k.is_gone (sym h.are_all ∙ k.are_all)
 
-here_at : (rows : List NumberedRing) (before behind : List ℕ) (id : ℕ) → AreHere rows (before ++ id ∷ behind) → Contains (numbers rows) id
+here_at : (rows : List NumberedRing) (before behind : List ℕ) (id : ℕ) → AreParcels rows (before ++ id ∷ behind) → Contains (numbers rows) id
 here_at rows [] behind id h = h.0
 here_at rows (x ∷ before) behind id h = here_at rows before behind id h.1
 
-pub here_or_gone : (rows : List NumberedRing) (ids : List ℕ) (id : ℕ) → AreHere rows ids → IsFirstGone rows ids id → ⊥
-here_or_gone rows ids id h k = k.is_gone (here_at rows k.before k.behind id (subst (AreHere rows) k.are_all h))
+pub here_or_gone : (rows : List NumberedRing) (ids : List ℕ) (id : ℕ) → AreParcels rows ids → IsFirstAbsent rows ids id → ⊥
+here_or_gone rows ids id h k = k.is_gone (here_at rows k.before k.behind id (subst (AreParcels rows) k.are_all h))
 
 -- ---- the first new ring that is not simple
 bad_at : (before : List NumberedRing) (row : NumberedRing) (behind : List NumberedRing) (fault : RingFault)
@@ -240,8 +240,8 @@ one_first_bad rows m n f g h k =
 -- ---- which refusals are for the ids, and which for a change
 abbrev IsForIds : {A : Type 0} → State → List (JournalEntry A) → Edit A → Refusal → Type 0
 IsForIds state journal edit r =
-    ((id : ℕ) × (r ≡ Unknown id) × IsFirstGone state.rows (named_ids edit) id × ((by : ℕ) → ¬ IsRetiredBy journal id by))
-    ⊎ ((id : ℕ) × (by : ℕ) × (r ≡ Retired id by) × IsFirstGone state.rows (named_ids edit) id × IsRetiredBy journal id by)
+    ((id : ℕ) × (r ≡ Unknown id) × IsFirstAbsent state.rows (named_ids edit) id × ((by : ℕ) → ¬ IsRetiredBy journal id by))
+    ⊎ ((id : ℕ) × (by : ℕ) × (r ≡ Retired id by) × IsFirstAbsent state.rows (named_ids edit) id × IsRetiredBy journal id by)
 
 for_ids : {A : Type 0} (state : State) (journal : List (JournalEntry A)) (edit : Edit A) (r : Refusal) → IsIdRefusal state journal edit r
     → IsForIds state journal edit r
@@ -259,8 +259,8 @@ for_ids state journal edit NoMemory h = absurd h
 
 abbrev IsForChange : State → List ℕ → List NumberedRing → Refusal → Type 0
 IsForChange state out rows r =
-    ((r ≡ TooMany) × (¬ AreWithinAll (with_rows rows (without_ids out state.rows))))
-    ⊎ ((which : ℕ) × (fault : RingFault) × (r ≡ Ring which fault) × AreWithinAll (with_rows rows (without_ids out state.rows))
+    ((r ≡ TooMany) × (¬ AreWithinLayerLimits (with_rows rows (without_ids out state.rows))))
+    ⊎ ((which : ℕ) × (fault : RingFault) × (r ≡ Ring which fault) × AreWithinLayerLimits (with_rows rows (without_ids out state.rows))
     × IsFirstBadRing rows which fault)
 
 for_change : (state : State) (out : List ℕ) (rows : List NumberedRing) (r : Refusal) → IsChangeRefusal state out rows r
@@ -300,11 +300,11 @@ module _ {A : Type 0} (journal : List (JournalEntry A)) (edit : Edit A) where
       let f = once k.0 h.1 k.1 (subst (λ id. IsRetiredBy journal id h.1) e h.4) k.4 in
       h.2 ∙ ap (λ id. Retired id h.1) e ∙ ap (λ by. Retired k.0 by) f ∙ sym k.2
 
-  gone_of : (state : State) (r : Refusal) → IsForIds state journal edit r → (id : ℕ) × IsFirstGone state.rows (named_ids edit) id
+  gone_of : (state : State) (r : Refusal) → IsForIds state journal edit r → (id : ℕ) × IsFirstAbsent state.rows (named_ids edit) id
   gone_of state r (inl h) = (h.0, h.2)
   gone_of state r (inr h) = (h.0, h.3)
 
-  here_or_refused : (state : State) (r : Refusal) → AreHere state.rows (named_ids edit) → IsIdRefusal state journal edit r → ⊥
+  here_or_refused : (state : State) (r : Refusal) → AreParcels state.rows (named_ids edit) → IsIdRefusal state journal edit r → ⊥
   here_or_refused state r h k =
       let g = gone_of state r (for_ids state journal edit r k) in here_or_gone state.rows (named_ids edit) g.0 h g.1
 
@@ -324,8 +324,8 @@ module _ {A : Type 0} (journal : List (JournalEntry A)) (edit : Edit A) where
         (for_change state h.0 h.1 s (subst (λ out. IsChangeRefusal state out h.1 s) e.0
         (subst (λ rows. IsChangeRefusal state k.0 rows s) e.1 k.3)))
 
-    one_with_room : (r s : Refusal) → IsIdRefusal state journal edit r ⊎ (AreHere state.rows (named_ids edit) × IsOfParcels state r)
-        → IsIdRefusal state journal edit s ⊎ (AreHere state.rows (named_ids edit) × IsOfParcels state s)
+    one_with_room : (r s : Refusal) → IsIdRefusal state journal edit r ⊎ (AreParcels state.rows (named_ids edit) × IsOfParcels state r)
+        → IsIdRefusal state journal edit s ⊎ (AreParcels state.rows (named_ids edit) × IsOfParcels state s)
         → ((id m n : ℕ) → IsRetiredBy journal id m → IsRetiredBy journal id n → m ≡ n) → r ≡ s
     one_with_room r s (inl h) (inl k) once = one_for_ids state once r s (for_ids state journal edit r h) (for_ids state journal edit s k)
     one_with_room r s (inl h) (inr k) once = absurd (here_or_refused state r k.0 h)
@@ -342,8 +342,8 @@ module _ {A : Type 0} (journal : List (JournalEntry A)) (edit : Edit A) where
 
     -- and none where the journal has room, its ids are those of parcels, and it makes simple rings within the limits
     pub not_refused : (out : List ℕ) (rows : List NumberedRing) (r : Refusal) → length journal < JOURNAL_ENTRIES
-        → AreHere state.rows (named_ids edit) → IsChange state edit out rows → AreSimple rows
-        → AreWithinAll (with_rows rows (without_ids out state.rows)) → IsRefusal state journal edit r → ⊥
+        → AreParcels state.rows (named_ids edit) → IsChange state edit out rows → AreSimple rows
+        → AreWithinLayerLimits (with_rows rows (without_ids out state.rows)) → IsRefusal state journal edit r → ⊥
     not_refused out rows r room here change are_simple within (inl h) = omega (arith, room, h.1)
     not_refused out rows r room here change are_simple within (inr (full, inl h)) = here_or_refused state r here h
     not_refused out rows r room here change are_simple within (inr (full, inr (all, inl h))) =
@@ -351,8 +351,8 @@ module _ {A : Type 0} (journal : List (JournalEntry A)) (edit : Edit A) where
     not_refused out rows r room here change are_simple within (inr (full, inr (all, inr h))) =
         let e = one_change state simple up edit h.0 out h.1 rows h.2 change in
         ⊎_elim
-        (λ k. k.1 (subst (λ xs. AreWithinAll (with_rows xs (without_ids h.0 state.rows))) (sym e.1)
-        (subst (λ xs. AreWithinAll (with_rows rows (without_ids xs state.rows))) (sym e.0) within)))
+        (λ k. k.1 (subst (λ xs. AreWithinLayerLimits (with_rows xs (without_ids h.0 state.rows))) (sym e.1)
+        (subst (λ xs. AreWithinLayerLimits (with_rows rows (without_ids xs state.rows))) (sym e.0) within)))
         (λ k. let bad = k.4 in
         bad_at bad.before bad.row bad.behind k.1 (subst AreSimple (bad.are_all) (subst AreSimple (sym e.1) are_simple)) bad.is_fault)
         (for_change state h.0 h.1 r h.3)

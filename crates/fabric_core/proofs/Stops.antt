@@ -12,7 +12,7 @@ use Rattle.fabric_core.specs.declared.journal.Row.{Row}
 use Rattle.fabric_core.specs.declared.refusal.Refusal.{Refusal}
 use Rattle.fabric_core.specs.JournalRows.{rows_of_entry}
 use Rattle.fabric_core.specs.Rows.{numbers}
-use Rattle.fabric_core.specs.Refusals.{AreHere}
+use Rattle.fabric_core.specs.Refusals.{AreParcels}
 use Rattle.fabric_core.specs.own.Changes.{state_of, IsGone, IsStopped, IsBorderRefusal, IsMoveRefusal, refusal_of}
 use Rattle.fabric_core.specs.own.Kept.{Kept}
 
@@ -48,7 +48,7 @@ module _ (kept : Kept) where
     ))
 
   module _ (a b : ℕ) (ring_a ring_b : List Corner) (here_a : Contains kept.rows (numbered a ring_a)) (here_b : Contains kept.rows (numbered b ring_b)) where
-    both_here : AreHere kept.rows (a ∷ b ∷ [])
+    both_here : AreParcels kept.rows (a ∷ b ∷ [])
     both_here = (id_here kept.rows a ring_a here_a, (id_here kept.rows b ring_b here_b, tt))
 
     -- two parcels have no border

@@ -67,7 +67,7 @@ IsChange state (Move a b path) out rows = IsMoveOf state a b path out rows
 IsChange state (Insert from to at) out rows = IsInsertOf state from to at out rows
 
 -- rows within the limits of a layer, also in their number
-pub record AreWithinAll (rows : List NumberedRing) : Type 0 where
+pub record AreWithinLayerLimits (rows : List NumberedRing) : Type 0 where
   pub corners : AreWithinLimits rows
   pub number : length rows ≤ LAYER_RECORDS
 
@@ -76,7 +76,7 @@ pub record IsEntryOf {A : Type 0} (state : State) (entry : JournalEntry A) : Typ
   pub has_place : entry.number ≤ JOURNAL_ENTRIES
   pub is_change : IsChange state entry.edit entry.out entry.rows
   pub are_simple : AreSimple entry.rows
-  pub within : AreWithinAll (after_entry state entry).rows
+  pub within : AreWithinLayerLimits (after_entry state entry).rows
 
 -- entries that begin with this number at this state: each has the number after the one before, and is that of its edit on the state which those before it lead to
 abbrev pub AreLawfulFrom : {A : Type 0} → State → ℕ → List (JournalEntry A) → Type 0

@@ -18,7 +18,7 @@ use Rattle.fabric_core.specs.declared.refusal.Refusal.TheVariants.{Unknown, Reti
 use Rattle.fabric_core.specs.Rows.{numbers}
 use Rattle.fabric_core.specs.Faults.{AreSimple}
 use Rattle.fabric_core.specs.Journal.{State, JournalEntry, with_rows, without_ids}
-use Rattle.fabric_core.specs.EditResults.{IsChange, AreWithinAll, rows_with_edge}
+use Rattle.fabric_core.specs.EditResults.{IsChange, AreWithinLayerLimits, rows_with_edge}
 
 -- the entry takes the id out for good
 pub record Retires {A : Type 0} (entry : JournalEntry A) (id : ℕ) : Type 0 where
@@ -40,31 +40,31 @@ named_ids (Move a b path) = a ∷ b ∷ []
 named_ids (Insert from to at) = []
 
 -- all ids are those of parcels
-abbrev pub AreHere : List NumberedRing → List ℕ → Type 0
-AreHere rows [] = ⊤
-AreHere rows (id ∷ rest) = Contains (numbers rows) id × AreHere rows rest
+abbrev pub AreParcels : List NumberedRing → List ℕ → Type 0
+AreParcels rows [] = ⊤
+AreParcels rows (id ∷ rest) = Contains (numbers rows) id × AreParcels rows rest
 
 -- the first of the ids that is no parcel's is this one
-pub record IsFirstGone (rows : List NumberedRing) (ids : List ℕ) (id : ℕ) : Type 0 where
+pub record IsFirstAbsent (rows : List NumberedRing) (ids : List ℕ) (id : ℕ) : Type 0 where
   pub before : List ℕ
   pub behind : List ℕ
   pub are_all : ids ≡ before ++ id ∷ behind
-  pub are_here : AreHere rows before
+  pub are_here : AreParcels rows before
   pub is_gone : ¬ Contains (numbers rows) id
 
 -- a path that does not go from one corner of the parcel to another
-abbrev pub IsBadCut : State → ℕ → List Corner → Type 0
-IsBadCut state id path = (ring : List Corner) × Contains state.rows (numbered id ring) × (¬ IsPathAcross ring path)
+abbrev pub IsBadCutPath : State → ℕ → List Corner → Type 0
+IsBadCutPath state id path = (ring : List Corner) × Contains state.rows (numbered id ring) × (¬ IsPathAcross ring path)
 
--- two parcels have no border, for this reason
-abbrev pub HaveNoBorder : State → ℕ → ℕ → EditFault → Type 0
-HaveNoBorder state a b fault =
+-- two parcels have no border that an edit can take, for this reason
+abbrev pub HaveBorderFault : State → ℕ → ℕ → EditFault → Type 0
+HaveBorderFault state a b fault =
     (ring_a : List Corner) × (ring_b : List Corner) × Contains state.rows (numbered a ring_a) × Contains state.rows (numbered b ring_b)
     × IsBorderFault ring_a ring_b fault
 
 -- a path that does not go from where the border of two parcels begins to where it ends
-abbrev pub IsBadMove : State → ℕ → ℕ → List Corner → Type 0
-IsBadMove state a b path =
+abbrev pub IsBadMovePath : State → ℕ → ℕ → List Corner → Type 0
+IsBadMovePath state a b path =
     (ring_a : List Corner) × (ring_b : List Corner) × Contains state.rows (numbered a ring_a) × Contains state.rows (numbered b ring_b)
     × IsBadBorder ring_a ring_b path
 
@@ -72,14 +72,14 @@ IsBadMove state a b path =
 abbrev pub HasNoEdge : State → Corner → Corner → Type 0
 HasNoEdge state from to = (from ≡ to) ⊎ (rows_with_edge from to state.rows ≡ [])
 
--- what the edit itself asks for, of parcels that are there, is not so
+-- what the edit asks for itself, of paths, borders and edges, is not so; it is looked at only where all ids that the edit names are parcels'
 abbrev pub IsOwnRefusal : {A : Type 0} → State → Edit A → Refusal → Type 0
-IsOwnRefusal state (Split id path) refusal = (refusal ≡ BadPath) × IsBadCut state id path
+IsOwnRefusal state (Split id path) refusal = (refusal ≡ BadPath) × IsBadCutPath state id path
 IsOwnRefusal state (Merge a b) refusal =
-    ((refusal ≡ NotNeighbours) × HaveNoBorder state a b NoBorder) ⊎ ((refusal ≡ SharedTwice) × HaveNoBorder state a b TwoBorders)
+    ((refusal ≡ NotNeighbours) × HaveBorderFault state a b NoBorder) ⊎ ((refusal ≡ SharedTwice) × HaveBorderFault state a b TwoBorders)
 IsOwnRefusal state (Move a b path) refusal =
-    ((refusal ≡ NotNeighbours) × HaveNoBorder state a b NoBorder) ⊎ ((refusal ≡ SharedTwice) × HaveNoBorder state a b TwoBorders)
-    ⊎ ((refusal ≡ BadPath) × IsBadMove state a b path)
+    ((refusal ≡ NotNeighbours) × HaveBorderFault state a b NoBorder) ⊎ ((refusal ≡ SharedTwice) × HaveBorderFault state a b TwoBorders)
+    ⊎ ((refusal ≡ BadPath) × IsBadMovePath state a b path)
 IsOwnRefusal state (Insert from to at) refusal =
     ((refusal ≡ NoSuchEdge) × HasNoEdge state from to)
     ⊎ ((refusal ≡ NotOnEdge) × (¬ HasNoEdge state from to) × (¬ IsStrictlyInside at from to))
@@ -96,21 +96,22 @@ pub record IsFirstBadRing (rows : List NumberedRing) (which : ℕ) (fault : Ring
 
 -- the rows of a change pass a limit of the layer, or keep to all of them and one is not simple
 abbrev pub IsChangeRefusal : State → List ℕ → List NumberedRing → Refusal → Type 0
-IsChangeRefusal state out rows TooMany = ¬ AreWithinAll (with_rows rows (without_ids out state.rows))
+IsChangeRefusal state out rows TooMany = ¬ AreWithinLayerLimits (with_rows rows (without_ids out state.rows))
 IsChangeRefusal state out rows (Ring which fault) =
-    AreWithinAll (with_rows rows (without_ids out state.rows)) × IsFirstBadRing rows which fault
+    AreWithinLayerLimits (with_rows rows (without_ids out state.rows)) × IsFirstBadRing rows which fault
 IsChangeRefusal state out rows other = ⊥
 
 -- a refusal for the ids that are named: the first that is no parcel's was never one's, or was retired by this entry
 abbrev pub IsIdRefusal : {A : Type 0} → State → List (JournalEntry A) → Edit A → Refusal → Type 0
-IsIdRefusal state journal edit (Unknown id) = IsFirstGone state.rows (named_ids edit) id × ((by : ℕ) → ¬ IsRetiredBy journal id by)
-IsIdRefusal state journal edit (Retired id by) = IsFirstGone state.rows (named_ids edit) id × IsRetiredBy journal id by
+IsIdRefusal state journal edit (Unknown id) = IsFirstAbsent state.rows (named_ids edit) id × ((by : ℕ) → ¬ IsRetiredBy journal id by)
+IsIdRefusal state journal edit (Retired id by) = IsFirstAbsent state.rows (named_ids edit) id × IsRetiredBy journal id by
 IsIdRefusal state journal edit other = ⊥
 
--- the edit is refused for this reason, in the state that the journal has led to; want of memory is none of these
+-- the edit is refused for this reason, in the state that the journal has led to (the two go together: a state with another's journal is none that a fabric
+-- has); want of memory is none of these
 abbrev pub IsRefusal : {A : Type 0} → State → List (JournalEntry A) → Edit A → Refusal → Type 0
 IsRefusal {A} state journal edit refusal =
     ((refusal ≡ JournalFull) × (JOURNAL_ENTRIES ≤ length journal))
     ⊎ ((length journal < JOURNAL_ENTRIES) × (IsIdRefusal state journal edit refusal
-    ⊎ (AreHere state.rows (named_ids edit) × (IsOwnRefusal state edit refusal
+    ⊎ (AreParcels state.rows (named_ids edit) × (IsOwnRefusal state edit refusal
     ⊎ ((out : List ℕ) × (rows : List NumberedRing) × IsChange state edit out rows × IsChangeRefusal state out rows refusal)))))

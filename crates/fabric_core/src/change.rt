@@ -5,7 +5,7 @@ ghost use Rattle.geo_exact.specs.Layers.{numbered};
 ghost use Rattle.fabric_core.specs.declared.refusal.Refusal.TheVariants.{BadPath};
 ghost use Rattle.fabric_core.specs.EditResults.{IsChange, IsSplitOf, IsMergeOf, IsMoveOf, IsInsertOf};
 ghost use Rattle.fabric_core.specs.JournalRows.{rows_of_entry};
-ghost use Rattle.fabric_core.specs.Refusals.{named_ids, IsBadCut, IsOwnRefusal};
+ghost use Rattle.fabric_core.specs.Refusals.{named_ids, IsBadCutPath, IsOwnRefusal};
 ghost use Rattle.fabric_core.specs.own.Changes.{state_of, IsGone, IsTold, IsStopped, IsBorderRefusal, IsMoveRefusal, IsInsertRefusal};
 
 use crate::edges::rows_with_corner;
@@ -114,7 +114,7 @@ fn split_change<'a, H: Allocator>(
     ensures change { IfOk result (λ change.
         IsSplitOf (state_of tiled.now) id path.now change.out.items (rows_of_entry change.rows.items)) }
     ensures err { IfErr result (λ refusal.
-        IsStopped tiled.now (id ∷ []) ((refusal ≡ BadPath) × IsBadCut (state_of tiled.now) id path.now) refusal) }
+        IsStopped tiled.now (id ∷ []) ((refusal ≡ BadPath) × IsBadCutPath (state_of tiled.now) id path.now) refusal) }
 {
     let shape = here(tiled, id)?;
     let (left, right) = match split(alloc, shape.ring.corners.as_slice(), path) {

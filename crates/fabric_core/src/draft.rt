@@ -4,7 +4,7 @@ ghost use Rattle.fabric_core.specs.declared.journal.TheConstants.{JOURNAL_ENTRIE
 ghost use Rattle.fabric_core.specs.declared.refusal.Refusal.TheVariants.{NoMemory};
 ghost use Rattle.fabric_core.specs.EditResults.{IsEntryOf};
 ghost use Rattle.fabric_core.specs.Journal.{after_entry};
-ghost use Rattle.fabric_core.specs.Refusals.{AreHere, named_ids};
+ghost use Rattle.fabric_core.specs.Refusals.{AreParcels, named_ids};
 ghost use Rattle.fabric_core.specs.Tiling.{corner_lists};
 ghost use Rattle.fabric_core.specs.own.Changes.{IsDraftRefusal, rings_of_shapes, state_of};
 
@@ -44,7 +44,7 @@ pub(crate) fn draft_of<'a, H: Allocator>(
     ensures number { IfOk result (λ draft. draft.entry.number ≡ number) }
     ensures clerk { IfOk result (λ draft. draft.entry.clerk ≡ clerk) }
     ensures edit { IfOk result (λ draft. draft.entry.edit ≡ edit.now) }
-    ensures here { IfOk result (λ _. AreHere tiled.now.rows (named_ids edit.now)) }
+    ensures here { IfOk result (λ _. AreParcels tiled.now.rows (named_ids edit.now)) }
     ensures shapes { IfOk result (λ draft. rings_of_shapes draft.shapes.items ≡ corner_lists draft.entry.rows) }
     ensures corners { IfOk result (λ draft. draft.corners ≡ corner_count (after_entry (state_of tiled.now) draft.entry).rows) }
     ensures err { IfErr result (λ refusal. IsDraftRefusal tiled.now edit.now refusal ⊎ (refusal ≡ NoMemory)) }

@@ -2,7 +2,7 @@ ghost use Rattle.std.specs.Prelude.{◌≡◌, ◌≢◌, ◌↔◌, ◌+◌, �
 ghost use Rattle.std.specs.List.{AllPairs, Contains};
 ghost use Rattle.geo_exact.specs.declared.limits.TheConstants.{LAYER_CORNERS};
 ghost use Rattle.geo_exact.specs.Layers.{corner_count};
-ghost use Rattle.fabric_core.specs.EditResults.{AreWithinAll};
+ghost use Rattle.fabric_core.specs.EditResults.{AreWithinLayerLimits};
 ghost use Rattle.fabric_core.specs.Journal.{with_rows, without_ids};
 ghost use Rattle.fabric_core.specs.JournalRows.{rows_of_entry};
 ghost use Rattle.fabric_core.specs.Rows.{numbers};
@@ -63,7 +63,7 @@ pub(crate) fn is_within<'a, H: Allocator>(
     requires here { (id : ℕ) → Contains change.now.out.items id → Contains (numbers tiled.now.rows) id }
     requires apart { AllPairs (λ a b. a ≢ b) change.now.out.items }
     ensures { IsTrue result
-        ↔ AreWithinAll (with_rows (rows_of_entry change.now.rows.items) (without_ids change.now.out.items tiled.now.rows)) }
+        ↔ AreWithinLayerLimits (with_rows (rows_of_entry change.now.rows.items) (without_ids change.now.out.items tiled.now.rows)) }
 {
     tiled.tiles();
     let left = corners_left(tiled, &change.out, corners);
@@ -92,7 +92,7 @@ pub(crate) fn corners_after<'a, H: Allocator>(
     requires corners { corners ≡ corner_count tiled.now.rows }
     requires here { (id : ℕ) → Contains change.now.out.items id → Contains (numbers tiled.now.rows) id }
     requires apart { AllPairs (λ a b. a ≢ b) change.now.out.items }
-    requires within { AreWithinAll (with_rows (rows_of_entry change.now.rows.items) (without_ids change.now.out.items tiled.now.rows)) }
+    requires within { AreWithinLayerLimits (with_rows (rows_of_entry change.now.rows.items) (without_ids change.now.out.items tiled.now.rows)) }
     ensures { result ≡ corner_count (with_rows (rows_of_entry change.now.rows.items) (without_ids change.now.out.items tiled.now.rows)) }
 {
     corners_left(tiled, &change.out, corners) + count(&change.rows)

@@ -16,7 +16,7 @@ use Rattle.ring_edits.specs.declared.edit.Edit.{Edit}
 use Rattle.ring_edits.specs.declared.edit.Edit.TheVariants.{Split, Move}
 use Rattle.fabric_core.specs.EditResults.{IsChange}
 use Rattle.fabric_core.specs.Journal.{State, JournalEntry, after_entry}
-use Rattle.fabric_core.specs.Refusals.{AreHere, IsFirstGone, IsFirstBadRing, IsOwnRefusal, IsChangeRefusal, Retires, named_ids, HaveNoBorder, HasNoEdge, IsBadMove}
+use Rattle.fabric_core.specs.Refusals.{AreParcels, IsFirstAbsent, IsFirstBadRing, IsOwnRefusal, IsChangeRefusal, Retires, named_ids, HaveBorderFault, HasNoEdge, IsBadMovePath}
 use Rattle.fabric_core.specs.own.Kept.{Kept, gone_by}
 
 -- the state of what is kept
@@ -33,22 +33,22 @@ IsGone kept id refusal = (¬ Contains (numbers kept.rows) id) × IsTold kept id 
 
 -- the refusal tells of the first of these ids that is no parcel's
 abbrev pub IsFirstTold : Kept → List ℕ → Refusal → Type 0
-IsFirstTold kept ids refusal = (id : ℕ) × IsFirstGone kept.rows ids id × IsGone kept id refusal
+IsFirstTold kept ids refusal = (id : ℕ) × IsFirstAbsent kept.rows ids id × IsGone kept id refusal
 
 -- why an edit that names these ids makes no change: no memory, an id that is no parcel's, or what it asks for itself
 abbrev pub IsStopped : Kept → List ℕ → Type 0 → Refusal → Type 0
-IsStopped kept ids own refusal = (refusal ≡ NoMemory) ⊎ IsFirstTold kept ids refusal ⊎ (AreHere kept.rows ids × own)
+IsStopped kept ids own refusal = (refusal ≡ NoMemory) ⊎ IsFirstTold kept ids refusal ⊎ (AreParcels kept.rows ids × own)
 
 -- the refusal for two parcels that have no border
 abbrev pub IsBorderRefusal : State → ℕ → ℕ → Refusal → Type 0
 IsBorderRefusal state a b refusal =
-    ((refusal ≡ NotNeighbours) × HaveNoBorder state a b NoBorder) ⊎ ((refusal ≡ SharedTwice) × HaveNoBorder state a b TwoBorders)
+    ((refusal ≡ NotNeighbours) × HaveBorderFault state a b NoBorder) ⊎ ((refusal ≡ SharedTwice) × HaveBorderFault state a b TwoBorders)
 
 -- or whose border the path does not replace
 abbrev pub IsMoveRefusal : State → ℕ → ℕ → List Corner → Refusal → Type 0
 IsMoveRefusal state a b path refusal =
-    ((refusal ≡ NotNeighbours) × HaveNoBorder state a b NoBorder) ⊎ ((refusal ≡ SharedTwice) × HaveNoBorder state a b TwoBorders)
-    ⊎ ((refusal ≡ BadPath) × IsBadMove state a b path)
+    ((refusal ≡ NotNeighbours) × HaveBorderFault state a b NoBorder) ⊎ ((refusal ≡ SharedTwice) × HaveBorderFault state a b TwoBorders)
+    ⊎ ((refusal ≡ BadPath) × IsBadMovePath state a b path)
 
 -- the refusal for a corner that is put into no edge
 abbrev pub IsInsertRefusal : State → Corner → Corner → Corner → Refusal → Type 0
@@ -81,7 +81,7 @@ pub record AddWithin (corners rows : ℕ) (news : List NumberedRing) : Type 0 wh
 abbrev pub IsDraftRefusal : {A : Type 0} → Kept → Edit A → Refusal → Type 0
 IsDraftRefusal kept edit refusal =
     IsFirstTold kept (named_ids edit) refusal
-    ⊎ (AreHere kept.rows (named_ids edit) × (IsOwnRefusal (state_of kept) edit refusal
+    ⊎ (AreParcels kept.rows (named_ids edit) × (IsOwnRefusal (state_of kept) edit refusal
     ⊎ ((out : List ℕ) × (rows : List NumberedRing) × IsChange (state_of kept) edit out rows × IsChangeRefusal (state_of kept) out rows refusal)))
 
 -- the edit cuts this parcel

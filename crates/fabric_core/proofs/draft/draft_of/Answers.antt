@@ -7,7 +7,7 @@ use Rattle.std.specs.List.{AllByRecursion}
 use Rattle.geo_exact.specs.declared.limits.TheConstants.{RING_CORNERS}
 use Rattle.fabric_core.specs.declared.journal.TheConstants.{JOURNAL_ENTRIES}
 use Rattle.fabric_core.specs.declared.refusal.Refusal.TheVariants.{NoMemory}
-use Rattle.fabric_core.specs.EditResults.{AreWithinAll, IsChange}
+use Rattle.fabric_core.specs.EditResults.{AreWithinLayerLimits, IsChange}
 use Rattle.fabric_core.specs.Journal.{with_rows, without_ids}
 use Rattle.fabric_core.specs.JournalRows.{row_of, rows_of_entry}
 use Rattle.fabric_core.specs.Refusals.{IsChangeRefusal}
@@ -93,8 +93,8 @@ returns-clause-is_entry g c =
       is_change = subst (λ e. IsChange state e c.of.result.out c.of.result.rows) (sym edit) change;
       are_simple = subst AreSimple (sym c.of.ensures.rows) (simple_news c.in_ok-shapes.shapes.items rows
           (c.in_ok-shapes.ensures.ok ∙ ap (λ entries. corner_lists (rows_of_entry entries)) c.deref.ensures.value));
-      within = subst (λ xs. AreWithinAll (with_rows c.of.result.rows (without_ids xs c.args.tiled.now.rows))) (sym c.of.ensures.out)
-          (subst (λ xs. AreWithinAll (with_rows xs (without_ids out c.args.tiled.now.rows))) (sym c.of.ensures.rows)
+      within = subst (λ xs. AreWithinLayerLimits (with_rows c.of.result.rows (without_ids xs c.args.tiled.now.rows))) (sym c.of.ensures.out)
+          (subst (λ xs. AreWithinLayerLimits (with_rows xs (without_ids out c.args.tiled.now.rows))) (sym c.of.ensures.rows)
           (c.is_within.ensures.0 c.if-not-is_within.false));
     }
 

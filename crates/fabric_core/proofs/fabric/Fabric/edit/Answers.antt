@@ -2,7 +2,7 @@ use Rattle.std.proofs.Common.{rules, ◌≡◌, ◌⊎◌, inl, inr, sym, ◌∙
 use Rattle.fabric_core.specs.declared.journal.TheConstants.{JOURNAL_ENTRIES}
 use Rattle.fabric_core.specs.declared.refusal.Refusal.TheVariants.{NoMemory}
 use Rattle.fabric_core.specs.Journal.{Book}
-use Rattle.fabric_core.specs.Refusals.{IsRefusal, AreHere, named_ids}
+use Rattle.fabric_core.specs.Refusals.{IsRefusal, AreParcels, named_ids}
 use Rattle.fabric_core.specs.own.Books.{IsBook}
 use Rattle.fabric_core.specs.own.Changes.{state_of}
 use Rattle.fabric_core.proofs.Booked.{drafted, for_that_alone, for_nothing, one_more}
@@ -49,6 +49,6 @@ returns-clause-refuses g c = λ s h.
     let told = subst (λ (b : Book _). IsRefusal b.now b.journal c.args.edit.now s) (sym c.self.view_is) h in
     let entry = c.in_ok-draft.draft.entry in
     for_nothing c.self.inside.opening c.self.inside.journal.items c.self.inside.tiled c.self.inside.corners c.self.invariant entry s room
-    (subst (λ edit. AreHere c.self.inside.tiled.rows (named_ids edit)) (sym c.in_ok-draft.ensures.edit) c.in_ok-draft.ensures.here)
+    (subst (λ edit. AreParcels c.self.inside.tiled.rows (named_ids edit)) (sym c.in_ok-draft.ensures.edit) c.in_ok-draft.ensures.here)
     c.in_ok-draft.ensures.is_entry
     (subst (λ edit. IsRefusal (state_of c.self.inside.tiled) c.self.inside.journal.items edit s) (sym c.in_ok-draft.ensures.edit) told)
