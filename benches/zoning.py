@@ -1,0 +1,153 @@
+#!/usr/bin/env python3
+"""zoning.py - `parcel_tool overlay` over cities S, M and L with their zones, and over layers made to be slow.
+
+  zoning.py PROGRAM [--runs N] [--workers N,N ..] [--limit SECONDS] [--only WORD]
+
+PROGRAM is the built parcel_tool (benches/README.md says where it lies). The layers are made in a temporary folder with a fixed seed. For each,
+`check` of the parcels, `check` of the zones and `overlay` with each number of workers are run in turn, N times, each a whole process; the best
+time and the largest memory of each are printed, and what an overlay takes beyond both checks: that is the copy of the parcels, the pairs and the
+report. Over the cities GEOS finds the pairs of the same files (geos_pairs.cpp, with Debian's libgeos-dev and g++), by relate, and by intersects
+and not touches: its search alone, without the reading, over layers that nobody checked. The lists of pairs are compared.
+"""
+import argparse, os, shutil, struct, subprocess, sys, tempfile
+
+HERE = os.path.dirname(os.path.abspath(__file__))
+sys.dont_write_bytecode = True
+import gencity
+import nodes
+import tiling
+
+
+def layers(folder, outline, parcels, zones):
+    nodes.layers(folder, outline, parcels)
+    gencity.write(os.path.join(folder, "zones"), zones, False)
+
+
+def corner(folder):
+    """All parcels but one in a corner of the city, so in one cell of its index; the zones are four quarters of that corner, and the rest."""
+    nodes.corner(folder)
+    half, side = 12800, 25600
+    last = [(half, half), (side, half), (side, side - 100), (side - 100, side - 100), (side - 100, side), (half, side)]
+    quarters = [nodes.box(0, 0, half, half), nodes.box(half, 0, side, half), nodes.box(0, half, half, side), last]
+    rest = rings_of(os.path.join(folder, "parcels.shp"))[-1]
+    gencity.write(os.path.join(folder, "zones"), quarters + [rest], False)
+
+
+def rings_of(path):
+    """The rings of a main file, as lists of whole corners."""
+    with open(path, "rb") as file:
+        data = file.read()
+    at, rings = 100, []
+    while at < len(data):
+        length = 2 * struct.unpack(">i", data[at + 4 : at + 8])[0]
+        count = struct.unpack("<i", data[at + 48 : at + 52])[0]
+        numbers = struct.unpack("<%dd" % (2 * count), data[at + 56 : at + 56 + 16 * count])
+        points = list(zip(map(int, numbers[::2]), map(int, numbers[1::2])))[:-1]
+        rings.append(points[::-1])
+        at += 8 + length
+    return rings
+
+
+def crosswise(folder):
+    """1,000 strips from south to north, and as zones 1,000 strips from west to east: a million pairs."""
+    side = 100000
+    across = [nodes.box(100 * k, 0, 100 * (k + 1), side) for k in range(1000)]
+    along = [nodes.box(0, 100 * k, side, 100 * (k + 1)) for k in range(1000)]
+    layers(folder, nodes.box(0, 0, side, side), across, along)
+
+
+def stairs(folder):
+    """65,536 squares, and two zones with a border of 4,090 corners between them."""
+    side, steps = 256 * 16, 2045
+    squares = [nodes.box(16 * i, 16 * j, 16 * (i + 1), 16 * (j + 1)) for j in range(256) for i in range(256)]
+    border = [(x, y) for k in range(steps) for x, y in ((k + 1, k), (k + 1, k + 1))]
+    low = [(0, 0)] + [(1, 0)] + border[1:]
+    top = border[-1]
+    south = [(0, 0), (side, 0), (side, side), top] + border[-2:0:-1]
+    north = [(0, 0), *border[1:], (side, side), (0, side)]
+    layers(folder, nodes.box(0, 0, side, side), squares, [clean(south), clean(north)])
+
+
+def clean(ring):
+    """A ring without equal neighbours."""
+    return [corner for at, corner in enumerate(ring) if corner != ring[at - 1]]
+
+
+CITIES = tuple(("city " + size, nodes.city(size)) for size in "SML")
+
+SKEWED = (("corner", corner), ("crosswise", crosswise), ("stairs", stairs))
+
+
+def geos(folder):
+    """The program of GEOS's pairs, or None where it cannot be built."""
+    made = os.path.join(folder, "geos_pairs")
+    words = ["g++", "-O2", "-o", made, os.path.join(HERE, "geos_pairs.cpp"), "-lgeos_c"]
+    return made if shutil.which("g++") and subprocess.run(words, stderr=subprocess.DEVNULL).returncode == 0 else None
+
+
+def least(known, job, seconds, kib):
+    old = known.get(job, (seconds, kib))
+    known[job] = (min(old[0], seconds), max(old[1], kib))
+
+
+def measure(program, folder, runs, workers, limit):
+    """The least seconds and the largest memory of each job."""
+    files = {part: os.path.join(folder, part + ".shp") for part in ("city", "parcels", "zones")}
+    jobs = [("check parcels", ["check", files["city"], files["parcels"], "--unit", "cm"]),
+            ("check zones", ["check", files["city"], files["zones"], "--unit", "cm"])]
+    for number in workers:
+        words = ["overlay", files["city"], files["parcels"], files["zones"], "--unit", "cm", "--workers", number]
+        jobs.append(("overlay, %s" % number, words))
+    known = {}
+    for _ in range(runs):
+        for job, words in jobs:
+            seconds, kib, said = tiling.run([program, *words], limit)
+            if seconds is None:
+                sys.exit("%s: %s" % (job, said))
+            least(known, job, seconds, kib)
+    return known
+
+
+def compare(program, peer, folder):
+    """What GEOS's search takes, and whether its pairs are the same."""
+    files = [os.path.join(folder, part + ".shp") for part in ("city", "parcels", "zones")]
+    ours = subprocess.run([program, "overlay", *files, "--unit", "cm"], stdout=subprocess.PIPE, text=True).stdout
+    pairs = [line for line in ours.splitlines() if line.startswith("pair ")]
+    for way in ("touch", "relate"):
+        theirs = subprocess.run([peer, way, *files[1:]], stdout=subprocess.PIPE, stderr=subprocess.PIPE, text=True)
+        same = "the same" if theirs.stdout.splitlines() == pairs else "NOT THE SAME"
+        print("  GEOS %s: %.3f s, %d pairs, %s" % (way, int(theirs.stderr.split()[-1]) / 1e6, len(pairs), same), flush=True)
+
+
+def main():
+    parser = argparse.ArgumentParser(description=__doc__, formatter_class=argparse.RawDescriptionHelpFormatter)
+    parser.add_argument("program")
+    parser.add_argument("--runs", type=int, default=3)
+    parser.add_argument("--workers", default="1,2,4")
+    parser.add_argument("--limit", type=float, default=60)
+    parser.add_argument("--only", default="")
+    given = parser.parse_args()
+    home = tempfile.mkdtemp()
+    try:
+        peer = geos(home)
+        for name, make in CITIES + SKEWED:
+            if given.only not in name:
+                continue
+            folder = tempfile.mkdtemp()
+            try:
+                nodes.apart(make, folder)
+                known = measure(given.program, folder, given.runs, given.workers.split(","), given.limit)
+                checks = known["check parcels"][0] + known["check zones"][0]
+                for job, (seconds, kib) in known.items():
+                    beyond = ", %.3f s beyond both checks" % (seconds - checks) if job.startswith("overlay") else ""
+                    print("%-10s %-14s %7.3f s %5d MiB%s" % (name, job, seconds, kib / 1024, beyond), flush=True)
+                if peer and name.startswith("city"):
+                    compare(given.program, peer, folder)
+            finally:
+                shutil.rmtree(folder)
+    finally:
+        shutil.rmtree(home)
+
+
+if __name__ == "__main__":
+    main()
