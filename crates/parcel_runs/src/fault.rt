@@ -49,6 +49,10 @@ pub enum ToolFault<'a> {
     CityRing(CityFault),
     /// H1 to H3: the rings of the layer do not tile the city.
     NoTiling(Role, LoadFault),
+    /// K1: the command line has this number of clerks' files, and a run takes at most 8.
+    ClerkCount(usize),
+    /// L1: of the file of this clerk, counted from 1, the line of this number, counted from 1, is no edit.
+    ClerkLine(u32, u64),
     /// L1: the line of this number, counted from 1, of the points' file is no point.
     PointLine(usize),
     /// A growth was refused.
@@ -101,6 +105,8 @@ impl<'a> fmt::Display for ToolFault<'a> {
                 let (ax, ay, bx, by) = (a.x, a.y, b.x, b.y);
                 write!(f, "{role}: H2 {ax} {ay} {bx} {by} net {net}")
             }
+            ToolFault::ClerkCount(count) => write!(f, "K1 {count}"),
+            ToolFault::ClerkLine(clerk, line) => write!(f, "clerk {clerk}: L1 {line}"),
             ToolFault::PointLine(number) => write!(f, "points: L1 {number}"),
             ToolFault::NoMemory
             | ToolFault::CityRing(CityFault::NoMemory)
