@@ -1,5 +1,6 @@
 -- The edits of clerks' files, read one file after the other and tried one after the other.
-use Rattle.std.proofs.Common.{◌≡◌, ◌⊎◌, inl, inr, ℕ, ◌+◌, ◌≤◌, List, [], ◌∷◌, ◌++◌, length, refl, sym, ap, subst, ◌∙◌, arith, append_assoc, append-nil}
+use Rattle.std.proofs.Common.{◌≡◌, ◌⊎◌, inl, inr, ℕ, ◌+◌, ◌≤◌, List, [], ◌∷◌, ◌++◌, length, refl, sym, ap, subst, ◌∙◌, arith, append_assoc}
+use Rattle.std.proofs.Common.{append-nil}
 use Rattle.std.proofs.lemmas.List.{length-append}
 use Rattle.ring_edits.specs.declared.edit.Edit.{Edit}
 use Rattle.geo_exact.specs.declared.limits.TheConstants.{LAYER_RECORDS}
@@ -54,7 +55,8 @@ due_is_told all clerk file left attempts e h answered refuses fault k = elim (h.
 ]
 
 -- all files are read
-pub all_read : {A : Type 0} (all : List (List ℕ)) (clerk : ℕ) (attempts : List (Attempt A)) → HaveRead all clerk [] attempts → AreTried 1 all attempts
+pub all_read : {A : Type 0} (all : List (List ℕ)) (clerk : ℕ) (attempts : List (Attempt A)) → HaveRead all clerk [] attempts
+    → AreTried 1 all attempts
 all_read all clerk attempts h = subst (AreTried 1 all) (append-nil attempts) (h.adds [] refl)
 
 -- ---- edits that are tried
@@ -76,14 +78,16 @@ more_run before all here attempt left text next line h k = record {
 }
 
 -- all edits are tried
-pub all_run : {A : Type 0} (before : Register A) (all : List (Attempt A)) (here : Register A) (text : List ℕ) → HaveRun before all here [] text
+pub all_run : {A : Type 0} (before : Register A) (all : List (Attempt A)) (here : Register A) (text : List ℕ)
+    → HaveRun before all here [] text
     → IsRun before all here text
 all_run before all here text h = subst (IsRun before all here) (append-nil text) (h.adds here [] (refl, refl))
 
 -- ---- what they lead to
 
 -- a layer never gets more parcels than it may have
-pub run_few : {A : Type 0} (before : Register A) (attempts : List (Attempt A)) (after : Register A) (text : List ℕ) → IsRun before attempts after text
+pub run_few : {A : Type 0} (before : Register A) (attempts : List (Attempt A)) (after : Register A) (text : List ℕ)
+    → IsRun before attempts after text
     → length before.now.rows ≤ LAYER_RECORDS → length after.now.rows ≤ LAYER_RECORDS
 run_few before [] after text h few = subst (λ register. length register.now.rows ≤ LAYER_RECORDS) (sym h.0) few
 run_few before (attempt ∷ rest) after text h few = run_few h.0 rest after h.2 h.5 (elim h.3 [
@@ -109,7 +113,8 @@ none_added before after text same none = record {
 }
 
 one_added : {A : Type 0} (before next after : Register A) (attempt : Attempt A) (rest : List (Attempt A)) (line more text : List ℕ)
-    → IsAccepted before attempt next line → text ≡ line ++ more → HaveAdded next rest after more → HaveAdded before (attempt ∷ rest) after text
+    → IsAccepted before attempt next line → text ≡ line ++ more → HaveAdded next rest after more
+    → HaveAdded before (attempt ∷ rest) after text
 one_added before next after attempt rest line more text k e h = record {
   entries = k.entry ∷ h.entries;
   are_kept = h.are_kept ∙ ap (λ journal. journal ++ h.entries) k.is_kept ∙ append_assoc before.journal (k.entry ∷ []) h.entries;
@@ -127,7 +132,8 @@ one_added before next after attempt rest line more text k e h = record {
     one_more = omega (arith, ap length k.is_kept, length-append before.journal (k.entry ∷ []))
 
 same_added : {A : Type 0} (before next after : Register A) (attempt : Attempt A) (rest : List (Attempt A)) (line more text : List ℕ)
-    → IsRefused before attempt next line → text ≡ line ++ more → HaveAdded next rest after more → HaveAdded before (attempt ∷ rest) after text
+    → IsRefused before attempt next line → text ≡ line ++ more → HaveAdded next rest after more
+    → HaveAdded before (attempt ∷ rest) after text
 same_added before next after attempt rest line more text k e h = record {
   entries = h.entries;
   are_kept = h.are_kept ∙ ap (λ register. register.journal ++ h.entries) k.same;
@@ -136,7 +142,8 @@ same_added before next after attempt rest line more text k e h = record {
   are_told = inr (k.refusal, more, e ∙ ap (λ t. t ++ more) k.is_told, h.are_told);
 }
 
-run_adds : {A : Type 0} (before : Register A) (attempts : List (Attempt A)) (after : Register A) (text : List ℕ) → IsRun before attempts after text
+run_adds : {A : Type 0} (before : Register A) (attempts : List (Attempt A)) (after : Register A) (text : List ℕ)
+    → IsRun before attempts after text
     → HaveAdded before attempts after text
 run_adds before [] after text h = none_added before after text h.0 h.1
 run_adds before (attempt ∷ rest) after text h = elim h.3 [
@@ -145,19 +152,22 @@ run_adds before (attempt ∷ rest) after text h = elim h.3 [
 ]
 
 -- the same of a run on a layer that is opened
-pub run_lawful : {A : Type 0} (tiles : Tiles) (attempts : List (Attempt A)) (after : Register A) (text : List ℕ) → IsRun (opened tiles) attempts after text
+pub run_lawful : {A : Type 0} (tiles : Tiles) (attempts : List (Attempt A)) (after : Register A) (text : List ℕ)
+    → IsRun (opened tiles) attempts after text
     → IsLawful (opening_state tiles.rows tiles.refined) after.journal
 run_lawful tiles attempts after text h =
     let all = run_adds (opened tiles) attempts after text h in
     subst (IsLawful (opening_state tiles.rows tiles.refined)) (sym all.are_kept) all.are_lawful
 
-pub run_replays : {A : Type 0} (tiles : Tiles) (attempts : List (Attempt A)) (after : Register A) (text : List ℕ) → IsRun (opened tiles) attempts after text
+pub run_replays : {A : Type 0} (tiles : Tiles) (attempts : List (Attempt A)) (after : Register A) (text : List ℕ)
+    → IsRun (opened tiles) attempts after text
     → replay (opening_state tiles.rows tiles.refined) after.journal ≡ after.now
 run_replays tiles attempts after text h =
     let all = run_adds (opened tiles) attempts after text h in
     subst (λ journal. replay (opening_state tiles.rows tiles.refined) journal ≡ after.now) (sym all.are_kept) all.lead
 
-pub run_told : {A : Type 0} (tiles : Tiles) (attempts : List (Attempt A)) (after : Register A) (text : List ℕ) → IsRun (opened tiles) attempts after text
+pub run_told : {A : Type 0} (tiles : Tiles) (attempts : List (Attempt A)) (after : Register A) (text : List ℕ)
+    → IsRun (opened tiles) attempts after text
     → AreToldBy attempts after.journal text
 run_told tiles attempts after text h =
     let all = run_adds (opened tiles) attempts after text h in
@@ -176,6 +186,7 @@ pub none_edit : {A : Type 0} (tiles : Tiles) → IsEdited {A = A} tiles [] (open
 none_edit tiles = record { attempts = []; are_tried = refl; is_run = (refl, refl) }
 
 -- the edits of clerks' files never make more parcels than a layer may have
-pub edited_few : {A : Type 0} (tiles : Tiles) (clerks : List (List ℕ)) (after : Register A) (lines : List ℕ) → IsEdited tiles clerks after lines
+pub edited_few : {A : Type 0} (tiles : Tiles) (clerks : List (List ℕ)) (after : Register A) (lines : List ℕ)
+    → IsEdited tiles clerks after lines
     → length tiles.rows ≤ LAYER_RECORDS → length after.now.rows ≤ LAYER_RECORDS
 edited_few tiles clerks after lines h few = run_few (opened tiles) h.attempts after lines h.is_run few

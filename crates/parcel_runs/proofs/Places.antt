@@ -11,14 +11,16 @@ use Rattle.parcel_runs.specs.LocateReport.{IsPlaceText, ArePlaceLines}
 use Rattle.parcel_runs.specs.own.PlaceTexts.{place_text}
 
 -- what the code tells is where the place lies
-pub place_told : {A : Type 0} (rows : List NumberedRing) (p : Point) (at : At A) → IsLocatedAt rows p at → IsPlaceText rows p (place_text at)
+pub place_told : {A : Type 0} (rows : List NumberedRing) (p : Point) (at : At A) → IsLocatedAt rows p at
+    → IsPlaceText rows p (place_text at)
 place_told rows p (OnEdge ids) h = inl (ids.items, h.0, h.1, refl)
 place_told rows p (Inside id) h = inr (inl (id, h.0, h.1, refl))
 place_told rows p Outside h = inr (inr (h.0, h.1, refl))
 
 -- the lines of the points before these are written behind what was there, and with those of these points they are all
 pub record HaveLines (rows : List NumberedRing) (all left : List Corner) (begun text : List ℕ) : Type 0 where
-  pub adds : (more : List ℕ) → ArePlaceLines rows left more → (lines : List ℕ) × (text ++ more ≡ begun ++ lines) × ArePlaceLines rows all lines
+  pub adds : (more : List ℕ) → ArePlaceLines rows left more
+      → (lines : List ℕ) × (text ++ more ≡ begun ++ lines) × ArePlaceLines rows all lines
 
 -- pieces, one behind the other
 regrouped : (text a b c d more : List ℕ) → text ++ (a ++ b ++ c ++ d ++ more) ≡ (text ++ a ++ b ++ c ++ d) ++ more

@@ -19,19 +19,22 @@ pub few_texts : {A : Type 0} (clerks : List (Vec ℕ A)) → length clerks ≤ C
 few_texts clerks few = omega (arith, few, length-map clerks (λ file. file.items))
 
 -- a run's fault, where there are few clerks' files, is of the layers or behind them
-pub few_fault : {A : Type 0} (city parcels : Files) (unit : LengthUnit) (clerks : List (Vec ℕ A)) (P : Type 0) (fault : ToolFault) → length clerks ≤ CLERKS
+pub few_fault : {A : Type 0} (city parcels : Files) (unit : LengthUnit) (clerks : List (Vec ℕ A)) (P : Type 0) (fault : ToolFault)
+    → length clerks ≤ CLERKS
     → IsRunFault city parcels unit (texts_of clerks) fault → (IsTilesFault city parcels unit fault → P)
     → ((tiles : Tiles) → AreTiles city parcels unit tiles → IsClerkFault 1 (texts_of clerks) fault → P) → P
 few_fault city parcels unit clerks P fault few (inl h) of_tiles behind = absurd (omega (arith, h.are_more, few_texts clerks few))
 few_fault city parcels unit clerks P fault few (inr h) of_tiles behind = elim h.1 [ inl k ↦ of_tiles k | inr k ↦ behind k.tiles k.are_tiles k.is_first ]
 
 -- a fault of the layers is the run's
-pub of_layers : {A : Type 0} (city parcels : Files) (unit : LengthUnit) (clerks : List (Vec ℕ A)) (fault : ToolFault) → length clerks ≤ CLERKS
+pub of_layers : {A : Type 0} (city parcels : Files) (unit : LengthUnit) (clerks : List (Vec ℕ A)) (fault : ToolFault)
+    → length clerks ≤ CLERKS
     → IsTilesFault city parcels unit fault → IsRunFault city parcels unit (texts_of clerks) fault
 of_layers city parcels unit clerks fault few h = inr (few_texts clerks few, inl h)
 
 -- and so is one of the clerks' files, where the layers have none
-pub of_clerks : {A : Type 0} (city parcels : Files) (unit : LengthUnit) (clerks : List (Vec ℕ A)) (tiles : Tiles) (fault : ToolFault) → length clerks ≤ CLERKS
+pub of_clerks : {A : Type 0} (city parcels : Files) (unit : LengthUnit) (clerks : List (Vec ℕ A)) (tiles : Tiles) (fault : ToolFault)
+    → length clerks ≤ CLERKS
     → AreTiles city parcels unit tiles → IsClerkFault 1 (texts_of clerks) fault → IsRunFault city parcels unit (texts_of clerks) fault
 of_clerks city parcels unit clerks tiles fault few are h =
     inr (few_texts clerks few, inr record { tiles = tiles; are_tiles = are; is_first = h })
@@ -55,7 +58,8 @@ edited_tiles (Ok edited) city parcels unit clerks tiles are h same = (tiles, are
 edited_tiles (Err e) city parcels unit clerks tiles are h same = tt
 
 -- before a clerk's fault there are no lines
-no_lines_before : (city parcels : Files) (unit : LengthUnit) (clerk : ℕ) (clerks : List (List ℕ)) (fault : ToolFault) → IsClerkFault clerk clerks fault
+no_lines_before : (city parcels : Files) (unit : LengthUnit) (clerk : ℕ) (clerks : List (List ℕ)) (fault : ToolFault)
+    → IsClerkFault clerk clerks fault
     → AreLinesBefore city parcels unit fault []
 no_lines_before city parcels unit clerk [] fault h = absurd h
 no_lines_before city parcels unit clerk (file ∷ files) fault (inl h) =

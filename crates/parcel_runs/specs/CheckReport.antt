@@ -13,9 +13,10 @@ use Rattle.parcel_runs.specs.ClerkRuns.{Register, IsEdited}
 abbrev pub tiling_line : List NumberedRing → List Corner → List ℕ
 tiling_line rows city = codes "tiling " ++ decimal (length rows) ++ codes " " ++ decimal (unsigned_abs (area2 city)) ++ codes "\n"
 
--- the parcels' files tile the city of the city's files, and the lines of the clerks' edits, and that of what they lead to, were written after the
--- told bytes; edits are in a memory A
-pub record WritesTiling (A : Type 0) (city parcels : Files) (unit : LengthUnit) (clerks : List (List ℕ)) (old new : Option (List ℕ)) : Type 0 where
+-- the parcels' files tile the city of the city's files, and the lines of the clerks' edits, and that of what they lead to, were written
+-- after the told bytes; edits are in a memory A
+pub record WritesTiling (A : Type 0) (city parcels : Files) (unit : LengthUnit) (clerks : List (List ℕ)) (old new : Option (List ℕ))
+    : Type 0 where
   pub tiles : Tiles
   pub are_tiles : AreTiles city parcels unit tiles
   pub after : Register A

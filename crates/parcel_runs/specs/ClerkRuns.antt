@@ -1,9 +1,10 @@
--- The edits of clerks' files, made one after the other on a layer of parcels (this product's own): what they lead to, and the line that tells of each.
+-- The edits of clerks' files, made one after the other on a layer of parcels (this product's own): what they lead to, and the line that
+-- tells of each.
 use Rattle.std.specs.Prelude.{◌≡◌, ◌⊎◌, ℕ, ◌+◌, List, [], ◌∷◌, ◌++◌, map, length, codes, decimal, Vec}
 use Rattle.ring_edits.specs.declared.edit.Edit.{Edit}
 use Rattle.fabric_core.specs.declared.refusal.Refusal.{Refusal}
-use Rattle.fabric_core.specs.declared.refusal.Refusal.TheVariants.{Unknown, Retired, BadPath, NotNeighbours, SharedTwice, Ring, NoSuchEdge, NotOnEdge}
-use Rattle.fabric_core.specs.declared.refusal.Refusal.TheVariants.{JournalFull, TooMany, NoMemory}
+use Rattle.fabric_core.specs.declared.refusal.Refusal.TheVariants.{Unknown, Retired, BadPath, NotNeighbours, SharedTwice, Ring}
+use Rattle.fabric_core.specs.declared.refusal.Refusal.TheVariants.{NoSuchEdge, NotOnEdge, JournalFull, TooMany, NoMemory}
 use Rattle.fabric_core.specs.Rows.{Tiles}
 use Rattle.fabric_core.specs.Journal.{State, JournalEntry, opening_state, after_entry}
 use Rattle.fabric_core.specs.EditResults.{IsEntryOf}
@@ -63,7 +64,8 @@ refusal_text NoMemory = codes "no memory"
 abbrev pub refused_line : {A : Type 0} → Attempt A → Refusal → List ℕ
 refused_line attempt refusal = attempt_text attempt ++ codes "refused " ++ refusal_text refusal ++ codes "\n"
 
--- the edit is accepted: the journal gets its entry, by this clerk and under the next number, which leads to the new state and which the line tells
+-- the edit is accepted: the journal gets its entry, by this clerk and under the next number, which leads to the new state and which the
+-- line tells
 pub record IsAccepted {A : Type 0} (before : Register A) (attempt : Attempt A) (after : Register A) (line : List ℕ) : Type 0 where
   pub entry : JournalEntry A
   pub is_entry : IsEntryOf before.now entry
@@ -93,7 +95,8 @@ pub record IsEdited {A : Type 0} (tiles : Tiles) (clerks : List (List ℕ)) (aft
   pub are_tried : AreTried 1 clerks attempts
   pub is_run : IsRun (opened tiles) attempts after lines
 
--- each line tells of its edit: ok under the number of the next entry, which has the edit and its clerk, or refused; there are no other entries
+-- each line tells of its edit: ok under the number of the next entry, which has the edit and its clerk, or refused; there are no other
+-- entries
 abbrev pub AreToldBy : {A : Type 0} → List (Attempt A) → List (JournalEntry A) → List ℕ → Type 0
 AreToldBy [] entries text = (entries ≡ []) × (text ≡ [])
 AreToldBy {A} (attempt ∷ rest) entries text =

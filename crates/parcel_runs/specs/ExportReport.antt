@@ -12,9 +12,10 @@ use Rattle.parcel_runs.specs.ClerkRuns.{Register, IsEdited}
 abbrev pub exported_line : List NumberedRing → List ℕ
 exported_line rows = codes "exported " ++ decimal (length rows) ++ codes "\n"
 
--- the parcels' files tile the city of the city's files; the main file and the index file are those of the rings that the clerks' edits lead to,
--- by ascending id; told are the lines of the edits, and how many parcels there are then; edits are in a memory A
-pub record IsExport (A : Type 0) (city parcels : Files) (unit : LengthUnit) (clerks : List (List ℕ)) (main index lines : List ℕ) : Type 0 where
+-- the parcels' files tile the city of the city's files; the main file and the index file are those of the rings that the clerks' edits
+-- lead to, by ascending id; told are the lines of the edits, and how many parcels there are then; edits are in a memory A
+pub record IsExport (A : Type 0) (city parcels : Files) (unit : LengthUnit) (clerks : List (List ℕ)) (main index lines : List ℕ)
+    : Type 0 where
   pub tiles : Tiles
   pub are_tiles : AreTiles city parcels unit tiles
   pub after : Register A

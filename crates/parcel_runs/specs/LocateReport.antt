@@ -32,9 +32,10 @@ ArePlaceLines rows [] text = text ≡ []
 ArePlaceLines rows (point ∷ points) text = (place : List ℕ) × (rest : List ℕ) × IsPlaceText rows (corner_point point) place
     × (text ≡ corner_text point ++ codes " " ++ place ++ codes "\n" ++ rest) × ArePlaceLines rows points rest
 
--- the parcels' files tile the city of the city's files, and the lines of the clerks' edits, and those of the points among the parcels that these lead
--- to, were written after the told bytes; edits are in a memory A
-pub record WritesPlaces (A : Type 0) (city parcels : Files) (unit : LengthUnit) (clerks : List (List ℕ)) (points : List Corner) (old new : Option (List ℕ))
+-- the parcels' files tile the city of the city's files, and the lines of the clerks' edits, and those of the points among the parcels
+-- that these lead to, were written after the told bytes; edits are in a memory A
+pub record WritesPlaces (A : Type 0) (city parcels : Files) (unit : LengthUnit) (clerks : List (List ℕ)) (points : List Corner)
+    (old new : Option (List ℕ))
     : Type 0 where
   pub tiles : Tiles
   pub are_tiles : AreTiles city parcels unit tiles
@@ -46,7 +47,8 @@ pub record WritesPlaces (A : Type 0) (city parcels : Files) (unit : LengthUnit) 
   pub is_written : Appends old new (told ++ lines)
 
 -- the same of the points of a text
-pub record WritesPlacesOfText (A : Type 0) (city parcels : Files) (unit : LengthUnit) (clerks : List (List ℕ)) (text : List ℕ) (old new : Option (List ℕ))
+pub record WritesPlacesOfText (A : Type 0) (city parcels : Files) (unit : LengthUnit) (clerks : List (List ℕ)) (text : List ℕ)
+    (old new : Option (List ℕ))
     : Type 0 where
   pub points : List Corner
   pub are_points : ArePoints text points

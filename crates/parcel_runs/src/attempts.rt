@@ -20,8 +20,8 @@ pub struct Attempt<A: Allocator> {
     pub edit: Edit<A>,
 }
 
-/// Tries edits one after the other, and tells of each in a line. One that is refused, for want of memory too, changes nothing, and the
-/// next is tried.
+/// Tries edits one after the other, and tells of each in a line. One that is refused, for want of memory too, changes
+/// nothing, and the next is tried.
 pub fn try_all<'h, H: Allocator>(
     heap: &'h H,
     fabric: &mut Fabric<'h, H>,

@@ -24,14 +24,14 @@ use shp_files::a_layer_file_is_within_the_limits;
 use std::alloc::{AllocError, Allocator};
 
 /// Writes `tiling N AREA2` where the parcels tile their city exactly: how many they are, and twice the city's area in square
-/// centimetres. Before that the edits of clerks' files are made, one file after the other, and a line for each is written; clerk K is
-/// that of file K, from 1. All files are checked whole before the first byte is written.
+/// centimetres. Before that the edits of clerks' files are made, one file after the other, and a line for each is written;
+/// clerk K is that of file K, from 1. All files are checked whole before the first byte is written.
 ///
 /// # Errors
 ///
-/// [`ToolFault::ClerkCount`] for more than 8 clerks' files; the first fault of the city's files and ring, then of the parcels' files
-/// and rings, then the first bad line of the clerks' files; and [`ToolFault::NoMemory`]; all before anything is written.
-/// [`ToolFault::Output`] where a write failed.
+/// [`ToolFault::ClerkCount`] for more than 8 clerks' files; the first fault of the city's files and ring, then of the
+/// parcels' files and rings, then the first bad line of the clerks' files; and [`ToolFault::NoMemory`]; all before anything
+/// is written. [`ToolFault::Output`] where a write failed.
 pub fn check<'h, H: Allocator, A: Allocator, W: ByteOut>(
     heap: &'h H,
     city: &Source<A>,
@@ -58,10 +58,10 @@ pub fn check<'h, H: Allocator, A: Allocator, W: ByteOut>(
     Ok(())
 }
 
-/// As [`check`], but where the rings are refused as parcels of their city, the lines of all faults of the first's kind come before the
-/// first is answered: `ring R FAULT` for each record whose ring is refused, by ascending number, or else
-/// `edge AX AY BX BY net N` for each edge that the parcels do not have as often as their city, by its first corner and then by
-/// its second. A record whose ring is too long, or passes the layer's limit, has no line. No edit is made then.
+/// As [`check`], but where the rings are refused as parcels of their city, the lines of all faults of the first's kind come
+/// before the first is answered: `ring R FAULT` for each record whose ring is refused, by ascending number, or else `edge AX
+/// AY BX BY net N` for each edge that the parcels do not have as often as their city, by its first corner and then by its
+/// second. A record whose ring is too long, or passes the layer's limit, has no line. No edit is made then.
 ///
 /// # Errors
 ///
@@ -78,7 +78,8 @@ pub fn check_all<'h, H: Allocator, A: Allocator, W: ByteOut>(
         (files_of city.now) (files_of parcels.now) unit (texts_of clerks.now) (W.written out.old) (W.written out.new)) }
     // The lines of all faults are written before the first is answered.
     ensures fault { IfErr result (λ fault.
-        ((IsRunFault (files_of city.now) (files_of parcels.now) unit (texts_of clerks.now) fault ⊎ (fault ≡ ToolFault.NoMemory))
+        ((IsRunFault (files_of city.now) (files_of parcels.now) unit (texts_of clerks.now) fault
+        ⊎ (fault ≡ ToolFault.NoMemory))
         × WritesLinesBefore (files_of city.now) (files_of parcels.now) unit fault (W.written out.old) (W.written out.new))
         ⊎ (fault ≡ ToolFault.Output)) }
     ensures refuses { (fault : ToolFaultValue)

@@ -59,7 +59,8 @@ fn edits_of_clerk<'h, H: Allocator>(
 ) -> Result<Vec<(u64, Edit<&'h H>), &'h H>, ToolFault<'static>>
     ensures edits { IfOk result (λ edits. IsClerkFile text.now edits.items) }
     ensures fault { IfErr result (λ fault.
-        ((line : ℕ) × IsFirstBadLine text.now line × (fault ≡ ToolFault.ClerkLine clerk line)) ⊎ (fault ≡ ToolFault.NoMemory)) }
+        ((line : ℕ) × IsFirstBadLine text.now line × (fault ≡ ToolFault.ClerkLine clerk line))
+        ⊎ (fault ≡ ToolFault.NoMemory)) }
     ensures refuses { (line : ℕ) → IsFirstBadLine text.now line
         → IsErrAnd result (λ fault. (fault ≡ ToolFault.ClerkLine clerk line) ⊎ (fault ≡ ToolFault.NoMemory)) }
 {

@@ -88,8 +88,8 @@ impl<'h, H: Allocator> Parcels<'h, H> {
     }
 }
 
-/// A layer after the edits of clerks' files, which are all read before the first is tried. Without such files the layer stays as it
-/// is.
+/// A layer after the edits of clerks' files, which are all read before the first is tried. Without such files the layer
+/// stays as it is.
 ///
 /// # Errors
 ///

@@ -36,13 +36,13 @@ pub struct Exported<A: Allocator> {
 
 /// The two files of the parcels' layer, where the parcels tile their city exactly: its rings, each with all corners of the
 /// layer and the city that lie inside its edges, by ascending id and numbered anew from 1. Coordinates are in centimetres,
-/// whatever the unit that was read. Before that the edits of clerks' files are made, one file after the other; clerk K is that of
-/// file K, from 1. An edit that is refused changes nothing, and its line says why.
+/// whatever the unit that was read. Before that the edits of clerks' files are made, one file after the other; clerk K is
+/// that of file K, from 1. An edit that is refused changes nothing, and its line says why.
 ///
 /// # Errors
 ///
-/// [`ToolFault::ClerkCount`] for more than 8 clerks' files; the first fault of the city's files and ring, then of the parcels' files
-/// and rings, then the first bad line of the clerks' files; and [`ToolFault::NoMemory`].
+/// [`ToolFault::ClerkCount`] for more than 8 clerks' files; the first fault of the city's files and ring, then of the
+/// parcels' files and rings, then the first bad line of the clerks' files; and [`ToolFault::NoMemory`].
 pub fn export<'h, H: Allocator, A: Allocator>(
     heap: &'h H,
     city: &Source<A>,
@@ -50,9 +50,10 @@ pub fn export<'h, H: Allocator, A: Allocator>(
     unit: Unit,
     clerks: &[Vec<u8, A>],
 ) -> Result<Exported<&'h H>, ToolFault<'static>>
-    ensures ok { IfOk result (λ exported. IsExport (Bor H) (files_of city.now) (files_of parcels.now) unit (texts_of clerks.now)
-        exported.main.items exported.index.items exported.lines.items) }
-    ensures fault { IfErr result (λ fault. IsRunFault (files_of city.now) (files_of parcels.now) unit (texts_of clerks.now) fault
+    ensures ok { IfOk result (λ exported. IsExport (Bor H) (files_of city.now) (files_of parcels.now) unit
+        (texts_of clerks.now) exported.main.items exported.index.items exported.lines.items) }
+    ensures fault { IfErr result (λ fault.
+        IsRunFault (files_of city.now) (files_of parcels.now) unit (texts_of clerks.now) fault
         ⊎ (fault ≡ ToolFault.NoMemory)) }
     ensures refuses { (fault : ToolFaultValue)
         → IsRunFault (files_of city.now) (files_of parcels.now) unit (texts_of clerks.now) fault

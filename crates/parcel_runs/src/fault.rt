@@ -5,7 +5,7 @@ use fabric_core::{CityFault, LoadFault};
 use geo_exact::{CoordFault, Failed};
 use ring_core::RingFault;
 use shp_files::{FaultKind, FileFault, FileName};
-use std::alloc::AllocError;
+use std::alloc::{AllocError, AllocFailed};
 use std::fmt;
 
 /// What the layer is to the run that reads it.
@@ -63,6 +63,14 @@ impl<'a> From<AllocError> for ToolFault<'a> {
     ghost from_gives = { λ _ fault. fault ≡ NoMemory };
 
     fn from(_: AllocError) -> ToolFault<'a> {
+        ToolFault::NoMemory
+    }
+}
+
+impl<'a, T: Drop> From<AllocFailed<T>> for ToolFault<'a> {
+    ghost from_gives = { λ _ fault. fault ≡ NoMemory };
+
+    fn from(_: AllocFailed<T>) -> ToolFault<'a> {
         ToolFault::NoMemory
     }
 }

@@ -9,8 +9,9 @@ ghost use Rattle.parcel_runs.specs.ClerkRuns.{Register, opened, IsRun, IsEdited,
 
 use std::alloc::Allocator;
 
-/// The journal of a run of clerks' edits is lawful on the layer that was opened, and leads to the parcels after the run. Its entries are,
-/// in order, those of the edits whose lines say ok, each with its edit and clerk and under the number that its line says.
+/// The journal of a run of clerks' edits is lawful on the layer that was opened, and leads to the parcels after the run. Its
+/// entries are, in order, those of the edits whose lines say ok, each with its edit and clerk and under the number that its
+/// line says.
 #[tactic(auto, using(crate::proofs::ClerkRuns::run_lawful, crate::proofs::ClerkRuns::run_replays, crate::proofs::ClerkRuns::run_told))]
 pub fn a_run_of_edits_is_lawful<A: Allocator>()
     ensures lawful { (tiles : Tiles) (attempts : List (AttemptValue A)) (after : Register A) (text : List ℕ)

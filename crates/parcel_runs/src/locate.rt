@@ -27,15 +27,16 @@ use itoa::Buffer;
 use line_files::{PointsFault, read_points};
 use std::alloc::{AllocError, Allocator};
 
-/// Writes for each point in order, where the parcels tile their city, `X Y inside ID`, `X Y edge ID ID ..` with all parcels on whose
-/// edges it lies, or `X Y outside`. Before that the edits of clerks' files are made, one file after the other, and a line for each is
-/// written; clerk K is that of file K, from 1. All files are checked whole before the first byte is written.
+/// Writes for each point in order, where the parcels tile their city, `X Y inside ID`, `X Y edge ID ID ..` with all parcels
+/// on whose edges it lies, or `X Y outside`. Before that the edits of clerks' files are made, one file after the other, and
+/// a line for each is written; clerk K is that of file K, from 1. All files are checked whole before the first byte is
+/// written.
 ///
 /// # Errors
 ///
-/// [`ToolFault::ClerkCount`] for more than 8 clerks' files; the first fault of the city's files and ring, then of the parcels' files
-/// and rings, then the first bad line of the clerks' files; and [`ToolFault::NoMemory`]; all before anything is written.
-/// [`ToolFault::Output`] where a write failed.
+/// [`ToolFault::ClerkCount`] for more than 8 clerks' files; the first fault of the city's files and ring, then of the
+/// parcels' files and rings, then the first bad line of the clerks' files; and [`ToolFault::NoMemory`]; all before anything
+/// is written. [`ToolFault::Output`] where a write failed.
 pub fn locate<'h, H: Allocator, A: Allocator, W: ByteOut>(
     heap: &'h H,
     city: &Source<A>,
@@ -62,12 +63,13 @@ pub fn locate<'h, H: Allocator, A: Allocator, W: ByteOut>(
     Ok(())
 }
 
-/// As [`locate`], of the points of a text: each line is a point `X Y`, in whole centimetres, unless it is empty or begins with `#`.
+/// As [`locate`], of the points of a text: each line is a point `X Y`, in whole centimetres, unless it is empty or begins
+/// with `#`.
 ///
 /// # Errors
 ///
-/// Those of [`locate`]; behind those of the layers' and clerks' files [`ToolFault::PointLine`] with the first line that is no point,
-/// before anything is written.
+/// Those of [`locate`]; behind those of the layers' and clerks' files [`ToolFault::PointLine`] with the first line that is
+/// no point, before anything is written.
 pub fn locate_text<'h, H: Allocator, A: Allocator, W: ByteOut>(
     heap: &'h H,
     city: &Source<A>,
@@ -77,10 +79,11 @@ pub fn locate_text<'h, H: Allocator, A: Allocator, W: ByteOut>(
     clerks: &[Vec<u8, A>],
     out: &mut W,
 ) -> Result<(), ToolFault<'static>>
-    ensures ok { OnOk result (WritesPlacesOfText (Bor H) (files_of city.now) (files_of parcels.now) unit (texts_of clerks.now)
-        text.now (W.written out.old) (W.written out.new)) }
+    ensures ok { OnOk result (WritesPlacesOfText (Bor H) (files_of city.now) (files_of parcels.now) unit
+        (texts_of clerks.now) text.now (W.written out.old) (W.written out.new)) }
     ensures fault { IfErr result (λ fault.
-        (IsLocateFault (files_of city.now) (files_of parcels.now) unit (texts_of clerks.now) text.now fault × (out.new ≡ out.old))
+        (IsLocateFault (files_of city.now) (files_of parcels.now) unit (texts_of clerks.now) text.now fault
+        × (out.new ≡ out.old))
         ⊎ ((fault ≡ ToolFault.NoMemory) × (out.new ≡ out.old)) ⊎ (fault ≡ ToolFault.Output)) }
     ensures refuses { (fault : ToolFaultValue)
         → IsLocateFault (files_of city.now) (files_of parcels.now) unit (texts_of clerks.now) text.now fault

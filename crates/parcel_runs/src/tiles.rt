@@ -129,9 +129,9 @@ fn load_tiles<'h, H: Allocator, A: Allocator>(
 ///
 /// # Errors
 ///
-/// [`ToolFault::ClerkCount`] for more than 8 clerks' files; the first fault of the city's files, the number of their rings, or the
-/// ring's fault; then the first fault of the parcels' files, or of their rings as a layer; then the first bad line of the clerks'
-/// files; and [`ToolFault::NoMemory`].
+/// [`ToolFault::ClerkCount`] for more than 8 clerks' files; the first fault of the city's files, the number of their rings,
+/// or the ring's fault; then the first fault of the parcels' files, or of their rings as a layer; then the first bad line of
+/// the clerks' files; and [`ToolFault::NoMemory`].
 pub fn load_edited<'h, H: Allocator, A: Allocator>(
     heap: &'h H,
     city: &Source<A>,
@@ -142,7 +142,8 @@ pub fn load_edited<'h, H: Allocator, A: Allocator>(
     ensures edited { IfOk result (λ edited. (tiles : Tiles) × AreTiles (files_of city.now) (files_of parcels.now) unit tiles
         × IsEdited tiles (texts_of clerks.now) (register_of_parcels edited.parcels) edited.lines.items
         × (city_of_parcels edited.parcels ≡ tiles.city)) }
-    ensures fault { IfErr result (λ fault. IsRunFault (files_of city.now) (files_of parcels.now) unit (texts_of clerks.now) fault
+    ensures fault { IfErr result (λ fault.
+        IsRunFault (files_of city.now) (files_of parcels.now) unit (texts_of clerks.now) fault
         ⊎ (fault ≡ ToolFault.NoMemory)) }
     ensures refuses { (fault : ToolFaultValue)
         → IsRunFault (files_of city.now) (files_of parcels.now) unit (texts_of clerks.now) fault
