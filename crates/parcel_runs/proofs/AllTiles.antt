@@ -8,6 +8,7 @@ use Rattle.fabric_core.specs.declared.all_faults.AllFaults.{AllFaults}
 use Rattle.fabric_core.specs.declared.all_faults.AllFaults.TheVariants.{TooMany as AllTooMany, Rings, Gaps, NoMemory as AllNoMemory}
 use Rattle.fabric_core.specs.declared.layer.LoadFault.{LoadFault}
 use Rattle.fabric_core.specs.declared.layer.LoadFault.TheVariants.{NoMemory as LayerMemory}
+use Rattle.fabric_core.specs.Rows.{Tiles}
 use Rattle.fabric_core.specs.Faults.{IsFirstFault as IsFirstOfRows, IsLoadFault, AreLoadFaults, BeginsWith}
 use Rattle.fabric_core.proofs.ToldGaps.{begins_once}
 use Rattle.parcel_runs.specs.declared.fault.Role.{Role}
@@ -16,7 +17,8 @@ use Rattle.parcel_runs.specs.declared.fault.ToolFault.TheVariants.{NoMemory, Out
 use Rattle.shp_files.specs.FirstFault.{IsFirstFault}
 use Rattle.shp_files.specs.declared.fault.FileFault.{FileFault}
 use Rattle.parcel_runs.proofs.TilingFaults.{layer_refused}
-use Rattle.parcel_runs.specs.TilingFiles.{Files, IsCityOf, IsFaultOfLayer, IsTilesFault, told_of_load}
+use Rattle.parcel_runs.specs.TilingFiles.{Files, IsCityOf, IsTiledBy, IsFaultOfLayer, told_of_load}
+use Rattle.parcel_runs.specs.RunFaults.{IsRunFault}
 use Rattle.parcel_runs.specs.FaultLines.{fault_lines, AreLinesBefore, WritesLinesBefore}
 
 -- a fault of the layer, with the lines that come before it
@@ -136,6 +138,18 @@ due_told role files unit city records all answer lines only sound refuses (inl h
     (λ f l. answers_first all h.0 f h.1 (refuses f l)) fault k)
 due_told role files unit city records all answer lines only sound refuses (inr h) fault k = inr h.0
 
+-- a layer that tiles the city is refused for want of memory alone
+pub all_loaded : {A : Type 0} (role : Role) (files : Files) (unit : LengthUnit) (city : List Corner) (tiles : Tiles) (records : List NumberedRing)
+    (all : AllFaults A) (answer : ToolFault) (lines : List ℕ) → (h : IsTiledBy files unit city tiles) → records ≡ h.records
+    → AreLoadFaults records city all ⊎ (all ≡ AllNoMemory)
+    → ((first : LoadFault) × BeginsWith all first × (answer ≡ told_of_load role first) × (lines ≡ fault_lines all)) ⊎ ((answer ≡ NoMemory) × (lines ≡ []))
+    → answer ≡ NoMemory
+all_loaded role files unit city tiles records all answer lines h same (inl k) (inl m) =
+    absurd (h.has_no_fault m.0 (subst (λ rings. IsLoadFault rings city m.0) same (first_is_fault records city all m.0 k m.1)))
+all_loaded role files unit city tiles records all answer lines h same (inr e) (inl m) =
+    m.2 ∙ ap (told_of_load role) (subst (λ x. BeginsWith x m.0) e m.1)
+all_loaded role files unit city tiles records all answer lines h same k (inr m) = m.0
+
 -- ---- what is written
 appends_none : (told : Option (List ℕ)) → Appends told told []
 appends_none None = tt
@@ -145,11 +159,11 @@ pub none_written : (city parcels : Files) (unit : LengthUnit) (told : Option (Li
     → WritesLinesBefore city parcels unit NoMemory told told
 none_written city parcels unit told = ([], refl, appends_none told)
 
-pub lines_written : (city parcels : Files) (unit : LengthUnit) (fault : ToolFault) (lines text : List ℕ) (old new : Option (List ℕ))
+pub lines_written : (city parcels : Files) (unit : LengthUnit) (clerks : List (List ℕ)) (fault : ToolFault) (lines text : List ℕ) (old new : Option (List ℕ))
     → text ≡ lines
     → Appends old new text
-    → (IsTilesFault city parcels unit fault × AreLinesBefore city parcels unit fault lines) ⊎ ((fault ≡ NoMemory) × (lines ≡ []))
-    → ((IsTilesFault city parcels unit fault ⊎ (fault ≡ NoMemory)) × WritesLinesBefore city parcels unit fault old new) ⊎ (fault ≡ Output)
-lines_written city parcels unit fault lines text old new e put (inl h) = inl (inl h.0, (lines, h.1, subst (Appends old new) e put))
-lines_written city parcels unit fault lines text old new e put (inr h) =
+    → (IsRunFault city parcels unit clerks fault × AreLinesBefore city parcels unit fault lines) ⊎ ((fault ≡ NoMemory) × (lines ≡ []))
+    → ((IsRunFault city parcels unit clerks fault ⊎ (fault ≡ NoMemory)) × WritesLinesBefore city parcels unit fault old new) ⊎ (fault ≡ Output)
+lines_written city parcels unit clerks fault lines text old new e put (inl h) = inl (inl h.0, (lines, h.1, subst (Appends old new) e put))
+lines_written city parcels unit clerks fault lines text old new e put (inr h) =
     inl (inr h.0, subst (λ x. WritesLinesBefore city parcels unit x old new) (sym h.0) (lines, h.1, subst (Appends old new) e put))

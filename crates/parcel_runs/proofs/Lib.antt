@@ -6,3 +6,5 @@ pub mod SimpleRings
 pub mod RowLimits
 pub mod AllTiles
 pub mod Places
+pub mod ClerkRuns
+pub mod RunFaults

@@ -15,7 +15,7 @@ use Rattle.fabric_core.specs.Faults.{IsCityFault, IsLoadFault}
 use Rattle.parcel_runs.specs.declared.fault.Role.{Role}
 use Rattle.parcel_runs.specs.declared.fault.Role.TheVariants.{City}
 use Rattle.parcel_runs.specs.declared.fault.ToolFault.{ToolFault}
-use Rattle.parcel_runs.specs.declared.fault.ToolFault.TheVariants.{Unreadable, UnreadableIndex, Output, File, CityCount, CityRing, NoTiling, PointLine, NoMemory}
+use Rattle.parcel_runs.specs.declared.fault.ToolFault.TheVariants.{Unreadable, UnreadableIndex, Output, File, CityCount, CityRing, NoTiling, ClerkCount, ClerkLine, PointLine, NoMemory}
 use Rattle.parcel_runs.specs.TilingFiles.{Files, IsCityOf, IsFaultOfCity, IsFaultOfLayer, IsTiledBy, told_of_city, told_of_load}
 
 -- a fault is told, or memory was wanted
@@ -35,6 +35,8 @@ city_unread files unit e reads refuses (CityRing fault) h = inr (reads (h.ring â
 city_unread files unit e reads refuses (NoTiling role fault) h = absurd h
 city_unread files unit e reads refuses (Unreadable path) h = absurd h
 city_unread files unit e reads refuses (UnreadableIndex stem) h = absurd h
+city_unread files unit e reads refuses (ClerkCount count) h = absurd h
+city_unread files unit e reads refuses (ClerkLine clerk line) h = absurd h
 city_unread files unit e reads refuses (PointLine number) h = absurd h
 city_unread files unit e reads refuses Output h = absurd h
 city_unread files unit e reads refuses NoMemory h = absurd h
@@ -48,6 +50,8 @@ layer_unread role files unit city e reads refuses (CityCount count) h = absurd h
 layer_unread role files unit city e reads refuses (CityRing fault) h = absurd h
 layer_unread role files unit city e reads refuses (Unreadable path) h = absurd h
 layer_unread role files unit city e reads refuses (UnreadableIndex stem) h = absurd h
+layer_unread role files unit city e reads refuses (ClerkCount count) h = absurd h
+layer_unread role files unit city e reads refuses (ClerkLine clerk line) h = absurd h
 layer_unread role files unit city e reads refuses (PointLine number) h = absurd h
 layer_unread role files unit city e reads refuses Output h = absurd h
 layer_unread role files unit city e reads refuses NoMemory h = absurd h
@@ -62,6 +66,8 @@ city_counted files unit found count e ne only sound (CityRing fault) h = absurd 
 city_counted files unit found count e ne only sound (NoTiling role fault) h = absurd h
 city_counted files unit found count e ne only sound (Unreadable path) h = absurd h
 city_counted files unit found count e ne only sound (UnreadableIndex stem) h = absurd h
+city_counted files unit found count e ne only sound (ClerkCount other) h = absurd h
+city_counted files unit found count e ne only sound (ClerkLine clerk line) h = absurd h
 city_counted files unit found count e ne only sound (PointLine number) h = absurd h
 city_counted files unit found count e ne only sound Output h = absurd h
 city_counted files unit found count e ne only sound NoMemory h = absurd h
@@ -94,6 +100,8 @@ city_refused files unit found ring P one only sound refuses (CityRing fault) h =
 city_refused files unit found ring P one only sound refuses (NoTiling role fault) h = absurd h
 city_refused files unit found ring P one only sound refuses (Unreadable path) h = absurd h
 city_refused files unit found ring P one only sound refuses (UnreadableIndex stem) h = absurd h
+city_refused files unit found ring P one only sound refuses (ClerkCount count) h = absurd h
+city_refused files unit found ring P one only sound refuses (ClerkLine clerk line) h = absurd h
 city_refused files unit found ring P one only sound refuses (PointLine number) h = absurd h
 city_refused files unit found ring P one only sound refuses Output h = absurd h
 city_refused files unit found ring P one only sound refuses NoMemory h = absurd h
@@ -159,6 +167,8 @@ layer_refused role files unit city found answer only sound refuses (CityCount co
 layer_refused role files unit city found answer only sound refuses (CityRing fault) h = absurd h
 layer_refused role files unit city found answer only sound refuses (Unreadable path) h = absurd h
 layer_refused role files unit city found answer only sound refuses (UnreadableIndex stem) h = absurd h
+layer_refused role files unit city found answer only sound refuses (ClerkCount count) h = absurd h
+layer_refused role files unit city found answer only sound refuses (ClerkLine clerk line) h = absurd h
 layer_refused role files unit city found answer only sound refuses (PointLine number) h = absurd h
 layer_refused role files unit city found answer only sound refuses Output h = absurd h
 layer_refused role files unit city found answer only sound refuses NoMemory h = absurd h
@@ -176,6 +186,8 @@ layer_has_none role files unit city found only sound none (CityCount count) h = 
 layer_has_none role files unit city found only sound none (CityRing fault) h = h
 layer_has_none role files unit city found only sound none (Unreadable path) h = h
 layer_has_none role files unit city found only sound none (UnreadableIndex stem) h = h
+layer_has_none role files unit city found only sound none (ClerkCount count) h = h
+layer_has_none role files unit city found only sound none (ClerkLine clerk line) h = h
 layer_has_none role files unit city found only sound none (PointLine number) h = h
 layer_has_none role files unit city found only sound none Output h = h
 layer_has_none role files unit city found only sound none NoMemory h = h

@@ -15,7 +15,7 @@ use Rattle.fabric_core.specs.declared.layer.LoadFault.TheVariants.{TooMany, Ring
 use Rattle.fabric_core.specs.Rows.{AreRefined}
 use Rattle.fabric_core.specs.Faults.{AreRingFaults, AreGaps}
 use Rattle.parcel_runs.specs.declared.fault.ToolFault.{ToolFault}
-use Rattle.parcel_runs.specs.declared.fault.ToolFault.TheVariants.{Unreadable, UnreadableIndex, Output, File, CityCount, CityRing, NoTiling, PointLine}
+use Rattle.parcel_runs.specs.declared.fault.ToolFault.TheVariants.{Unreadable, UnreadableIndex, Output, File, CityCount, CityRing, NoTiling, ClerkCount, ClerkLine, PointLine}
 use Rattle.parcel_runs.specs.declared.fault.ToolFault.TheVariants.{NoMemory}
 use Rattle.parcel_runs.specs.TilingFiles.{Files, IsCityOf}
 
@@ -73,6 +73,8 @@ AreLinesBefore city parcels unit (NoTiling role fault) lines =
 AreLinesBefore city parcels unit (File role fault) lines = lines ≡ []
 AreLinesBefore city parcels unit (CityCount count) lines = lines ≡ []
 AreLinesBefore city parcels unit (CityRing fault) lines = lines ≡ []
+AreLinesBefore city parcels unit (ClerkCount count) lines = lines ≡ []
+AreLinesBefore city parcels unit (ClerkLine clerk line) lines = lines ≡ []
 AreLinesBefore city parcels unit (PointLine number) lines = lines ≡ []
 AreLinesBefore city parcels unit (Unreadable path) lines = lines ≡ []
 AreLinesBefore city parcels unit (UnreadableIndex stem) lines = lines ≡ []

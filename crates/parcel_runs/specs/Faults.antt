@@ -4,7 +4,7 @@ use Rattle.geo_exact.specs.declared.coord.Unit.{Unit as LengthUnit}
 use Rattle.shp_files.specs.FirstFault.{IsFirstFault}
 use Rattle.parcel_runs.specs.declared.fault.Role.{Role}
 use Rattle.parcel_runs.specs.declared.fault.ToolFault.{ToolFault}
-use Rattle.parcel_runs.specs.declared.fault.ToolFault.TheVariants.{Unreadable, UnreadableIndex, Output, File, CityCount, CityRing, NoTiling, PointLine, NoMemory}
+use Rattle.parcel_runs.specs.declared.fault.ToolFault.TheVariants.{Unreadable, UnreadableIndex, Output, File, CityCount, CityRing, NoTiling, ClerkCount, ClerkLine, PointLine, NoMemory}
 
 -- why the files of the layer with this role gave no rings: its first fault, or want of memory
 abbrev pub IsLayerFault : Role → List ℕ → Option (List ℕ) → LengthUnit → ToolFault → Type 0
@@ -16,4 +16,6 @@ IsLayerFault role main index unit (UnreadableIndex stem) = ⊥
 IsLayerFault role main index unit (CityCount count) = ⊥
 IsLayerFault role main index unit (CityRing fault) = ⊥
 IsLayerFault role main index unit (NoTiling told fault) = ⊥
+IsLayerFault role main index unit (ClerkCount count) = ⊥
+IsLayerFault role main index unit (ClerkLine clerk line) = ⊥
 IsLayerFault role main index unit (PointLine number) = ⊥

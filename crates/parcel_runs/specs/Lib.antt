@@ -6,6 +6,8 @@ pub mod TilingFiles
 pub mod CheckReport
 pub mod ExportReport
 pub mod FaultLines
+pub mod ClerkRuns
+pub mod RunFaults
 pub mod LocateReport
 pub mod own
 pub use Rattle.line_files.specs.TextLines

@@ -12,7 +12,9 @@ use Rattle.parcel_runs.specs.declared.fault.ToolFault.{ToolFault}
 use Rattle.parcel_runs.specs.declared.fault.ToolFault.TheVariants.{PointLine}
 use Rattle.parcel_runs.specs.FaultLines.{corner_text}
 use Rattle.line_files.specs.PointLines.{ArePoints, IsFirstBadPoint}
-use Rattle.parcel_runs.specs.TilingFiles.{Files, AreTiles, IsTilesFault}
+use Rattle.parcel_runs.specs.TilingFiles.{Files, AreTiles}
+use Rattle.parcel_runs.specs.ClerkRuns.{Register, IsEdited}
+use Rattle.parcel_runs.specs.RunFaults.{IsRunFault}
 
 -- ` ID`
 abbrev pub id_text : ℕ → List ℕ
@@ -30,28 +32,38 @@ ArePlaceLines rows [] text = text ≡ []
 ArePlaceLines rows (point ∷ points) text = (place : List ℕ) × (rest : List ℕ) × IsPlaceText rows (corner_point point) place
     × (text ≡ corner_text point ++ codes " " ++ place ++ codes "\n" ++ rest) × ArePlaceLines rows points rest
 
--- the parcels' files tile the city of the city's files, and the lines of the points among the parcels were written after the told bytes
-pub record WritesPlaces (city parcels : Files) (unit : LengthUnit) (points : List Corner) (old new : Option (List ℕ)) : Type 0 where
+-- the parcels' files tile the city of the city's files, and the lines of the clerks' edits, and those of the points among the parcels
+-- that these lead to, were written after the told bytes; edits are in a memory A
+pub record WritesPlaces (A : Type 0) (city parcels : Files) (unit : LengthUnit) (clerks : List (List ℕ)) (points : List Corner)
+    (old new : Option (List ℕ))
+    : Type 0 where
   pub tiles : Tiles
   pub are_tiles : AreTiles city parcels unit tiles
+  pub after : Register A
+  pub told : List ℕ
+  pub is_edited : IsEdited tiles clerks after told
   pub lines : List ℕ
-  pub are_lines : ArePlaceLines tiles.rows points lines
-  pub is_written : Appends old new lines
+  pub are_lines : ArePlaceLines after.now.rows points lines
+  pub is_written : Appends old new (told ++ lines)
 
 -- the same of the points of a text
-pub record WritesPlacesOfText (city parcels : Files) (unit : LengthUnit) (text : List ℕ) (old new : Option (List ℕ)) : Type 0 where
+pub record WritesPlacesOfText (A : Type 0) (city parcels : Files) (unit : LengthUnit) (clerks : List (List ℕ)) (text : List ℕ)
+    (old new : Option (List ℕ))
+    : Type 0 where
   pub points : List Corner
   pub are_points : ArePoints text points
-  pub are_written : WritesPlaces city parcels unit points old new
+  pub are_written : WritesPlaces A city parcels unit clerks points old new
 
--- the parcels' files tile the city of the city's files, and the fault is the text's first bad line
-pub record IsPointsFault (city parcels : Files) (unit : LengthUnit) (text : List ℕ) (fault : ToolFault) : Type 0 where
+-- the parcels' files tile the city of the city's files, the clerks' files have no fault, and the fault is the text's first bad line
+pub record IsPointsFault (city parcels : Files) (unit : LengthUnit) (clerks : List (List ℕ)) (text : List ℕ) (fault : ToolFault) : Type 0 where
   pub tiles : Tiles
   pub are_tiles : AreTiles city parcels unit tiles
+  pub no_other : (other : ToolFault) → ¬ IsRunFault city parcels unit clerks other
   pub number : ℕ
   pub is_first : IsFirstBadPoint text number
   pub is_told : fault ≡ PointLine number
 
--- the fault is the first: the city's, then the parcels', then the points'
-abbrev pub IsLocateFault : Files → Files → LengthUnit → List ℕ → ToolFault → Type 0
-IsLocateFault city parcels unit text fault = IsTilesFault city parcels unit fault ⊎ IsPointsFault city parcels unit text fault
+-- the fault is the first: the number of the clerks' files, the city's, then the parcels', the clerks', and the points'
+abbrev pub IsLocateFault : Files → Files → LengthUnit → List (List ℕ) → List ℕ → ToolFault → Type 0
+IsLocateFault city parcels unit clerks text fault =
+    IsRunFault city parcels unit clerks fault ⊎ IsPointsFault city parcels unit clerks text fault

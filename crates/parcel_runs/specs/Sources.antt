@@ -7,7 +7,7 @@ use Rattle.parcel_runs.specs.declared.sources.Source.{Source}
 use Rattle.parcel_runs.specs.declared.sources.PathFault.{PathFault}
 use Rattle.parcel_runs.specs.declared.sources.PathFault.TheVariants.{NotOpened, NotRead}
 use Rattle.parcel_runs.specs.declared.fault.ToolFault.{ToolFault}
-use Rattle.parcel_runs.specs.declared.fault.ToolFault.TheVariants.{Unreadable, UnreadableIndex, Output, File, CityCount, CityRing, NoTiling, PointLine, NoMemory}
+use Rattle.parcel_runs.specs.declared.fault.ToolFault.TheVariants.{Unreadable, UnreadableIndex, Output, File, CityCount, CityRing, NoTiling, ClerkCount, ClerkLine, PointLine, NoMemory}
 
 -- the bytes of the index file, where there is one
 abbrev pub index_of : {A : Type 0} → Source A → Option (List ℕ)
@@ -31,6 +31,8 @@ IsTextBy reads path (Err (File role fault)) = ⊥
 IsTextBy reads path (Err (CityCount count)) = ⊥
 IsTextBy reads path (Err (CityRing fault)) = ⊥
 IsTextBy reads path (Err (NoTiling role fault)) = ⊥
+IsTextBy reads path (Err (ClerkCount count)) = ⊥
+IsTextBy reads path (Err (ClerkLine clerk line)) = ⊥
 IsTextBy reads path (Err (PointLine number)) = ⊥
 
 -- the index is what was read beside the main file; there is none where nothing can be opened there, or the main file's path has no .shp
@@ -57,4 +59,6 @@ IsSourceBy reads path (Err (File role fault)) = ⊥
 IsSourceBy reads path (Err (CityCount count)) = ⊥
 IsSourceBy reads path (Err (CityRing fault)) = ⊥
 IsSourceBy reads path (Err (NoTiling role fault)) = ⊥
+IsSourceBy reads path (Err (ClerkCount count)) = ⊥
+IsSourceBy reads path (Err (ClerkLine clerk line)) = ⊥
 IsSourceBy reads path (Err (PointLine number)) = ⊥

@@ -16,7 +16,7 @@ use Rattle.parcel_runs.specs.declared.sources.Source.{Source}
 use Rattle.parcel_runs.specs.declared.fault.Role.{Role}
 use Rattle.parcel_runs.specs.declared.fault.Role.TheVariants.{City, Parcels}
 use Rattle.parcel_runs.specs.declared.fault.ToolFault.{ToolFault}
-use Rattle.parcel_runs.specs.declared.fault.ToolFault.TheVariants.{Unreadable, UnreadableIndex, Output, File, CityCount, CityRing, NoTiling, PointLine, NoMemory}
+use Rattle.parcel_runs.specs.declared.fault.ToolFault.TheVariants.{Unreadable, UnreadableIndex, Output, File, CityCount, CityRing, NoTiling, ClerkCount, ClerkLine, PointLine, NoMemory}
 use Rattle.parcel_runs.specs.Sources.{index_of}
 
 -- the bytes of a layer's files
@@ -59,6 +59,8 @@ IsFaultOfCity files unit (File role fault) = (role ≡ City) × IsFirstFault fil
 IsFaultOfCity files unit (CityCount count) = IsCount files unit count
 IsFaultOfCity files unit (CityRing fault) = IsRingRefused files unit fault
 IsFaultOfCity files unit (NoTiling role fault) = ⊥
+IsFaultOfCity files unit (ClerkCount count) = ⊥
+IsFaultOfCity files unit (ClerkLine clerk line) = ⊥
 IsFaultOfCity files unit (PointLine number) = ⊥
 IsFaultOfCity files unit (Unreadable path) = ⊥
 IsFaultOfCity files unit (UnreadableIndex stem) = ⊥
@@ -93,6 +95,8 @@ IsFaultOfLayer role files unit city (File told fault) = (told ≡ role) × IsFir
 IsFaultOfLayer role files unit city (NoTiling told fault) = (told ≡ role) × IsLayerRefused files unit city fault
 IsFaultOfLayer role files unit city (CityCount count) = ⊥
 IsFaultOfLayer role files unit city (CityRing fault) = ⊥
+IsFaultOfLayer role files unit city (ClerkCount count) = ⊥
+IsFaultOfLayer role files unit city (ClerkLine clerk line) = ⊥
 IsFaultOfLayer role files unit city (PointLine number) = ⊥
 IsFaultOfLayer role files unit city (Unreadable path) = ⊥
 IsFaultOfLayer role files unit city (UnreadableIndex stem) = ⊥

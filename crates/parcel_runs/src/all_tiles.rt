@@ -6,7 +6,13 @@ ghost use Rattle.fabric_core.specs.declared.layer.LoadFault.{LoadFault as LoadFa
 ghost use Rattle.fabric_core.specs.Faults.{BeginsWith};
 ghost use Rattle.parcel_runs.specs.FaultLines.{AreLinesBefore, text_or_none, fault_lines as fault_lines_of};
 ghost use Rattle.parcel_runs.specs.TilingFiles.{Files, files_of, told_of_load as told_of_load_fault, IsCityOf, IsTiledBy, IsFaultOfLayer, AreTiles, IsTilesFault};
+ghost use Rattle.fabric_core.specs.Rows.{Tiles};
+ghost use Rattle.parcel_runs.specs.ClerkRuns.{texts_of, IsEdited};
+ghost use Rattle.parcel_runs.specs.RunFaults.{IsRunFault};
+ghost use Rattle.parcel_runs.specs.own.Registers.{register_of_parcels, city_of_parcels};
 
+use crate::clerks::refuse_many_clerks;
+use crate::edited::{Edited, edit_layer};
 use crate::fault::{Role, ToolFault};
 use crate::fault_lines::fault_lines;
 use crate::layers::read_rings;
@@ -57,6 +63,9 @@ fn read_tiles_or_lines<'h, H: Allocator, A: Allocator>(
         × ((of_city : Files) → IsCityOf of_city unit city.now.ring.corners
         → AreLinesBefore of_city (files_of files.now) unit refusal.fault (text_or_none refusal.lines)))
         ⊎ ((refusal.fault ≡ ToolFault.NoMemory) × (text_or_none refusal.lines ≡ []))) }
+    // Files whose rings tile the city are loaded, unless memory runs out.
+    ensures loads { (tiles : Tiles) → IsTiledBy (files_of files.now) unit city.now.ring.corners tiles
+        → IfErr result (λ refusal. refusal.fault ≡ ToolFault.NoMemory) }
     ensures refuses { (fault : ToolFaultValue) → IsFaultOfLayer role (files_of files.now) unit city.now.ring.corners fault
         → IsErrAnd result (λ refusal. (refusal.fault ≡ fault) ⊎ (refusal.fault ≡ ToolFault.NoMemory)) }
 {
@@ -84,12 +93,13 @@ fn refusal_of<A: Allocator, B: Allocator>(alloc: A, role: Role, all: &AllFaults<
     }
 }
 
-/// The layer of the parcels' files, which tiles the city of the city's files, or all faults of the parcels of the first's kind.
+/// The layer of the parcels' files, which tiles the city of the city's files, or all faults of the parcels of the first's
+/// kind.
 ///
 /// # Errors
 ///
 /// Those of [`load_tiles`](crate::tiles::load_tiles), each with the lines that come before it.
-pub fn load_tiles_or_lines<'h, H: Allocator, A: Allocator>(
+fn load_tiles_or_lines<'h, H: Allocator, A: Allocator>(
     heap: &'h H,
     city: &Source<A>,
     parcels: &Source<A>,
@@ -99,9 +109,41 @@ pub fn load_tiles_or_lines<'h, H: Allocator, A: Allocator>(
     ensures fault { IfErr result (λ refusal. (IsTilesFault (files_of city.now) (files_of parcels.now) unit refusal.fault
         × AreLinesBefore (files_of city.now) (files_of parcels.now) unit refusal.fault (text_or_none refusal.lines))
         ⊎ ((refusal.fault ≡ ToolFault.NoMemory) × (text_or_none refusal.lines ≡ []))) }
+    // Files that tile their city are loaded, unless memory runs out.
+    ensures loads { (tiles : Tiles) → AreTiles (files_of city.now) (files_of parcels.now) unit tiles
+        → IfErr result (λ refusal. refusal.fault ≡ ToolFault.NoMemory) }
     ensures refuses { (fault : ToolFaultValue) → IsTilesFault (files_of city.now) (files_of parcels.now) unit fault
         → IsErrAnd result (λ refusal. (refusal.fault ≡ fault) ⊎ (refusal.fault ≡ ToolFault.NoMemory)) }
 {
     let city = read_city(heap, city, unit)?;
     read_tiles_or_lines(heap, &city, Role::Parcels, parcels, unit)
+}
+
+/// The layer of the parcels' files, which tiles the city of the city's files, after the edits of clerks' files, or all
+/// faults of the parcels of the first's kind.
+///
+/// # Errors
+///
+/// Those of [`load_edited`](crate::tiles::load_edited), each with the lines that come before it.
+pub fn load_edited_or_lines<'h, H: Allocator, A: Allocator>(
+    heap: &'h H,
+    city: &Source<A>,
+    parcels: &Source<A>,
+    unit: Unit,
+    clerks: &[Vec<u8, A>],
+) -> Result<Edited<'h, H>, Refusal<&'h H>>
+    ensures edited { IfOk result (λ edited. (tiles : Tiles) × AreTiles (files_of city.now) (files_of parcels.now) unit tiles
+        × IsEdited tiles (texts_of clerks.now) (register_of_parcels edited.parcels) edited.lines.items
+        × (city_of_parcels edited.parcels ≡ tiles.city)) }
+    ensures fault { IfErr result (λ refusal.
+        (IsRunFault (files_of city.now) (files_of parcels.now) unit (texts_of clerks.now) refusal.fault
+        × AreLinesBefore (files_of city.now) (files_of parcels.now) unit refusal.fault (text_or_none refusal.lines))
+        ⊎ ((refusal.fault ≡ ToolFault.NoMemory) × (text_or_none refusal.lines ≡ []))) }
+    ensures refuses { (fault : ToolFaultValue)
+        → IsRunFault (files_of city.now) (files_of parcels.now) unit (texts_of clerks.now) fault
+        → IsErrAnd result (λ refusal. (refusal.fault ≡ fault) ⊎ (refusal.fault ≡ ToolFault.NoMemory)) }
+{
+    refuse_many_clerks(clerks.len())?;
+    let layer = load_tiles_or_lines(heap, city, parcels, unit)?;
+    Ok(edit_layer(heap, layer, clerks)?)
 }

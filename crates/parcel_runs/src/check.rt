@@ -1,58 +1,67 @@
 //! Whether parcels tile their city.
 
-ghost use Rattle.std.specs.Prelude.{◌≡◌, ◌⊎◌, ◌≤◌, length, IfOk, IfErr, IsErrAnd, IsErrOf, OnOk};
+ghost use Rattle.std.specs.Prelude.{◌≡◌, ◌⊎◌, ◌≤◌, ◌++◌, length, IfOk, IfErr, IsErrAnd, IsErrOf, OnOk};
+ghost use Rattle.std.specs.Borrow.{Bor};
 ghost use Rattle.geo_exact.specs.Bytes.{raised};
 ghost use Rattle.geo_exact.specs.declared.limits.TheConstants.{LIST_CORNERS};
 ghost use Rattle.parcel_runs.specs.declared.fault.ToolFault.{ToolFault as ToolFaultValue};
 ghost use Rattle.parcel_runs.specs.CheckReport.{tiling_line, WritesTiling};
 ghost use Rattle.parcel_runs.specs.FaultLines.{WritesLinesBefore};
-ghost use Rattle.parcel_runs.specs.TilingFiles.{files_of, IsTilesFault};
+ghost use Rattle.parcel_runs.specs.TilingFiles.{files_of};
+ghost use Rattle.parcel_runs.specs.ClerkRuns.{texts_of};
+ghost use Rattle.parcel_runs.specs.RunFaults.{IsRunFault};
+ghost use Rattle.parcel_runs.specs.own.Registers.{register_of_parcels, city_of_parcels};
 
-use crate::all_tiles::load_tiles_or_lines;
+use crate::all_tiles::load_edited_or_lines;
+use crate::edited::{Edited, Parcels};
 use crate::fault::ToolFault;
 use crate::output::put_all;
 use crate::sources::Source;
-use crate::tiles::load_tiles;
-use fabric_core::Layer;
+use crate::tiles::load_edited;
 use geo_exact::{ByteOut, Unit, area2};
 use itoa::Buffer;
 use shp_files::a_layer_file_is_within_the_limits;
 use std::alloc::{AllocError, Allocator};
 
 /// Writes `tiling N AREA2` where the parcels tile their city exactly: how many they are, and twice the city's area in square
-/// centimetres. Both layers are checked whole before the first byte is written.
+/// centimetres. Before that the edits of clerks' files are made, one file after the other, and a line for each is written;
+/// clerk K is that of file K, from 1. All files are checked whole before the first byte is written.
 ///
 /// # Errors
 ///
-/// The first fault of the city's files and ring, and then of the parcels' files and rings, and [`ToolFault::NoMemory`], all before
-/// anything is written; [`ToolFault::Output`] where a write failed.
+/// [`ToolFault::ClerkCount`] for more than 8 clerks' files; the first fault of the city's files and ring, then of the
+/// parcels' files and rings, then the first bad line of the clerks' files; and [`ToolFault::NoMemory`]; all before anything
+/// is written. [`ToolFault::Output`] where a write failed.
 pub fn check<'h, H: Allocator, A: Allocator, W: ByteOut>(
     heap: &'h H,
     city: &Source<A>,
     parcels: &Source<A>,
     unit: Unit,
+    clerks: &[Vec<u8, A>],
     out: &mut W,
 ) -> Result<(), ToolFault<'static>>
-    ensures ok { OnOk result
-        (WritesTiling (files_of city.now) (files_of parcels.now) unit (W.written out.old) (W.written out.new)) }
-    ensures fault { IfErr result (λ fault. (IsTilesFault (files_of city.now) (files_of parcels.now) unit fault
-        × (out.new ≡ out.old)) ⊎ ((fault ≡ ToolFault.NoMemory) × (out.new ≡ out.old)) ⊎ (fault ≡ ToolFault.Output)) }
-    ensures refuses { (fault : ToolFaultValue) → IsTilesFault (files_of city.now) (files_of parcels.now) unit fault
+    ensures ok { OnOk result (WritesTiling (Bor H)
+        (files_of city.now) (files_of parcels.now) unit (texts_of clerks.now) (W.written out.old) (W.written out.new)) }
+    ensures fault { IfErr result (λ fault.
+        (IsRunFault (files_of city.now) (files_of parcels.now) unit (texts_of clerks.now) fault × (out.new ≡ out.old))
+        ⊎ ((fault ≡ ToolFault.NoMemory) × (out.new ≡ out.old)) ⊎ (fault ≡ ToolFault.Output)) }
+    ensures refuses { (fault : ToolFaultValue)
+        → IsRunFault (files_of city.now) (files_of parcels.now) unit (texts_of clerks.now) fault
         → IsErrAnd result (λ told. (told ≡ fault) ⊎ (told ≡ ToolFault.NoMemory)) }
     ensures failed { IsErrOf result ToolFault.Output → W.failure_count out.new ≡ raised (W.failure_count out.old) }
     ensures no_failure { OnOk result (W.failure_count out.new ≡ W.failure_count out.old) }
 {
-    let layer = load_tiles(heap, city, parcels, unit)?;
+    let edited = load_edited(heap, city, parcels, unit, clerks)?;
     a_layer_file_is_within_the_limits();
-    let text = tiling_text(heap, &layer)?;
+    let text = checked_text(edited)?;
     put_all(text.as_slice(), out)?;
     Ok(())
 }
 
-/// As [`check`], but where the rings are refused as parcels of their city, the lines of all faults of the first's kind come before the
-/// first is answered: `ring R FAULT` for each record whose ring is refused, by ascending number, or else
-/// `edge AX AY BX BY net N` for each edge that the parcels do not have as often as their city, by its first corner and then by
-/// its second. A record whose ring is too long, or passes the layer's limit, has no line.
+/// As [`check`], but where the rings are refused as parcels of their city, the lines of all faults of the first's kind come
+/// before the first is answered: `ring R FAULT` for each record whose ring is refused, by ascending number, or else `edge AX
+/// AY BX BY net N` for each edge that the parcels do not have as often as their city, by its first corner and then by its
+/// second. A record whose ring is too long, or passes the layer's limit, has no line. No edit is made then.
 ///
 /// # Errors
 ///
@@ -62,24 +71,27 @@ pub fn check_all<'h, H: Allocator, A: Allocator, W: ByteOut>(
     city: &Source<A>,
     parcels: &Source<A>,
     unit: Unit,
+    clerks: &[Vec<u8, A>],
     out: &mut W,
 ) -> Result<(), ToolFault<'static>>
-    ensures ok { OnOk result
-        (WritesTiling (files_of city.now) (files_of parcels.now) unit (W.written out.old) (W.written out.new)) }
+    ensures ok { OnOk result (WritesTiling (Bor H)
+        (files_of city.now) (files_of parcels.now) unit (texts_of clerks.now) (W.written out.old) (W.written out.new)) }
     // The lines of all faults are written before the first is answered.
     ensures fault { IfErr result (λ fault.
-        ((IsTilesFault (files_of city.now) (files_of parcels.now) unit fault ⊎ (fault ≡ ToolFault.NoMemory))
+        ((IsRunFault (files_of city.now) (files_of parcels.now) unit (texts_of clerks.now) fault
+        ⊎ (fault ≡ ToolFault.NoMemory))
         × WritesLinesBefore (files_of city.now) (files_of parcels.now) unit fault (W.written out.old) (W.written out.new))
         ⊎ (fault ≡ ToolFault.Output)) }
-    ensures refuses { (fault : ToolFaultValue) → IsTilesFault (files_of city.now) (files_of parcels.now) unit fault
+    ensures refuses { (fault : ToolFaultValue)
+        → IsRunFault (files_of city.now) (files_of parcels.now) unit (texts_of clerks.now) fault
         → IsErrAnd result (λ told. (told ≡ fault) ⊎ (told ≡ ToolFault.NoMemory) ⊎ (told ≡ ToolFault.Output)) }
     ensures failed { IsErrOf result ToolFault.Output → W.failure_count out.new ≡ raised (W.failure_count out.old) }
     ensures no_failure { OnOk result (W.failure_count out.new ≡ W.failure_count out.old) }
 {
-    match load_tiles_or_lines(heap, city, parcels, unit) {
-        Ok(layer) => {
+    match load_edited_or_lines(heap, city, parcels, unit, clerks) {
+        Ok(edited) => {
             a_layer_file_is_within_the_limits();
-            let text = tiling_text(heap, &layer)?;
+            let text = checked_text(edited)?;
             put_all(text.as_slice(), out)?;
             Ok(())
         }
@@ -90,20 +102,36 @@ pub fn check_all<'h, H: Allocator, A: Allocator, W: ByteOut>(
     }
 }
 
-/// The line of a check that finds a tiling.
-fn tiling_text<'h, H: Allocator, A: Allocator>(
-    alloc: A,
-    layer: &Layer<'h, H>,
-) -> Result<Vec<u8, A>, AllocError>
-    requires { length layer.now.city ≤ LIST_CORNERS }
-    ensures { IfOk result (λ text. text.items ≡ tiling_line layer.now) }
+/// The lines of a check that finds a tiling: those of the clerks' edits, and that of the tiling.
+fn checked_text<'h, H: Allocator>(edited: Edited<'h, H>) -> Result<Vec<u8, &'h H>, AllocError>
+    requires { length (city_of_parcels edited.parcels) ≤ LIST_CORNERS }
+    ensures { IfOk result (λ text. text.items ≡ edited.entry.lines.items
+        ++ tiling_line (register_of_parcels edited.entry.parcels).now.rows (city_of_parcels edited.entry.parcels)) }
+{
+    let Edited { parcels, lines } = edited;
+    let mut text = lines;
+    push_tiling(&mut text, &parcels)?;
+    Ok(text)
+}
+
+/// Adds the line of a tiling.
+fn push_tiling<'h, H: Allocator, A: Allocator>(
+    text: &mut Vec<u8, A>,
+    parcels: &Parcels<'h, H>,
+) -> Result<(), AllocError>
+    requires { length (city_of_parcels parcels.now) ≤ LIST_CORNERS }
+    ensures { OnOk result (text.new.items ≡ text.old.items
+        ++ tiling_line (register_of_parcels parcels.now).now.rows (city_of_parcels parcels.now)) }
 {
     let mut digits = Buffer::new();
-    let mut text = Vec::new(alloc);
     text.extend_from_slice(b"tiling ")?;
-    text.extend_from_slice(digits.format(layer.ids().len()).as_bytes())?;
+    text.extend_from_slice(digits.format(parcels.count()).as_bytes())?;
     text.push(b' ')?;
-    text.extend_from_slice(digits.format(area2(layer.city()).unsigned_abs()).as_bytes())?;
+    text.extend_from_slice(
+        digits
+            .format(area2(parcels.city()).unsigned_abs())
+            .as_bytes(),
+    )?;
     text.push(b'\n')?;
-    Ok(text)
+    Ok(())
 }

@@ -1,18 +1,22 @@
 //! The files that hold a layer anew.
 
-ghost use Rattle.std.specs.Prelude.{◌≡◌, ◌⊎◌, ◌≤◌, map, length, IfOk, IfErr, IsErrAnd};
+ghost use Rattle.std.specs.Prelude.{◌≡◌, ◌⊎◌, ◌≤◌, ◌++◌, map, length, IfOk, IfErr, IsErrAnd, OnOk};
+ghost use Rattle.std.specs.Borrow.{Bor};
 ghost use Rattle.std.specs.List.{AllByRecursion};
 ghost use Rattle.geo_exact.specs.declared.limits.TheConstants.{LAYER_RECORDS, RING_CORNERS};
 ghost use Rattle.shp_files.specs.Written.{corner_lists as lists_of_rings};
-ghost use Rattle.fabric_core.specs.Tiling.{corner_lists};
 ghost use Rattle.parcel_runs.specs.declared.fault.ToolFault.{ToolFault as ToolFaultValue};
 ghost use Rattle.parcel_runs.specs.ExportReport.{exported_line, IsExport};
-ghost use Rattle.parcel_runs.specs.TilingFiles.{files_of, IsTilesFault};
+ghost use Rattle.parcel_runs.specs.TilingFiles.{files_of};
+ghost use Rattle.parcel_runs.specs.ClerkRuns.{texts_of};
+ghost use Rattle.parcel_runs.specs.RunFaults.{IsRunFault};
+ghost use Rattle.parcel_runs.specs.own.Registers.{register_of_parcels};
 
+use crate::edited::{Edited, Parcels};
 use crate::fault::ToolFault;
 use crate::sources::Source;
-use crate::tiles::load_tiles;
-use fabric_core::{Layer, Shapes};
+use crate::tiles::load_edited;
+use fabric_core::Shapes;
 use geo_exact::{RawRing, Unit};
 use itoa::Buffer;
 use ring_core::Ring;
@@ -26,36 +30,42 @@ pub struct Exported<A: Allocator> {
     pub main: Vec<u8, A>,
     /// The bytes of the index file.
     pub index: Vec<u8, A>,
-    /// The text that is printed: `exported N`, the number of parcels.
+    /// The text that is printed: a line for each edit of a clerk, and `exported N`, the number of parcels.
     pub lines: Vec<u8, A>,
 }
 
 /// The two files of the parcels' layer, where the parcels tile their city exactly: its rings, each with all corners of the
 /// layer and the city that lie inside its edges, by ascending id and numbered anew from 1. Coordinates are in centimetres,
-/// whatever the unit that was read.
+/// whatever the unit that was read. Before that the edits of clerks' files are made, one file after the other; clerk K is
+/// that of file K, from 1. An edit that is refused changes nothing, and its line says why.
 ///
 /// # Errors
 ///
-/// The first fault of the city's files and ring, and then of the parcels' files and rings, and [`ToolFault::NoMemory`].
+/// [`ToolFault::ClerkCount`] for more than 8 clerks' files; the first fault of the city's files and ring, then of the
+/// parcels' files and rings, then the first bad line of the clerks' files; and [`ToolFault::NoMemory`].
 pub fn export<'h, H: Allocator, A: Allocator>(
     heap: &'h H,
     city: &Source<A>,
     parcels: &Source<A>,
     unit: Unit,
+    clerks: &[Vec<u8, A>],
 ) -> Result<Exported<&'h H>, ToolFault<'static>>
-    ensures ok { IfOk result (λ exported. IsExport (files_of city.now) (files_of parcels.now) unit
-        exported.main.items exported.index.items exported.lines.items) }
-    ensures fault { IfErr result (λ fault. IsTilesFault (files_of city.now) (files_of parcels.now) unit fault
+    ensures ok { IfOk result (λ exported. IsExport (Bor H) (files_of city.now) (files_of parcels.now) unit
+        (texts_of clerks.now) exported.main.items exported.index.items exported.lines.items) }
+    ensures fault { IfErr result (λ fault.
+        IsRunFault (files_of city.now) (files_of parcels.now) unit (texts_of clerks.now) fault
         ⊎ (fault ≡ ToolFault.NoMemory)) }
-    ensures refuses { (fault : ToolFaultValue) → IsTilesFault (files_of city.now) (files_of parcels.now) unit fault
+    ensures refuses { (fault : ToolFaultValue)
+        → IsRunFault (files_of city.now) (files_of parcels.now) unit (texts_of clerks.now) fault
         → IsErrAnd result (λ told. (told ≡ fault) ⊎ (told ≡ ToolFault.NoMemory)) }
 {
-    let layer = load_tiles(heap, city, parcels, unit)?;
+    let Edited { parcels, lines } = load_edited(heap, city, parcels, unit, clerks)?;
     a_layer_file_is_within_the_limits();
-    layer.tiles();
-    let rings = rings_to_write(heap, layer.shapes())?;
+    parcels.are_within();
+    let rings = rings_to_write(heap, parcels.shapes())?;
     let (main, index) = write_layer(heap, &rings)?;
-    let lines = exported_text(heap, &layer)?;
+    let mut lines = lines;
+    push_exported(&mut lines, &parcels)?;
     Ok(Exported { main, index, lines })
 }
 
@@ -86,17 +96,17 @@ fn ring_to_write<A: Allocator + Copy>(number: u32, ring: &Ring<A>) -> Result<Raw
     Ok(RawRing { number, corners })
 }
 
-/// The line of an export.
-fn exported_text<'h, H: Allocator, A: Allocator>(
-    alloc: A,
-    layer: &Layer<'h, H>,
-) -> Result<Vec<u8, A>, AllocError>
-    ensures { IfOk result (λ text. text.items ≡ exported_line layer.now) }
+/// Adds the line of an export.
+fn push_exported<'h, H: Allocator, A: Allocator>(
+    text: &mut Vec<u8, A>,
+    parcels: &Parcels<'h, H>,
+) -> Result<(), AllocError>
+    ensures { OnOk result
+        (text.new.items ≡ text.old.items ++ exported_line (register_of_parcels parcels.now).now.rows) }
 {
     let mut digits = Buffer::new();
-    let mut text = Vec::new(alloc);
     text.extend_from_slice(b"exported ")?;
-    text.extend_from_slice(digits.format(layer.ids().len()).as_bytes())?;
+    text.extend_from_slice(digits.format(parcels.count()).as_bytes())?;
     text.push(b'\n')?;
-    Ok(text)
+    Ok(())
 }

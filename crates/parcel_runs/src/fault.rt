@@ -5,7 +5,7 @@ use fabric_core::{CityFault, LoadFault};
 use geo_exact::{CoordFault, Failed};
 use ring_core::RingFault;
 use shp_files::{FaultKind, FileFault, FileName};
-use std::alloc::AllocError;
+use std::alloc::{AllocError, AllocFailed};
 use std::fmt;
 
 /// What the layer is to the run that reads it.
@@ -49,6 +49,10 @@ pub enum ToolFault<'a> {
     CityRing(CityFault),
     /// H1 to H3: the rings of the layer do not tile the city.
     NoTiling(Role, LoadFault),
+    /// K1: the command line has this number of clerks' files, and a run takes at most 8.
+    ClerkCount(usize),
+    /// L1: of the file of this clerk, counted from 1, the line of this number, counted from 1, is no edit.
+    ClerkLine(u32, u64),
     /// L1: the line of this number, counted from 1, of the points' file is no point.
     PointLine(usize),
     /// A growth was refused.
@@ -59,6 +63,14 @@ impl<'a> From<AllocError> for ToolFault<'a> {
     ghost from_gives = { λ _ fault. fault ≡ NoMemory };
 
     fn from(_: AllocError) -> ToolFault<'a> {
+        ToolFault::NoMemory
+    }
+}
+
+impl<'a, T: Drop> From<AllocFailed<T>> for ToolFault<'a> {
+    ghost from_gives = { λ _ fault. fault ≡ NoMemory };
+
+    fn from(_: AllocFailed<T>) -> ToolFault<'a> {
         ToolFault::NoMemory
     }
 }
@@ -101,6 +113,8 @@ impl<'a> fmt::Display for ToolFault<'a> {
                 let (ax, ay, bx, by) = (a.x, a.y, b.x, b.y);
                 write!(f, "{role}: H2 {ax} {ay} {bx} {by} net {net}")
             }
+            ToolFault::ClerkCount(count) => write!(f, "K1 {count}"),
+            ToolFault::ClerkLine(clerk, line) => write!(f, "clerk {clerk}: L1 {line}"),
             ToolFault::PointLine(number) => write!(f, "points: L1 {number}"),
             ToolFault::NoMemory
             | ToolFault::CityRing(CityFault::NoMemory)

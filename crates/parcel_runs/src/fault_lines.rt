@@ -68,7 +68,10 @@ fn push_ring_line<A: Allocator>(
 }
 
 /// Adds the text of a ring's fault.
-fn push_ring_fault<A: Allocator>(text: &mut Vec<u8, A>, fault: RingFault) -> Result<(), AllocError>
+pub fn push_ring_fault<A: Allocator>(
+    text: &mut Vec<u8, A>,
+    fault: RingFault,
+) -> Result<(), AllocError>
     ensures { OnOk result (text.new.items ≡ text.old.items ++ ring_fault_text fault) }
 {
     let mut digits = Buffer::new();

@@ -1,15 +1,20 @@
-//! What runs of the program do: layers read from their files, their areas told, whether they tile their city, where points lie among
-//! their parcels, and layers written anew.
+//! What runs of the program do: layers read from their files, their areas told, whether they tile their city, where points
+//! lie among their parcels, edits of clerks made, and layers written anew.
 //!
 //! Each call answers from the bytes of the files, and says to which layer a fault belongs.
 #![tactic(auto)]
 
 mod all_tiles;
 pub mod area;
+mod attempts;
 pub mod check;
+mod clerk_lines;
+mod clerks;
+mod edited;
 pub mod export;
 mod fault;
 mod fault_lines;
+mod laws;
 mod layers;
 pub mod locate;
 mod numbers;
@@ -19,7 +24,10 @@ mod report;
 mod sources;
 mod tiles;
 
+pub use attempts::Attempt;
+pub use clerks::{CLERKS, refuse_many_clerks};
 pub use fault::{Role, ToolFault};
+pub use laws::{a_run_of_edits_is_lawful, without_clerks_nothing_changes};
 pub use line_files::{PointsFault, read_corner, read_points};
 pub use output::put_all;
 pub use replace::replace_layer;

@@ -2,82 +2,98 @@
 
 ghost use Rattle.std.specs.Prelude.{◌≡◌, ◌⊎◌, ◌++◌, ℕ, List, IfOk, IfErr, IsErrAnd, IsErrOf, OnOk, MatchResult, codes};
 ghost use Rattle.std.specs.List.{flat_map};
+ghost use Rattle.std.specs.Borrow.{Bor};
 ghost use Rattle.geo_exact.specs.Bytes.{raised};
 ghost use Rattle.geo_exact.specs.declared.corner.Corner.{Corner as CornerValue};
 ghost use Rattle.parcel_runs.specs.declared.fault.ToolFault.{ToolFault as ToolFaultValue};
 ghost use Rattle.parcel_runs.specs.FaultLines.{corner_text};
 ghost use Rattle.parcel_runs.specs.LocateReport.{id_text, ArePlaceLines, WritesPlaces, WritesPlacesOfText, IsLocateFault};
 ghost use Rattle.line_files.specs.PointLines.{ArePoints, IsFirstBadPoint};
-ghost use Rattle.parcel_runs.specs.TilingFiles.{files_of, IsTilesFault};
+ghost use Rattle.parcel_runs.specs.TilingFiles.{files_of};
+ghost use Rattle.parcel_runs.specs.ClerkRuns.{texts_of};
+ghost use Rattle.parcel_runs.specs.RunFaults.{IsRunFault};
 ghost use Rattle.parcel_runs.specs.own.PlaceTexts.{place_text};
+ghost use Rattle.parcel_runs.specs.own.Registers.{register_of_parcels};
 
+use crate::edited::{Edited, Parcels};
 use crate::fault::ToolFault;
 use crate::numbers::push_corner;
 use crate::output::put_all;
 use crate::sources::Source;
-use crate::tiles::load_tiles;
-use fabric_core::{At, Layer};
+use crate::tiles::load_edited;
+use fabric_core::At;
 use geo_exact::{ByteOut, Corner, Unit};
 use itoa::Buffer;
 use line_files::{PointsFault, read_points};
 use std::alloc::{AllocError, Allocator};
 
-/// Writes for each point in order, where the parcels tile their city, `X Y inside ID`, `X Y edge ID ID ..` with all parcels on whose
-/// edges it lies, or `X Y outside`. Both layers are checked whole before the first byte is written.
+/// Writes for each point in order, where the parcels tile their city, `X Y inside ID`, `X Y edge ID ID ..` with all parcels
+/// on whose edges it lies, or `X Y outside`. Before that the edits of clerks' files are made, one file after the other, and
+/// a line for each is written; clerk K is that of file K, from 1. All files are checked whole before the first byte is
+/// written.
 ///
 /// # Errors
 ///
-/// The first fault of the city's files and ring, and then of the parcels' files and rings, and [`ToolFault::NoMemory`], all before
-/// anything is written; [`ToolFault::Output`] where a write failed.
+/// [`ToolFault::ClerkCount`] for more than 8 clerks' files; the first fault of the city's files and ring, then of the
+/// parcels' files and rings, then the first bad line of the clerks' files; and [`ToolFault::NoMemory`]; all before anything
+/// is written. [`ToolFault::Output`] where a write failed.
 pub fn locate<'h, H: Allocator, A: Allocator, W: ByteOut>(
     heap: &'h H,
     city: &Source<A>,
     parcels: &Source<A>,
     unit: Unit,
     points: &[Corner],
+    clerks: &[Vec<u8, A>],
     out: &mut W,
 ) -> Result<(), ToolFault<'static>>
-    ensures ok { OnOk result (WritesPlaces
-        (files_of city.now) (files_of parcels.now) unit points.now (W.written out.old) (W.written out.new)) }
-    ensures fault { IfErr result (λ fault. (IsTilesFault (files_of city.now) (files_of parcels.now) unit fault
-        × (out.new ≡ out.old)) ⊎ ((fault ≡ ToolFault.NoMemory) × (out.new ≡ out.old)) ⊎ (fault ≡ ToolFault.Output)) }
-    ensures refuses { (fault : ToolFaultValue) → IsTilesFault (files_of city.now) (files_of parcels.now) unit fault
+    ensures ok { OnOk result (WritesPlaces (Bor H) (files_of city.now) (files_of parcels.now) unit (texts_of clerks.now)
+        points.now (W.written out.old) (W.written out.new)) }
+    ensures fault { IfErr result (λ fault.
+        (IsRunFault (files_of city.now) (files_of parcels.now) unit (texts_of clerks.now) fault × (out.new ≡ out.old))
+        ⊎ ((fault ≡ ToolFault.NoMemory) × (out.new ≡ out.old)) ⊎ (fault ≡ ToolFault.Output)) }
+    ensures refuses { (fault : ToolFaultValue)
+        → IsRunFault (files_of city.now) (files_of parcels.now) unit (texts_of clerks.now) fault
         → IsErrAnd result (λ told. (told ≡ fault) ⊎ (told ≡ ToolFault.NoMemory)) }
     ensures failed { IsErrOf result ToolFault.Output → W.failure_count out.new ≡ raised (W.failure_count out.old) }
     ensures no_failure { OnOk result (W.failure_count out.new ≡ W.failure_count out.old) }
 {
-    let layer = load_tiles(heap, city, parcels, unit)?;
-    let lines = place_lines(heap, &layer, points)?;
+    let edited = load_edited(heap, city, parcels, unit, clerks)?;
+    let lines = located_text(edited, points)?;
     put_all(lines.as_slice(), out)?;
     Ok(())
 }
 
-/// As [`locate`], of the points of a text: each line is a point `X Y`, in whole centimetres, unless it is empty or begins with `#`.
+/// As [`locate`], of the points of a text: each line is a point `X Y`, in whole centimetres, unless it is empty or begins
+/// with `#`.
 ///
 /// # Errors
 ///
-/// Those of [`locate`]; behind those of the two layers [`ToolFault::PointLine`] with the first line that is no point, before anything
-/// is written.
+/// Those of [`locate`]; behind those of the layers' and clerks' files [`ToolFault::PointLine`] with the first line that is
+/// no point, before anything is written.
 pub fn locate_text<'h, H: Allocator, A: Allocator, W: ByteOut>(
     heap: &'h H,
     city: &Source<A>,
     parcels: &Source<A>,
     unit: Unit,
     text: &[u8],
+    clerks: &[Vec<u8, A>],
     out: &mut W,
 ) -> Result<(), ToolFault<'static>>
-    ensures ok { OnOk result (WritesPlacesOfText
-        (files_of city.now) (files_of parcels.now) unit text.now (W.written out.old) (W.written out.new)) }
-    ensures fault { IfErr result (λ fault. (IsLocateFault (files_of city.now) (files_of parcels.now) unit text.now fault
-        × (out.new ≡ out.old)) ⊎ ((fault ≡ ToolFault.NoMemory) × (out.new ≡ out.old)) ⊎ (fault ≡ ToolFault.Output)) }
-    ensures refuses { (fault : ToolFaultValue) → IsLocateFault (files_of city.now) (files_of parcels.now) unit text.now fault
+    ensures ok { OnOk result (WritesPlacesOfText (Bor H) (files_of city.now) (files_of parcels.now) unit
+        (texts_of clerks.now) text.now (W.written out.old) (W.written out.new)) }
+    ensures fault { IfErr result (λ fault.
+        (IsLocateFault (files_of city.now) (files_of parcels.now) unit (texts_of clerks.now) text.now fault
+        × (out.new ≡ out.old))
+        ⊎ ((fault ≡ ToolFault.NoMemory) × (out.new ≡ out.old)) ⊎ (fault ≡ ToolFault.Output)) }
+    ensures refuses { (fault : ToolFaultValue)
+        → IsLocateFault (files_of city.now) (files_of parcels.now) unit (texts_of clerks.now) text.now fault
         → IsErrAnd result (λ told. (told ≡ fault) ⊎ (told ≡ ToolFault.NoMemory)) }
     ensures failed { IsErrOf result ToolFault.Output → W.failure_count out.new ≡ raised (W.failure_count out.old) }
     ensures no_failure { OnOk result (W.failure_count out.new ≡ W.failure_count out.old) }
 {
-    let layer = load_tiles(heap, city, parcels, unit)?;
+    let edited = load_edited(heap, city, parcels, unit, clerks)?;
     let points = points_of_text(heap, text)?;
-    let lines = place_lines(heap, &layer, &points)?;
+    let lines = located_text(edited, &points)?;
     put_all(lines.as_slice(), out)?;
     Ok(())
 }
@@ -97,20 +113,34 @@ fn points_of_text<A: Allocator>(alloc: A, text: &[u8]) -> Result<Vec<Corner, A>,
     }
 }
 
-/// The lines of points among the parcels of a layer.
-fn place_lines<'h, H: Allocator, A: Allocator>(
-    alloc: A,
-    layer: &Layer<'h, H>,
+/// The lines of the clerks' edits, and those of points among the parcels.
+fn located_text<'h, H: Allocator>(
+    edited: Edited<'h, H>,
     points: &[Corner],
-) -> Result<Vec<u8, A>, AllocError>
-    ensures { IfOk result (λ lines. ArePlaceLines layer.now.rows points.now lines.items) }
+) -> Result<Vec<u8, &'h H>, AllocError>
+    ensures { IfOk result (λ text. (lines : List ℕ) × (text.items ≡ edited.entry.lines.items ++ lines)
+        × ArePlaceLines (register_of_parcels edited.entry.parcels).now.rows points.now lines) }
 {
-    let mut lines = Vec::new(alloc);
+    let Edited { parcels, lines } = edited;
+    let mut text = lines;
+    push_place_lines(&mut text, &parcels, points)?;
+    Ok(text)
+}
+
+/// Adds the lines of points among the parcels.
+fn push_place_lines<'h, H: Allocator, A: Allocator>(
+    text: &mut Vec<u8, A>,
+    parcels: &Parcels<'h, H>,
+    points: &[Corner],
+) -> Result<(), AllocError>
+    ensures { OnOk result ((lines : List ℕ) × (text.new.items ≡ text.old.items ++ lines)
+        × ArePlaceLines (register_of_parcels parcels.now).now.rows points.now lines) }
+{
     for point in points {
-        let at = layer.locate(*point)?;
-        push_place_line(&mut lines, *point, &at)?;
+        let at = parcels.locate(*point)?;
+        push_place_line(text, *point, &at)?;
     }
-    Ok(lines)
+    Ok(())
 }
 
 /// Adds the line of a point: its coordinates, and where it lies.

@@ -6,7 +6,12 @@ ghost use Rattle.fabric_core.specs.Rows.{Tiles};
 ghost use Rattle.parcel_runs.specs.declared.fault.ToolFault.{ToolFault as ToolFaultValue};
 ghost use Rattle.parcel_runs.specs.declared.fault.Role.TheVariants.{Parcels};
 ghost use Rattle.parcel_runs.specs.TilingFiles.{told_of_city as told_of_city_fault, told_of_load as told_of_load_fault, files_of, IsCityOf, IsFaultOfCity, IsTiledBy, IsFaultOfLayer, AreTiles, IsTilesFault};
+ghost use Rattle.parcel_runs.specs.ClerkRuns.{texts_of, IsEdited};
+ghost use Rattle.parcel_runs.specs.RunFaults.{IsRunFault};
+ghost use Rattle.parcel_runs.specs.own.Registers.{register_of_parcels, city_of_parcels};
 
+use crate::clerks::refuse_many_clerks;
+use crate::edited::{Edited, edit_layer};
 use crate::fault::{Role, ToolFault};
 use crate::layers::read_rings;
 use crate::sources::Source;
@@ -101,7 +106,7 @@ fn read_tiles<'h, H: Allocator, A: Allocator>(
 ///
 /// The first fault of the city's files, the number of their rings, or the ring's fault; then the first fault of the parcels'
 /// files, or of their rings as a layer; and [`ToolFault::NoMemory`].
-pub fn load_tiles<'h, H: Allocator, A: Allocator>(
+fn load_tiles<'h, H: Allocator, A: Allocator>(
     heap: &'h H,
     city: &Source<A>,
     parcels: &Source<A>,
@@ -118,4 +123,33 @@ pub fn load_tiles<'h, H: Allocator, A: Allocator>(
 {
     let city = read_city(heap, city, unit)?;
     read_tiles(heap, &city, Role::Parcels, parcels, unit)
+}
+
+/// The layer of the parcels' files, which tiles the city of the city's files, after the edits of clerks' files.
+///
+/// # Errors
+///
+/// [`ToolFault::ClerkCount`] for more than 8 clerks' files; the first fault of the city's files, the number of their rings,
+/// or the ring's fault; then the first fault of the parcels' files, or of their rings as a layer; then the first bad line of
+/// the clerks' files; and [`ToolFault::NoMemory`].
+pub fn load_edited<'h, H: Allocator, A: Allocator>(
+    heap: &'h H,
+    city: &Source<A>,
+    parcels: &Source<A>,
+    unit: Unit,
+    clerks: &[Vec<u8, A>],
+) -> Result<Edited<'h, H>, ToolFault<'static>>
+    ensures edited { IfOk result (λ edited. (tiles : Tiles) × AreTiles (files_of city.now) (files_of parcels.now) unit tiles
+        × IsEdited tiles (texts_of clerks.now) (register_of_parcels edited.parcels) edited.lines.items
+        × (city_of_parcels edited.parcels ≡ tiles.city)) }
+    ensures fault { IfErr result (λ fault.
+        IsRunFault (files_of city.now) (files_of parcels.now) unit (texts_of clerks.now) fault
+        ⊎ (fault ≡ ToolFault.NoMemory)) }
+    ensures refuses { (fault : ToolFaultValue)
+        → IsRunFault (files_of city.now) (files_of parcels.now) unit (texts_of clerks.now) fault
+        → IsErrAnd result (λ told. (told ≡ fault) ⊎ (told ≡ ToolFault.NoMemory)) }
+{
+    refuse_many_clerks(clerks.len())?;
+    let layer = load_tiles(heap, city, parcels, unit)?;
+    edit_layer(heap, layer, clerks)
 }

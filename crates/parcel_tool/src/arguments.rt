@@ -24,37 +24,38 @@ pub enum Request<'a> {
     },
     /// Whether parcels tile their city.
     Check {
-        /// The path of the main file of the city's layer.
-        city: &'a str,
-        /// The path of the main file of the parcels' layer.
-        parcels: &'a str,
-        /// The unit of the coordinates of both.
-        unit: Unit,
+        /// What is read.
+        inputs: Inputs<'a>,
         /// Whether all faults of a layer that does not tile its city are told, and not only the first.
         all: bool,
     },
     /// The parcels that tile their city, written anew.
     Export {
-        /// The path of the main file of the city's layer.
-        city: &'a str,
-        /// The path of the main file of the parcels' layer.
-        parcels: &'a str,
-        /// The unit of the coordinates of both.
-        unit: Unit,
+        /// What is read.
+        inputs: Inputs<'a>,
         /// The path of the files that are written, without their endings .shp and .shx.
         base: &'a str,
     },
     /// Where points lie among parcels.
     Locate {
-        /// The path of the main file of the city's layer.
-        city: &'a str,
-        /// The path of the main file of the parcels' layer.
-        parcels: &'a str,
-        /// The unit of the coordinates of both.
-        unit: Unit,
+        /// What is read.
+        inputs: Inputs<'a>,
         /// The points.
         points: Points<'a>,
     },
+}
+
+/// What a request about parcels reads.
+#[derive(Debug, Drop, PartialEq, Eq)]
+pub struct Inputs<'a> {
+    /// The path of the main file of the city's layer.
+    pub city: &'a str,
+    /// The path of the main file of the parcels' layer.
+    pub parcels: &'a str,
+    /// The unit of the coordinates of both.
+    pub unit: Unit,
+    /// The paths of the files of clerks' edits; clerk K's is the K-th.
+    pub clerks: Vec<&'a str>,
 }
 
 /// The points that a command line asks for.
@@ -77,10 +78,10 @@ pub fn parse<'a, S: AsStr>(alloc: Global, words: &'a [S]) -> Result<Request<'a>,
     let matches = command.try_get_matches_from_mut(words)?;
     let asked = match matches.subcommand() {
         Some(("area", given)) => area_request(given),
-        Some(("check", given)) => check_request(given),
-        Some(("export", given)) => export_request(given),
+        Some(("check", given)) => check_request(alloc, given)?,
+        Some(("export", given)) => export_request(alloc, given)?,
         Some(("locate", given)) => match points_of(alloc, given)? {
-            Some(points) => locate_request(given, points),
+            Some(points) => locate_request(alloc, given, points)?,
             None => return Err(command.error(ErrorKind::ValueValidation, AT_HELP)?),
         },
         _ => None,
@@ -103,33 +104,56 @@ fn area_request<'a>(given: &ArgMatches<'a>) -> Option<Request<'a>> {
 }
 
 /// What the words of `check` ask for.
-fn check_request<'a>(given: &ArgMatches<'a>) -> Option<Request<'a>> {
-    Some(Request::Check {
-        city: given.get_str("CITY")?,
-        parcels: given.get_str("PARCELS")?,
-        unit: unit_of(given)?,
-        all: given.get_flag("all"),
-    })
+fn check_request<'a>(
+    alloc: Global,
+    given: &ArgMatches<'a>,
+) -> Result<Option<Request<'a>>, AllocError> {
+    let Some(inputs) = inputs_of(alloc, given)? else {
+        return Ok(None);
+    };
+    let all = given.get_flag("all");
+    Ok(Some(Request::Check { inputs, all }))
 }
 
 /// What the words of `export` ask for.
-fn export_request<'a>(given: &ArgMatches<'a>) -> Option<Request<'a>> {
-    Some(Request::Export {
-        city: given.get_str("CITY")?,
-        parcels: given.get_str("PARCELS")?,
-        unit: unit_of(given)?,
-        base: given.get_str("out")?,
-    })
+fn export_request<'a>(
+    alloc: Global,
+    given: &ArgMatches<'a>,
+) -> Result<Option<Request<'a>>, AllocError> {
+    let (Some(inputs), Some(base)) = (inputs_of(alloc, given)?, given.get_str("out")) else {
+        return Ok(None);
+    };
+    Ok(Some(Request::Export { inputs, base }))
 }
 
 /// What the words of `locate` ask for, of these points.
-fn locate_request<'a>(given: &ArgMatches<'a>, points: Points<'a>) -> Option<Request<'a>> {
-    Some(Request::Locate {
-        city: given.get_str("CITY")?,
-        parcels: given.get_str("PARCELS")?,
-        unit: unit_of(given)?,
-        points,
-    })
+fn locate_request<'a>(
+    alloc: Global,
+    given: &ArgMatches<'a>,
+    points: Points<'a>,
+) -> Result<Option<Request<'a>>, AllocError> {
+    let Some(inputs) = inputs_of(alloc, given)? else {
+        return Ok(None);
+    };
+    Ok(Some(Request::Locate { inputs, points }))
+}
+
+/// What a request about parcels reads; `None` where a word is missing.
+fn inputs_of<'a>(alloc: Global, given: &ArgMatches<'a>) -> Result<Option<Inputs<'a>>, AllocError> {
+    let (Some(city), Some(parcels), Some(unit)) = (
+        given.get_str("CITY"),
+        given.get_str("PARCELS"),
+        unit_of(given),
+    ) else {
+        return Ok(None);
+    };
+    let clerks = Vec::from_slice(alloc, given.get_strs("clerk").unwrap_or(&[]))?;
+    Ok(Some(Inputs {
+        city,
+        parcels,
+        unit,
+        clerks,
+    }))
 }
 
 /// The points that were given; `None` where the words of `--at` are none.
@@ -210,7 +234,8 @@ fn check_command<'a>(alloc: Global) -> Result<Command<'a>, AllocError> {
             "The main file of the parcels' layer, .shp",
         ))?
         .arg(unit(alloc, "The unit of the files' coordinates"))?
-        .arg(all(alloc))
+        .arg(all(alloc))?
+        .arg(clerk(alloc))
 }
 
 /// Whether all faults are told.
@@ -233,7 +258,8 @@ fn export_command<'a>(alloc: Global) -> Result<Command<'a>, AllocError> {
             "The main file of the parcels' layer, .shp",
         ))?
         .arg(unit(alloc, "The unit of the files' coordinates"))?
-        .arg(base(alloc))
+        .arg(base(alloc))?
+        .arg(clerk(alloc))
 }
 
 fn locate_command<'a>(alloc: Global) -> Result<Command<'a>, AllocError> {
@@ -248,6 +274,7 @@ fn locate_command<'a>(alloc: Global) -> Result<Command<'a>, AllocError> {
         .arg(unit(alloc, "The unit of the files' coordinates"))?
         .arg(at(alloc))?
         .arg(points_file(alloc))?
+        .arg(clerk(alloc))?
         .group(asked(alloc)?)
 }
 
@@ -275,6 +302,17 @@ fn points_file<'a>(alloc: Global) -> Arg<'a> {
         .action(ArgAction::Set)
         .value_name("FILE")
         .help("A file with a line X Y for each point, in whole centimetres; - reads standard input")
+}
+
+/// The files of clerks' edits. How many they may be is asked before the first is opened, and not here.
+fn clerk<'a>(alloc: Global) -> Arg<'a> {
+    Arg::new(alloc, "clerk")
+        .long("clerk")
+        .action(ArgAction::Append)
+        .value_name("FILE")
+        .help(
+            "A file of a clerk's edits, which are made first; up to 8, one clerk's after the other's",
+        )
 }
 
 /// Where an export is written, which has to be given.

@@ -5,16 +5,17 @@ mod arguments;
 #[cfg(test)]
 mod tests;
 
-use arguments::{Points, Request};
+use arguments::{Inputs, Points, Request};
 use clap::Error;
 use clap::error::ErrorKind;
-use geo_exact::Counted;
+use geo_exact::{ByteOut, Counted};
 use parcel_runs::area::area;
 use parcel_runs::check::{check, check_all};
 use parcel_runs::export::export;
 use parcel_runs::locate::{locate, locate_text};
 use parcel_runs::{
-    Disk, Source, StandardInput, ToolFault, put_all, read_source, read_text, replace_layer,
+    Disk, Source, StandardInput, ToolFault, put_all, read_source, read_text, refuse_many_clerks,
+    replace_layer,
 };
 use std::alloc::Global;
 use std::io::Input;
@@ -63,60 +64,78 @@ fn answer<'a, R: Files + Input + Print + AllocGlobal>(
             let source = read_source(&Disk(rt), heap, main)?;
             area(heap, &source, unit, &mut out)
         }
-        Request::Check {
-            city,
-            parcels,
-            unit,
-            all,
-        } => {
-            let (city, parcels) = read_both(rt, city, parcels)?;
+        Request::Check { inputs, all } => {
+            let read = read_inputs(rt, &inputs)?;
+            let (city, parcels, clerks) = (&read.city, &read.parcels, read.clerks.as_slice());
             if all {
-                check_all(&heap, &city, &parcels, unit, &mut out)
+                check_all(&heap, city, parcels, inputs.unit, clerks, &mut out)
             } else {
-                check(&heap, &city, &parcels, unit, &mut out)
+                check(&heap, city, parcels, inputs.unit, clerks, &mut out)
             }
         }
-        Request::Export {
-            city,
-            parcels,
-            unit,
-            base,
-        } => {
-            let (city, parcels) = read_both(rt, city, parcels)?;
-            let exported = export(&heap, &city, &parcels, unit)?;
+        Request::Export { inputs, base } => {
+            let read = read_inputs(rt, &inputs)?;
+            let exported = export(&heap, &read.city, &read.parcels, inputs.unit, &read.clerks)?;
             replace_layer(rt, heap, base, &exported.main, &exported.index)?;
             put_all(&exported.lines, &mut out)?;
             Ok(())
         }
-        Request::Locate {
-            city,
-            parcels,
-            unit,
-            points,
-        } => {
-            let (city, parcels) = read_both(rt, city, parcels)?;
-            match points {
-                Points::At(corners) => {
-                    locate(&heap, &city, &parcels, unit, corners.as_slice(), &mut out)
-                }
-                Points::File(path) => {
-                    let text = read_points(rt, path)?;
-                    locate_text(&heap, &city, &parcels, unit, &text, &mut out)
-                }
-            }
+        Request::Locate { inputs, points } => answer_locate(rt, &inputs, &points, &mut out),
+    }
+}
+
+/// Tells where points lie.
+fn answer_locate<'a, R: Files + Input + AllocGlobal, W: ByteOut>(
+    rt: &R,
+    inputs: &Inputs<'a>,
+    points: &Points<'a>,
+    out: &mut W,
+) -> Result<(), ToolFault<'a>> {
+    let heap = rt.alloc();
+    let read = read_inputs(rt, inputs)?;
+    let (city, parcels, clerks) = (&read.city, &read.parcels, read.clerks.as_slice());
+    match points {
+        Points::At(corners) => {
+            let points = corners.as_slice();
+            locate(&heap, city, parcels, inputs.unit, points, clerks, out)
+        }
+        Points::File(path) => {
+            let text = read_points(rt, *path)?;
+            locate_text(&heap, city, parcels, inputs.unit, &text, clerks, out)
         }
     }
 }
 
-/// The files of a city and of its parcels, by the paths of their main files.
-fn read_both<'a, R: Files + AllocGlobal>(
+/// The files of a run about parcels.
+#[derive(Drop)]
+struct Sources {
+    /// The city's.
+    city: Source<Global>,
+    /// The parcels'.
+    parcels: Source<Global>,
+    /// The clerks', in their order.
+    clerks: Vec<Vec<u8>>,
+}
+
+/// Reads the files of a run about parcels: the city's, the parcels', and the clerks'. None is opened where there are more
+/// clerks' files than a run takes.
+fn read_inputs<'a, R: Files + AllocGlobal>(
     rt: &R,
-    city: &'a str,
-    parcels: &'a str,
-) -> Result<(Source<Global>, Source<Global>), ToolFault<'a>> {
-    let city = read_source(&Disk(rt), rt.alloc(), city)?;
-    let parcels = read_source(&Disk(rt), rt.alloc(), parcels)?;
-    Ok((city, parcels))
+    inputs: &Inputs<'a>,
+) -> Result<Sources, ToolFault<'a>> {
+    refuse_many_clerks(inputs.clerks.len())?;
+    let alloc = rt.alloc();
+    let city = read_source(&Disk(rt), alloc, inputs.city)?;
+    let parcels = read_source(&Disk(rt), alloc, inputs.parcels)?;
+    let mut clerks = Vec::new(alloc);
+    for path in inputs.clerks.as_slice() {
+        clerks.push(read_text(&Disk(rt), alloc, *path)?)?;
+    }
+    Ok(Sources {
+        city,
+        parcels,
+        clerks,
+    })
 }
 
 /// The text of points at a path; `-` is standard input.

@@ -71,7 +71,7 @@ fn told(alloc: Global, city: Vec<u8>, parcels: Vec<u8>) -> Result<String, AllocE
         main: parcels,
         index: None,
     };
-    match export(&alloc, &city, &parcels, Unit::Cm) {
+    match export(&alloc, &city, &parcels, Unit::Cm, &[]) {
         Ok(exported) => {
             let again = Source {
                 main: Vec::from_slice(alloc, &exported.main)?,
@@ -143,7 +143,7 @@ fn writes_rings_with_the_corners_of_their_neighbours(rt: HostRuntime) -> Result<
         main: layer(alloc, &[&WEST, &lower, &upper])?,
         index: None,
     };
-    match export(&alloc, &city, &parcels, Unit::Cm) {
+    match export(&alloc, &city, &parcels, Unit::Cm, &[]) {
         Ok(exported) => {
             // Clockwise, from the least corner.
             let ring: [Place; 5] = [(0, 0), (0, 100), (60, 100), (60, 50), (60, 0)];

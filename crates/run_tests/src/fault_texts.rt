@@ -11,6 +11,8 @@ fn tells_faults(rt: HostRuntime) -> Result<(), Fail> {
         (ToolFault::Unreadable("a b/city.shp"), "S1 a b/city.shp"),
         (ToolFault::UnreadableIndex("a b/city"), "S1 a b/city.shx"),
         (ToolFault::Output, "S2"),
+        (ToolFault::ClerkCount(9), "K1 9"),
+        (ToolFault::ClerkLine(2, 5), "clerk 2: L1 5"),
         (ToolFault::PointLine(3), "points: L1 3"),
         (ToolFault::NoMemory, "no memory"),
     ] {

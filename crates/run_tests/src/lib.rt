@@ -1,9 +1,11 @@
-//! Tests of runs: what they print and write, the texts of faults, which files are read and how files are replaced, and what a run
-//! answers whose growths are refused.
+//! Tests of runs: what they print and write, what clerks' edits lead to, the texts of faults, which files are read and how
+//! files are replaced, and what a run answers whose growths are refused.
 #![tactic(auto)]
 
 #[cfg(test)]
 mod area_runs;
+#[cfg(test)]
+mod clerk_runs;
 #[cfg(test)]
 mod export_runs;
 #[cfg(test)]

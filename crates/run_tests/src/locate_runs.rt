@@ -26,7 +26,7 @@ pub fn told(
 ) -> Result<String, AllocError> {
     let (city, parcels) = (alone(city), alone(parcels));
     let mut out = Counted::new(Vec::new(alloc));
-    match locate_text(&alloc, &city, &parcels, Unit::Cm, points, &mut out) {
+    match locate_text(&alloc, &city, &parcels, Unit::Cm, points, &[], &mut out) {
         Ok(()) => String::from_utf8_lossy(alloc, out.into_inner().as_slice()),
         Err(fault) => {
             let printed = String::from_utf8_lossy(alloc, out.into_inner().as_slice())?;
@@ -112,7 +112,7 @@ fn tells_where_corners_lie(rt: HostRuntime) -> Result<(), Fail> {
     ];
     let mut out = Counted::new(Vec::new(alloc));
     assert_eq!(rt;
-        locate(&alloc, &city, &parcels, Unit::Cm, &points, &mut out),
+        locate(&alloc, &city, &parcels, Unit::Cm, &points, &[], &mut out),
         Ok(())
     );
     assert_eq!(rt;
@@ -122,7 +122,15 @@ fn tells_where_corners_lie(rt: HostRuntime) -> Result<(), Fail> {
     // In metres the same numbers of the files are a hundred times as far apart.
     let mut out = Counted::new(Vec::new(alloc));
     assert_eq!(rt;
-        locate(&alloc, &city, &parcels, Unit::M, &points[..2], &mut out),
+        locate(
+            &alloc,
+            &city,
+            &parcels,
+            Unit::M,
+            &points[..2],
+            &[],
+            &mut out
+        ),
         Ok(())
     );
     assert_eq!(rt;
@@ -169,7 +177,15 @@ fn tells_each_failed_write_of_lines(rt: HostRuntime) -> Result<(), Fail> {
     for call in 1..=length + 1 {
         let writer = Counted::new(ByteByByte(Vec::new(alloc)));
         let mut out = FailAt::new(writer, call);
-        let answer = locate_text(&alloc, &city, &parcels, Unit::Cm, b"61 50\n0 0", &mut out);
+        let answer = locate_text(
+            &alloc,
+            &city,
+            &parcels,
+            Unit::Cm,
+            b"61 50\n0 0",
+            &[],
+            &mut out,
+        );
         let held = out.into_inner().into_inner().0;
         let want = if call <= length {
             Err(ToolFault::Output)

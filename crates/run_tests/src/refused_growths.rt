@@ -1,7 +1,9 @@
-//! Each growth of a run refused in turn: its answer is want of memory, nothing was printed, and with memory the same run prints what it
-//! has to print.
+//! Each growth of a run refused in turn: its answer is want of memory, nothing was printed, and with memory the same run
+//! prints what it has to print.
 
+use crate::clerk_runs::{FIVE, FIVE_TOLD};
 use crate::export_runs::{CITY, Place, WEST, layer};
+use crate::locate_runs::EAST;
 use crate::square::{HUNDRED, square};
 use geo_exact::{Counted, Unit};
 use parcel_runs::area::area;
@@ -54,10 +56,11 @@ fn a_check_run(rt: HostRuntime) -> Result<(), Fail> {
     let alloc = rt.alloc();
     let heap = &Refusing::new(alloc, 0);
     let source = square_source(heap, alloc)?;
+    let clerks = Vec::new(heap);
     for number in 1..MOST {
         let mut out = Counted::new(Vec::new(alloc));
         heap.refuse(number);
-        let answer = check(heap, &source, &source, Unit::Cm, &mut out);
+        let answer = check(heap, &source, &source, Unit::Cm, &clerks, &mut out);
         let is_refused = heap.is_spent();
         heap.refuse(0);
         let printed = out.into_inner();
@@ -89,12 +92,13 @@ fn a_check_of_all_faults(rt: HostRuntime) -> Result<(), Fail> {
     let heap = &Refusing::new(alloc, 0);
     let city = source_of(heap, &layer(alloc, &[&CITY])?)?;
     let parcels = source_of(heap, &layer(alloc, &[&WEST, &beyond])?)?;
+    let clerks = Vec::new(heap);
     let lines =
         "edge 60 0 60 100 net 1\nedge 60 0 61 0 net -1\nedge 60 100 61 100 net 1\nedge 61 0 61 100 net -1\n";
     for number in 1..MOST {
         let mut out = Counted::new(Vec::new(alloc));
         heap.refuse(number);
-        let answer = check_all(heap, &city, &parcels, Unit::Cm, &mut out);
+        let answer = check_all(heap, &city, &parcels, Unit::Cm, &clerks, &mut out);
         let is_refused = heap.is_spent();
         heap.refuse(0);
         let printed = out.into_inner();
@@ -115,9 +119,10 @@ fn an_export(rt: HostRuntime) -> Result<(), Fail> {
     let alloc = rt.alloc();
     let heap = &Refusing::new(alloc, 0);
     let source = square_source(heap, alloc)?;
+    let clerks = Vec::new(heap);
     for number in 1..MOST {
         heap.refuse(number);
-        let answer = export(heap, &source, &source, Unit::Cm);
+        let answer = export(heap, &source, &source, Unit::Cm, &clerks);
         let is_refused = heap.is_spent();
         heap.refuse(0);
         match answer {
@@ -141,6 +146,7 @@ fn a_locate_run(rt: HostRuntime) -> Result<(), Fail> {
     let alloc = rt.alloc();
     let heap = &Refusing::new(alloc, 0);
     let source = square_source(heap, alloc)?;
+    let clerks = Vec::new(heap);
     for number in 1..MOST {
         let mut out = Counted::new(Vec::new(alloc));
         heap.refuse(number);
@@ -150,6 +156,7 @@ fn a_locate_run(rt: HostRuntime) -> Result<(), Fail> {
             &source,
             Unit::Cm,
             b"0 0\n1 1\n1 0\n-1 0\n2 2",
+            &clerks,
             &mut out,
         );
         let is_refused = heap.is_spent();
@@ -166,6 +173,48 @@ fn a_locate_run(rt: HostRuntime) -> Result<(), Fail> {
         }
         assert_eq!(rt; answer, Err(ToolFault::NoMemory), "at growth {number}");
         assert!(rt; printed.is_empty(), "at growth {number}");
+    }
+    Err(Fail::new("each growth was refused"))
+}
+
+/// Whether these are the lines of a run in which one of the five edits was refused for want of memory.
+fn tell_of_want(lines: &str) -> bool {
+    lines.lines().count() == 6 && lines.split("refused no memory\n").count() == 2
+}
+
+#[test]
+fn an_export_with_edits(rt: HostRuntime) -> Result<(), Fail> {
+    let alloc = rt.alloc();
+    let heap = &Refusing::new(alloc, 0);
+    let city = source_of(heap, &layer(alloc, &[&CITY])?)?;
+    let parcels = source_of(heap, &layer(alloc, &[&WEST, &EAST])?)?;
+    let mut clerks = Vec::new(heap);
+    clerks.push(Vec::from_slice(heap, FIVE.as_bytes())?)?;
+    let want = format!(in alloc; "{FIVE_TOLD}exported 2\n")?;
+    let mut edits_refused = 0u64;
+    for number in 1..MOST {
+        heap.refuse(number);
+        let answer = export(heap, &city, &parcels, Unit::Cm, &clerks);
+        let is_refused = heap.is_spent();
+        heap.refuse(0);
+        match answer {
+            // Where the growth could be done without, the lines are those of a run with memory.
+            Ok(exported) if is_refused => {
+                let lines = String::from_utf8_lossy(alloc, &exported.lines)?;
+                let is_want = tell_of_want(lines.as_str());
+                assert!(rt; is_want || lines == want, "at growth {number}: {lines}");
+                edits_refused = number;
+            }
+            Ok(exported) => {
+                assert_eq!(rt; exported.lines.as_slice(), want.as_bytes());
+                assert!(rt; edits_refused > 10);
+                return Ok(());
+            }
+            Err(fault) => {
+                assert!(rt; is_refused, "at growth {number}");
+                assert_eq!(rt; fault, ToolFault::NoMemory, "at growth {number}");
+            }
+        }
     }
     Err(Fail::new("each growth was refused"))
 }

@@ -1,7 +1,19 @@
-use crate::arguments::{Points, Request, parse};
+use crate::arguments::{Inputs, Points, Request, parse};
 use clap::error::ErrorKind;
 use geo_exact::{Corner, LIMIT, Unit};
+use std::alloc::{AllocError, Global};
 use std::test::Fail;
+
+/// What a request about parcels reads, in centimetres, with clerks' files at these paths.
+fn inputs(alloc: Global, clerks: &'static str) -> Result<Inputs<'static>, AllocError> {
+    let clerks: Vec<&'static str> = clerks.split_whitespace().collect(alloc)?;
+    Ok(Inputs {
+        city: "city.shp",
+        parcels: "parcels.shp",
+        unit: Unit::Cm,
+        clerks,
+    })
+}
 
 #[test]
 fn reads_requests(rt: HostRuntime) -> Result<(), Fail> {
@@ -21,38 +33,30 @@ fn reads_requests(rt: HostRuntime) -> Result<(), Fail> {
             },
         ),
         (
-            "parcel_tool check --unit m city.shp parcels.shp",
+            "parcel_tool check --unit cm city.shp parcels.shp",
             Request::Check {
-                city: "city.shp",
-                parcels: "parcels.shp",
-                unit: Unit::M,
+                inputs: inputs(rt.alloc(), "")?,
                 all: false,
             },
         ),
         (
-            "parcel_tool check city.shp --all parcels.shp --unit cm",
+            "parcel_tool check city.shp --clerk b --all parcels.shp --unit cm --clerk a",
             Request::Check {
-                city: "city.shp",
-                parcels: "parcels.shp",
-                unit: Unit::Cm,
+                inputs: inputs(rt.alloc(), "b a")?,
                 all: true,
             },
         ),
         (
-            "parcel_tool export city.shp parcels.shp --unit cm --out new/town",
+            "parcel_tool export city.shp parcels.shp --unit cm --out new/town --clerk -",
             Request::Export {
-                city: "city.shp",
-                parcels: "parcels.shp",
-                unit: Unit::Cm,
+                inputs: inputs(rt.alloc(), "-")?,
                 base: "new/town",
             },
         ),
         (
-            "parcel_tool locate --points - city.shp parcels.shp --unit m",
+            "parcel_tool locate --points - city.shp parcels.shp --unit cm --clerk a --clerk a",
             Request::Locate {
-                city: "city.shp",
-                parcels: "parcels.shp",
-                unit: Unit::M,
+                inputs: inputs(rt.alloc(), "a a")?,
                 points: Points::File("-"),
             },
         ),
@@ -71,15 +75,12 @@ fn reads_points(rt: HostRuntime) -> Result<(), Fail> {
     let line = "parcel_tool locate a.shp --at -5 0010 b.shp --unit cm --at 10000000000 -0";
     let words: Vec<&str> = line.split(' ').collect(rt.alloc())?;
     match parse(rt.alloc(), words.as_slice()) {
-        Ok(
-            Request::Locate {
-                city,
-                parcels,
-                unit,
-                points: Points::At(corners),
-            },
-        ) => {
-            assert_eq!(rt; (city, parcels, unit), ("a.shp", "b.shp", Unit::Cm));
+        Ok(Request::Locate { inputs, points }) => {
+            let paths = (inputs.city, inputs.parcels, inputs.clerks.len());
+            assert_eq!(rt; paths, ("a.shp", "b.shp", 0));
+            let Points::At(corners) = points else {
+                return Err(Fail::new("a file of points"));
+            };
             let want = [Corner { x: -5, y: 10 }, Corner { x: LIMIT, y: 0 }];
             assert_eq!(rt; corners.as_slice(), want.as_slice());
             Ok(())
@@ -177,11 +178,11 @@ fn shows_help_and_version(rt: HostRuntime) -> Result<(), Fail> {
         ),
         (
             "parcel_tool export --help",
-            "Usage: parcel_tool export --unit <UNIT> --out <BASE> <CITY> <PARCELS>",
+            "Usage: parcel_tool export [OPTIONS] --unit <UNIT> --out <BASE> <CITY> <PARCELS>",
         ),
         (
             "parcel_tool locate --help",
-            "Usage: parcel_tool locate --unit <UNIT> <--at <X> <Y>|--points <FILE>> <CITY> <PARCELS>",
+            "Usage: parcel_tool locate [OPTIONS] --unit <UNIT> <--at <X> <Y>|--points <FILE>> <CITY> <PARCELS>",
         ),
         ("parcel_tool --version", "parcel_tool 0.1.0"),
     ] {

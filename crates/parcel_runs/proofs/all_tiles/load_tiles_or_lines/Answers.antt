@@ -1,8 +1,9 @@
-use Rattle.std.proofs.Common.{inl, inr, ◌≡◌, ◌⊎◌, sym, subst}
+use Rattle.std.proofs.Common.{inl, inr, ◌≡◌, ◌⊎◌, ◌∙◌, sym, subst}
 use Rattle.fabric_core.proofs.Refusals.{IsErrAnd-weaker}
 use Rattle.parcel_runs.specs.declared.fault.Role.TheVariants.{Parcels}
 use Rattle.parcel_runs.specs.declared.fault.ToolFault.TheVariants.{NoMemory}
-use Rattle.parcel_runs.specs.TilingFiles.{files_of, IsFaultOfLayer}
+use Rattle.parcel_runs.specs.TilingFiles.{files_of, IsFaultOfLayer, IsTiledBy}
+use Rattle.parcel_runs.proofs.Passing.{passed_as}
 use Rattle.parcel_runs.proofs.all_tiles.load_tiles_or_lines.Goals as goal
 
 pub returns-in_err-city-clause-refuses : goal.returns-in_err-city-clause-refuses
@@ -20,3 +21,14 @@ returns-clause-refuses g c = λ fault h. elim h [
       (subst (λ corners. IsFaultOfLayer Parcels (files_of c.args.parcels.now) c.args.unit corners fault)
       (sym (c.in_ok-city.ensures.reads k.corners k.is_city)) k.is_fault)
 ]
+
+pub returns-in_err-city-clause-loads : goal.returns-in_err-city-clause-loads
+returns-in_err-city-clause-loads g c = λ tiles h.
+    passed_as c.from_residual.result _ (λ refusal. refusal.fault ≡ NoMemory) c.from_residual.ensures.1 (λ refusal told.
+    told.0 ∙ c.in_err-city.ensures.reads tiles.city h.is_city)
+
+pub returns-clause-loads : goal.returns-clause-loads
+returns-clause-loads g c = λ tiles h.
+    c.read_tiles_or_lines.ensures.loads tiles
+    (subst (λ corners. IsTiledBy (files_of c.args.parcels.now) c.args.unit corners tiles)
+    (sym (c.in_ok-city.ensures.reads tiles.city h.is_city)) h.is_tiled)

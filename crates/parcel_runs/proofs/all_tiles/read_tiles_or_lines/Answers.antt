@@ -1,11 +1,12 @@
-use Rattle.std.proofs.Common.{◌≡◌, ◌⊎◌, sym, subst}
+use Rattle.std.proofs.Common.{◌≡◌, ◌⊎◌, ◌∙◌, sym, subst}
 use Rattle.geo_exact.specs.Layers.{rings_of}
 use Rattle.fabric_core.proofs.Refusals.{IsErrAnd-weaker}
 use Rattle.parcel_runs.specs.declared.fault.ToolFault.TheVariants.{NoMemory}
 use Rattle.parcel_runs.specs.FaultLines.{text_or_none}
 use Rattle.parcel_runs.specs.TilingFiles.{files_of}
+use Rattle.parcel_runs.proofs.Passing.{passed_as}
 use Rattle.parcel_runs.proofs.TilingFaults.{layer_unread, layer_has_none}
-use Rattle.parcel_runs.proofs.AllTiles.{begins_some, told_or_no_memory, due_told}
+use Rattle.parcel_runs.proofs.AllTiles.{begins_some, told_or_no_memory, due_told, all_loaded}
 use Rattle.parcel_runs.proofs.all_tiles.read_tiles_or_lines.Goals as goal
 
 pub returns-in_err-records-clause-refuses : goal.returns-in_err-records-clause-refuses
@@ -51,3 +52,15 @@ returns-in-Ok-clause-layer g c = record {
   has_no_fault = c.in-Ok.ensures.refuses;
   is_tiling = c.in-Ok.ensures.tiling;
 }
+
+pub returns-in_err-records-clause-loads : goal.returns-in_err-records-clause-loads
+returns-in_err-records-clause-loads g c = λ tiles h.
+    passed_as c.from_residual.result _ (λ refusal. refusal.fault ≡ NoMemory) c.from_residual.ensures.1 (λ refusal told.
+    told.0 ∙ c.in_err-records.ensures.reads h.records (rw (c.as_slice.ensures.value, c.index_bytes.ensures.bytes) h.are_records))
+
+pub returns-in-Err-clause-loads : goal.returns-in-Err-clause-loads
+returns-in-Err-clause-loads g c = λ tiles h.
+    all_loaded c.args.role (files_of c.args.files.now) c.args.unit c.args.city.now.ring.corners tiles (rings_of c.in_ok-records.records.items) c.in-Err.all
+    c.refusal_of.result.fault (text_or_none c.refusal_of.result.lines) h
+    (c.in_ok-records.ensures.reads h.records (rw (c.as_slice.ensures.value, c.index_bytes.ensures.bytes) h.are_records))
+    c.in-Err.ensures.faults c.refusal_of.ensures

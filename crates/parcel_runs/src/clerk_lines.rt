@@ -1,0 +1,91 @@
+//! The lines that tell of clerks' edits.
+
+ghost use Rattle.std.specs.Prelude.{◌≡◌, ◌++◌, OnOk};
+ghost use Rattle.parcel_runs.specs.ClerkRuns.{attempt_text, ok_line, refusal_text, refused_line};
+
+use crate::attempts::Attempt;
+use crate::fault_lines::push_ring_fault;
+use fabric_core::Refusal;
+use itoa::Buffer;
+use std::alloc::{AllocError, Allocator};
+
+/// Adds the line of an edit that is accepted, under the number of its entry.
+pub fn push_ok_line<A: Allocator, B: Allocator>(
+    lines: &mut Vec<u8, A>,
+    attempt: &Attempt<B>,
+    number: u64,
+) -> Result<(), AllocError>
+    ensures { OnOk result (lines.new.items ≡ lines.old.items ++ ok_line attempt.now number) }
+{
+    let mut digits = Buffer::new();
+    push_attempt(lines, attempt)?;
+    lines.extend_from_slice(b"ok ")?;
+    lines.extend_from_slice(digits.format(number).as_bytes())?;
+    lines.push(b'\n')?;
+    Ok(())
+}
+
+/// Adds the line of an edit that is refused.
+pub fn push_refused_line<A: Allocator, B: Allocator>(
+    lines: &mut Vec<u8, A>,
+    attempt: &Attempt<B>,
+    refusal: Refusal,
+) -> Result<(), AllocError>
+    ensures { OnOk result (lines.new.items ≡ lines.old.items ++ refused_line attempt.now refusal) }
+{
+    push_attempt(lines, attempt)?;
+    lines.extend_from_slice(b"refused ")?;
+    push_refusal(lines, refusal)?;
+    lines.push(b'\n')?;
+    Ok(())
+}
+
+/// Adds whose edit it is, and of which line.
+fn push_attempt<A: Allocator, B: Allocator>(
+    lines: &mut Vec<u8, A>,
+    attempt: &Attempt<B>,
+) -> Result<(), AllocError>
+    ensures { OnOk result (lines.new.items ≡ lines.old.items ++ attempt_text attempt.now) }
+{
+    let mut digits = Buffer::new();
+    lines.extend_from_slice(b"clerk ")?;
+    lines.extend_from_slice(digits.format(attempt.clerk).as_bytes())?;
+    lines.extend_from_slice(b" line ")?;
+    lines.extend_from_slice(digits.format(attempt.line).as_bytes())?;
+    lines.push(b' ')?;
+    Ok(())
+}
+
+/// Adds why an edit is refused.
+fn push_refusal<A: Allocator>(text: &mut Vec<u8, A>, refusal: Refusal) -> Result<(), AllocError>
+    ensures { OnOk result (text.new.items ≡ text.old.items ++ refusal_text refusal) }
+{
+    let mut digits = Buffer::new();
+    match refusal {
+        Refusal::Unknown(id) => {
+            text.extend_from_slice(b"E1 ")?;
+            text.extend_from_slice(digits.format(id).as_bytes())?;
+        }
+        Refusal::Retired { id, by } => {
+            text.extend_from_slice(b"E2 ")?;
+            text.extend_from_slice(digits.format(id).as_bytes())?;
+            text.push(b' ')?;
+            text.extend_from_slice(digits.format(by).as_bytes())?;
+        }
+        Refusal::Ring { which, fault } => {
+            text.extend_from_slice(b"E6 ")?;
+            text.extend_from_slice(digits.format(which).as_bytes())?;
+            text.push(b' ')?;
+            push_ring_fault(text, fault)?;
+        }
+        Refusal::BadPath => text.extend_from_slice(b"E3")?,
+        Refusal::NotNeighbours => text.extend_from_slice(b"E4")?,
+        Refusal::SharedTwice => text.extend_from_slice(b"E5")?,
+        Refusal::NoSuchEdge => text.extend_from_slice(b"E7")?,
+        Refusal::NotOnEdge => text.extend_from_slice(b"E8")?,
+        Refusal::JournalFull => text.extend_from_slice(b"E9")?,
+        Refusal::TooMany => text.extend_from_slice(b"E10")?,
+        Refusal::NoMemory => text.extend_from_slice(b"no memory")?,
+    }
+    Ok(())
+}

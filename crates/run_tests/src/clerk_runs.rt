@@ -1,0 +1,275 @@
+//! What the edits of clerks' files lead to, and what is told of them.
+
+use crate::export_runs::{CITY, Place, WEST, layer};
+use crate::locate_runs::{EAST, alone};
+use geo_exact::{Corner, Counted, RawRing, Unit};
+use parcel_runs::check::{check, check_all};
+use parcel_runs::export::export;
+use parcel_runs::locate::{locate, locate_text};
+use parcel_runs::{
+    Source, a_run_of_edits_is_lawful, refuse_many_clerks, without_clerks_nothing_changes,
+};
+use shp_files::read_layer;
+use std::alloc::{AllocError, Global};
+use std::test::Fail;
+
+/// Five edits of the two rectangles, the fourth of a parcel that is gone.
+pub const FIVE: &str =
+    "insert 0 0 60 0 30 0\ninsert 0 100 60 100 30 100\nsplit 1 30 0 30 100\nsplit 1 30 0 30 100\nmerge 3 4\n";
+
+/// What is told of them.
+pub const FIVE_TOLD: &str =
+    "clerk 1 line 1 ok 1\nclerk 1 line 2 ok 2\nclerk 1 line 3 ok 3\nclerk 1 line 4 refused E2 1 3\nclerk 1 line 5 ok 4\n";
+
+/// Three parcels, of which the second and the third lie in a bay of the first.
+const BAY: [&[Place]; 3] = [
+    &[
+        (0, 0),
+        (100, 0),
+        (100, 20),
+        (40, 20),
+        (40, 80),
+        (100, 80),
+        (100, 100),
+        (0, 100),
+    ],
+    &[(40, 20), (70, 20), (70, 80), (40, 80)],
+    &[(70, 20), (100, 20), (100, 80), (70, 80)],
+];
+
+/// Clerks' files of these texts.
+fn files(alloc: Global, texts: &[&str]) -> Result<Vec<Vec<u8>>, AllocError> {
+    let mut files = Vec::new(alloc);
+    for text in texts {
+        files.push(Vec::from_slice(alloc, text.as_bytes())?)?;
+    }
+    Ok(files)
+}
+
+/// The two rectangles, or where it is said so the three parcels of the bay.
+fn parcels(alloc: Global, bay: bool) -> Result<Source<Global>, AllocError> {
+    if bay {
+        Ok(alone(layer(alloc, &BAY)?))
+    } else {
+        Ok(alone(layer(alloc, &[&WEST, &EAST])?))
+    }
+}
+
+/// What a check of the two rectangles, or of the bay, prints with clerks' files of these texts, on whichever stream.
+fn told(alloc: Global, bay: bool, texts: &[&str]) -> Result<String, AllocError> {
+    let city = alone(layer(alloc, &[&CITY])?);
+    let clerks = files(alloc, texts)?;
+    let mut out = Counted::new(Vec::new(alloc));
+    match check(
+        &alloc,
+        &city,
+        &parcels(alloc, bay)?,
+        Unit::Cm,
+        &clerks,
+        &mut out,
+    ) {
+        Ok(()) => String::from_utf8_lossy(alloc, out.into_inner().as_slice()),
+        Err(fault) => format!(in alloc; "error: {fault}"),
+    }
+}
+
+/// Clerks' files, and what a check prints with them: whether of the bay, the texts, and what is printed.
+type Row = (bool, &'static [&'static str], &'static str);
+
+/// Each refusal that a small layer reaches, and how files are told one after the other.
+const ROWS: [Row; 12] = [
+    (
+        false,
+        &[FIVE],
+        "clerk 1 line 1 ok 1\nclerk 1 line 2 ok 2\nclerk 1 line 3 ok 3\nclerk 1 line 4 refused E2 1 3\nclerk 1 line 5 ok 4\ntiling 2 20000\n",
+    ),
+    (
+        false,
+        &["merge 1 2", "# nothing\n", "\nmerge 2 1\nmerge 1 9"],
+        "clerk 1 line 1 ok 1\nclerk 3 line 2 refused E2 2 1\nclerk 3 line 3 refused E2 1 1\ntiling 1 20000\n",
+    ),
+    (
+        false,
+        &["merge 9 1\nmerge 1 1", "split 1 0 0\nsplit 1 0 0 50 50"],
+        "clerk 1 line 1 refused E1 9\nclerk 1 line 2 refused E4\nclerk 2 line 1 refused E3\nclerk 2 line 2 refused E3\ntiling 2 20000\n",
+    ),
+    (
+        false,
+        &["split 2 60 0 50 50 60 100\nsplit 1 0 0 60 0"],
+        "clerk 1 line 1 refused E6 1 G3\nclerk 1 line 2 refused E6 2 G1\ntiling 2 20000\n",
+    ),
+    (
+        false,
+        &["split 1 0 0 40 40 40 20 10 50 60 100"],
+        "clerk 1 line 1 refused E6 1 G2 0 2\ntiling 2 20000\n",
+    ),
+    (
+        false,
+        &["insert 0 0 100 0 30 0\r\ninsert 0 0 60 0 60 0\r\n"],
+        "clerk 1 line 1 refused E7\nclerk 1 line 2 refused E8\ntiling 2 20000\n",
+    ),
+    (
+        true,
+        &["merge 1 3\nmove 1 3 100 20 70 80\nmerge 3 2"],
+        "clerk 1 line 1 refused E5\nclerk 1 line 2 refused E5\nclerk 1 line 3 ok 1\ntiling 2 20000\n",
+    ),
+    (false, &[], "tiling 2 20000\n"),
+    (
+        false,
+        &["merge 1 2\n\nmerge 1  2\n"],
+        "error: clerk 1: L1 3",
+    ),
+    (
+        false,
+        &["merge 1 2", "split 1 10000000001 0", "x"],
+        "error: clerk 2: L1 1",
+    ),
+    (
+        false,
+        &["", "", "", "", "", "", "", "merge 2 1"],
+        "clerk 8 line 1 ok 1\ntiling 1 20000\n",
+    ),
+    (false, &["x", "", "", "", "", "", "", "", ""], "error: K1 9"),
+];
+
+#[test]
+fn tells_of_each_edit(rt: HostRuntime) -> Result<(), Fail> {
+    let alloc = rt.alloc();
+    for (bay, texts, want) in &ROWS {
+        assert_eq!(rt; told(alloc, *bay, texts)?.as_str(), *want);
+    }
+    a_run_of_edits_is_lawful::<Global>();
+    without_clerks_nothing_changes::<Global>();
+    Ok(())
+}
+
+#[test]
+fn refuses_a_ring_with_too_many_corners(rt: HostRuntime) -> Result<(), Fail> {
+    let alloc = rt.alloc();
+    // A path of 4,096 corners, the most of an edit; with one corner more of the parcel the new ring has too many.
+    let mut text = String::new(alloc);
+    text.push_str("split 1 0 0")?;
+    for _ in 0..4094 {
+        text.push_str(" 30 50")?;
+    }
+    text.push_str(" 60 100")?;
+    let answer = told(alloc, false, &[text.as_str()])?;
+    assert_eq!(rt;
+        answer.as_str(),
+        "clerk 1 line 1 refused E10\ntiling 2 20000\n"
+    );
+    Ok(())
+}
+
+/// Whether the rings have these places, in order.
+fn are_at(rings: &[RawRing<Global>], places: &[&[Place]]) -> bool {
+    rings.len() == places.len()
+        && rings
+            .iter()
+            .zip(places)
+            .all(|(ring, places)| is_at(ring.corners.as_slice(), places))
+}
+
+/// Whether the corners are at these places, in order.
+fn is_at(corners: &[Corner], places: &[Place]) -> bool {
+    corners.len() == places.len()
+        && corners.iter().zip(places).all(|(corner, place)| corner.x == i64::from(place.0)
+            && corner.y == i64::from(place.1))
+}
+
+#[test]
+fn exports_what_edits_lead_to(rt: HostRuntime) -> Result<(), Fail> {
+    let alloc = rt.alloc();
+    let city = alone(layer(alloc, &[&CITY])?);
+    let clerks = files(alloc, &[FIVE])?;
+    let Ok(exported) = export(&alloc, &city, &parcels(alloc, false)?, Unit::Cm, &clerks) else {
+        return Err(Fail::new("no export"));
+    };
+    let want = format!(in alloc; "{FIVE_TOLD}exported 2\n")?;
+    assert_eq!(rt; exported.lines.as_slice(), want.as_bytes());
+    let index = Some(exported.index.as_slice());
+    let Ok(rings) = read_layer(alloc, &exported.main, index, Unit::Cm) else {
+        return Err(Fail::new("no layer"));
+    };
+    let merged: [Place; 6] = [(0, 0), (30, 0), (60, 0), (60, 100), (30, 100), (0, 100)];
+    assert!(rt; are_at(rings.as_slice(), &[&EAST, &merged]));
+    Ok(())
+}
+
+#[test]
+fn locates_in_what_edits_lead_to(rt: HostRuntime) -> Result<(), Fail> {
+    let alloc = rt.alloc();
+    let city = alone(layer(alloc, &[&CITY])?);
+    let parcels = parcels(alloc, false)?;
+    let clerks = files(alloc, &["merge 1 2"])?;
+    for (text, want) in [
+        (
+            "60 50\n60 0",
+            "clerk 1 line 1 ok 1\n60 50 inside 3\n60 0 edge 3\n",
+        ),
+        ("60 50\n\n60", "points: L1 3"),
+    ] {
+        let mut out = Counted::new(Vec::new(alloc));
+        let answer = locate_text(
+            &alloc,
+            &city,
+            &parcels,
+            Unit::Cm,
+            text.as_bytes(),
+            &clerks,
+            &mut out,
+        );
+        let printed = match answer {
+            Ok(()) => String::from_utf8_lossy(alloc, out.into_inner().as_slice())?,
+            Err(fault) => format!(in alloc; "{fault}")?,
+        };
+        assert_eq!(rt; printed.as_str(), want);
+    }
+    let mut out = Counted::new(Vec::new(alloc));
+    let points = [Corner { x: 60, y: 50 }];
+    let answer = locate(
+        &alloc,
+        &city,
+        &parcels,
+        Unit::Cm,
+        &points,
+        &clerks,
+        &mut out,
+    );
+    assert_eq!(rt; answer, Ok(()));
+    let want = b"clerk 1 line 1 ok 1\n60 50 inside 3\n".as_slice();
+    assert_eq!(rt; out.into_inner().as_slice(), want);
+    Ok(())
+}
+
+#[test]
+fn checks_all_before_the_clerks(rt: HostRuntime) -> Result<(), Fail> {
+    let alloc = rt.alloc();
+    let beyond: [Place; 4] = [(61, 0), (100, 0), (100, 100), (61, 100)];
+    let city = alone(layer(alloc, &[&CITY])?);
+    let gap = alone(layer(alloc, &[&WEST, &beyond])?);
+    let whole = parcels(alloc, false)?;
+    let lines =
+        "edge 60 0 60 100 net 1\nedge 60 0 61 0 net -1\nedge 60 100 61 100 net 1\nedge 61 0 61 100 net -1\n";
+    for (parcels, text, printed, fault) in [
+        (
+            &whole,
+            "merge 1 2",
+            "clerk 1 line 1 ok 1\ntiling 1 20000\n",
+            "",
+        ),
+        (&gap, "x", lines, "parcels: H2 60 0 60 100 net 1"),
+        (&whole, "merge 1 2\nx", "", "clerk 1: L1 2"),
+    ] {
+        let clerks = files(alloc, &[text])?;
+        let mut out = Counted::new(Vec::new(alloc));
+        let told = match check_all(&alloc, &city, parcels, Unit::Cm, &clerks, &mut out) {
+            Ok(()) => String::new(alloc),
+            Err(fault) => format!(in alloc; "{fault}")?,
+        };
+        assert_eq!(rt; told.as_str(), fault);
+        assert_eq!(rt; out.into_inner().as_slice(), printed.as_bytes());
+    }
+    assert_eq!(rt; refuse_many_clerks(8), Ok(()));
+    Ok(())
+}
