@@ -1,8 +1,0 @@
-use Rattle.std.proofs.Common.{◌≡◌, subst, map}
-use Rattle.geo_exact.specs.Layers.{numbered}
-use Rattle.fabric_core.specs.Rows.{Tiles}
-use Rattle.fabric_core.proofs.layer.Layer.shapes.Goals as goal
-
-pub returns : goal.returns
-returns g c =
-    subst (λ (t : Tiles). map (λ shape. numbered shape.0 shape.1.ring.corners) c.shapes.result ≡ t.rows) c.self.view_is c.shapes.ensures
