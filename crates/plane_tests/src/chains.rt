@@ -143,7 +143,7 @@ fn nodes_rings(rt: HostRuntime) -> Result<(), Fail> {
     Ok(())
 }
 
-/// Whether rings are noded first, the rings, of which the last is the city's, and their first unbalanced edge with its count.
+/// Whether rings are noded first, the rings, the last being the city's, and their first unbalanced edge with its count.
 type GapRow = (
     bool,
     &'static [&'static [Place]],

@@ -21,7 +21,7 @@ const WANT: [(Corner, Corner, i64); 4] = [
     (Corner { x: 10, y: -20 }, Corner { x: 10, y: -10 }, 1),
 ];
 
-/// The edges of a square are told, or growth `number` is refused, and then they are told with memory; whether it was refused.
+/// The edges of a square are told, or growth `number` is refused and they are told with memory then; whether it was refused.
 fn is_telling_refused(heap: &Heap, number: u64) -> Result<bool, Fail> {
     let square = rectangle(heap, (0, 10), (-20, -10))?;
     let mut sum = EdgeSum::new(heap);
