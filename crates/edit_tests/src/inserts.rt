@@ -14,8 +14,7 @@ const WEST_BY_NORTH: [Place; 4] = [(60, 100), (0, 100), (0, 0), (60, 0)];
 /// A list that goes along an edge and back.
 const THERE_AND_BACK: [Place; 4] = [(60, 0), (0, 0), (60, 0), (60, 100)];
 
-/// Whether the first corner is kept first, a ring, the last of three corners that is put into the edge between the other two, and the
-/// ring then.
+/// Whether the first corner is kept first, a ring, an edge of it with the corner that is put between its ends, and the ring then.
 type Row = (
     bool,
     &'static [Place],

@@ -155,8 +155,8 @@ fn are_candidates<H: Allocator>(
     Ok(layer.candidates(low, high)?.as_slice() == want.as_slice())
 }
 
-/// Whether fifty corners that are drawn are located where a scan finds them, and the candidates between each and the one before it
-/// are those of a scan.
+/// Whether fifty corners that are drawn are located where a scan finds them, and the candidates between each and the one
+/// before it are those of a scan.
 fn answers_as_a_scan<H: Allocator>(
     heap: &Global,
     layer: &Layer<'_, H>,

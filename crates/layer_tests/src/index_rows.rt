@@ -1,6 +1,6 @@
 //! The worked examples of index files.
 
-use crate::reading::main_fault;
+use crate::reading::{Bytes, main_fault, patch};
 use crate::write_rows::{INDEX, MAIN};
 use geo_exact::Unit;
 use shp_files::{FaultKind, FileFault, FileName, LayerFault, read_layer};
@@ -21,10 +21,6 @@ fn index_fault(position: u32, place: u64, kind: FaultKind) -> Option<LayerFault>
         place,
         kind,
     }))
-}
-
-fn disagreement(position: u32, place: u64) -> Option<LayerFault> {
-    index_fault(position, place, FaultKind::IndexDisagrees)
 }
 
 fn fault_with(alloc: Global, main: &[u8], index: &[u8]) -> Option<LayerFault> {
@@ -60,41 +56,158 @@ fn reads_past_what_is_ignored(rt: HostRuntime) {
     assert!(rt; reads_square(rt.alloc(), &other, &index, 1));
 }
 
+/// Which file a fault is in.
+#[derive(Clone, Copy)]
+enum In {
+    Main,
+    Index,
+}
+
+/// Bytes that are others in the square's main file, and in its index, and the fault then.
+type PatchRow = (Bytes, Bytes, In, u32, u64, FaultKind);
+
+/// The last point, no longer the first.
+const OPEN: [(usize, u8); 2] = [(234, 0x59), (235, 0x40)];
+
+/// The same, in a file that ends a byte pair too early.
+const OPEN_AND_SHORT: [(usize, u8); 3] = [(234, 0x59), (235, 0x40), (27, 119)];
+
+static PATCHES: [PatchRow; 16] = [
+    // offsets and lengths
+    (
+        &[],
+        &[(103, 0x33)],
+        In::Index,
+        1,
+        100,
+        FaultKind::IndexDisagrees,
+    ),
+    (
+        &[],
+        &[(103, 0x64)],
+        In::Index,
+        1,
+        100,
+        FaultKind::IndexDisagrees,
+    ),
+    (
+        &[],
+        &[(100, 0x80)],
+        In::Index,
+        1,
+        100,
+        FaultKind::IndexDisagrees,
+    ),
+    (
+        &[],
+        &[(107, 0x41)],
+        In::Index,
+        1,
+        104,
+        FaultKind::IndexDisagrees,
+    ),
+    (
+        &[],
+        &[(107, 0x44)],
+        In::Index,
+        1,
+        104,
+        FaultKind::IndexDisagrees,
+    ),
+    (
+        &[],
+        &[(104, 0x80)],
+        In::Index,
+        1,
+        104,
+        FaultKind::IndexDisagrees,
+    ),
+    // the header
+    (&[], &[(3, 0x0b)], In::Index, 0, 0, FaultKind::FileCode),
+    (&[], &[(27, 49)], In::Index, 0, 24, FaultKind::Short),
+    (&[], &[(24, 0x80)], In::Index, 0, 24, FaultKind::Short),
+    (&[], &[(28, 0xe9)], In::Index, 0, 28, FaultKind::Version),
+    (&[], &[(32, 0)], In::Index, 0, 32, FaultKind::ShapeType),
+    (&[], &[(32, 3)], In::Index, 0, 32, FaultKind::ShapeType),
+    // the main file is checked first
+    (&[], &[(0, 9)], In::Index, 0, 0, FaultKind::FileCode),
+    (&OPEN, &[(0, 9)], In::Main, 1, 220, FaultKind::NotClosed),
+    (
+        &OPEN_AND_SHORT,
+        &[(0, 9)],
+        In::Main,
+        0,
+        236,
+        FaultKind::Short,
+    ),
+    (
+        &OPEN_AND_SHORT,
+        &[(0, 9), (27, 119)],
+        In::Main,
+        0,
+        236,
+        FaultKind::Short,
+    ),
+];
+
+/// Whether the square and its index have the fault of a row.
+fn is_fault(alloc: Global, row: &PatchRow) -> bool {
+    let mut main = square_file(&ZERO, &HUNDRED);
+    let mut index = index_of_square();
+    patch(&mut main, row.0);
+    patch(&mut index, row.1);
+    let want = match row.2 {
+        In::Main => main_fault(row.3, row.4, row.5),
+        In::Index => index_fault(row.3, row.4, row.5),
+    };
+    fault_with(alloc, &main, &index) == want
+}
+
 #[test]
-fn compares_offsets_and_lengths(rt: HostRuntime) {
-    let main = square_file(&ZERO, &HUNDRED);
-    for (at, byte, place) in [
-        (103usize, 0x33u8, 100u64),
-        (103, 0x64, 100),
-        (100, 0x80, 100),
-        (107, 0x41, 104),
-        (107, 0x44, 104),
-        (104, 0x80, 104),
-    ] {
-        let mut index = index_of_square();
-        put(&mut index, at, &[byte]);
-        assert_eq!(rt;
-            fault_with(rt.alloc(), &main, &index),
-            disagreement(1, place),
-            "at {at}"
-        );
+fn compares_the_index(rt: HostRuntime) {
+    for (number, row) in PATCHES.iter().enumerate() {
+        assert!(rt; is_fault(rt.alloc(), row), "row {number}");
+    }
+}
+
+/// A main file.
+#[derive(Clone, Copy)]
+enum Main {
+    Header,
+    Square,
+    BehindANullShape,
+}
+
+/// A main file, an index of so many words with two index records, and the record and the place where they disagree.
+type IndexRow = (Main, u8, (u8, u8), (u8, u8), u32, u64);
+
+static INDICES: [IndexRow; 8] = [
+    (Main::Header, 54, (50, 64), (0, 0), 1, 100),
+    (Main::Square, 58, (50, 64), (118, 64), 2, 108),
+    (Main::Square, 50, (50, 64), (118, 64), 1, 100),
+    (Main::Square, 52, (50, 64), (118, 64), 1, 100),
+    (Main::BehindANullShape, 54, (50, 2), (56, 64), 2, 108),
+    (Main::BehindANullShape, 56, (50, 2), (56, 64), 2, 108),
+    (Main::BehindANullShape, 58, (50, 2), (52, 64), 2, 108),
+    (Main::BehindANullShape, 58, (50, 2), (56, 68), 2, 112),
+];
+
+/// What a row's files are answered.
+fn fault_of_row(alloc: Global, row: &IndexRow) -> Option<LayerFault> {
+    let index = index_of(row.1, row.2, row.3);
+    match row.0 {
+        Main::Header => fault_with(alloc, &empty_file(), &index),
+        Main::Square => fault_with(alloc, &MAIN, &index),
+        Main::BehindANullShape => fault_with(alloc, &behind_a_null_shape(), &index),
     }
 }
 
 #[test]
 fn counts_the_index_records(rt: HostRuntime) {
-    let index = index_of_square();
-    assert_eq!(rt;
-        fault_with(rt.alloc(), &empty_file(), &index),
-        disagreement(1, 100)
-    );
-    let main = square_file(&ZERO, &HUNDRED);
-    let extra = index_of(58, (50, 64), (118, 64));
-    assert_eq!(rt; fault_with(rt.alloc(), &main, &extra), disagreement(2, 108));
-    let none = index_of(50, (50, 64), (118, 64));
-    assert_eq!(rt; fault_with(rt.alloc(), &main, &none), disagreement(1, 100));
-    let half = index_of(52, (50, 64), (118, 64));
-    assert_eq!(rt; fault_with(rt.alloc(), &main, &half), disagreement(1, 100));
+    for (number, row) in INDICES.iter().enumerate() {
+        let want = index_fault(row.4, row.5, FaultKind::IndexDisagrees);
+        assert_eq!(rt; fault_of_row(rt.alloc(), row), want, "row {number}");
+    }
 }
 
 #[test]
@@ -102,78 +215,16 @@ fn indexes_null_shapes(rt: HostRuntime) {
     let main = behind_a_null_shape();
     let index = index_of(58, (50, 2), (56, 64));
     assert!(rt; reads_square(rt.alloc(), &main, &index, 2));
-    let short = index_of(54, (50, 2), (56, 64));
-    assert_eq!(rt; fault_with(rt.alloc(), &main, &short), disagreement(2, 108));
-    let half = index_of(56, (50, 2), (56, 64));
-    assert_eq!(rt; fault_with(rt.alloc(), &main, &half), disagreement(2, 108));
-    let shifted = index_of(58, (50, 2), (52, 64));
-    assert_eq!(rt;
-        fault_with(rt.alloc(), &main, &shifted),
-        disagreement(2, 108)
-    );
-    let longer = index_of(58, (50, 2), (56, 68));
-    assert_eq!(rt;
-        fault_with(rt.alloc(), &main, &longer),
-        disagreement(2, 112)
-    );
 }
 
 #[test]
 fn refuses_each_cut_of_the_index(rt: HostRuntime) {
-    let main = square_file(&ZERO, &HUNDRED);
     let index = index_of_square();
     for size in 0..108usize {
         assert_eq!(rt;
-            fault_with(rt.alloc(), &main, &index[..size]),
+            fault_with(rt.alloc(), &MAIN, &index[..size]),
             index_fault(0, size as u64, FaultKind::Short),
             "at {size}"
         );
     }
-}
-
-#[test]
-fn checks_the_header_of_the_index(rt: HostRuntime) {
-    let main = square_file(&ZERO, &HUNDRED);
-    for (at, byte, place, kind) in [
-        (3usize, 0x0bu8, 0u64, FaultKind::FileCode),
-        (27, 49, 24, FaultKind::Short),
-        (24, 0x80, 24, FaultKind::Short),
-        (28, 0xe9, 28, FaultKind::Version),
-        (32, 0, 32, FaultKind::ShapeType),
-        (32, 3, 32, FaultKind::ShapeType),
-    ] {
-        let mut index = index_of_square();
-        put(&mut index, at, &[byte]);
-        assert_eq!(rt;
-            fault_with(rt.alloc(), &main, &index),
-            index_fault(0, place, kind),
-            "at {at}"
-        );
-    }
-}
-
-#[test]
-fn checks_the_main_file_first(rt: HostRuntime) {
-    let mut main = square_file(&ZERO, &HUNDRED);
-    let mut index = index_of_square();
-    put(&mut index, 0, &[9]);
-    assert_eq!(rt;
-        fault_with(rt.alloc(), &main, &index),
-        index_fault(0, 0, FaultKind::FileCode)
-    );
-    put(&mut main, 228, &HUNDRED);
-    assert_eq!(rt;
-        fault_with(rt.alloc(), &main, &index),
-        main_fault(1, 220, FaultKind::NotClosed)
-    );
-    put(&mut main, 27, &[119]);
-    assert_eq!(rt;
-        fault_with(rt.alloc(), &main, &index),
-        main_fault(0, 236, FaultKind::Short)
-    );
-    put(&mut index, 27, &[119]);
-    assert_eq!(rt;
-        fault_with(rt.alloc(), &main, &index),
-        main_fault(0, 236, FaultKind::Short)
-    );
 }

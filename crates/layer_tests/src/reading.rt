@@ -145,26 +145,44 @@ fn refuses_each_cut(rt: HostRuntime) {
     }
 }
 
+/// Bytes of a file that are others, each under its place.
+pub type Bytes = &'static [(usize, u8)];
+
+/// Exchanges bytes of a file.
+pub fn patch(file: &mut [u8], bytes: Bytes) {
+    for (at, byte) in bytes {
+        if let Some(place) = file.get_mut(*at) {
+            *place = *byte;
+        }
+    }
+}
+
+/// Bytes that are others in the square's file, and the record's fault then, with its place.
+type PatchRow = (Bytes, u64, FaultKind);
+
+static PATCHES: [PatchRow; 3] = [
+    (&[(144, 2)], 144, FaultKind::Parts),
+    (&[(234, 0xf0), (235, 0x3f)], 220, FaultKind::NotClosed),
+    (
+        &[(162, 0xf0), (163, 0x7f)],
+        156,
+        FaultKind::Coord(CoordFault::NotNumber),
+    ),
+];
+
+/// What the square's file is answered with a row's bytes in it.
+fn fault_of_row(alloc: Global, row: &PatchRow) -> Option<LayerFault> {
+    let mut file = square_file(&ZERO, &HUNDRED);
+    patch(&mut file, row.0);
+    fault_of(alloc, &file)
+}
+
 #[test]
 fn refuses_patches(rt: HostRuntime) {
-    let mut two_parts = square_file(&ZERO, &HUNDRED);
-    put(&mut two_parts, 144, &[2, 0, 0, 0]);
-    assert_eq!(rt;
-        fault_of(rt.alloc(), &two_parts),
-        main_fault(1, 144, FaultKind::Parts)
-    );
-    let mut open = square_file(&ZERO, &HUNDRED);
-    put(&mut open, 228, &[0, 0, 0, 0, 0, 0, 0xf0, 0x3f]);
-    assert_eq!(rt;
-        fault_of(rt.alloc(), &open),
-        main_fault(1, 220, FaultKind::NotClosed)
-    );
-    let mut infinite = square_file(&ZERO, &HUNDRED);
-    put(&mut infinite, 156, &[0, 0, 0, 0, 0, 0, 0xf0, 0x7f]);
-    assert_eq!(rt;
-        fault_of(rt.alloc(), &infinite),
-        main_fault(1, 156, FaultKind::Coord(CoordFault::NotNumber))
-    );
+    for row in &PATCHES {
+        let want = main_fault(1, row.1, row.2);
+        assert_eq!(rt; fault_of_row(rt.alloc(), row), want, "at {}", row.1);
+    }
 }
 
 #[test]

@@ -143,7 +143,7 @@ fn nodes_rings(rt: HostRuntime) -> Result<(), Fail> {
     Ok(())
 }
 
-/// Whether rings are noded first, the rings, of which the last is the city's, and their first unbalanced edge with its count.
+/// Whether rings are noded first, the rings, the last being the city's, and their first unbalanced edge with its count.
 type GapRow = (
     bool,
     &'static [&'static [Place]],
@@ -204,30 +204,58 @@ fn finds_gaps(rt: HostRuntime) -> Result<(), Fail> {
     Ok(())
 }
 
-/// What an edge sum tells: its edges, and the first that is unbalanced.
-fn told(sum: &EdgeSum<Global>) -> (u64, Option<(Corner, Corner, i64)>) {
-    (sum.edges(), sum.first_unbalanced())
+const A: Place = (0, 0);
+
+const B: Place = (5, 0);
+
+const C: Place = (5, 5);
+
+/// Lists of corners, each added to an edge sum or taken from it.
+static STEPS: [(bool, &[Place]); 5] = [
+    (true, &[A, B]),
+    (true, &[C, B, A]),
+    (true, &[C, B, A]),
+    (false, &[B, A, C, C]),
+    (false, &[A, C, B]),
+];
+
+/// So many steps, the edges of the sum then, and the first that is unbalanced.
+type SumRow = (usize, u64, Option<(Place, Place, i64)>);
+
+static SUMS: [SumRow; 5] = [
+    (0, 0, None),
+    (1, 2, None),
+    (3, 8, Some((A, B, -2))),
+    (4, 12, Some((A, B, -1))),
+    (5, 15, None),
+];
+
+/// What an edge sum tells after so many steps.
+fn told(alloc: Global, steps: usize) -> Result<(u64, Option<(Place, Place, i64)>), Fail> {
+    let mut sum = EdgeSum::new(alloc);
+    for (is_added, places) in STEPS.iter().take(steps) {
+        let list = ring(alloc, places)?;
+        if list.len() > LIST_CORNERS || sum.edges() > 1_000_000 {
+            return Err(Fail::new("more edges than can be counted"));
+        }
+        if *is_added {
+            sum.add(list.as_slice())?;
+        } else {
+            sum.take(list.as_slice())?;
+        }
+    }
+    match sum.first_unbalanced() {
+        Some((a, b, net)) => Ok((sum.edges(), Some(((a.x, a.y), (b.x, b.y), net)))),
+        None => Ok((sum.edges(), None)),
+    }
 }
 
 #[test]
 fn counts_edges(rt: HostRuntime) -> Result<(), Fail> {
-    let alloc = rt.alloc();
-    let (a, b, c) = (
-        Corner { x: 0, y: 0 },
-        Corner { x: 5, y: 0 },
-        Corner { x: 5, y: 5 },
-    );
-    let mut sum = EdgeSum::new(alloc);
-    assert_eq!(rt; told(&sum), (0, None));
-    sum.add(&[a, b])?;
-    assert_eq!(rt; told(&sum), (2, None));
-    sum.add(&[c, b, a])?;
-    sum.add(&[c, b, a])?;
-    assert_eq!(rt; told(&sum), (8, Some((a, b, -2))));
-    sum.take(&[b, a, c, c])?;
-    assert_eq!(rt; told(&sum), (12, Some((a, b, -1))));
-    sum.take(&[a, c, b])?;
-    assert_eq!(rt; told(&sum), (15, None));
+    for (steps, edges, unbalanced) in &SUMS {
+        let told = told(rt.alloc(), *steps)?;
+        assert_eq!(rt; told, (*edges, *unbalanced), "after {steps}");
+    }
     Ok(())
 }
 
