@@ -13,7 +13,7 @@ use std::alloc::{AllocError, Global};
 use std::convert::AsStr;
 
 /// What a command line asks for.
-#[derive(Debug, Drop, PartialEq, Eq)]
+#[derive(Debug, Drop)]
 pub enum Request<'a> {
     /// The area of each ring of a layer.
     Area {
@@ -46,7 +46,7 @@ pub enum Request<'a> {
 }
 
 /// What a request about parcels reads.
-#[derive(Debug, Drop, PartialEq, Eq)]
+#[derive(Debug, Drop)]
 pub struct Inputs<'a> {
     /// The path of the main file of the city's layer.
     pub city: &'a str,
@@ -59,7 +59,7 @@ pub struct Inputs<'a> {
 }
 
 /// The points that a command line asks for.
-#[derive(Debug, Drop, PartialEq, Eq)]
+#[derive(Debug, Drop)]
 pub enum Points<'a> {
     /// These.
     At(Corners<Global>),

@@ -1,69 +1,42 @@
-use crate::arguments::{Inputs, Points, Request, parse};
+use crate::arguments::{Points, Request, parse};
 use clap::error::ErrorKind;
 use geo_exact::{Corner, LIMIT, Unit};
-use std::alloc::{AllocError, Global};
 use std::test::Fail;
-
-/// What a request about parcels reads, in centimetres, with clerks' files at these paths.
-fn inputs(alloc: Global, clerks: &'static str) -> Result<Inputs<'static>, AllocError> {
-    let clerks: Vec<&'static str> = clerks.split_whitespace().collect(alloc)?;
-    Ok(Inputs {
-        city: "city.shp",
-        parcels: "parcels.shp",
-        unit: Unit::Cm,
-        clerks,
-    })
-}
 
 #[test]
 fn reads_requests(rt: HostRuntime) -> Result<(), Fail> {
     for (line, want) in [
         (
             "parcel_tool area city.shp --unit cm",
-            Request::Area {
-                main: "city.shp",
-                unit: Unit::Cm,
-            },
+            "Area { main: \"city.shp\", unit: Cm }",
         ),
         (
             "parcel_tool area --unit=m -- --unit",
-            Request::Area {
-                main: "--unit",
-                unit: Unit::M,
-            },
+            "Area { main: \"--unit\", unit: M }",
         ),
         (
-            "parcel_tool check --unit cm city.shp parcels.shp",
-            Request::Check {
-                inputs: inputs(rt.alloc(), "")?,
-                all: false,
-            },
+            "parcel_tool check --unit m a.shp b.shp",
+            "Check { inputs: Inputs { city: \"a.shp\", parcels: \"b.shp\", unit: M, clerks: [] }, all: false }",
         ),
         (
-            "parcel_tool check city.shp --clerk b --all parcels.shp --unit cm --clerk a",
-            Request::Check {
-                inputs: inputs(rt.alloc(), "b a")?,
-                all: true,
-            },
+            "parcel_tool check a --clerk d --all b --unit cm --clerk c",
+            "Check { inputs: Inputs { city: \"a\", parcels: \"b\", unit: Cm, clerks: [\"d\", \"c\"] }, all: true }",
         ),
         (
-            "parcel_tool export city.shp parcels.shp --unit cm --out new/town --clerk -",
-            Request::Export {
-                inputs: inputs(rt.alloc(), "-")?,
-                base: "new/town",
-            },
+            "parcel_tool export a b --unit cm --out new/town --clerk c",
+            "Export { inputs: Inputs { city: \"a\", parcels: \"b\", unit: Cm, clerks: [\"c\"] }, base: \"new/town\" }",
         ),
         (
-            "parcel_tool locate --points - city.shp parcels.shp --unit cm --clerk a --clerk a",
-            Request::Locate {
-                inputs: inputs(rt.alloc(), "a a")?,
-                points: Points::File("-"),
-            },
+            "parcel_tool locate --points - a b --unit m --clerk c --clerk c",
+            "Locate { inputs: Inputs { city: \"a\", parcels: \"b\", unit: M, clerks: [\"c\", \"c\"] }, points: File(\"-\") }",
         ),
     ] {
         let words: Vec<&str> = line.split(' ').collect(rt.alloc())?;
         match parse(rt.alloc(), words.as_slice()) {
-            Ok(request) => assert_eq!(rt; request, want),
+            Ok(request) => {
+                let told = format!(in rt.alloc(); "{request:?}")?;
+                assert_eq!(rt; told.as_str(), want);
+            }
             Err(error) => return Err(Fail::new(error)),
         }
     }
