@@ -249,3 +249,17 @@ pub singles_rise : (parcels : List Zoning) → AscendById parcels → IsStrictly
 singles_rise parcels up =
     subst IsStrictlyIncreasing (sym (firsts (filter (λ (p : Zoning). not p.is_split) parcels)))
     (rising_ids (filter (λ (p : Zoning). not p.is_split) parcels) (AscendById-filter (λ (p : Zoning). not p.is_split) parcels up))
+
+-- ---- the parcels one after the other
+pub next_split : (parcels : List Zoning) (parcel : Zoning) (rest : List Zoning) → parcels ≡ parcel ∷ rest → parcel.is_split ≡ true
+    → split_ids parcels ≡ parcel.id ∷ split_ids rest
+next_split parcels parcel rest e split =
+    ap split_ids e
+    ∙ ap (λ b. map (λ (p : Zoning). p.id) (cond b (parcel ∷ filter (λ (p : Zoning). p.is_split) rest) (filter (λ (p : Zoning). p.is_split) rest))) split
+
+pub next_single : (parcels : List Zoning) (parcel : Zoning) (rest : List Zoning) → parcels ≡ parcel ∷ rest → not parcel.is_split ≡ true
+    → single_zones parcels ≡ (parcel.id, parcel.zone) ∷ single_zones rest
+next_single parcels parcel rest e single =
+    ap single_zones e
+    ∙ ap (λ b. map (λ (p : Zoning). (p.id, p.zone))
+    (cond b (parcel ∷ filter (λ (p : Zoning). not p.is_split) rest) (filter (λ (p : Zoning). not p.is_split) rest))) single

@@ -26,10 +26,25 @@ pub(crate) fn add_line<W: ByteOut>(
     ensures no_failure { OnOk result (W.failure_count out.new ≡ W.failure_count out.old) }
 {
     pending.add(word, out)?;
+    add_numbers(pending, numbers, out)?;
+    pending.add(b"\n", out)
+}
+
+/// Adds numbers, each behind a space.
+fn add_numbers<W: ByteOut>(
+    pending: &mut Pending,
+    numbers: &[u64],
+    out: &mut W,
+) -> Result<(), Failed>
+    ensures ok { OnOk result (Passes (W.written out.old) (W.written out.new) pending.old (flat_map number_text numbers.now) pending.new) }
+    ensures err { OnErr result (AppendsBeginning (W.written out.old) (W.written out.new) (pending.old ++ flat_map number_text numbers.now)) }
+    ensures failed { OnErr result (W.failure_count out.new ≡ raised (W.failure_count out.old)) }
+    ensures no_failure { OnOk result (W.failure_count out.new ≡ W.failure_count out.old) }
+{
     for number in numbers {
         add_number(pending, *number, out)?;
     }
-    pending.add(b"\n", out)
+    Ok(())
 }
 
 /// Adds a number behind a space.
@@ -55,8 +70,8 @@ pub(crate) fn add_pairs<W: ByteOut>(
     ensures failed { OnErr result (W.failure_count out.new ≡ raised (W.failure_count out.old)) }
     ensures no_failure { OnOk result (W.failure_count out.new ≡ W.failure_count out.old) }
 {
-    for (id, zone) in pairs {
-        add_line(pending, b"pair", &[*id, *zone], out)?;
+    for pair in pairs {
+        add_line(pending, b"pair", &[pair.0, pair.1], out)?;
     }
     Ok(())
 }
