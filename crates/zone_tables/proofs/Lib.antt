@@ -1,1 +1,2 @@
 pub mod Zonings
+pub mod Zones
