@@ -12,7 +12,7 @@ use Rattle.fabric_core.proofs.OneParcel.{of_each}
 use Rattle.fabric_core.proofs.RowLists.{AllByRecursion-filter, AllByRecursion-weaker, Contains-kept, Contains-from_kept, Contains-mapped, Contains-from_mapped}
 use Rattle.zone_tables.specs.declared.zoning.Zoning.{Zoning}
 use Rattle.zone_tables.specs.Overlap.{IsPairBefore, AreInPairOrder}
-use Rattle.zone_tables.specs.own.Zonings.{behind, with_pair, zonings, split_ids, single_zones}
+use Rattle.zone_tables.specs.own.Zonings.{behind, with_pair, zonings, split_ids, single_zones, IsFrom, IsOnlyZone}
 
 abbrev zoning : ℕ → ℕ → Bool → Zoning
 zoning id zone is_split = record { id = id; zone = zone; is_split = is_split }
@@ -153,16 +153,12 @@ zonings_told (pair ∷ pairs) up = told_pair pair pairs (zonings pairs) up.0 (zo
 abbrev pub HasTwo : List (ℕ × ℕ) → ℕ → Type 0
 HasTwo pairs id = (zone : ℕ) × (other : ℕ) × (zone ≢ other) × Contains pairs (id, zone) × Contains pairs (id, other)
 
--- the pairs have this zone of the parcel, and no other
-abbrev pub HasOne : List (ℕ × ℕ) → ℕ → ℕ → Type 0
-HasOne pairs id zone = Contains pairs (id, zone) × ((other : ℕ) → Contains pairs (id, other) → other ≡ zone)
-
 two_zones : (pairs : List (ℕ × ℕ)) (parcel : Zoning) (id : ℕ) → IsTold pairs parcel → parcel.id ≡ id → parcel.is_split ≡ true → HasTwo pairs id
 two_zones pairs parcel id h e split =
     let m = h.more split in (parcel.zone, m.0, m.1, subst (λ n. Contains pairs (n, parcel.zone)) e h.here, subst (λ n. Contains pairs (n, m.0)) e m.2)
 
-one_zone : (pairs : List (ℕ × ℕ)) (parcel : Zoning) (id : ℕ) → IsTold pairs parcel → parcel.id ≡ id → parcel.is_split ≡ false
-    → HasOne pairs id parcel.zone
+pub one_zone : (pairs : List (ℕ × ℕ)) (parcel : Zoning) (id : ℕ) → IsTold pairs parcel → parcel.id ≡ id → parcel.is_split ≡ false
+    → IsOnlyZone pairs id parcel.zone
 one_zone pairs parcel id h e single =
     (subst (λ n. Contains pairs (n, parcel.zone)) e h.here, λ other c. h.alone single other (subst (λ n. Contains pairs (n, other)) (sym e) c))
 
@@ -172,7 +168,7 @@ is_split_of_two pairs parcel id h e two =
     ⊎_elim (λ yes. yes)
     (λ no. let one = one_zone pairs parcel id h e no in absurd (two.2 (one.1 two.0 two.3 ∙ sym (one.1 two.1 two.4)))) (cases_Bool parcel.is_split)
 
-single_of_one : (pairs : List (ℕ × ℕ)) (parcel : Zoning) (id zone : ℕ) → IsTold pairs parcel → parcel.id ≡ id → HasOne pairs id zone
+pub single_of_one : (pairs : List (ℕ × ℕ)) (parcel : Zoning) (id zone : ℕ) → IsTold pairs parcel → parcel.id ≡ id → IsOnlyZone pairs id zone
     → (parcel.is_split ≡ false) × (parcel.zone ≡ zone)
 single_of_one pairs parcel id zone h e one =
     let same : parcel.zone ≡ zone = one.1 parcel.zone (subst (λ n. Contains pairs (n, parcel.zone)) e h.here) in
@@ -195,11 +191,11 @@ module _ (pairs : List (ℕ × ℕ)) (parcels : List Zoning) (told : AreTold pai
         (Contains-kept (λ (p : Zoning). p.is_split) parcels w.0 w.1 s))),
   )
 
-  pub single_exactly : (id zone : ℕ) → Contains (single_zones parcels) (id, zone) ↔ HasOne pairs id zone
+  pub single_exactly : (id zone : ℕ) → Contains (single_zones parcels) (id, zone) ↔ IsOnlyZone pairs id zone
   single_exactly id zone = (
     (λ c. let m = Contains-from_mapped (λ (p : Zoning). (p.id, p.zone)) (filter (λ (p : Zoning). not p.is_split) parcels) (id, zone) c in
         let k = Contains-from_kept (λ (p : Zoning). not p.is_split) parcels m.0 m.1 in
-        subst (HasOne pairs id) (ap (λ (p : ℕ × ℕ). p.1) m.2)
+        subst (IsOnlyZone pairs id) (ap (λ (p : ℕ × ℕ). p.1) m.2)
         (one_zone pairs m.0 id (told.each m.0 k.0) (ap (λ (p : ℕ × ℕ). p.0) m.2) (not-true m.0.is_split k.1))),
     (λ one. let w = told.all id zone one.0 in
         let s = single_of_one pairs w.0 id zone (told.each w.0 w.1) w.2 one in
