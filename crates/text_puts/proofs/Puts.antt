@@ -104,15 +104,20 @@ begins_later old mid new p q xs ys h k =
 pub begins_before : (old new : Option (List ℕ)) (p xs ys : List ℕ) → AppendsBeginning old new (p ++ xs) → AppendsBeginning old new (p ++ (xs ++ ys))
 begins_before old new p xs ys h = subst (AppendsBeginning old new) (append_assoc p xs ys) (begins_more old new (p ++ xs) ys h)
 
--- a text that passed, of which the end goes out
-pub all_passed : (old mid new : Option (List ℕ)) (q xs : List ℕ) → Passes old mid [] xs q → Appends mid new q → Appends old new xs
-all_passed old mid new q xs h k =
-    subst (Appends old new) (sym h.are_all) (Appends-trans old mid new h.sent q h.is_written k)
+-- a text that passed behind nothing, of which the end goes out
+pub all_passed : (old mid new : Option (List ℕ)) (p q xs : List ℕ) → p ≡ [] → Passes old mid p xs q → Appends mid new q → Appends old new xs
+all_passed old mid new p q xs none h k =
+    subst (Appends old new) (sym h.are_all ∙ ap (λ t. t ++ xs) none) (Appends-trans old mid new h.sent q h.is_written k)
 
--- or a beginning of it
-pub beginning_passed : (old mid new : Option (List ℕ)) (q xs : List ℕ) → Passes old mid [] xs q → AppendsBeginning mid new q → AppendsBeginning old new xs
-beginning_passed old mid new q xs h k =
-    subst (AppendsBeginning old new) (sym h.are_all) (begins_behind old mid new h.sent q h.is_written k)
+-- or a beginning of its end
+pub beginning_passed : (old mid new : Option (List ℕ)) (p q xs : List ℕ) → p ≡ [] → Passes old mid p xs q → AppendsBeginning mid new q
+    → AppendsBeginning old new xs
+beginning_passed old mid new p q xs none h k =
+    subst (AppendsBeginning old new) (sym h.are_all ∙ ap (λ t. t ++ xs) none) (begins_behind old mid new h.sent q h.is_written k)
+
+-- a beginning of a text behind nothing
+pub begins_alone : (old new : Option (List ℕ)) (p xs : List ℕ) → p ≡ [] → AppendsBeginning old new (p ++ xs) → AppendsBeginning old new xs
+begins_alone old new p xs none h = subst (AppendsBeginning old new) (ap (λ t. t ++ xs) none) h
 
 -- ---- a text that passes piece by piece
 -- of the whole text a part has passed, and this is left

@@ -1,5 +1,5 @@
 -- What the pairs of a table tell of its parcels: which are split by zones, and within which zone each other one is.
-use Rattle.std.proofs.Common.{◌≡◌, ◌⊎◌, inl, inr, ⊎_elim, refl, ap, subst, ℕ, List, [], ◌∷◌, ◌++◌, map, flat_map}
+use Rattle.std.proofs.Common.{◌≡◌, ◌⊎◌, inl, inr, ⊎_elim, refl, sym, ◌∙◌, ap, subst, ℕ, List, map}
 use Rattle.std.specs.Prelude.{◌↔◌}
 use Rattle.std.specs.List.{Contains}
 use Rattle.std.specs.List.Sorted.{IsStrictlyIncreasing}
@@ -11,8 +11,9 @@ use Rattle.fabric_core.specs.Faults.{AreSimple}
 use Rattle.fabric_core.proofs.RowLists.{Contains-mapped}
 use Rattle.zone_tables.specs.Overlap.{Overlay, Overlaps, OverlapsAlone, IsOverlapTable, IsSplitZoned, AreSplitZoned}
 use Rattle.zone_tables.specs.Within.{IsWithinZone}
-use Rattle.zone_tables.specs.Report.{entries_line, pair_line, split_line, within_line, AreWithinZones, IsReport}
+use Rattle.zone_tables.specs.Report.{AreWithinZones, IsReport}
 use Rattle.zone_tables.specs.own.Zonings.{zonings, split_ids, single_zones, IsOnlyZone}
+use Rattle.zone_tables.specs.own.Texts.{report_text}
 use Rattle.zone_tables.proofs.Zones.{overlaps_some, within_its_only, overlaps_alone}
 use Rattle.zone_tables.proofs.Zonings.{AreTold, HasTwo, zonings_told, split_exactly, single_exactly, split_or_single, splits_rise, singles_rise}
 
@@ -91,12 +92,7 @@ module _ (rows zones : List NumberedRing) (city : List Corner) (pairs : List (�
       (λ h. inr (Contains-mapped (λ (p : ℕ × ℕ). p.0) (single_zones (zonings pairs)) (id, h.0) h.1))
       (split_or_single pairs (zonings pairs) are_told id w.0 ((stands.table.exactly id w.0).1 w.1))
 
-  -- the text of a report
-  abbrev pub report_text : ℕ → List ℕ
-  report_text entries =
-      entries_line entries ++ flat_map pair_line pairs ++ flat_map split_line (split_ids (zonings pairs)) ++ flat_map within_line (single_zones (zonings pairs))
-
-  pub is_report : (entries : ℕ) → IsReport (record { rows = rows; zones = zones; city = city; pairs = pairs; entries = entries }) (report_text entries)
+  pub is_report : (entries : ℕ) → IsReport (record { rows = rows; zones = zones; city = city; pairs = pairs; entries = entries }) (report_text entries pairs)
   is_report entries = record {
     splits = split_ids (zonings pairs);
     are_split = are_split rows zones pairs stands.table;
@@ -105,3 +101,13 @@ module _ (rows zones : List NumberedRing) (city : List Corner) (pairs : List (�
     each_is_told = each_told;
     is_text = refl;
   }
+
+-- the text that is made of a table's pairs and count is its report
+pub table_report : (table : Overlay) (entries : ℕ) (pairs : List (ℕ × ℕ)) → IsOverlapTable table.rows table.zones table.pairs
+    → IsTiling table.rows table.city → IsTiling table.zones table.city → AreSimple table.rows
+    → IsStrictlyIncreasing (numbers table.rows) → IsStrictlyIncreasing (numbers table.zones)
+    → entries ≡ table.entries → pairs ≡ table.pairs → IsReport table (report_text entries pairs)
+table_report table entries pairs are_all tiling zones_tile simple ids_rise zones_rise e s =
+    subst (IsReport table) (ap (λ n. report_text n table.pairs) (sym e) ∙ ap (report_text entries) (sym s))
+    (is_report table.rows table.zones table.city table.pairs
+    (record { table = are_all; tiling = tiling; zones_tile = zones_tile; simple = simple; ids_rise = ids_rise; zones_rise = zones_rise }) table.entries)
