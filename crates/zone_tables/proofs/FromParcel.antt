@@ -104,8 +104,7 @@ module _ (id : ℕ) (pairs rest : List (ℕ × ℕ)) (from : IsFrom id pairs res
 
       pub first_is_only : (zone : ℕ) → IsOnlyZone pairs id zone ↔ ((parcel.id ≡ id) × (parcel.is_split ≡ false) × (parcel.zone ≡ zone))
       first_is_only zone =
-          let each = (subst (λ all. AreTold rest all) are told).each parcel (Contains-here parcel others) in
-          (
+          let each = (subst (λ all. AreTold rest all) are told).each parcel (Contains-here parcel others) in (
             (λ h. let only = (same_only zone).0 h in
                 let w = told.all id zone only.0 in
                 let same : parcel ≡ w.0 = first_of_id w.0 (subst (λ all. Contains all w.0) are w.1) w.2 in

@@ -53,9 +53,9 @@ module _ (rows zones : List NumberedRing) (pairs : List (ℕ × ℕ)) (table : I
   are_split = record {
     ascend = splits_rise (zonings pairs) told.up;
     exactly = λ id. (
-        (λ c. (two_are_split id).0 ((split_exactly pairs (zonings pairs) told id).0 c)),
-        (λ h. (split_exactly pairs (zonings pairs) told id).1 ((two_are_split id).1 h)),
-      );
+      (λ c. (two_are_split id).0 ((split_exactly pairs (zonings pairs) told id).0 c)),
+      (λ h. (split_exactly pairs (zonings pairs) told id).1 ((two_are_split id).1 h)),
+    );
   }
 
 module _ (rows zones : List NumberedRing) (city : List Corner) (pairs : List (ℕ × ℕ)) (stands : Stands rows zones city pairs) where
@@ -80,9 +80,9 @@ module _ (rows zones : List NumberedRing) (city : List Corner) (pairs : List (�
   are_within = record {
     ascend = singles_rise (zonings pairs) are_told.up;
     exactly = λ id zone. (
-        (λ c. (only_is_within id zone).0 ((single_exactly pairs (zonings pairs) are_told id zone).0 c)),
-        (λ h. (single_exactly pairs (zonings pairs) are_told id zone).1 ((only_is_within id zone).1 h)),
-      );
+      (λ c. (only_is_within id zone).0 ((single_exactly pairs (zonings pairs) are_told id zone).0 c)),
+      (λ h. (single_exactly pairs (zonings pairs) are_told id zone).1 ((only_is_within id zone).1 h)),
+    );
   }
 
   each_told : (id : ℕ) → Contains (numbers rows) id → Contains (split_ids (zonings pairs)) id ⊎ Contains (map (λ (p : ℕ × ℕ). p.0) (single_zones (zonings pairs))) id

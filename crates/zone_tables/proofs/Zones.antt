@@ -85,7 +85,8 @@ module _ (rows zones : List NumberedRing) (city : List Corner) (tiling : IsTilin
         is_zone = in_the_row (moved p) zones one;
         has_zone = refl;
         interiors_meet = (
-          moved p, moved_interior row.corners p i,
+          moved p,
+          moved_interior row.corners p i,
           record { off_edges = moved_off_some (edges one.row.corners) p; is_wound = wound_once (moved p) one },
         );
       }

@@ -171,10 +171,9 @@ is_split_of_two pairs parcel id h e two =
 pub single_of_one : (pairs : List (ℕ × ℕ)) (parcel : Zoning) (id zone : ℕ) → IsTold pairs parcel → parcel.id ≡ id → IsOnlyZone pairs id zone
     → (parcel.is_split ≡ false) × (parcel.zone ≡ zone)
 single_of_one pairs parcel id zone h e one =
-    let same : parcel.zone ≡ zone = one.1 parcel.zone (subst (λ n. Contains pairs (n, parcel.zone)) e h.here) in
-    (
+    let same : parcel.zone ≡ zone = one.1 parcel.zone (subst (λ n. Contains pairs (n, parcel.zone)) e h.here) in (
       ⊎_elim (λ yes. let m = h.more yes in absurd (m.1 (same ∙ sym (one.1 m.0 (subst (λ n. Contains pairs (n, m.0)) e m.2)))))
-      (λ no. no) (cases_Bool parcel.is_split),
+          (λ no. no) (cases_Bool parcel.is_split),
       same,
     )
 
