@@ -32,13 +32,13 @@ abbrev whole_turn : Expr
 whole_turn = turn_expr (var 0) (var 1) (var 2) (var 3) (var 4) (var 5)
 
 module _ (a b c : Corner) where
-  first_turn : turn_at a b (centre a b c) ≡ turn a b c
+  pub first_turn : turn_at a b (centre a b c) ≡ turn a b c
   first_turn = same_by (a.x ∷ a.y ∷ b.x ∷ b.y ∷ c.x ∷ c.y ∷ []) (at_centre (var 0) (var 1) (var 2) (var 3)) whole_turn refl
 
-  second_turn : turn_at b c (centre a b c) ≡ turn a b c
+  pub second_turn : turn_at b c (centre a b c) ≡ turn a b c
   second_turn = same_by (a.x ∷ a.y ∷ b.x ∷ b.y ∷ c.x ∷ c.y ∷ []) (at_centre (var 2) (var 3) (var 4) (var 5)) whole_turn refl
 
-  third_turn : turn_at c a (centre a b c) ≡ turn a b c
+  pub third_turn : turn_at c a (centre a b c) ≡ turn a b c
   third_turn = same_by (a.x ∷ a.y ∷ b.x ∷ b.y ∷ c.x ∷ c.y ∷ []) (at_centre (var 4) (var 5) (var 0) (var 1)) whole_turn refl
 
   pub centre_inside : pos 0 <ℤ turn a b c → IsInterior (centre a b c) (a ∷ b ∷ c ∷ [])

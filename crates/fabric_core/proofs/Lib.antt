@@ -40,3 +40,6 @@ pub mod Booked
 pub mod Drafts
 pub mod Copied
 pub mod InnerPoints
+pub mod NearPlaces
+pub mod OneRow
+pub mod OnOneOnly

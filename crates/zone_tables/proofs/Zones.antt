@@ -21,54 +21,23 @@ use Rattle.fabric_core.specs.Rows.{numbers}
 use Rattle.fabric_core.specs.Tiling.{IsTiling, IsOffEdges, IsInNone, IsInOne}
 use Rattle.fabric_core.specs.Faults.{AreSimple}
 use Rattle.fabric_core.proofs.OneParcel.{of_each}
+use Rattle.fabric_core.proofs.OneRow.{in_city, in_the_row, is_the_row, moved_off}
 use Rattle.fabric_core.proofs.RowLists.{ascending, same_row, has_row}
 use Rattle.fabric_core.proofs.InnerPoints.{inner_point}
 use Rattle.zone_tables.specs.Overlap.{Overlaps, OverlapsAlone, IsSplitZoned}
 use Rattle.zone_tables.specs.Within.{IsOffZones, IsWithin, IsWithinZone}
 
 -- ---- points that are moved
-moved_off : (rows : List NumberedRing) (city : List Corner) (p : Point) → IsOffEdges (moved p) rows city
-moved_off rows city p = record {
-  off_city = moved_off_some (edges city) p;
-  off_rows = all_from_contains (λ (row : NumberedRing). ¬ IsOnRing (moved p) row.corners) rows (λ row c. moved_off_some (edges row.corners) p);
-}
-
 -- a ring that goes round the moved point, and does not have the point itself on an edge, has it inside
 moved_back : (p : Point) (ring : List Corner) → ¬ IsOnRing p ring → pos 1 ≤ℤ winding (moved p) ring → IsInterior p ring
 moved_back p ring off h = record { off_edges = off; is_wound = rw (← moved_winding ring p) h }
 
--- ---- one row of a tiling
-in_the_row : (p : Point) (rows : List NumberedRing) (one : IsInOne p rows) → Contains rows one.row
-in_the_row p rows one =
-    subst (λ all. Contains all one.row) (sym one.are_all)
-    (Contains-append_right one.before (one.row ∷ one.behind) one.row (Contains-here one.row one.behind))
-
-not_in_none : (p : Point) (rows : List NumberedRing) (row : NumberedRing) → IsInNone p rows → Contains rows row → ¬ IsInterior p row.corners
-not_in_none p rows row none c i =
-    let zero : winding p row.corners ≡ pos 0 = of_each (λ (r : NumberedRing). winding p r.corners ≡ pos 0) rows row none c in
-    let some : pos 1 ≤ℤ winding p row.corners = i.is_wound in omega (arith, ints, zero, some)
-
--- a row with the point inside is the one row that it is in
-is_the_row : (p : Point) (rows : List NumberedRing) (one : IsInOne p rows) (row : NumberedRing) → Contains rows row → IsInterior p row.corners
-    → row ≡ one.row
-is_the_row p rows one row c i = ⊎_elim
-    (λ before. absurd (not_in_none p one.before row one.none_before before i))
-    (λ rest. ⊎_elim (λ e. sym e) (λ behind. absurd (not_in_none p one.behind row one.none_behind behind i)) (Contains-cases one.row one.behind row rest))
-    (Contains-append_cases one.before (one.row ∷ one.behind) row (subst (λ all. Contains all row) one.are_all c))
-
 -- a point inside a parcel and off all edges is in the city, and so in one row of any tiling of it
 module _ (rows zones : List NumberedRing) (city : List Corner) (tiling : IsTiling rows city) (others : IsTiling zones city) where
-  in_city : (p : Point) (row : NumberedRing) → Contains rows row → IsInterior p row.corners → IsOffEdges p rows city → IsInterior p city
-  in_city p row c i off =
-      by_lt_z (pos 0) (winding p city)
-      (λ some. record { off_edges = off.off_city; is_wound = omega (arith, ints, some) })
-      (λ none. absurd (not_in_none p rows row
-      (tiling.outside p off (λ inner. let w : pos 1 ≤ℤ winding p city = inner.is_wound in omega (arith, ints, w, none))).1 c i))
-
   in_one_zone : (p : Point) (row : NumberedRing) → Contains rows row → IsInterior p row.corners → IsInOne (moved p) zones
   in_one_zone p row c i =
       (others.inside (moved p) (moved_off zones city p)
-      (in_city (moved p) row c (moved_interior row.corners p i) (moved_off rows city p))).1
+      (in_city rows city tiling (moved p) row c (moved_interior row.corners p i) (moved_off rows city p))).1
 
   wound_once : (q : Point) (one : IsInOne q zones) → pos 1 ≤ℤ winding q one.row.corners
   wound_once q one = let w : winding q one.row.corners ≡ pos 1 = one.is_in_row in omega (arith, ints, w)

@@ -34,12 +34,12 @@ static ZONES: [[&[Place]; 2]; 3] = [
 /// The zones of both halves of the square.
 pub static HALVES: [&[Place]; 2] = [&WEST_HALF, &EAST_HALF];
 
-/// What a table tells: its pairs, the split-zoned parcels, and for the ids 1 to 3 the zone that a parcel is within, and 0 where it is
-/// within none.
+/// What a table tells: its pairs, the split-zoned parcels, the zone that each id's parcel is within, 0 where it is within none, and
+/// the report.
 struct Told {
     pairs: &'static [(u64, u64)],
     split: &'static [u64],
-    zones: [u64; 3],
+    zones: &'static [(u64, u64)],
     report: &'static str,
 }
 
@@ -47,24 +47,49 @@ static TOLD: [Told; 3] = [
     Told {
         pairs: &[(1, 1), (1, 2), (2, 2)],
         split: &[1],
-        zones: [0, 2, 0],
+        zones: &[(1, 0), (2, 2), (3, 0)],
         report: "entries 0\npair 1 1\npair 1 2\npair 2 2\nsplit 1\nwithin 2 2\n",
     },
     Told {
         pairs: &[(1, 1), (2, 2)],
         split: &[],
-        zones: [1, 2, 0],
+        zones: &[(1, 1), (2, 2), (3, 0)],
         report: "entries 0\npair 1 1\npair 2 2\nwithin 1 1\nwithin 2 2\n",
     },
     Told {
         pairs: &[(1, 1), (2, 1), (2, 2)],
         split: &[2],
-        zones: [1, 0, 0],
+        zones: &[(1, 1), (2, 0), (3, 0)],
         report: "entries 0\npair 1 1\npair 2 1\npair 2 2\nsplit 2\nwithin 1 1\n",
     },
 ];
 
-/// Whether the table of these parcels and zones tells this.
+/// Whether the parcels with these ids are within these zones; 0 is none.
+fn are_within<H: Allocator, A: Allocator>(
+    table: &Table<'_, '_, H, A>,
+    zones: &[(u64, u64)],
+) -> bool {
+    for (id, zone) in zones {
+        if table.within(*id).unwrap_or(0) != *zone {
+            return false;
+        }
+    }
+    true
+}
+
+/// Whether a table of no entries tells this.
+fn tells<H: Allocator, A: Allocator + Copy>(
+    table: &Table<'_, '_, H, A>,
+    told: &Told,
+) -> Result<bool, Fail> {
+    let split = table.split_zoned()?;
+    Ok(table.entries() == 0
+        && table.pairs() == told.pairs
+        && split.as_slice() == told.split
+        && are_within(table, told.zones))
+}
+
+/// Whether the table of these parcels and zones tells this, and so does its report.
 fn is_told<H: Allocator>(
     heap: &H,
     parcels: &[&[Place]],
@@ -75,13 +100,8 @@ fn is_told<H: Allocator>(
     let zones = layer(heap, zones)?;
     let pairs = all_pairs(heap, &sheet, &zones)?;
     let table = Table::gather(&sheet, &zones, pairs);
-    let mut same = table.pairs() == told.pairs && table.entries() == 0;
-    same = same && table.split_zoned()?.as_slice() == told.split;
-    for (id, zone) in (1..).zip(told.zones) {
-        same = same && table.within(id).unwrap_or(0) == zone;
-    }
     let text = report_of(heap, &table)?;
-    Ok(same && text.as_slice() == told.report.as_bytes())
+    Ok(tells(&table, told)? && text.as_slice() == told.report.as_bytes())
 }
 
 #[test]
