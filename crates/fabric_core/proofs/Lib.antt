@@ -39,3 +39,7 @@ pub mod Made
 pub mod Booked
 pub mod Drafts
 pub mod Copied
+pub mod InnerPoints
+pub mod NearPlaces
+pub mod OneRow
+pub mod OnOneOnly

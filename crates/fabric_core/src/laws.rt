@@ -1,4 +1,4 @@
-ghost use Rattle.std.specs.Prelude.{◌≡◌, ◌≢◌, ◌↔◌, pos, List, ◌∷◌, [], ◌++◌};
+ghost use Rattle.std.specs.Prelude.{◌≡◌, ◌≢◌, ◌↔◌, ℕ, pos, List, ◌∷◌, [], ◌++◌};
 ghost use Rattle.std.specs.List.{AllByRecursion};
 ghost use Rattle.geo_exact.specs.declared.corner.Corner.{Corner};
 ghost use Rattle.geo_exact.specs.Point.{Point};
@@ -12,7 +12,8 @@ ghost use Rattle.edge_chains.specs.Net.{net_count};
 ghost use Rattle.edge_chains.specs.Noding.{IsNoded, AreFullyNoded};
 ghost use Rattle.edge_chains.specs.Jump.{net_difference};
 ghost use Rattle.fabric_core.specs.Tiling.{corner_lists, IsTiling, IsWoundAtMostOnce, IsOffEdges};
-ghost use Rattle.fabric_core.specs.Locate.{IsInsideOneOnly};
+ghost use Rattle.fabric_core.specs.Faults.{AreSimple};
+ghost use Rattle.fabric_core.specs.Locate.{IsInsideOf, IsInsideOneOnly, IsOnEdgeOf};
 ghost use Rattle.fabric_core.specs.Rows.{AreRefined, IsUntiledBeside};
 
 /// Rows that are made up of counterclockwise triangles, and have the net edges of a city that goes round no place twice, tile the
@@ -55,4 +56,18 @@ pub fn a_refined_city_keeps_its_ground()
 pub fn a_place_off_all_edges_is_inside_one_parcel()
     ensures { (rows : List NumberedRing) (city : List Corner) (p : Point) → IsTiling rows city → IsOffEdges p rows city
         → IsInterior p city → IsInsideOneOnly rows p }
+{}
+
+/// In a tiling of simple rings, what is inside one parcel is on no edge of a parcel and inside no other, and the city goes round it
+/// once. So a search for where a place lies may end at the first parcel that has it inside.
+///
+/// An edge that the place lies on is that of a parcel's triangle, and from there a little way towards the triangle's centre are places
+/// inside both parcels. But off all edges a place is in one parcel alone.
+pub fn what_is_inside_a_parcel_is_in_no_other()
+    ensures edges { (rows : List NumberedRing) (city : List Corner) (p : Point) (id other : ℕ) → AreSimple rows → IsTiling rows city
+        → IsInsideOf rows p id → ¬ IsOnEdgeOf rows p other }
+    ensures others { (rows : List NumberedRing) (city : List Corner) (p : Point) (id other : ℕ) → AreSimple rows → IsTiling rows city
+        → IsInsideOf rows p id → IsInsideOf rows p other → other ≡ id }
+    ensures city { (rows : List NumberedRing) (city : List Corner) (p : Point) (id : ℕ) → AreSimple rows → IsTiling rows city
+        → IsInsideOf rows p id → winding p city ≡ pos 1 }
 {}

@@ -55,6 +55,17 @@ split_all : {X : Type 0} (P : X → Type 0) (xs : List X) (y : X) → AllByRecur
 split_all P [] y h = (tt, h.0)
 split_all P (x ∷ xs) y h = ((h.0, (split_all P xs y h.1).0), (split_all P xs y h.1).1)
 
+-- three corners that are left, of which the least turns left, have none that is flat
+pub not_flat : (rest : List Corner) (v k : ℕ) → length rest ≡ 3 → IsLeftAtLeast rest v → k < length rest → IsFlat rest k → ⊥
+not_flat rest v k three left b on =
+    positive_not_zero (turn (previous rest k) (corner_at rest k) (next rest k))
+    (subst (λ z. pos 0 <ℤ z)
+    (turns_alike rest v three (subst (λ n. v < n) three left.below) ∙ sym (turns_alike rest k three (subst (λ n. k < n) three b))) left.turns_left)
+    (flat_turn (previous rest k) (next rest k) (corner_at rest k) (corner_on_line (previous rest k) (next rest k) (corner_at rest k) on))
+  where
+    flat_turn : (a b c : Corner) → turn a b c ≡ pos 0 → turn a c b ≡ pos 0
+    flat_turn a b c e = omega (arith, ints, turn_cycle a c b, turn_cycle c b a, turn_swap a b c, e)
+
 module _ (box : Bounds) where
   -- the box holds the ring's corners, by their numbers
   abbrev pub AreHeld : List Corner → Type 0
@@ -126,16 +137,6 @@ module _ (box : Bounds) where
   ring_held ring _ _ (ear {ts = ts} {rest = rest} k t c l none f s) all held =
       ring_held ring ts rest c (split_all (HoldsTriangle box) ts t all).0
       (put_back rest k f.below held (subst (HoldsCorner box) s.b (split_all (HoldsTriangle box) ts t all).1.b))
-
-  not_flat : (rest : List Corner) (v k : ℕ) → length rest ≡ 3 → IsLeftAtLeast rest v → k < length rest → IsFlat rest k → ⊥
-  not_flat rest v k three left b on =
-      positive_not_zero (turn (previous rest k) (corner_at rest k) (next rest k))
-      (subst (λ z. pos 0 <ℤ z)
-      (turns_alike rest v three (subst (λ n. v < n) three left.below) ∙ sym (turns_alike rest k three (subst (λ n. k < n) three b))) left.turns_left)
-      (flat_turn (previous rest k) (next rest k) (corner_at rest k) (corner_on_line (previous rest k) (next rest k) (corner_at rest k) on))
-    where
-      flat_turn : (a b c : Corner) → turn a b c ≡ pos 0 → turn a c b ≡ pos 0
-      flat_turn a b c e = omega (arith, ints, turn_cycle a c b, turn_cycle c b a, turn_swap a b c, e)
 
   -- the last two corners are those of a triangle, since three corners that are left have an area
   two_held : (ring : List Corner) → IsSimpleRing ring → (ts : List Tri) (rest : List Corner) → Clips ring ts rest → length rest ≡ 2

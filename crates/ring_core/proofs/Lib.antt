@@ -41,3 +41,4 @@ pub mod CornersInBoxes
 pub mod LeastBoxes
 pub mod TwoEars
 pub mod WholeClipping
+pub mod OnTriangles

@@ -79,7 +79,7 @@ point_of_pair (t ∷ ts) us (inr h) = let w = point_of_pair ts us h in (w.0, w.1
 inside_of_ring : (p : Point) (ring : List Corner) (ts : List Tri) → MakeUp ts ring → IsInterior p ring → IsOffEdges p → InSome p ts
 inside_of_ring p ring ts m i off = in_some p off ts (rw (← m.windings p) i.is_wound)
 
-ring_inside : (p : Point) (ring : List Corner) (ts : List Tri) → MakeUp ts ring → InSome p ts → IsOffEdges p → IsInterior p ring
+pub ring_inside : (p : Point) (ring : List Corner) (ts : List Tri) → MakeUp ts ring → InSome p ts → IsOffEdges p → IsInterior p ring
 ring_inside p ring ts m i off = record { off_edges = off (edges ring); is_wound = rw (m.windings p) (wound_in_some p ts i) }
 
 pub pair_of_rings : (r s : List Corner) (ts us : List Tri) → MakeUp ts r → MakeUp us s → InteriorsMeet r s → SomePairMeets ts us
