@@ -83,10 +83,12 @@ fn tells<H: Allocator, A: Allocator + Copy>(
     told: &Told,
 ) -> Result<bool, Fail> {
     let split = table.split_zoned()?;
-    Ok(table.entries() == 0
-        && table.pairs() == told.pairs
-        && split.as_slice() == told.split
-        && are_within(table, told.zones))
+    Ok(
+        table.entries() == 0
+            && table.pairs() == told.pairs
+            && split.as_slice() == told.split
+            && are_within(table, told.zones),
+    )
 }
 
 /// Whether the table of these parcels and zones tells this, and so does its report.

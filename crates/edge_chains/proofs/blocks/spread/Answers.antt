@@ -14,10 +14,10 @@ returns g c =
     let listed = c.in_ok-spread.ensures in
     let began : map (λ it. it.corner) c.in_ok-placed.placed.items ≡ c.args.corners.now = c.in_ok-placed.ensures in
     let moved : IsPermutation c.args.corners.now c.in_ok-spread.spread.items =
-        subst (λ xs. IsPermutation xs c.in_ok-spread.spread.items) began
-            (subst (IsPermutation (map (λ it. it.corner) c.in_ok-placed.placed.items)) (sym listed)
-                (IsPermutation-map (λ it. it.corner) c.in_ok-placed.placed.items c.deref.result.now
-                    (subst (IsPermutation c.in_ok-placed.placed.items) (sym c.deref.ensures.value) c.sort_unstable_by_key.ensures.permutation))) in
+    subst (λ xs. IsPermutation xs c.in_ok-spread.spread.items) began
+    (subst (IsPermutation (map (λ it. it.corner) c.in_ok-placed.placed.items)) (sym listed)
+    (IsPermutation-map (λ it. it.corner) c.in_ok-placed.placed.items c.deref.result.now
+    (subst (IsPermutation c.in_ok-placed.placed.items) (sym c.deref.ensures.value) c.sort_unstable_by_key.ensures.permutation))) in
     λ x. (
       λ h. Contains-permutation _ _ x (IsPermutation-sym c.args.corners.now c.in_ok-spread.spread.items moved) (Contains-from_dedup _ c.in_ok-spread.spread.items x (rw is at h)),
       λ h. rw is (Contains-dedup is_same_equivalence same_from_test c.in_ok-spread.spread.items x (Contains-permutation _ _ x moved h)),
