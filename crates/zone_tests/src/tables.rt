@@ -4,7 +4,7 @@ use crate::loaded::{EAST, WEST, layer, sheet};
 use crate::pairs::all_pairs;
 use crate::reports::report_of;
 use refusing_alloc::Refusing;
-use std::alloc::Allocator;
+use std::alloc::{Allocator, Global};
 use std::test::Fail;
 use test_builders::Place;
 use zone_tables::Table;
@@ -21,45 +21,44 @@ const WIDE_BELOW: [Place; 4] = [(0, 0), (100, 0), (100, 100), (50, 51)];
 
 const NARROW_ABOVE: [Place; 4] = [(0, 0), (50, 51), (100, 100), (0, 100)];
 
-/// Parcels of the square, two each.
-static PARCELS: [[&[Place]; 2]; 3] = [[&WEST, &EAST], [&WEST, &EAST], [&BELOW, &ABOVE]];
-
-/// Zones of the square: halves, the parcels themselves, and two that differ from the parcels by no whole point.
-static ZONES: [[&[Place]; 2]; 3] = [
-    [&WEST_HALF, &EAST_HALF],
-    [&WEST, &EAST],
-    [&WIDE_BELOW, &NARROW_ABOVE],
-];
-
 /// The zones of both halves of the square.
 pub static HALVES: [&[Place]; 2] = [&WEST_HALF, &EAST_HALF];
 
-/// What a table tells: its pairs, the split-zoned parcels, the zone that each id's parcel is within, 0 where it is within none, and
-/// the report.
-struct Told {
+/// Parcels and zones of the square, and what their table tells: its pairs, the split-zoned parcels, the zone that each id's parcel is
+/// within, 0 where it is within none, and the report.
+struct Case {
+    parcels: [&'static [Place]; 2],
+    zones: [&'static [Place]; 2],
     pairs: &'static [(u64, u64)],
     split: &'static [u64],
-    zones: &'static [(u64, u64)],
+    within: &'static [(u64, u64)],
     report: &'static str,
 }
 
-static TOLD: [Told; 3] = [
-    Told {
+/// Halves, the parcels themselves, and zones that differ from the parcels by no whole point.
+static CASES: [Case; 3] = [
+    Case {
+        parcels: [&WEST, &EAST],
+        zones: [&WEST_HALF, &EAST_HALF],
         pairs: &[(1, 1), (1, 2), (2, 2)],
         split: &[1],
-        zones: &[(1, 0), (2, 2), (3, 0)],
+        within: &[(1, 0), (2, 2), (3, 0)],
         report: "entries 0\npair 1 1\npair 1 2\npair 2 2\nsplit 1\nwithin 2 2\n",
     },
-    Told {
+    Case {
+        parcels: [&WEST, &EAST],
+        zones: [&WEST, &EAST],
         pairs: &[(1, 1), (2, 2)],
         split: &[],
-        zones: &[(1, 1), (2, 2), (3, 0)],
+        within: &[(1, 1), (2, 2), (3, 0)],
         report: "entries 0\npair 1 1\npair 2 2\nwithin 1 1\nwithin 2 2\n",
     },
-    Told {
+    Case {
+        parcels: [&BELOW, &ABOVE],
+        zones: [&WIDE_BELOW, &NARROW_ABOVE],
         pairs: &[(1, 1), (2, 1), (2, 2)],
         split: &[2],
-        zones: &[(1, 1), (2, 0), (3, 0)],
+        within: &[(1, 1), (2, 0), (3, 0)],
         report: "entries 0\npair 1 1\npair 2 1\npair 2 2\nsplit 2\nwithin 1 1\n",
     },
 ];
@@ -80,37 +79,32 @@ fn are_within<H: Allocator, A: Allocator>(
 /// Whether a table of no entries tells this.
 fn tells<H: Allocator, A: Allocator + Copy>(
     table: &Table<'_, '_, H, A>,
-    told: &Told,
+    case: &Case,
 ) -> Result<bool, Fail> {
     let split = table.split_zoned()?;
     Ok(
         table.entries() == 0
-            && table.pairs() == told.pairs
-            && split.as_slice() == told.split
-            && are_within(table, told.zones),
+            && table.pairs() == case.pairs
+            && split.as_slice() == case.split
+            && are_within(table, case.within),
     )
 }
 
 /// Whether the table of these parcels and zones tells this, and so does its report.
-fn is_told<H: Allocator>(
-    heap: &H,
-    parcels: &[&[Place]],
-    zones: &[&[Place]],
-    told: &Told,
-) -> Result<bool, Fail> {
-    let sheet = sheet(heap, parcels)?;
-    let zones = layer(heap, zones)?;
+fn is_told<H: Allocator>(heap: &H, case: &Case) -> Result<bool, Fail> {
+    let sheet = sheet(heap, &case.parcels)?;
+    let zones = layer(heap, &case.zones)?;
     let pairs = all_pairs(heap, &sheet, &zones)?;
     let table = Table::gather(&sheet, &zones, pairs);
     let text = report_of(heap, &table)?;
-    Ok(tells(&table, told)? && text.as_slice() == told.report.as_bytes())
+    Ok(tells(&table, case)? && text.as_slice() == case.report.as_bytes())
 }
 
 #[test]
 fn tells_of_each_parcel(rt: HostRuntime) -> Result<(), Fail> {
     let heap = &rt.alloc();
-    for ((parcels, zones), told) in PARCELS.iter().zip(&ZONES).zip(&TOLD) {
-        assert!(rt; is_told(heap, parcels, zones, told)?, "{}", told.report);
+    for case in &CASES {
+        assert!(rt; is_told(heap, case)?, "{}", case.report);
     }
     Ok(())
 }
@@ -118,21 +112,30 @@ fn tells_of_each_parcel(rt: HostRuntime) -> Result<(), Fail> {
 /// No list here has so many growths.
 const MOST: u64 = 20;
 
+/// The split-zoned parcels are told, or growth `number` is refused, and then they are told with memory; whether it was refused.
+fn is_refused(
+    heap: &Refusing<Global>,
+    table: &Table<'_, '_, Refusing<Global>, &Refusing<Global>>,
+    number: u64,
+) -> Result<bool, Fail> {
+    heap.refuse(number);
+    let split = table.split_zoned();
+    let is_refused = heap.is_spent();
+    heap.refuse(0);
+    if split.is_err() != is_refused || table.split_zoned()?.as_slice() != [1].as_slice() {
+        return Err(Fail::new("a refusal is told, and nothing else is"));
+    }
+    Ok(is_refused)
+}
+
 #[test]
 fn refuses_each_growth(rt: HostRuntime) -> Result<(), Fail> {
     let heap = Refusing::new(rt.alloc(), 0);
     let sheet = sheet(&heap, &[&WEST, &EAST])?;
     let zones = layer(&heap, &HALVES)?;
-    let pairs = all_pairs(&heap, &sheet, &zones)?;
-    let table = Table::gather(&sheet, &zones, pairs);
+    let table = Table::gather(&sheet, &zones, all_pairs(&heap, &sheet, &zones)?);
     for number in 1..MOST {
-        heap.refuse(number);
-        let split = table.split_zoned();
-        let is_refused = heap.is_spent();
-        heap.refuse(0);
-        assert_eq!(rt; split.is_err(), is_refused);
-        assert_eq!(rt; table.split_zoned()?.as_slice(), [1].as_slice());
-        if !is_refused {
+        if !is_refused(&heap, &table, number)? {
             assert!(rt; number > 1);
             return Ok(());
         }
