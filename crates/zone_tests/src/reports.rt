@@ -82,8 +82,8 @@ const STRIPS: u64 = 25;
 /// The strips of the square, side by side or one above the other.
 fn strips(alloc: Global, is_upright: bool) -> Result<Vec<[Place; 4]>, Fail> {
     let mut strips = Vec::new(alloc);
-    for number in 0..25i64 {
-        let (low, high) = (number * 4, number * 4 + 4);
+    for number in 0..25u8 {
+        let (low, high) = (i64::from(number * 4), i64::from(number * 4 + 4));
         strips.push(if is_upright {
             [(low, 0), (high, 0), (high, 100), (low, 100)]
         } else {
