@@ -1,5 +1,7 @@
 //! Sheets and zones as a run has them: of rings that were read from the bytes of a layer file.
 
+ghost use Rattle.std.specs.Prelude.{◌≡◌, IfOk};
+
 use fabric_core::{City, Fabric, Layer, Sheet};
 use geo_exact::Unit;
 use shp_files::{a_layer_file_is_within_the_limits, read_layer};
@@ -17,7 +19,7 @@ pub const WEST: [Place; 4] = [(0, 0), (60, 0), (60, 100), (0, 100)];
 pub const EAST: [Place; 4] = [(60, 0), (100, 0), (100, 100), (60, 100)];
 
 /// The square city.
-fn city<'a, H: Allocator>(heap: &'a H) -> Result<City<'a, H>, Fail> {
+pub fn square<'a, H: Allocator>(heap: &'a H) -> Result<City<'a, H>, Fail> {
     let mut lists = Vec::new(heap);
     lists.push(corners(heap, &SQUARE)?)?;
     let file = layer_file(heap, &lists)?;
@@ -33,9 +35,14 @@ fn city<'a, H: Allocator>(heap: &'a H) -> Result<City<'a, H>, Fail> {
     }
 }
 
-/// The layer of the rings at these places, in the square.
-pub fn layer<'a, H: Allocator>(heap: &'a H, rings: &[&[Place]]) -> Result<Layer<'a, H>, Fail> {
-    let city = city(heap)?;
+/// The layer of the rings at these places, in a city.
+pub fn layer<'a, H: Allocator>(
+    heap: &'a H,
+    city: &City<'a, H>,
+    rings: &[&[Place]],
+) -> Result<Layer<'a, H>, Fail>
+    ensures { IfOk result (λ layer. layer.city ≡ city.now.ring.corners) }
+{
     let mut lists = Vec::new(heap);
     for ring in rings {
         lists.push(corners(heap, ring)?)?;
@@ -45,21 +52,35 @@ pub fn layer<'a, H: Allocator>(heap: &'a H, rings: &[&[Place]]) -> Result<Layer<
     let Ok(records) = read_layer(heap, &file, None, Unit::Cm) else {
         return Err(Fail::new("no layer file"));
     };
-    match Layer::load(heap, &city, records) {
+    match Layer::load(heap, city, records) {
         Ok(layer) => Ok(layer),
         Err(_) => Err(Fail::new("no tiling")),
     }
 }
 
 /// The fabric that is opened from that layer.
-pub fn fabric<'a, H: Allocator>(heap: &'a H, rings: &[&[Place]]) -> Result<Fabric<'a, H>, Fail> {
-    match Fabric::open(layer(heap, rings)?) {
+pub fn fabric<'a, H: Allocator>(
+    heap: &'a H,
+    city: &City<'a, H>,
+    rings: &[&[Place]],
+) -> Result<Fabric<'a, H>, Fail>
+    ensures { IfOk result (λ fabric. fabric.city ≡ city.now.ring.corners) }
+{
+    match Fabric::open(layer(heap, city, rings)?) {
         Ok(fabric) => Ok(fabric),
         Err(_) => Err(Fail::new("memory is wanting")),
     }
 }
 
 /// A sheet of that fabric.
-pub fn sheet<'a, H: Allocator>(heap: &'a H, rings: &[&[Place]]) -> Result<Sheet<'a, H>, Fail> {
-    Ok(fabric(heap, rings)?.sheet()?)
+pub fn sheet<'a, H: Allocator>(
+    heap: &'a H,
+    city: &City<'a, H>,
+    rings: &[&[Place]],
+) -> Result<Sheet<'a, H>, Fail>
+    ensures { IfOk result (λ sheet. sheet.city ≡ city.now.ring.corners) }
+{
+    let fabric = fabric(heap, city, rings)?;
+    let sheet = fabric.sheet()?;
+    Ok(sheet)
 }

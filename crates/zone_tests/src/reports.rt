@@ -1,9 +1,11 @@
 //! Reports of tables: of a journal with entries, of more bytes than are gathered, and into writers that fail.
 
-use crate::loaded::{EAST, WEST, fabric, layer, sheet};
+ghost use Rattle.std.specs.Prelude.{◌≡◌, IfOk};
+
+use crate::loaded::{EAST, WEST, fabric, layer, sheet, square};
 use crate::pairs::all_pairs;
 use crate::tables::HALVES;
-use fabric_core::{Fabric, Sheet};
+use fabric_core::{City, Fabric, Sheet};
 use geo_exact::{ByteOut, Counted, FailAt};
 use ring_edits::Edit;
 use std::alloc::{AllocError, Allocator, Global};
@@ -26,14 +28,17 @@ pub fn report_of<H: Allocator, A: Allocator, B: Allocator>(
 }
 
 /// The western parcel is cut in two at x = 30, and both parts are merged again.
-fn edited<'a, H: Allocator>(heap: &'a H) -> Result<Sheet<'a, H>, Fail> {
-    let mut fabric = fabric(heap, &[&WEST, &EAST])?;
+fn edited<'a, H: Allocator>(heap: &'a H, city: &City<'a, H>) -> Result<Sheet<'a, H>, Fail>
+    ensures { IfOk result (λ sheet. sheet.city ≡ city.now.ring.corners) }
+{
+    let mut fabric = fabric(heap, city, &[&WEST, &EAST])?;
     edit(&mut fabric, &insert((0, 0), (60, 0), (30, 0))?)?;
     edit(&mut fabric, &insert((0, 100), (60, 100), (30, 100))?)?;
     let path = corners(heap, &[(30, 0), (30, 100)])?;
     edit(&mut fabric, &Edit::Split { id: 1, path })?;
     edit(&mut fabric, &Edit::Merge { a: 3, b: 4 })?;
-    Ok(fabric.sheet()?)
+    let sheet = fabric.sheet()?;
+    Ok(sheet)
 }
 
 /// A corner is put into an edge.
@@ -46,7 +51,9 @@ fn insert<A: Allocator>(from: Place, to: Place, at: Place) -> Result<Edit<A>, Fa
 }
 
 /// An edit that is accepted.
-fn edit<'a, H: Allocator>(fabric: &mut Fabric<'a, H>, edit: &Edit<&'a H>) -> Result<(), Fail> {
+fn edit<'a, H: Allocator>(fabric: &mut Fabric<'a, H>, edit: &Edit<&'a H>) -> Result<(), Fail>
+    ensures { fabric.new.city ≡ fabric.old.city }
+{
     match fabric.edit(1, edit) {
         Ok(_) => Ok(()),
         Err(_) => Err(Fail::new("an edit was refused")),
@@ -55,8 +62,9 @@ fn edit<'a, H: Allocator>(fabric: &mut Fabric<'a, H>, edit: &Edit<&'a H>) -> Res
 
 /// The report of the edited parcels and the halves.
 fn edited_report<H: Allocator>(heap: &H) -> Result<Vec<u8, &H>, Fail> {
-    let sheet = edited(heap)?;
-    let zones = layer(heap, &HALVES)?;
+    let city = square(heap)?;
+    let sheet = edited(heap, &city)?;
+    let zones = layer(heap, &city, &HALVES)?;
     let table = Table::gather(&sheet, &zones, all_pairs(heap, &sheet, &zones)?);
     report_of(heap, &table)
 }
@@ -74,8 +82,8 @@ const STRIPS: u64 = 25;
 /// The strips of the square, side by side or one above the other.
 fn strips(alloc: Global, is_upright: bool) -> Result<Vec<[Place; 4]>, Fail> {
     let mut strips = Vec::new(alloc);
-    for number in 0..STRIPS as i64 {
-        let (low, high) = (number * 4, number * 4 + 4);
+    for number in 0..25u8 {
+        let (low, high) = (i64::from(number * 4), i64::from(number * 4 + 4));
         strips.push(if is_upright {
             [(low, 0), (high, 0), (high, 100), (low, 100)]
         } else {
@@ -98,8 +106,9 @@ fn slices<'a>(alloc: Global, strips: &'a [[Place; 4]]) -> Result<Vec<&'a [Place]
 fn crossed_report(alloc: Global) -> Result<Vec<u8>, Fail> {
     let (upright, level) = (strips(alloc, true)?, strips(alloc, false)?);
     let heap = &alloc;
-    let sheet = sheet(heap, &slices(alloc, &upright)?)?;
-    let zones = layer(heap, &slices(alloc, &level)?)?;
+    let city = square(heap)?;
+    let sheet = sheet(heap, &city, &slices(alloc, &upright)?)?;
+    let zones = layer(heap, &city, &slices(alloc, &level)?)?;
     let table = Table::gather(&sheet, &zones, all_pairs(alloc, &sheet, &zones)?);
     report_of(alloc, &table)
 }
@@ -178,8 +187,9 @@ fn is_begun<H: Allocator, A: Allocator>(
 #[test]
 fn tells_each_failed_write(rt: HostRuntime) -> Result<(), Fail> {
     let heap = &rt.alloc();
-    let sheet = sheet(heap, &[&WEST, &EAST])?;
-    let zones = layer(heap, &HALVES)?;
+    let city = square(heap)?;
+    let sheet = sheet(heap, &city, &[&WEST, &EAST])?;
+    let zones = layer(heap, &city, &HALVES)?;
     let table = Table::gather(&sheet, &zones, all_pairs(heap, &sheet, &zones)?);
     for call in 1..=57u64 {
         assert!(rt; is_begun(rt.alloc(), &table, call)?, "at call {call}");

@@ -1,6 +1,6 @@
 //! Tables of parcels and zones, and what they tell of each parcel.
 
-use crate::loaded::{EAST, WEST, layer, sheet};
+use crate::loaded::{EAST, WEST, layer, sheet, square};
 use crate::pairs::all_pairs;
 use crate::reports::report_of;
 use refusing_alloc::Refusing;
@@ -92,8 +92,9 @@ fn tells<H: Allocator, A: Allocator + Copy>(
 
 /// Whether the table of these parcels and zones tells this, and so does its report.
 fn is_told<H: Allocator>(heap: &H, case: &Case) -> Result<bool, Fail> {
-    let sheet = sheet(heap, &case.parcels)?;
-    let zones = layer(heap, &case.zones)?;
+    let city = square(heap)?;
+    let sheet = sheet(heap, &city, &case.parcels)?;
+    let zones = layer(heap, &city, &case.zones)?;
     let pairs = all_pairs(heap, &sheet, &zones)?;
     let table = Table::gather(&sheet, &zones, pairs);
     let text = report_of(heap, &table)?;
@@ -131,8 +132,9 @@ fn is_refused(
 #[test]
 fn refuses_each_growth(rt: HostRuntime) -> Result<(), Fail> {
     let heap = Refusing::new(rt.alloc(), 0);
-    let sheet = sheet(&heap, &[&WEST, &EAST])?;
-    let zones = layer(&heap, &HALVES)?;
+    let city = square(&heap)?;
+    let sheet = sheet(&heap, &city, &[&WEST, &EAST])?;
+    let zones = layer(&heap, &city, &HALVES)?;
     let table = Table::gather(&sheet, &zones, all_pairs(&heap, &sheet, &zones)?);
     for number in 1..MOST {
         if !is_refused(&heap, &table, number)? {
