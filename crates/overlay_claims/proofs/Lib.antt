@@ -1,0 +1,4 @@
+pub mod Counts
+pub mod Places
+pub mod Views
+pub mod Steps
