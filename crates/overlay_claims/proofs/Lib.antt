@@ -2,3 +2,4 @@ pub mod Counts
 pub mod Places
 pub mod Views
 pub mod Steps
+pub mod Orders

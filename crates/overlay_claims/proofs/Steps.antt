@@ -46,7 +46,7 @@ times_more j list notes =
     let both : times j (notes ++ list ∷ []) ≡ times j notes + (0 + cond (nat_eq j list) 1 0) = sum_by-append _ notes (list ∷ []) in
     omega (arith, both)
 
-times_more_here : (list : ℕ) (notes : List ℕ) → times list (notes ++ list ∷ []) ≡ times list notes + 1
+pub times_more_here : (list : ℕ) (notes : List ℕ) → times list (notes ++ list ∷ []) ≡ times list notes + 1
 times_more_here list notes = times_more list list notes ∙ ap (λ b. times list notes + cond b 1 0) (eq-eqb list list refl)
 
 at_least : (b : Bool) (n : ℕ) → n ≤ n + cond b 1 0
@@ -63,7 +63,7 @@ other_false j list apart = either_way (nat_eq j list) refl
     either_way true e = absurd (apart (eqb-true j list e))
     either_way false e = refl
 
-times_other : (j list : ℕ) (notes : List ℕ) → j ≢ list → times j (notes ++ list ∷ []) ≡ times j notes
+pub times_other : (j list : ℕ) (notes : List ℕ) → j ≢ list → times j (notes ++ list ∷ []) ≡ times j notes
 times_other j list notes apart = times_more j list notes ∙ ap (λ b. times j notes + cond b 1 0) (other_false j list apart) ∙ omega arith
 
 pub times_joined : (j : ℕ) (notes others : List ℕ) → times j (notes ++ others) ≡ times j notes + times j others

@@ -1,6 +1,6 @@
 use Rattle.std.proofs.Common.{rules, ◌≡◌, ◌∙◌, ℕ, replicate, ap, length}
 use Rattle.overlay_claims.proofs.Steps.{begins}
-use Rattle.overlay_claims.proofs.claims.Claims.open.Goals as goal
+use Rattle.overlay_claims.proofs.claims.Claims.of.Goals as goal
 
 pub of_words-requires : goal.of_words-requires
 of_words-requires g c =
