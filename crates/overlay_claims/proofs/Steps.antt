@@ -37,7 +37,7 @@ place_same x y e =
 place_itself : (x : ℕ × ℕ) → same_place x x ≡ true
 place_itself x = ap (λ b. b && nat_eq x.1 x.1) (eq-eqb x.0 x.0 refl) ∙ eq-eqb x.1 x.1 refl
 
-cancel : (zs xs ys : List (ℕ × ℕ)) → IsPermutation (zs ++ xs) (zs ++ ys) → IsPermutation xs ys
+pub cancel : (zs xs ys : List (ℕ × ℕ)) → IsPermutation (zs ++ xs) (zs ++ ys) → IsPermutation xs ys
 cancel = IsPermutation-cancel same_place place_same place_itself
 
 -- ---- notes
