@@ -11,6 +11,7 @@ ghost use Rattle.fabric_core.specs.declared.refusal.Refusal.{Refusal};
 ghost use Rattle.fabric_core.specs.declared.refusal.Refusal.TheVariants.{NoMemory};
 ghost use Rattle.fabric_core.specs.Tiling.{IsTiling};
 ghost use Rattle.fabric_core.specs.Rows.{numbers};
+ghost use Rattle.fabric_core.specs.Faults.{AreSimple};
 ghost use Rattle.fabric_core.specs.Limits.{AreWithinLimits};
 ghost use Rattle.fabric_core.specs.GridIndex.{IsIndexed, IsCandidate};
 ghost use Rattle.fabric_core.specs.Locate.{IsLocatedAt};
@@ -129,10 +130,12 @@ impl<'a, H: Allocator> Fabric<'a, H> {
         Ok(Sheet::of(self.copy()?))
     }
 
-    /// The parcels tile the city and are within the limits of a layer; in the cells of the grid index stand exactly the parcels; the
-    /// city's refined ring covers what the city's ring covers; and the journal is lawful, and leads from the opening to what is now.
+    /// The parcels are simple rings that tile the city, and are within the limits of a layer; in the cells of the grid index stand
+    /// exactly the parcels; the city's refined ring covers what the city's ring covers; and the journal is lawful, and leads from the
+    /// opening to what is now.
     pub fn tiles(&self)
         ensures tiling { IsTiling self.now.now.rows self.now.city }
+        ensures simple { AreSimple self.now.now.rows }
         ensures within { AreWithinLimits self.now.now.rows }
         ensures indexed { IsIndexed self.now.now.rows self.now.city self.now.index }
         ensures ground { CoversAlike self.now.city self.now.now.refined }

@@ -148,9 +148,11 @@ impl<'a, H: Allocator> Layer<'a, H> {
         tiled
     }
 
-    /// The rows tile the city, and are within the limits of a layer; and in the cells of the grid index stand exactly the rows.
+    /// The rows are simple rings that tile the city, and are within the limits of a layer; and in the cells of the grid index stand
+    /// exactly the rows.
     pub fn tiles(&self)
         ensures tiling { IsTiling self.now.rows self.now.city }
+        ensures simple { AreSimple self.now.rows }
         ensures within { AreWithinLimits self.now.rows }
         ensures indexed { IsIndexed self.now.rows self.now.city self.now.index }
     {

@@ -6,8 +6,14 @@ ghost use Rattle.geo_exact.specs.Point.{corner_point};
 ghost use Rattle.geo_exact.specs.Bounds.{HoldsCorner};
 ghost use Rattle.geo_exact.specs.Interiors.{InteriorsMeet};
 ghost use Rattle.geo_exact.specs.Layers.{NumberedRing, numbered};
+ghost use Rattle.ring_edits.specs.Edits.{CoversAlike};
+ghost use Rattle.fabric_core.specs.Tiling.{IsTiling};
 ghost use Rattle.fabric_core.specs.Rows.{numbers};
-ghost use Rattle.fabric_core.specs.GridIndex.{IsCandidate};
+ghost use Rattle.fabric_core.specs.Limits.{AreWithinLimits};
+ghost use Rattle.fabric_core.specs.Faults.{AreSimple};
+ghost use Rattle.fabric_core.specs.Journal.{replay};
+ghost use Rattle.fabric_core.specs.EditResults.{IsLawful};
+ghost use Rattle.fabric_core.specs.GridIndex.{IsIndexed, IsCandidate};
 ghost use Rattle.fabric_core.specs.Locate.{IsLocatedAt};
 
 use crate::fabric::Fabric;
@@ -40,6 +46,19 @@ impl<'a, H: Allocator> Sheet<'a, H> {
         ensures { result ≡ fabric.entry }
     {
         Sheet { fabric }
+    }
+
+    /// As [`Fabric::tiles`], of the fabric at that moment.
+    pub fn tiles(&self)
+        ensures tiling { IsTiling self.now.now.rows self.now.city }
+        ensures simple { AreSimple self.now.now.rows }
+        ensures within { AreWithinLimits self.now.now.rows }
+        ensures indexed { IsIndexed self.now.now.rows self.now.city self.now.index }
+        ensures ground { CoversAlike self.now.city self.now.now.refined }
+        ensures lawful { IsLawful self.now.opening self.now.journal }
+        ensures replays { replay self.now.opening self.now.journal ≡ self.now.now }
+    {
+        self.fabric.tiles();
     }
 
     /// The journal: all entries of the fabric until then, in order.

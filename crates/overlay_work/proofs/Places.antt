@@ -1,0 +1,53 @@
+-- Ids at places of lists.
+use Rattle.std.proofs.Common.{◌≡◌, refl, ◌∙◌, ap, arith, ℕ, zero, suc, ◌-◌, ◌<◌, List, [], ◌∷◌, ◌++◌, map, length, get_or, take, length-append}
+use Rattle.std.specs.Prelude.{slice_index, slice_index_or, sum_by}
+use Rattle.std.specs.List.{Contains}
+use Rattle.std.proofs.lemmas.List.{map-append, get_or_default}
+use Rattle.std.proofs.lemmas.List.Elements.{Contains-append_left, Contains-append_right}
+use Rattle.std.proofs.lemmas.List.Sums.{sum_by-cons}
+use Rattle.overlay_work.specs.Sharing.{joined}
+use Rattle.overlay_work.specs.own.Kept.{id_at, ids_at}
+
+module _ {X Y : Type 0} (f : X → Y) where
+  pub map_at : (xs : List X) (i : ℕ) (d : X) (e : Y) → i < length xs → get_or (map f xs) i e ≡ f (get_or xs i d)
+  map_at [] i d e less = absurd (omega arith)
+  map_at (x ∷ xs) zero d e less = refl
+  map_at (x ∷ xs) (suc i) d e less = map_at xs i d e (omega arith)
+
+pub map_map : {X Y Z : Type 0} (f : X → Y) (g : Y → Z) (xs : List X) → map g (map f xs) ≡ map (λ x. g (f x)) xs
+map_map f g [] = refl
+map_map f g (x ∷ xs) = ap (λ l. g (f x) ∷ l) (map_map f g xs)
+
+pub length_at : (lists : List (List ℕ)) (i : ℕ) → slice_index (map (λ list. length list) lists) i ≡ length (slice_index_or lists i [])
+length_at [] i = refl
+length_at (list ∷ lists) zero = refl
+length_at (list ∷ lists) (suc i) = length_at lists i
+
+pub contains_at : (xs : List ℕ) (i : ℕ) → i < length xs → Contains xs (slice_index xs i)
+contains_at xs i less = (i, less, get_or_default xs i (slice_index xs i) 0 less)
+
+-- what stands at a place stands in the lists
+pub at_place : (lists : List (List ℕ)) (i j : ℕ) → j < length (slice_index_or lists i []) → Contains (joined lists) (id_at lists (i, j))
+at_place [] i j less = absurd (omega arith)
+at_place (list ∷ lists) zero j less = Contains-append_left list (joined lists) (slice_index list j) (contains_at list j less)
+at_place (list ∷ lists) (suc i) j less = Contains-append_right list (joined lists) (id_at lists (i, j)) (at_place lists i j less)
+
+pub length_joined : (lists : List (List ℕ)) → length (joined lists) ≡ sum_by (λ n. n) (map (λ list. length list) lists)
+length_joined [] = refl
+length_joined (list ∷ lists) =
+    let both = length-append list (joined lists) in
+    let rest = length_joined lists in
+    let sum = sum_by-cons (λ (n : ℕ). n) (length list) (map (λ l. length l) lists) in
+    omega (arith, both, rest, sum)
+
+pub one_more_id : (lists : List (List ℕ)) (places : List (ℕ × ℕ)) (place : ℕ × ℕ) → ids_at lists (places ++ place ∷ []) ≡ ids_at lists places ++ id_at lists place ∷ []
+one_more_id lists places place = map-append (id_at lists) places (place ∷ [])
+
+pub before_last : {X : Type 0} (xs : List X) (x : X) → take (length (xs ++ x ∷ []) - 1) (xs ++ x ∷ []) ≡ xs
+before_last {X = X} xs x =
+    let n : length (xs ++ x ∷ []) - 1 ≡ length xs = (let e = length-append xs (x ∷ []) in omega (arith, e)) in
+    ap (λ k. take k (xs ++ x ∷ [])) n ∙ front xs
+  where
+    front : (ys : List X) → take (length ys) (ys ++ x ∷ []) ≡ ys
+    front [] = refl
+    front (y ∷ ys) = ap (λ l. y ∷ l) (front ys)

@@ -1,0 +1,4 @@
+pub mod Overlap
+pub mod Within
+pub mod Report
+pub mod own
