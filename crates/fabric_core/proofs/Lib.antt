@@ -39,3 +39,4 @@ pub mod Made
 pub mod Booked
 pub mod Drafts
 pub mod Copied
+pub mod InnerPoints

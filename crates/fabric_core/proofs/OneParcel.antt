@@ -13,10 +13,10 @@ use Rattle.edge_chains.proofs.NodedEdges.{none_in_nil, Contains-cases, Contains-
 use Rattle.fabric_core.specs.Tiling.{IsTiling, IsOffEdges, IsInNone}
 use Rattle.fabric_core.specs.Locate.{IsInsideOneOnly}
 
--- what holds of all rows holds of each
-pub of_each : (P : NumberedRing → Type 0) (rows : List NumberedRing) (row : NumberedRing) → AllByRecursion P rows → Contains rows row → P row
-of_each P [] row h c = absurd (none_in_nil row c)
-of_each P (r ∷ rows) row h c = ⊎_elim (λ e. subst P e h.0) (λ later. of_each P rows row h.1 later) (Contains-cases r rows row c)
+-- what holds of all items holds of each
+pub of_each : {X : Type 0} (P : X → Type 0) (xs : List X) (x : X) → AllByRecursion P xs → Contains xs x → P x
+of_each P [] x h c = absurd (none_in_nil x c)
+of_each P (y ∷ ys) x h c = ⊎_elim (λ e. subst P e h.0) (λ later. of_each P ys x h.1 later) (Contains-cases y ys x c)
 
 -- no row that p is in none of has it inside
 not_inside : (p : Point) (rows : List NumberedRing) (row : NumberedRing) → IsInNone p rows → Contains rows row

@@ -104,12 +104,49 @@ begins_later old mid new p q xs ys h k =
 pub begins_before : (old new : Option (List ℕ)) (p xs ys : List ℕ) → AppendsBeginning old new (p ++ xs) → AppendsBeginning old new (p ++ (xs ++ ys))
 begins_before old new p xs ys h = subst (AppendsBeginning old new) (append_assoc p xs ys) (begins_more old new (p ++ xs) ys h)
 
--- a text that passed, of which the end goes out
-pub all_passed : (old mid new : Option (List ℕ)) (q xs : List ℕ) → Passes old mid [] xs q → Appends mid new q → Appends old new xs
-all_passed old mid new q xs h k =
-    subst (Appends old new) (sym h.are_all) (Appends-trans old mid new h.sent q h.is_written k)
+-- a text that passed behind nothing, of which the end goes out
+pub all_passed : (old mid new : Option (List ℕ)) (p q xs : List ℕ) → p ≡ [] → Passes old mid p xs q → Appends mid new q → Appends old new xs
+all_passed old mid new p q xs none h k =
+    subst (Appends old new) (sym h.are_all ∙ ap (λ t. t ++ xs) none) (Appends-trans old mid new h.sent q h.is_written k)
 
--- or a beginning of it
-pub beginning_passed : (old mid new : Option (List ℕ)) (q xs : List ℕ) → Passes old mid [] xs q → AppendsBeginning mid new q → AppendsBeginning old new xs
-beginning_passed old mid new q xs h k =
-    subst (AppendsBeginning old new) (sym h.are_all) (begins_behind old mid new h.sent q h.is_written k)
+-- or a beginning of its end
+pub beginning_passed : (old mid new : Option (List ℕ)) (p q xs : List ℕ) → p ≡ [] → Passes old mid p xs q → AppendsBeginning mid new q
+    → AppendsBeginning old new xs
+beginning_passed old mid new p q xs none h k =
+    subst (AppendsBeginning old new) (sym h.are_all ∙ ap (λ t. t ++ xs) none) (begins_behind old mid new h.sent q h.is_written k)
+
+-- a beginning of a text behind nothing
+pub begins_alone : (old new : Option (List ℕ)) (p xs : List ℕ) → p ≡ [] → AppendsBeginning old new (p ++ xs) → AppendsBeginning old new xs
+begins_alone old new p xs none h = subst (AppendsBeginning old new) (ap (λ t. t ++ xs) none) h
+
+-- ---- a text that passes piece by piece
+-- of the whole text a part has passed, and this is left
+pub record IsUnderWay (old new : Option (List ℕ)) (was_pending whole left is_pending : List ℕ) : Type 0 where
+  pub done : List ℕ
+  pub are_all : whole ≡ done ++ left
+  pub passed : Passes old new was_pending done is_pending
+
+-- at first all is left
+pub whole_left : (known : Option (List ℕ)) (pending whole : List ℕ) → IsUnderWay known known pending whole whole pending
+whole_left known pending whole = record { done = []; are_all = refl; passed = passes_nothing known pending }
+
+-- the first piece of what is left passes too
+pub piece_passes : (old mid new : Option (List ℕ)) (p whole left q piece rest r : List ℕ) → IsUnderWay old mid p whole left q → left ≡ piece ++ rest
+    → Passes mid new q piece r → IsUnderWay old new p whole rest r
+piece_passes old mid new p whole left q piece rest r h e k = record {
+  done = h.done ++ piece;
+  are_all = h.are_all ∙ ap (λ t. h.done ++ t) e ∙ sym (append_assoc h.done piece rest);
+  passed = passes_both old mid new p q r h.done piece h.passed k;
+}
+
+-- where nothing is left, the whole text has passed
+pub none_left : (old new : Option (List ℕ)) (p whole left q : List ℕ) → IsUnderWay old new p whole left q → left ≡ [] → Passes old new p whole q
+none_left old new p whole left q h e =
+    subst (λ t. Passes old new p t q) (sym (h.are_all ∙ ap (λ t. h.done ++ t) e ∙ append-nil h.done)) h.passed
+
+-- where a beginning of the next piece was written, it is one of the whole text
+pub piece_begins : (old mid new : Option (List ℕ)) (p whole left q piece rest : List ℕ) → IsUnderWay old mid p whole left q → left ≡ piece ++ rest
+    → AppendsBeginning mid new (q ++ piece) → AppendsBeginning old new (p ++ whole)
+piece_begins old mid new p whole left q piece rest h e k =
+    subst (λ t. AppendsBeginning old new (p ++ t)) (sym (h.are_all ∙ ap (λ t. h.done ++ t) e))
+    (begins_later old mid new p q h.done (piece ++ rest) h.passed (subst (AppendsBeginning mid new) (append_assoc q piece rest) (begins_more mid new (q ++ piece) rest k)))

@@ -1,0 +1,4 @@
+pub mod Zonings
+pub mod FromParcel
+pub mod Zones
+pub mod Told

@@ -4,7 +4,7 @@ ghost use Rattle.std.specs.Prelude.{◌≡◌, OnOk, OnErr};
 ghost use Rattle.geo_exact.specs.Bytes.{raised};
 ghost use Rattle.zone_tables.specs.Report.{WritesReport, WritesBeginning};
 
-use crate::lines::{add_line, add_pairs, add_singles, add_splits};
+use crate::lines::add_report;
 use crate::table::Table;
 use geo_exact::{ByteOut, Failed};
 use std::alloc::Allocator;
@@ -40,10 +40,7 @@ pub fn write_report<'t, 'h, H: Allocator, A: Allocator, W: ByteOut>(
 {
     table.stands();
     let mut pending = Pending::new();
-    add_line(&mut pending, b"entries", &[table.entries()], out)?;
-    add_pairs(&mut pending, table.pairs(), out)?;
-    add_splits(&mut pending, table.pairs(), out)?;
-    add_singles(&mut pending, table.pairs(), out)?;
+    add_report(&mut pending, table.entries(), table.pairs(), out)?;
     pending.finish(out)?;
     Ok(())
 }

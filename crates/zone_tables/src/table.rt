@@ -8,7 +8,7 @@ ghost use Rattle.fabric_core.specs.Rows.{numbers};
 ghost use Rattle.zone_tables.specs.Overlap.{IsOverlapTable, AreSplitZoned, OverlapsAlone};
 ghost use Rattle.zone_tables.specs.Within.{IsWithinZone};
 
-use crate::zoning::Zonings;
+use crate::zoning::{Zonings, only_zone};
 use fabric_core::{Layer, Sheet};
 use std::alloc::{AllocError, Allocator};
 use std::marker::Model;
@@ -123,8 +123,6 @@ impl<'t, 'h, H: Allocator, A: Allocator> Table<'t, 'h, H, A> {
         ensures alone { (zone : ℕ) → (result ≡ Some zone) ↔ OverlapsAlone self.now.rows self.now.zones id zone }
     {
         self.stands();
-        let start = self.pairs.partition_point(|pair| pair.0 < id);
-        let parcel = Zonings::of(&self.pairs[start..]).next()?;
-        (parcel.id == id && !parcel.is_split).then_some(parcel.zone)
+        only_zone(id, &self.pairs)
     }
 }

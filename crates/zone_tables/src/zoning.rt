@@ -1,8 +1,9 @@
 //! The pairs of a table, parcel by parcel.
 
-ghost use Rattle.std.specs.Prelude.{◌≡◌, ℕ, ◌≤◌, length};
+ghost use Rattle.std.specs.Prelude.{◌≡◌, ◌↔◌, ℕ, ◌≤◌, length, Some};
 ghost use Rattle.std.specs.Iterator.{YieldsFirst, item_count};
-ghost use Rattle.zone_tables.specs.own.Zonings.{behind, zonings};
+ghost use Rattle.zone_tables.specs.Overlap.{AreInPairOrder};
+ghost use Rattle.zone_tables.specs.own.Zonings.{behind, zonings, IsFrom, IsOnlyZone};
 
 use std::marker::Model;
 
@@ -72,4 +73,22 @@ fn behind_parcel(id: u64, pairs: &[(u64, u64)]) -> &[(u64, u64)]
         rest = others;
     }
     rest
+}
+
+/// The pairs from the first on that is not one of a lower parcel.
+fn from_parcel(id: u64, pairs: &[(u64, u64)]) -> &[(u64, u64)]
+    requires { AreInPairOrder pairs.now }
+    ensures { IsFrom id pairs.now result.now }
+{
+    let start = pairs.partition_point(|pair| pair.0 < id);
+    &pairs[start..]
+}
+
+/// The zone of a parcel that has one pair alone.
+pub(crate) fn only_zone(id: u64, pairs: &[(u64, u64)]) -> Option<u64>
+    requires { AreInPairOrder pairs.now }
+    ensures { (zone : ℕ) → (result ≡ Some zone) ↔ IsOnlyZone pairs.now id zone }
+{
+    let parcel = Zonings::of(from_parcel(id, pairs)).next()?;
+    (parcel.id == id && !parcel.is_split).then_some(parcel.zone)
 }

@@ -1,6 +1,6 @@
 -- The pairs of a table, parcel by parcel. Public contracts do not speak of it.
-use Rattle.std.specs.Prelude.{◌≡◌, ℕ, nat_eq, true, false, if◌then◌else◌, List, [], ◌∷◌, map, not}
-use Rattle.std.specs.List.{filter}
+use Rattle.std.specs.Prelude.{◌≡◌, ℕ, ◌<◌, ◌≤◌, nat_eq, true, false, if◌then◌else◌, List, [], ◌∷◌, ◌++◌, map, not}
+use Rattle.std.specs.List.{AllByRecursion, Contains, filter}
 use Rattle.zone_tables.specs.declared.zoning.Zoning.{Zoning}
 
 -- the pairs behind those of a parcel that stand first
@@ -28,3 +28,14 @@ split_ids parcels = map (λ parcel. parcel.id) (filter (λ parcel. parcel.is_spl
 -- the others, each with its zone
 abbrev pub single_zones : List Zoning → List (ℕ × ℕ)
 single_zones parcels = map (λ parcel. (parcel.id, parcel.zone)) (filter (λ parcel. not parcel.is_split) parcels)
+
+-- the pairs have this zone of the parcel, and no other
+abbrev pub IsOnlyZone : List (ℕ × ℕ) → ℕ → ℕ → Type 0
+IsOnlyZone pairs id zone = Contains pairs (id, zone) × ((other : ℕ) → Contains pairs (id, other) → other ≡ zone)
+
+-- the pairs from the first on that is not one of a lower parcel
+pub record IsFrom (id : ℕ) (pairs rest : List (ℕ × ℕ)) : Type 0 where
+  pub before : List (ℕ × ℕ)
+  pub are_all : pairs ≡ before ++ rest
+  pub lower : AllByRecursion (λ pair. pair.0 < id) before
+  pub not_lower : AllByRecursion (λ pair. id ≤ pair.0) rest
