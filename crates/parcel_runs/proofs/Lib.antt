@@ -1,4 +1,3 @@
-pub mod Puts
 pub mod Passing
 pub mod TilingFaults
 pub mod CityLimit
