@@ -1,8 +1,8 @@
 -- Ids at places of lists.
-use Rattle.std.proofs.Common.{◌≡◌, refl, ◌∙◌, ap, arith, ℕ, zero, suc, ◌-◌, ◌<◌, List, [], ◌∷◌, ◌++◌, map, length, get_or, take, length-append}
-use Rattle.std.specs.Prelude.{slice_index, slice_index_or, sum_by}
+use Rattle.std.proofs.Common.{◌≡◌, refl, ◌∙◌, ap, arith, ℕ, zero, suc, ◌-◌, ◌<◌, ◌≤◌, List, [], ◌∷◌, ◌++◌, map, length, get_or, take, drop, length-append, append-nil}
+use Rattle.std.specs.Prelude.{slice_index, slice_index_or, sum_by, Result, Ok, Err, IfErr}
 use Rattle.std.specs.List.{Contains}
-use Rattle.std.proofs.lemmas.List.{map-append, get_or_default}
+use Rattle.std.proofs.lemmas.List.{map-append, get_or_default, take_all}
 use Rattle.std.proofs.lemmas.List.Elements.{Contains-append_left, Contains-append_right}
 use Rattle.std.proofs.lemmas.List.Sums.{sum_by-cons}
 use Rattle.overlay_work.specs.Sharing.{joined}
@@ -51,3 +51,19 @@ before_last {X = X} xs x =
     front : (ys : List X) → take (length ys) (ys ++ x ∷ []) ≡ ys
     front [] = refl
     front (y ∷ ys) = ap (λ l. y ∷ l) (front ys)
+
+-- a list that is written over whole
+pub written_whole : {X : Type 0} (xs ys : List X) (n : ℕ) → length xs ≡ n → length ys ≡ n → take n (xs ++ drop (length xs) ys) ≡ xs
+written_whole xs ys n long same =
+    let none : drop (length xs) ys ≡ [] = nothing_left (length xs) ys (omega (arith, long, same)) in
+    ap (λ l. take n (xs ++ l)) none ∙ ap (take n) (append-nil xs) ∙ take_all n xs (omega (arith, long))
+  where
+    nothing_left : {X : Type 0} (k : ℕ) (zs : List X) → length zs ≤ k → drop k zs ≡ []
+    nothing_left zero [] few = refl
+    nothing_left zero (z ∷ zs) few = absurd (omega (arith, few))
+    nothing_left (suc k) [] few = refl
+    nothing_left (suc k) (z ∷ zs) few = nothing_left k zs (omega (arith, few))
+
+pub err_more : {X E : Type 0} (P Q : E → Type 0) (r : Result X E) → ((e : E) → P e → Q e) → IfErr r P → IfErr r Q
+err_more P Q (Ok x) f h = h
+err_more P Q (Err e) f h = f e h

@@ -1,13 +1,14 @@
 -- The hands of a round before they have claimed anything.
 use Rattle.std.proofs.Common.{◌≡◌, ◌⊎◌, inl, inr, ⊎_elim, refl, sym, ◌∙◌, ap, arith, ℕ, zero, suc, List, [], ◌∷◌, ◌++◌, length, length-append}
 use Rattle.overlay_claims.specs.Claimants.{Lists, Standing, fresh as fresh_claimant, fresh_hands as fresh_claimants}
-use Rattle.overlay_work.specs.Rounds.{Task, fresh, fresh_hands}
+use Rattle.overlay_work.specs.Rounds.{Task, fresh, fresh_hands, AreHandsOf}
 use Rattle.overlay_work.specs.own.Kept.{started, AreFresh}
 use Rattle.geo_exact.specs.declared.corner.Corner.{Corner}
 use Rattle.overlay_work.specs.declared.round.RoundFault.{RoundFault}
 use Rattle.overlay_work.specs.declared.round.RoundFault.TheVariants.{HandCount, OtherCity, NotASharing, NoMemory}
 use Rattle.overlay_work.specs.Faults.{IsRoundFault}
 use Rattle.overlay_work.specs.own.Starting.{CanBegin}
+use Rattle.overlay_work.proofs.Finding.{all_snoc}
 use Rattle.overlay_work.proofs.Differences.{in_place}
 
 pub no_items : {X : Type 0} (xs : List X) → length xs ≡ 0 → xs ≡ []
@@ -37,6 +38,10 @@ length-fresh_claimants lists (suc n) =
     let both = length-append (fresh_claimants lists n) (fresh_claimant lists n ∷ []) in
     let rest = length-fresh_claimants lists n in
     omega (arith, both, rest)
+
+pub fresh_are_of : (task : Task) (n : ℕ) → AreHandsOf task (fresh_hands task n)
+fresh_are_of task zero = tt
+fresh_are_of task (suc n) = all_snoc (λ hand. hand.task ≡ task) (fresh_hands task n) (fresh task n) (fresh_are_of task n) refl
 
 -- ---- faults
 -- a round that can begin has no fault

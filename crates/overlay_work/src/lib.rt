@@ -3,14 +3,18 @@
 #![tactic(auto)]
 
 mod close;
+mod gate;
 mod hand;
 mod hands_in;
 mod round;
+mod run;
 mod sharing;
 mod tests_of_parcels;
 mod work;
 
 pub use close::{CloseFault, RoundBack};
+pub use gate::Gate;
 pub use hand::{Hand, Step};
 pub use round::{MOST_HANDS, Round, RoundFault};
+pub use run::run_round;
 pub use zone_tables::{Table, WriteFault, write_report};

@@ -5,7 +5,7 @@ ghost use Rattle.overlay_work.specs.declared.round.RoundFault.TheVariants.{NoMem
 ghost use Rattle.overlay_work.specs.Sharing.{IsSharing};
 ghost use Rattle.std.specs.Arc.{arc_value};
 ghost use Rattle.overlay_claims.specs.Claimants.{fresh_hands as fresh_claimants};
-ghost use Rattle.overlay_work.specs.Rounds.{fresh_hands};
+ghost use Rattle.overlay_work.specs.Rounds.{fresh_hands, AreHandsOf};
 ghost use Rattle.overlay_work.specs.Faults.{IsRoundFault};
 ghost use Rattle.overlay_work.specs.own.Starting.{CanBegin};
 
@@ -82,6 +82,7 @@ impl<'t, 'h, H: Allocator> Round<'t, 'h, H> {
         ensures city { IfOk result (λ made. (made.0.city ≡ sheet.now.city) × (zones.now.city ≡ sheet.now.city)) }
         ensures entries { IfOk result (λ made. made.0.entries ≡ length sheet.now.journal) }
         ensures hands { IfOk result (λ made. made.1.items ≡ fresh_hands made.0 (length sharing.entry.items)) }
+        ensures of_round { IfOk result (λ made. AreHandsOf made.0 made.1.items) }
         // A fault that is answered is the round's, and a round with a fault is refused by it, unless memory runs out.
         ensures fault { IfErr result (λ fault. IsRoundFault (numbers sheet.now.now.rows) sheet.now.city zones.now.city
             (map (λ list. list.items) sharing.entry.items) fault ⊎ (fault ≡ NoMemory)) }
