@@ -89,9 +89,9 @@ impl<'h, H: Allocator> Parcels<'h, H> {
 
     /// A sheet of the parcels, with the journal of the edits that led there.
     pub fn into_sheet(self) -> Result<Sheet<'h, H>, AllocError>
-        ensures now { IfOk result (λ sheet. sheet.now ≡ (register_of_parcels self).now) }
-        ensures journal { IfOk result (λ sheet. sheet.journal ≡ (register_of_parcels self).journal) }
-        ensures city { IfOk result (λ sheet. sheet.city ≡ city_of_parcels self) }
+        ensures now { IfOk result (λ sheet. sheet.now ≡ (register_of_parcels self.entry).now) }
+        ensures journal { IfOk result (λ sheet. sheet.journal ≡ (register_of_parcels self.entry).journal) }
+        ensures city { IfOk result (λ sheet. sheet.city ≡ city_of_parcels self.entry) }
     {
         match self {
             Parcels::Read(layer) => match Fabric::open(layer) {

@@ -4,8 +4,9 @@ ghost use Rattle.std.specs.Prelude.{◌≡◌, ◌⊎◌, ℕ, ◌<◌, ◌≤�
 ghost use Rattle.std.specs.List.Sorted.{IsStrictlyIncreasing};
 ghost use Rattle.fabric_core.specs.Rows.{numbers};
 ghost use Rattle.overlay_work.specs.Rounds.{AreHandsOf};
-ghost use Rattle.overlay_work.specs.declared.round.TheConstants.{MOST_HANDS};
+ghost use Rattle.overlay_work.specs.declared.round.RoundFault.TheVariants.{NoMemory as RoundMemory};
 ghost use Rattle.overlay_work.specs.declared.close.CloseFault.TheVariants.{NoThread as NoThreadForHand, NoMemory as CloseMemory};
+ghost use Rattle.overlay_work.specs.declared.round.TheConstants.{MOST_HANDS};
 ghost use Rattle.zone_tables.specs.Overlap.{IsOverlapTable};
 ghost use Rattle.parcel_runs.specs.OverlayReport.{IsWant};
 
@@ -68,11 +69,21 @@ fn begin<'t, 'h, H: Allocator>(
     let lists = deal(heap, sheet.ids(), workers)?;
     match Round::new(heap, sheet, zones, lists) {
         Ok(begun) => Ok(begun),
-        Err(RoundFault::NoMemory) => Err(ToolFault::NoMemory),
+        Err(fault) => Err(told_of_round(fault)),
+    }
+}
+
+/// What it is to the user that a round was not begun.
+fn told_of_round(fault: RoundFault) -> ToolFault<'static>
+    requires { fault ≡ RoundMemory }
+    ensures { result ≡ ToolFault.NoMemory }
+{
+    match fault {
+        RoundFault::NoMemory => ToolFault::NoMemory,
         // The lists share the sheet's ids, there are as many as hands may be, and both layers tile one city.
-        Err(
-            RoundFault::HandCount(_) | RoundFault::OtherCity | RoundFault::NotASharing(_),
-        ) => unreachable!(),
+        RoundFault::HandCount(_) | RoundFault::OtherCity | RoundFault::NotASharing(_) => {
+            unreachable!()
+        }
     }
 }
 
