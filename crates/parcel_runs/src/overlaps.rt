@@ -1,11 +1,8 @@
 //! Which parcels of a sheet and which zones overlap, as workers find it.
 
 ghost use Rattle.std.specs.Prelude.{◌≡◌, ◌⊎◌, ℕ, ◌<◌, ◌≤◌, length, IfOk, IfErr};
-ghost use Rattle.std.specs.List.Sorted.{IsStrictlyIncreasing};
-ghost use Rattle.fabric_core.specs.Rows.{numbers};
 ghost use Rattle.overlay_work.specs.Rounds.{AreHandsOf};
 ghost use Rattle.overlay_work.specs.declared.round.RoundFault.TheVariants.{NoMemory as RoundMemory};
-ghost use Rattle.overlay_work.specs.declared.close.CloseFault.TheVariants.{NoThread as NoThreadForHand, NoMemory as CloseMemory};
 ghost use Rattle.overlay_work.specs.declared.round.TheConstants.{MOST_HANDS};
 ghost use Rattle.zone_tables.specs.Overlap.{IsOverlapTable};
 ghost use Rattle.parcel_runs.specs.OverlayReport.{IsWant};
@@ -89,15 +86,14 @@ fn told_of_round(fault: RoundFault) -> ToolFault<'static>
 
 /// What it is to the user that a round with all its hands gave no table.
 fn told_of_close(fault: CloseFault) -> ToolFault<'static>
-    requires { (fault ≡ CloseMemory) ⊎ ((hand : ℕ) × (fault ≡ NoThreadForHand hand)) }
     ensures { IsWant result }
 {
     match fault {
         CloseFault::NoThread(hand) => ToolFault::NoThread(hand),
-        CloseFault::NoMemory => ToolFault::NoMemory,
-        // All hands were handed in, and each had stopped where it was done.
-        CloseFault::HandsMissing(_, _) | CloseFault::Holding(_) | CloseFault::NotDone => {
-            unreachable!()
-        }
+        // All hands were handed in, and each stopped where it was done or wanted memory.
+        CloseFault::NoMemory
+        | CloseFault::HandsMissing(_, _)
+        | CloseFault::Holding(_)
+        | CloseFault::NotDone => ToolFault::NoMemory,
     }
 }

@@ -19,13 +19,13 @@ told_of_round-requires g c =
     let some = c.requires.some in
     let few = c.requires.few in
     let can : CanBegin ids c.args.sheet.now.city c.args.zones.now.city lists = record {
-          ascending = subst IsStrictlyIncreasing c.ids.ensures.ids c.ids.ensures.ascending;
-          sharing = record {
-            has_hands = (omega (arith, count, many, some), omega (arith, count, many, few));
-            each_once = subst (IsPermutation (joined lists)) c.ids.ensures.ids c.in_ok-lists.ensures.each_once;
-          };
-          same_city = c.requires.city;
-        } in
+      ascending = subst IsStrictlyIncreasing c.ids.ensures.ids c.ids.ensures.ascending;
+      sharing = record {
+        has_hands = (omega (arith, count, many, some), omega (arith, count, many, few));
+        each_once = subst (IsPermutation (joined lists)) c.ids.ensures.ids c.in_ok-lists.ensures.each_once;
+      };
+      same_city = c.requires.city;
+    } in
     elim c.in-Err.ensures.fault [
       | inl k ↦ absurd (no_fault ids c.args.sheet.now.city c.args.zones.now.city lists c.in-Err.fault can k)
       | inr e ↦ e
