@@ -1,4 +1,3 @@
-pub mod Puts
 pub mod Passing
 pub mod TilingFaults
 pub mod CityLimit
@@ -8,3 +7,6 @@ pub mod AllTiles
 pub mod Places
 pub mod ClerkRuns
 pub mod RunFaults
+pub mod ZonedFaults
+pub mod DealtLists
+pub mod OverlayTexts

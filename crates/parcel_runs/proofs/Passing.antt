@@ -1,6 +1,6 @@
 -- An error that a `?` passes on as it is.
 use Rattle.std.proofs.Common.{◌≡◌, ◌∙◌, Result, Ok, Err, subst, sym}
-use Rattle.std.specs.Result.{IsErrAnd, IsErrOf, IfErr, MatchResult}
+use Rattle.std.specs.Result.{IsErrAnd, IsErrOf, IfOk, IfErr, MatchResult}
 
 -- what holds of the call's error holds of the answer's
 pub passed_on : {Y E : Type 0} (answer : Result Y E) (e : E) (P : E → Type 0) → IsErrAnd answer (λ y. y ≡ e) → P e → IsErrAnd answer P
@@ -26,3 +26,8 @@ passed_as (Err f) told P h k = k f h
 pub passed_is : {Y E : Type 0} (answer : Result Y E) (e o : E) → IsErrAnd answer (λ y. y ≡ e) → IsErrOf answer o → e ≡ o
 passed_is (Ok y) e o h k = absurd h
 passed_is (Err y) e o h k = let same : y ≡ o = cc in sym h ∙ same
+
+-- what holds of a value holds of it in other words
+pub ok_more : {Y E : Type 0} (P Q : Y → Type 0) (answer : Result Y E) → ((y : Y) → P y → Q y) → IfOk answer P → IfOk answer Q
+ok_more P Q (Ok y) more h = more y h
+ok_more P Q (Err e) more h = tt

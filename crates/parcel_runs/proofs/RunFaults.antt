@@ -79,12 +79,12 @@ told_behind city parcels unit clerks tiles fault told lines few are (inl h) same
 told_behind city parcels unit clerks tiles fault told lines few are (inr h) same none = inr (same ∙ h, none)
 
 -- ---- a fault of files is no failed write
-clerks_no_output : (clerk : ℕ) (clerks : List (List ℕ)) (fault : ToolFault) → IsClerkFault clerk clerks fault → fault ≡ Output → ⊥
+pub clerks_no_output : (clerk : ℕ) (clerks : List (List ℕ)) (fault : ToolFault) → IsClerkFault clerk clerks fault → fault ≡ Output → ⊥
 clerks_no_output clerk [] fault h e = h
 clerks_no_output clerk (file ∷ files) fault (inl h) e = let same = h.2 in cc
 clerks_no_output clerk (file ∷ files) fault (inr h) e = clerks_no_output (clerk + 1) files fault h.1 e
 
-layers_no_output : (city parcels : Files) (unit : LengthUnit) → IsTilesFault city parcels unit Output → ⊥
+pub layers_no_output : (city parcels : Files) (unit : LengthUnit) → IsTilesFault city parcels unit Output → ⊥
 layers_no_output city parcels unit (inl h) = h
 layers_no_output city parcels unit (inr h) = h.is_fault
 

@@ -15,7 +15,8 @@ use Rattle.fabric_core.specs.Faults.{IsCityFault, IsLoadFault}
 use Rattle.parcel_runs.specs.declared.fault.Role.{Role}
 use Rattle.parcel_runs.specs.declared.fault.Role.TheVariants.{City}
 use Rattle.parcel_runs.specs.declared.fault.ToolFault.{ToolFault}
-use Rattle.parcel_runs.specs.declared.fault.ToolFault.TheVariants.{Unreadable, UnreadableIndex, Output, File, CityCount, CityRing, NoTiling, ClerkCount, ClerkLine, PointLine, NoMemory}
+use Rattle.parcel_runs.specs.declared.fault.ToolFault.TheVariants.{Unreadable, UnreadableIndex, Output, File, CityCount, CityRing, NoTiling}
+use Rattle.parcel_runs.specs.declared.fault.ToolFault.TheVariants.{ClerkCount, ClerkLine, PointLine, NoThread, NoMemory}
 use Rattle.parcel_runs.specs.TilingFiles.{Files, IsCityOf, IsFaultOfCity, IsFaultOfLayer, IsTiledBy, told_of_city, told_of_load}
 
 -- a fault is told, or memory was wanted
@@ -38,6 +39,7 @@ city_unread files unit e reads refuses (UnreadableIndex stem) h = absurd h
 city_unread files unit e reads refuses (ClerkCount count) h = absurd h
 city_unread files unit e reads refuses (ClerkLine clerk line) h = absurd h
 city_unread files unit e reads refuses (PointLine number) h = absurd h
+city_unread files unit e reads refuses (NoThread hand) h = absurd h
 city_unread files unit e reads refuses Output h = absurd h
 city_unread files unit e reads refuses NoMemory h = absurd h
 
@@ -53,6 +55,7 @@ layer_unread role files unit city e reads refuses (UnreadableIndex stem) h = abs
 layer_unread role files unit city e reads refuses (ClerkCount count) h = absurd h
 layer_unread role files unit city e reads refuses (ClerkLine clerk line) h = absurd h
 layer_unread role files unit city e reads refuses (PointLine number) h = absurd h
+layer_unread role files unit city e reads refuses (NoThread hand) h = absurd h
 layer_unread role files unit city e reads refuses Output h = absurd h
 layer_unread role files unit city e reads refuses NoMemory h = absurd h
 
@@ -69,6 +72,7 @@ city_counted files unit found count e ne only sound (UnreadableIndex stem) h = a
 city_counted files unit found count e ne only sound (ClerkCount other) h = absurd h
 city_counted files unit found count e ne only sound (ClerkLine clerk line) h = absurd h
 city_counted files unit found count e ne only sound (PointLine number) h = absurd h
+city_counted files unit found count e ne only sound (NoThread hand) h = absurd h
 city_counted files unit found count e ne only sound Output h = absurd h
 city_counted files unit found count e ne only sound NoMemory h = absurd h
 
@@ -103,6 +107,7 @@ city_refused files unit found ring P one only sound refuses (UnreadableIndex ste
 city_refused files unit found ring P one only sound refuses (ClerkCount count) h = absurd h
 city_refused files unit found ring P one only sound refuses (ClerkLine clerk line) h = absurd h
 city_refused files unit found ring P one only sound refuses (PointLine number) h = absurd h
+city_refused files unit found ring P one only sound refuses (NoThread hand) h = absurd h
 city_refused files unit found ring P one only sound refuses Output h = absurd h
 city_refused files unit found ring P one only sound refuses NoMemory h = absurd h
 
@@ -170,6 +175,7 @@ layer_refused role files unit city found answer only sound refuses (UnreadableIn
 layer_refused role files unit city found answer only sound refuses (ClerkCount count) h = absurd h
 layer_refused role files unit city found answer only sound refuses (ClerkLine clerk line) h = absurd h
 layer_refused role files unit city found answer only sound refuses (PointLine number) h = absurd h
+layer_refused role files unit city found answer only sound refuses (NoThread hand) h = absurd h
 layer_refused role files unit city found answer only sound refuses Output h = absurd h
 layer_refused role files unit city found answer only sound refuses NoMemory h = absurd h
 
@@ -189,5 +195,6 @@ layer_has_none role files unit city found only sound none (UnreadableIndex stem)
 layer_has_none role files unit city found only sound none (ClerkCount count) h = h
 layer_has_none role files unit city found only sound none (ClerkLine clerk line) h = h
 layer_has_none role files unit city found only sound none (PointLine number) h = h
+layer_has_none role files unit city found only sound none (NoThread hand) h = h
 layer_has_none role files unit city found only sound none Output h = h
 layer_has_none role files unit city found only sound none NoMemory h = h

@@ -15,7 +15,8 @@ use Rattle.fabric_core.specs.declared.layer.LoadFault.TheVariants.{TooMany, Ring
 use Rattle.fabric_core.specs.Rows.{AreRefined}
 use Rattle.fabric_core.specs.Faults.{AreRingFaults, AreGaps}
 use Rattle.parcel_runs.specs.declared.fault.ToolFault.{ToolFault}
-use Rattle.parcel_runs.specs.declared.fault.ToolFault.TheVariants.{Unreadable, UnreadableIndex, Output, File, CityCount, CityRing, NoTiling, ClerkCount, ClerkLine, PointLine}
+use Rattle.parcel_runs.specs.declared.fault.ToolFault.TheVariants.{Unreadable, UnreadableIndex, Output, File, CityCount, CityRing, NoTiling}
+use Rattle.parcel_runs.specs.declared.fault.ToolFault.TheVariants.{ClerkCount, ClerkLine, PointLine, NoThread}
 use Rattle.parcel_runs.specs.declared.fault.ToolFault.TheVariants.{NoMemory}
 use Rattle.parcel_runs.specs.TilingFiles.{Files, IsCityOf}
 
@@ -76,6 +77,7 @@ AreLinesBefore city parcels unit (CityRing fault) lines = lines ≡ []
 AreLinesBefore city parcels unit (ClerkCount count) lines = lines ≡ []
 AreLinesBefore city parcels unit (ClerkLine clerk line) lines = lines ≡ []
 AreLinesBefore city parcels unit (PointLine number) lines = lines ≡ []
+AreLinesBefore city parcels unit (NoThread hand) lines = lines ≡ []
 AreLinesBefore city parcels unit (Unreadable path) lines = lines ≡ []
 AreLinesBefore city parcels unit (UnreadableIndex stem) lines = lines ≡ []
 AreLinesBefore city parcels unit Output lines = lines ≡ []

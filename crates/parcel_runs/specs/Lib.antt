@@ -1,5 +1,4 @@
 pub mod AreaReport
-pub mod Output
 pub mod Faults
 pub mod Sources
 pub mod TilingFiles
@@ -9,7 +8,11 @@ pub mod FaultLines
 pub mod ClerkRuns
 pub mod RunFaults
 pub mod LocateReport
+pub mod OverlayReport
 pub mod own
 pub use Rattle.line_files.specs.TextLines
 pub use Rattle.line_files.specs.TextNumbers
 pub use Rattle.line_files.specs.PointLines
+pub use Rattle.text_puts.specs.Beginnings
+pub use Rattle.zone_tables.specs.Overlap
+pub use Rattle.zone_tables.specs.Report

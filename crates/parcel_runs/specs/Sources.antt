@@ -7,7 +7,8 @@ use Rattle.parcel_runs.specs.declared.sources.Source.{Source}
 use Rattle.parcel_runs.specs.declared.sources.PathFault.{PathFault}
 use Rattle.parcel_runs.specs.declared.sources.PathFault.TheVariants.{NotOpened, NotRead}
 use Rattle.parcel_runs.specs.declared.fault.ToolFault.{ToolFault}
-use Rattle.parcel_runs.specs.declared.fault.ToolFault.TheVariants.{Unreadable, UnreadableIndex, Output, File, CityCount, CityRing, NoTiling, ClerkCount, ClerkLine, PointLine, NoMemory}
+use Rattle.parcel_runs.specs.declared.fault.ToolFault.TheVariants.{Unreadable, UnreadableIndex, Output, File, CityCount, CityRing, NoTiling}
+use Rattle.parcel_runs.specs.declared.fault.ToolFault.TheVariants.{ClerkCount, ClerkLine, PointLine, NoThread, NoMemory}
 
 -- the bytes of the index file, where there is one
 abbrev pub index_of : {A : Type 0} → Source A → Option (List ℕ)
@@ -34,6 +35,7 @@ IsTextBy reads path (Err (NoTiling role fault)) = ⊥
 IsTextBy reads path (Err (ClerkCount count)) = ⊥
 IsTextBy reads path (Err (ClerkLine clerk line)) = ⊥
 IsTextBy reads path (Err (PointLine number)) = ⊥
+IsTextBy reads path (Err (NoThread hand)) = ⊥
 
 -- the index is what was read beside the main file; there is none where nothing can be opened there, or the main file's path has no .shp
 abbrev pub IsIndexBy : (List ℕ → Result (List ℕ) PathFault → Type 0) → List ℕ → Option (List ℕ) → Type 0
@@ -62,3 +64,4 @@ IsSourceBy reads path (Err (NoTiling role fault)) = ⊥
 IsSourceBy reads path (Err (ClerkCount count)) = ⊥
 IsSourceBy reads path (Err (ClerkLine clerk line)) = ⊥
 IsSourceBy reads path (Err (PointLine number)) = ⊥
+IsSourceBy reads path (Err (NoThread hand)) = ⊥

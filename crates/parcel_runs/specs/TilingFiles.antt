@@ -16,7 +16,8 @@ use Rattle.parcel_runs.specs.declared.sources.Source.{Source}
 use Rattle.parcel_runs.specs.declared.fault.Role.{Role}
 use Rattle.parcel_runs.specs.declared.fault.Role.TheVariants.{City, Parcels}
 use Rattle.parcel_runs.specs.declared.fault.ToolFault.{ToolFault}
-use Rattle.parcel_runs.specs.declared.fault.ToolFault.TheVariants.{Unreadable, UnreadableIndex, Output, File, CityCount, CityRing, NoTiling, ClerkCount, ClerkLine, PointLine, NoMemory}
+use Rattle.parcel_runs.specs.declared.fault.ToolFault.TheVariants.{Unreadable, UnreadableIndex, Output, File, CityCount, CityRing, NoTiling}
+use Rattle.parcel_runs.specs.declared.fault.ToolFault.TheVariants.{ClerkCount, ClerkLine, PointLine, NoThread, NoMemory}
 use Rattle.parcel_runs.specs.Sources.{index_of}
 
 -- the bytes of a layer's files
@@ -62,6 +63,7 @@ IsFaultOfCity files unit (NoTiling role fault) = ⊥
 IsFaultOfCity files unit (ClerkCount count) = ⊥
 IsFaultOfCity files unit (ClerkLine clerk line) = ⊥
 IsFaultOfCity files unit (PointLine number) = ⊥
+IsFaultOfCity files unit (NoThread hand) = ⊥
 IsFaultOfCity files unit (Unreadable path) = ⊥
 IsFaultOfCity files unit (UnreadableIndex stem) = ⊥
 IsFaultOfCity files unit Output = ⊥
@@ -98,6 +100,7 @@ IsFaultOfLayer role files unit city (CityRing fault) = ⊥
 IsFaultOfLayer role files unit city (ClerkCount count) = ⊥
 IsFaultOfLayer role files unit city (ClerkLine clerk line) = ⊥
 IsFaultOfLayer role files unit city (PointLine number) = ⊥
+IsFaultOfLayer role files unit city (NoThread hand) = ⊥
 IsFaultOfLayer role files unit city (Unreadable path) = ⊥
 IsFaultOfLayer role files unit city (UnreadableIndex stem) = ⊥
 IsFaultOfLayer role files unit city Output = ⊥

@@ -10,11 +10,11 @@ ghost use Rattle.parcel_runs.specs.declared.fault.Role.{Role as RoleName};
 
 use crate::fault::{Role, ToolFault};
 use crate::layers::read_rings;
-use crate::output::put_all;
 use crate::report::area_text;
 use crate::sources::Source;
 use geo_exact::{ByteOut, Unit};
 use std::alloc::Allocator;
+use text_puts::put_all;
 
 /// Writes, for each polygon of a layer in order, a line with its record's number and twice its area without sign, in
 /// square centimetres. The files are checked whole before the first byte is written.

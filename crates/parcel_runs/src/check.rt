@@ -15,13 +15,13 @@ ghost use Rattle.parcel_runs.specs.own.Registers.{register_of_parcels, city_of_p
 use crate::all_tiles::load_edited_or_lines;
 use crate::edited::{Edited, Parcels};
 use crate::fault::ToolFault;
-use crate::output::put_all;
 use crate::sources::Source;
 use crate::tiles::load_edited;
 use geo_exact::{ByteOut, Unit, area2};
 use itoa::Buffer;
 use shp_files::a_layer_file_is_within_the_limits;
 use std::alloc::{AllocError, Allocator};
+use text_puts::put_all;
 
 /// Writes `tiling N AREA2` where the parcels tile their city exactly: how many they are, and twice the city's area in square
 /// centimetres. Before that the edits of clerks' files are made, one file after the other, and a line for each is written;

@@ -14,7 +14,7 @@ ghost use Rattle.parcel_runs.specs.own.Registers.{register_of_parcels, city_of_p
 use crate::attempts::try_all;
 use crate::clerks::{CLERKS, read_clerks};
 use crate::fault::ToolFault;
-use fabric_core::{At, Fabric, Layer, Shapes};
+use fabric_core::{At, Fabric, Layer, Shapes, Sheet};
 use geo_exact::Corner;
 use std::alloc::{AllocError, Allocator};
 
@@ -84,6 +84,21 @@ impl<'h, H: Allocator> Parcels<'h, H> {
         match self {
             Parcels::Read(layer) => layer.city(),
             Parcels::Changed(fabric) => fabric.city(),
+        }
+    }
+
+    /// A sheet of the parcels, with the journal of the edits that led there.
+    pub fn into_sheet(self) -> Result<Sheet<'h, H>, AllocError>
+        ensures now { IfOk result (λ sheet. sheet.now ≡ (register_of_parcels self.entry).now) }
+        ensures journal { IfOk result (λ sheet. sheet.journal ≡ (register_of_parcels self.entry).journal) }
+        ensures city { IfOk result (λ sheet. sheet.city ≡ city_of_parcels self.entry) }
+    {
+        match self {
+            Parcels::Read(layer) => match Fabric::open(layer) {
+                Ok(fabric) => fabric.sheet(),
+                Err(_) => Err(AllocError),
+            },
+            Parcels::Changed(fabric) => fabric.sheet(),
         }
     }
 }

@@ -3,6 +3,7 @@ ghost use Rattle.parcel_runs.specs.declared.fault.ToolFault.TheVariants.{NoMemor
 
 use fabric_core::{CityFault, LoadFault};
 use geo_exact::{CoordFault, Failed};
+use overlay_work::WriteFault;
 use ring_core::RingFault;
 use shp_files::{FaultKind, FileFault, FileName};
 use std::alloc::{AllocError, AllocFailed};
@@ -55,6 +56,8 @@ pub enum ToolFault<'a> {
     ClerkLine(u32, u64),
     /// L1: the line of this number, counted from 1, of the points' file is no point.
     PointLine(usize),
+    /// O7: the system refused a thread for the hand of this number, counted from 0.
+    NoThread(usize),
     /// A growth was refused.
     NoMemory,
 }
@@ -79,6 +82,14 @@ impl<'a> From<Failed> for ToolFault<'a> {
     ghost from_gives = { λ _ fault. fault ≡ Output };
 
     fn from(_: Failed) -> ToolFault<'a> {
+        ToolFault::Output
+    }
+}
+
+impl<'a> From<WriteFault> for ToolFault<'a> {
+    ghost from_gives = { λ _ fault. fault ≡ Output };
+
+    fn from(_: WriteFault) -> ToolFault<'a> {
         ToolFault::Output
     }
 }
@@ -116,6 +127,7 @@ impl<'a> fmt::Display for ToolFault<'a> {
             ToolFault::ClerkCount(count) => write!(f, "K1 {count}"),
             ToolFault::ClerkLine(clerk, line) => write!(f, "clerk {clerk}: L1 {line}"),
             ToolFault::PointLine(number) => write!(f, "points: L1 {number}"),
+            ToolFault::NoThread(hand) => write!(f, "O7 {hand}"),
             ToolFault::NoMemory
             | ToolFault::CityRing(CityFault::NoMemory)
             | ToolFault::NoTiling(_, LoadFault::NoMemory) => write!(f, "no memory"),

@@ -1,5 +1,5 @@
 //! What runs of the program do: layers read from their files, their areas told, whether they tile their city, where points
-//! lie among their parcels, edits of clerks made, and layers written anew.
+//! lie among their parcels, which parcels and zones overlap, edits of clerks made, and layers written anew.
 //!
 //! Each call answers from the bytes of the files, and says to which layer a fault belongs.
 #![tactic(auto)]
@@ -10,6 +10,7 @@ mod attempts;
 pub mod check;
 mod clerk_lines;
 mod clerks;
+mod dealing;
 mod edited;
 pub mod export;
 mod fault;
@@ -18,17 +19,19 @@ mod laws;
 mod layers;
 pub mod locate;
 mod numbers;
-mod output;
+mod overlaps;
+pub mod overlay;
 mod replace;
 mod report;
 mod sources;
 mod tiles;
+mod zoned;
 
 pub use attempts::Attempt;
 pub use clerks::{CLERKS, refuse_many_clerks};
 pub use fault::{Role, ToolFault};
 pub use laws::{a_run_of_edits_is_lawful, without_clerks_nothing_changes};
 pub use line_files::{PointsFault, read_corner, read_points};
-pub use output::put_all;
 pub use replace::replace_layer;
 pub use sources::{Disk, Folder, PathFault, Source, StandardInput, read_source, read_text};
+pub use text_puts::put_all;

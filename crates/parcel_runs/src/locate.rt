@@ -18,7 +18,6 @@ ghost use Rattle.parcel_runs.specs.own.Registers.{register_of_parcels};
 use crate::edited::{Edited, Parcels};
 use crate::fault::ToolFault;
 use crate::numbers::push_corner;
-use crate::output::put_all;
 use crate::sources::Source;
 use crate::tiles::load_edited;
 use fabric_core::At;
@@ -26,6 +25,7 @@ use geo_exact::{ByteOut, Corner, Unit};
 use itoa::Buffer;
 use line_files::{PointsFault, read_points};
 use std::alloc::{AllocError, Allocator};
+use text_puts::put_all;
 
 /// Writes for each point in order, where the parcels tile their city, `X Y inside ID`, `X Y edge ID ID ..` with all parcels
 /// on whose edges it lies, or `X Y outside`. Before that the edits of clerks' files are made, one file after the other, and

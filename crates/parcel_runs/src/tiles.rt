@@ -76,7 +76,7 @@ pub fn told_of_load(role: Role, fault: LoadFault) -> ToolFault<'static>
 }
 
 /// The layer of these files in the city; the layer has this role in the run.
-fn read_tiles<'h, H: Allocator, A: Allocator>(
+pub fn read_tiles<'h, H: Allocator, A: Allocator>(
     heap: &'h H,
     city: &City<'h, H>,
     role: Role,

@@ -1,13 +1,15 @@
-ghost use Rattle.std.specs.Prelude.{◌≡◌, ◌≢◌, List, map, Some, IfOk, IfSome, IfNone, codes};
+ghost use Rattle.std.specs.Prelude.{◌≡◌, ◌≢◌, ◌<◌, ◌≤◌, List, map, Some, IfOk, IfSome, IfNone, codes};
 ghost use Rattle.clap.specs.Words.{first_value, found_of};
 ghost use Rattle.geo_exact.specs.declared.corner.Corner.{Corner};
+ghost use Rattle.overlay_work.specs.declared.round.TheConstants.{MOST_HANDS};
 ghost use Rattle.line_files.specs.TextNumbers.{AreCornerWords};
 ghost use Rattle.parcel_tool.specs.Arguments.{unit_word};
 ghost use Rattle.geo_exact.specs.declared.coord.Unit.{Unit as LengthUnit};
 
 use clap::error::ErrorKind;
-use clap::{Arg, ArgAction, ArgGroup, ArgMatches, Command, Error};
+use clap::{Arg, ArgAction, ArgGroup, ArgMatches, Command, Error, value_parser};
 use geo_exact::{Corners, Unit};
+use overlay_work::MOST_HANDS;
 use parcel_runs::read_corner;
 use std::alloc::{AllocError, Global};
 use std::convert::AsStr;
@@ -43,6 +45,24 @@ pub enum Request<'a> {
         /// The points.
         points: Points<'a>,
     },
+    /// Which parcels and which zones overlap.
+    Overlay {
+        /// What is read.
+        inputs: Inputs<'a>,
+        /// The path of the main file of the zones' layer.
+        zones: &'a str,
+        /// How many share the work.
+        workers: Workers,
+    },
+}
+
+/// How many workers share the parcels: 1 to 64.
+#[derive(Clone, Copy, Debug, PartialEq, Eq)]
+pub struct Workers {
+    /// Their number.
+    pub count: usize,
+    pub ghost some: { 0 < count },
+    pub ghost few: { count ≤ MOST_HANDS },
 }
 
 /// What a request about parcels reads.
@@ -80,6 +100,7 @@ pub fn parse<'a, S: AsStr>(alloc: Global, words: &'a [S]) -> Result<Request<'a>,
         Some(("area", given)) => area_request(given),
         Some(("check", given)) => check_request(alloc, given)?,
         Some(("export", given)) => export_request(alloc, given)?,
+        Some(("overlay", given)) => overlay_request(alloc, given)?,
         Some(("locate", given)) => match points_of(alloc, given)? {
             Some(points) => locate_request(alloc, given, points)?,
             None => return Err(command.error(ErrorKind::ValueValidation, AT_HELP)?),
@@ -136,6 +157,34 @@ fn locate_request<'a>(
         return Ok(None);
     };
     Ok(Some(Request::Locate { inputs, points }))
+}
+
+/// What the words of `overlay` ask for.
+fn overlay_request<'a>(
+    alloc: Global,
+    given: &ArgMatches<'a>,
+) -> Result<Option<Request<'a>>, AllocError> {
+    let (Some(inputs), Some(zones), Some(workers)) = (
+        inputs_of(alloc, given)?,
+        given.get_str("ZONES"),
+        workers_of(given),
+    ) else {
+        return Ok(None);
+    };
+    Ok(Some(Request::Overlay {
+        inputs,
+        zones,
+        workers,
+    }))
+}
+
+/// How many workers were asked for.
+fn workers_of(given: &ArgMatches<'_>) -> Option<Workers> {
+    let count = given.get_one("workers")?;
+    if count < 1 || count > MOST_HANDS {
+        return None;
+    }
+    Some(Workers { count })
 }
 
 /// What a request about parcels reads; `None` where a word is missing.
@@ -212,7 +261,8 @@ fn tool_command<'a>(alloc: Global) -> Result<Command<'a>, AllocError> {
         .subcommand(area_command(alloc)?)?
         .subcommand(check_command(alloc)?)?
         .subcommand(export_command(alloc)?)?
-        .subcommand(locate_command(alloc)?)
+        .subcommand(locate_command(alloc)?)?
+        .subcommand(overlay_command(alloc)?)
 }
 
 fn area_command<'a>(alloc: Global) -> Result<Command<'a>, AllocError> {
@@ -276,6 +326,32 @@ fn locate_command<'a>(alloc: Global) -> Result<Command<'a>, AllocError> {
         .arg(points_file(alloc))?
         .arg(clerk(alloc))?
         .group(asked(alloc)?)
+}
+
+fn overlay_command<'a>(alloc: Global) -> Result<Command<'a>, AllocError> {
+    Command::new(alloc, "overlay")
+        .about("Prints which parcels and which zones overlap, and which parcels are within one zone")
+        .arg(file(alloc, "CITY", "The main file of the city's layer, .shp"))?
+        .arg(file(
+            alloc,
+            "PARCELS",
+            "The main file of the parcels' layer, .shp",
+        ))?
+        .arg(file(alloc, "ZONES", "The main file of the zones' layer, .shp"))?
+        .arg(unit(alloc, "The unit of the files' coordinates"))?
+        .arg(clerk(alloc))?
+        .arg(workers(alloc))
+}
+
+/// How many threads share the parcels.
+fn workers<'a>(alloc: Global) -> Arg<'a> {
+    Arg::new(alloc, "workers")
+        .long("workers")
+        .action(ArgAction::Set)
+        .value_name("N")
+        .value_parser(value_parser!(usize).range(1..=64))
+        .default_value("4")
+        .help("How many threads share the parcels, from 1 to 64")
 }
 
 /// The points, which have to be given in one way.

@@ -5,7 +5,7 @@ mod arguments;
 #[cfg(test)]
 mod tests;
 
-use arguments::{Inputs, Points, Request};
+use arguments::{Inputs, Points, Request, Workers};
 use clap::Error;
 use clap::error::ErrorKind;
 use geo_exact::{ByteOut, Counted};
@@ -13,6 +13,7 @@ use parcel_runs::area::area;
 use parcel_runs::check::{check, check_all};
 use parcel_runs::export::export;
 use parcel_runs::locate::{locate, locate_text};
+use parcel_runs::overlay::overlay;
 use parcel_runs::{
     Disk, Source, StandardInput, ToolFault, put_all, read_source, read_text, refuse_many_clerks,
     replace_layer,
@@ -21,6 +22,8 @@ use std::alloc::Global;
 use std::io::Input;
 use std::process::ExitCode;
 use std::rt::{Env, Files};
+use std::sync::Wait;
+use std::thread::Threads;
 use std::{env, io};
 
 /// The status of a run that a fault ended.
@@ -53,7 +56,7 @@ fn command_line<R: Env + AllocGlobal>(rt: &R) -> io::Result<Vec<String>> {
 }
 
 /// Does what the command line asks for.
-fn answer<'a, R: Files + Input + Print + AllocGlobal>(
+fn answer<'a, R: Files + Input + Print + Threads + Wait + Sync + AllocGlobal>(
     rt: &R,
     request: Request<'a>,
 ) -> Result<(), ToolFault<'a>> {
@@ -81,6 +84,11 @@ fn answer<'a, R: Files + Input + Print + AllocGlobal>(
             Ok(())
         }
         Request::Locate { inputs, points } => answer_locate(rt, &inputs, &points, &mut out),
+        Request::Overlay {
+            inputs,
+            zones,
+            workers,
+        } => answer_overlay(rt, &inputs, zones, workers, &mut out),
     }
 }
 
@@ -106,6 +114,33 @@ fn answer_locate<'a, R: Files + Input + AllocGlobal, W: ByteOut>(
     }
 }
 
+/// Tells which parcels and which zones overlap.
+fn answer_overlay<'a, R: Files + Threads + Wait + Sync + AllocGlobal, W: ByteOut>(
+    rt: &R,
+    inputs: &Inputs<'a>,
+    zones: &'a str,
+    workers: Workers,
+    out: &mut W,
+) -> Result<(), ToolFault<'a>> {
+    let heap = rt.alloc();
+    refuse_many_clerks(inputs.clerks.len())?;
+    let city = read_source(&Disk(rt), heap, inputs.city)?;
+    let parcels = read_source(&Disk(rt), heap, inputs.parcels)?;
+    let zones = read_source(&Disk(rt), heap, zones)?;
+    let clerks = read_clerks(rt, inputs)?;
+    overlay(
+        rt,
+        &heap,
+        &city,
+        &parcels,
+        &zones,
+        inputs.unit,
+        &clerks,
+        workers.count,
+        out,
+    )
+}
+
 /// The files of a run about parcels.
 #[derive(Drop)]
 struct Sources {
@@ -127,15 +162,25 @@ fn read_inputs<'a, R: Files + AllocGlobal>(
     let alloc = rt.alloc();
     let city = read_source(&Disk(rt), alloc, inputs.city)?;
     let parcels = read_source(&Disk(rt), alloc, inputs.parcels)?;
-    let mut clerks = Vec::new(alloc);
-    for path in inputs.clerks.as_slice() {
-        clerks.push(read_text(&Disk(rt), alloc, *path)?)?;
-    }
+    let clerks = read_clerks(rt, inputs)?;
     Ok(Sources {
         city,
         parcels,
         clerks,
     })
+}
+
+/// Reads the clerks' files, in their order.
+fn read_clerks<'a, R: Files + AllocGlobal>(
+    rt: &R,
+    inputs: &Inputs<'a>,
+) -> Result<Vec<Vec<u8>>, ToolFault<'a>> {
+    let alloc = rt.alloc();
+    let mut clerks = Vec::new(alloc);
+    for path in inputs.clerks.as_slice() {
+        clerks.push(read_text(&Disk(rt), alloc, *path)?)?;
+    }
+    Ok(clerks)
 }
 
 /// The text of points at a path; `-` is standard input.

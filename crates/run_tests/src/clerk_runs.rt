@@ -38,7 +38,7 @@ const BAY: [&[Place]; 3] = [
 ];
 
 /// Clerks' files of these texts.
-fn files(alloc: Global, texts: &[&str]) -> Result<Vec<Vec<u8>>, AllocError> {
+pub fn files(alloc: Global, texts: &[&str]) -> Result<Vec<Vec<u8>>, AllocError> {
     let mut files = Vec::new(alloc);
     for text in texts {
         files.push(Vec::from_slice(alloc, text.as_bytes())?)?;

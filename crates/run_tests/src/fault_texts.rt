@@ -14,6 +14,7 @@ fn tells_faults(rt: HostRuntime) -> Result<(), Fail> {
         (ToolFault::ClerkCount(9), "K1 9"),
         (ToolFault::ClerkLine(2, 5), "clerk 2: L1 5"),
         (ToolFault::PointLine(3), "points: L1 3"),
+        (ToolFault::NoThread(63), "O7 63"),
         (ToolFault::NoMemory, "no memory"),
     ] {
         assert_eq!(rt; format!(in rt.alloc(); "{fault}")?.as_str(), want);

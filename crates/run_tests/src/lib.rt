@@ -1,4 +1,4 @@
-//! Tests of runs: what they print and write, what clerks' edits lead to, the texts of faults, which files are read and how
+//! Tests of runs: what they print and write, what clerks' edits lead to, which zones overlap, the texts of faults, which files are read and how
 //! files are replaced, and what a run answers whose growths are refused.
 #![tactic(auto)]
 
@@ -14,6 +14,8 @@ mod fault_texts;
 mod index_runs;
 #[cfg(test)]
 mod locate_runs;
+#[cfg(test)]
+mod overlay_runs;
 #[cfg(test)]
 mod point_lines;
 #[cfg(test)]

@@ -1,0 +1,5 @@
+pub mod Counts
+pub mod Places
+pub mod Views
+pub mod Steps
+pub mod Orders

@@ -1,0 +1,14 @@
+//! Places of lists, claimed by many hands at once: each place by one hand, with no lock, by adding to one word a list.
+#![tactic(auto)]
+
+mod claimant;
+mod claims;
+mod gathering;
+mod plays;
+mod view;
+
+pub use claimant::{Claimant, open};
+pub use claims::Claims;
+pub use gathering::Gathering;
+pub use plays::{Claim, Confirm, PartOff, Rule, Together};
+pub use view::View;

@@ -1,0 +1,11 @@
+pub mod Places
+pub mod Finding
+pub mod Boxes
+pub mod Hands
+pub mod Differences
+pub mod Starts
+pub mod HandsIn
+pub mod Gathering
+pub mod Tables
+pub mod Sorting
+pub mod Faults

@@ -1,0 +1,5 @@
+use Rattle.std.proofs.Common.{◌≡◌, length, map, take}
+use Rattle.overlay_work.proofs.sharing.lengths_of.Given as goal
+
+abbrev pub invariant-loop-list : goal.invariant-loop-list
+invariant-loop-list g l = l.lengths.items ≡ map (λ list. length list.items) (take l.list-index l.lists)

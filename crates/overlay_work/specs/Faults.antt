@@ -1,0 +1,42 @@
+-- Why a round is not begun, and why it is not closed: the first reason that applies (this product's own order).
+use Rattle.std.specs.Prelude.{◌≡◌, ◌≢◌, ℕ, ◌≤◌, List, length, None, IsSome}
+use Rattle.std.specs.List.{AllByRecursion, Contains}
+use Rattle.geo_exact.specs.declared.corner.Corner.{Corner}
+use Rattle.overlay_work.specs.declared.round.RoundFault.{RoundFault}
+use Rattle.overlay_work.specs.declared.round.RoundFault.TheVariants.{HandCount, OtherCity, NotASharing, NoMemory}
+use Rattle.overlay_work.specs.declared.close.CloseFault.{CloseFault}
+use Rattle.overlay_work.specs.declared.close.CloseFault.TheVariants.{NoThread, HandsMissing, Holding, NotDone, NoMemory as CloseMemory}
+use Rattle.overlay_work.specs.Sharing.{HasHands, IsLeastOutOfPlace}
+use Rattle.overlay_work.specs.Rounds.{Task, Progress, HasAllEnds}
+
+-- A round of a sheet with these ids and this city, and zones of that city, is refused: there is no list, or more than 64 (O3); the zones' city is
+-- another (O2); an id is out of place (O1).
+abbrev pub IsRoundFault : (ids : List ℕ) → (city zones_city : List Corner) → (lists : List (List ℕ)) → RoundFault → Type 0
+IsRoundFault ids city zones_city lists (HandCount count) = (HasHands lists → ⊥) × (count ≡ length lists)
+IsRoundFault ids city zones_city lists OtherCity = HasHands lists × (zones_city ≢ city)
+IsRoundFault ids city zones_city lists (NotASharing id) = HasHands lists × (zones_city ≡ city) × IsLeastOutOfPlace ids lists id
+IsRoundFault ids city zones_city lists NoMemory = ⊥
+
+-- as many hands are handed in as were made
+abbrev pub AreAllIn : Task → List Progress → Type 0
+AreAllIn task hands = length hands ≡ length task.lists
+
+-- the hand with this number holds a parcel, and of all that do it has the least number
+pub record IsLeastHolding (hands : List Progress) (number : ℕ) : Type 0 where
+  pub hand : Progress
+  pub is_in : Contains hands hand
+  pub has_number : hand.number ≡ number
+  pub holds : IsSome hand.holds
+  pub is_least : AllByRecursion (λ other. IsSome other.holds → number ≤ other.number) hands
+
+-- no hand holds a parcel
+abbrev pub HoldNothing : List Progress → Type 0
+HoldNothing hands = AllByRecursion (λ hand. hand.holds ≡ None) hands
+
+-- A round is not closed: hands are missing (O6); a hand holds a parcel (O5); no hand has found each list at its end (O4).
+abbrev pub IsCloseFault : Task → List Progress → CloseFault → Type 0
+IsCloseFault task hands (NoThread number) = ⊥
+IsCloseFault task hands (HandsMissing made here) = (AreAllIn task hands → ⊥) × (made ≡ length task.lists) × (here ≡ length hands)
+IsCloseFault task hands (Holding number) = AreAllIn task hands × IsLeastHolding hands number
+IsCloseFault task hands NotDone = AreAllIn task hands × HoldNothing hands × AllByRecursion (λ hand. HasAllEnds hand → ⊥) hands
+IsCloseFault task hands CloseMemory = ⊥

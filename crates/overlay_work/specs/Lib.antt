@@ -1,0 +1,4 @@
+pub mod Sharing
+pub mod Rounds
+pub mod Faults
+pub mod own

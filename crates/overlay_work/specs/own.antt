@@ -1,0 +1,5 @@
+-- Words of the code's own bookkeeping: no public contract speaks of them, and a reader need not believe them.
+pub mod Kept
+pub mod Differences
+pub mod Starting
+pub mod Gathered

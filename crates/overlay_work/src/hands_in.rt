@@ -1,0 +1,107 @@
+//! What hands that are handed in show, and what they did together.
+
+ghost use Rattle.std.specs.Prelude.{◌≡◌, ◌↔◌, List, [], ◌∷◌, ◌++◌, false, length, IsTrue, None, Some, IfOk, IfErr, OnOk, MatchOption, flat_map, IsPermutation};
+ghost use Rattle.std.specs.List.{AllByRecursion};
+ghost use Rattle.fabric_core.specs.Rows.{numbers};
+ghost use Rattle.overlay_work.specs.Rounds.{Progress, HasAllEnds, AreHandsOf};
+ghost use Rattle.overlay_work.specs.Faults.{IsCloseFault, IsLeastHolding, HoldNothing};
+ghost use Rattle.overlay_work.specs.own.Gathered.{AreDone, LeastIs, SomeHasAllEnds, ArePairsOfHands};
+
+use crate::close::CloseFault;
+use crate::hand::Hand;
+use crate::work::Work;
+use overlay_claims::Gathering;
+use std::alloc::{AllocError, Allocator};
+
+/// Whether a round can be closed with these hands, or why not.
+pub(crate) fn check_hands<'t, 'h, H: Allocator>(
+    work: &Work<'t, 'h, H>,
+    hands: &[Hand<'t, 'h, H>],
+) -> Result<(), CloseFault>
+    ensures ok { OnOk result (AreDone work.now hands.now) }
+    ensures fault { IfErr result (IsCloseFault work.now hands.now) }
+{
+    if hands.len() != work.len() {
+        return Err(CloseFault::HandsMissing(work.len(), hands.len()));
+    }
+    if let Some(number) = least_holding(hands) {
+        return Err(CloseFault::Holding(number));
+    }
+    if !some_is_done(hands) {
+        return Err(CloseFault::NotDone);
+    }
+    Ok(())
+}
+
+/// The least number of a hand that holds a parcel, where there is one.
+fn least_holding<'t, 'h, H: Allocator>(hands: &[Hand<'t, 'h, H>]) -> Option<usize>
+    ensures { MatchOption result (HoldNothing hands.now) (IsLeastHolding hands.now) }
+{
+    let mut least = None;
+    for hand in hands {
+        least = lesser(least, hand);
+    }
+    least
+}
+
+/// The lesser of a number and a hand's, where the hand holds a parcel.
+fn lesser<'t, 'h, H: Allocator>(least: Option<usize>, hand: &Hand<'t, 'h, H>) -> Option<usize>
+    ensures { (hands : List Progress) → LeastIs least hands → LeastIs result (hands ++ hand.now ∷ []) }
+{
+    if !hand.holds_one() {
+        return least;
+    }
+    match least {
+        Some(number) => Some(number.min(hand.number())),
+        None => Some(hand.number()),
+    }
+}
+
+/// Whether a hand has found each list at its end.
+fn some_is_done<'t, 'h, H: Allocator>(hands: &[Hand<'t, 'h, H>]) -> bool
+    ensures yes { IsTrue result → SomeHasAllEnds hands.now }
+    ensures no { result ≡ false → AllByRecursion (λ hand. HasAllEnds hand → ⊥) hands.now }
+{
+    for hand in hands {
+        if hand.is_done() {
+            return true;
+        }
+    }
+    false
+}
+
+/// All pairs that hands kept.
+pub(crate) fn all_pairs<'t, 'h, H: Allocator>(
+    heap: &'h H,
+    hands: &[Hand<'t, 'h, H>],
+) -> Result<Vec<(u64, u64), &'h H>, AllocError>
+    ensures { IfOk result (λ pairs. ArePairsOfHands hands.now pairs.items) }
+{
+    let mut pairs = Vec::new(heap);
+    for hand in hands {
+        pairs.extend_from_slice(hand.kept())?;
+    }
+    Ok(pairs)
+}
+
+/// Puts together what the hands claimed: each parcel was claimed by one of them, once.
+pub(crate) fn confirm<'t, 'h, H: Allocator>(
+    work: &Work<'t, 'h, H>,
+    hands: Vec<Hand<'t, 'h, H>, &'h H>,
+)
+    requires at_work { AreHandsOf work.now hands.items }
+    requires done { AreDone work.now hands.items }
+    ensures { IsPermutation (flat_map (λ hand. hand.did) hands.entry.items) (numbers work.now.rows) }
+{
+    work.stands();
+    let claims = work.claims();
+    let mut rest = hands.into_iter();
+    let Some(first) = rest.next() else {
+        unreachable!();
+    };
+    let mut all = Gathering::of(first.into_claimant());
+    for hand in rest {
+        all.add(claims, hand.into_claimant());
+    }
+    all.confirm(claims);
+}

@@ -1,0 +1,20 @@
+//! The overlay of a sheet's parcels with the zones of its city, by hands that share the work: every pair whose interiors meet, for every
+//! sharing of the parcels and every schedule of the hands.
+#![tactic(auto)]
+
+mod close;
+mod gate;
+mod hand;
+mod hands_in;
+mod round;
+mod run;
+mod sharing;
+mod tests_of_parcels;
+mod work;
+
+pub use close::{CloseFault, RoundBack};
+pub use gate::Gate;
+pub use hand::{Hand, Step};
+pub use round::{MOST_HANDS, Round, RoundFault};
+pub use run::run_round;
+pub use zone_tables::{Table, WriteFault, write_report};

@@ -1,0 +1,83 @@
+-- The text of an overlay, from what was loaded, edited and found; and that no fault of files is a failed write.
+use Rattle.std.proofs.Common.{◌≡◌, ◌⊎◌, inl, inr, ℕ, List, length, ◌++◌, Option, Result, Ok, Err, refl, sym, ◌∙◌, ap, subst}
+use Rattle.std.specs.Result.{OnOk, OnErr, IfOk, IfErr, IsErrOf}
+use Rattle.geo_exact.specs.declared.coord.Unit.{Unit as LengthUnit}
+use Rattle.fabric_core.specs.Rows.{Tiles}
+use Rattle.zone_tables.specs.Overlap.{Overlay}
+use Rattle.parcel_runs.specs.declared.fault.ToolFault.{ToolFault}
+use Rattle.parcel_runs.specs.declared.fault.ToolFault.TheVariants.{NoMemory, Output}
+use Rattle.parcel_runs.specs.TilingFiles.{Files}
+use Rattle.parcel_runs.specs.ClerkRuns.{Register, IsEdited}
+use Rattle.parcel_runs.specs.OverlayReport.{AreZoned, IsTableOf, IsOverlayText, WritesOverlay, BeginsOverlay, IsLayersFault, IsOverlayFault, IsWant}
+use Rattle.parcel_runs.specs.own.LinesAndReports.{WritesBoth, BeginsBoth}
+use Rattle.parcel_runs.proofs.RunFaults.{clerks_no_output, layers_no_output}
+
+-- lines and the report of a table are the overlay's
+module _ {A : Type 0} (city parcels zones : Files) (unit : LengthUnit) (clerks : List (List ℕ)) (tiles regions : Tiles) (after : Register A)
+    (told : List ℕ) (table : Overlay) (are : AreZoned city parcels zones unit tiles regions) (edited : IsEdited tiles clerks after told)
+    (is : IsTableOf after regions table) (old new : Option (List ℕ)) where
+  pub all_written : WritesBoth told table old new → WritesOverlay A city parcels zones unit clerks old new
+  all_written h = record {
+    text = told ++ h.report;
+    is_overlay = record {
+      tiles = tiles;
+      regions = regions;
+      are_zoned = are;
+      after = after;
+      told = told;
+      is_edited = edited;
+      table = table;
+      is_table = is;
+      report = h.report;
+      is_report = h.is_report;
+      is_text = refl;
+    };
+    is_written = h.is_written;
+  }
+
+  pub some_written : BeginsBoth told table old new → BeginsOverlay A city parcels zones unit clerks old new
+  some_written h = record {
+    text = told ++ h.report;
+    is_overlay = record {
+      tiles = tiles;
+      regions = regions;
+      are_zoned = are;
+      after = after;
+      told = told;
+      is_edited = edited;
+      table = table;
+      is_table = is;
+      report = h.report;
+      is_report = h.is_report;
+      is_text = refl;
+    };
+    is_begun = h.is_begun;
+  }
+
+-- an answer that is no error tells of no failed write, and one that is does of its own
+pub on_output : {Y : Type 0} (answer : Result Y ToolFault) (P : Type 0) → OnErr answer P → IsErrOf answer Output → P
+on_output (Ok y) P h k = let none : ⊥ = cc in absurd none
+on_output (Err e) P h k = h
+
+pub output_alone : {Y : Type 0} (answer : Result Y ToolFault) (P : ToolFault → Type 0) → IfErr answer (λ fault. fault ≡ Output)
+    → ((fault : ToolFault) → fault ≡ Output → P fault) → IfErr answer P
+output_alone (Ok y) P h k = tt
+output_alone (Err e) P h k = k e h
+
+pub on_ok : {Y E : Type 0} (answer : Result Y E) (P Q : Type 0) → (P → Q) → OnOk answer P → OnOk answer Q
+on_ok (Ok y) P Q more h = more h
+on_ok (Err e) P Q more h = tt
+
+-- ---- a fault of files is no failed write
+zoned_no_output : (city parcels zones : Files) (unit : LengthUnit) → IsLayersFault city parcels zones unit Output → ⊥
+zoned_no_output city parcels zones unit (inl h) = layers_no_output city parcels unit h
+zoned_no_output city parcels zones unit (inr h) = h.is_fault
+
+pub no_output : (city parcels zones : Files) (unit : LengthUnit) (clerks : List (List ℕ)) (fault : ToolFault)
+    → IsOverlayFault city parcels zones unit clerks fault ⊎ (fault ≡ NoMemory) → fault ≡ Output → ⊥
+no_output city parcels zones unit clerks fault (inl (inl h)) e = let same = h.is_told in cc
+no_output city parcels zones unit clerks fault (inl (inr h)) e = elim h.1 [
+  | inl k ↦ zoned_no_output city parcels zones unit (subst (IsLayersFault city parcels zones unit) e k)
+  | inr k ↦ clerks_no_output 1 clerks fault k.is_first e
+]
+no_output city parcels zones unit clerks fault (inr h) e = cc

@@ -1,0 +1,12 @@
+use Rattle.std.proofs.Common.{◌≡◌, ◌<◌, ◌++◌, length}
+use Rattle.std.specs.Prelude.{IsPermutation}
+use Rattle.overlay_work.specs.Sharing.{joined}
+use Rattle.parcel_runs.specs.own.Dealing.{dealt}
+use Rattle.parcel_runs.proofs.dealing.deal.Given as goal
+
+abbrev pub invariant-loop-id : goal.invariant-loop-id
+invariant-loop-id g l = record {
+  count : length l.lists.items ≡ l.fn.workers;
+  turn : l.worker < l.fn.workers;
+  each_once : IsPermutation (joined (dealt l.lists.items) ++ l.id-iterator) l.fn.ids;
+}

@@ -1,0 +1,47 @@
+use Rattle.std.proofs.Common.{rules, ◌≡◌, ◌⊎◌, inr, ◌≤◌, length, sym, ◌∙◌}
+use Rattle.parcel_runs.specs.declared.clerks.TheConstants.{CLERKS}
+use Rattle.parcel_runs.specs.declared.fault.ToolFault.TheVariants.{NoMemory}
+use Rattle.parcel_runs.specs.TilingFiles.{files_of}
+use Rattle.parcel_runs.proofs.Passing.{passed_on, passed_if}
+use Rattle.parcel_runs.proofs.ZonedFaults.{few_overlay_fault, behind_zones}
+use Rattle.parcel_runs.proofs.zoned.load_zoned.Goals as goal
+
+pub returns-in_err-parcels-clause-refuses : goal.returns-in_err-parcels-clause-refuses
+returns-in_err-parcels-clause-refuses g c = λ fault h.
+    let few : length c.args.clerks.now ≤ CLERKS = search rules in
+    let e = c.in_err-parcels.field-0.0 in
+    passed_on _ e (λ told. (told ≡ fault) ⊎ (told ≡ NoMemory)) c.from_residual-in_err-parcels.ensures.1
+    (few_overlay_fault (files_of c.args.city.now) (files_of c.args.parcels.now) (files_of c.args.zones.now) c.args.unit c.args.clerks.now
+    ((e ≡ fault) ⊎ (e ≡ NoMemory)) fault few h
+    (λ k. c.in_err-parcels.ensures.refuses fault k)
+    (λ tiles regions are k. inr (c.in_err-parcels.ensures.loads tiles regions are)))
+
+pub returns-in_err-edited-clause-fault : goal.returns-in_err-edited-clause-fault
+returns-in_err-edited-clause-fault g c =
+    let few : length c.args.clerks.now ≤ CLERKS = search rules in
+    passed_if _ _ _ c.from_residual-in_err-edited.ensures.1
+    (behind_zones (files_of c.args.city.now) (files_of c.args.parcels.now) (files_of c.args.zones.now) c.args.unit c.args.clerks.now
+    c.in_ok-parcels.field-0.parcels c.in_ok-parcels.field-0.zones c.in_err-edited.field-0.0 few c.in_ok-parcels.ensures.layers c.in_err-edited.ensures.fault)
+
+pub returns-in_err-edited-clause-refuses : goal.returns-in_err-edited-clause-refuses
+returns-in_err-edited-clause-refuses g c = λ fault h.
+    let few : length c.args.clerks.now ≤ CLERKS = search rules in
+    let e = c.in_err-edited.field-0.0 in
+    passed_on _ e (λ told. (told ≡ fault) ⊎ (told ≡ NoMemory)) c.from_residual-in_err-edited.ensures.1
+    (few_overlay_fault (files_of c.args.city.now) (files_of c.args.parcels.now) (files_of c.args.zones.now) c.args.unit c.args.clerks.now
+    ((e ≡ fault) ⊎ (e ≡ NoMemory)) fault few h
+    (λ k. absurd (c.in_ok-parcels.ensures.refuses fault k))
+    (λ tiles regions are k. c.in_err-edited.ensures.refuses fault k))
+
+pub returns-clause-zoned : goal.returns-clause-zoned
+returns-clause-zoned g c =
+    let are = c.in_ok-parcels.ensures.layers in
+    (c.in_ok-parcels.field-0.parcels, are, c.in_ok-edited.ensures.edited, c.in_ok-edited.ensures.city ∙ sym are.are_regions.same_city)
+
+pub returns-clause-refuses : goal.returns-clause-refuses
+returns-clause-refuses g c = λ fault h.
+    let few : length c.args.clerks.now ≤ CLERKS = search rules in
+    few_overlay_fault (files_of c.args.city.now) (files_of c.args.parcels.now) (files_of c.args.zones.now) c.args.unit c.args.clerks.now
+    _ fault few h
+    (λ k. absurd (c.in_ok-parcels.ensures.refuses fault k))
+    (λ tiles regions are k. absurd (c.in_ok-edited.ensures.refuses fault k))

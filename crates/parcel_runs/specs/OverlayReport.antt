@@ -1,0 +1,84 @@
+-- What an overlay of parcels with zones writes, and why it does not (this product's own; which overlap is zone_tables').
+use Rattle.std.specs.Prelude.{◌≡◌, ◌⊎◌, ℕ, ◌≤◌, List, ◌++◌, length, Option}
+use Rattle.std.specs.Io.KnownBytes.{Appends}
+use Rattle.geo_exact.specs.declared.coord.Unit.{Unit as LengthUnit}
+use Rattle.fabric_core.specs.Rows.{Tiles}
+use Rattle.text_puts.specs.Beginnings.{AppendsBeginning}
+use Rattle.zone_tables.specs.Overlap.{Overlay, IsOverlapTable}
+use Rattle.zone_tables.specs.Report.{IsReport}
+use Rattle.parcel_runs.specs.declared.clerks.TheConstants.{CLERKS}
+use Rattle.parcel_runs.specs.declared.fault.Role.TheVariants.{Zones}
+use Rattle.parcel_runs.specs.declared.fault.ToolFault.{ToolFault}
+use Rattle.parcel_runs.specs.declared.fault.ToolFault.TheVariants.{NoThread, NoMemory}
+use Rattle.parcel_runs.specs.TilingFiles.{Files, AreTiles, IsTiledBy, IsTilesFault, IsFaultOfLayer}
+use Rattle.parcel_runs.specs.ClerkRuns.{Register, IsEdited}
+use Rattle.parcel_runs.specs.RunFaults.{IsCrowded, IsClerkFault}
+
+-- the parcels' files and the zones' files both tile the city of the city's files
+pub record AreZoned (city parcels zones : Files) (unit : LengthUnit) (tiles regions : Tiles) : Type 0 where
+  pub are_tiles : AreTiles city parcels unit tiles
+  pub are_regions : IsTiledBy zones unit tiles.city regions
+
+-- the table is all pairs of a parcel of the register and a zone whose interiors meet; it names how many entries led to these parcels
+pub record IsTableOf {A : Type 0} (after : Register A) (regions : Tiles) (table : Overlay) : Type 0 where
+  pub rows : table.rows ≡ after.now.rows
+  pub zones : table.zones ≡ regions.rows
+  pub entries : table.entries ≡ length after.journal
+  pub is_table : IsOverlapTable table.rows table.zones table.pairs
+
+-- The text of an overlay: the lines of the clerks' edits, and then the report of the parcels that these lead to and the zones, both as the files
+-- have them. Edits are in a memory A.
+pub record IsOverlayText (A : Type 0) (city parcels zones : Files) (unit : LengthUnit) (clerks : List (List ℕ)) (text : List ℕ) : Type 0 where
+  pub tiles : Tiles
+  pub regions : Tiles
+  pub are_zoned : AreZoned city parcels zones unit tiles regions
+  pub after : Register A
+  pub told : List ℕ
+  pub is_edited : IsEdited tiles clerks after told
+  pub table : Overlay
+  pub is_table : IsTableOf after regions table
+  pub report : List ℕ
+  pub is_report : IsReport table report
+  pub is_text : text ≡ told ++ report
+
+-- it was written after the told bytes
+pub record WritesOverlay (A : Type 0) (city parcels zones : Files) (unit : LengthUnit) (clerks : List (List ℕ)) (old new : Option (List ℕ))
+    : Type 0 where
+  pub text : List ℕ
+  pub is_overlay : IsOverlayText A city parcels zones unit clerks text
+  pub is_written : Appends old new text
+
+-- a beginning of it was written after the told bytes
+pub record BeginsOverlay (A : Type 0) (city parcels zones : Files) (unit : LengthUnit) (clerks : List (List ℕ)) (old new : Option (List ℕ))
+    : Type 0 where
+  pub text : List ℕ
+  pub is_overlay : IsOverlayText A city parcels zones unit clerks text
+  pub is_begun : AppendsBeginning old new text
+
+-- the parcels' files tile the city, and the fault is the first of the zones' files in it
+pub record IsZonesFault (city parcels zones : Files) (unit : LengthUnit) (fault : ToolFault) : Type 0 where
+  pub tiles : Tiles
+  pub are_tiles : AreTiles city parcels unit tiles
+  pub is_fault : IsFaultOfLayer Zones zones unit tiles.city fault
+
+-- the fault is the first of the three layers: the city's before the parcels', and these before the zones'
+abbrev pub IsLayersFault : Files → Files → Files → LengthUnit → ToolFault → Type 0
+IsLayersFault city parcels zones unit fault = IsTilesFault city parcels unit fault ⊎ IsZonesFault city parcels zones unit fault
+
+-- parcels and zones tile the city, and the fault is the first of the clerks' files
+pub record IsClerkFaultBehindZones (city parcels zones : Files) (unit : LengthUnit) (clerks : List (List ℕ)) (fault : ToolFault)
+    : Type 0 where
+  pub tiles : Tiles
+  pub regions : Tiles
+  pub are_zoned : AreZoned city parcels zones unit tiles regions
+  pub is_first : IsClerkFault 1 clerks fault
+
+-- the fault is the first: how many clerks' files there are; then the layers', and the clerks', one file after the other
+abbrev pub IsOverlayFault : Files → Files → Files → LengthUnit → List (List ℕ) → ToolFault → Type 0
+IsOverlayFault city parcels zones unit clerks fault = IsCrowded clerks fault
+    ⊎ ((length clerks ≤ CLERKS)
+    × (IsLayersFault city parcels zones unit fault ⊎ IsClerkFaultBehindZones city parcels zones unit clerks fault))
+
+-- memory was wanted, or a thread for a hand
+abbrev pub IsWant : ToolFault → Type 0
+IsWant fault = (fault ≡ NoMemory) ⊎ ((hand : ℕ) × (fault ≡ NoThread hand))

@@ -1,0 +1,88 @@
+//! Which parcels and which zones overlap.
+
+ghost use Rattle.std.specs.Prelude.{◌≡◌, ◌⊎◌, ◌<◌, ◌≤◌, ℕ, List, length, IfErr, IsErrAnd, IsErrOf, OnOk, OnErr};
+ghost use Rattle.std.specs.Borrow.{Bor};
+ghost use Rattle.geo_exact.specs.Bytes.{raised};
+ghost use Rattle.overlay_work.specs.declared.round.TheConstants.{MOST_HANDS};
+ghost use Rattle.parcel_runs.specs.declared.fault.ToolFault.{ToolFault as ToolFaultValue};
+ghost use Rattle.parcel_runs.specs.OverlayReport.{WritesOverlay, BeginsOverlay, IsOverlayFault, IsWant};
+ghost use Rattle.parcel_runs.specs.TilingFiles.{files_of};
+ghost use Rattle.parcel_runs.specs.ClerkRuns.{texts_of};
+ghost use Rattle.parcel_runs.specs.own.LinesAndReports.{WritesBoth, BeginsBoth};
+
+use crate::edited::Edited;
+use crate::fault::ToolFault;
+use crate::overlaps::overlaps;
+use crate::sources::Source;
+use crate::zoned::{Zoned, load_zoned};
+use geo_exact::{ByteOut, Unit};
+use overlay_work::{MOST_HANDS, Table, write_report};
+use std::alloc::Allocator;
+use std::sync::Wait;
+use std::thread::Threads;
+use text_puts::put_all;
+
+/// Writes which parcels and which zones overlap, where both tile one city: `entries N`, how many edits led to these parcels; `pair
+/// ID ZONE` for each parcel and zone whose interiors have a common point; `split ID` for each parcel that overlaps two zones or
+/// more; and `within ID ZONE` for each other parcel. Before that the edits of clerks' files are made, one file after the other, and
+/// a line for each is written; clerk K is that of file K, from 1. So many workers share the parcels. All files are checked whole
+/// before the first byte is written.
+///
+/// # Errors
+///
+/// [`ToolFault::ClerkCount`] for more than 8 clerks' files; the first fault of the city's files and ring, then of the parcels'
+/// files and rings, then of the zones', then the first bad line of the clerks' files; [`ToolFault::NoThread`] and
+/// [`ToolFault::NoMemory`]; all before anything is written. [`ToolFault::Output`] where a write failed.
+pub fn overlay<'h, R: Threads + Wait + Sync, H: Allocator + Send + Sync, A: Allocator, W: ByteOut>(
+    rt: &R,
+    heap: &'h H,
+    city: &Source<A>,
+    parcels: &Source<A>,
+    zones: &Source<A>,
+    unit: Unit,
+    clerks: &[Vec<u8, A>],
+    workers: usize,
+    out: &mut W,
+) -> Result<(), ToolFault<'static>>
+    requires some { 0 < workers }
+    requires few { workers ≤ MOST_HANDS }
+    ensures ok { OnOk result (WritesOverlay (Bor H) (files_of city.now) (files_of parcels.now) (files_of zones.now) unit
+        (texts_of clerks.now) (W.written out.old) (W.written out.new)) }
+    ensures fault { IfErr result (λ fault.
+        (IsOverlayFault (files_of city.now) (files_of parcels.now) (files_of zones.now) unit (texts_of clerks.now) fault
+        × (out.new ≡ out.old))
+        ⊎ (IsWant fault × (out.new ≡ out.old)) ⊎ (fault ≡ ToolFault.Output)) }
+    ensures refuses { (fault : ToolFaultValue)
+        → IsOverlayFault (files_of city.now) (files_of parcels.now) (files_of zones.now) unit (texts_of clerks.now) fault
+        → IsErrAnd result (λ told. (told ≡ fault) ⊎ (told ≡ ToolFault.NoMemory)) }
+
+    // Only a writer that failed in this call ends the output early.
+    ensures output { IsErrOf result ToolFault.Output → BeginsOverlay (Bor H) (files_of city.now) (files_of parcels.now)
+        (files_of zones.now) unit (texts_of clerks.now) (W.written out.old) (W.written out.new) }
+    ensures failed { IsErrOf result ToolFault.Output → W.failure_count out.new ≡ raised (W.failure_count out.old) }
+    ensures no_failure { OnOk result (W.failure_count out.new ≡ W.failure_count out.old) }
+{
+    let Zoned { edited, zones } = load_zoned(heap, city, parcels, zones, unit, clerks)?;
+    let Edited { parcels, lines } = edited;
+    let sheet = parcels.into_sheet()?;
+    let table = overlaps(rt, heap, &sheet, &zones, workers)?;
+    write_both(lines.as_slice(), &table, out)
+}
+
+/// Writes lines, and then the report of a table.
+fn write_both<'t, 'h, H: Allocator, A: Allocator, W: ByteOut>(
+    lines: &[u8],
+    table: &Table<'t, 'h, H, A>,
+    out: &mut W,
+) -> Result<(), ToolFault<'static>>
+    ensures ok { OnOk result (WritesBoth lines.now table.now (W.written out.old) (W.written out.new)) }
+    ensures err { OnErr result (BeginsBoth lines.now table.now (W.written out.old) (W.written out.new)) }
+    ensures output { IfErr result (λ fault. fault ≡ ToolFault.Output) }
+    ensures failed { OnErr result (W.failure_count out.new ≡ raised (W.failure_count out.old)) }
+    ensures no_failure { OnOk result (W.failure_count out.new ≡ W.failure_count out.old) }
+{
+    table.stands();
+    put_all(lines, out)?;
+    write_report(table, out)?;
+    Ok(())
+}

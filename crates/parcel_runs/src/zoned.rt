@@ -1,0 +1,91 @@
+//! The layers of parcels and of zones that tile one city, from the files of all three.
+
+ghost use Rattle.std.specs.Prelude.{◌≡◌, ◌⊎◌, ◌≤◌, length, IfOk, IfErr, IsErrAnd};
+ghost use Rattle.fabric_core.specs.Rows.{Tiles};
+ghost use Rattle.parcel_runs.specs.declared.fault.ToolFault.{ToolFault as ToolFaultValue};
+ghost use Rattle.parcel_runs.specs.TilingFiles.{files_of};
+ghost use Rattle.parcel_runs.specs.ClerkRuns.{texts_of, IsEdited};
+ghost use Rattle.parcel_runs.specs.OverlayReport.{AreZoned, IsLayersFault, IsOverlayFault};
+ghost use Rattle.parcel_runs.specs.own.Registers.{register_of_parcels, city_of_parcels};
+
+use crate::clerks::refuse_many_clerks;
+use crate::edited::{Edited, edit_layer};
+use crate::fault::{Role, ToolFault};
+use crate::sources::Source;
+use crate::tiles::{read_city, read_tiles};
+use fabric_core::Layer;
+use geo_exact::Unit;
+use std::alloc::Allocator;
+
+/// Parcels and zones that tile one city.
+#[derive(Drop)]
+struct Layers<'h, H: Allocator> {
+    parcels: Layer<'h, H>,
+    zones: Layer<'h, H>,
+}
+
+/// Parcels after the edits of clerks, with the lines that tell of each edit, and the zones of their city.
+#[derive(Drop)]
+pub struct Zoned<'h, H: Allocator> {
+    /// The parcels, and the lines.
+    pub edited: Edited<'h, H>,
+    /// The zones.
+    pub zones: Layer<'h, H>,
+}
+
+/// The layers of the parcels' files and of the zones' files, which both tile the city of the city's files.
+fn load_layers<'h, H: Allocator, A: Allocator>(
+    heap: &'h H,
+    city: &Source<A>,
+    parcels: &Source<A>,
+    zones: &Source<A>,
+    unit: Unit,
+) -> Result<Layers<'h, H>, ToolFault<'static>>
+    ensures layers { IfOk result (λ layers.
+        AreZoned (files_of city.now) (files_of parcels.now) (files_of zones.now) unit layers.parcels layers.zones) }
+    ensures fault { IfErr result (λ fault.
+        IsLayersFault (files_of city.now) (files_of parcels.now) (files_of zones.now) unit fault ⊎ (fault ≡ ToolFault.NoMemory)) }
+    // Files that tile their city are loaded, unless memory runs out.
+    ensures loads { (tiles regions : Tiles)
+        → AreZoned (files_of city.now) (files_of parcels.now) (files_of zones.now) unit tiles regions
+        → IfErr result (λ fault. fault ≡ ToolFault.NoMemory) }
+    ensures refuses { (fault : ToolFaultValue)
+        → IsLayersFault (files_of city.now) (files_of parcels.now) (files_of zones.now) unit fault
+        → IsErrAnd result (λ told. (told ≡ fault) ⊎ (told ≡ ToolFault.NoMemory)) }
+{
+    let city = read_city(heap, city, unit)?;
+    let parcels = read_tiles(heap, &city, Role::Parcels, parcels, unit)?;
+    let zones = read_tiles(heap, &city, Role::Zones, zones, unit)?;
+    Ok(Layers { parcels, zones })
+}
+
+/// The parcels and the zones that tile one city, the parcels after the edits of clerks' files.
+///
+/// # Errors
+///
+/// [`ToolFault::ClerkCount`] for more than 8 clerks' files; the first fault of the city's files and ring, then of the
+/// parcels' files and rings, then of the zones'; then the first bad line of the clerks' files; and [`ToolFault::NoMemory`].
+pub fn load_zoned<'h, H: Allocator, A: Allocator>(
+    heap: &'h H,
+    city: &Source<A>,
+    parcels: &Source<A>,
+    zones: &Source<A>,
+    unit: Unit,
+    clerks: &[Vec<u8, A>],
+) -> Result<Zoned<'h, H>, ToolFault<'static>>
+    ensures zoned { IfOk result (λ zoned. (tiles : Tiles)
+        × AreZoned (files_of city.now) (files_of parcels.now) (files_of zones.now) unit tiles zoned.zones
+        × IsEdited tiles (texts_of clerks.now) (register_of_parcels zoned.edited.parcels) zoned.edited.lines.items
+        × (city_of_parcels zoned.edited.parcels ≡ zoned.zones.city)) }
+    ensures fault { IfErr result (λ fault.
+        IsOverlayFault (files_of city.now) (files_of parcels.now) (files_of zones.now) unit (texts_of clerks.now) fault
+        ⊎ (fault ≡ ToolFault.NoMemory)) }
+    ensures refuses { (fault : ToolFaultValue)
+        → IsOverlayFault (files_of city.now) (files_of parcels.now) (files_of zones.now) unit (texts_of clerks.now) fault
+        → IsErrAnd result (λ told. (told ≡ fault) ⊎ (told ≡ ToolFault.NoMemory)) }
+{
+    refuse_many_clerks(clerks.len())?;
+    let Layers { parcels, zones } = load_layers(heap, city, parcels, zones, unit)?;
+    let edited = edit_layer(heap, parcels, clerks)?;
+    Ok(Zoned { edited, zones })
+}
