@@ -17,13 +17,11 @@ use std::thread::Threads;
 use zone_tables::Table;
 
 /// Works with each hand in a thread of its own.
-pub(crate) fn work_all<
-    't,
-    'h,
-    H: Allocator + Send + Sync,
-    G: Gate + Sync,
-    R: Threads + Sync,
->(rt: &R, hands: &mut [Hand<'t, 'h, H>], gate: &G)
+pub(crate) fn work_all<'t, 'h, H: Allocator + Send + Sync, G: Gate + Sync, R: Threads + Sync>(
+    rt: &R,
+    hands: &mut [Hand<'t, 'h, H>],
+    gate: &G,
+)
     ensures of_round { (task : Task) → AreHandsOf task hands.old → AreHandsOf task hands.new }
     ensures as_many { length hands.new ≡ length hands.old }
 {
@@ -34,13 +32,11 @@ pub(crate) fn work_all<
 }
 
 /// The same, with the hands of a list.
-fn work_listed<
-    't,
-    'h,
-    H: Allocator + Send + Sync,
-    G: Gate + Sync,
-    R: Threads + Sync,
->(rt: &R, hands: &mut Vec<Hand<'t, 'h, H>, &'h H>, gate: &G)
+fn work_listed<'t, 'h, H: Allocator + Send + Sync, G: Gate + Sync, R: Threads + Sync>(
+    rt: &R,
+    hands: &mut Vec<Hand<'t, 'h, H>, &'h H>,
+    gate: &G,
+)
     ensures of_round { (task : Task) → AreHandsOf task hands.old.items → AreHandsOf task hands.new.items }
     ensures as_many { length hands.new.items ≡ length hands.old.items }
 {
@@ -54,13 +50,7 @@ fn work_listed<
 ///
 /// The first of these that applies: [`CloseFault::NoMemory`] where a hand stopped for want of memory; and what [`Round::close`]
 /// answers. The round and the hands come back, the hands as far as they came.
-pub fn run_round<
-    't,
-    'h,
-    H: Allocator + Send + Sync,
-    G: Gate + Sync,
-    R: Threads + Wait + Sync,
->(
+pub fn run_round<'t, 'h, H: Allocator + Send + Sync, G: Gate + Sync, R: Threads + Wait + Sync>(
     rt: &R,
     round: Round<'t, 'h, H>,
     mut hands: Vec<Hand<'t, 'h, H>, &'h H>,

@@ -330,7 +330,9 @@ fn locate_command<'a>(alloc: Global) -> Result<Command<'a>, AllocError> {
 
 fn overlay_command<'a>(alloc: Global) -> Result<Command<'a>, AllocError> {
     Command::new(alloc, "overlay")
-        .about("Prints which parcels and which zones overlap, and which parcels are within one zone")
+        .about(
+            "Prints which parcels and which zones overlap, and which parcels are within one zone",
+        )
         .arg(file(alloc, "CITY", "The main file of the city's layer, .shp"))?
         .arg(file(
             alloc,

@@ -10,4 +10,4 @@ returns-clause-of_round g c task are =
     let many : length old.items ≡ old.len = search rules in
     let same : length new ≡ old.len = search (rules, c.work_all.ensures.as_many) in
     subst (AreHandsOf task) (sym (written_whole new old.items old.len same many))
-        (c.work_all.ensures.of_round task (subst (AreHandsOf task) (sym c.as_mut_slice.ensures.value) are))
+    (c.work_all.ensures.of_round task (subst (AreHandsOf task) (sym c.as_mut_slice.ensures.value) are))
