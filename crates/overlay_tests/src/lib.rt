@@ -1,0 +1,16 @@
+//! Tests of the overlay: worked examples of its tables for several sharings and orders of steps, hands that work at the same time,
+//! each refusal, and growths that are refused.
+#![tactic(auto)]
+
+#[cfg(test)]
+mod gates;
+#[cfg(test)]
+mod growths;
+#[cfg(test)]
+mod loaded;
+#[cfg(test)]
+mod refusals;
+#[cfg(test)]
+mod rounds;
+#[cfg(test)]
+mod steps;
