@@ -40,3 +40,7 @@ IsCloseFault task hands (HandsMissing made here) = (AreAllIn task hands → ⊥)
 IsCloseFault task hands (Holding number) = AreAllIn task hands × IsLeastHolding hands number
 IsCloseFault task hands NotDone = AreAllIn task hands × HoldNothing hands × AllByRecursion (λ hand. HasAllEnds hand → ⊥) hands
 IsCloseFault task hands CloseMemory = ⊥
+
+-- the system refused a thread for one of these hands (O7)
+abbrev pub IsNoThread : List Progress → CloseFault → Type 0
+IsNoThread hands fault = (hand : Progress) × Contains hands hand × (fault ≡ NoThread hand.number)

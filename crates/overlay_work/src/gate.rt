@@ -12,8 +12,8 @@ pub trait Gate {
 }
 
 /// Steps a hand until it is done, or wants memory.
-pub(crate) fn work<'t, 'h, H: Allocator, G: Gate>(hand: &mut Hand<'t, 'h, H>, gate: &G)
-    ensures { hand.new.task ≡ hand.old.task }
+pub(crate) fn work_off<'t, 'h, H: Allocator, G: Gate>(hand: &mut Hand<'t, 'h, H>, gate: &G)
+    ensures { (hand.new.task ≡ hand.old.task) × (hand.new.number ≡ hand.old.number) }
 {
     for _ in 0..u64::MAX {
         gate.pass(hand.number());
