@@ -330,7 +330,9 @@ fn locate_command<'a>(alloc: Global) -> Result<Command<'a>, AllocError> {
 
 fn overlay_command<'a>(alloc: Global) -> Result<Command<'a>, AllocError> {
     Command::new(alloc, "overlay")
-        .about("Prints which parcels and which zones overlap, and which parcels are within one zone")
+        .about(
+            "Prints which parcels and which zones overlap, and which parcels are within one zone",
+        )
         .arg(file(alloc, "CITY", "The main file of the city's layer, .shp"))?
         .arg(file(
             alloc,
@@ -340,11 +342,11 @@ fn overlay_command<'a>(alloc: Global) -> Result<Command<'a>, AllocError> {
         .arg(file(alloc, "ZONES", "The main file of the zones' layer, .shp"))?
         .arg(unit(alloc, "The unit of the files' coordinates"))?
         .arg(clerk(alloc))?
-        .arg(workers(alloc))
+        .arg(worker_count(alloc))
 }
 
 /// How many threads share the parcels.
-fn workers<'a>(alloc: Global) -> Arg<'a> {
+fn worker_count<'a>(alloc: Global) -> Arg<'a> {
     Arg::new(alloc, "workers")
         .long("workers")
         .action(ArgAction::Set)
