@@ -342,11 +342,11 @@ fn overlay_command<'a>(alloc: Global) -> Result<Command<'a>, AllocError> {
         .arg(file(alloc, "ZONES", "The main file of the zones' layer, .shp"))?
         .arg(unit(alloc, "The unit of the files' coordinates"))?
         .arg(clerk(alloc))?
-        .arg(workers(alloc))
+        .arg(worker_count(alloc))
 }
 
 /// How many threads share the parcels.
-fn workers<'a>(alloc: Global) -> Arg<'a> {
+fn worker_count<'a>(alloc: Global) -> Arg<'a> {
     Arg::new(alloc, "workers")
         .long("workers")
         .action(ArgAction::Set)

@@ -30,6 +30,14 @@ fn reads_requests(rt: HostRuntime) -> Result<(), Fail> {
             "parcel_tool locate --points - a b --unit m --clerk c --clerk c",
             "Locate { inputs: Inputs { city: \"a\", parcels: \"b\", unit: M, clerks: [\"c\", \"c\"] }, points: File(\"-\") }",
         ),
+        (
+            "parcel_tool overlay a b c --unit cm --clerk d",
+            "Overlay { inputs: Inputs { city: \"a\", parcels: \"b\", unit: Cm, clerks: [\"d\"] }, zones: \"c\", workers: Workers { count: 4 } }",
+        ),
+        (
+            "parcel_tool overlay a --workers 64 b c --unit m",
+            "Overlay { inputs: Inputs { city: \"a\", parcels: \"b\", unit: M, clerks: [] }, zones: \"c\", workers: Workers { count: 64 } }",
+        ),
     ] {
         let words: Vec<&str> = line.split(' ').collect(rt.alloc())?;
         match parse(rt.alloc(), words.as_slice()) {
