@@ -1,0 +1,14 @@
+//! Tests of the overlay: worked examples of its tables for several sharings and orders of steps, hands that work at the
+//! same time, and each refusal.
+#![tactic(auto)]
+
+#[cfg(test)]
+mod gates;
+#[cfg(test)]
+mod loaded;
+#[cfg(test)]
+mod refusals;
+#[cfg(test)]
+mod rounds;
+#[cfg(test)]
+mod steps;

@@ -1,0 +1,184 @@
+//! The tables of rounds, for several sharings and hands.
+
+use crate::loaded::{HALVES, PARCELS, Rings, SQUARE, layer, sheet};
+use crate::steps::{Sharing, begun, do_all, is_closed, tests_of};
+use fabric_core::{Layer, Sheet};
+use overlay_work::Step;
+use std::alloc::Allocator;
+use std::test::Fail;
+use test_builders::Place;
+
+/// The greatest coordinate.
+const M: i64 = 10_000_000_000;
+
+/// The square of all places.
+const GROUND: [Place; 4] = [(-M, -M), (M, -M), (M, M), (-M, M)];
+
+const FALLING: [&[Place]; 2] = [&[(-M, -M), (M, -M), (M, M)], &[(-M, -M), (M, M), (-M, M)]];
+
+const RISING: [&[Place]; 2] = [&[(-M, -M), (M, -M), (-M, M)], &[(M, -M), (M, M), (-M, M)]];
+
+const TRIANGLES: [&[Place]; 2] = [
+    &[(0, 0), (100, 0), (100, 100)],
+    &[(0, 0), (100, 100), (0, 100)],
+];
+
+const KITES: [&[Place]; 2] = [
+    &[(0, 0), (100, 0), (100, 100), (50, 51)],
+    &[(0, 0), (50, 51), (100, 100), (0, 100)],
+];
+
+/// Four strips, of which the first is from x = 0 to 20.
+pub const STRIPS: [&[Place]; 4] = [
+    &[(0, 0), (20, 0), (20, 100), (0, 100)],
+    &[(20, 0), (50, 0), (50, 100), (20, 100)],
+    &[(50, 0), (70, 0), (70, 100), (50, 100)],
+    &[(70, 0), (100, 0), (100, 100), (70, 100)],
+];
+
+/// A round: its city, parcels, zones and sharing; the hands' steps in order and what each does; how many tests the
+/// hand at a place has
+/// then made; and the pairs of the table.
+struct Row {
+    ground: &'static [Place],
+    parcels: Rings<'static>,
+    zones: Rings<'static>,
+    sharing: Sharing<'static>,
+    turns: &'static [(usize, Step)],
+    tests: (usize, u64),
+    pairs: &'static [(u64, u64)],
+}
+
+/// The ids 1 and 2, each in the list of a hand.
+pub const TWO: [(usize, u64); 2] = [(0, 1), (1, 2)];
+
+/// The first hand does both parcels.
+pub const FIRST_ALONE: [(usize, Step); 3] = [(0, Step::Did(1)), (0, Step::Did(2)), (0, Step::Done)];
+
+pub const BOTH: [(u64, u64); 3] = [(1, 1), (1, 2), (2, 2)];
+
+static ROWS: [Row; 9] = [
+    Row {
+        ground: &SQUARE,
+        parcels: &PARCELS,
+        zones: &HALVES,
+        sharing: (2, &TWO),
+        turns: &FIRST_ALONE,
+        tests: (0, 3),
+        pairs: &BOTH,
+    },
+    Row {
+        ground: &SQUARE,
+        parcels: &PARCELS,
+        zones: &PARCELS,
+        sharing: (2, &TWO),
+        turns: &FIRST_ALONE,
+        tests: (0, 4),
+        pairs: &[(1, 1), (2, 2)],
+    },
+    Row {
+        ground: &SQUARE,
+        parcels: &TRIANGLES,
+        zones: &KITES,
+        sharing: (2, &TWO),
+        turns: &FIRST_ALONE,
+        tests: (0, 4),
+        pairs: &[(1, 1), (2, 1), (2, 2)],
+    },
+    Row {
+        ground: &SQUARE,
+        parcels: &PARCELS,
+        zones: &HALVES,
+        sharing: (2, &[(0, 1), (0, 2)]),
+        turns: &[(1, Step::Did(1)), (1, Step::Did(2)), (1, Step::Done)],
+        tests: (1, 3),
+        pairs: &BOTH,
+    },
+    Row {
+        ground: &SQUARE,
+        parcels: &PARCELS,
+        zones: &HALVES,
+        sharing: (2, &[(0, 2), (1, 1)]),
+        turns: &[(1, Step::Did(1)), (0, Step::Did(2)), (0, Step::Done)],
+        tests: (1, 2),
+        pairs: &BOTH,
+    },
+    Row {
+        ground: &SQUARE,
+        parcels: &PARCELS,
+        zones: &HALVES,
+        sharing: (64, &[(7, 2), (40, 1)]),
+        turns: &[(50, Step::Did(2)), (50, Step::Did(1)), (50, Step::Done)],
+        tests: (50, 3),
+        pairs: &BOTH,
+    },
+    Row {
+        ground: &SQUARE,
+        parcels: &STRIPS,
+        zones: &STRIPS,
+        sharing: (4, &[(0, 1), (1, 2), (2, 3), (3, 4)]),
+        turns: &[
+            (3, Step::Did(4)),
+            (3, Step::Did(1)),
+            (3, Step::Did(2)),
+            (3, Step::Did(3)),
+            (3, Step::Done),
+        ],
+        tests: (3, 10),
+        pairs: &[(1, 1), (2, 2), (3, 3), (4, 4)],
+    },
+    Row {
+        ground: &SQUARE,
+        parcels: &STRIPS,
+        zones: &STRIPS,
+        sharing: (1, &[(0, 1), (0, 2), (0, 3), (0, 4)]),
+        turns: &[
+            (0, Step::Did(1)),
+            (0, Step::Did(2)),
+            (0, Step::Did(3)),
+            (0, Step::Did(4)),
+            (0, Step::Done),
+        ],
+        tests: (0, 10),
+        pairs: &[(1, 1), (2, 2), (3, 3), (4, 4)],
+    },
+    Row {
+        ground: &GROUND,
+        parcels: &FALLING,
+        zones: &RISING,
+        sharing: (2, &[(0, 1), (0, 2)]),
+        turns: &FIRST_ALONE,
+        tests: (0, 4),
+        pairs: &[(1, 1), (1, 2), (2, 1), (2, 2)],
+    },
+];
+
+/// Whether a round over these parcels and zones does what the row tells.
+fn is_done<'t, 'h, H: Allocator>(
+    heap: &'h H,
+    sheet: &'t Sheet<'h, H>,
+    zones: &'t Layer<'h, H>,
+    row: &Row,
+) -> Result<bool, Fail> {
+    let (round, mut hands) = begun(heap, sheet, zones, row.sharing)?;
+    let is_so = do_all(&round, &mut hands, row.turns);
+    let (at, tests) = row.tests;
+    let is_tested = tests_of(hands.as_slice(), at) == tests;
+    Ok(is_closed(round, hands, row.pairs) && is_so && is_tested)
+}
+
+/// Whether the round of a row does what the row tells.
+fn is_told<H: Allocator>(heap: &H, row: &Row) -> Result<bool, Fail> {
+    let sheet = sheet(heap, row.ground, row.parcels)?;
+    let zones = layer(heap, row.ground, row.zones)?;
+    is_done(heap, &sheet, &zones, row)
+}
+
+#[test]
+fn tells_all_pairs(rt: HostRuntime) -> Result<(), Fail> {
+    let heap = &rt.alloc();
+    for row in &ROWS {
+        assert!(rt; is_told(heap, row)?, "{:?}", row.pairs);
+    }
+    Ok(())
+}
