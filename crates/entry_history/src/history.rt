@@ -1,0 +1,60 @@
+ghost use Rattle.std.specs.Prelude.{◌≡◌, []};
+ghost use Rattle.entry_history.specs.own.Steps.{head_of};
+
+use crate::front::Front;
+use crate::steps::Law;
+use logbook::{Seen, Start, Word};
+use std::marker::{Brand, PhantomData};
+
+/// Which list it is. Each call of a program picks it.
+pub trait Naming {
+    ghost use Rattle.logbook.specs.Pages.{Book};
+
+    ghost book: { Book };
+}
+
+impl Naming for Brand {
+    ghost book = { record { number = 0; log_name = 0; cells_name = 0 } };
+}
+
+/// An empty list, which has no name yet. It takes no memory.
+pub struct Opened<E> {
+    head: Word<E, u64, Law>,
+    seen: Seen<E, u64, Law>,
+    pub ghost empty: { seen.log ≡ [] },
+    pub ghost head_is: { head ≡ head_of seen.book },
+}
+
+impl<E> Opened<E> {
+    /// An empty list.
+    pub fn new() -> Opened<E> {
+        let (seen, mut first, _second) = Seen::open(Start::alone(), 0, 0);
+        Opened {
+            head: Word::tracked(0, &mut first),
+            seen,
+        }
+    }
+
+    /// The list under a name, and its beginning that has no entry.
+    pub fn named<J: Naming>(self) -> (History<E, J>, Front<E, J>)
+        requires { self.seen.book ≡ J.book }
+        ensures { result.1 ≡ [] }
+    {
+        let Opened { head, seen } = self;
+        (
+            History {
+                head,
+                of: PhantomData,
+            },
+            Front::of(seen),
+        )
+    }
+}
+
+/// The word that all threads share: how many entries the list has.
+#[derive(Drop)]
+pub struct History<E, J: Naming> {
+    pub(crate) head: Word<E, u64, Law>,
+    of: PhantomData<J>,
+    pub ghost head_is: { head ≡ head_of J.book },
+}
