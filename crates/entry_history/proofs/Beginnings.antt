@@ -1,5 +1,5 @@
 -- Beginnings of one list.
-use Rattle.std.proofs.Common.{◌≡◌, ◌≤◌, List, [], ◌∷◌, ◌++◌, length, refl, ap, sym, ◌∙◌, arith, append_assoc, length-append}
+use Rattle.std.proofs.Common.{◌⊎◌, inl, inr, ◌+◌, subst, Some, slice_get, ◌≡◌, ◌≤◌, List, [], ◌∷◌, ◌++◌, length, refl, ap, sym, ◌∙◌, arith, append_assoc, length-append}
 use mathlib.Core.List.{IsPrefix}
 
 -- each list begins with itself
@@ -31,3 +31,22 @@ is_whole (x ∷ xs) (y ∷ ys) p le = let rest = is_whole xs ys (p.0, cc (p.1)) 
 -- a beginning is no longer than the whole
 pub begins_shorter : {A : Type 0} (xs ys : List A) → IsPrefix xs ys → length xs ≤ length ys
 begins_shorter xs ys p = omega (arith, sym (ap length p.1) ∙ length-append xs p.0)
+
+-- of two beginnings, one of which is the whole, the one that is an entry longer ends the whole
+pub longer_by_one : {A : Type 0} (xs ys zs before : List A) (x : A) → ys ≡ before ++ x ∷ [] → length ys ≡ length xs + 1
+    → (zs ≡ xs) ⊎ (zs ≡ ys) → IsPrefix xs zs → IsPrefix ys zs → zs ≡ xs ++ x ∷ []
+longer_by_one xs ys zs before x ends more (inl is) p q =
+    absurd (omega (arith, begins_shorter ys zs q, ap length is, more))
+longer_by_one xs ys zs before x ends more (inr is) p q =
+    let begins : IsPrefix xs (before ++ x ∷ []) = subst (IsPrefix xs) (is ∙ ends) p in
+    let same_length : length xs ≡ length before = omega (arith, ap length ends, length-append before (x ∷ []), more) in
+    let same : xs ≡ before =
+    is_whole xs before (begins_longer xs before (before ++ x ∷ []) begins (x ∷ [], refl) (omega (arith, same_length))) (omega (arith, same_length)) in
+    is ∙ ends ∙ ap (λ w. w ++ x ∷ []) (sym same)
+
+-- the next entry of the whole makes a beginning longer
+pub next_begins : {A : Type 0} (xs ys : List A) (x : A) → IsPrefix xs ys → slice_get ys (length xs) ≡ Some x → IsPrefix (xs ++ x ∷ []) ys
+next_begins [] [] x p h = absurd cc
+next_begins [] (y ∷ ys) x p h = (ys, cc h)
+next_begins (z ∷ xs) [] x p h = absurd (cc (p.1))
+next_begins (z ∷ xs) (y ∷ ys) x p h = let rest = next_begins xs ys x (p.0, cc (p.1)) h in (rest.0, cc (p.1, rest.1))

@@ -4,7 +4,7 @@ ghost use Rattle.entry_history.specs.own.Steps.{head_of};
 use crate::front::Front;
 use crate::steps::Law;
 use logbook::{Seen, Start, Word};
-use std::marker::{Brand, PhantomData};
+use std::marker::{Brand, Model, PhantomData};
 
 /// Which list it is. Each call of a program picks it.
 pub trait Naming {
@@ -17,12 +17,23 @@ impl Naming for Brand {
     ghost book = { record { number = 0; log_name = 0; cells_name = 0 } };
 }
 
-/// An empty list, which has no name yet. It takes no memory.
+/// An empty list, which has no name yet. It takes no memory. Contracts see which list it is.
+#[derive(Drop)]
 pub struct Opened<E> {
     head: Word<E, u64, Law>,
     seen: Seen<E, u64, Law>,
-    pub ghost empty: { seen.log ≡ [] },
-    pub ghost head_is: { head ≡ head_of seen.book },
+}
+
+impl<E> Model for Opened<E> {
+    ghost use Rattle.std.specs.Prelude.{◌≡◌, []};
+    ghost use Rattle.logbook.specs.Pages.{Book};
+    ghost use Rattle.entry_history.specs.own.Steps.{head_of};
+
+    ghost Value = { Book };
+
+    ghost view = { λ opened. opened.seen.book };
+
+    ghost invariant = { λ opened. (opened.seen.log ≡ []) × (opened.head ≡ head_of opened.seen.book) };
 }
 
 impl<E> Opened<E> {
@@ -37,7 +48,7 @@ impl<E> Opened<E> {
 
     /// The list under a name, and its beginning that has no entry.
     pub fn named<J: Naming>(self) -> (History<E, J>, Front<E, J>)
-        requires { self.seen.book ≡ J.book }
+        requires { self ≡ J.book }
         ensures { result.1 ≡ [] }
     {
         let Opened { head, seen } = self;
@@ -56,5 +67,5 @@ impl<E> Opened<E> {
 pub struct History<E, J: Naming> {
     pub(crate) head: Word<E, u64, Law>,
     of: PhantomData<J>,
-    pub ghost head_is: { head ≡ head_of J.book },
+    ghost head_is: { head ≡ head_of J.book },
 }

@@ -7,7 +7,7 @@ use Rattle.ring_edits.specs.declared.edit.Edit.TheVariants.{Split, Merge, Move, 
 use Rattle.fabric_core.specs.declared.journal.TheConstants.{JOURNAL_ENTRIES}
 use Rattle.fabric_core.specs.declared.refusal.Refusal.{Refusal}
 use Rattle.fabric_core.specs.declared.refusal.Refusal.TheVariants.{Unknown, Retired}
-use Rattle.fabric_core.specs.Journal.{State, JournalEntry, after_entry, next_after}
+use Rattle.fabric_core.specs.Journal.{State, JournalEntry, after_entry, next_after, replay}
 use Rattle.fabric_core.specs.EditResults.{IsChange, IsEntryOf}
 use Rattle.fabric_core.specs.Refusals.{IsRefusal, IsIdRefusal, IsFirstAbsent, AreParcels, named_ids}
 use Rattle.fabric_core.specs.own.Balanced.{HasRisingIds}
@@ -15,6 +15,8 @@ use Rattle.fabric_core.specs.own.Books.{IsBook}
 use Rattle.fabric_core.specs.own.Changes.{IsDraftRefusal, IsMade, state_of}
 use Rattle.fabric_core.specs.own.Kept.{Kept, gone_by}
 use Rattle.fabric_core.proofs.LawfulJournals.{balanced_now, one_reason, no_reason}
+use Rattle.fabric_core.proofs.OneRefusal.{one_change}
+use Rattle.fabric_core.proofs.Drafts.{all_here}
 use Rattle.fabric_core.proofs.Replays.{lawful_push, replay_push, next_after_insert}
 use Rattle.fabric_core.proofs.Retirements.{retired_push}
 
@@ -58,6 +60,25 @@ module _ {A : Type 0} (opening : State) (journal : List (JournalEntry A)) (kept 
       (λ here is h. no_reason opening journal book.balanced book.lawful entry.edit entry.out entry.rows r room here is.is_change is.are_simple
       is.within h)
       here is h
+
+  -- so an edit that makes no draft has no entry
+  pub no_entry : (entry : JournalEntry A) (r : Refusal) → length journal < JOURNAL_ENTRIES → IsDraftRefusal kept entry.edit r
+      → IsEntryOf (state_of kept) entry → ⊥
+  no_entry entry r room why is =
+      let now = balanced_now opening journal book.balanced book.lawful in
+      let here : AreParcels kept.rows (named_ids entry.edit) =
+      subst (λ (state : State). IsChange state entry.edit entry.out entry.rows → AreParcels state.rows (named_ids entry.edit)) book.replays
+      (λ change. all_here (replay opening journal) now entry.edit entry.out entry.rows change) is.is_change in
+      for_nothing entry r room here is (drafted entry.edit r room why)
+
+  -- two entries of one edit take out and bring the same
+  pub one_entry : (entry other : JournalEntry A) → entry.edit ≡ other.edit → IsEntryOf (state_of kept) entry → IsEntryOf (state_of kept) other
+      → (entry.out ≡ other.out) × (entry.rows ≡ other.rows)
+  one_entry entry other same h k =
+      let now = balanced_now opening journal book.balanced book.lawful in
+      subst (λ state. IsEntryOf state entry → IsEntryOf state other → (entry.out ≡ other.out) × (entry.rows ≡ other.rows)) book.replays
+      (λ h k. one_change (replay opening journal) now.simple now.ids.up entry.edit entry.out other.out entry.rows other.rows h.is_change
+      (subst (λ edit. IsChange (replay opening journal) edit other.out other.rows) (sym same) k.is_change)) h k
 
   -- an entry more
   pub one_more : (entry : JournalEntry A) (new : Kept) (count : ℕ) → length journal < JOURNAL_ENTRIES → entry.number ≡ length journal + 1

@@ -37,6 +37,7 @@ pub mod LawfulJournals
 pub mod NewLimits
 pub mod Made
 pub mod Booked
+mod SameRows
 pub mod Drafts
 pub mod Copied
 pub mod InnerPoints

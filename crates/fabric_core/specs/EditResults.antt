@@ -12,7 +12,7 @@ use Rattle.fabric_core.specs.declared.journal.TheConstants.{JOURNAL_ENTRIES}
 use Rattle.fabric_core.specs.Rows.{numbers}
 use Rattle.fabric_core.specs.Limits.{AreWithinLimits}
 use Rattle.fabric_core.specs.Faults.{AreSimple}
-use Rattle.fabric_core.specs.Journal.{State, JournalEntry, after_entry}
+use Rattle.fabric_core.specs.Journal.{State, JournalEntry, Book, after_entry}
 
 -- a parcel is cut in two along a path: left of it is the next id's, right of it that after the next
 pub record IsSplitOf (state : State) (id : ℕ) (path : List Corner) (out : List ℕ) (rows : List NumberedRing) : Type 0 where
@@ -87,3 +87,8 @@ AreLawfulFrom state number (entry ∷ rest) =
 -- a lawful journal on an opening
 abbrev pub IsLawful : {A : Type 0} → State → List (JournalEntry A) → Type 0
 IsLawful opening entries = AreLawfulFrom opening 1 entries
+
+-- the entry is the next of a fabric's journal: it has the next number, and is that of its edit on what is now
+pub record IsDue {A : Type 0} (book : Book A) (entry : JournalEntry A) : Type 0 where
+  pub has_number : entry.number ≡ length book.journal + 1
+  pub is_entry : IsEntryOf book.now entry

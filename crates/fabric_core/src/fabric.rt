@@ -1,4 +1,4 @@
-ghost use Rattle.std.specs.Prelude.{◌≡◌, ◌≢◌, ◌⊎◌, ◌↔◌, ◌+◌, ◌≤ℤ◌, ℕ, List, [], ◌∷◌, ◌++◌, length, map, IfOk, IfErr, IsErrAnd, OnErr, MatchOption};
+ghost use Rattle.std.specs.Prelude.{◌≡◌, ◌≢◌, ◌⊎◌, ◌↔◌, ◌+◌, ◌≤ℤ◌, ℕ, List, [], ◌∷◌, ◌++◌, length, map, IfOk, IfErr, IsErrAnd, OnOk, OnErr, MatchOption};
 ghost use Rattle.std.specs.List.{All, Contains};
 ghost use Rattle.std.specs.List.Sorted.{IsStrictlyIncreasing};
 ghost use Rattle.geo_exact.specs.declared.corner.Corner.{Corner};
@@ -16,10 +16,12 @@ ghost use Rattle.fabric_core.specs.Limits.{AreWithinLimits};
 ghost use Rattle.fabric_core.specs.GridIndex.{IsIndexed, IsCandidate};
 ghost use Rattle.fabric_core.specs.Locate.{IsLocatedAt};
 ghost use Rattle.fabric_core.specs.Journal.{opening_state, after_entry, replay};
-ghost use Rattle.fabric_core.specs.EditResults.{IsEntryOf, IsLawful};
+ghost use Rattle.fabric_core.specs.EditResults.{IsEntryOf, IsLawful, IsDue};
+ghost use Rattle.fabric_core.specs.declared.follow.FollowFault.TheVariants.{NotDue, NoMemory as NoRoom};
 ghost use Rattle.fabric_core.specs.Refusals.{IsRefusal};
 
 use crate::draft::{Draft, draft_of};
+use crate::follow::{FollowFault, fault_of};
 use crate::journal::{Entry, JOURNAL_ENTRIES};
 use crate::layer::Layer;
 use crate::locate::At;
@@ -281,5 +283,56 @@ impl<'a, H: Allocator> Fabric<'a, H> {
         self.corners = corners;
         self.journal.push_reserved(kept);
         Ok(entry)
+    }
+
+    /// Makes the edit of an entry that another fabric's journal has, if the entry is due here: if it has the next number, and takes out
+    /// and brings what its edit does here and now. So a copy follows its original.
+    ///
+    /// # Errors
+    ///
+    /// [`FollowFault::NotDue`] exactly where the entry is not due, and [`FollowFault::NoMemory`] where an allocation is refused; nothing
+    /// has changed then.
+    pub fn follow(&mut self, entry: &Entry<&'a H>) -> Result<(), FollowFault>
+        ensures due { OnOk result (IsDue self.old entry.now) }
+        ensures now { OnOk result (self.new.now ≡ after_entry self.old.now entry.now) }
+        ensures journal { OnOk result (self.new.journal ≡ self.old.journal ++ entry.now ∷ []) }
+        ensures city { self.new.city ≡ self.old.city }
+        ensures opening { self.new.opening ≡ self.old.opening }
+        ensures unchanged { OnErr result (self.new ≡ self.old) }
+        ensures fault { IfErr result (λ fault. ((fault ≡ NotDue) × (¬ IsDue self.old entry.now)) ⊎ (fault ≡ NoRoom)) }
+    {
+        let full = self.journal.len() >= JOURNAL_ENTRIES;
+        if full {
+            return Err(FollowFault::NotDue);
+        }
+        let number = self.journal.len() as u64 + 1;
+        if number != entry.number() {
+            return Err(FollowFault::NotDue);
+        }
+        let drafted = draft_of(
+            &self.tiled,
+            self.corners,
+            number,
+            entry.clerk(),
+            entry.edit(),
+        );
+        let draft = match drafted {
+            Ok(draft) => draft,
+            Err(refusal) => return Err(fault_of(refusal)),
+        };
+        if !draft.entry.changes_as(entry) {
+            return Err(FollowFault::NotDue);
+        }
+        let Draft {
+            entry: followed,
+            shapes,
+            corners: count,
+        } = draft;
+        let journal = &mut self.journal;
+        journal.reserve(1)?;
+        make(&mut self.tiled, &followed, shapes)?;
+        self.corners = count;
+        self.journal.push_reserved(followed);
+        Ok(())
     }
 }

@@ -9,6 +9,7 @@ mod city;
 mod draft;
 mod edges;
 mod fabric;
+mod follow;
 mod gaps;
 mod grid_index;
 mod journal;
@@ -31,6 +32,7 @@ pub use all_faults::AllFaults;
 pub use box_laws::{a_parcel_that_meets_a_ring_is_a_candidate, rows_lie_in_the_box_of_their_city};
 pub use city::{City, CityFault};
 pub use fabric::Fabric;
+pub use follow::FollowFault;
 pub use journal::{Entry, JOURNAL_ENTRIES, Row};
 pub use laws::{
     a_place_off_all_edges_is_inside_one_parcel, a_refined_city_keeps_its_ground,
