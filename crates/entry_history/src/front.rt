@@ -71,6 +71,15 @@ impl<E, J: Naming> Front<E, J> {
         }
     }
 
+    /// Takes in what another beginning knows: it becomes the longer of the two, which the other begins.
+    pub fn learn(&mut self, other: &Front<E, J>)
+        ensures one { (self.new ≡ self.old) ⊎ (self.new ≡ other.now) }
+        ensures this { IsPrefix self.old self.new }
+        ensures that { IsPrefix other.now self.new }
+    {
+        *self = self.longer(other);
+    }
+
     /// Adds an entry to the list, and says whether it did: it did not where the list had more entries than this beginning, which then
     /// has more too.
     pub fn add(&mut self, history: &History<E, J>, entry: &E) -> bool

@@ -1,0 +1,8 @@
+//! Copies of a value that follows a list of entries, published by one writer, and read without waiting.
+#![tactic(auto)]
+
+mod publisher;
+mod version;
+
+pub use publisher::Publisher;
+pub use version::{Follows, Told, Version};
