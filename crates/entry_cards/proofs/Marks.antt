@@ -1,9 +1,10 @@
 -- The mark of who keeps, after each step: the cards that it has stand before those of the clerks that were not dealt.
-use Rattle.std.proofs.Common.{◌≡◌, refl, sym, ◌∙◌, ap, subst, arith, ℕ, zero, suc, ◌+◌, ◌-◌, ◌<◌, ◌≤◌, List, [], ◌∷◌, ◌++◌, length}
-use mathlib.Core.Option.{some, some-injective}
+use Rattle.std.proofs.Common.{◌≡◌, sym, ◌∙◌, ap, subst, arith, ℕ, suc, ◌+◌, ◌-◌, ◌<◌, List, [], ◌∷◌, ◌++◌}
+use mathlib.Core.Option.{some-injective}
 use lib.ListN.{get_elem?}
 use Rattle.atomic_table.specs.Table.{Me}
 use Rattle.entry_cards.specs.declared.view.View.{View}
+use Rattle.entry_cards.specs.Cards.{Gathered}
 use Rattle.entry_cards.specs.own.Rule.{blank_cards, taken_in, keeper_view, stub_view, joined, without_first, other_cards, AreKnown}
 use Rattle.entry_cards.proofs.Known.{taken_in_front}
 
@@ -45,3 +46,11 @@ module _ {E : Type 0} where
   pub known_of : (clerks dealt : ℕ) (cards : List (ℕ × List E)) (me : Me (Unit {0}) (View E)) → IsMark clerks dealt cards me → AreKnown me.0.clerks me.0.all me.0.cards
       → AreKnown clerks me.0.all (cards ++ blank_cards dealt (clerks - dealt))
   known_of clerks dealt cards me is known = subst (λ m. AreKnown m.0.clerks m.0.all m.0.cards) is known
+
+  -- a gathering with one card more
+  abbrev pub with_card : ℕ × List E → Gathered E → Gathered E
+  with_card card v = record { name = v.name; clerks = v.clerks; dealt = v.dealt; all = v.all; cards = card ∷ v.cards }
+
+  pub shows_card : (v : Gathered E) (card : ℕ × List E) (all : List (ℕ × E)) (cards : List (ℕ × List E)) → all ≡ v.all → cards ≡ card ∷ v.cards
+      → ◌≡◌ {A = Gathered E} record { name = v.name; clerks = v.clerks; dealt = v.dealt; all = all; cards = cards } (with_card card v)
+  shows_card v card all cards same taken i = record { name = v.name; clerks = v.clerks; dealt = v.dealt; all = same i; cards = taken i }

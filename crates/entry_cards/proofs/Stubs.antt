@@ -1,11 +1,11 @@
 -- Stubs, as the cards that a gathering took in.
-use Rattle.std.proofs.Common.{◌≡◌, refl, sym, ◌∙◌, ap, subst, arith, ℕ, ◌+◌, nat_eq, cond, List, [], ◌∷◌, ◌++◌, map, length, append_assoc}
-use Rattle.std.specs.Prelude.{sum_by, count_by, All}
+use Rattle.std.proofs.Common.{◌≡◌, refl, sym, ◌∙◌, ap, subst, arith, ℕ, nat_eq, cond, List, [], ◌∷◌, ◌++◌, map, length, append_assoc}
+use Rattle.std.specs.Prelude.{sum_by, All}
 use Rattle.std.specs.List.{AllByRecursion}
 use Rattle.std.proofs.lemmas.List.{map-append}
 use Rattle.std.proofs.lemmas.List.Elements.{All-from_recursion, recursion_from_All}
 use Rattle.std.proofs.lemmas.List.Sums.{sum_by-cons}
-use Rattle.entry_cards.specs.Cards.{Own, IsClerk, HasAll, HasOneEach, AccountFor, of_clerk}
+use Rattle.entry_cards.specs.Cards.{Own, HasAll, HasOneEach, AccountFor, of_clerk}
 
 module _ {E : Type 0} where
   abbrev pub card_of : Own E → ℕ × List E
@@ -28,6 +28,13 @@ module _ {E : Type 0} where
       → map card_of new ++ card_of stub ∷ taken ≡ map card_of all
   goes_over old new all stub taken popped so_far =
       sym (append_assoc (map card_of new) (card_of stub ∷ []) taken) ∙ ap (λ l. l ++ taken) (sym (ap (map card_of) popped ∙ map-append card_of new (stub ∷ []))) ∙ so_far
+
+  -- all have gone over
+  pub all_went : (n m : ℕ) (xs ys : List (ℕ × E)) (cards : List (ℕ × List E)) (left all : List (Own E)) → length left ≡ 0 → n ≡ m → xs ≡ ys
+      → map card_of left ++ cards ≡ map card_of all → AccountFor n xs cards → AccountFor m ys (map card_of all)
+  all_went n m xs ys cards [] all none dealt entries taken account =
+      subst (AccountFor m ys) taken (subst (λ l. AccountFor m l cards) entries (subst (λ k. AccountFor k xs cards) dealt account))
+  all_went n m xs ys cards (stub ∷ left) all none dealt entries taken account = absurd (omega (arith, none))
 
   pub stubs_agree : (dealt : ℕ) (all : List (ℕ × E)) (stubs : List (Own E)) → AccountFor dealt all (map card_of stubs)
       → All (λ stub. stub.made ≡ of_clerk stub.clerk all) stubs

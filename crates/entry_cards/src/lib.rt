@@ -11,6 +11,4 @@ mod view;
 
 pub use gathering::Gathering;
 pub use keeper::Keeper;
-pub use plays::{AddEntry, CardOff, Compare, Rule, Together, Told};
 pub use stub::Stub;
-pub use view::View;

@@ -1,4 +1,4 @@
-use Rattle.std.proofs.Common.{◌∙◌, sym, ap, refl}
+use Rattle.std.proofs.Common.{◌∙◌, sym, ap}
 use mathlib.Core.Option.{some}
 use Rattle.atomic_table.specs.Table.Act.{keeps}
 use Rattle.entry_cards.specs.own.Rule.{with_more}
