@@ -15,12 +15,15 @@ take_front (x ∷ xs) ys = ap (λ l. x ∷ l) (take_front xs ys)
 
 module _ {E : Type 0} where
   -- the rest of a list has no entry of a clerk that the list has none of
-  none_behind : (b : Bool) (x : ℕ × E) (xs : List (ℕ × E)) → map (λ (e : ℕ × E). e.1) (cond b (x ∷ xs) xs) ≡ [] → map (λ (e : ℕ × E). e.1) xs ≡ []
+  none_behind : (b : Bool) (x : ℕ × E) (xs : List (ℕ × E)) → map (λ (e : ℕ × E). e.1) (cond b (x ∷ xs) xs) ≡ []
+      → map (λ (e : ℕ × E). e.1) xs ≡ []
   none_behind true x xs none = let count = ap length none in absurd (omega (arith, count))
   none_behind false x xs none = none
 
   has_first : (k : ℕ) (entry : E) (all : List (ℕ × E)) → of_clerk k ((k, entry) ∷ all) ≡ entry ∷ of_clerk k all
-  has_first k entry all = let rest : List (ℕ × E) = filter (λ e. nat_eq e.0 k) all in ap (λ b. map (λ (e : ℕ × E). e.1) (cond b ((k, entry) ∷ rest) rest)) (eq-eqb k k refl)
+  has_first k entry all =
+      let rest : List (ℕ × E) = filter (λ e. nat_eq e.0 k) all in
+      ap (λ b. map (λ (e : ℕ × E). e.1) (cond b ((k, entry) ∷ rest) rest)) (eq-eqb k k refl)
 
   -- entries of clerks up to m, of whom those beyond n have none, are of clerks up to n
   all_of_dealt : (n m : ℕ) (all : List (ℕ × E)) → AllByRecursion (λ e. IsClerk m e.0) all → ((k : ℕ) → n < k → k ≤ m → of_clerk k all ≡ [])
@@ -30,14 +33,18 @@ module _ {E : Type 0} where
     record {
       from_one = of_clerks.0.from_one;
       to_n = ⊎_elim
-          (λ (more : n < k). let count = ap length (sym (has_first k entry all) ∙ none k more of_clerks.0.to_n) in absurd (omega (arith, count)))
+          (λ (more : n < k).
+          let count = ap length (sym (has_first k entry all) ∙ none k more of_clerks.0.to_n) in
+          absurd (omega (arith, count)))
           (λ (most : k ≤ n). most)
           (cases_lt n k);
     },
-    all_of_dealt n m all of_clerks.1 (λ j more most. none_behind (nat_eq k j) (k, entry) (filter (λ e. nat_eq e.0 j) all) (none j more most)),
+    all_of_dealt n m all of_clerks.1
+        (λ j more most. none_behind (nat_eq k j) (k, entry) (filter (λ e. nat_eq e.0 j) all) (none j more most)),
   )
 
-  blank_has_none : (all : List (ℕ × E)) (k before n : ℕ) → AllByRecursion (HasAll all) (blank_cards before n) → before < k → k ≤ before + n → of_clerk k all ≡ []
+  blank_has_none : (all : List (ℕ × E)) (k before n : ℕ) → AllByRecursion (HasAll all) (blank_cards before n) → before < k
+      → k ≤ before + n → of_clerk k all ≡ []
   blank_has_none all k before zero own less most = absurd (omega (arith, less, most))
   blank_has_none all k before (suc n) own less most = ⊎_elim
       (λ (same : k ≡ suc before). ap (λ j. of_clerk j all) same ∙ sym own.0)
@@ -47,7 +54,8 @@ module _ {E : Type 0} where
       (cases_eq k (suc before))
 
   -- ---- the entries of all cards are all entries
-  its_length : (b : Bool) (x : ℕ × E) (xs : List (ℕ × E)) → length (map (λ (e : ℕ × E). e.1) (cond b (x ∷ xs) xs)) ≡ cond b 1 0 + length (map (λ (e : ℕ × E). e.1) xs)
+  its_length : (b : Bool) (x : ℕ × E) (xs : List (ℕ × E))
+      → length (map (λ (e : ℕ × E). e.1) (cond b (x ∷ xs) xs)) ≡ cond b 1 0 + length (map (λ (e : ℕ × E). e.1) xs)
   its_length true x xs = omega arith
   its_length false x xs = omega arith
 
@@ -56,9 +64,13 @@ module _ {E : Type 0} where
 
   no_entries : (cards : List (ℕ × List E)) → entries_of [] cards ≡ 0
   no_entries [] = refl
-  no_entries (card ∷ cards) = let sum = sum_by-cons (λ (c : ℕ × List E). length (of_clerk {E = E} c.0 [])) card cards in let rest = no_entries cards in omega (arith, sum, rest)
+  no_entries (card ∷ cards) =
+      let sum = sum_by-cons (λ (c : ℕ × List E). length (of_clerk {E = E} c.0 [])) card cards in
+      let rest = no_entries cards in
+      omega (arith, sum, rest)
 
-  one_more : (k : ℕ) (entry : E) (all : List (ℕ × E)) (cards : List (ℕ × List E)) → entries_of ((k, entry) ∷ all) cards ≡ times k cards + entries_of all cards
+  one_more : (k : ℕ) (entry : E) (all : List (ℕ × E)) (cards : List (ℕ × List E))
+      → entries_of ((k, entry) ∷ all) cards ≡ times k cards + entries_of all cards
   one_more k entry all [] = refl
   one_more k entry all (card ∷ cards) =
       let new = sum_by-cons (λ (c : ℕ × List E). length (of_clerk c.0 ((k, entry) ∷ all))) card cards in
@@ -68,7 +80,8 @@ module _ {E : Type 0} where
       let rest = one_more k entry all cards in
       omega (arith, new, old, first, count, rest)
 
-  all_entries : (n : ℕ) (all : List (ℕ × E)) (cards : List (ℕ × List E)) → AllByRecursion (λ e. IsClerk n e.0) all → ((k : ℕ) → IsClerk n k → times k cards ≡ 1)
+  all_entries : (n : ℕ) (all : List (ℕ × E)) (cards : List (ℕ × List E)) → AllByRecursion (λ e. IsClerk n e.0) all
+      → ((k : ℕ) → IsClerk n k → times k cards ≡ 1)
       → entries_of all cards ≡ length all
   all_entries n [] cards of_clerks distinct = no_entries cards
   all_entries n ((k, entry) ∷ all) cards of_clerks distinct =
@@ -77,7 +90,8 @@ module _ {E : Type 0} where
       let rest = all_entries n all cards of_clerks.1 distinct in
       omega (arith, more, one, rest)
 
-  made_are : (all : List (ℕ × E)) (cards : List (ℕ × List E)) → AllByRecursion (HasAll all) cards → sum_by (λ card. length card.1) cards ≡ entries_of all cards
+  made_are : (all : List (ℕ × E)) (cards : List (ℕ × List E)) → AllByRecursion (HasAll all) cards
+      → sum_by (λ card. length card.1) cards ≡ entries_of all cards
   made_are all [] own = refl
   made_are all (card ∷ cards) own =
       let made = sum_by-cons (λ (c : ℕ × List E). length c.1) card cards in
@@ -87,7 +101,8 @@ module _ {E : Type 0} where
       omega (arith, made, old, first, rest)
 
   -- ---- one stub, and all
-  pub one_stub : (clerks dealt : ℕ) (all : List (ℕ × E)) (card : ℕ × List E) → dealt ≤ clerks → AreKnown clerks all (card ∷ blank_cards dealt (clerks - dealt))
+  pub one_stub : (clerks dealt : ℕ) (all : List (ℕ × E)) (card : ℕ × List E) → dealt ≤ clerks
+      → AreKnown clerks all (card ∷ blank_cards dealt (clerks - dealt))
       → HasAll all card × IsClerk dealt card.0
   one_stub clerks dealt all card few known =
       let blanks : List (ℕ × List E) = blank_cards dealt (clerks - dealt) in
@@ -128,7 +143,8 @@ module _ {E : Type 0} where
       let one = blank_one E k 0 clerks (omega (arith, least)) (omega (arith, most, few)) in
       let none = blank_before E k dealt n most in
       omega (arith, once, both, one, none)) in
-      let of_dealt = all_of_dealt dealt clerks all known.of_clerks (λ k more most. blank_has_none all k dealt n unused more (omega (arith, most, few))) in
+      let of_dealt = all_of_dealt dealt clerks all known.of_clerks
+      (λ k more most. blank_has_none all k dealt n unused more (omega (arith, most, few))) in
       record {
         agree = All-from_recursion (HasAll all) cards own;
         distinct = distinct;
@@ -137,7 +153,8 @@ module _ {E : Type 0} where
       }
 
   -- ---- the cards that a gathering took in
-  pub taken_in_front : (clerks dealt : ℕ) (cards : List (ℕ × List E)) → taken_in clerks dealt (cards ++ blank_cards dealt (clerks - dealt)) ≡ cards
+  pub taken_in_front : (clerks dealt : ℕ) (cards : List (ℕ × List E))
+      → taken_in clerks dealt (cards ++ blank_cards dealt (clerks - dealt)) ≡ cards
   taken_in_front clerks dealt cards =
       let n : ℕ = clerks - dealt in
       let blanks : List (ℕ × List E) = blank_cards dealt n in

@@ -30,10 +30,14 @@ elsewhere k c apart = ap (λ b. cond b 1 0) (ne_eqb k c apart)
 
 -- a number beyond another that is not the next one
 pub beyond_next : (k before : ℕ) → before < k → (k ≡ suc before → ⊥) → suc before < k
-beyond_next k before less apart = ⊎_elim (λ (more : suc before < k). more) (λ (most : k ≤ suc before). absurd (apart (omega (arith, less, most)))) (cases_lt (suc before) k)
+beyond_next k before less apart = ⊎_elim
+    (λ (more : suc before < k). more)
+    (λ (most : k ≤ suc before). absurd (apart (omega (arith, less, most))))
+    (cases_lt (suc before) k)
 
 module _ {E : Type 0} where
-  pub times-cons : (k : ℕ) (card : ℕ × List E) (cards : List (ℕ × List E)) → times k (card ∷ cards) ≡ cond (nat_eq k card.0) 1 0 + times k cards
+  pub times-cons : (k : ℕ) (card : ℕ × List E) (cards : List (ℕ × List E))
+      → times k (card ∷ cards) ≡ cond (nat_eq k card.0) 1 0 + times k cards
   times-cons k card cards = sum_by-cons _ card cards
 
   pub times-append : (k : ℕ) (cards others : List (ℕ × List E)) → times k (cards ++ others) ≡ times k cards + times k others
@@ -106,19 +110,23 @@ module _ (E : Type 0) where
 module _ {E : Type 0} where
   -- ---- the entries of a clerk
   pub of_clerk-append : (k : ℕ) (xs ys : List (ℕ × E)) → of_clerk k (xs ++ ys) ≡ of_clerk k xs ++ of_clerk k ys
-  of_clerk-append k xs ys = ap (map (λ entry. entry.1)) (filter-append (λ entry. nat_eq entry.0 k) xs ys) ∙ map-append (λ entry. entry.1) _ _
+  of_clerk-append k xs ys =
+      ap (map (λ entry. entry.1)) (filter-append (λ entry. nat_eq entry.0 k) xs ys) ∙ map-append (λ entry. entry.1) _ _
 
   pub of_clerk_more : (k : ℕ) (all : List (ℕ × E)) (entry : E) → of_clerk k (all ++ (k, entry) ∷ []) ≡ of_clerk k all ++ entry ∷ []
   of_clerk_more k all entry =
-      of_clerk-append k all ((k, entry) ∷ []) ∙ ap (λ b. of_clerk k all ++ map (λ (e : ℕ × E). e.1) (cond b ((k, entry) ∷ []) [])) (eq-eqb k k refl)
+      of_clerk-append k all ((k, entry) ∷ [])
+      ∙ ap (λ b. of_clerk k all ++ map (λ (e : ℕ × E). e.1) (cond b ((k, entry) ∷ []) [])) (eq-eqb k k refl)
 
   pub of_clerk_other : (k c : ℕ) (all : List (ℕ × E)) (entry : E) → k ≢ c → of_clerk k (all ++ (c, entry) ∷ []) ≡ of_clerk k all
   of_clerk_other k c all entry apart =
-      of_clerk-append k all ((c, entry) ∷ []) ∙ ap (λ b. of_clerk k all ++ map (λ (e : ℕ × E). e.1) (cond b ((c, entry) ∷ []) [])) (ne_eqb c k (λ same. apart (sym same)))
+      of_clerk-append k all ((c, entry) ∷ [])
+      ∙ ap (λ b. of_clerk k all ++ map (λ (e : ℕ × E). e.1) (cond b ((c, entry) ∷ []) [])) (ne_eqb c k (λ same. apart (sym same)))
       ∙ append-nil (of_clerk k all)
 
   -- cards of other clerks have all of their clerks' entries after one more
-  pub others_have_all : (k : ℕ) (all : List (ℕ × E)) (entry : E) (cards : List (ℕ × List E)) → times k cards ≡ 0 → AllByRecursion (HasAll all) cards
+  pub others_have_all : (k : ℕ) (all : List (ℕ × E)) (entry : E) (cards : List (ℕ × List E)) → times k cards ≡ 0
+      → AllByRecursion (HasAll all) cards
       → AllByRecursion (HasAll (all ++ (k, entry) ∷ [])) cards
   others_have_all k all entry [] none own = tt
   others_have_all k all entry (card ∷ cards) none own =

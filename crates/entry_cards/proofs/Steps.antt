@@ -35,8 +35,10 @@ module _ {E : Type 0} where
   of clerks keeps all cards = record { clerks = clerks; keeps = keeps; all = all; cards = cards }
 
   -- ---- an entry is added
-  pub adds : (clerks : ℕ) (views : List (View E)) (id n : ℕ) (keeps : Bool) (xs : List (ℕ × E)) (cards : List (ℕ × List E)) (entry : E) → IsKept clerks views
-      → get_elem? views id ≡ some (of n keeps xs cards) → keeps ≡ true → 0 < length cards → IsKept clerks (set views id (with_more (of n keeps xs cards) (some entry)))
+  pub adds : (clerks : ℕ) (views : List (View E)) (id n : ℕ) (keeps : Bool) (xs : List (ℕ × E)) (cards : List (ℕ × List E)) (entry : E)
+      → IsKept clerks views
+      → get_elem? views id ≡ some (of n keeps xs cards) → keeps ≡ true → 0 < length cards
+      → IsKept clerks (set views id (with_more (of n keeps xs cards) (some entry)))
   adds clerks views id n keeps xs [] entry kept at right some_card = absurd (omega (arith, some_card))
   adds clerks views id n keeps xs (card ∷ cards) entry kept at right some_card =
       let v = of n keeps xs (card ∷ cards) in
@@ -45,7 +47,9 @@ module _ {E : Type 0} where
       let all : List (ℕ × E) = kept.all ++ (k, entry) ∷ [] in
       let mine = kept.knows id v at right in
       let own = kept.own id v at in
-      let once : sum_by (its k) views ≤ 1 = (let total = kept.each_once k in let one = at_most_one E k clerks in omega (arith, total, one)) in
+      let total = kept.each_once k in
+      let one = at_most_one E k clerks in
+      let once : sum_by (its k) views ≤ 1 = omega (arith, total, one) in
       let first : times k (card ∷ cards) ≡ 1 + times k cards = times_first card cards in
       let here = at_in (its k) views id v at in
       record {
@@ -80,7 +84,8 @@ module _ {E : Type 0} where
       }
 
   -- ---- the first card is cut off
-  pub cuts : (clerks : ℕ) (views : List (View E)) (id n : ℕ) (keeps : Bool) (xs : List (ℕ × E)) (cards : List (ℕ × List E)) → IsKept clerks views
+  pub cuts : (clerks : ℕ) (views : List (View E)) (id n : ℕ) (keeps : Bool) (xs : List (ℕ × E)) (cards : List (ℕ × List E))
+      → IsKept clerks views
       → get_elem? views id ≡ some (of n keeps xs cards) → 0 < length cards
       → IsKept clerks (set views id (without_first (of n keeps xs cards)) ++ first_of (of n keeps xs cards) ∷ [])
   cuts clerks views id n keeps xs [] kept at some_card = absurd (omega (arith, some_card))
@@ -124,12 +129,15 @@ module _ {E : Type 0} where
       }
 
   -- ---- another's cards are taken in
-  pub joins : (clerks : ℕ) (views : List (View E)) (id : ℕ) (v : View E) (other : ℕ) (w : View E) → IsKept clerks views → get_elem? views id ≡ some v
-      → (other ≡ id → ⊥) → get_elem? (set views id (joined v w)) other ≡ some w → IsKept clerks (set (set views id (joined v w)) other spent_view)
+  pub joins : (clerks : ℕ) (views : List (View E)) (id : ℕ) (v : View E) (other : ℕ) (w : View E) → IsKept clerks views
+      → get_elem? views id ≡ some v
+      → (other ≡ id → ⊥) → get_elem? (set views id (joined v w)) other ≡ some w
+      → IsKept clerks (set (set views id (joined v w)) other spent_view)
   joins clerks views id v other w kept at apart there =
       let both = joined v w in
       let first = set views id both in
       let there' : get_elem? views other ≡ some w = sym (set_else views id other both apart) ∙ there in
+      let own = all_append (HasAll kept.all) w.cards v.cards (kept.own other w there') (kept.own id v at) in
       record {
         keeper = kept.keeper;
         all = kept.all;
@@ -145,7 +153,7 @@ module _ {E : Type 0} where
         own = λ seat u stands. ⊎_elim
             (λ spent. subst (λ (x : View E). AllByRecursion (HasAll kept.all) x.cards) spent.1 tt)
             (λ left. ⊎_elim
-            (λ same. subst (λ (x : View E). AllByRecursion (HasAll kept.all) x.cards) same.1 (all_append (HasAll kept.all) w.cards v.cards (kept.own other w there') (kept.own id v at)))
+            (λ same. subst (λ (x : View E). AllByRecursion (HasAll kept.all) x.cards) same.1 own)
             (λ apart'. kept.own seat u apart'.1)
             (at_set views id seat both u left.1))
             (at_set first other seat spent_view u stands);
@@ -165,7 +173,8 @@ module _ {E : Type 0} where
       }
 
   -- ---- cards are compared
-  pub knows_cards : (clerks : ℕ) (views : List (View E)) (id : ℕ) (v : View E) → IsKept clerks views → get_elem? views id ≡ some v → KnowsCards v
+  pub knows_cards : (clerks : ℕ) (views : List (View E)) (id : ℕ) (v : View E) → IsKept clerks views → get_elem? views id ≡ some v
+      → KnowsCards v
   knows_cards clerks views id v kept at keeps =
       let mine = kept.knows id v at keeps in
       subst (λ n. AreKnown n v.all v.cards) (sym mine.2) (subst (λ all. AreKnown clerks all v.cards) (sym mine.1) record {
@@ -173,11 +182,13 @@ module _ {E : Type 0} where
         at_most_once = λ k. let total = kept.each_once k in let here = at_in (its k) views id v at in omega (arith, total, here);
         once = λ all_cards k.
             let count = kept.whole in
-            all_in_one size (its k) (λ u. times_at_most k u.cards) views id v spent_view refl at (omega (arith, count, all_cards)) ∙ kept.each_once k;
+            all_in_one size (its k) (λ u. times_at_most k u.cards) views id v spent_view refl at (omega (arith, count, all_cards))
+            ∙ kept.each_once k;
         of_clerks = kept.of_clerks;
       })
 
-  pub stays : (clerks : ℕ) (views : List (View E)) (id : ℕ) (v : View E) → IsKept clerks views → get_elem? views id ≡ some v → IsKept clerks (set views id v)
+  pub stays : (clerks : ℕ) (views : List (View E)) (id : ℕ) (v : View E) → IsKept clerks views → get_elem? views id ≡ some v
+      → IsKept clerks (set views id v)
   stays clerks views id v kept at = subst (IsKept clerks) (sym (set_again views id v at)) kept
 
 -- ---- the start
@@ -187,8 +198,11 @@ begins E clerks =
     record {
       keeper = 0;
       all = [];
-      knows = λ seat u here keeps. let at = alone view u seat here in (at.0, ap (λ (x : View E). x.all) (sym at.1), ap (λ (x : View E). x.clerks) (sym at.1));
-      own = λ seat u here. subst (λ (x : View E). AllByRecursion (HasAll []) x.cards) (alone view u seat here).1 (blank_have_all E 0 clerks);
+      knows = λ seat u here keeps.
+          let at = alone view u seat here in
+          (at.0, ap (λ (x : View E). x.all) (sym at.1), ap (λ (x : View E). x.clerks) (sym at.1));
+      own = λ seat u here.
+          subst (λ (x : View E). AllByRecursion (HasAll []) x.cards) (alone view u seat here).1 (blank_have_all E 0 clerks);
       each_once = λ k. let one = sum_by-cons (its k) view [] in omega (arith, one);
       whole = let one = sum_by-cons size view [] in let count = length-blank_cards E 0 clerks in omega (arith, one, count);
       of_clerks = tt;

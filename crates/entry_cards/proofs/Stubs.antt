@@ -11,7 +11,8 @@ module _ {E : Type 0} where
   abbrev pub card_of : Own E → ℕ × List E
   card_of stub = (stub.clerk, stub.made)
 
-  all_map : (P : ℕ × List E → Type 0) (stubs : List (Own E)) → AllByRecursion P (map card_of stubs) → AllByRecursion (λ stub. P (card_of stub)) stubs
+  all_map : (P : ℕ × List E → Type 0) (stubs : List (Own E)) → AllByRecursion P (map card_of stubs)
+      → AllByRecursion (λ stub. P (card_of stub)) stubs
   all_map P [] all = tt
   all_map P (stub ∷ stubs) all = (all.0, all_map P stubs all.1)
 
@@ -24,10 +25,12 @@ module _ {E : Type 0} where
       omega (arith, cards, these, rest)
 
   -- one stub goes over
-  pub goes_over : (old new all : List (Own E)) (stub : Own E) (taken : List (ℕ × List E)) → old ≡ new ++ stub ∷ [] → map card_of old ++ taken ≡ map card_of all
+  pub goes_over : (old new all : List (Own E)) (stub : Own E) (taken : List (ℕ × List E)) → old ≡ new ++ stub ∷ []
+      → map card_of old ++ taken ≡ map card_of all
       → map card_of new ++ card_of stub ∷ taken ≡ map card_of all
   goes_over old new all stub taken popped so_far =
-      sym (append_assoc (map card_of new) (card_of stub ∷ []) taken) ∙ ap (λ l. l ++ taken) (sym (ap (map card_of) popped ∙ map-append card_of new (stub ∷ []))) ∙ so_far
+      let cards = ap (map card_of) popped ∙ map-append card_of new (stub ∷ []) in
+      sym (append_assoc (map card_of new) (card_of stub ∷ []) taken) ∙ ap (λ l. l ++ taken) (sym cards) ∙ so_far
 
   -- all have gone over
   pub all_went : (n m : ℕ) (xs ys : List (ℕ × E)) (cards : List (ℕ × List E)) (left all : List (Own E)) → length left ≡ 0 → n ≡ m → xs ≡ ys
@@ -39,9 +42,11 @@ module _ {E : Type 0} where
   pub stubs_agree : (dealt : ℕ) (all : List (ℕ × E)) (stubs : List (Own E)) → AccountFor dealt all (map card_of stubs)
       → All (λ stub. stub.made ≡ of_clerk stub.clerk all) stubs
   stubs_agree dealt all stubs account =
-      All-from_recursion (λ (stub : Own E). HasAll all (card_of stub)) stubs (all_map (HasAll all) stubs (recursion_from_All (HasAll all) (map card_of stubs) account.agree))
+      let own = recursion_from_All (HasAll all) (map card_of stubs) account.agree in
+      All-from_recursion (λ (stub : Own E). HasAll all (card_of stub)) stubs (all_map (HasAll all) stubs own)
 
-  pub stubs_once : (dealt : ℕ) (all : List (ℕ × E)) (stubs : List (Own E)) → AccountFor dealt all (map card_of stubs) → HasOneEach dealt stubs
+  pub stubs_once : (dealt : ℕ) (all : List (ℕ × E)) (stubs : List (Own E)) → AccountFor dealt all (map card_of stubs)
+      → HasOneEach dealt stubs
   stubs_once dealt all stubs account k clerk = sym (sum_by-map (λ card. cond (nat_eq k card.0) 1 0) stubs) ∙ account.distinct k clerk
 
   pub stubs_total : (dealt : ℕ) (all : List (ℕ × E)) (stubs : List (Own E)) → AccountFor dealt all (map card_of stubs)

@@ -21,7 +21,8 @@ module _ {X : Type 0} where
   at_in f xs i x at = let here = stands xs i x at in subst (λ z. f z ≤ sum_by f xs) here.1 (get_or-le-sum_by f xs i x here.0)
 
   -- two elements at different places are no more than all
-  pub two_in : (f : X → ℕ) (xs : List X) (i j : ℕ) (x y z : X) → f z ≡ 0 → get_elem? xs i ≡ some x → get_elem? xs j ≡ some y → j ≢ i → f x + f y ≤ sum_by f xs
+  pub two_in : (f : X → ℕ) (xs : List X) (i j : ℕ) (x y z : X) → f z ≡ 0 → get_elem? xs i ≡ some x → get_elem? xs j ≡ some y → j ≢ i
+      → f x + f y ≤ sum_by f xs
   two_in f xs i j x y z none at there apart =
       let e = sum_set f xs i x z at in
       let other = at_in f (set xs i z) j y (set_else xs i j z apart ∙ there) in

@@ -1,10 +1,10 @@
--- Clerks' cards, tied to one list of entries (this product's own): a keeper knows the whole list, each entry behind its clerk's number; a clerk's stub knows the
--- entries that were made with it, and they are all that the list has of its clerk.
+-- Clerks' cards, tied to one list of entries (this product's own): a keeper knows the whole list, each entry behind its clerk's number; a
+-- clerk's stub knows the entries that were made with it, and they are all that the list has of its clerk.
 use Rattle.std.specs.Prelude.{◌≡◌, ℕ, ◌≤◌, nat_eq, List, map, filter, length, count_by, sum_by, All}
 use Rattle.atomic_table.specs.Seated.{TableId}
 
--- what a keeper shows: its name, which no other keeper has, how many clerks there are, how many of them were dealt their stub, and all entries that were made
--- since it was opened, each behind its clerk's number, in order
+-- what a keeper shows: its name, which no other keeper has, how many clerks there are, how many of them were dealt their stub, and all
+-- entries that were made since it was opened, each behind its clerk's number, in order
 pub record Kept (E : Type 0) : Type 0 where
   pub name : TableId
   pub clerks : ℕ
@@ -17,7 +17,8 @@ pub record Own (E : Type 0) : Type 0 where
   pub clerk : ℕ
   pub made : List E
 
--- what a gathering shows: what its keeper did, and of each stub that was taken in, the last one first, the clerk's number and the entries made with it
+-- what a gathering shows: what its keeper did, and of each stub that was taken in, the last one first, the clerk's number and the
+-- entries made with it
 pub record Gathered (E : Type 0) : Type 0 where
   pub name : TableId
   pub clerks : ℕ

@@ -43,7 +43,8 @@ impl<E, A: Allocator> Cards<E, A> {
     pub(crate) fn card_off(&self, mark: &mut Mark<E>) -> Mark<E>
         requires own { mark.old.table_id ≡ self.now.name }
         requires some { 0 < length mark.old.me.0.cards }
-        ensures kept { (mark.new.table_id ≡ mark.old.table_id) × (mark.new.me ≡ (without_first mark.old.me.0, mark.old.me.1)) }
+        ensures kept { (mark.new.table_id ≡ mark.old.table_id)
+            × (mark.new.me ≡ (without_first mark.old.me.0, mark.old.me.1)) }
         ensures given { (result.table_id ≡ mark.old.table_id) × (result.me ≡ (first_of mark.old.me.0, [])) }
     {
         self.table.shared.split_seat::<CardOff>(mark)
@@ -53,7 +54,8 @@ impl<E, A: Allocator> Cards<E, A> {
     pub(crate) fn join(&self, mark: &mut Mark<E>, other: Mark<E>)
         requires own { mark.old.table_id ≡ self.now.name }
         requires others { (other.table_id ≡ self.now.name) × (other.me.1 ≡ []) }
-        ensures { (mark.new.table_id ≡ mark.old.table_id) × (mark.new.me ≡ (joined mark.old.me.0 other.me.0, mark.old.me.1)) }
+        ensures { (mark.new.table_id ≡ mark.old.table_id)
+            × (mark.new.me ≡ (joined mark.old.me.0 other.me.0, mark.old.me.1)) }
     {
         self.table.shared.join_seat::<Together>(mark, other);
     }
@@ -63,7 +65,8 @@ impl<E, A: Allocator> Cards<E, A> {
         requires own { mark.old.table_id ≡ self.now.name }
         requires keeps { mark.old.me.0.keeps ≡ true }
         requires some { 0 < length mark.old.me.0.cards }
-        ensures { (mark.new.table_id ≡ mark.old.table_id) × (mark.new.me ≡ (with_more mark.old.me.0 (some entry.now), mark.old.me.1)) }
+        ensures { (mark.new.table_id ≡ mark.old.table_id)
+            × (mark.new.me ≡ (with_more mark.old.me.0 (some entry.now), mark.old.me.1)) }
     {
         self.add_told::<Brand>(mark, entry);
     }
@@ -73,7 +76,8 @@ impl<E, A: Allocator> Cards<E, A> {
         requires told { B.entry ≡ some entry.now }
         requires keeps { mark.old.me.0.keeps ≡ true }
         requires some { 0 < length mark.old.me.0.cards }
-        ensures { (mark.new.table_id ≡ mark.old.table_id) × (mark.new.me ≡ (with_more mark.old.me.0 (some entry.now), mark.old.me.1)) }
+        ensures { (mark.new.table_id ≡ mark.old.table_id)
+            × (mark.new.me ≡ (with_more mark.old.me.0 (some entry.now), mark.old.me.1)) }
     {
         self.table.shared.load::<AddEntry<B>>(mark, 0);
     }

@@ -30,7 +30,8 @@ impl<E, A: Allocator> Model for Gathering<E, A> {
       cards = taken_in gathering.clerks gathering.dealt gathering.mark.me.0.cards;
     } };
 
-    ghost invariant = { λ gathering. KeepsTaken gathering.cards gathering.mark.table_id gathering.mark.me gathering.clerks gathering.dealt };
+    ghost invariant = { λ gathering. KeepsTaken gathering.cards gathering.mark.table_id gathering.mark.me
+        gathering.clerks gathering.dealt };
 }
 
 impl<E, A: Allocator> Gathering<E, A> {
@@ -42,7 +43,13 @@ impl<E, A: Allocator> Gathering<E, A> {
         dealt: u32,
     ) -> Gathering<E, A>
         requires { Keeps cards mark.table_id mark.me clerks dealt }
-        ensures { result ≡ record { name = cards.name; clerks = clerks; dealt = dealt; all = mark.me.0.all; cards = [] } }
+        ensures { result ≡ record {
+          name = cards.name;
+          clerks = clerks;
+          dealt = dealt;
+          all = mark.me.0.all;
+          cards = [];
+        } }
     {
         Gathering {
             cards,
@@ -61,7 +68,8 @@ impl<E, A: Allocator> Gathering<E, A> {
         self.cards.join(&mut self.mark, badge.into_seat());
     }
 
-    /// With as many stubs as were dealt: each has all entries of its clerk, they are of the clerks from 1 on, one each, and together they have all entries.
+    /// With as many stubs as were dealt: each has all entries of its clerk, they are of the clerks from 1 on, one each, and
+    /// together they have all entries.
     pub fn confirm(&mut self)
         requires all_stubs { length self.old.cards ≡ self.old.dealt }
         ensures same { self.new ≡ self.old }

@@ -9,7 +9,8 @@ use std::alloc::{AllocError, Allocator};
 use std::marker::Model;
 use std::mem;
 
-/// Who keeps the list of all entries that are made with the stubs that it deals, and knows each entry's clerk. Contracts see a `Kept`.
+/// Who keeps the list of all entries that are made with the stubs that it deals, and knows each entry's clerk. Contracts
+/// see a `Kept`.
 #[derive(Drop)]
 pub struct Keeper<E, A: Allocator> {
     cards: Cards<E, A>,
@@ -86,7 +87,8 @@ impl<E, A: Allocator> Keeper<E, A> {
         stub.badge = self.cards.card_off(&mut self.mark).into_badge();
     }
 
-    /// Compares a stub with the list: the entries that were made with it are all that the list has of its clerk, who was dealt it.
+    /// Compares a stub with the list: the entries that were made with it are all that the list has of its clerk, who was
+    /// dealt it.
     pub fn compare(&mut self, stub: &mut Stub<E>)
         requires own { stub.old.name ≡ self.old.name }
         ensures same { (self.new ≡ self.old) × (stub.new ≡ stub.old) }
@@ -101,7 +103,13 @@ impl<E, A: Allocator> Keeper<E, A> {
 
     /// Begins to gather stubs.
     pub fn gather(self) -> Gathering<E, A>
-        ensures { result ≡ record { name = self.name; clerks = self.clerks; dealt = self.dealt; all = self.all; cards = [] } }
+        ensures { result ≡ record {
+          name = self.name;
+          clerks = self.clerks;
+          dealt = self.dealt;
+          all = self.all;
+          cards = [];
+        } }
     {
         let Keeper {
             cards,
@@ -112,7 +120,8 @@ impl<E, A: Allocator> Keeper<E, A> {
         Gathering::begin(cards, mark, clerks, dealt)
     }
 
-    /// With all stubs that were dealt: each has all entries of its clerk, they are of the clerks from 1 on, one each, and together they have all entries.
+    /// With all stubs that were dealt: each has all entries of its clerk, they are of the clerks from 1 on, one each, and
+    /// together they have all entries.
     pub fn collect<B: Allocator>(self, mut stubs: Vec<Stub<E>, B>)
         requires own { All (λ stub. stub.name ≡ self.name) stubs.items }
         requires all_stubs { length stubs.items ≡ self.dealt }

@@ -1,7 +1,8 @@
 //! The rule of the views, and what each step tells.
 ghost use Rattle.std.specs.Prelude.{◌≡◌, []};
 ghost use mathlib.Core.Option.{none};
-ghost use Rattle.entry_cards.specs.own.Rule.{IsKept, keeper_view, blank_cards, joined, without_first, first_of, spent_view, with_more, KnowsCards};
+ghost use Rattle.entry_cards.specs.own.Rule.{IsKept, KnowsCards, keeper_view, blank_cards, spent_view};
+ghost use Rattle.entry_cards.specs.own.Rule.{joined, without_first, first_of, with_more};
 
 use crate::view::View;
 use atomic_table::{Join, Play, Split, TableRule};

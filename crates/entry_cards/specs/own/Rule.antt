@@ -34,7 +34,8 @@ module _ {E : Type 0} where
   pub record IsKept (clerks : ℕ) (views : List (View E)) : Type 0 where
     pub keeper : ℕ
     pub all : List (ℕ × E)
-    pub knows : (seat : ℕ) (view : View E) → get_elem? views seat ≡ some view → view.keeps ≡ true → (seat ≡ keeper) × (view.all ≡ all) × (view.clerks ≡ clerks)
+    pub knows : (seat : ℕ) (view : View E) → get_elem? views seat ≡ some view → view.keeps ≡ true
+        → (seat ≡ keeper) × (view.all ≡ all) × (view.clerks ≡ clerks)
     pub own : (seat : ℕ) (view : View E) → get_elem? views seat ≡ some view → AllByRecursion (HasAll all) view.cards
     pub each_once : (clerk : ℕ) → cards_of clerk views ≡ times clerk (blank_cards 0 clerks)
     pub whole : number_of_cards views ≡ clerks
@@ -86,8 +87,8 @@ module _ {E : Type 0} where
     cards = with_entry (first_card v.cards) entry ∷ other_cards v.cards;
   }
 
-  -- what who keeps may know of the cards in its view: each has all entries of its clerk, and is the only one of its clerk; where they are as many as the
-  -- clerks, there is one of each; and all entries are of clerks
+  -- what who keeps may know of the cards in its view: each has all entries of its clerk, and is the only one of its clerk; where they
+  -- are as many as the clerks, there is one of each; and all entries are of clerks
   pub record AreKnown (clerks : ℕ) (all : List (ℕ × E)) (cards : List (ℕ × List E)) : Type 0 where
     pub own : AllByRecursion (HasAll all) cards
     pub at_most_once : (clerk : ℕ) → times clerk cards ≤ times clerk (blank_cards 0 clerks)

@@ -12,5 +12,11 @@ invariant_of-result g c = record {
 
 pub returns : goal.returns
 returns g c =
-    ap (λ cards. record { name = c.args.cards.name; clerks = c.args.clerks; dealt = c.args.dealt; all = c.args.mark.me.0.all; cards = cards })
+    ap (λ cards. record {
+      name = c.args.cards.name;
+      clerks = c.args.clerks;
+      dealt = c.args.dealt;
+      all = c.args.mark.me.0.all;
+      cards = cards;
+    })
     (taken_of c.args.clerks c.args.dealt [] c.args.mark.me c.requires.mark)

@@ -11,4 +11,5 @@ returns-clause-accounts g c =
     let cards = taken_in own.clerks own.dealt own.mark.me.0.cards in
     let count = subst (λ v. length v.cards ≡ v.dealt) (sym c.self.view_is) c.requires.all_stubs in
     let known = known_of own.clerks own.dealt cards own.mark.me c.self.invariant.mark c.compare.ensures.known in
-    subst (λ v. AccountFor v.dealt v.all v.cards) c.self.view_is (all_stubs own.clerks own.dealt own.mark.me.0.all cards c.self.invariant.at_most count known)
+    subst (λ v. AccountFor v.dealt v.all v.cards) c.self.view_is
+    (all_stubs own.clerks own.dealt own.mark.me.0.all cards c.self.invariant.at_most count known)

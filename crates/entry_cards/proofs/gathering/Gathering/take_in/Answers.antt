@@ -10,11 +10,12 @@ invariant_of-self g c =
     let card = card_in c.stub.inside.badge.views in
     let cards = taken_in own.clerks own.dealt own.mark.me.0.cards in
     let is_stub = one_view _ _ (stub_view card) c.into_seat.ensures.2 c.stub.invariant in
+    let taken = takes own.clerks own.dealt cards card own.mark.me _ _ c.self.invariant.mark is_stub c.join.ensures.1 in
     record {
       clerks_are = c.self.invariant.clerks_are;
       own = c.join.ensures.0 ∙ c.self.invariant.own;
       at_most = c.self.invariant.at_most;
-      mark = keeps_taken own.clerks own.dealt (card ∷ cards) _ (takes own.clerks own.dealt cards card own.mark.me _ _ c.self.invariant.mark is_stub c.join.ensures.1);
+      mark = keeps_taken own.clerks own.dealt (card ∷ cards) _ taken;
     }
 
 pub returns : goal.returns
@@ -25,5 +26,13 @@ returns g c =
     let is_stub = one_view _ _ (stub_view (card_in c.stub.inside.badge.views)) c.into_seat.ensures.2 c.stub.invariant in
     let is_card = ap (λ s. stub_view (s.clerk, s.made)) c.stub.view_is in
     let mark = takes own.clerks own.dealt cards card own.mark.me _ _ c.self.invariant.mark (is_stub ∙ is_card) c.join.ensures.1 in
-    let shown : Gathered g.row.E.Denot = record { name = own.cards.name; clerks = own.clerks; dealt = own.dealt; all = own.mark.me.0.all; cards = cards } in
-    shows_card shown card _ _ (ap (λ m. m.0.all) c.join.ensures.1) (taken_of own.clerks own.dealt (card ∷ cards) _ mark) ∙ ap (with_card card) c.self.view_is
+    let taken = taken_of own.clerks own.dealt (card ∷ cards) _ mark in
+    let same_all = ap (λ m. m.0.all) c.join.ensures.1 in
+    let shown : Gathered g.row.E.Denot = record {
+      name = own.cards.name;
+      clerks = own.clerks;
+      dealt = own.dealt;
+      all = own.mark.me.0.all;
+      cards = cards;
+    } in
+    shows_card shown card _ _ same_all taken ∙ ap (with_card card) c.self.view_is
