@@ -1,0 +1,6 @@
+mod Lists
+mod Steps
+mod Sums
+mod Known
+mod Marks
+mod Stubs
