@@ -102,7 +102,8 @@ pub inside_among : (p : Point) (some all : List NumberedRing) (id : ℕ) → ((r
 inside_among p some all id among i = record { row = i.row; is_row = among i.row i.is_row; has_id = i.has_id; is_inside = i.is_inside }
 
 -- what is found among some rows is found among all, where the others are off
-pub found_in_all : (p : Point) (some all : List NumberedRing) (on_edge : List ℕ) → ((row : NumberedRing) → Contains some row → Contains all row)
+pub found_in_all : (p : Point) (some all : List NumberedRing) (on_edge : List ℕ)
+    → ((row : NumberedRing) → Contains some row → Contains all row)
     → ((row : NumberedRing) → Contains all row → Contains some row ⊎ IsOff p row.corners)
     → IsFound some p on_edge → IsFound all p on_edge
 found_in_all p some all on_edge among off h = record {

@@ -109,7 +109,8 @@ pub inside_row : (p : Point) (rows : List NumberedRing) (n : ℕ) (ring : List C
 inside_row p rows n ring there is = record { row = numbered n ring; is_row = there; has_id = refl; is_inside = is }
 
 -- all rows gone through
-pub found_all : (p : Point) (all rest : List NumberedRing) (on_edge : List ℕ) → rest ≡ [] → AreSearched p all rest on_edge → IsFound all p on_edge
+pub found_all : (p : Point) (all rest : List NumberedRing) (on_edge : List ℕ) → rest ≡ [] → AreSearched p all rest on_edge
+    → IsFound all p on_edge
 found_all p all rest on_edge none h =
     subst (λ xs. IsFound xs p on_edge) (sym (append-nil h.done) ∙ ap (λ xs. h.done ++ xs) (sym none) ∙ h.are_all) h.found
 
