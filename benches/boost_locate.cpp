@@ -1,5 +1,5 @@
 // boost_locate.cpp - in which parcel Boost.Geometry says that random points are: an R* tree of boxes, and `within` for those that
-// hold the point. A point on an edge is in none. See locate.h.
+// hold the point. A point on an edge is in none. And how many boxes meet one. See locate.h.
 #include <boost/geometry.hpp>
 #include <boost/geometry/index/rtree.hpp>
 #include "locate.h"
@@ -29,4 +29,11 @@ static void ids_at(const Index& index, Place place, std::vector<size_t>& ids) {
     if (geometry::within(point, index.polygons[it->second])) ids.push_back(it->second + 1);
 }
 
-int main(int count, char** words) { return measure<Index>(count, words, ids_at); }
+static size_t meeting(const Index& index, Place low, Place high) {
+  geometry::model::box<Point> box(Point(low.x, low.y), Point(high.x, high.y));
+  std::vector<size_t> ids;
+  for (auto it = index.tree.qbegin(geometry::index::intersects(box)); it != index.tree.qend(); ++it) ids.push_back(it->second + 1);
+  return ids.size();
+}
+
+int main(int count, char** words) { return measure<Index>(count, words, ids_at, meeting); }

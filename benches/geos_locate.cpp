@@ -1,5 +1,5 @@
 // geos_locate.cpp - in which parcel GEOS says that random points are: an STR tree, and the prepared parcels' `contains` for those whose
-// boxes hold the point. A point on an edge is in none. See locate.h.
+// boxes hold the point. A point on an edge is in none. And how many boxes meet one. See locate.h.
 #include <geos_c.h>
 #include <cstdarg>
 #include "locate.h"
@@ -34,7 +34,14 @@ static void ids_at(Index& index, Place place, std::vector<size_t>& ids) {
   GEOSGeom_destroy(point);
 }
 
+static size_t meeting(Index& index, Place low, Place high) {
+  GEOSGeometry* box = GEOSGeom_createRectangle(low.x, low.y, high.x, high.y);
+  index.found.clear(); GEOSSTRtree_query(index.tree, box, keep, &index.found);
+  GEOSGeom_destroy(box);
+  return index.found.size();
+}
+
 int main(int count, char** words) {
   initGEOS(message, message);
-  return measure<Index>(count, words, ids_at);
+  return measure<Index>(count, words, ids_at, meeting);
 }

@@ -1,5 +1,5 @@
 // locate.h - what boost_locate.cpp and geos_locate.cpp have in common: the rings of a main file, the points that
-// programs/bench_locate draws, and the line that is printed. Both are called NAME PARCELS POINTS WEST SOUTH EAST NORTH.
+// programs/bench_locate draws, and the line that is printed. Both are called NAME PARCELS POINTS WEST SOUTH EAST NORTH SIDE.
 #pragma once
 #include <chrono>
 #include <cstdint>
@@ -45,23 +45,30 @@ static int64_t now() {
   return std::chrono::duration_cast<std::chrono::microseconds>(std::chrono::steady_clock::now().time_since_epoch()).count();
 }
 
-// Builds the index of a main file's rings, asks `ids_at(index, place, ids)` for each point, and prints the microseconds of the
-// building and of the search, how many points are inside, and the sum of the ids.
-template <class Index, class IdsAt> static int measure(int count, char** words, IdsAt ids_at) {
-  if (count != 7) { fprintf(stderr, "usage: %s PARCELS POINTS WEST SOUTH EAST NORTH\n", words[0]); return 2; }
+// Builds the index of a main file's rings, asks `ids_at(index, place, ids)` for each point, and `meeting(index, low, high)`, how many
+// boxes meet that one, for a square of the side at each point, where there is a side. It prints the microseconds of the building and
+// of the search, how many points are inside, the sum of the ids, the microseconds of the squares, and how many boxes meet them.
+template <class Index, class IdsAt, class Meeting> static int measure(int count, char** words, IdsAt ids_at, Meeting meeting) {
+  if (count != 8) { fprintf(stderr, "usage: %s PARCELS POINTS WEST SOUTH EAST NORTH SIDE\n", words[0]); return 2; }
   auto rings = rings_of(words[1]);
   int64_t begin = now();
   Index index(rings);
   int64_t built = now();
   Points points; points.west = atoll(words[3]); points.south = atoll(words[4]);
   points.east = atoll(words[5]); points.north = atoll(words[6]);
-  uint64_t inside = 0, sum = 0; std::vector<size_t> ids;
+  Points squares = points;
+  uint64_t inside = 0, sum = 0, meet = 0; std::vector<size_t> ids;
   for (int64_t left = atoll(words[2]); left > 0; left--) {
     ids.clear(); ids_at(index, points.next(), ids);
     inside += !ids.empty();
     for (size_t id : ids) sum += id;
   }
-  printf("%lld %lld %llu %llu\n", (long long)(built - begin), (long long)(now() - built), (unsigned long long)inside,
-         (unsigned long long)sum);
+  int64_t located = now(), side = atoll(words[7]);
+  for (int64_t left = side ? atoll(words[2]) : 0; left > 0; left--) {
+    Place low = squares.next();
+    meet += meeting(index, low, {low.x + side, low.y + side});
+  }
+  printf("%lld %lld %llu %llu %lld %llu\n", (long long)(built - begin), (long long)(located - built), (unsigned long long)inside,
+         (unsigned long long)sum, (long long)(now() - located), (unsigned long long)meet);
   return 0;
 }

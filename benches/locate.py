@@ -1,5 +1,5 @@
 #!/usr/bin/env python3
-"""locate.py - `Layer::locate` at random points of cities S, M and L and of layers made to be slow, beside Boost and GEOS.
+"""locate.py - `Layer::locate` and `candidates` at random places of cities S, M and L and of layers made to be slow, beside Boost and GEOS.
 
   locate.py [--ours PROGRAM] [--old PROGRAM] [--runs N] [--only WORD]
 
@@ -7,9 +7,10 @@ PROGRAM is programs/bench_locate, built by build.sh unless it is given. The laye
 fixed seed. All programs draw the same points from the box of the city (or of its crowded corner), and run in turn, N times;
 the best time of each is printed, and how many points are inside a parcel, on an edge and outside. Boost (boost_locate.cpp,
 Debian's libboost-dev) and GEOS (geos_locate.cpp, libgeos-dev) are built by g++ and left out where they can't be; how many
-points they have inside, and the sum of the ids, are compared. To make the layer is to make its index, too: its seconds and
-the peak memory of the process are printed, and with --old, the same program built over an earlier state of the crates, how
-long it takes as long as that one's.
+points they have inside, and the sum of the ids, are compared. In the cities, candidates are looked for in as many squares with a
+parcel's side, beside the boxes that meet them in the trees of the others, of which there are fewer: a candidate is what stands in a
+cell of the square's. To make the layer is to make its index, too: its seconds and the peak memory of the process are printed,
+and with --old, the same program built over an earlier state of the crates, how long it takes as long as that one's.
 """
 import argparse, os, shutil, struct, subprocess, sys, tempfile
 
@@ -18,19 +19,22 @@ sys.dont_write_bytecode = True
 import nodes
 
 
+def slanted(count):
+    """Strips that lean so far that the box of each stands in nearly all cells."""
+    def make(folder):
+        wide, high, slant = 100, 10 ** 9, 5 * 10 ** 9
+        rings = [nodes.box(wide * k, 0, wide * (k + 1), high, slant) for k in range(count)]
+        nodes.layers(folder, nodes.box(0, 0, count * wide, high, slant), rings)
+    return make
 
-def slanted(folder):
-    """4,096 strips that lean so far that the box of each stands in nearly all cells."""
-    wide, high, slant = 100, 10 ** 9, 5 * 10 ** 9
-    rings = [nodes.box(wide * k, 0, wide * (k + 1), high, slant) for k in range(4096)]
-    nodes.layers(folder, nodes.box(0, 0, 4096 * wide, high, slant), rings)
 
-
-# the layer, its maker, how many points, and the box that they are drawn from: the city's, or of this side at its low corner
-JOBS = (("city S", nodes.city("S"), 200000, None), ("city M", nodes.city("M"), 200000, None),
-        ("city L", nodes.city("L"), 200000, None), ("corner, anywhere", nodes.corner, 200000, None),
-        ("corner, crowded", nodes.corner, 2000, 256 * 100 - 1), ("strips", nodes.strips(0, False), 20000, None),
-        ("strips, shuffled", nodes.strips(0, True), 20000, None), ("slanted, 4096", slanted, 1000, None))
+# the layer, its maker, how many points, the box that they are drawn from: the city's, or of this side at its low corner; and the side
+# of the squares
+JOBS = (("city S", nodes.city("S"), 200000, None, 4000), ("city M", nodes.city("M"), 200000, None, 4000),
+        ("city L", nodes.city("L"), 200000, None, 4000), ("corner, anywhere", nodes.corner, 200000, None, 0),
+        ("corner, crowded", nodes.corner, 2000, 256 * 100 - 1, 0), ("strips", nodes.strips(0, False), 20000, None, 0),
+        ("strips, shuffled", nodes.strips(0, True), 20000, None, 0), ("slanted, 4096", slanted(4096), 1000, None, 0),
+        ("slanted, 65536", slanted(65536), 100, None, 0))
 
 PEERS = (("boost", []), ("geos", ["-lgeos_c"]))
 
@@ -53,22 +57,28 @@ def box_of(path, side):
     return (west, south, west + side, south + side) if side else (west, south, east, north)
 
 
-def answer(words):
-    """The numbers that a program prints, the first two of them microseconds, and the peak KiB of its process."""
+OURS = ("load", "locate", "inside", "edge", "outside", "ids", "seek", "found")
+THEIRS = ("load", "locate", "inside", "ids", "seek", "found")
+TIMES = ("load", "locate", "seek")
+
+
+def answer(name, words):
+    """The numbers that a program prints, by their names, and the peak KiB of its process."""
     text, kib = nodes.run(words, 600)
+    names = THEIRS if name in dict(PEERS) else OURS
     numbers = [int(word) for word in (text or "").split()]
-    if len(numbers) < 4:
+    if len(numbers) != len(names):
         sys.exit("%s answered: %s" % (words[0], text))
-    return numbers + [kib]
+    return dict(zip(names, numbers), kib=kib)
 
 
-def keep_least(best, name, numbers):
-    old = best.get(name, numbers)
-    best[name] = [min(a, b) for a, b in zip(old[:2], numbers[:2])] + numbers[2:]
+def keep_least(best, name, now):
+    old = best.get(name, now)
+    best[name] = dict(now, **{time: min(old[time], now[time]) for time in TIMES})
 
 
-def measure(programs, folder, points, side, runs):
-    """Each program's least microseconds of loading and of locating, and its other numbers."""
+def measure(programs, folder, points, side, square, runs):
+    """Each program's least microseconds of loading, of locating and of the squares, and its other numbers."""
     city, parcels = (os.path.join(folder, part + ".shp") for part in ("city", "parcels"))
     area = [str(z) for z in box_of(city, side)]
     best = {}
@@ -76,21 +86,31 @@ def measure(programs, folder, points, side, runs):
         for name, program in programs:
             files = [parcels] if name in dict(PEERS) else [city, parcels]
             count = 0 if name == "old" else points
-            keep_least(best, name, answer([program, *files, str(count), *area]))
+            keep_least(best, name, answer(name, [program, *files, str(count), *area, str(square)]))
     return best
 
 
-def show(layer, points, best):
-    loading, locating, inside, on_edge, outside, ids, kib = best["ours"]
-    print("%-17s %7d %9.3f %7d %7d %7d %8.3f %6.0f" % (layer, points, locating / points, inside, on_edge, outside,
-                                                       loading / 1e6, kib / 1024), end="")
+def show(layer, points, square, best):
+    ours = best["ours"]
+    print("%-17s %7d %9.3f %7d %7d %7d %8.3f %6.0f" % (layer, points, ours["locate"] / points, ours["inside"], ours["edge"],
+                                                       ours["outside"], ours["load"] / 1e6, ours["kib"] / 1024), end="")
     if "old" in best:
-        print("  %.3f of the old" % (loading / best["old"][0]), end="")
+        print("  %.3f of the old" % (ours["load"] / best["old"]["load"]), end="")
     for name, _ in PEERS:
         if name in best:
-            same = "the same" if best[name][2:4] == [inside, ids] else "NOT THE SAME: %s" % best[name][2:4]
-            print("  %s %.3f us, x %.2f, %s" % (name, best[name][1] / points, best[name][1] / locating, same), end="")
-    print(flush=True)
+            its = best[name]
+            same = "the same" if (its["inside"], its["ids"]) == (ours["inside"], ours["ids"]) else "NOT THE SAME"
+            print("  %s %.3f us, x %.2f, %s" % (name, its["locate"] / points, its["locate"] / ours["locate"], same), end="")
+    print()
+    if square:
+        print("%-17s %7d %9.3f %7.1f each" % ("  its squares", points, ours["seek"] / points, ours["found"] / points), end="")
+        for name, _ in PEERS:
+            if name in best:
+                its = best[name]
+                print("  %s %.3f us, x %.2f, %.1f each" % (name, its["seek"] / points, its["seek"] / ours["seek"],
+                                                          its["found"] / points), end="")
+        print()
+    sys.stdout.flush()
 
 
 def main():
@@ -108,13 +128,13 @@ def main():
         if given.old:
             programs.append(("old", given.old))
         print("%-17s %7s %9s %7s %7s %7s %8s %6s" % ("layer", "points", "us each", "inside", "on edge", "outside", "load s", "MiB"))
-        for name, make, points, side in JOBS:
+        for name, make, points, side, square in JOBS:
             if given.only not in name:
                 continue
             folder = tempfile.mkdtemp()
             try:
                 nodes.apart(make, folder)
-                show(name, points, measure(programs, folder, points, side, given.runs))
+                show(name, points, square, measure(programs, folder, points, side, square, given.runs))
             finally:
                 shutil.rmtree(folder)
     finally:

@@ -1,5 +1,5 @@
 -- What lies at a corner is found among the parcels whose boxes stand in its cell.
-use Rattle.std.proofs.Common.{true, false, ◌≡◌, ◌⊎◌, inl, inr, ⊎_elim, refl, sym, ◌∙◌, ap, subst, arith, ℕ, zero, suc, ◌+◌, ◌<◌, ◌≤◌, Bool, List, [], ◌∷◌, ◌++◌, not, length, drop, get_or, cond, IsTrue, Option, Some, None, MatchOption}
+use Rattle.std.proofs.Common.{true, false, ◌≡◌, ◌⊎◌, inl, inr, ⊎_elim, refl, sym, ◌∙◌, ap, subst, arith, ℕ, zero, suc, ◌+◌, ◌<◌, ◌≤◌, Bool, List, [], ◌∷◌, ◌++◌, not, length, drop, get_or, cond, IsTrue}
 use Rattle.std.specs.List.{All, AllByRecursion, Contains, filter}
 use Rattle.std.proofs.lemmas.Int.{ints, by_lt_z}
 use Rattle.std.proofs.lemmas.List.Elements.{Contains-append_left, Contains-append_right, Contains-append_cases}
@@ -13,7 +13,7 @@ use Rattle.geo_exact.specs.Turn.{IsOnRing}
 use Rattle.geo_exact.specs.Winding.{IsInterior}
 use Rattle.geo_exact.proofs.InBoxes.{Decides-holds_corner}
 use Rattle.cell_index.specs.declared.entry.Entry.{Entry}
-use Rattle.cell_index.specs.Cells.{is_wide, wide, narrow, stands_at}
+use Rattle.cell_index.specs.Cells.{is_wide, wide, narrow, stands_at, Grid}
 use Rattle.cell_index.proofs.Members.{filtered, from_filtered, mapped, from_mapped}
 use Rattle.cell_index.proofs.Searches.{off_ring, off_what_stands_elsewhere}
 use Rattle.edge_chains.proofs.NodedEdges.{none_in_nil, Contains-cases, Contains-here, Contains-there}
@@ -22,7 +22,12 @@ use Rattle.fabric_core.specs.Locate.{IsOnEdgeOf, IsInsideOf, AreAllOnEdge}
 use Rattle.fabric_core.specs.own.Sides.{IsFound}
 use Rattle.parcel_table.specs.Table.{rows_of_keyed, entries_of}
 use Rattle.parcel_table.proofs.Tables.{row_of_parcel}
+use Rattle.fabric_core.specs.own.Kept.{IsKept}
+use Rattle.fabric_core.proofs.Exchanged.{simple_keyed}
+use Rattle.fabric_core.proofs.Loaded.{kept_tiles}
+use Rattle.fabric_core.proofs.Located.{none_on_edge}
 use Rattle.fabric_core.proofs.OneParcel.{of_each}
+use Rattle.fabric_core.proofs.OnOneOnly.{on_no_edge}
 
 -- neither on an edge nor inside
 abbrev pub IsOff : Point → List Corner → Type 0
@@ -91,14 +96,22 @@ parted {A = A} keep other all row either c =
         subst (Contains (rows_of_keyed (filter test all))) is
         (mapped (λ y. numbered y.1.id y.1.shape.ring.corners) (filter test all) x (filtered test all x there t))
 
+-- what is inside a row of some is inside it among all
+pub inside_among : (p : Point) (some all : List NumberedRing) (id : ℕ) → ((row : NumberedRing) → Contains some row → Contains all row)
+    → IsInsideOf some p id → IsInsideOf all p id
+inside_among p some all id among i = record { row = i.row; is_row = among i.row i.is_row; has_id = i.has_id; is_inside = i.is_inside }
+
 -- what is found among some rows is found among all, where the others are off
-pub found_in_all : (p : Point) (some all : List NumberedRing) (on_edge : List ℕ) (inside : Option ℕ)
+pub found_in_all : (p : Point) (some all : List NumberedRing) (on_edge : List ℕ)
     → ((row : NumberedRing) → Contains some row → Contains all row)
     → ((row : NumberedRing) → Contains all row → Contains some row ⊎ IsOff p row.corners)
-    → IsFound some p on_edge inside → IsFound all p on_edge inside
-found_in_all p some all on_edge inside among off h = record {
+    → IsFound some p on_edge → IsFound all p on_edge
+found_in_all p some all on_edge among off h = record {
   exactly = λ id. (λ c. lifted id ((h.exactly id).0 c), λ on. (h.exactly id).1 (lowered id on));
-  is_inside = both inside h.is_inside;
+  none_inside = λ id i. ⊎_elim
+      (λ kept. h.none_inside id (record { row = i.row; is_row = kept; has_id = i.has_id; is_inside = i.is_inside }))
+      (λ out. out.1 i.is_inside)
+      (off i.row i.is_row);
 }
   where
     lifted : (id : ℕ) → IsOnEdgeOf some p id → IsOnEdgeOf all p id
@@ -109,14 +122,6 @@ found_in_all p some all on_edge inside among off h = record {
         (λ kept. record { row = e.row; is_row = kept; has_id = e.has_id; is_on_edge = e.is_on_edge })
         (λ out. absurd (out.0 e.is_on_edge))
         (off e.row e.is_row)
-
-    both : (inside : Option ℕ) → MatchOption inside ((id : ℕ) → ¬ IsInsideOf some p id) (IsInsideOf some p)
-        → MatchOption inside ((id : ℕ) → ¬ IsInsideOf all p id) (IsInsideOf all p)
-    both None none = λ id i. ⊎_elim
-        (λ kept. none id (record { row = i.row; is_row = kept; has_id = i.has_id; is_inside = i.is_inside }))
-        (λ out. out.1 i.is_inside)
-        (off i.row i.is_row)
-    both (Some id) i = record { row = i.row; is_row = among i.row i.is_row; has_id = i.has_id; is_inside = i.is_inside }
 
 -- ---- where nothing lies
 pub nothing_at : (p : Point) (rows : List NumberedRing) → ((row : NumberedRing) → Contains rows row → IsOff p row.corners)
@@ -246,6 +251,12 @@ module _ {A : Type 0} (area : Bounds) (corner : Corner) (all : List (ℕ × Parc
   abbrev pub searched_rows : List NumberedRing
   searched_rows = rows_of_keyed in_cell ++ rows_of_keyed beside_cells
 
+  pub row_in_cell : (row : NumberedRing) → Contains (rows_of_keyed in_cell) row → Contains (rows_of_keyed all) row
+  row_in_cell row c = kept_row (λ x. not (wide_parcel x)) all row (kept_row stands_there (filter (λ x. not (wide_parcel x)) all) row c)
+
+  pub row_beside : (row : NumberedRing) → Contains (rows_of_keyed beside_cells) row → Contains (rows_of_keyed all) row
+  row_beside row c = kept_row wide_parcel all row c
+
   one_or_other : (x : ℕ × Parcel A) → (not (wide_parcel x) ≡ true) ⊎ (wide_parcel x ≡ true)
   one_or_other x = by_test (wide_parcel x)
     where
@@ -253,14 +264,15 @@ module _ {A : Type 0} (area : Bounds) (corner : Corner) (all : List (ℕ × Parc
       by_test true = inr refl
       by_test false = inl refl
 
-  pub all_located : (on_edge : List ℕ) (inside : Option ℕ) → IsFound searched_rows (corner_point corner) on_edge inside
-      → IsFound (rows_of_keyed all) (corner_point corner) on_edge inside
-  all_located on_edge inside h =
-      found_in_all (corner_point corner) searched_rows (rows_of_keyed all) on_edge inside
-      (λ row c. ⊎_elim
-      (λ left. kept_row (λ x. not (wide_parcel x)) all row (kept_row stands_there (filter (λ x. not (wide_parcel x)) all) row left))
-      (λ right. kept_row wide_parcel all row right)
-      (Contains-append_cases (rows_of_keyed in_cell) (rows_of_keyed beside_cells) row c))
+  searched_among : (row : NumberedRing) → Contains searched_rows row → Contains (rows_of_keyed all) row
+  searched_among row c = ⊎_elim
+      (λ left. row_in_cell row left)
+      (λ right. row_beside row right)
+      (Contains-append_cases (rows_of_keyed in_cell) (rows_of_keyed beside_cells) row c)
+
+  pub all_located : (on_edge : List ℕ) → IsFound searched_rows (corner_point corner) on_edge → IsFound (rows_of_keyed all) (corner_point corner) on_edge
+  all_located on_edge h =
+      found_in_all (corner_point corner) searched_rows (rows_of_keyed all) on_edge searched_among
       (λ row c. ⊎_elim
       (λ thin. ⊎_elim
       (λ here. inl (Contains-append_left (rows_of_keyed in_cell) (rows_of_keyed beside_cells) row here))
@@ -270,6 +282,16 @@ module _ {A : Type 0} (area : Bounds) (corner : Corner) (all : List (ℕ × Parc
       (λ broad. inl (Contains-append_right (rows_of_keyed in_cell) (rows_of_keyed beside_cells) row broad))
       (parted (λ x. not (wide_parcel x)) wide_parcel all row one_or_other c))
       h
+
+-- a parcel that has a place inside is the answer: it is one of a tiling, where nobody else has that place
+pub inside_alone : {A : Type 0} (parcels : List (ℕ × Parcel A)) (city refined : List Corner) (index : Grid) (p : Point) (id : ℕ)
+    → IsKept parcels city refined index → IsInsideOf (rows_of_keyed parcels) p id
+    → AreAllOnEdge (rows_of_keyed parcels) p [] × IsInsideOf (rows_of_keyed parcels) p id
+inside_alone parcels city refined index p id kept i = (
+  none_on_edge p (rows_of_keyed parcels)
+      (λ other. on_no_edge (rows_of_keyed parcels) city (simple_keyed parcels) (kept_tiles parcels city refined index kept) p id other i),
+  i,
+)
 
 -- what a search asks of its entries
 pub searchable : {A : Type 0} (all some : List (ℕ × Parcel A)) → AllByRecursion (λ row. length row.corners ≤ RING_CORNERS) (rows_of_keyed all)

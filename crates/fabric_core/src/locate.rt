@@ -1,4 +1,4 @@
-ghost use Rattle.std.specs.Prelude.{◌≡◌, ◌≤◌, ◌++◌, ℕ, List, [], None, length, OnOk};
+ghost use Rattle.std.specs.Prelude.{◌≡◌, ◌≤◌, ◌++◌, ℕ, List, length, IfOk, MatchOption};
 ghost use Rattle.std.specs.List.{Contains};
 ghost use Rattle.geo_exact.specs.declared.limits.TheConstants.{RING_CORNERS};
 ghost use Rattle.geo_exact.specs.Layers.{NumberedRing};
@@ -6,7 +6,7 @@ ghost use Rattle.geo_exact.specs.Point.{Point, corner_point};
 ghost use Rattle.cell_index.specs.declared.entry.Entry.{Entry as EntryValue};
 ghost use Rattle.parcel_table.specs.declared.parcels.Parcel.{Parcel as ParcelValue};
 ghost use Rattle.parcel_table.specs.Table.{rows_of_keyed, entries_of};
-ghost use Rattle.fabric_core.specs.Locate.{IsLocatedAt};
+ghost use Rattle.fabric_core.specs.Locate.{IsInsideOf, IsLocatedAt};
 ghost use Rattle.fabric_core.specs.own.Sides.{IsFound};
 
 use crate::candidates::sort_once;
@@ -27,60 +27,33 @@ pub enum At<A: Allocator> {
     Outside,
 }
 
-/// What a search has found out.
-#[derive(Drop)]
-pub(crate) struct Found<A: Allocator> {
-    /// The ids of the parcels that have the corner on an edge, in the order in which they were found.
-    pub on_edge: Vec<u64, A>,
-    /// The id of one that has it inside.
-    pub inside: Option<u64>,
+/// Where a corner lies that no parcel has inside, by the ids of those that have it on an edge.
+pub(crate) fn on_edge_or_outside<A: Allocator>(mut on_edge: Vec<u64, A>) -> At<A>
+    ensures { (rows : List NumberedRing) (p : Point) → IsFound rows p on_edge.items → IsLocatedAt rows p result }
+{
+    if on_edge.is_empty() {
+        return At::Outside;
+    }
+    sort_once(&mut on_edge);
+    At::OnEdge(on_edge)
 }
 
-impl<A: Allocator> Found<A> {
-    /// What is found out before a search.
-    pub(crate) fn nothing(alloc: A) -> Found<A>
-        ensures on_edge { result.on_edge.items ≡ [] }
-        ensures inside { result.inside ≡ None }
-    {
-        Found {
-            on_edge: Vec::new(alloc),
-            inside: None,
-        }
-    }
-
-    /// Where the corner lies, after all parcels were searched.
-    pub(crate) fn answer(self) -> At<A>
-        ensures { (rows : List NumberedRing) (p : Point) → IsFound rows p self.on_edge.items self.inside
-            → IsLocatedAt rows p result }
-    {
-        let Found {
-            mut on_edge,
-            inside,
-        } = self;
-        if !on_edge.is_empty() {
-            sort_once(&mut on_edge);
-            return At::OnEdge(on_edge);
-        }
-        match inside {
-            Some(id) => At::Inside(id),
-            None => At::Outside,
-        }
-    }
-}
-
-/// Searches the parcels of some entries for those that have a corner on an edge or inside.
+/// Searches the parcels of some entries for those that have a corner on an edge, up to one that has it inside, which is the
+/// answer: in a tiling, what is inside one parcel is on no edge.
 pub(crate) fn search<A: Allocator>(
     parcels: &Parcels<A>,
     entries: &[Entry],
     corner: Corner,
-    found: &mut Found<A>,
-) -> Result<(), AllocError>
+    on_edge: &mut Vec<u64, A>,
+) -> Result<Option<u64>, AllocError>
     requires { (entry : EntryValue) → Contains entries.now entry → (parcel : ParcelValue A)
         × Contains parcels.now.parcels (entry.key, parcel) × (length parcel.shape.ring.corners ≤ RING_CORNERS) }
     ensures { (some : List (ℕ × ParcelValue A)) → entries.now ≡ entries_of some
         → ((parcel : ℕ × ParcelValue A) → Contains some parcel → Contains parcels.now.parcels parcel)
-        → (rows : List NumberedRing) → IsFound rows (corner_point corner) found.old.on_edge.items found.old.inside
-        → OnOk result (IsFound (rows ++ rows_of_keyed some) (corner_point corner) found.new.on_edge.items found.new.inside) }
+        → (rows : List NumberedRing) → IsFound rows (corner_point corner) on_edge.old.items
+        → IfOk result (λ inside. MatchOption inside
+        (IsFound (rows ++ rows_of_keyed some) (corner_point corner) on_edge.new.items)
+        (IsInsideOf (rows_of_keyed some) (corner_point corner))) }
 {
     for entry in entries {
         if !entry.bounds.holds(corner) {
@@ -88,10 +61,10 @@ pub(crate) fn search<A: Allocator>(
         }
         let parcel = parcels.at(entry.key);
         match side_of(parcel.shape.ring.corners.as_slice(), corner) {
-            Side::OnEdge => found.on_edge.push(parcel.id)?,
-            Side::Inside => found.inside = Some(parcel.id),
+            Side::Inside => return Ok(Some(parcel.id)),
+            Side::OnEdge => on_edge.push(parcel.id)?,
             Side::Outside => {}
         }
     }
-    Ok(())
+    Ok(None)
 }

@@ -24,7 +24,7 @@ ghost use Rattle.parcel_table.specs.Table.{HasId};
 
 use crate::candidates::{ids_under, sort_once};
 use crate::grid_index::clip_all;
-use crate::locate::{At, Found, search};
+use crate::locate::{At, on_edge_or_outside, search};
 use cell_index::{CellIndex, Entry};
 use geo_exact::{Bounds, Corner, Corners};
 use parcel_table::{Fate, Ids, Parcels, Shapes};
@@ -179,10 +179,16 @@ impl<'a, H: Allocator> Tiled<'a, H> {
         if !self.index.area().holds(corner) {
             return Ok(At::Outside);
         }
-        let mut found = Found::nothing(self.parcels.allocator());
-        search(&self.parcels, self.index.at(corner), corner, &mut found)?;
-        search(&self.parcels, self.index.beside(), corner, &mut found)?;
-        Ok(found.answer())
+        let mut on_edge = Vec::new(self.parcels.allocator());
+        let in_cell = self.index.at(corner);
+        if let Some(id) = search(&self.parcels, in_cell, corner, &mut on_edge)? {
+            return Ok(At::Inside(id));
+        }
+        let beside = self.index.beside();
+        if let Some(id) = search(&self.parcels, beside, corner, &mut on_edge)? {
+            return Ok(At::Inside(id));
+        }
+        Ok(on_edge_or_outside(on_edge))
     }
 
     /// The ids, ascending, of the parcels that stand in some cell of the grid index between the cells of two corners.

@@ -1,5 +1,5 @@
 -- How a place lies to one ring, and to rows gone through one by one. Public contracts do not speak of it.
-use Rattle.std.specs.Prelude.{◌↔◌, ℕ, List, Option, MatchOption}
+use Rattle.std.specs.Prelude.{◌↔◌, ℕ, List}
 use Rattle.std.specs.List.{Contains}
 use Rattle.geo_exact.specs.declared.corner.Corner.{Corner}
 use Rattle.geo_exact.specs.Point.{Point}
@@ -16,7 +16,7 @@ IsSide p ring Inside = IsInterior p ring
 IsSide p ring OnEdge = IsOnRing p ring
 IsSide p ring Outside = (¬ IsOnRing p ring) × (¬ IsInterior p ring)
 
--- what is found out of rows: the ids of those with p on an edge, and one with p inside, where there is one
-pub record IsFound (rows : List NumberedRing) (p : Point) (on_edge : List ℕ) (inside : Option ℕ) : Type 0 where
+-- what is found out of rows, none of which has p inside: the ids of those with p on an edge
+pub record IsFound (rows : List NumberedRing) (p : Point) (on_edge : List ℕ) : Type 0 where
   pub exactly : (id : ℕ) → Contains on_edge id ↔ IsOnEdgeOf rows p id
-  pub is_inside : MatchOption inside ((id : ℕ) → ¬ IsInsideOf rows p id) (IsInsideOf rows p)
+  pub none_inside : (id : ℕ) → ¬ IsInsideOf rows p id
