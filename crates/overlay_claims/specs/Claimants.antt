@@ -41,10 +41,24 @@ HasAllEnds hand = AreAllEnded (length hand.lists.lengths) hand.ended
 abbrev pub IsPlace : Lists → ℕ × ℕ → Type 0
 IsPlace lists place = (place.0 < length lists.lengths) × (place.1 < slice_index lists.lengths place.0)
 
--- a hand has claimed a place, and may have found lists at their end before
+-- The list to which a hand goes after so many: by rising number, beginning with its own and, past the last, at 0. And the first so many
+-- of them.
+abbrev pub list_after : (number count : ℕ) → ℕ → ℕ
+list_after number count k = (number + k) % count
+
+abbrev pub lists_from : (number count : ℕ) → ℕ → List ℕ
+lists_from number count zero = []
+lists_from number count (suc k) = lists_from number count k ++ list_after number count k ∷ []
+
+-- A hand has claimed a place of the first list, in this order, that it has not found at its end. The lists before that one it has found
+-- at their ends, some of them on the way, and no other.
 pub record ClaimsNext (old new : Standing) (place : ℕ × ℕ) : Type 0 where
   pub is_place : IsPlace old.lists place
   pub claims : new.places ≡ old.places ++ place ∷ []
+  pub before : ℕ
+  pub is_a_list : before < length old.lists.lengths
+  pub is_next : place.0 ≡ list_after old.number (length old.lists.lengths) before
+  pub ended_before : new.ended ≡ lists_from old.number (length old.lists.lengths) before
   pub more : List ℕ
   pub ends : new.ended ≡ old.ended ++ more
 
@@ -54,11 +68,6 @@ pub record EndsAll (old new : Standing) : Type 0 where
   pub same_places : new.places ≡ old.places
   pub more : List ℕ
   pub ends : new.ended ≡ old.ended ++ more
-
--- The first so many lists in the order in which a hand goes through them: by rising number, beginning with its own and, past the last, at 0.
-abbrev pub lists_from : (number count : ℕ) → ℕ → List ℕ
-lists_from number count zero = []
-lists_from number count (suc k) = lists_from number count k ++ ((number + k) % count) ∷ []
 
 -- what a hand found at its end are the first so many lists in its order
 pub record IsInOrder (count number ended : ℕ) (notes : List ℕ) : Type 0 where

@@ -1,11 +1,12 @@
 -- A round that can be closed has no fault, and no other has two.
-use Rattle.std.proofs.Common.{◌≡◌, ◌⊎◌, inl, refl, sym, ◌∙◌, ap, subst, arith, ℕ, ◌≤◌, List}
+use Rattle.std.proofs.Common.{◌≡◌, ◌⊎◌, inl, inr, ⊎_elim, refl, sym, ◌∙◌, ap, subst, arith, ℕ, ◌<◌, ◌≤◌, List, [], ◌∷◌, length}
 use Rattle.std.specs.Prelude.{IsSome, None}
+use Rattle.std.specs.List.{AllByRecursion}
 use Rattle.overlay_work.specs.declared.close.CloseFault.{CloseFault}
 use Rattle.overlay_work.specs.declared.close.CloseFault.TheVariants.{NoThread, HandsMissing, Holding, NotDone, NoMemory}
-use Rattle.overlay_work.specs.Rounds.{Task, Progress, HasAllEnds}
-use Rattle.overlay_work.specs.Faults.{IsCloseFault, IsLeastHolding, HoldNothing}
-use Rattle.overlay_work.specs.own.Gathered.{AreDone}
+use Rattle.overlay_work.specs.Rounds.{Task, Progress, HasAllEnds, IsAtEnd}
+use Rattle.overlay_work.specs.Faults.{AreAllIn, IsCloseFault, IsLeastHolding, HoldNothing, IsRunFault}
+use Rattle.overlay_work.specs.own.Gathered.{AreDone, HaveStopped}
 use Rattle.overlay_work.proofs.Finding.{member_of_all}
 use Rattle.overlay_work.proofs.HandsIn.{nothing_held}
 
@@ -24,7 +25,7 @@ none_is_a_fault task hands (Holding number) done is = none_holds hands number do
 none_is_a_fault task hands NotDone done is = member_of_all (λ hand. HasAllEnds hand → ⊥) hands done.some_done.0 is.2 done.some_done.1 done.some_done.2
 none_is_a_fault task hands NoMemory done is = is
 
-one_close_fault : (task : Task) (hands : List Progress) (a b : CloseFault) → IsCloseFault task hands a → IsCloseFault task hands b → a ≡ b
+pub one_close_fault : (task : Task) (hands : List Progress) (a b : CloseFault) → IsCloseFault task hands a → IsCloseFault task hands b → a ≡ b
 one_close_fault task hands (NoThread number) b is was = absurd is
 one_close_fault task hands a (NoThread number) is was = absurd was
 one_close_fault task hands NoMemory b is was = absurd is
@@ -42,6 +43,34 @@ one_close_fault task hands NotDone (HandsMissing made here) is was = absurd (was
 one_close_fault task hands NotDone (Holding number) is was = absurd (none_holds hands number is.1 was.1)
 one_close_fault task hands NotDone NotDone is was = refl
 
-pub refused : (task : Task) (hands : List Progress) (told fault : CloseFault) → IsCloseFault task hands told → IsCloseFault task hands fault
-    → (told ≡ fault) ⊎ (told ≡ NoMemory)
-refused task hands told fault is has = inl (one_close_fault task hands told fault is has)
+-- where the hands that stopped hold nothing, hands missing are all that is left to keep the round open
+at_ends : (hands : List Progress) → HaveStopped hands → HoldNothing hands → AllByRecursion IsAtEnd hands
+at_ends [] stopped none = tt
+at_ends (hand ∷ hands) stopped none = (
+  ⊎_elim (λ end. end) (λ holds. absurd (nothing_held hand.holds none.0 holds)) stopped.0,
+  at_ends hands stopped.1 none.1,
+)
+
+none_is_at_end : (hands : List Progress) → 0 < length hands → AllByRecursion IsAtEnd hands → AllByRecursion (λ hand. HasAllEnds hand → ⊥) hands → ⊥
+none_is_at_end [] some ends none = omega (arith, some)
+none_is_at_end (hand ∷ hands) some ends none = none.0 ends.0.all_ends
+
+pub told_of_stopped : (task : Task) (hands : List Progress) (fault : CloseFault) → 0 < length task.lists → HaveStopped hands → HoldNothing hands
+    → IsCloseFault task hands fault ⊎ (fault ≡ NoMemory) → IsRunFault task hands fault
+told_of_stopped task hands fault some stopped none (inr e) = subst (IsRunFault task hands) (sym e) tt
+told_of_stopped task hands (NoThread number) some stopped none (inl is) = absurd is
+told_of_stopped task hands (HandsMissing made here) some stopped none (inl is) = (is, at_ends hands stopped none)
+told_of_stopped task hands (Holding number) some stopped none (inl is) = absurd (none_holds hands number none is.1)
+told_of_stopped task hands NotDone some stopped none (inl is) =
+    let all = is.0 in
+    absurd (none_is_at_end hands (omega (arith, all, some)) (at_ends hands stopped none) is.2)
+told_of_stopped task hands NoMemory some stopped none (inl is) = absurd is
+
+-- where all hands are handed in, a thread or memory was wanted
+pub wants_of_all : (task : Task) (hands : List Progress) (fault : CloseFault) → AreAllIn task hands → IsRunFault task hands fault
+    → (fault ≡ NoMemory) ⊎ ((hand : ℕ) × (fault ≡ NoThread hand))
+wants_of_all task hands (NoThread number) all is = inr (number, refl)
+wants_of_all task hands (HandsMissing made here) all is = absurd (is.0.0 all)
+wants_of_all task hands (Holding number) all is = absurd is
+wants_of_all task hands NotDone all is = absurd is
+wants_of_all task hands NoMemory all is = inl refl

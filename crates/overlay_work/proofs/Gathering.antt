@@ -7,9 +7,9 @@ use Rattle.std.proofs.lemmas.List.Sums.{sum_by-append}
 use Rattle.std.proofs.lemmas.List.Sorted.{IsPermutation-refl, IsPermutation-sym, IsPermutation-trans, IsPermutation-cons, IsPermutation-append, IsPermutation-to_front, IsPermutation-map}
 use Rattle.overlay_claims.specs.Claims.{places_below, all_places, times}
 use Rattle.overlay_work.specs.Sharing.{joined, IsSharing}
-use Rattle.overlay_work.specs.Rounds.{Task, Progress, HasAllEnds, AreHandsOf}
+use Rattle.overlay_work.specs.Rounds.{Task, Progress, HasAllEnds, AreHandsOf, id_at}
 use Rattle.overlay_work.specs.Faults.{HoldNothing}
-use Rattle.overlay_work.specs.own.Kept.{id_at, ids_at}
+use Rattle.overlay_work.specs.own.Kept.{ids_at}
 use Rattle.overlay_work.specs.own.Gathered.{ended_by, AreReady}
 use Rattle.overlay_work.proofs.Finding.{nothing_in}
 

@@ -1,6 +1,6 @@
 -- What a hand keeps, after each of its steps.
 use Rattle.std.proofs.Common.{◌≡◌, ⊎_elim, refl, sym, ◌∙◌, ap, subst, arith, ℕ, zero, suc, ◌+◌, ◌-◌, ◌*◌, ◌^◌, ◌<◌, ◌≤◌, List, [], ◌∷◌, ◌++◌, map, length, get_or, take, append_assoc, append-nil, length-append}
-use Rattle.std.specs.Prelude.{sum_by, Some, None}
+use Rattle.std.specs.Prelude.{sum_by, Option, Some, None}
 use Rattle.std.specs.List.{AllByRecursion, Contains}
 use Rattle.std.specs.List.Sorted.{IsStrictlyIncreasing}
 use Rattle.std.proofs.lemmas.List.{length-map}
@@ -13,13 +13,14 @@ use Rattle.geo_exact.specs.declared.limits.TheConstants.{LAYER_CORNERS}
 use Rattle.fabric_core.specs.Rows.{numbers}
 use Rattle.fabric_core.specs.Faults.{AreSimple}
 use Rattle.fabric_core.proofs.RowLists.{has_number}
-use Rattle.overlay_claims.specs.Claimants.{Standing}
+use Rattle.overlay_claims.specs.Claimants.{Standing, AreAllEnded}
 use Rattle.overlay_work.specs.Sharing.{joined, IsSharing}
-use Rattle.overlay_work.specs.Rounds.{Task, ArePairsOf, AreCandidatesFor}
-use Rattle.overlay_work.specs.own.Kept.{IsTask, IsHand, HoldsLast, done_of, id_at, ids_at, ArePairsOfAll, KeepsPairs}
+use Rattle.overlay_work.specs.Rounds.{Task, ArePairsOf, AreCandidatesFor, id_at}
+use Rattle.overlay_work.specs.own.Kept.{IsTask, IsHand, HoldsLast, done_of, ids_at, ArePairsOfAll, KeepsPairs}
 use Rattle.overlay_work.proofs.Places.{one_more_id, before_last, length_joined}
 use Rattle.overlay_work.proofs.Boxes.{some_corner}
 use Rattle.overlay_work.proofs.Finding.{all_snoc, all_member, member_of_all, nothing_in}
+use Rattle.overlay_work.proofs.HandsIn.{nothing_held}
 
 -- ---- a rising list within another is no longer
 abbrev pub Rising : List ℕ → Type 0
@@ -87,8 +88,8 @@ done_all id ids last = ap (λ l. l ++ id ∷ []) (ap (λ l. take (length l - 1) 
 
 pub hand_claims : (task : Task) (old new : Standing) (kept : List (ℕ × ℕ)) (tests : ℕ) (place : ℕ × ℕ) (id : ℕ) → IsHand task old None kept tests
     → new.lists ≡ old.lists → new.places ≡ old.places ++ place ∷ [] → length new.places ≤ sum_by (λ n. n) task.claims.lengths → id ≡ id_at task.lists place
-    → Contains (numbers task.rows) id → IsHand task new (Some id) kept tests
-hand_claims task old new kept tests place id hand same claims few is here =
+    → Contains (numbers task.rows) id → (AreAllEnded (length task.lists) new.ended → ⊥) → IsHand task new (Some id) kept tests
+hand_claims task old new kept tests place id hand same claims few is here left =
     let ids = ids_at task.lists old.places in
     let more : ids_at task.lists new.places ≡ ids ++ id ∷ [] =
     ap (ids_at task.lists) claims ∙ one_more_id task.lists old.places place ∙ ap (λ x. ids ++ x ∷ []) (sym is) in
@@ -100,6 +101,7 @@ hand_claims task old new kept tests place id hand same claims few is here =
       pairs = subst (λ l. ArePairsOfAll task.rows task.zones l kept) (sym done) hand.pairs;
       few = few;
       few_tests = subst (λ l. tests ≤ LAYER_CORNERS * length l) (sym done) hand.few_tests;
+      is_not_done = λ some. left;
     }
 
 pub hand_ends : (task : Task) (old new : Standing) (kept : List (ℕ × ℕ)) (tests : ℕ) → IsHand task old None kept tests → new.lists ≡ old.lists
@@ -111,6 +113,7 @@ hand_ends task old new kept tests hand same places = record {
   pairs = subst (λ l. ArePairsOfAll task.rows task.zones (ids_at task.lists l) kept) (sym places) hand.pairs;
   few = subst (λ l. length l ≤ sum_by (λ n. n) task.claims.lengths) (sym places) hand.few;
   few_tests = subst (λ l. tests ≤ LAYER_CORNERS * length (ids_at task.lists l)) (sym places) hand.few_tests;
+  is_not_done = λ some. absurd (nothing_held None refl some);
 }
 
 few_candidates : (task : Task) (id : ℕ) (candidates : List ℕ) → IsTask task → AreCandidatesFor task.rows task.zones task.city id candidates → length candidates ≤ LAYER_CORNERS
@@ -142,13 +145,13 @@ hand_does task hand kept new tests more id stands is keeps =
           (let old : tests ≤ LAYER_CORNERS * length done = is.few_tests in
           let new : more ≤ LAYER_CORNERS = subst (λ n. n ≤ LAYER_CORNERS) (sym keeps.tests) few in
           subst (λ n. tests + more ≤ LAYER_CORNERS * n) (sym count) (omega (arith, old, new)));
+      is_not_done = λ some. absurd (nothing_held None refl some);
     }
 
--- so few tests are made that their number fits
-pub tests_fit : (task : Task) (hand : Standing) (kept new : List (ℕ × ℕ)) (tests more : ℕ) (id : ℕ) → IsTask task → IsHand task hand (Some id) kept tests
-    → KeepsPairs task id kept new more → tests + more ≤ 1000000000000
-tests_fit task hand kept new tests more id stands is keeps =
-    let after = hand_does task hand kept new tests more id stands is keeps in
+-- a hand claims no more parcels than a layer may have
+few_claimed : (task : Task) (hand : Standing) (holds : Option ℕ) (kept : List (ℕ × ℕ)) (tests : ℕ) → IsTask task → IsHand task hand holds kept tests
+    → length (ids_at task.lists hand.places) ≤ LAYER_CORNERS
+few_claimed task hand holds kept tests stands is =
     let places = length-map hand.places (id_at task.lists) in
     let few : length hand.places ≤ sum_by (λ n. n) task.claims.lengths = is.few in
     let lengths = ap (sum_by (λ (n : ℕ). n)) stands.lengths in
@@ -156,8 +159,26 @@ tests_fit task hand kept new tests more id stands is keeps =
     let ids = length_permutation (joined task.lists) (numbers task.rows) stands.sharing.each_once in
     let rows = length-map task.rows (λ (row : NumberedRing). row.number) in
     let few_rows = stands.few_rows in
+    omega (arith, places, few, lengths, all, ids, rows, few_rows)
+
+-- nor does it do more
+pub few_done : (task : Task) (hand : Standing) (holds : Option ℕ) (kept : List (ℕ × ℕ)) (tests : ℕ) → IsTask task → IsHand task hand holds kept tests
+    → length (done_of holds (ids_at task.lists hand.places)) ≤ LAYER_CORNERS
+few_done task hand None kept tests stands is = few_claimed task hand None kept tests stands is
+few_done task hand (Some id) kept tests stands is =
+    let ids = ids_at task.lists hand.places in
+    let few = few_claimed task hand (Some id) kept tests stands is in
+    let all = ap length (done_all id ids is.holds_last) in
+    let one = length-append (done_of (Some id) ids) (id ∷ []) in
+    omega (arith, few, all, one)
+
+-- so few tests are made that their number fits
+pub tests_fit : (task : Task) (hand : Standing) (kept new : List (ℕ × ℕ)) (tests more : ℕ) (id : ℕ) → IsTask task → IsHand task hand (Some id) kept tests
+    → KeepsPairs task id kept new more → tests + more ≤ 1000000000000
+tests_fit task hand kept new tests more id stands is keeps =
+    let after = hand_does task hand kept new tests more id stands is keeps in
+    let long = few_claimed task hand (Some id) kept tests stands is in
     let bound = after.few_tests in
-    let long : length (ids_at task.lists hand.places) ≤ 1000000 = omega (arith, places, few, lengths, all, ids, rows, few_rows) in
     omega (arith, bound, long)
 
 -- ---- the lists' lengths

@@ -18,6 +18,10 @@ pairs_of_one_hand_more (x ∷ hands) hand pairs all one =
 pub nothing_held : (o : Option ℕ) → o ≡ None → IsSome o → ⊥
 nothing_held o e h = true≢false (sym (subst IsSome e h))
 
+pub none_holding : (least : Option ℕ) (hands : List Progress) → LeastIs least hands → (IsSome least → ⊥) → HoldNothing hands
+none_holding None hands is none = is
+none_holding (Some number) hands is none = absurd (none refl)
+
 -- the hand holds nothing
 pub not_lesser : (least : Option ℕ) (hands : List Progress) (hand : Progress) → hand.holds ≡ None → LeastIs least hands → LeastIs least (hands ++ hand ∷ [])
 not_lesser None hands hand none all = all_snoc (λ h. h.holds ≡ None) hands hand all none

@@ -5,6 +5,8 @@ pub mod Hands
 pub mod Differences
 pub mod Starts
 pub mod HandsIn
+pub mod Steps
+pub mod Workers
 pub mod Gathering
 pub mod Tables
 pub mod Sorting

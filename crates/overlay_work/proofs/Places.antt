@@ -1,12 +1,13 @@
 -- Ids at places of lists.
 use Rattle.std.proofs.Common.{◌≡◌, refl, ◌∙◌, ap, arith, ℕ, zero, suc, ◌-◌, ◌<◌, ◌≤◌, List, [], ◌∷◌, ◌++◌, map, length, get_or, take, drop, length-append, append-nil}
-use Rattle.std.specs.Prelude.{slice_index, slice_index_or, sum_by, Result, Ok, Err, IfErr}
+use Rattle.std.specs.Prelude.{slice_index, slice_index_or, sum_by, Result, Ok, Err, IfErr, IsErr, IsErrAnd}
 use Rattle.std.specs.List.{Contains}
 use Rattle.std.proofs.lemmas.List.{map-append, get_or_default, take_all}
 use Rattle.std.proofs.lemmas.List.Elements.{Contains-append_left, Contains-append_right}
 use Rattle.std.proofs.lemmas.List.Sums.{sum_by-cons}
 use Rattle.overlay_work.specs.Sharing.{joined}
-use Rattle.overlay_work.specs.own.Kept.{id_at, ids_at}
+use Rattle.overlay_work.specs.Rounds.{id_at}
+use Rattle.overlay_work.specs.own.Kept.{ids_at}
 
 module _ {X Y : Type 0} (f : X → Y) where
   pub map_at : (xs : List X) (i : ℕ) (d : X) (e : Y) → i < length xs → get_or (map f xs) i e ≡ f (get_or xs i d)
@@ -67,3 +68,11 @@ written_whole xs ys n long same =
 pub err_more : {X E : Type 0} (P Q : E → Type 0) (r : Result X E) → ((e : E) → P e → Q e) → IfErr r P → IfErr r Q
 err_more P Q (Ok x) f h = h
 err_more P Q (Err e) f h = f e h
+
+pub err_both : {X E : Type 0} (P Q R : E → Type 0) (r : Result X E) → ((e : E) → P e → Q e → R e) → IfErr r P → IfErr r Q → IfErr r R
+err_both P Q R (Ok x) f h k = h
+err_both P Q R (Err e) f h k = f e h k
+
+pub err_of : {X E : Type 0} (P : E → Type 0) (r : Result X E) → IsErrAnd r P → IsErr r
+err_of P (Ok x) h = absurd h
+err_of P (Err e) h = refl

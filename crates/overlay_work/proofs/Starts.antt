@@ -1,8 +1,7 @@
 -- The hands of a round before they have claimed anything.
 use Rattle.std.proofs.Common.{◌≡◌, ◌⊎◌, inl, inr, ⊎_elim, refl, sym, ◌∙◌, ap, arith, ℕ, zero, suc, List, [], ◌∷◌, ◌++◌, length, length-append}
 use Rattle.overlay_claims.specs.Claimants.{Lists, Standing, fresh as fresh_claimant, fresh_hands as fresh_claimants}
-use Rattle.std.specs.List.{AllZip}
-use Rattle.overlay_work.specs.Rounds.{Task, Progress, fresh, fresh_hands, AreHandsOf}
+use Rattle.overlay_work.specs.Rounds.{Task, fresh, fresh_hands, AreHandsOf}
 use Rattle.overlay_work.specs.own.Kept.{started, AreFresh}
 use Rattle.geo_exact.specs.declared.corner.Corner.{Corner}
 use Rattle.overlay_work.specs.declared.round.RoundFault.{RoundFault}
@@ -75,20 +74,3 @@ one_fault ids city zones_city lists a NoMemory is was = absurd was
 pub refused : (ids : List ℕ) (city zones_city : List Corner) (lists : List (List ℕ)) (told fault : RoundFault)
     → IsRoundFault ids city zones_city lists told ⊎ (told ≡ NoMemory) → IsRoundFault ids city zones_city lists fault → (told ≡ fault) ⊎ (told ≡ NoMemory)
 refused ids city zones_city lists told fault is has = ⊎_elim (λ one. inl (one_fault ids city zones_city lists told fault one has)) (λ memory. inr memory) is
-
--- ---- hands that were worked with
--- a hand that was worked with is the same hand
-abbrev Stays : Progress → Progress → Type 0
-Stays before after = (after.task ≡ before.task) × (after.number ≡ before.number)
-
-pub hands_stay : (task : Task) (xs ys : List Progress) → AreHandsOf task xs → AllZip Stays xs ys → AreHandsOf task ys
-hands_stay task [] [] are zip = tt
-hands_stay task [] (y ∷ ys) are zip = absurd zip
-hands_stay task (x ∷ xs) [] are zip = absurd zip
-hands_stay task (x ∷ xs) (y ∷ ys) are zip = (zip.0.0 ∙ are.0, hands_stay task xs ys are.1 zip.1)
-
-pub as_many_stay : (xs ys : List Progress) → AllZip Stays xs ys → length ys ≡ length xs
-as_many_stay [] [] zip = refl
-as_many_stay [] (y ∷ ys) zip = absurd zip
-as_many_stay (x ∷ xs) [] zip = absurd zip
-as_many_stay (x ∷ xs) (y ∷ ys) zip = ap suc (as_many_stay xs ys zip.1)

@@ -1,5 +1,5 @@
 -- Why a round is not begun, and why it is not closed: the first reason that applies (this product's own order).
-use Rattle.std.specs.Prelude.{◌≡◌, ◌≢◌, ℕ, ◌≤◌, List, length, None, IsSome}
+use Rattle.std.specs.Prelude.{◌≡◌, ◌≢◌, ⊤, ℕ, ◌≤◌, List, length, None, IsSome}
 use Rattle.std.specs.List.{AllByRecursion, Contains}
 use Rattle.geo_exact.specs.declared.corner.Corner.{Corner}
 use Rattle.overlay_work.specs.declared.round.RoundFault.{RoundFault}
@@ -7,7 +7,7 @@ use Rattle.overlay_work.specs.declared.round.RoundFault.TheVariants.{HandCount, 
 use Rattle.overlay_work.specs.declared.close.CloseFault.{CloseFault}
 use Rattle.overlay_work.specs.declared.close.CloseFault.TheVariants.{NoThread, HandsMissing, Holding, NotDone, NoMemory as CloseMemory}
 use Rattle.overlay_work.specs.Sharing.{HasHands, IsLeastOutOfPlace}
-use Rattle.overlay_work.specs.Rounds.{Task, Progress, HasAllEnds}
+use Rattle.overlay_work.specs.Rounds.{Task, Progress, HasAllEnds, IsAtEnd}
 
 -- A round of a sheet with these ids and this city, and zones of that city, is refused: there is no list, or more than 64 (O3); the zones' city is
 -- another (O2); an id is out of place (O1).
@@ -41,6 +41,16 @@ IsCloseFault task hands (Holding number) = AreAllIn task hands × IsLeastHolding
 IsCloseFault task hands NotDone = AreAllIn task hands × HoldNothing hands × AllByRecursion (λ hand. HasAllEnds hand → ⊥) hands
 IsCloseFault task hands CloseMemory = ⊥
 
--- the system refused a thread for one of these hands (O7)
-abbrev pub IsNoThread : List Progress → CloseFault → Type 0
-IsNoThread hands fault = (hand : Progress) × Contains hands hand × (fault ≡ NoThread hand.number)
+-- the hand with this number is one of these
+abbrev pub IsNumberOf : List Progress → ℕ → Type 0
+IsNumberOf hands number = (hand : Progress) × Contains hands hand × (hand.number ≡ number)
+
+-- Hands worked a round off, each until it was at its end or held a parcel for want of memory, and the round is not closed: the system
+-- refused a thread for one of them (O7); they are not all hands of the round, and all are at their ends (O6); or memory was wanted. No hand
+-- is left holding a parcel for another cause, and one that works comes to its end: there is no O5 and no O4.
+abbrev pub IsRunFault : Task → List Progress → CloseFault → Type 0
+IsRunFault task hands (NoThread number) = IsNumberOf hands number
+IsRunFault task hands (HandsMissing made here) = IsCloseFault task hands (HandsMissing made here) × AllByRecursion IsAtEnd hands
+IsRunFault task hands (Holding number) = ⊥
+IsRunFault task hands NotDone = ⊥
+IsRunFault task hands CloseMemory = ⊤

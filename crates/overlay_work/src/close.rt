@@ -59,10 +59,11 @@ impl<'t, 'h, H: Allocator> Round<'t, 'h, H> {
         // Each parcel stands once in what the hands did.
         ensures once { OnOk result (IsPermutation (flat_map (λ hand. hand.did) hands.entry.items) (numbers self.entry.rows)) }
         ensures back { IfErr result (λ back. (back.round ≡ self.entry) × (back.hands.items ≡ hands.entry.items)) }
-        // A fault that is answered is the round's, and a round with a fault is not closed, unless memory runs out.
+        // A fault that is answered is the round's, or memory is wanting; and a round with a fault is refused by that one,
+        // also where memory is wanting.
         ensures fault { IfErr result (λ back. IsCloseFault self.entry hands.entry.items back.fault ⊎ (back.fault ≡ NoMemory)) }
         ensures refuses { (fault : CloseFault) → IsCloseFault self.entry hands.entry.items fault
-            → IsErrAnd result (λ back. (back.fault ≡ fault) ⊎ (back.fault ≡ NoMemory)) }
+            → IsErrAnd result (λ back. back.fault ≡ fault) }
     {
         if let Err(fault) = check_hands(self.work(), hands.as_slice()) {
             return Err(RoundBack {

@@ -1,6 +1,6 @@
 //! Hands that work at the same time, each in a thread of its own.
 
-ghost use Rattle.std.specs.Prelude.{◌≡◌};
+ghost use Rattle.overlay_work.specs.Rounds.{WorksOff};
 
 use crate::hand::{Hand, Step};
 use std::alloc::Allocator;
@@ -11,14 +11,15 @@ pub trait Gate {
     fn pass(&self, hand: usize);
 }
 
-/// Steps a hand until it is done, or wants memory.
+/// Steps a hand until it is done, or wants memory. It comes to that, since each other step does a parcel.
 pub(crate) fn work_off<'t, 'h, H: Allocator, G: Gate>(hand: &mut Hand<'t, 'h, H>, gate: &G)
-    ensures { (hand.new.task ≡ hand.old.task) × (hand.new.number ≡ hand.old.number) }
+    ensures { WorksOff hand.old hand.new }
 {
-    for _ in 0..u64::MAX {
+    loop {
         gate.pass(hand.number());
-        if !matches!(hand.step(), Step::Did(_)) {
-            break;
+        match hand.step() {
+            Step::Did(_) => hand.stands(),
+            Step::Done | Step::NoMemory => return,
         }
     }
 }

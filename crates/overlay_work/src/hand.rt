@@ -1,5 +1,6 @@
-ghost use Rattle.std.specs.Prelude.{◌≡◌, ℕ, Some, IfSome, IfNone, OnOk, OnErr, None, IsTrue, IsSome, ◌↔◌};
+ghost use Rattle.std.specs.Prelude.{◌≡◌, ◌≤◌, ℕ, length, Some, IfSome, IfNone, OnOk, OnErr, None, IsTrue, IsSome, ◌↔◌};
 ghost use Rattle.std.specs.Arc.{arc_value};
+ghost use Rattle.geo_exact.specs.declared.limits.TheConstants.{LAYER_CORNERS};
 ghost use Rattle.overlay_work.specs.declared.hand.Step.TheVariants.{Did, Done, NoMemory};
 ghost use Rattle.overlay_claims.specs.Claimants.{fresh as fresh_claimant};
 ghost use Rattle.overlay_work.specs.Rounds.{fresh, DoesParcel, IsDone, WaitsForMemory, HasAllEnds};
@@ -46,6 +47,7 @@ impl<'t, 'h, H: Allocator> Model for Hand<'t, 'h, H> {
     ghost view = { λ hand. record {
       task = arc_value hand.work;
       number = hand.claimant.number;
+      claimed = hand.claimant.places;
       did = done_of hand.holds (ids_at (arc_value hand.work).lists hand.claimant.places);
       kept = hand.kept.items;
       holds = hand.holds;
@@ -153,6 +155,13 @@ impl<'t, 'h, H: Allocator> Hand<'t, 'h, H> {
         ensures { IsTrue result ↔ IsSome self.now.holds }
     {
         self.holds.is_some()
+    }
+
+    /// It did no more parcels than a layer may have.
+    pub(crate) fn stands(&self)
+        ensures { length self.now.did ≤ LAYER_CORNERS }
+    {
+        self.work.stands();
     }
 
     /// Whether it has found each list at its end.

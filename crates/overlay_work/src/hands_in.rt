@@ -34,7 +34,7 @@ pub(crate) fn check_hands<'t, 'h, H: Allocator>(
 }
 
 /// The least number of a hand that holds a parcel, where there is one.
-fn least_holding<'t, 'h, H: Allocator>(hands: &[Hand<'t, 'h, H>]) -> Option<usize>
+pub(crate) fn least_holding<'t, 'h, H: Allocator>(hands: &[Hand<'t, 'h, H>]) -> Option<usize>
     ensures { MatchOption result (HoldNothing hands.now) (IsLeastHolding hands.now) }
 {
     let mut least = None;

@@ -1,14 +1,16 @@
 //! A round that is worked off by threads.
 
-ghost use Rattle.std.specs.Prelude.{◌≡◌, ◌⊎◌, length, IfOk, IfErr};
+ghost use Rattle.std.specs.Prelude.{◌≡◌, length, IfOk, IfErr, IsErr};
+ghost use Rattle.std.specs.List.{AllZip};
 ghost use Rattle.zone_tables.specs.Overlap.{IsOverlapTable};
-ghost use Rattle.overlay_work.specs.declared.close.CloseFault.TheVariants.{NoMemory};
-ghost use Rattle.overlay_work.specs.Rounds.{AreHandsOf};
-ghost use Rattle.overlay_work.specs.Faults.{IsCloseFault, IsNoThread};
+ghost use Rattle.overlay_work.specs.Rounds.{AreHandsOf, HasGoneOn, WorksOff};
+ghost use Rattle.overlay_work.specs.Faults.{AreAllIn, IsRunFault};
+ghost use Rattle.overlay_work.specs.own.Gathered.{HaveStopped};
 
 use crate::close::{CloseFault, RoundBack};
 use crate::gate::{Gate, work_off};
 use crate::hand::Hand;
+use crate::hands_in::least_holding;
 use crate::round::Round;
 use job_threads::{Job, do_all};
 use std::alloc::Allocator;
@@ -17,7 +19,13 @@ use std::thread::Threads;
 use zone_tables::Table;
 
 impl<'t, 'h, H: Allocator + Send + Sync, G: Gate + Sync> Job<G> for Hand<'t, 'h, H> {
-    ghost stays = { λ before after. (after.task ≡ before.task) × (after.number ≡ before.number) };
+    ghost stays = { WorksOff };
+
+    ghost rank_of = { λ hand. hand.number };
+
+    fn rank(&self) -> usize {
+        self.number()
+    }
 
     fn work(mut self, with: &G) -> Hand<'t, 'h, H> {
         work_off(&mut self, with);
@@ -30,9 +38,10 @@ impl<'t, 'h, H: Allocator + Send + Sync, G: Gate + Sync> Job<G> for Hand<'t, 'h,
 ///
 /// # Errors
 ///
-/// The first of these that applies: [`CloseFault::NoThread`] (O7), where the system refused a thread, for the first such hand, which is
-/// then worked with in this thread; [`CloseFault::NoMemory`] where a hand stopped for want of memory; and what [`Round::close`]
-/// answers. The round and the hands come back, the hands as far as they came.
+/// The first of these that applies: [`CloseFault::NoThread`] (O7), where the system refused a thread, for the least such hand,
+/// which is then worked with in this thread; [`CloseFault::NoMemory`] where a hand stopped for want of memory; and what
+/// [`Round::close`] answers, which is [`CloseFault::HandsMissing`] (O6) or [`CloseFault::NoMemory`]: hands that worked hold nothing
+/// and are done. The round and the hands come back, the hands as far as they came.
 pub fn run_round<'t, 'h, H: Allocator + Send + Sync, G: Gate + Sync, R: Threads + Wait + Sync>(
     rt: &R,
     round: Round<'t, 'h, H>,
@@ -46,8 +55,10 @@ pub fn run_round<'t, 'h, H: Allocator + Send + Sync, G: Gate + Sync, R: Threads 
     ensures entries { IfOk result (λ table. table.entries ≡ round.entry.entries) }
     ensures back { IfErr result (λ back. (back.round ≡ round.entry) × AreHandsOf round.entry back.hands.items) }
     ensures as_many { IfErr result (λ back. length back.hands.items ≡ length hands.entry.items) }
-    ensures fault { IfErr result (λ back. IsNoThread back.hands.items back.fault
-        ⊎ (IsCloseFault round.entry back.hands.items back.fault ⊎ (back.fault ≡ NoMemory))) }
+    ensures worked { IfErr result (λ back. AllZip HasGoneOn hands.entry.items back.hands.items) }
+    ensures fault { IfErr result (λ back. IsRunFault round.entry back.hands.items back.fault) }
+    // A round with hands missing is not closed.
+    ensures refuses { (AreAllIn round.entry hands.entry.items → ⊥) → IsErr result }
 {
     let (hands, refused) = match do_all(rt, gate, hands) {
         Ok(done) => done,
@@ -59,31 +70,33 @@ pub fn run_round<'t, 'h, H: Allocator + Send + Sync, G: Gate + Sync, R: Threads 
             });
         }
     };
-    if let Some(place) = refused {
-        let fault = CloseFault::NoThread(hands[place].number());
+    if let Some(number) = refused {
         return Err(RoundBack {
             round,
             hands,
-            fault,
+            fault: CloseFault::NoThread(number),
         });
     }
     close_worked(round, hands)
 }
 
-/// Closes a round whose hands were worked with.
+/// Closes a round whose hands were worked with. One that holds a parcel stopped for want of memory.
 fn close_worked<'t, 'h, H: Allocator>(
     round: Round<'t, 'h, H>,
     hands: Vec<Hand<'t, 'h, H>, &'h H>,
 ) -> Result<Table<'t, 'h, H, &'h H>, RoundBack<'t, 'h, H>>
-    requires { AreHandsOf round hands.items }
+    requires at_work { AreHandsOf round hands.items }
+    requires stopped { HaveStopped hands.items }
     ensures table { IfOk result (λ table. IsOverlapTable round.entry.rows round.entry.zones table.pairs) }
     ensures rows { IfOk result (λ table. (table.rows ≡ round.entry.rows) × (table.zones ≡ round.entry.zones)) }
     ensures city { IfOk result (λ table. table.city ≡ round.entry.city) }
     ensures entries { IfOk result (λ table. table.entries ≡ round.entry.entries) }
     ensures back { IfErr result (λ back. (back.round ≡ round.entry) × (back.hands.items ≡ hands.entry.items)) }
-    ensures fault { IfErr result (λ back. IsCloseFault round.entry hands.entry.items back.fault ⊎ (back.fault ≡ NoMemory)) }
+    ensures fault { IfErr result (λ back. IsRunFault round.entry hands.entry.items back.fault) }
+    ensures refuses { (AreAllIn round.entry hands.entry.items → ⊥) → IsErr result }
 {
-    if wants_memory(hands.as_slice()) {
+    round.work().stands();
+    if least_holding(hands.as_slice()).is_some() {
         return Err(RoundBack {
             round,
             hands,
@@ -91,14 +104,4 @@ fn close_worked<'t, 'h, H: Allocator>(
         });
     }
     round.close(hands)
-}
-
-/// Whether a hand stopped for want of memory: it holds a parcel.
-fn wants_memory<'t, 'h, H: Allocator>(hands: &[Hand<'t, 'h, H>]) -> bool {
-    for hand in hands {
-        if hand.holds_one() {
-            return true;
-        }
-    }
-    false
 }

@@ -2,7 +2,8 @@ ghost use Rattle.std.specs.Prelude.{◌≡◌, length, map};
 ghost use Rattle.std.specs.List.{Contains};
 ghost use Rattle.fabric_core.specs.Rows.{numbers};
 ghost use Rattle.overlay_work.specs.Sharing.{IsSharing};
-ghost use Rattle.overlay_work.specs.own.Kept.{IsTask, id_at};
+ghost use Rattle.overlay_work.specs.Rounds.{id_at};
+ghost use Rattle.overlay_work.specs.own.Kept.{IsTask};
 ghost use Rattle.overlay_claims.specs.Claimants.{IsPlace};
 
 use fabric_core::{Layer, Sheet};

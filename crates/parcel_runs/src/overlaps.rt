@@ -3,6 +3,7 @@
 ghost use Rattle.std.specs.Prelude.{◌≡◌, ◌⊎◌, ℕ, ◌<◌, ◌≤◌, length, IfOk, IfErr};
 ghost use Rattle.overlay_work.specs.Rounds.{AreHandsOf};
 ghost use Rattle.overlay_work.specs.declared.round.RoundFault.TheVariants.{NoMemory as RoundMemory};
+ghost use Rattle.overlay_work.specs.declared.close.CloseFault.TheVariants.{NoThread, NoMemory as CloseMemory};
 ghost use Rattle.overlay_work.specs.declared.round.TheConstants.{MOST_HANDS};
 ghost use Rattle.zone_tables.specs.Overlap.{IsOverlapTable};
 ghost use Rattle.parcel_runs.specs.OverlayReport.{IsWant};
@@ -86,14 +87,15 @@ fn told_of_round(fault: RoundFault) -> ToolFault<'static>
 
 /// What it is to the user that a round with all its hands gave no table.
 fn told_of_close(fault: CloseFault) -> ToolFault<'static>
+    requires { (fault ≡ CloseMemory) ⊎ ((hand : ℕ) × (fault ≡ NoThread hand)) }
     ensures { IsWant result }
 {
     match fault {
         CloseFault::NoThread(hand) => ToolFault::NoThread(hand),
-        // All hands were handed in, and each stopped where it was done or wanted memory.
-        CloseFault::NoMemory
-        | CloseFault::HandsMissing(_, _)
-        | CloseFault::Holding(_)
-        | CloseFault::NotDone => ToolFault::NoMemory,
+        CloseFault::NoMemory => ToolFault::NoMemory,
+        // All hands were handed in, and each that works comes to its end or wants memory.
+        CloseFault::HandsMissing(_, _) | CloseFault::Holding(_) | CloseFault::NotDone => {
+            unreachable!()
+        }
     }
 }

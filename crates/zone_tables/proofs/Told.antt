@@ -94,6 +94,7 @@ module _ (rows zones : List NumberedRing) (city : List Corner) (pairs : List (�
 
   pub is_report : (entries : ℕ) → IsReport (record { rows = rows; zones = zones; city = city; pairs = pairs; entries = entries }) (report_text entries pairs)
   is_report entries = record {
+    is_table = stands.table;
     splits = split_ids (zonings pairs);
     are_split = are_split rows zones pairs stands.table;
     others = single_zones (zonings pairs);

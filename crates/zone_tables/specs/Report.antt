@@ -7,7 +7,7 @@ use Rattle.std.specs.Io.KnownBytes.{Appends}
 use Rattle.geo_exact.specs.Layers.{NumberedRing}
 use Rattle.fabric_core.specs.Rows.{numbers}
 use Rattle.text_puts.specs.Beginnings.{AppendsBeginning}
-use Rattle.zone_tables.specs.Overlap.{Overlay, AreSplitZoned}
+use Rattle.zone_tables.specs.Overlap.{Overlay, IsOverlapTable, AreSplitZoned}
 use Rattle.zone_tables.specs.Within.{IsWithinZone}
 
 -- a number behind a space
@@ -39,8 +39,10 @@ pub record AreWithinZones (rows zones : List NumberedRing) (pairs : List (ℕ ×
   pub ascend : IsStrictlyIncreasing (map (λ pair. pair.0) pairs)
   pub exactly : (id zone : ℕ) → Contains pairs (id, zone) ↔ IsWithinZone rows zones id zone
 
--- The text tells the table: the pairs, the split-zoned parcels, and each other parcel with the zone that it is within.
+-- The text tells the table of its parcels and zones: the pairs, which are all that overlap, the split-zoned parcels, and each other parcel with the
+-- zone that it is within.
 pub record IsReport (table : Overlay) (text : List ℕ) : Type 0 where
+  pub is_table : IsOverlapTable table.rows table.zones table.pairs
   pub splits : List ℕ
   pub are_split : AreSplitZoned table.rows table.zones splits
   pub others : List (ℕ × ℕ)

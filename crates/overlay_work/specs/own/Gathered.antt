@@ -1,14 +1,18 @@
 -- What hands that are handed in did together.
-use Rattle.std.specs.Prelude.{◌≡◌, ◌⊎◌, ℕ, List, [], ◌∷◌, ◌++◌, Option, None, MatchOption, flat_map, IsPermutation}
+use Rattle.std.specs.Prelude.{◌≡◌, ◌⊎◌, ℕ, List, [], ◌∷◌, ◌++◌, Option, None, IsSome, MatchOption, flat_map, IsPermutation}
 use Rattle.zone_tables.specs.Overlap.{IsPairBefore}
 use Rattle.std.specs.List.{AllByRecursion, Contains}
-use Rattle.overlay_work.specs.Rounds.{Task, Progress, HasAllEnds}
+use Rattle.overlay_work.specs.Rounds.{Task, Progress, HasAllEnds, IsAtEnd}
 use Rattle.overlay_work.specs.Faults.{AreAllIn, HoldNothing, IsLeastHolding}
 use Rattle.overlay_work.specs.own.Kept.{ArePairsOfAll}
 
 -- one of the hands has found each list at its end
 abbrev pub SomeHasAllEnds : List Progress → Type 0
 SomeHasAllEnds hands = (hand : Progress) × Contains hands hand × HasAllEnds hand
+
+-- each hand is at its end, or holds a parcel
+abbrev pub HaveStopped : List Progress → Type 0
+HaveStopped hands = AllByRecursion (λ hand. IsAtEnd hand ⊎ IsSome hand.holds) hands
 
 -- the round can be closed with them
 pub record AreDone (task : Task) (hands : List Progress) : Type 0 where

@@ -1,20 +1,17 @@
 -- What the code knows of a hand besides what it shows.
-use Rattle.std.specs.Prelude.{◌≡◌, ◌↔◌, ℕ, ◌*◌, ◌-◌, ◌≤◌, List, [], ◌∷◌, ◌++◌, length, map, slice_index, slice_index_or, take, sum_by, Option, Some, None}
+use Rattle.std.specs.Prelude.{◌≡◌, ◌↔◌, ℕ, ◌*◌, ◌-◌, ◌≤◌, List, [], ◌∷◌, ◌++◌, length, map, take, sum_by, Option, Some, None, IsSome}
 use Rattle.std.specs.List.{AllByRecursion, Contains}
 use Rattle.geo_exact.specs.declared.corner.Corner.{Corner}
 use Rattle.geo_exact.specs.Interiors.{InteriorsMeet}
 use Rattle.geo_exact.specs.Layers.{NumberedRing}
 use Rattle.fabric_core.specs.Rows.{numbers}
 use Rattle.geo_exact.specs.declared.limits.TheConstants.{LAYER_CORNERS}
-use Rattle.overlay_claims.specs.Claimants.{Lists, Standing, fresh as fresh_claimant}
+use Rattle.overlay_claims.specs.Claimants.{Lists, Standing, fresh as fresh_claimant, AreAllEnded}
 use Rattle.zone_tables.specs.Overlap.{AreInPairOrder}
 use Rattle.overlay_work.specs.Sharing.{IsSharing}
-use Rattle.overlay_work.specs.Rounds.{Task, Progress, fresh, ArePairsOf, AreCandidatesFor, GoesOn}
+use Rattle.overlay_work.specs.Rounds.{Task, Progress, fresh, ArePairsOf, AreCandidatesFor, HasParcel, HasAllEnds, id_at}
 
--- the id that stands at a place of the lists; and those at places, in order
-abbrev pub id_at : List (List ℕ) → ℕ × ℕ → ℕ
-id_at lists place = slice_index (slice_index_or lists place.0 []) place.1
-
+-- the ids that stand at places of the lists, in order
 abbrev pub ids_at : List (List ℕ) → List (ℕ × ℕ) → List ℕ
 ids_at lists places = map (id_at lists) places
 
@@ -68,6 +65,7 @@ pub record IsHand (task : Task) (standing : Standing) (holds : Option ℕ) (kept
   pub pairs : ArePairsOfAll task.rows task.zones (done_of holds (ids_at task.lists standing.places)) kept
   pub few : length standing.places ≤ sum_by (λ n. n) task.claims.lengths
   pub few_tests : tests ≤ LAYER_CORNERS * length (done_of holds (ids_at task.lists standing.places))
+  pub is_not_done : IsSome holds → AreAllEnded (length task.lists) standing.ended → ⊥
 
 -- the pairs of a parcel were kept behind the others, after so many tests
 pub record KeepsPairs (task : Task) (id : ℕ) (old new : List (ℕ × ℕ)) (count : ℕ) : Type 0 where
@@ -78,14 +76,14 @@ pub record KeepsPairs (task : Task) (id : ℕ) (old new : List (ℕ × ℕ)) (co
   pub are_candidates : AreCandidatesFor task.rows task.zones task.city id candidates
   pub tests : count ≡ length candidates
 
--- the hand holds this parcel, that which it held before where it held one; what it did before stays
+-- the hand holds this parcel, which it held or has claimed now; what it did before stays
 pub record Takes (old new : Progress) (id : ℕ) : Type 0 where
+  pub has_parcel : HasParcel old new id
   pub holds : new.holds ≡ Some id
-  pub held : (parcel : ℕ) → old.holds ≡ Some parcel → id ≡ parcel
   pub did : new.did ≡ old.did
   pub kept : new.kept ≡ old.kept
   pub tests : new.tests ≡ old.tests
-  pub ends : GoesOn old.ended new.ended
+  pub is_not_done : HasAllEnds new → ⊥
 
 -- the hands of those who claim, before they have claimed anything
 abbrev pub started : Task → List Standing → List Progress
