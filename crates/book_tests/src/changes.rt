@@ -93,6 +93,19 @@ pub fn is_inside<H: Allocator>(
     }
 }
 
+/// The answer to an edit: the number of its entry, or why it is refused.
+fn answer<'a, H: Allocator>(
+    heap: &'a H,
+    fabric: &mut Fabric<'a, H>,
+    change: Change,
+) -> Result<Result<u64, Refusal>, Fail> {
+    let edit = edit_of(heap, change)?;
+    match fabric.edit(CLERK, &edit) {
+        Ok(entry) => Ok(Ok(entry.number())),
+        Err(refusal) => Ok(Err(refusal)),
+    }
+}
+
 /// Makes the edits of a table in turn. It is a failure where the answer to one, or the parcels or the number of entries after it,
 /// are others.
 pub fn take<'a, H: Allocator>(
@@ -102,11 +115,7 @@ pub fn take<'a, H: Allocator>(
 ) -> Result<(), Fail> {
     for (change, want, parcels) in steps {
         let before = fabric.entries();
-        let edit = edit_of(heap, *change)?;
-        let answer = match fabric.edit(CLERK, &edit) {
-            Ok(entry) => Ok(entry.number()),
-            Err(refusal) => Err(refusal),
-        };
+        let answer = answer(heap, fabric, *change)?;
         if answer != *want {
             return Err(Fail::new("another answer"));
         }

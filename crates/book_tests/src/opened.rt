@@ -1,7 +1,11 @@
 //! Fabrics as a run has them: opened from layers of rings that were read from the bytes of a layer file.
 
+ghost use Rattle.std.specs.Prelude.{◌≤◌, IfOk};
+ghost use Rattle.geo_exact.specs.Layers.{corner_count, NumbersRise, rings_of};
+ghost use Rattle.geo_exact.specs.declared.limits.TheConstants.{LAYER_CORNERS, LAYER_RECORDS};
+
 use fabric_core::{City, Fabric, Layer};
-use geo_exact::Unit;
+use geo_exact::{Corners, RawRing, Unit};
 use shp_files::{a_layer_file_is_within_the_limits, read_layer};
 use std::alloc::Allocator;
 use std::test::Fail;
@@ -17,17 +21,36 @@ pub const WEST: [Place; 4] = [(0, 0), (60, 0), (60, 100), (0, 100)];
 pub const EAST: [Place; 4] = [(60, 0), (100, 0), (100, 100), (60, 100)];
 
 /// The rings of both.
-pub static RINGS: [&[Place]; 2] = [&WEST, &EAST];
+pub const RINGS: [&[Place]; 2] = [&WEST, &EAST];
+
+/// A list of rings under their numbers, as a layer file gives them.
+type Records<'a, H> = Vec<RawRing<&'a H>, &'a H>;
+
+/// The lists of corners at these places.
+fn lists<A: Allocator + Copy>(alloc: A, rings: &[&[Place]]) -> Result<Vec<Corners<A>, A>, Fail> {
+    let mut lists = Vec::new(alloc);
+    for ring in rings {
+        lists.push(corners(alloc, ring)?)?;
+    }
+    Ok(lists)
+}
+
+/// The rings that are read from the main file of the rings at these places, numbered from 1.
+fn records<'a, H: Allocator>(heap: &'a H, rings: &[&[Place]]) -> Result<Records<'a, H>, Fail>
+    ensures numbers { IfOk result (λ records. NumbersRise 0 LAYER_RECORDS (rings_of records.items)) }
+    ensures corners { IfOk result (λ records. corner_count (rings_of records.items) ≤ LAYER_CORNERS) }
+{
+    let file = layer_file(heap, &lists(heap, rings)?)?;
+    a_layer_file_is_within_the_limits();
+    match read_layer(heap, &file, None, Unit::Cm) {
+        Ok(records) => Ok(records),
+        Err(_) => Err(Fail::new("no layer file")),
+    }
+}
 
 /// The city with its ring at these places.
 fn city<'a, H: Allocator>(heap: &'a H, ring: &[Place]) -> Result<City<'a, H>, Fail> {
-    let mut lists = Vec::new(heap);
-    lists.push(corners(heap, ring)?)?;
-    let file = layer_file(heap, &lists)?;
-    let Ok(mut records) = read_layer(heap, &file, None, Unit::Cm) else {
-        return Err(Fail::new("no layer file"));
-    };
-    let Some(ring) = records.pop() else {
+    let Some(ring) = records(heap, &[ring])?.pop() else {
         return Err(Fail::new("no ring"));
     };
     match City::new(heap, ring) {
@@ -37,22 +60,13 @@ fn city<'a, H: Allocator>(heap: &'a H, ring: &[Place]) -> Result<City<'a, H>, Fa
 }
 
 /// The layer of the rings at these places, in the city.
-pub fn layer<'a, H: Allocator>(
+fn layer<'a, H: Allocator>(
     heap: &'a H,
     ring: &[Place],
     rings: &[&[Place]],
 ) -> Result<Layer<'a, H>, Fail> {
     let city = city(heap, ring)?;
-    let mut lists = Vec::new(heap);
-    for ring in rings {
-        lists.push(corners(heap, ring)?)?;
-    }
-    let file = layer_file(heap, &lists)?;
-    a_layer_file_is_within_the_limits();
-    let Ok(records) = read_layer(heap, &file, None, Unit::Cm) else {
-        return Err(Fail::new("no layer file"));
-    };
-    match Layer::load(heap, &city, records) {
+    match Layer::load(heap, &city, records(heap, rings)?) {
         Ok(layer) => Ok(layer),
         Err(_) => Err(Fail::new("no tiling")),
     }

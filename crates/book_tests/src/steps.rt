@@ -2,8 +2,9 @@
 
 use crate::changes::{Change, Parcel, Step, are_at, is_inside, take};
 use crate::opened::{EAST, RINGS, SQUARE, WEST, fabric};
-use fabric_core::Refusal;
+use fabric_core::{Fabric, Refusal};
 use ring_core::RingFault;
+use std::alloc::Allocator;
 use std::test::Fail;
 use test_builders::Place;
 
@@ -67,17 +68,39 @@ static REFINED: [Place; 8] = [
     (0, 100),
 ];
 
+/// Whether edits of the two parcels are answered as their table says, and then the place is inside this parcel, the refined ring
+/// has the corners of both halves, and the city's ring has none of them.
+fn are_taken<'a, H: Allocator>(
+    heap: &'a H,
+    fabric: &mut Fabric<'a, H>,
+    steps: &[Step],
+    parcel: u64,
+) -> Result<bool, Fail> {
+    take(heap, fabric, steps)?;
+    Ok(
+        are_at(fabric.refined(), &REFINED)
+            && are_at(fabric.city(), &SQUARE)
+            && is_inside(fabric, (10, 10), parcel)?,
+    )
+}
+
+/// Whether the first parcel is cut in halves, and these are merged.
+fn are_cut_and_merged<'a, H: Allocator>(
+    heap: &'a H,
+    fabric: &mut Fabric<'a, H>,
+) -> Result<bool, Fail> {
+    Ok(are_taken(heap, fabric, &INTO_HALVES, 3)? && are_taken(heap, fabric, &BACK_TO_ONE, 5)?)
+}
+
+/// The same, in a fabric of the two parcels.
+fn is_cut_and_merged<H: Allocator>(heap: &H) -> Result<bool, Fail> {
+    let mut fabric = fabric(heap, &SQUARE, &RINGS)?;
+    are_cut_and_merged(heap, &mut fabric)
+}
+
 #[test]
 fn cuts_in_halves_and_merges_them(rt: HostRuntime) -> Result<(), Fail> {
-    let heap = &rt.alloc();
-    let mut fabric = fabric(heap, &SQUARE, &RINGS)?;
-    take(heap, &mut fabric, &INTO_HALVES)?;
-    assert!(rt; are_at(fabric.refined(), &REFINED));
-    assert!(rt; is_inside(&fabric, (10, 10), 3)?);
-    take(heap, &mut fabric, &BACK_TO_ONE)?;
-    assert!(rt; is_inside(&fabric, (10, 10), 5)?);
-    assert!(rt; are_at(fabric.refined(), &REFINED));
-    assert!(rt; are_at(fabric.city(), &SQUARE));
+    assert!(rt; is_cut_and_merged(&rt.alloc())?);
     Ok(())
 }
 
@@ -99,7 +122,7 @@ const MOVED: [Parcel; 2] = [
 ];
 
 /// Edits of the two parcels that are refused, and at last one that is not.
-static OF_TWO: [Step; 10] = [
+const OF_TWO: [Step; 10] = [
     (
         Change::Split(2, &BEYOND),
         Err(Refusal::Ring {
@@ -139,13 +162,6 @@ static OF_TWO: [Step; 10] = [
     ),
 ];
 
-#[test]
-fn moves_a_border_after_refusals(rt: HostRuntime) -> Result<(), Fail> {
-    let heap = &rt.alloc();
-    let mut fabric = fabric(heap, &SQUARE, &RINGS)?;
-    take(heap, &mut fabric, &OF_TWO)
-}
-
 /// A parcel round two that stand side by side in it, as it is read, and noded for their corners.
 const ROUND: [Place; 8] = [
     (0, 0),
@@ -178,12 +194,12 @@ const OUTER: [Place; 4] = [(70, 20), (100, 20), (100, 80), (70, 80)];
 const BAY: [Parcel; 3] = [(1, 12_800, &NODED), (2, 3_600, &INNER), (3, 3_600, &OUTER)];
 
 /// A border of two runs.
-static OF_BAY: [Step; 2] = [
+const OF_BAY: [Step; 2] = [
     (Change::Merge(1, 3), Err(Refusal::SharedTwice), &BAY),
     (Change::Merge(3, 1), Err(Refusal::SharedTwice), &BAY),
 ];
 
-static BAY_RINGS: [&[Place]; 3] = [&ROUND, &INNER, &OUTER];
+const BAY_RINGS: [&[Place]; 3] = [&ROUND, &INNER, &OUTER];
 
 const KITE: [Place; 5] = [(0, 50), (50, 0), (100, 50), (80, 90), (50, 100)];
 
@@ -195,10 +211,10 @@ const BETWEEN: [Place; 4] = [(0, 50), (30, 40), (40, 50), (30, 60)];
 
 const ROUND_A_HOLE: [Parcel; 3] = [(1, 5_600, &UPPER), (2, 4_600, &LOWER), (3, 800, &BETWEEN)];
 
-static KITE_RINGS: [&[Place]; 3] = [&UPPER, &LOWER, &BETWEEN];
+const KITE_RINGS: [&[Place]; 3] = [&UPPER, &LOWER, &BETWEEN];
 
 /// Two neighbours that touch in their least corner too: what they would become goes round a hole.
-static OF_KITE: [Step; 2] = [
+const OF_KITE: [Step; 2] = [
     (
         Change::Merge(1, 2),
         Err(Refusal::Ring {
@@ -217,11 +233,29 @@ static OF_KITE: [Step; 2] = [
     ),
 ];
 
+/// A city's ring, the parcels' rings, and edits of them.
+type Group = (
+    &'static [Place],
+    &'static [&'static [Place]],
+    &'static [Step],
+);
+
+static GROUPS: [Group; 3] = [
+    (&SQUARE, &RINGS, &OF_TWO),
+    (&SQUARE, &BAY_RINGS, &OF_BAY),
+    (&KITE, &KITE_RINGS, &OF_KITE),
+];
+
+/// Makes the edits of a group in a fabric of its own.
+fn take_group<H: Allocator>(heap: &H, group: &Group) -> Result<(), Fail> {
+    let mut fabric = fabric(heap, group.0, group.1)?;
+    take(heap, &mut fabric, group.2)
+}
+
 #[test]
-fn refuses_merges_that_leave_a_hole(rt: HostRuntime) -> Result<(), Fail> {
-    let heap = &rt.alloc();
-    let mut bay = fabric(heap, &SQUARE, &BAY_RINGS)?;
-    take(heap, &mut bay, &OF_BAY)?;
-    let mut kite = fabric(heap, &KITE, &KITE_RINGS)?;
-    take(heap, &mut kite, &OF_KITE)
+fn makes_edits_after_refusals(rt: HostRuntime) -> Result<(), Fail> {
+    for group in &GROUPS {
+        take_group(&rt.alloc(), group)?;
+    }
+    Ok(())
 }

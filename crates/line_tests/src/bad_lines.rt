@@ -4,7 +4,7 @@ use crate::clerk_files::told;
 use std::test::Fail;
 
 /// Lines that say nothing, and are not skipped.
-const BAD: [&str; 55] = [
+static BAD: [&str; 55] = [
     " ",
     "   ",
     "\r",
@@ -64,7 +64,7 @@ const BAD: [&str; 55] = [
 
 #[test]
 fn alone(rt: HostRuntime) -> Result<(), Fail> {
-    for line in BAD {
+    for line in &BAD {
         assert_eq!(rt;
             told(rt.alloc(), line.as_bytes())?.as_str(),
             "L1 1",
@@ -77,24 +77,27 @@ fn alone(rt: HostRuntime) -> Result<(), Fail> {
 #[test]
 fn behind_other_lines(rt: HostRuntime) -> Result<(), Fail> {
     let alloc = rt.alloc();
-    for line in BAD {
+    for line in &BAD {
         let text = format!(in alloc; "merge 1 2\r\n\n# {line}\n{line}\r\n{line}")?;
         assert_eq!(rt; told(alloc, text.as_bytes())?.as_str(), "L1 4", "{line}");
     }
     Ok(())
 }
 
+/// Texts, and their first bad line.
+static TEXTS: [(&[u8], &str); 6] = [
+    (b"merge 1 2\n\nmerge 1  2\n", "L1 3"),
+    (b"\r\r\n", "L1 1"),
+    (b"merge 1 2\r\r\n", "L1 1"),
+    (b"merge 1 2\n#\n\xFF", "L1 3"),
+    (b"merge 1 2\rmerge 3 4\n", "L1 1"),
+    (b"merge 1 2\nx\ny\n", "L1 2"),
+];
+
 #[test]
 fn between_other_lines(rt: HostRuntime) -> Result<(), Fail> {
-    for (text, want) in [
-        (b"merge 1 2\n\nmerge 1  2\n".as_slice(), "L1 3"),
-        (b"\r\r\n".as_slice(), "L1 1"),
-        (b"merge 1 2\r\r\n".as_slice(), "L1 1"),
-        (b"merge 1 2\n#\n\xFF".as_slice(), "L1 3"),
-        (b"merge 1 2\rmerge 3 4\n".as_slice(), "L1 1"),
-        (b"merge 1 2\nx\ny\n".as_slice(), "L1 2"),
-    ] {
-        assert_eq!(rt; told(rt.alloc(), text)?.as_str(), want);
+    for (text, want) in &TEXTS {
+        assert_eq!(rt; told(rt.alloc(), text)?.as_str(), *want);
     }
     Ok(())
 }

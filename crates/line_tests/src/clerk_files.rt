@@ -52,87 +52,101 @@ pub fn told(alloc: Global, text: &[u8]) -> Result<String, AllocError> {
     }
 }
 
+/// Texts, and their edits.
+static EDITS: [(&[u8], &str); 14] = [
+    (b"merge 1 2", "1: merge 1 2\n"),
+    (b"split 1 30 0 30 100", "1: split 1 30 0 30 100\n"),
+    (
+        b"move 3 4 60 0 50 50 60 100\n",
+        "1: move 3 4 60 0 50 50 60 100\n",
+    ),
+    (b"insert 0 0 60 0 30 0\n", "1: insert 0 0 60 0 30 0\n"),
+    (
+        b"insert 0 0 60 0 30 0\ninsert 0 100 60 100 30 100\nsplit 1 30 0 30 100\nsplit 1 30 0 30 100\nmerge 3 4\n",
+        "1: insert 0 0 60 0 30 0\n2: insert 0 100 60 100 30 100\n3: split 1 30 0 30 100\n4: split 1 30 0 30 100\n5: merge 3 4\n",
+    ),
+    // a path of one corner is refused by the fabric
+    (b"split 1 5 6", "1: split 1 5 6\n"),
+    (b"move 1 2 5 6", "1: move 1 2 5 6\n"),
+    (b"merge 7 7", "1: merge 7 7\n"),
+    // numbers
+    (b"merge 0 000", "1: merge 0 0\n"),
+    (b"merge 0000000000000000012 2", "1: merge 12 2\n"),
+    (
+        b"merge 9999999999999999999 9223372036854775808",
+        "1: merge 9999999999999999999 9223372036854775808\n",
+    ),
+    (
+        b"split 1 -10000000000 10000000000",
+        "1: split 1 -10000000000 10000000000\n",
+    ),
+    (b"split 1 -0 -007", "1: split 1 0 -7\n"),
+    (
+        b"split 1 0000000010000000000 -0000000010000000000",
+        "1: split 1 10000000000 -10000000000\n",
+    ),
+];
+
 #[test]
 fn reads_each_edit(rt: HostRuntime) -> Result<(), Fail> {
-    for (text, want) in [
-        (b"merge 1 2".as_slice(), "1: merge 1 2\n"),
-        (
-            b"split 1 30 0 30 100".as_slice(),
-            "1: split 1 30 0 30 100\n",
-        ),
-        (
-            b"move 3 4 60 0 50 50 60 100\n".as_slice(),
-            "1: move 3 4 60 0 50 50 60 100\n",
-        ),
-        (
-            b"insert 0 0 60 0 30 0\n".as_slice(),
-            "1: insert 0 0 60 0 30 0\n",
-        ),
-        (
-            b"insert 0 0 60 0 30 0\ninsert 0 100 60 100 30 100\nsplit 1 30 0 30 100\nsplit 1 30 0 30 100\nmerge 3 4\n".as_slice(),
-            "1: insert 0 0 60 0 30 0\n2: insert 0 100 60 100 30 100\n3: split 1 30 0 30 100\n4: split 1 30 0 30 100\n5: merge 3 4\n",
-        ),
-        // a path of one corner is refused by the fabric
-        (b"split 1 5 6".as_slice(), "1: split 1 5 6\n"),
-        (b"move 1 2 5 6".as_slice(), "1: move 1 2 5 6\n"),
-        (b"merge 7 7".as_slice(), "1: merge 7 7\n"),
-        // numbers
-        (b"merge 0 000".as_slice(), "1: merge 0 0\n"),
-        (b"merge 0000000000000000012 2".as_slice(), "1: merge 12 2\n"),
-        (
-            b"merge 9999999999999999999 9223372036854775808".as_slice(),
-            "1: merge 9999999999999999999 9223372036854775808\n",
-        ),
-        (
-            b"split 1 -10000000000 10000000000".as_slice(),
-            "1: split 1 -10000000000 10000000000\n",
-        ),
-        (b"split 1 -0 -007".as_slice(), "1: split 1 0 -7\n"),
-        (
-            b"split 1 0000000010000000000 -0000000010000000000".as_slice(),
-            "1: split 1 10000000000 -10000000000\n",
-        ),
-    ] {
-        assert_eq!(rt; told(rt.alloc(), text)?.as_str(), want);
+    for (text, want) in &EDITS {
+        assert_eq!(rt; told(rt.alloc(), text)?.as_str(), *want);
     }
     Ok(())
 }
 
+/// Texts with lines that are skipped, and their edits.
+static SKIPPED: [(&[u8], &str); 6] = [
+    (b"", ""),
+    (b"\n", ""),
+    (b"\r\n\n#\n# any \xFF bytes\r\n#merge 1 2", ""),
+    (b"#\r", ""),
+    (
+        b"# a\nmerge 1 2\n\n\nmerge 3 4\n",
+        "2: merge 1 2\n5: merge 3 4\n",
+    ),
+    (
+        b"merge 1 2\r\n\r\nmerge 3 4\r\n",
+        "1: merge 1 2\n3: merge 3 4\n",
+    ),
+];
+
 #[test]
 fn counts_lines_that_are_skipped(rt: HostRuntime) -> Result<(), Fail> {
-    for (text, want) in [
-        (b"".as_slice(), ""),
-        (b"\n".as_slice(), ""),
-        (b"\r\n\n#\n# any \xFF bytes\r\n#merge 1 2".as_slice(), ""),
-        (b"#\r".as_slice(), ""),
-        (
-            b"# a\nmerge 1 2\n\n\nmerge 3 4\n".as_slice(),
-            "2: merge 1 2\n5: merge 3 4\n",
-        ),
-        (
-            b"merge 1 2\r\n\r\nmerge 3 4\r\n".as_slice(),
-            "1: merge 1 2\n3: merge 3 4\n",
-        ),
-    ] {
-        assert_eq!(rt; told(rt.alloc(), text)?.as_str(), want);
+    for (text, want) in &SKIPPED {
+        assert_eq!(rt; told(rt.alloc(), text)?.as_str(), *want);
     }
     Ok(())
+}
+
+/// A split along so many corners.
+fn long_split(alloc: Global, corners: usize) -> Result<Vec<u8>, AllocError> {
+    let mut text = Vec::from_slice(alloc, b"split 1")?;
+    for _ in 0..corners {
+        text.extend_from_slice(b" 5 -6")?;
+    }
+    Ok(text)
+}
+
+/// How many corners the path of a text's one edit, a split, has, and the last of them; `None` where the text has other edits, or is no
+/// clerk's file.
+fn path_of(alloc: Global, text: &[u8]) -> Option<(usize, Option<Corner>)> {
+    match read_clerk(alloc, text) {
+        Ok(list) => match list.as_slice() {
+            [(_, Edit::Split { id: _, path })] => Some((
+                path.len(),
+                path.as_slice().last().copied(),
+            )),
+            _ => None,
+        },
+        Err(_) => None,
+    }
 }
 
 #[test]
 fn reads_more_corners_than_a_ring_has(rt: HostRuntime) -> Result<(), Fail> {
-    let alloc = rt.alloc();
-    let mut text = Vec::from_slice(alloc, b"split 1")?;
-    for _ in 0..4097 {
-        text.extend_from_slice(b" 5 -6")?;
-    }
-    let Ok(list) = read_clerk(alloc, &text) else {
-        return Err(Fail::new("the text is a clerk's file"));
-    };
-    let [(_, Edit::Split { id: _, path })] = list.as_slice() else {
-        return Err(Fail::new("the file has one edit, a split"));
-    };
-    assert_eq!(rt; path.len(), 4097);
-    assert_eq!(rt; path.as_slice()[4096], Corner { x: 5, y: -6 });
+    let text = long_split(rt.alloc(), 4097)?;
+    let last = Some(Corner { x: 5, y: -6 });
+    assert_eq!(rt; path_of(rt.alloc(), &text), Some((4097, last)));
     Ok(())
 }

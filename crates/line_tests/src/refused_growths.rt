@@ -2,6 +2,7 @@
 
 use line_files::{ClerkFault, PointsFault, read_clerk, read_points};
 use refusing_alloc::Refusing;
+use std::alloc::Global;
 use std::test::Fail;
 
 /// No call here has so many growths.
@@ -13,50 +14,62 @@ const EDITS: &[u8] =
 
 const POINTS: &[u8] = b"0 0\n1 1\n2 2\n3 3\n4 4";
 
+/// The heap of the tests here.
+type Heap = Refusing<Global>;
+
+/// Whether a growth was refused. The answer, the length of the list that was read, has to be want of memory exactly then, and else five.
+fn refused(is_refused: bool, length: Option<usize>) -> Result<bool, Fail> {
+    match (is_refused, length) {
+        (true, None) => Ok(true),
+        (false, Some(5)) => Ok(false),
+        _ => Err(Fail::new("another answer")),
+    }
+}
+
+/// Whether growth `number` of a reading of the edits was refused.
+fn is_refused_of_edits(heap: &Heap, number: u64) -> Result<bool, Fail> {
+    heap.refuse(number);
+    let answer = read_clerk(heap, EDITS);
+    let is_refused = heap.is_spent();
+    match answer {
+        Ok(list) => refused(is_refused, Some(list.len())),
+        Err(ClerkFault::NoMemory) => refused(is_refused, None),
+        Err(ClerkFault::Line(_)) => Err(Fail::new("a text of edits")),
+    }
+}
+
 #[test]
 fn of_edits(rt: HostRuntime) -> Result<(), Fail> {
     let heap = Refusing::new(rt.alloc(), 0);
-    let mut refused = 0;
     for number in 1..MOST {
-        heap.refuse(number);
-        let answer = read_clerk(&heap, EDITS);
-        if !heap.is_spent() {
-            let Ok(list) = answer else {
-                return Err(Fail::new("a text of edits"));
-            };
-            assert_eq!(rt; list.len(), 5);
-            break;
+        if !is_refused_of_edits(&heap, number)? {
+            assert!(rt; number > 6);
+            return Ok(());
         }
-        let Err(fault) = answer else {
-            return Err(Fail::new("an answer with a growth refused"));
-        };
-        assert_eq!(rt; fault, ClerkFault::NoMemory);
-        refused = number;
     }
-    assert!(rt; refused >= 6);
-    Ok(())
+    Err(Fail::new("each growth was refused"))
+}
+
+/// Whether growth `number` of a reading of the points was refused.
+fn is_refused_of_points(heap: &Heap, number: u64) -> Result<bool, Fail> {
+    heap.refuse(number);
+    let answer = read_points(heap, POINTS);
+    let is_refused = heap.is_spent();
+    match answer {
+        Ok(list) => refused(is_refused, Some(list.len())),
+        Err(PointsFault::NoMemory) => refused(is_refused, None),
+        Err(PointsFault::BadLine(_)) => Err(Fail::new("a text of points")),
+    }
 }
 
 #[test]
 fn of_points(rt: HostRuntime) -> Result<(), Fail> {
     let heap = Refusing::new(rt.alloc(), 0);
-    let mut refused = 0;
     for number in 1..MOST {
-        heap.refuse(number);
-        let answer = read_points(&heap, POINTS);
-        if !heap.is_spent() {
-            let Ok(list) = answer else {
-                return Err(Fail::new("a text of points"));
-            };
-            assert_eq!(rt; list.len(), 5);
-            break;
+        if !is_refused_of_points(&heap, number)? {
+            assert!(rt; number > 2);
+            return Ok(());
         }
-        let Err(fault) = answer else {
-            return Err(Fail::new("an answer with a growth refused"));
-        };
-        assert_eq!(rt; fault, PointsFault::NoMemory);
-        refused = number;
     }
-    assert!(rt; refused >= 2);
-    Ok(())
+    Err(Fail::new("each growth was refused"))
 }

@@ -16,7 +16,7 @@ type Row = (u64, i64);
 const STRIPS: [Row; 3] = [(0, 0), (2, 20), (5, 50)];
 
 /// What is done, the parcels after it, and the next key.
-const CHANGES: [(Change, &[Row], usize); 4] = [
+static CHANGES: [(Change, &[Row], usize); 4] = [
     (Change::Retire(2, 7), &[(0, 0), (5, 50)], 1),
     (Change::Push(20), &[(0, 0), (5, 50), (6, 20)], 3),
     (Change::Succeed(0, 8, 5), &[(5, 50), (6, 20), (7, 5)], 3),
@@ -137,27 +137,53 @@ fn have_fates<A: Allocator>(parcels: &Parcels<A>, want: &[Fate]) -> bool {
     true
 }
 
+/// Whether the parcels are, after each change in turn, those that stand behind it.
+fn are_changed<A: Allocator + Copy>(parcels: &mut Parcels<A>) -> Result<bool, Fail> {
+    for (change, rows, key) in &CHANGES {
+        apply(parcels, *change)?;
+        if !are(parcels, rows, *key) {
+            return Ok(false);
+        }
+    }
+    Ok(true)
+}
+
+/// Whether the three strips are changed in turn, with these fates at last, and 8 as the next id.
+fn is_each_change_made<A: Allocator + Copy>(alloc: A) -> Result<bool, Fail> {
+    let mut parcels = filled(alloc)?;
+    Ok(
+        are(&parcels, &STRIPS, 3)
+            && are_changed(&mut parcels)?
+            && have_fates(&parcels, &FATES)
+            && parcels.next_id() == 8,
+    )
+}
+
 #[test]
 fn each_change(rt: HostRuntime) -> Result<(), Fail> {
-    let mut parcels = filled(rt.alloc())?;
-    assert!(rt; are(&parcels, &STRIPS, 3));
-    for (change, rows, key) in CHANGES {
-        apply(&mut parcels, change)?;
-        assert!(rt; are(&parcels, rows, key));
-    }
-    assert!(rt; have_fates(&parcels, &FATES));
-    assert_eq!(rt; parcels.next_id(), 8);
+    assert!(rt; is_each_change_made(rt.alloc())?);
     Ok(())
+}
+
+/// A copy of the parcels, one of which is changed behind it.
+fn copied<A: Allocator + Copy>(parcels: &mut Parcels<A>) -> Result<Parcels<A>, Fail> {
+    retire(parcels, 2, 7)?;
+    let copy = parcels.clone()?;
+    succeed(parcels, 0, 8, 5)?;
+    Ok(copy)
+}
+
+/// Whether a copy has what there was when it was made.
+fn does_a_copy_stay<A: Allocator + Copy>(alloc: A) -> Result<bool, Fail> {
+    let mut parcels = filled(alloc)?;
+    let copy = copied(&mut parcels)?;
+    let fates = [Fate::Here(0), Fate::Unknown, Fate::Retired(7)];
+    Ok(are(&copy, &[(0, 0), (5, 50)], 1) && have_fates(&copy, &fates))
 }
 
 #[test]
 fn a_copy_stays(rt: HostRuntime) -> Result<(), Fail> {
-    let mut parcels = filled(rt.alloc())?;
-    retire(&mut parcels, 2, 7)?;
-    let copy = parcels.clone()?;
-    succeed(&mut parcels, 0, 8, 5)?;
-    assert!(rt; are(&copy, &[(0, 0), (5, 50)], 1));
-    assert!(rt; have_fates(&copy, &[Fate::Here(0), Fate::Unknown, Fate::Retired(7)]));
+    assert!(rt; does_a_copy_stay(rt.alloc())?);
     Ok(())
 }
 
