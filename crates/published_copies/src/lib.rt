@@ -1,6 +1,7 @@
 //! Copies of a value that follows a list of entries, published by one writer, and read without waiting.
 #![tactic(auto)]
 
+mod copies;
 mod publisher;
 mod version;
 

@@ -1,10 +1,10 @@
 ghost use Rattle.std.specs.Prelude.{◌≡◌, ◌+◌, ◌<◌, ◌^◌, [], ◌∷◌, ◌++◌, length, None, IfOk, IfErr, IfSome, IfNone, OnOk, OnErr, MatchBool};
-ghost use Rattle.left_right.specs.Handles.{published, pending};
 ghost use Rattle.published_copies.specs.own.Keeping.{waiting_list};
 
+use crate::copies::Copies;
 use crate::version::{Follows, Told, Version};
 use entry_history::{Front, History, Naming, Opened};
-use left_right::{Absorb, ReadHandle, WriteHandle};
+use left_right::ReadHandle;
 use std::alloc::{AllocError, Allocator};
 use std::marker::Model;
 use std::sync::Wait;
@@ -13,32 +13,25 @@ use std::sync::Wait;
 ///
 /// Contracts see the entries that were handed on, and those that the published copy has followed.
 #[derive(Drop)]
-pub struct Publisher<F: Follows<E>, E: Drop, J: Naming, R: Wait + Drop, A: Allocator>
-where
-    Version<F, E, J>: Absorb<Told<E, J>, State = [E; 0]>,
-{
+pub struct Publisher<F: Follows<E>, E: Drop, J: Naming, R: Wait + Drop, A: Allocator> {
     history: History<E, J>,
     front: Front<E, J>,
     // The last entry, as long as the writer has no memory for it.
     waiting: Option<Told<E, J>>,
-    writer: WriteHandle<Version<F, E, J>, Told<E, J>, R, A>,
+    copies: Copies<Version<F, E, J>, Told<E, J>, R, A>,
 }
 
 impl<F: Follows<E>, E: Drop, J: Naming, R: Wait + Drop, A: Allocator> Model
-    for Publisher<F, E, J, R, A>
-where
-    Version<F, E, J>: Absorb<Told<E, J>, State = [E; 0]>,
-{
+    for Publisher<F, E, J, R, A> {
     ghost use Rattle.std.specs.Prelude.{◌≡◌, ◌++◌};
-    ghost use Rattle.left_right.specs.Handles.{published, pending};
     ghost use Rattle.published_copies.specs.Copies.{Handed};
     ghost use Rattle.published_copies.specs.own.Keeping.{waiting_list};
 
     ghost Value = { Handed E };
 
-    ghost view = { λ publisher. record { handed = publisher.front; shown = published publisher.writer } };
+    ghost view = { λ publisher. record { handed = publisher.front; shown = publisher.copies.shown } };
 
-    ghost invariant = { λ publisher. (published publisher.writer ++ pending publisher.writer) ++ waiting_list publisher.waiting ≡ publisher.front };
+    ghost invariant = { λ publisher. (publisher.copies.shown ++ publisher.copies.pending) ++ waiting_list publisher.waiting ≡ publisher.front };
 }
 
 impl<F: Follows<E>, E: Drop, J: Naming, R: Wait + Drop, A: Allocator> Publisher<F, E, J, R, A> {
@@ -65,12 +58,12 @@ impl<F: Follows<E>, E: Drop, J: Naming, R: Wait + Drop, A: Allocator> Publisher<
         let (history, front) = opened.named::<J>();
         let first = Version::of(first, front.again());
         let second = Version::of(second, front.again());
-        let writer = WriteHandle::new(alloc, rt, first, second, readers)?;
+        let copies = Copies::new(alloc, rt, first, second, readers)?;
         Ok(Publisher {
             history,
             front,
             waiting: None,
-            writer,
+            copies,
         })
     }
 
@@ -80,7 +73,7 @@ impl<F: Follows<E>, E: Drop, J: Naming, R: Wait + Drop, A: Allocator> Publisher<
     ///
     /// [`AllocError`] where each place for a reader is in use, or an allocation is refused.
     pub fn reader(&self) -> Result<ReadHandle<Version<F, E, J>, A>, AllocError> {
-        self.writer.handle()
+        self.copies.reader()
     }
 
     /// The list of all entries that were handed on.
@@ -102,7 +95,7 @@ impl<F: Follows<E>, E: Drop, J: Naming, R: Wait + Drop, A: Allocator> Publisher<
         ensures unchanged { OnErr result (self.new ≡ self.old) }
         ensures back { IfErr result (λ back. back ≡ entry) }
     {
-        if !flush(&mut self.waiting, &mut self.writer) {
+        if !flush(&mut self.waiting, &mut self.copies) {
             return Err(entry);
         }
         let mut front = self.front.again();
@@ -111,7 +104,7 @@ impl<F: Follows<E>, E: Drop, J: Naming, R: Wait + Drop, A: Allocator> Publisher<
         }
         self.front.learn(&front);
         self.waiting = Some(Told::of(entry, front));
-        flush(&mut self.waiting, &mut self.writer);
+        flush(&mut self.waiting, &mut self.copies);
         Ok(())
     }
 
@@ -122,10 +115,10 @@ impl<F: Follows<E>, E: Drop, J: Naming, R: Wait + Drop, A: Allocator> Publisher<
         ensures some { IfSome result (λ front. (front ≡ self.old.handed) × (self.new.shown ≡ self.old.handed)) }
         ensures none { IfNone result (self.new.shown ≡ self.old.shown) }
     {
-        if !flush(&mut self.waiting, &mut self.writer) {
+        if !flush(&mut self.waiting, &mut self.copies) {
             return None;
         }
-        let Ok(()) = self.writer.publish() else {
+        let Ok(()) = self.copies.publish() else {
             return None;
         };
         Some(self.front.again())
@@ -135,17 +128,17 @@ impl<F: Follows<E>, E: Drop, J: Naming, R: Wait + Drop, A: Allocator> Publisher<
 /// Gives the writer the entry that waits; whether none waits then.
 fn flush<F: Follows<E>, E: Drop, J: Naming, R: Wait + Drop, A: Allocator>(
     waiting: &mut Option<Told<E, J>>,
-    writer: &mut WriteHandle<Version<F, E, J>, Told<E, J>, R, A>,
+    copies: &mut Copies<Version<F, E, J>, Told<E, J>, R, A>,
 ) -> bool
-    ensures shown { published writer.new ≡ published writer.old }
+    ensures shown { copies.new.shown ≡ copies.old.shown }
     ensures flushed { MatchBool result
-        ((waiting.new ≡ None) × (pending writer.new ≡ pending writer.old ++ waiting_list waiting.old))
-        ((waiting.new ≡ waiting.old) × (pending writer.new ≡ pending writer.old)) }
+        ((waiting.new ≡ None) × (copies.new.pending ≡ copies.old.pending ++ waiting_list waiting.old))
+        ((waiting.new ≡ waiting.old) × (copies.new.pending ≡ copies.old.pending)) }
 {
     let Some(told) = waiting.take() else {
         return true;
     };
-    match writer.append(told) {
+    match copies.append(told) {
         Ok(()) => true,
         Err(told) => {
             *waiting = Some(told);

@@ -10,3 +10,8 @@ pub record EndsWith {E : Type 0} (front : List E) (entry : E) : Type 0 where
 abbrev pub waiting_list : {E : Type 0} → Option E → List E
 waiting_list None = []
 waiting_list (Some entry) = entry ∷ []
+
+-- what the writer of two copies shows: the state of the copy that readers take, and the operations that it lacks
+pub record Written (S O : Type 0) : Type 0 where
+  pub shown : S
+  pub pending : List O
