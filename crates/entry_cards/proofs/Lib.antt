@@ -3,4 +3,3 @@ mod Steps
 mod Sums
 mod Known
 mod Marks
-mod Stubs

@@ -44,10 +44,6 @@ module _ {E : Type 0} where
   abbrev pub times : ℕ → List (ℕ × List E) → ℕ
   times clerk cards = count_by (λ card. nat_eq clerk card.0) cards
 
-  -- each clerk from 1 to n has one of the stubs
-  abbrev pub HasOneEach : ℕ → List (Own E) → Type 0
-  HasOneEach n stubs = (clerk : ℕ) → IsClerk n clerk → count_by (λ stub. nat_eq clerk stub.clerk) stubs ≡ 1
-
   -- the cards are those of the clerks from 1 to n, one of each, every card has all entries of its clerk, and together they have all entries
   pub record AccountFor (n : ℕ) (all : List (ℕ × E)) (cards : List (ℕ × List E)) : Type 0 where
     pub agree : All (HasAll all) cards

@@ -1,5 +1,5 @@
-ghost use Rattle.std.specs.Prelude.{◌≡◌, ◌+◌, ◌<◌, [], ◌∷◌, ◌++◌, length, sum_by, All, IfOk};
-ghost use Rattle.entry_cards.specs.Cards.{IsClerk, of_clerk, HasOneEach};
+ghost use Rattle.std.specs.Prelude.{◌≡◌, ◌+◌, ◌<◌, [], ◌∷◌, ◌++◌, IfOk};
+ghost use Rattle.entry_cards.specs.Cards.{IsClerk, of_clerk};
 
 use crate::cards::{Cards, Mark};
 use crate::gathering::Gathering;
@@ -118,22 +118,5 @@ impl<E, A: Allocator> Keeper<E, A> {
             dealt,
         } = self;
         Gathering::begin(cards, mark, clerks, dealt)
-    }
-
-    /// With all stubs that were dealt: each has all entries of its clerk, they are of the clerks from 1 on, one each, and
-    /// together they have all entries.
-    pub fn collect<B: Allocator>(self, mut stubs: Vec<Stub<E>, B>)
-        requires own { All (λ stub. stub.name ≡ self.name) stubs.items }
-        requires all_stubs { length stubs.items ≡ self.dealt }
-        ensures agree { All (λ stub. stub.made ≡ of_clerk stub.clerk self.all) stubs.items }
-        ensures distinct { HasOneEach self.dealt stubs.items }
-        ensures known { All (λ entry. IsClerk self.dealt entry.0) self.all }
-        ensures total { length self.all ≡ sum_by (λ stub. length stub.made) stubs.items }
-    {
-        let mut gathering = self.gather();
-        while let Some(stub) = stubs.pop() {
-            gathering.take_in(stub);
-        }
-        gathering.confirm();
     }
 }
