@@ -106,8 +106,8 @@ fn answer<'a, H: Allocator>(
     }
 }
 
-/// Makes the edits of a table in turn. It is a failure where the answer to one, or the parcels or the number of entries after it,
-/// are others.
+/// Makes the edits of a table in turn. It is a failure where the answer to one, or the parcels or the number of entries
+/// after it, are others.
 pub fn take<'a, H: Allocator>(
     heap: &'a H,
     fabric: &mut Fabric<'a, H>,

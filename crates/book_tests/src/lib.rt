@@ -4,6 +4,8 @@
 #[cfg(test)]
 mod changes;
 #[cfg(test)]
+mod follows;
+#[cfg(test)]
 mod opened;
 #[cfg(test)]
 mod steps;

@@ -9,7 +9,7 @@ use std::test::Fail;
 use test_builders::Place;
 
 /// The two parcels, as most groups begin.
-const TWO: [Parcel; 2] = [(1, 12_000, &WEST), (2, 8_000, &EAST)];
+pub const TWO: [Parcel; 2] = [(1, 12_000, &WEST), (2, 8_000, &EAST)];
 
 /// The first with a corner on its south edge.
 const SOUTH: [Place; 5] = [(0, 0), (30, 0), (60, 0), (60, 100), (0, 100)];
@@ -24,7 +24,13 @@ const EAST_HALF: [Place; 4] = [(30, 0), (60, 0), (60, 100), (30, 100)];
 /// The path that cuts the first in two halves.
 const MIDDLE: [Place; 2] = [(30, 0), (30, 100)];
 
-const HALVES: [Parcel; 3] = [
+/// The two parcels with one corner more, and with two.
+pub const ONE_CORNER: [Parcel; 2] = [(1, 12_000, &SOUTH), (2, 8_000, &EAST)];
+
+pub const TWO_CORNERS: [Parcel; 2] = [(1, 12_000, &BOTH), (2, 8_000, &EAST)];
+
+/// The three parcels after that cut.
+pub const HALVES: [Parcel; 3] = [
     (2, 8_000, &EAST),
     (3, 6_000, &WEST_HALF),
     (4, 6_000, &EAST_HALF),
@@ -32,16 +38,13 @@ const HALVES: [Parcel; 3] = [
 
 const MERGED: [Parcel; 2] = [(2, 8_000, &EAST), (5, 12_000, &BOTH)];
 
-static INTO_HALVES: [Step; 4] = [
-    (
-        Change::Insert((0, 0), (60, 0), (30, 0)),
-        Ok(1),
-        &[(1, 12_000, &SOUTH), (2, 8_000, &EAST)],
-    ),
+/// The first of two parcels gets two corners and is cut between them; the last step is refused.
+pub static INTO_HALVES: [Step; 4] = [
+    (Change::Insert((0, 0), (60, 0), (30, 0)), Ok(1), &ONE_CORNER),
     (
         Change::Insert((0, 100), (60, 100), (30, 100)),
         Ok(2),
-        &[(1, 12_000, &BOTH), (2, 8_000, &EAST)],
+        &TWO_CORNERS,
     ),
     (Change::Split(1, &MIDDLE), Ok(3), &HALVES),
     (
@@ -51,7 +54,8 @@ static INTO_HALVES: [Step; 4] = [
     ),
 ];
 
-static BACK_TO_ONE: [Step; 2] = [
+/// Both halves become one again, under the next id.
+pub static BACK_TO_ONE: [Step; 2] = [
     (Change::Merge(3, 4), Ok(4), &MERGED),
     (Change::Split(9, &MIDDLE), Err(Refusal::Unknown(9)), &MERGED),
 ];

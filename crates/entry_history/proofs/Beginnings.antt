@@ -41,7 +41,8 @@ longer_by_one xs ys zs before x ends more (inr is) p q =
     let begins : IsPrefix xs (before ++ x ∷ []) = subst (IsPrefix xs) (is ∙ ends) p in
     let same_length : length xs ≡ length before = omega (arith, ap length ends, length-append before (x ∷ []), more) in
     let same : xs ≡ before =
-    is_whole xs before (begins_longer xs before (before ++ x ∷ []) begins (x ∷ [], refl) (omega (arith, same_length))) (omega (arith, same_length)) in
+    is_whole xs before (begins_longer xs before (before ++ x ∷ []) begins (x ∷ [], refl) (omega (arith, same_length)))
+    (omega (arith, same_length)) in
     is ∙ ends ∙ ap (λ w. w ++ x ∷ []) (sym same)
 
 -- the next entry of the whole makes a beginning longer

@@ -80,8 +80,8 @@ impl<E, J: Naming> Front<E, J> {
         *self = self.longer(other);
     }
 
-    /// Adds an entry to the list, and says whether it did: it did not where the list had more entries than this beginning, which then
-    /// has more too.
+    /// Adds an entry to the list, and says whether it did: it did not where the list had more entries than this
+    /// beginning, which then has more too.
     pub fn add(&mut self, history: &History<E, J>, entry: &E) -> bool
         requires room { length self.old + 1 < 2 ^ 64 }
         ensures { MatchBool result

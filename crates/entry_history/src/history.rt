@@ -1,5 +1,4 @@
 ghost use Rattle.std.specs.Prelude.{◌≡◌, []};
-ghost use Rattle.entry_history.specs.own.Steps.{head_of};
 
 use crate::front::Front;
 use crate::steps::Law;
@@ -62,10 +61,21 @@ impl<E> Opened<E> {
     }
 }
 
-/// The word that all threads share: how many entries the list has.
+/// The word that all threads share: how many entries the list has. Contracts see which list it is.
 #[derive(Drop)]
 pub struct History<E, J: Naming> {
     pub(crate) head: Word<E, u64, Law>,
     of: PhantomData<J>,
-    ghost head_is: { head ≡ head_of J.book },
+}
+
+impl<E, J: Naming> Model for History<E, J> {
+    ghost use Rattle.std.specs.Prelude.{◌≡◌};
+    ghost use Rattle.logbook.specs.Pages.{Book};
+    ghost use Rattle.entry_history.specs.own.Steps.{head_of};
+
+    ghost Value = { Book };
+
+    ghost view = { λ history. history.head.book };
+
+    ghost invariant = { λ history. history.head ≡ head_of J.book };
 }

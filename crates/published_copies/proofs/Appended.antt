@@ -8,10 +8,12 @@ fold_appends xs [] = sym (append-nil xs)
 fold_appends xs (y ∷ ys) = fold_appends (xs ++ y ∷ []) ys ∙ append_assoc xs (y ∷ []) ys
 
 -- the copy that was shown, with what was pending and the entry that waited, has all that was handed on
-pub shows_all : {E : Type 0} (old pending front shown given now : List E) (waiting : Option E) → (old ++ pending) ++ waiting_list waiting ≡ front
+pub shows_all : {E : Type 0} (old pending front shown given now : List E) (waiting : Option E)
+    → (old ++ pending) ++ waiting_list waiting ≡ front
     → shown ≡ old → given ≡ pending ++ waiting_list waiting → now ≡ fold (λ entries entry. entries ++ entry ∷ []) shown given → now ≡ front
 shows_all old pending front shown given now waiting all same is folds =
-    folds ∙ fold_appends shown given ∙ ap (λ xs. xs ++ given) same ∙ ap (λ xs. old ++ xs) is ∙ sym (append_assoc old pending (waiting_list waiting)) ∙ all
+    folds ∙ fold_appends shown given ∙ ap (λ xs. xs ++ given) same ∙ ap (λ xs. old ++ xs) is
+    ∙ sym (append_assoc old pending (waiting_list waiting)) ∙ all
 
 -- then nothing is pending
 pub nothing_left : {E : Type 0} (now pending front : List E) (waiting : Option E) → now ≡ front → pending ≡ [] → waiting ≡ None

@@ -31,7 +31,8 @@ impl<F: Follows<E>, E: Drop, J: Naming, R: Wait + Drop, A: Allocator> Model
 
     ghost view = { λ publisher. record { handed = publisher.front; shown = publisher.copies.shown } };
 
-    ghost invariant = { λ publisher. (publisher.copies.shown ++ publisher.copies.pending) ++ waiting_list publisher.waiting ≡ publisher.front };
+    ghost invariant = { λ publisher. (publisher.copies.shown ++ publisher.copies.pending)
+        ++ waiting_list publisher.waiting ≡ publisher.front };
 }
 
 impl<F: Follows<E>, E: Drop, J: Naming, R: Wait + Drop, A: Allocator> Publisher<F, E, J, R, A> {
@@ -108,8 +109,9 @@ impl<F: Follows<E>, E: Drop, J: Naming, R: Wait + Drop, A: Allocator> Publisher<
         Ok(())
     }
 
-    /// Publishes: the list of all entries that were handed on, which the published copy has followed then. `None` where a copy had no
-    /// memory for it: what is published stays, and the next call goes on from there. It waits for those who read at this moment.
+    /// Publishes: the list of all entries that were handed on, which the published copy has followed then. `None` where a
+    /// copy had no memory for it: what is published stays, and the next call goes on from there. It waits for those who
+    /// read at this moment.
     pub fn publish(&mut self) -> Option<Front<E, J>>
         ensures handed { self.new.handed ≡ self.old.handed }
         ensures some { IfSome result (λ front. (front ≡ self.old.handed) × (self.new.shown ≡ self.old.handed)) }

@@ -11,4 +11,6 @@ head_of book = record { tracked = true; key = 0; book = book }
 
 -- the entry was added to all that had been seen; or the list was longer, and was seen
 abbrev pub Adds : {E : Type 0} → Step E → View E ℕ → ℕ → View E ℕ → Type 0
-Adds step before found after = MatchBool (found == step.old) (after.0 ≡ before.0 ++ step.ask ∷ []) ((length after.0 ≡ found) × (step.old < found))
+Adds step before found after = MatchBool (found == step.old)
+    (after.0 ≡ before.0 ++ step.ask ∷ [])
+    ((length after.0 ≡ found) × (step.old < found))

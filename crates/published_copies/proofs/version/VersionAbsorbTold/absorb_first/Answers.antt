@@ -5,7 +5,8 @@ use Rattle.published_copies.proofs.version.VersionAbsorbTold.absorb_first.Goals 
 pub invariant_of-self-2 : goal.invariant_of-self-2
 invariant_of-self-2 g c =
     let more : length c.operation.inside.front ≡ length c.self.inside.front + 1 =
-    omega (arith, c.len.ensures, c.len-2.ensures, c.if-len.false, ap length c.operation.invariant.ends, length-append c.operation.invariant.before (c.operation.inside.entry ∷ [])) in
+    let split = length-append c.operation.invariant.before (c.operation.inside.entry ∷ []) in
+    omega (arith, c.len.ensures, c.len-2.ensures, c.if-len.false, ap length c.operation.invariant.ends, split) in
     c.in_ok-follow.ensures.followed
     ∙ ap (λ xs. xs ++ c.operation.inside.entry ∷ []) c.self.invariant
     ∙ sym (longer_by_one c.self.inside.front c.operation.inside.front c.learn.new.self c.operation.invariant.before c.operation.inside.entry
@@ -14,7 +15,8 @@ invariant_of-self-2 g c =
 pub returns-clause-absorbed : goal.returns-clause-absorbed
 returns-clause-absorbed g c =
     let more : length c.operation.inside.front ≡ length c.self.inside.front + 1 =
-    omega (arith, c.len.ensures, c.len-2.ensures, c.if-len.false, ap length c.operation.invariant.ends, length-append c.operation.invariant.before (c.operation.inside.entry ∷ [])) in
+    let split = length-append c.operation.invariant.before (c.operation.inside.entry ∷ []) in
+    omega (arith, c.len.ensures, c.len-2.ensures, c.if-len.false, ap length c.operation.invariant.ends, split) in
     rw (← c.self.view_is, ← c.operation.view_is)
     (longer_by_one c.self.inside.front c.operation.inside.front c.learn.new.self c.operation.invariant.before c.operation.inside.entry
     c.operation.invariant.ends more c.learn.ensures.one c.learn.ensures.this c.learn.ensures.that)
