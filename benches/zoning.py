@@ -1,13 +1,15 @@
 #!/usr/bin/env python3
 """zoning.py - `parcel_tool overlay` over cities S, M and L with their zones, and over layers made to be slow.
 
-  zoning.py PROGRAM [--runs N] [--workers N,N ..] [--limit SECONDS] [--only WORD]
+  zoning.py PROGRAM [--pairs PROGRAM] [--runs N] [--workers N,N ..] [--limit SECONDS] [--only WORD]
 
 PROGRAM is the built parcel_tool (benches/README.md says where it lies). The layers are made in a temporary folder with a fixed seed. For each,
 `check` of the parcels, `check` of the zones and `overlay` with each number of workers are run in turn, N times, each a whole process; the best
 time and the largest memory of each are printed, and what an overlay takes beyond both checks: that is the copy of the parcels, the pairs and the
 report. Over the cities GEOS finds the pairs of the same files (geos_pairs.cpp, with Debian's libgeos-dev and g++), by relate, and by intersects
 and not touches: its search alone, without the reading, over layers that nobody checked. The lists of pairs are compared.
+With --pairs, programs/bench_overlay as build.sh made it, the rounds alone are timed, too: in one process that has loaded both
+layers, the quickest of N from its beginning to its table, for each number of workers.
 """
 import argparse, os, shutil, struct, subprocess, sys, tempfile
 
@@ -108,6 +110,14 @@ def measure(program, folder, runs, workers, limit):
     return known
 
 
+def pairs_alone(program, folder, runs, workers):
+    """The seconds of the quickest round for each number of workers, and how many pairs it has."""
+    files = [os.path.join(folder, part + ".shp") for part in ("city", "parcels", "zones")]
+    for number in workers:
+        said = subprocess.run([program, *files, number, str(runs)], stdout=subprocess.PIPE, text=True).stdout.split()
+        print("  the pairs alone, %s: %.3f s, %s pairs" % (number, int(said[1]) / 1e6, said[2]), flush=True)
+
+
 def compare(program, peer, folder):
     """What GEOS's search takes, and whether its pairs are the same."""
     files = [os.path.join(folder, part + ".shp") for part in ("city", "parcels", "zones")]
@@ -122,6 +132,7 @@ def compare(program, peer, folder):
 def main():
     parser = argparse.ArgumentParser(description=__doc__, formatter_class=argparse.RawDescriptionHelpFormatter)
     parser.add_argument("program")
+    parser.add_argument("--pairs")
     parser.add_argument("--runs", type=int, default=3)
     parser.add_argument("--workers", default="1,2,4")
     parser.add_argument("--limit", type=float, default=60)
@@ -141,6 +152,8 @@ def main():
                 for job, (seconds, kib) in known.items():
                     beyond = ", %.3f s beyond both checks" % (seconds - checks) if job.startswith("overlay") else ""
                     print("%-10s %-14s %7.3f s %5d MiB%s" % (name, job, seconds, kib / 1024, beyond), flush=True)
+                if given.pairs:
+                    pairs_alone(given.pairs, folder, given.runs, given.workers.split(","))
                 if peer and name.startswith("city"):
                     compare(given.program, peer, folder)
             finally:

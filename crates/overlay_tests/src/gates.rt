@@ -65,6 +65,13 @@ impl Gate for Late {
     }
 }
 
+/// Holds nobody.
+pub struct Open;
+
+impl Gate for Open {
+    fn pass(&self, _hand: usize) {}
+}
+
 /// Whether threads that pass this gate work off a round with a table of these pairs.
 fn is_worked_off<'t, 'h, H: Allocator + Send + Sync, G: Gate + Sync, R: Threads + Wait + Sync>(
     rt: &R,

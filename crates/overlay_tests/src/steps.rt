@@ -30,7 +30,7 @@ fn list<'h, H: Allocator>(
 }
 
 /// The lists of a sharing.
-fn lists<'h, H: Allocator>(
+pub fn lists<'h, H: Allocator>(
     heap: &'h H,
     sharing: Sharing<'_>,
 ) -> Result<Vec<Vec<u64, &'h H>, &'h H>, AllocError> {

@@ -11,7 +11,7 @@ use std::test::Fail;
 use std::thread::Threads;
 
 /// The halves of the city.
-const HALVES: [&[Place]; 2] = [
+pub const HALVES: [&[Place]; 2] = [
     &[(0, 0), (50, 0), (50, 100), (0, 100)],
     &[(50, 0), (100, 0), (100, 100), (50, 100)],
 ];

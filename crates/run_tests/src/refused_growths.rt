@@ -3,13 +3,15 @@
 
 use crate::clerk_runs::{FIVE, FIVE_TOLD};
 use crate::export_runs::{CITY, Place, WEST, layer};
-use crate::locate_runs::EAST;
+use crate::locate_runs::{EAST, alone};
+use crate::overlay_runs::HALVES;
 use crate::square::{HUNDRED, square};
 use geo_exact::{Counted, Unit};
 use parcel_runs::area::area;
 use parcel_runs::check::{check, check_all};
 use parcel_runs::export::export;
 use parcel_runs::locate::locate_text;
+use parcel_runs::overlay::overlay;
 use parcel_runs::{Source, ToolFault};
 use refusing_alloc::Refusing;
 use std::alloc::{AllocError, Global};
@@ -169,6 +171,44 @@ fn a_locate_run(rt: HostRuntime) -> Result<(), Fail> {
                 b"0 0 edge 1\n1 1 inside 1\n1 0 edge 1\n-1 0 outside\n2 2 inside 1\n".as_slice()
             );
             assert!(rt; number > 10);
+            return Ok(());
+        }
+        assert_eq!(rt; answer, Err(ToolFault::NoMemory), "at growth {number}");
+        assert!(rt; printed.is_empty(), "at growth {number}");
+    }
+    Err(Fail::new("each growth was refused"))
+}
+
+#[test]
+fn an_overlay_run(rt: HostRuntime) -> Result<(), Fail> {
+    let alloc = rt.alloc();
+    let heap = &Refusing::new(alloc, 0);
+    let city = alone(layer(alloc, &[&CITY])?);
+    let parcels = alone(layer(alloc, &[&WEST, &EAST])?);
+    let zones = alone(layer(alloc, &HALVES)?);
+    let clerks = Vec::new(alloc);
+    let report = "entries 0\npair 1 1\npair 1 2\npair 2 2\nsplit 1\nwithin 2 2\n";
+    for number in 1..MOST {
+        let mut out = Counted::new(Vec::new(alloc));
+        heap.refuse(number);
+        let answer = overlay(
+            &rt,
+            heap,
+            &city,
+            &parcels,
+            &zones,
+            Unit::Cm,
+            &clerks,
+            2,
+            &mut out,
+        );
+        let is_refused = heap.is_spent();
+        heap.refuse(0);
+        let printed = out.into_inner();
+        if !is_refused {
+            assert_eq!(rt; answer, Ok(()));
+            assert_eq!(rt; printed.as_slice(), report.as_bytes());
+            assert!(rt; number > 20);
             return Ok(());
         }
         assert_eq!(rt; answer, Err(ToolFault::NoMemory), "at growth {number}");

@@ -1,0 +1,194 @@
+//! Each growth of a round refused in turn: the answer is want of memory, what was handed in comes back as it was, and with
+//! memory the round goes on to its table.
+
+use crate::gates::Open;
+use crate::loaded::{HALVES, PARCELS, SQUARE, layer, sheet};
+use crate::refusals::closes_later;
+use crate::rounds::{BOTH, FIRST_ALONE, TWO};
+use crate::steps::{begun, do_all, is_closed, lists, step, tests_of};
+use fabric_core::{Layer, Sheet};
+use overlay_work::{CloseFault, Round, RoundBack, RoundFault, Step, Table, run_round};
+use refusing_alloc::Refusing;
+use std::alloc::Global;
+use std::sync::Wait;
+use std::test::Fail;
+use std::thread::Threads;
+
+/// No call here has so many growths.
+const MOST: u64 = 100;
+
+/// The heap of the tests here.
+type Heap = Refusing<Global>;
+
+/// A round that came back, or its table.
+type Closed<'t, 'h> = Result<Table<'t, 'h, Heap, &'h Heap>, RoundBack<'t, 'h, Heap>>;
+
+/// Ends the refusing of growths; whether one was refused.
+fn was_refused(heap: &Heap) -> bool {
+    let is_refused = heap.is_spent();
+    heap.refuse(0);
+    is_refused
+}
+
+/// That memory is wanting was told, and only where a growth was refused; else all is as it has to be.
+fn told(is_refused: bool, is_wanting: bool, is_so: bool) -> Result<bool, Fail> {
+    if is_refused == is_wanting && is_so {
+        Ok(is_refused)
+    } else {
+        Err(Fail::new("another answer"))
+    }
+}
+
+/// Begins a round of both parcels with growth `number` refused; whether it was.
+fn is_begin_refused<'t, 'h>(
+    heap: &'h Heap,
+    sheet: &'t Sheet<'h, Heap>,
+    zones: &'t Layer<'h, Heap>,
+    number: u64,
+) -> Result<bool, Fail> {
+    let lists = lists(heap, (2, &TWO))?;
+    heap.refuse(number);
+    let made = Round::new(heap, sheet, zones, lists);
+    let is_refused = was_refused(heap);
+    match made {
+        Ok((round, mut hands)) => {
+            let is_so = do_all(&round, &mut hands, &FIRST_ALONE);
+            told(is_refused, false, is_closed(round, hands, &BOTH) && is_so)
+        }
+        Err(fault) => told(is_refused, fault == RoundFault::NoMemory, true),
+    }
+}
+
+/// Steps hand 1 with growth `number` refused; whether it was. Hand 0 has done its parcel.
+fn is_step_refused<'t, 'h>(
+    heap: &'h Heap,
+    sheet: &'t Sheet<'h, Heap>,
+    zones: &'t Layer<'h, Heap>,
+    number: u64,
+) -> Result<bool, Fail> {
+    let (round, mut hands) = begun(heap, sheet, zones, (2, &TWO))?;
+    let is_so = do_all(&round, &mut hands, &[(0, Step::Did(1))]);
+    heap.refuse(number);
+    let did = step(&round, &mut hands, 1);
+    let is_refused = was_refused(heap);
+    if did == Some(Step::Did(2)) {
+        return told(is_refused, false, is_so);
+    }
+    let is_so = is_so && tests_of(hands.as_slice(), 1) == 0;
+    let later = [(1, Step::Did(2)), (1, Step::Done)];
+    match round.close(hands) {
+        Ok(_) => Err(Fail::new("a parcel is left")),
+        Err(back) => {
+            let is_kept = closes_later(back, CloseFault::Holding(1), &later);
+            told(is_refused, did == Some(Step::NoMemory), is_kept && is_so)
+        }
+    }
+}
+
+/// Closes a round whose hands are done with growth `number` refused; whether it was.
+fn is_close_refused<'t, 'h>(
+    heap: &'h Heap,
+    sheet: &'t Sheet<'h, Heap>,
+    zones: &'t Layer<'h, Heap>,
+    number: u64,
+) -> Result<bool, Fail> {
+    let (round, mut hands) = begun(heap, sheet, zones, (2, &TWO))?;
+    let is_so = do_all(&round, &mut hands, &FIRST_ALONE);
+    heap.refuse(number);
+    let closed = round.close(hands);
+    let is_refused = was_refused(heap);
+    match closed {
+        Ok(table) => told(is_refused, false, table.pairs() == BOTH.as_slice() && is_so),
+        Err(back) => told(
+            is_refused,
+            true,
+            closes_later(back, CloseFault::NoMemory, &[]) && is_so,
+        ),
+    }
+}
+
+/// Whether the round has a table of the pairs of both parcels.
+fn has_both(closed: &Closed<'_, '_>) -> bool {
+    match closed {
+        Ok(table) => table.pairs() == BOTH.as_slice(),
+        Err(_) => false,
+    }
+}
+
+/// Works a round off by threads with growth `number` refused; whether it was.
+fn is_run_refused<'t, 'h, R: Threads + Wait + Sync>(
+    rt: &R,
+    heap: &'h Heap,
+    sheet: &'t Sheet<'h, Heap>,
+    zones: &'t Layer<'h, Heap>,
+    number: u64,
+) -> Result<bool, Fail> {
+    let (round, hands) = begun(heap, sheet, zones, (2, &TWO))?;
+    heap.refuse(number);
+    let closed = run_round(rt, round, hands, &Open);
+    let is_refused = was_refused(heap);
+    match closed {
+        Ok(table) => told(is_refused, false, table.pairs() == BOTH.as_slice()),
+        Err(back) => {
+            let is_wanting = back.fault == CloseFault::NoMemory;
+            let again = run_round(rt, back.round, back.hands, &Open);
+            told(is_refused, is_wanting, has_both(&again))
+        }
+    }
+}
+
+#[test]
+fn begins_with_memory(rt: HostRuntime) -> Result<(), Fail> {
+    let heap = Refusing::new(rt.alloc(), 0);
+    let sheet = sheet(&heap, &SQUARE, &PARCELS)?;
+    let zones = layer(&heap, &SQUARE, &HALVES)?;
+    for number in 1..MOST {
+        if !is_begin_refused(&heap, &sheet, &zones, number)? {
+            assert!(rt; number > 5);
+            return Ok(());
+        }
+    }
+    Err(Fail::new("each growth was refused"))
+}
+
+#[test]
+fn steps_with_memory(rt: HostRuntime) -> Result<(), Fail> {
+    let heap = Refusing::new(rt.alloc(), 0);
+    let sheet = sheet(&heap, &SQUARE, &PARCELS)?;
+    let zones = layer(&heap, &SQUARE, &HALVES)?;
+    for number in 1..MOST {
+        if !is_step_refused(&heap, &sheet, &zones, number)? {
+            assert!(rt; number > 2);
+            return Ok(());
+        }
+    }
+    Err(Fail::new("each growth was refused"))
+}
+
+#[test]
+fn closes_with_memory(rt: HostRuntime) -> Result<(), Fail> {
+    let heap = Refusing::new(rt.alloc(), 0);
+    let sheet = sheet(&heap, &SQUARE, &PARCELS)?;
+    let zones = layer(&heap, &SQUARE, &HALVES)?;
+    for number in 1..MOST {
+        if !is_close_refused(&heap, &sheet, &zones, number)? {
+            assert!(rt; number > 1);
+            return Ok(());
+        }
+    }
+    Err(Fail::new("each growth was refused"))
+}
+
+#[test]
+fn runs_with_memory(rt: HostRuntime) -> Result<(), Fail> {
+    let heap = Refusing::new(rt.alloc(), 0);
+    let sheet = sheet(&heap, &SQUARE, &PARCELS)?;
+    let zones = layer(&heap, &SQUARE, &HALVES)?;
+    for number in 1..MOST {
+        if !is_run_refused(&rt, &heap, &sheet, &zones, number)? {
+            assert!(rt; number > 3);
+            return Ok(());
+        }
+    }
+    Err(Fail::new("each growth was refused"))
+}
