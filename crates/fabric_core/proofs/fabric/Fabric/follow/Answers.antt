@@ -12,21 +12,27 @@ returns-in-Err-clause-fault g c =
     let room : length c.self.inside.journal.items < JOURNAL_ENTRIES = omega (arith, c.len-full.ensures, c.if-full.false) in
     ⊎_elim
     (λ none. inr (cc (none.1)))
-    (λ some. inl (cc (some.1), λ due. ⊎_elim
-        (λ why. no_entry c.self.inside.opening c.self.inside.journal.items c.self.inside.tiled c.self.inside.corners c.self.invariant c.args.entry.now
-        c.in-Err.refusal room (subst (λ edit. IsDraftRefusal c.self.inside.tiled edit c.in-Err.refusal) c.edit.ensures why)
-        (subst (λ (b : Book _). IsEntryOf b.now c.args.entry.now) (sym c.self.view_is) due.is_entry))
-        (λ none. some.0 none) c.in-Err.ensures.err))
+    (λ some. inl (
+      cc (some.1),
+      λ due. ⊎_elim
+          (λ why. no_entry c.self.inside.opening c.self.inside.journal.items c.self.inside.tiled c.self.inside.corners c.self.invariant c.args.entry.now
+          c.in-Err.refusal room (subst (λ edit. IsDraftRefusal c.self.inside.tiled edit c.in-Err.refusal) c.edit.ensures why)
+          (subst (λ (b : Book _). IsEntryOf b.now c.args.entry.now) (sym c.self.view_is) due.is_entry))
+          (λ none. some.0 none) c.in-Err.ensures.err,
+    ))
     c.fault_of.ensures
 
 pub returns-then-not-changes_as-clause-fault : goal.returns-then-not-changes_as-clause-fault
 returns-then-not-changes_as-clause-fault g c =
-    inl (refl, λ due.
-      let same = one_entry c.self.inside.opening c.self.inside.journal.items c.self.inside.tiled c.self.inside.corners c.self.invariant
+    inl (
+      refl,
+      λ due.
+          let same = one_entry c.self.inside.opening c.self.inside.journal.items c.self.inside.tiled c.self.inside.corners c.self.invariant
           c.in-Ok.draft.entry c.args.entry.now (c.in-Ok.ensures.edit ∙ c.edit.ensures) c.in-Ok.ensures.is_entry
           (subst (λ (b : Book _). IsEntryOf b.now c.args.entry.now) (sym c.self.view_is) due.is_entry) in
-      let equal = c.changes_as.ensures.1 same in
-      absurd (cc (c.if-not-changes_as.true, equal)))
+          let equal = c.changes_as.ensures.1 same in
+          absurd (cc (c.if-not-changes_as.true, equal)),
+    )
 
 pub invariant_of-self-2 : goal.invariant_of-self-2
 invariant_of-self-2 g c =
