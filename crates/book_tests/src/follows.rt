@@ -169,17 +169,43 @@ fn follow_refused_in_order<'a>(
     Ok(())
 }
 
+/// Lets a copy follow the steps into halves, which the original takes first, and looks that both are alike then and later.
+fn follow_halves<'a, H: Allocator>(
+    heap: &'a H,
+    original: &mut Fabric<'a, H>,
+    copy: &mut Fabric<'a, H>,
+) -> Result<(), Fail> {
+    take(heap, original, &INTO_HALVES)?;
+    follow_in_order(copy, original.journal(), &PASSAGES)?;
+    if !is_copy_of(copy, original, &HALVES) {
+        return Err(Fail::new("no copy"));
+    }
+    follow_none(copy, original.journal())?;
+    take(heap, original, &BACK_TO_ONE)?;
+    take(heap, copy, &BACK_TO_ONE)
+}
+
 #[test]
 fn follows_the_entries_in_their_order(rt: HostRuntime) -> Result<(), Fail> {
     let heap = &rt.alloc();
     let mut original = fabric(heap, &SQUARE, &RINGS)?;
-    let mut copy = original.copy()?;
-    take(heap, &mut original, &INTO_HALVES)?;
-    follow_in_order(&mut copy, original.journal(), &PASSAGES)?;
-    assert!(rt; is_copy_of(&copy, &original, &HALVES));
-    follow_none(&mut copy, original.journal())?;
-    take(heap, &mut original, &BACK_TO_ONE)?;
-    take(heap, &mut copy, &BACK_TO_ONE)
+    let mut copy = fabric(heap, &SQUARE, &RINGS)?;
+    follow_halves(heap, &mut original, &mut copy)
+}
+
+/// The same with each growth refused in turn.
+fn follow_refused_halves<'a>(
+    heap: &'a Heap,
+    original: &mut Fabric<'a, Heap>,
+    copy: &mut Fabric<'a, Heap>,
+) -> Result<(), Fail> {
+    take(heap, original, &INTO_HALVES)?;
+    follow_refused_in_order(heap, copy, original.journal(), &PASSAGES)?;
+    if is_copy_of(copy, original, &HALVES) {
+        Ok(())
+    } else {
+        Err(Fail::new("no copy"))
+    }
 }
 
 #[test]
@@ -187,8 +213,5 @@ fn follows_where_memory_was_wanting(rt: HostRuntime) -> Result<(), Fail> {
     let heap = &Refusing::new(rt.alloc(), 0);
     let mut original = fabric(heap, &SQUARE, &RINGS)?;
     let mut copy = fabric(heap, &SQUARE, &RINGS)?;
-    take(heap, &mut original, &INTO_HALVES)?;
-    follow_refused_in_order(heap, &mut copy, original.journal(), &PASSAGES)?;
-    assert!(rt; is_copy_of(&copy, &original, &HALVES));
-    Ok(())
+    follow_refused_halves(heap, &mut original, &mut copy)
 }
