@@ -31,7 +31,7 @@ module _ {X : Type 0} where
 
   -- nothing stands behind the whole
   pub none_behind : (xs : List X) → drop (length xs) xs ≡ []
-  none_behind xs = rest_is xs xs (begins_itself xs) ∙ refl
+  none_behind xs = rest_is xs xs ([], append-nil xs)
 
 module _ {A : Type 0} where
   -- a fabric's journal is that of the one handed in, and what stands behind it

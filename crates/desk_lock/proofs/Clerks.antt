@@ -5,7 +5,6 @@ use Rattle.std.proofs.lemmas.List.{map-append, length-drop}
 use Rattle.std.proofs.lemmas.List.Sums.{length-filter, count_by-le-length}
 use Rattle.std.proofs.lemmas.List.Elements.{All-push, All-same, All-nil}
 use mathlib.Core.List.{IsPrefix}
-use Rattle.atomic_table.specs.Seated.{TableId}
 use Rattle.entry_cards.specs.Cards.{Kept, IsClerk}
 use Rattle.entry_cards.specs.Cards as Cards
 use Rattle.fabric_core.specs.Journal.{State, JournalEntry, Book, replay}
@@ -37,12 +36,12 @@ module _ {A : Type 0} where
       omega (arith, length-filter p entries, count_by-le-length p entries)
 
   -- a desk keeps what it has to with one entry more
-  pub keeps_more : (office : OfficeId A) (cards : TableId) (old new : Book A) (keeper : Kept (JournalEntry A))
-      (handed : List (JournalEntry A)) (n : ℕ) (entry : JournalEntry A) → Keeps office cards old keeper handed n
+  pub keeps_more : (office : OfficeId A) (old new : Book A) (keeper : Kept (JournalEntry A))
+      (handed : List (JournalEntry A)) (n : ℕ) (entry : JournalEntry A) → Keeps office old keeper handed n
       → IsClerk keeper.dealt entry.clerk → new.city ≡ old.city → new.opening ≡ old.opening
       → new.journal ≡ old.journal ++ entry ∷ []
-      → Keeps office cards new (record keeper { all = keeper.all ++ (entry.clerk, entry) ∷ [] }) handed n
-  keeps_more office cards old new keeper handed n entry keeps clerk city opening journal =
+      → Keeps office new (record keeper { all = keeper.all ++ (entry.clerk, entry) ∷ [] }) handed n
+  keeps_more office old new keeper handed n entry keeps clerk city opening journal =
       let origin : Origin A = office.origin in
       let taken = takes_in origin old new entry keeps.of_origin city opening journal in
       let now : List (JournalEntry A) = behind origin old.journal in

@@ -4,6 +4,7 @@ use Rattle.std.specs.List.{filter}
 use mathlib.Core.List.{IsPrefix}
 use Rattle.geo_exact.specs.declared.corner.Corner.{Corner}
 use Rattle.ring_edits.specs.declared.edit.Edit.{Edit}
+use Rattle.atomic_table.specs.Seated.{TableId}
 use Rattle.entry_cards.specs.Cards.{IsClerk}
 use Rattle.fabric_core.specs.declared.refusal.Refusal.{Refusal}
 use Rattle.fabric_core.specs.Journal.{State, JournalEntry, Book, replay}
@@ -16,15 +17,16 @@ pub record Origin (A : Type 0) : Type 0 where
   pub opening : State
   pub journal : List (JournalEntry A)
 
--- which office: how many clerks it has, and the fabric that was handed to it
+-- which office: the name of its cards, which no other office's have, how many clerks it has, and the fabric that was handed to it
 pub record OfficeId (A : Type 0) : Type 0 where
+  pub cards : TableId
   pub clerks : ℕ
   pub origin : Origin A
 
 -- what a card shows: its clerk's number, and the entries that were accepted with it, in order
-pub record CardState (E : Type 0) : Type 0 where
+pub record CardState (A : Type 0) : Type 0 where
   pub clerk : ℕ
-  pub made : List E
+  pub made : List (JournalEntry A)
 
 -- what a desk shows: its fabric, the entries that were accepted at it, and the journal of the version that windows take
 pub record DeskState (A : Type 0) : Type 0 where
@@ -63,15 +65,15 @@ module _ {A : Type 0} where
   of_clerk clerk entries = filter (λ entry. nat_eq entry.clerk clerk) entries
 
   -- the entries that were accepted with the card are all of its clerk
-  abbrev pub Agrees : List (JournalEntry A) → CardState (JournalEntry A) → Type 0
+  abbrev pub Agrees : List (JournalEntry A) → CardState A → Type 0
   Agrees entries card = card.made ≡ of_clerk card.clerk entries
 
   -- a card after an edit that was accepted with it
-  abbrev pub with_made : CardState (JournalEntry A) → JournalEntry A → CardState (JournalEntry A)
+  abbrev pub with_made : CardState A → JournalEntry A → CardState A
   with_made card entry = record { clerk = card.clerk; made = card.made ++ entry ∷ [] }
 
   -- the cards of so many clerks, whose numbers follow a number, with no entry yet
-  abbrev pub fresh_cards : ℕ → ℕ → List (CardState (JournalEntry A))
+  abbrev pub fresh_cards : ℕ → ℕ → List (CardState A)
   fresh_cards before zero = []
   fresh_cards before (suc n) = record { clerk = suc before; made = [] } ∷ fresh_cards (suc before) n
 
@@ -81,14 +83,14 @@ module _ {A : Type 0} where
 
   -- a journal of the office at some time, at which the card's clerk had made what the card says: lawful, first the entries of the fabric that
   -- was handed in, then entries of the office's clerks alone
-  pub record IsSometime (office : OfficeId A) (card : CardState (JournalEntry A)) (journal : List (JournalEntry A)) : Type 0 where
+  pub record IsSometime (office : OfficeId A) (card : CardState A) (journal : List (JournalEntry A)) : Type 0 where
     pub lawful : IsLawful office.origin.opening journal
     pub begins : IsPrefix office.origin.journal journal
     pub of_clerks : All (λ entry. IsClerk office.clerks entry.clerk) (behind office.origin journal)
     pub agrees : Agrees (behind office.origin journal) card
 
   -- the edit is refused for this reason after some such journal
-  pub record IsRefusedSometime (office : OfficeId A) (card : CardState (JournalEntry A)) (edit : Edit A) (refusal : Refusal) : Type 0 where
+  pub record IsRefusedSometime (office : OfficeId A) (card : CardState A) (edit : Edit A) (refusal : Refusal) : Type 0 where
     pub journal : List (JournalEntry A)
     pub sometime : IsSometime office card journal
     pub is_refusal : IsRefusal (replay office.origin.opening journal) journal edit refusal
@@ -111,11 +113,11 @@ module _ {A : Type 0} where
     pub longer : IsLonger before.seen told after.seen
 
   -- a fabric has of each of these clerks, behind the entries of the fabric that was handed in, what their cards say
-  pub record IsSheetOf (origin : Origin A) (cards : List (CardState (JournalEntry A))) (book : Book A) : Type 0 where
+  pub record IsSheetOf (origin : Origin A) (cards : List (CardState A)) (book : Book A) : Type 0 where
     pub of_origin : IsOfOrigin origin book
     pub agree : All (Agrees (behind origin book.journal)) cards
 
   -- and nothing else: the cards are all that were handed out, and together they have all entries
-  pub record IsTotal (origin : Origin A) (cards : List (CardState (JournalEntry A))) (book : Book A) : Type 0 where
+  pub record IsTotal (origin : Origin A) (cards : List (CardState A)) (book : Book A) : Type 0 where
     pub sheet : IsSheetOf origin cards book
     pub total : length book.journal ≡ length origin.journal + sum_by (λ card. length card.made) cards

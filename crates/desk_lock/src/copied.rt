@@ -30,7 +30,7 @@ impl<'a, H: Allocator, J: Naming<H>> Model for Copied<'a, H, J> {
 impl<'a, H: Allocator, J: Naming<H>> Copied<'a, H, J> {
     /// A copy that has followed no entry.
     pub(crate) fn of(fabric: Fabric<'a, H>) -> Copied<'a, H, J>
-        requires { origin_of fabric.entry ≡ J.office.origin }
+        requires { origin_of fabric ≡ J.office.origin }
         ensures { behind J.office.origin result.journal ≡ [] }
     {
         Copied {

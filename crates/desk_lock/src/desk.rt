@@ -54,7 +54,7 @@ impl<'a, H: Allocator, J: Naming<H>, R: Wait + Drop> Model for Desk<'a, H, J, R>
       published = J.office.origin.journal ++ desk.publisher.shown;
     } };
 
-    ghost invariant = { λ desk. Keeps J.office J.cards desk.fabric desk.keeper desk.publisher.handed desk.opened_with };
+    ghost invariant = { λ desk. Keeps J.office desk.fabric desk.keeper desk.publisher.handed desk.opened_with };
 }
 
 impl<'a, H: Allocator, J: Naming<H>, R: Wait + Drop> Desk<'a, H, J, R> {
@@ -80,7 +80,7 @@ impl<'a, H: Allocator, J: Naming<H>, R: Wait + Drop> Desk<'a, H, J, R> {
     /// As [`Fabric::edit`]; nothing has changed then.
     pub fn edit(
         &mut self,
-        card: &mut Card<Entry<&'a H>, J>,
+        card: &mut Card<'a, H, J>,
         edit: &Edit<&'a H>,
     ) -> Result<Entry<&'a H>, Refusal>
         // What is before is lawful, and the card's entries are its clerk's.
@@ -131,7 +131,7 @@ impl<'a, H: Allocator, J: Naming<H>, R: Wait + Drop> Desk<'a, H, J, R> {
 
     /// Compares cards with the journal: the entries that were accepted with each are all of its clerk behind those of the fabric that was
     /// handed in.
-    pub fn compare(&mut self, cards: &mut [Card<Entry<&'a H>, J>])
+    pub fn compare(&mut self, cards: &mut [Card<'a, H, J>])
         ensures same { (self.new ≡ self.old) × (cards.new ≡ cards.old) }
         ensures agree { All (Agrees self.old.entries) cards.old }
     {
@@ -152,7 +152,7 @@ impl<'a, H: Allocator, J: Naming<H>, R: Wait + Drop> Desk<'a, H, J, R> {
     }
 
     /// The fabric, where all cards are handed in.
-    pub(crate) fn close<A: Allocator>(self, cards: Vec<Card<Entry<&'a H>, J>, A>) -> Fabric<'a, H>
+    pub(crate) fn close<A: Allocator>(self, cards: Vec<Card<'a, H, J>, A>) -> Fabric<'a, H>
         requires { length cards.items ≡ J.office.clerks }
         ensures { IsTotal J.office.origin cards.entry.items result }
     {

@@ -15,7 +15,7 @@ mod window;
 pub use card::Card;
 pub use copied::Copied;
 pub use desk::Desk;
-pub use name::{Carding, Name, Naming};
+pub use name::{Name, Naming};
 pub use office::{CloseFault, Office};
 pub use opening::{MOST_PLACES, OpenFault};
 pub use receipt::{Notice, Receipt};

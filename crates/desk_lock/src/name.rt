@@ -8,21 +8,8 @@ use fabric_core::Entry;
 use std::alloc::{AllocError, Allocator};
 use std::marker::{Brand, Model};
 
-/// Which cards, and which list of entries.
-pub trait Carding: entry_history::Naming {
-    ghost use Rattle.atomic_table.specs.Seated.{TableId};
-
-    ghost cards: { TableId };
-}
-
-impl Carding for Brand {
-    ghost use Rattle.desk_lock.specs.own.Keeping.{no_table};
-
-    ghost cards = { no_table };
-}
-
 /// Which office. Each call of a program picks it.
-pub trait Naming<H: Allocator>: Carding {
+pub trait Naming<H: Allocator>: entry_history::Naming {
     ghost use Rattle.std.specs.Borrow.{Bor};
     ghost use Rattle.desk_lock.specs.Offices.{OfficeId};
 

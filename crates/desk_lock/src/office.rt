@@ -36,7 +36,7 @@ pub struct Office<'a, H: Allocator, J: Naming<H>, R: Wait + Drop> {
 /// An office that was opened, with the cards of its clerks and its windows.
 type Opened<'a, H, J, R> = (
     Office<'a, H, J, R>,
-    Vec<Card<Entry<&'a H>, J>, &'a H>,
+    Vec<Card<'a, H, J>, &'a H>,
     Vec<Window<'a, H, J>, &'a H>,
 );
 
@@ -56,8 +56,8 @@ impl<'a, H: Allocator, J: Naming<H>, R: Wait + Drop> Office<'a, H, J, R> {
         clerks: usize,
         windows: usize,
     ) -> Result<Opened<'a, H, J, R>, (Fabric<'a, H>, OpenFault)>
-        requires names { (name.book ≡ J.book) × (name.cards ≡ J.cards) }
-        requires office { J.office ≡ record { clerks = clerks; origin = origin_of fabric } }
+        requires book { name.book ≡ J.book }
+        requires office { J.office ≡ record { cards = name.cards; clerks = clerks; origin = origin_of fabric } }
         ensures cards { IfOk result (λ opened. opened.1.items ≡ fresh_cards 0 clerks) }
         ensures windows { IfOk result (λ opened. opened.2.items ≡ replicate windows (window_of (origin_of fabric.entry))) }
         ensures back { IfErr result (λ back. back.0 ≡ fabric.entry) }
@@ -81,7 +81,7 @@ impl<'a, H: Allocator, J: Naming<H>, R: Wait + Drop> Office<'a, H, J, R> {
     pub fn submit<W: Wait>(
         &self,
         rt: &W,
-        card: &mut Card<Entry<&'a H>, J>,
+        card: &mut Card<'a, H, J>,
         edit: &Edit<&'a H>,
     ) -> Result<Receipt<'a, H, J>, Refusal>
         ensures edit { IfOk result (λ receipt. receipt.entry.edit ≡ edit.now) }
@@ -118,7 +118,7 @@ impl<'a, H: Allocator, J: Naming<H>, R: Wait + Drop> Office<'a, H, J, R> {
     pub fn sheet<W: Wait>(
         &self,
         rt: &W,
-        cards: &mut [Card<Entry<&'a H>, J>],
+        cards: &mut [Card<'a, H, J>],
     ) -> Result<Sheet<'a, H>, AllocError>
         ensures cards { cards.new ≡ cards.old }
         ensures sheet { IfOk result (λ sheet. IsSheetOf J.office.origin cards.old sheet) }
@@ -138,12 +138,12 @@ impl<'a, H: Allocator, J: Naming<H>, R: Wait + Drop> Office<'a, H, J, R> {
     pub fn close<W: Wait, A: Allocator>(
         self,
         _rt: &W,
-        cards: Vec<Card<Entry<&'a H>, J>, A>,
+        cards: Vec<Card<'a, H, J>, A>,
     ) -> Result<
         Fabric<'a, H>,
         (
             Office<'a, H, J, R>,
-            Vec<Card<Entry<&'a H>, J>, A>,
+            Vec<Card<'a, H, J>, A>,
             CloseFault,
         ),
     >
@@ -167,11 +167,12 @@ fn assemble<'a, H: Allocator, J: Naming<H>, R: Wait + Drop>(
     parts: Parts<'a, H, J, R>,
     clerks: usize,
 ) -> Opened<'a, H, J, R>
-    requires office { J.office ≡ record { clerks = clerks; origin = origin_of fabric } }
-    requires keeper { parts.keeper ≡ record { name = J.cards; clerks = MOST_PLACES; dealt = clerks; all = [] } }
+    requires clerks { J.office.clerks ≡ clerks }
+    requires origin { J.office.origin ≡ origin_of fabric }
+    requires keeper { parts.keeper ≡ record { name = J.office.cards; clerks = MOST_PLACES; dealt = clerks; all = [] } }
     requires publisher { parts.publisher ≡ record { handed = []; shown = [] } }
-    ensures cards { result.1.items ≡ parts.cards.entry.items }
-    ensures windows { result.2.items ≡ parts.windows.entry.items }
+    ensures cards { result.1.items ≡ parts.entry.cards.items }
+    ensures windows { result.2.items ≡ parts.entry.windows.items }
 {
     let Parts {
         keeper,

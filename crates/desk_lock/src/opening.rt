@@ -61,8 +61,8 @@ pub(crate) fn deal<'a, H: Allocator, J: Naming<H>>(
     heap: &'a H,
     keeper: &mut Keeper<Entry<&'a H>, &'a H>,
     clerks: usize,
-) -> Result<Vec<Card<Entry<&'a H>, J>, &'a H>, AllocError>
-    requires name { keeper.old.name ≡ J.cards }
+) -> Result<Vec<Card<'a, H, J>, &'a H>, AllocError>
+    requires name { keeper.old.name ≡ J.office.cards }
     requires none { keeper.old.dealt ≡ 0 }
     requires enough { clerks ≤ keeper.old.clerks }
     ensures cards { IfOk result (λ cards. cards.items ≡ fresh_cards 0 clerks) }
@@ -76,6 +76,7 @@ pub(crate) fn deal<'a, H: Allocator, J: Naming<H>>(
             stub,
             clerk: place as u32 + 1,
             count: 0,
+            heap,
             of: PhantomData,
         });
     }
@@ -117,7 +118,7 @@ pub(crate) fn windows_of<'a, H: Allocator, J: Naming<H>, R: Wait + Drop>(
             return Err(OpenFault::NoWindow(place + 1));
         };
         let front = publisher.front().again();
-        made.push_reserved(Window { reader, front });
+        made.push_reserved(Window { reader, front, heap });
     }
     Ok(made)
 }
@@ -127,7 +128,7 @@ pub(crate) fn windows_of<'a, H: Allocator, J: Naming<H>, R: Wait + Drop>(
 pub(crate) struct Parts<'a, H: Allocator, J: Naming<H>, R: Wait + Drop> {
     pub(crate) keeper: Keeper<Entry<&'a H>, &'a H>,
     pub(crate) publisher: Copies<'a, H, J, R>,
-    pub(crate) cards: Vec<Card<Entry<&'a H>, J>, &'a H>,
+    pub(crate) cards: Vec<Card<'a, H, J>, &'a H>,
     pub(crate) windows: Vec<Window<'a, H, J>, &'a H>,
 }
 
@@ -140,11 +141,11 @@ pub(crate) fn parts_of<'a, H: Allocator, J: Naming<H>, R: Wait + Drop>(
     clerks: usize,
     windows: usize,
 ) -> Result<Parts<'a, H, J, R>, OpenFault>
-    requires names { (name.book ≡ J.book) × (name.cards ≡ J.cards) }
+    requires names { (name.book ≡ J.book) × (name.cards ≡ J.office.cards) }
     requires origin { origin_of fabric.now ≡ J.office.origin }
     requires clerks { clerks ≤ MOST_PLACES }
     requires windows { (0 < windows) × (windows < 2 ^ 32) }
-    ensures keeper { IfOk result (λ parts. parts.keeper ≡ record { name = J.cards; clerks = MOST_PLACES; dealt = clerks; all = [] }) }
+    ensures keeper { IfOk result (λ parts. parts.keeper ≡ record { name = J.office.cards; clerks = MOST_PLACES; dealt = clerks; all = [] }) }
     ensures publisher { IfOk result (λ parts. parts.publisher ≡ record { handed = []; shown = [] }) }
     ensures cards { IfOk result (λ parts. parts.cards.items ≡ fresh_cards 0 clerks) }
     ensures windows { IfOk result (λ parts. parts.windows.items ≡ replicate windows (window_of J.office.origin)) }

@@ -48,6 +48,8 @@ impl From<AllocError> for LocateFault {
 pub struct Window<'a, H: Allocator, J: Naming<H>> {
     pub(crate) reader: ReadHandle<Version<Copied<'a, H, J>, Entry<&'a H>, J>, &'a H>,
     pub(crate) front: Front<Entry<&'a H>, J>,
+    // Where the versions lie.
+    pub(crate) heap: &'a H,
 }
 
 impl<'a, H: Allocator, J: Naming<H>> Model for Window<'a, H, J> {

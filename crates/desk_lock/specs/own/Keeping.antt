@@ -17,6 +17,7 @@ no_table = record { words = 0; slots = 0; views_name = 0; atom = 0; block = 0; o
 
 abbrev pub no_office : {A : Type 0} → OfficeId A
 no_office = record {
+  cards = no_table;
   clerks = 0;
   origin = record { city = []; opening = record { rows = []; refined = []; next = 0 }; journal = [] };
 }
@@ -33,12 +34,12 @@ module _ {A : Type 0} where
 
   -- The fabric comes of the one that was handed in, whose journal had so many entries; behind them stand the entries of clerks that the
   -- keeper of the cards knows, and those that were handed on are the first of these.
-  pub record Keeps (office : OfficeId A) (cards : TableId) (book : Book A) (keeper : Kept (JournalEntry A))
+  pub record Keeps (office : OfficeId A) (book : Book A) (keeper : Kept (JournalEntry A))
       (handed : List (JournalEntry A)) (opened_with : ℕ) : Type 0 where
     pub counted : opened_with ≡ length office.origin.journal
     pub of_origin : IsOfOrigin office.origin book
     pub of_clerks : All (λ entry. IsClerk office.clerks entry.clerk) (behind office.origin book.journal)
     pub known : keeper.all ≡ by_clerk (behind office.origin book.journal)
-    pub named : keeper.name ≡ cards
+    pub named : keeper.name ≡ office.cards
     pub dealt : keeper.dealt ≡ office.clerks
     pub handed_on : IsPrefix handed (behind office.origin book.journal)
