@@ -1,12 +1,13 @@
 -- What stands behind the beginning of a list, and journals that begin with that of the fabric which was handed in.
-use Rattle.std.proofs.Common.{◌≡◌, ◌⊎◌, inl, inr, ◌+◌, ◌≤◌, ◌<◌, ℕ, List, [], ◌∷◌, ◌++◌, drop, length, refl, ap, sym, ◌∙◌, subst, arith, append_assoc, append-nil, length-append}
+use Rattle.std.proofs.Common.{◌≡◌, ◌⊎◌, inl, inr, Some, get_or, slice_get, ◌+◌, ◌≤◌, ◌<◌, ℕ, List, [], ◌∷◌, ◌++◌, drop, length, refl, ap, sym, ◌∙◌, subst, arith, append_assoc, append-nil, length-append}
 use Rattle.std.proofs.Math.Seq.{drop-append_seam}
-use Rattle.std.proofs.lemmas.List.{drop-append-le}
+use Rattle.std.proofs.lemmas.List.{drop-append-le, get_or-drop}
+use Rattle.std.proofs.lemmas.Option.{slice_get-get_or}
 use mathlib.Core.List.{IsPrefix}
-use Rattle.entry_history.proofs.Beginnings.{begins_itself, begins_whole, begins_shorter, is_whole}
+use Rattle.entry_history.proofs.Beginnings.{begins_itself, begins_whole, begins_shorter, is_whole, next_begins}
 use Rattle.fabric_core.specs.Journal.{State, JournalEntry, Book, replay}
 use Rattle.fabric_core.specs.EditResults.{IsLawful}
-use Rattle.desk_lock.specs.Offices.{Origin, IsOfOrigin, WindowState, IsLonger, Learns, EndsWith, origin_of, behind}
+use Rattle.desk_lock.specs.Offices.{Origin, IsOfOrigin, WindowState, IsLonger, Learns, EndsWith, origin_of, behind, window_of}
 
 module _ {X : Type 0} where
   -- what stands behind a beginning
@@ -32,6 +33,14 @@ module _ {X : Type 0} where
   -- nothing stands behind the whole
   pub none_behind : (xs : List X) → drop (length xs) xs ≡ []
   none_behind xs = rest_is xs xs ([], append-nil xs)
+
+  -- the next of a list that is handed on from a place
+  pub next_handed : (handed all : List X) (from place : ℕ) (x : X) → IsPrefix handed (drop from all) → length handed ≡ place
+      → place < length (drop from all) → x ≡ get_or all (from + place) x → IsPrefix (handed ++ x ∷ []) (drop from all)
+  next_handed handed all from place x begins count less is =
+      next_begins handed (drop from all) x begins
+      (ap (slice_get (drop from all)) count
+      ∙ (slice_get-get_or (drop from all) place x less ∙ ap Some (get_or-drop from all place x ∙ sym is)))
 
 module _ {A : Type 0} where
   -- a fabric's journal is that of the one handed in, and what stands behind it
@@ -90,6 +99,27 @@ module _ {A : Type 0} where
       → length before ≤ length told → after ≡ told
   becomes before told after (inl is) that le = sym (is_whole told after that (omega (arith, ap length is, le)))
   becomes before told after (inr is) that le = is
+
+  -- a version that was entered: its fabric's journal is what the window has seen then
+  module _ (origin : Origin A) (book : Book A) (of : IsOfOrigin origin book) where
+    pub entered : (before told after : List (JournalEntry A)) → behind origin book.journal ≡ told → (after ≡ before) ⊎ (after ≡ told)
+        → IsPrefix told after → length before ≤ length told → origin.journal ++ after ≡ book.journal
+    entered before told after is is_one that le =
+        ap (λ l. origin.journal ++ l) (becomes before told after is_one that le ∙ sym is) ∙ sym (journal_is origin book of)
+
+    pub lawful_at : (seen : List (JournalEntry A)) → seen ≡ book.journal → IsLawful book.opening book.journal → IsLawful origin.opening seen
+    lawful_at seen is lawful = subst (IsLawful origin.opening) (sym is) (subst (λ o. IsLawful o book.journal) of.opening lawful)
+
+    pub leads_to : (seen : List (JournalEntry A)) → seen ≡ book.journal → replay book.opening book.journal ≡ book.now
+        → book.now ≡ replay origin.opening seen
+    leads_to seen is replays = sym replays ∙ (ap (λ o. replay o book.journal) of.opening ∙ ap (replay origin.opening) (sym is))
+
+  -- a window to which nothing was published since the office was opened
+  pub first_window : (origin : Origin A) (front : List (JournalEntry A)) → front ≡ []
+      → record { opening = origin.opening; seen = origin.journal ++ front } ≡ window_of origin
+  first_window origin front is =
+      ap (λ seen. record { opening = origin.opening; seen = seen })
+      (ap (λ l. origin.journal ++ l) is ∙ append-nil origin.journal)
 
   -- a list of so many entries that ends with the last one
   pub ends_with : (journal : List (JournalEntry A)) (entry : JournalEntry A) → entry.number ≡ length journal + 1

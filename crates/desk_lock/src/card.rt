@@ -53,7 +53,7 @@ impl<'a, H: Allocator, J: Naming<H>> Card<'a, H, J> {
 
     /// What ties it to the others.
     pub(crate) fn into_stub(self) -> Stub<Entry<&'a H>>
-        ensures { result ≡ record { name = J.office.cards; clerk = self.clerk; made = self.made } }
+        ensures { result ≡ record { name = J.office.cards; clerk = self.entry.clerk; made = self.entry.made } }
     {
         self.stub
     }

@@ -1,6 +1,7 @@
 //! What lies under the lock.
-ghost use Rattle.std.specs.Prelude.{◌≡◌, ◌⊎◌, ◌+◌, ◌≤◌, [], ◌∷◌, ◌++◌, length, drop, All, IfOk, IfErr, IfSome, IfNone, IsErrAnd, OnOk, OnErr, MatchBool};
+ghost use Rattle.std.specs.Prelude.{◌≡◌, ◌⊎◌, ◌+◌, ◌≤◌, [], ◌∷◌, ◌++◌, map, length, drop, All, IfOk, IfErr, IfSome, IfNone, IsErrAnd, OnOk, OnErr, MatchBool};
 ghost use mathlib.Core.List.{IsPrefix};
+ghost use Rattle.entry_cards.specs.Cards.{HasAll};
 ghost use Rattle.ring_edits.specs.Edits.{CoversAlike};
 ghost use Rattle.fabric_core.specs.declared.refusal.Refusal.{Refusal};
 ghost use Rattle.fabric_core.specs.declared.refusal.Refusal.TheVariants.{NoMemory};
@@ -15,7 +16,7 @@ ghost use Rattle.desk_lock.specs.Offices.{IsOfOrigin, Agrees, IsSometime, IsShee
 use crate::card::Card;
 use crate::copied::Copied;
 use crate::name::Naming;
-use entry_cards::Keeper;
+use entry_cards::{Gathering, Keeper};
 use entry_history::Front;
 use fabric_core::{Entry, Fabric, Refusal, Sheet};
 use published_copies::Publisher;
@@ -135,9 +136,7 @@ impl<'a, H: Allocator, J: Naming<H>, R: Wait + Drop> Desk<'a, H, J, R> {
         ensures same { (self.new ≡ self.old) × (cards.new ≡ cards.old) }
         ensures agree { All (Agrees self.old.entries) cards.old }
     {
-        for place in 0..cards.len() {
-            self.keeper.compare(&mut cards[place].stub);
-        }
+        compare_all(&mut self.keeper, cards);
     }
 
     /// A sheet of the fabric.
@@ -156,14 +155,64 @@ impl<'a, H: Allocator, J: Naming<H>, R: Wait + Drop> Desk<'a, H, J, R> {
         requires { length cards.items ≡ J.office.clerks }
         ensures { IsTotal J.office.origin cards.entry.items result }
     {
-        let Desk { fabric, keeper, .. } = self;
-        let mut gathering = keeper.gather();
-        for card in cards {
-            gathering.take_in(card.into_stub());
-        }
+        let Desk {
+            fabric,
+            keeper,
+            publisher,
+            opened_with: _,
+        } = self;
+        publisher.end();
+        let mut gathering = take_all_in(keeper.gather(), cards);
         gathering.confirm();
         fabric
     }
+}
+
+/// Compares cards with what the keeper knows.
+fn compare_all<'a, H: Allocator, J: Naming<H>>(
+    keeper: &mut Keeper<Entry<&'a H>, &'a H>,
+    cards: &mut [Card<'a, H, J>],
+)
+    requires { keeper.old.name ≡ J.office.cards }
+    ensures same { (keeper.new ≡ keeper.old) × (cards.new ≡ cards.old) }
+    ensures agree { All (λ card. HasAll keeper.old.all (card.clerk, card.made)) cards.old }
+{
+    for place in 0..cards.len() {
+        compare_one(keeper, &mut cards[place]);
+    }
+}
+
+/// Compares a card with what the keeper knows.
+fn compare_one<'a, H: Allocator, J: Naming<H>>(
+    keeper: &mut Keeper<Entry<&'a H>, &'a H>,
+    card: &mut Card<'a, H, J>,
+)
+    requires { keeper.old.name ≡ J.office.cards }
+    ensures same { (keeper.new ≡ keeper.old) × (card.new ≡ card.old) }
+    ensures agrees { HasAll keeper.old.all (card.old.clerk, card.old.made) }
+{
+    keeper.compare(&mut card.stub);
+}
+
+/// Takes all cards in.
+fn take_all_in<'a, H: Allocator, J: Naming<H>, A: Allocator>(
+    gathering: Gathering<Entry<&'a H>, &'a H>,
+    cards: Vec<Card<'a, H, J>, A>,
+) -> Gathering<Entry<&'a H>, &'a H>
+    requires { gathering.name ≡ J.office.cards }
+    ensures { result ≡ record gathering.entry {
+      cards = map (λ card. (card.clerk, card.made)) cards.entry.items ++ gathering.entry.cards;
+    } }
+{
+    let mut gathering = gathering;
+    let mut cards = cards;
+    for place in 0..cards.len() {
+        let _ = place;
+        if let Some(card) = cards.pop() {
+            gathering.take_in(card.into_stub());
+        }
+    }
+    gathering
 }
 
 /// Hands on the entries of a journal that are not handed on yet, in order; whether all are then.
@@ -178,9 +227,10 @@ fn hand_on<'a, H: Allocator, J: Naming<H>, R: Wait + Drop>(
     ensures all { MatchBool result (publisher.new.handed ≡ drop from journal.now) (Unit {0}) }
     ensures shown { publisher.new.shown ≡ publisher.old.shown }
 {
-    let first = from + publisher.front().len() as usize;
-    for place in first..journal.len() {
-        let Ok(entry) = journal[place].clone() else {
+    let count = journal.len() - from;
+    let first = publisher.front().len() as usize;
+    for place in first..count {
+        let Ok(entry) = journal[from + place].clone() else {
             return false;
         };
         let Ok(()) = publisher.hand_on(entry) else {

@@ -1,5 +1,5 @@
 //! Opening an office.
-ghost use Rattle.std.specs.Prelude.{◌≡◌, ◌⊎◌, ◌↔◌, ℕ, ◌+◌, ◌<◌, ◌≤◌, ◌^◌, [], length, replicate, IfOk, IfErr, IsOk};
+ghost use Rattle.std.specs.Prelude.{◌≡◌, ◌⊎◌, ◌↔◌, ℕ, ◌+◌, ◌<◌, ◌≤◌, ◌^◌, [], length, replicate, IfOk, IfErr, IsOk, IsTrue};
 ghost use Rattle.desk_lock.specs.declared.opening.OpenFault.{OpenFault};
 ghost use Rattle.desk_lock.specs.declared.opening.OpenFault.TheVariants.{Places, NoWindow, NoMemory};
 ghost use Rattle.desk_lock.specs.Offices.{origin_of, fresh_cards, window_of};
@@ -48,12 +48,20 @@ pub(crate) fn check_places(clerks: usize, windows: usize) -> Result<(), OpenFaul
     ensures ok { IsOk result ↔ ((¬ IsWrongCount clerks) × (¬ IsWrongCount windows)) }
     ensures fault { IfErr result (λ fault. ((n : ℕ) × IsWrong clerks windows n × (fault ≡ Places n))) }
 {
-    for count in [clerks, windows] {
-        if count == 0 || count > MOST_PLACES {
-            return Err(OpenFault::Places(count));
-        }
+    if is_wrong(clerks) {
+        return Err(OpenFault::Places(clerks));
+    }
+    if is_wrong(windows) {
+        return Err(OpenFault::Places(windows));
     }
     Ok(())
+}
+
+/// Whether there are none, or too many.
+fn is_wrong(count: usize) -> bool
+    ensures { IsTrue result ↔ IsWrongCount count }
+{
+    count == 0 || count > MOST_PLACES
 }
 
 /// The cards of so many clerks.
@@ -65,20 +73,20 @@ pub(crate) fn deal<'a, H: Allocator, J: Naming<H>>(
     requires name { keeper.old.name ≡ J.office.cards }
     requires none { keeper.old.dealt ≡ 0 }
     requires enough { clerks ≤ keeper.old.clerks }
+    requires few { clerks ≤ MOST_PLACES }
     ensures cards { IfOk result (λ cards. cards.items ≡ fresh_cards 0 clerks) }
     ensures dealt { IfOk result (λ cards. keeper.new ≡ record keeper.old { dealt = clerks }) }
 {
     let mut cards = Vec::new(heap);
-    cards.reserve(clerks)?;
     for place in 0..clerks {
         let stub = keeper.deal();
-        cards.push_reserved(Card {
+        cards.push(Card {
             stub,
             clerk: place as u32 + 1,
             count: 0,
             heap,
             of: PhantomData,
-        });
+        })?;
     }
     Ok(cards)
 }
@@ -112,13 +120,19 @@ pub(crate) fn windows_of<'a, H: Allocator, J: Naming<H>, R: Wait + Drop>(
     ensures fault { IfErr result (λ fault. ((k : ℕ) × (1 ≤ k) × (k ≤ windows) × (fault ≡ NoWindow k)) ⊎ (fault ≡ NoMemory)) }
 {
     let mut made = Vec::new(heap);
-    made.reserve(windows)?;
     for place in 0..windows {
         let Ok(reader) = publisher.reader() else {
             return Err(OpenFault::NoWindow(place + 1));
         };
         let front = publisher.front().again();
-        made.push_reserved(Window { reader, front, heap });
+        let window = Window {
+            reader,
+            front,
+            heap,
+        };
+        let Ok(()) = made.push(window) else {
+            return Err(OpenFault::NoMemory);
+        };
     }
     Ok(made)
 }
@@ -154,11 +168,16 @@ pub(crate) fn parts_of<'a, H: Allocator, J: Naming<H>, R: Wait + Drop>(
     let Name { opened, mut keeper } = name;
     let cards = deal(heap, &mut keeper, clerks)?;
     let publisher = publisher_of(heap, rt, opened, fabric, windows)?;
-    let windows = windows_of(heap, &publisher, windows)?;
-    Ok(Parts {
-        keeper,
-        publisher,
-        cards,
-        windows,
-    })
+    match windows_of(heap, &publisher, windows) {
+        Ok(windows) => Ok(Parts {
+            keeper,
+            publisher,
+            cards,
+            windows,
+        }),
+        Err(fault) => {
+            publisher.end();
+            Err(fault)
+        }
+    }
 }
