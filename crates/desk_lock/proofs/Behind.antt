@@ -1,5 +1,6 @@
 -- What stands behind the beginning of a list, and journals that begin with that of the fabric which was handed in.
-use Rattle.std.proofs.Common.{◌≡◌, ◌⊎◌, inl, inr, Some, get_or, slice_get, ◌+◌, ◌≤◌, ◌<◌, ℕ, List, [], ◌∷◌, ◌++◌, drop, length, refl, ap, sym, ◌∙◌, subst, arith, append_assoc, append-nil, length-append}
+use Rattle.std.proofs.Common.{◌≡◌, ◌⊎◌, inl, inr, Some, None, Option, true, get_or, slice_get, ◌+◌, ◌≤◌, ◌<◌, ℕ, List, [], ◌∷◌, ◌++◌, drop, length, refl, ap, sym, ◌∙◌, subst, arith, append_assoc, append-nil, length-append}
+use Rattle.std.specs.Prelude.{is_some, IfSome}
 use Rattle.std.proofs.Math.Seq.{drop-append_seam}
 use Rattle.std.proofs.lemmas.List.{drop-append-le, get_or-drop}
 use Rattle.std.proofs.lemmas.Option.{slice_get-get_or}
@@ -7,7 +8,8 @@ use mathlib.Core.List.{IsPrefix}
 use Rattle.entry_history.proofs.Beginnings.{begins_itself, begins_whole, begins_shorter, is_whole, next_begins}
 use Rattle.fabric_core.specs.Journal.{State, JournalEntry, Book, replay}
 use Rattle.fabric_core.specs.EditResults.{IsLawful}
-use Rattle.desk_lock.specs.Offices.{Origin, IsOfOrigin, WindowState, IsLonger, Learns, EndsWith, origin_of, behind, window_of}
+use Rattle.desk_lock.specs.Offices.{Origin, IsOfOrigin, WindowState, Learns, EndsWith, origin_of, behind, window_of}
+use Rattle.desk_lock.specs.own.Keeping.{told_by}
 
 module _ {X : Type 0} where
   -- what stands behind a beginning
@@ -129,3 +131,12 @@ module _ {A : Type 0} where
     ends = refl;
     count = omega (arith, length-append journal (entry ∷ []), number);
   }
+
+  -- what a receipt tells whose entry was published
+  pub told_ends : (origin : Origin A) (front : Option (List (JournalEntry A))) (entries journal after : List (JournalEntry A))
+      (entry : JournalEntry A) (Q : Type 0) → IfSome front (λ list. (list ≡ entries) × Q) → after ≡ origin.journal ++ entries
+      → after ≡ journal ++ entry ∷ [] → entry.number ≡ length journal + 1 → is_some front ≡ true
+      → EndsWith entry entry.number (told_by origin front)
+  told_ends origin None entries journal after entry Q some whole more number is = absurd (cc is)
+  told_ends origin (Some list) entries journal after entry Q some whole more number is =
+      subst (EndsWith entry entry.number) (sym (ap (λ l. origin.journal ++ l) some.0 ∙ (sym whole ∙ more))) (ends_with journal entry number)

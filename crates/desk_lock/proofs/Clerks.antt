@@ -1,15 +1,15 @@
 -- The entries of one clerk, and what a desk keeps of them.
-use Rattle.std.proofs.Common.{◌≡◌, ◌+◌, ◌-◌, ◌≤◌, ◌<◌, ℕ, zero, suc, Bool, true, false, cond, nat_eq, List, [], ◌∷◌, ◌++◌, map, drop, length, refl, ap, sym, ◌∙◌, subst, arith, append_assoc, length-append}
-use Rattle.std.specs.List.{All, filter, sum_by}
+use Rattle.std.proofs.Common.{◌≡◌, ◌+◌, ◌≤◌, ℕ, zero, suc, Bool, true, false, cond, nat_eq, List, [], ◌∷◌, ◌++◌, map, length, refl, ap, sym, ◌∙◌, subst, arith, append_assoc}
+use Rattle.std.specs.List.{filter}
 use Rattle.std.proofs.lemmas.List.{map-append, length-drop}
 use Rattle.std.proofs.lemmas.List.Sums.{length-filter, count_by-le-length}
 use Rattle.std.proofs.lemmas.List.Elements.{All-push, All-same, All-nil}
 use mathlib.Core.List.{IsPrefix}
 use Rattle.entry_cards.specs.Cards.{Kept, IsClerk}
 use Rattle.entry_cards.specs.Cards as Cards
-use Rattle.fabric_core.specs.Journal.{State, JournalEntry, Book, replay}
+use Rattle.fabric_core.specs.Journal.{JournalEntry, Book}
 use Rattle.fabric_core.specs.EditResults.{IsLawful}
-use Rattle.desk_lock.specs.Offices.{Origin, OfficeId, CardState, IsOfOrigin, IsSometime, Agrees, origin_of, behind, of_clerk, fresh_cards}
+use Rattle.desk_lock.specs.Offices.{Origin, OfficeId, CardState, IsSometime, origin_of, behind, of_clerk, fresh_cards}
 use Rattle.desk_lock.specs.own.Keeping.{by_clerk, Keeps}
 use Rattle.desk_lock.proofs.Behind.{takes_in, still_begins, of_itself, nothing_behind}
 

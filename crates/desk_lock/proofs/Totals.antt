@@ -1,11 +1,12 @@
 -- What all cards of an office account for together.
-use Rattle.std.proofs.Common.{◌≡◌, ◌+◌, ◌≤◌, ℕ, List, [], ◌∷◌, ◌++◌, map, drop, length, refl, ap, sym, ◌∙◌, subst, arith, append-nil, length-append, length-map}
+use Rattle.std.proofs.Common.{◌≡◌, ◌+◌, ℕ, List, [], ◌∷◌, ◌++◌, map, length, refl, ap, sym, ◌∙◌, subst, arith, append-nil, length-append}
 use Rattle.std.specs.List.{All, sum_by}
+use Rattle.std.proofs.lemmas.List.{length-map}
 use Rattle.std.proofs.lemmas.List.Sums.{sum_by-cons}
 use Rattle.std.proofs.lemmas.List.Elements.{All-nil, All-cons, All-head, All-tail}
 use Rattle.entry_cards.specs.Cards.{Kept, Gathered, HasAll, AccountFor}
 use Rattle.fabric_core.specs.Journal.{JournalEntry, Book}
-use Rattle.desk_lock.specs.Offices.{OfficeId, CardState, IsSheetOf, IsTotal, Agrees, behind}
+use Rattle.desk_lock.specs.Offices.{OfficeId, CardState, IsTotal, Agrees, behind}
 use Rattle.desk_lock.specs.own.Keeping.{Keeps}
 use Rattle.desk_lock.proofs.Behind.{journal_is}
 use Rattle.desk_lock.proofs.Clerks.{as_pair, known_of}
@@ -38,7 +39,7 @@ module _ {A : Type 0} where
         (subst (All (HasAll gathered.all)) pairs accounts.agree) in
         let sum = accounts.total ∙ (ap (λ l. sum_by (λ card. length card.1) l) pairs ∙ counted cards) in
         let known = ap length (all ∙ keeps.known)
-        ∙ length-map (λ (e : JournalEntry A). (e.clerk, e)) (behind office.origin book.journal) in
+        ∙ length-map (behind office.origin book.journal) (λ (e : JournalEntry A). (e.clerk, e)) in
         let whole = ap length (journal_is office.origin book keeps.of_origin)
         ∙ length-append office.origin.journal (behind office.origin book.journal) in
         record {

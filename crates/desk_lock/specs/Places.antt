@@ -1,5 +1,5 @@
 -- How many clerks and windows an office may have, and what it is refused for (this product's own).
-use Rattle.std.specs.Prelude.{◌≡◌, ◌≢◌, ◌⊎◌, ℕ, ◌<◌, ◌≤◌}
+use Rattle.std.specs.Prelude.{◌≡◌, ◌⊎◌, ℕ, ◌<◌, ◌≤◌}
 use Rattle.desk_lock.specs.declared.opening.TheConstants.{MOST_PLACES}
 use Rattle.desk_lock.specs.declared.opening.OpenFault.{OpenFault}
 use Rattle.desk_lock.specs.declared.opening.OpenFault.TheVariants.{Places, NoWindow, NoMemory}

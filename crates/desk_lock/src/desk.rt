@@ -122,11 +122,7 @@ impl<'a, H: Allocator, J: Naming<H>, R: Wait + Drop> Desk<'a, H, J, R> {
         ensures some { IfSome result (λ front. (front ≡ self.old.entries) × (self.new.published ≡ self.old.book.journal)) }
         ensures none { IfNone result (self.new.published ≡ self.old.published) }
     {
-        let all = hand_on(
-            self.fabric.journal(),
-            self.opened_with,
-            &mut self.publisher,
-        );
+        let all = hand_on(self.fabric.journal(), self.opened_with, &mut self.publisher);
         if all { self.publisher.publish() } else { None }
     }
 

@@ -95,6 +95,7 @@ impl<'a, H: Allocator, J: Naming<H>, R: Wait + Drop> Office<'a, H, J, R> {
     {
         let mut desk = self.desk.lock(rt);
         let entry = desk.edit(card, edit)?;
+        desk.tiles();
         let front = desk.publish();
         Ok(Receipt { entry, front })
     }
@@ -139,14 +140,7 @@ impl<'a, H: Allocator, J: Naming<H>, R: Wait + Drop> Office<'a, H, J, R> {
         self,
         _rt: &W,
         cards: Vec<Card<'a, H, J>, A>,
-    ) -> Result<
-        Fabric<'a, H>,
-        (
-            Office<'a, H, J, R>,
-            Vec<Card<'a, H, J>, A>,
-            CloseFault,
-        ),
-    >
+    ) -> Result<Fabric<'a, H>, (Office<'a, H, J, R>, Vec<Card<'a, H, J>, A>, CloseFault)>
         ensures closes { IsOk result ↔ (length cards.entry.items ≡ J.office.clerks) }
         ensures total { IfOk result (λ fabric. IsTotal J.office.origin cards.entry.items fabric) }
         ensures back { IfErr result (λ back. back.1.items ≡ cards.entry.items) }

@@ -1,10 +1,10 @@
 -- What a desk keeps, and the names of what belongs to one office. Public contracts do not speak of it.
-use Rattle.std.specs.Prelude.{◌≡◌, ◌++◌, ℕ, List, [], ◌∷◌, map, length, All, Option, None, Some}
+use Rattle.std.specs.Prelude.{◌≡◌, ◌++◌, ℕ, List, [], map, length, All, Option, None, Some}
 use mathlib.Core.List.{IsPrefix}
 use Rattle.atomic_table.specs.Seated.{TableId}
 use Rattle.logbook.specs.Pages.{Book as Pages}
 use Rattle.entry_cards.specs.Cards.{Kept, IsClerk}
-use Rattle.fabric_core.specs.Journal.{State, JournalEntry, Book}
+use Rattle.fabric_core.specs.Journal.{JournalEntry, Book}
 use Rattle.desk_lock.specs.Offices.{Origin, OfficeId, IsOfOrigin, behind}
 
 -- the names that an office's cards and its list of entries have

@@ -1,4 +1,4 @@
-use Rattle.std.proofs.Common.{refl, Bor, List, ◌+◌, ◌∷◌, [], ◌++◌, arith, ap, ◌∙◌}
+use Rattle.std.proofs.Common.{refl, Bor, List, ◌+◌, ◌∷◌, [], ◌++◌, ap, ◌∙◌}
 use Rattle.entry_cards.specs.Cards.{Kept}
 use Rattle.fabric_core.specs.Journal.{JournalEntry}
 use Rattle.desk_lock.specs.Offices.{CardState}

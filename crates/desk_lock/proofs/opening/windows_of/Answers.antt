@@ -11,10 +11,10 @@ loop-place-init g c = record { windows = c.new-made.ensures.items }
 pub loop-place-preserved : goal.loop-place-preserved
 loop-place-preserved g c = record {
   windows = c.in-Ok-push.ensures.items
-    ∙ (ap (λ w. c.loop-place.made.items ++ w ∷ [])
-    (first_window g.J.Naming-1.office.origin c.again-front.result (cc (c.again-front.ensures, c.front.ensures, c.requires)))
-    ∙ (ap (λ l. l ++ window_of g.J.Naming-1.office.origin ∷ []) c.loop-place.invariant.windows
-    ∙ replicate_more c.loop-place.place (window_of g.J.Naming-1.office.origin)));
+      ∙ (ap (λ w. c.loop-place.made.items ++ w ∷ [])
+      (first_window g.J.Naming-1.office.origin c.again-front.result (cc (c.again-front.ensures, c.front.ensures, c.requires)))
+      ∙ (ap (λ l. l ++ window_of g.J.Naming-1.office.origin ∷ []) c.loop-place.invariant.windows
+      ∙ replicate_more c.loop-place.place (window_of g.J.Naming-1.office.origin)));
 }
 
 pub returns-clause-windows : goal.returns-clause-windows
