@@ -125,6 +125,9 @@ impl<F: Follows<E>, E: Drop, J: Naming, R: Wait + Drop, A: Allocator> Publisher<
         };
         Some(self.front.again())
     }
+
+    /// Ends the publishing. Who reads then finds the copy that was published last, or none.
+    pub fn end(self) {}
 }
 
 /// Gives the writer the entry that waits; whether none waits then.

@@ -1,0 +1,3 @@
+pub mod Offices
+pub mod Places
+pub mod own

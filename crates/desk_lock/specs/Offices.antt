@@ -1,0 +1,123 @@
+-- An office at which several clerks edit one fabric, and what its cards, receipts and windows tell (this product's own).
+use Rattle.std.specs.Prelude.{◌≡◌, ◌⊎◌, Bool, ℕ, zero, suc, ◌+◌, nat_eq, List, [], ◌∷◌, ◌++◌, drop, length, sum_by, All}
+use Rattle.std.specs.List.{filter}
+use mathlib.Core.List.{IsPrefix}
+use Rattle.geo_exact.specs.declared.corner.Corner.{Corner}
+use Rattle.ring_edits.specs.declared.edit.Edit.{Edit}
+use Rattle.atomic_table.specs.Seated.{TableId}
+use Rattle.entry_cards.specs.Cards.{IsClerk}
+use Rattle.fabric_core.specs.declared.refusal.Refusal.{Refusal}
+use Rattle.fabric_core.specs.Journal.{State, JournalEntry, Book, replay}
+use Rattle.fabric_core.specs.EditResults.{IsLawful}
+use Rattle.fabric_core.specs.Refusals.{IsRefusal}
+
+-- what is told of the fabric that was handed to an office: the city's ring, the state in which the fabric was opened, and its journal
+pub record Origin (A : Type 0) : Type 0 where
+  pub city : List Corner
+  pub opening : State
+  pub journal : List (JournalEntry A)
+
+-- which office: the name of its cards, which no other office's have, how many clerks it has, and the fabric that was handed to it
+pub record OfficeId (A : Type 0) : Type 0 where
+  pub cards : TableId
+  pub clerks : ℕ
+  pub origin : Origin A
+
+-- what a card shows: its clerk's number, and the entries that were accepted with it, in order
+pub record CardState (A : Type 0) : Type 0 where
+  pub clerk : ℕ
+  pub made : List (JournalEntry A)
+
+-- what a desk shows: its fabric, the entries that were accepted at it, and the journal of the version that windows take
+pub record DeskState (A : Type 0) : Type 0 where
+  pub book : Book A
+  pub entries : List (JournalEntry A)
+  pub published : List (JournalEntry A)
+
+-- what a receipt shows: the entry, whether it was published, and the journal that it tells, which is empty where it was not
+pub record ReceiptState (A : Type 0) : Type 0 where
+  pub entry : JournalEntry A
+  pub published : Bool
+  pub told : List (JournalEntry A)
+
+-- what a window shows: the state in which the office's fabric was opened, and the entries that the versions which it entered and the
+-- receipts which it learnt rest on
+pub record WindowState (A : Type 0) : Type 0 where
+  pub opening : State
+  pub seen : List (JournalEntry A)
+
+module _ {A : Type 0} where
+  abbrev pub origin_of : Book A → Origin A
+  origin_of book = record { city = book.city; opening = book.opening; journal = book.journal }
+
+  -- a fabric comes of the one that was handed in: the same city, the same opening, and a journal that begins with that fabric's
+  pub record IsOfOrigin (origin : Origin A) (book : Book A) : Type 0 where
+    pub city : book.city ≡ origin.city
+    pub opening : book.opening ≡ origin.opening
+    pub begins : IsPrefix origin.journal book.journal
+
+  -- the entries behind those of the fabric that was handed in
+  abbrev pub behind : Origin A → List (JournalEntry A) → List (JournalEntry A)
+  behind origin journal = drop (length origin.journal) journal
+
+  -- the entries of one clerk, in order
+  abbrev pub of_clerk : ℕ → List (JournalEntry A) → List (JournalEntry A)
+  of_clerk clerk entries = filter (λ entry. nat_eq entry.clerk clerk) entries
+
+  -- the entries that were accepted with the card are all of its clerk
+  abbrev pub Agrees : List (JournalEntry A) → CardState A → Type 0
+  Agrees entries card = card.made ≡ of_clerk card.clerk entries
+
+  -- a card after an edit that was accepted with it
+  abbrev pub with_made : CardState A → JournalEntry A → CardState A
+  with_made card entry = record { clerk = card.clerk; made = card.made ++ entry ∷ [] }
+
+  -- the cards of so many clerks, whose numbers follow a number, with no entry yet
+  abbrev pub fresh_cards : ℕ → ℕ → List (CardState A)
+  fresh_cards before zero = []
+  fresh_cards before (suc n) = record { clerk = suc before; made = [] } ∷ fresh_cards (suc before) n
+
+  -- a window that has entered no version and learnt no receipt
+  abbrev pub window_of : Origin A → WindowState A
+  window_of origin = record { opening = origin.opening; seen = origin.journal }
+
+  -- a journal of the office at some time, at which the card's clerk had made what the card says: lawful, first the entries of the fabric that
+  -- was handed in, then entries of the office's clerks alone
+  pub record IsSometime (office : OfficeId A) (card : CardState A) (journal : List (JournalEntry A)) : Type 0 where
+    pub lawful : IsLawful office.origin.opening journal
+    pub begins : IsPrefix office.origin.journal journal
+    pub of_clerks : All (λ entry. IsClerk office.clerks entry.clerk) (behind office.origin journal)
+    pub agrees : Agrees (behind office.origin journal) card
+
+  -- the edit is refused for this reason after some such journal
+  pub record IsRefusedSometime (office : OfficeId A) (card : CardState A) (edit : Edit A) (refusal : Refusal) : Type 0 where
+    pub journal : List (JournalEntry A)
+    pub sometime : IsSometime office card journal
+    pub is_refusal : IsRefusal (replay office.origin.opening journal) journal edit refusal
+
+  -- a list of so many entries that ends with this one
+  pub record EndsWith (entry : JournalEntry A) (number : ℕ) (journal : List (JournalEntry A)) : Type 0 where
+    pub before : List (JournalEntry A)
+    pub ends : journal ≡ before ++ entry ∷ []
+    pub count : length journal ≡ number
+
+  -- the longer of two lists, of which one begins the other
+  pub record IsLonger (one other longer : List (JournalEntry A)) : Type 0 where
+    pub is_one : (longer ≡ one) ⊎ (longer ≡ other)
+    pub begins : IsPrefix one longer
+    pub other_begins : IsPrefix other longer
+
+  -- a window learns what it is told
+  pub record Learns (before : WindowState A) (told : List (JournalEntry A)) (after : WindowState A) : Type 0 where
+    pub opening : after.opening ≡ before.opening
+    pub longer : IsLonger before.seen told after.seen
+
+  -- a fabric has of each of these clerks, behind the entries of the fabric that was handed in, what their cards say
+  pub record IsSheetOf (origin : Origin A) (cards : List (CardState A)) (book : Book A) : Type 0 where
+    pub of_origin : IsOfOrigin origin book
+    pub agree : All (Agrees (behind origin book.journal)) cards
+
+  -- and nothing else: the cards are all that were handed out, and together they have all entries
+  pub record IsTotal (origin : Origin A) (cards : List (CardState A)) (book : Book A) : Type 0 where
+    pub sheet : IsSheetOf origin cards book
+    pub total : length book.journal ≡ length origin.journal + sum_by (λ card. length card.made) cards

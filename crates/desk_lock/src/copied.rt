@@ -1,0 +1,62 @@
+//! The copies of the fabric that windows read.
+ghost use Rattle.std.specs.Prelude.{◌≡◌, []};
+ghost use Rattle.desk_lock.specs.Offices.{IsOfOrigin, origin_of, behind};
+
+use crate::name::Naming;
+use fabric_core::{Entry, Fabric};
+use published_copies::Follows;
+use std::alloc::{AllocError, Allocator};
+use std::marker::{Model, PhantomData};
+
+/// A copy of an office's fabric, which follows its journal. Contracts see the fabric.
+#[derive(Drop)]
+pub struct Copied<'a, H: Allocator, J: Naming<H>> {
+    fabric: Fabric<'a, H>,
+    of: PhantomData<J>,
+}
+
+impl<'a, H: Allocator, J: Naming<H>> Model for Copied<'a, H, J> {
+    ghost use Rattle.std.specs.Borrow.{Bor};
+    ghost use Rattle.fabric_core.specs.Journal.{Book};
+    ghost use Rattle.desk_lock.specs.Offices.{IsOfOrigin};
+
+    ghost Value = { Book (Bor H) };
+
+    ghost view = { λ copied. copied.fabric };
+
+    ghost invariant = { λ copied. IsOfOrigin J.office.origin copied.fabric };
+}
+
+impl<'a, H: Allocator, J: Naming<H>> Copied<'a, H, J> {
+    /// A copy that has followed no entry.
+    pub(crate) fn of(fabric: Fabric<'a, H>) -> Copied<'a, H, J>
+        requires { origin_of fabric ≡ J.office.origin }
+        ensures { behind J.office.origin result.journal ≡ [] }
+    {
+        Copied {
+            fabric,
+            of: PhantomData,
+        }
+    }
+
+    /// The copy.
+    pub(crate) fn fabric(&self) -> &Fabric<'a, H>
+        ensures same { result.now ≡ self.now }
+        ensures origin { IsOfOrigin J.office.origin self.now }
+    {
+        &self.fabric
+    }
+}
+
+impl<'a, H: Allocator, J: Naming<H>> Follows<Entry<&'a H>> for Copied<'a, H, J> {
+    ghost use Rattle.desk_lock.specs.Offices.{behind};
+
+    ghost entries = { λ copied. behind J.office.origin copied.journal };
+
+    fn follow(&mut self, entry: &Entry<&'a H>) -> Result<(), AllocError> {
+        match self.fabric.follow(entry) {
+            Ok(()) => Ok(()),
+            Err(_) => Err(AllocError),
+        }
+    }
+}

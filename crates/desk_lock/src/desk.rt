@@ -1,0 +1,237 @@
+//! What lies under the lock.
+ghost use Rattle.std.specs.Prelude.{◌≡◌, ◌⊎◌, ◌+◌, ◌≤◌, [], ◌∷◌, ◌++◌, map, length, drop, All, IfOk, IfErr, IfSome, IfNone, IsErrAnd, OnOk, OnErr, MatchBool};
+ghost use mathlib.Core.List.{IsPrefix};
+ghost use Rattle.entry_cards.specs.Cards.{HasAll};
+ghost use Rattle.ring_edits.specs.Edits.{CoversAlike};
+ghost use Rattle.fabric_core.specs.declared.refusal.Refusal.{Refusal};
+ghost use Rattle.fabric_core.specs.declared.refusal.Refusal.TheVariants.{NoMemory};
+ghost use Rattle.fabric_core.specs.Tiling.{IsTiling};
+ghost use Rattle.fabric_core.specs.Faults.{AreSimple};
+ghost use Rattle.fabric_core.specs.GridIndex.{IsIndexed};
+ghost use Rattle.fabric_core.specs.Journal.{after_entry, replay};
+ghost use Rattle.fabric_core.specs.EditResults.{IsEntryOf, IsLawful};
+ghost use Rattle.fabric_core.specs.Refusals.{IsRefusal};
+ghost use Rattle.desk_lock.specs.Offices.{IsOfOrigin, Agrees, IsSometime, IsSheetOf, IsTotal, with_made, behind};
+
+use crate::card::Card;
+use crate::copied::Copied;
+use crate::name::Naming;
+use entry_cards::{Gathering, Keeper};
+use entry_history::Front;
+use fabric_core::{Entry, Fabric, Refusal, Sheet};
+use published_copies::Publisher;
+use ring_edits::Edit;
+use std::alloc::{AllocError, Allocator};
+use std::marker::Model;
+use std::sync::Wait;
+
+/// The writer of the versions that windows take.
+pub(crate) type Copies<'a, H, J, R> = Publisher<Copied<'a, H, J>, Entry<&'a H>, J, R, &'a H>;
+
+/// What lies under an office's lock: the fabric, who keeps the cards, and the writer of the published versions. Each desk that the lock
+/// frees keeps these.
+///
+/// Contracts see the fabric, the entries that were accepted at the desk, and the journal of the version that windows take.
+#[derive(Drop)]
+pub struct Desk<'a, H: Allocator, J: Naming<H>, R: Wait + Drop> {
+    pub(crate) fabric: Fabric<'a, H>,
+    pub(crate) keeper: Keeper<Entry<&'a H>, &'a H>,
+    pub(crate) publisher: Copies<'a, H, J, R>,
+    // How many entries the fabric had that was handed in.
+    pub(crate) opened_with: usize,
+}
+
+impl<'a, H: Allocator, J: Naming<H>, R: Wait + Drop> Model for Desk<'a, H, J, R> {
+    ghost use Rattle.std.specs.Prelude.{◌++◌};
+    ghost use Rattle.std.specs.Borrow.{Bor};
+    ghost use Rattle.desk_lock.specs.Offices.{DeskState, behind};
+    ghost use Rattle.desk_lock.specs.own.Keeping.{Keeps};
+
+    ghost Value = { DeskState (Bor H) };
+
+    ghost view = { λ desk. record {
+      book = desk.fabric;
+      entries = behind J.office.origin desk.fabric.journal;
+      published = J.office.origin.journal ++ desk.publisher.shown;
+    } };
+
+    ghost invariant = { λ desk. Keeps J.office desk.fabric desk.keeper desk.publisher.handed desk.opened_with };
+}
+
+impl<'a, H: Allocator, J: Naming<H>, R: Wait + Drop> Desk<'a, H, J, R> {
+    /// The desk's fabric tiles its city, its index and journal agree with its rows, and it comes of the fabric that was handed to the
+    /// office; what is published is a beginning of its journal.
+    pub fn tiles(&self)
+        ensures tiling { IsTiling self.now.book.now.rows self.now.book.city }
+        ensures simple { AreSimple self.now.book.now.rows }
+        ensures indexed { IsIndexed self.now.book.now.rows self.now.book.city self.now.book.index }
+        ensures ground { CoversAlike self.now.book.city self.now.book.now.refined }
+        ensures lawful { IsLawful self.now.book.opening self.now.book.journal }
+        ensures replays { replay self.now.book.opening self.now.book.journal ≡ self.now.book.now }
+        ensures origin { IsOfOrigin J.office.origin self.now.book }
+        ensures entries { self.now.book.journal ≡ J.office.origin.journal ++ self.now.entries }
+    {
+        self.fabric.tiles();
+    }
+
+    /// Makes an edit by the card's clerk, as [`Fabric::edit`] does; the card counts it.
+    ///
+    /// # Errors
+    ///
+    /// As [`Fabric::edit`]; nothing has changed then.
+    pub fn edit(
+        &mut self,
+        card: &mut Card<'a, H, J>,
+        edit: &Edit<&'a H>,
+    ) -> Result<Entry<&'a H>, Refusal>
+        // What is before is lawful, and the card's entries are its clerk's.
+        ensures sometime { IsSometime J.office card.old self.old.book.journal }
+        ensures replays { replay J.office.origin.opening self.old.book.journal ≡ self.old.book.now }
+        // An accepted edit: the entry is that of this edit by the card's clerk on the state before, under the next number.
+        ensures is_entry { IfOk result (λ entry. IsEntryOf self.old.book.now entry) }
+        ensures edit { IfOk result (λ entry. entry.edit ≡ edit.now) }
+        ensures clerk { IfOk result (λ entry. entry.clerk ≡ card.old.clerk) }
+        ensures number { IfOk result (λ entry. entry.number ≡ length self.old.book.journal + 1) }
+        ensures now { IfOk result (λ entry. self.new.book.now ≡ after_entry self.old.book.now entry) }
+        ensures journal { IfOk result (λ entry. self.new.book.journal ≡ self.old.book.journal ++ entry ∷ []) }
+        ensures city { self.new.book.city ≡ self.old.book.city }
+        ensures opening { self.new.book.opening ≡ self.old.book.opening }
+        // The card and the desk have it; it is not published yet.
+        ensures made { IfOk result (λ entry. card.new ≡ with_made card.old entry) }
+        ensures entries { IfOk result (λ entry. self.new.entries ≡ self.old.entries ++ entry ∷ []) }
+        ensures published { self.new.published ≡ self.old.published }
+        // A refused one changes nothing.
+        ensures unchanged { OnErr result ((self.new ≡ self.old) × (card.new ≡ card.old)) }
+        ensures refusal { IfErr result (λ refusal.
+            IsRefusal self.old.book.now self.old.book.journal edit.now refusal ⊎ (refusal ≡ NoMemory)) }
+        ensures refuses { (refusal : Refusal) → IsRefusal self.old.book.now self.old.book.journal edit.now refusal
+            → IsErrAnd result (λ e. (e ≡ refusal) ⊎ (e ≡ NoMemory)) }
+    {
+        self.fabric.tiles();
+        self.keeper.compare(&mut card.stub);
+        let entry = self.fabric.edit(card.clerk, edit)?;
+        self.keeper.add(&mut card.stub, &entry);
+        card.count += 1;
+        Ok(entry)
+    }
+
+    /// Hands on all entries that are not handed on yet, in order, and publishes: what is published then. `None` where that is refused; the
+    /// next call takes what is missing. It waits for those who read at this moment.
+    pub fn publish(&mut self) -> Option<Front<Entry<&'a H>, J>>
+        ensures book { (self.new.book ≡ self.old.book) × (self.new.entries ≡ self.old.entries) }
+        ensures some { IfSome result (λ front. (front ≡ self.old.entries) × (self.new.published ≡ self.old.book.journal)) }
+        ensures none { IfNone result (self.new.published ≡ self.old.published) }
+    {
+        let all = hand_on(self.fabric.journal(), self.opened_with, &mut self.publisher);
+        if all { self.publisher.publish() } else { None }
+    }
+
+    /// Compares cards with the journal: the entries that were accepted with each are all of its clerk behind those of the fabric that was
+    /// handed in.
+    pub fn compare(&mut self, cards: &mut [Card<'a, H, J>])
+        ensures same { (self.new ≡ self.old) × (cards.new ≡ cards.old) }
+        ensures agree { All (Agrees self.old.entries) cards.old }
+    {
+        compare_all(&mut self.keeper, cards);
+    }
+
+    /// A sheet of the fabric.
+    ///
+    /// # Errors
+    ///
+    /// [`AllocError`] where an allocation is refused.
+    pub fn sheet(&self) -> Result<Sheet<'a, H>, AllocError>
+        ensures { IfOk result (λ sheet. sheet ≡ self.now.book) }
+    {
+        self.fabric.sheet()
+    }
+
+    /// The fabric, where all cards are handed in.
+    pub(crate) fn close<A: Allocator>(self, cards: Vec<Card<'a, H, J>, A>) -> Fabric<'a, H>
+        requires { length cards.items ≡ J.office.clerks }
+        ensures { IsTotal J.office.origin cards.entry.items result }
+    {
+        let Desk {
+            fabric,
+            keeper,
+            publisher,
+            opened_with: _,
+        } = self;
+        publisher.end();
+        let mut gathering = take_all_in(keeper.gather(), cards);
+        gathering.confirm();
+        fabric
+    }
+}
+
+/// Compares cards with what the keeper knows.
+fn compare_all<'a, H: Allocator, J: Naming<H>>(
+    keeper: &mut Keeper<Entry<&'a H>, &'a H>,
+    cards: &mut [Card<'a, H, J>],
+)
+    requires { keeper.old.name ≡ J.office.cards }
+    ensures same { (keeper.new ≡ keeper.old) × (cards.new ≡ cards.old) }
+    ensures agree { All (λ card. HasAll keeper.old.all (card.clerk, card.made)) cards.old }
+{
+    for place in 0..cards.len() {
+        compare_one(keeper, &mut cards[place]);
+    }
+}
+
+/// Compares a card with what the keeper knows.
+fn compare_one<'a, H: Allocator, J: Naming<H>>(
+    keeper: &mut Keeper<Entry<&'a H>, &'a H>,
+    card: &mut Card<'a, H, J>,
+)
+    requires { keeper.old.name ≡ J.office.cards }
+    ensures same { (keeper.new ≡ keeper.old) × (card.new ≡ card.old) }
+    ensures agrees { HasAll keeper.old.all (card.old.clerk, card.old.made) }
+{
+    keeper.compare(&mut card.stub);
+}
+
+/// Takes all cards in.
+fn take_all_in<'a, H: Allocator, J: Naming<H>, A: Allocator>(
+    gathering: Gathering<Entry<&'a H>, &'a H>,
+    cards: Vec<Card<'a, H, J>, A>,
+) -> Gathering<Entry<&'a H>, &'a H>
+    requires { gathering.name ≡ J.office.cards }
+    ensures { result ≡ record gathering.entry {
+      cards = map (λ card. (card.clerk, card.made)) cards.entry.items ++ gathering.entry.cards;
+    } }
+{
+    let mut gathering = gathering;
+    let mut cards = cards;
+    for place in 0..cards.len() {
+        let _ = place;
+        if let Some(card) = cards.pop() {
+            gathering.take_in(card.into_stub());
+        }
+    }
+    gathering
+}
+
+/// Hands on the entries of a journal that are not handed on yet, in order; whether all are then.
+fn hand_on<'a, H: Allocator, J: Naming<H>, R: Wait + Drop>(
+    journal: &[Entry<&'a H>],
+    from: usize,
+    publisher: &mut Copies<'a, H, J, R>,
+) -> bool
+    requires begins { IsPrefix publisher.old.handed (drop from journal.now) }
+    requires from { from ≤ length journal.now }
+    ensures begins { IsPrefix publisher.new.handed (drop from journal.now) }
+    ensures all { MatchBool result (publisher.new.handed ≡ drop from journal.now) (Unit {0}) }
+    ensures shown { publisher.new.shown ≡ publisher.old.shown }
+{
+    let count = journal.len() - from;
+    let first = publisher.front().len() as usize;
+    for place in first..count {
+        let Ok(entry) = journal[from + place].clone() else {
+            return false;
+        };
+        let Ok(()) = publisher.hand_on(entry) else {
+            return false;
+        };
+    }
+    true
+}

@@ -1,0 +1,185 @@
+//! An office.
+ghost use Rattle.std.specs.Prelude.{◌≡◌, ◌≢◌, ◌⊎◌, ℕ, [], length, replicate, true, IfOk, IfErr, IsErrAnd, OnErr, IsOk, ◌↔◌};
+ghost use Rattle.fabric_core.specs.declared.refusal.Refusal.TheVariants.{NoMemory};
+ghost use Rattle.desk_lock.specs.declared.opening.OpenFault.TheVariants.{Places};
+ghost use Rattle.desk_lock.specs.declared.office.CloseFault.TheVariants.{CardsMissing};
+ghost use Rattle.desk_lock.specs.Offices.{origin_of, fresh_cards, window_of, with_made, IsRefusedSometime, EndsWith, IsSheetOf, IsTotal};
+ghost use Rattle.desk_lock.specs.Places.{IsWrong, IsOpenFault};
+ghost use Rattle.desk_lock.specs.declared.opening.TheConstants.{MOST_PLACES};
+
+use crate::card::Card;
+use crate::desk::Desk;
+use crate::name::{Name, Naming};
+use crate::opening::{OpenFault, Parts, check_places, parts_of};
+use crate::receipt::{Notice, Receipt};
+use crate::window::Window;
+use fabric_core::{Entry, Fabric, Refusal, Sheet};
+use ring_edits::Edit;
+use std::alloc::{AllocError, Allocator};
+use std::sync::{Mutex, Wait};
+
+/// Why an office is not closed.
+#[derive(Clone, Copy, Debug, PartialEq, Eq)]
+pub enum CloseFault {
+    /// K2: so many cards were handed out, and so many handed in.
+    CardsMissing(usize, usize),
+}
+
+/// An office at which clerks edit one fabric, each in a thread of his own, and windows show what was published.
+#[derive(Drop)]
+pub struct Office<'a, H: Allocator, J: Naming<H>, R: Wait + Drop> {
+    desk: Mutex<Desk<'a, H, J, R>>,
+    clerks: usize,
+    ghost clerks_are: { clerks ≡ J.office.clerks },
+}
+
+/// An office that was opened, with the cards of its clerks and its windows.
+type Opened<'a, H, J, R> = (
+    Office<'a, H, J, R>,
+    Vec<Card<'a, H, J>, &'a H>,
+    Vec<Window<'a, H, J>, &'a H>,
+);
+
+impl<'a, H: Allocator, J: Naming<H>, R: Wait + Drop> Office<'a, H, J, R> {
+    /// Opens an office for so many clerks with so many windows. Card k is that of clerk k, from 1. Each window sees the fabric as it was
+    /// handed in.
+    ///
+    /// # Errors
+    ///
+    /// The fabric comes back with the first of these that applies: [`OpenFault::Places`] (K1) for none or more than 8 clerks, then
+    /// windows; and [`OpenFault::NoWindow`] (K3) or [`OpenFault::NoMemory`].
+    pub fn open(
+        heap: &'a H,
+        rt: R,
+        name: Name<&'a H>,
+        fabric: Fabric<'a, H>,
+        clerks: usize,
+        windows: usize,
+    ) -> Result<Opened<'a, H, J, R>, (Fabric<'a, H>, OpenFault)>
+        requires book { name.book ≡ J.book }
+        requires office { J.office ≡ record { cards = name.cards; clerks = clerks; origin = origin_of fabric } }
+        ensures cards { IfOk result (λ opened. opened.1.items ≡ fresh_cards 0 clerks) }
+        ensures windows { IfOk result (λ opened. opened.2.items ≡ replicate windows (window_of (origin_of fabric.entry))) }
+        ensures back { IfErr result (λ back. back.0 ≡ fabric.entry) }
+        ensures fault { IfErr result (λ back. IsOpenFault clerks windows back.1) }
+        ensures refuses { (n : ℕ) → IsWrong clerks windows n → IsErrAnd result (λ back. back.1 ≡ Places n) }
+    {
+        if let Err(fault) = check_places(clerks, windows) {
+            return Err((fabric, fault));
+        }
+        match parts_of(heap, rt, name, &fabric, clerks, windows) {
+            Ok(parts) => Ok(assemble(fabric, parts, clerks)),
+            Err(fault) => Err((fabric, fault)),
+        }
+    }
+
+    /// Takes the lock, makes an edit by the card's clerk, and publishes it.
+    ///
+    /// # Errors
+    ///
+    /// As [`Fabric::edit`]; card and fabric are unchanged then.
+    pub fn submit<W: Wait>(
+        &self,
+        rt: &W,
+        card: &mut Card<'a, H, J>,
+        edit: &Edit<&'a H>,
+    ) -> Result<Receipt<'a, H, J>, Refusal>
+        ensures edit { IfOk result (λ receipt. receipt.entry.edit ≡ edit.now) }
+        ensures clerk { IfOk result (λ receipt. receipt.entry.clerk ≡ card.old.clerk) }
+        ensures made { IfOk result (λ receipt. card.new ≡ with_made card.old receipt.entry) }
+        ensures told { IfOk result (λ receipt. receipt.published ≡ true
+            → EndsWith receipt.entry receipt.entry.number receipt.told) }
+        ensures unpublished { IfOk result (λ receipt. receipt.published ≢ true → receipt.told ≡ []) }
+        ensures unchanged { OnErr result (card.new ≡ card.old) }
+        ensures refusal { IfErr result (λ refusal. IsRefusedSometime J.office card.old edit.now refusal ⊎ (refusal ≡ NoMemory)) }
+    {
+        let mut desk = self.desk.lock(rt);
+        let entry = desk.edit(card, edit)?;
+        desk.tiles();
+        let front = desk.publish();
+        Ok(Receipt { entry, front })
+    }
+
+    /// Takes the lock, and publishes all entries that are not published yet; it adds none. `None` where that is refused.
+    pub fn publish<W: Wait>(&self, rt: &W) -> Option<Notice<'a, H, J>> {
+        let mut desk = self.desk.lock(rt);
+        let front = desk.publish()?;
+        Some(Notice {
+            number: desk.fabric.entries(),
+            front,
+        })
+    }
+
+    /// Takes the lock, and copies the fabric: the sheet has of each given card's clerk, behind the entries of the fabric that was handed
+    /// in, those that were accepted with the card. The cards stay as they are.
+    ///
+    /// # Errors
+    ///
+    /// [`AllocError`] where an allocation is refused.
+    pub fn sheet<W: Wait>(
+        &self,
+        rt: &W,
+        cards: &mut [Card<'a, H, J>],
+    ) -> Result<Sheet<'a, H>, AllocError>
+        ensures cards { cards.new ≡ cards.old }
+        ensures sheet { IfOk result (λ sheet. IsSheetOf J.office.origin cards.old sheet) }
+    {
+        let mut desk = self.desk.lock(rt);
+        desk.compare(cards);
+        desk.tiles();
+        desk.sheet()
+    }
+
+    /// Closes the office, with all cards: the fabric, whose journal has the entries that were accepted with them, and no others, behind
+    /// those of the fabric that was handed in.
+    ///
+    /// # Errors
+    ///
+    /// [`CloseFault::CardsMissing`] (K2) where a card is missing; office and cards come back.
+    pub fn close<W: Wait, A: Allocator>(
+        self,
+        _rt: &W,
+        cards: Vec<Card<'a, H, J>, A>,
+    ) -> Result<Fabric<'a, H>, (Office<'a, H, J, R>, Vec<Card<'a, H, J>, A>, CloseFault)>
+        ensures closes { IsOk result ↔ (length cards.entry.items ≡ J.office.clerks) }
+        ensures total { IfOk result (λ fabric. IsTotal J.office.origin cards.entry.items fabric) }
+        ensures back { IfErr result (λ back. back.1.items ≡ cards.entry.items) }
+        ensures fault { IfErr result (λ back. back.2 ≡ CardsMissing J.office.clerks (length cards.entry.items)) }
+    {
+        if cards.len() != self.clerks {
+            let fault = CloseFault::CardsMissing(self.clerks, cards.len());
+            return Err((self, cards, fault));
+        }
+        let Office { desk, .. } = self;
+        Ok(desk.into_inner().close(cards))
+    }
+}
+
+/// An office of its parts.
+fn assemble<'a, H: Allocator, J: Naming<H>, R: Wait + Drop>(
+    fabric: Fabric<'a, H>,
+    parts: Parts<'a, H, J, R>,
+    clerks: usize,
+) -> Opened<'a, H, J, R>
+    requires clerks { J.office.clerks ≡ clerks }
+    requires origin { J.office.origin ≡ origin_of fabric }
+    requires keeper { parts.keeper ≡ record { name = J.office.cards; clerks = MOST_PLACES; dealt = clerks; all = [] } }
+    requires publisher { parts.publisher ≡ record { handed = []; shown = [] } }
+    ensures cards { result.1.items ≡ parts.entry.cards.items }
+    ensures windows { result.2.items ≡ parts.entry.windows.items }
+{
+    let Parts {
+        keeper,
+        publisher,
+        cards,
+        windows,
+    } = parts;
+    let opened_with = fabric.journal().len();
+    let desk = Mutex::new(Desk {
+        fabric,
+        keeper,
+        publisher,
+        opened_with,
+    });
+    (Office { desk, clerks }, cards, windows)
+}

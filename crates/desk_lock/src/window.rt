@@ -1,0 +1,113 @@
+//! Windows, at which it is asked where a place lies.
+ghost use Rattle.std.specs.Prelude.{◌≡◌, length, IfOk, IfErr, OnErr};
+ghost use mathlib.Core.List.{IsPrefix};
+ghost use Rattle.geo_exact.specs.Point.{corner_point};
+ghost use Rattle.fabric_core.specs.Locate.{IsLocatedAt};
+ghost use Rattle.fabric_core.specs.Journal.{replay};
+ghost use Rattle.fabric_core.specs.EditResults.{IsLawful};
+ghost use Rattle.desk_lock.specs.Offices.{Learns};
+ghost use Rattle.desk_lock.specs.declared.window.LocateFault.TheVariants.{NoVersion};
+
+use crate::copied::Copied;
+use crate::name::Naming;
+use crate::receipt::{Notice, Receipt};
+use entry_history::Front;
+use fabric_core::{At, Entry};
+use geo_exact::Corner;
+use left_right::ReadHandle;
+use published_copies::Version;
+use std::alloc::{AllocError, Allocator};
+use std::marker::Model;
+
+/// Why a window does not answer.
+#[derive(Clone, Copy, Debug, PartialEq, Eq)]
+pub enum LocateFault {
+    /// K4: there is no version to answer from, as may be once the office is closed.
+    NoVersion,
+    /// An allocation was refused.
+    NoMemory,
+}
+
+impl From<AllocError> for LocateFault {
+    ghost use Rattle.std.specs.Prelude.{◌≡◌};
+    ghost use Rattle.desk_lock.specs.declared.window.LocateFault.TheVariants.{NoMemory};
+
+    ghost from_gives = { λ _ e. e ≡ NoMemory };
+
+    fn from(_: AllocError) -> LocateFault {
+        LocateFault::NoMemory
+    }
+}
+
+/// A window of an office: it answers where a place lies, from a published version, and waits for nobody. It may go to a thread of its
+/// own.
+///
+/// Contracts see the state in which the office's fabric was opened, and the entries that the versions which the window entered and the
+/// receipts which it learnt rest on.
+#[derive(Drop)]
+pub struct Window<'a, H: Allocator, J: Naming<H>> {
+    pub(crate) reader: ReadHandle<Version<Copied<'a, H, J>, Entry<&'a H>, J>, &'a H>,
+    pub(crate) front: Front<Entry<&'a H>, J>,
+    // Where the versions lie.
+    pub(crate) heap: &'a H,
+}
+
+impl<'a, H: Allocator, J: Naming<H>> Model for Window<'a, H, J> {
+    ghost use Rattle.std.specs.Prelude.{◌++◌};
+    ghost use Rattle.std.specs.Borrow.{Bor};
+    ghost use Rattle.desk_lock.specs.Offices.{WindowState};
+
+    ghost Value = { WindowState (Bor H) };
+
+    ghost view = { λ window. record {
+      opening = J.office.origin.opening;
+      seen = J.office.origin.journal ++ window.front;
+    } };
+}
+
+impl<'a, H: Allocator, J: Naming<H>> Window<'a, H, J> {
+    /// Learns a receipt: each later answer has at least the entries that it tells. One that was not published tells nothing.
+    pub fn learn(&mut self, receipt: &Receipt<'a, H, J>)
+        ensures { Learns self.old receipt.now.told self.new }
+    {
+        if let Some(front) = &receipt.front {
+            self.front.learn(front);
+        }
+    }
+
+    /// Learns a notice, as a receipt.
+    pub fn learn_notice(&mut self, notice: &Notice<'a, H, J>)
+        ensures { Learns self.old notice.now self.new }
+    {
+        self.front.learn(&notice.front);
+    }
+
+    /// Where a corner lies among the parcels after some of the entries, with how many entries these are: all that this window had seen
+    /// or was told, and those published since, as far as it finds them.
+    ///
+    /// # Errors
+    ///
+    /// [`LocateFault::NoVersion`] (K4) where there is no version, as may be once the office is closed: nothing has changed then. And
+    /// [`LocateFault::NoMemory`] where an allocation is refused; the window may have seen more entries then.
+    pub fn locate(&mut self, corner: Corner) -> Result<(u64, At<&'a H>), LocateFault>
+        ensures opening { self.new.opening ≡ self.old.opening }
+        ensures begins { IsPrefix self.old.seen self.new.seen }
+        ensures count { IfOk result (λ answer. answer.0 ≡ length self.new.seen) }
+        ensures lawful { IfOk result (λ answer. IsLawful self.new.opening self.new.seen) }
+        ensures at { IfOk result (λ answer.
+            IsLocatedAt (replay self.new.opening self.new.seen).rows (corner_point corner) answer.1) }
+        ensures no_version { IfErr result (λ fault. fault ≡ NoVersion → self.new ≡ self.old) }
+    {
+        let Some(version) = self.reader.enter() else {
+            return Err(LocateFault::NoVersion);
+        };
+        if version.front().len() < self.front.len() {
+            return Err(LocateFault::NoVersion);
+        }
+        self.front.learn(version.front());
+        let fabric = version.value().fabric();
+        fabric.tiles();
+        let at = fabric.locate(corner)?;
+        Ok((fabric.entries(), at))
+    }
+}
