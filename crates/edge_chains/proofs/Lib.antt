@@ -16,3 +16,4 @@ pub mod Steep
 pub mod Level
 pub mod Jumps
 pub mod Segments
+pub mod OnSteps

@@ -2,3 +2,4 @@
 pub mod Blocks
 pub mod Inside
 pub mod Sides
+pub mod Steps

@@ -44,6 +44,18 @@ impl<A: Allocator + Copy> Blocks<A> {
         })
     }
 
+    /// What new lists are allocated by.
+    pub fn alloc(&self) -> A {
+        *self.corners.allocator()
+    }
+
+    /// All the corners.
+    pub fn corners(&self) -> &[Corner]
+        ensures { result.now ≡ self.now }
+    {
+        self.corners.as_slice()
+    }
+
     /// Those of the corners that lie strictly inside the edge from a to b, in the order of the list.
     pub fn inside(&self, a: Corner, b: Corner) -> Result<Vec<Corner, A>, AllocError>
         ensures { IfOk result (λ found. found.items ≡ filter (λ c. is_strictly_inside c a b) self.now) }
