@@ -17,3 +17,4 @@ pub mod Level
 pub mod Jumps
 pub mod Segments
 pub mod OnSteps
+pub mod OnLines

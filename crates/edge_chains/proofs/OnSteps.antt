@@ -21,6 +21,7 @@ use Rattle.geo_exact.proofs.Polynomials.{var, add, mul, sub, same_by}
 use Rattle.geo_exact.proofs.SameCorner.{corner_same}
 use Rattle.edge_chains.specs.own.Steps.{AreInside, AreSteps, IsStep, IsWithinSteps}
 use Rattle.edge_chains.proofs.Along.{zero_cases}
+use Rattle.edge_chains.proofs.Parts.{strictly_back}
 use Rattle.edge_chains.proofs.NodedEdges.{none_in_nil, Contains-here, Contains-there, Contains-cases, Contains-filter, Contains-from_filter}
 use Rattle.edge_chains.specs.own.Inside.{is_strictly_inside}
 use Rattle.edge_chains.proofs.Inside.{Decides-is_strictly_inside, IsBetween, inside_from_strictly, strictly_from_inside, product_between}
@@ -311,3 +312,8 @@ inside_from_filter corners found a b e c = (
 pub inside_alike : (xs ys : List Corner) → ((c : Corner) → Contains xs c ↔ Contains ys c) → (a b : Corner) (found : List Corner)
     → AreInside xs a b found → AreInside ys a b found
 inside_alike xs ys same a b found so c = (λ h. let k = (so c).0 h in ((same c).0 k.0, k.1), λ h. (so c).1 ((same c).1 h.0, h.1))
+
+-- the edge the other way round
+pub inside_turned : (corners : List Corner) (a b : Corner) (found : List Corner) → AreInside corners b a found → AreInside corners a b found
+inside_turned corners a b found so c =
+    (λ h. let k = (so c).0 h in (k.0, strictly_back c b a k.1), λ h. (so c).1 (h.0, strictly_back c a b h.1))

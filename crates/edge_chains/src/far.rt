@@ -1,38 +1,47 @@
 //! The search for corners inside an edge whose neighbours are no help.
-ghost use Rattle.std.specs.Prelude.{◌≡◌, ◌↔◌, List, IfOk, IfSome};
+ghost use Rattle.std.specs.Prelude.{◌≡◌, ◌↔◌, List, IfOk, IfSome, false};
 ghost use Rattle.std.specs.List.{filter, Contains};
 ghost use Rattle.geo_exact.specs.Bounds.{holds_corner};
+ghost use Rattle.geo_exact.specs.Order.{is_before};
 ghost use Rattle.edge_chains.specs.own.Steps.{AreInside, AreSteps};
 
-use crate::blocks::Blocks;
+use crate::blocks::{Blocks, inside_of};
+use crate::directions::Directions;
+use crate::lines::Lines;
 use crate::points::Points;
 use crate::steps::{Steps, steps_of};
-use geo_exact::{Bounds, Corner};
+use geo_exact::{Bounds, Corner, comes_before};
 use std::alloc::{AllocError, Allocator};
 use std::marker::Model;
 
 /// How many steps an edge has at most whose steps are tried one by one.
 const FEW_STEPS: u64 = 4096;
 
+/// How many places of the tree of boxes are looked at before an edge is slow.
+const QUICK: usize = 1024;
+
 /// Corners for many searches, as a list in some order.
 ///
-/// Where an edge has few steps between whole places, each of these places is looked up. Any other edge goes through a tree of boxes.
+/// Where an edge has few steps between whole places, each of these places is looked up. Any other edge goes through a tree of boxes;
+/// and where many that go in one direction are slow there, all corners are put in order across it, once, and each further edge in
+/// that direction is looked up among those on its line.
 #[derive(Drop)]
 pub(crate) struct Far<A: Allocator> {
     blocks: Blocks<A>,
     points: Option<Points<A>>,
+    directions: Directions<A>,
 }
 
 impl<A: Allocator> Model for Far<A> {
-    ghost use Rattle.std.specs.Prelude.{◌↔◌, List, IfSome};
-    ghost use Rattle.std.specs.List.{Contains};
+    ghost use Rattle.std.specs.Prelude.{List};
     ghost use Rattle.geo_exact.specs.declared.corner.Corner.{Corner};
+    ghost use Rattle.edge_chains.specs.own.Lines.{HaveAll};
 
     ghost Value = { List Corner };
 
     ghost view = { λ far. far.blocks };
 
-    ghost invariant = { λ far. IfSome far.points (λ points. (c : Corner) → Contains points c ↔ Contains far.blocks c) };
+    ghost invariant = { λ far. HaveAll far.blocks far.points far.directions };
 }
 
 impl<A: Allocator + Copy> Far<A> {
@@ -43,6 +52,7 @@ impl<A: Allocator + Copy> Far<A> {
         Ok(Far {
             blocks: Blocks::new(alloc, corners)?,
             points: None,
+            directions: Directions::new(alloc),
         })
     }
 
@@ -59,13 +69,27 @@ impl<A: Allocator + Copy> Far<A> {
         ensures same { self.new ≡ self.old }
         ensures found { IfOk result (λ found. AreInside self.old a b found.items) }
     {
-        match steps_of(a, b) {
-            Some(steps) if steps.count <= FEW_STEPS => self.on_steps(a, b, steps),
-            _ => self.in_boxes(a, b),
+        if comes_before(b, a) {
+            self.rising(b, a)
+        } else {
+            self.rising(a, b)
         }
     }
 
-    /// The same, for an edge with these steps.
+    /// The same, for an edge that rises.
+    fn rising(&mut self, a: Corner, b: Corner) -> Result<Vec<Corner, A>, AllocError>
+        requires { is_before b a ≡ false }
+        ensures same { self.new ≡ self.old }
+        ensures found { IfOk result (λ found. AreInside self.old a b found.items) }
+    {
+        match steps_of(a, b) {
+            Some(steps) if steps.count <= FEW_STEPS => self.on_steps(a, b, steps),
+            Some(steps) => self.along(a, b, steps),
+            None => self.in_boxes(a, b),
+        }
+    }
+
+    /// The same, for an edge with these steps, of which there are few.
     fn on_steps(&mut self, a: Corner, b: Corner, steps: Steps) -> Result<Vec<Corner, A>, AllocError>
         requires { AreSteps a b steps.across steps.up steps.count }
         ensures same { self.new ≡ self.old }
@@ -81,10 +105,37 @@ impl<A: Allocator + Copy> Far<A> {
         Ok(found)
     }
 
-    /// The same, through the tree of boxes.
+    /// The same, for a rising edge with these steps, of which there are many.
+    fn along(&mut self, a: Corner, b: Corner, steps: Steps) -> Result<Vec<Corner, A>, AllocError>
+        requires steps { AreSteps a b steps.across steps.up steps.count }
+        requires rises { is_before b a ≡ false }
+        ensures same { self.new ≡ self.old }
+        ensures found { IfOk result (λ found. AreInside self.old a b found.items) }
+    {
+        let alloc = self.blocks.alloc();
+        if let Some(lines) = self.directions.find(steps) {
+            return lines.inside(alloc, a, b);
+        }
+        if let Some(found) = self.blocks.inside(a, b, QUICK)? {
+            return Ok(found);
+        }
+        if !self.directions.count(steps)? {
+            return self.in_boxes(a, b);
+        }
+        let lines = Lines::new(alloc, self.blocks.corners(), steps)?;
+        let found = lines.inside(alloc, a, b)?;
+        self.directions.keep(lines)?;
+        Ok(found)
+    }
+
+    /// The same, through the tree of boxes; where that looks at half as many places as there are corners, each corner is tried.
     fn in_boxes(&self, a: Corner, b: Corner) -> Result<Vec<Corner, A>, AllocError>
         ensures { IfOk result (λ found. AreInside self.now a b found.items) }
     {
-        self.blocks.inside(a, b)
+        let corners = self.blocks.corners();
+        match self.blocks.inside(a, b, corners.len() / 2)? {
+            Some(found) => Ok(found),
+            None => inside_of(self.blocks.alloc(), corners, a, b),
+        }
     }
 }

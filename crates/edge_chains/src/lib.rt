@@ -3,10 +3,12 @@
 #![tactic(auto)]
 
 mod blocks;
+mod directions;
 mod edge_sum;
 mod edge_tests;
 mod far;
 mod laws;
+mod lines;
 mod noding;
 mod order;
 mod points;

@@ -1,10 +1,10 @@
 ghost use Rattle.std.specs.Prelude.{◌≡◌, ◌↔◌, List, IfOk};
 ghost use Rattle.std.specs.List.{filter, Contains};
-ghost use Rattle.edge_chains.specs.own.Inside.{is_strictly_inside};
 ghost use Rattle.edge_chains.specs.own.Steps.{AreInside};
 ghost use Rattle.geo_exact.specs.Bounds.{holds_corner};
 
-use crate::edge_tests::{covers, is_strictly_inside};
+use crate::blocks::inside_of;
+use crate::edge_tests::covers;
 use crate::far::Far;
 use geo_exact::{Bounds, Corner};
 use std::alloc::{AllocError, Allocator};
@@ -93,22 +93,4 @@ fn bounds_of(from: Corner, to: Corner, ahead: &[Corner]) -> Bounds {
         bounds = bounds.around(Bounds::of_corner(*corner));
     }
     bounds
-}
-
-/// Those of the corners that lie strictly inside the edge from a to b, in the order of the list: each is tried.
-fn inside_of<A: Allocator>(
-    alloc: A,
-    corners: &[Corner],
-    a: Corner,
-    b: Corner,
-) -> Result<Vec<Corner, A>, AllocError>
-    ensures { IfOk result (λ found. found.items ≡ filter (λ c. is_strictly_inside c a b) corners.now) }
-{
-    let mut found = Vec::new(alloc);
-    for corner in corners {
-        if is_strictly_inside(*corner, a, b) {
-            found.push(*corner)?;
-        }
-    }
-    Ok(found)
 }

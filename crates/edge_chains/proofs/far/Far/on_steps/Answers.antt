@@ -7,17 +7,23 @@ use Rattle.edge_chains.proofs.far.Far.on_steps.Goals as goal
 
 pub returns-in-Some-clause-found : goal.returns-in-Some-clause-found
 returns-in-Some-clause-found g c =
-    let same = subst (λ kept. IfSome kept (λ points. (x : Corner) → Contains points x ↔ Contains c.self.inside.blocks x)) c.in-Some.is c.self.invariant in
-    let view = c.self.view_is in
+    let points = c.in-Some.points in
+    let same = subst (λ kept. IfSome kept (λ points. (x : Corner) → Contains points x ↔ Contains c.self.inside.blocks x)) c.in-Some.is
+    c.self.invariant.points_have in
     IfOk-weaker c.inside.result _ _
-    (λ found h. inside_alike c.in-Some.points c.args.self.now (subst (λ xs. (x : Corner) → Contains c.in-Some.points x ↔ Contains xs x) view same) c.args.a c.args.b found.items h)
+    (λ found h. inside_alike points c.args.self.now (λ x. subst (λ xs. Contains points x ↔ Contains xs x) c.self.view_is (same x))
+    c.args.a c.args.b found.items h)
     c.inside.ensures
 
 pub invariant_of-self : goal.invariant_of-self
-invariant_of-self g c = λ x. subst (λ xs. Contains c.in_ok-points.points x ↔ Contains xs x) c.corners.ensures (c.in_ok-points.ensures x)
+invariant_of-self g c = record {
+  points_have = λ x. subst (λ xs. Contains c.in_ok-points.points x ↔ Contains xs x) c.corners.ensures (c.in_ok-points.ensures x);
+  directions_have = c.self.invariant.directions_have;
+}
 
 pub returns-clause-found : goal.returns-clause-found
 returns-clause-found g c =
-    inside_alike c.in_ok-points.points c.args.self.now
-    (λ x. subst (λ xs. Contains c.in_ok-points.points x ↔ Contains xs x) (c.corners.ensures ∙ c.self.view_is) (c.in_ok-points.ensures x))
+    let points = c.in_ok-points.points in
+    inside_alike points c.args.self.now
+    (λ x. subst (λ xs. Contains points x ↔ Contains xs x) (c.corners.ensures ∙ c.self.view_is) (c.in_ok-points.ensures x))
     c.args.a c.args.b c.in_ok-found.found.items c.in_ok-found.ensures
