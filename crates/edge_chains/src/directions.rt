@@ -13,7 +13,7 @@ use std::marker::Model;
 const MOST_DIRECTIONS: usize = 16;
 
 /// How many slow edges in one direction are worth putting all corners in order across it.
-const MANY: u64 = 64;
+const MANY: u64 = 256;
 
 /// How many edges were slow, by the way of their steps across and up, in centimetres.
 type Counts<A> = HashMap<(i64, i64), u64, BuildHasherDefault<FoldHasher>, A>;

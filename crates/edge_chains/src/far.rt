@@ -14,17 +14,21 @@ use geo_exact::{Bounds, Corner, comes_before};
 use std::alloc::{AllocError, Allocator};
 use std::marker::Model;
 
-/// How many steps an edge has at most whose steps are tried one by one.
-const FEW_STEPS: u64 = 4096;
+/// How many steps an edge has at most whose places are looked up at once.
+const FEW_STEPS: u64 = 64;
 
-/// How many places of the tree of boxes are looked at before an edge is slow.
-const QUICK: usize = 1024;
+/// How many steps an edge has at most whose places are looked up where the tree of boxes is slow.
+const MANY_STEPS: u64 = 4096;
+
+/// How many places of the tree are looked at before an edge is slow, and what part of all corners besides where it has more steps.
+const QUICK: usize = 256;
 
 /// Corners for many searches, as a list in some order.
 ///
-/// Where an edge has few steps between whole places, each of these places is looked up. Any other edge goes through a tree of boxes;
-/// and where many that go in one direction are slow there, all corners are put in order across it, once, and each further edge in
-/// that direction is looked up among those on its line.
+/// Where an edge has few steps between whole places, each of these places is looked up. Any other edge goes through a tree of boxes,
+/// for a while: where that is slow, the places of its steps are looked up, if they are not too many; and where many edges in one
+/// direction are slow, all corners are put in order across it, once, and each further edge in that direction is looked up among
+/// those on its line.
 #[derive(Drop)]
 pub(crate) struct Far<A: Allocator> {
     blocks: Blocks<A>,
@@ -89,7 +93,7 @@ impl<A: Allocator + Copy> Far<A> {
         }
     }
 
-    /// The same, for an edge with these steps, of which there are few.
+    /// The same, for an edge with these steps, each of which is tried.
     fn on_steps(&mut self, a: Corner, b: Corner, steps: Steps) -> Result<Vec<Corner, A>, AllocError>
         requires { AreSteps a b steps.across steps.up steps.count }
         ensures same { self.new ≡ self.old }
@@ -105,7 +109,7 @@ impl<A: Allocator + Copy> Far<A> {
         Ok(found)
     }
 
-    /// The same, for a rising edge with these steps, of which there are many.
+    /// The same, for a rising edge with these steps, of which there are more than a few.
     fn along(&mut self, a: Corner, b: Corner, steps: Steps) -> Result<Vec<Corner, A>, AllocError>
         requires steps { AreSteps a b steps.across steps.up steps.count }
         requires rises { is_before b a ≡ false }
@@ -116,8 +120,12 @@ impl<A: Allocator + Copy> Far<A> {
         if let Some(lines) = self.directions.find(steps) {
             return lines.inside(alloc, a, b);
         }
-        if let Some(found) = self.blocks.inside(a, b, QUICK)? {
+        let few = steps.count <= MANY_STEPS;
+        if let Some(found) = self.blocks.inside(a, b, self.quick(few))? {
             return Ok(found);
+        }
+        if few {
+            return self.on_steps(a, b, steps);
         }
         if !self.directions.count(steps)? {
             return self.in_boxes(a, b);
@@ -126,6 +134,15 @@ impl<A: Allocator + Copy> Far<A> {
         let found = lines.inside(alloc, a, b)?;
         self.directions.keep(lines)?;
         Ok(found)
+    }
+
+    /// How many places of the tree are looked at before an edge is slow.
+    fn quick(&self, few: bool) -> usize {
+        if few {
+            QUICK
+        } else {
+            QUICK + self.blocks.corners().len() / QUICK
+        }
     }
 
     /// The same, through the tree of boxes; where that looks at half as many places as there are corners, each corner is tried.
