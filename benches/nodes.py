@@ -119,13 +119,32 @@ def crossed(folder):
     layers(folder, box(-1, 0, wide + 1, wide), rings)
 
 
+def scattered(folder):
+    """244 rings of 4,095 corners drawn at random from a square: long edges that cross everywhere."""
+    pick, wide = random.Random(1), 10 ** 9
+    rings = [[(pick.randrange(wide), pick.randrange(wide)) for _ in range(4095)] for _ in range(244)]
+    layers(folder, box(0, 0, wide, wide), rings)
+
+
+def band(count):
+    """Rings of 4,095 corners drawn at random from a thin slanted band: long edges, each beside all the corners."""
+    def make(folder):
+        pick, wide, rings = random.Random(1), 10 ** 9, []
+        for _ in range(count):
+            xs = [pick.randrange(wide) for _ in range(4095)]
+            rings.append([(x, 5 * x + pick.randrange(10 ** 4)) for x in xs])
+        layers(folder, box(0, 0, wide, 10 ** 4, 0), rings)
+    return make
+
+
 JOBS = (("city S", city("S")), ("city M", city("M")), ("city L", city("L")),
         ("city S, T", city("S", "--tjunction", "0.3")), ("city M, T", city("M", "--tjunction", "0.3")),
         ("city L, T", city("L", "--tjunction", "0.04")), ("city L, shuffled", shuffled),
         ("strips", strips(0, False)), ("strips, shuffled", strips(0, True)),
         ("slanted strips", strips(5 * 10 ** 9, False)), ("slanted, shuffled", strips(5 * 10 ** 9, True)),
         ("strips, cut", cut(0)), ("slanted, cut", cut(5)),
-        ("rows", rows), ("corner", corner), ("crossed", crossed))
+        ("rows", rows), ("corner", corner), ("crossed", crossed), ("scattered", scattered),
+        ("band, 12 rings", band(12)), ("band, 24 rings", band(24)), ("band, 244 rings", band(244)))
 
 
 def apart(make, folder):

@@ -1,5 +1,5 @@
 -- What the test of lying strictly inside an edge tells, and where a box shows that it fails.
-use Rattle.std.proofs.Common.{◌≡◌, ◌≢◌, ◌⊎◌, inl, inr, sym, ◌∙◌, ap, subst, arith, Bool, true, false, not, ◌&&◌, ◌||◌, ℤ, pos, ◌-ℤ◌, ◌*ℤ◌, neg_ℤ}
+use Rattle.std.proofs.Common.{◌≡◌, ◌≢◌, ◌⊎◌, inl, inr, sym, ◌∙◌, subst, arith, Bool, true, false, not, ◌&&◌, ◌||◌, ℤ, pos, ◌-ℤ◌, ◌*ℤ◌, neg_ℤ}
 use Rattle.std.specs.Bool.{Decides}
 use Rattle.std.specs.Ordering.{int_eq}
 use Rattle.std.specs.Int.{int_min, int_max}
@@ -19,7 +19,7 @@ use Rattle.geo_exact.specs.Order.{is_same}
 use Rattle.geo_exact.specs.Segments.{IsStrictlyInside}
 use Rattle.edge_chains.specs.own.Inside.{is_between, is_strictly_inside}
 use Rattle.geo_exact.proofs.InBoxes.{Decides-holds_corner}
-use Rattle.geo_exact.specs.Bounds.{EdgeBoxesMeet, is_from_to, holds_corner, HoldsCorner}
+use Rattle.geo_exact.specs.Bounds.{EdgeBoxesMeet, holds_corner, HoldsCorner}
 use Rattle.geo_exact.proofs.CornerOrder.{false_where, Decides-is_same}
 
 -- ---- the test
@@ -82,7 +82,7 @@ inside_off_edge c a b t k e = e ∙ sym (false_where (is_strictly_inside c a b) 
 
 -- ---- boxes
 -- a product is between those at the ends
-product_between : (k l h z : ℤ) → l ≤ℤ z → z ≤ℤ h → IsBetween (k *ℤ l) (k *ℤ h) (k *ℤ z)
+pub product_between : (k l h z : ℤ) → l ≤ℤ z → z ≤ℤ h → IsBetween (k *ℤ l) (k *ℤ h) (k *ℤ z)
 product_between k l h z p q = by_lt_z k (pos 0) down up
   where
     up : pos 0 ≤ℤ k → IsBetween (k *ℤ l) (k *ℤ h) (k *ℤ z)

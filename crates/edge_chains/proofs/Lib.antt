@@ -16,3 +16,5 @@ pub mod Steep
 pub mod Level
 pub mod Jumps
 pub mod Segments
+pub mod OnSteps
+pub mod OnLines

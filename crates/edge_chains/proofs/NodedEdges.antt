@@ -12,10 +12,9 @@ use Rattle.geo_exact.proofs.Dropped.{drop_item}
 use Rattle.geo_exact.proofs.EdgeSums.{edge_of}
 use Rattle.edge_chains.specs.Noding.{AreAlong, IsNodedEdge, AreNodedEdges, IsNoded}
 use Rattle.geo_exact.specs.Segments.{IsStrictlyInside}
-use Rattle.edge_chains.specs.own.Inside.{is_strictly_inside}
+use Rattle.edge_chains.specs.own.Steps.{AreInside}
 use Rattle.geo_exact.specs.Order.{corner_cmp, is_before}
 use Rattle.geo_exact.proofs.CornerOrder.{IsBefore, cases_of, Decides-is_before, same_unless_before}
-use Rattle.edge_chains.proofs.Inside.{Decides-is_strictly_inside}
 use Rattle.edge_chains.proofs.Along.{LeadsOn, IsChain, IsChain-weaker, IsChain-reverse, leads_on_up, leads_on_down, along}
 use Rattle.edge_chains.proofs.Parts.{edge_has_length}
 use Rattle.edge_chains.proofs.Sorted.{IsChain-from_sorted}
@@ -62,7 +61,7 @@ all_from_contains P [] h = tt
 all_from_contains P (x ∷ xs) h = (h x (Contains-here x xs), all_from_contains P xs (λ c k. h c (Contains-there x xs c k)))
 
 -- ---- one edge
-IsNodedEdge-from : (corners found once out : List Corner) (a b : Corner) → found ≡ filter (λ c. is_strictly_inside c a b) corners
+IsNodedEdge-from : (corners found once out : List Corner) (a b : Corner) → AreInside corners a b found
     → ((c : Corner) → Contains found c → Contains once c) → ((c : Corner) → Contains once c → Contains found c)
     → IsPermutation once out → (AllByRecursion (λ c. IsStrictlyInside c a b) out → AreAlong a out b)
     → IsNodedEdge corners (edge_of a b) out
@@ -70,19 +69,16 @@ IsNodedEdge-from corners found once out a b f keeps adds moved order = record {
   exactly = λ c. (
     λ h. is_found c h,
     λ h. Contains-permutation once out c moved
-        (keeps c (subst (λ l. Contains l c) (sym f) (Contains-filter (λ x. is_strictly_inside x a b) corners c h.0 ((Decides-is_strictly_inside c a b).1 h.1)))),
+        (keeps c ((f c).1 h)),
   );
   in_order = order (all_from_contains (λ c. IsStrictlyInside c a b) out (λ c h. (is_found c h).1));
 }
   where
     is_found : (c : Corner) → Contains out c → Contains corners c × IsStrictlyInside c a b
-    is_found c h =
-        let k = Contains-from_filter (λ x. is_strictly_inside x a b) corners c
-        (subst (λ l. Contains l c) f (adds c (Contains-permutation out once c (IsPermutation-sym once out moved) h))) in
-        (k.0, (Decides-is_strictly_inside c a b).0 k.1)
+    is_found c h = (f c).0 (adds c (Contains-permutation out once c (IsPermutation-sym once out moved) h))
 
 -- found corners, sorted, and turned round where the edge goes down
-pub IsNodedEdge-down : (corners found once out : List Corner) (a b : Corner) → found ≡ filter (λ c. is_strictly_inside c a b) corners
+pub IsNodedEdge-down : (corners found once out : List Corner) (a b : Corner) → AreInside corners a b found
     → IsStrictlySortedBy corner_cmp once → ((c : Corner) → Contains found c → Contains once c) → ((c : Corner) → Contains once c → Contains found c)
     → is_before b a ≡ true → out ≡ reverse once → IsNodedEdge corners (edge_of a b) out
 IsNodedEdge-down corners found once out a b f rises keeps adds down e =
@@ -91,7 +87,7 @@ IsNodedEdge-down corners found once out a b f rises keeps adds down e =
     (λ c d p q r. leads_on_down a b c d ((Decides-is_before b a).0 down) p q r) out all
     (subst (IsChain (λ c d. IsBefore d c)) (sym e) (IsChain-reverse IsBefore once (IsChain-from_sorted once rises)))))
 
-pub IsNodedEdge-up : (corners found once out : List Corner) (a b : Corner) → found ≡ filter (λ c. is_strictly_inside c a b) corners
+pub IsNodedEdge-up : (corners found once out : List Corner) (a b : Corner) → AreInside corners a b found
     → IsStrictlySortedBy corner_cmp once → ((c : Corner) → Contains found c → Contains once c) → ((c : Corner) → Contains once c → Contains found c)
     → is_before b a ≡ false → out ≡ once → IsNodedEdge corners (edge_of a b) out
 IsNodedEdge-up corners found once out a b f rises keeps adds up e =

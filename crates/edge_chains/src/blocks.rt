@@ -44,17 +44,36 @@ impl<A: Allocator + Copy> Blocks<A> {
         })
     }
 
-    /// Those of the corners that lie strictly inside the edge from a to b, in the order of the list.
-    pub fn inside(&self, a: Corner, b: Corner) -> Result<Vec<Corner, A>, AllocError>
-        ensures { IfOk result (λ found. found.items ≡ filter (λ c. is_strictly_inside c a b) self.now) }
+    /// What new lists are allocated by.
+    pub fn alloc(&self) -> A {
+        *self.corners.allocator()
+    }
+
+    /// All the corners.
+    pub fn corners(&self) -> &[Corner]
+        ensures { result.now ≡ self.now }
+    {
+        self.corners.as_slice()
+    }
+
+    /// Those of the corners that lie strictly inside the edge from a to b, in the order of the list; `None` where more than `most`
+    /// places are looked at.
+    pub fn inside(
+        &self,
+        a: Corner,
+        b: Corner,
+        most: usize,
+    ) -> Result<Option<Vec<Corner, A>>, AllocError>
+        ensures { IfOk result (λ seen. IfSome seen (λ found.
+            found.items ≡ filter (λ c. is_strictly_inside c a b) self.now)) }
     {
         collect(
             *self.corners.allocator(),
             &self.corners,
             &self.ends,
             &self.boxes,
-            a,
-            b,
+            (a, b),
+            most,
         )
     }
 
@@ -135,7 +154,8 @@ fn apart(number: u64) -> u64 {
     (bits | bits << 1) & 0x5555_5555_5555_5555
 }
 
-/// Those of the corners that lie strictly inside the edge from a to b, in the order of the list.
+/// Those of the corners that lie strictly inside an edge, in the order of the list; `None` where more than `most` places are
+/// looked at.
 ///
 /// At each place a block begins that goes up to `ends`, with its box; a block whose box the edge misses is passed over.
 fn collect<A: Allocator + Copy>(
@@ -143,15 +163,22 @@ fn collect<A: Allocator + Copy>(
     corners: &[Corner],
     ends: &[usize],
     boxes: &[Bounds],
-    a: Corner,
-    b: Corner,
-) -> Result<Vec<Corner, A>, AllocError>
+    edge: (Corner, Corner),
+    most: usize,
+) -> Result<Option<Vec<Corner, A>>, AllocError>
     requires { AreBlocks corners.now ends.now boxes.now }
-    ensures { IfOk result (λ found. found.items ≡ filter (λ c. is_strictly_inside c a b) corners.now) }
+    ensures { IfOk result (λ seen. IfSome seen (λ found.
+        found.items ≡ filter (λ c. is_strictly_inside c edge.0 edge.1) corners.now)) }
 {
+    let (a, b) = edge;
     let mut found = Vec::new(alloc);
     let mut at = 0;
+    let mut left = most;
     while at < corners.len() {
+        if left == 0 {
+            return Ok(None);
+        }
+        left -= 1;
         if misses(boxes[at], a, b) {
             at = ends[at];
         } else {
@@ -162,7 +189,7 @@ fn collect<A: Allocator + Copy>(
             at += 1;
         }
     }
-    Ok(found)
+    Ok(Some(found))
 }
 
 /// Those of the corners that are in a box, in the order of the list; `None` where they are more than `most`.
@@ -257,4 +284,22 @@ fn block_boxes<A: Allocator + Copy>(
         boxes[at] = bounds;
     }
     Ok(boxes)
+}
+
+/// Those of the corners that lie strictly inside the edge from a to b, in the order of the list: each is tried.
+pub(crate) fn inside_of<A: Allocator>(
+    alloc: A,
+    corners: &[Corner],
+    a: Corner,
+    b: Corner,
+) -> Result<Vec<Corner, A>, AllocError>
+    ensures { IfOk result (λ found. found.items ≡ filter (λ c. is_strictly_inside c a b) corners.now) }
+{
+    let mut found = Vec::new(alloc);
+    for corner in corners {
+        if is_strictly_inside(*corner, a, b) {
+            found.push(*corner)?;
+        }
+    }
+    Ok(found)
 }

@@ -83,7 +83,7 @@ fn are_below(u: i128, v: i128, w: i128, z: i128) -> bool
 }
 
 /// u - v, for coordinates.
-fn difference(u: i64, v: i64) -> i64
+pub(crate) fn difference(u: i64, v: i64) -> i64
     requires first { IsWithin limit u }
     requires second { IsWithin limit v }
     ensures { result ≡ u -ℤ v }

@@ -3,12 +3,17 @@
 #![tactic(auto)]
 
 mod blocks;
+mod directions;
 mod edge_sum;
 mod edge_tests;
+mod far;
 mod laws;
+mod lines;
 mod noding;
 mod order;
+mod points;
 mod search;
+mod steps;
 
 pub use edge_sum::EdgeSum;
 pub use laws::{an_unbalanced_edge_is_a_jump, equal_nets_cover_alike, noding_changes_no_ground};

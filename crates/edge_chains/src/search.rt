@@ -1,10 +1,11 @@
 ghost use Rattle.std.specs.Prelude.{◌≡◌, ◌↔◌, List, IfOk};
 ghost use Rattle.std.specs.List.{filter, Contains};
-ghost use Rattle.edge_chains.specs.own.Inside.{is_strictly_inside};
+ghost use Rattle.edge_chains.specs.own.Steps.{AreInside};
 ghost use Rattle.geo_exact.specs.Bounds.{holds_corner};
 
-use crate::blocks::Blocks;
-use crate::edge_tests::{covers, is_strictly_inside};
+use crate::blocks::inside_of;
+use crate::edge_tests::covers;
+use crate::far::Far;
 use geo_exact::{Bounds, Corner};
 use std::alloc::{AllocError, Allocator};
 use std::marker::Model;
@@ -21,7 +22,7 @@ const MOST: usize = 64;
 /// they are few, and an edge in that box is searched among them alone.
 #[derive(Drop)]
 pub(crate) struct Search<A: Allocator> {
-    blocks: Blocks<A>,
+    far: Far<A>,
     bounds: Bounds,
     near: Vec<Corner, A>,
 }
@@ -34,9 +35,9 @@ impl<A: Allocator> Model for Search<A> {
 
     ghost Value = { List Corner };
 
-    ghost view = { λ search. search.blocks };
+    ghost view = { λ search. search.far };
 
-    ghost invariant = { λ search. search.near.items ≡ filter (λ c. holds_corner search.bounds c) search.blocks };
+    ghost invariant = { λ search. search.near.items ≡ filter (λ c. holds_corner search.bounds c) search.far };
 }
 
 impl<A: Allocator + Copy> Search<A> {
@@ -45,13 +46,13 @@ impl<A: Allocator + Copy> Search<A> {
         ensures { IfOk result (λ search. (c : Corner) → Contains search c ↔ Contains corners.now c) }
     {
         Ok(Search {
-            blocks: Blocks::new(alloc, corners)?,
+            far: Far::new(alloc, corners)?,
             bounds: Bounds::nowhere(),
             near: Vec::new(alloc),
         })
     }
 
-    /// Those of the corners that lie strictly inside the edge between two corners, in the order of the list.
+    /// Those of the corners that lie strictly inside the edge between two corners, in any order.
     ///
     /// `ahead` are the corners that come next in the ring: only the speed rests on them.
     pub fn inside(
@@ -61,7 +62,7 @@ impl<A: Allocator + Copy> Search<A> {
         ahead: &[Corner],
     ) -> Result<Vec<Corner, A>, AllocError>
         ensures same { self.new ≡ self.old }
-        ensures found { IfOk result (λ found. found.items ≡ filter (λ c. is_strictly_inside c from to) self.old) }
+        ensures found { IfOk result (λ found. AreInside self.old from to found.items) }
     {
         if !covers(self.bounds, from, to) {
             self.move_to(bounds_of(from, to, ahead))?;
@@ -69,7 +70,7 @@ impl<A: Allocator + Copy> Search<A> {
         if covers(self.bounds, from, to) {
             inside_of(*self.near.allocator(), &self.near, from, to)
         } else {
-            self.blocks.inside(from, to)
+            self.far.inside(from, to)
         }
     }
 
@@ -77,7 +78,7 @@ impl<A: Allocator + Copy> Search<A> {
     fn move_to(&mut self, bounds: Bounds) -> Result<(), AllocError>
         ensures { self.new ≡ self.old }
     {
-        if let Some(near) = self.blocks.within(&bounds, MOST)? {
+        if let Some(near) = self.far.within(&bounds, MOST)? {
             self.bounds = bounds;
             self.near = near;
         }
@@ -92,22 +93,4 @@ fn bounds_of(from: Corner, to: Corner, ahead: &[Corner]) -> Bounds {
         bounds = bounds.around(Bounds::of_corner(*corner));
     }
     bounds
-}
-
-/// Those of the corners that lie strictly inside the edge from a to b, in the order of the list: each is tried.
-fn inside_of<A: Allocator>(
-    alloc: A,
-    corners: &[Corner],
-    a: Corner,
-    b: Corner,
-) -> Result<Vec<Corner, A>, AllocError>
-    ensures { IfOk result (λ found. found.items ≡ filter (λ c. is_strictly_inside c a b) corners.now) }
-{
-    let mut found = Vec::new(alloc);
-    for corner in corners {
-        if is_strictly_inside(*corner, a, b) {
-            found.push(*corner)?;
-        }
-    }
-    Ok(found)
 }

@@ -1,0 +1,4 @@
+use Rattle.edge_chains.proofs.steps.shares_of.Given as goal
+
+abbrev pub decreases-loop-rest : goal.decreases-loop-rest
+decreases-loop-rest l = l.rest

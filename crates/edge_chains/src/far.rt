@@ -1,0 +1,158 @@
+//! The search for corners inside an edge whose neighbours are no help.
+ghost use Rattle.std.specs.Prelude.{◌≡◌, ◌↔◌, List, IfOk, IfSome, false};
+ghost use Rattle.std.specs.List.{filter, Contains};
+ghost use Rattle.geo_exact.specs.Bounds.{holds_corner};
+ghost use Rattle.geo_exact.specs.Order.{is_before};
+ghost use Rattle.edge_chains.specs.own.Steps.{AreInside, AreSteps};
+
+use crate::blocks::{Blocks, inside_of};
+use crate::directions::Directions;
+use crate::lines::Lines;
+use crate::points::Points;
+use crate::steps::{Steps, steps_of};
+use geo_exact::{Bounds, Corner, comes_before};
+use std::alloc::{AllocError, Allocator};
+use std::marker::Model;
+
+/// How many steps an edge has at most whose places are looked up at once.
+const FEW_STEPS: u64 = 64;
+
+/// How many steps an edge has at most whose places are looked up where the tree of boxes is slow.
+const MANY_STEPS: u64 = 4096;
+
+/// How many places of the tree are looked at before an edge is slow, and what part of all corners besides where it has more steps.
+const QUICK: usize = 256;
+
+/// Corners for many searches, as a list in some order.
+///
+/// Where an edge has few steps between whole places, each of these places is looked up. Any other edge goes through a tree of boxes,
+/// for a while: where that is slow, the places of its steps are looked up, if they are not too many; and where many edges in one
+/// direction are slow, all corners are put in order across it, once, and each further edge in that direction is looked up among
+/// those on its line.
+#[derive(Drop)]
+pub(crate) struct Far<A: Allocator> {
+    blocks: Blocks<A>,
+    points: Option<Points<A>>,
+    directions: Directions<A>,
+}
+
+impl<A: Allocator> Model for Far<A> {
+    ghost use Rattle.std.specs.Prelude.{List};
+    ghost use Rattle.geo_exact.specs.declared.corner.Corner.{Corner};
+    ghost use Rattle.edge_chains.specs.own.Lines.{HaveAll};
+
+    ghost Value = { List Corner };
+
+    ghost view = { λ far. far.blocks };
+
+    ghost invariant = { λ far. HaveAll far.blocks far.points far.directions };
+}
+
+impl<A: Allocator + Copy> Far<A> {
+    /// A search among these corners.
+    pub fn new(alloc: A, corners: &[Corner]) -> Result<Far<A>, AllocError>
+        ensures { IfOk result (λ far. (c : Corner) → Contains far c ↔ Contains corners.now c) }
+    {
+        Ok(Far {
+            blocks: Blocks::new(alloc, corners)?,
+            points: None,
+            directions: Directions::new(alloc),
+        })
+    }
+
+    /// Those of the corners that are in a box, in the order of the list; `None` where they are more than `most`.
+    pub fn within(&self, bounds: &Bounds, most: usize) -> Result<Option<Vec<Corner, A>>, AllocError>
+        ensures { IfOk result (λ few. IfSome few (λ found.
+            found.items ≡ filter (λ c. holds_corner bounds.now c) self.now)) }
+    {
+        self.blocks.within(bounds, most)
+    }
+
+    /// Those of the corners that lie strictly inside the edge from a to b, in any order.
+    pub fn inside(&mut self, a: Corner, b: Corner) -> Result<Vec<Corner, A>, AllocError>
+        ensures same { self.new ≡ self.old }
+        ensures found { IfOk result (λ found. AreInside self.old a b found.items) }
+    {
+        if comes_before(b, a) {
+            self.rising(b, a)
+        } else {
+            self.rising(a, b)
+        }
+    }
+
+    /// The same, for an edge that rises.
+    fn rising(&mut self, a: Corner, b: Corner) -> Result<Vec<Corner, A>, AllocError>
+        requires { is_before b a ≡ false }
+        ensures same { self.new ≡ self.old }
+        ensures found { IfOk result (λ found. AreInside self.old a b found.items) }
+    {
+        match steps_of(a, b) {
+            Some(steps) if steps.count <= FEW_STEPS => self.on_steps(a, b, steps),
+            Some(steps) => self.along(a, b, steps),
+            None => self.in_boxes(a, b),
+        }
+    }
+
+    /// The same, for an edge with these steps, each of which is tried.
+    fn on_steps(&mut self, a: Corner, b: Corner, steps: Steps) -> Result<Vec<Corner, A>, AllocError>
+        requires { AreSteps a b steps.across steps.up steps.count }
+        ensures same { self.new ≡ self.old }
+        ensures found { IfOk result (λ found. AreInside self.old a b found.items) }
+    {
+        let alloc = self.blocks.alloc();
+        if let Some(points) = &self.points {
+            return points.inside(alloc, a, b, steps);
+        }
+        let points = Points::new(alloc, self.blocks.corners())?;
+        let found = points.inside(alloc, a, b, steps)?;
+        self.points = Some(points);
+        Ok(found)
+    }
+
+    /// The same, for a rising edge with these steps, of which there are more than a few.
+    fn along(&mut self, a: Corner, b: Corner, steps: Steps) -> Result<Vec<Corner, A>, AllocError>
+        requires steps { AreSteps a b steps.across steps.up steps.count }
+        requires rises { is_before b a ≡ false }
+        ensures same { self.new ≡ self.old }
+        ensures found { IfOk result (λ found. AreInside self.old a b found.items) }
+    {
+        let alloc = self.blocks.alloc();
+        if let Some(lines) = self.directions.find(steps) {
+            return lines.inside(alloc, a, b);
+        }
+        let few = steps.count <= MANY_STEPS;
+        if let Some(found) = self.blocks.inside(a, b, self.quick(few))? {
+            return Ok(found);
+        }
+        if few {
+            return self.on_steps(a, b, steps);
+        }
+        if !self.directions.count(steps)? {
+            return self.in_boxes(a, b);
+        }
+        let lines = Lines::new(alloc, self.blocks.corners(), steps)?;
+        let found = lines.inside(alloc, a, b)?;
+        self.directions.keep(lines)?;
+        Ok(found)
+    }
+
+    /// How many places of the tree are looked at before an edge is slow.
+    fn quick(&self, few: bool) -> usize {
+        if few {
+            QUICK
+        } else {
+            QUICK + self.blocks.corners().len() / QUICK
+        }
+    }
+
+    /// The same, through the tree of boxes; where that looks at half as many places as there are corners, each corner is tried.
+    fn in_boxes(&self, a: Corner, b: Corner) -> Result<Vec<Corner, A>, AllocError>
+        ensures { IfOk result (λ found. AreInside self.now a b found.items) }
+    {
+        let corners = self.blocks.corners();
+        match self.blocks.inside(a, b, corners.len() / 2)? {
+            Some(found) => Ok(found),
+            None => inside_of(self.blocks.alloc(), corners, a, b),
+        }
+    }
+}
