@@ -32,7 +32,7 @@ module _ {A : Type 0} where
 
     pub total_of : (gathered : Gathered (JournalEntry A)) (cards : List (CardState A)) → gathered.all ≡ keeper.all
         → gathered.cards ≡ map as_pair cards ++ [] → AccountFor gathered.dealt gathered.all gathered.cards
-        → IsTotal office.origin cards book
+        → IsTotal office cards book
     total_of gathered cards all are accounts =
         let pairs : gathered.cards ≡ map as_pair cards = are ∙ append-nil (map as_pair cards) in
         let agree = subst (λ l. All (HasAll l) (map as_pair cards)) all
@@ -43,6 +43,6 @@ module _ {A : Type 0} where
         let whole = ap length (journal_is office.origin book keeps.of_origin)
         ∙ length-append office.origin.journal (behind office.origin book.journal) in
         record {
-          sheet = record { of_origin = keeps.of_origin; agree = all_agree cards agree };
+          sheet = record { of_origin = keeps.of_origin; of_clerks = keeps.of_clerks; agree = all_agree cards agree };
           total = omega (arith, sum, known, whole);
         }

@@ -112,12 +112,14 @@ module _ {A : Type 0} where
     pub opening : after.opening ≡ before.opening
     pub longer : IsLonger before.seen told after.seen
 
-  -- a fabric has of each of these clerks, behind the entries of the fabric that was handed in, what their cards say
-  pub record IsSheetOf (origin : Origin A) (cards : List (CardState A)) (book : Book A) : Type 0 where
-    pub of_origin : IsOfOrigin origin book
-    pub agree : All (Agrees (behind origin book.journal)) cards
+  -- a fabric has, behind the entries of the fabric that was handed in, entries of the office's clerks alone, and of each of these cards' clerks
+  -- what the card says
+  pub record IsSheetOf (office : OfficeId A) (cards : List (CardState A)) (book : Book A) : Type 0 where
+    pub of_origin : IsOfOrigin office.origin book
+    pub of_clerks : All (λ entry. IsClerk office.clerks entry.clerk) (behind office.origin book.journal)
+    pub agree : All (Agrees (behind office.origin book.journal)) cards
 
   -- and nothing else: the cards are all that were handed out, and together they have all entries
-  pub record IsTotal (origin : Origin A) (cards : List (CardState A)) (book : Book A) : Type 0 where
-    pub sheet : IsSheetOf origin cards book
-    pub total : length book.journal ≡ length origin.journal + sum_by (λ card. length card.made) cards
+  pub record IsTotal (office : OfficeId A) (cards : List (CardState A)) (book : Book A) : Type 0 where
+    pub sheet : IsSheetOf office cards book
+    pub total : length book.journal ≡ length office.origin.journal + sum_by (λ card. length card.made) cards

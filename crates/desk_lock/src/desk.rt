@@ -1,7 +1,7 @@
 //! What lies under the lock.
 ghost use Rattle.std.specs.Prelude.{◌≡◌, ◌⊎◌, ◌+◌, ◌≤◌, [], ◌∷◌, ◌++◌, map, length, drop, All, IfOk, IfErr, IfSome, IfNone, IsErrAnd, OnOk, OnErr, MatchBool};
 ghost use mathlib.Core.List.{IsPrefix};
-ghost use Rattle.entry_cards.specs.Cards.{HasAll};
+ghost use Rattle.entry_cards.specs.Cards.{HasAll, IsClerk};
 ghost use Rattle.ring_edits.specs.Edits.{CoversAlike};
 ghost use Rattle.fabric_core.specs.declared.refusal.Refusal.{Refusal};
 ghost use Rattle.fabric_core.specs.declared.refusal.Refusal.TheVariants.{NoMemory};
@@ -60,7 +60,7 @@ impl<'a, H: Allocator, J: Naming<H>, R: Wait + Drop> Model for Desk<'a, H, J, R>
 
 impl<'a, H: Allocator, J: Naming<H>, R: Wait + Drop> Desk<'a, H, J, R> {
     /// The desk's fabric tiles its city, its index and journal agree with its rows, and it comes of the fabric that was handed to the
-    /// office; what is published is a beginning of its journal.
+    /// office, with entries of the office's clerks alone behind those of that fabric.
     pub fn tiles(&self)
         ensures tiling { IsTiling self.now.book.now.rows self.now.book.city }
         ensures simple { AreSimple self.now.book.now.rows }
@@ -70,6 +70,7 @@ impl<'a, H: Allocator, J: Naming<H>, R: Wait + Drop> Desk<'a, H, J, R> {
         ensures replays { replay self.now.book.opening self.now.book.journal ≡ self.now.book.now }
         ensures origin { IsOfOrigin J.office.origin self.now.book }
         ensures entries { self.now.book.journal ≡ J.office.origin.journal ++ self.now.entries }
+        ensures of_clerks { All (λ entry. IsClerk J.office.clerks entry.clerk) self.now.entries }
     {
         self.fabric.tiles();
     }
@@ -149,7 +150,7 @@ impl<'a, H: Allocator, J: Naming<H>, R: Wait + Drop> Desk<'a, H, J, R> {
     /// The fabric, where all cards are handed in.
     pub(crate) fn close<A: Allocator>(self, cards: Vec<Card<'a, H, J>, A>) -> Fabric<'a, H>
         requires { length cards.items ≡ J.office.clerks }
-        ensures { IsTotal J.office.origin cards.entry.items result }
+        ensures { IsTotal J.office cards.entry.items result }
     {
         let Desk {
             fabric,

@@ -9,14 +9,14 @@ use std::alloc::{AllocError, Allocator};
 use std::marker::{Brand, Model};
 
 /// Which office. Each call of a program picks it.
-pub trait Naming<H: Allocator>: entry_history::Naming {
+pub trait Naming<H>: entry_history::Naming {
     ghost use Rattle.std.specs.Borrow.{Bor};
     ghost use Rattle.desk_lock.specs.Offices.{OfficeId};
 
     ghost office: { OfficeId (Bor H) };
 }
 
-impl<H: Allocator> Naming<H> for Brand {
+impl<H> Naming<H> for Brand {
     ghost use Rattle.desk_lock.specs.own.Keeping.{no_office};
 
     ghost office = { no_office };

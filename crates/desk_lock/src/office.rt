@@ -122,7 +122,7 @@ impl<'a, H: Allocator, J: Naming<H>, R: Wait + Drop> Office<'a, H, J, R> {
         cards: &mut [Card<'a, H, J>],
     ) -> Result<Sheet<'a, H>, AllocError>
         ensures cards { cards.new ≡ cards.old }
-        ensures sheet { IfOk result (λ sheet. IsSheetOf J.office.origin cards.old sheet) }
+        ensures sheet { IfOk result (λ sheet. IsSheetOf J.office cards.old sheet) }
     {
         let mut desk = self.desk.lock(rt);
         desk.compare(cards);
@@ -142,7 +142,7 @@ impl<'a, H: Allocator, J: Naming<H>, R: Wait + Drop> Office<'a, H, J, R> {
         cards: Vec<Card<'a, H, J>, A>,
     ) -> Result<Fabric<'a, H>, (Office<'a, H, J, R>, Vec<Card<'a, H, J>, A>, CloseFault)>
         ensures closes { IsOk result ↔ (length cards.entry.items ≡ J.office.clerks) }
-        ensures total { IfOk result (λ fabric. IsTotal J.office.origin cards.entry.items fabric) }
+        ensures total { IfOk result (λ fabric. IsTotal J.office cards.entry.items fabric) }
         ensures back { IfErr result (λ back. back.1.items ≡ cards.entry.items) }
         ensures fault { IfErr result (λ back. back.2 ≡ CardsMissing J.office.clerks (length cards.entry.items)) }
     {
