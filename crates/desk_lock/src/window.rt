@@ -22,7 +22,7 @@ use std::marker::Model;
 /// Why a window does not answer.
 #[derive(Clone, Copy, Debug, PartialEq, Eq)]
 pub enum LocateFault {
-    /// K4: there is no version to answer from, as may be once the office is closed.
+    /// K4: there is no version to answer from, as may be once the office is closed, or none as new as what the window was told.
     NoVersion,
     /// An allocation was refused.
     NoMemory,
@@ -87,7 +87,8 @@ impl<'a, H: Allocator, J: Naming<H>> Window<'a, H, J> {
     ///
     /// # Errors
     ///
-    /// [`LocateFault::NoVersion`] (K4) where there is no version, as may be once the office is closed: nothing has changed then. And
+    /// [`LocateFault::NoVersion`] (K4) where there is no version, as may be once the office is closed, or none as new as what this window
+    /// was told: nothing has changed then. And
     /// [`LocateFault::NoMemory`] where an allocation is refused; the window may have seen more entries then.
     pub fn locate(&mut self, corner: Corner) -> Result<(u64, At<&'a H>), LocateFault>
         ensures opening { self.new.opening ≡ self.old.opening }
