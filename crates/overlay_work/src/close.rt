@@ -5,12 +5,12 @@ ghost use Rattle.overlay_work.specs.declared.close.CloseFault.{CloseFault};
 ghost use Rattle.overlay_work.specs.declared.close.CloseFault.TheVariants.{NoMemory};
 ghost use Rattle.overlay_work.specs.Rounds.{AreHandsOf};
 ghost use Rattle.overlay_work.specs.Faults.{IsCloseFault};
-ghost use Rattle.overlay_work.specs.own.Gathered.{AreDone, AreOrdered, AreSortedPairsOf};
+ghost use Rattle.overlay_work.specs.own.Gathered.{AreDone, AreSortedPairsOf};
 
 use crate::hand::Hand;
 use crate::hands_in::{all_pairs, check_hands, confirm};
 use crate::round::Round;
-use std::alloc::Allocator;
+use std::alloc::{AllocError, Allocator};
 use zone_tables::Table;
 
 /// Why a round is not closed: the first that applies, in this order.
@@ -72,14 +72,13 @@ impl<'t, 'h, H: Allocator> Round<'t, 'h, H> {
                 fault,
             });
         }
-        let Ok(mut pairs) = all_pairs(self.work().heap(), hands.as_slice()) else {
+        let Ok(pairs) = sorted_pairs(self.work().heap(), hands.as_slice()) else {
             return Err(RoundBack {
                 round: self,
                 hands,
                 fault: CloseFault::NoMemory,
             });
         };
-        sort_pairs(&mut pairs);
         Ok(self.gather(hands, pairs))
     }
 
@@ -106,10 +105,14 @@ impl<'t, 'h, H: Allocator> Round<'t, 'h, H> {
     }
 }
 
-/// Puts pairs in order.
-fn sort_pairs<A: Allocator>(pairs: &mut Vec<(u64, u64), A>)
-    ensures moved { IsPermutation pairs.old.items pairs.new.items }
-    ensures order { AreOrdered pairs.new.items }
+/// The pairs that hands kept, in order. Those of a hand rise, list by list, and the sort keeps such runs.
+fn sorted_pairs<'t, 'h, H: Allocator>(
+    heap: &'h H,
+    hands: &[Hand<'t, 'h, H>],
+) -> Result<Vec<(u64, u64), &'h H>, AllocError>
+    ensures { IfOk result (λ pairs. AreSortedPairsOf hands.now pairs.items) }
 {
-    pairs.sort_unstable();
+    let mut pairs = all_pairs(heap, hands)?;
+    pairs.sort()?;
+    Ok(pairs)
 }

@@ -20,7 +20,7 @@ pub(crate) fn least_out_of_place<'h, H: Allocator>(
         (IsLeastOutOfPlace (numbers sheet.now.now.rows) (map (λ list. list.items) lists.now))) }
 {
     let mut dealt = joined_lists(heap, lists)?;
-    dealt.sort_unstable();
+    dealt.sort()?;
     Ok(first_difference(dealt.as_slice(), sheet.ids()))
 }
 

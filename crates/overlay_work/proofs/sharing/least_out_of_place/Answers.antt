@@ -11,10 +11,10 @@ use Rattle.overlay_work.proofs.sharing.least_out_of_place.Goals as goal
 pub returns : goal.returns
 returns g c =
     let lists : List (List ℕ) = map (λ list. list.items) c.args.lists.now in
-    let dealt = c.sort_unstable.new.self.items in
+    let dealt = c.sort.new.self.items in
     let ids = numbers c.args.sheet.now.now.rows in
-    let moved : IsPermutation (joined lists) dealt = subst (λ l. IsPermutation l dealt) c.in_ok-dealt.ensures c.sort_unstable.ensures.permutation in
-    let up : IsNonDecreasing dealt = IsNonDecreasingBy-from_sort (λ (x : ℕ). x) dealt c.sort_unstable.ensures.sorted in
+    let moved : IsPermutation (joined lists) dealt = subst (λ l. IsPermutation l dealt) c.in_ok-dealt.ensures c.in_ok-sort.ensures.permutation in
+    let up : IsNonDecreasing dealt = IsNonDecreasingBy-from_sort (λ (x : ℕ). x) dealt c.in_ok-sort.ensures.sorted in
     let rise : IsStrictlyIncreasing ids = subst IsStrictlyIncreasing c.ids.ensures.ids c.ids.ensures.ascending in
     told c.first_difference.result lists dealt ids moved up rise
     (subst (λ l. MatchOption c.first_difference.result (dealt ≡ l) (IsFirstDifference dealt l)) c.ids.ensures.ids
