@@ -97,7 +97,8 @@ impl<'a, H: Allocator, J: Naming<H>, R: Wait + Drop> Office<'a, H, J, R> {
         let entry = desk.edit(card, edit)?;
         desk.tiles();
         let front = desk.publish();
-        Ok(Receipt { entry, front })
+        let heap = card.heap;
+        Ok(Receipt { entry, front, heap })
     }
 
     /// Takes the lock, and publishes all entries that are not published yet; it adds none. `None` where that is refused.

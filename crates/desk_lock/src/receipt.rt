@@ -14,6 +14,8 @@ use std::marker::Model;
 pub struct Receipt<'a, H: Allocator, J: Naming<H>> {
     pub(crate) entry: Entry<&'a H>,
     pub(crate) front: Option<Front<Entry<&'a H>, J>>,
+    // Where the entry lies.
+    pub(crate) heap: &'a H,
 }
 
 impl<'a, H: Allocator, J: Naming<H>> Model for Receipt<'a, H, J> {
