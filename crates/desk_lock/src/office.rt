@@ -11,7 +11,7 @@ use crate::card::Card;
 use crate::desk::Desk;
 use crate::name::{Name, Naming};
 use crate::opening::{OpenFault, Parts, check_places, parts_of};
-use crate::receipt::{Notice, Receipt};
+use crate::receipt::{Notice, Published, Receipt};
 use crate::window::Window;
 use fabric_core::{Entry, Fabric, Refusal, Sheet};
 use ring_edits::Edit;
@@ -96,8 +96,8 @@ impl<'a, H: Allocator, J: Naming<H>, R: Wait + Drop> Office<'a, H, J, R> {
         let mut desk = self.desk.lock(rt);
         let entry = desk.edit(card, edit)?;
         desk.tiles();
-        let front = desk.publish();
         let heap = card.heap;
+        let front = Published::of(desk.publish(), heap);
         Ok(Receipt { entry, front, heap })
     }
 

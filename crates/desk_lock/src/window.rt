@@ -70,7 +70,8 @@ impl<'a, H: Allocator, J: Naming<H>> Window<'a, H, J> {
     pub fn learn(&mut self, receipt: &Receipt<'a, H, J>)
         ensures { Learns self.old receipt.now.told self.new }
     {
-        if let Some(front) = &receipt.front {
+        if let Some(published) = &receipt.front {
+            let front = published.front();
             self.front.learn(front);
         }
     }
