@@ -1,0 +1,14 @@
+//! The files of clerks' edits, which all clerks make at the same time on one fabric, each in a thread of his own at one office.
+#![tactic(auto)]
+
+mod files;
+mod job;
+mod jobs;
+mod laws;
+mod lines;
+mod runs;
+
+pub use files::{ClerkEdits, FilesFault, read_clerks};
+pub use laws::{with_one_clerk_a_refusal_is_due_after_his_entries, without_clerks_nothing_changes};
+pub use lines::push_ring_fault;
+pub use runs::{Edited, RunFault, edit_by_clerks};

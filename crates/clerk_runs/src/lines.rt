@@ -1,0 +1,111 @@
+//! The lines that tell of clerks' edits.
+
+ghost use Rattle.std.specs.Prelude.{◌≡◌, ◌++◌, OnOk};
+ghost use Rattle.clerk_runs.specs.RingFaultText.{ring_fault_text};
+ghost use Rattle.clerk_runs.specs.ClerkLines.{whose_text, ok_line, refusal_text, refused_line};
+
+use fabric_core::Refusal;
+use itoa::Buffer;
+use ring_core::RingFault;
+use std::alloc::{AllocError, Allocator};
+
+/// Adds the line of an edit that is accepted, under the number of its entry.
+pub(crate) fn push_ok_line<A: Allocator>(
+    lines: &mut Vec<u8, A>,
+    clerk: u32,
+    line: u64,
+    number: u64,
+) -> Result<(), AllocError>
+    ensures { OnOk result (lines.new.items ≡ lines.old.items ++ ok_line clerk line number) }
+{
+    let mut digits = Buffer::new();
+    push_whose(lines, clerk, line)?;
+    lines.extend_from_slice(b"ok ")?;
+    lines.extend_from_slice(digits.format(number).as_bytes())?;
+    lines.push(b'\n')?;
+    Ok(())
+}
+
+/// Adds the line of an edit that is refused.
+pub(crate) fn push_refused_line<A: Allocator>(
+    lines: &mut Vec<u8, A>,
+    clerk: u32,
+    line: u64,
+    refusal: Refusal,
+) -> Result<(), AllocError>
+    ensures { OnOk result (lines.new.items ≡ lines.old.items ++ refused_line clerk line refusal) }
+{
+    push_whose(lines, clerk, line)?;
+    lines.extend_from_slice(b"refused ")?;
+    push_refusal(lines, refusal)?;
+    lines.push(b'\n')?;
+    Ok(())
+}
+
+/// Adds whose edit it is, and of which line.
+fn push_whose<A: Allocator>(lines: &mut Vec<u8, A>, clerk: u32, line: u64) -> Result<(), AllocError>
+    ensures { OnOk result (lines.new.items ≡ lines.old.items ++ whose_text clerk line) }
+{
+    let mut digits = Buffer::new();
+    lines.extend_from_slice(b"clerk ")?;
+    lines.extend_from_slice(digits.format(clerk).as_bytes())?;
+    lines.extend_from_slice(b" line ")?;
+    lines.extend_from_slice(digits.format(line).as_bytes())?;
+    lines.push(b' ')?;
+    Ok(())
+}
+
+/// Adds why an edit is refused.
+fn push_refusal<A: Allocator>(text: &mut Vec<u8, A>, refusal: Refusal) -> Result<(), AllocError>
+    ensures { OnOk result (text.new.items ≡ text.old.items ++ refusal_text refusal) }
+{
+    let mut digits = Buffer::new();
+    match refusal {
+        Refusal::Unknown(id) => {
+            text.extend_from_slice(b"E1 ")?;
+            text.extend_from_slice(digits.format(id).as_bytes())?;
+        }
+        Refusal::Retired { id, by } => {
+            text.extend_from_slice(b"E2 ")?;
+            text.extend_from_slice(digits.format(id).as_bytes())?;
+            text.push(b' ')?;
+            text.extend_from_slice(digits.format(by).as_bytes())?;
+        }
+        Refusal::Ring { which, fault } => {
+            text.extend_from_slice(b"E6 ")?;
+            text.extend_from_slice(digits.format(which).as_bytes())?;
+            text.push(b' ')?;
+            push_ring_fault(text, fault)?;
+        }
+        Refusal::BadPath => text.extend_from_slice(b"E3")?,
+        Refusal::NotNeighbours => text.extend_from_slice(b"E4")?,
+        Refusal::SharedTwice => text.extend_from_slice(b"E5")?,
+        Refusal::NoSuchEdge => text.extend_from_slice(b"E7")?,
+        Refusal::NotOnEdge => text.extend_from_slice(b"E8")?,
+        Refusal::JournalFull => text.extend_from_slice(b"E9")?,
+        Refusal::TooMany => text.extend_from_slice(b"E10")?,
+        Refusal::NoMemory => text.extend_from_slice(b"no memory")?,
+    }
+    Ok(())
+}
+
+/// Adds the text of a ring's fault: `G1`, `G3`, or `G2 I J`.
+pub fn push_ring_fault<A: Allocator>(
+    text: &mut Vec<u8, A>,
+    fault: RingFault,
+) -> Result<(), AllocError>
+    ensures { OnOk result (text.new.items ≡ text.old.items ++ ring_fault_text fault) }
+{
+    let mut digits = Buffer::new();
+    match fault {
+        RingFault::ZeroArea => text.extend_from_slice(b"G1")?,
+        RingFault::Clockwise => text.extend_from_slice(b"G3")?,
+        RingFault::EdgesMeet(i, j) => {
+            text.extend_from_slice(b"G2 ")?;
+            text.extend_from_slice(digits.format(i).as_bytes())?;
+            text.push(b' ')?;
+            text.extend_from_slice(digits.format(j).as_bytes())?;
+        }
+    }
+    Ok(())
+}

@@ -1,0 +1,167 @@
+//! Runs of clerks' edits.
+
+ghost use Rattle.std.specs.Prelude.{◌≡◌, ◌⊎◌, ℕ, ◌<◌, ◌≤◌, [], length, IfOk, IfErr};
+ghost use Rattle.desk_lock.specs.Offices.{origin_of};
+ghost use Rattle.desk_lock.specs.declared.opening.TheConstants.{MOST_PLACES};
+ghost use Rattle.fabric_core.specs.Journal.{opening_state};
+ghost use Rattle.clerk_runs.specs.ClerkRuns.{register_of, AreMade, AreLocated};
+ghost use Rattle.clerk_runs.specs.declared.runs.RunFault.TheVariants.{NoWindow, NoMemory};
+ghost use Rattle.clerk_runs.specs.own.Working.{AreMadeIn};
+
+use crate::files::ClerkEdits;
+use crate::job::Counter;
+use crate::jobs::{Done, jobs_of, take_all_in};
+use desk_lock::{Name, Naming, Office, OpenFault};
+use fabric_core::{At, Fabric, Layer, Sheet};
+use geo_exact::Corner;
+use job_threads::do_all;
+use std::alloc::{AllocError, AllocFailed, Allocator};
+use std::marker::Brand;
+use std::sync::Wait;
+use std::thread::Threads;
+
+/// What clerks' edits lead to.
+#[derive(Drop)]
+pub struct Edited<'h, H: Allocator> {
+    /// The parcels after the edits, and the journal.
+    pub sheet: Sheet<'h, H>,
+    /// The line of each edit, `clerk K line L ok NUMBER` or `clerk K line L refused TEXT`, by clerk and line.
+    pub lines: Vec<u8, &'h H>,
+    /// Where each corner lies among the parcels after the edits, in the order in which the corners were asked for.
+    pub places: Vec<At<&'h H>, &'h H>,
+}
+
+/// Why clerks' edits are not made.
+#[derive(Clone, Copy, Debug, PartialEq, Eq)]
+pub enum RunFault {
+    /// K3: the office's window of this number, from 1, was given no reader.
+    NoWindow(usize),
+    /// An allocation was refused.
+    NoMemory,
+}
+
+impl From<AllocError> for RunFault {
+    ghost from_gives = { λ _ fault. fault ≡ NoMemory };
+
+    fn from(_: AllocError) -> RunFault {
+        RunFault::NoMemory
+    }
+}
+
+impl<T: Drop> From<AllocFailed<T>> for RunFault {
+    ghost from_gives = { λ _ fault. fault ≡ NoMemory };
+
+    fn from(_: AllocFailed<T>) -> RunFault {
+        RunFault::NoMemory
+    }
+}
+
+/// Opens an office with one window for the clerks, each of whom makes his edits line by line in a thread of his own, or in this thread,
+/// once the others are joined, where the system refuses one. An edit that is refused, for want of memory too, changes nothing, and the
+/// clerk goes on with his next. Where the corners lie is asked of the sheet that is drawn once all clerks are done.
+///
+/// # Errors
+///
+/// [`RunFault::NoWindow`] (K3), and [`RunFault::NoMemory`].
+pub fn edit_by_clerks<'h, R: Threads + Wait + Sync, H: Allocator + Send + Sync>(
+    rt: &R,
+    heap: &'h H,
+    layer: Layer<'h, H>,
+    clerks: Vec<ClerkEdits<&'h H>, &'h H>,
+    corners: &[Corner],
+) -> Result<Edited<'h, H>, RunFault>
+    requires some { 0 < length clerks.items }
+    requires few { length clerks.items ≤ MOST_PLACES }
+    ensures made { IfOk result (λ edited. AreMade layer.entry clerks.entry.items (register_of edited.sheet) edited.lines.items) }
+    ensures opening { IfOk result (λ edited. edited.sheet.opening ≡ opening_state layer.entry.rows layer.entry.refined) }
+    ensures city { IfOk result (λ edited. edited.sheet.city ≡ layer.entry.city) }
+    ensures places { IfOk result (λ edited. AreLocated edited.sheet.now.rows corners.now edited.places.items) }
+    ensures fault { IfErr result (λ fault. (fault ≡ NoWindow 1) ⊎ (fault ≡ NoMemory)) }
+{
+    let Ok(fabric) = Fabric::open(layer) else {
+        return Err(RunFault::NoMemory);
+    };
+    let name = Name::new(heap)?;
+    edit_at_office::<R, H, Brand>(rt, heap, name, fabric, clerks, corners)
+}
+
+/// The same at the office that the name names, with a fabric that has no entry yet.
+fn edit_at_office<
+    'h,
+    R: Threads + Wait + Sync,
+    H: Allocator + Send + Sync,
+    J: Naming<H> + Send + Sync,
+>(
+    rt: &R,
+    heap: &'h H,
+    name: Name<&'h H>,
+    fabric: Fabric<'h, H>,
+    clerks: Vec<ClerkEdits<&'h H>, &'h H>,
+    corners: &[Corner],
+) -> Result<Edited<'h, H>, RunFault>
+    requires book { name.book ≡ J.book }
+    requires office { J.office ≡ record { cards = name.cards; clerks = length clerks.items; origin = origin_of fabric } }
+    requires some { 0 < length clerks.items }
+    requires few { length clerks.items ≤ MOST_PLACES }
+    requires fresh { fabric.journal ≡ [] }
+    ensures made { IfOk result (λ edited. AreMadeIn (record { clerks = length clerks.entry.items; opening = fabric.entry.opening })
+        clerks.entry.items (register_of edited.sheet) edited.lines.items) }
+    ensures opening { IfOk result (λ edited. edited.sheet.opening ≡ fabric.entry.opening) }
+    ensures city { IfOk result (λ edited. edited.sheet.city ≡ fabric.entry.city) }
+    ensures places { IfOk result (λ edited. AreLocated edited.sheet.now.rows corners.now edited.places.items) }
+    ensures fault { IfErr result (λ fault. (fault ≡ NoWindow 1) ⊎ (fault ≡ NoMemory)) }
+{
+    let (office, cards, windows) = match Office::<H, J, &R>::open(
+        heap,
+        rt,
+        name,
+        fabric,
+        clerks.len(),
+        1,
+    ) {
+        Ok(opened) => opened,
+        Err((_, fault)) => return Err(fault_of(fault)),
+    };
+    let counter = Counter { office, rt };
+    let jobs = jobs_of(heap, cards, clerks)?;
+    let Ok((jobs, _)) = do_all(rt, &counter, jobs) else {
+        return Err(RunFault::NoMemory);
+    };
+    let Done { mut cards, lines } = take_all_in(heap, jobs)?;
+    let sheet = counter.office.sheet(rt, cards.as_mut_slice())?;
+    sheet.tiles();
+    let places = places_of(heap, &sheet, corners)?;
+    let Counter { office, .. } = counter;
+    let _ = office.close(rt, cards);
+    Ok(Edited {
+        sheet,
+        lines,
+        places,
+    })
+}
+
+/// What the fault of an office with one window is to a run.
+fn fault_of(fault: OpenFault) -> RunFault
+    ensures same { (k : ℕ) → result ≡ NoWindow k → fault ≡ OpenFault.NoWindow k }
+    ensures cases { ((k : ℕ) × (result ≡ NoWindow k)) ⊎ (result ≡ NoMemory) }
+{
+    match fault {
+        OpenFault::NoWindow(window) => RunFault::NoWindow(window),
+        OpenFault::Places(_) | OpenFault::NoMemory => RunFault::NoMemory,
+    }
+}
+
+/// Where corners lie among the parcels of a sheet.
+fn places_of<'h, H: Allocator>(
+    heap: &'h H,
+    sheet: &Sheet<'h, H>,
+    corners: &[Corner],
+) -> Result<Vec<At<&'h H>, &'h H>, AllocError>
+    ensures { IfOk result (λ places. AreLocated sheet.now.now.rows corners.now places.items) }
+{
+    let mut places = Vec::new(heap);
+    for corner in corners {
+        places.push(sheet.locate(*corner)?)?;
+    }
+    Ok(places)
+}
