@@ -18,7 +18,7 @@ use Rattle.shp_files.specs.FirstFault.{IsFirstFault}
 use Rattle.shp_files.specs.declared.fault.FileFault.{FileFault}
 use Rattle.parcel_runs.proofs.TilingFaults.{layer_refused}
 use Rattle.parcel_runs.specs.TilingFiles.{Files, IsCityOf, IsTiledBy, IsFaultOfLayer, told_of_load}
-use Rattle.parcel_runs.specs.RunFaults.{IsRunFault}
+use Rattle.parcel_runs.specs.RunFaults.{IsRunFault, IsWant}
 use Rattle.parcel_runs.specs.FaultLines.{fault_lines, AreLinesBefore, WritesLinesBefore}
 
 -- a fault of the layer, with the lines that come before it
@@ -155,15 +155,16 @@ appends_none : (told : Option (List ℕ)) → Appends told told []
 appends_none None = tt
 appends_none (Some bytes) = sym (append-nil bytes)
 
-pub none_written : (city parcels : Files) (unit : LengthUnit) (told : Option (List ℕ))
-    → WritesLinesBefore city parcels unit NoMemory told told
-none_written city parcels unit told = ([], refl, appends_none told)
+pub none_written : (city parcels : Files) (unit : LengthUnit) (fault : ToolFault) (told : Option (List ℕ)) → IsWant fault
+    → WritesLinesBefore city parcels unit fault told told
+none_written city parcels unit fault told (inl e) = subst (λ x. WritesLinesBefore city parcels unit x told told) (sym e) ([], refl, appends_none told)
+none_written city parcels unit fault told (inr e) = subst (λ x. WritesLinesBefore city parcels unit x told told) (sym e) ([], refl, appends_none told)
 
 pub lines_written : (city parcels : Files) (unit : LengthUnit) (clerks : List (List ℕ)) (fault : ToolFault) (lines text : List ℕ) (old new : Option (List ℕ))
     → text ≡ lines
     → Appends old new text
     → (IsRunFault city parcels unit clerks fault × AreLinesBefore city parcels unit fault lines) ⊎ ((fault ≡ NoMemory) × (lines ≡ []))
-    → ((IsRunFault city parcels unit clerks fault ⊎ (fault ≡ NoMemory)) × WritesLinesBefore city parcels unit fault old new) ⊎ (fault ≡ Output)
+    → ((IsRunFault city parcels unit clerks fault ⊎ IsWant fault) × WritesLinesBefore city parcels unit fault old new) ⊎ (fault ≡ Output)
 lines_written city parcels unit clerks fault lines text old new e put (inl h) = inl (inl h.0, (lines, h.1, subst (Appends old new) e put))
 lines_written city parcels unit clerks fault lines text old new e put (inr h) =
-    inl (inr h.0, subst (λ x. WritesLinesBefore city parcels unit x old new) (sym h.0) (lines, h.1, subst (Appends old new) e put))
+    inl (inr (inl h.0), subst (λ x. WritesLinesBefore city parcels unit x old new) (sym h.0) (lines, h.1, subst (Appends old new) e put))

@@ -5,7 +5,7 @@ pub mod SimpleRings
 pub mod RowLimits
 pub mod AllTiles
 pub mod Places
-pub mod ClerkRuns
+pub mod EditedRuns
 pub mod RunFaults
 pub mod ZonedFaults
 pub mod DealtLists

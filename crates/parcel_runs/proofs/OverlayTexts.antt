@@ -1,16 +1,16 @@
 -- The text of an overlay, from what was loaded, edited and found; and that no fault of files is a failed write.
-use Rattle.std.proofs.Common.{◌≡◌, ◌⊎◌, inl, inr, ℕ, List, length, ◌++◌, Option, Result, Ok, Err, refl, sym, ◌∙◌, ap, subst}
-use Rattle.std.specs.Result.{OnOk, OnErr, IfOk, IfErr, IsErrOf}
+use Rattle.std.proofs.Common.{◌≡◌, ◌⊎◌, inl, inr, ℕ, List, ◌++◌, Option, Result, Ok, Err, refl, subst}
+use Rattle.std.specs.Result.{OnOk, OnErr, IfErr, IsErrOf}
 use Rattle.geo_exact.specs.declared.coord.Unit.{Unit as LengthUnit}
 use Rattle.fabric_core.specs.Rows.{Tiles}
 use Rattle.zone_tables.specs.Overlap.{Overlay}
 use Rattle.parcel_runs.specs.declared.fault.ToolFault.{ToolFault}
 use Rattle.parcel_runs.specs.declared.fault.ToolFault.TheVariants.{NoMemory, Output}
 use Rattle.parcel_runs.specs.TilingFiles.{Files}
-use Rattle.parcel_runs.specs.ClerkRuns.{Register, IsEdited}
-use Rattle.parcel_runs.specs.OverlayReport.{AreZoned, IsTableOf, IsOverlayText, WritesOverlay, BeginsOverlay, IsLayersFault, IsOverlayFault, IsWant}
+use Rattle.clerk_runs.specs.ClerkRuns.{Register, IsEdited}
+use Rattle.parcel_runs.specs.OverlayReport.{AreZoned, IsTableOf, WritesOverlay, BeginsOverlay, IsLayersFault, IsOverlayFault, IsOverlayWant}
 use Rattle.parcel_runs.specs.own.LinesAndReports.{WritesBoth, BeginsBoth}
-use Rattle.parcel_runs.proofs.RunFaults.{clerks_no_output, layers_no_output}
+use Rattle.parcel_runs.proofs.RunFaults.{clerks_no_output, layers_no_output, want_no_output}
 
 -- lines and the report of a table are the overlay's
 module _ {A : Type 0} (city parcels zones : Files) (unit : LengthUnit) (clerks : List (List ℕ)) (tiles regions : Tiles) (after : Register A)
@@ -78,6 +78,10 @@ pub no_output : (city parcels zones : Files) (unit : LengthUnit) (clerks : List 
 no_output city parcels zones unit clerks fault (inl (inl h)) e = let same = h.is_told in cc
 no_output city parcels zones unit clerks fault (inl (inr h)) e = elim h.1 [
   | inl k ↦ zoned_no_output city parcels zones unit (subst (IsLayersFault city parcels zones unit) e k)
-  | inr k ↦ clerks_no_output 1 clerks fault k.is_first e
+  | inr k ↦ clerks_no_output clerks fault k.is_first e
 ]
 no_output city parcels zones unit clerks fault (inr h) e = cc
+
+pub overlay_want_no_output : (fault : ToolFault) → IsOverlayWant fault → fault ≡ Output → ⊥
+overlay_want_no_output fault (inl h) e = want_no_output fault h e
+overlay_want_no_output fault (inr h) e = let same = h.1 in cc

@@ -16,7 +16,7 @@ use Rattle.parcel_runs.specs.declared.fault.Role.{Role}
 use Rattle.parcel_runs.specs.declared.fault.Role.TheVariants.{City}
 use Rattle.parcel_runs.specs.declared.fault.ToolFault.{ToolFault}
 use Rattle.parcel_runs.specs.declared.fault.ToolFault.TheVariants.{Unreadable, UnreadableIndex, Output, File, CityCount, CityRing, NoTiling}
-use Rattle.parcel_runs.specs.declared.fault.ToolFault.TheVariants.{ClerkCount, ClerkLine, PointLine, NoThread, NoMemory}
+use Rattle.parcel_runs.specs.declared.fault.ToolFault.TheVariants.{ClerkCount, ClerkLine, PointLine, NoThread, NoWindow, NoMemory}
 use Rattle.parcel_runs.specs.TilingFiles.{Files, IsCityOf, IsFaultOfCity, IsFaultOfLayer, IsTiledBy, told_of_city, told_of_load}
 
 -- a fault is told, or memory was wanted
@@ -40,6 +40,7 @@ city_unread files unit e reads refuses (ClerkCount count) h = absurd h
 city_unread files unit e reads refuses (ClerkLine clerk line) h = absurd h
 city_unread files unit e reads refuses (PointLine number) h = absurd h
 city_unread files unit e reads refuses (NoThread hand) h = absurd h
+city_unread files unit e reads refuses (NoWindow window) h = absurd h
 city_unread files unit e reads refuses Output h = absurd h
 city_unread files unit e reads refuses NoMemory h = absurd h
 
@@ -56,6 +57,7 @@ layer_unread role files unit city e reads refuses (ClerkCount count) h = absurd 
 layer_unread role files unit city e reads refuses (ClerkLine clerk line) h = absurd h
 layer_unread role files unit city e reads refuses (PointLine number) h = absurd h
 layer_unread role files unit city e reads refuses (NoThread hand) h = absurd h
+layer_unread role files unit city e reads refuses (NoWindow window) h = absurd h
 layer_unread role files unit city e reads refuses Output h = absurd h
 layer_unread role files unit city e reads refuses NoMemory h = absurd h
 
@@ -73,6 +75,7 @@ city_counted files unit found count e ne only sound (ClerkCount other) h = absur
 city_counted files unit found count e ne only sound (ClerkLine clerk line) h = absurd h
 city_counted files unit found count e ne only sound (PointLine number) h = absurd h
 city_counted files unit found count e ne only sound (NoThread hand) h = absurd h
+city_counted files unit found count e ne only sound (NoWindow window) h = absurd h
 city_counted files unit found count e ne only sound Output h = absurd h
 city_counted files unit found count e ne only sound NoMemory h = absurd h
 
@@ -108,6 +111,7 @@ city_refused files unit found ring P one only sound refuses (ClerkCount count) h
 city_refused files unit found ring P one only sound refuses (ClerkLine clerk line) h = absurd h
 city_refused files unit found ring P one only sound refuses (PointLine number) h = absurd h
 city_refused files unit found ring P one only sound refuses (NoThread hand) h = absurd h
+city_refused files unit found ring P one only sound refuses (NoWindow window) h = absurd h
 city_refused files unit found ring P one only sound refuses Output h = absurd h
 city_refused files unit found ring P one only sound refuses NoMemory h = absurd h
 
@@ -176,6 +180,7 @@ layer_refused role files unit city found answer only sound refuses (ClerkCount c
 layer_refused role files unit city found answer only sound refuses (ClerkLine clerk line) h = absurd h
 layer_refused role files unit city found answer only sound refuses (PointLine number) h = absurd h
 layer_refused role files unit city found answer only sound refuses (NoThread hand) h = absurd h
+layer_refused role files unit city found answer only sound refuses (NoWindow window) h = absurd h
 layer_refused role files unit city found answer only sound refuses Output h = absurd h
 layer_refused role files unit city found answer only sound refuses NoMemory h = absurd h
 
@@ -196,5 +201,6 @@ layer_has_none role files unit city found only sound none (ClerkCount count) h =
 layer_has_none role files unit city found only sound none (ClerkLine clerk line) h = h
 layer_has_none role files unit city found only sound none (PointLine number) h = h
 layer_has_none role files unit city found only sound none (NoThread hand) h = h
+layer_has_none role files unit city found only sound none (NoWindow window) h = h
 layer_has_none role files unit city found only sound none Output h = h
 layer_has_none role files unit city found only sound none NoMemory h = h

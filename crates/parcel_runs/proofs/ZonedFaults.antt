@@ -8,9 +8,9 @@ use Rattle.parcel_runs.specs.declared.fault.Role.TheVariants.{Parcels, Zones}
 use Rattle.parcel_runs.specs.declared.fault.ToolFault.{ToolFault}
 use Rattle.parcel_runs.specs.declared.fault.ToolFault.TheVariants.{NoMemory}
 use Rattle.parcel_runs.specs.TilingFiles.{Files, IsCityOf, IsFaultOfCity, IsTiledBy, IsFaultOfLayer, AreTiles}
-use Rattle.parcel_runs.specs.ClerkRuns.{texts_of}
+use Rattle.clerk_runs.specs.ClerkFiles.{texts_of}
 use Rattle.parcel_runs.specs.RunFaults.{IsClerkFault}
-use Rattle.parcel_runs.specs.OverlayReport.{AreZoned, IsZonesFault, IsLayersFault, IsOverlayFault}
+use Rattle.parcel_runs.specs.OverlayReport.{AreZoned, IsLayersFault, IsOverlayFault}
 use Rattle.parcel_runs.proofs.RunFaults.{few_texts}
 
 -- a fault of the layers is the city's, or in the one city that there is the parcels', or behind them the zones'
@@ -54,14 +54,14 @@ of_zones city parcels zones unit corners tiles fault is h (inr e) = inr e
 pub few_overlay_fault : {A : Type 0} (city parcels zones : Files) (unit : LengthUnit) (clerks : List (Vec ℕ A)) (P : Type 0) (fault : ToolFault)
     → length clerks ≤ CLERKS → IsOverlayFault city parcels zones unit (texts_of clerks) fault
     → (IsLayersFault city parcels zones unit fault → P)
-    → ((tiles regions : Tiles) → AreZoned city parcels zones unit tiles regions → IsClerkFault 1 (texts_of clerks) fault → P) → P
+    → ((tiles regions : Tiles) → AreZoned city parcels zones unit tiles regions → IsClerkFault (texts_of clerks) fault → P) → P
 few_overlay_fault city parcels zones unit clerks P fault few (inl h) of_layers behind = absurd (omega (arith, h.are_more, few_texts clerks few))
 few_overlay_fault city parcels zones unit clerks P fault few (inr h) of_layers behind =
     elim h.1 [ inl k ↦ of_layers k | inr k ↦ behind k.tiles k.regions k.are_zoned k.is_first ]
 
 -- a fault of the clerks' files, as it is told behind the layers'
 pub behind_zones : {A : Type 0} (city parcels zones : Files) (unit : LengthUnit) (clerks : List (Vec ℕ A)) (tiles regions : Tiles) (fault : ToolFault)
-    → length clerks ≤ CLERKS → AreZoned city parcels zones unit tiles regions → IsClerkFault 1 (texts_of clerks) fault ⊎ (fault ≡ NoMemory)
+    → length clerks ≤ CLERKS → AreZoned city parcels zones unit tiles regions → IsClerkFault (texts_of clerks) fault ⊎ (fault ≡ NoMemory)
     → IsOverlayFault city parcels zones unit (texts_of clerks) fault ⊎ (fault ≡ NoMemory)
 behind_zones city parcels zones unit clerks tiles regions fault few are (inl h) =
     inl (inr (few_texts clerks few, inr record { tiles = tiles; regions = regions; are_zoned = are; is_first = h }))

@@ -7,7 +7,7 @@ use Rattle.geo_exact.specs.declared.corner.Corner.{Corner}
 use Rattle.geo_exact.specs.Layers.{NumberedRing}
 use Rattle.fabric_core.specs.Rows.{Tiles}
 use Rattle.parcel_runs.specs.TilingFiles.{Files, AreTiles}
-use Rattle.parcel_runs.specs.ClerkRuns.{Register, IsEdited}
+use Rattle.clerk_runs.specs.ClerkRuns.{Register, IsEdited}
 
 -- `tiling N AREA2`
 abbrev pub tiling_line : List NumberedRing → List Corner → List ℕ

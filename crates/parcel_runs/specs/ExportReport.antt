@@ -6,7 +6,7 @@ use Rattle.shp_files.specs.Written.{written_main, written_index}
 use Rattle.fabric_core.specs.Tiling.{corner_lists}
 use Rattle.fabric_core.specs.Rows.{Tiles}
 use Rattle.parcel_runs.specs.TilingFiles.{Files, AreTiles}
-use Rattle.parcel_runs.specs.ClerkRuns.{Register, IsEdited}
+use Rattle.clerk_runs.specs.ClerkRuns.{Register, IsEdited}
 
 -- `exported N`, the number of parcels
 abbrev pub exported_line : List NumberedRing → List ℕ

@@ -6,7 +6,6 @@ use Rattle.std.specs.Io.KnownBytes.{Appends}
 use Rattle.geo_exact.specs.declared.coord.Unit.{Unit as LengthUnit}
 use Rattle.geo_exact.specs.declared.corner.Corner.{Corner}
 use Rattle.ring_core.specs.declared.ring.RingFault.{RingFault}
-use Rattle.ring_core.specs.declared.ring.RingFault.TheVariants.{ZeroArea, Clockwise, EdgesMeet}
 use Rattle.shp_files.specs.LayerFile.{IsLayerFile, NumberedRing}
 use Rattle.fabric_core.specs.declared.all_faults.AllFaults.{AllFaults}
 use Rattle.fabric_core.specs.declared.all_faults.AllFaults.TheVariants.{TooMany as AllTooMany, Rings, Gaps, NoMemory as AllNoMemory}
@@ -16,15 +15,10 @@ use Rattle.fabric_core.specs.Rows.{AreRefined}
 use Rattle.fabric_core.specs.Faults.{AreRingFaults, AreGaps}
 use Rattle.parcel_runs.specs.declared.fault.ToolFault.{ToolFault}
 use Rattle.parcel_runs.specs.declared.fault.ToolFault.TheVariants.{Unreadable, UnreadableIndex, Output, File, CityCount, CityRing, NoTiling}
-use Rattle.parcel_runs.specs.declared.fault.ToolFault.TheVariants.{ClerkCount, ClerkLine, PointLine, NoThread}
+use Rattle.parcel_runs.specs.declared.fault.ToolFault.TheVariants.{ClerkCount, ClerkLine, PointLine, NoThread, NoWindow}
 use Rattle.parcel_runs.specs.declared.fault.ToolFault.TheVariants.{NoMemory}
+use Rattle.clerk_runs.specs.RingFaultText.{ring_fault_text}
 use Rattle.parcel_runs.specs.TilingFiles.{Files, IsCityOf}
-
--- `G1`, `G3` or `G2 I J`
-abbrev pub ring_fault_text : RingFault → List ℕ
-ring_fault_text ZeroArea = codes "G1"
-ring_fault_text Clockwise = codes "G3"
-ring_fault_text (EdgesMeet i j) = codes "G2 " ++ decimal i ++ codes " " ++ decimal j
 
 -- `ring R FAULT`
 abbrev pub ring_line : ℕ × RingFault → List ℕ
@@ -78,6 +72,7 @@ AreLinesBefore city parcels unit (ClerkCount count) lines = lines ≡ []
 AreLinesBefore city parcels unit (ClerkLine clerk line) lines = lines ≡ []
 AreLinesBefore city parcels unit (PointLine number) lines = lines ≡ []
 AreLinesBefore city parcels unit (NoThread hand) lines = lines ≡ []
+AreLinesBefore city parcels unit (NoWindow window) lines = lines ≡ []
 AreLinesBefore city parcels unit (Unreadable path) lines = lines ≡ []
 AreLinesBefore city parcels unit (UnreadableIndex stem) lines = lines ≡ []
 AreLinesBefore city parcels unit Output lines = lines ≡ []

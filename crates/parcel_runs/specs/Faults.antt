@@ -5,7 +5,7 @@ use Rattle.shp_files.specs.FirstFault.{IsFirstFault}
 use Rattle.parcel_runs.specs.declared.fault.Role.{Role}
 use Rattle.parcel_runs.specs.declared.fault.ToolFault.{ToolFault}
 use Rattle.parcel_runs.specs.declared.fault.ToolFault.TheVariants.{Unreadable, UnreadableIndex, Output, File, CityCount, CityRing, NoTiling}
-use Rattle.parcel_runs.specs.declared.fault.ToolFault.TheVariants.{ClerkCount, ClerkLine, PointLine, NoThread, NoMemory}
+use Rattle.parcel_runs.specs.declared.fault.ToolFault.TheVariants.{ClerkCount, ClerkLine, PointLine, NoThread, NoWindow, NoMemory}
 
 -- why the files of the layer with this role gave no rings: its first fault, or want of memory
 abbrev pub IsLayerFault : Role → List ℕ → Option (List ℕ) → LengthUnit → ToolFault → Type 0
@@ -21,3 +21,4 @@ IsLayerFault role main index unit (ClerkCount count) = ⊥
 IsLayerFault role main index unit (ClerkLine clerk line) = ⊥
 IsLayerFault role main index unit (PointLine number) = ⊥
 IsLayerFault role main index unit (NoThread hand) = ⊥
+IsLayerFault role main index unit (NoWindow window) = ⊥

@@ -5,11 +5,14 @@ pub mod TilingFiles
 pub mod CheckReport
 pub mod ExportReport
 pub mod FaultLines
-pub mod ClerkRuns
 pub mod RunFaults
 pub mod LocateReport
 pub mod OverlayReport
 pub mod own
+pub use Rattle.clerk_runs.specs.RingFaultText
+pub use Rattle.clerk_runs.specs.ClerkFiles
+pub use Rattle.clerk_runs.specs.ClerkLines
+pub use Rattle.clerk_runs.specs.ClerkRuns
 pub use Rattle.line_files.specs.TextLines
 pub use Rattle.line_files.specs.TextNumbers
 pub use Rattle.line_files.specs.PointLines

@@ -13,7 +13,7 @@ use Rattle.parcel_runs.specs.declared.fault.ToolFault.TheVariants.{PointLine}
 use Rattle.parcel_runs.specs.FaultLines.{corner_text}
 use Rattle.line_files.specs.PointLines.{ArePoints, IsFirstBadPoint}
 use Rattle.parcel_runs.specs.TilingFiles.{Files, AreTiles}
-use Rattle.parcel_runs.specs.ClerkRuns.{Register, IsEdited}
+use Rattle.clerk_runs.specs.ClerkRuns.{Register, IsEdited}
 use Rattle.parcel_runs.specs.RunFaults.{IsRunFault}
 
 -- ` ID`

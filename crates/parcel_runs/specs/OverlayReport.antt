@@ -9,10 +9,10 @@ use Rattle.zone_tables.specs.Report.{IsReport}
 use Rattle.parcel_runs.specs.declared.clerks.TheConstants.{CLERKS}
 use Rattle.parcel_runs.specs.declared.fault.Role.TheVariants.{Zones}
 use Rattle.parcel_runs.specs.declared.fault.ToolFault.{ToolFault}
-use Rattle.parcel_runs.specs.declared.fault.ToolFault.TheVariants.{NoThread, NoMemory}
+use Rattle.parcel_runs.specs.declared.fault.ToolFault.TheVariants.{NoThread}
 use Rattle.parcel_runs.specs.TilingFiles.{Files, AreTiles, IsTiledBy, IsTilesFault, IsFaultOfLayer}
-use Rattle.parcel_runs.specs.ClerkRuns.{Register, IsEdited}
-use Rattle.parcel_runs.specs.RunFaults.{IsCrowded, IsClerkFault}
+use Rattle.clerk_runs.specs.ClerkRuns.{Register, IsEdited}
+use Rattle.parcel_runs.specs.RunFaults.{IsCrowded, IsClerkFault, IsWant}
 
 -- the parcels' files and the zones' files both tile the city of the city's files
 pub record AreZoned (city parcels zones : Files) (unit : LengthUnit) (tiles regions : Tiles) : Type 0 where
@@ -71,7 +71,7 @@ pub record IsClerkFaultBehindZones (city parcels zones : Files) (unit : LengthUn
   pub tiles : Tiles
   pub regions : Tiles
   pub are_zoned : AreZoned city parcels zones unit tiles regions
-  pub is_first : IsClerkFault 1 clerks fault
+  pub is_first : IsClerkFault clerks fault
 
 -- the fault is the first: how many clerks' files there are; then the layers', and the clerks', one file after the other
 abbrev pub IsOverlayFault : Files → Files → Files → LengthUnit → List (List ℕ) → ToolFault → Type 0
@@ -79,6 +79,6 @@ IsOverlayFault city parcels zones unit clerks fault = IsCrowded clerks fault
     ⊎ ((length clerks ≤ CLERKS)
     × (IsLayersFault city parcels zones unit fault ⊎ IsClerkFaultBehindZones city parcels zones unit clerks fault))
 
--- memory was wanted, or a thread for a hand
-abbrev pub IsWant : ToolFault → Type 0
-IsWant fault = (fault ≡ NoMemory) ⊎ ((hand : ℕ) × (fault ≡ NoThread hand))
+-- memory was wanted, or a reader for the window of the clerks' office, or a thread for a hand
+abbrev pub IsOverlayWant : ToolFault → Type 0
+IsOverlayWant fault = IsWant fault ⊎ ((hand : ℕ) × (fault ≡ NoThread hand))

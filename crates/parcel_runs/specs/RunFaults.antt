@@ -1,11 +1,11 @@
 -- The first fault of a run's files: of a city, its parcels, and clerks' files (the order of the faults is this product's own).
-use Rattle.std.specs.Prelude.{◌≡◌, ◌⊎◌, ℕ, ◌+◌, ◌<◌, ◌≤◌, List, [], ◌∷◌, length}
+use Rattle.std.specs.Prelude.{◌≡◌, ◌⊎◌, ℕ, ◌<◌, ◌≤◌, List, length}
 use Rattle.geo_exact.specs.declared.coord.Unit.{Unit as LengthUnit}
 use Rattle.fabric_core.specs.Rows.{Tiles}
-use Rattle.line_files.specs.ClerkFile.{IsFirstBadLine}
+use Rattle.clerk_runs.specs.ClerkFiles.{IsFirstBadOfAll}
 use Rattle.parcel_runs.specs.declared.clerks.TheConstants.{CLERKS}
 use Rattle.parcel_runs.specs.declared.fault.ToolFault.{ToolFault}
-use Rattle.parcel_runs.specs.declared.fault.ToolFault.TheVariants.{ClerkCount, ClerkLine}
+use Rattle.parcel_runs.specs.declared.fault.ToolFault.TheVariants.{ClerkCount, ClerkLine, NoWindow, NoMemory}
 use Rattle.parcel_runs.specs.TilingFiles.{Files, AreTiles, IsTilesFault}
 
 -- there are more clerks' files than a run takes
@@ -13,19 +13,21 @@ pub record IsCrowded (clerks : List (List ℕ)) (fault : ToolFault) : Type 0 whe
   pub are_more : CLERKS < length clerks
   pub is_told : fault ≡ ClerkCount (length clerks)
 
--- the first bad line of the first file that has one; clerks are numbered on from a first one
-abbrev pub IsClerkFault : ℕ → List (List ℕ) → ToolFault → Type 0
-IsClerkFault clerk [] fault = ⊥
-IsClerkFault clerk (file ∷ files) fault = ((line : ℕ) × IsFirstBadLine file line × (fault ≡ ClerkLine clerk line))
-    ⊎ (((line : ℕ) → ¬ IsFirstBadLine file line) × IsClerkFault (clerk + 1) files fault)
+-- the first bad line of the first file that has one
+abbrev pub IsClerkFault : List (List ℕ) → ToolFault → Type 0
+IsClerkFault clerks fault = (clerk : ℕ) × (line : ℕ) × IsFirstBadOfAll clerks clerk line × (fault ≡ ClerkLine clerk line)
 
 -- the parcels' files tile the city of the city's files, and the fault is the first of the clerks' files
 pub record IsClerkFaultBehind (city parcels : Files) (unit : LengthUnit) (clerks : List (List ℕ)) (fault : ToolFault) : Type 0 where
   pub tiles : Tiles
   pub are_tiles : AreTiles city parcels unit tiles
-  pub is_first : IsClerkFault 1 clerks fault
+  pub is_first : IsClerkFault clerks fault
 
 -- the fault is the first: how many clerks' files there are; then the city's, the parcels', and the clerks', one file after the other
 abbrev pub IsRunFault : Files → Files → LengthUnit → List (List ℕ) → ToolFault → Type 0
 IsRunFault city parcels unit clerks fault = IsCrowded clerks fault
     ⊎ ((length clerks ≤ CLERKS) × (IsTilesFault city parcels unit fault ⊎ IsClerkFaultBehind city parcels unit clerks fault))
+
+-- memory was wanted, or a reader for the one window of the clerks' office
+abbrev pub IsWant : ToolFault → Type 0
+IsWant fault = (fault ≡ NoMemory) ⊎ (fault ≡ NoWindow 1)

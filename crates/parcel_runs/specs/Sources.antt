@@ -8,7 +8,7 @@ use Rattle.parcel_runs.specs.declared.sources.PathFault.{PathFault}
 use Rattle.parcel_runs.specs.declared.sources.PathFault.TheVariants.{NotOpened, NotRead}
 use Rattle.parcel_runs.specs.declared.fault.ToolFault.{ToolFault}
 use Rattle.parcel_runs.specs.declared.fault.ToolFault.TheVariants.{Unreadable, UnreadableIndex, Output, File, CityCount, CityRing, NoTiling}
-use Rattle.parcel_runs.specs.declared.fault.ToolFault.TheVariants.{ClerkCount, ClerkLine, PointLine, NoThread, NoMemory}
+use Rattle.parcel_runs.specs.declared.fault.ToolFault.TheVariants.{ClerkCount, ClerkLine, PointLine, NoThread, NoWindow, NoMemory}
 
 -- the bytes of the index file, where there is one
 abbrev pub index_of : {A : Type 0} → Source A → Option (List ℕ)
@@ -36,6 +36,7 @@ IsTextBy reads path (Err (ClerkCount count)) = ⊥
 IsTextBy reads path (Err (ClerkLine clerk line)) = ⊥
 IsTextBy reads path (Err (PointLine number)) = ⊥
 IsTextBy reads path (Err (NoThread hand)) = ⊥
+IsTextBy reads path (Err (NoWindow window)) = ⊥
 
 -- the index is what was read beside the main file; there is none where nothing can be opened there, or the main file's path has no .shp
 abbrev pub IsIndexBy : (List ℕ → Result (List ℕ) PathFault → Type 0) → List ℕ → Option (List ℕ) → Type 0
@@ -65,3 +66,4 @@ IsSourceBy reads path (Err (ClerkCount count)) = ⊥
 IsSourceBy reads path (Err (ClerkLine clerk line)) = ⊥
 IsSourceBy reads path (Err (PointLine number)) = ⊥
 IsSourceBy reads path (Err (NoThread hand)) = ⊥
+IsSourceBy reads path (Err (NoWindow window)) = ⊥

@@ -17,7 +17,7 @@ use Rattle.parcel_runs.specs.declared.fault.Role.{Role}
 use Rattle.parcel_runs.specs.declared.fault.Role.TheVariants.{City, Parcels}
 use Rattle.parcel_runs.specs.declared.fault.ToolFault.{ToolFault}
 use Rattle.parcel_runs.specs.declared.fault.ToolFault.TheVariants.{Unreadable, UnreadableIndex, Output, File, CityCount, CityRing, NoTiling}
-use Rattle.parcel_runs.specs.declared.fault.ToolFault.TheVariants.{ClerkCount, ClerkLine, PointLine, NoThread, NoMemory}
+use Rattle.parcel_runs.specs.declared.fault.ToolFault.TheVariants.{ClerkCount, ClerkLine, PointLine, NoThread, NoWindow, NoMemory}
 use Rattle.parcel_runs.specs.Sources.{index_of}
 
 -- the bytes of a layer's files
@@ -64,6 +64,7 @@ IsFaultOfCity files unit (ClerkCount count) = ⊥
 IsFaultOfCity files unit (ClerkLine clerk line) = ⊥
 IsFaultOfCity files unit (PointLine number) = ⊥
 IsFaultOfCity files unit (NoThread hand) = ⊥
+IsFaultOfCity files unit (NoWindow window) = ⊥
 IsFaultOfCity files unit (Unreadable path) = ⊥
 IsFaultOfCity files unit (UnreadableIndex stem) = ⊥
 IsFaultOfCity files unit Output = ⊥
@@ -101,6 +102,7 @@ IsFaultOfLayer role files unit city (ClerkCount count) = ⊥
 IsFaultOfLayer role files unit city (ClerkLine clerk line) = ⊥
 IsFaultOfLayer role files unit city (PointLine number) = ⊥
 IsFaultOfLayer role files unit city (NoThread hand) = ⊥
+IsFaultOfLayer role files unit city (NoWindow window) = ⊥
 IsFaultOfLayer role files unit city (Unreadable path) = ⊥
 IsFaultOfLayer role files unit city (UnreadableIndex stem) = ⊥
 IsFaultOfLayer role files unit city Output = ⊥

@@ -1,18 +1,17 @@
 //! The layer of parcels that tiles its city, or all faults of those that do not.
 
-ghost use Rattle.std.specs.Prelude.{◌≡◌, ◌⊎◌, [], IfOk, IfErr, IsErrAnd, None};
+ghost use Rattle.std.specs.Prelude.{◌≡◌, ◌⊎◌, ◌≤◌, [], length, IfOk, IfErr, IsErrAnd, None};
 ghost use Rattle.parcel_runs.specs.declared.fault.ToolFault.{ToolFault as ToolFaultValue};
 ghost use Rattle.fabric_core.specs.declared.layer.LoadFault.{LoadFault as LoadFaultValue};
 ghost use Rattle.fabric_core.specs.Faults.{BeginsWith};
 ghost use Rattle.parcel_runs.specs.FaultLines.{AreLinesBefore, text_or_none, fault_lines as fault_lines_of};
 ghost use Rattle.parcel_runs.specs.TilingFiles.{Files, files_of, told_of_load as told_of_load_fault, IsCityOf, IsTiledBy, IsFaultOfLayer, AreTiles, IsTilesFault};
 ghost use Rattle.fabric_core.specs.Rows.{Tiles};
-ghost use Rattle.parcel_runs.specs.ClerkRuns.{texts_of, IsEdited};
+ghost use Rattle.clerk_runs.specs.ClerkFiles.{texts_of, AreClerkFiles};
 ghost use Rattle.parcel_runs.specs.RunFaults.{IsRunFault};
-ghost use Rattle.parcel_runs.specs.own.Registers.{register_of_parcels, city_of_parcels};
 
-use crate::clerks::refuse_many_clerks;
-use crate::edited::{Edited, edit_layer};
+use crate::clerks::{CLERKS, read_clerk_files, refuse_many_clerks};
+use crate::edited::Unedited;
 use crate::fault::{Role, ToolFault};
 use crate::fault_lines::fault_lines;
 use crate::layers::read_rings;
@@ -119,22 +118,22 @@ fn load_tiles_or_lines<'h, H: Allocator, A: Allocator>(
     read_tiles_or_lines(heap, &city, Role::Parcels, parcels, unit)
 }
 
-/// The layer of the parcels' files, which tiles the city of the city's files, after the edits of clerks' files, or all
-/// faults of the parcels of the first's kind.
+/// The layer of the parcels' files, which tiles the city of the city's files, and the edits of clerks' files; or all faults of
+/// the parcels of the first's kind.
 ///
 /// # Errors
 ///
-/// Those of [`load_edited`](crate::tiles::load_edited), each with the lines that come before it.
-pub fn load_edited_or_lines<'h, H: Allocator, A: Allocator>(
+/// Those of [`load_unedited`](crate::tiles::load_unedited), each with the lines that come before it.
+pub fn load_unedited_or_lines<'h, H: Allocator, A: Allocator>(
     heap: &'h H,
     city: &Source<A>,
     parcels: &Source<A>,
     unit: Unit,
     clerks: &[Vec<u8, A>],
-) -> Result<Edited<'h, H>, Refusal<&'h H>>
-    ensures edited { IfOk result (λ edited. (tiles : Tiles) × AreTiles (files_of city.now) (files_of parcels.now) unit tiles
-        × IsEdited tiles (texts_of clerks.now) (register_of_parcels edited.parcels) edited.lines.items
-        × (city_of_parcels edited.parcels ≡ tiles.city)) }
+) -> Result<Unedited<'h, H>, Refusal<&'h H>>
+    ensures tiles { IfOk result (λ unedited. AreTiles (files_of city.now) (files_of parcels.now) unit unedited.layer) }
+    ensures edits { IfOk result (λ unedited. AreClerkFiles (texts_of clerks.now) unedited.clerks.items) }
+    ensures few { IfOk result (λ unedited. length unedited.clerks.items ≤ CLERKS) }
     ensures fault { IfErr result (λ refusal.
         (IsRunFault (files_of city.now) (files_of parcels.now) unit (texts_of clerks.now) refusal.fault
         × AreLinesBefore (files_of city.now) (files_of parcels.now) unit refusal.fault (text_or_none refusal.lines))
@@ -145,5 +144,9 @@ pub fn load_edited_or_lines<'h, H: Allocator, A: Allocator>(
 {
     refuse_many_clerks(clerks.len())?;
     let layer = load_tiles_or_lines(heap, city, parcels, unit)?;
-    Ok(edit_layer(heap, layer, clerks)?)
+    let edits = read_clerk_files(heap, clerks)?;
+    Ok(Unedited {
+        layer,
+        clerks: edits,
+    })
 }

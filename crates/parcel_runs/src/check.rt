@@ -1,6 +1,6 @@
 //! Whether parcels tile their city.
 
-ghost use Rattle.std.specs.Prelude.{◌≡◌, ◌⊎◌, ◌≤◌, ◌++◌, length, IfOk, IfErr, IsErrAnd, IsErrOf, OnOk};
+ghost use Rattle.std.specs.Prelude.{◌≡◌, ◌⊎◌, ◌≤◌, ◌++◌, ℕ, List, length, IfOk, IfErr, IsErrAnd, IsErrOf, OnOk};
 ghost use Rattle.std.specs.Borrow.{Bor};
 ghost use Rattle.geo_exact.specs.Bytes.{raised};
 ghost use Rattle.geo_exact.specs.declared.limits.TheConstants.{LIST_CORNERS};
@@ -8,31 +8,37 @@ ghost use Rattle.parcel_runs.specs.declared.fault.ToolFault.{ToolFault as ToolFa
 ghost use Rattle.parcel_runs.specs.CheckReport.{tiling_line, WritesTiling};
 ghost use Rattle.parcel_runs.specs.FaultLines.{WritesLinesBefore};
 ghost use Rattle.parcel_runs.specs.TilingFiles.{files_of};
-ghost use Rattle.parcel_runs.specs.ClerkRuns.{texts_of};
-ghost use Rattle.parcel_runs.specs.RunFaults.{IsRunFault};
+ghost use Rattle.clerk_runs.specs.ClerkFiles.{texts_of};
+ghost use Rattle.clerk_runs.specs.ClerkRuns.{Register, AreMade};
+ghost use Rattle.parcel_runs.specs.RunFaults.{IsRunFault, IsWant};
 ghost use Rattle.parcel_runs.specs.own.Registers.{register_of_parcels, city_of_parcels};
 
-use crate::all_tiles::load_edited_or_lines;
-use crate::edited::{Edited, Parcels};
+use crate::all_tiles::load_unedited_or_lines;
+use crate::clerks::CLERKS;
+use crate::edited::{Edited, Parcels, Unedited, edit_layer};
 use crate::fault::ToolFault;
 use crate::sources::Source;
-use crate::tiles::load_edited;
+use crate::tiles::load_unedited;
 use geo_exact::{ByteOut, Unit, area2};
 use itoa::Buffer;
 use shp_files::a_layer_file_is_within_the_limits;
 use std::alloc::{AllocError, Allocator};
+use std::sync::Wait;
+use std::thread::Threads;
 use text_puts::put_all;
 
 /// Writes `tiling N AREA2` where the parcels tile their city exactly: how many they are, and twice the city's area in square
-/// centimetres. Before that the edits of clerks' files are made, one file after the other, and a line for each is written;
-/// clerk K is that of file K, from 1. All files are checked whole before the first byte is written.
+/// centimetres. Before that the edits of clerks' files are made at one office, each file's by a thread of its own, line by line,
+/// and a line for each is written, by clerk and line; clerk K is that of file K, from 1. All files are checked whole before the
+/// first edit is made.
 ///
 /// # Errors
 ///
 /// [`ToolFault::ClerkCount`] for more than 8 clerks' files; the first fault of the city's files and ring, then of the
-/// parcels' files and rings, then the first bad line of the clerks' files; and [`ToolFault::NoMemory`]; all before anything
-/// is written. [`ToolFault::Output`] where a write failed.
-pub fn check<'h, H: Allocator, A: Allocator, W: ByteOut>(
+/// parcels' files and rings, then the first bad line of the clerks' files; [`ToolFault::NoWindow`] and [`ToolFault::NoMemory`];
+/// all before anything is written. [`ToolFault::Output`] where a write failed.
+pub fn check<'h, R: Threads + Wait + Sync, H: Allocator + Send + Sync, A: Allocator, W: ByteOut>(
+    rt: &R,
     heap: &'h H,
     city: &Source<A>,
     parcels: &Source<A>,
@@ -44,16 +50,16 @@ pub fn check<'h, H: Allocator, A: Allocator, W: ByteOut>(
         (files_of city.now) (files_of parcels.now) unit (texts_of clerks.now) (W.written out.old) (W.written out.new)) }
     ensures fault { IfErr result (λ fault.
         (IsRunFault (files_of city.now) (files_of parcels.now) unit (texts_of clerks.now) fault × (out.new ≡ out.old))
-        ⊎ ((fault ≡ ToolFault.NoMemory) × (out.new ≡ out.old)) ⊎ (fault ≡ ToolFault.Output)) }
+        ⊎ (IsWant fault × (out.new ≡ out.old)) ⊎ (fault ≡ ToolFault.Output)) }
     ensures refuses { (fault : ToolFaultValue)
         → IsRunFault (files_of city.now) (files_of parcels.now) unit (texts_of clerks.now) fault
         → IsErrAnd result (λ told. (told ≡ fault) ⊎ (told ≡ ToolFault.NoMemory)) }
     ensures failed { IsErrOf result ToolFault.Output → W.failure_count out.new ≡ raised (W.failure_count out.old) }
     ensures no_failure { OnOk result (W.failure_count out.new ≡ W.failure_count out.old) }
 {
-    let edited = load_edited(heap, city, parcels, unit, clerks)?;
+    let unedited = load_unedited(heap, city, parcels, unit, clerks)?;
     a_layer_file_is_within_the_limits();
-    let text = checked_text(edited)?;
+    let text = checked_text(rt, heap, unedited)?;
     put_all(text.as_slice(), out)?;
     Ok(())
 }
@@ -65,8 +71,16 @@ pub fn check<'h, H: Allocator, A: Allocator, W: ByteOut>(
 ///
 /// # Errors
 ///
-/// Those of [`check`]; a fault of the files or of the city, and [`ToolFault::NoMemory`], before anything is written.
-pub fn check_all<'h, H: Allocator, A: Allocator, W: ByteOut>(
+/// Those of [`check`]; a fault of the files or of the city, [`ToolFault::NoWindow`] and [`ToolFault::NoMemory`], before anything
+/// is written.
+pub fn check_all<
+    'h,
+    R: Threads + Wait + Sync,
+    H: Allocator + Send + Sync,
+    A: Allocator,
+    W: ByteOut,
+>(
+    rt: &R,
     heap: &'h H,
     city: &Source<A>,
     parcels: &Source<A>,
@@ -78,8 +92,7 @@ pub fn check_all<'h, H: Allocator, A: Allocator, W: ByteOut>(
         (files_of city.now) (files_of parcels.now) unit (texts_of clerks.now) (W.written out.old) (W.written out.new)) }
     // The lines of all faults are written before the first is answered.
     ensures fault { IfErr result (λ fault.
-        ((IsRunFault (files_of city.now) (files_of parcels.now) unit (texts_of clerks.now) fault
-        ⊎ (fault ≡ ToolFault.NoMemory))
+        ((IsRunFault (files_of city.now) (files_of parcels.now) unit (texts_of clerks.now) fault ⊎ IsWant fault)
         × WritesLinesBefore (files_of city.now) (files_of parcels.now) unit fault (W.written out.old) (W.written out.new))
         ⊎ (fault ≡ ToolFault.Output)) }
     ensures refuses { (fault : ToolFaultValue)
@@ -88,10 +101,10 @@ pub fn check_all<'h, H: Allocator, A: Allocator, W: ByteOut>(
     ensures failed { IsErrOf result ToolFault.Output → W.failure_count out.new ≡ raised (W.failure_count out.old) }
     ensures no_failure { OnOk result (W.failure_count out.new ≡ W.failure_count out.old) }
 {
-    match load_edited_or_lines(heap, city, parcels, unit, clerks) {
-        Ok(edited) => {
+    match load_unedited_or_lines(heap, city, parcels, unit, clerks) {
+        Ok(unedited) => {
             a_layer_file_is_within_the_limits();
-            let text = checked_text(edited)?;
+            let text = checked_text(rt, heap, unedited)?;
             put_all(text.as_slice(), out)?;
             Ok(())
         }
@@ -102,13 +115,20 @@ pub fn check_all<'h, H: Allocator, A: Allocator, W: ByteOut>(
     }
 }
 
-/// The lines of a check that finds a tiling: those of the clerks' edits, and that of the tiling.
-fn checked_text<'h, H: Allocator>(edited: Edited<'h, H>) -> Result<Vec<u8, &'h H>, AllocError>
-    requires { length (city_of_parcels edited.parcels) ≤ LIST_CORNERS }
-    ensures { IfOk result (λ text. text.items ≡ edited.entry.lines.items
-        ++ tiling_line (register_of_parcels edited.entry.parcels).now.rows (city_of_parcels edited.entry.parcels)) }
+/// The lines of a check that finds a tiling: those of the clerks' edits, which are made, and that of the tiling.
+fn checked_text<'h, R: Threads + Wait + Sync, H: Allocator + Send + Sync>(
+    rt: &R,
+    heap: &'h H,
+    unedited: Unedited<'h, H>,
+) -> Result<Vec<u8, &'h H>, ToolFault<'static>>
+    requires few { length unedited.clerks.items ≤ CLERKS }
+    requires short { length unedited.layer.city ≤ LIST_CORNERS }
+    ensures text { IfOk result (λ text. (after : Register (Bor H)) × (told : List ℕ)
+        × AreMade unedited.entry.layer unedited.entry.clerks.items after told
+        × (text.items ≡ told ++ tiling_line after.now.rows unedited.entry.layer.city)) }
+    ensures fault { IfErr result IsWant }
 {
-    let Edited { parcels, lines } = edited;
+    let Edited { parcels, lines, .. } = edit_layer(rt, heap, unedited, &[])?;
     let mut text = lines;
     push_tiling(&mut text, &parcels)?;
     Ok(text)

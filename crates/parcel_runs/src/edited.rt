@@ -1,39 +1,48 @@
-//! The parcels of a run, after the edits of its clerks.
+//! The parcels of a run, before and after the edits of its clerks.
 
-ghost use Rattle.std.specs.Prelude.{◌≡◌, ◌⊎◌, ◌≤◌, List, length, map, IfOk, IfErr, IsErrAnd};
-ghost use Rattle.geo_exact.specs.Point.{corner_point};
+ghost use Rattle.std.specs.Prelude.{◌≡◌, ◌≤◌, [], length, map, IfOk, IfErr};
 ghost use Rattle.geo_exact.specs.Layers.{numbered};
-ghost use Rattle.geo_exact.specs.declared.limits.TheConstants.{LAYER_RECORDS};
 ghost use Rattle.fabric_core.specs.Limits.{AreWithinLimits};
-ghost use Rattle.fabric_core.specs.Locate.{IsLocatedAt};
-ghost use Rattle.parcel_runs.specs.declared.fault.ToolFault.{ToolFault as ToolFaultValue};
-ghost use Rattle.parcel_runs.specs.ClerkRuns.{texts_of, IsEdited};
-ghost use Rattle.parcel_runs.specs.RunFaults.{IsClerkFault};
+ghost use Rattle.clerk_runs.specs.ClerkRuns.{AreMade, AreLocated};
+ghost use Rattle.parcel_runs.specs.RunFaults.{IsWant};
 ghost use Rattle.parcel_runs.specs.own.Registers.{register_of_parcels, city_of_parcels};
 
-use crate::attempts::try_all;
-use crate::clerks::{CLERKS, read_clerks};
+use crate::clerks::CLERKS;
 use crate::fault::ToolFault;
+use clerk_runs::{ClerkEdits, RunFault, edit_by_clerks};
 use fabric_core::{At, Fabric, Layer, Shapes, Sheet};
 use geo_exact::Corner;
 use std::alloc::{AllocError, Allocator};
+use std::sync::Wait;
+use std::thread::Threads;
 
-/// The parcels of a run: the layer as it was read, where no clerk edits it, or the fabric that clerks have edited.
+/// A layer of parcels, and the edits of clerks' files, which are still to be made.
+#[derive(Drop)]
+pub struct Unedited<'h, H: Allocator> {
+    /// The parcels that were read.
+    pub layer: Layer<'h, H>,
+    /// The edits of each clerk.
+    pub clerks: Vec<ClerkEdits<&'h H>, &'h H>,
+}
+
+/// The parcels of a run: the layer as it was read, where no clerk edits it, or the sheet that clerks' edits lead to.
 #[derive(Drop)]
 pub enum Parcels<'h, H: Allocator> {
     /// The layer that was read.
     Read(Layer<'h, H>),
-    /// The fabric that was edited.
-    Changed(Fabric<'h, H>),
+    /// What was edited.
+    Changed(Sheet<'h, H>),
 }
 
-/// Parcels after the edits of clerks, and the lines that tell of each edit.
+/// Parcels after the edits of clerks, the lines that tell of each edit, and where corners lie among the parcels.
 #[derive(Drop)]
 pub struct Edited<'h, H: Allocator> {
     /// The parcels.
     pub parcels: Parcels<'h, H>,
     /// The lines.
     pub lines: Vec<u8, &'h H>,
+    /// Where each corner lies.
+    pub places: Vec<At<&'h H>, &'h H>,
 }
 
 impl<'h, H: Allocator> Parcels<'h, H> {
@@ -43,7 +52,7 @@ impl<'h, H: Allocator> Parcels<'h, H> {
     {
         match self {
             Parcels::Read(layer) => layer.ids().len(),
-            Parcels::Changed(fabric) => fabric.ids().len(),
+            Parcels::Changed(sheet) => sheet.ids().len(),
         }
     }
 
@@ -53,7 +62,7 @@ impl<'h, H: Allocator> Parcels<'h, H> {
     {
         match self {
             Parcels::Read(layer) => layer.tiles(),
-            Parcels::Changed(fabric) => fabric.tiles(),
+            Parcels::Changed(sheet) => sheet.tiles(),
         }
     }
 
@@ -63,17 +72,7 @@ impl<'h, H: Allocator> Parcels<'h, H> {
     {
         match self {
             Parcels::Read(layer) => layer.shapes(),
-            Parcels::Changed(fabric) => fabric.shapes(),
-        }
-    }
-
-    /// Where a corner lies among the parcels.
-    pub fn locate(&self, corner: Corner) -> Result<At<&'h H>, AllocError>
-        ensures { IfOk result (λ at. IsLocatedAt (register_of_parcels self.now).now.rows (corner_point corner) at) }
-    {
-        match self {
-            Parcels::Read(layer) => layer.locate(corner),
-            Parcels::Changed(fabric) => fabric.locate(corner),
+            Parcels::Changed(sheet) => sheet.shapes(),
         }
     }
 
@@ -83,7 +82,7 @@ impl<'h, H: Allocator> Parcels<'h, H> {
     {
         match self {
             Parcels::Read(layer) => layer.city(),
-            Parcels::Changed(fabric) => fabric.city(),
+            Parcels::Changed(sheet) => sheet.city(),
         }
     }
 
@@ -98,44 +97,77 @@ impl<'h, H: Allocator> Parcels<'h, H> {
                 Ok(fabric) => fabric.sheet(),
                 Err(_) => Err(AllocError),
             },
-            Parcels::Changed(fabric) => fabric.sheet(),
+            Parcels::Changed(sheet) => Ok(sheet),
         }
     }
 }
 
-/// A layer after the edits of clerks' files, which are all read before the first is tried. Without such files the layer
-/// stays as it is.
+/// A layer after the edits of clerks, all of whom make theirs at the same time at one office, each in a thread of his own; and
+/// where corners lie then. Without clerks the layer stays as it is, and no office is opened.
 ///
 /// # Errors
 ///
-/// [`ToolFault::ClerkLine`] with the first line that is no edit of the first file that has one, and [`ToolFault::NoMemory`].
-pub fn edit_layer<'h, H: Allocator, A: Allocator>(
+/// [`ToolFault::NoWindow`] (K3), and [`ToolFault::NoMemory`].
+pub fn edit_layer<'h, R: Threads + Wait + Sync, H: Allocator + Send + Sync>(
+    rt: &R,
+    heap: &'h H,
+    unedited: Unedited<'h, H>,
+    corners: &[Corner],
+) -> Result<Edited<'h, H>, ToolFault<'static>>
+    requires { length unedited.clerks.items ≤ CLERKS }
+    ensures made { IfOk result (λ edited. AreMade unedited.entry.layer unedited.entry.clerks.items
+        (register_of_parcels edited.parcels) edited.lines.items) }
+    ensures city { IfOk result (λ edited. city_of_parcels edited.parcels ≡ unedited.entry.layer.city) }
+    ensures places { IfOk result (λ edited.
+        AreLocated (register_of_parcels edited.parcels).now.rows corners.now edited.places.items) }
+    ensures fault { IfErr result IsWant }
+{
+    let Unedited { layer, clerks } = unedited;
+    if clerks.is_empty() {
+        return Ok(as_read(heap, layer, corners)?);
+    }
+    match edit_by_clerks(rt, heap, layer, clerks, corners) {
+        Ok(edited) => Ok(Edited {
+            parcels: Parcels::Changed(edited.sheet),
+            lines: edited.lines,
+            places: edited.places,
+        }),
+        Err(RunFault::NoWindow(window)) => Err(ToolFault::NoWindow(window)),
+        Err(RunFault::NoMemory) => Err(ToolFault::NoMemory),
+    }
+}
+
+/// A layer that no clerk edits, and where corners lie in it.
+fn as_read<'h, H: Allocator>(
     heap: &'h H,
     layer: Layer<'h, H>,
-    clerks: &[Vec<u8, A>],
-) -> Result<Edited<'h, H>, ToolFault<'static>>
-    requires { length clerks.now ≤ CLERKS }
-    ensures edited { IfOk result (λ edited. IsEdited layer.entry (texts_of clerks.now)
-        (register_of_parcels edited.parcels) edited.lines.items) }
+    corners: &[Corner],
+) -> Result<Edited<'h, H>, AllocError>
+    ensures made { IfOk result (λ edited. AreMade layer.entry [] (register_of_parcels edited.parcels) edited.lines.items) }
     ensures city { IfOk result (λ edited. city_of_parcels edited.parcels ≡ layer.entry.city) }
-    ensures fault { IfErr result (λ fault. IsClerkFault 1 (texts_of clerks.now) fault ⊎ (fault ≡ ToolFault.NoMemory)) }
-    ensures refuses { (fault : ToolFaultValue) → IsClerkFault 1 (texts_of clerks.now) fault
-        → IsErrAnd result (λ told. (told ≡ fault) ⊎ (told ≡ ToolFault.NoMemory)) }
+    ensures places { IfOk result (λ edited.
+        AreLocated (register_of_parcels edited.parcels).now.rows corners.now edited.places.items) }
 {
-    if clerks.is_empty() {
-        let lines = Vec::new(heap);
-        return Ok(Edited {
-            parcels: Parcels::Read(layer),
-            lines,
-        });
-    }
-    let attempts = read_clerks(heap, clerks)?;
-    let Ok(mut fabric) = Fabric::open(layer) else {
-        return Err(ToolFault::NoMemory);
-    };
-    let lines = try_all(heap, &mut fabric, &attempts)?;
+    let places = places_in(heap, &layer, corners)?;
     Ok(Edited {
-        parcels: Parcels::Changed(fabric),
-        lines,
+        parcels: Parcels::Read(layer),
+        lines: Vec::new(heap),
+        places,
     })
+}
+
+/// Where corners lie in a layer, in their order.
+fn places_in<'h, H: Allocator>(
+    heap: &'h H,
+    layer: &Layer<'h, H>,
+    corners: &[Corner],
+) -> Result<Vec<At<&'h H>, &'h H>, AllocError>
+    ensures { IfOk result (λ places. AreLocated layer.now.rows corners.now places.items) }
+{
+    let mut places = Vec::new(heap);
+    for corner in corners {
+        let at = layer.locate(*corner)?;
+        places.push(at)?;
+    }
+    Ok(places)
 }

@@ -8,20 +8,22 @@ ghost use Rattle.shp_files.specs.Written.{corner_lists as lists_of_rings};
 ghost use Rattle.parcel_runs.specs.declared.fault.ToolFault.{ToolFault as ToolFaultValue};
 ghost use Rattle.parcel_runs.specs.ExportReport.{exported_line, IsExport};
 ghost use Rattle.parcel_runs.specs.TilingFiles.{files_of};
-ghost use Rattle.parcel_runs.specs.ClerkRuns.{texts_of};
-ghost use Rattle.parcel_runs.specs.RunFaults.{IsRunFault};
+ghost use Rattle.clerk_runs.specs.ClerkFiles.{texts_of};
+ghost use Rattle.parcel_runs.specs.RunFaults.{IsRunFault, IsWant};
 ghost use Rattle.parcel_runs.specs.own.Registers.{register_of_parcels};
 
-use crate::edited::{Edited, Parcels};
+use crate::edited::{Edited, Parcels, edit_layer};
 use crate::fault::ToolFault;
 use crate::sources::Source;
-use crate::tiles::load_edited;
+use crate::tiles::load_unedited;
 use fabric_core::Shapes;
 use geo_exact::{RawRing, Unit};
 use itoa::Buffer;
 use ring_core::Ring;
 use shp_files::{a_layer_file_is_within_the_limits, write_layer};
 use std::alloc::{AllocError, Allocator};
+use std::sync::Wait;
+use std::thread::Threads;
 
 /// What an export writes, and what it prints.
 #[derive(Drop)]
@@ -36,14 +38,15 @@ pub struct Exported<A: Allocator> {
 
 /// The two files of the parcels' layer, where the parcels tile their city exactly: its rings, each with all corners of the
 /// layer and the city that lie inside its edges, by ascending id and numbered anew from 1. Coordinates are in centimetres,
-/// whatever the unit that was read. Before that the edits of clerks' files are made, one file after the other; clerk K is
-/// that of file K, from 1. An edit that is refused changes nothing, and its line says why.
+/// whatever the unit that was read. Before that the edits of clerks' files are made at one office, each file's by a thread of
+/// its own, line by line; clerk K is that of file K, from 1. An edit that is refused changes nothing, and its line says why.
 ///
 /// # Errors
 ///
 /// [`ToolFault::ClerkCount`] for more than 8 clerks' files; the first fault of the city's files and ring, then of the
-/// parcels' files and rings, then the first bad line of the clerks' files; and [`ToolFault::NoMemory`].
-pub fn export<'h, H: Allocator, A: Allocator>(
+/// parcels' files and rings, then the first bad line of the clerks' files; [`ToolFault::NoWindow`] and [`ToolFault::NoMemory`].
+pub fn export<'h, R: Threads + Wait + Sync, H: Allocator + Send + Sync, A: Allocator>(
+    rt: &R,
     heap: &'h H,
     city: &Source<A>,
     parcels: &Source<A>,
@@ -53,14 +56,14 @@ pub fn export<'h, H: Allocator, A: Allocator>(
     ensures ok { IfOk result (λ exported. IsExport (Bor H) (files_of city.now) (files_of parcels.now) unit
         (texts_of clerks.now) exported.main.items exported.index.items exported.lines.items) }
     ensures fault { IfErr result (λ fault.
-        IsRunFault (files_of city.now) (files_of parcels.now) unit (texts_of clerks.now) fault
-        ⊎ (fault ≡ ToolFault.NoMemory)) }
+        IsRunFault (files_of city.now) (files_of parcels.now) unit (texts_of clerks.now) fault ⊎ IsWant fault) }
     ensures refuses { (fault : ToolFaultValue)
         → IsRunFault (files_of city.now) (files_of parcels.now) unit (texts_of clerks.now) fault
         → IsErrAnd result (λ told. (told ≡ fault) ⊎ (told ≡ ToolFault.NoMemory)) }
 {
-    let Edited { parcels, lines } = load_edited(heap, city, parcels, unit, clerks)?;
+    let unedited = load_unedited(heap, city, parcels, unit, clerks)?;
     a_layer_file_is_within_the_limits();
+    let Edited { parcels, lines, .. } = edit_layer(rt, heap, unedited, &[])?;
     parcels.are_within();
     let rings = rings_to_write(heap, parcels.shapes())?;
     let (main, index) = write_layer(heap, &rings)?;

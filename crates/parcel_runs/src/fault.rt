@@ -58,6 +58,8 @@ pub enum ToolFault<'a> {
     PointLine(usize),
     /// O7: the system refused a thread for the hand of this number, counted from 0.
     NoThread(usize),
+    /// K3: the window of this number, counted from 1, of the clerks' office was given no reader.
+    NoWindow(usize),
     /// A growth was refused.
     NoMemory,
 }
@@ -128,6 +130,7 @@ impl<'a> fmt::Display for ToolFault<'a> {
             ToolFault::ClerkLine(clerk, line) => write!(f, "clerk {clerk}: L1 {line}"),
             ToolFault::PointLine(number) => write!(f, "points: L1 {number}"),
             ToolFault::NoThread(hand) => write!(f, "O7 {hand}"),
+            ToolFault::NoWindow(window) => write!(f, "K3 {window}"),
             ToolFault::NoMemory
             | ToolFault::CityRing(CityFault::NoMemory)
             | ToolFault::NoTiling(_, LoadFault::NoMemory) => write!(f, "no memory"),

@@ -2,9 +2,10 @@
 
 ghost use Rattle.std.specs.Prelude.{◌≡◌, ◌++◌, OnOk, IfOk};
 ghost use Rattle.std.specs.List.{flat_map};
-ghost use Rattle.parcel_runs.specs.FaultLines.{ring_fault_text, ring_line, edge_text, edge_line, fault_lines as fault_lines_of};
+ghost use Rattle.parcel_runs.specs.FaultLines.{ring_line, edge_text, edge_line, fault_lines as fault_lines_of};
 
 use crate::numbers::{push_corner, push_number};
+use clerk_runs::push_ring_fault;
 use fabric_core::AllFaults;
 use geo_exact::Corner;
 use itoa::Buffer;
@@ -64,27 +65,6 @@ fn push_ring_line<A: Allocator>(
     text.push(b' ')?;
     push_ring_fault(text, fault)?;
     text.push(b'\n')?;
-    Ok(())
-}
-
-/// Adds the text of a ring's fault.
-pub fn push_ring_fault<A: Allocator>(
-    text: &mut Vec<u8, A>,
-    fault: RingFault,
-) -> Result<(), AllocError>
-    ensures { OnOk result (text.new.items ≡ text.old.items ++ ring_fault_text fault) }
-{
-    let mut digits = Buffer::new();
-    match fault {
-        RingFault::ZeroArea => text.extend_from_slice(b"G1")?,
-        RingFault::Clockwise => text.extend_from_slice(b"G3")?,
-        RingFault::EdgesMeet(i, j) => {
-            text.extend_from_slice(b"G2 ")?;
-            text.extend_from_slice(digits.format(i).as_bytes())?;
-            text.push(b' ')?;
-            text.extend_from_slice(digits.format(j).as_bytes())?;
-        }
-    }
     Ok(())
 }
 

@@ -6,16 +6,13 @@
 
 mod all_tiles;
 pub mod area;
-mod attempts;
 pub mod check;
-mod clerk_lines;
 mod clerks;
 mod dealing;
 mod edited;
 pub mod export;
 mod fault;
 mod fault_lines;
-mod laws;
 mod layers;
 pub mod locate;
 mod numbers;
@@ -27,10 +24,8 @@ mod sources;
 mod tiles;
 mod zoned;
 
-pub use attempts::Attempt;
 pub use clerks::{CLERKS, refuse_many_clerks};
 pub use fault::{Role, ToolFault};
-pub use laws::{a_run_of_edits_is_lawful, without_clerks_nothing_changes};
 pub use line_files::{PointsFault, read_corner, read_points};
 pub use replace::replace_layer;
 pub use sources::{Disk, Folder, PathFault, Source, StandardInput, read_source, read_text};

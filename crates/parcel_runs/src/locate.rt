@@ -1,6 +1,6 @@
 //! Where points lie among parcels.
 
-ghost use Rattle.std.specs.Prelude.{◌≡◌, ◌⊎◌, ◌++◌, ℕ, List, IfOk, IfErr, IsErrAnd, IsErrOf, OnOk, MatchResult, codes};
+ghost use Rattle.std.specs.Prelude.{◌≡◌, ◌⊎◌, ◌≤◌, ◌++◌, ℕ, List, length, IfOk, IfErr, IsErrAnd, IsErrOf, OnOk, MatchResult, codes};
 ghost use Rattle.std.specs.List.{flat_map};
 ghost use Rattle.std.specs.Borrow.{Bor};
 ghost use Rattle.geo_exact.specs.Bytes.{raised};
@@ -10,34 +10,38 @@ ghost use Rattle.parcel_runs.specs.FaultLines.{corner_text};
 ghost use Rattle.parcel_runs.specs.LocateReport.{id_text, ArePlaceLines, WritesPlaces, WritesPlacesOfText, IsLocateFault};
 ghost use Rattle.line_files.specs.PointLines.{ArePoints, IsFirstBadPoint};
 ghost use Rattle.parcel_runs.specs.TilingFiles.{files_of};
-ghost use Rattle.parcel_runs.specs.ClerkRuns.{texts_of};
-ghost use Rattle.parcel_runs.specs.RunFaults.{IsRunFault};
-ghost use Rattle.parcel_runs.specs.own.PlaceTexts.{place_text};
-ghost use Rattle.parcel_runs.specs.own.Registers.{register_of_parcels};
+ghost use Rattle.clerk_runs.specs.ClerkFiles.{texts_of};
+ghost use Rattle.clerk_runs.specs.ClerkRuns.{Register, AreMade};
+ghost use Rattle.parcel_runs.specs.RunFaults.{IsRunFault, IsWant};
+ghost use Rattle.parcel_runs.specs.own.PlaceTexts.{place_text, places_text};
 
-use crate::edited::{Edited, Parcels};
+use crate::clerks::CLERKS;
+use crate::edited::{Edited, Unedited, edit_layer};
 use crate::fault::ToolFault;
 use crate::numbers::push_corner;
 use crate::sources::Source;
-use crate::tiles::load_edited;
+use crate::tiles::load_unedited;
 use fabric_core::At;
 use geo_exact::{ByteOut, Corner, Unit};
 use itoa::Buffer;
 use line_files::{PointsFault, read_points};
 use std::alloc::{AllocError, Allocator};
+use std::sync::Wait;
+use std::thread::Threads;
 use text_puts::put_all;
 
 /// Writes for each point in order, where the parcels tile their city, `X Y inside ID`, `X Y edge ID ID ..` with all parcels
-/// on whose edges it lies, or `X Y outside`. Before that the edits of clerks' files are made, one file after the other, and
-/// a line for each is written; clerk K is that of file K, from 1. All files are checked whole before the first byte is
-/// written.
+/// on whose edges it lies, or `X Y outside`. Before that the edits of clerks' files are made at one office, each file's by a
+/// thread of its own, line by line, and a line for each is written, by clerk and line; clerk K is that of file K, from 1. All
+/// files are checked whole before the first edit is made.
 ///
 /// # Errors
 ///
 /// [`ToolFault::ClerkCount`] for more than 8 clerks' files; the first fault of the city's files and ring, then of the
-/// parcels' files and rings, then the first bad line of the clerks' files; and [`ToolFault::NoMemory`]; all before anything
-/// is written. [`ToolFault::Output`] where a write failed.
-pub fn locate<'h, H: Allocator, A: Allocator, W: ByteOut>(
+/// parcels' files and rings, then the first bad line of the clerks' files; [`ToolFault::NoWindow`] and [`ToolFault::NoMemory`];
+/// all before anything is written. [`ToolFault::Output`] where a write failed.
+pub fn locate<'h, R: Threads + Wait + Sync, H: Allocator + Send + Sync, A: Allocator, W: ByteOut>(
+    rt: &R,
     heap: &'h H,
     city: &Source<A>,
     parcels: &Source<A>,
@@ -50,15 +54,15 @@ pub fn locate<'h, H: Allocator, A: Allocator, W: ByteOut>(
         points.now (W.written out.old) (W.written out.new)) }
     ensures fault { IfErr result (λ fault.
         (IsRunFault (files_of city.now) (files_of parcels.now) unit (texts_of clerks.now) fault × (out.new ≡ out.old))
-        ⊎ ((fault ≡ ToolFault.NoMemory) × (out.new ≡ out.old)) ⊎ (fault ≡ ToolFault.Output)) }
+        ⊎ (IsWant fault × (out.new ≡ out.old)) ⊎ (fault ≡ ToolFault.Output)) }
     ensures refuses { (fault : ToolFaultValue)
         → IsRunFault (files_of city.now) (files_of parcels.now) unit (texts_of clerks.now) fault
         → IsErrAnd result (λ told. (told ≡ fault) ⊎ (told ≡ ToolFault.NoMemory)) }
     ensures failed { IsErrOf result ToolFault.Output → W.failure_count out.new ≡ raised (W.failure_count out.old) }
     ensures no_failure { OnOk result (W.failure_count out.new ≡ W.failure_count out.old) }
 {
-    let edited = load_edited(heap, city, parcels, unit, clerks)?;
-    let lines = located_text(edited, points)?;
+    let unedited = load_unedited(heap, city, parcels, unit, clerks)?;
+    let lines = located_text(rt, heap, unedited, points)?;
     put_all(lines.as_slice(), out)?;
     Ok(())
 }
@@ -70,7 +74,14 @@ pub fn locate<'h, H: Allocator, A: Allocator, W: ByteOut>(
 ///
 /// Those of [`locate`]; behind those of the layers' and clerks' files [`ToolFault::PointLine`] with the first line that is
 /// no point, before anything is written.
-pub fn locate_text<'h, H: Allocator, A: Allocator, W: ByteOut>(
+pub fn locate_text<
+    'h,
+    R: Threads + Wait + Sync,
+    H: Allocator + Send + Sync,
+    A: Allocator,
+    W: ByteOut,
+>(
+    rt: &R,
     heap: &'h H,
     city: &Source<A>,
     parcels: &Source<A>,
@@ -84,16 +95,16 @@ pub fn locate_text<'h, H: Allocator, A: Allocator, W: ByteOut>(
     ensures fault { IfErr result (λ fault.
         (IsLocateFault (files_of city.now) (files_of parcels.now) unit (texts_of clerks.now) text.now fault
         × (out.new ≡ out.old))
-        ⊎ ((fault ≡ ToolFault.NoMemory) × (out.new ≡ out.old)) ⊎ (fault ≡ ToolFault.Output)) }
+        ⊎ (IsWant fault × (out.new ≡ out.old)) ⊎ (fault ≡ ToolFault.Output)) }
     ensures refuses { (fault : ToolFaultValue)
         → IsLocateFault (files_of city.now) (files_of parcels.now) unit (texts_of clerks.now) text.now fault
         → IsErrAnd result (λ told. (told ≡ fault) ⊎ (told ≡ ToolFault.NoMemory)) }
     ensures failed { IsErrOf result ToolFault.Output → W.failure_count out.new ≡ raised (W.failure_count out.old) }
     ensures no_failure { OnOk result (W.failure_count out.new ≡ W.failure_count out.old) }
 {
-    let edited = load_edited(heap, city, parcels, unit, clerks)?;
+    let unedited = load_unedited(heap, city, parcels, unit, clerks)?;
     let points = points_of_text(heap, text)?;
-    let lines = located_text(edited, &points)?;
+    let lines = located_text(rt, heap, unedited, &points)?;
     put_all(lines.as_slice(), out)?;
     Ok(())
 }
@@ -113,32 +124,36 @@ fn points_of_text<A: Allocator>(alloc: A, text: &[u8]) -> Result<Vec<Corner, A>,
     }
 }
 
-/// The lines of the clerks' edits, and those of points among the parcels.
-fn located_text<'h, H: Allocator>(
-    edited: Edited<'h, H>,
+/// The lines of the clerks' edits, which are made, and those of points among the parcels that these lead to.
+fn located_text<'h, R: Threads + Wait + Sync, H: Allocator + Send + Sync>(
+    rt: &R,
+    heap: &'h H,
+    unedited: Unedited<'h, H>,
     points: &[Corner],
-) -> Result<Vec<u8, &'h H>, AllocError>
-    ensures { IfOk result (λ text. (lines : List ℕ) × (text.items ≡ edited.entry.lines.items ++ lines)
-        × ArePlaceLines (register_of_parcels edited.entry.parcels).now.rows points.now lines) }
+) -> Result<Vec<u8, &'h H>, ToolFault<'static>>
+    requires { length unedited.clerks.items ≤ CLERKS }
+    ensures text { IfOk result (λ text. (after : Register (Bor H)) × (told : List ℕ) × (lines : List ℕ)
+        × AreMade unedited.entry.layer unedited.entry.clerks.items after told
+        × ArePlaceLines after.now.rows points.now lines × (text.items ≡ told ++ lines)) }
+    ensures fault { IfErr result IsWant }
 {
-    let Edited { parcels, lines } = edited;
+    let Edited { lines, places, .. } = edit_layer(rt, heap, unedited, points)?;
     let mut text = lines;
-    push_place_lines(&mut text, &parcels, points)?;
+    push_place_lines(&mut text, points, places.as_slice())?;
     Ok(text)
 }
 
-/// Adds the lines of points among the parcels.
-fn push_place_lines<'h, H: Allocator, A: Allocator>(
+/// Adds the lines of points, of which it is known where each lies.
+fn push_place_lines<A: Allocator, B: Allocator>(
     text: &mut Vec<u8, A>,
-    parcels: &Parcels<'h, H>,
     points: &[Corner],
+    places: &[At<B>],
 ) -> Result<(), AllocError>
-    ensures { OnOk result ((lines : List ℕ) × (text.new.items ≡ text.old.items ++ lines)
-        × ArePlaceLines (register_of_parcels parcels.now).now.rows points.now lines) }
+    requires { length places.now ≡ length points.now }
+    ensures { OnOk result (text.new.items ≡ text.old.items ++ places_text points.now places.now) }
 {
-    for point in points {
-        let at = parcels.locate(*point)?;
-        push_place_line(text, *point, &at)?;
+    for (k, point) in points.iter().enumerate() {
+        push_place_line(text, *point, &places[k])?;
     }
     Ok(())
 }

@@ -6,7 +6,7 @@ ghost use Rattle.overlay_work.specs.declared.round.RoundFault.TheVariants.{NoMem
 ghost use Rattle.overlay_work.specs.declared.close.CloseFault.TheVariants.{NoThread, NoMemory as CloseMemory};
 ghost use Rattle.overlay_work.specs.declared.round.TheConstants.{MOST_HANDS};
 ghost use Rattle.zone_tables.specs.Overlap.{IsOverlapTable};
-ghost use Rattle.parcel_runs.specs.OverlayReport.{IsWant};
+ghost use Rattle.parcel_runs.specs.OverlayReport.{IsOverlayWant};
 
 use crate::dealing::deal;
 use crate::fault::ToolFault;
@@ -38,7 +38,7 @@ pub fn overlaps<'t, 'h, R: Threads + Wait + Sync, H: Allocator + Send + Sync>(
     ensures zones { IfOk result (λ table. table.zones ≡ zones.now.rows) }
     ensures entries { IfOk result (λ table. table.entries ≡ length sheet.now.journal) }
     ensures table { IfOk result (λ table. IsOverlapTable table.rows table.zones table.pairs) }
-    ensures fault { IfErr result IsWant }
+    ensures fault { IfErr result IsOverlayWant }
 {
     let (round, hands) = begin(heap, sheet, zones, workers)?;
     match run_round(rt, round, hands, &OpenGate) {
@@ -88,7 +88,7 @@ fn told_of_round(fault: RoundFault) -> ToolFault<'static>
 /// What it is to the user that a round with all its hands gave no table.
 fn told_of_close(fault: CloseFault) -> ToolFault<'static>
     requires { (fault ≡ CloseMemory) ⊎ ((hand : ℕ) × (fault ≡ NoThread hand)) }
-    ensures { IsWant result }
+    ensures { IsOverlayWant result }
 {
     match fault {
         CloseFault::NoThread(hand) => ToolFault::NoThread(hand),

@@ -1,20 +1,24 @@
 //! Which parcels and which zones overlap.
 
-ghost use Rattle.std.specs.Prelude.{◌≡◌, ◌⊎◌, ◌<◌, ◌≤◌, ℕ, List, length, IfErr, IsErrAnd, IsErrOf, OnOk, OnErr};
+ghost use Rattle.std.specs.Prelude.{◌≡◌, ◌⊎◌, ◌<◌, ◌≤◌, ℕ, List, length, IfOk, IfErr, IsErrAnd, IsErrOf, OnOk, OnErr};
 ghost use Rattle.std.specs.Borrow.{Bor};
 ghost use Rattle.geo_exact.specs.Bytes.{raised};
 ghost use Rattle.overlay_work.specs.declared.round.TheConstants.{MOST_HANDS};
 ghost use Rattle.parcel_runs.specs.declared.fault.ToolFault.{ToolFault as ToolFaultValue};
-ghost use Rattle.parcel_runs.specs.OverlayReport.{WritesOverlay, BeginsOverlay, IsOverlayFault, IsWant};
+ghost use Rattle.parcel_runs.specs.OverlayReport.{WritesOverlay, BeginsOverlay, IsOverlayFault, IsOverlayWant};
 ghost use Rattle.parcel_runs.specs.TilingFiles.{files_of};
-ghost use Rattle.parcel_runs.specs.ClerkRuns.{texts_of};
+ghost use Rattle.clerk_runs.specs.ClerkFiles.{texts_of};
+ghost use Rattle.clerk_runs.specs.ClerkRuns.{AreMade, register_of};
+ghost use Rattle.parcel_runs.specs.RunFaults.{IsWant};
 ghost use Rattle.parcel_runs.specs.own.LinesAndReports.{WritesBoth, BeginsBoth};
 
-use crate::edited::Edited;
+use crate::clerks::CLERKS;
+use crate::edited::{Edited, Unedited, edit_layer};
 use crate::fault::ToolFault;
 use crate::overlaps::overlaps;
 use crate::sources::Source;
 use crate::zoned::{Zoned, load_zoned};
+use fabric_core::Sheet;
 use geo_exact::{ByteOut, Unit};
 use overlay_work::{MOST_HANDS, Table, write_report};
 use std::alloc::Allocator;
@@ -24,15 +28,15 @@ use text_puts::put_all;
 
 /// Writes which parcels and which zones overlap, where both tile one city: `entries N`, how many edits led to these parcels; `pair
 /// ID ZONE` for each parcel and zone whose interiors have a common point; `split ID` for each parcel that overlaps two zones or
-/// more; and `within ID ZONE` for each other parcel. Before that the edits of clerks' files are made, one file after the other, and
-/// a line for each is written; clerk K is that of file K, from 1. So many workers share the parcels. All files are checked whole
-/// before the first byte is written.
+/// more; and `within ID ZONE` for each other parcel. Before that the edits of clerks' files are made at one office, each file's by a
+/// thread of its own, line by line, and a line for each is written, by clerk and line; clerk K is that of file K, from 1. So many
+/// workers share the parcels. All files are checked whole before the first edit is made.
 ///
 /// # Errors
 ///
 /// [`ToolFault::ClerkCount`] for more than 8 clerks' files; the first fault of the city's files and ring, then of the parcels'
-/// files and rings, then of the zones', then the first bad line of the clerks' files; [`ToolFault::NoThread`] and
-/// [`ToolFault::NoMemory`]; all before anything is written. [`ToolFault::Output`] where a write failed.
+/// files and rings, then of the zones', then the first bad line of the clerks' files; [`ToolFault::NoWindow`],
+/// [`ToolFault::NoThread`] and [`ToolFault::NoMemory`]; all before anything is written. [`ToolFault::Output`] where a write failed.
 pub fn overlay<'h, R: Threads + Wait + Sync, H: Allocator + Send + Sync, A: Allocator, W: ByteOut>(
     rt: &R,
     heap: &'h H,
@@ -51,7 +55,7 @@ pub fn overlay<'h, R: Threads + Wait + Sync, H: Allocator + Send + Sync, A: Allo
     ensures fault { IfErr result (λ fault.
         (IsOverlayFault (files_of city.now) (files_of parcels.now) (files_of zones.now) unit (texts_of clerks.now) fault
         × (out.new ≡ out.old))
-        ⊎ (IsWant fault × (out.new ≡ out.old)) ⊎ (fault ≡ ToolFault.Output)) }
+        ⊎ (IsOverlayWant fault × (out.new ≡ out.old)) ⊎ (fault ≡ ToolFault.Output)) }
     ensures refuses { (fault : ToolFaultValue)
         → IsOverlayFault (files_of city.now) (files_of parcels.now) (files_of zones.now) unit (texts_of clerks.now) fault
         → IsErrAnd result (λ told. (told ≡ fault) ⊎ (told ≡ ToolFault.NoMemory)) }
@@ -62,11 +66,27 @@ pub fn overlay<'h, R: Threads + Wait + Sync, H: Allocator + Send + Sync, A: Allo
     ensures failed { IsErrOf result ToolFault.Output → W.failure_count out.new ≡ raised (W.failure_count out.old) }
     ensures no_failure { OnOk result (W.failure_count out.new ≡ W.failure_count out.old) }
 {
-    let Zoned { edited, zones } = load_zoned(heap, city, parcels, zones, unit, clerks)?;
-    let Edited { parcels, lines } = edited;
-    let sheet = parcels.into_sheet()?;
+    let Zoned { unedited, zones } = load_zoned(heap, city, parcels, zones, unit, clerks)?;
+    let (sheet, lines) = edited_sheet(rt, heap, unedited)?;
     let table = overlaps(rt, heap, &sheet, &zones, workers)?;
     write_both(lines.as_slice(), &table, out)
+}
+
+/// A sheet of the parcels after the edits of clerks, which are made, and the lines that tell of each edit.
+fn edited_sheet<'h, R: Threads + Wait + Sync, H: Allocator + Send + Sync>(
+    rt: &R,
+    heap: &'h H,
+    unedited: Unedited<'h, H>,
+) -> Result<(Sheet<'h, H>, Vec<u8, &'h H>), ToolFault<'static>>
+    requires { length unedited.clerks.items ≤ CLERKS }
+    ensures made { IfOk result (λ made.
+        AreMade unedited.entry.layer unedited.entry.clerks.items (register_of made.0) made.1.items) }
+    ensures city { IfOk result (λ made. made.0.city ≡ unedited.entry.layer.city) }
+    ensures fault { IfErr result IsWant }
+{
+    let Edited { parcels, lines, .. } = edit_layer(rt, heap, unedited, &[])?;
+    let sheet = parcels.into_sheet()?;
+    Ok((sheet, lines))
 }
 
 /// Writes lines, and then the report of a table.

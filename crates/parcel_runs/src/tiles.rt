@@ -1,17 +1,16 @@
 //! The layer of parcels that tiles its city, from the files of both.
 
-ghost use Rattle.std.specs.Prelude.{◌≡◌, ◌⊎◌, List, IfOk, IfErr, IsErrAnd, MatchResult};
+ghost use Rattle.std.specs.Prelude.{◌≡◌, ◌⊎◌, ◌≤◌, List, length, IfOk, IfErr, IsErrAnd, MatchResult};
 ghost use Rattle.geo_exact.specs.declared.corner.Corner.{Corner};
 ghost use Rattle.fabric_core.specs.Rows.{Tiles};
 ghost use Rattle.parcel_runs.specs.declared.fault.ToolFault.{ToolFault as ToolFaultValue};
 ghost use Rattle.parcel_runs.specs.declared.fault.Role.TheVariants.{Parcels};
 ghost use Rattle.parcel_runs.specs.TilingFiles.{told_of_city as told_of_city_fault, told_of_load as told_of_load_fault, files_of, IsCityOf, IsFaultOfCity, IsTiledBy, IsFaultOfLayer, AreTiles, IsTilesFault};
-ghost use Rattle.parcel_runs.specs.ClerkRuns.{texts_of, IsEdited};
+ghost use Rattle.clerk_runs.specs.ClerkFiles.{texts_of, AreClerkFiles};
 ghost use Rattle.parcel_runs.specs.RunFaults.{IsRunFault};
-ghost use Rattle.parcel_runs.specs.own.Registers.{register_of_parcels, city_of_parcels};
 
-use crate::clerks::refuse_many_clerks;
-use crate::edited::{Edited, edit_layer};
+use crate::clerks::{CLERKS, read_clerk_files, refuse_many_clerks};
+use crate::edited::Unedited;
 use crate::fault::{Role, ToolFault};
 use crate::layers::read_rings;
 use crate::sources::Source;
@@ -125,23 +124,23 @@ fn load_tiles<'h, H: Allocator, A: Allocator>(
     read_tiles(heap, &city, Role::Parcels, parcels, unit)
 }
 
-/// The layer of the parcels' files, which tiles the city of the city's files, after the edits of clerks' files.
+/// The layer of the parcels' files, which tiles the city of the city's files, and the edits of clerks' files.
 ///
 /// # Errors
 ///
 /// [`ToolFault::ClerkCount`] for more than 8 clerks' files; the first fault of the city's files, the number of their rings,
 /// or the ring's fault; then the first fault of the parcels' files, or of their rings as a layer; then the first bad line of
 /// the clerks' files; and [`ToolFault::NoMemory`].
-pub fn load_edited<'h, H: Allocator, A: Allocator>(
+pub fn load_unedited<'h, H: Allocator, A: Allocator>(
     heap: &'h H,
     city: &Source<A>,
     parcels: &Source<A>,
     unit: Unit,
     clerks: &[Vec<u8, A>],
-) -> Result<Edited<'h, H>, ToolFault<'static>>
-    ensures edited { IfOk result (λ edited. (tiles : Tiles) × AreTiles (files_of city.now) (files_of parcels.now) unit tiles
-        × IsEdited tiles (texts_of clerks.now) (register_of_parcels edited.parcels) edited.lines.items
-        × (city_of_parcels edited.parcels ≡ tiles.city)) }
+) -> Result<Unedited<'h, H>, ToolFault<'static>>
+    ensures tiles { IfOk result (λ unedited. AreTiles (files_of city.now) (files_of parcels.now) unit unedited.layer) }
+    ensures edits { IfOk result (λ unedited. AreClerkFiles (texts_of clerks.now) unedited.clerks.items) }
+    ensures few { IfOk result (λ unedited. length unedited.clerks.items ≤ CLERKS) }
     ensures fault { IfErr result (λ fault.
         IsRunFault (files_of city.now) (files_of parcels.now) unit (texts_of clerks.now) fault
         ⊎ (fault ≡ ToolFault.NoMemory)) }
@@ -151,5 +150,9 @@ pub fn load_edited<'h, H: Allocator, A: Allocator>(
 {
     refuse_many_clerks(clerks.len())?;
     let layer = load_tiles(heap, city, parcels, unit)?;
-    edit_layer(heap, layer, clerks)
+    let edits = read_clerk_files(heap, clerks)?;
+    Ok(Unedited {
+        layer,
+        clerks: edits,
+    })
 }

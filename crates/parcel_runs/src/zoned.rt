@@ -4,12 +4,11 @@ ghost use Rattle.std.specs.Prelude.{◌≡◌, ◌⊎◌, ◌≤◌, length, IfO
 ghost use Rattle.fabric_core.specs.Rows.{Tiles};
 ghost use Rattle.parcel_runs.specs.declared.fault.ToolFault.{ToolFault as ToolFaultValue};
 ghost use Rattle.parcel_runs.specs.TilingFiles.{files_of};
-ghost use Rattle.parcel_runs.specs.ClerkRuns.{texts_of, IsEdited};
+ghost use Rattle.clerk_runs.specs.ClerkFiles.{texts_of, AreClerkFiles};
 ghost use Rattle.parcel_runs.specs.OverlayReport.{AreZoned, IsLayersFault, IsOverlayFault};
-ghost use Rattle.parcel_runs.specs.own.Registers.{register_of_parcels, city_of_parcels};
 
-use crate::clerks::refuse_many_clerks;
-use crate::edited::{Edited, edit_layer};
+use crate::clerks::{CLERKS, read_clerk_files, refuse_many_clerks};
+use crate::edited::Unedited;
 use crate::fault::{Role, ToolFault};
 use crate::sources::Source;
 use crate::tiles::{read_city, read_tiles};
@@ -24,11 +23,11 @@ struct Layers<'h, H: Allocator> {
     zones: Layer<'h, H>,
 }
 
-/// Parcels after the edits of clerks, with the lines that tell of each edit, and the zones of their city.
+/// Parcels with the edits of clerks' files, which are still to be made, and the zones of their city.
 #[derive(Drop)]
 pub struct Zoned<'h, H: Allocator> {
-    /// The parcels, and the lines.
-    pub edited: Edited<'h, H>,
+    /// The parcels, and the edits.
+    pub unedited: Unedited<'h, H>,
     /// The zones.
     pub zones: Layer<'h, H>,
 }
@@ -59,7 +58,7 @@ fn load_layers<'h, H: Allocator, A: Allocator>(
     Ok(Layers { parcels, zones })
 }
 
-/// The parcels and the zones that tile one city, the parcels after the edits of clerks' files.
+/// The parcels and the zones that tile one city, and the edits of clerks' files.
 ///
 /// # Errors
 ///
@@ -73,10 +72,10 @@ pub fn load_zoned<'h, H: Allocator, A: Allocator>(
     unit: Unit,
     clerks: &[Vec<u8, A>],
 ) -> Result<Zoned<'h, H>, ToolFault<'static>>
-    ensures zoned { IfOk result (λ zoned. (tiles : Tiles)
-        × AreZoned (files_of city.now) (files_of parcels.now) (files_of zones.now) unit tiles zoned.zones
-        × IsEdited tiles (texts_of clerks.now) (register_of_parcels zoned.edited.parcels) zoned.edited.lines.items
-        × (city_of_parcels zoned.edited.parcels ≡ zoned.zones.city)) }
+    ensures zoned { IfOk result (λ zoned.
+        AreZoned (files_of city.now) (files_of parcels.now) (files_of zones.now) unit zoned.unedited.layer zoned.zones) }
+    ensures edits { IfOk result (λ zoned. AreClerkFiles (texts_of clerks.now) zoned.unedited.clerks.items) }
+    ensures few { IfOk result (λ zoned. length zoned.unedited.clerks.items ≤ CLERKS) }
     ensures fault { IfErr result (λ fault.
         IsOverlayFault (files_of city.now) (files_of parcels.now) (files_of zones.now) unit (texts_of clerks.now) fault
         ⊎ (fault ≡ ToolFault.NoMemory)) }
@@ -86,6 +85,10 @@ pub fn load_zoned<'h, H: Allocator, A: Allocator>(
 {
     refuse_many_clerks(clerks.len())?;
     let Layers { parcels, zones } = load_layers(heap, city, parcels, zones, unit)?;
-    let edited = edit_layer(heap, parcels, clerks)?;
-    Ok(Zoned { edited, zones })
+    let edits = read_clerk_files(heap, clerks)?;
+    let unedited = Unedited {
+        layer: parcels,
+        clerks: edits,
+    };
+    Ok(Zoned { unedited, zones })
 }

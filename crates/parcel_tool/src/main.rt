@@ -71,14 +71,21 @@ fn answer<'a, R: Files + Input + Print + Threads + Wait + Sync + AllocGlobal>(
             let read = read_inputs(rt, &inputs)?;
             let (city, parcels, clerks) = (&read.city, &read.parcels, read.clerks.as_slice());
             if all {
-                check_all(&heap, city, parcels, inputs.unit, clerks, &mut out)
+                check_all(rt, &heap, city, parcels, inputs.unit, clerks, &mut out)
             } else {
-                check(&heap, city, parcels, inputs.unit, clerks, &mut out)
+                check(rt, &heap, city, parcels, inputs.unit, clerks, &mut out)
             }
         }
         Request::Export { inputs, base } => {
             let read = read_inputs(rt, &inputs)?;
-            let exported = export(&heap, &read.city, &read.parcels, inputs.unit, &read.clerks)?;
+            let exported = export(
+                rt,
+                &heap,
+                &read.city,
+                &read.parcels,
+                inputs.unit,
+                &read.clerks,
+            )?;
             replace_layer(rt, heap, base, &exported.main, &exported.index)?;
             put_all(&exported.lines, &mut out)?;
             Ok(())
@@ -93,7 +100,7 @@ fn answer<'a, R: Files + Input + Print + Threads + Wait + Sync + AllocGlobal>(
 }
 
 /// Tells where points lie.
-fn answer_locate<'a, R: Files + Input + AllocGlobal, W: ByteOut>(
+fn answer_locate<'a, R: Files + Input + Threads + Wait + Sync + AllocGlobal, W: ByteOut>(
     rt: &R,
     inputs: &Inputs<'a>,
     points: &Points<'a>,
@@ -105,11 +112,11 @@ fn answer_locate<'a, R: Files + Input + AllocGlobal, W: ByteOut>(
     match points {
         Points::At(corners) => {
             let points = corners.as_slice();
-            locate(&heap, city, parcels, inputs.unit, points, clerks, out)
+            locate(rt, &heap, city, parcels, inputs.unit, points, clerks, out)
         }
         Points::File(path) => {
             let text = read_points(rt, *path)?;
-            locate_text(&heap, city, parcels, inputs.unit, &text, clerks, out)
+            locate_text(rt, &heap, city, parcels, inputs.unit, &text, clerks, out)
         }
     }
 }

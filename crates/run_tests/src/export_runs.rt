@@ -4,7 +4,9 @@ use geo_exact::{Unit, write_coord};
 use parcel_runs::Source;
 use parcel_runs::export::export;
 use std::alloc::{AllocError, Global};
+use std::sync::Wait;
 use std::test::Fail;
+use std::thread::Threads;
 
 /// A place, in centimetres.
 pub type Place = (u16, u16);
@@ -14,6 +16,33 @@ pub const CITY: [Place; 4] = [(0, 0), (100, 0), (100, 100), (0, 100)];
 
 /// The rectangle from x = 0 to 60 in it.
 pub const WEST: [Place; 4] = [(0, 0), (60, 0), (60, 100), (0, 100)];
+
+/// The rectangle beside the western one.
+pub const EAST: [Place; 4] = [(60, 0), (100, 0), (100, 100), (60, 100)];
+
+/// A rectangle that is not beside the western one: there is a gap between them.
+pub const BEYOND: [Place; 4] = [(61, 0), (100, 0), (100, 100), (61, 100)];
+
+/// Three parcels, of which the second and the third lie in a bay of the first.
+pub const BAY: [&[Place]; 3] = [
+    &[
+        (0, 0),
+        (100, 0),
+        (100, 20),
+        (40, 20),
+        (40, 80),
+        (100, 80),
+        (100, 100),
+        (0, 100),
+    ],
+    &[(40, 20), (70, 20), (70, 80), (40, 80)],
+    &[(70, 20), (100, 20), (100, 80), (70, 80)],
+];
+
+/// A source of a main file alone.
+pub fn alone(main: Vec<u8>) -> Source<Global> {
+    Source { main, index: None }
+}
 
 /// A main file with a record for each ring, or a null shape for a ring of no corners.
 pub fn layer(alloc: Global, rings: &[&[Place]]) -> Result<Vec<u8>, AllocError> {
@@ -62,16 +91,14 @@ fn push_ring(
 }
 
 /// What an export of these files prints, and then the areas of what it answers, read again; or its error.
-fn told(alloc: Global, city: Vec<u8>, parcels: Vec<u8>) -> Result<String, AllocError> {
-    let city = Source {
-        main: city,
-        index: None,
-    };
-    let parcels = Source {
-        main: parcels,
-        index: None,
-    };
-    match export(&alloc, &city, &parcels, Unit::Cm, &[]) {
+fn told<R: Threads + Wait + Sync>(
+    rt: &R,
+    alloc: Global,
+    city: Vec<u8>,
+    parcels: Vec<u8>,
+) -> Result<String, AllocError> {
+    let (city, parcels) = (alone(city), alone(parcels));
+    match export(rt, &alloc, &city, &parcels, Unit::Cm, &[]) {
         Ok(exported) => {
             let again = Source {
                 main: Vec::from_slice(alloc, &exported.main)?,
@@ -85,65 +112,70 @@ fn told(alloc: Global, city: Vec<u8>, parcels: Vec<u8>) -> Result<String, AllocE
     }
 }
 
-/// The same, of a city of one ring and of these parcels.
-fn told_of(alloc: Global, city: &[Place], parcels: &[&[Place]]) -> Result<String, AllocError> {
-    told(alloc, layer(alloc, &[city])?, layer(alloc, parcels)?)
-}
+/// The ring of a city, or no corner for a null shape; the rings of its parcels; and what is told of their export.
+type Row = (&'static [Place], &'static [&'static [Place]], &'static str);
+
+const LOWER: [Place; 4] = [(60, 0), (100, 0), (100, 50), (60, 50)];
+
+const UPPER: [Place; 4] = [(60, 50), (100, 50), (100, 100), (60, 100)];
+
+/// Tilings, of which the third has null shapes between its parcels, which are numbered anew by ascending id; and what is none.
+const ROWS: [Row; 12] = [
+    (&CITY, &[&WEST, &EAST], "exported 2\n1 12000\n2 8000\n"),
+    (
+        &CITY,
+        &[&WEST, &LOWER, &UPPER],
+        "exported 3\n1 12000\n2 4000\n3 4000\n",
+    ),
+    (
+        &CITY,
+        &[&[], &UPPER, &[], &[], &WEST, &LOWER, &[]],
+        "exported 3\n1 4000\n2 12000\n3 4000\n",
+    ),
+    (&CITY, &BAY, "exported 3\n1 12800\n2 3600\n3 3600\n"),
+    (&CITY, &[&CITY], "exported 1\n1 20000\n"),
+    (
+        &CITY,
+        &[&WEST, &BEYOND],
+        "error: parcels: H2 60 0 60 100 net 1",
+    ),
+    (
+        &CITY,
+        &[&WEST, &OVER, &END],
+        "error: parcels: H2 50 0 50 100 net -1",
+    ),
+    (&CITY, &[], "error: parcels: H2 0 0 0 100 net 1"),
+    (&[], &[&CITY], "error: city: S3 0"),
+    (&TWISTED, &[&CITY], "error: city: G1"),
+    (&CROSSED, &[&CITY], "error: city: G2 1 3"),
+    (&CITY, &[&CROSSED], "error: parcels: H1 1 G2 1 3"),
+];
+
+const OVER: [Place; 4] = [(50, 0), (80, 0), (80, 100), (50, 100)];
+
+const END: [Place; 4] = [(90, 0), (100, 0), (100, 100), (90, 100)];
+
+const TWISTED: [Place; 4] = [(0, 0), (100, 100), (100, 0), (0, 100)];
+
+const CROSSED: [Place; 4] = [(0, 0), (100, 100), (100, 0), (0, 60)];
 
 #[test]
 fn exports_tilings(rt: HostRuntime) -> Result<(), Fail> {
     let alloc = rt.alloc();
-    let halves = told_of(
-        alloc,
-        &CITY,
-        &[&WEST, &[(60, 0), (100, 0), (100, 100), (60, 100)]],
-    )?;
-    assert_eq!(rt; halves.as_str(), "exported 2\n1 12000\n2 8000\n");
-    let lower: [Place; 4] = [(60, 0), (100, 0), (100, 50), (60, 50)];
-    let upper: [Place; 4] = [(60, 50), (100, 50), (100, 100), (60, 100)];
-    let junction = told_of(alloc, &CITY, &[&WEST, &lower, &upper])?;
-    assert_eq!(rt; junction.as_str(), "exported 3\n1 12000\n2 4000\n3 4000\n");
-    // Parcels are numbered anew, by ascending id.
-    let shifted = told_of(alloc, &CITY, &[&[], &upper, &[], &[], &WEST, &lower, &[]])?;
-    assert_eq!(rt; shifted.as_str(), "exported 3\n1 4000\n2 12000\n3 4000\n");
-    let around = told_of(
-        alloc,
-        &CITY,
-        &[
-            &[
-                (0, 0),
-                (100, 0),
-                (100, 20),
-                (40, 20),
-                (40, 80),
-                (100, 80),
-                (100, 100),
-                (0, 100),
-            ],
-            &[(40, 20), (70, 20), (70, 80), (40, 80)],
-            &[(70, 20), (100, 20), (100, 80), (70, 80)],
-        ],
-    )?;
-    assert_eq!(rt; around.as_str(), "exported 3\n1 12800\n2 3600\n3 3600\n");
-    let one = told_of(alloc, &CITY, &[&CITY])?;
-    assert_eq!(rt; one.as_str(), "exported 1\n1 20000\n");
+    for (city, parcels, want) in &ROWS {
+        let city = layer(alloc, &[*city])?;
+        let answer = told(&rt, alloc, city, layer(alloc, parcels)?)?;
+        assert_eq!(rt; answer.as_str(), *want);
+    }
     Ok(())
 }
 
 #[test]
 fn writes_rings_with_the_corners_of_their_neighbours(rt: HostRuntime) -> Result<(), Fail> {
     let alloc = rt.alloc();
-    let lower: [Place; 4] = [(60, 0), (100, 0), (100, 50), (60, 50)];
-    let upper: [Place; 4] = [(60, 50), (100, 50), (100, 100), (60, 100)];
-    let city = Source {
-        main: layer(alloc, &[&CITY])?,
-        index: None,
-    };
-    let parcels = Source {
-        main: layer(alloc, &[&WEST, &lower, &upper])?,
-        index: None,
-    };
-    match export(&alloc, &city, &parcels, Unit::Cm, &[]) {
+    let city = alone(layer(alloc, &[&CITY])?);
+    let parcels = alone(layer(alloc, &[&WEST, &LOWER, &UPPER])?);
+    match export(&rt, &alloc, &city, &parcels, Unit::Cm, &[]) {
         Ok(exported) => {
             // Clockwise, from the least corner.
             let ring: [Place; 5] = [(0, 0), (0, 100), (60, 100), (60, 50), (60, 0)];
@@ -154,29 +186,4 @@ fn writes_rings_with_the_corners_of_their_neighbours(rt: HostRuntime) -> Result<
         }
         Err(fault) => Err(Fail::new(fault)),
     }
-}
-
-#[test]
-fn refuses_what_is_no_tiling(rt: HostRuntime) -> Result<(), Fail> {
-    let alloc = rt.alloc();
-    let beyond: [Place; 4] = [(61, 0), (100, 0), (100, 100), (61, 100)];
-    let over: [Place; 4] = [(50, 0), (80, 0), (80, 100), (50, 100)];
-    let end: [Place; 4] = [(90, 0), (100, 0), (100, 100), (90, 100)];
-    let twisted: [Place; 4] = [(0, 0), (100, 100), (100, 0), (0, 100)];
-    let crossed: [Place; 4] = [(0, 0), (100, 100), (100, 0), (0, 60)];
-    let gap = told_of(alloc, &CITY, &[&WEST, &beyond])?;
-    assert_eq!(rt; gap.as_str(), "error: parcels: H2 60 0 60 100 net 1");
-    let overlap = told_of(alloc, &CITY, &[&WEST, &over, &end])?;
-    assert_eq!(rt; overlap.as_str(), "error: parcels: H2 50 0 50 100 net -1");
-    let none = told_of(alloc, &CITY, &[])?;
-    assert_eq!(rt; none.as_str(), "error: parcels: H2 0 0 0 100 net 1");
-    let no_city = told(alloc, layer(alloc, &[])?, layer(alloc, &[&CITY])?)?;
-    assert_eq!(rt; no_city.as_str(), "error: city: S3 0");
-    let flat = told_of(alloc, &twisted, &[&CITY])?;
-    assert_eq!(rt; flat.as_str(), "error: city: G1");
-    let folded = told_of(alloc, &crossed, &[&CITY])?;
-    assert_eq!(rt; folded.as_str(), "error: city: G2 1 3");
-    let crossed_parcel = told_of(alloc, &CITY, &[&crossed])?;
-    assert_eq!(rt; crossed_parcel.as_str(), "error: parcels: H1 1 G2 1 3");
-    Ok(())
 }

@@ -15,6 +15,7 @@ fn tells_faults(rt: HostRuntime) -> Result<(), Fail> {
         (ToolFault::ClerkLine(2, 5), "clerk 2: L1 5"),
         (ToolFault::PointLine(3), "points: L1 3"),
         (ToolFault::NoThread(63), "O7 63"),
+        (ToolFault::NoWindow(1), "K3 1"),
         (ToolFault::NoMemory, "no memory"),
     ] {
         assert_eq!(rt; format!(in rt.alloc(); "{fault}")?.as_str(), want);

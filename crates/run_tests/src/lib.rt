@@ -5,7 +5,7 @@
 #[cfg(test)]
 mod area_runs;
 #[cfg(test)]
-mod clerk_runs;
+mod edit_runs;
 #[cfg(test)]
 mod export_runs;
 #[cfg(test)]

@@ -1,24 +1,19 @@
 //! Where points lie among parcels, as a run tells it.
 
 use crate::area_runs::ByteByByte;
-use crate::export_runs::{CITY, Place, WEST, layer};
+use crate::export_runs::{BAY, BEYOND, CITY, EAST, Place, WEST, alone, layer};
 use crate::square::{FARTHEST, square};
 use geo_exact::{Corner, Counted, FailAt, LIMIT, Unit};
+use parcel_runs::ToolFault;
 use parcel_runs::locate::{locate, locate_text};
-use parcel_runs::{Source, ToolFault};
 use std::alloc::{AllocError, Global};
+use std::sync::Wait;
 use std::test::Fail;
-
-/// The rectangle beside the western one.
-pub const EAST: [Place; 4] = [(60, 0), (100, 0), (100, 100), (60, 100)];
-
-/// A source of a main file alone.
-pub fn alone(main: Vec<u8>) -> Source<Global> {
-    Source { main, index: None }
-}
+use std::thread::Threads;
 
 /// What a run over these main files and this text of points prints, on whichever stream.
-pub fn told(
+pub fn told<R: Threads + Wait + Sync>(
+    rt: &R,
     alloc: Global,
     city: Vec<u8>,
     parcels: Vec<u8>,
@@ -26,7 +21,8 @@ pub fn told(
 ) -> Result<String, AllocError> {
     let (city, parcels) = (alone(city), alone(parcels));
     let mut out = Counted::new(Vec::new(alloc));
-    match locate_text(&alloc, &city, &parcels, Unit::Cm, points, &[], &mut out) {
+    let unit = Unit::Cm;
+    match locate_text(rt, &alloc, &city, &parcels, unit, points, &[], &mut out) {
         Ok(()) => String::from_utf8_lossy(alloc, out.into_inner().as_slice()),
         Err(fault) => {
             let printed = String::from_utf8_lossy(alloc, out.into_inner().as_slice())?;
@@ -36,8 +32,13 @@ pub fn told(
 }
 
 /// The same among the two rectangles.
-pub fn told_of_two(alloc: Global, points: &[u8]) -> Result<String, AllocError> {
+pub fn told_of_two<R: Threads + Wait + Sync>(
+    rt: &R,
+    alloc: Global,
+    points: &[u8],
+) -> Result<String, AllocError> {
     told(
+        rt,
         alloc,
         layer(alloc, &[&CITY])?,
         layer(alloc, &[&WEST, &EAST])?,
@@ -45,39 +46,69 @@ pub fn told_of_two(alloc: Global, points: &[u8]) -> Result<String, AllocError> {
     )
 }
 
+/// The ring of a city, or no corner for a null shape; the rings of its parcels; how many bytes of their file there are; points; and what
+/// is told of them.
+type Row = (
+    &'static [Place],
+    &'static [&'static [Place]],
+    usize,
+    &'static str,
+    &'static str,
+);
+
+/// The bytes of a file that is not torn.
+const WHOLE: usize = usize::MAX;
+
+/// Points of all kinds; and that the city is refused before the parcels, and these before the points.
+const ROWS: [Row; 6] = [
+    (
+        &CITY,
+        &[&WEST, &EAST],
+        WHOLE,
+        "0 0\n60 0\n60 50\n61 50\n100 101\n",
+        "0 0 edge 1\n60 0 edge 1 2\n60 50 edge 1 2\n61 50 inside 2\n100 101 outside\n",
+    ),
+    (
+        &CITY,
+        &BAY,
+        WHOLE,
+        "40 50\n101 50\n50 50\n70 20\n100 100",
+        "40 50 edge 1 2\n101 50 outside\n50 50 inside 2\n70 20 edge 1 2 3\n100 100 edge 1\n",
+    ),
+    (&[], &[&WEST, &BEYOND], WHOLE, "x", "error: city: S3 0"),
+    (
+        &CITY,
+        &[&WEST, &EAST],
+        99,
+        "x",
+        "error: parcels: F1 main record 0 at 99",
+    ),
+    (
+        &CITY,
+        &[&WEST, &BEYOND],
+        WHOLE,
+        "x",
+        "error: parcels: H2 60 0 60 100 net 1",
+    ),
+    (
+        &CITY,
+        &[&WEST, &EAST],
+        WHOLE,
+        "0 0\nx",
+        "error: points: L1 2",
+    ),
+];
+
 #[test]
 fn tells_where_points_lie(rt: HostRuntime) -> Result<(), Fail> {
     let alloc = rt.alloc();
-    let two = told_of_two(alloc, b"0 0\n60 0\n60 50\n61 50\n100 101\n")?;
-    assert_eq!(rt;
-        two.as_str(),
-        "0 0 edge 1\n60 0 edge 1 2\n60 50 edge 1 2\n61 50 inside 2\n100 101 outside\n"
-    );
-    let around: [Place; 8] = [
-        (0, 0),
-        (100, 0),
-        (100, 20),
-        (40, 20),
-        (40, 80),
-        (100, 80),
-        (100, 100),
-        (0, 100),
-    ];
-    let rings: [&[Place]; 3] = [
-        &around,
-        &[(40, 20), (70, 20), (70, 80), (40, 80)],
-        &[(70, 20), (100, 20), (100, 80), (70, 80)],
-    ];
-    let three = told(
-        alloc,
-        layer(alloc, &[&CITY])?,
-        layer(alloc, &rings)?,
-        b"40 50\n101 50\n50 50\n70 20\n100 100",
-    )?;
-    assert_eq!(rt;
-        three.as_str(),
-        "40 50 edge 1 2\n101 50 outside\n50 50 inside 2\n70 20 edge 1 2 3\n100 100 edge 1\n"
-    );
+    for (city, parcels, length, points, want) in &ROWS {
+        let city = layer(alloc, &[*city])?;
+        let mut parcels = layer(alloc, parcels)?;
+        parcels.truncate(*length);
+        let lines = told(&rt, alloc, city, parcels, points.as_bytes())?;
+        assert_eq!(rt; lines.as_str(), *want);
+    }
     Ok(())
 }
 
@@ -85,6 +116,7 @@ fn tells_where_points_lie(rt: HostRuntime) -> Result<(), Fail> {
 fn tells_places_at_the_limits(rt: HostRuntime) -> Result<(), Fail> {
     let alloc = rt.alloc();
     let farthest = told(
+        &rt,
         alloc,
         square(alloc, FARTHEST)?,
         square(alloc, FARTHEST)?,
@@ -112,7 +144,16 @@ fn tells_where_corners_lie(rt: HostRuntime) -> Result<(), Fail> {
     ];
     let mut out = Counted::new(Vec::new(alloc));
     assert_eq!(rt;
-        locate(&alloc, &city, &parcels, Unit::Cm, &points, &[], &mut out),
+        locate(
+            &rt,
+            &alloc,
+            &city,
+            &parcels,
+            Unit::Cm,
+            &points,
+            &[],
+            &mut out
+        ),
         Ok(())
     );
     assert_eq!(rt;
@@ -123,6 +164,7 @@ fn tells_where_corners_lie(rt: HostRuntime) -> Result<(), Fail> {
     let mut out = Counted::new(Vec::new(alloc));
     assert_eq!(rt;
         locate(
+            &rt,
             &alloc,
             &city,
             &parcels,
@@ -141,33 +183,6 @@ fn tells_where_corners_lie(rt: HostRuntime) -> Result<(), Fail> {
 }
 
 #[test]
-fn refuses_the_city_then_the_parcels_then_the_points(rt: HostRuntime) -> Result<(), Fail> {
-    let alloc = rt.alloc();
-    let beyond: [Place; 4] = [(61, 0), (100, 0), (100, 100), (61, 100)];
-    let no_city = told(
-        alloc,
-        layer(alloc, &[])?,
-        layer(alloc, &[&WEST, &beyond])?,
-        b"x",
-    )?;
-    assert_eq!(rt; no_city.as_str(), "error: city: S3 0");
-    let mut torn = layer(alloc, &[&WEST, &EAST])?;
-    torn.truncate(99);
-    let torn = told(alloc, layer(alloc, &[&CITY])?, torn, b"x")?;
-    assert_eq!(rt; torn.as_str(), "error: parcels: F1 main record 0 at 99");
-    let gap = told(
-        alloc,
-        layer(alloc, &[&CITY])?,
-        layer(alloc, &[&WEST, &beyond])?,
-        b"x",
-    )?;
-    assert_eq!(rt; gap.as_str(), "error: parcels: H2 60 0 60 100 net 1");
-    let points = told_of_two(alloc, b"0 0\nx")?;
-    assert_eq!(rt; points.as_str(), "error: points: L1 2");
-    Ok(())
-}
-
-#[test]
 fn tells_each_failed_write_of_lines(rt: HostRuntime) -> Result<(), Fail> {
     let alloc = rt.alloc();
     let city = alone(layer(alloc, &[&CITY])?);
@@ -178,6 +193,7 @@ fn tells_each_failed_write_of_lines(rt: HostRuntime) -> Result<(), Fail> {
         let writer = Counted::new(ByteByByte(Vec::new(alloc)));
         let mut out = FailAt::new(writer, call);
         let answer = locate_text(
+            &rt,
             &alloc,
             &city,
             &parcels,

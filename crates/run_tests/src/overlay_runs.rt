@@ -1,8 +1,7 @@
 //! What overlays of the two rectangles with zones print.
 
-use crate::clerk_runs::{FIVE, FIVE_TOLD, files};
-use crate::export_runs::{CITY, Place, WEST, layer};
-use crate::locate_runs::{EAST, alone};
+use crate::edit_runs::{FIVE, FIVE_TOLD, files};
+use crate::export_runs::{CITY, EAST, Place, WEST, alone, layer};
 use geo_exact::{Counted, Unit};
 use parcel_runs::overlay::overlay;
 use std::alloc::{AllocError, Global};

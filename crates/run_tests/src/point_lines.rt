@@ -25,7 +25,7 @@ fn reads_lines(rt: HostRuntime) -> Result<(), Fail> {
             "-10000000000 1 outside\n",
         ),
     ] {
-        assert_eq!(rt; told_of_two(rt.alloc(), text)?.as_str(), want);
+        assert_eq!(rt; told_of_two(&rt, rt.alloc(), text)?.as_str(), want);
     }
     Ok(())
 }
@@ -62,7 +62,7 @@ fn names_the_first_bad_line(rt: HostRuntime) -> Result<(), Fail> {
         (b"1 1\n\n# x\nx\ny\n".as_slice(), 4),
     ] {
         let want = format!(in rt.alloc(); "error: points: L1 {line}")?;
-        assert_eq!(rt; told_of_two(rt.alloc(), text)?.as_str(), want.as_str());
+        assert_eq!(rt; told_of_two(&rt, rt.alloc(), text)?.as_str(), want.as_str());
     }
     Ok(())
 }

@@ -1,259 +1,205 @@
 //! Each growth of a run refused in turn: its answer is want of memory, nothing was printed, and with memory the same run
 //! prints what it has to print.
 
-use crate::clerk_runs::{FIVE, FIVE_TOLD};
-use crate::export_runs::{CITY, Place, WEST, layer};
-use crate::locate_runs::{EAST, alone};
+use crate::edit_runs::files;
+use crate::export_runs::{BEYOND, CITY, EAST, WEST, alone, layer};
 use crate::overlay_runs::HALVES;
 use crate::square::{HUNDRED, square};
 use geo_exact::{Counted, Unit};
 use parcel_runs::area::area;
 use parcel_runs::check::{check, check_all};
-use parcel_runs::export::export;
+use parcel_runs::export::{Exported, export};
 use parcel_runs::locate::locate_text;
 use parcel_runs::overlay::overlay;
-use parcel_runs::{Source, ToolFault};
+use parcel_runs::{Source, ToolFault, put_all};
 use refusing_alloc::Refusing;
-use std::alloc::{AllocError, Global};
+use std::alloc::{AllocError, Allocator, Global};
+use std::sync::Wait;
 use std::test::Fail;
+use std::thread::Threads;
 
 /// No run here has so many growths.
 const MOST: u64 = 1000;
 
-/// A source of the square alone, in memory of the heap.
-fn square_source<'h>(
-    heap: &'h Refusing<Global>,
+/// The heap of the runs here.
+type Heap = Refusing<Global>;
+
+/// A run without clerks.
+#[derive(Clone, Copy)]
+enum Which {
+    /// Of the areas of a square.
+    Areas,
+    /// Of the two rectangles.
+    Check,
+    /// Of two rectangles with a gap between them.
+    AllFaults,
+    /// Of the two rectangles.
+    Export,
+    /// Of five points in the two rectangles.
+    Places,
+    /// Of the two rectangles with the halves of the city.
+    Overlay,
+}
+
+/// Each run, and what it prints with memory.
+const RUNS: [(Which, &str); 6] = [
+    (Which::Areas, "1 20000\n"),
+    (Which::Check, "tiling 2 20000\n"),
+    (
+        Which::AllFaults,
+        "edge 60 0 60 100 net 1\nedge 60 0 61 0 net -1\nedge 60 100 61 100 net 1\nedge 61 0 61 100 net -1\n",
+    ),
+    (Which::Export, "exported 2\n"),
+    (
+        Which::Places,
+        "0 0 edge 1\n1 1 inside 1\n1 0 edge 1\n-1 0 outside\n62 2 inside 2\n",
+    ),
+    (
+        Which::Overlay,
+        "entries 0\npair 1 1\npair 1 2\npair 2 2\nsplit 1\nwithin 2 2\n",
+    ),
+];
+
+/// The files of the runs.
+#[derive(Drop)]
+struct Inputs<'h> {
+    heap: &'h Heap,
+    square: Source<&'h Heap>,
+    city: Source<Global>,
+    parcels: Source<Global>,
+    gap: Source<Global>,
+    zones: Source<Global>,
+}
+
+fn inputs_in<'h>(heap: &'h Heap, alloc: Global) -> Result<Inputs<'h>, AllocError> {
+    Ok(Inputs {
+        heap,
+        square: Source {
+            main: Vec::from_slice(heap, square(alloc, HUNDRED)?.as_slice())?,
+            index: None,
+        },
+        city: alone(layer(alloc, &[&CITY])?),
+        parcels: alone(layer(alloc, &[&WEST, &EAST])?),
+        gap: alone(layer(alloc, &[&WEST, &BEYOND])?),
+        zones: alone(layer(alloc, &HALVES)?),
+    })
+}
+
+/// What a run answers, which prints on this output.
+fn answer<'h, R: Threads + Wait + Sync>(
+    rt: &R,
+    which: Which,
+    inputs: &Inputs<'h>,
+    out: &mut Counted<Vec<u8>>,
+) -> Result<(), ToolFault<'static>> {
+    let (heap, unit) = (inputs.heap, Unit::Cm);
+    let (city, parcels) = (&inputs.city, &inputs.parcels);
+    match which {
+        Which::Areas => area(heap, &inputs.square, unit, out),
+        Which::Check => check(rt, heap, city, parcels, unit, &[], out),
+        Which::AllFaults => check_all(rt, heap, city, &inputs.gap, unit, &[], out),
+        Which::Export => {
+            let exported = export(rt, heap, city, parcels, unit, &[])?;
+            put_all(exported.lines.as_slice(), out)?;
+            Ok(())
+        }
+        Which::Places => {
+            let points = b"0 0\n1 1\n1 0\n-1 0\n62 2";
+            locate_text(rt, heap, city, parcels, unit, points, &[], out)
+        }
+        Which::Overlay => overlay(rt, heap, city, parcels, &inputs.zones, unit, &[], 2, out),
+    }
+}
+
+/// Ends the refusing of growths; whether one was refused.
+fn was_refused(heap: &Heap) -> bool {
+    let is_refused = heap.is_spent();
+    heap.refuse(0);
+    is_refused
+}
+
+/// Whether a run with this growth refused told of it and printed nothing; where there was no such growth, `None`, once it
+/// printed what it has to print.
+fn is_told<'h, R: Threads + Wait + Sync>(
+    rt: &R,
     alloc: Global,
-) -> Result<Source<&'h Refusing<Global>>, AllocError> {
-    let main = Vec::from_slice(heap, square(alloc, HUNDRED)?.as_slice())?;
-    Ok(Source { main, index: None })
-}
-
-#[test]
-fn an_area_run(rt: HostRuntime) -> Result<(), Fail> {
-    let alloc = rt.alloc();
-    let heap = &Refusing::new(alloc, 0);
-    let source = square_source(heap, alloc)?;
-    for number in 1..MOST {
-        let mut out = Counted::new(Vec::new(alloc));
-        heap.refuse(number);
-        let answer = area(heap, &source, Unit::Cm, &mut out);
-        let is_refused = heap.is_spent();
-        heap.refuse(0);
-        let printed = out.into_inner();
-        if !is_refused {
-            assert_eq!(rt; answer, Ok(()));
-            assert_eq!(rt; printed.as_slice(), b"1 20000\n".as_slice());
-            assert!(rt; number > 3);
-            return Ok(());
-        }
-        assert_eq!(rt; answer, Err(ToolFault::NoMemory), "at growth {number}");
-        assert!(rt; printed.is_empty(), "at growth {number}");
+    which: Which,
+    inputs: &Inputs<'h>,
+    number: u64,
+    want: &str,
+) -> Option<bool> {
+    let mut out = Counted::new(Vec::new(alloc));
+    inputs.heap.refuse(number);
+    let told = answer(rt, which, inputs, &mut out);
+    let is_refused = was_refused(inputs.heap);
+    let printed = out.into_inner();
+    if is_refused {
+        return Some(told == Err(ToolFault::NoMemory) && printed.is_empty());
     }
-    Err(Fail::new("each growth was refused"))
-}
-
-#[test]
-fn a_check_run(rt: HostRuntime) -> Result<(), Fail> {
-    let alloc = rt.alloc();
-    let heap = &Refusing::new(alloc, 0);
-    let source = square_source(heap, alloc)?;
-    let clerks = Vec::new(heap);
-    for number in 1..MOST {
-        let mut out = Counted::new(Vec::new(alloc));
-        heap.refuse(number);
-        let answer = check(heap, &source, &source, Unit::Cm, &clerks, &mut out);
-        let is_refused = heap.is_spent();
-        heap.refuse(0);
-        let printed = out.into_inner();
-        if !is_refused {
-            assert_eq!(rt; answer, Ok(()));
-            assert_eq!(rt; printed.as_slice(), b"tiling 1 20000\n".as_slice());
-            assert!(rt; number > 10);
-            return Ok(());
-        }
-        assert_eq!(rt; answer, Err(ToolFault::NoMemory), "at growth {number}");
-        assert!(rt; printed.is_empty(), "at growth {number}");
+    let is_whole = matches!(told, Ok(()) | Err(ToolFault::NoTiling(_, _)));
+    if is_whole && printed.as_slice() == want.as_bytes() {
+        None
+    } else {
+        Some(false)
     }
-    Err(Fail::new("each growth was refused"))
-}
-
-/// A source of a main file alone, in memory of the heap.
-fn source_of<'h>(
-    heap: &'h Refusing<Global>,
-    main: &[u8],
-) -> Result<Source<&'h Refusing<Global>>, AllocError> {
-    let main = Vec::from_slice(heap, main)?;
-    Ok(Source { main, index: None })
 }
 
 #[test]
-fn a_check_of_all_faults(rt: HostRuntime) -> Result<(), Fail> {
-    let beyond: [Place; 4] = [(61, 0), (100, 0), (100, 100), (61, 100)];
-    let alloc = rt.alloc();
-    let heap = &Refusing::new(alloc, 0);
-    let city = source_of(heap, &layer(alloc, &[&CITY])?)?;
-    let parcels = source_of(heap, &layer(alloc, &[&WEST, &beyond])?)?;
-    let clerks = Vec::new(heap);
-    let lines =
-        "edge 60 0 60 100 net 1\nedge 60 0 61 0 net -1\nedge 60 100 61 100 net 1\nedge 61 0 61 100 net -1\n";
-    for number in 1..MOST {
-        let mut out = Counted::new(Vec::new(alloc));
-        heap.refuse(number);
-        let answer = check_all(heap, &city, &parcels, Unit::Cm, &clerks, &mut out);
-        let is_refused = heap.is_spent();
-        heap.refuse(0);
-        let printed = out.into_inner();
-        if !is_refused {
-            assert!(rt; matches!(answer, Err(ToolFault::NoTiling(_, _))));
-            assert_eq!(rt; printed.as_slice(), lines.as_bytes());
-            assert!(rt; number > 10);
-            return Ok(());
-        }
-        assert_eq!(rt; answer, Err(ToolFault::NoMemory), "at growth {number}");
-        assert!(rt; printed.is_empty(), "at growth {number}");
-    }
-    Err(Fail::new("each growth was refused"))
-}
-
-#[test]
-fn an_export(rt: HostRuntime) -> Result<(), Fail> {
-    let alloc = rt.alloc();
-    let heap = &Refusing::new(alloc, 0);
-    let source = square_source(heap, alloc)?;
-    let clerks = Vec::new(heap);
-    for number in 1..MOST {
-        heap.refuse(number);
-        let answer = export(heap, &source, &source, Unit::Cm, &clerks);
-        let is_refused = heap.is_spent();
-        heap.refuse(0);
-        match answer {
-            Ok(exported) => {
-                assert!(rt; !is_refused && number > 10);
-                assert_eq!(rt; exported.lines.as_slice(), b"exported 1\n".as_slice());
-                assert_eq!(rt; exported.main.as_slice(), source.main.as_slice());
-                return Ok(());
+fn tells_each_refused_growth(rt: HostRuntime) -> Result<(), Fail> {
+    let heap = &Refusing::new(rt.alloc(), 0);
+    let inputs = inputs_in(heap, rt.alloc())?;
+    for (which, want) in &RUNS {
+        let mut growths = 0u64;
+        for number in 1..MOST {
+            match is_told(&rt, rt.alloc(), *which, &inputs, number, want) {
+                Some(is_so) => assert!(rt; is_so, "at growth {number}"),
+                None => break,
             }
-            Err(fault) => {
-                assert!(rt; is_refused, "at growth {number}");
-                assert_eq!(rt; fault, ToolFault::NoMemory, "at growth {number}");
-            }
+            growths = number;
+        }
+        assert!(rt; growths > 2 && growths < MOST - 1);
+    }
+    Ok(())
+}
+
+/// What an export prints in which the only edit, a merge of the two rectangles, was refused for want of memory.
+const WANT_TOLD: &str = "clerk 1 line 1 refused no memory\nexported 2\n";
+
+/// What it prints with memory.
+const MERGE_TOLD: &str = "clerk 1 line 1 ok 1\nexported 1\n";
+
+/// Whether that is what an export with the merge may answer: where a growth could be done without, the lines are those of a run
+/// with memory.
+fn is_edited<A: Allocator>(
+    answer: &Result<Exported<A>, ToolFault<'static>>,
+    is_refused: bool,
+) -> bool {
+    match answer {
+        Ok(exported) => match str::from_utf8(exported.lines.as_slice()) {
+            Ok(lines) => lines == MERGE_TOLD || is_refused && lines == WANT_TOLD,
+            Err(_) => false,
+        },
+        Err(fault) => {
+            is_refused && matches!(fault, ToolFault::NoMemory | ToolFault::NoWindow(1))
         }
     }
-    Err(Fail::new("each growth was refused"))
 }
 
 #[test]
-fn a_locate_run(rt: HostRuntime) -> Result<(), Fail> {
+fn an_export_with_an_edit(rt: HostRuntime) -> Result<(), Fail> {
     let alloc = rt.alloc();
     let heap = &Refusing::new(alloc, 0);
-    let source = square_source(heap, alloc)?;
-    let clerks = Vec::new(heap);
+    let inputs = inputs_in(heap, alloc)?;
+    let clerks = files(alloc, &["merge 1 2"])?;
+    let (city, parcels) = (&inputs.city, &inputs.parcels);
     for number in 1..MOST {
-        let mut out = Counted::new(Vec::new(alloc));
         heap.refuse(number);
-        let answer = locate_text(
-            heap,
-            &source,
-            &source,
-            Unit::Cm,
-            b"0 0\n1 1\n1 0\n-1 0\n2 2",
-            &clerks,
-            &mut out,
-        );
-        let is_refused = heap.is_spent();
-        heap.refuse(0);
-        let printed = out.into_inner();
+        let answer = export(&rt, heap, city, parcels, Unit::Cm, &clerks);
+        let is_refused = was_refused(heap);
+        assert!(rt; is_edited(&answer, is_refused), "at growth {number}");
         if !is_refused {
-            assert_eq!(rt; answer, Ok(()));
-            assert_eq!(rt;
-                printed.as_slice(),
-                b"0 0 edge 1\n1 1 inside 1\n1 0 edge 1\n-1 0 outside\n2 2 inside 1\n".as_slice()
-            );
-            assert!(rt; number > 10);
-            return Ok(());
-        }
-        assert_eq!(rt; answer, Err(ToolFault::NoMemory), "at growth {number}");
-        assert!(rt; printed.is_empty(), "at growth {number}");
-    }
-    Err(Fail::new("each growth was refused"))
-}
-
-#[test]
-fn an_overlay_run(rt: HostRuntime) -> Result<(), Fail> {
-    let alloc = rt.alloc();
-    let heap = &Refusing::new(alloc, 0);
-    let city = alone(layer(alloc, &[&CITY])?);
-    let parcels = alone(layer(alloc, &[&WEST, &EAST])?);
-    let zones = alone(layer(alloc, &HALVES)?);
-    let clerks = Vec::new(alloc);
-    let report = "entries 0\npair 1 1\npair 1 2\npair 2 2\nsplit 1\nwithin 2 2\n";
-    for number in 1..MOST {
-        let mut out = Counted::new(Vec::new(alloc));
-        heap.refuse(number);
-        let answer = overlay(
-            &rt,
-            heap,
-            &city,
-            &parcels,
-            &zones,
-            Unit::Cm,
-            &clerks,
-            2,
-            &mut out,
-        );
-        let is_refused = heap.is_spent();
-        heap.refuse(0);
-        let printed = out.into_inner();
-        if !is_refused {
-            assert_eq!(rt; answer, Ok(()));
-            assert_eq!(rt; printed.as_slice(), report.as_bytes());
             assert!(rt; number > 20);
             return Ok(());
-        }
-        assert_eq!(rt; answer, Err(ToolFault::NoMemory), "at growth {number}");
-        assert!(rt; printed.is_empty(), "at growth {number}");
-    }
-    Err(Fail::new("each growth was refused"))
-}
-
-/// Whether these are the lines of a run in which one of the five edits was refused for want of memory.
-fn tell_of_want(lines: &str) -> bool {
-    lines.lines().count() == 6 && lines.split("refused no memory\n").count() == 2
-}
-
-#[test]
-fn an_export_with_edits(rt: HostRuntime) -> Result<(), Fail> {
-    let alloc = rt.alloc();
-    let heap = &Refusing::new(alloc, 0);
-    let city = source_of(heap, &layer(alloc, &[&CITY])?)?;
-    let parcels = source_of(heap, &layer(alloc, &[&WEST, &EAST])?)?;
-    let mut clerks = Vec::new(heap);
-    clerks.push(Vec::from_slice(heap, FIVE.as_bytes())?)?;
-    let want = format!(in alloc; "{FIVE_TOLD}exported 2\n")?;
-    let mut edits_refused = 0u64;
-    for number in 1..MOST {
-        heap.refuse(number);
-        let answer = export(heap, &city, &parcels, Unit::Cm, &clerks);
-        let is_refused = heap.is_spent();
-        heap.refuse(0);
-        match answer {
-            // Where the growth could be done without, the lines are those of a run with memory.
-            Ok(exported) if is_refused => {
-                let lines = String::from_utf8_lossy(alloc, &exported.lines)?;
-                let is_want = tell_of_want(lines.as_str());
-                assert!(rt; is_want || lines == want, "at growth {number}: {lines}");
-                edits_refused = number;
-            }
-            Ok(exported) => {
-                assert_eq!(rt; exported.lines.as_slice(), want.as_bytes());
-                assert!(rt; edits_refused > 10);
-                return Ok(());
-            }
-            Err(fault) => {
-                assert!(rt; is_refused, "at growth {number}");
-                assert_eq!(rt; fault, ToolFault::NoMemory, "at growth {number}");
-            }
         }
     }
     Err(Fail::new("each growth was refused"))

@@ -1,4 +1,4 @@
-use Rattle.std.proofs.Common.{◌≡◌, ◌⊎◌, inl, inr, ◌<◌, ◌≤◌, arith, sym, ◌∙◌, ap, subst, length, map, List, ℕ}
+use Rattle.std.proofs.Common.{inl, inr, arith, sym, ◌∙◌, ap, subst, length}
 use Rattle.std.specs.Prelude.{IsPermutation}
 use Rattle.std.specs.List.Sorted.{IsStrictlyIncreasing}
 use Rattle.std.proofs.lemmas.List.{length-map}

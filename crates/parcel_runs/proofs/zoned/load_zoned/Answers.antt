@@ -1,4 +1,4 @@
-use Rattle.std.proofs.Common.{rules, ◌≡◌, ◌⊎◌, inr, ◌≤◌, length, sym, ◌∙◌}
+use Rattle.std.proofs.Common.{rules, ◌≡◌, ◌⊎◌, inr, ◌≤◌, length}
 use Rattle.parcel_runs.specs.declared.clerks.TheConstants.{CLERKS}
 use Rattle.parcel_runs.specs.declared.fault.ToolFault.TheVariants.{NoMemory}
 use Rattle.parcel_runs.specs.TilingFiles.{files_of}
@@ -16,27 +16,22 @@ returns-in_err-parcels-clause-refuses g c = λ fault h.
     (λ k. c.in_err-parcels.ensures.refuses fault k)
     (λ tiles regions are k. inr (c.in_err-parcels.ensures.loads tiles regions are)))
 
-pub returns-in_err-edited-clause-fault : goal.returns-in_err-edited-clause-fault
-returns-in_err-edited-clause-fault g c =
+pub returns-in_err-edits-clause-fault : goal.returns-in_err-edits-clause-fault
+returns-in_err-edits-clause-fault g c =
     let few : length c.args.clerks.now ≤ CLERKS = search rules in
-    passed_if _ _ _ c.from_residual-in_err-edited.ensures.1
+    passed_if _ _ _ c.from_residual-in_err-edits.ensures.1
     (behind_zones (files_of c.args.city.now) (files_of c.args.parcels.now) (files_of c.args.zones.now) c.args.unit c.args.clerks.now
-    c.in_ok-parcels.field-0.parcels c.in_ok-parcels.field-0.zones c.in_err-edited.field-0.0 few c.in_ok-parcels.ensures.layers c.in_err-edited.ensures.fault)
+    c.in_ok-parcels.field-0.parcels c.in_ok-parcels.field-0.zones c.in_err-edits.field-0.0 few c.in_ok-parcels.ensures.layers c.in_err-edits.ensures.fault)
 
-pub returns-in_err-edited-clause-refuses : goal.returns-in_err-edited-clause-refuses
-returns-in_err-edited-clause-refuses g c = λ fault h.
+pub returns-in_err-edits-clause-refuses : goal.returns-in_err-edits-clause-refuses
+returns-in_err-edits-clause-refuses g c = λ fault h.
     let few : length c.args.clerks.now ≤ CLERKS = search rules in
-    let e = c.in_err-edited.field-0.0 in
-    passed_on _ e (λ told. (told ≡ fault) ⊎ (told ≡ NoMemory)) c.from_residual-in_err-edited.ensures.1
+    let e = c.in_err-edits.field-0.0 in
+    passed_on _ e (λ told. (told ≡ fault) ⊎ (told ≡ NoMemory)) c.from_residual-in_err-edits.ensures.1
     (few_overlay_fault (files_of c.args.city.now) (files_of c.args.parcels.now) (files_of c.args.zones.now) c.args.unit c.args.clerks.now
     ((e ≡ fault) ⊎ (e ≡ NoMemory)) fault few h
     (λ k. absurd (c.in_ok-parcels.ensures.refuses fault k))
-    (λ tiles regions are k. c.in_err-edited.ensures.refuses fault k))
-
-pub returns-clause-zoned : goal.returns-clause-zoned
-returns-clause-zoned g c =
-    let are = c.in_ok-parcels.ensures.layers in
-    (c.in_ok-parcels.field-0.parcels, are, c.in_ok-edited.ensures.edited, c.in_ok-edited.ensures.city ∙ sym are.are_regions.same_city)
+    (λ tiles regions are k. c.in_err-edits.ensures.refuses fault k))
 
 pub returns-clause-refuses : goal.returns-clause-refuses
 returns-clause-refuses g c = λ fault h.
@@ -44,4 +39,4 @@ returns-clause-refuses g c = λ fault h.
     few_overlay_fault (files_of c.args.city.now) (files_of c.args.parcels.now) (files_of c.args.zones.now) c.args.unit c.args.clerks.now
     _ fault few h
     (λ k. absurd (c.in_ok-parcels.ensures.refuses fault k))
-    (λ tiles regions are k. absurd (c.in_ok-edited.ensures.refuses fault k))
+    (λ tiles regions are k. absurd (c.in_ok-edits.ensures.refuses fault k))

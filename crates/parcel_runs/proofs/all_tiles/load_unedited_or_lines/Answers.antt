@@ -4,11 +4,11 @@ use Rattle.parcel_runs.specs.declared.clerks.TheConstants.{CLERKS}
 use Rattle.parcel_runs.specs.declared.fault.ToolFault.TheVariants.{NoMemory}
 use Rattle.parcel_runs.specs.FaultLines.{AreLinesBefore, text_or_none}
 use Rattle.parcel_runs.specs.TilingFiles.{files_of}
-use Rattle.parcel_runs.specs.ClerkRuns.{texts_of}
+use Rattle.clerk_runs.specs.ClerkFiles.{texts_of}
 use Rattle.parcel_runs.specs.RunFaults.{IsRunFault}
 use Rattle.parcel_runs.proofs.Passing.{passed_as}
 use Rattle.parcel_runs.proofs.RunFaults.{few_fault, told_behind}
-use Rattle.parcel_runs.proofs.all_tiles.load_edited_or_lines.Goals as goal
+use Rattle.parcel_runs.proofs.all_tiles.load_unedited_or_lines.Goals as goal
 
 pub returns-in_err-layer-clause-refuses : goal.returns-in_err-layer-clause-refuses
 returns-in_err-layer-clause-refuses g c = λ fault h.
@@ -20,35 +20,31 @@ returns-in_err-layer-clause-refuses g c = λ fault h.
     (λ k. c.in_err-layer.ensures.refuses fault k)
     (λ tiles are k. inr (c.in_err-layer.ensures.loads tiles are)))) c.from_residual-in_err-layer.ensures.1
 
-pub returns-in_err-edit_layer-clause-fault : goal.returns-in_err-edit_layer-clause-fault
-returns-in_err-edit_layer-clause-fault g c =
+pub returns-in_err-edits-clause-fault : goal.returns-in_err-edits-clause-fault
+returns-in_err-edits-clause-fault g c =
     let few : length c.args.clerks.now ≤ CLERKS = search rules in
-    passed_as c.from_residual-in_err-edit_layer.result _
+    passed_as c.from_residual-in_err-edits.result _
     (λ refusal. (IsRunFault (files_of c.args.city.now) (files_of c.args.parcels.now) c.args.unit (texts_of c.args.clerks.now) refusal.fault
     × AreLinesBefore (files_of c.args.city.now) (files_of c.args.parcels.now) c.args.unit refusal.fault (text_or_none refusal.lines))
     ⊎ ((refusal.fault ≡ NoMemory) × (text_or_none refusal.lines ≡ [])))
-    c.from_residual-in_err-edit_layer.ensures.1
+    c.from_residual-in_err-edits.ensures.1
     (λ refusal told. told_behind (files_of c.args.city.now) (files_of c.args.parcels.now) c.args.unit c.args.clerks.now c.in_ok-layer.layer
-    c.in_err-edit_layer.field-0.0 refusal.fault (text_or_none refusal.lines) few c.in_ok-layer.ensures.tiles c.in_err-edit_layer.ensures.fault
+    c.in_err-edits.field-0.0 refusal.fault (text_or_none refusal.lines) few c.in_ok-layer.ensures.tiles c.in_err-edits.ensures.fault
     told.0 (ap text_or_none told.1))
 
-pub returns-in_err-edit_layer-clause-refuses : goal.returns-in_err-edit_layer-clause-refuses
-returns-in_err-edit_layer-clause-refuses g c = λ fault h.
+pub returns-in_err-edits-clause-refuses : goal.returns-in_err-edits-clause-refuses
+returns-in_err-edits-clause-refuses g c = λ fault h.
     let few : length c.args.clerks.now ≤ CLERKS = search rules in
-    let e = c.in_err-edit_layer.field-0.0 in
-    IsErrAnd-weaker c.from_residual-in_err-edit_layer.result _ (λ refusal. (refusal.fault ≡ fault) ⊎ (refusal.fault ≡ NoMemory))
+    let e = c.in_err-edits.field-0.0 in
+    IsErrAnd-weaker c.from_residual-in_err-edits.result _ (λ refusal. (refusal.fault ≡ fault) ⊎ (refusal.fault ≡ NoMemory))
     (λ refusal told. subst (λ x. (x ≡ fault) ⊎ (x ≡ NoMemory)) (sym told.0)
     (few_fault (files_of c.args.city.now) (files_of c.args.parcels.now) c.args.unit c.args.clerks.now ((e ≡ fault) ⊎ (e ≡ NoMemory)) fault few h
     (λ k. absurd (c.in_ok-layer.ensures.refuses fault k))
-    (λ tiles are k. c.in_err-edit_layer.ensures.refuses fault k))) c.from_residual-in_err-edit_layer.ensures.1
-
-pub returns-clause-edited : goal.returns-clause-edited
-returns-clause-edited g c =
-    (c.in_ok-layer.layer, c.in_ok-layer.ensures.tiles, c.in_ok-edit_layer.ensures.edited, c.in_ok-edit_layer.ensures.city)
+    (λ tiles are k. c.in_err-edits.ensures.refuses fault k))) c.from_residual-in_err-edits.ensures.1
 
 pub returns-clause-refuses : goal.returns-clause-refuses
 returns-clause-refuses g c = λ fault h.
     let few : length c.args.clerks.now ≤ CLERKS = search rules in
     few_fault (files_of c.args.city.now) (files_of c.args.parcels.now) c.args.unit c.args.clerks.now ⊥ fault few h
     (λ k. c.in_ok-layer.ensures.refuses fault k)
-    (λ tiles are k. c.in_ok-edit_layer.ensures.refuses fault k)
+    (λ tiles are k. c.in_ok-edits.ensures.refuses fault k)

@@ -1,17 +1,16 @@
 //! What the edits of clerks' files lead to, and what is told of them.
 
-use crate::export_runs::{CITY, Place, WEST, layer};
-use crate::locate_runs::{EAST, alone};
+use crate::export_runs::{BAY, BEYOND, CITY, EAST, Place, WEST, alone, layer};
 use geo_exact::{Corner, Counted, RawRing, Unit};
 use parcel_runs::check::{check, check_all};
 use parcel_runs::export::export;
 use parcel_runs::locate::{locate, locate_text};
-use parcel_runs::{
-    Source, a_run_of_edits_is_lawful, refuse_many_clerks, without_clerks_nothing_changes,
-};
+use parcel_runs::{Source, refuse_many_clerks};
 use shp_files::read_layer;
 use std::alloc::{AllocError, Global};
+use std::sync::Wait;
 use std::test::Fail;
+use std::thread::Threads;
 
 /// Five edits of the two rectangles, the fourth of a parcel that is gone.
 pub const FIVE: &str =
@@ -20,22 +19,6 @@ pub const FIVE: &str =
 /// What is told of them.
 pub const FIVE_TOLD: &str =
     "clerk 1 line 1 ok 1\nclerk 1 line 2 ok 2\nclerk 1 line 3 ok 3\nclerk 1 line 4 refused E2 1 3\nclerk 1 line 5 ok 4\n";
-
-/// Three parcels, of which the second and the third lie in a bay of the first.
-const BAY: [&[Place]; 3] = [
-    &[
-        (0, 0),
-        (100, 0),
-        (100, 20),
-        (40, 20),
-        (40, 80),
-        (100, 80),
-        (100, 100),
-        (0, 100),
-    ],
-    &[(40, 20), (70, 20), (70, 80), (40, 80)],
-    &[(70, 20), (100, 20), (100, 80), (70, 80)],
-];
 
 /// Clerks' files of these texts.
 pub fn files(alloc: Global, texts: &[&str]) -> Result<Vec<Vec<u8>>, AllocError> {
@@ -56,11 +39,17 @@ fn parcels(alloc: Global, bay: bool) -> Result<Source<Global>, AllocError> {
 }
 
 /// What a check of the two rectangles, or of the bay, prints with clerks' files of these texts, on whichever stream.
-fn told(alloc: Global, bay: bool, texts: &[&str]) -> Result<String, AllocError> {
+fn told<R: Threads + Wait + Sync>(
+    rt: &R,
+    alloc: Global,
+    bay: bool,
+    texts: &[&str],
+) -> Result<String, AllocError> {
     let city = alone(layer(alloc, &[&CITY])?);
     let clerks = files(alloc, texts)?;
     let mut out = Counted::new(Vec::new(alloc));
     match check(
+        rt,
         &alloc,
         &city,
         &parcels(alloc, bay)?,
@@ -85,8 +74,12 @@ const ROWS: [Row; 12] = [
     ),
     (
         false,
-        &["merge 1 2", "# nothing\n", "\nmerge 2 1\nmerge 1 9"],
-        "clerk 1 line 1 ok 1\nclerk 3 line 2 refused E2 2 1\nclerk 3 line 3 refused E2 1 1\ntiling 1 20000\n",
+        &[
+            "merge 1 2\nmerge 2 1\nmerge 1 9",
+            "# nothing\n",
+            "\nmerge 8 9",
+        ],
+        "clerk 1 line 1 ok 1\nclerk 1 line 2 refused E2 2 1\nclerk 1 line 3 refused E2 1 1\nclerk 3 line 2 refused E1 8\ntiling 1 20000\n",
     ),
     (
         false,
@@ -136,10 +129,35 @@ const ROWS: [Row; 12] = [
 fn tells_of_each_edit(rt: HostRuntime) -> Result<(), Fail> {
     let alloc = rt.alloc();
     for (bay, texts, want) in &ROWS {
-        assert_eq!(rt; told(alloc, *bay, texts)?.as_str(), *want);
+        assert_eq!(rt; told(&rt, alloc, *bay, texts)?.as_str(), *want);
     }
-    a_run_of_edits_is_lawful::<Global>();
-    without_clerks_nothing_changes::<Global>();
+    Ok(())
+}
+
+/// Clerks' files, and the two answers that a check may print with them, as the clerks come first or last.
+const EITHER: [(&[&str], &str, &str); 2] = [
+    (
+        &["insert 0 0 60 0 30 0", "insert 60 100 100 100 80 100"],
+        "clerk 1 line 1 ok 1\nclerk 2 line 1 ok 2\ntiling 2 20000\n",
+        "clerk 1 line 1 ok 2\nclerk 2 line 1 ok 1\ntiling 2 20000\n",
+    ),
+    (
+        &["merge 1 2", "merge 1 2"],
+        "clerk 1 line 1 ok 1\nclerk 2 line 1 refused E2 1 1\ntiling 1 20000\n",
+        "clerk 1 line 1 refused E2 1 1\nclerk 2 line 1 ok 1\ntiling 1 20000\n",
+    ),
+];
+
+#[test]
+fn tells_of_clerks_who_come_in_any_order(rt: HostRuntime) -> Result<(), Fail> {
+    let alloc = rt.alloc();
+    for (texts, first, last) in &EITHER {
+        let lines = told(&rt, alloc, false, texts)?;
+        assert!(rt;
+            lines.as_str() == *first || lines.as_str() == *last,
+            "{lines}"
+        );
+    }
     Ok(())
 }
 
@@ -153,7 +171,7 @@ fn refuses_a_ring_with_too_many_corners(rt: HostRuntime) -> Result<(), Fail> {
         text.push_str(" 30 50")?;
     }
     text.push_str(" 60 100")?;
-    let answer = told(alloc, false, &[text.as_str()])?;
+    let answer = told(&rt, alloc, false, &[text.as_str()])?;
     assert_eq!(rt;
         answer.as_str(),
         "clerk 1 line 1 refused E10\ntiling 2 20000\n"
@@ -182,7 +200,14 @@ fn exports_what_edits_lead_to(rt: HostRuntime) -> Result<(), Fail> {
     let alloc = rt.alloc();
     let city = alone(layer(alloc, &[&CITY])?);
     let clerks = files(alloc, &[FIVE])?;
-    let Ok(exported) = export(&alloc, &city, &parcels(alloc, false)?, Unit::Cm, &clerks) else {
+    let Ok(exported) = export(
+        &rt,
+        &alloc,
+        &city,
+        &parcels(alloc, false)?,
+        Unit::Cm,
+        &clerks,
+    ) else {
         return Err(Fail::new("no export"));
     };
     let want = format!(in alloc; "{FIVE_TOLD}exported 2\n")?;
@@ -211,6 +236,7 @@ fn locates_in_what_edits_lead_to(rt: HostRuntime) -> Result<(), Fail> {
     ] {
         let mut out = Counted::new(Vec::new(alloc));
         let answer = locate_text(
+            &rt,
             &alloc,
             &city,
             &parcels,
@@ -228,6 +254,7 @@ fn locates_in_what_edits_lead_to(rt: HostRuntime) -> Result<(), Fail> {
     let mut out = Counted::new(Vec::new(alloc));
     let points = [Corner { x: 60, y: 50 }];
     let answer = locate(
+        &rt,
         &alloc,
         &city,
         &parcels,
@@ -245,9 +272,8 @@ fn locates_in_what_edits_lead_to(rt: HostRuntime) -> Result<(), Fail> {
 #[test]
 fn checks_all_before_the_clerks(rt: HostRuntime) -> Result<(), Fail> {
     let alloc = rt.alloc();
-    let beyond: [Place; 4] = [(61, 0), (100, 0), (100, 100), (61, 100)];
     let city = alone(layer(alloc, &[&CITY])?);
-    let gap = alone(layer(alloc, &[&WEST, &beyond])?);
+    let gap = alone(layer(alloc, &[&WEST, &BEYOND])?);
     let whole = parcels(alloc, false)?;
     let lines =
         "edge 60 0 60 100 net 1\nedge 60 0 61 0 net -1\nedge 60 100 61 100 net 1\nedge 61 0 61 100 net -1\n";
@@ -263,7 +289,7 @@ fn checks_all_before_the_clerks(rt: HostRuntime) -> Result<(), Fail> {
     ] {
         let clerks = files(alloc, &[text])?;
         let mut out = Counted::new(Vec::new(alloc));
-        let told = match check_all(&alloc, &city, parcels, Unit::Cm, &clerks, &mut out) {
+        let told = match check_all(&rt, &alloc, &city, parcels, Unit::Cm, &clerks, &mut out) {
             Ok(()) => String::new(alloc),
             Err(fault) => format!(in alloc; "{fault}")?,
         };
