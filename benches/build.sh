@@ -1,7 +1,7 @@
 #!/usr/bin/env bash
 # build.sh NAME FOLDER: builds the program benches/programs/NAME over the crates of this repository, in a temporary folder,
-# where its sources lose the ending .txt (the gate stops at an .rt file of no crate of its own), proves it as the gate would,
-# and copies it to FOLDER. What earlier checks kept in crates/*/out is used where it is there.
+# where its sources and proofs lose the ending .txt (the gate stops at an .rt file of no crate of its own), proves it as the gate
+# would, and copies it to FOLDER. What earlier checks kept in crates/*/out is used where it is there.
 set -eu
 here=$(cd "$(dirname "$0")" && pwd)
 name=$1
@@ -11,7 +11,7 @@ room=$(mktemp -d)
 trap 'rm -rf "$room"' EXIT
 cp -r "$here/../crates.txt" "$here/../crates" "$room/"
 cp -r "$here/programs/$name" "$room/crates/$name"
-for text in "$room/crates/$name"/src/*.rt.txt; do mv "$text" "${text%.txt}"; done
+find "$room/crates/$name" -name '*.txt' | while read -r text; do mv "$text" "${text%.txt}"; done
 cat "$here/programs/$name/crates.line" >> "$room/crates.txt"
 cd "$room/crates/$name"
 rt run --jobs 2 < /dev/null > "$room/log" 2>&1 || { tail -20 "$room/log" >&2; exit 1; }

@@ -1,0 +1,116 @@
+//! Edits that are drawn at random from the parcels of a sheet.
+
+use fabric_core::Sheet;
+use geo_exact::{Corner, Corners};
+use rand_core::utils::NextWord;
+use rand_pcg::Pcg32;
+use ring_edits::Edit;
+use std::alloc::Allocator;
+
+/// Draws a place of a list of so many; 0 where it is empty.
+fn drawn_place(words: &mut Pcg32, count: usize) -> usize {
+    if count == 0 {
+        return 0;
+    }
+    words.next_word() as usize % count
+}
+
+/// The corner at a place of a ring, counted on round it.
+fn corner_at(ring: &[Corner], place: usize) -> Option<Corner> {
+    if ring.is_empty() {
+        return None;
+    }
+    ring.get(place % ring.len()).copied()
+}
+
+/// The edge at a place of a ring.
+fn edge_at(ring: &[Corner], place: usize) -> Option<(Corner, Corner)> {
+    Some((
+        corner_at(ring, place)?,
+        corner_at(ring, place.wrapping_add(1))?,
+    ))
+}
+
+/// Whether a ring has an edge.
+fn has_edge(ring: &[Corner], edge: (Corner, Corner)) -> bool {
+    for place in 0..ring.len() {
+        if edge_at(ring, place) == Some(edge) {
+            return true;
+        }
+    }
+    false
+}
+
+/// A corner put half way into the edge at a place, where that is whole.
+fn insert_of<A: Allocator>(ring: &[Corner], place: usize) -> Option<Edit<A>> {
+    let (from, to) = edge_at(ring, place)?;
+    let x = from.x.wrapping_add(to.x);
+    let y = from.y.wrapping_add(to.y);
+    if x % 2 != 0 || y % 2 != 0 {
+        return None;
+    }
+    let at = Corner::new(x / 2, y / 2)?;
+    Some(Edit::Insert { from, to, at })
+}
+
+/// A split from the corner at a place to the one across.
+fn split_of<A: Allocator + Copy>(
+    alloc: A,
+    id: u64,
+    ring: &[Corner],
+    place: usize,
+) -> Option<Edit<A>> {
+    let mut path = Corners::with_capacity(alloc, 2).ok()?;
+    path.push(corner_at(ring, place)?).ok()?;
+    path.push(corner_at(ring, place.wrapping_add(ring.len() / 2))?)
+        .ok()?;
+    Some(Edit::Split { id, path })
+}
+
+/// The first of some parcels that has an edge.
+fn first_with<H: Allocator>(
+    sheet: &Sheet<'_, H>,
+    ids: &[u64],
+    edge: (Corner, Corner),
+) -> Option<u64> {
+    for id in ids {
+        if has_edge(sheet.ring(*id)?.corners.as_slice(), edge) {
+            return Some(*id);
+        }
+    }
+    None
+}
+
+/// A merge with the parcel beyond the edge at a place.
+fn merge_of<'a, H: Allocator>(
+    sheet: &Sheet<'a, H>,
+    id: u64,
+    ring: &[Corner],
+    place: usize,
+) -> Option<Edit<&'a H>> {
+    let (from, to) = edge_at(ring, place)?;
+    let ids = sheet.candidates(from, from).ok()?;
+    let b = first_with(sheet, ids.as_slice(), (to, from))?;
+    Some(Edit::Merge { a: id, b })
+}
+
+/// An edit that may be lawful, of a parcel that is drawn. Short rings get corners and long ones are split, and of few parcels none
+/// is merged.
+pub fn drawn_edit<'a, H: Allocator>(
+    heap: &'a H,
+    sheet: &Sheet<'a, H>,
+    words: &mut Pcg32,
+) -> Option<Edit<&'a H>> {
+    let count = sheet.ids().count();
+    let id = sheet.ids().nth(drawn_place(words, count))?;
+    let ring = sheet.ring(id)?.corners.as_slice();
+    let place = drawn_place(words, ring.len());
+    let kind = words.next_word() % 3;
+    if ring.len() < 8 || kind == 0 {
+        insert_of(ring, place)
+    } else if ring.len() > 20 || count < 6 || kind == 1 && count < 30 {
+        split_of(heap, id, ring, place)
+    } else {
+        merge_of(sheet, id, ring, place)
+    }
+}

@@ -1,0 +1,73 @@
+//! One clerk who cuts the first parcel in halves.
+
+use crate::answers::{all_answer, submitted, tells};
+use crate::changes::{Change, INTO_HALVES};
+use crate::plays::Told;
+use desk_lock::{Card, Naming, Office, Receipt, Window};
+use std::alloc::Allocator;
+use std::sync::Wait;
+use std::test::Fail;
+
+/// Puts one of the corners in, under the number of its place in the table, from 1.
+fn put_corner<'a, H: Allocator, J: Naming<H>, R: Wait + Drop, W: Wait>(
+    rt: &W,
+    heap: &'a H,
+    office: &Office<'a, H, J, R>,
+    card: &mut Card<'a, H, J>,
+    number: u64,
+    change: Change,
+) -> Result<Receipt<'a, H, J>, Fail> {
+    let receipt = submitted(rt, heap, office, card, change)?;
+    if !tells(&receipt, number, true) {
+        return Err(Fail::new("another receipt"));
+    }
+    Ok(receipt)
+}
+
+/// Puts both corners in; a window learns their receipts.
+pub fn learn_corners<'a, H: Allocator, J: Naming<H>, R: Wait + Drop, W: Wait>(
+    rt: &W,
+    heap: &'a H,
+    office: &Office<'a, H, J, R>,
+    card: &mut Card<'a, H, J>,
+    window: &mut Window<'a, H, J>,
+) -> Result<(), Fail> {
+    for place in 0..2usize {
+        let number = place as u64 + 1;
+        let receipt = put_corner(rt, heap, office, card, number, INTO_HALVES[place])?;
+        window.learn(&receipt);
+    }
+    Ok(())
+}
+
+/// Puts both corners in and cuts between them: the last receipt.
+pub fn cut<'a, H: Allocator, J: Naming<H>, R: Wait + Drop, W: Wait>(
+    rt: &W,
+    heap: &'a H,
+    office: &Office<'a, H, J, R>,
+    card: &mut Card<'a, H, J>,
+) -> Result<Receipt<'a, H, J>, Fail> {
+    for place in 0..2usize {
+        put_corner(rt, heap, office, card, place as u64 + 1, INTO_HALVES[place])?;
+    }
+    submitted(rt, heap, office, card, INTO_HALVES[2])
+}
+
+/// A clerk's edits are told, and seen at a window that learns the last receipt, and then at each other.
+pub fn learn_halves<'a, H: Allocator, J: Naming<H>, R: Wait + Drop, W: Wait>(
+    rt: &W,
+    heap: &'a H,
+    office: &Office<'a, H, J, R>,
+    cards: &mut [Card<'a, H, J>],
+    windows: &mut [Window<'a, H, J>],
+) -> Result<Told, Fail> {
+    if cards.is_empty() || windows.is_empty() || !all_answer(windows, 0, 1)? {
+        return Err(Fail::new("another answer before the edits"));
+    }
+    let last = cut(rt, heap, office, &mut cards[0])?;
+    windows[0].learn(&last);
+    if !tells(&last, 3, true) || !all_answer(windows, 3, 3)? || cards[0].count() != 3 {
+        return Err(Fail::new("another answer after the edits"));
+    }
+    Ok(Told::Done)
+}

@@ -1,0 +1,28 @@
+//! Tests of the office: worked examples of edits and answers, clerks and readers in threads of their own, and each growth refused
+//! in turn.
+#![tactic(auto)]
+
+#[cfg(test)]
+mod answers;
+#[cfg(test)]
+mod changes;
+#[cfg(test)]
+mod clerks;
+#[cfg(test)]
+mod drawn;
+#[cfg(test)]
+mod growths;
+#[cfg(test)]
+mod halves;
+#[cfg(test)]
+mod opened;
+#[cfg(test)]
+mod plays;
+#[cfg(test)]
+mod readers;
+#[cfg(test)]
+mod rows;
+#[cfg(test)]
+mod scans;
+#[cfg(test)]
+mod wanting;

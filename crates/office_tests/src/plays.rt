@@ -1,0 +1,263 @@
+//! Offices that are opened, played at, and closed.
+
+ghost use Rattle.std.specs.Prelude.{◌≡◌};
+ghost use Rattle.desk_lock.specs.Offices.{origin_of};
+
+use crate::answers::{Cards, Windows};
+use crate::clerks::{Task, work_all};
+use crate::growths::{cut_with_memory, locate_with_memory, sheet_with_memory, was_refused};
+use crate::halves::learn_halves;
+use crate::opened::Refuses;
+use crate::readers::read_meanwhile;
+use desk_lock::{Card, CloseFault, Name, Naming, Office, OpenFault, Window};
+use fabric_core::{Fabric, Refusal};
+use std::marker::Brand;
+use std::sync::Wait;
+use std::test::Fail;
+use std::thread::Threads;
+
+/// The number of no growth.
+pub const NONE: u64 = u64::MAX;
+
+/// What is done at an office while it is open.
+#[derive(Clone, Copy, PartialEq, Eq)]
+pub enum Play {
+    /// Nothing.
+    Nothing,
+    /// Clerk 1 cuts the first parcel in halves, and the first window learns the last receipt.
+    Halves,
+    /// Each clerk puts 100 corners into a side of the city.
+    Sides,
+    /// Two clerks merge the same two parcels.
+    Merges,
+    /// Clerks make edits that are drawn at random, and readers ask meanwhile where corners lie.
+    Drawn,
+    /// The last card is given up.
+    GiveUp,
+    /// The first parcel is cut in halves, the growth of the first number being refused in the last submit, and that of the second in
+    /// the publishing, where it is not published at once.
+    Cut(u64, u64),
+    /// A growth is refused for a sheet.
+    Sheet(u64),
+    /// A growth is refused for an answer.
+    Locate(u64),
+}
+
+/// What came of it.
+#[derive(Clone, Copy, Debug, PartialEq, Eq)]
+pub enum Told {
+    /// The office was not opened, for this reason.
+    Unopened(OpenFault),
+    /// A growth was refused; where memory was wanting, the call was made again, and all was done.
+    Refused,
+    /// An edit was accepted, and published later; whether a growth was refused then, too.
+    Unpublished(bool),
+    /// A card was given up, so that the office could not be closed.
+    GivenUp,
+    /// All was done at once.
+    Done,
+}
+
+/// An office's fabric, where it was closed or not opened, and what came of it.
+pub type Ended<'a, H> = (Option<Fabric<'a, H>>, Told);
+
+/// Opens an office for so many clerks with so many windows, with a growth refused, plays at it, and closes it.
+pub fn at_office<'a, H: Refuses + Send + Sync, R: Threads + Wait + Copy + Send + Sync>(
+    rt: R,
+    heap: &'a H,
+    fabric: Fabric<'a, H>,
+    places: (usize, usize),
+    refused: u64,
+    play: Play,
+) -> Result<Ended<'a, H>, Fail> {
+    let name = Name::new(heap)?;
+    heap.refuse(refused);
+    opened_as::<H, Brand, R>(rt, heap, name, fabric, places.0, places.1, play)
+}
+
+/// The same under a name.
+fn opened_as<
+    'a,
+    H: Refuses + Send + Sync,
+    J: Naming<H> + Send + Sync,
+    R: Threads + Wait + Copy + Send + Sync,
+>(
+    rt: R,
+    heap: &'a H,
+    name: Name<&'a H>,
+    fabric: Fabric<'a, H>,
+    clerks: usize,
+    windows: usize,
+    play: Play,
+) -> Result<Ended<'a, H>, Fail>
+    requires book { name.book ≡ J.book }
+    requires office { J.office ≡ record { cards = name.cards; clerks = clerks; origin = origin_of fabric } }
+{
+    match Office::<H, J, R>::open(heap, rt, name, fabric, clerks, windows) {
+        Ok((office, cards, windows)) => {
+            let is_refused = was_refused(heap);
+            let (cards, told) = played(rt, heap, &office, cards, windows, play)?;
+            let told = if is_refused { Told::Refused } else { told };
+            Ok((closed(&rt, heap, office, clerks, cards)?, told))
+        }
+        Err((fabric, fault)) => {
+            heap.refuse(0);
+            Ok((Some(fabric), Told::Unopened(fault)))
+        }
+    }
+}
+
+/// Plays at an office: the cards, and what came of it.
+fn played<
+    'a,
+    H: Refuses + Send + Sync,
+    J: Naming<H> + Send + Sync,
+    R: Threads + Wait + Copy + Send + Sync,
+>(
+    rt: R,
+    heap: &'a H,
+    office: &Office<'a, H, J, R>,
+    mut cards: Cards<'a, H, J>,
+    mut windows: Windows<'a, H, J>,
+    play: Play,
+) -> Result<(Cards<'a, H, J>, Told), Fail> {
+    match play {
+        Play::Sides => work_sides(rt, heap, office, cards),
+        Play::Merges => work_merges(rt, heap, office, cards),
+        Play::Drawn => read_meanwhile(rt, heap, office, cards, windows),
+        Play::GiveUp => {
+            if let Some(card) = cards.pop() {
+                card.give_up();
+            }
+            Ok((cards, Told::GivenUp))
+        }
+        _ => {
+            let told = played_alone(
+                &rt,
+                heap,
+                office,
+                cards.as_mut_slice(),
+                windows.as_mut_slice(),
+                play,
+            )?;
+            Ok((cards, told))
+        }
+    }
+}
+
+/// Plays at an office in this thread alone, with the first card and the first window: what came of it.
+fn played_alone<'a, H: Refuses, J: Naming<H>, R: Wait + Drop, W: Wait>(
+    rt: &W,
+    heap: &'a H,
+    office: &Office<'a, H, J, R>,
+    cards: &mut [Card<'a, H, J>],
+    windows: &mut [Window<'a, H, J>],
+    play: Play,
+) -> Result<Told, Fail> {
+    if cards.is_empty() || windows.is_empty() {
+        return Err(Fail::new("no card and no window"));
+    }
+    match play {
+        Play::Halves => learn_halves(rt, heap, office, cards, windows),
+        Play::Cut(number, later) => cut_with_memory(
+            rt,
+            heap,
+            office,
+            &mut cards[0],
+            &mut windows[0],
+            (number, later),
+        ),
+        Play::Sheet(number) => sheet_with_memory(rt, heap, office, cards, number),
+        Play::Locate(number) => {
+            locate_with_memory(rt, heap, office, &mut cards[0], &mut windows[0], number)
+        }
+        _ => Ok(Told::Done),
+    }
+}
+
+/// Two clerks put 100 corners each into a side of the city, and all are accepted.
+fn work_sides<
+    'a,
+    H: Refuses + Send + Sync,
+    J: Naming<H> + Send + Sync,
+    R: Threads + Wait + Copy + Send + Sync,
+>(
+    rt: R,
+    heap: &'a H,
+    office: &Office<'a, H, J, R>,
+    cards: Cards<'a, H, J>,
+) -> Result<(Cards<'a, H, J>, Told), Fail> {
+    let (cards, outcomes) = work_all(rt, heap, office, cards, Task::Side(100))?;
+    for outcome in outcomes.as_slice() {
+        if outcome.0 != 100 || outcome.2.is_some() {
+            return Err(Fail::new("an edit of a side is refused"));
+        }
+    }
+    Ok((cards, Told::Done))
+}
+
+/// Two clerks merge the same two parcels: the edit of one is accepted, under number 1, and that of the other refused, since the first
+/// parcel is gone.
+fn work_merges<
+    'a,
+    H: Refuses + Send + Sync,
+    J: Naming<H> + Send + Sync,
+    R: Threads + Wait + Copy + Send + Sync,
+>(
+    rt: R,
+    heap: &'a H,
+    office: &Office<'a, H, J, R>,
+    cards: Cards<'a, H, J>,
+) -> Result<(Cards<'a, H, J>, Told), Fail> {
+    let (cards, outcomes) = work_all(rt, heap, office, cards, Task::Merge)?;
+    let [one, other] = outcomes.as_slice() else {
+        return Err(Fail::new("not two clerks"));
+    };
+    let (first, second) = if one.0 == 1 {
+        (one, other)
+    } else {
+        (other, one)
+    };
+    if *first != (1, 1, None) || *second != (0, 0, Some(Refusal::Retired { id: 1, by: 1 })) {
+        return Err(Fail::new("not one merge alone"));
+    }
+    Ok((cards, Told::Done))
+}
+
+/// Closes an office of so many clerks, first with no card, which is refused, and then with these: its fabric, where they are all.
+fn closed<'a, H: Refuses, J: Naming<H>, R: Wait + Drop, W: Wait>(
+    rt: &W,
+    heap: &'a H,
+    office: Office<'a, H, J, R>,
+    clerks: usize,
+    cards: Cards<'a, H, J>,
+) -> Result<Option<Fabric<'a, H>>, Fail> {
+    match office.close(rt, Vec::new(heap)) {
+        Ok(_) => Err(Fail::new("closed with no card")),
+        Err((office, none, fault)) => {
+            if fault != CloseFault::CardsMissing(clerks, 0) || !none.is_empty() {
+                return Err(Fail::new("another fault"));
+            }
+            closed_with(rt, office, clerks, cards)
+        }
+    }
+}
+
+/// Closes an office of so many clerks with these cards: its fabric, where they are all.
+fn closed_with<'a, H: Refuses, J: Naming<H>, R: Wait + Drop, W: Wait>(
+    rt: &W,
+    office: Office<'a, H, J, R>,
+    clerks: usize,
+    cards: Cards<'a, H, J>,
+) -> Result<Option<Fabric<'a, H>>, Fail> {
+    let handed_in = cards.len();
+    match office.close(rt, cards) {
+        Ok(fabric) => Ok(Some(fabric)),
+        Err((_, cards, fault)) => {
+            if fault != CloseFault::CardsMissing(clerks, handed_in) || cards.len() != handed_in {
+                return Err(Fail::new("another fault"));
+            }
+            Ok(None)
+        }
+    }
+}

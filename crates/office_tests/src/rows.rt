@@ -1,0 +1,163 @@
+//! Worked examples of what clerks do and windows answer.
+
+use crate::changes::{Change, edit_of};
+use crate::opened::{Refuses, fabric, quarters, town};
+use crate::plays::{NONE, Play, Told, at_office};
+use crate::readers::{EDITS, is_replayed};
+use desk_lock::OpenFault;
+use fabric_core::Fabric;
+use refusing_alloc::Refusing;
+use std::alloc::Allocator;
+use std::sync::Wait;
+use std::test::Fail;
+use std::thread::Threads;
+use test_builders::Place;
+
+/// What a fabric has: so many entries and parcels, of which this is the last.
+pub type Parcels = (u64, usize, u64);
+
+/// The town.
+pub const WHOLE: Parcels = (0, 2, 2);
+
+/// The town with its first parcel cut in halves.
+pub const HALVED: Parcels = (3, 3, 4);
+
+/// The town with its parcels merged.
+const MERGED: Parcels = (1, 1, 3);
+
+/// Whether a fabric has this.
+fn has_parcels<H: Allocator>(fabric: &Fabric<'_, H>, want: Parcels) -> bool {
+    fabric.entries() == want.0
+        && fabric.ids().count() == want.1
+        && fabric.ids().last() == Some(want.2)
+}
+
+/// A play at an office with the town, which ends with a fabric that has this, or with none where a card was given up: what came of it.
+pub fn told_of<H: Refuses + Send + Sync, R: Threads + Wait + Copy + Send + Sync>(
+    rt: R,
+    heap: &H,
+    places: (usize, usize),
+    refused: u64,
+    play: Play,
+    want: Parcels,
+) -> Result<Told, Fail> {
+    let (fabric, told) = at_office(rt, heap, town(heap)?, places, refused, play)?;
+    let is_so = match &fabric {
+        Some(fabric) => has_parcels(fabric, want),
+        None => told == Told::GivenUp,
+    };
+    if is_so {
+        Ok(told)
+    } else {
+        Err(Fail::new("another fabric"))
+    }
+}
+
+/// Places for clerks and windows, a play there, what comes of it, and what the fabric has then.
+type Row = ((usize, usize), Play, Told, Parcels);
+
+static ROWS: [Row; 10] = [
+    ((1, 1), Play::Halves, Told::Done, HALVED),
+    ((1, 2), Play::Halves, Told::Done, HALVED),
+    ((2, 1), Play::Merges, Told::Done, MERGED),
+    ((1, 8), Play::Nothing, Told::Done, WHOLE),
+    ((8, 1), Play::Nothing, Told::Done, WHOLE),
+    ((1, 1), Play::GiveUp, Told::GivenUp, WHOLE),
+    (
+        (0, 9),
+        Play::Nothing,
+        Told::Unopened(OpenFault::Places(0)),
+        WHOLE,
+    ),
+    (
+        (9, 0),
+        Play::Nothing,
+        Told::Unopened(OpenFault::Places(9)),
+        WHOLE,
+    ),
+    (
+        (1, 9),
+        Play::Nothing,
+        Told::Unopened(OpenFault::Places(9)),
+        WHOLE,
+    ),
+    (
+        (1, 0),
+        Play::Nothing,
+        Told::Unopened(OpenFault::Places(0)),
+        WHOLE,
+    ),
+];
+
+#[test]
+fn tells_what_was_published(rt: HostRuntime) -> Result<(), Fail> {
+    let heap = Refusing::new(rt.alloc(), 0);
+    for (places, play, told, want) in &ROWS {
+        assert_eq!(rt; told_of(rt, &heap, *places, NONE, *play, *want)?, *told);
+    }
+    Ok(())
+}
+
+/// A square of a thousand centimetres.
+const LARGE: [Place; 4] = [(0, 0), (1000, 0), (1000, 1000), (0, 1000)];
+
+/// Whether a fabric has 200 entries, and its parcel and its refined ring have 204 corners.
+fn has_corners<H: Allocator>(fabric: &Fabric<'_, H>) -> bool {
+    let Some(ring) = fabric.ring(1) else {
+        return false;
+    };
+    has_parcels(fabric, (200, 1, 1))
+        && ring.corners.as_slice().len() == 204
+        && fabric.refined().len() == 204
+}
+
+/// A path from one side to the other.
+const ACROSS: [Place; 2] = [(1, 0), (1, 1000)];
+
+/// Whether the next parcels that come have the ids 2 and 3.
+fn goes_on_at_two<'a, H: Allocator>(heap: &'a H, fabric: &mut Fabric<'a, H>) -> Result<bool, Fail> {
+    let edit = edit_of(heap, Change::Split(1, &ACROSS))?;
+    let is_split = fabric.edit(1, &edit).is_ok();
+    Ok(is_split && has_parcels(fabric, (201, 2, 3)))
+}
+
+/// Whether two clerks put corners into both sides of the square.
+fn are_sides_edited<H: Refuses + Send + Sync, R: Threads + Wait + Copy + Send + Sync>(
+    rt: R,
+    heap: &H,
+) -> Result<bool, Fail> {
+    let fabric = fabric(heap, &LARGE, &[&LARGE])?;
+    match at_office(rt, heap, fabric, (2, 1), NONE, Play::Sides)? {
+        (Some(mut fabric), Told::Done) => {
+            Ok(has_corners(&fabric) && goes_on_at_two(heap, &mut fabric)?)
+        }
+        _ => Ok(false),
+    }
+}
+
+#[test]
+fn edits_both_sides(rt: HostRuntime) -> Result<(), Fail> {
+    let heap = Refusing::new(rt.alloc(), 0);
+    assert!(rt; are_sides_edited(rt, &heap)?);
+    Ok(())
+}
+
+/// Whether two clerks edit while readers ask, and the replay of the journal leads to the fabric.
+fn is_read<H: Refuses + Send + Sync, R: Threads + Wait + Copy + Send + Sync>(
+    rt: R,
+    heap: &H,
+) -> Result<bool, Fail> {
+    match at_office(rt, heap, quarters(heap)?, (2, 4), NONE, Play::Drawn)? {
+        (Some(fabric), Told::Done) => {
+            Ok(fabric.entries() == 2 * EDITS && is_replayed(heap, &fabric)?)
+        }
+        _ => Ok(false),
+    }
+}
+
+#[test]
+fn reads_while_clerks_edit(rt: HostRuntime) -> Result<(), Fail> {
+    let heap = Refusing::new(rt.alloc(), 0);
+    assert!(rt; is_read(rt, &heap)?);
+    Ok(())
+}
