@@ -1,6 +1,5 @@
 -- Files of clerks' edits, read one after the other.
-use Rattle.std.proofs.Common.{◌≡◌, ◌⊎◌, inl, inr, ℕ, ◌+◌, List, [], ◌∷◌, ◌++◌, refl, sym, ◌∙◌, subst, append_assoc, append-nil}
-use Rattle.std.specs.List.{AllZip}
+use Rattle.std.proofs.Common.{◌≡◌, ◌⊎◌, inl, inr, ℕ, ◌+◌, List, [], ◌∷◌, ◌++◌, sym, ◌∙◌, subst, append_assoc, append-nil}
 use Rattle.ring_edits.specs.declared.edit.Edit.{Edit}
 use Rattle.line_files.specs.ClerkFile.{IsClerkFile, IsFirstBadLine}
 use Rattle.clerk_runs.specs.declared.files.FilesFault.{FilesFault}

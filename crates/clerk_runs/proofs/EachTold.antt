@@ -1,5 +1,5 @@
 -- What the jobs of all clerks leave together.
-use Rattle.std.proofs.Common.{◌≡◌, refl, sym, ap, subst, ◌∙◌, arith, ℕ, zero, suc, ◌+◌, Bool, false, List, [], ◌∷◌, ◌++◌, map, length}
+use Rattle.std.proofs.Common.{◌≡◌, refl, sym, ap, subst, ◌∙◌, arith, ℕ, zero, suc, ◌+◌, Bool, false, List, [], ◌∷◌, map, length}
 use Rattle.std.specs.Prelude.{All}
 use Rattle.std.specs.List.{AllZip, flat_map}
 use Rattle.std.proofs.lemmas.List.Elements.{All-head, All-tail, All-same}
@@ -9,7 +9,7 @@ use Rattle.fabric_core.specs.Journal.{JournalEntry, Book, replay}
 use Rattle.fabric_core.specs.EditResults.{IsLawful}
 use Rattle.desk_lock.specs.Offices.{Origin, OfficeId, origin_of, CardState, ReceiptState, IsSheetOf, Agrees, behind, of_clerk, fresh_cards}
 use Rattle.clerk_runs.specs.ClerkRuns.{Run, AreTold, AreEachTold, register_of}
-use Rattle.clerk_runs.specs.own.Working.{run_at, HasSaid, IsWorked, AreMadeIn}
+use Rattle.clerk_runs.specs.own.Working.{run_at, IsWorked, AreMadeIn}
 use Rattle.clerk_runs.proofs.Submitted.{behind_none}
 
 -- as many cards as clerks

@@ -1,7 +1,6 @@
 -- Runs of no clerk and of one.
-use Rattle.std.proofs.Common.{◌≡◌, refl, sym, ap, subst, ◌∙◌, arith, ℕ, Bool, true, cond, nat_eq, List, [], ◌∷◌}
+use Rattle.std.proofs.Common.{◌≡◌, refl, sym, ap, subst, ◌∙◌, arith, ℕ, true, cond, nat_eq, List, [], ◌∷◌}
 use Rattle.std.specs.Prelude.{All}
-use Rattle.std.specs.List.{AllZip}
 use Rattle.std.proofs.lemmas.List.Elements.{All-head, All-tail}
 use Rattle.std.proofs.lemmas.Bool.Decides.{nat_tests}
 use Rattle.ring_edits.specs.declared.edit.Edit.{Edit}
@@ -11,7 +10,6 @@ use Rattle.fabric_core.specs.Rows.{Tiles}
 use Rattle.fabric_core.specs.Journal.{JournalEntry, opening_state, replay}
 use Rattle.fabric_core.specs.Refusals.{IsRefusal}
 use Rattle.desk_lock.specs.Offices.{of_clerk}
-use Rattle.line_files.specs.ClerkFile.{IsClerkFile}
 use Rattle.clerk_runs.specs.ClerkFiles.{AreClerkFiles}
 use Rattle.clerk_runs.specs.ClerkRuns.{Register, Run, opened, IsRefusalDue, AreMade, IsEdited}
 

@@ -2,6 +2,7 @@ pub mod Passing
 pub mod ClerksRead
 pub mod Submitted
 pub mod EachTold
+pub mod Windows
 pub mod Places
 pub mod Taken
 pub mod FewClerks

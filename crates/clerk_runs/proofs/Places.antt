@@ -1,5 +1,5 @@
 -- Places, one after the other.
-use Rattle.std.proofs.Common.{◌≡◌, List, [], ◌∷◌, ◌++◌, sym, subst, append_assoc, append-nil}
+use Rattle.std.proofs.Common.{List, [], ◌∷◌, ◌++◌, sym, subst, append_assoc, append-nil}
 use Rattle.geo_exact.specs.Point.{corner_point}
 use Rattle.geo_exact.specs.Layers.{NumberedRing}
 use Rattle.geo_exact.specs.declared.corner.Corner.{Corner}

@@ -1,11 +1,14 @@
 //! The jobs of all clerks: made of their cards and edits, and taken together once they are done.
 
-ghost use Rattle.std.specs.Prelude.{◌≡◌, false, length, map, All, IfOk};
+ghost use Rattle.std.specs.Prelude.{◌≡◌, false, true, length, map, All, IfOk};
 ghost use Rattle.std.specs.List.{flat_map};
+ghost use mathlib.Core.List.{IsPrefix};
+ghost use Rattle.clerk_runs.specs.own.Windows.{IsLearnt};
 
 use crate::files::ClerkEdits;
 use crate::job::ClerkJob;
-use desk_lock::{Card, Naming};
+use crate::place::learn_all;
+use desk_lock::{Card, Naming, Window};
 use std::alloc::{AllocError, Allocator};
 
 /// The jobs of clerks, each of his card and his edits.
@@ -37,14 +40,16 @@ pub(crate) fn jobs_of<'h, H: Allocator, J: Naming<H>>(
     Ok(jobs)
 }
 
-/// What clerks leave whose jobs are done: their cards, and their lines, one clerk's after the other's.
+/// What clerks leave whose jobs are done: their cards, their lines, one clerk's after the other's, and whether a version with each of
+/// their entries was published.
 #[derive(Drop)]
 pub(crate) struct Done<'h, H: Allocator, J: Naming<H>> {
     pub(crate) cards: Vec<Card<'h, H, J>, &'h H>,
     pub(crate) lines: Vec<u8, &'h H>,
+    pub(crate) published: bool,
 }
 
-/// What jobs leave, none of which was refused memory.
+/// What jobs leave, none of which was refused memory. A window learns their receipts.
 ///
 /// # Errors
 ///
@@ -52,19 +57,29 @@ pub(crate) struct Done<'h, H: Allocator, J: Naming<H>> {
 pub(crate) fn take_all_in<'h, H: Allocator, J: Naming<H>>(
     heap: &'h H,
     jobs: Vec<ClerkJob<'h, H, J>, &'h H>,
+    window: &mut Window<'h, H, J>,
 ) -> Result<Done<'h, H, J>, AllocError>
     ensures cards { IfOk result (λ done. done.cards.items ≡ map (λ job. job.card) jobs.entry.items) }
     ensures lines { IfOk result (λ done. done.lines.items ≡ flat_map (λ job. job.lines.items) jobs.entry.items) }
     ensures none_refused { IfOk result (λ done. All (λ job. job.refused ≡ false) jobs.entry.items) }
+    ensures opening { window.new.opening ≡ window.old.opening }
+    ensures learnt { IfOk result (λ done. done.published ≡ true
+        → All (λ job. All (IsLearnt window.new.seen) job.receipts.items) jobs.entry.items) }
 {
     let mut cards = Vec::new(heap);
     let mut lines = Vec::new(heap);
+    let mut published = true;
     for job in jobs {
         if job.refused {
             return Err(AllocError);
         }
         lines.extend_from_slice(job.lines.as_slice())?;
+        published &= learn_all(window, job.receipts.as_slice());
         cards.push(job.card)?;
     }
-    Ok(Done { cards, lines })
+    Ok(Done {
+        cards,
+        lines,
+        published,
+    })
 }

@@ -6,6 +6,7 @@ mod job;
 mod jobs;
 mod laws;
 mod lines;
+mod place;
 mod runs;
 
 pub use files::{ClerkEdits, FilesFault, read_clerks};

@@ -11,6 +11,7 @@ ghost use Rattle.clerk_runs.specs.own.Working.{AreMadeIn};
 use crate::files::ClerkEdits;
 use crate::job::Counter;
 use crate::jobs::{Done, jobs_of, take_all_in};
+use crate::place::places_of;
 use desk_lock::{Name, Naming, Office, OpenFault};
 use fabric_core::{At, Fabric, Layer, Sheet};
 use geo_exact::Corner;
@@ -58,7 +59,8 @@ impl<T: Drop> From<AllocFailed<T>> for RunFault {
 
 /// Opens an office with one window for the clerks, each of whom makes his edits line by line in a thread of his own, or in this thread,
 /// once the others are joined, where the system refuses one. An edit that is refused, for want of memory too, changes nothing, and the
-/// clerk goes on with his next. Where the corners lie is asked of the sheet that is drawn once all clerks are done.
+/// clerk goes on with his next. Where the corners lie is asked at the window, once it learnt the receipts of all clerks, or of the sheet that
+/// is drawn then where a receipt was not published.
 ///
 /// # Errors
 ///
@@ -111,7 +113,7 @@ fn edit_at_office<
     ensures places { IfOk result (λ edited. AreLocated edited.sheet.now.rows corners.now edited.places.items) }
     ensures fault { IfErr result (λ fault. (fault ≡ NoWindow 1) ⊎ (fault ≡ NoMemory)) }
 {
-    let (office, cards, windows) = match Office::<H, J, &R>::open(
+    let (office, cards, mut windows) = match Office::<H, J, &R>::open(
         heap,
         rt,
         name,
@@ -122,15 +124,22 @@ fn edit_at_office<
         Ok(opened) => opened,
         Err((_, fault)) => return Err(fault_of(fault)),
     };
+    let Some(mut window) = windows.pop() else {
+        return Err(RunFault::NoMemory);
+    };
     let counter = Counter { office, rt };
     let jobs = jobs_of(heap, cards, clerks)?;
     let Ok((jobs, _)) = do_all(rt, &counter, jobs) else {
         return Err(RunFault::NoMemory);
     };
-    let Done { mut cards, lines } = take_all_in(heap, jobs)?;
+    let Done {
+        mut cards,
+        lines,
+        published,
+    } = take_all_in(heap, jobs, &mut window)?;
     let sheet = counter.office.sheet(rt, cards.as_mut_slice())?;
     sheet.tiles();
-    let places = places_of(heap, &sheet, corners)?;
+    let places = places_of(heap, &mut window, published, &sheet, corners)?;
     let Counter { office, .. } = counter;
     let _ = office.close(rt, cards);
     Ok(Edited {
@@ -149,19 +158,4 @@ fn fault_of(fault: OpenFault) -> RunFault
         OpenFault::NoWindow(window) => RunFault::NoWindow(window),
         OpenFault::Places(_) | OpenFault::NoMemory => RunFault::NoMemory,
     }
-}
-
-/// Where corners lie among the parcels of a sheet.
-fn places_of<'h, H: Allocator>(
-    heap: &'h H,
-    sheet: &Sheet<'h, H>,
-    corners: &[Corner],
-) -> Result<Vec<At<&'h H>, &'h H>, AllocError>
-    ensures { IfOk result (λ places. AreLocated sheet.now.now.rows corners.now places.items) }
-{
-    let mut places = Vec::new(heap);
-    for corner in corners {
-        places.push(sheet.locate(*corner)?)?;
-    }
-    Ok(places)
 }
