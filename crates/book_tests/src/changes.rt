@@ -1,7 +1,8 @@
 //! Edits as tables have them, and what stands after them.
 
 use fabric_core::{At, Fabric, Refusal};
-use geo_exact::{Corner, LIST_CORNERS, area2};
+use geo_exact::{Corner, LIST_CORNERS, RING_CORNERS, area2};
+use ring_core::{Side, side_of};
 use ring_edits::Edit;
 use std::alloc::Allocator;
 use std::test::Fail;
@@ -93,6 +94,43 @@ pub fn is_inside<H: Allocator>(
     }
 }
 
+/// Coordinates of places that are located: those of corners, and what is beside them.
+static COORDINATES: [i64; 12] = [-1, 0, 1, 10, 29, 30, 31, 59, 60, 61, 99, 100];
+
+/// Whether a place is located where the rings of all parcels say that it is.
+fn is_located<H: Allocator>(heap: &H, fabric: &Fabric<'_, H>, place: Corner) -> Result<bool, Fail> {
+    let mut on_edge = Vec::new(heap);
+    let mut inside = None;
+    for (id, shape) in fabric.shapes() {
+        let ring = shape.ring.corners.as_slice();
+        if ring.len() > RING_CORNERS {
+            return Err(Fail::new("a ring that no layer has"));
+        }
+        match side_of(ring, place) {
+            Side::Inside => inside = Some(id),
+            Side::OnEdge => on_edge.push(id)?,
+            Side::Outside => {}
+        }
+    }
+    match fabric.locate(place)? {
+        At::OnEdge(ids) => Ok(!ids.is_empty() && ids.as_slice() == on_edge.as_slice()),
+        At::Inside(id) => Ok(on_edge.is_empty() && inside == Some(id)),
+        At::Outside => Ok(on_edge.is_empty() && inside.is_none()),
+    }
+}
+
+/// Whether all places are.
+fn are_located<H: Allocator>(heap: &H, fabric: &Fabric<'_, H>) -> Result<bool, Fail> {
+    for x in &COORDINATES {
+        for y in &COORDINATES {
+            if !is_located(heap, fabric, corner((*x, *y))?)? {
+                return Ok(false);
+            }
+        }
+    }
+    Ok(true)
+}
+
 /// The answer to an edit: the number of its entry, or why it is refused.
 fn answer<'a, H: Allocator>(
     heap: &'a H,
@@ -107,7 +145,7 @@ fn answer<'a, H: Allocator>(
 }
 
 /// Makes the edits of a table in turn. It is a failure where the answer to one, or the parcels or the number of entries
-/// after it, are others.
+/// after it, are others, or a place is located elsewhere than the parcels say.
 pub fn take<'a, H: Allocator>(
     heap: &'a H,
     fabric: &mut Fabric<'a, H>,
@@ -125,6 +163,9 @@ pub fn take<'a, H: Allocator>(
         };
         if fabric.entries() != entries || !are(fabric, parcels) {
             return Err(Fail::new("other parcels or entries"));
+        }
+        if !are_located(heap, fabric)? {
+            return Err(Fail::new("a place that is located elsewhere"));
         }
     }
     Ok(())

@@ -1,19 +1,18 @@
 -- A simple ring has an interior point: the centre of a triangle that it is clipped to.
-use Rattle.std.proofs.Common.{◌≡◌, inl, refl, arith, ℤ, pos, ◌+ℤ◌, List, [], ◌∷◌}
+use Rattle.std.proofs.Common.{◌≡◌, inl, refl, arith, pos, ◌+ℤ◌, List, [], ◌∷◌}
 use Rattle.std.proofs.lemmas.Int.{ints}
-use lib.Signed.{◌<ℤ◌, ◌≤ℤ◌}
+use lib.Signed.{◌<ℤ◌}
 use Rattle.geo_exact.specs.declared.corner.Corner.{Corner}
 use Rattle.geo_exact.specs.Point.{Point}
 use Rattle.geo_exact.specs.Area.{area2}
 use Rattle.geo_exact.specs.Turn.{turn, turn_at}
-use Rattle.geo_exact.specs.Winding.{winding, IsInterior}
-use Rattle.geo_exact.proofs.Moved.{moved}
+use Rattle.geo_exact.specs.Winding.{IsInterior}
 use Rattle.geo_exact.proofs.Polynomials.{Expr, var, lit, add, same_by}
 use Rattle.geo_exact.proofs.Triangles.{triangle_interior}
 use Rattle.geo_exact.proofs.TurnLaws.{turn_at_expr, turn_expr}
 use Rattle.ring_core.specs.declared.triangle.Tri.{Tri}
 use Rattle.ring_core.specs.Simple.{IsSimpleRing}
-use Rattle.ring_core.specs.Sums.{triangle_ring, area2_of_triangles, MakeUp}
+use Rattle.ring_core.specs.Sums.{MakeUp}
 use Rattle.ring_core.proofs.Clipped.{make_up}
 use Rattle.ring_core.proofs.WholeClipping.{to_triangles}
 use Rattle.tri_overlap.proofs.RingPairs.{rings_of_pair}

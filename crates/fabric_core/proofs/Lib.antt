@@ -14,7 +14,6 @@ pub mod OneLoadFault
 pub mod FullyNoded
 pub mod ToldRings
 pub mod ToldGaps
-pub mod Sides
 pub mod Located
 pub mod OneParcel
 pub mod Clipped
@@ -44,3 +43,4 @@ pub mod InnerPoints
 pub mod NearPlaces
 pub mod OneRow
 pub mod OnOneOnly
+pub mod Hinted

@@ -1,6 +1,6 @@
 -- Places near one another: what is inside a ring stays inside a little way towards any other place, and what is on an edge of a triangle is inside it
 -- a little way towards its centre.
-use Rattle.std.proofs.Common.{◌≡◌, ◌⊎◌, inl, inr, ⊎_elim, refl, sym, ◌∙◌, ap, subst, arith, ℤ, pos, neg_ℤ, ◌+ℤ◌, ◌-ℤ◌, ◌*ℤ◌, List, [], ◌∷◌}
+use Rattle.std.proofs.Common.{◌≡◌, inl, inr, ⊎_elim, refl, sym, ◌∙◌, ap, subst, arith, ℤ, pos, neg_ℤ, ◌+ℤ◌, ◌-ℤ◌, ◌*ℤ◌, List, [], ◌∷◌}
 use Rattle.std.specs.Int.{int_min, int_max}
 use Rattle.std.proofs.lemmas.Int.{ints, clamps, by_lt_z}
 use lib.Signed.{◌<ℤ◌, ◌≤ℤ◌}
@@ -9,10 +9,10 @@ use Rattle.geo_exact.specs.Point.{Point, corner_point}
 use Rattle.geo_exact.specs.Rings.{Edge, edges}
 use Rattle.geo_exact.specs.Segments.{IsOnSegment}
 use Rattle.geo_exact.specs.Turn.{turn, turn_at, IsOnEdge, IsOnSome, IsOnRing}
-use Rattle.geo_exact.specs.Winding.{winding, IsInterior}
+use Rattle.geo_exact.specs.Winding.{IsInterior}
 use Rattle.geo_exact.proofs.Means.{turn_mean, segment_of_edge}
 use Rattle.geo_exact.proofs.OnEdge.{starts_on, ends_on}
-use Rattle.geo_exact.proofs.Polynomials.{Expr, var, add, mul, sub, same_by}
+use Rattle.geo_exact.proofs.Polynomials.{var, add, mul, sub, same_by}
 use Rattle.geo_exact.proofs.Signs.{mul_le, mul_not_neg, not_neg_of_mul, mul_zero}
 use Rattle.geo_exact.proofs.Triangles.{triangle_interior}
 use Rattle.geo_exact.proofs.TurnLaws.{turn_at_expr, turn_at_corner, turn_cycle}

@@ -1,9 +1,9 @@
 -- Places off all edges in a tiling: each that is inside a row is in the city, and in that one row. A point that is moved a little is such a place.
-use Rattle.std.proofs.Common.{◌≡◌, ⊎_elim, sym, subst, arith, pos, List, [], ◌∷◌}
-use Rattle.std.specs.List.{AllByRecursion, Contains}
+use Rattle.std.proofs.Common.{◌≡◌, ⊎_elim, sym, subst, arith, pos, List, ◌∷◌}
+use Rattle.std.specs.List.{Contains}
 use Rattle.std.proofs.lemmas.Int.{ints, by_lt_z}
 use Rattle.std.proofs.lemmas.List.Elements.{Contains-append_right, Contains-append_cases}
-use lib.Signed.{◌<ℤ◌, ◌≤ℤ◌}
+use lib.Signed.{◌≤ℤ◌}
 use Rattle.geo_exact.specs.declared.corner.Corner.{Corner}
 use Rattle.geo_exact.specs.Point.{Point}
 use Rattle.geo_exact.specs.Rings.{edges}

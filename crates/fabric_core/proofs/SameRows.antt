@@ -1,5 +1,5 @@
 -- Two lists that are compared place by place.
-use Rattle.std.proofs.Common.{◌≡◌, refl, arith, ℕ, zero, suc, ◌<◌, List, [], ◌∷◌, map, take, length, get_or}
+use Rattle.std.proofs.Common.{◌≡◌, arith, ℕ, zero, suc, ◌<◌, List, [], ◌∷◌, map, take, length, get_or}
 
 -- one place more is the same
 pub same_step : {X Y : Type 0} (f : X → Y) (xs ys : List X) (k : ℕ) (x y : X) → k < length xs → length xs ≡ length ys → x ≡ get_or xs k x → y ≡ get_or ys k y

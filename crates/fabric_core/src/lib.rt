@@ -12,6 +12,7 @@ mod fabric;
 mod follow;
 mod gaps;
 mod grid_index;
+mod hints;
 mod journal;
 mod laws;
 mod layer;
@@ -25,7 +26,6 @@ mod refine;
 mod refusal;
 mod rings;
 mod sheet;
-mod side;
 mod tiled;
 
 pub use all_faults::AllFaults;

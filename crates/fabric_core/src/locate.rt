@@ -10,10 +10,10 @@ ghost use Rattle.fabric_core.specs.Locate.{IsInsideOf, IsLocatedAt};
 ghost use Rattle.fabric_core.specs.own.Sides.{IsFound};
 
 use crate::candidates::sort_once;
-use crate::side::{Side, side_of};
 use cell_index::Entry;
 use geo_exact::Corner;
 use parcel_table::Parcels;
+use ring_core::{Side, side_of};
 use std::alloc::{AllocError, Allocator};
 
 /// Where a corner lies among the parcels of a layer.

@@ -1,4 +1,4 @@
-ghost use Rattle.std.specs.Prelude.{◌≡◌, ◌≢◌, ◌↔◌, ◌+◌, ◌≤◌, ◌≤ℤ◌, ℕ, List, [], ◌∷◌, ◌++◌, length, map, IfOk, OnOk, OnErr, MatchOption};
+ghost use Rattle.std.specs.Prelude.{◌≡◌, ◌≢◌, ◌↔◌, ◌+◌, ◌≤◌, ◌≤ℤ◌, ℕ, List, [], ◌∷◌, ◌++◌, length, map, IfOk, IfSome, OnOk, OnErr, MatchOption};
 ghost use Rattle.std.specs.List.{All, AllByRecursion, Contains};
 ghost use Rattle.std.specs.List.Sorted.{IsStrictlyIncreasing};
 ghost use Rattle.geo_exact.specs.declared.corner.Corner.{Corner};
@@ -11,7 +11,7 @@ ghost use Rattle.ring_edits.specs.Edits.{CoversAlike, put_between};
 ghost use Rattle.fabric_core.specs.Rows.{numbers};
 ghost use Rattle.fabric_core.specs.Limits.{AreWithinLimits};
 ghost use Rattle.fabric_core.specs.GridIndex.{IsIndexed, IsCandidate};
-ghost use Rattle.fabric_core.specs.Locate.{IsLocatedAt};
+ghost use Rattle.fabric_core.specs.Locate.{IsInsideOf, IsLocatedAt};
 ghost use Rattle.fabric_core.specs.own.Checks.{HaveNoFault, IsChecked};
 ghost use Rattle.fabric_core.specs.Journal.{without_ids};
 ghost use Rattle.fabric_core.specs.own.Balanced.{IsBalanced};
@@ -24,11 +24,12 @@ ghost use Rattle.parcel_table.specs.Table.{HasId};
 
 use crate::candidates::{ids_under, sort_once};
 use crate::grid_index::clip_all;
+use crate::hints::Hints;
 use crate::locate::{At, on_edge_or_outside, search};
 use cell_index::{CellIndex, Entry};
 use geo_exact::{Bounds, Corner, Corners};
 use parcel_table::{Fate, Ids, Parcels, Shapes};
-use ring_core::{Ring, Shape};
+use ring_core::{Ring, Shape, Side, side_of};
 use ring_edits::{
     inserting_covers_alike, inserting_keeps_the_least_box, inserting_keeps_where_a_ring_begins,
     put_into,
@@ -43,6 +44,8 @@ pub(crate) struct Tiled<'a, H: Allocator> {
     refined: Corners<&'a H>,
     parcels: Parcels<&'a H>,
     index: CellIndex<'a, H>,
+    // Which parcel to look at first for a place. No part of what contracts see.
+    hints: Hints<'a, H>,
 }
 
 impl<'a, H: Allocator> Model for Tiled<'a, H> {
@@ -82,11 +85,13 @@ impl<'a, H: Allocator> Tiled<'a, H> {
         ensures fresh { IfOk result (λ tiled. IsFresh tiled) }
     {
         let (parcels, index) = clip_all(heap, area, numbers, rings)?;
+        let hints = Hints::of(heap, area, &parcels)?;
         Ok(Tiled {
             city,
             refined,
             parcels,
             index,
+            hints,
         })
     }
 
@@ -98,11 +103,13 @@ impl<'a, H: Allocator> Tiled<'a, H> {
         let refined = self.refined.clone()?;
         let parcels = self.parcels.clone()?;
         let index = self.index.clone()?;
+        let hints = self.hints.clone()?;
         Ok(Tiled {
             city,
             refined,
             parcels,
             index,
+            hints,
         })
     }
 
@@ -172,12 +179,33 @@ impl<'a, H: Allocator> Tiled<'a, H> {
         self.parcels.shapes()
     }
 
+    /// The id of the parcel that the hints tell for a corner, where the corner lies inside it.
+    fn hinted(&self, corner: Corner) -> Option<u64>
+        ensures { IfSome result (λ id. IsInsideOf self.now.rows (corner_point corner) id) }
+    {
+        let parcel = self.parcels.get(self.hints.at(corner))?;
+        let shape = &parcel.shape;
+        if shape.core.holds(corner) {
+            return Some(parcel.id);
+        }
+        if !shape.bounds.holds(corner) {
+            return None;
+        }
+        match side_of(shape.ring.corners.as_slice(), corner) {
+            Side::Inside => Some(parcel.id),
+            _ => None,
+        }
+    }
+
     /// Where a corner lies among the parcels.
     pub(crate) fn locate(&self, corner: Corner) -> Result<At<&'a H>, AllocError>
         ensures { IfOk result (λ at. IsLocatedAt self.now.rows (corner_point corner) at) }
     {
         if !self.index.area().holds(corner) {
             return Ok(At::Outside);
+        }
+        if let Some(id) = self.hinted(corner) {
+            return Ok(At::Inside(id));
         }
         let mut on_edge = Vec::new(self.parcels.allocator());
         let in_cell = self.index.at(corner);
@@ -294,6 +322,8 @@ impl<'a, H: Allocator> Tiled<'a, H> {
             bounds: right.bounds,
         };
         self.index.change(&[gone], &[first, second])?;
+        self.hints.set(left.core, first.key);
+        self.hints.set(right.core, second.key);
         self.parcels.succeed(id, by, left);
         self.parcels.push_reserved(right);
         self.parcels.stand_apart();
@@ -326,6 +356,7 @@ impl<'a, H: Allocator> Tiled<'a, H> {
             bounds: shape.bounds,
         };
         self.index.change(&[from_a, from_b], &[come])?;
+        self.hints.set(shape.core, come.key);
         self.parcels.succeed(a, by, shape);
         self.parcels.retire(b, by);
         self.parcels.stand_apart();
@@ -363,6 +394,8 @@ impl<'a, H: Allocator> Tiled<'a, H> {
             bounds: of_b.bounds,
         };
         self.index.change(&[from_a, from_b], &[first, second])?;
+        self.hints.set(of_a.core, first.key);
+        self.hints.set(of_b.core, second.key);
         self.parcels.succeed(a, by, of_a);
         self.parcels.succeed(b, by, of_b);
         self.parcels.stand_apart();
@@ -396,6 +429,7 @@ impl<'a, H: Allocator> Tiled<'a, H> {
         inserting_keeps_where_a_ring_begins();
         let ring = &self.refined;
         let with_it = put_into(self.parcels.allocator(), ring.as_slice(), from, to, at)?;
+        self.hints.tell_all(&self.parcels, ids, shapes.as_slice());
         replace_all(&mut self.parcels, ids, shapes);
         change_ring(&mut self.refined, with_it);
         self.parcels.stand_apart();

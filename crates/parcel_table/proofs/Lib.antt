@@ -3,3 +3,4 @@ pub mod Changes
 pub mod Order
 pub mod Boxes
 pub mod Clones
+pub mod AllKeyed

@@ -22,7 +22,7 @@ pub Contains-here : {X : Type 0} (x : X) (xs : List X) → Contains (x ∷ xs) x
 Contains-here x xs = (0, omega arith, refl)
 
 module _ {A : Type 0} where
-  no_parcel : (parcel : Parcel A) → Some parcel ≡ None → ⊥
+  pub no_parcel : (parcel : Parcel A) → Some parcel ≡ None → ⊥
   no_parcel parcel e = absurd (cc)
 
   pub same_parcel : (p q : Parcel A) → Some p ≡ Some q → p ≡ q

@@ -213,6 +213,15 @@ impl<A: Allocator> Parcels<A> {
         &self.slab[key]
     }
 
+    /// The parcel under this key, where one is.
+    pub fn get(&self, key: usize) -> Option<&Parcel<A>>
+        ensures { MatchOption result
+            ((parcel : ParcelValue A) → ¬ Contains self.now.parcels (key, parcel))
+            (λ parcel. Contains self.now.parcels (key, parcel.now)) }
+    {
+        self.slab.get(key)
+    }
+
     /// The shape of the parcel with this id.
     pub fn shape(&self, id: u64) -> Option<&Shape<A>>
         ensures { MatchOption result

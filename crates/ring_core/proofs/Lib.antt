@@ -14,6 +14,8 @@ pub mod TakenOut
 pub mod KindsKept
 pub mod KindsTell
 pub mod HeldInside
+pub mod Sides
+pub mod Cores
 pub mod LeftSimple
 pub mod Diagonals
 pub mod StillLeft

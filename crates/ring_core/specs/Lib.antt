@@ -5,4 +5,5 @@ pub mod Sums
 pub mod Boxes
 pub mod Diagonals
 pub mod Ears
+pub mod Sides
 pub mod own

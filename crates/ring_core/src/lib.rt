@@ -4,6 +4,7 @@
 
 mod boxes;
 mod ear;
+mod inner;
 mod kind;
 mod laws;
 mod meeting;
@@ -11,6 +12,7 @@ mod places;
 mod rest;
 mod ring;
 mod shape;
+mod side;
 mod triangle;
 
 pub use boxes::bounds_of;
@@ -22,4 +24,5 @@ pub use laws::{
 };
 pub use ring::{Ring, RingFault};
 pub use shape::Shape;
+pub use side::{Side, side_of};
 pub use triangle::{Tri, Triangles};

@@ -1,15 +1,17 @@
 ghost use Rattle.std.specs.Prelude.{◌≡◌, IfOk};
 ghost use Rattle.ring_core.specs.Clipping.{IsClippedTo};
 ghost use Rattle.std.specs.List.{All};
-ghost use Rattle.geo_exact.specs.Point.{Point};
-ghost use Rattle.geo_exact.specs.Winding.{winding};
+ghost use Rattle.geo_exact.specs.declared.corner.Corner.{Corner};
+ghost use Rattle.geo_exact.specs.Point.{Point, corner_point};
+ghost use Rattle.geo_exact.specs.Winding.{IsInterior, winding};
 ghost use Rattle.geo_exact.specs.Area.{area2};
-ghost use Rattle.geo_exact.specs.Bounds.{IsLeastBox};
+ghost use Rattle.geo_exact.specs.Bounds.{HoldsCorner, IsLeastBox};
 ghost use Rattle.ring_core.specs.Boxes.{HoldsTriangle};
 ghost use Rattle.ring_core.specs.Sums.{IsRoundAtMostOnce, MakeUp, area2_of_triangles, winding_of_triangles};
 
 use crate::boxes::bounds_of_ring;
 use crate::ear::triangle_at;
+use crate::inner::core_of;
 use crate::rest::Rest;
 use crate::ring::Ring;
 use crate::triangle::Triangles;
@@ -26,9 +28,12 @@ pub struct Shape<A: Allocator> {
     pub triangles: Triangles<A>,
     /// The least box of its corners, which holds its triangles too.
     pub bounds: Bounds,
+    /// A box in which every place is inside the ring; it holds none where none was found.
+    pub core: Bounds,
     pub ghost least_box: { IsLeastBox bounds ring.corners },
     pub ghost bounded: { All (HoldsTriangle bounds) triangles },
     pub ghost made_up: { MakeUp triangles ring.corners },
+    pub ghost cored: { (corner : Corner) → HoldsCorner core corner → IsInterior (corner_point corner) ring.corners },
 }
 
 impl<A: Allocator + Copy> Clone for Shape<A> {
@@ -43,6 +48,7 @@ impl<A: Allocator + Copy> Clone for Shape<A> {
             ring,
             triangles,
             bounds: self.bounds,
+            core: self.core,
         })
     }
 }
@@ -78,10 +84,12 @@ impl<A: Allocator + Copy> Shape<A> {
             }
         }
         let bounds = bounds_of_ring(ring.corners.as_slice());
+        let core = core_of(ring.corners.as_slice(), bounds);
         Ok(Shape {
             ring,
             triangles,
             bounds,
+            core,
         })
     }
 }

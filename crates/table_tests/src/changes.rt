@@ -137,6 +137,19 @@ fn have_fates<A: Allocator>(parcels: &Parcels<A>, want: &[Fate]) -> bool {
     true
 }
 
+/// Whether the parcels of these ids, from 0 on, stand under the keys that are told, and none under the key 3.
+fn are_under_keys<A: Allocator>(parcels: &Parcels<A>, want: &[Fate]) -> bool {
+    for (id, fate) in (0..100u64).zip(want) {
+        if let Fate::Here(key) = fate {
+            match parcels.get(*key) {
+                Some(parcel) if parcel.id == id => {}
+                _ => return false,
+            }
+        }
+    }
+    parcels.get(3).is_none()
+}
+
 /// Whether the parcels are, after each change in turn, those that stand behind it.
 fn are_changed<A: Allocator + Copy>(parcels: &mut Parcels<A>) -> Result<bool, Fail> {
     for (change, rows, key) in &CHANGES {
@@ -148,13 +161,14 @@ fn are_changed<A: Allocator + Copy>(parcels: &mut Parcels<A>) -> Result<bool, Fa
     Ok(true)
 }
 
-/// Whether the three strips are changed in turn, with these fates at last, and 8 as the next id.
+/// Whether the three strips are changed in turn, with these fates and keys at last, and 8 as the next id.
 fn is_each_change_made<A: Allocator + Copy>(alloc: A) -> Result<bool, Fail> {
     let mut parcels = filled(alloc)?;
     Ok(
         are(&parcels, &STRIPS, 3)
             && are_changed(&mut parcels)?
             && have_fates(&parcels, &FATES)
+            && are_under_keys(&parcels, &FATES)
             && parcels.next_id() == 8,
     )
 }

@@ -5,7 +5,7 @@ use Rattle.geo_exact.specs.Layers.{numbered}
 use Rattle.geo_exact.specs.Point.{corner_point}
 use Rattle.geo_exact.specs.Bounds.{holds_corner}
 use Rattle.geo_exact.specs.declared.limits.TheConstants.{RING_CORNERS}
-use Rattle.fabric_core.specs.own.Sides.{IsSide}
+use Rattle.ring_core.specs.Sides.{IsSide}
 use Rattle.parcel_table.specs.Table.{rows_of_keyed}
 use Rattle.parcel_table.proofs.Tables.{row_of_parcel}
 use Rattle.fabric_core.proofs.Located.{none_searched, searched_on_edge, inside_row, searched_outside, found_all}

@@ -53,6 +53,7 @@ invariant_of-result g c =
       least_box = least;
       bounded = box_of_corners c.bounds_of_ring-bounds.result c.args.ring.corners c.loop-rest.triangles c.loop-rest.rest c.loop-rest.invariant.clipped
           least.holds;
+      cored = rw c.as_slice-3.ensures at c.core_of-core.ensures;
       made_up = make_up c.args.ring.corners c.loop-rest.triangles (c.loop-rest.rest, c.loop-rest.invariant.clipped, two);
     }
 

@@ -1,5 +1,5 @@
-use Rattle.fabric_core.proofs.Sides.{is_less, passed_below, passed_above}
-use Rattle.fabric_core.proofs.side.is_passed.Goals as goal
+use Rattle.ring_core.proofs.Sides.{is_less, passed_below, passed_above}
+use Rattle.ring_core.proofs.side.is_passed.Goals as goal
 
 pub returns-then-from-place : goal.returns-then-from-place
 returns-then-from-place c = λ t.

@@ -4,7 +4,7 @@ use Rattle.geo_exact.specs.Point.{corner_point}
 use Rattle.geo_exact.specs.Winding.{winding, crossings}
 use Rattle.geo_exact.specs.Turn.{IsOnRing, IsOnSome}
 use Rattle.geo_exact.specs.Rings.{path}
-use Rattle.fabric_core.proofs.side.side_of.Given as goal
+use Rattle.ring_core.proofs.side.side_of.Given as goal
 
 abbrev pub invariant-loop-to : goal.invariant-loop-to
 invariant-loop-to l = record {

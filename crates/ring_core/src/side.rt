@@ -4,13 +4,13 @@ ghost use Rattle.geo_exact.specs.Point.{corner_point};
 ghost use Rattle.geo_exact.specs.Turn.{IsOnEdge};
 ghost use Rattle.geo_exact.specs.Winding.{crossing as crossing_of};
 ghost use Rattle.geo_exact.specs.declared.limits.TheConstants.{RING_CORNERS};
-ghost use Rattle.fabric_core.specs.own.Sides.{IsSide};
+ghost use Rattle.ring_core.specs.Sides.{IsSide};
 
 use geo_exact::{Corner, on_segment, turn};
 
 /// How a place lies to a ring.
 #[derive(Clone, Copy, Debug, PartialEq, Eq)]
-pub(crate) enum Side {
+pub enum Side {
     /// Inside the ring.
     Inside,
     /// On one of its edges.
@@ -49,7 +49,7 @@ fn is_passed(from: Corner, to: Corner, place: Corner) -> bool
 }
 
 /// How a place lies to a ring, by the winding number.
-pub(crate) fn side_of(ring: &[Corner], place: Corner) -> Side
+pub fn side_of(ring: &[Corner], place: Corner) -> Side
     requires { length ring.now ≤ RING_CORNERS }
     ensures { IsSide (corner_point place) ring.now result }
 {
