@@ -20,12 +20,12 @@ ghost use Rattle.fabric_core.specs.EditResults.{IsEntryOf, IsLawful, IsDue};
 ghost use Rattle.fabric_core.specs.declared.follow.FollowFault.TheVariants.{NotDue, NoMemory as NoRoom};
 ghost use Rattle.fabric_core.specs.Refusals.{IsRefusal};
 
-use crate::draft::{Draft, draft_of};
+use crate::carry_out::carry_out;
+use crate::draft::draft_of;
 use crate::follow::{FollowFault, fault_of};
 use crate::journal::{Entry, JOURNAL_ENTRIES};
 use crate::layer::Layer;
 use crate::locate::At;
-use crate::make::make;
 use crate::opening::{Opening, count_corners, opening_of};
 use crate::refusal::Refusal;
 use crate::sheet::Sheet;
@@ -272,16 +272,8 @@ impl<'a, H: Allocator> Fabric<'a, H> {
         }
         let number = self.journal.len() as u64 + 1;
         let draft = draft_of(&self.tiled, self.corners, number, clerk, edit)?;
-        let Draft {
-            entry,
-            shapes,
-            corners,
-        } = draft;
-        let kept = entry.clone()?;
-        self.journal.reserve(1)?;
-        make(&mut self.tiled, &entry, shapes)?;
-        self.corners = corners;
-        self.journal.push_reserved(kept);
+        let entry = draft.entry.clone()?;
+        self.corners = carry_out(&mut self.tiled, &mut self.journal, draft)?;
         Ok(entry)
     }
 
@@ -323,16 +315,7 @@ impl<'a, H: Allocator> Fabric<'a, H> {
         if !draft.entry.changes_as(entry) {
             return Err(FollowFault::NotDue);
         }
-        let Draft {
-            entry: followed,
-            shapes,
-            corners: count,
-        } = draft;
-        let journal = &mut self.journal;
-        journal.reserve(1)?;
-        make(&mut self.tiled, &followed, shapes)?;
-        self.corners = count;
-        self.journal.push_reserved(followed);
+        self.corners = carry_out(&mut self.tiled, &mut self.journal, draft)?;
         Ok(())
     }
 }

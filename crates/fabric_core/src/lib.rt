@@ -4,6 +4,7 @@
 mod all_faults;
 mod box_laws;
 mod candidates;
+mod carry_out;
 mod change;
 mod city;
 mod draft;

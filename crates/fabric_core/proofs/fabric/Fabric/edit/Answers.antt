@@ -1,4 +1,4 @@
-use Rattle.std.proofs.Common.{rules, ◌≡◌, ◌⊎◌, inl, inr, sym, ◌∙◌, subst, arith, ⊎_elim, ◌<◌, [], ◌∷◌, ◌++◌, length}
+use Rattle.std.proofs.Common.{◌≡◌, ◌⊎◌, inl, inr, sym, ◌∙◌, subst, arith, ⊎_elim, ◌<◌, length}
 use Rattle.fabric_core.specs.declared.journal.TheConstants.{JOURNAL_ENTRIES}
 use Rattle.fabric_core.specs.declared.refusal.Refusal.TheVariants.{NoMemory}
 use Rattle.fabric_core.specs.Journal.{Book}
@@ -37,11 +37,10 @@ pub invariant_of-self-2 : goal.invariant_of-self-2
 invariant_of-self-2 g c =
     let room : length c.self.inside.journal.items < JOURNAL_ENTRIES = omega (arith, c.len.ensures, c.if-len-ge-JOURNAL_ENTRIES.false) in
     let entry = c.in_ok-draft.draft.entry in
-    let longer : c.push_reserved.new.self.items ≡ c.self.inside.journal.items ++ entry ∷ [] = search rules in
-    subst (λ xs. IsBook c.self.inside.opening xs c.make.new.tiled c.in_ok-draft.draft.corners) (sym longer)
+    subst (λ xs. IsBook c.self.inside.opening xs c.carry_out.new.tiled c.in_ok-self-inside.field-0) (sym c.in_ok-self-inside.ensures.journal)
     (one_more c.self.inside.opening c.self.inside.journal.items c.self.inside.tiled c.self.inside.corners c.self.invariant entry
-    c.make.new.tiled c.in_ok-draft.draft.corners room (omega (arith, c.in_ok-draft.ensures.number, c.len-2.ensures)) c.in_ok-draft.ensures.is_entry
-    c.in_ok-make.ensures.made c.in_ok-draft.ensures.corners)
+    c.carry_out.new.tiled c.in_ok-self-inside.field-0 room (omega (arith, c.in_ok-draft.ensures.number, c.len-2.ensures)) c.in_ok-draft.ensures.is_entry
+    c.in_ok-self-inside.ensures.made (c.in_ok-self-inside.ensures.corners ∙ c.in_ok-draft.ensures.corners))
 
 pub returns-clause-refuses : goal.returns-clause-refuses
 returns-clause-refuses g c = λ s h.

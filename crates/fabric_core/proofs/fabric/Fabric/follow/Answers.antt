@@ -1,4 +1,4 @@
-use Rattle.std.proofs.Common.{rules, ◌≡◌, inl, inr, refl, sym, ◌∙◌, subst, arith, ⊎_elim, ◌<◌, [], ◌∷◌, ◌++◌, length}
+use Rattle.std.proofs.Common.{inl, inr, refl, sym, ◌∙◌, subst, arith, ⊎_elim, ◌<◌, length}
 use Rattle.fabric_core.specs.declared.journal.TheConstants.{JOURNAL_ENTRIES}
 use Rattle.fabric_core.specs.Journal.{Book}
 use Rattle.fabric_core.specs.EditResults.{IsEntryOf}
@@ -38,8 +38,7 @@ pub invariant_of-self-2 : goal.invariant_of-self-2
 invariant_of-self-2 g c =
     let room : length c.self.inside.journal.items < JOURNAL_ENTRIES = omega (arith, c.len-full.ensures, c.if-full.false) in
     let entry = c.in-Ok.draft.entry in
-    let longer : c.push_reserved.new.self.items ≡ c.self.inside.journal.items ++ entry ∷ [] = search rules in
-    subst (λ xs. IsBook c.self.inside.opening xs c.make.new.tiled c.in-Ok.draft.corners) (sym longer)
+    subst (λ xs. IsBook c.self.inside.opening xs c.carry_out.new.tiled c.in_ok-self-inside.field-0) (sym c.in_ok-self-inside.ensures.journal)
     (one_more c.self.inside.opening c.self.inside.journal.items c.self.inside.tiled c.self.inside.corners c.self.invariant entry
-    c.make.new.tiled c.in-Ok.draft.corners room (omega (arith, c.in-Ok.ensures.number, c.len.ensures)) c.in-Ok.ensures.is_entry
-    c.in_ok-make.ensures.made c.in-Ok.ensures.corners)
+    c.carry_out.new.tiled c.in_ok-self-inside.field-0 room (omega (arith, c.in-Ok.ensures.number, c.len.ensures)) c.in-Ok.ensures.is_entry
+    c.in_ok-self-inside.ensures.made (c.in_ok-self-inside.ensures.corners ∙ c.in-Ok.ensures.corners))
