@@ -69,6 +69,20 @@ impl Axis {
         cell.min(self.count as u64 - 1) as usize
     }
 
+    /// The cell beside the one that a coordinate is in, on the side to which it is nearer.
+    fn cell_beside(self, z: i64) -> usize
+        ensures { result < MOST }
+    {
+        let from = distance(self.low, z);
+        let cell = from / self.side;
+        let beside = if from % self.side < self.side / 2 {
+            cell.saturating_sub(1)
+        } else {
+            cell.saturating_add(1)
+        };
+        beside.min(self.count as u64 - 1) as usize
+    }
+
     /// The cells from the one that a coordinate is in to the one that another is in, or the first of them.
     fn cells(self, low: i64, high: i64) -> Span
         ensures { result.end ≤ MOST }
@@ -159,13 +173,30 @@ impl<'a, H: Allocator> Hints<'a, H> {
         Ok(hints)
     }
 
-    /// The key of the parcel that is to be looked at first for a place, or any other number.
-    pub(crate) fn at(&self, place: Corner) -> usize {
-        let (column, row) = (self.columns.cell(place.x), self.rows.cell(place.y));
+    /// The key that a cell has, or any other number.
+    fn key(&self, column: usize, row: usize) -> usize
+        requires column { column < MOST }
+        requires row { row < MOST }
+    {
         match self.keys.get(self.columns.number(column, row)) {
             Some(key) => *key as usize,
             None => NONE as usize,
         }
+    }
+
+    /// The key of the parcel that is to be looked at first for a place, or any other number.
+    pub(crate) fn at(&self, place: Corner) -> usize {
+        self.key(self.columns.cell(place.x), self.rows.cell(place.y))
+    }
+
+    /// The same of the cell to the left or to the right of the place's, whichever is nearer.
+    pub(crate) fn beside(&self, place: Corner) -> usize {
+        self.key(self.columns.cell_beside(place.x), self.rows.cell(place.y))
+    }
+
+    /// The same of the cell above or below the place's, whichever is nearer.
+    pub(crate) fn over(&self, place: Corner) -> usize {
+        self.key(self.columns.cell(place.x), self.rows.cell_beside(place.y))
     }
 
     /// Gives a cell a key, in place of another or where it has none.

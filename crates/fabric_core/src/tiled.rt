@@ -179,11 +179,11 @@ impl<'a, H: Allocator> Tiled<'a, H> {
         self.parcels.shapes()
     }
 
-    /// The id of the parcel that the hints tell for a corner, where the corner lies inside it.
-    fn hinted(&self, corner: Corner) -> Option<u64>
+    /// The id of the parcel under a key, if there is one, where a corner lies inside it.
+    fn holder(&self, key: usize, corner: Corner) -> Option<u64>
         ensures { IfSome result (λ id. IsInsideOf self.now.rows (corner_point corner) id) }
     {
-        let parcel = self.parcels.get(self.hints.at(corner))?;
+        let parcel = self.parcels.get(key)?;
         let shape = &parcel.shape;
         if shape.core.holds(corner) {
             return Some(parcel.id);
@@ -195,6 +195,27 @@ impl<'a, H: Allocator> Tiled<'a, H> {
             Side::Inside => Some(parcel.id),
             _ => None,
         }
+    }
+
+    /// The id of a parcel that the hints tell for a corner, where the corner lies inside it: of the corner's cell, or of one beside it.
+    fn hinted(&self, corner: Corner) -> Option<u64>
+        ensures { IfSome result (λ id. IsInsideOf self.now.rows (corner_point corner) id) }
+    {
+        let key = self.hints.at(corner);
+        if let Some(id) = self.holder(key, corner) {
+            return Some(id);
+        }
+        let beside = self.hints.beside(corner);
+        if beside != key
+            && let Some(id) = self.holder(beside, corner)
+        {
+            return Some(id);
+        }
+        let over = self.hints.over(corner);
+        if over == key || over == beside {
+            return None;
+        }
+        self.holder(over, corner)
     }
 
     /// Where a corner lies among the parcels.
