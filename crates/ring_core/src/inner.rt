@@ -7,7 +7,7 @@ ghost use Rattle.geo_exact.specs.Winding.{IsInterior};
 
 use crate::meeting::{box_meets, edge_box};
 use crate::side::{Side, side_of};
-use geo_exact::{Bounds, Corner, RING_CORNERS, wide_product};
+use geo_exact::{Bounds, Corner, RING_CORNERS};
 
 /// Whether an edge lies wholly left of a box, right of it, below it or above it.
 fn is_beside(from: Corner, to: Corner, bounds: Bounds) -> bool
@@ -51,51 +51,30 @@ fn middle(bounds: Bounds) -> Option<Corner> {
     )
 }
 
-/// The area of a box, in square centimetres.
-fn area(bounds: Bounds) -> i128 {
-    wide_product(bounds.high.x - bounds.low.x, bounds.high.y - bounds.low.y)
-}
-
-/// The one of two boxes that has the greater area.
-fn greater(one: Option<Bounds>, other: Option<Bounds>) -> Option<Bounds> {
-    let (Some(a), Some(b)) = (one, other) else {
-        return one.or(other);
-    };
-    Some(if area(a) < area(b) { b } else { a })
-}
-
-/// The greatest box that has a seed in it and is left of a box where one side is moved to lie beside an edge's box.
+/// What is left of a box round a seed where one side is moved to lie beside an edge's box: the side that then is farther from the seed.
 fn cut(bounds: Bounds, edge: Bounds, seed: Corner) -> Option<Bounds> {
     let (low, high) = (bounds.low, bounds.high);
-    let east = if edge.high.x < seed.x {
-        Corner::new(edge.high.x + 1, low.y)
+    let (left, right) = (edge.low.x - 1, edge.high.x + 1);
+    let (under, over) = (edge.low.y - 1, edge.high.y + 1);
+    let (west, east) = (left - seed.x, seed.x - right);
+    let (south, north) = (under - seed.y, seed.y - over);
+    let across = west.max(east);
+    let along = south.max(north);
+    if across.max(along) < 0 {
+        return None;
+    }
+    let (low, high) = if across >= along {
+        if 0 <= west {
+            (low, Corner::new(left, high.y)?)
+        } else {
+            (Corner::new(right, low.y)?, high)
+        }
+    } else if 0 <= south {
+        (low, Corner::new(high.x, under)?)
     } else {
-        None
+        (Corner::new(low.x, over)?, high)
     };
-    let west = if seed.x < edge.low.x {
-        Corner::new(edge.low.x - 1, high.y)
-    } else {
-        None
-    };
-    let north = if edge.high.y < seed.y {
-        Corner::new(low.x, edge.high.y + 1)
-    } else {
-        None
-    };
-    let south = if seed.y < edge.low.y {
-        Corner::new(high.x, edge.low.y - 1)
-    } else {
-        None
-    };
-    let across = greater(
-        east.map(|low| Bounds { low, high }),
-        west.map(|high| Bounds { low, high }),
-    );
-    let along = greater(
-        north.map(|low| Bounds { low, high }),
-        south.map(|high| Bounds { low, high }),
-    );
-    greater(across, along)
+    Some(Bounds { low, high })
 }
 
 /// A box round the middle of a ring's least box that the ring seems not to come into: edge after edge, the least box is cut.
