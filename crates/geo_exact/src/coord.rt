@@ -84,7 +84,9 @@ fn whole_size(numerator: u64, shift: u64) -> Result<u64, CoordFault>
     Ok(whole)
 }
 
-/// The whole number within 1/1024 of `numerator / 2 ^ shift`, whether that is whole or not.
+/// The whole number within 1/1024 of `numerator / 2 ^ shift`, whether that is whole or not. It stands apart, so that its 128-bit
+/// steps take no registers from the loop that reads whole numbers.
+#[inline(never)]
 fn near_size(numerator: u64, shift: u64) -> Result<u64, CoordFault>
     requires small { numerator < 2 ^ 60 }
     ensures value { result ≡ size_of numerator (2 ^ shift) }

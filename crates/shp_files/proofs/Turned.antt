@@ -15,7 +15,8 @@ use Rattle.geo_exact.proofs.SameCorner.{corner_same}
 use Rattle.geo_exact.proofs.Windings.{area2_turned_round}
 use Rattle.shp_files.specs.NormalForm.{starts, kept_once, counterclockwise, normal_form}
 
-abbrev AllApart : List Edge → Type 0
+-- no edge of these ends where it begins
+abbrev pub AllApart : List Edge → Type 0
 AllApart all = AllByRecursion (λ edge. edge.from ≢ edge.to) all
 
 pub nowhere_same : (p q : Corner) → (int_eq p.x q.x && int_eq p.y q.y) ≡ true → p ≡ q

@@ -131,6 +131,7 @@ fn check_counts(
 }
 
 /// The point at a byte.
+#[inline(always)]
 fn read_point(main: &[u8], unit: Unit, head: RecordHead, offset: usize) -> Result<Corner, FileFault>
     requires bound { head.start + offset < 2 ^ 63 }
     requires room { head.start + offset + 16 ≤ length main.now }
@@ -143,6 +144,8 @@ fn read_point(main: &[u8], unit: Unit, head: RecordHead, offset: usize) -> Resul
     Ok(Corner { x, y })
 }
 
+/// The coordinate at a byte.
+#[inline(always)]
 fn read_number(main: &[u8], unit: Unit, head: RecordHead, offset: usize) -> Result<i64, FileFault>
     requires bound { head.start + offset < 2 ^ 63 }
     requires room { head.start + offset + 8 ≤ length main.now }
@@ -239,7 +242,7 @@ fn read_polygon<A: Allocator + Copy>(
 {
     let count = check_counts(main, content_end, head, corners_before)?;
     let drawn = read_ring(alloc, main, unit, head, count)?;
-    let mut corners = kept_once(alloc, drawn.as_slice())?;
+    let mut corners = kept_once(alloc, drawn)?;
     let few = corners.as_slice().len() < 3;
     refuse_if(few, head.fault(48, FaultKind::FewPoints))?;
     turn_counterclockwise(&mut corners);

@@ -30,24 +30,24 @@ returns-in_err-refuse_if-clause-checked g c =
     let p = err_from_is_err_and c.from_residual-in_err-refuse_if.result c.from_residual-in_err-refuse_if.ensures.1 in
     let P : ℕ → Type 0 = λ n. first_failure (ring_checks c.args.main.now c.args.unit c.args.head.position (c.args.head.start + 56) n) ≡ None in
     let some : 0 < length c.in_ok-drawn.drawn = omega (arith, c.in_ok-drawn.ensures.count, c.in_ok-count.ensures.enough) in
-    let kept = c.as_slice-2.ensures ∙ c.in_ok-corners.ensures ∙ ap kept_once c.as_slice.ensures in
-    let line = corners_line c.args.main.now c.args.unit c.args.head.position c.args.head.start c.in_ok-drawn.drawn c.as_slice-2.result.now some (c.in_ok-drawn.ensures.count ∙ c.in_ok-count.ensures.count) c.in_ok-drawn.ensures.read kept in
-    let answer = ap (λ f. first_failure (check (nat_lt (length c.as_slice-2.result.now) 3) f ∷ [])) c.fault.ensures ∙ line in
+    let kept = c.as_slice.ensures ∙ c.in_ok-corners.ensures in
+    let line = corners_line c.args.main.now c.args.unit c.args.head.position c.args.head.start c.in_ok-drawn.drawn c.as_slice.result.now some (c.in_ok-drawn.ensures.count ∙ c.in_ok-count.ensures.count) c.in_ok-drawn.ensures.read kept in
+    let answer = ap (λ f. first_failure (check (nat_lt (length c.as_slice.result.now) 3) f ∷ [])) c.fault.ensures ∙ line in
     rw (p.1, p.2) (goes_on _ _ c.in_ok-count.ensures.checked ∙ goes_on _ _ (sym (subst P c.in_ok-count.ensures.count c.in_ok-drawn.ensures.checked))
     ∙ sym answer ∙ sym c.in_err-refuse_if.ensures)
 
 pub turn_counterclockwise-requires : goal.turn_counterclockwise-requires
 turn_counterclockwise-requires g c =
-    let kept : c.in_ok-corners.corners ≡ kept_once c.in_ok-drawn.drawn = c.in_ok-corners.ensures ∙ ap kept_once c.as_slice.ensures in
+    let kept : c.in_ok-corners.corners ≡ kept_once c.in_ok-drawn.drawn = c.in_ok-corners.ensures in
     omega (arith, ap length kept, kept_fewer c.in_ok-drawn.drawn, c.in_ok-drawn.ensures.count, c.in_ok-count.ensures.few)
 
 pub invariant_of-result : goal.invariant_of-result
 invariant_of-result g c =
-    let kept : c.in_ok-corners.corners ≡ kept_once c.in_ok-drawn.drawn = c.in_ok-corners.ensures ∙ ap kept_once c.as_slice.ensures in
+    let kept : c.in_ok-corners.corners ≡ kept_once c.in_ok-drawn.drawn = c.in_ok-corners.ensures in
     let ring : c.turn_counterclockwise.new.ring ≡ normal_form c.in_ok-drawn.drawn = c.turn_counterclockwise.ensures ∙ ap counterclockwise kept in
     let normal = is_normal c.in_ok-drawn.drawn in
-    let enough : 3 ≤ length c.as_slice-2.result.now = ltb-false _ _ (passed _ c.fault.result c.in_ok-refuse_if.ensures) in
-    let sizes = ap length (c.as_slice-2.ensures ∙ kept) in
+    let enough : 3 ≤ length c.as_slice.result.now = ltb-false _ _ (passed _ c.fault.result c.in_ok-refuse_if.ensures) in
+    let sizes = ap length (c.as_slice.ensures ∙ kept) in
     record {
       enough = rw ring (omega (arith, normal.same_length, sizes));
       few = rw ring (omega (arith, normal.same_length, kept_fewer c.in_ok-drawn.drawn, c.in_ok-drawn.ensures.count, c.in_ok-count.ensures.few));
@@ -60,8 +60,8 @@ unfolding polygon_checks
 returns-clause-checked g c =
     let P : ℕ → Type 0 = λ n. first_failure (ring_checks c.args.main.now c.args.unit c.args.head.position (c.args.head.start + 56) n) ≡ None in
     let some : 0 < length c.in_ok-drawn.drawn = omega (arith, c.in_ok-drawn.ensures.count, c.in_ok-count.ensures.enough) in
-    let kept = c.as_slice-2.ensures ∙ c.in_ok-corners.ensures ∙ ap kept_once c.as_slice.ensures in
-    let line = corners_line c.args.main.now c.args.unit c.args.head.position c.args.head.start c.in_ok-drawn.drawn c.as_slice-2.result.now some (c.in_ok-drawn.ensures.count ∙ c.in_ok-count.ensures.count) c.in_ok-drawn.ensures.read kept in
-    let answer = ap (λ f. first_failure (check (nat_lt (length c.as_slice-2.result.now) 3) f ∷ [])) c.fault.ensures ∙ line in
+    let kept = c.as_slice.ensures ∙ c.in_ok-corners.ensures in
+    let line = corners_line c.args.main.now c.args.unit c.args.head.position c.args.head.start c.in_ok-drawn.drawn c.as_slice.result.now some (c.in_ok-drawn.ensures.count ∙ c.in_ok-count.ensures.count) c.in_ok-drawn.ensures.read kept in
+    let answer = ap (λ f. first_failure (check (nat_lt (length c.as_slice.result.now) 3) f ∷ [])) c.fault.ensures ∙ line in
     goes_on _ _ c.in_ok-count.ensures.checked ∙ goes_on _ _ (sym (subst P c.in_ok-count.ensures.count c.in_ok-drawn.ensures.checked))
     ∙ sym answer ∙ sym c.in_ok-refuse_if.ensures

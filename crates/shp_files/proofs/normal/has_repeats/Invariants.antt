@@ -1,0 +1,7 @@
+use Rattle.std.proofs.Common.{drop}
+use Rattle.geo_exact.specs.Rings.{HasNoRepeats, path}
+use Rattle.shp_files.proofs.Turned.{AllApart}
+use Rattle.shp_files.proofs.normal.has_repeats.Given as goal
+
+abbrev pub invariant-loop-to : goal.invariant-loop-to
+invariant-loop-to l = AllApart (path l.from (drop l.to-index l.rest) l.first) → HasNoRepeats l.fn.ring
