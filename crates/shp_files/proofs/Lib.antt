@@ -2,6 +2,7 @@ pub mod Numbers
 pub mod Lines
 pub mod Points
 pub mod Finding
+mod Filling
 pub mod Ring
 pub mod Passing
 pub mod Places

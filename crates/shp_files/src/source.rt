@@ -1,6 +1,6 @@
 //! All bytes of a reader.
 
-ghost use Rattle.std.specs.Prelude.{◌≡◌, ◌≤◌, ◌<◌, length, IfOk, OnOk, IfSome, IsErrOf};
+ghost use Rattle.std.specs.Prelude.{◌≡◌, ◌≤◌, ◌<◌, length, take, IfOk, OnOk, IfSome, IsErrOf};
 ghost use Rattle.std.specs.Io.KnownBytes.{IsAtEnd};
 ghost use Rattle.geo_exact.specs.Bytes.{raised};
 ghost use Rattle.geo_exact.specs.declared.limits.TheConstants.{FILE_BYTES};
@@ -9,8 +9,11 @@ ghost use Rattle.shp_files.specs.declared.source.ReadFault.TheVariants.{Device, 
 use geo_exact::{ByteIn, FILE_BYTES, Failed};
 use std::alloc::{AllocError, Allocator};
 
-/// The bytes that are pulled at once.
-const CHUNK: usize = 16384;
+/// The zeros that are added at first.
+const LEAST_PIECE: usize = 16384;
+
+/// The most zeros that are added at once: so few that they are still in the processor's cache when bytes take their places.
+const MOST_PIECE: usize = 262_144;
 
 /// Why a reader's bytes were not read.
 #[derive(Clone, Copy, Debug, PartialEq, Eq)]
@@ -60,15 +63,29 @@ pub fn read_all<A: Allocator + Copy, R: ByteIn>(
     ensures no_failure { (¬ IsErrOf result ReadFault.Device) → R.failure_count reader.new ≡ R.failure_count reader.old }
 {
     let mut bytes = Vec::new(alloc);
-    let mut chunk = [0; CHUNK];
+    let mut filled = 0;
     loop {
-        let count = reader.pull(&mut chunk)?;
+        if filled == bytes.len() {
+            widen(&mut bytes)?;
+        }
+        let count = reader.pull(&mut bytes[filled..])?;
         if count == 0 {
+            bytes.truncate(filled);
             return Ok(bytes);
         }
-        if FILE_BYTES - bytes.len() < count {
+        if FILE_BYTES - filled < count {
             return Err(ReadFault::TooLong);
         }
-        bytes.extend_from_slice(&chunk[..count])?;
+        filled += count;
     }
+}
+
+/// Adds zeros behind the bytes, as many as there are bytes, but no fewer and no more than the pieces.
+fn widen<A: Allocator>(bytes: &mut Vec<u8, A>) -> Result<(), AllocError>
+    requires { length bytes.old.items ≤ FILE_BYTES }
+    ensures kept { OnOk result (take (length bytes.old.items) bytes.new.items ≡ bytes.old.items) }
+    ensures longer { OnOk result (length bytes.old.items < length bytes.new.items) }
+{
+    let piece = bytes.len().clamp(LEAST_PIECE, MOST_PIECE);
+    bytes.resize(bytes.len() + piece, 0)
 }
