@@ -34,3 +34,4 @@ pub mod SamePlace
 pub mod CornerPoints
 pub mod Doubles
 pub mod DoubleRows
+mod Signed

@@ -40,17 +40,25 @@ fn exponent(bits: u64) -> u64
     (bits >> 52) & 0x7FF
 }
 
-/// The fraction with its leading bit: the double's absolute value is the significand times
-/// `2 ^ (max(1, exponent) - 1075)`.
+/// The fraction with its leading bit, where the double is no subnormal: its absolute value is that significand times
+/// `2 ^ (exponent - 1075)`.
+fn normal_significand(bits: u64) -> u64
+    requires { 0 < exponent_field bits }
+    ensures value { result * 2 ^ max 1 (exponent_field bits) ≡ magnitude bits }
+    ensures bound { result < 2 ^ 53 }
+{
+    (bits & 0x000F_FFFF_FFFF_FFFF) + 0x0010_0000_0000_0000
+}
+
+/// The same for any double: its absolute value is the significand times `2 ^ (max(1, exponent) - 1075)`.
 fn significand(bits: u64) -> u64
     ensures value { result * 2 ^ max 1 (exponent_field bits) ≡ magnitude bits }
     ensures bound { result < 2 ^ 53 }
 {
-    let fraction = bits & 0x000F_FFFF_FFFF_FFFF;
     if exponent(bits) == 0 {
-        fraction
+        bits & 0x000F_FFFF_FFFF_FFFF
     } else {
-        fraction + 0x0010_0000_0000_0000
+        normal_significand(bits)
     }
 }
 
@@ -69,24 +77,7 @@ fn whole_quotient(numerator: u64, shift: u64) -> Option<u64>
     }
 }
 
-/// The whole number within 1/1024 of `numerator / 2 ^ shift`: most often that is whole itself.
-fn whole_size(numerator: u64, shift: u64) -> Result<u64, CoordFault>
-    requires small { numerator < 2 ^ 60 }
-    ensures value { result ≡ size_of numerator (2 ^ shift) }
-    ensures bound { IfOk result (λ size. size ≤ limit) }
-{
-    let Some(whole) = whole_quotient(numerator, shift) else {
-        return near_size(numerator, shift);
-    };
-    if whole > LIMIT as u64 {
-        return Err(CoordFault::TooFar);
-    }
-    Ok(whole)
-}
-
-/// The whole number within 1/1024 of `numerator / 2 ^ shift`, whether that is whole or not. It stands apart, so that its 128-bit
-/// steps take no registers from the loop that reads whole numbers.
-#[inline(never)]
+/// The whole number within 1/1024 of `numerator / 2 ^ shift`.
 fn near_size(numerator: u64, shift: u64) -> Result<u64, CoordFault>
     requires small { numerator < 2 ^ 60 }
     ensures value { result ≡ size_of numerator (2 ^ shift) }
@@ -107,7 +98,27 @@ fn near_size(numerator: u64, shift: u64) -> Result<u64, CoordFault>
     Ok(nearest as u64)
 }
 
-/// The coordinate under the double's sign.
+/// The coordinate of a double of a size from 1 to `2 ^ 52` where it is a whole number of centimetres within the limit: of those
+/// of a file nearly all are.
+fn whole_coordinate(bits: u64, unit: Unit) -> Option<i64>
+    ensures { IfSome result (λ k. coordinate bits unit ≡ Ok k) }
+{
+    let exponent = exponent(bits);
+    if !(1023..1075).contains(&exponent) {
+        return None;
+    }
+    let numerator = centimetres(unit) * normal_significand(bits);
+    let whole = whole_quotient(numerator, 1075 - exponent)?;
+    if whole > LIMIT as u64 {
+        return None;
+    }
+    let size = whole as i64;
+    Some(if bits >> 63 == 0 { size } else { -size })
+}
+
+/// The coordinate of any double. It stands apart, so that its 128-bit steps take no registers from the loop that reads whole
+/// numbers.
+#[inline(never)]
 fn signed_coordinate(bits: u64, unit: Unit) -> Result<i64, CoordFault>
     ensures { result ≡ coordinate bits unit }
 {
@@ -119,8 +130,18 @@ fn signed_coordinate(bits: u64, unit: Unit) -> Result<i64, CoordFault>
         return Err(CoordFault::TooFar);
     }
     let numerator = centimetres(unit) * significand(bits);
-    let size = whole_size(numerator, 1075 - exponent.max(1))? as i64;
+    let size = near_size(numerator, 1075 - exponent.max(1))? as i64;
     Ok(if bits >> 63 == 0 { size } else { -size })
+}
+
+/// The coordinate by the short way, or else by the other.
+fn any_coordinate(bits: u64, unit: Unit) -> Result<i64, CoordFault>
+    ensures { result ≡ coordinate bits unit }
+{
+    match whole_coordinate(bits, unit) {
+        Some(k) => Ok(k),
+        None => signed_coordinate(bits, unit),
+    }
 }
 
 /// The whole centimetre that the double with these bits is meant for.
@@ -140,7 +161,7 @@ pub fn read_coord(bits: u64, unit: Unit) -> Result<i64, CoordFault>
     ensures refused { IfErr result (IsCoordFault bits unit) }
     ensures fault { (f : CoordFault) → IsCoordFault bits unit f → result ≡ Err f }
 {
-    signed_coordinate(bits, unit)
+    any_coordinate(bits, unit)
 }
 
 /// A double is on the grid at one whole centimetre at most.
