@@ -1,14 +1,18 @@
 #!/usr/bin/env python3
-"""area.py - time and peak memory of `parcel_tool area`, beside a copy of the file and beside GDAL's areas.
+"""area.py - time and peak memory of `parcel_tool area`, beside plain C, a copy of the file and GDAL's areas.
 
-  area.py PROGRAM [--runs N]        PROGRAM is the built parcel_tool (benches/README.md says where it lies)
+  area.py PROGRAM [--before PROGRAM] [--runs N]
+
+PROGRAM is the built parcel_tool (benches/README.md says where it lies), or bench_areas, which build.sh makes: the same
+calls without the command line, so that the crates above need no proof for it. `--before` is one of an earlier state.
 
 Inputs, made in a temporary folder with a fixed seed: city L (65,536 records, 917,504 corners, 19.4 MB), and the same
 layer padded to 64 MiB with bytes behind its declared end, which every reader ignores. Each job is one process, run N
 times in turn with the others (so that all see the same noise); the best time and the largest memory are printed.
-GDAL is `ogr2ogr` of Debian's package gdal-bin; without it that row is left out.
+Plain C is areas.c, by gcc: once with no ring kept, and once with all rings kept, as ours are. What it prints must be
+what ours prints. GDAL is `ogr2ogr` of Debian's package gdal-bin; without it that row is left out, and without gcc C's.
 """
-import argparse, os, shutil, subprocess, sys, tempfile, time
+import argparse, hashlib, os, shutil, subprocess, sys, tempfile, time
 
 HERE = os.path.dirname(os.path.abspath(__file__))
 LIMIT = 64 << 20
@@ -27,9 +31,25 @@ def run(words):
     return seconds, usage.ru_maxrss
 
 
+def build_c(folder):
+    program = os.path.join(folder, "areas")
+    if not os.path.exists(program):
+        subprocess.run(["gcc", "-O2", "-o", program, os.path.join(HERE, "areas.c")], check=True)
+    return program
+
+
+def refuse_others(jobs):
+    """Stops where two of these print different areas."""
+    texts = {hashlib.sha256(subprocess.run(words, stdout=subprocess.PIPE, stderr=subprocess.DEVNULL, check=True).stdout)
+             .hexdigest() for words in jobs}
+    if len(texts) > 1:
+        sys.exit("the areas differ")
+
+
 def main():
     parser = argparse.ArgumentParser(description=__doc__, formatter_class=argparse.RawDescriptionHelpFormatter)
     parser.add_argument("program")
+    parser.add_argument("--before")
     parser.add_argument("--runs", type=int, default=7)
     given = parser.parse_args()
     folder = tempfile.mkdtemp()
@@ -45,6 +65,11 @@ def main():
         for name, path in (("city L", layer), ("64 MiB", padded)):
             jobs = [("ours", [given.program, "area", path, "--unit", "cm"]),
                     ("copy", ["cp", path, os.path.join(folder, "copy")])]
+            if given.before:
+                jobs.append(("before", [given.before, "area", path, "--unit", "cm"]))
+            if shutil.which("gcc"):
+                jobs += [("C, " + mode, [build_c(folder), mode, path]) for mode in ("sums", "rings")]
+            refuse_others([words for job, words in jobs if job != "copy"])
             if shutil.which("ogr2ogr"):
                 stem = os.path.basename(path)[:-4]
                 jobs.append(("GDAL", ["ogr2ogr", "-f", "CSV", "/vsistdout/", "-sql",
