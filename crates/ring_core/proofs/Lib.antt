@@ -1,8 +1,10 @@
 pub mod EdgePoints
+pub mod LeaningBoxes
 pub mod CommonPoints
 pub mod Gaps
 pub mod Doubling
 pub mod RoundNumbers
+pub mod CornersRead
 pub mod Neighbours
 pub mod Corners
 pub mod Cuts

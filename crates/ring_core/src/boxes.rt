@@ -1,5 +1,7 @@
-ghost use Rattle.std.specs.Prelude.{◌<◌, length};
-ghost use Rattle.geo_exact.specs.Bounds.{IsLeastBox};
+ghost use Rattle.std.specs.Prelude.{◌<◌, IsTrue, length};
+ghost use Rattle.geo_exact.specs.Bounds.{IsBeyondBox, IsLeastBox};
+ghost use Rattle.geo_exact.specs.Point.{Point};
+ghost use Rattle.geo_exact.specs.Turn.{IsOnEdge};
 ghost use Rattle.ring_core.specs.Boxes.{HoldsTriangle};
 
 use crate::triangle::Tri;
@@ -23,4 +25,20 @@ pub fn bounds_of_ring(corners: &[Corner]) -> Bounds
         bounds = bounds.around(Bounds::of_corner(*corner));
     }
     bounds
+}
+
+/// Whether an edge lies wholly left of a box, right of it, below it or above it.
+pub fn is_beside(from: Corner, to: Corner, bounds: Bounds) -> bool
+    ensures { IsTrue result → (p : Point) → IsOnEdge p from to → IsBeyondBox p bounds }
+{
+    if from.x < bounds.low.x && to.x < bounds.low.x {
+        return true;
+    }
+    if from.x > bounds.high.x && to.x > bounds.high.x {
+        return true;
+    }
+    if from.y < bounds.low.y && to.y < bounds.low.y {
+        return true;
+    }
+    from.y > bounds.high.y && to.y > bounds.high.y
 }

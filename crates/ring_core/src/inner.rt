@@ -5,25 +5,10 @@ ghost use Rattle.geo_exact.specs.Point.{Point, corner_point};
 ghost use Rattle.geo_exact.specs.Turn.{IsOnEdge, IsOnRing};
 ghost use Rattle.geo_exact.specs.Winding.{IsInterior};
 
+use crate::boxes::is_beside;
 use crate::meeting::{box_meets, edge_box};
 use crate::side::{Side, side_of};
 use geo_exact::{Bounds, Corner, RING_CORNERS};
-
-/// Whether an edge lies wholly left of a box, right of it, below it or above it.
-fn is_beside(from: Corner, to: Corner, bounds: Bounds) -> bool
-    ensures { IsTrue result → (p : Point) → IsOnEdge p from to → IsBeyondBox p bounds }
-{
-    if from.x < bounds.low.x && to.x < bounds.low.x {
-        return true;
-    }
-    if from.x > bounds.high.x && to.x > bounds.high.x {
-        return true;
-    }
-    if from.y < bounds.low.y && to.y < bounds.low.y {
-        return true;
-    }
-    from.y > bounds.high.y && to.y > bounds.high.y
-}
 
 /// Whether each edge of a ring lies beside a box, so that the ring does not come into it.
 fn misses(ring: &[Corner], bounds: Bounds) -> bool

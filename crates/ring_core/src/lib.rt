@@ -7,6 +7,7 @@ mod ear;
 mod inner;
 mod kind;
 mod laws;
+mod leaning;
 mod meeting;
 mod places;
 mod rest;

@@ -1,4 +1,4 @@
-ghost use Rattle.std.specs.Prelude.{◌≡◌, ◌↔◌, ℕ, ◌<◌, ◌≤◌, pos, ◌<ℤ◌, length, IsTrue, IsOk, IfOk, IfErr, MatchOption};
+ghost use Rattle.std.specs.Prelude.{◌≡◌, ◌⊎◌, ◌↔◌, ℕ, ◌<◌, ◌≤◌, pos, ◌<ℤ◌, false, length, IsTrue, IsOk, IfOk, IfErr, MatchOption};
 ghost use Rattle.geo_exact.specs.Area.{area2 as area2_of};
 ghost use Rattle.geo_exact.specs.Bounds.{EdgeBoxesMeet};
 ghost use Rattle.geo_exact.specs.Places.{after, corner_at};
@@ -6,10 +6,17 @@ ghost use Rattle.geo_exact.specs.declared.limits.TheConstants.{LIST_CORNERS};
 ghost use Rattle.ring_core.specs.Simple.{IsSimpleRing, MeetOtherwise};
 ghost use Rattle.ring_core.specs.Faults.{IsFirstMeeting, IsRingFault};
 
+use crate::leaning::LeaningBox;
 use crate::meeting::{box_meets, doubles_back, edge_box, have_common_point};
 use crate::places::following;
-use geo_exact::{Corner, Corners, area2};
+use geo_exact::{Corner, Corners, area2, edge_boxes_meet};
 use std::alloc::{AllocError, Allocator};
+
+/// The most edges of a ring whose pairs are tried one by one.
+const FEW_EDGES: usize = 64;
+
+/// How many edges are looked at together.
+const BLOCK_EDGES: usize = 8;
 
 /// A simple ring: counterclockwise, of positive area, and its edges meet only as neighbours, in their
 /// shared corner alone (OGC 06-103r4, 6.1.7, LinearRing). Edge `i` joins corner `i` to the next, and the
@@ -78,6 +85,59 @@ fn first_meeting_with(ring: &[Corner], i: usize) -> Option<usize>
     None
 }
 
+/// Whether one of the edges from number `start` on and before `end` meets the later edge `j` otherwise than
+/// as its neighbour.
+fn meets_one(ring: &[Corner], start: usize, end: usize, j: usize) -> bool
+    requires long { 3 ≤ length ring.now }
+    requires earlier { end ≤ j }
+    requires in_ring { j < length ring.now }
+    ensures { result ≡ false → (i : ℕ) → start ≤ i → i < end → ¬ MeetOtherwise ring.now i j }
+{
+    let from = ring[j];
+    let to = ring[following(ring.len(), j)];
+    for i in start..end {
+        if edge_boxes_meet(ring[i], ring[following(ring.len(), i)], from, to)
+            && meet_otherwise(ring, i, j)
+        {
+            return true;
+        }
+    }
+    false
+}
+
+/// Whether no edge from number `start` on and before `end` meets a later one otherwise than as its
+/// neighbour: the later ones that a leaning box of these edges lets come near are tried.
+fn is_clear(ring: &[Corner], start: usize, end: usize) -> bool
+    requires long { 3 ≤ length ring.now }
+    requires some { start < end }
+    requires in_ring { end ≤ length ring.now }
+    ensures { IsTrue result → (i j : ℕ) → start ≤ i → i < end → i < j → j < length ring.now → ¬ MeetOtherwise ring.now i j }
+{
+    let held = LeaningBox::of_edges(ring, start, end);
+    for j in start..ring.len() {
+        if !held.misses(ring[j], ring[following(ring.len(), j)])
+            && meets_one(ring, start, end.min(j), j)
+        {
+            return false;
+        }
+    }
+    true
+}
+
+/// An edge number, `i` or a greater one: no edge from `i` on and before it meets a later one otherwise than
+/// as its neighbour. Edges are looked at a block at a time, and those of a small ring not at all.
+fn clear_until(ring: &[Corner], i: usize) -> usize
+    requires long { 3 ≤ length ring.now }
+    requires in_ring { i < length ring.now }
+    ensures { (k j : ℕ) → i ≤ k → k < result → k < j → j < length ring.now → ¬ MeetOtherwise ring.now k j }
+{
+    if ring.len() <= FEW_EDGES {
+        return i;
+    }
+    let end = ring.len().min(i + BLOCK_EDGES);
+    if is_clear(ring, i, end) { end } else { i }
+}
+
 /// The first two edges, by the first's number and then by the second's, that meet otherwise than as
 /// neighbours.
 fn first_meeting(ring: &[Corner]) -> Option<(usize, usize)>
@@ -86,7 +146,14 @@ fn first_meeting(ring: &[Corner]) -> Option<(usize, usize)>
         ((i j : ℕ) → i < j → j < length ring.now → ¬ MeetOtherwise ring.now i j)
         (λ pair. IsFirstMeeting ring.now pair.0 pair.1) }
 {
+    let mut clear = 0;
     for i in 0..ring.len() {
+        if clear <= i {
+            clear = clear_until(ring, i);
+        }
+        if clear > i {
+            continue;
+        }
         if let Some(j) = first_meeting_with(ring, i) {
             return Some((i, j));
         }
@@ -109,7 +176,8 @@ impl<A: Allocator> Ring<A> {
     /// The ring of these corners, at most 10,000,000. It takes no memory; the corners are dropped on a
     /// fault.
     ///
-    /// The time grows with the square of the number of corners.
+    /// The time grows with the square of the number of corners; of a large ring, eight edges are looked at
+    /// together.
     ///
     /// # Errors
     ///

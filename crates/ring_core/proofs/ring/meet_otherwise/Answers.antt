@@ -1,18 +1,12 @@
-use Rattle.std.proofs.Common.{◌≡◌, ◌∙◌, sym, ap, ℕ, ◌+◌, ◌<◌, length, List, get_or, arith, Bool, IsTrue, ◌↔◌}
-use Rattle.std.proofs.lemmas.List.{get_or_read}
+use Rattle.std.proofs.Common.{◌≡◌, ◌∙◌, sym, ◌+◌, ◌<◌, length, arith, Bool, IsTrue, ◌↔◌}
 use Rattle.geo_exact.specs.declared.corner.Corner.{Corner}
-use Rattle.geo_exact.specs.Places.{corner_at, after, origin}
+use Rattle.geo_exact.specs.Places.{corner_at, after}
 use Rattle.ring_core.specs.own.EdgePairs.{HaveCommonPoint, DoublesBack}
 use Rattle.ring_core.specs.Simple.{MeetOtherwise}
+use Rattle.ring_core.proofs.CornersRead.{corner_read, corner_read_at}
 use Rattle.ring_core.proofs.Neighbours.{following_meet, closing_meet, apart_meet}
 use Rattle.ring_core.proofs.RoundNumbers.{after_in, after_inner}
 use Rattle.ring_core.proofs.ring.meet_otherwise.Goals as goal
-
-read : (ring : List Corner) (i : ℕ) (x : Corner) → i < length ring → x ≡ get_or ring i x → x ≡ corner_at ring i
-read ring i x h e = get_or_read ring i x h e origin
-
-read_next : (ring : List Corner) (i j : ℕ) (x : Corner) → i < length ring → j ≡ i → x ≡ get_or ring j x → x ≡ corner_at ring i
-read_next ring i j x h e f = read ring i x h (f ∙ ap (λ k. get_or ring k x) e)
 
 doubling : (r : Bool) (a b c a' b' c' : Corner) (Q : Type 0) → a ≡ a' → b ≡ b' → c ≡ c'
     → (IsTrue r ↔ DoublesBack a b c) → (DoublesBack a' b' c' ↔ Q) → (IsTrue r ↔ Q)
@@ -29,8 +23,8 @@ returns-then-i-j c =
     let ring = c.args.ring.now in let i = c.args.i in let j = c.args.j in let n = length ring in
     let f : i < length ring = omega arith in
     doubling c.doubles_back.result _ _ _ (corner_at ring i) (corner_at ring j) (corner_at ring (after n j)) (MeetOtherwise ring i j)
-    (read ring i _ f c.index-ring-i.is) (read ring j _ c.requires.in_ring c.index-ring-j.is)
-    (read_next ring (after n j) _ _ (after_in n j c.requires.in_ring) c.following-next.ensures c.index-ring-next.is)
+    (corner_read ring i _ f c.index-ring-i.is) (corner_read ring j _ c.requires.in_ring c.index-ring-j.is)
+    (corner_read_at ring (after n j) _ _ (after_in n j c.requires.in_ring) c.following-next.ensures c.index-ring-next.is)
     c.doubles_back.ensures (following_meet ring i j c.requires.long c.if-i-j.true c.requires.in_ring)
 
 pub returns-then-next-i : goal.returns-then-next-i
@@ -39,8 +33,8 @@ returns-then-next-i c =
     let f : i < length ring = omega arith in
     let s : i + 1 < length ring = omega arith in
     doubling c.doubles_back-then-next-i.result _ _ _ (corner_at ring j) (corner_at ring i) (corner_at ring (after n i)) (MeetOtherwise ring i j)
-    (read ring j _ c.requires.in_ring c.index-ring-j.is) (read ring i _ f c.index-ring-i.is)
-    (read_next ring (after n i) (i + 1) _ (after_in n i f) (omega (arith, after_inner n i (omega arith))) c.index-ring-i-2.is)
+    (corner_read ring j _ c.requires.in_ring c.index-ring-j.is) (corner_read ring i _ f c.index-ring-i.is)
+    (corner_read_at ring (after n i) (i + 1) _ (after_in n i f) (omega (arith, after_inner n i (omega arith))) c.index-ring-i-2.is)
     c.doubles_back-then-next-i.ensures (closing_meet ring i j c.requires.long c.requires.ordered (sym c.following-next.ensures ∙ c.if-next-i.true))
 
 pub returns : goal.returns
@@ -50,9 +44,9 @@ returns c =
     let s : i + 1 < length ring = omega arith in
     common c.have_common_point.result _ _ _ _
     (corner_at ring i) (corner_at ring (after n i)) (corner_at ring j) (corner_at ring (after n j)) (MeetOtherwise ring i j)
-    (read ring i _ f c.index-ring-i.is)
-    (read_next ring (after n i) (i + 1) _ (after_in n i f) (omega (arith, after_inner n i (omega arith))) c.index-ring-i-2.is)
-    (read ring j _ c.requires.in_ring c.index-ring-j.is)
-    (read_next ring (after n j) _ _ (after_in n j c.requires.in_ring) c.following-next.ensures c.index-ring-next.is)
+    (corner_read ring i _ f c.index-ring-i.is)
+    (corner_read_at ring (after n i) (i + 1) _ (after_in n i f) (omega (arith, after_inner n i (omega arith))) c.index-ring-i-2.is)
+    (corner_read ring j _ c.requires.in_ring c.index-ring-j.is)
+    (corner_read_at ring (after n j) _ _ (after_in n j c.requires.in_ring) c.following-next.ensures c.index-ring-next.is)
     c.have_common_point.ensures
     (apart_meet ring i j c.requires.ordered c.requires.in_ring c.if-i-j.false (λ e. c.if-next-i.false (c.following-next.ensures ∙ e)))

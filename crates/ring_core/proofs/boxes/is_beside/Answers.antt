@@ -1,6 +1,6 @@
 use Rattle.ring_core.proofs.Sides.{is_less}
 use Rattle.ring_core.proofs.Cores.{left_of, right_of, under, over}
-use Rattle.ring_core.proofs.inner.is_beside.Goals as goal
+use Rattle.ring_core.proofs.boxes.is_beside.Goals as goal
 
 pub returns-then-to-bounds : goal.returns-then-to-bounds
 returns-then-to-bounds c = λ _ p on.
