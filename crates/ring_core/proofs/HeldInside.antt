@@ -64,14 +64,14 @@ turned k l m a b c z e =
 -- a mean is between the bounds of what it is of
 module _ (k l m a b c z : ℤ) (hk : pos 0 ≤ℤ k) (hl : pos 0 ≤ℤ l) (hm : pos 0 ≤ℤ m) (some : pos 0 <ℤ (k +ℤ l +ℤ m))
     (e : k *ℤ (a -ℤ z) +ℤ l *ℤ (b -ℤ z) +ℤ m *ℤ (c -ℤ z) ≡ pos 0) where
-  mean_above : (low : ℤ) → low ≤ℤ a → low ≤ℤ b → low ≤ℤ c → low ≤ℤ z
+  pub mean_above : (low : ℤ) → low ≤ℤ a → low ≤ℤ b → low ≤ℤ c → low ≤ℤ z
   mean_above low h i j =
       by_lt_z z low
       (λ o. absurd (not_all_above k l m (a -ℤ z) (b -ℤ z) (c -ℤ z) hk hl hm some e
       (apart_from z low a o h) (apart_from z low b o i) (apart_from z low c o j)))
       (λ o. o)
 
-  mean_below : (high : ℤ) → a ≤ℤ high → b ≤ℤ high → c ≤ℤ high → z ≤ℤ high
+  pub mean_below : (high : ℤ) → a ≤ℤ high → b ≤ℤ high → c ≤ℤ high → z ≤ℤ high
   mean_below high h i j =
       by_lt_z high z
       (λ o. absurd (not_all_above k l m (z -ℤ a) (z -ℤ b) (z -ℤ c) hk hl hm some (turned k l m a b c z e)

@@ -8,9 +8,17 @@ use Rattle.geo_exact.specs.declared.bounds.Bounds.{Bounds}
 use Rattle.geo_exact.specs.declared.corner.Corner.{Corner}
 use Rattle.geo_exact.specs.Bounds.{HoldsCorner, IsBeyondBox, IsWider}
 use Rattle.geo_exact.specs.Point.{Point}
-use Rattle.geo_exact.specs.Turn.{IsOnEdge}
+use Rattle.geo_exact.specs.Turn.{turn, IsOnEdge}
 use Rattle.geo_exact.proofs.Orders.{le_of_lt}
 use Rattle.geo_exact.proofs.Signs.{mul_le}
+use Rattle.std.proofs.Common.{refl, [], ◌∷◌}
+use lib.IntN.{◌+ℤ◌}
+use Rattle.geo_exact.proofs.Polynomials.{Expr, var, lit, add, mul, sub, same_by}
+use Rattle.geo_exact.proofs.TurnLaws.{turn_expr}
+use Rattle.ring_core.specs.declared.triangle.Tri.{Tri}
+use Rattle.ring_core.specs.Clipping.{IsInTriangle}
+use Rattle.ring_core.proofs.HeldInside.{mean_above, mean_below}
+use Rattle.ring_core.proofs.PutBack.{turn_parts}
 
 pub held_wider : (box wider : Bounds) (corner : Corner) → IsWider box wider → HoldsCorner box corner → HoldsCorner wider corner
 held_wider box wider corner w h =
@@ -40,6 +48,15 @@ is_past s l t f g e h = let i : l <ℤ s = simp to_z-of_z at h in omega (arith, 
 pub one_less_below : (l t : ℤ) → l ≤ℤ t → (l -ℤ pos 1) <ℤ t
 one_less_below l t h = omega (arith, ints)
 
+pub one_more : (l t : ℤ) → l <ℤ t → (l +ℤ pos 1) ≤ℤ t
+one_more l t h = omega (arith, ints)
+
+pub below_itself : (l t : ℤ) → l ≤ℤ t → t ≤ℤ (l -ℤ pos 1) → ⊥
+below_itself l t h k = omega (arith, ints)
+
+pub above_itself : (l t : ℤ) → t ≤ℤ l → (l +ℤ pos 1) ≤ℤ t → ⊥
+above_itself l t h k = omega (arith, ints)
+
 -- ---- an edge whose ends a box holds is in it
 low_end : (l u v d w : ℤ) → pos 0 <ℤ d → l ≤ℤ u → l ≤ℤ v → (int_min u v *ℤ d) ≤ℤ w → w <ℤ (l *ℤ d) → ⊥
 low_end l u v d w p h k e o =
@@ -56,3 +73,35 @@ not_beyond box a b p h k on beyond = elim beyond [
   | inr (inr (inl o)) ↦ low_end box.low.y a.y b.y p.d p.y p.d_positive h.south k.south on.from_y o
   | inr (inr (inr o)) ↦ high_end box.high.y a.y b.y p.d p.y p.d_positive h.north k.north on.to_y o
 ]
+
+-- ---- a triangle whose corners are all beyond a parallel of a line is beyond it
+abbrev turned : Expr → Expr → Expr
+turned x y = turn_expr (var 0) (var 1) (var 2) (var 3) x y
+
+weighed_turn : (f t a b c q : Corner)
+    → turn b c q *ℤ (turn f t a -ℤ turn f t q) +ℤ turn c a q *ℤ (turn f t b -ℤ turn f t q) +ℤ turn a b q *ℤ (turn f t c -ℤ turn f t q) ≡ pos 0
+weighed_turn f t a b c q =
+    same_by (f.x ∷ f.y ∷ t.x ∷ t.y ∷ a.x ∷ a.y ∷ b.x ∷ b.y ∷ c.x ∷ c.y ∷ q.x ∷ q.y ∷ [])
+    (add
+    (add
+    (mul (turn_expr (var 6) (var 7) (var 8) (var 9) (var 10) (var 11)) (sub (turned (var 4) (var 5)) (turned (var 10) (var 11))))
+    (mul (turn_expr (var 8) (var 9) (var 4) (var 5) (var 10) (var 11)) (sub (turned (var 6) (var 7)) (turned (var 10) (var 11)))))
+    (mul (turn_expr (var 4) (var 5) (var 6) (var 7) (var 10) (var 11)) (sub (turned (var 8) (var 9)) (turned (var 10) (var 11)))))
+    (lit (pos 0))
+    refl
+
+module _ (f t : Corner) (triangle : Tri) (q : Corner) (h : IsInTriangle q triangle.a triangle.b triangle.c) where
+  some_weight : pos 0 <ℤ (turn triangle.b triangle.c q +ℤ turn triangle.c triangle.a q +ℤ turn triangle.a triangle.b q)
+  some_weight = rw (turn_parts triangle.a triangle.b triangle.c q) triangle.turns_left
+
+  pub turns_below : (high : ℤ) → turn f t triangle.a ≤ℤ high → turn f t triangle.b ≤ℤ high → turn f t triangle.c ≤ℤ high → turn f t q ≤ℤ high
+  turns_below high =
+      mean_below (turn triangle.b triangle.c q) (turn triangle.c triangle.a q) (turn triangle.a triangle.b q)
+      (turn f t triangle.a) (turn f t triangle.b) (turn f t triangle.c) (turn f t q) h.along_bc h.along_ca h.along_ab some_weight
+      (weighed_turn f t triangle.a triangle.b triangle.c q) high
+
+  pub turns_above : (low : ℤ) → low ≤ℤ turn f t triangle.a → low ≤ℤ turn f t triangle.b → low ≤ℤ turn f t triangle.c → low ≤ℤ turn f t q
+  turns_above low =
+      mean_above (turn triangle.b triangle.c q) (turn triangle.c triangle.a q) (turn triangle.a triangle.b q)
+      (turn f t triangle.a) (turn f t triangle.b) (turn f t triangle.c) (turn f t q) h.along_bc h.along_ca h.along_ab some_weight
+      (weighed_turn f t triangle.a triangle.b triangle.c q) low

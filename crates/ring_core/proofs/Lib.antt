@@ -15,6 +15,8 @@ pub mod EdgeNumbers
 pub mod TakenOut
 pub mod KindsKept
 pub mod KindsTell
+pub mod BlocksKept
+pub mod BlocksMade
 pub mod HeldInside
 pub mod Sides
 pub mod Cores

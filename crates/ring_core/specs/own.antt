@@ -2,3 +2,4 @@
 pub mod Kinds
 pub mod EdgePairs
 pub mod Leaning
+pub mod Blocks

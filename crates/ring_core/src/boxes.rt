@@ -1,5 +1,6 @@
 ghost use Rattle.std.specs.Prelude.{◌<◌, IsTrue, length};
-ghost use Rattle.geo_exact.specs.Bounds.{IsBeyondBox, IsLeastBox};
+ghost use Rattle.geo_exact.specs.declared.corner.Corner.{Corner as CornerValue};
+ghost use Rattle.geo_exact.specs.Bounds.{HoldsCorner, IsBeyondBox, IsLeastBox};
 ghost use Rattle.geo_exact.specs.Point.{Point};
 ghost use Rattle.geo_exact.specs.Turn.{IsOnEdge};
 ghost use Rattle.ring_core.specs.Boxes.{HoldsTriangle};
@@ -41,4 +42,17 @@ pub fn is_beside(from: Corner, to: Corner, bounds: Bounds) -> bool
         return true;
     }
     from.y > bounds.high.y && to.y > bounds.high.y
+}
+
+/// Whether a box lies wholly left of another, right of it, below it or above it.
+pub fn are_apart(one: Bounds, other: Bounds) -> bool
+    ensures { IsTrue result → (corner : CornerValue) → HoldsCorner one corner → ¬ HoldsCorner other corner }
+{
+    if one.high.x < other.low.x {
+        return true;
+    }
+    if other.high.x < one.low.x {
+        return true;
+    }
+    one.high.y < other.low.y || other.high.y < one.low.y
 }

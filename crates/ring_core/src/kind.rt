@@ -4,11 +4,14 @@ ghost use Rattle.geo_exact.specs.declared.corner.Corner.{Corner};
 ghost use Rattle.geo_exact.specs.First.{HasNone, IsFirst};
 ghost use Rattle.geo_exact.specs.Places.{before};
 ghost use Rattle.ring_core.specs.Boxes.{HoldsTriangle};
-ghost use Rattle.ring_core.specs.Clipping.{Blocks, IsEar, IsFlat, IsInTriangle};
+ghost use Rattle.ring_core.specs.Clipping.{Blocks, IsEar, IsFlat, IsInTriangle, IsTriangleAt};
+ghost use Rattle.ring_core.specs.own.Blocks.{AreBlocksOrNone};
 ghost use Rattle.ring_core.specs.own.Kinds.{AreKinds, IsKind, IsTakenOut, IsWitness, TurnsLeft, WasBeside, number_before};
 
+use crate::blocks::Span;
 use crate::boxes::bounds_of;
 use crate::ear::{corner_after, corner_before, is_flat, is_in_triangle, is_left, triangle_at};
+use crate::leaning::LeaningBox;
 use crate::places::{following, preceding};
 use crate::triangle::Tri;
 use geo_exact::{Bounds, Corner};
@@ -109,19 +112,26 @@ fn is_in_boxed(bounds: Bounds, triangle: Tri, q: Corner) -> bool
     is_in_triangle(q, triangle.a, triangle.b, triangle.c)
 }
 
-/// The place of a corner that keeps corner `k`, a left turn, from being an ear.
-fn witness_of(corners: &[Corner], k: usize) -> Option<Corner>
+/// The place of a corner, from number `start` on and before `end`, that keeps corner `k` from being an ear.
+fn witness_between(
+    corners: &[Corner],
+    k: usize,
+    start: usize,
+    end: usize,
+    triangle: Tri,
+    bounds: Bounds,
+) -> Option<Corner>
     requires in_rest { k < length corners.now }
-    requires turns_left { TurnsLeft corners.now k }
+    requires in_ring { end ≤ length corners.now }
+    requires is_triangle { IsTriangleAt corners.now k triangle }
+    requires held { HoldsTriangle bounds triangle }
     ensures { MatchOption result
-        (HasNone (Blocks corners.now k) (length corners.now))
+        ((j : ℕ) → start ≤ j → j < end → ¬ Blocks corners.now k j)
         (λ place. IsWitness corners.now k place) }
 {
-    let triangle = triangle_at(corners, k);
-    let bounds = bounds_of(&triangle);
     let before = preceding(corners.len(), k);
     let after = following(corners.len(), k);
-    for j in 0..corners.len() {
+    for j in start..end {
         let corner = corners[j];
         if is_in_boxed(bounds, triangle, corner) && j != before && j != k && j != after {
             return Some(corner);
@@ -130,9 +140,43 @@ fn witness_of(corners: &[Corner], k: usize) -> Option<Corner>
     None
 }
 
+/// The place of a corner that keeps corner `k`, a left turn, from being an ear. Blocks whose boxes the
+/// triangle misses are passed over.
+fn witness_of(corners: &[Corner], k: usize, spans: &[Span], boxes: &[LeaningBox]) -> Option<Corner>
+    requires in_rest { k < length corners.now }
+    requires turns_left { TurnsLeft corners.now k }
+    requires blocks { AreBlocksOrNone corners.now spans.now boxes.now }
+    ensures { MatchOption result
+        (HasNone (Blocks corners.now k) (length corners.now))
+        (λ place. IsWitness corners.now k place) }
+{
+    let triangle = triangle_at(corners, k);
+    let bounds = bounds_of(&triangle);
+    if spans.is_empty() {
+        return witness_between(corners, k, 0, corners.len(), triangle, bounds);
+    }
+    for b in 0..spans.len() {
+        let start = spans[b].start;
+        let end = spans[b].end.min(corners.len());
+        if start >= end || boxes[b].misses_triangle(triangle, bounds) {
+            continue;
+        }
+        if let Some(place) = witness_between(corners, k, start, end, triangle, bounds) {
+            return Some(place);
+        }
+    }
+    None
+}
+
 /// The first ear: the first candidate that has no witness. Those before it are marked by theirs.
-pub fn first_ear(corners: &[Corner], kinds: &mut [Kind]) -> Option<usize>
-    requires { AreKinds corners.now kinds.old }
+pub fn first_ear(
+    corners: &[Corner],
+    kinds: &mut [Kind],
+    spans: &[Span],
+    boxes: &[LeaningBox],
+) -> Option<usize>
+    requires kinds { AreKinds corners.now kinds.old }
+    requires blocks { AreBlocksOrNone corners.now spans.now boxes.now }
     ensures kinds { AreKinds corners.now kinds.new }
     ensures ear { MatchOption result
         (HasNone (IsEar corners.now) (length corners.now))
@@ -140,7 +184,7 @@ pub fn first_ear(corners: &[Corner], kinds: &mut [Kind]) -> Option<usize>
 {
     for k in 0..kinds.len() {
         if is_candidate(kinds[k]) {
-            let Some(place) = witness_of(corners, k) else {
+            let Some(place) = witness_of(corners, k, spans, boxes) else {
                 return Some(k);
             };
             kinds[k] = Kind::Blocked(place);

@@ -1,11 +1,14 @@
 ghost use Rattle.std.specs.Prelude.{◌≡◌, ℕ, ◌<◌, ◌≤◌, ◌<ℤ◌, IsTrue, length};
 ghost use Rattle.geo_exact.specs.declared.corner.Corner.{Corner as CornerValue};
 ghost use Rattle.geo_exact.specs.Places.{after, corner_at};
+ghost use Rattle.ring_core.specs.Boxes.{HoldsTriangle};
+ghost use Rattle.ring_core.specs.Clipping.{IsInTriangle};
 ghost use Rattle.ring_core.specs.own.EdgePairs.{HaveCommonPoint};
 ghost use Rattle.ring_core.specs.own.Leaning.{IsHeld};
 
-use crate::boxes::is_beside;
+use crate::boxes::{are_apart, is_beside};
 use crate::places::following;
+use crate::triangle::Tri;
 use geo_exact::{Bounds, Corner, turn};
 
 /// A box that may lean: of a box along the axes, the part between two parallels of a line. An edge
@@ -25,18 +28,18 @@ pub struct LeaningBox {
     pub high: i128,
 }
 
-/// Whether both numbers are below the first.
-fn are_below(low: i128, s: i128, t: i128) -> bool
-    ensures { IsTrue result → (s <ℤ low) × (t <ℤ low) }
+/// Whether the other numbers are below the first.
+fn are_below(low: i128, s: i128, t: i128, u: i128) -> bool
+    ensures { IsTrue result → (s <ℤ low) × (t <ℤ low) × (u <ℤ low) }
 {
-    s < low && t < low
+    s < low && t < low && u < low
 }
 
-/// Whether both numbers are above the first.
-fn are_above(high: i128, s: i128, t: i128) -> bool
-    ensures { IsTrue result → (high <ℤ s) × (high <ℤ t) }
+/// Whether the other numbers are above the first.
+fn are_above(high: i128, s: i128, t: i128, u: i128) -> bool
+    ensures { IsTrue result → (high <ℤ s) × (high <ℤ t) × (high <ℤ u) }
 {
-    s > high && t > high
+    s > high && t > high && u > high
 }
 
 /// How far an edge goes, in x or in y.
@@ -120,9 +123,25 @@ impl LeaningBox {
         }
         let s = turn(self.from, self.to, c);
         let t = turn(self.from, self.to, d);
-        if are_below(self.low, s, t) {
+        if are_below(self.low, s, t, t) {
             return true;
         }
-        are_above(self.high, s, t)
+        are_above(self.high, s, t, t)
+    }
+    /// Whether a triangle, which `bounds` holds, lies beyond one side.
+    pub fn misses_triangle(self, triangle: Tri, bounds: Bounds) -> bool
+        requires { HoldsTriangle bounds triangle }
+        ensures { IsTrue result → (q : CornerValue) → IsHeld self q → ¬ IsInTriangle q triangle.a triangle.b triangle.c }
+    {
+        if are_apart(bounds, self.bounds) {
+            return true;
+        }
+        let s = turn(self.from, self.to, triangle.a);
+        let t = turn(self.from, self.to, triangle.b);
+        let u = turn(self.from, self.to, triangle.c);
+        if are_below(self.low, s, t, u) {
+            return true;
+        }
+        are_above(self.high, s, t, u)
     }
 }

@@ -2,6 +2,7 @@
 //! every rational point.
 #![tactic(auto)]
 
+mod blocks;
 mod boxes;
 mod ear;
 mod inner;

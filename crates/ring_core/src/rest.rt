@@ -3,7 +3,9 @@ ghost use Rattle.std.specs.List.{remove};
 ghost use Rattle.ring_core.specs.Clipping.{IsEar, IsFlat};
 ghost use Rattle.geo_exact.specs.First.{HasNone, IsFirst};
 
+use crate::blocks::{Blocks, Span, blocks_of, close_gap};
 use crate::kind::{Kind, first_ear, first_flat, kinds_of, update_kinds};
+use crate::leaning::LeaningBox;
 use geo_exact::Corner;
 use std::alloc::{AllocError, Allocator};
 use std::marker::Model;
@@ -12,23 +14,27 @@ use std::marker::Model;
 ///
 /// Beside each corner stands its kind. A left turn is a candidate until another corner is found in its
 /// triangle, its witness; it is a candidate again when its witness is taken out. A corner that is taken
-/// out leaves its two neighbours to be looked at again, and no other.
+/// out leaves its two neighbours to be looked at again, and no other. Of a large ring, corners that follow one
+/// another are blocks, each with a box that held its corners when it was made and holds those that are left.
 #[derive(Debug, Drop)]
 pub struct Rest<A: Allocator> {
     corners: Vec<Corner, A>,
     kinds: Vec<Kind, A>,
+    spans: Vec<Span, A>,
+    boxes: Vec<LeaningBox, A>,
 }
 
 impl<A: Allocator> Model for Rest<A> {
     ghost use Rattle.geo_exact.specs.declared.corner.Corner.{Corner};
     ghost use Rattle.std.specs.Prelude.{List};
+    ghost use Rattle.ring_core.specs.own.Blocks.{AreBlocksOrNone};
     ghost use Rattle.ring_core.specs.own.Kinds.{AreKinds};
 
     ghost Value = { List Corner };
 
     ghost view = { λ rest. rest.corners.items };
 
-    ghost invariant = { λ rest. AreKinds rest.corners.items rest.kinds.items };
+    ghost invariant = { λ rest. AreKinds rest.corners.items rest.kinds.items × AreBlocksOrNone rest.corners.items rest.spans.items rest.boxes.items };
 }
 
 impl<A: Allocator + Copy> Rest<A> {
@@ -41,11 +47,14 @@ impl<A: Allocator + Copy> Rest<A> {
         ensures { IfOk result (λ rest. rest ≡ corners.now) }
     {
         let kinds = kinds_of(alloc, corners)?;
+        let Blocks { spans, boxes } = blocks_of(alloc, corners)?;
         let mut list = Vec::new(alloc);
         list.extend_from_slice(corners)?;
         Ok(Rest {
             corners: list,
             kinds,
+            spans,
+            boxes,
         })
     }
 }
@@ -66,6 +75,7 @@ impl<A: Allocator> Rest<A> {
     {
         let gone = self.corners.remove(k);
         self.kinds.remove(k);
+        close_gap(self.spans.as_mut_slice(), k);
         update_kinds(self.corners.as_slice(), self.kinds.as_mut_slice(), k, gone);
     }
 
@@ -85,6 +95,13 @@ impl<A: Allocator> Rest<A> {
             (HasNone (IsEar self.new) (length self.new))
             (λ k. IsFirst (IsEar self.new) (length self.new) k) }
     {
-        first_ear(self.corners.as_slice(), self.kinds.as_mut_slice())
+        let spans = self.spans.as_slice();
+        let boxes = self.boxes.as_slice();
+        first_ear(
+            self.corners.as_slice(),
+            self.kinds.as_mut_slice(),
+            spans,
+            boxes,
+        )
     }
 }

@@ -1,45 +1,50 @@
-use Rattle.std.proofs.Common.{◌≡◌, ◌∙◌, sym, arith, below_more}
-use Rattle.std.proofs.lemmas.Bool.{false≢true}
-use Rattle.std.proofs.lemmas.List.{get_or_read}
-use Rattle.geo_exact.specs.Places.{origin, corner_at}
-use Rattle.ring_core.specs.Clipping.{Blocks, IsInTriangle, next, previous}
+use Rattle.std.proofs.Common.{◌≡◌, ◌==◌, ℕ, ◌<◌, refl, sym, subst, arith, below_more, false, pos, length, get_or}
+use Rattle.std.proofs.lemmas.Bool.Decides.{nat_tests}
+use Rattle.geo_exact.specs.Places.{corner_at}
+use Rattle.ring_core.specs.declared.blocks.Span.{Span}
+use Rattle.ring_core.specs.declared.leaning.LeaningBox.{LeaningBox}
+use Rattle.ring_core.specs.Clipping.{Blocks, next, previous}
+use Rattle.ring_core.specs.own.Blocks.{HasCorner}
+use Rattle.ring_core.specs.own.Leaning.{IsHeld}
 use Rattle.ring_core.proofs.Renumbered.{inside_like}
 use Rattle.ring_core.proofs.kind.witness_of.Goals as goal
-use Rattle.ring_core.proofs.kind.witness_of.Goals.{
-  else-is_in_boxed-via-then-is_in_boxed+then-j-before+then-j-k+else-j-after,
-  else-is_in_boxed-via-then-is_in_boxed+then-j-before+else-j-k,
-  else-is_in_boxed-via-then-is_in_boxed+else-j-before,
-  else-is_in_boxed-via-else-is_in_boxed,
-}
+use Rattle.ring_core.proofs.kind.witness_of.Goals.{then-start-end-via-then-start-end, then-start-end-via-else-start-end+then-misses_triangle}
 
-pub returns-then-j-after : goal.returns-then-j-after
-returns-then-j-after c =
-    let corners = c.args.corners.now in let k = c.args.k in let j = c.loop-j.j in let t = c.triangle_at-triangle in
-    let here : c.index-corners-j.result ≡ corner_at corners j = get_or_read corners j c.index-corners-j.result (omega arith) c.index-corners-j.is origin in (
-      j,
-      omega arith,
-      sym here,
-      record {
-        not_before = λ e. c.if-j-before.true (e ∙ sym c.preceding-before.ensures);
-        not_same = λ e. c.if-j-k.true e;
-        not_after = λ e. c.if-j-after.true (e ∙ sym c.following-after.ensures);
-        is_inside = inside_like c.index-corners-j.result t.result.a t.result.b t.result.c
-            (corner_at corners j) (previous corners k) (corner_at corners k) (next corners k)
-            (sym here) (sym t.ensures.a) (sym t.ensures.b) (sym t.ensures.c) (c.is_in_boxed.ensures.0 c.if-is_in_boxed.true);
-      },
-    )
+abbrev no_span : Span
+no_span = record { start = 0; end = 0 }
 
-pub loop-j-preserved : goal.loop-j-preserved
-loop-j-preserved c =
-    let corners = c.args.corners.now in let k = c.args.k in let j = c.loop-j.j in let t = c.triangle_at-triangle in
-    let here : c.index-corners-j.result ≡ corner_at corners j = get_or_read corners j c.index-corners-j.result (omega arith) c.index-corners-j.is origin in
-    below_more (λ i. ¬ Blocks corners k i) j c.loop-j.invariant (λ x.
-    let inside : IsInTriangle c.index-corners-j.result t.result.a t.result.b t.result.c =
-    inside_like (corner_at corners j) (previous corners k) (corner_at corners k) (next corners k)
-    c.index-corners-j.result t.result.a t.result.b t.result.c here t.ensures.a t.ensures.b t.ensures.c x.is_inside in
-    elim c.else-is_in_boxed.branch [
-      | else-is_in_boxed-via-then-is_in_boxed+then-j-before+then-j-k+else-j-after w ↦ x.not_after (w.if-j-after.false ∙ c.following-after.ensures)
-      | else-is_in_boxed-via-then-is_in_boxed+then-j-before+else-j-k w ↦ x.not_same w.if-j-k.false
-      | else-is_in_boxed-via-then-is_in_boxed+else-j-before w ↦ x.not_before (w.if-j-before.false ∙ c.preceding-before.ensures)
-      | else-is_in_boxed-via-else-is_in_boxed w ↦ false≢true (sym w.if-is_in_boxed.false ∙ c.is_in_boxed.ensures.1 inside)
+not_empty : (n : ℕ) → false ≡ (n == 0) → 0 < n
+not_empty n e = grind (arith, nat_tests)
+
+pub loop-b-preserved-then-start-end : goal.loop-b-preserved-then-start-end
+loop-b-preserved-then-start-end c =
+    let corners = c.args.corners.now in let spans = c.args.spans.now in let boxes = c.args.boxes.now in let k = c.args.k in let b = c.loop-b.b in
+    let t = c.triangle_at-triangle in
+    below_more (λ i. (j : ℕ) → j < length corners
+    → ((span : Span) (box : LeaningBox) → HasCorner corners j (get_or spans i span) (get_or boxes i box)) → ¬ Blocks corners k j) b c.loop-b.invariant
+    (λ j in_ring h x. elim c.then-start-end.branch [
+      | then-start-end-via-then-start-end w ↦
+          let any : LeaningBox = record { bounds = c.bounds_of-bounds.result; from = t.result.a; to = t.result.a; low = pos 0; high = pos 0 } in
+          let there = (h no_span any).in_span in
+          omega (arith, there.from, there.to, c.min-end.ensures, w.if-start-end.true)
+      | then-start-end-via-else-start-end+then-misses_triangle w ↦
+          let box = w.index-boxes-b in
+          w.misses_triangle.ensures w.if-misses_triangle.true (corner_at corners j)
+          (subst (λ v. IsHeld v (corner_at corners j)) (sym box.is) (h no_span box.result).held)
+          (inside_like (corner_at corners j) (previous corners k) (corner_at corners k) (next corners k)
+          (corner_at corners j) t.result.a t.result.b t.result.c refl t.ensures.a t.ensures.b t.ensures.c x.is_inside)
     ])
+
+pub loop-b-preserved : goal.loop-b-preserved
+loop-b-preserved c =
+    let corners = c.args.corners.now in let spans = c.args.spans.now in let boxes = c.args.boxes.now in let k = c.args.k in
+    below_more (λ i. (j : ℕ) → j < length corners
+    → ((span : Span) (box : LeaningBox) → HasCorner corners j (get_or spans i span) (get_or boxes i box)) → ¬ Blocks corners k j)
+    c.loop-b.b c.loop-b.invariant
+    (λ j in_ring h. let there = (h no_span c.index-boxes-b.result).in_span in
+    c.in_default.ensures j there.from (omega (arith, there.to, c.min-end.ensures)))
+
+pub returns : goal.returns
+returns c = λ j b.
+    let found = (c.requires.blocks (not_empty (length c.args.spans.now) c.if-is_empty.ensures)).each j b in
+    c.loop-b.invariant found.0 (omega (arith, found.1)) j b found.2

@@ -5,6 +5,7 @@ use Rattle.geo_exact.specs.declared.corner.Corner.{Corner}
 use Rattle.ring_core.specs.declared.kind.Kind.{Kind}
 use Rattle.ring_core.specs.declared.kind.Kind.TheVariants.{Flat}
 use Rattle.geo_exact.specs.Places.{origin}
+use Rattle.ring_core.specs.own.Blocks.{AreBlocksOrNone}
 use Rattle.ring_core.specs.own.Kinds.{IsKind, AreKinds, IsTakenOut, number_before}
 use Rattle.ring_core.proofs.ClipSteps.{one_less}
 use Rattle.ring_core.proofs.TakenOut.{item_kept, number_in}
@@ -26,9 +27,15 @@ invariant_of-self g c =
       is_rest = c.as_slice.ensures.value ∙ c.remove-gone.ensures.items;
       is_gone = get_or_read whole k c.remove-gone.result (omega (arith, c.requires.below, ap length c.self.view_is)) c.remove-gone.ensures.value origin;
     } in
-    let olds = c.as_mut_slice.result.now in let news = c.update_kinds.new.kinds in
-    let old_is : olds ≡ remove c.self.inside.kinds.items k = c.as_mut_slice.ensures.value ∙ c.remove.ensures.items in
-    let kept = kinds_before whole rest c.self.inside.kinds.items olds k c.remove-gone.result c.self.invariant taken old_is in
+    let olds = c.as_mut_slice-2.result.now in let news = c.update_kinds.new.kinds in
+    let old_is : olds ≡ remove c.self.inside.kinds.items k = c.as_mut_slice-2.ensures.value ∙ c.remove.ensures.items in
+    let kept = kinds_before whole rest c.self.inside.kinds.items olds k c.remove-gone.result c.self.invariant.0 taken old_is in
     let made : AreKinds rest news = c.update_kinds.ensures whole taken kept in
-    let long : length news ≡ c.remove.new.self.len = c.update_kinds.auto.kinds ∙ c.as_mut_slice.ensures.len in
-    rw (take_at news (drop (length news) c.remove.new.self.items) c.remove.new.self.len long, ← c.as_slice.ensures.value) made
+    let long : length news ≡ c.remove.new.self.len = c.update_kinds.auto.kinds ∙ c.as_mut_slice-2.ensures.len in
+    let spans = c.close_gap.new.spans in let boxes = c.self.inside.boxes.items in
+    let as_many : length spans ≡ c.self.inside.spans.len = c.close_gap.auto.spans ∙ c.as_mut_slice.ensures.len in
+    let were : AreBlocksOrNone whole c.as_mut_slice.result.now boxes = rw c.as_mut_slice.ensures.value c.self.invariant.1 in
+    let blocks : AreBlocksOrNone rest spans boxes = c.close_gap.ensures whole rest c.remove-gone.result boxes taken were in (
+      rw (take_at news (drop (length news) c.remove.new.self.items) c.remove.new.self.len long, ← c.as_slice.ensures.value) made,
+      rw (take_at spans (drop (length spans) c.self.inside.spans.items) c.self.inside.spans.len as_many, ← c.as_slice.ensures.value) blocks,
+    )

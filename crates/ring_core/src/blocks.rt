@@ -1,0 +1,86 @@
+ghost use Rattle.std.specs.Prelude.{◌≡◌, ℕ, ◌<◌, List, length, IfOk, slice_index_or};
+ghost use Rattle.geo_exact.specs.declared.corner.Corner.{Corner as CornerValue};
+ghost use Rattle.ring_core.specs.declared.leaning.LeaningBox.{LeaningBox as BoxValue};
+ghost use Rattle.ring_core.specs.own.Blocks.{AreBlocksOrNone, number_less};
+ghost use Rattle.ring_core.specs.own.Kinds.{IsTakenOut};
+
+use crate::leaning::LeaningBox;
+use geo_exact::Corner;
+use std::alloc::{AllocError, Allocator};
+
+/// The most corners of a ring that is clipped without blocks.
+const FEW_CORNERS: usize = 64;
+
+/// How many corners a block has, as it is made.
+const BLOCK_CORNERS: usize = 16;
+
+/// Numbers that follow one another: from `start` on and before `end`.
+#[derive(Clone, Copy, Debug)]
+pub struct Span {
+    /// The first number.
+    pub start: usize,
+    /// The number behind the last.
+    pub end: usize,
+}
+
+impl Span {
+    /// The same numbers, once number `k` went and those behind it moved up.
+    fn without(self, k: usize) -> Span
+        ensures start { result.start ≡ number_less k self.start }
+        ensures end { result.end ≡ number_less k self.end }
+    {
+        Span {
+            start: less(k, self.start),
+            end: less(k, self.end),
+        }
+    }
+}
+
+/// What number `n` is once number `k` went.
+fn less(k: usize, n: usize) -> usize
+    ensures { result ≡ number_less k n }
+{
+    if k < n { n - 1 } else { n }
+}
+
+/// Brings the spans up to date after number `k` went.
+pub fn close_gap(spans: &mut [Span], k: usize)
+    ensures { (whole rest : List CornerValue) (gone : CornerValue) (boxes : List BoxValue)
+        → IsTakenOut whole k gone rest → AreBlocksOrNone whole spans.old boxes → AreBlocksOrNone rest spans.new boxes }
+{
+    for b in 0..spans.len() {
+        spans[b] = spans[b].without(k);
+    }
+}
+
+/// The blocks of a ring's corners.
+#[derive(Debug, Drop)]
+pub struct Blocks<A: Allocator> {
+    /// The numbers of the corners of each.
+    pub spans: Vec<Span, A>,
+    /// A box of each.
+    pub boxes: Vec<LeaningBox, A>,
+}
+
+/// The blocks of corners; of a small ring there is none.
+///
+/// # Errors
+///
+/// [`AllocError`] where an allocation is refused.
+pub fn blocks_of<A: Allocator + Copy>(alloc: A, corners: &[Corner]) -> Result<Blocks<A>, AllocError>
+    ensures { IfOk result (λ blocks. AreBlocksOrNone corners.now blocks.spans.items blocks.boxes.items) }
+{
+    let mut spans = Vec::new(alloc);
+    let mut boxes = Vec::new(alloc);
+    if corners.len() > FEW_CORNERS {
+        for b in 0..corners.len() / BLOCK_CORNERS + 1 {
+            let start = BLOCK_CORNERS * b;
+            if start < corners.len() {
+                let end = corners.len().min(start + BLOCK_CORNERS);
+                spans.push(Span { start, end })?;
+                boxes.push(LeaningBox::of_edges(corners, start, end))?;
+            }
+        }
+    }
+    Ok(Blocks { spans, boxes })
+}
