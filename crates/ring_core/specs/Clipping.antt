@@ -1,4 +1,5 @@
--- Ear clipping: a ring is cut into triangles, ear by ear (G. H. Meisters, Polygons have ears, 1975). Which corner comes first is this product's own rule.
+-- Ear clipping: a ring is cut into triangles, ear by ear (G. H. Meisters, Polygons have ears, 1975). Which corner
+-- comes first is this product's own rule.
 use Rattle.std.specs.Prelude.{◌≡◌, ◌≢◌, ℕ, ◌<◌, pos, ◌≤ℤ◌, ◌<ℤ◌, List, [], ◌∷◌, ◌++◌, length}
 use Rattle.std.specs.List.{remove}
 use Rattle.geo_exact.specs.declared.corner.Corner.{Corner}

@@ -1,4 +1,5 @@
--- What is wrong with a ring that is not simple (OGC 06-103r4, 6.1.7, LinearRing); the order in which it is looked for is this product's own.
+-- What is wrong with a ring that is not simple (OGC 06-103r4, 6.1.7, LinearRing); the order in which it is looked for
+-- is this product's own.
 use Rattle.std.specs.Prelude.{◌≡◌, ℕ, pos, ◌<ℤ◌, List, length}
 use Rattle.geo_exact.specs.declared.corner.Corner.{Corner}
 use Rattle.geo_exact.specs.First.{IsFirstPair}

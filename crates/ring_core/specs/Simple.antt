@@ -1,5 +1,6 @@
 -- Simple rings: their edges meet only as neighbours do (OGC 06-103r4, 6.1.7, LinearRing: closed and simple; 6.1.6, Curve: simple).
--- Stricter than there, where a curve is a set of points: here the ring runs counterclockwise, and an edge of no length is an edge like another.
+-- Stricter than there, where a curve is a set of points: here the ring runs counterclockwise, and an edge of no
+-- length is an edge like another.
 use Rattle.std.specs.Prelude.{◌≡◌, ◌⊎◌, ℕ, ◌<◌, pos, ◌<ℤ◌, List, length}
 use Rattle.geo_exact.specs.declared.corner.Corner.{Corner}
 use Rattle.geo_exact.specs.Point.{Point, IsPlaceOf}

@@ -1,10 +1,11 @@
 ghost use Rattle.std.specs.Prelude.{◌≡◌, ℕ, ◌<◌, List, length, IfOk, slice_index_or};
+ghost use Rattle.std.specs.List.{remove};
 ghost use Rattle.geo_exact.specs.declared.corner.Corner.{Corner as CornerValue};
 ghost use Rattle.ring_core.specs.declared.leaning.LeaningBox.{LeaningBox as BoxValue};
 ghost use Rattle.ring_core.specs.own.Blocks.{AreBlocksOrNone, number_less};
-ghost use Rattle.ring_core.specs.own.Kinds.{IsTakenOut};
 
 use crate::leaning::LeaningBox;
+use crate::places::less;
 use geo_exact::Corner;
 use std::alloc::{AllocError, Allocator};
 
@@ -12,7 +13,7 @@ use std::alloc::{AllocError, Allocator};
 const FEW_CORNERS: usize = 64;
 
 /// How many corners a block has, as it is made.
-const BLOCK_CORNERS: usize = 16;
+pub const BLOCK_CORNERS: usize = 16;
 
 /// Numbers that follow one another: from `start` on and before `end`.
 #[derive(Clone, Copy, Debug)]
@@ -36,17 +37,10 @@ impl Span {
     }
 }
 
-/// What number `n` is once number `k` went.
-fn less(k: usize, n: usize) -> usize
-    ensures { result ≡ number_less k n }
-{
-    if k < n { n - 1 } else { n }
-}
-
 /// Brings the spans up to date after number `k` went.
 pub fn close_gap(spans: &mut [Span], k: usize)
-    ensures { (whole rest : List CornerValue) (gone : CornerValue) (boxes : List BoxValue)
-        → IsTakenOut whole k gone rest → AreBlocksOrNone whole spans.old boxes → AreBlocksOrNone rest spans.new boxes }
+    ensures { (whole rest : List CornerValue) (boxes : List BoxValue) → k < length whole → rest ≡ remove whole k
+        → AreBlocksOrNone whole spans.old boxes → AreBlocksOrNone rest spans.new boxes }
 {
     for b in 0..spans.len() {
         spans[b] = spans[b].without(k);

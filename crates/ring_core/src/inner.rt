@@ -36,7 +36,8 @@ fn middle(bounds: Bounds) -> Option<Corner> {
     )
 }
 
-/// What is left of a box round a seed where one side is moved to lie beside an edge's box: the side that then is farther from the seed.
+/// What is left of a box round a seed where one side is moved to lie beside an edge's box: the side
+/// that then is farther from the seed.
 fn cut(bounds: Bounds, edge: Bounds, seed: Corner) -> Option<Bounds> {
     let (low, high) = (bounds.low, bounds.high);
     let (left, right) = (edge.low.x - 1, edge.high.x + 1);
@@ -62,7 +63,8 @@ fn cut(bounds: Bounds, edge: Bounds, seed: Corner) -> Option<Bounds> {
     Some(Bounds { low, high })
 }
 
-/// A box round the middle of a ring's least box that the ring seems not to come into: edge after edge, the least box is cut.
+/// A box round the middle of a ring's least box that the ring seems not to come into: edge after
+/// edge, the least box is cut.
 fn find_box(ring: &[Corner], bounds: Bounds) -> Option<Bounds> {
     let seed = middle(bounds)?;
     let mut from = *ring.last()?;
@@ -76,8 +78,9 @@ fn find_box(ring: &[Corner], bounds: Bounds) -> Option<Bounds> {
     Some(found)
 }
 
-/// A box in which every place is inside the ring; where none is found, or the ring is too long for a layer, a box that holds none.
-/// How good the box is that is looked for is not promised, and nothing rests on it.
+/// A box in which every place is inside the ring; where none is found, or the ring is too long for
+/// a layer, a box that holds none. How good the box is that is looked for is not promised, and
+/// nothing rests on it.
 pub(crate) fn core_of(ring: &[Corner], bounds: Bounds) -> Bounds
     ensures { (corner : CornerValue) → HoldsCorner result corner → IsInterior (corner_point corner) ring.now }
 {

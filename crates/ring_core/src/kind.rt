@@ -1,4 +1,4 @@
-ghost use Rattle.std.specs.Prelude.{◌≡◌, ◌⊎◌, ◌↔◌, ℕ, ◌<◌, ◌≤◌, IfOk, IsTrue, MatchOption};
+ghost use Rattle.std.specs.Prelude.{◌≡◌, ◌≢◌, ◌⊎◌, ◌↔◌, ℕ, ◌<◌, ◌≤◌, Bool, IfOk, IsTrue, MatchOption};
 ghost use Rattle.std.specs.Prelude.{List, length, slice_index_or};
 ghost use Rattle.geo_exact.specs.declared.corner.Corner.{Corner};
 ghost use Rattle.geo_exact.specs.First.{HasNone, IsFirst};
@@ -6,13 +6,16 @@ ghost use Rattle.geo_exact.specs.Places.{before};
 ghost use Rattle.ring_core.specs.Boxes.{HoldsTriangle};
 ghost use Rattle.ring_core.specs.Clipping.{Blocks, IsEar, IsFlat, IsInTriangle, IsTriangleAt};
 ghost use Rattle.ring_core.specs.own.Blocks.{AreBlocksOrNone};
-ghost use Rattle.ring_core.specs.own.Kinds.{AreKinds, IsKind, IsTakenOut, IsWitness, TurnsLeft, WasBeside, number_before};
+ghost use Rattle.ring_core.specs.own.Kinds.{AreKinds, IsKind, IsTakenOut, TurnsLeft, WasBeside, number_before};
+ghost use Rattle.ring_core.specs.own.Kinds.{AreMarked, AreSeen, IsMarked, IsSameOrCandidate};
 
 use crate::blocks::Span;
 use crate::boxes::bounds_of;
 use crate::ear::{corner_after, corner_before, is_flat, is_in_triangle, is_left, triangle_at};
 use crate::leaning::LeaningBox;
+use crate::marks::{is_marked, mark};
 use crate::places::{following, preceding};
+use crate::seen::Seen;
 use crate::triangle::Tri;
 use geo_exact::{Bounds, Corner};
 use std::alloc::{AllocError, Allocator};
@@ -26,15 +29,16 @@ pub enum Kind {
     Bent,
     /// A left turn of which no more is known: it may be an ear.
     Candidate,
-    /// A left turn that is no ear: another corner, its witness, stands at this place in the closed
-    /// triangle of it and its neighbours.
-    Blocked(Corner),
+    /// A left turn that is no ear: another corner, its witness, which has this number, lies in the
+    /// closed triangle of it and its neighbours.
+    Blocked(u16),
 }
 
 /// The kind of corner `k`, by its neighbours alone.
 pub fn kind_at(corners: &[Corner], k: usize) -> Kind
     requires { k < length corners.now }
-    ensures { IsKind corners.now k result }
+    ensures is_kind { (numbers : List ℕ) → IsKind corners.now numbers k result }
+    ensures unblocked { (n : ℕ) → result ≢ Kind.Blocked n }
 {
     if is_left(
         corner_before(corners, k),
@@ -55,7 +59,8 @@ pub fn kind_at(corners: &[Corner], k: usize) -> Kind
 ///
 /// [`AllocError`] where an allocation is refused.
 pub fn kinds_of<A: Allocator>(alloc: A, corners: &[Corner]) -> Result<Vec<Kind, A>, AllocError>
-    ensures { IfOk result (λ kinds. AreKinds corners.now kinds.items) }
+    ensures are { IfOk result (λ kinds. (numbers : List ℕ) → AreKinds corners.now numbers kinds.items) }
+    ensures unblocked { IfOk result (λ kinds. (marks : List Bool) → AreMarked kinds.items marks) }
 {
     let mut kinds = Vec::with_capacity(alloc, corners.len())?;
     for k in 0..corners.len() {
@@ -78,27 +83,28 @@ fn is_candidate(kind: Kind) -> bool
     matches!(kind, Kind::Candidate)
 }
 
-/// Whether the kind is that of a left turn whose witness stands at `place`.
-fn is_blocked_by(kind: Kind, place: Corner) -> bool
-    ensures { IsTrue result ↔ kind ≡ Kind.Blocked place }
+/// Whether the kind is that of a left turn whose witness has the number.
+fn is_blocked_by(kind: Kind, number: u16) -> bool
+    ensures { IsTrue result ↔ kind ≡ Kind.Blocked number }
 {
     match kind {
-        Kind::Blocked(witness) => witness == place,
+        Kind::Blocked(witness) => witness == number,
         _ => false,
     }
 }
 
-/// The first flat corner, by the corners' kinds.
-pub fn first_flat(kinds: &[Kind]) -> Option<usize>
-    ensures { (rest : List Corner) → AreKinds rest kinds.now
-        → MatchOption result (HasNone (IsFlat rest) (length rest)) (λ k. IsFirst (IsFlat rest) (length rest) k) }
+/// The first flat corner from number `start` on, by the corners' kinds; their number where there is none.
+pub fn first_flat(kinds: &[Kind], start: usize) -> usize
+    ensures within { result ≤ length kinds.now }
+    ensures flat { result < length kinds.now → slice_index_or kinds.now result Kind.Flat ≡ Kind.Flat }
+    ensures none { (j : ℕ) → start ≤ j → j < result → slice_index_or kinds.now j Kind.Flat ≢ Kind.Flat }
 {
-    for k in 0..kinds.len() {
+    for k in start..kinds.len() {
         if is_flat_kind(kinds[k]) {
-            return Some(k);
+            return k;
         }
     }
-    None
+    kinds.len()
 }
 
 /// Whether `q` lies in the closed triangle, which the box holds: the box is looked at first.
@@ -112,7 +118,7 @@ fn is_in_boxed(bounds: Bounds, triangle: Tri, q: Corner) -> bool
     is_in_triangle(q, triangle.a, triangle.b, triangle.c)
 }
 
-/// The place of a corner, from number `start` on and before `end`, that keeps corner `k` from being an ear.
+/// A corner, from number `start` on and before `end`, that keeps corner `k` from being an ear.
 fn witness_between(
     corners: &[Corner],
     k: usize,
@@ -120,35 +126,35 @@ fn witness_between(
     end: usize,
     triangle: Tri,
     bounds: Bounds,
-) -> Option<Corner>
+) -> Option<usize>
     requires in_rest { k < length corners.now }
     requires in_ring { end ≤ length corners.now }
     requires is_triangle { IsTriangleAt corners.now k triangle }
     requires held { HoldsTriangle bounds triangle }
     ensures { MatchOption result
         ((j : ℕ) → start ≤ j → j < end → ¬ Blocks corners.now k j)
-        (λ place. IsWitness corners.now k place) }
+        (λ j. (j < length corners.now) × Blocks corners.now k j) }
 {
     let before = preceding(corners.len(), k);
     let after = following(corners.len(), k);
     for j in start..end {
         let corner = corners[j];
         if is_in_boxed(bounds, triangle, corner) && j != before && j != k && j != after {
-            return Some(corner);
+            return Some(j);
         }
     }
     None
 }
 
-/// The place of a corner that keeps corner `k`, a left turn, from being an ear. Blocks whose boxes the
-/// triangle misses are passed over.
-fn witness_of(corners: &[Corner], k: usize, spans: &[Span], boxes: &[LeaningBox]) -> Option<Corner>
+/// A corner that keeps corner `k`, a left turn, from being an ear. Blocks whose boxes the triangle
+/// misses are passed over.
+fn witness_of(corners: &[Corner], k: usize, spans: &[Span], boxes: &[LeaningBox]) -> Option<usize>
     requires in_rest { k < length corners.now }
     requires turns_left { TurnsLeft corners.now k }
     requires blocks { AreBlocksOrNone corners.now spans.now boxes.now }
     ensures { MatchOption result
         (HasNone (Blocks corners.now k) (length corners.now))
-        (λ place. IsWitness corners.now k place) }
+        (λ j. (j < length corners.now) × Blocks corners.now k j) }
 {
     let triangle = triangle_at(corners, k);
     let bounds = bounds_of(&triangle);
@@ -161,49 +167,86 @@ fn witness_of(corners: &[Corner], k: usize, spans: &[Span], boxes: &[LeaningBox]
         if start >= end || boxes[b].misses_triangle(triangle, bounds) {
             continue;
         }
-        if let Some(place) = witness_between(corners, k, start, end, triangle, bounds) {
-            return Some(place);
+        if let Some(j) = witness_between(corners, k, start, end, triangle, bounds) {
+            return Some(j);
         }
     }
     None
 }
 
-/// The first ear: the first candidate that has no witness. Those before it are marked by theirs.
+/// The first ear, where no candidate is before number `start`: the first candidate that has no witness.
+/// Those before it are blocked by theirs, whose numbers are marked. The answer is the number of
+/// corners where there is none.
 pub fn first_ear(
     corners: &[Corner],
+    numbers: &[u16],
     kinds: &mut [Kind],
+    marks: &mut [bool],
+    start: usize,
     spans: &[Span],
     boxes: &[LeaningBox],
-) -> Option<usize>
-    requires kinds { AreKinds corners.now kinds.old }
+) -> usize
+    requires as_many { length numbers.now ≡ length corners.now }
+    requires kinds { AreKinds corners.now numbers.now kinds.old }
+    requires marked { AreMarked kinds.old marks.old }
+    requires seen { (j : ℕ) → j < start → j < length kinds.old → slice_index_or kinds.old j Kind.Flat ≢ Kind.Candidate }
     requires blocks { AreBlocksOrNone corners.now spans.now boxes.now }
-    ensures kinds { AreKinds corners.now kinds.new }
-    ensures ear { MatchOption result
-        (HasNone (IsEar corners.now) (length corners.now))
-        (λ k. IsFirst (IsEar corners.now) (length corners.now) k) }
+    ensures kinds { AreKinds corners.now numbers.now kinds.new }
+    ensures marked { AreMarked kinds.new marks.new }
+    ensures others { (j : ℕ) → slice_index_or kinds.new j Kind.Flat ≡ Kind.Flat → slice_index_or kinds.old j Kind.Flat ≡ Kind.Flat }
+    ensures seen { (j : ℕ) → j < result → j < length kinds.new → slice_index_or kinds.new j Kind.Flat ≢ Kind.Candidate }
+    ensures within { result ≤ length corners.now }
+    ensures ear { result < length corners.now → IsFirst (IsEar corners.now) (length corners.now) result }
+    ensures none { result ≡ length corners.now → HasNone (IsEar corners.now) (length corners.now) }
 {
-    for k in 0..kinds.len() {
+    for k in start..kinds.len() {
         if is_candidate(kinds[k]) {
-            let Some(place) = witness_of(corners, k, spans, boxes) else {
-                return Some(k);
+            let Some(j) = witness_of(corners, k, spans, boxes) else {
+                return k;
             };
-            kinds[k] = Kind::Blocked(place);
+            let number = numbers[j];
+            kinds[k] = Kind::Blocked(number);
+            mark(marks, number);
         }
     }
-    None
+    kinds.len()
 }
 
-/// Makes those candidates again whose witness stood at `gone`, the corner that was taken out at `k`: the
-/// kinds away from the gap are then up to date.
-fn release(kinds: &mut [Kind], gone: Corner)
-    ensures { (whole rest : List Corner) (k : ℕ) → IsTakenOut whole k gone rest → length kinds.old ≡ length rest
-        → ((j : ℕ) → j < length rest → IsKind whole (number_before k j) (slice_index_or kinds.old j Kind.Flat))
-        → (j : ℕ) → j < length rest → ¬ WasBeside (length rest) k j → IsKind rest j (slice_index_or kinds.new j Kind.Flat) }
+/// Makes those candidates again whose witness had the number `gone`, that of the corner that was taken
+/// out at `k`: the kinds away from the gap are then up to date.
+fn release_all(kinds: &mut [Kind], gone: u16)
+    ensures kept { (whole rest : List Corner) (numbers left : List ℕ) (k : ℕ)
+        → IsTakenOut whole numbers k gone rest left → length kinds.old ≡ length rest
+        → ((j : ℕ) → j < length rest → IsKind whole numbers (number_before k j) (slice_index_or kinds.old j Kind.Flat))
+        → (j : ℕ) → j < length rest → ¬ WasBeside (length rest) k j → IsKind rest left j (slice_index_or kinds.new j Kind.Flat) }
+    ensures others { (j : ℕ) → IsSameOrCandidate (slice_index_or kinds.old j Kind.Flat) (slice_index_or kinds.new j Kind.Flat) }
 {
     for j in 0..kinds.len() {
         if is_blocked_by(kinds[j], gone) {
             kinds[j] = Kind::Candidate;
         }
+    }
+}
+
+/// The same, but where the number is not marked nothing is done, since it is nobody's witness. Returns how
+/// far the kinds are then looked through.
+fn release(kinds: &mut [Kind], gone: u16, marks: &[bool], seen: Seen) -> Seen
+    requires marked { AreMarked kinds.old marks.now }
+    requires seen { AreSeen kinds.old seen }
+    ensures kept { (whole rest : List Corner) (numbers left : List ℕ) (k : ℕ)
+        → IsTakenOut whole numbers k gone rest left → length kinds.old ≡ length rest
+        → ((j : ℕ) → j < length rest → IsKind whole numbers (number_before k j) (slice_index_or kinds.old j Kind.Flat))
+        → (j : ℕ) → j < length rest → ¬ WasBeside (length rest) k j → IsKind rest left j (slice_index_or kinds.new j Kind.Flat) }
+    ensures marked { AreMarked kinds.new marks.now }
+    ensures seen { AreSeen kinds.new result }
+{
+    if !is_marked(marks, gone) {
+        return seen;
+    }
+    release_all(kinds, gone);
+    Seen {
+        flats: seen.flats,
+        candidates: 0,
     }
 }
 
@@ -217,19 +260,47 @@ fn after_gap(count: usize, k: usize) -> usize
     if k == count { 0 } else { k }
 }
 
-/// Brings the kinds up to date after the corner `gone` was taken out at `k`: those that it was a witness
-/// of are candidates again, and its two neighbours are looked at anew.
-pub fn update_kinds(corners: &[Corner], kinds: &mut [Kind], k: usize, gone: Corner)
+/// Looks anew at corner `k`. Returns how far the kinds are then looked through.
+fn look_at(corners: &[Corner], kinds: &mut [Kind], k: usize, marks: &[bool], seen: Seen) -> Seen
+    requires in_rest { k < length corners.now }
+    requires same_length { length kinds.old ≡ length corners.now }
+    requires marked { AreMarked kinds.old marks.now }
+    requires seen { AreSeen kinds.old seen }
+    ensures here { (numbers : List ℕ) → IsKind corners.now numbers k (slice_index_or kinds.new k Kind.Flat) }
+    ensures others { (j : ℕ) → j ≢ k → slice_index_or kinds.new j Kind.Flat ≡ slice_index_or kinds.old j Kind.Flat }
+    ensures marked { AreMarked kinds.new marks.now }
+    ensures seen { AreSeen kinds.new result }
+{
+    let kind = kind_at(corners, k);
+    kinds[k] = kind;
+    seen.with(k, kind)
+}
+
+/// Brings the kinds up to date after the corner with the number `gone` was taken out at `k`: those that it
+/// was a witness of are candidates again, and its two neighbours are looked at anew. Returns how far the
+/// kinds are then looked through.
+pub fn update_kinds(
+    corners: &[Corner],
+    kinds: &mut [Kind],
+    k: usize,
+    gone: u16,
+    marks: &[bool],
+    seen: Seen,
+) -> Seen
     requires same_length { length kinds.old ≡ length corners.now }
     requires within { k ≤ length corners.now }
     requires some { 0 < length corners.now }
-    ensures { (whole : List Corner) → IsTakenOut whole k gone corners.now
-        → ((j : ℕ) → j < length corners.now → IsKind whole (number_before k j) (slice_index_or kinds.old j Kind.Flat))
-        → AreKinds corners.now kinds.new }
+    requires marked { AreMarked kinds.old marks.now }
+    requires seen { AreSeen kinds.old seen }
+    ensures are { (whole : List Corner) (numbers left : List ℕ) → IsTakenOut whole numbers k gone corners.now left
+        → ((j : ℕ) → j < length corners.now → IsKind whole numbers (number_before k j) (slice_index_or kinds.old j Kind.Flat))
+        → AreKinds corners.now left kinds.new }
+    ensures marked { AreMarked kinds.new marks.now }
+    ensures seen { AreSeen kinds.new result }
 {
-    release(kinds, gone);
+    let released = release(kinds, gone, marks, seen);
     let after = after_gap(corners.len(), k);
     let before = preceding(corners.len(), after);
-    kinds[after] = kind_at(corners, after);
-    kinds[before] = kind_at(corners, before);
+    let last = look_at(corners, kinds, after, marks, released);
+    look_at(corners, kinds, before, marks, last)
 }

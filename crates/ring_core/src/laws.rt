@@ -12,8 +12,9 @@ ghost use Rattle.ring_core.specs.Ears.{AreNoNeighbours};
 ghost use Rattle.geo_exact.specs.First.{HasNone};
 ghost use Rattle.std.specs.List.{remove};
 
-/// The edges by number are the ring's: it has as many as corners, edge i joins corner i to the next and the last to the first, and a
-/// point lies on the ring exactly where it lies on the edge of some number.
+/// The edges by number are the ring's: it has as many as corners, edge i joins corner i to the next
+/// and the last to the first, and a point lies on the ring exactly where it lies on the edge of
+/// some number.
 pub fn edges_are_those_of_their_numbers()
     ensures as_many { (ring : List Corner) → length (edges ring) ≡ length ring }
     ensures joined { (ring : List Corner) (i : ℕ) (edge : Edge) → slice_get (edges ring) i ≡ Some edge

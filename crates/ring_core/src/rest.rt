@@ -3,23 +3,29 @@ ghost use Rattle.std.specs.List.{remove};
 ghost use Rattle.ring_core.specs.Clipping.{IsEar, IsFlat};
 ghost use Rattle.geo_exact.specs.First.{HasNone, IsFirst};
 
-use crate::blocks::{Blocks, Span, blocks_of, close_gap};
+use crate::blocks::{BLOCK_CORNERS, Blocks, Span, blocks_of, close_gap};
 use crate::kind::{Kind, first_ear, first_flat, kinds_of, update_kinds};
 use crate::leaning::LeaningBox;
+use crate::marks::{marks_of, numbers_of};
+use crate::seen::Seen;
 use geo_exact::Corner;
 use std::alloc::{AllocError, Allocator};
 use std::marker::Model;
 
 /// What the clipping has left of a ring: a list of corners, which contracts see as that list.
 ///
-/// Beside each corner stands its kind. A left turn is a candidate until another corner is found in its
-/// triangle, its witness; it is a candidate again when its witness is taken out. A corner that is taken
-/// out leaves its two neighbours to be looked at again, and no other. Of a large ring, corners that follow one
-/// another are blocks, each with a box that held its corners when it was made and holds those that are left.
+/// Beside each corner stand its kind, and a number that it keeps. A left turn is a candidate until another
+/// corner is found in its triangle, its witness, whose number is then marked; it is a candidate again when
+/// its witness is taken out. A corner that is taken out leaves its two neighbours to be looked at again, and
+/// no other but those whose witness it was. Of a large ring, corners that follow one another are blocks, each
+/// with a box that held its corners when it was made and holds those that are left.
 #[derive(Debug, Drop)]
 pub struct Rest<A: Allocator> {
     corners: Vec<Corner, A>,
+    numbers: Vec<u16, A>,
     kinds: Vec<Kind, A>,
+    marks: Vec<bool, A>,
+    seen: Seen,
     spans: Vec<Span, A>,
     boxes: Vec<LeaningBox, A>,
 }
@@ -28,13 +34,14 @@ impl<A: Allocator> Model for Rest<A> {
     ghost use Rattle.geo_exact.specs.declared.corner.Corner.{Corner};
     ghost use Rattle.std.specs.Prelude.{List};
     ghost use Rattle.ring_core.specs.own.Blocks.{AreBlocksOrNone};
-    ghost use Rattle.ring_core.specs.own.Kinds.{AreKinds};
+    ghost use Rattle.ring_core.specs.own.Kinds.{AreKept};
 
     ghost Value = { List Corner };
 
     ghost view = { λ rest. rest.corners.items };
 
-    ghost invariant = { λ rest. AreKinds rest.corners.items rest.kinds.items × AreBlocksOrNone rest.corners.items rest.spans.items rest.boxes.items };
+    ghost invariant = { λ rest. AreKept rest.corners.items rest.numbers.items rest.kinds.items rest.marks.items rest.seen
+        × AreBlocksOrNone rest.corners.items rest.spans.items rest.boxes.items };
 }
 
 impl<A: Allocator + Copy> Rest<A> {
@@ -46,13 +53,21 @@ impl<A: Allocator + Copy> Rest<A> {
     pub(crate) fn of(alloc: A, corners: &[Corner]) -> Result<Rest<A>, AllocError>
         ensures { IfOk result (λ rest. rest ≡ corners.now) }
     {
+        let numbers = numbers_of(alloc, corners.len())?;
         let kinds = kinds_of(alloc, corners)?;
         let Blocks { spans, boxes } = blocks_of(alloc, corners)?;
+        let marks = marks_of(alloc, spans.len() * BLOCK_CORNERS)?;
         let mut list = Vec::new(alloc);
         list.extend_from_slice(corners)?;
         Ok(Rest {
             corners: list,
+            numbers,
             kinds,
+            marks,
+            seen: Seen {
+                flats: 0,
+                candidates: 0,
+            },
             spans,
             boxes,
         })
@@ -73,19 +88,30 @@ impl<A: Allocator> Rest<A> {
         requires more_than_two { 2 < length self.old }
         ensures { self.new ≡ remove self.old k }
     {
-        let gone = self.corners.remove(k);
+        self.corners.remove(k);
+        let gone = self.numbers.remove(k);
         self.kinds.remove(k);
         close_gap(self.spans.as_mut_slice(), k);
-        update_kinds(self.corners.as_slice(), self.kinds.as_mut_slice(), k, gone);
+        self.seen = update_kinds(
+            self.corners.as_slice(),
+            self.kinds.as_mut_slice(),
+            k,
+            gone,
+            self.marks.as_slice(),
+            self.seen.without(k),
+        );
     }
 
-    /// The first flat corner.
-    pub(crate) fn first_flat(&self) -> Option<usize>
-        ensures { MatchOption result
-            (HasNone (IsFlat self.now) (length self.now))
-            (λ k. IsFirst (IsFlat self.now) (length self.now) k) }
+    /// The first flat corner. The corners stay; how far none is flat is kept.
+    pub(crate) fn first_flat(&mut self) -> Option<usize>
+        ensures same { self.new ≡ self.old }
+        ensures flat { MatchOption result
+            (HasNone (IsFlat self.new) (length self.new))
+            (λ k. IsFirst (IsFlat self.new) (length self.new) k) }
     {
-        first_flat(self.kinds.as_slice())
+        let k = first_flat(self.kinds.as_slice(), self.seen.flats);
+        self.seen.flats = k;
+        if k < self.kinds.len() { Some(k) } else { None }
     }
 
     /// The first ear. The corners stay; what is found out about those before it is kept.
@@ -95,13 +121,16 @@ impl<A: Allocator> Rest<A> {
             (HasNone (IsEar self.new) (length self.new))
             (λ k. IsFirst (IsEar self.new) (length self.new) k) }
     {
-        let spans = self.spans.as_slice();
-        let boxes = self.boxes.as_slice();
-        first_ear(
+        let k = first_ear(
             self.corners.as_slice(),
+            self.numbers.as_slice(),
             self.kinds.as_mut_slice(),
-            spans,
-            boxes,
-        )
+            self.marks.as_mut_slice(),
+            self.seen.candidates,
+            self.spans.as_slice(),
+            self.boxes.as_slice(),
+        );
+        self.seen.candidates = k;
+        if k < self.kinds.len() { Some(k) } else { None }
     }
 }

@@ -183,6 +183,11 @@ impl<A: Allocator> Ring<A> {
     ///
     /// The first of these that applies: [`RingFault::ZeroArea`] (G1), [`RingFault::Clockwise`] (G3),
     /// [`RingFault::EdgesMeet`] (G2).
+    ///
+    /// ```
+    /// // (0, 0) (100, 0) (100, 100) (50, 0) (0, 100): edges 0 and 2 meet.
+    /// assert_eq!(Ring::check(corners), Err(RingFault::EdgesMeet(0, 2)));
+    /// ```
     pub fn check(corners: Corners<A>) -> Result<Ring<A>, RingFault>
         requires { length corners ≤ LIST_CORNERS }
         ensures valid { IsOk result ↔ IsSimpleRing corners }

@@ -22,14 +22,15 @@ use std::alloc::{AllocError, Allocator};
 /// of theirs, each of which is 0 or 1, and the twice-areas add up.
 #[derive(Debug, Drop)]
 pub struct Shape<A: Allocator> {
+    // Where a place lies is told by the core and the box alone, as a rule, so they stand first, side by side.
+    /// A box in which every place is inside the ring; it holds none where none was found.
+    pub core: Bounds,
+    /// The least box of its corners, which holds its triangles too.
+    pub bounds: Bounds,
     /// The ring.
     pub ring: Ring<A>,
     /// Its triangles, in the order in which they are clipped.
     pub triangles: Triangles<A>,
-    /// The least box of its corners, which holds its triangles too.
-    pub bounds: Bounds,
-    /// A box in which every place is inside the ring; it holds none where none was found.
-    pub core: Bounds,
     pub ghost least_box: { IsLeastBox bounds ring.corners },
     pub ghost bounded: { All (HoldsTriangle bounds) triangles },
     pub ghost made_up: { MakeUp triangles ring.corners },
@@ -63,6 +64,11 @@ impl<A: Allocator + Copy> Shape<A> {
     /// # Errors
     ///
     /// [`AllocError`] where an allocation is refused.
+    ///
+    /// ```
+    /// let shape = Shape::clip(alloc, Ring::check(corners)?)?;
+    /// let count = shape.triangles.len(); // 2 of a square
+    /// ```
     pub fn clip(alloc: A, ring: Ring<A>) -> Result<Shape<A>, AllocError>
         ensures ring { IfOk result (λ shape. shape.ring.corners ≡ ring.corners) }
         ensures clipped { IfOk result (λ shape. IsClippedTo ring.corners shape.triangles) }

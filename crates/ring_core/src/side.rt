@@ -49,6 +49,11 @@ fn is_passed(from: Corner, to: Corner, place: Corner) -> bool
 }
 
 /// How a place lies to a ring, by the winding number.
+///
+/// ```
+/// // (50, 50) in the square from (0, 0) to (100, 100):
+/// assert_eq!(side_of(ring.corners.as_slice(), place), Side::Inside);
+/// ```
 pub fn side_of(ring: &[Corner], place: Corner) -> Side
     requires { length ring.now ≤ RING_CORNERS }
     ensures { IsSide (corner_point place) ring.now result }

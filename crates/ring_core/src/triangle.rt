@@ -20,6 +20,10 @@ pub struct Tri {
 
 impl Tri {
     /// The triangle of three corners, or `None` where they don't turn left.
+    ///
+    /// ```
+    /// let triangle = Tri::new(a, b, c); // None unless c is left of the way from a to b
+    /// ```
     pub fn new(a: Corner, b: Corner, c: Corner) -> Option<Tri>
         ensures valid { IsSome result ↔ (pos 0 <ℤ turn_of a b c) }
         ensures made { IfSome result (λ tri. (tri.a ≡ a) × (tri.b ≡ b) × (tri.c ≡ c)) }

@@ -1,10 +1,13 @@
 -- What the code of the clipping remembers of each corner that is left: flat, bent (neither flat nor a left turn), or a left turn, and then
--- where another corner stands in its closed triangle, once one was found there. Public contracts do not speak of it.
-use Rattle.std.specs.Prelude.{◌≡◌, ◌⊎◌, ℕ, ◌+◌, ◌<◌, pos, ◌<ℤ◌, if◌then◌else◌, nat_lt, List, length, slice_index_or}
+-- the number of another corner in its closed triangle, once one was found there. Public contracts do not speak of it.
+use Rattle.std.specs.Prelude.{◌≡◌, ◌≢◌, ◌⊎◌, ℕ, ◌+◌, ◌<◌, Bool, true, false, pos, ◌<ℤ◌}
+use Rattle.std.specs.Prelude.{if◌then◌else◌, nat_lt, List, length}
+use Rattle.std.specs.Prelude.{slice_index_or}
 use Rattle.std.specs.List.{remove}
 use Rattle.geo_exact.specs.declared.corner.Corner.{Corner}
 use Rattle.geo_exact.specs.Turn.{turn}
 use Rattle.ring_core.specs.declared.kind.Kind.{Kind}
+use Rattle.ring_core.specs.declared.seen.Seen.{Seen}
 use Rattle.ring_core.specs.declared.kind.Kind.TheVariants.{Flat, Bent, Candidate, Blocked}
 use Rattle.geo_exact.specs.Places.{corner_at}
 use Rattle.ring_core.specs.Clipping.{previous, next, IsFlat, Blocks}
@@ -13,21 +16,45 @@ use Rattle.ring_core.specs.Clipping.{previous, next, IsFlat, Blocks}
 abbrev pub TurnsLeft : List Corner → ℕ → Type 0
 TurnsLeft rest k = pos 0 <ℤ turn (previous rest k) (corner_at rest k) (next rest k)
 
--- a corner of the rest stands at the place, and lies in the closed triangle of corner k, as another than its three
-abbrev pub IsWitness : List Corner → ℕ → Corner → Type 0
-IsWitness rest k place = (j : ℕ) × (j < length rest) × (corner_at rest j ≡ place) × Blocks rest k j
+-- a corner of the rest has the number, and lies in the closed triangle of corner k, as another than its three
+abbrev pub IsWitness : List Corner → List ℕ → ℕ → ℕ → Type 0
+IsWitness rest numbers k number = (j : ℕ) × (j < length rest) × (slice_index_or numbers j 0 ≡ number) × Blocks rest k j
 
 -- the kind is that of corner k
-abbrev pub IsKind : List Corner → ℕ → Kind → Type 0
-IsKind rest k Flat = IsFlat rest k
-IsKind rest k Bent = (¬ IsFlat rest k) × (¬ TurnsLeft rest k)
-IsKind rest k Candidate = TurnsLeft rest k
-IsKind rest k (Blocked place) = TurnsLeft rest k × IsWitness rest k place
+abbrev pub IsKind : List Corner → List ℕ → ℕ → Kind → Type 0
+IsKind rest numbers k Flat = IsFlat rest k
+IsKind rest numbers k Bent = (¬ IsFlat rest k) × (¬ TurnsLeft rest k)
+IsKind rest numbers k Candidate = TurnsLeft rest k
+IsKind rest numbers k (Blocked number) = TurnsLeft rest k × IsWitness rest numbers k number
 
 -- the kinds are those of the corners, in order
-pub record AreKinds (rest : List Corner) (kinds : List Kind) : Type 0 where
+pub record AreKinds (rest : List Corner) (numbers : List ℕ) (kinds : List Kind) : Type 0 where
   pub same_length : length kinds ≡ length rest
-  pub each : (k : ℕ) → k < length rest → IsKind rest k (slice_index_or kinds k Flat)
+  pub each : (k : ℕ) → k < length rest → IsKind rest numbers k (slice_index_or kinds k Flat)
+
+-- the number is marked, or has no mark
+abbrev pub IsMarked : List Bool → ℕ → Type 0
+IsMarked marks number = number < length marks → slice_index_or marks number false ≡ true
+
+-- the number of each witness is marked
+abbrev pub AreMarked : List Kind → List Bool → Type 0
+AreMarked kinds marks = (j number : ℕ) → j < length kinds → slice_index_or kinds j Flat ≡ Blocked number → IsMarked marks number
+
+-- the kinds were looked through so far
+pub record AreSeen (kinds : List Kind) (seen : Seen) : Type 0 where
+  pub flats : (j : ℕ) → j < seen.flats → j < length kinds → slice_index_or kinds j Flat ≢ Flat
+  pub candidates : (j : ℕ) → j < seen.candidates → j < length kinds → slice_index_or kinds j Flat ≢ Candidate
+
+-- what is kept beside the corners is right
+pub record AreKept (rest : List Corner) (numbers : List ℕ) (kinds : List Kind) (marks : List Bool) (seen : Seen) : Type 0 where
+  pub as_many : length numbers ≡ length rest
+  pub are : AreKinds rest numbers kinds
+  pub marked : AreMarked kinds marks
+  pub seen_so_far : AreSeen kinds seen
+
+-- the second kind is the first, or a candidate's
+abbrev pub IsSameOrCandidate : Kind → Kind → Type 0
+IsSameOrCandidate was is = (is ≡ was) ⊎ (is ≡ Candidate)
 
 -- the number that corner j had before corner k was taken out
 abbrev pub number_before : ℕ → ℕ → ℕ
@@ -37,8 +64,10 @@ number_before k j = if nat_lt j k then j else j + 1
 abbrev pub WasBeside : ℕ → ℕ → ℕ → Type 0
 WasBeside m k j = (j + 1 ≡ k) ⊎ (j ≡ k) ⊎ ((k ≡ 0) × (j + 1 ≡ m)) ⊎ ((k ≡ m) × (j ≡ 0))
 
--- the rest is the whole without corner k, which was `gone`
-pub record IsTakenOut (whole : List Corner) (k : ℕ) (gone : Corner) (rest : List Corner) : Type 0 where
+-- the rest is the whole without corner k, whose number was `gone`, and the numbers are left without it
+pub record IsTakenOut (whole : List Corner) (numbers : List ℕ) (k gone : ℕ) (rest : List Corner) (left : List ℕ) : Type 0 where
   pub below : k < length whole
+  pub as_many : length numbers ≡ length whole
   pub is_rest : rest ≡ remove whole k
-  pub is_gone : gone ≡ corner_at whole k
+  pub is_left : left ≡ remove numbers k
+  pub is_gone : gone ≡ slice_index_or numbers k 0

@@ -1,7 +1,7 @@
 use Rattle.std.proofs.Common.{◌+◌, ◌*◌, arith}
 use Rattle.std.proofs.lemmas.List.{length_push}
 use Rattle.ring_core.specs.declared.blocks.Span.{Span}
-use Rattle.ring_core.proofs.BlocksMade.{blocks_more}
+use Rattle.ring_core.proofs.searches.BlocksMade.{blocks_more}
 use Rattle.ring_core.proofs.blocks.blocks_of.Goals as goal
 use Rattle.ring_core.proofs.blocks.blocks_of.Goals.{then-start-corners+in_ok-push+in_ok-push-2, else-start-corners}
 use Rattle.ring_core.proofs.blocks.blocks_of.Goals.{then-corners-gt-FEW_CORNERS+else-loop-b-test, else-corners-gt-FEW_CORNERS}
@@ -13,8 +13,10 @@ loop-b-preserved g c =
       | then-start-corners+in_ok-push+in_ok-push-2 w ↦
           let span : Span = record { start = 16 * b; end = w.min-end.result } in
           rw (w.spans-is, w.boxes-is, w.in_ok-push.ensures.items, w.in_ok-push-2.ensures.items) (record {
-            same_length = omega (arith, length_push c.loop-b.spans.items span, length_push c.loop-b.boxes.items w.of_edges.result, inv.same_length);
-            below = blocks_more corners (16 * b) (16 * (b + 1)) c.loop-b.spans.items c.loop-b.boxes.items span w.of_edges.result inv.same_length inv.below
+            same_length =
+                omega (arith, length_push c.loop-b.spans.items span, length_push c.loop-b.boxes.items w.of_edges.result, inv.same_length);
+            below = blocks_more corners (16 * b) (16 * (b + 1)) c.loop-b.spans.items c.loop-b.boxes.items span
+                w.of_edges.result inv.same_length inv.below
                 (λ j q r in_ring. record {
                   in_span = record { from = q; to = omega (arith, w.min-end.ensures) };
                   held = (w.of_edges.ensures j q (omega (arith, w.min-end.ensures))).0;

@@ -1,5 +1,5 @@
 use Rattle.std.proofs.Common.{◌≡◌, ◌*◌, length}
-use Rattle.ring_core.proofs.BlocksMade.{AreBlocksBelow}
+use Rattle.ring_core.proofs.searches.BlocksMade.{AreBlocksBelow}
 use Rattle.ring_core.proofs.blocks.blocks_of.Given as goal
 
 abbrev pub invariant-loop-b : goal.invariant-loop-b

@@ -2,7 +2,7 @@ use Rattle.std.proofs.Common.{◌≡◌, ◌≢◌, ◌<◌, ◌∙◌, ap, arit
 use Rattle.std.proofs.lemmas.List.{get_or_default, get_or-set_same, get_or-set_other}
 use Rattle.ring_core.specs.declared.blocks.Span.{Span}
 use Rattle.ring_core.specs.own.Blocks.{number_less}
-use Rattle.ring_core.proofs.BlocksKept.{IsLess, blocks_kept}
+use Rattle.ring_core.proofs.searches.BlocksKept.{IsLess, blocks_kept}
 use Rattle.ring_core.proofs.blocks.close_gap.Goals as goal
 
 pub loop-b-preserved : goal.loop-b-preserved
@@ -23,6 +23,6 @@ loop-b-preserved c =
     }
 
 pub returns : goal.returns
-returns c = λ whole rest gone boxes t are.
-    blocks_kept whole rest c.args.k gone t c.args.spans.now c.loop-b.spans boxes c.loop-b.auto.spans
+returns c = λ whole rest boxes below is_rest are.
+    blocks_kept whole rest c.args.k below is_rest c.args.spans.now c.loop-b.spans boxes c.loop-b.auto.spans
     (λ i q. c.loop-b.invariant.done i (omega (arith, c.loop-b.auto.spans))) are

@@ -1,6 +1,6 @@
 use Rattle.std.proofs.Common.{◌≡◌, ℕ, ◌<◌, ◌≤◌, slice_index_or}
 use Rattle.ring_core.specs.declared.blocks.Span.{Span}
-use Rattle.ring_core.proofs.BlocksKept.{IsLess}
+use Rattle.ring_core.proofs.searches.BlocksKept.{IsLess}
 use Rattle.ring_core.proofs.blocks.close_gap.Given as goal
 
 abbrev pub invariant-loop-b : goal.invariant-loop-b

@@ -1,7 +1,7 @@
 use Rattle.std.proofs.Common.{arith, sym, subst}
 use Rattle.std.proofs.lemmas.List.{take_all}
 use Rattle.geo_exact.specs.Bounds.{HoldsCorner}
-use Rattle.ring_core.proofs.LeastBoxes.{holds_more, least_of_one, least_of_two}
+use Rattle.ring_core.proofs.clipping.LeastBoxes.{holds_more, least_of_one, least_of_two}
 use Rattle.ring_core.proofs.boxes.bounds_of_ring.Goals as goal
 
 pub loop-corner-init : goal.loop-corner-init
@@ -14,9 +14,11 @@ loop-corner-init c = record {
 
 pub loop-corner-preserved : goal.loop-corner-preserved
 loop-corner-preserved c =
-    let i = c.loop-corner.corner-index in let corner = c.corner-item.result in let own = c.of_corner.result in let wider = c.around-bounds.ensures in
+    let i = c.loop-corner.corner-index in let corner = c.corner-item.result in let own = c.of_corner.result in
+    let wider = c.around-bounds.ensures in
     record {
-      holds = holds_more c.args.corners.now i corner c.loop-corner.bounds own c.around-bounds.result c.loop-corner-test.true c.corner-item.is
+      holds = holds_more c.args.corners.now i corner c.loop-corner.bounds own c.around-bounds.result
+          c.loop-corner-test.true c.corner-item.is
           wider.first wider.second c.of_corner.ensures.low c.of_corner.ensures.high c.loop-corner.invariant.holds;
       is_least = λ other all.
           least_of_two c.loop-corner.bounds own c.around-bounds.result other wider.left wider.bottom wider.right wider.top

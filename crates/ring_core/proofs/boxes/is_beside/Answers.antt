@@ -1,5 +1,5 @@
-use Rattle.ring_core.proofs.Sides.{is_less}
-use Rattle.ring_core.proofs.Cores.{left_of, right_of, under, over}
+use Rattle.ring_core.proofs.searches.Sides.{is_less}
+use Rattle.ring_core.proofs.searches.Cores.{left_of, right_of, under, over}
 use Rattle.ring_core.proofs.boxes.is_beside.Goals as goal
 
 pub returns-then-to-bounds : goal.returns-then-to-bounds

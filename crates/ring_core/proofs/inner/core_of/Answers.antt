@@ -1,5 +1,5 @@
 use Rattle.std.proofs.Common.{refl}
-use Rattle.ring_core.proofs.Cores.{all_inside, holds_low}
+use Rattle.ring_core.proofs.searches.Cores.{all_inside, holds_low}
 use Rattle.ring_core.proofs.inner.core_of.Goals as goal
 
 pub returns-in-Inside : goal.returns-in-Inside

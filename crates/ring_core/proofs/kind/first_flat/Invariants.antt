@@ -1,9 +1,6 @@
-use Rattle.std.proofs.Common.{List}
-use Rattle.geo_exact.specs.declared.corner.Corner.{Corner}
-use Rattle.ring_core.specs.Clipping.{IsFlat}
-use Rattle.geo_exact.specs.First.{HasNone}
-use Rattle.ring_core.specs.own.Kinds.{AreKinds}
+use Rattle.std.proofs.Common.{◌≢◌, ℕ, ◌<◌, ◌≤◌, slice_index_or}
+use Rattle.ring_core.specs.declared.kind.Kind.TheVariants.{Flat}
 use Rattle.ring_core.proofs.kind.first_flat.Given as goal
 
 abbrev pub invariant-loop-k : goal.invariant-loop-k
-invariant-loop-k l = (rest : List Corner) → AreKinds rest l.kinds → HasNone (IsFlat rest) l.k
+invariant-loop-k l = (j : ℕ) → l.start ≤ j → j < l.k → slice_index_or l.kinds j Flat ≢ Flat

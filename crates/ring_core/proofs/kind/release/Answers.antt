@@ -1,38 +1,27 @@
-use Rattle.std.proofs.Common.{◌≡◌, ◌≢◌, ◌<◌, ◌∙◌, arith, sym, below_more, length, get_or, slice_set}
+use Rattle.std.proofs.Common.{◌≡◌, ◌∙◌, inl, inr, sym, arith, length, get_or}
 use Rattle.std.proofs.lemmas.Bool.{false≢true}
-use Rattle.std.proofs.lemmas.List.{get_or_read, get_or-set_same, get_or-set_other}
 use Rattle.ring_core.specs.declared.kind.Kind.TheVariants.{Flat, Candidate}
-use Rattle.ring_core.specs.own.Kinds.{IsKind, WasBeside}
-use Rattle.ring_core.proofs.KindsKept.{kept, released}
+use Rattle.ring_core.proofs.clipping.KindsKept.{kept}
 use Rattle.ring_core.proofs.kind.release.Goals as goal
-use Rattle.ring_core.proofs.kind.release.Goals.{then-is_blocked_by, else-is_blocked_by}
 
-pub loop-j-preserved : goal.loop-j-preserved
-loop-j-preserved c =
-    let gone = c.args.gone in let kinds = c.loop-j.kinds in let j = c.loop-j.j in let kind = c.index-kinds-j.result in
-    let inv = c.loop-j.invariant in
-    let here : j < length kinds = omega (arith, c.loop-j.auto.kinds) in
-    let read : kind ≡ get_or kinds j Flat = get_or_read kinds j kind here c.index-kinds-j.is Flat in
-    elim c.if-is_blocked_by.branch [
-      | then-is_blocked_by w ↦ record {
-        done = λ whole rest k t long h. rw w.kinds-is (below_more
-            (λ i. ¬ WasBeside (length rest) k i → IsKind rest i (get_or (slice_set kinds j Candidate) i Flat)) j
-            (λ i q off. let ne : i ≢ j = omega arith in rw (get_or-set_other kinds j i Candidate Flat ne) (inv.done whole rest k t long h i q off))
-            (λ off. rw (get_or-set_same kinds j Candidate Flat here)
-            (let there : j < length rest = omega (arith, long) in
-            released whole rest k j gone t there off (get_or kinds j Flat) (sym read ∙ c.is_blocked_by.ensures.0 w.if-is_blocked_by.true)
-            (rw (inv.unread j (omega arith)) (h j there)))));
-        unread = λ i q. let ne : i ≢ j = omega arith in rw w.kinds-is (get_or-set_other kinds j i Candidate Flat ne ∙ inv.unread i (omega arith));
-      }
-      | else-is_blocked_by w ↦ record {
-        done = λ whole rest k t long h. rw w.kinds-is (below_more
-            (λ i. ¬ WasBeside (length rest) k i → IsKind rest i (get_or kinds i Flat)) j
-            (λ i q off. inv.done whole rest k t long h i q off)
-            (λ off.
-            let there : j < length rest = omega (arith, long) in
-            kept whole rest k j gone t there off (get_or kinds j Flat)
-            (λ e. false≢true (sym w.if-is_blocked_by.false ∙ c.is_blocked_by.ensures.1 (read ∙ e)))
-            (rw (inv.unread j (omega arith)) (h j there))));
-        unread = λ i q. rw w.kinds-is (inv.unread i (omega arith));
-      }
-    ]
+pub returns-then-not-is_marked-clause-kept : goal.returns-then-not-is_marked-clause-kept
+returns-then-not-is_marked-clause-kept c = λ whole rest numbers left k t long h j b off.
+    let kinds = c.args.kinds.now in
+    kept whole rest numbers left k j c.args.gone t b off (get_or kinds j Flat)
+    (λ e. false≢true (sym c.if-not-is_marked.true
+    ∙ c.is_marked.ensures (c.requires.marked j c.args.gone (omega (arith, long, b)) e))) (h j b)
+
+pub returns-clause-marked : goal.returns-clause-marked
+returns-clause-marked c = λ j n b e. elim (c.release_all.ensures.others j) [
+  | inl same ↦ c.requires.marked j n (omega (arith, c.release_all.auto.kinds, b)) (sym same ∙ e)
+  | inr is ↦ cc
+]
+
+pub returns-clause-seen : goal.returns-clause-seen
+returns-clause-seen c = record {
+  flats = λ j below b e. elim (c.release_all.ensures.others j) [
+    | inl same ↦ c.requires.seen.flats j below (omega (arith, c.release_all.auto.kinds, b)) (sym same ∙ e)
+    | inr is ↦ cc
+  ];
+  candidates = λ j below b e. absurd (omega (arith, below));
+}

@@ -3,7 +3,7 @@ use Rattle.std.proofs.lemmas.Bool.{false≢true}
 use Rattle.std.proofs.lemmas.List.{get_or_read}
 use Rattle.geo_exact.specs.Places.{origin, corner_at}
 use Rattle.ring_core.specs.Clipping.{Blocks, IsInTriangle, next, previous}
-use Rattle.ring_core.proofs.Renumbered.{inside_like}
+use Rattle.ring_core.proofs.ears.Renumbered.{inside_like}
 use Rattle.ring_core.proofs.kind.witness_between.Goals as goal
 use Rattle.ring_core.proofs.kind.witness_between.Goals.{
   else-is_in_boxed-via-then-is_in_boxed+then-j-before+then-j-k+else-j-after,
@@ -14,11 +14,11 @@ use Rattle.ring_core.proofs.kind.witness_between.Goals.{
 
 pub returns-then-j-after : goal.returns-then-j-after
 returns-then-j-after c =
-    let corners = c.args.corners.now in let k = c.args.k in let j = c.loop-j.j in let t = c.args.triangle in let is = c.requires.is_triangle in
-    let here : c.index-corners-j.result ≡ corner_at corners j = get_or_read corners j c.index-corners-j.result (omega arith) c.index-corners-j.is origin in (
-      j,
+    let corners = c.args.corners.now in let k = c.args.k in let j = c.loop-j.j in let t = c.args.triangle in let is =
+    c.requires.is_triangle in
+    let here : c.index-corners-j.result ≡ corner_at corners j =
+    get_or_read corners j c.index-corners-j.result (omega arith) c.index-corners-j.is origin in (
       omega arith,
-      sym here,
       record {
         not_before = λ e. c.if-j-before.true (e ∙ sym c.preceding-before.ensures);
         not_same = λ e. c.if-j-k.true e;
@@ -31,14 +31,17 @@ returns-then-j-after c =
 
 pub loop-j-preserved : goal.loop-j-preserved
 loop-j-preserved c =
-    let corners = c.args.corners.now in let k = c.args.k in let j = c.loop-j.j in let t = c.args.triangle in let is = c.requires.is_triangle in
-    let here : c.index-corners-j.result ≡ corner_at corners j = get_or_read corners j c.index-corners-j.result (omega arith) c.index-corners-j.is origin in
+    let corners = c.args.corners.now in let k = c.args.k in let j = c.loop-j.j in let t = c.args.triangle in let is =
+    c.requires.is_triangle in
+    let here : c.index-corners-j.result ≡ corner_at corners j =
+    get_or_read corners j c.index-corners-j.result (omega arith) c.index-corners-j.is origin in
     λ i o b. below_more (λ i. c.args.start ≤ i → ¬ Blocks corners k i) j (λ i b o. c.loop-j.invariant i o b) (λ _ x.
     let inside : IsInTriangle c.index-corners-j.result t.a t.b t.c =
     inside_like (corner_at corners j) (previous corners k) (corner_at corners k) (next corners k)
     c.index-corners-j.result t.a t.b t.c here is.a is.b is.c x.is_inside in
     elim c.else-is_in_boxed.branch [
-      | else-is_in_boxed-via-then-is_in_boxed+then-j-before+then-j-k+else-j-after w ↦ x.not_after (w.if-j-after.false ∙ c.following-after.ensures)
+      | else-is_in_boxed-via-then-is_in_boxed+then-j-before+then-j-k+else-j-after w ↦
+          x.not_after (w.if-j-after.false ∙ c.following-after.ensures)
       | else-is_in_boxed-via-then-is_in_boxed+then-j-before+else-j-k w ↦ x.not_same w.if-j-k.false
       | else-is_in_boxed-via-then-is_in_boxed+else-j-before w ↦ x.not_before (w.if-j-before.false ∙ c.preceding-before.ensures)
       | else-is_in_boxed-via-else-is_in_boxed w ↦ false≢true (sym w.if-is_in_boxed.false ∙ c.is_in_boxed.ensures.1 inside)

@@ -6,9 +6,10 @@ use Rattle.ring_core.specs.declared.leaning.LeaningBox.{LeaningBox}
 use Rattle.ring_core.specs.Clipping.{Blocks, next, previous}
 use Rattle.ring_core.specs.own.Blocks.{HasCorner}
 use Rattle.ring_core.specs.own.Leaning.{IsHeld}
-use Rattle.ring_core.proofs.Renumbered.{inside_like}
+use Rattle.ring_core.proofs.ears.Renumbered.{inside_like}
 use Rattle.ring_core.proofs.kind.witness_of.Goals as goal
-use Rattle.ring_core.proofs.kind.witness_of.Goals.{then-start-end-via-then-start-end, then-start-end-via-else-start-end+then-misses_triangle}
+use Rattle.ring_core.proofs.kind.witness_of.Goals.{then-start-end-via-then-start-end}
+use Rattle.ring_core.proofs.kind.witness_of.Goals.{then-start-end-via-else-start-end+then-misses_triangle}
 
 abbrev no_span : Span
 no_span = record { start = 0; end = 0 }
@@ -18,13 +19,21 @@ not_empty n e = grind (arith, nat_tests)
 
 pub loop-b-preserved-then-start-end : goal.loop-b-preserved-then-start-end
 loop-b-preserved-then-start-end c =
-    let corners = c.args.corners.now in let spans = c.args.spans.now in let boxes = c.args.boxes.now in let k = c.args.k in let b = c.loop-b.b in
+    let corners = c.args.corners.now in let spans = c.args.spans.now in let boxes = c.args.boxes.now in let k =
+    c.args.k in let b = c.loop-b.b in
     let t = c.triangle_at-triangle in
     below_more (λ i. (j : ℕ) → j < length corners
-    → ((span : Span) (box : LeaningBox) → HasCorner corners j (get_or spans i span) (get_or boxes i box)) → ¬ Blocks corners k j) b c.loop-b.invariant
+    → ((span : Span) (box : LeaningBox) → HasCorner corners j (get_or spans i span) (get_or boxes i box))
+    → ¬ Blocks corners k j) b c.loop-b.invariant
     (λ j in_ring h x. elim c.then-start-end.branch [
       | then-start-end-via-then-start-end w ↦
-          let any : LeaningBox = record { bounds = c.bounds_of-bounds.result; from = t.result.a; to = t.result.a; low = pos 0; high = pos 0 } in
+          let any : LeaningBox = record {
+            bounds = c.bounds_of-bounds.result;
+            from = t.result.a;
+            to = t.result.a;
+            low = pos 0;
+            high = pos 0;
+          } in
           let there = (h no_span any).in_span in
           omega (arith, there.from, there.to, c.min-end.ensures, w.if-start-end.true)
       | then-start-end-via-else-start-end+then-misses_triangle w ↦

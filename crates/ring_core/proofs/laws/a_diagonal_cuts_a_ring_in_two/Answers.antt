@@ -1,4 +1,4 @@
-use Rattle.ring_core.proofs.PartsOfRings.{parts_simple}
+use Rattle.ring_core.proofs.ears.PartsOfRings.{parts_simple}
 use Rattle.ring_core.proofs.laws.a_diagonal_cuts_a_ring_in_two.Goals as goal
 
 pub returns : goal.returns

@@ -1,4 +1,4 @@
-use Rattle.ring_core.proofs.Diagonals.{diagonal_of_blocked}
+use Rattle.ring_core.proofs.ears.Diagonals.{diagonal_of_blocked}
 use Rattle.ring_core.proofs.laws.a_left_turn_that_is_no_ear_has_a_diagonal.Goals as goal
 
 pub returns : goal.returns

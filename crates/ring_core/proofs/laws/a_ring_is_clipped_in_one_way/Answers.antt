@@ -1,5 +1,5 @@
-use Rattle.ring_core.proofs.ClipUnique.{one_way}
-use Rattle.ring_core.proofs.WholeClipping.{to_triangles}
+use Rattle.ring_core.proofs.clipping.ClipUnique.{one_way}
+use Rattle.ring_core.proofs.clipping.WholeClipping.{to_triangles}
 use Rattle.ring_core.proofs.laws.a_ring_is_clipped_in_one_way.Goals as goal
 
 pub returns-clause-to_triangles : goal.returns-clause-to_triangles

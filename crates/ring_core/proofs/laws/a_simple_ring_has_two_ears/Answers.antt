@@ -1,4 +1,4 @@
-use Rattle.ring_core.proofs.TwoEars.{two_ears, two_flat_or_ears}
+use Rattle.ring_core.proofs.ears.TwoEars.{two_ears, two_flat_or_ears}
 use Rattle.ring_core.proofs.laws.a_simple_ring_has_two_ears.Goals as goal
 
 pub returns-clause-ears : goal.returns-clause-ears

@@ -1,5 +1,5 @@
-use Rattle.geo_exact.proofs.Begun.{ring_count}
-use Rattle.ring_core.proofs.EdgeNumbers.{on_ring_by_number, ring_joins}
+use Rattle.geo_exact.proofs.rings.Begun.{ring_count}
+use Rattle.ring_core.proofs.edges.EdgeNumbers.{on_ring_by_number, ring_joins}
 use Rattle.ring_core.proofs.laws.edges_are_those_of_their_numbers.Goals as goal
 
 pub returns-clause-as_many : goal.returns-clause-as_many

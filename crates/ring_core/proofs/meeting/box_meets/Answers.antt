@@ -5,7 +5,7 @@ use Rattle.std.proofs.lemmas.Bool.{false≢true}
 use Rattle.std.proofs.lemmas.Bool.Decides.{Decides-and}
 use Rattle.std.specs.Prelude.{◌&&◌}
 use lib.Signed.{le_z}
-use Rattle.geo_exact.proofs.Orders.{Decides-int_le}
+use Rattle.geo_exact.proofs.numbers.Orders.{Decides-int_le}
 use Rattle.geo_exact.specs.Limit.{IsWithin, limit}
 use Rattle.geo_exact.specs.Bounds.{RangesMeet}
 use Rattle.ring_core.proofs.meeting.box_meets.Goals as goal
@@ -22,7 +22,8 @@ passed r low high u v s t a b c d e f h =
     let y : FitsSigned w64 s = omega (arith, ints) in
     let z : FitsSigned w64 t = omega (arith, ints) in
     let tested : r ≡ (le_z low (int_max s t) && le_z (int_min s t) high) = simp to_z-of_z at h in
-    let decides = Decides-and (le_z low (int_max s t)) (le_z (int_min s t) high) (Decides-int_le low (int_max s t)) (Decides-int_le (int_min s t) high) in
+    let decides = Decides-and (le_z low (int_max s t)) (le_z (int_min s t) high) (Decides-int_le low (int_max s t))
+    (Decides-int_le (int_min s t) high) in
     rw (← e, ← f) (λ q. decides.0 (sym tested ∙ q), λ m. tested ∙ decides.1 m)
 
 pub returns-then-is_reached : goal.returns-then-is_reached

@@ -1,6 +1,6 @@
 use Rattle.std.proofs.Common.{sym, ◌∙◌, inl, inr, refl}
 use Rattle.std.proofs.lemmas.Bool.{false≢true}
-use Rattle.ring_core.proofs.Doubling.{doubles_back_by_end, end_of_doubling_back}
+use Rattle.ring_core.proofs.edges.DoubledBack.{doubles_back_by_end, end_of_doubling_back}
 use Rattle.ring_core.proofs.meeting.doubles_back.Goals as goal
 
 pub returns-then-is_short_of_end : goal.returns-then-is_short_of_end

@@ -20,7 +20,8 @@ returns-in-Some c =
 pub loop-i-preserved-then-clear-i-2 : goal.loop-i-preserved-then-clear-i-2
 loop-i-preserved-then-clear-i-2 c =
     let ring = c.args.ring.now in let i = c.loop-i.i in let inv = c.loop-i.invariant in
-    let clear : (k m : ℕ) → k < c.if-clear-i.clear → k < m → m < length ring → ¬ MeetOtherwise ring k m = λ k m h o b. elim c.if-clear-i.branch [
+    let clear : (k m : ℕ) → k < c.if-clear-i.clear → k < m → m < length ring → ¬ MeetOtherwise ring k m =
+    λ k m h o b. elim c.if-clear-i.branch [
       | then-clear-i w ↦ elim (cases_lt k i) [
         | inl q ↦ inv.passed k m q o b
         | inr q ↦ w.clear_until-clear.ensures k m q (omega (arith, w.clear-is)) o b
@@ -32,7 +33,8 @@ pub loop-i-preserved : goal.loop-i-preserved
 loop-i-preserved c =
     let ring = c.args.ring.now in let inv = c.loop-i.invariant in
     record {
-      passed = λ k m h o b. below_more (λ n. n < m → ¬ MeetOtherwise ring n m) c.loop-i.i (λ n q r. inv.passed n m q r b) (λ r. c.in_default.ensures m r b) k h o;
+      passed = λ k m h o b. below_more (λ n. n < m → ¬ MeetOtherwise ring n m) c.loop-i.i (λ n q r.
+          inv.passed n m q r b) (λ r. c.in_default.ensures m r b) k h o;
       clear = λ k m h. inv.passed k m (omega arith);
     }
 

@@ -7,10 +7,11 @@ use Rattle.geo_exact.specs.Bounds.{EdgeBoxesMeet}
 use Rattle.geo_exact.specs.Places.{after, corner_at, origin}
 use Rattle.ring_core.specs.own.EdgePairs.{IsEdgeBox}
 use Rattle.ring_core.specs.Simple.{MeetOtherwise}
-use Rattle.ring_core.proofs.EdgePoints.{boxes_overlap}
-use Rattle.ring_core.proofs.RoundNumbers.{after_in}
+use Rattle.ring_core.proofs.edges.EdgePoints.{boxes_overlap}
+use Rattle.ring_core.proofs.edges.RoundNumbers.{after_in}
 use Rattle.ring_core.proofs.ring.first_meeting_with.Goals as goal
-use Rattle.ring_core.proofs.ring.first_meeting_with.Goals.{else-box_meets-via-then-box_meets+else-meet_otherwise, else-box_meets-via-else-box_meets}
+use Rattle.ring_core.proofs.ring.first_meeting_with.Goals.{else-box_meets-via-then-box_meets+else-meet_otherwise}
+use Rattle.ring_core.proofs.ring.first_meeting_with.Goals.{else-box_meets-via-else-box_meets}
 
 met : (r : Bool) (box : Bounds) (a b c d a' b' c' d' : Corner) → a ≡ a' → b ≡ b' → c ≡ c' → d ≡ d' → IsEdgeBox box a b
     → ((u w : Corner) → IsEdgeBox box u w → IsTrue r ↔ EdgeBoxesMeet u w c d) → EdgeBoxesMeet a' b' c' d' → IsTrue r
@@ -23,8 +24,10 @@ pub loop-j-preserved : goal.loop-j-preserved
 loop-j-preserved c =
     let ring = c.args.ring.now in let n = length ring in let i = c.args.i in let j = c.loop-j.j in
     let in_ring : j < n = omega arith in
-    λ l o b. below_more (λ k. i < k → ¬ MeetOtherwise ring i k) j (λ k r q. c.loop-j.invariant k q r) (λ _ m. elim c.else-box_meets.branch [
-      | else-box_meets-via-then-box_meets+else-meet_otherwise w ↦ false≢true (sym w.if-meet_otherwise.false ∙ w.meet_otherwise.ensures.1 m)
+    λ l o b. below_more (λ k. i < k → ¬ MeetOtherwise ring i k) j (λ k r q. c.loop-j.invariant k q r) (λ _ m.
+    elim c.else-box_meets.branch [
+      | else-box_meets-via-then-box_meets+else-meet_otherwise w ↦ false≢true (sym w.if-meet_otherwise.false
+          ∙ w.meet_otherwise.ensures.1 m)
       | else-box_meets-via-else-box_meets w ↦ false≢true (sym w.if-box_meets.false
           ∙ met c.box_meets.result c.edge_box-bounds.result _ _ _ _
           (corner_at ring i) (corner_at ring (after n i)) (corner_at ring j) (corner_at ring (after n j))

@@ -5,7 +5,7 @@ use Rattle.geo_exact.specs.Point.{Point}
 use Rattle.geo_exact.specs.Turn.{IsOnEdge}
 use Rattle.ring_core.specs.own.EdgePairs.{HaveCommonPoint}
 use Rattle.ring_core.specs.Simple.{MeetOtherwise}
-use Rattle.ring_core.proofs.CornersRead.{corner_read, corner_after_read}
+use Rattle.ring_core.proofs.edges.CornersRead.{corner_read, corner_after_read}
 use Rattle.ring_core.proofs.ring.is_clear.Goals as goal
 use Rattle.ring_core.proofs.ring.is_clear.Goals.{else-not-misses-via-then-not-misses+else-meets_one, else-not-misses-via-else-not-misses}
 
@@ -16,8 +16,10 @@ pub loop-j-preserved : goal.loop-j-preserved
 loop-j-preserved c = λ k m o b q r.
     let ring = c.args.ring.now in let n = length ring in let j = c.loop-j.j in
     let in_ring : j < n = omega arith in
-    below_more (λ l. k < l → ¬ MeetOtherwise ring k l) j (λ l x y. c.loop-j.invariant k l o b y x) (λ y x. elim c.else-not-misses.branch [
-      | else-not-misses-via-then-not-misses+else-meets_one w ↦ w.meets_one.ensures w.if-meets_one.false k o (omega (arith, w.min.ensures)) x
+    below_more (λ l. k < l → ¬ MeetOtherwise ring k l) j (λ l x y. c.loop-j.invariant k l o b y x) (λ y x.
+    elim c.else-not-misses.branch [
+      | else-not-misses-via-then-not-misses+else-meets_one w ↦
+          w.meets_one.ensures w.if-meets_one.false k o (omega (arith, w.min.ensures)) x
       | else-not-misses-via-else-not-misses w ↦
           let held = c.of_edges-held.ensures k o b in
           c.misses.ensures w.if-not-misses.false (corner_at ring k) (corner_at ring (after n k)) held.0 held.1

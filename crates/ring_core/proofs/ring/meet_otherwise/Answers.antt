@@ -3,9 +3,9 @@ use Rattle.geo_exact.specs.declared.corner.Corner.{Corner}
 use Rattle.geo_exact.specs.Places.{corner_at, after}
 use Rattle.ring_core.specs.own.EdgePairs.{HaveCommonPoint, DoublesBack}
 use Rattle.ring_core.specs.Simple.{MeetOtherwise}
-use Rattle.ring_core.proofs.CornersRead.{corner_read, corner_read_at}
-use Rattle.ring_core.proofs.Neighbours.{following_meet, closing_meet, apart_meet}
-use Rattle.ring_core.proofs.RoundNumbers.{after_in, after_inner}
+use Rattle.ring_core.proofs.edges.CornersRead.{corner_read, corner_read_at}
+use Rattle.ring_core.proofs.edges.Neighbours.{following_meet, closing_meet, apart_meet}
+use Rattle.ring_core.proofs.edges.RoundNumbers.{after_in, after_inner}
 use Rattle.ring_core.proofs.ring.meet_otherwise.Goals as goal
 
 doubling : (r : Bool) (a b c a' b' c' : Corner) (Q : Type 0) → a ≡ a' → b ≡ b' → c ≡ c'
@@ -32,10 +32,12 @@ returns-then-next-i c =
     let ring = c.args.ring.now in let i = c.args.i in let j = c.args.j in let n = length ring in
     let f : i < length ring = omega arith in
     let s : i + 1 < length ring = omega arith in
-    doubling c.doubles_back-then-next-i.result _ _ _ (corner_at ring j) (corner_at ring i) (corner_at ring (after n i)) (MeetOtherwise ring i j)
+    doubling c.doubles_back-then-next-i.result _ _ _ (corner_at ring j) (corner_at ring i)
+    (corner_at ring (after n i)) (MeetOtherwise ring i j)
     (corner_read ring j _ c.requires.in_ring c.index-ring-j.is) (corner_read ring i _ f c.index-ring-i.is)
     (corner_read_at ring (after n i) (i + 1) _ (after_in n i f) (omega (arith, after_inner n i (omega arith))) c.index-ring-i-2.is)
-    c.doubles_back-then-next-i.ensures (closing_meet ring i j c.requires.long c.requires.ordered (sym c.following-next.ensures ∙ c.if-next-i.true))
+    c.doubles_back-then-next-i.ensures (closing_meet ring i j c.requires.long c.requires.ordered
+    (sym c.following-next.ensures ∙ c.if-next-i.true))
 
 pub returns : goal.returns
 returns c =

@@ -2,7 +2,8 @@ use Rattle.std.proofs.Common.{sym, arith, pos, ◌≤ℤ◌, ◌<ℤ◌, FitsSig
 use Rattle.std.specs.Int.{w128}
 use Rattle.std.proofs.lemmas.Int.{ints}
 use Rattle.std.proofs.lemmas.Bool.Decides.{nat_tests}
-use Rattle.ring_core.proofs.Sides.{upward, not_upward, downward, not_downward, at_most, not_at_most, above_zero, not_above_zero, below_zero, not_below_zero}
+use Rattle.ring_core.proofs.searches.Sides.{upward, not_upward, downward, not_downward, at_most, not_at_most}
+use Rattle.ring_core.proofs.searches.Sides.{above_zero, not_above_zero, below_zero, not_below_zero}
 use Rattle.ring_core.proofs.side.crossing.Goals as goal
 
 pub returns-then-turn-gt0-clause-value : goal.returns-then-turn-gt0-clause-value

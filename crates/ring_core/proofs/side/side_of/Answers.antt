@@ -6,8 +6,8 @@ use Rattle.geo_exact.specs.Limit.{IsWithin}
 use Rattle.geo_exact.specs.Point.{corner_point}
 use Rattle.geo_exact.specs.Turn.{IsOnRing}
 use Rattle.geo_exact.specs.Winding.{crossing}
-use Rattle.geo_exact.proofs.Paths.{path_sum-drop, path_sum-end}
-use Rattle.ring_core.proofs.Sides.{path-drop, path-end, not_first}
+use Rattle.geo_exact.proofs.rings.Paths.{path_sum-drop, path_sum-end}
+use Rattle.ring_core.proofs.searches.Sides.{path-drop, path-end, not_first}
 use Rattle.ring_core.proofs.side.side_of.Goals as goal
 
 pub loop-to-preserved-then-is_passed : goal.loop-to-preserved-then-is_passed

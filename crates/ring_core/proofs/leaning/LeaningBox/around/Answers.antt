@@ -1,6 +1,6 @@
 use Rattle.std.proofs.Common.{FitsSigned, rules}
 use Rattle.std.specs.Int.{w128}
-use Rattle.ring_core.proofs.LeaningBoxes.{held_wider, least_kept, greatest_kept}
+use Rattle.ring_core.proofs.searches.LeaningBoxes.{held_wider, least_kept, greatest_kept}
 use Rattle.ring_core.proofs.leaning.LeaningBox.around.Goals as goal
 
 pub returns-clause-keeps : goal.returns-clause-keeps

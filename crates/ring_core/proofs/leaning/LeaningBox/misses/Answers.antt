@@ -1,12 +1,13 @@
 use Rattle.std.proofs.Common.{FitsSigned, rules}
 use Rattle.std.specs.Int.{w128}
 use lib.IntN.{pos, ◌-ℤ◌}
-use Rattle.ring_core.proofs.EdgePoints.{not_past}
-use Rattle.ring_core.proofs.LeaningBoxes.{is_past, not_beyond, one_less_below, short_by_one}
+use Rattle.ring_core.proofs.edges.EdgePoints.{not_past}
+use Rattle.ring_core.proofs.searches.LeaningBoxes.{is_past, not_beyond, one_less_below, short_by_one}
 use Rattle.ring_core.proofs.leaning.LeaningBox.misses.Goals as goal
 
 pub returns-then-is_beside : goal.returns-then-is_beside
-returns-then-is_beside c = λ _ a b ha hb m. not_beyond c.args.self.bounds a b m.0 ha.inside hb.inside m.1 (c.is_beside.ensures c.if-is_beside.true m.0 m.2)
+returns-then-is_beside c = λ _ a b ha hb m. not_beyond c.args.self.bounds a b m.0 ha.inside hb.inside m.1
+    (c.is_beside.ensures c.if-is_beside.true m.0 m.2)
 
 pub returns-then-are_below : goal.returns-then-are_below
 returns-then-are_below c = λ _ a b ha hb m.

@@ -1,8 +1,8 @@
 use Rattle.std.proofs.Common.{FitsSigned, rules}
 use Rattle.std.specs.Int.{w128}
 use lib.IntN.{pos, ◌+ℤ◌, ◌-ℤ◌}
-use Rattle.ring_core.proofs.HeldInside.{held_inside}
-use Rattle.ring_core.proofs.LeaningBoxes.{above_itself, below_itself, is_past, one_more, short_by_one, turns_above, turns_below}
+use Rattle.ring_core.proofs.clipping.HeldInside.{held_inside}
+use Rattle.ring_core.proofs.searches.LeaningBoxes.{above_itself, below_itself, is_past, one_more, short_by_one, turns_above, turns_below}
 use Rattle.ring_core.proofs.leaning.LeaningBox.misses_triangle.Goals as goal
 
 pub returns-then-are_apart : goal.returns-then-are_apart

@@ -1,0 +1,14 @@
+pub mod Gaps
+pub mod Cuts
+pub mod Clipped
+pub mod ClipSteps
+pub mod ClipUnique
+pub mod TakenOut
+pub mod KindsKept
+pub mod KindsTell
+pub mod HeldInside
+pub mod NeverStuck
+pub mod CornersInBoxes
+pub mod LeastBoxes
+pub mod WholeClipping
+pub mod OnTriangles

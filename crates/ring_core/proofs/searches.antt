@@ -1,0 +1,5 @@
+pub mod LeaningBoxes
+pub mod BlocksKept
+pub mod BlocksMade
+pub mod Sides
+pub mod Cores
