@@ -3,3 +3,4 @@ pub mod Places
 pub mod Views
 pub mod Steps
 pub mod Orders
+pub mod Spread

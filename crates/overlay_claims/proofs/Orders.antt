@@ -1,5 +1,6 @@
 -- A hand goes through all lists, each once.
-use Rattle.std.proofs.Common.{◌≡◌, ◌≢◌, ⊎_elim, refl, sym, ◌∙◌, ap, subst, arith, ℕ, zero, suc, ◌+◌, ◌-◌, ◌%◌, ◌<◌, ◌≤◌, [], ◌∷◌, ◌++◌}
+use Rattle.std.proofs.Common.{◌≡◌, ◌≢◌, ⊎_elim, refl, sym, ◌∙◌, ap, subst, arith, ℕ, zero, suc, ◌+◌, ◌-◌}
+use Rattle.std.proofs.Common.{◌%◌, ◌<◌, ◌≤◌, [], ◌∷◌, ◌++◌}
 use Rattle.std.proofs.lemmas.Bool.{cases_eq, cases_lt}
 use Rattle.std.proofs.Math.Nat.{mod-eq_of_lt, mod-lt, add-mod_right}
 use Rattle.atomic_table.proofs.Lists.{one_turn}
@@ -13,7 +14,8 @@ not_among number count zero k less before = refl
 not_among number count (suc j) k less before =
     let apart : (number + k) % count ≢ (number + j) % count =
     (λ e. let same = one_turn (number + j) (number + k) count (omega arith) (omega arith) (sym e) in omega (arith, same, before)) in
-    times_other ((number + k) % count) ((number + j) % count) (lists_from number count j) apart ∙ not_among number count j k less (omega arith)
+    times_other ((number + k) % count) ((number + j) % count) (lists_from number count j) apart
+    ∙ not_among number count j k less (omega arith)
 
 pub next_is_not_noted : (number count k : ℕ) → k < count → times ((number + k) % count) (lists_from number count k) ≡ 0
 next_is_not_noted number count k less = not_among number count k k less (omega arith)
@@ -58,7 +60,8 @@ not_all_before_the_end number count ended less all =
     omega (arith, here, none)
 
 -- the list after so many, by sums that stay below the count
-pub wrapped : (number count k : ℕ) → number < count → k < count → count - number ≤ k → (number + k) % count ≡ k - (count - number)
+pub wrapped : (number count k : ℕ) → number < count → k < count → count - number ≤ k → (number + k) % count
+    ≡ k - (count - number)
 wrapped number count k own less past =
     let at : number + k ≡ (k - (count - number)) + count = omega arith in
     ap (λ n. n % count) at ∙ add-mod_right (k - (count - number)) count ∙ mod-eq_of_lt (omega arith)

@@ -1,21 +1,28 @@
--- What the words claim of lists: nothing at first, one place more where a word below a list's length is raised, and no other place where it is not below.
-use Rattle.std.proofs.Common.{◌≡◌, refl, sym, ◌∙◌, ap, subst, arith, ℕ, zero, suc, ◌+◌, ◌<◌, ◌≤◌, min, List, [], ◌∷◌, ◌++◌, length, length-append}
+-- What the words claim of lists: nothing at first, one place more where a word below a list's length is raised, and
+-- no other place where it is not below.
+use Rattle.std.proofs.Common.{◌≡◌, refl, sym, ◌∙◌, ap, subst, arith, ℕ, zero, suc, ◌+◌, ◌<◌, ◌≤◌, min, List, []}
+use Rattle.std.proofs.Common.{◌∷◌, ◌++◌, length, length-append}
 use Rattle.std.specs.Prelude.{slice_index, slice_set, sum_by, replicate, IsPermutation}
 use Rattle.std.proofs.lemmas.List.Sums.{sum_by-cons}
-use Rattle.std.proofs.lemmas.List.Sorted.{IsPermutation-refl, IsPermutation-sym, IsPermutation-trans, IsPermutation-append_right, IsPermutation-middle}
+use Rattle.std.proofs.lemmas.List.Sorted.{IsPermutation-refl, IsPermutation-sym, IsPermutation-trans}
+use Rattle.std.proofs.lemmas.List.Sorted.{IsPermutation-append_right, IsPermutation-middle}
 use Rattle.overlay_claims.specs.Claims.{places_below, all_places, claimed_places}
 
 pub none_claimed : (first : ℕ) (lengths : List ℕ) → claimed_places first lengths (replicate (length lengths) 0) ≡ []
 none_claimed first [] = refl
 none_claimed first (n ∷ lengths) =
     let none : min 0 n ≡ 0 = omega arith in
-    ap (λ m. places_below first m ++ claimed_places (suc first) lengths (replicate (length lengths) 0)) none ∙ none_claimed (suc first) lengths
+    ap (λ m. places_below first m ++ claimed_places (suc first) lengths (replicate (length lengths) 0)) none
+    ∙ none_claimed (suc first) lengths
 
 -- a place more in front of a part
-behind : (A : List (ℕ × ℕ)) (x : ℕ × ℕ) (C D : List (ℕ × ℕ)) → IsPermutation (x ∷ C) D → IsPermutation (x ∷ (A ++ C)) (A ++ D)
-behind A x C D p = IsPermutation-trans _ _ _ (IsPermutation-sym _ _ (IsPermutation-middle A x C)) (IsPermutation-append_right A (x ∷ C) D p)
+behind : (A : List (ℕ × ℕ)) (x : ℕ × ℕ) (C D : List (ℕ × ℕ)) → IsPermutation (x ∷ C) D
+    → IsPermutation (x ∷ (A ++ C)) (A ++ D)
+behind A x C D p = IsPermutation-trans _ _ _ (IsPermutation-sym _ _ (IsPermutation-middle A x C))
+    (IsPermutation-append_right A (x ∷ C) D p)
 
-pub one_more_claimed : (first : ℕ) (lengths words : List ℕ) (i : ℕ) → length words ≡ length lengths → slice_index words i < slice_index lengths i
+pub one_more_claimed : (first : ℕ) (lengths words : List ℕ) (i : ℕ) → length words ≡ length lengths
+    → slice_index words i < slice_index lengths i
     → IsPermutation ((first + i, slice_index words i) ∷ claimed_places first lengths words)
     (claimed_places first lengths (slice_set words i (slice_index words i + 1)))
 one_more_claimed first [] words i same less = absurd (omega arith)
@@ -49,7 +56,8 @@ no_more_claimed first (n ∷ lengths) (w ∷ words) (suc i) more =
     ap (λ l. places_below first (min w n) ++ l) (no_more_claimed (suc first) lengths words i more)
 
 pub all_claimed : (first : ℕ) (lengths words : List ℕ) → length words ≡ length lengths
-    → ((i : ℕ) → i < length lengths → slice_index lengths i ≤ slice_index words i) → claimed_places first lengths words ≡ all_places first lengths
+    → ((i : ℕ) → i < length lengths → slice_index lengths i ≤ slice_index words i)
+    → claimed_places first lengths words ≡ all_places first lengths
 all_claimed first [] words same ends = refl
 all_claimed first (n ∷ lengths) [] same ends = absurd (omega arith)
 all_claimed first (n ∷ lengths) (w ∷ words) same ends =

@@ -1,5 +1,6 @@
 -- What a hand that claims places shows (this product's own).
-use Rattle.std.specs.Prelude.{◌≡◌, ℕ, zero, suc, ◌+◌, ◌%◌, ◌<◌, ◌≤◌, List, [], ◌∷◌, ◌++◌, length, slice_index}
+use Rattle.std.specs.Prelude.{◌≡◌, ℕ, zero, suc, ◌+◌, ◌%◌, ◌<◌, ◌≤◌, List, [], ◌∷◌, ◌++◌, length}
+use Rattle.std.specs.Prelude.{slice_index}
 use Rattle.atomic_table.specs.Seated.{TableId}
 use Rattle.overlay_claims.specs.Claims.{times}
 
@@ -8,7 +9,8 @@ pub record Lists : Type 0 where
   pub name : TableId
   pub lengths : List ℕ
 
--- which lists a hand claims places of, its number, the places that it claimed, each under its list's number, in order, and the lists that it found at their end
+-- which lists a hand claims places of, its number, the places that it claimed, each under its list's number, in
+-- order, and the lists that it found at their end
 pub record Standing : Type 0 where
   pub lists : Lists
   pub number : ℕ

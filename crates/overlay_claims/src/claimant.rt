@@ -7,8 +7,9 @@ use crate::claims::{Claims, Mark};
 use std::alloc::{AllocError, Allocator};
 use std::marker::Model;
 
-/// A hand that claims places of lists: first of its own, which has its number, and then of the others, by rising number and, past the
-/// last, from 0. A list that it found at its end it does not touch again. Contracts see a `Standing`.
+/// A hand that claims places of lists: first of its own, which has its number, and then of the
+/// others, by rising number and, past the last, from 0. A list that it found at its end it does not
+/// touch again. Contracts see a `Standing`.
 #[derive(Drop)]
 pub struct Claimant {
     mark: Mark,
@@ -43,8 +44,8 @@ impl Claimant {
         self.number
     }
 
-    /// Claims the next place: of its own list, or else of the first other list that is not at its end. `None` where each list was found at
-    /// its end.
+    /// Claims the next place: of its own list, or else of the first other list that is not at its
+    /// end. `None` where each list was found at its end.
     pub fn next<A: Allocator + Copy>(&mut self, claims: &Claims<A>) -> Option<(usize, u64)>
         requires own { self.old.lists ≡ claims.now }
         ensures same { (self.new.lists ≡ self.old.lists) × (self.new.number ≡ self.old.number) }

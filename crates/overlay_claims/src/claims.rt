@@ -1,5 +1,6 @@
 ghost use Rattle.std.specs.Prelude.{◌≡◌, ℕ, ◌+◌, ◌^◌, ◌<◌, ◌≤◌, [], length, slice_index, sum_by, IfOk, IfSome, IfNone, IsPermutation};
 ghost use Rattle.std.specs.List.{AllByRecursion};
+ghost use Rattle.overlay_claims.specs.own.Spread.{word_of};
 ghost use Rattle.overlay_claims.specs.Claims.{view_of, with_fewer_parts, with_place, with_note, joined, times, all_places};
 
 use crate::plays::{Claim, Confirm, PartOff, Rule, Together};
@@ -11,6 +12,17 @@ use std::marker::Model;
 /// The token with which a hand claims places, and by which proofs follow what it knows. It has no bytes.
 pub(crate) type Mark = Seat<(), View>;
 
+/// How many words there are for each list, of which one is used: so no two that hands change lie in one line of a cache.
+const APART: usize = 16;
+
+/// The number of a list's word, which has eight words that nobody uses before it, and seven behind.
+fn word_for(list: usize) -> usize
+    requires { word_of list < 2 ^ 64 }
+    ensures { result ≡ word_of list }
+{
+    APART * list + 8
+}
+
 /// Lists whose places hands claim, each place by one hand. Contracts see their name and the lengths of the lists.
 #[derive(Drop)]
 pub struct Claims<A: Allocator> {
@@ -19,7 +31,7 @@ pub struct Claims<A: Allocator> {
 }
 
 impl<A: Allocator> Model for Claims<A> {
-    ghost use Rattle.std.specs.Prelude.{◌≡◌, ◌<◌, length};
+    ghost use Rattle.std.specs.Prelude.{◌≡◌, ◌*◌, ◌^◌, ◌<◌, length};
     ghost use Rattle.overlay_claims.specs.Claimants.{Lists};
 
     ghost Value = { Lists };
@@ -27,12 +39,13 @@ impl<A: Allocator> Model for Claims<A> {
     ghost view = { λ claims. record { name = claims.table.shared.table_id; lengths = claims.lengths.items } };
 
     ghost invariant = { λ claims. (claims.table.shared.key.items ≡ claims.lengths.items)
-        × (claims.table.shared.table_id.words ≡ length claims.lengths.items) × (0 < length claims.lengths.items) };
+        × (claims.table.shared.table_id.words ≡ 16 * length claims.lengths.items) × (0 < length claims.lengths.items)
+        × (16 * length claims.lengths.items < 2 ^ 64) };
 }
 
 impl<A: Allocator + Copy> Claims<A> {
-    /// Lists of these lengths, none of whose places is claimed, with a mark that has the parts of all hands, of which there are as many as
-    /// lists.
+    /// Lists of these lengths, none of whose places is claimed, with a mark that has the parts of all
+    /// hands, of which there are as many as lists.
     pub(crate) fn of(alloc: A, lengths: Vec<u64, A>) -> Result<(Claims<A>, Mark), AllocError>
         requires some { 0 < length lengths.items }
         requires short { AllByRecursion (λ n. n + length lengths.items < 2 ^ 64) lengths.items }
@@ -40,7 +53,10 @@ impl<A: Allocator + Copy> Claims<A> {
         ensures name { IfOk result (λ made. made.1.table_id ≡ made.0.name) }
         ensures mark { IfOk result (λ made. made.1.me ≡ (view_of lengths.items (length lengths.items), [])) }
     {
-        let words = Vec::from_elem(alloc, 0u64, lengths.len())?;
+        let Some(count) = lengths.len().checked_mul(APART) else {
+            return Err(AllocError);
+        };
+        let words = Vec::from_elem(alloc, 0u64, count)?;
         let (table, mark) = Table::of_words(alloc, words.as_slice(), &lengths)?;
         Ok((Claims { table, lengths }, mark))
     }
@@ -64,7 +80,8 @@ impl<A: Allocator + Copy> Claims<A> {
         self.table.shared.split_seat::<PartOff>(mark)
     }
 
-    /// Claims the next place of a list, by one addition to its word; `None` where the list is at its end, which the hand then notes.
+    /// Claims the next place of a list, by one addition to its word; `None` where the list is at its
+    /// end, which the hand then notes.
     pub(crate) fn claim(&self, mark: &mut Mark, list: usize) -> Option<u64>
         requires own { mark.old.table_id ≡ self.now.name }
         requires lengths { mark.old.me.0.lengths ≡ self.now.lengths }
@@ -76,7 +93,10 @@ impl<A: Allocator + Copy> Claims<A> {
         ensures bounded { IfSome result (λ place. length mark.new.me.0.places ≤ sum_by (λ n. n) self.now.lengths) }
         ensures none { IfNone result (mark.new.me.0 ≡ with_note mark.old.me.0 list) }
     {
-        let found = self.table.shared.fetch_add::<Claim>(mark, list, 1);
+        let found = self
+            .table
+            .shared
+            .fetch_add::<Claim>(mark, word_for(list), 1);
         if found < self.lengths[list] {
             Some(found)
         } else {

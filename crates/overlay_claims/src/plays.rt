@@ -1,6 +1,7 @@
 //! The rule of the words, and what each step on them tells.
-ghost use Rattle.std.specs.Prelude.{◌≡◌, ◌<◌, ◌≤◌, length, slice_index};
-ghost use Rattle.overlay_claims.specs.Claims.{IsClaimed, view_of, with_fewer_parts, joined, spent_view, Claims, KnowsAll};
+ghost use Rattle.std.specs.Prelude.{◌≡◌, ◌<◌, ◌≤◌, ℕ, length, slice_index};
+ghost use Rattle.overlay_claims.specs.own.Spread.{word_of, IsClaimedApart};
+ghost use Rattle.overlay_claims.specs.Claims.{view_of, with_fewer_parts, joined, spent_view, Claims, KnowsAll};
 
 use crate::view::View;
 use atomic_table::{Join, Play, Split, TableRule};
@@ -10,7 +11,7 @@ use std::alloc::Allocator;
 pub struct Rule;
 
 impl<A: Allocator> TableRule<(), View, Vec<u64, A>> for Rule {
-    ghost holds = { λ lengths state. IsClaimed lengths.items state.words state.views };
+    ghost holds = { λ lengths state. IsClaimedApart lengths.items state.words state.views };
 
     ghost first = { λ lengths. view_of lengths.items (length lengths.items) };
 }
@@ -19,7 +20,8 @@ impl<A: Allocator> TableRule<(), View, Vec<u64, A>> for Rule {
 pub struct Claim;
 
 impl Play<(), View> for Claim {
-    ghost then = { λ step before found after. Claims before.0 step.word found after.0 × (after.1 ≡ before.1) };
+    ghost then = { λ step before found after. (list : ℕ) × (step.word ≡ word_of list)
+        × Claims before.0 list found after.0 × (after.1 ≡ before.1) };
 }
 
 /// A word is read, and what is known of all views is put together.

@@ -1,7 +1,8 @@
 use std::collections::LinkedList;
 
-/// What a hand knows: the lengths of the lists, its parts of the right to know the whole, the places that it claimed (each under its
-/// list's number), and the lists that it found at their end. No value of it is made: it exists in proofs alone.
+/// What a hand knows: the lengths of the lists, its parts of the right to know the whole, the
+/// places that it claimed (each under its list's number), and the lists that it found at their end.
+/// No value of it is made: it exists in proofs alone.
 pub struct View {
     /// The lengths of the lists.
     pub lengths: LinkedList<u64>,

@@ -12,7 +12,7 @@ use Rattle.geo_exact.specs.Layers.{NumberedRing, numbered}
 use Rattle.geo_exact.specs.Area.{area2}
 use Rattle.ring_core.specs.Simple.{IsSimpleRing}
 use Rattle.fabric_core.specs.Rows.{numbers}
-use Rattle.fabric_core.proofs.RowLists.{ascending, same_row}
+use Rattle.fabric_core.proofs.rows.RowLists.{ascending, same_row}
 use Rattle.overlay_work.specs.Rounds.{ArePairsOf}
 use Rattle.overlay_work.specs.own.Kept.{AreFoundAmong}
 
@@ -23,7 +23,8 @@ pub some_corner : (ring : List Corner) → IsSimpleRing ring → 0 < length ring
 some_corner [] simple = absurd (no_area simple.counterclockwise)
 some_corner (corner ∷ ring) simple = omega arith
 
-pub a_corner : (ring : List Corner) (box : Bounds) → IsSimpleRing ring → All (HoldsCorner box) ring → (corner : Corner) × HoldsCorner box corner
+pub a_corner : (ring : List Corner) (box : Bounds) → IsSimpleRing ring → All (HoldsCorner box) ring
+    → (corner : Corner) × HoldsCorner box corner
 a_corner [] box simple holds = absurd (no_area simple.counterclockwise)
 a_corner (corner ∷ ring) box simple holds = (corner, holds 0 corner (omega arith))
 

@@ -1,5 +1,6 @@
 -- A round that can be closed has no fault, and no other has two.
-use Rattle.std.proofs.Common.{◌≡◌, ◌⊎◌, inl, inr, ⊎_elim, refl, sym, ◌∙◌, ap, subst, arith, ℕ, ◌<◌, ◌≤◌, List, [], ◌∷◌, length}
+use Rattle.std.proofs.Common.{◌≡◌, ◌⊎◌, inl, inr, ⊎_elim, refl, sym, ◌∙◌, ap, subst, arith, ℕ, ◌<◌, ◌≤◌}
+use Rattle.std.proofs.Common.{List, [], ◌∷◌, length}
 use Rattle.std.specs.Prelude.{IsSome, None}
 use Rattle.std.specs.List.{AllByRecursion}
 use Rattle.overlay_work.specs.declared.close.CloseFault.{CloseFault}
@@ -7,7 +8,7 @@ use Rattle.overlay_work.specs.declared.close.CloseFault.TheVariants.{NoThread, H
 use Rattle.overlay_work.specs.Rounds.{Task, Progress, HasAllEnds, IsAtEnd}
 use Rattle.overlay_work.specs.Faults.{AreAllIn, IsCloseFault, IsLeastHolding, HoldNothing, IsRunFault}
 use Rattle.overlay_work.specs.own.Gathered.{AreDone, HaveStopped}
-use Rattle.overlay_work.proofs.Finding.{member_of_all}
+use Rattle.overlay_work.proofs.ZonesFound.{member_of_all}
 use Rattle.overlay_work.proofs.HandsIn.{nothing_held}
 
 none_holds : (hands : List Progress) (number : ℕ) → HoldNothing hands → IsLeastHolding hands number → ⊥
@@ -18,19 +19,23 @@ at_least hands a b is was =
     let least = member_of_all (λ other. IsSome other.holds → a ≤ other.number) hands was.hand is.is_least was.is_in was.holds in
     subst (λ n. a ≤ n) was.has_number least
 
-pub none_is_a_fault : (task : Task) (hands : List Progress) (fault : CloseFault) → AreDone task hands → IsCloseFault task hands fault → ⊥
+pub none_is_a_fault : (task : Task) (hands : List Progress) (fault : CloseFault) → AreDone task hands
+    → IsCloseFault task hands fault → ⊥
 none_is_a_fault task hands (NoThread number) done is = is
 none_is_a_fault task hands (HandsMissing made here) done is = is.0 done.all_in
 none_is_a_fault task hands (Holding number) done is = none_holds hands number done.hold_nothing is.1
-none_is_a_fault task hands NotDone done is = member_of_all (λ hand. HasAllEnds hand → ⊥) hands done.some_done.0 is.2 done.some_done.1 done.some_done.2
+none_is_a_fault task hands NotDone done is = member_of_all (λ hand. HasAllEnds hand
+    → ⊥) hands done.some_done.0 is.2 done.some_done.1 done.some_done.2
 none_is_a_fault task hands NoMemory done is = is
 
-pub one_close_fault : (task : Task) (hands : List Progress) (a b : CloseFault) → IsCloseFault task hands a → IsCloseFault task hands b → a ≡ b
+pub one_close_fault : (task : Task) (hands : List Progress) (a b : CloseFault) → IsCloseFault task hands a
+    → IsCloseFault task hands b → a ≡ b
 one_close_fault task hands (NoThread number) b is was = absurd is
 one_close_fault task hands a (NoThread number) is was = absurd was
 one_close_fault task hands NoMemory b is was = absurd is
 one_close_fault task hands a NoMemory is was = absurd was
-one_close_fault task hands (HandsMissing made here) (HandsMissing other there) is was = λ i. HandsMissing ((is.1 ∙ sym was.1) i) ((is.2 ∙ sym was.2) i)
+one_close_fault task hands (HandsMissing made here) (HandsMissing other there) is was =
+    λ i. HandsMissing ((is.1 ∙ sym was.1) i) ((is.2 ∙ sym was.2) i)
 one_close_fault task hands (HandsMissing made here) (Holding number) is was = absurd (is.0 was.0)
 one_close_fault task hands (HandsMissing made here) NotDone is was = absurd (is.0 was.0)
 one_close_fault task hands (Holding number) (HandsMissing made here) is was = absurd (was.0 is.0)
@@ -51,11 +56,13 @@ at_ends (hand ∷ hands) stopped none = (
   at_ends hands stopped.1 none.1,
 )
 
-none_is_at_end : (hands : List Progress) → 0 < length hands → AllByRecursion IsAtEnd hands → AllByRecursion (λ hand. HasAllEnds hand → ⊥) hands → ⊥
+none_is_at_end : (hands : List Progress) → 0 < length hands → AllByRecursion IsAtEnd hands
+    → AllByRecursion (λ hand. HasAllEnds hand → ⊥) hands → ⊥
 none_is_at_end [] some ends none = omega (arith, some)
 none_is_at_end (hand ∷ hands) some ends none = none.0 ends.0.all_ends
 
-pub told_of_stopped : (task : Task) (hands : List Progress) (fault : CloseFault) → 0 < length task.lists → HaveStopped hands → HoldNothing hands
+pub told_of_stopped : (task : Task) (hands : List Progress) (fault : CloseFault) → 0 < length task.lists
+    → HaveStopped hands → HoldNothing hands
     → IsCloseFault task hands fault ⊎ (fault ≡ NoMemory) → IsRunFault task hands fault
 told_of_stopped task hands fault some stopped none (inr e) = subst (IsRunFault task hands) (sym e) tt
 told_of_stopped task hands (NoThread number) some stopped none (inl is) = absurd is

@@ -1,5 +1,7 @@
 -- What a hand keeps, after each of its steps.
-use Rattle.std.proofs.Common.{◌≡◌, ⊎_elim, refl, sym, ◌∙◌, ap, subst, arith, ℕ, zero, suc, ◌+◌, ◌-◌, ◌*◌, ◌^◌, ◌<◌, ◌≤◌, List, [], ◌∷◌, ◌++◌, map, length, get_or, take, append_assoc, append-nil, length-append}
+use Rattle.std.proofs.Common.{◌≡◌, ⊎_elim, refl, sym, ◌∙◌, ap, subst, arith, ℕ, zero, suc, ◌+◌, ◌-◌, ◌*◌}
+use Rattle.std.proofs.Common.{◌^◌, ◌<◌, ◌≤◌, List, [], ◌∷◌, ◌++◌, map, length, get_or, take, append_assoc}
+use Rattle.std.proofs.Common.{append-nil, length-append}
 use Rattle.std.specs.Prelude.{sum_by, Option, Some, None}
 use Rattle.std.specs.List.{AllByRecursion, Contains}
 use Rattle.std.specs.List.Sorted.{IsStrictlyIncreasing}
@@ -12,14 +14,14 @@ use Rattle.geo_exact.specs.Layers.{NumberedRing, corner_count}
 use Rattle.geo_exact.specs.declared.limits.TheConstants.{LAYER_CORNERS}
 use Rattle.fabric_core.specs.Rows.{numbers}
 use Rattle.fabric_core.specs.Faults.{AreSimple}
-use Rattle.fabric_core.proofs.RowLists.{has_number}
+use Rattle.fabric_core.proofs.rows.RowLists.{has_number}
 use Rattle.overlay_claims.specs.Claimants.{Standing, AreAllEnded}
 use Rattle.overlay_work.specs.Sharing.{joined, IsSharing}
 use Rattle.overlay_work.specs.Rounds.{Task, ArePairsOf, AreCandidatesFor, id_at}
 use Rattle.overlay_work.specs.own.Kept.{IsTask, IsHand, HoldsLast, done_of, ids_at, ArePairsOfAll, KeepsPairs}
 use Rattle.overlay_work.proofs.Places.{one_more_id, before_last, length_joined}
 use Rattle.overlay_work.proofs.Boxes.{some_corner}
-use Rattle.overlay_work.proofs.Finding.{all_snoc, all_member, member_of_all, nothing_in}
+use Rattle.overlay_work.proofs.ZonesFound.{all_snoc, all_member, member_of_all, nothing_in}
 use Rattle.overlay_work.proofs.HandsIn.{nothing_held}
 
 -- ---- a rising list within another is no longer
@@ -59,8 +61,10 @@ rising_within (x ∷ xs) ys up within =
     behind x z c above (zero, b, e) = absurd (omega (arith, e, above))
     behind x z c above (suc k, b, e) = (k, omega (arith, b), e)
 
-pub increasing_within : (xs ys : List ℕ) → IsStrictlyIncreasing xs → ((x : ℕ) → Contains xs x → Contains ys x) → length xs ≤ length ys
-increasing_within xs ys up within = rising_within xs ys (rising_of xs (λ i j d less here. AllPairs-from_increasing xs up i j d less here)) within
+pub increasing_within : (xs ys : List ℕ) → IsStrictlyIncreasing xs → ((x : ℕ) → Contains xs x → Contains ys x)
+    → length xs ≤ length ys
+increasing_within xs ys up within =
+    rising_within xs ys (rising_of xs (λ i j d less here. AllPairs-from_increasing xs up i j d less here)) within
 
 -- ---- few rows
 pub rows_few : (rows : List NumberedRing) → AreSimple rows → length rows ≤ corner_count rows
@@ -71,7 +75,8 @@ rows_few (row ∷ rows) simple =
     omega (arith, here, rest)
 
 -- ---- pairs
-pub pairs_of_one_more : (rows zones : List NumberedRing) (ids : List ℕ) (id : ℕ) (kept pairs : List (ℕ × ℕ)) → ArePairsOfAll rows zones ids kept
+pub pairs_of_one_more : (rows zones : List NumberedRing) (ids : List ℕ) (id : ℕ) (kept pairs : List (ℕ × ℕ))
+    → ArePairsOfAll rows zones ids kept
     → ArePairsOf rows zones id pairs → ArePairsOfAll rows zones (ids ++ id ∷ []) (kept ++ pairs)
 pairs_of_one_more rows zones [] id kept pairs all one = (pairs, [], ap (λ l. l ++ pairs) all ∙ sym (append-nil pairs), one, refl)
 pairs_of_one_more rows zones (x ∷ ids) id kept pairs all one = (
@@ -86,8 +91,10 @@ pairs_of_one_more rows zones (x ∷ ids) id kept pairs all one = (
 pub done_all : (id : ℕ) (ids : List ℕ) → HoldsLast (Some id) ids → done_of (Some id) ids ++ id ∷ [] ≡ ids
 done_all id ids last = ap (λ l. l ++ id ∷ []) (ap (λ l. take (length l - 1) l) last.1 ∙ before_last last.0 id) ∙ sym last.1
 
-pub hand_claims : (task : Task) (old new : Standing) (kept : List (ℕ × ℕ)) (tests : ℕ) (place : ℕ × ℕ) (id : ℕ) → IsHand task old None kept tests
-    → new.lists ≡ old.lists → new.places ≡ old.places ++ place ∷ [] → length new.places ≤ sum_by (λ n. n) task.claims.lengths → id ≡ id_at task.lists place
+pub hand_claims : (task : Task) (old new : Standing) (kept : List (ℕ × ℕ)) (tests : ℕ) (place : ℕ × ℕ) (id : ℕ)
+    → IsHand task old None kept tests
+    → new.lists ≡ old.lists → new.places ≡ old.places ++ place ∷ []
+    → length new.places ≤ sum_by (λ n. n) task.claims.lengths → id ≡ id_at task.lists place
     → Contains (numbers task.rows) id → (AreAllEnded (length task.lists) new.ended → ⊥) → IsHand task new (Some id) kept tests
 hand_claims task old new kept tests place id hand same claims few is here left =
     let ids = ids_at task.lists old.places in
@@ -96,7 +103,8 @@ hand_claims task old new kept tests place id hand same claims few is here left =
     let done : done_of (Some id) (ids_at task.lists new.places) ≡ ids = ap (λ l. take (length l - 1) l) more ∙ before_last ids id in
     record {
       claims = same ∙ hand.claims;
-      here = subst (AllByRecursion (Contains (numbers task.rows))) (sym more) (all_snoc (Contains (numbers task.rows)) ids id hand.here here);
+      here = subst (AllByRecursion (Contains (numbers task.rows))) (sym more)
+          (all_snoc (Contains (numbers task.rows)) ids id hand.here here);
       holds_last = (ids, more);
       pairs = subst (λ l. ArePairsOfAll task.rows task.zones l kept) (sym done) hand.pairs;
       few = few;
@@ -104,7 +112,8 @@ hand_claims task old new kept tests place id hand same claims few is here left =
       is_not_done = λ some. left;
     }
 
-pub hand_ends : (task : Task) (old new : Standing) (kept : List (ℕ × ℕ)) (tests : ℕ) → IsHand task old None kept tests → new.lists ≡ old.lists
+pub hand_ends : (task : Task) (old new : Standing) (kept : List (ℕ × ℕ)) (tests : ℕ) → IsHand task old None kept tests
+    → new.lists ≡ old.lists
     → new.places ≡ old.places → IsHand task new None kept tests
 hand_ends task old new kept tests hand same places = record {
   claims = same ∙ hand.claims;
@@ -116,7 +125,8 @@ hand_ends task old new kept tests hand same places = record {
   is_not_done = λ some. absurd (nothing_held None refl some);
 }
 
-few_candidates : (task : Task) (id : ℕ) (candidates : List ℕ) → IsTask task → AreCandidatesFor task.rows task.zones task.city id candidates → length candidates ≤ LAYER_CORNERS
+few_candidates : (task : Task) (id : ℕ) (candidates : List ℕ) → IsTask task
+    → AreCandidatesFor task.rows task.zones task.city id candidates → length candidates ≤ LAYER_CORNERS
 few_candidates task id candidates kept are =
     let within = increasing_within candidates (numbers task.zones) are.ascend (λ zone c.
     let it = (are.exactly zone).0 c in
@@ -125,7 +135,8 @@ few_candidates task id candidates kept are =
     let few = kept.few_zones in
     omega (arith, within, count, few)
 
-pub hand_does : (task : Task) (hand : Standing) (kept new : List (ℕ × ℕ)) (tests more : ℕ) (id : ℕ) → IsTask task → IsHand task hand (Some id) kept tests
+pub hand_does : (task : Task) (hand : Standing) (kept new : List (ℕ × ℕ)) (tests more : ℕ) (id : ℕ) → IsTask task
+    → IsHand task hand (Some id) kept tests
     → KeepsPairs task id kept new more → IsHand task hand None new (tests + more)
 hand_does task hand kept new tests more id stands is keeps =
     let ids = ids_at task.lists hand.places in
@@ -149,7 +160,8 @@ hand_does task hand kept new tests more id stands is keeps =
     }
 
 -- a hand claims no more parcels than a layer may have
-few_claimed : (task : Task) (hand : Standing) (holds : Option ℕ) (kept : List (ℕ × ℕ)) (tests : ℕ) → IsTask task → IsHand task hand holds kept tests
+few_claimed : (task : Task) (hand : Standing) (holds : Option ℕ) (kept : List (ℕ × ℕ)) (tests : ℕ) → IsTask task
+    → IsHand task hand holds kept tests
     → length (ids_at task.lists hand.places) ≤ LAYER_CORNERS
 few_claimed task hand holds kept tests stands is =
     let places = length-map hand.places (id_at task.lists) in
@@ -162,7 +174,8 @@ few_claimed task hand holds kept tests stands is =
     omega (arith, places, few, lengths, all, ids, rows, few_rows)
 
 -- nor does it do more
-pub few_done : (task : Task) (hand : Standing) (holds : Option ℕ) (kept : List (ℕ × ℕ)) (tests : ℕ) → IsTask task → IsHand task hand holds kept tests
+pub few_done : (task : Task) (hand : Standing) (holds : Option ℕ) (kept : List (ℕ × ℕ)) (tests : ℕ) → IsTask task
+    → IsHand task hand holds kept tests
     → length (done_of holds (ids_at task.lists hand.places)) ≤ LAYER_CORNERS
 few_done task hand None kept tests stands is = few_claimed task hand None kept tests stands is
 few_done task hand (Some id) kept tests stands is =
@@ -173,7 +186,8 @@ few_done task hand (Some id) kept tests stands is =
     omega (arith, few, all, one)
 
 -- so few tests are made that their number fits
-pub tests_fit : (task : Task) (hand : Standing) (kept new : List (ℕ × ℕ)) (tests more : ℕ) (id : ℕ) → IsTask task → IsHand task hand (Some id) kept tests
+pub tests_fit : (task : Task) (hand : Standing) (kept new : List (ℕ × ℕ)) (tests more : ℕ) (id : ℕ) → IsTask task
+    → IsHand task hand (Some id) kept tests
     → KeepsPairs task id kept new more → tests + more ≤ 1000000000000
 tests_fit task hand kept new tests more id stands is keeps =
     let after = hand_does task hand kept new tests more id stands is keeps in
@@ -189,7 +203,8 @@ at_most_sum (n ∷ ns) m k few fits =
     (omega (arith, sum, few, fits), at_most_sum ns m k (omega (arith, sum, few)) fits)
 
 -- no addition to a word of lists that share few ids wraps
-pub short_lists : (rows : List NumberedRing) (lists : List (List ℕ)) (lengths : List ℕ) → IsSharing (numbers rows) lists → lengths ≡ map (λ list. length list) lists
+pub short_lists : (rows : List NumberedRing) (lists : List (List ℕ)) (lengths : List ℕ)
+    → IsSharing (numbers rows) lists → lengths ≡ map (λ list. length list) lists
     → length rows ≤ LAYER_CORNERS → AllByRecursion (λ n. n + length lengths < 2 ^ 64) lengths
 short_lists rows lists lengths shares are few =
     let all = length_joined lists in

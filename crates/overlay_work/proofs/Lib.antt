@@ -1,5 +1,5 @@
 pub mod Places
-pub mod Finding
+pub mod ZonesFound
 pub mod Boxes
 pub mod Hands
 pub mod Differences
@@ -7,7 +7,7 @@ pub mod Starts
 pub mod HandsIn
 pub mod Steps
 pub mod Workers
-pub mod Gathering
+pub mod EachIdOnce
 pub mod Tables
-pub mod Sorting
+pub mod SortedPairs
 pub mod Faults

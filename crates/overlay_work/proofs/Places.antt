@@ -1,5 +1,6 @@
 -- Ids at places of lists.
-use Rattle.std.proofs.Common.{◌≡◌, refl, ◌∙◌, ap, arith, ℕ, zero, suc, ◌-◌, ◌<◌, ◌≤◌, List, [], ◌∷◌, ◌++◌, map, length, get_or, take, drop, length-append, append-nil}
+use Rattle.std.proofs.Common.{◌≡◌, refl, ◌∙◌, ap, arith, ℕ, zero, suc, ◌-◌, ◌<◌, ◌≤◌, List, [], ◌∷◌}
+use Rattle.std.proofs.Common.{◌++◌, map, length, get_or, take, drop, length-append, append-nil}
 use Rattle.std.specs.Prelude.{slice_index, slice_index_or, sum_by, Result, Ok, Err, IfErr, IsErr, IsErrAnd}
 use Rattle.std.specs.List.{Contains}
 use Rattle.std.proofs.lemmas.List.{map-append, get_or_default, take_all}
@@ -19,7 +20,8 @@ pub map_map : {X Y Z : Type 0} (f : X → Y) (g : Y → Z) (xs : List X) → map
 map_map f g [] = refl
 map_map f g (x ∷ xs) = ap (λ l. g (f x) ∷ l) (map_map f g xs)
 
-pub length_at : (lists : List (List ℕ)) (i : ℕ) → slice_index (map (λ list. length list) lists) i ≡ length (slice_index_or lists i [])
+pub length_at : (lists : List (List ℕ)) (i : ℕ) → slice_index (map (λ list. length list) lists) i
+    ≡ length (slice_index_or lists i [])
 length_at [] i = refl
 length_at (list ∷ lists) zero = refl
 length_at (list ∷ lists) (suc i) = length_at lists i
@@ -28,7 +30,8 @@ pub contains_at : (xs : List ℕ) (i : ℕ) → i < length xs → Contains xs (s
 contains_at xs i less = (i, less, get_or_default xs i (slice_index xs i) 0 less)
 
 -- what stands at a place stands in the lists
-pub at_place : (lists : List (List ℕ)) (i j : ℕ) → j < length (slice_index_or lists i []) → Contains (joined lists) (id_at lists (i, j))
+pub at_place : (lists : List (List ℕ)) (i j : ℕ) → j < length (slice_index_or lists i [])
+    → Contains (joined lists) (id_at lists (i, j))
 at_place [] i j less = absurd (omega arith)
 at_place (list ∷ lists) zero j less = Contains-append_left list (joined lists) (slice_index list j) (contains_at list j less)
 at_place (list ∷ lists) (suc i) j less = Contains-append_right list (joined lists) (id_at lists (i, j)) (at_place lists i j less)
@@ -41,7 +44,8 @@ length_joined (list ∷ lists) =
     let sum = sum_by-cons (λ (n : ℕ). n) (length list) (map (λ l. length l) lists) in
     omega (arith, both, rest, sum)
 
-pub one_more_id : (lists : List (List ℕ)) (places : List (ℕ × ℕ)) (place : ℕ × ℕ) → ids_at lists (places ++ place ∷ []) ≡ ids_at lists places ++ id_at lists place ∷ []
+pub one_more_id : (lists : List (List ℕ)) (places : List (ℕ × ℕ)) (place : ℕ × ℕ)
+    → ids_at lists (places ++ place ∷ []) ≡ ids_at lists places ++ id_at lists place ∷ []
 one_more_id lists places place = map-append (id_at lists) places (place ∷ [])
 
 pub before_last : {X : Type 0} (xs : List X) (x : X) → take (length (xs ++ x ∷ []) - 1) (xs ++ x ∷ []) ≡ xs
@@ -54,7 +58,8 @@ before_last {X = X} xs x =
     front (y ∷ ys) = ap (λ l. y ∷ l) (front ys)
 
 -- a list that is written over whole
-pub written_whole : {X : Type 0} (xs ys : List X) (n : ℕ) → length xs ≡ n → length ys ≡ n → take n (xs ++ drop (length xs) ys) ≡ xs
+pub written_whole : {X : Type 0} (xs ys : List X) (n : ℕ) → length xs ≡ n → length ys ≡ n
+    → take n (xs ++ drop (length xs) ys) ≡ xs
 written_whole xs ys n long same =
     let none : drop (length xs) ys ≡ [] = nothing_left (length xs) ys (omega (arith, long, same)) in
     ap (λ l. take n (xs ++ l)) none ∙ ap (take n) (append-nil xs) ∙ take_all n xs (omega (arith, long))
@@ -69,7 +74,8 @@ pub err_more : {X E : Type 0} (P Q : E → Type 0) (r : Result X E) → ((e : E)
 err_more P Q (Ok x) f h = h
 err_more P Q (Err e) f h = f e h
 
-pub err_both : {X E : Type 0} (P Q R : E → Type 0) (r : Result X E) → ((e : E) → P e → Q e → R e) → IfErr r P → IfErr r Q → IfErr r R
+pub err_both : {X E : Type 0} (P Q R : E → Type 0) (r : Result X E) → ((e : E) → P e → Q e → R e) → IfErr r P
+    → IfErr r Q → IfErr r R
 err_both P Q R (Ok x) f h k = h
 err_both P Q R (Err e) f h k = f e h k
 

@@ -1,5 +1,6 @@
 -- The hands of a round before they have claimed anything.
-use Rattle.std.proofs.Common.{◌≡◌, ◌⊎◌, inl, inr, ⊎_elim, refl, sym, ◌∙◌, ap, arith, ℕ, zero, suc, List, [], ◌∷◌, ◌++◌, length, length-append}
+use Rattle.std.proofs.Common.{◌≡◌, ◌⊎◌, inl, inr, ⊎_elim, refl, sym, ◌∙◌, ap, arith, ℕ, zero, suc, List, []}
+use Rattle.std.proofs.Common.{◌∷◌, ◌++◌, length, length-append}
 use Rattle.overlay_claims.specs.Claimants.{Lists, Standing, fresh as fresh_claimant, fresh_hands as fresh_claimants}
 use Rattle.overlay_work.specs.Rounds.{Task, fresh, fresh_hands, AreHandsOf}
 use Rattle.overlay_work.specs.own.Kept.{started, AreFresh}
@@ -8,7 +9,7 @@ use Rattle.overlay_work.specs.declared.round.RoundFault.{RoundFault}
 use Rattle.overlay_work.specs.declared.round.RoundFault.TheVariants.{HandCount, OtherCity, NotASharing, NoMemory}
 use Rattle.overlay_work.specs.Faults.{IsRoundFault}
 use Rattle.overlay_work.specs.own.Starting.{CanBegin}
-use Rattle.overlay_work.proofs.Finding.{all_snoc}
+use Rattle.overlay_work.proofs.ZonesFound.{all_snoc}
 use Rattle.overlay_work.proofs.Differences.{in_place}
 
 pub no_items : {X : Type 0} (xs : List X) → length xs ≡ 0 → xs ≡ []
@@ -22,7 +23,8 @@ started-append task (x ∷ xs) ys = ap (λ l. fresh task x.number ∷ l) (starte
 pub started_fresh : (task : Task) (lists : Lists) (n : ℕ) → started task (fresh_claimants lists n) ≡ fresh_hands task n
 started_fresh task lists zero = refl
 started_fresh task lists (suc n) =
-    started-append task (fresh_claimants lists n) (fresh_claimant lists n ∷ []) ∙ ap (λ l. l ++ fresh task n ∷ []) (started_fresh task lists n)
+    started-append task (fresh_claimants lists n) (fresh_claimant lists n ∷ [])
+    ∙ ap (λ l. l ++ fresh task n ∷ []) (started_fresh task lists n)
 
 AreFresh-append : (lists : Lists) (xs ys : List Standing) → AreFresh lists xs → AreFresh lists ys → AreFresh lists (xs ++ ys)
 AreFresh-append lists [] ys a b = b
@@ -45,7 +47,8 @@ fresh_are_of task (suc n) = all_snoc (λ hand. hand.task ≡ task) (fresh_hands 
 
 -- ---- faults
 -- a round that can begin has no fault
-pub no_fault : (ids : List ℕ) (city zones_city : List Corner) (lists : List (List ℕ)) (fault : RoundFault) → CanBegin ids city zones_city lists
+pub no_fault : (ids : List ℕ) (city zones_city : List Corner) (lists : List (List ℕ)) (fault : RoundFault)
+    → CanBegin ids city zones_city lists
     → IsRoundFault ids city zones_city lists fault → ⊥
 no_fault ids city zones_city lists (HandCount count) can is = is.0 can.sharing.has_hands
 no_fault ids city zones_city lists OtherCity can is = is.1 can.same_city
@@ -53,7 +56,8 @@ no_fault ids city zones_city lists (NotASharing id) can is = in_place lists ids 
 no_fault ids city zones_city lists NoMemory can is = is
 
 -- and no other has two
-pub one_fault : (ids : List ℕ) (city zones_city : List Corner) (lists : List (List ℕ)) (a b : RoundFault) → IsRoundFault ids city zones_city lists a
+pub one_fault : (ids : List ℕ) (city zones_city : List Corner) (lists : List (List ℕ)) (a b : RoundFault)
+    → IsRoundFault ids city zones_city lists a
     → IsRoundFault ids city zones_city lists b → a ≡ b
 one_fault ids city zones_city lists (HandCount count) (HandCount other) is was = ap HandCount (is.1 ∙ sym was.1)
 one_fault ids city zones_city lists (HandCount count) OtherCity is was = absurd (is.0 was.0)
@@ -72,5 +76,7 @@ one_fault ids city zones_city lists a NoMemory is was = absurd was
 
 -- so it is refused by the one that it has
 pub refused : (ids : List ℕ) (city zones_city : List Corner) (lists : List (List ℕ)) (told fault : RoundFault)
-    → IsRoundFault ids city zones_city lists told ⊎ (told ≡ NoMemory) → IsRoundFault ids city zones_city lists fault → (told ≡ fault) ⊎ (told ≡ NoMemory)
-refused ids city zones_city lists told fault is has = ⊎_elim (λ one. inl (one_fault ids city zones_city lists told fault one has)) (λ memory. inr memory) is
+    → IsRoundFault ids city zones_city lists told ⊎ (told ≡ NoMemory) → IsRoundFault ids city zones_city lists fault
+    → (told ≡ fault) ⊎ (told ≡ NoMemory)
+refused ids city zones_city lists told fault is has =
+    ⊎_elim (λ one. inl (one_fault ids city zones_city lists told fault one has)) (λ memory. inr memory) is

@@ -1,5 +1,6 @@
 -- A step of a hand: it takes a parcel, and does it or keeps it.
-use Rattle.std.proofs.Common.{◌≡◌, inl, inr, refl, sym, ◌∙◌, ap, subst, arith, ℕ, ◌<◌, ◌+◌, List, [], ◌∷◌, ◌++◌, length}
+use Rattle.std.proofs.Common.{◌≡◌, inl, inr, refl, sym, ◌∙◌, ap, subst, arith, ℕ, ◌<◌, ◌+◌, List, [], ◌∷◌}
+use Rattle.std.proofs.Common.{◌++◌, length}
 use Rattle.std.specs.Prelude.{Some, IsSome}
 use Rattle.std.proofs.lemmas.List.{length-map}
 use Rattle.overlay_claims.specs.Claimants.{Lists, Standing, AreAllEnded, IsPlace, ClaimsNext, list_after, lists_from}
@@ -32,11 +33,13 @@ claims_for_hand task old new place same claims = record {
 }
 
 -- the list that it claims from is not found at its end
-pub not_done_yet : (task : Task) (old new : Standing) (place : ℕ × ℕ) → IsTask task → old.lists ≡ task.claims → ClaimsNext old new place
+pub not_done_yet : (task : Task) (old new : Standing) (place : ℕ × ℕ) → IsTask task → old.lists ≡ task.claims
+    → ClaimsNext old new place
     → AreAllEnded (length task.lists) new.ended → ⊥
 not_done_yet task old new place stands same claims all =
     not_all_before_the_end old.number (length old.lists.lengths) claims.before claims.is_a_list
-    (subst (AreAllEnded (length old.lists.lengths)) claims.ended_before (subst (λ n. AreAllEnded n new.ended) (same_count task old.lists stands same) all))
+    (subst (AreAllEnded (length old.lists.lengths)) claims.ended_before (subst (λ n. AreAllEnded n new.ended)
+    (same_count task old.lists stands same) all))
 
 -- ---- a step
 -- what was claimed stays so while it is held
@@ -66,7 +69,8 @@ holds_it : (mid new : Progress) (id : ℕ) → mid.holds ≡ Some id → HasParc
 holds_it mid new id holds (inl held) = held
 holds_it mid new id holds (inr claims) = absurd (nothing_held mid.holds claims.held_nothing (subst IsSome (sym holds) refl))
 
-pub does_what_it_took : (old mid new : Progress) (id : ℕ) → mid.task ≡ old.task → Takes old mid id → DoesParcel mid new id → DoesParcel old new id
+pub does_what_it_took : (old mid new : Progress) (id : ℕ) → mid.task ≡ old.task → Takes old mid id
+    → DoesParcel mid new id → DoesParcel old new id
 does_what_it_took old mid new id same takes does = record {
   has_parcel = still_has old mid new id takes.has_parcel (holds_it mid new id takes.holds does.has_parcel);
   did = does.did ∙ ap (λ l. l ++ id ∷ []) takes.did;

@@ -1,8 +1,10 @@
 -- Hands that are stepped until they stop.
-use Rattle.std.proofs.Common.{◌≡◌, ⊎_elim, refl, sym, ◌∙◌, ap, arith, ℕ, zero, suc, List, [], ◌∷◌, ◌++◌, length, append_assoc, append-nil}
+use Rattle.std.proofs.Common.{◌≡◌, ⊎_elim, refl, sym, ◌∙◌, ap, arith, ℕ, zero, suc, List, [], ◌∷◌, ◌++◌, length}
+use Rattle.std.proofs.Common.{append_assoc, append-nil}
 use Rattle.std.specs.List.{AllZip}
 use Rattle.job_threads.specs.Jobs.{HasRank}
-use Rattle.overlay_work.specs.Rounds.{Task, Progress, GoesOn, HasParcel, DoesParcel, IsDone, WaitsForMemory, HasGoneOn, WorksOff, AreHandsOf}
+use Rattle.overlay_work.specs.Rounds.{Task, Progress, GoesOn, HasParcel, DoesParcel, IsDone, WaitsForMemory}
+use Rattle.overlay_work.specs.Rounds.{HasGoneOn, WorksOff, AreHandsOf}
 use Rattle.overlay_work.specs.Faults.{IsNumberOf}
 use Rattle.overlay_work.specs.own.Gathered.{HaveStopped}
 
@@ -34,12 +36,15 @@ goes_on_from a b c first then = record {
 }
 
 claims_go_on : (old new : Progress) (id : ℕ) → HasParcel old new id → GoesOn old.claimed new.claimed
-claims_go_on old new id has = ⊎_elim (λ held. nothing_more old.claimed new.claimed held.same_claims) (λ claims. (claims.place ∷ [], claims.claims.claims)) has
+claims_go_on old new id has = ⊎_elim (λ held. nothing_more old.claimed new.claimed held.same_claims) (λ claims.
+    (claims.place ∷ [], claims.claims.claims)) has
 
 ends_go_on : (old new : Progress) (id : ℕ) → HasParcel old new id → GoesOn old.ended new.ended
-ends_go_on old new id has = ⊎_elim (λ held. nothing_more old.ended new.ended held.same_ends) (λ claims. (claims.claims.more, claims.claims.ends)) has
+ends_go_on old new id has = ⊎_elim (λ held. nothing_more old.ended new.ended held.same_ends) (λ claims.
+    (claims.claims.more, claims.claims.ends)) has
 
-pub doing_goes_on : (old new : Progress) (id : ℕ) → new.task ≡ old.task → new.number ≡ old.number → DoesParcel old new id → HasGoneOn old new
+pub doing_goes_on : (old new : Progress) (id : ℕ) → new.task ≡ old.task → new.number ≡ old.number
+    → DoesParcel old new id → HasGoneOn old new
 doing_goes_on old new id task number does = record {
   same_task = task;
   same_number = number;
@@ -59,7 +64,8 @@ done_goes_on old new task number done = record {
   ends = done.ends;
 }
 
-pub waiting_goes_on : (old new : Progress) → new.task ≡ old.task → new.number ≡ old.number → WaitsForMemory old new → HasGoneOn old new
+pub waiting_goes_on : (old new : Progress) → new.task ≡ old.task → new.number ≡ old.number → WaitsForMemory old new
+    → HasGoneOn old new
 waiting_goes_on old new task number waits = record {
   same_task = task;
   same_number = number;
@@ -99,7 +105,8 @@ all_stop (x ∷ xs) [] zip = absurd zip
 all_stop (x ∷ xs) (y ∷ ys) zip = (zip.0.stops, all_stop xs ys zip.1)
 
 -- the rank of one is its number, which stays
-pub number_stays : (xs ys : List Progress) (number : ℕ) → AllZip WorksOff xs ys → HasRank (λ (hand : Progress). hand.number) xs number → IsNumberOf ys number
+pub number_stays : (xs ys : List Progress) (number : ℕ) → AllZip WorksOff xs ys
+    → HasRank (λ (hand : Progress). hand.number) xs number → IsNumberOf ys number
 number_stays [] ys number zip (hand, (k, less, is), has) = absurd (omega (arith, less))
 number_stays (x ∷ xs) [] number zip has = absurd zip
 number_stays (x ∷ xs) (y ∷ ys) number zip (hand, (zero, less, is), has) =

@@ -1,4 +1,5 @@
--- How the parcels of a sheet are dealt to hands (this product's own): a list for each hand, in which every parcel stands exactly once, and nothing else.
+-- How the parcels of a sheet are dealt to hands (this product's own): a list for each hand, in which every parcel
+-- stands exactly once, and nothing else.
 use Rattle.std.specs.Prelude.{◌≢◌, ◌⊎◌, ℕ, ◌<◌, ◌≤◌, List, length, nat_eq, count_by, flat_map, IsPermutation}
 use Rattle.std.specs.List.{Contains}
 use Rattle.overlay_work.specs.declared.round.TheConstants.{MOST_HANDS}

@@ -40,13 +40,19 @@ pub struct RoundBack<'t, 'h, H: Allocator> {
 }
 
 impl<'t, 'h, H: Allocator> Round<'t, 'h, H> {
-    /// The table of all pairs of a parcel and a zone whose interiors have a common point, for every sharing of the parcels and every
-    /// schedule of the hands. Each parcel was claimed by one hand and done by it once; the close does none itself, and waits for nobody.
+    /// The table of all pairs of a parcel and a zone whose interiors have a common point, for every
+    /// sharing of the parcels and every schedule of the hands. Each parcel was claimed by one hand
+    /// and done by it once; the close does none itself, and waits for nobody.
     ///
     /// # Errors
     ///
-    /// The first of these that applies: [`CloseFault::HandsMissing`] (O6), [`CloseFault::Holding`] (O5), [`CloseFault::NotDone`] (O4); and
-    /// [`CloseFault::NoMemory`] where an allocation is refused. The round and the hands come back as they were.
+    /// The first of these that applies: [`CloseFault::HandsMissing`] (O6), [`CloseFault::Holding`]
+    /// (O5), [`CloseFault::NotDone`] (O4); and [`CloseFault::NoMemory`] where an allocation is
+    /// refused. The round and the hands come back as they were.
+    ///
+    /// ```
+    /// let table = round.close(hands)?; // once a hand has answered Done
+    /// ```
     pub fn close(
         self,
         hands: Vec<Hand<'t, 'h, H>, &'h H>,
@@ -59,8 +65,8 @@ impl<'t, 'h, H: Allocator> Round<'t, 'h, H> {
         // Each parcel stands once in what the hands did.
         ensures once { OnOk result (IsPermutation (flat_map (λ hand. hand.did) hands.entry.items) (numbers self.entry.rows)) }
         ensures back { IfErr result (λ back. (back.round ≡ self.entry) × (back.hands.items ≡ hands.entry.items)) }
-        // A fault that is answered is the round's, or memory is wanting; and a round with a fault is refused by that one,
-        // also where memory is wanting.
+        // A fault that is answered is the round's, or memory is wanting; and a round with a fault is
+        // refused by that one, also where memory is wanting.
         ensures fault { IfErr result (λ back. IsCloseFault self.entry hands.entry.items back.fault ⊎ (back.fault ≡ NoMemory)) }
         ensures refuses { (fault : CloseFault) → IsCloseFault self.entry hands.entry.items fault
             → IsErrAnd result (λ back. back.fault ≡ fault) }

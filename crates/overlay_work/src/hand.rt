@@ -24,8 +24,9 @@ pub enum Step {
     NoMemory,
 }
 
-/// One of those who share the work of a round. It claims a parcel at a time, of its own list first, and keeps the pairs of the parcel
-/// and each zone whose interior meets the parcel's. Hands may work at the same time, in threads of their own; none waits for another.
+/// One of those who share the work of a round. It claims a parcel at a time, of its own list first,
+/// and keeps the pairs of the parcel and each zone whose interior meets the parcel's. Hands may
+/// work at the same time, in threads of their own; none waits for another.
 ///
 /// Contracts see a `Progress`.
 #[derive(Drop)]
@@ -77,8 +78,12 @@ impl<'t, 'h, H: Allocator> Hand<'t, 'h, H> {
         }
     }
 
-    /// Does at most one parcel: the one that it holds, or else the next one that is claimed by nobody, of its own list or, past its end, of
-    /// another. It takes no lock and waits for nobody.
+    /// Does at most one parcel: the one that it holds, or else the next one that is claimed by
+    /// nobody, of its own list or, past its end, of another. It takes no lock and waits for nobody.
+    ///
+    /// ```
+    /// while let Step::Did(id) = hand.step() {}
+    /// ```
     pub fn step(&mut self) -> Step
         ensures same { (self.new.task ≡ self.old.task) × (self.new.number ≡ self.old.number) }
         ensures did { (id : ℕ) → result ≡ Did id → DoesParcel self.old self.new id }

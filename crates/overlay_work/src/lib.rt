@@ -1,5 +1,5 @@
-//! The overlay of a sheet's parcels with the zones of its city, by hands that share the work: every pair whose interiors meet, for every
-//! sharing of the parcels and every schedule of the hands.
+//! The overlay of a sheet's parcels with the zones of its city, by hands that share the work: every
+//! pair whose interiors meet, for every sharing of the parcels and every schedule of the hands.
 #![tactic(auto)]
 
 mod close;

@@ -43,10 +43,12 @@ impl From<AllocError> for RoundFault {
     }
 }
 
-/// A round of an overlay: a sheet's parcels, dealt to hands in lists, are tested against the zones of its city. The round is begun with its
-/// hands, which may go to threads, and is closed with them.
+/// A round of an overlay: a sheet's parcels, dealt to hands in lists, are tested against the zones
+/// of its city. The round is begun with its hands, which may go to threads, and is closed with
+/// them.
 ///
-/// Contracts see its task: the lists, the parcels' rows and the zones', the city and the count of the sheet's journal entries.
+/// Contracts see its task: the lists, the parcels' rows and the zones', the city and the count of
+/// the sheet's journal entries.
 #[derive(Drop)]
 pub struct Round<'t, 'h, H: Allocator> {
     work: Arc<Work<'t, 'h, H>, &'h H>,
@@ -62,13 +64,15 @@ impl<'t, 'h, H: Allocator> Model for Round<'t, 'h, H> {
 }
 
 impl<'t, 'h, H: Allocator> Round<'t, 'h, H> {
-    /// A round over a sheet's parcels and the zones of its city, and its hands, one for each list of the sharing and numbered from 0 in their
-    /// order. The lists together are the sheet's ids, each once. They are dropped on a fault.
+    /// A round over a sheet's parcels and the zones of its city, and its hands, one for each list of
+    /// the sharing and numbered from 0 in their order. The lists together are the sheet's ids, each
+    /// once. They are dropped on a fault.
     ///
     /// # Errors
     ///
-    /// The first of these that applies: [`RoundFault::HandCount`] (O3), [`RoundFault::OtherCity`] (O2), [`RoundFault::NotASharing`] (O1); and
-    /// [`RoundFault::NoMemory`] where an allocation is refused.
+    /// The first of these that applies: [`RoundFault::HandCount`] (O3), [`RoundFault::OtherCity`]
+    /// (O2), [`RoundFault::NotASharing`] (O1); and [`RoundFault::NoMemory`] where an allocation is
+    /// refused.
     pub fn new(
         heap: &'h H,
         sheet: &'t Sheet<'h, H>,

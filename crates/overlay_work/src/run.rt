@@ -33,15 +33,22 @@ impl<'t, 'h, H: Allocator + Send + Sync, G: Gate + Sync> Job<G> for Hand<'t, 'h,
     }
 }
 
-/// Works off a round: each hand in a thread of its own, which passes the gate before each step and stops where the hand is done or
-/// wants memory. Then the round is closed.
+/// Works off a round: each hand in a thread of its own, which passes the gate before each step and
+/// stops where the hand is done or wants memory. Then the round is closed.
 ///
 /// # Errors
 ///
-/// The first of these that applies: [`CloseFault::NoThread`] (O7), where the system refused a thread, for the least such hand,
-/// which is then worked with in this thread; [`CloseFault::NoMemory`] where a hand stopped for want of memory; and what
-/// [`Round::close`] answers, which is [`CloseFault::HandsMissing`] (O6) or [`CloseFault::NoMemory`]: hands that worked hold nothing
-/// and are done. The round and the hands come back, the hands as far as they came.
+/// The first of these that applies: [`CloseFault::NoThread`] (O7), where the system refused a
+/// thread, for the least such hand, which is then worked with in this thread;
+/// [`CloseFault::NoMemory`] where a hand stopped for want of memory; and what [`Round::close`]
+/// answers, which is [`CloseFault::HandsMissing`] (O6) or [`CloseFault::NoMemory`]: hands that
+/// worked hold nothing and are done. The round and the hands come back, the hands as far as they
+/// came.
+///
+/// ```
+/// let (round, hands) = Round::new(&sheet, &zones, sharing)?;
+/// let table = run_round(rt, round, hands, &gate)?;
+/// ```
 pub fn run_round<'t, 'h, H: Allocator + Send + Sync, G: Gate + Sync, R: Threads + Wait + Sync>(
     rt: &R,
     round: Round<'t, 'h, H>,

@@ -13,8 +13,9 @@ use ring_core::Shape;
 use std::alloc::{AllocError, Allocator};
 use tri_overlap::shapes_overlap;
 
-/// Keeps the pairs of a parcel and the zones that it overlaps, each found among the candidates for the parcel's box alone, and answers
-/// how many these are. Nothing is kept where an allocation is refused.
+/// Keeps the pairs of a parcel and the zones that it overlaps, each found among the candidates for
+/// the parcel's box alone, and answers how many these are. Nothing is kept where an allocation is
+/// refused.
 pub(crate) fn keep_pairs<'t, 'h, H: Allocator>(
     work: &Work<'t, 'h, H>,
     id: u64,

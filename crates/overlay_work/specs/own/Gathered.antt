@@ -1,5 +1,6 @@
 -- What hands that are handed in did together.
-use Rattle.std.specs.Prelude.{◌≡◌, ◌⊎◌, ℕ, List, [], ◌∷◌, ◌++◌, Option, None, IsSome, MatchOption, flat_map, IsPermutation}
+use Rattle.std.specs.Prelude.{◌≡◌, ◌⊎◌, ℕ, List, [], ◌∷◌, ◌++◌, Option, None, IsSome, MatchOption, flat_map}
+use Rattle.std.specs.Prelude.{IsPermutation}
 use Rattle.zone_tables.specs.Overlap.{IsPairBefore}
 use Rattle.std.specs.List.{AllByRecursion, Contains}
 use Rattle.overlay_work.specs.Rounds.{Task, Progress, HasAllEnds, IsAtEnd}
@@ -28,7 +29,8 @@ LeastIs least hands = MatchOption least (HoldNothing hands) (IsLeastHolding hand
 abbrev pub ArePairsOfHands : List Progress → List (ℕ × ℕ) → Type 0
 ArePairsOfHands [] pairs = pairs ≡ []
 ArePairsOfHands (hand ∷ hands) pairs =
-    (rest : List (ℕ × ℕ)) × (pairs ≡ hand.kept ++ rest) × ArePairsOfAll hand.task.rows hand.task.zones hand.did hand.kept × ArePairsOfHands hands rest
+    (rest : List (ℕ × ℕ)) × (pairs ≡ hand.kept ++ rest)
+    × ArePairsOfAll hand.task.rows hand.task.zones hand.did hand.kept × ArePairsOfHands hands rest
 
 -- what the hands did, and the lists that they found at their end, one hand's behind the other's
 abbrev pub did_by : List Progress → List ℕ

@@ -1,5 +1,6 @@
 -- What the code knows of a hand besides what it shows.
-use Rattle.std.specs.Prelude.{◌≡◌, ◌↔◌, ℕ, ◌*◌, ◌-◌, ◌≤◌, List, [], ◌∷◌, ◌++◌, length, map, take, sum_by, Option, Some, None, IsSome}
+use Rattle.std.specs.Prelude.{◌≡◌, ◌↔◌, ℕ, ◌*◌, ◌-◌, ◌≤◌, List, [], ◌∷◌, ◌++◌, length, map, take}
+use Rattle.std.specs.Prelude.{sum_by, Option, Some, None, IsSome}
 use Rattle.std.specs.List.{AllByRecursion, Contains}
 use Rattle.geo_exact.specs.declared.corner.Corner.{Corner}
 use Rattle.geo_exact.specs.Interiors.{InteriorsMeet}
@@ -29,7 +30,8 @@ HoldsLast (Some held) ids = (before : List ℕ) × (ids ≡ before ++ held ∷ [
 abbrev pub ArePairsOfAll : (rows zones : List NumberedRing) → List ℕ → List (ℕ × ℕ) → Type 0
 ArePairsOfAll rows zones [] kept = kept ≡ []
 ArePairsOfAll rows zones (id ∷ ids) kept =
-    (pairs : List (ℕ × ℕ)) × (rest : List (ℕ × ℕ)) × (kept ≡ pairs ++ rest) × ArePairsOf rows zones id pairs × ArePairsOfAll rows zones ids rest
+    (pairs : List (ℕ × ℕ)) × (rest : List (ℕ × ℕ)) × (kept ≡ pairs ++ rest) × ArePairsOf rows zones id pairs
+    × ArePairsOfAll rows zones ids rest
 
 -- the ring's interior meets that of the zone with this number
 pub record MeetsZone (zones : List NumberedRing) (ring : List Corner) (zone : ℕ) : Type 0 where
@@ -39,13 +41,15 @@ pub record MeetsZone (zones : List NumberedRing) (ring : List Corner) (zone : �
   pub interiors_meet : InteriorsMeet ring region.corners
 
 -- the pairs are those of this parcel and each of the tested zones whose interior its ring's meets
-pub record AreFoundAmong (zones : List NumberedRing) (ring : List Corner) (id : ℕ) (tested : List ℕ) (pairs : List (ℕ × ℕ)) : Type 0 where
+pub record AreFoundAmong (zones : List NumberedRing) (ring : List Corner) (id : ℕ) (tested : List ℕ)
+    (pairs : List (ℕ × ℕ)) : Type 0 where
   pub of_parcel : AllByRecursion (λ pair. pair.0 ≡ id) pairs
   pub ascend : AreInPairOrder pairs
   pub exactly : (zone : ℕ) → Contains pairs (id, zone) ↔ (Contains tested zone × MeetsZone zones ring zone)
 
 -- they were kept behind the others
-pub record KeepsFound (zones : List NumberedRing) (ring : List Corner) (id : ℕ) (tested : List ℕ) (old new : List (ℕ × ℕ)) : Type 0 where
+pub record KeepsFound (zones : List NumberedRing) (ring : List Corner) (id : ℕ) (tested : List ℕ)
+    (old new : List (ℕ × ℕ)) : Type 0 where
   pub pairs : List (ℕ × ℕ)
   pub kept : new ≡ old ++ pairs
   pub are_found : AreFoundAmong zones ring id tested pairs

@@ -1,4 +1,4 @@
-use Rattle.overlay_work.proofs.Sorting.{ordered}
+use Rattle.overlay_work.proofs.SortedPairs.{ordered}
 use Rattle.overlay_work.proofs.close.sorted_pairs.Goals as goal
 
 pub returns : goal.returns

@@ -12,10 +12,14 @@ pub returns-clause-fault : goal.returns-clause-fault
 returns-clause-fault g c =
     let hands = c.args.hands.items in
     let least = subst (LeastIs c.least_holding.result) c.as_slice.ensures.value c.least_holding.ensures in
-    let none : HoldNothing hands = none_holding c.least_holding.result hands least (λ some. true≢false (sym (c.is_some.ensures ∙ some) ∙ c.if-is_some.false)) in
-    let lists : 0 < length c.args.round.lists = subst (λ (t : Task). 0 < length t.lists) c.work.ensures c.stands.ensures.sharing.has_hands.0 in
-    err_more _ _ c.close.result (λ back told. told_of_stopped c.args.round hands back.fault lists c.requires.stopped none told) c.close.ensures.fault
+    let none : HoldNothing hands = none_holding c.least_holding.result hands least (λ some.
+    true≢false (sym (c.is_some.ensures ∙ some) ∙ c.if-is_some.false)) in
+    let lists : 0 < length c.args.round.lists =
+    subst (λ (t : Task). 0 < length t.lists) c.work.ensures c.stands.ensures.sharing.has_hands.0 in
+    err_more _ _ c.close.result (λ back told. told_of_stopped c.args.round hands back.fault lists c.requires.stopped
+    none told) c.close.ensures.fault
 
 pub returns-clause-refuses : goal.returns-clause-refuses
 returns-clause-refuses g c = λ missing.
-    err_of _ c.close.result (c.close.ensures.refuses (HandsMissing (length c.args.round.lists) (length c.args.hands.items)) (missing, refl, refl))
+    err_of _ c.close.result (c.close.ensures.refuses (HandsMissing (length c.args.round.lists)
+    (length c.args.hands.items)) (missing, refl, refl))

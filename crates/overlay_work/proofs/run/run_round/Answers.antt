@@ -44,11 +44,13 @@ returns-clause-worked g c =
     err_more _ _ c.close_worked.result (λ back h. subst (AllZip HasGoneOn c.args.hands.items) (sym h.1) go_on) c.close_worked.ensures.back
 
 pub returns-in-Err-clause-worked : goal.returns-in-Err-clause-worked
-returns-in-Err-clause-worked g c = subst (AllZip HasGoneOn c.args.hands.items) (sym c.in-Err.ensures.back) (all_stand_still c.args.hands.items)
+returns-in-Err-clause-worked g c = subst (AllZip HasGoneOn c.args.hands.items) (sym c.in-Err.ensures.back)
+    (all_stand_still c.args.hands.items)
 
 pub returns-clause-fault : goal.returns-clause-fault
 returns-clause-fault g c =
-    err_both _ _ _ c.close_worked.result (λ back h told. subst (λ l. IsRunFault c.args.round l back.fault) (sym h.1) told) c.close_worked.ensures.back
+    err_both _ _ _ c.close_worked.result (λ back h told. subst (λ l. IsRunFault c.args.round l back.fault)
+    (sym h.1) told) c.close_worked.ensures.back
     c.close_worked.ensures.fault
 
 pub returns-clause-refuses : goal.returns-clause-refuses

@@ -12,9 +12,13 @@ returns c =
       λ h.
           let all : hand.ended ≡ n = eqb-true hand.ended hand.count h ∙ c.self.invariant.2 in
           subst HasAllEnds c.self.view_is
-          (subst (AreAllEnded n) (sym order.in_order) (subst (λ k. AreAllEnded n (lists_from hand.number n k)) (sym all) (all_are_among hand.number n order.own_list))),
+          (subst (AreAllEnded n) (sym order.in_order) (subst (λ k. AreAllEnded n (lists_from hand.number n k))
+          (sym all) (all_are_among hand.number n order.own_list))),
       λ h.
-          let ended : AreAllEnded n (lists_from hand.number n hand.ended) = subst (AreAllEnded n) order.in_order (subst HasAllEnds (sym c.self.view_is) h) in
-          let whole : hand.ended ≡ n = ⊎_elim (λ (less : hand.ended < n). absurd (not_all_before_the_end hand.number n hand.ended less ended)) (λ more. omega (arith, more, order.at_most)) (cases_lt hand.ended n) in
+          let ended : AreAllEnded n (lists_from hand.number n hand.ended) =
+          subst (AreAllEnded n) order.in_order (subst HasAllEnds (sym c.self.view_is) h) in
+          let whole : hand.ended ≡ n =
+          ⊎_elim (λ (less : hand.ended < n). absurd (not_all_before_the_end hand.number n hand.ended less ended))
+          (λ more. omega (arith, more, order.at_most)) (cases_lt hand.ended n) in
           eq-eqb hand.ended hand.count (whole ∙ sym c.self.invariant.2),
     )

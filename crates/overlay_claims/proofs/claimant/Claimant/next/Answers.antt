@@ -11,7 +11,8 @@ claim-requires-clause-not_noted g c =
     let hand = c.loop-self.self-inside in
     let kept = c.loop-self.invariant in
     let n : ℕ = length c.args.claims.now.lengths in
-    let at : c.list_after-list.result ≡ (hand.number + hand.ended) % n = c.list_after-list.ensures ∙ ap (λ m. (hand.number + hand.ended) % m) kept.count in
+    let at : c.list_after-list.result ≡ (hand.number + hand.ended) % n = c.list_after-list.ensures
+    ∙ ap (λ m. (hand.number + hand.ended) % m) kept.count in
     let none : times ((hand.number + hand.ended) % n) hand.mark.me.0.notes ≡ 0 =
     subst (λ l. times ((hand.number + hand.ended) % n) l ≡ 0) (sym kept.in_order.in_order)
     (next_is_not_noted hand.number n hand.ended (omega (arith, c.loop-self-test.true, kept.count))) in
@@ -28,16 +29,22 @@ returns-in-Some-clause-some g c =
     let number : hand.number ≡ old.number = kept.number ∙ ap (λ v. v.number) c.self.view_is in
     let count : n ≡ length old.lists.lengths = sym (ap (λ (l : Lists). length l.lengths) c.requires.own) in
     let less : hand.ended < n = omega (arith, c.loop-self-test.true, kept.count) in
-    let at : list ≡ list_after hand.number n hand.ended = c.list_after-list.ensures ∙ ap (λ m. (hand.number + hand.ended) % m) kept.count in
+    let at : list ≡ list_after hand.number n hand.ended = c.list_after-list.ensures
+    ∙ ap (λ m. (hand.number + hand.ended) % m) kept.count in
     let here : list < n = subst (λ k. k < n) (sym at) (mod-lt (hand.number + hand.ended) (omega (arith, less))) in
     let same = c.in-Some.ensures.some in
     record {
-      is_place = (subst (λ k. list < k) count here, subst (λ (l : Lists). place < slice_index l.lengths list) (sym c.requires.own) c.in-Some.ensures.here);
+      is_place = (
+        subst (λ k. list < k) count here,
+        subst (λ (l : Lists). place < slice_index l.lengths list)
+            (sym c.requires.own) c.in-Some.ensures.here,
+      );
       claims = ap (λ v. v.places) same ∙ ap (λ l. l ++ (list, place) ∷ []) (kept.places ∙ ap (λ v. v.places) c.self.view_is);
       before = hand.ended;
       is_a_list = subst (λ k. hand.ended < k) count less;
       is_next = at ∙ ap (λ k. list_after k n hand.ended) number ∙ ap (λ k. list_after old.number k hand.ended) count;
-      ended_before = ap (λ v. v.notes) same ∙ kept.in_order.in_order ∙ ap (λ k. lists_from k (length c.args.claims.now.lengths) hand.ended) number
+      ended_before = ap (λ v. v.notes) same ∙ kept.in_order.in_order
+          ∙ ap (λ k. lists_from k (length c.args.claims.now.lengths) hand.ended) number
           ∙ ap (λ k. lists_from old.number k hand.ended) count;
       more = kept.more;
       ends = ap (λ v. v.notes) same ∙ kept.ends ∙ ap (λ v. v.ended ++ kept.more) c.self.view_is;

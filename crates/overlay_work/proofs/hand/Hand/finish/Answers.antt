@@ -4,7 +4,7 @@ use Rattle.std.specs.List.{Contains}
 use Rattle.std.proofs.lemmas.List.Elements.{Contains-append_right}
 use Rattle.fabric_core.specs.Rows.{numbers}
 use Rattle.overlay_work.specs.Rounds.{Task}
-use Rattle.overlay_work.proofs.Finding.{its_own, member_of_all}
+use Rattle.overlay_work.proofs.ZonesFound.{its_own, member_of_all}
 use Rattle.std.specs.Prelude.{IsSome}
 use Rattle.overlay_work.specs.own.Kept.{IsTask, IsHand, KeepsPairs, HoldsLast, done_of, ids_at}
 use Rattle.overlay_work.proofs.Hands.{hand_does, tests_fit, done_all}
@@ -17,7 +17,8 @@ keep_pairs-requires g c =
     let ids = ids_at task.lists hand.claimant.places in
     let holds : hand.holds ≡ Some c.args.id = ap (λ v. v.holds) c.self.view_is ∙ c.requires in
     let last : HoldsLast (Some c.args.id) ids = subst (λ h. HoldsLast h ids) holds c.self.invariant.holds_last in
-    let claimed : Contains ids c.args.id = subst (λ l. Contains l c.args.id) (sym last.1) (Contains-append_right last.0 (c.args.id ∷ []) c.args.id (its_own c.args.id)) in
+    let claimed : Contains ids c.args.id =
+    subst (λ l. Contains l c.args.id) (sym last.1) (Contains-append_right last.0 (c.args.id ∷ []) c.args.id (its_own c.args.id)) in
     let here = member_of_all (Contains (numbers task.rows)) ids c.args.id c.self.invariant.here claimed in
     subst (λ (t : Task). Contains (numbers t.rows) c.args.id) (sym c.deref-2.ensures) here
 
@@ -28,8 +29,10 @@ overflow_add-self g c =
     let holds : hand.holds ≡ Some c.args.id = ap (λ v. v.holds) c.self.view_is ∙ c.requires in
     let stands : IsTask task = subst IsTask c.deref.ensures c.stands.ensures in
     let is = subst (λ h. IsHand task hand.claimant h hand.kept.items hand.tests) holds c.self.invariant in
-    let keeps = subst (λ t. KeepsPairs t c.args.id hand.kept.items c.keep_pairs.new.kept.items c.in_ok-tests.tests) c.deref-2.ensures c.in_ok-tests.ensures.ok in
-    let few = tests_fit task hand.claimant hand.kept.items c.keep_pairs.new.kept.items hand.tests c.in_ok-tests.tests c.args.id stands is keeps in
+    let keeps = subst (λ t. KeepsPairs t c.args.id hand.kept.items c.keep_pairs.new.kept.items c.in_ok-tests.tests)
+    c.deref-2.ensures c.in_ok-tests.ensures.ok in
+    let few = tests_fit task hand.claimant hand.kept.items c.keep_pairs.new.kept.items hand.tests c.in_ok-tests.tests
+    c.args.id stands is keeps in
     omega (arith, few)
 
 pub invariant_of-self-2 : goal.invariant_of-self-2
@@ -39,7 +42,8 @@ invariant_of-self-2 g c =
     let holds : hand.holds ≡ Some c.args.id = ap (λ v. v.holds) c.self.view_is ∙ c.requires in
     let stands : IsTask task = subst IsTask c.deref.ensures c.stands.ensures in
     let is = subst (λ h. IsHand task hand.claimant h hand.kept.items hand.tests) holds c.self.invariant in
-    let keeps = subst (λ t. KeepsPairs t c.args.id hand.kept.items c.keep_pairs.new.kept.items c.in_ok-tests.tests) c.deref-2.ensures c.in_ok-tests.ensures.ok in
+    let keeps = subst (λ t. KeepsPairs t c.args.id hand.kept.items c.keep_pairs.new.kept.items c.in_ok-tests.tests)
+    c.deref-2.ensures c.in_ok-tests.ensures.ok in
     hand_does task hand.claimant hand.kept.items c.keep_pairs.new.kept.items hand.tests c.in_ok-tests.tests c.args.id stands is keeps
 
 pub returns-clause-ok : goal.returns-clause-ok
@@ -50,8 +54,10 @@ returns-clause-ok g c =
     let ids = ids_at task.lists hand.claimant.places in
     let holds : hand.holds ≡ Some c.args.id = ap (λ v. v.holds) c.self.view_is ∙ c.requires in
     let last : HoldsLast (Some c.args.id) ids = subst (λ h. HoldsLast h ids) holds c.self.invariant.holds_last in
-    let did : c.args.self.now.did ≡ done_of (Some c.args.id) ids = sym (ap (λ v. v.did) c.self.view_is) ∙ ap (λ h. done_of h ids) holds in
-    let keeps = subst (λ t. KeepsPairs t c.args.id hand.kept.items c.keep_pairs.new.kept.items c.in_ok-tests.tests) (c.deref-2.ensures ∙ same) c.in_ok-tests.ensures.ok in
+    let did : c.args.self.now.did ≡ done_of (Some c.args.id) ids = sym (ap (λ v. v.did) c.self.view_is)
+    ∙ ap (λ h. done_of h ids) holds in
+    let keeps = subst (λ t. KeepsPairs t c.args.id hand.kept.items c.keep_pairs.new.kept.items c.in_ok-tests.tests)
+    (c.deref-2.ensures ∙ same) c.in_ok-tests.ensures.ok in
     record {
       has_parcel = inl (record {
         held = c.requires;

@@ -11,7 +11,8 @@ returns g c =
     let task = arc_value hand.work in
     let stands : IsTask task = subst IsTask c.deref.ensures c.stands.ensures in
     let count : length hand.claimant.lists.lengths ≡ length task.lists =
-    ap (λ l. length l.lengths) c.self.invariant.claims ∙ ap length stands.lengths ∙ length-map task.lists (λ (l : List ℕ). length l) in (
+    ap (λ l. length l.lengths) c.self.invariant.claims ∙ ap length stands.lengths
+    ∙ length-map task.lists (λ (l : List ℕ). length l) in (
       λ yes. subst HasAllEnds c.self.view_is (λ list less. c.is_done.ensures.0 yes list (omega (arith, less, count))),
       λ all. c.is_done.ensures.1 (λ list less. (subst HasAllEnds (sym c.self.view_is) all) list (omega (arith, less, count))),
     )

@@ -9,5 +9,6 @@ pub returns : goal.returns
 returns g c =
     let hand = c.self.inside in
     let task = arc_value hand.work in
-    let few = few_done task hand.claimant hand.holds hand.kept.items hand.tests (subst IsTask c.deref.ensures c.stands.ensures) c.self.invariant in
+    let few = few_done task hand.claimant hand.holds hand.kept.items hand.tests
+    (subst IsTask c.deref.ensures c.stands.ensures) c.self.invariant in
     subst (λ l. length l ≤ LAYER_CORNERS) (ap (λ v. v.did) c.self.view_is) few

@@ -15,7 +15,8 @@ returns-in-Err-clause-refuses g c fault has =
     let zones_city = c.args.zones.now.city in
     let lists : List (List ℕ) = map (λ list. list.items) c.args.sharing.items in
     refused ids city zones_city lists c.in-Err.fault fault
-    (subst (λ l. IsRoundFault ids city zones_city (map (λ list. list.items) l) c.in-Err.fault ⊎ (c.in-Err.fault ≡ NoMemory)) c.as_slice.ensures.value c.in-Err.ensures.fault) has
+    (subst (λ l. IsRoundFault ids city zones_city (map (λ list. list.items) l) c.in-Err.fault
+    ⊎ (c.in-Err.fault ≡ NoMemory)) c.as_slice.ensures.value c.in-Err.ensures.fault) has
 
 pub returns-clause-hands : goal.returns-clause-hands
 returns-clause-hands g c =

@@ -1,5 +1,6 @@
 -- Pairs that were sorted do not fall.
-use Rattle.std.proofs.Common.{◌≡◌, ◌⊎◌, inl, inr, ⊎_elim, sym, ◌∙◌, ap, subst, arith, ℕ, suc, ◌+◌, ◌<◌, ◌≤◌, false, true≢false, List, [], ◌∷◌, length, get_or}
+use Rattle.std.proofs.Common.{◌≡◌, ◌⊎◌, inl, inr, ⊎_elim, sym, ◌∙◌, ap, subst, arith, ℕ, suc, ◌+◌, ◌<◌}
+use Rattle.std.proofs.Common.{◌≤◌, false, true≢false, List, [], ◌∷◌, length, get_or}
 use Rattle.std.specs.List.{AllByRecursion}
 use Rattle.std.proofs.Common.{Less, Equal}
 use Rattle.std.specs.Ordering.{nat_cmp, is_lt, ordering_then}
@@ -21,10 +22,12 @@ not_before : (x y : ℕ × ℕ) → is_lt (ordering_then (nat_cmp y.0 x.0) (nat_
 not_before x y test = ⊎_elim
     (λ (less : x.0 < y.0). inl (inl less))
     (λ (more : y.0 ≤ x.0). ⊎_elim
-    (λ (above : y.0 < x.0). absurd (true≢false (sym (ap (λ o. is_lt (ordering_then o (nat_cmp y.1 x.1))) (less_is y.0 x.0 above)) ∙ test)))
+    (λ (above : y.0 < x.0).
+    absurd (true≢false (sym (ap (λ o. is_lt (ordering_then o (nat_cmp y.1 x.1))) (less_is y.0 x.0 above)) ∙ test)))
     (λ (below : x.0 ≤ y.0).
     let same : x.0 ≡ y.0 = omega (arith, more, below) in
-    let second : is_lt (nat_cmp y.1 x.1) ≡ false = sym (ap (λ o. is_lt (ordering_then o (nat_cmp y.1 x.1))) (same_is y.0 x.0 (sym same))) ∙ test in
+    let second : is_lt (nat_cmp y.1 x.1) ≡ false =
+    sym (ap (λ o. is_lt (ordering_then o (nat_cmp y.1 x.1))) (same_is y.0 x.0 (sym same))) ∙ test in
     ⊎_elim
     (λ (less : x.1 < y.1). inl (inr (same, less)))
     (λ (up : y.1 ≤ x.1). ⊎_elim
@@ -47,15 +50,18 @@ at_most-trans x y z a b = ⊎_elim
     (λ (same : x ≡ y). subst (λ w. AtMost w z) (sym same) b)
     a
 
-weaker : (x y : ℕ × ℕ) (pairs : List (ℕ × ℕ)) → AtMost x y → AllByRecursion (AtMost y) pairs → AllByRecursion (AtMost x) pairs
+weaker : (x y : ℕ × ℕ) (pairs : List (ℕ × ℕ)) → AtMost x y → AllByRecursion (AtMost y) pairs
+    → AllByRecursion (AtMost x) pairs
 weaker x y [] a all = tt
 weaker x y (p ∷ pairs) a all = (at_most-trans x y p a all.0, weaker x y pairs a all.1)
 
 -- the pair at j does not come before the one at i
 abbrev DoesNotFall : List (ℕ × ℕ) → ℕ → ℕ → ℕ × ℕ → Type 0
-DoesNotFall pairs i j d = is_lt (ordering_then (nat_cmp (get_or pairs j d).0 (get_or pairs i d).0) (nat_cmp (get_or pairs j d).1 (get_or pairs i d).1)) ≡ false
+DoesNotFall pairs i j d =
+    is_lt (ordering_then (nat_cmp (get_or pairs j d).0 (get_or pairs i d).0) (nat_cmp (get_or pairs j d).1 (get_or pairs i d).1)) ≡ false
 
-pub ordered : (pairs : List (ℕ × ℕ)) → ((k : ℕ) (d : ℕ × ℕ) → 0 ≤ k → k + 1 < length pairs → DoesNotFall pairs k (k + 1) d) → AreOrdered pairs
+pub ordered : (pairs : List (ℕ × ℕ)) → ((k : ℕ) (d : ℕ × ℕ) → 0 ≤ k → k + 1 < length pairs
+    → DoesNotFall pairs k (k + 1) d) → AreOrdered pairs
 ordered [] up = tt
 ordered (x ∷ []) up = (tt, tt)
 ordered (x ∷ y ∷ pairs) up =
