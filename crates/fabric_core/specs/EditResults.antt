@@ -71,14 +71,16 @@ pub record AreWithinLayerLimits (rows : List NumberedRing) : Type 0 where
   pub corners : AreWithinLimits rows
   pub number : length rows ≤ LAYER_RECORDS
 
--- the entry is that of its edit on the state: it has a place in a journal, takes out and brings what the edit does, simple rings, and the limits are kept
+-- the entry is that of its edit on the state: it has a place in a journal, takes out and brings what the edit does,
+-- simple rings, and the limits are kept
 pub record IsEntryOf {A : Type 0} (state : State) (entry : JournalEntry A) : Type 0 where
   pub has_place : entry.number ≤ JOURNAL_ENTRIES
   pub is_change : IsChange state entry.edit entry.out entry.rows
   pub are_simple : AreSimple entry.rows
   pub within : AreWithinLayerLimits (after_entry state entry).rows
 
--- entries that begin with this number at this state: each has the number after the one before, and is that of its edit on the state which those before it lead to
+-- entries that begin with this number at this state: each has the number after the one before, and is that of its
+-- edit on the state which those before it lead to
 abbrev pub AreLawfulFrom : {A : Type 0} → State → ℕ → List (JournalEntry A) → Type 0
 AreLawfulFrom state number [] = ⊤
 AreLawfulFrom state number (entry ∷ rest) =

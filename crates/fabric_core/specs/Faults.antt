@@ -48,7 +48,8 @@ pub record IsFirstFaulty (rows : List NumberedRing) (number : ℕ) (fault : Ring
   pub is_fault : IsRingFault row.corners fault
   pub simple_before : AreSimple before
 
--- the edge from a to b, a before b, is not as often in the rings as in the refined city: `net` is how much oftener, each counted less the edge back
+-- the edge from a to b, a before b, is not as often in the rings as in the refined city: `net` is how much oftener,
+-- each counted less the edge back
 pub record IsGap (rows : List NumberedRing) (refined : List Corner) (a b : Corner) (net : ℤ) : Type 0 where
   pub in_order : IsTrue (is_before a b)
   pub is_net : net_difference (corner_lists rows) (refined ∷ []) a b ≡ net
@@ -90,7 +91,8 @@ pub record IsLoadFault (records : List NumberedRing) (city : List Corner) (fault
   pub are_refined : AreRefined records city rows refined
   pub is_first : IsFirstFault rows refined fault
 
--- these are all faults of the rows and the refined ring that are of the first fault's kind: limits before rings, and rings before gaps; of limits, the
+-- these are all faults of the rows and the refined ring that are of the first fault's kind: limits before rings, and
+-- rings before gaps; of limits, the
 -- first row that passes one
 abbrev pub AreAllFaults : {A : Type 0} → List NumberedRing → List Corner → AllFaults A → Type 0
 AreAllFaults rows refined (AllTooMany number) = IsFirstTooMany rows number
@@ -101,9 +103,11 @@ AreAllFaults rows refined AllNoMemory = ⊥
 -- the fault is the first of these
 abbrev pub BeginsWith : {A : Type 0} → AllFaults A → LoadFault → Type 0
 BeginsWith (AllTooMany number) fault = fault ≡ TooMany number
-BeginsWith (Rings faults) fault = (told : ℕ × RingFault) × (rest : List (ℕ × RingFault)) × (faults.items ≡ told ∷ rest) × (fault ≡ Ring told.0 told.1)
+BeginsWith (Rings faults) fault = (told : ℕ × RingFault) × (rest : List (ℕ × RingFault))
+    × (faults.items ≡ told ∷ rest) × (fault ≡ Ring told.0 told.1)
 BeginsWith (Gaps gaps) fault =
-    (told : Corner × Corner × ℤ) × (rest : List (Corner × Corner × ℤ)) × (gaps.items ≡ told ∷ rest) × (fault ≡ Gap told.0 told.1 told.2)
+    (told : Corner × Corner × ℤ) × (rest : List (Corner × Corner × ℤ)) × (gaps.items ≡ told ∷ rest)
+    × (fault ≡ Gap told.0 told.1 told.2)
 BeginsWith AllNoMemory fault = fault ≡ NoMemory
 
 -- these are all faults, of the first's kind, of the layer of these records in this city; they begin with the layer's first fault

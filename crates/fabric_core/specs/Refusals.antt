@@ -1,4 +1,5 @@
--- Why an edit is refused: the first reason that applies, in this order (this product's own): the journal is full; an id that it names is no parcel's; what the
+-- Why an edit is refused: the first reason that applies, in this order (this product's own): the journal is full; an
+-- id that it names is no parcel's; what the
 -- edit itself asks of paths, borders and edges; the limits of a layer; a new ring that is not simple.
 use Rattle.std.specs.Prelude.{◌≡◌, ◌⊎◌, ⊤, ℕ, ◌+◌, ◌<◌, ◌≤◌, List, [], ◌∷◌, ◌++◌, length}
 use Rattle.std.specs.List.{Contains}
@@ -14,7 +15,9 @@ use Rattle.ring_edits.specs.declared.fault.EditFault.TheVariants.{NotNeighbours 
 use Rattle.ring_edits.specs.Edits.{IsPathAcross, IsBorderFault, IsBadBorder}
 use Rattle.fabric_core.specs.declared.journal.TheConstants.{JOURNAL_ENTRIES}
 use Rattle.fabric_core.specs.declared.refusal.Refusal.{Refusal}
-use Rattle.fabric_core.specs.declared.refusal.Refusal.TheVariants.{Unknown, Retired, BadPath, NotNeighbours, SharedTwice, Ring, NoSuchEdge, NotOnEdge, JournalFull, TooMany}
+use Rattle.fabric_core.specs.declared.refusal.Refusal.TheVariants.{Unknown, Retired, BadPath, NotNeighbours}
+use Rattle.fabric_core.specs.declared.refusal.Refusal.TheVariants.{SharedTwice, Ring, NoSuchEdge, NotOnEdge}
+use Rattle.fabric_core.specs.declared.refusal.Refusal.TheVariants.{JournalFull, TooMany}
 use Rattle.fabric_core.specs.Rows.{numbers}
 use Rattle.fabric_core.specs.Faults.{AreSimple}
 use Rattle.fabric_core.specs.Journal.{State, JournalEntry, with_rows, without_ids}
@@ -72,13 +75,16 @@ IsBadMovePath state a b path =
 abbrev pub HasNoEdge : State → Corner → Corner → Type 0
 HasNoEdge state from to = (from ≡ to) ⊎ (rows_with_edge from to state.rows ≡ [])
 
--- what the edit asks for itself, of paths, borders and edges, is not so; it is looked at only where all ids that the edit names are parcels'
+-- what the edit asks for itself, of paths, borders and edges, is not so; it is looked at only where all ids that the
+-- edit names are parcels'
 abbrev pub IsOwnRefusal : {A : Type 0} → State → Edit A → Refusal → Type 0
 IsOwnRefusal state (Split id path) refusal = (refusal ≡ BadPath) × IsBadCutPath state id path
 IsOwnRefusal state (Merge a b) refusal =
-    ((refusal ≡ NotNeighbours) × HaveBorderFault state a b NoBorder) ⊎ ((refusal ≡ SharedTwice) × HaveBorderFault state a b TwoBorders)
+    ((refusal ≡ NotNeighbours) × HaveBorderFault state a b NoBorder)
+    ⊎ ((refusal ≡ SharedTwice) × HaveBorderFault state a b TwoBorders)
 IsOwnRefusal state (Move a b path) refusal =
-    ((refusal ≡ NotNeighbours) × HaveBorderFault state a b NoBorder) ⊎ ((refusal ≡ SharedTwice) × HaveBorderFault state a b TwoBorders)
+    ((refusal ≡ NotNeighbours) × HaveBorderFault state a b NoBorder)
+    ⊎ ((refusal ≡ SharedTwice) × HaveBorderFault state a b TwoBorders)
     ⊎ ((refusal ≡ BadPath) × IsBadMovePath state a b path)
 IsOwnRefusal state (Insert from to at) refusal =
     ((refusal ≡ NoSuchEdge) × HasNoEdge state from to)
@@ -107,7 +113,8 @@ IsIdRefusal state journal edit (Unknown id) = IsFirstAbsent state.rows (named_id
 IsIdRefusal state journal edit (Retired id by) = IsFirstAbsent state.rows (named_ids edit) id × IsRetiredBy journal id by
 IsIdRefusal state journal edit other = ⊥
 
--- the edit is refused for this reason, in the state that the journal has led to (the two go together: a state with another's journal is none that a fabric
+-- the edit is refused for this reason, in the state that the journal has led to (the two go together: a state with
+-- another's journal is none that a fabric
 -- has); want of memory is none of these
 abbrev pub IsRefusal : {A : Type 0} → State → List (JournalEntry A) → Edit A → Refusal → Type 0
 IsRefusal {A} state journal edit refusal =

@@ -39,7 +39,8 @@ pub record Tiles : Type 0 where
   pub refined : List Corner
   pub index : Grid
 
--- Of two points beside the edge from a to b, off all edges and with no other edge of the rows and the refined city between them, there is one that the
+-- Of two points beside the edge from a to b, off all edges and with no other edge of the rows and the refined city
+-- between them, there is one that the
 -- rows go round another number of times, all together, than the city.
 pub record IsUntiledBeside (rows : List NumberedRing) (city refined : List Corner) (a b : Corner) : Type 0 where
   pub left : Point
@@ -49,4 +50,5 @@ pub record IsUntiledBeside (rows : List NumberedRing) (city refined : List Corne
   pub right_is_off : IsOffEdges right rows city
   pub no_other_between : MeetsOnly left right (all_edges (corner_lists rows ++ refined ∷ [])) a b
   pub differs :
-      (winding_of_rings left (corner_lists rows) ≢ winding left city) ⊎ (winding_of_rings right (corner_lists rows) ≢ winding right city)
+      (winding_of_rings left (corner_lists rows) ≢ winding left city)
+      ⊎ (winding_of_rings right (corner_lists rows) ≢ winding right city)

@@ -25,13 +25,15 @@ use std::alloc::{AllocError, AllocFailed, Allocator};
 /// Why rings are no layer of a city: all faults of the kind of the first, which is the first of them.
 #[derive(Debug, Drop)]
 pub enum AllFaults<A: Allocator> {
-    /// H3: the first record whose noded ring has more than 4,096 corners, or with the rings before it more than 1,000,000.
+    /// H3: the first record whose noded ring has more than 4,096 corners, or with the rings before it
+    /// more than 1,000,000.
     TooMany(u32),
-    /// H1: all records whose noded rings, begun at their least corners, are no simple rings, with the rings' faults, by ascending
-    /// number.
+    /// H1: all records whose noded rings, begun at their least corners, are no simple rings, with the
+    /// rings' faults, by ascending number.
     Rings(Vec<(u32, RingFault), A>),
-    /// H2: all edges that the rings do not have as often as the city, by their first corners and then by their second: the two
-    /// corners in order, and how much oftener the rings have the edge, each edge counted less the edge back.
+    /// H2: all edges that the rings do not have as often as the city, by their first corners and then
+    /// by their second: the two corners in order, and how much oftener the rings have the edge, each
+    /// edge counted less the edge back.
     Gaps(Vec<(Corner, Corner, i64), A>),
     /// An allocation was refused.
     NoMemory,
@@ -79,8 +81,8 @@ impl<'a, H: Allocator> Layer<'a, H> {
     ///
     /// # Errors
     ///
-    /// The first kind that applies: [`AllFaults::TooMany`] (H3), [`AllFaults::Rings`] (H1), [`AllFaults::Gaps`] (H2); and
-    /// [`AllFaults::NoMemory`] where an allocation is refused.
+    /// The first kind that applies: [`AllFaults::TooMany`] (H3), [`AllFaults::Rings`] (H1),
+    /// [`AllFaults::Gaps`] (H2); and [`AllFaults::NoMemory`] where an allocation is refused.
     pub fn load_or_all(
         heap: &'a H,
         city: &City<'a, H>,
@@ -92,8 +94,8 @@ impl<'a, H: Allocator> Layer<'a, H> {
         ensures city { IfOk result (λ layer. layer.city ≡ city.now.ring.corners) }
         ensures tiling { IfOk result (λ layer. IsTiling layer.rows city.now.ring.corners) }
         ensures indexed { IfOk result (λ layer. IsIndexed layer.rows city.now.ring.corners layer.index) }
-        // The faults that are answered are all of the first's kind, and a layer with a first fault is refused by a list that begins
-        // with it, unless memory runs out.
+        // The faults that are answered are all of the first's kind, and a layer with a first fault is
+        // refused by a list that begins with it, unless memory runs out.
         ensures faults { IfErr result (λ all. AreLoadFaults (rings_of records.entry.items) city.now.ring.corners all
             ⊎ (all ≡ NoMemory)) }
         ensures refuses { (fault : FirstFault) → IsLoadFault (rings_of records.entry.items) city.now.ring.corners fault
@@ -104,7 +106,8 @@ impl<'a, H: Allocator> Layer<'a, H> {
     }
 }
 
-/// The layer of rings that are noded and begun at their least corners, in a city that is refined, or all faults of the first's kind.
+/// The layer of rings that are noded and begun at their least corners, in a city that is refined,
+/// or all faults of the first's kind.
 fn load_refined_or_all<'a, H: Allocator>(
     heap: &'a H,
     area: Bounds,

@@ -11,10 +11,11 @@ ghost use Rattle.fabric_core.specs.GridIndex.{IsCandidate};
 ghost use Rattle.fabric_core.specs.Tiling.{corner_lists};
 ghost use Rattle.fabric_core.specs.Faults.{AreSimple};
 
-/// Simple rows that have the net edges of a city, whose own may be noded, lie in each box that holds the city's corners.
+/// Simple rows that have the net edges of a city, whose own may be noded, lie in each box that
+/// holds the city's corners.
 ///
-/// Beyond the box the city goes round no place, and so no row does, nor any of the triangles that it is clipped to. But near a corner of a
-/// triangle there are places inside it.
+/// Beyond the box the city goes round no place, and so no row does, nor any of the triangles that
+/// it is clipped to. But near a corner of a triangle there are places inside it.
 pub fn rows_lie_in_the_box_of_their_city()
     ensures { (rows : List NumberedRing) (city corners refined : List Corner) (bounds : Bounds)
         → AreSimple rows → IsNoded city corners refined
@@ -22,9 +23,9 @@ pub fn rows_lie_in_the_box_of_their_city()
         → All (HoldsCorner bounds) city → AllByRecursion (λ row. All (HoldsCorner bounds) row.corners) rows }
 {}
 
-/// A parcel whose interior meets that of a ring with all corners between two corners is a candidate of these two, where the
-/// parcels are simple and have the net edges of a city, whose own may be noded. So a search for what meets a ring looks at the
-/// candidates of the ring's box alone.
+/// A parcel whose interior meets that of a ring with all corners between two corners is a candidate
+/// of these two, where the parcels are simple and have the net edges of a city, whose own may be
+/// noded. So a search for what meets a ring looks at the candidates of the ring's box alone.
 pub fn a_parcel_that_meets_a_ring_is_a_candidate()
     ensures { (rows : List NumberedRing) (city corners refined : List Corner) (area box : Bounds) (low high : Corner)
         (row : NumberedRing) (ring : List Corner) → AreSimple rows → IsNoded city corners refined

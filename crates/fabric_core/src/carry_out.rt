@@ -9,8 +9,8 @@ use crate::make::make;
 use crate::tiled::Tiled;
 use std::alloc::{AllocError, Allocator};
 
-/// Makes a drafted edit, whose entry then stands last in the journal; how many corners all rings have together afterwards. Where an
-/// allocation is refused, nothing has changed.
+/// Makes a drafted edit, whose entry then stands last in the journal; how many corners all rings
+/// have together afterwards. Where an allocation is refused, nothing has changed.
 pub(crate) fn carry_out<'a, H: Allocator>(
     tiled: &mut Tiled<'a, H>,
     journal: &mut Vec<Entry<&'a H>, &'a H>,

@@ -217,8 +217,9 @@ fn insert_change<'a, H: Allocator>(
     Ok(Change { out, rows })
 }
 
-/// What an edit takes out and brings; new parcels have the next ids. Why there is nothing, else: the ids that the edit names are looked
-/// up first, in its order, and then comes what it asks of paths, borders and edges.
+/// What an edit takes out and brings; new parcels have the next ids. Why there is nothing, else:
+/// the ids that the edit names are looked up first, in its order, and then comes what it asks of
+/// paths, borders and edges.
 pub(crate) fn change_of<'a, H: Allocator>(
     alloc: &'a H,
     tiled: &Tiled<'a, H>,

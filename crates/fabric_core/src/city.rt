@@ -32,8 +32,8 @@ pub struct City<'a, H: Allocator> {
 pub enum CityFault {
     /// G1 to G3: it is no simple ring.
     Ring(RingFault),
-    /// G5: it is folded over itself: these two of the triangles that it is clipped to overlap, the first two by the first's number
-    /// and then by the second's, from 0.
+    /// G5: it is folded over itself: these two of the triangles that it is clipped to overlap, the
+    /// first two by the first's number and then by the second's, from 0.
     Folded(usize, usize),
     /// An allocation was refused.
     NoMemory,
@@ -58,7 +58,8 @@ impl From<AllocError> for CityFault {
 }
 
 impl<'a, H: Allocator> City<'a, H> {
-    /// The city of a ring of a layer file, which is begun at its least corner before all else. The ring is dropped on a fault.
+    /// The city of a ring of a layer file, which is begun at its least corner before all else. The
+    /// ring is dropped on a fault.
     ///
     /// The time grows with the square of the number of corners.
     ///
@@ -66,6 +67,10 @@ impl<'a, H: Allocator> City<'a, H> {
     ///
     /// The first of these that applies: [`CityFault::Ring`] (G1, G3, G2), [`CityFault::Folded`] (G5); and
     /// [`CityFault::NoMemory`] where an allocation is refused.
+    ///
+    /// ```
+    /// let city = City::new(heap, ring)?;
+    /// ```
     pub fn new(heap: &'a H, ring: RawRing<&'a H>) -> Result<City<'a, H>, CityFault>
         ensures ring { IfOk result (λ city. city.ring.corners ≡ begun_at_least ring.entry.corners) }
         ensures fault { IfErr result (λ fault. IsCityFault (begun_at_least ring.entry.corners) fault ⊎ (fault ≡ NoMemory)) }

@@ -37,12 +37,14 @@ use ring_edits::Edit;
 use std::alloc::{AllocError, Allocator};
 use std::marker::Model;
 
-/// A fabric of parcels: a layer that clerks edit, with the journal of all edits since it was opened. At each moment the parcels tile
-/// the city, the grid index has exactly the parcels in its cells, and the journal, replayed on the rows that were opened, gives the
-/// rows. An accepted edit adds one entry to the journal; a refused one changes nothing.
+/// A fabric of parcels: a layer that clerks edit, with the journal of all edits since it was
+/// opened. At each moment the parcels tile the city, the grid index has exactly the parcels in its
+/// cells, and the journal, replayed on the rows that were opened, gives the rows. An accepted edit
+/// adds one entry to the journal; a refused one changes nothing.
 ///
-/// Contracts see the city's ring as it was read, the state in which the fabric was opened and the state now (the rows by ascending id,
-/// the city's refined ring, the next id), the index, and the journal. Corners are in whole centimetres.
+/// Contracts see the city's ring as it was read, the state in which the fabric was opened and the
+/// state now (the rows by ascending id, the city's refined ring, the next id), the index, and the
+/// journal. Corners are in whole centimetres.
 #[derive(Drop)]
 pub struct Fabric<'a, H: Allocator> {
     tiled: Tiled<'a, H>,
@@ -77,6 +79,10 @@ impl<'a, H: Allocator> Fabric<'a, H> {
     /// # Errors
     ///
     /// The layer comes back where an allocation is refused.
+    ///
+    /// ```
+    /// let mut fabric = Fabric::open(layer)?;
+    /// ```
     pub fn open(layer: Layer<'a, H>) -> Result<Fabric<'a, H>, Layer<'a, H>>
         ensures city { IfOk result (λ fabric. fabric.city ≡ layer.entry.city) }
         ensures opening { IfOk result (λ fabric. fabric.opening ≡ opening_state layer.entry.rows layer.entry.refined) }
@@ -126,15 +132,19 @@ impl<'a, H: Allocator> Fabric<'a, H> {
     /// # Errors
     ///
     /// [`AllocError`] where an allocation is refused.
+    ///
+    /// ```
+    /// let sheet = fabric.sheet()?;
+    /// ```
     pub fn sheet(&self) -> Result<Sheet<'a, H>, AllocError>
         ensures { IfOk result (λ sheet. sheet ≡ self.now) }
     {
         Ok(Sheet::of(self.copy()?))
     }
 
-    /// The parcels are simple rings that tile the city, and are within the limits of a layer; in the cells of the grid index stand
-    /// exactly the parcels; the city's refined ring covers what the city's ring covers; and the journal is lawful, and leads from the
-    /// opening to what is now.
+    /// The parcels are simple rings that tile the city, and are within the limits of a layer; in the
+    /// cells of the grid index stand exactly the parcels; the city's refined ring covers what the
+    /// city's ring covers; and the journal is lawful, and leads from the opening to what is now.
     pub fn tiles(&self)
         ensures tiling { IsTiling self.now.now.rows self.now.city }
         ensures simple { AreSimple self.now.now.rows }
@@ -179,8 +189,8 @@ impl<'a, H: Allocator> Fabric<'a, H> {
         Some(&shape.ring)
     }
 
-    /// The shape of a parcel, which is its ring with the triangles that it is clipped to; `None` where the id is no parcel's. It is
-    /// found at once.
+    /// The shape of a parcel, which is its ring with the triangles that it is clipped to; `None`
+    /// where the id is no parcel's. It is found at once.
     pub fn shape(&self, id: u64) -> Option<&Shape<&'a H>>
         ensures { MatchOption result
             ((row : NumberedRing) → Contains self.now.now.rows row → row.number ≢ id)
@@ -207,8 +217,8 @@ impl<'a, H: Allocator> Fabric<'a, H> {
         self.tiled.locate(corner)
     }
 
-    /// The ids, ascending, of the parcels that stand in some cell of the grid index between the cells of two corners, as
-    /// [`Layer::candidates`].
+    /// The ids, ascending, of the parcels that stand in some cell of the grid index between the cells
+    /// of two corners, as [`Layer::candidates`].
     ///
     /// # Errors
     ///
@@ -240,16 +250,24 @@ impl<'a, H: Allocator> Fabric<'a, H> {
         self.tiled.refined()
     }
 
-    /// Makes an edit, if nothing refuses it: the parcels that it names go, those that it makes come, and the journal gets an entry. The
-    /// time grows with the rings concerned and the city's refined ring, and not with the other parcels.
+    /// Makes an edit, if nothing refuses it: the parcels that it names go, those that it makes come,
+    /// and the journal gets an entry. The time grows with the rings concerned and the city's refined
+    /// ring, and not with the other parcels.
     ///
     /// # Errors
     ///
-    /// The first of these that applies; nothing has changed then. [`Refusal::JournalFull`] (E9); for each id that the edit names, in its
-    /// order, [`Refusal::Unknown`] (E1) or [`Refusal::Retired`] (E2); what the edit asks for itself: for a split
-    /// [`Refusal::BadPath`] (E3), for a merge and a move [`Refusal::NotNeighbours`] (E4) and [`Refusal::SharedTwice`] (E5), for a move then
-    /// [`Refusal::BadPath`] (E3), for an insert [`Refusal::NoSuchEdge`] (E7) and [`Refusal::NotOnEdge`] (E8); [`Refusal::TooMany`] (E10);
-    /// [`Refusal::Ring`] (E6). And [`Refusal::NoMemory`] where an allocation is refused.
+    /// The first of these that applies; nothing has changed then. [`Refusal::JournalFull`] (E9); for
+    /// each id that the edit names, in its order, [`Refusal::Unknown`] (E1) or [`Refusal::Retired`]
+    /// (E2); what the edit asks for itself: for a split [`Refusal::BadPath`] (E3), for a merge and a
+    /// move [`Refusal::NotNeighbours`] (E4) and [`Refusal::SharedTwice`] (E5), for a move then
+    /// [`Refusal::BadPath`] (E3), for an insert [`Refusal::NoSuchEdge`] (E7) and
+    /// [`Refusal::NotOnEdge`] (E8); [`Refusal::TooMany`] (E10); [`Refusal::Ring`] (E6). And
+    /// [`Refusal::NoMemory`] where an allocation is refused.
+    ///
+    /// ```
+    /// // Of parcels 1 and 2, neighbours: the new parcel is 3.
+    /// let entry = fabric.edit(clerk, &Edit::Merge { a: 1, b: 2 })?;
+    /// ```
     pub fn edit(&mut self, clerk: u32, edit: &Edit<&'a H>) -> Result<Entry<&'a H>, Refusal>
         // An accepted edit: the entry is that of this edit by this clerk on the state before, under the next number.
         ensures is_entry { IfOk result (λ entry. IsEntryOf self.old.now entry) }
@@ -277,13 +295,14 @@ impl<'a, H: Allocator> Fabric<'a, H> {
         Ok(entry)
     }
 
-    /// Makes the edit of an entry that another fabric's journal has, if the entry is due here: if it has the next number, and takes out
-    /// and brings what its edit does here and now. So a copy follows its original.
+    /// Makes the edit of an entry that another fabric's journal has, if the entry is due here: if it
+    /// has the next number, and takes out and brings what its edit does here and now. So a copy
+    /// follows its original.
     ///
     /// # Errors
     ///
-    /// [`FollowFault::NotDue`] exactly where the entry is not due, and [`FollowFault::NoMemory`] where an allocation is refused; nothing
-    /// has changed then.
+    /// [`FollowFault::NotDue`] exactly where the entry is not due, and [`FollowFault::NoMemory`]
+    /// where an allocation is refused; nothing has changed then.
     pub fn follow(&mut self, entry: &Entry<&'a H>) -> Result<(), FollowFault>
         ensures due { OnOk result (IsDue self.old entry.now) }
         ensures now { OnOk result (self.new.now ≡ after_entry self.old.now entry.now) }

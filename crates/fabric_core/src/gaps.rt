@@ -28,7 +28,8 @@ pub(crate) fn net_numbers<A: Allocator + Copy>(
     Ok(sum)
 }
 
-/// Refuses rings that do not have each edge as often as the city, with the least such edge and how much oftener they have it.
+/// Refuses rings that do not have each edge as often as the city, with the least such edge and how
+/// much oftener they have it.
 pub(crate) fn check_nets<A: Allocator + Copy>(
     alloc: A,
     rings: &[Ring<A>],

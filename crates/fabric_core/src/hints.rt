@@ -12,6 +12,12 @@ const MOST: usize = 2_048;
 /// The most cells along an axis that are told of one core.
 const TOLD: usize = 16;
 
+/// A cell's length has two to this power parts, so that 2,048 cells have as many as there are numbers of 64 bits.
+const PART_BITS: u32 = 53;
+
+/// Half a cell's parts.
+const HALF: u64 = 1 << 52;
+
 /// What a cell has that no core has met.
 const NONE: u32 = u32::MAX;
 
@@ -19,12 +25,19 @@ const NONE: u32 = u32::MAX;
 #[derive(Clone, Copy)]
 struct Axis {
     low: i64,
-    side: u64,
+    // How many parts of a cell one step along the axis is.
+    step: u64,
     count: usize,
-    ghost has_length: { 0 < side },
-    ghost side_fits: { side ≤ 2 ^ 63 },
-    ghost is_some: { 0 < count },
     ghost is_small: { count ≤ MOST },
+}
+
+/// A place along an axis: the cell that it is in, and the one beside it to which it is nearer.
+#[derive(Clone, Copy)]
+struct Near {
+    own: usize,
+    beside: usize,
+    ghost own_is_small: { own < MOST },
+    ghost beside_is_small: { beside < MOST },
 }
 
 /// Cells that follow one another along an axis: from the first to the one before the end.
@@ -41,54 +54,48 @@ impl Span {
     }
 }
 
-/// How far one coordinate is above another, or 0 where it is not.
-fn distance(from: i64, to: i64) -> u64
-    ensures { result < 2 ^ 63 }
+/// The cell in which so many parts lie before a place.
+fn cell_of(parts: u64) -> usize
+    ensures { result < MOST }
 {
-    to.saturating_sub(from).max(0) as u64
+    (parts >> PART_BITS) as usize
 }
 
 impl Axis {
     /// So many cells from one coordinate to another.
     fn new(low: i64, high: i64, count: usize) -> Axis
-        requires some { 0 < count }
-        requires small { count ≤ MOST }
+        requires { count ≤ MOST }
     {
+        let length = low.abs_diff(high).saturating_add(1);
+        let parts = ((count as u128) << PART_BITS).min(u64::MAX as u128) as u64;
         Axis {
             low,
-            side: distance(low, high) / count as u64 + 1,
+            step: parts / length,
             count,
         }
     }
 
-    /// The cell that a coordinate is in, or the one nearest to it.
-    fn cell(self, z: i64) -> usize
-        ensures { result < MOST }
-    {
-        let cell = distance(self.low, z) / self.side;
-        cell.min(self.count as u64 - 1) as usize
+    /// How many parts of cells lie before a coordinate; of one that is beyond the axis, any number.
+    fn parts(self, z: i64) -> u64 {
+        self.low.abs_diff(z).wrapping_mul(self.step)
     }
 
-    /// The cell beside the one that a coordinate is in, on the side to which it is nearer.
-    fn cell_beside(self, z: i64) -> usize
-        ensures { result < MOST }
-    {
-        let from = distance(self.low, z);
-        let cell = from / self.side;
-        let beside = if from % self.side < self.side / 2 {
-            cell.saturating_sub(1)
-        } else {
-            cell.saturating_add(1)
-        };
-        beside.min(self.count as u64 - 1) as usize
+    /// The cell that a coordinate is in, and the one beside it.
+    fn near(self, z: i64) -> Near {
+        let parts = self.parts(z);
+        let own = cell_of(parts);
+        let before = cell_of(parts.saturating_sub(HALF));
+        let after = cell_of(parts.saturating_add(HALF));
+        let beside = if before < own { before } else { after };
+        Near { own, beside }
     }
 
     /// The cells from the one that a coordinate is in to the one that another is in, or the first of them.
     fn cells(self, low: i64, high: i64) -> Span
         ensures { result.end ≤ MOST }
     {
-        let first = self.cell(low);
-        let last = self.cell(high).min(first + (TOLD - 1));
+        let first = cell_of(self.parts(low));
+        let last = cell_of(self.parts(high)).min(first + (TOLD - 1));
         Span {
             first,
             end: last + 1,
@@ -97,8 +104,7 @@ impl Axis {
 
     /// How many cells have their middle before a coordinate.
     fn middles_before(self, z: i64) -> usize {
-        let middles = (distance(self.low, z) + (self.side - 1) / 2) / self.side;
-        middles as usize
+        cell_of(self.parts(z).saturating_add(HALF))
     }
 
     /// The cells whose middles lie between two coordinates, these included.
@@ -121,8 +127,9 @@ impl Axis {
 
 /// For each cell of a grid over an area the key of a parcel to look at first, where a place in the cell is asked for.
 ///
-/// A hint may be wrong: another parcel may have the place, or none have the key any more. Nothing rests on it: whoever follows
-/// one looks up what stands under the key, and tests the place against that.
+/// A hint may be wrong: another parcel may have the place, or none have the key any more. Nothing
+/// rests on it: whoever follows one looks up what stands under the key, and tests the place against
+/// that.
 #[derive(Drop)]
 pub(crate) struct Hints<'a, H: Allocator> {
     columns: Axis,
@@ -145,8 +152,8 @@ impl<'a, H: Allocator> Clone for Hints<'a, H> {
 }
 
 impl<'a, H: Allocator> Hints<'a, H> {
-    /// No hint yet, for a city of so many parcels over an area: along each axis twice as many cells as the root of their
-    /// number, but at most 2,048.
+    /// No hint yet, for a city of so many parcels over an area: along each axis twice as many cells
+    /// as the root of their number, but at most 2,048.
     fn new(heap: &'a H, area: Bounds, parcels: usize) -> Result<Hints<'a, H>, AllocError> {
         let count = (parcels.isqrt() * 2).max(1).min(MOST);
         let columns = Axis::new(area.low.x, area.high.x, count);
@@ -173,30 +180,24 @@ impl<'a, H: Allocator> Hints<'a, H> {
         Ok(hints)
     }
 
-    /// The key that a cell has, or any other number.
-    fn key(&self, column: usize, row: usize) -> usize
-        requires column { column < MOST }
-        requires row { row < MOST }
-    {
-        match self.keys.get(self.columns.number(column, row)) {
+    /// The numbers of the cell that a place is in, of the one to the left or to the right of it, and of the one above or below it,
+    /// whichever are nearer.
+    pub(crate) fn near(&self, place: Corner) -> [usize; 3] {
+        let column = self.columns.near(place.x);
+        let row = self.rows.near(place.y);
+        [
+            self.columns.number(column.own, row.own),
+            self.columns.number(column.beside, row.own),
+            self.columns.number(column.own, row.beside),
+        ]
+    }
+
+    /// The key of the parcel that is to be looked at first for a place in a cell, or any other number.
+    pub(crate) fn key(&self, cell: usize) -> usize {
+        match self.keys.get(cell) {
             Some(key) => *key as usize,
             None => NONE as usize,
         }
-    }
-
-    /// The key of the parcel that is to be looked at first for a place, or any other number.
-    pub(crate) fn at(&self, place: Corner) -> usize {
-        self.key(self.columns.cell(place.x), self.rows.cell(place.y))
-    }
-
-    /// The same of the cell to the left or to the right of the place's, whichever is nearer.
-    pub(crate) fn beside(&self, place: Corner) -> usize {
-        self.key(self.columns.cell_beside(place.x), self.rows.cell(place.y))
-    }
-
-    /// The same of the cell above or below the place's, whichever is nearer.
-    pub(crate) fn over(&self, place: Corner) -> usize {
-        self.key(self.columns.cell(place.x), self.rows.cell_beside(place.y))
     }
 
     /// Gives a cell a key, in place of another or where it has none.
@@ -206,9 +207,9 @@ impl<'a, H: Allocator> Hints<'a, H> {
         }
     }
 
-    /// Tells of a parcel by its core: each cell that the core meets gets the parcel's key if the cell's middle lies in the
-    /// core, or if the cell had none; of a core that meets very many cells, the first sixteen along each axis. It takes no
-    /// memory. A key that does not fit is not told.
+    /// Tells of a parcel by its core: each cell that the core meets gets the parcel's key if the
+    /// cell's middle lies in the core, or if the cell had none; of a core that meets very many cells,
+    /// the first sixteen along each axis. It takes no memory. A key that does not fit is not told.
     pub(crate) fn set(&mut self, core: Bounds, key: usize) {
         let Ok(key) = u32::try_from(key) else {
             return;

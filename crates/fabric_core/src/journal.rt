@@ -32,7 +32,8 @@ impl<A: Allocator + Copy> Clone for Row<A> {
     }
 }
 
-/// An edit that was accepted: an entry of the journal. It says all that the edit changed, so that the journal can be replayed.
+/// An edit that was accepted: an entry of the journal. It says all that the edit changed, so that
+/// the journal can be replayed.
 #[derive(Debug, Drop)]
 pub struct Entry<A: Allocator> {
     number: u64,

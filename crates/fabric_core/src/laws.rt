@@ -16,11 +16,12 @@ ghost use Rattle.fabric_core.specs.Faults.{AreSimple};
 ghost use Rattle.fabric_core.specs.Locate.{IsInsideOf, IsInsideOneOnly, IsOnEdgeOf};
 ghost use Rattle.fabric_core.specs.Rows.{AreRefined, IsUntiledBeside};
 
-/// Rows that are made up of counterclockwise triangles, and have the net edges of a city that goes round no place twice, tile the
-/// city. The city's edges may be noded.
+/// Rows that are made up of counterclockwise triangles, and have the net edges of a city that goes
+/// round no place twice, tile the city. The city's edges may be noded.
 ///
-/// Each row's winding number is the sum of its triangles', so it is not negative. All together they are the city's, which is 0 or 1.
-/// So where it is 1 exactly one row has 1, and where it is 0 none has.
+/// Each row's winding number is the sum of its triangles', so it is not negative. All together they
+/// are the city's, which is 0 or 1. So where it is 1 exactly one row has 1, and where it is 0 none
+/// has.
 pub fn rows_with_the_nets_of_a_city_tile_it()
     ensures { (rows : List NumberedRing) (city corners refined : List Corner)
         → AllByRecursion (λ row. (ts : List Tri) × MakeUp ts row.corners) rows
@@ -30,8 +31,9 @@ pub fn rows_with_the_nets_of_a_city_tile_it()
         → IsTiling rows city }
 {}
 
-/// An edge whose net number is not the city's is no false alarm: where no corner lies strictly inside an edge, the rows do not tile
-/// the city. Of two points beside that edge, one has a sum of winding numbers that is not the city's.
+/// An edge whose net number is not the city's is no false alarm: where no corner lies strictly
+/// inside an edge, the rows do not tile the city. Of two points beside that edge, one has a sum of
+/// winding numbers that is not the city's.
 pub fn an_unbalanced_edge_is_no_tiling()
     ensures beside { (rows : List NumberedRing) (city corners refined : List Corner) (a b : Corner)
         → IsNoded city corners refined → AreFullyNoded (corner_lists rows ++ refined ∷ [])
@@ -41,7 +43,8 @@ pub fn an_unbalanced_edge_is_no_tiling()
         → IsUntiledBeside rows city refined a b → ¬ IsTiling rows city }
 {}
 
-/// A city keeps its ground when it is refined: its winding number round every rational point, its boundary and its area.
+/// A city keeps its ground when it is refined: its winding number round every rational point, its
+/// boundary and its area.
 pub fn a_refined_city_keeps_its_ground()
     ensures windings { (records rows : List NumberedRing) (city refined : List Corner) (p : Point)
         → AreRefined records city rows refined → winding p refined ≡ winding p city }
@@ -52,17 +55,19 @@ pub fn a_refined_city_keeps_its_ground()
 {}
 
 /// In a tiling, a place inside the city and off all edges is inside exactly one parcel, and on no edge of one.
-#[tactic(auto, using(crate::proofs::OneParcel::inside_one_only))]
+#[tactic(auto, using(crate::proofs::tilings::OneParcel::inside_one_only))]
 pub fn a_place_off_all_edges_is_inside_one_parcel()
     ensures { (rows : List NumberedRing) (city : List Corner) (p : Point) → IsTiling rows city → IsOffEdges p rows city
         → IsInterior p city → IsInsideOneOnly rows p }
 {}
 
-/// In a tiling of simple rings, what is inside one parcel is on no edge of a parcel and inside no other, and the city goes round it
-/// once. So a search for where a place lies may end at the first parcel that has it inside.
+/// In a tiling of simple rings, what is inside one parcel is on no edge of a parcel and inside no
+/// other, and the city goes round it once. So a search for where a place lies may end at the first
+/// parcel that has it inside.
 ///
-/// An edge that the place lies on is that of a parcel's triangle, and from there a little way towards the triangle's centre are places
-/// inside both parcels. But off all edges a place is in one parcel alone.
+/// An edge that the place lies on is that of a parcel's triangle, and from there a little way
+/// towards the triangle's centre are places inside both parcels. But off all edges a place is in
+/// one parcel alone.
 pub fn what_is_inside_a_parcel_is_in_no_other()
     ensures edges { (rows : List NumberedRing) (city : List Corner) (p : Point) (id other : ℕ) → AreSimple rows → IsTiling rows city
         → IsInsideOf rows p id → ¬ IsOnEdgeOf rows p other }

@@ -35,12 +35,14 @@ use std::marker::Model;
 /// Why rings are no layer of a city: the first that applies, in this order.
 #[derive(Clone, Copy, Debug, PartialEq, Eq)]
 pub enum LoadFault {
-    /// H3: the first record whose noded ring has more than 4,096 corners, or with the rings before it more than 1,000,000.
+    /// H3: the first record whose noded ring has more than 4,096 corners, or with the rings before it
+    /// more than 1,000,000.
     TooMany(u32),
     /// H1: the first record whose noded ring, begun at its least corner, is no simple ring.
     Ring(u32, RingFault),
-    /// H2: the least edge, by its first corner and then by its second, that the rings do not have as often as the city: its two
-    /// corners in order, and how much oftener the rings have it, each edge counted less the edge back.
+    /// H2: the least edge, by its first corner and then by its second, that the rings do not have as
+    /// often as the city: its two corners in order, and how much oftener the rings have it, each edge
+    /// counted less the edge back.
     Gap(Corner, Corner, i64),
     /// An allocation was refused.
     NoMemory,
@@ -62,13 +64,13 @@ impl<T: Drop> From<AllocFailed<T>> for LoadFault {
     }
 }
 
-/// A layer of parcels that tiles its city, exactly: off all edges each place of the city is in one parcel, and no other place is in
-/// any. Contracts see its rows (each parcel's ring under its id, by ascending id), the city's ring as it was read, and that ring with
-/// the layer's corners in it.
+/// A layer of parcels that tiles its city, exactly: off all edges each place of the city is in one
+/// parcel, and no other place is in any. Contracts see its rows (each parcel's ring under its id,
+/// by ascending id), the city's ring as it was read, and that ring with the layer's corners in it.
 ///
-/// Every corner of the layer and the city that lies inside an edge of a parcel or of the city is a corner of that ring, so that
-/// neighbours have whole edges in common. Each ring begins at its least corner. Corners are in whole centimetres; the memory is that of
-/// the heap that was lent.
+/// Every corner of the layer and the city that lies inside an edge of a parcel or of the city is a
+/// corner of that ring, so that neighbours have whole edges in common. Each ring begins at its
+/// least corner. Corners are in whole centimetres; the memory is that of the heap that was lent.
 #[derive(Drop)]
 pub struct Layer<'a, H: Allocator> {
     tiled: Tiled<'a, H>,
@@ -91,15 +93,22 @@ impl<'a, H: Allocator> Model for Layer<'a, H> {
 }
 
 impl<'a, H: Allocator> Layer<'a, H> {
-    /// The layer of the rings of a layer file, in a city. All rings and the city's are noded for all corners of all of them first; each
-    /// is then begun at its least corner. The rings are dropped on a fault.
+    /// The layer of the rings of a layer file, in a city. All rings and the city's are noded for all
+    /// corners of all of them first; each is then begun at its least corner. The rings are dropped on
+    /// a fault.
     ///
-    /// The time grows with the number of all corners (times its logarithm), and with the square of the number of corners of each ring.
+    /// The time grows with the number of all corners (times its logarithm), and with the square of
+    /// the number of corners of each ring.
     ///
     /// # Errors
     ///
-    /// The first of these that applies: [`LoadFault::TooMany`] (H3), [`LoadFault::Ring`] (H1), [`LoadFault::Gap`] (H2); and
-    /// [`LoadFault::NoMemory`] where an allocation is refused. No tiling is refused by H2.
+    /// The first of these that applies: [`LoadFault::TooMany`] (H3), [`LoadFault::Ring`] (H1),
+    /// [`LoadFault::Gap`] (H2); and [`LoadFault::NoMemory`] where an allocation is refused. No tiling
+    /// is refused by H2.
+    ///
+    /// ```
+    /// let layer = Layer::load(heap, &city, records)?;
+    /// ```
     pub fn load(
         heap: &'a H,
         city: &City<'a, H>,
@@ -112,7 +121,8 @@ impl<'a, H: Allocator> Layer<'a, H> {
         ensures city { IfOk result (λ layer. layer.city ≡ city.now.ring.corners) }
         ensures tiling { IfOk result (λ layer. IsTiling layer.rows city.now.ring.corners) }
         ensures indexed { IfOk result (λ layer. IsIndexed layer.rows city.now.ring.corners layer.index) }
-        // A fault that is answered is the first of the layer, and a layer with a first fault is refused by it, unless memory runs out.
+        // A fault that is answered is the first of the layer, and a layer with a first fault is refused
+        // by it, unless memory runs out.
         ensures fault { IfErr result (λ fault. IsLoadFault (rings_of records.entry.items) city.now.ring.corners fault
             ⊎ (fault ≡ NoMemory)) }
         ensures refuses { (fault : LoadFault) → IsLoadFault (rings_of records.entry.items) city.now.ring.corners fault
@@ -148,8 +158,8 @@ impl<'a, H: Allocator> Layer<'a, H> {
         tiled
     }
 
-    /// The rows are simple rings that tile the city, and are within the limits of a layer; and in the cells of the grid index stand
-    /// exactly the rows.
+    /// The rows are simple rings that tile the city, and are within the limits of a layer; and in the
+    /// cells of the grid index stand exactly the rows.
     pub fn tiles(&self)
         ensures tiling { IsTiling self.now.rows self.now.city }
         ensures simple { AreSimple self.now.rows }
@@ -177,8 +187,8 @@ impl<'a, H: Allocator> Layer<'a, H> {
         Some(&shape.ring)
     }
 
-    /// The shape of a parcel, which is its ring with the triangles that it is clipped to; `None` where the id is no parcel's. It is
-    /// found at once.
+    /// The shape of a parcel, which is its ring with the triangles that it is clipped to; `None`
+    /// where the id is no parcel's. It is found at once.
     pub fn shape(&self, id: u64) -> Option<&Shape<&'a H>>
         ensures { MatchOption result
             ((row : NumberedRing) → Contains self.now.rows row → row.number ≢ id)
@@ -187,35 +197,47 @@ impl<'a, H: Allocator> Layer<'a, H> {
         self.tiled.shape(id)
     }
 
-    /// The shapes of all parcels, each beside its id, by ascending id: a shape is a parcel's ring, begun at its least corner, with the
-    /// triangles that it is clipped to.
+    /// The shapes of all parcels, each beside its id, by ascending id: a shape is a parcel's ring,
+    /// begun at its least corner, with the triangles that it is clipped to.
     pub fn shapes(&self) -> Shapes<'_, &'a H>
         ensures { map (λ shape. numbered shape.0 shape.1.ring.corners) result ≡ self.now.rows }
     {
         self.tiled.shapes()
     }
 
-    /// Where a corner lies among the parcels: on the edges of all that have it on one, by ascending id, where there is any; else inside
-    /// the one that it is inside of; else outside, as each corner beyond the city is. It is found among the parcels that stand in the
-    /// corner's cell of the grid index: the time grows with the number of these, and with the corners of those whose boxes hold it.
+    /// Where a corner lies among the parcels: on the edges of all that have it on one, by ascending
+    /// id, where there is any; else inside the one that it is inside of; else outside, as each corner
+    /// beyond the city is. It is found among the parcels that stand in the corner's cell of the grid
+    /// index: the time grows with the number of these, and with the corners of those whose boxes hold
+    /// it.
     ///
     /// # Errors
     ///
     /// [`AllocError`] where the list of ids is refused.
+    ///
+    /// ```
+    /// // Parcels from 0 to 60 and from 60 to 100, asked for (60, 50): OnEdge of 1 and 2.
+    /// let at = layer.locate(corner)?;
+    /// ```
     pub fn locate(&self, corner: Corner) -> Result<At<&'a H>, AllocError>
         ensures { IfOk result (λ at. IsLocatedAt self.now.rows (corner_point corner) at) }
     {
         self.tiled.locate(corner)
     }
 
-    /// The ids, ascending, of the parcels that stand in some cell of the grid index between the cells of two corners, these included; a
-    /// coordinate that lies outside the city's box is first brought to its nearer end. These are the candidates of a search: no other
-    /// parcel's interior meets that of a ring between the corners. The time grows with the number of these cells, and with the number of
-    /// parcels that stand in each.
+    /// The ids, ascending, of the parcels that stand in some cell of the grid index between the cells
+    /// of two corners, these included; a coordinate that lies outside the city's box is first brought
+    /// to its nearer end. These are the candidates of a search: no other parcel's interior meets that
+    /// of a ring between the corners. The time grows with the number of these cells, and with the
+    /// number of parcels that stand in each.
     ///
     /// # Errors
     ///
     /// [`AllocError`] where the list of ids is refused.
+    ///
+    /// ```
+    /// let near = layer.candidates(shape.bounds.low, shape.bounds.high)?;
+    /// ```
     pub fn candidates(&self, low: Corner, high: Corner) -> Result<Vec<u64, &'a H>, AllocError>
         requires eastward { low.x ≤ℤ high.x }
         requires northward { low.y ≤ℤ high.y }

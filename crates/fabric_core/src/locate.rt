@@ -38,8 +38,8 @@ pub(crate) fn on_edge_or_outside<A: Allocator>(mut on_edge: Vec<u64, A>) -> At<A
     At::OnEdge(on_edge)
 }
 
-/// Searches the parcels of some entries for those that have a corner on an edge, up to one that has it inside, which is the
-/// answer: in a tiling, what is inside one parcel is on no edge.
+/// Searches the parcels of some entries for those that have a corner on an edge, up to one that has
+/// it inside, which is the answer: in a tiling, what is inside one parcel is on no edge.
 pub(crate) fn search<A: Allocator>(
     parcels: &Parcels<A>,
     entries: &[Entry],

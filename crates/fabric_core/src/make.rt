@@ -109,7 +109,8 @@ fn make_insert<'a, H: Allocator>(
     tiled.put_in(edge, at, entry.out(), shapes)
 }
 
-/// Makes an edit whose entry is drafted, of which these are the shapes. Where an allocation is refused, nothing has changed.
+/// Makes an edit whose entry is drafted, of which these are the shapes. Where an allocation is
+/// refused, nothing has changed.
 pub(crate) fn make<'a, H: Allocator>(
     tiled: &mut Tiled<'a, H>,
     entry: &Entry<&'a H>,

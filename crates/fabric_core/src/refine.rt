@@ -68,7 +68,8 @@ fn begin_all<A: Allocator>(rings: &mut [Corners<A>])
     }
 }
 
-/// All rings of the records and the city's ring, noded for all corners of all of them; each record's is begun at its least corner.
+/// All rings of the records and the city's ring, noded for all corners of all of them; each
+/// record's is begun at its least corner.
 pub(crate) fn refine<A: Allocator + Copy>(
     alloc: A,
     city: &Corners<A>,

@@ -13,8 +13,8 @@ pub enum Refusal {
         /// The number of the entry that took it out.
         by: u64,
     },
-    /// E3: the path does not go from a corner of the parcel, or of the border, to another, or has fewer than 2 or more than 4,096
-    /// corners.
+    /// E3: the path does not go from a corner of the parcel, or of the border, to another, or has
+    /// fewer than 2 or more than 4,096 corners.
     BadPath,
     /// E4: the two parcels share no edge.
     NotNeighbours,
@@ -33,8 +33,8 @@ pub enum Refusal {
     NotOnEdge,
     /// E9: the journal has as many entries as it may have.
     JournalFull,
-    /// E10: a new ring would have more than 4,096 corners, all rings together more than 1,000,000, or there would be more than 65,536
-    /// parcels.
+    /// E10: a new ring would have more than 4,096 corners, all rings together more than 1,000,000, or
+    /// there would be more than 65,536 parcels.
     TooMany,
     /// An allocation was refused.
     NoMemory,

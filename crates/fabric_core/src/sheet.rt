@@ -25,7 +25,8 @@ use ring_core::{Ring, Shape};
 use std::alloc::{AllocError, Allocator};
 use std::marker::Model;
 
-/// A fabric as it was at a moment, which names how many entries its journal has: what a map is drawn from while clerks go on.
+/// A fabric as it was at a moment, which names how many entries its journal has: what a map is
+/// drawn from while clerks go on.
 #[derive(Drop)]
 pub struct Sheet<'a, H: Allocator> {
     fabric: Fabric<'a, H>,
@@ -92,8 +93,8 @@ impl<'a, H: Allocator> Sheet<'a, H> {
         self.fabric.ring(id)
     }
 
-    /// The shape of a parcel, which is its ring with the triangles that it is clipped to; `None` where the id is no parcel's. It is
-    /// found at once.
+    /// The shape of a parcel, which is its ring with the triangles that it is clipped to; `None`
+    /// where the id is no parcel's. It is found at once.
     pub fn shape(&self, id: u64) -> Option<&Shape<&'a H>>
         ensures { MatchOption result
             ((row : NumberedRing) → Contains self.now.now.rows row → row.number ≢ id)
@@ -120,8 +121,8 @@ impl<'a, H: Allocator> Sheet<'a, H> {
         self.fabric.locate(corner)
     }
 
-    /// The ids, ascending, of the parcels that stand in some cell of the grid index between the cells of two corners, as
-    /// [`Fabric::candidates`].
+    /// The ids, ascending, of the parcels that stand in some cell of the grid index between the cells
+    /// of two corners, as [`Fabric::candidates`].
     ///
     /// # Errors
     ///

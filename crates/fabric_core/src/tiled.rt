@@ -113,7 +113,8 @@ impl<'a, H: Allocator> Tiled<'a, H> {
         })
     }
 
-    /// The rows tile the city, and are within the limits of a layer; and in the cells of the grid index stand exactly the rows.
+    /// The rows tile the city, and are within the limits of a layer; and in the cells of the grid
+    /// index stand exactly the rows.
     pub(crate) fn tiles(&self)
         ensures tiling { IsTiling self.now.rows self.now.city }
         ensures within { AreWithinLimits self.now.rows }
@@ -197,21 +198,23 @@ impl<'a, H: Allocator> Tiled<'a, H> {
         }
     }
 
-    /// The id of a parcel that the hints tell for a corner, where the corner lies inside it: of the corner's cell, or of one beside it.
+    /// The id of a parcel that the hints tell for a corner, where the corner lies inside it: of the
+    /// corner's cell, or of one beside it.
     fn hinted(&self, corner: Corner) -> Option<u64>
         ensures { IfSome result (λ id. IsInsideOf self.now.rows (corner_point corner) id) }
     {
-        let key = self.hints.at(corner);
+        let [own, beside, over] = self.hints.near(corner);
+        let key = self.hints.key(own);
         if let Some(id) = self.holder(key, corner) {
             return Some(id);
         }
-        let beside = self.hints.beside(corner);
+        let beside = self.hints.key(beside);
         if beside != key
             && let Some(id) = self.holder(beside, corner)
         {
             return Some(id);
         }
-        let over = self.hints.over(corner);
+        let over = self.hints.key(over);
         if over == key || over == beside {
             return None;
         }
@@ -423,8 +426,9 @@ impl<'a, H: Allocator> Tiled<'a, H> {
         Ok(())
     }
 
-    /// A corner is put into an edge of parcels, which keep their ids and get these shapes, and of the city's refined ring, where that
-    /// has the edge. Where an allocation is refused, nothing has changed.
+    /// A corner is put into an edge of parcels, which keep their ids and get these shapes, and of the
+    /// city's refined ring, where that has the edge. Where an allocation is refused, nothing has
+    /// changed.
     pub(crate) fn put_in(
         &mut self,
         edge: (Corner, Corner),

@@ -8,15 +8,18 @@ use Rattle.geo_exact.specs.Segments.{IsStrictlyInside}
 use Rattle.ring_core.specs.declared.shape.Shape.{Shape}
 use Rattle.ring_core.specs.declared.ring.RingFault.{RingFault}
 use Rattle.ring_edits.specs.declared.fault.EditFault.{EditFault}
-use Rattle.ring_edits.specs.declared.fault.EditFault.TheVariants.{BadPath as NoPath, NotNeighbours as NoBorder, SharedTwice as TwoBorders, NoMemory as NoRoom}
+use Rattle.ring_edits.specs.declared.fault.EditFault.TheVariants.{BadPath as NoPath, NotNeighbours as NoBorder}
+use Rattle.ring_edits.specs.declared.fault.EditFault.TheVariants.{SharedTwice as TwoBorders, NoMemory as NoRoom}
 use Rattle.fabric_core.specs.declared.refusal.Refusal.{Refusal}
-use Rattle.fabric_core.specs.declared.refusal.Refusal.TheVariants.{Unknown, Retired, BadPath, NotNeighbours, SharedTwice, NoSuchEdge, NotOnEdge, Ring, NoMemory}
+use Rattle.fabric_core.specs.declared.refusal.Refusal.TheVariants.{Unknown, Retired, BadPath, NotNeighbours}
+use Rattle.fabric_core.specs.declared.refusal.Refusal.TheVariants.{SharedTwice, NoSuchEdge, NotOnEdge, Ring, NoMemory}
 use Rattle.fabric_core.specs.Rows.{numbers}
 use Rattle.ring_edits.specs.declared.edit.Edit.{Edit}
 use Rattle.ring_edits.specs.declared.edit.Edit.TheVariants.{Split, Move}
 use Rattle.fabric_core.specs.EditResults.{IsChange}
 use Rattle.fabric_core.specs.Journal.{State, JournalEntry, after_entry}
-use Rattle.fabric_core.specs.Refusals.{AreParcels, IsFirstAbsent, IsFirstBadRing, IsOwnRefusal, IsChangeRefusal, Retires, named_ids, HaveBorderFault, HasNoEdge, IsBadMovePath}
+use Rattle.fabric_core.specs.Refusals.{AreParcels, IsFirstAbsent, IsFirstBadRing, IsOwnRefusal, IsChangeRefusal}
+use Rattle.fabric_core.specs.Refusals.{Retires, named_ids, HaveBorderFault, HasNoEdge, IsBadMovePath}
 use Rattle.fabric_core.specs.own.Kept.{Kept, gone_by}
 
 -- the state of what is kept
@@ -42,12 +45,14 @@ IsStopped kept ids own refusal = (refusal ≡ NoMemory) ⊎ IsFirstTold kept ids
 -- the refusal for two parcels that have no border
 abbrev pub IsBorderRefusal : State → ℕ → ℕ → Refusal → Type 0
 IsBorderRefusal state a b refusal =
-    ((refusal ≡ NotNeighbours) × HaveBorderFault state a b NoBorder) ⊎ ((refusal ≡ SharedTwice) × HaveBorderFault state a b TwoBorders)
+    ((refusal ≡ NotNeighbours) × HaveBorderFault state a b NoBorder)
+    ⊎ ((refusal ≡ SharedTwice) × HaveBorderFault state a b TwoBorders)
 
 -- or whose border the path does not replace
 abbrev pub IsMoveRefusal : State → ℕ → ℕ → List Corner → Refusal → Type 0
 IsMoveRefusal state a b path refusal =
-    ((refusal ≡ NotNeighbours) × HaveBorderFault state a b NoBorder) ⊎ ((refusal ≡ SharedTwice) × HaveBorderFault state a b TwoBorders)
+    ((refusal ≡ NotNeighbours) × HaveBorderFault state a b NoBorder)
+    ⊎ ((refusal ≡ SharedTwice) × HaveBorderFault state a b TwoBorders)
     ⊎ ((refusal ≡ BadPath) × IsBadMovePath state a b path)
 
 -- the refusal for a corner that is put into no edge
@@ -82,7 +87,8 @@ abbrev pub IsDraftRefusal : {A : Type 0} → Kept → Edit A → Refusal → Typ
 IsDraftRefusal kept edit refusal =
     IsFirstTold kept (named_ids edit) refusal
     ⊎ (AreParcels kept.rows (named_ids edit) × (IsOwnRefusal (state_of kept) edit refusal
-    ⊎ ((out : List ℕ) × (rows : List NumberedRing) × IsChange (state_of kept) edit out rows × IsChangeRefusal (state_of kept) out rows refusal)))
+    ⊎ ((out : List ℕ) × (rows : List NumberedRing) × IsChange (state_of kept) edit out rows
+    × IsChangeRefusal (state_of kept) out rows refusal)))
 
 -- the edit cuts this parcel
 pub record IsSplitEdit {A : Type 0} (edit : Edit A) (id : ℕ) : Type 0 where
@@ -98,4 +104,5 @@ pub record IsMoveEdit {A : Type 0} (edit : Edit A) (a b : ℕ) : Type 0 where
 pub record IsMade {A : Type 0} (old new : Kept) (entry : JournalEntry A) : Type 0 where
   pub state : state_of new ≡ after_entry (state_of old) entry
   pub city : new.city ≡ old.city
-  pub gone : (id by : ℕ) → (gone_by new id ≡ Some by) ↔ ((gone_by old id ≡ Some by) ⊎ (Retires entry id × (entry.number ≡ by)))
+  pub gone : (id by : ℕ) → (gone_by new id ≡ Some by)
+      ↔ ((gone_by old id ≡ Some by) ⊎ (Retires entry id × (entry.number ≡ by)))

@@ -33,7 +33,8 @@ abbrev pub AreToldRings : List NumberedRing → List (ℕ × RingFault) → Type
 AreToldRings [] told = told ≡ []
 AreToldRings (row ∷ rows) told =
     (IsSimpleRing row.corners × AreToldRings rows told)
-    ⊎ ((fault : RingFault) × (rest : List (ℕ × RingFault)) × IsRingFault row.corners fault × AreToldRings rows rest × (told ≡ (row.number, fault) ∷ rest))
+    ⊎ ((fault : RingFault) × (rest : List (ℕ × RingFault)) × IsRingFault row.corners fault × AreToldRings rows rest
+    × (told ≡ (row.number, fault) ∷ rest))
 
 -- these are the faults of all rings, or all gaps, and there are some
 abbrev pub AreRingsFaults : {A : Type 0} → List NumberedRing → AllFaults A → Type 0
@@ -64,7 +65,8 @@ pub record IsLeastGap (rings : List (List Corner)) (refined : List Corner) (a b 
   pub in_order : IsTrue (is_before a b)
   pub is_net : net_difference rings (refined ∷ []) a b ≡ net
   pub is_unbalanced : net ≢ pos 0
-  pub is_least : (c d : Corner) → IsTrue (is_before c d) → net_difference rings (refined ∷ []) c d ≢ pos 0 → ¬ IsTrue (is_edge_before (c, d) (a, b))
+  pub is_least : (c d : Corner) → IsTrue (is_before c d) → net_difference rings (refined ∷ []) c d ≢ pos 0
+      → ¬ IsTrue (is_edge_before (c, d) (a, b))
 
 -- the fault is that of the least such edge
 abbrev pub IsNetsFault : List (List Corner) → List Corner → LoadFault → Type 0

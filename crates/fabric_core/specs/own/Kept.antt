@@ -1,5 +1,6 @@
 -- What the parcels that tile a city keep, with the index of their boxes. Public contracts do not speak of it.
-use Rattle.std.specs.Prelude.{◌≡◌, ℕ, ◌+◌, ◌^◌, ◌≤◌, nat_eq, if◌then◌else◌, List, ◌++◌, length, map, Option, Some, None, slice_index_or}
+use Rattle.std.specs.Prelude.{◌≡◌, ℕ, ◌+◌, ◌^◌, ◌≤◌, nat_eq, if◌then◌else◌, List, ◌++◌, length, map, Option}
+use Rattle.std.specs.Prelude.{Some, None, slice_index_or}
 use Rattle.std.specs.List.{All, AllByRecursion, list_any}
 use Rattle.std.specs.List.Sorted.{IsStrictlyIncreasing}
 use Rattle.geo_exact.specs.declared.corner.Corner.{Corner}
@@ -18,7 +19,8 @@ use Rattle.fabric_core.specs.Journal.{without_ids, next_after}
 use Rattle.fabric_core.specs.EditResults.{rows_with_edge}
 use Rattle.fabric_core.specs.own.Checks.{HaveEqualNets}
 
--- what they show: their rows by ascending id, the city's ring as it was read, that ring refined, the grid index, the next id, and for each id
+-- what they show: their rows by ascending id, the city's ring as it was read, that ring refined, the grid index, the
+-- next id, and for each id
 -- below it the number by which its parcel went, where one did
 pub record Kept : Type 0 where
   pub rows : List NumberedRing
@@ -58,7 +60,8 @@ pub record MayBeKept (rows : List NumberedRing) (refined : List Corner) : Type 0
   pub within : AreWithinLimits rows
   pub nets : HaveEqualNets (corner_lists rows) refined
 
--- what is so at each moment: the rows rise by id, are within the limits, and have the net edges of the refined city, which has the city's ground; the
+-- what is so at each moment: the rows rise by id, are within the limits, and have the net edges of the refined city,
+-- which has the city's ground; the
 -- city goes round no place twice; and the index is that of the parcels' boxes over the city's least box, in which all rows lie
 pub record IsKept {A : Type 0} (parcels : List (ℕ × Parcel A)) (city refined : List Corner) (index : Grid) : Type 0 where
   pub ids_rise : IsStrictlyIncreasing (numbers (rows_of_keyed parcels))

@@ -24,7 +24,8 @@ abbrev pub corners_of_rings : {A : Type 0} → List (Ring A) → List (List Corn
 corners_of_rings rings = map (λ ring. ring.corners) rings
 
 -- the rings are the records', noded for all corners of the layer and begun at their least corners, and their numbers stand beside them
-pub record AreNodedRings (records : List NumberedRing) (city : List Corner) (ids : List ℕ) (rings : List (List Corner)) (refined : List Corner) : Type 0 where
+pub record AreNodedRings (records : List NumberedRing) (city : List Corner) (ids : List ℕ)
+    (rings : List (List Corner)) (refined : List Corner) : Type 0 where
   pub noded : List (List Corner)
   pub are_numbers : ids ≡ numbers records
   pub are_noded : AllZip (λ record_ring out. IsNoded record_ring.corners (corners_of_layer records city) out) records noded

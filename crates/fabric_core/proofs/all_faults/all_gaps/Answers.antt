@@ -1,7 +1,7 @@
 use Rattle.std.proofs.Common.{rules, inl, sym, ◌∙◌, ◌≡◌, ◌≢◌, []}
 use Rattle.fabric_core.specs.own.Lists.{corners_of_rings}
-use Rattle.fabric_core.proofs.ToldRings.{nil_of_no_length}
-use Rattle.fabric_core.proofs.ToldGaps.{no_gaps, are_gaps}
+use Rattle.fabric_core.proofs.loads.ToldRings.{nil_of_no_length}
+use Rattle.fabric_core.proofs.loads.ToldGaps.{no_gaps, are_gaps}
 use Rattle.fabric_core.proofs.all_faults.all_gaps.Goals as goal
 
 pub returns-then-is_empty-clause-ok : goal.returns-then-is_empty-clause-ok

@@ -1,5 +1,5 @@
 use Rattle.std.proofs.Common.{rules, ◌≡◌, ◌+◌, refl, sym, ◌∙◌, arith}
-use Rattle.fabric_core.proofs.ToldRings.{none_looked_at, nil_of_no_length, one_kept, one_told, all_kept}
+use Rattle.fabric_core.proofs.loads.ToldRings.{none_looked_at, nil_of_no_length, one_kept, one_told, all_kept}
 use Rattle.fabric_core.proofs.all_faults.checked_or_all.Goals as goal
 
 pub loop-corners-init : goal.loop-corners-init
@@ -22,11 +22,18 @@ loop-corners-preserved g c =
     c.loop-corners.checked.items c.loop-corners.faults.items c.in-Some.corners c.in-Err.fault _
     (c.len-in-Err.result + c.len-in-Err-2.result)
     c.requires.numbered c.loop-corners.invariant c.in-Some.ensures.steps.0
-    (omega (arith, c.len-in-Err.ensures, c.len-in-Err-2.ensures, c.loop-corners.checked.ok.0, c.loop-corners.faults.ok.0)) refl c.in-Err.ensures.err)
+    (omega (
+      arith,
+      c.len-in-Err.ensures,
+      c.len-in-Err-2.ensures,
+      c.loop-corners.checked.ok.0,
+      c.loop-corners.faults.ok.0,
+    )) refl c.in-Err.ensures.err)
 
 pub returns-then-is_empty-clause-ok : goal.returns-then-is_empty-clause-ok
 returns-then-is_empty-clause-ok g c =
     let empty : c.loop-corners.faults.len ≡ 0 = search rules in
-    all_kept c.args.numbers.now c.args.rings.items c.loop-corners.corners-iterator.rest.items c.loop-corners.checked.items c.loop-corners.faults.items
+    all_kept c.args.numbers.now c.args.rings.items c.loop-corners.corners-iterator.rest.items
+    c.loop-corners.checked.items c.loop-corners.faults.items
     (nil_of_no_length _ (sym c.loop-corners.corners-iterator.rest.ok.0 ∙ c.in-None.ensures.steps.0)) c.loop-corners.invariant
     (nil_of_no_length _ (sym c.loop-corners.faults.ok.0 ∙ empty))

@@ -1,4 +1,4 @@
-use Rattle.fabric_core.proofs.ToldRings.{AreLookedAt}
+use Rattle.fabric_core.proofs.loads.ToldRings.{AreLookedAt}
 use Rattle.fabric_core.proofs.all_faults.checked_or_all.Given as goal
 
 abbrev pub invariant-loop-corners : goal.invariant-loop-corners

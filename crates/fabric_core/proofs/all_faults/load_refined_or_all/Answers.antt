@@ -8,12 +8,12 @@ use Rattle.fabric_core.specs.Limits.{AreWithinLimits}
 use Rattle.fabric_core.specs.Faults.{AreSimple}
 use Rattle.fabric_core.specs.own.Checks.{AreRingsFaults, AreNetsFaults, AreTold}
 use Rattle.fabric_core.specs.own.Lists.{numbered_rows, corners_of_rings, most_refined}
-use Rattle.fabric_core.proofs.Lists.{numbers_of_rows, lists_of_rows}
-use Rattle.fabric_core.proofs.RowGaps.{short_rings, few_corners}
-use Rattle.fabric_core.proofs.RingChecks.{simple_rows}
-use Rattle.fabric_core.proofs.Refusals.{IfErr-passed_on}
-use Rattle.fabric_core.proofs.Loaded.{checked_from}
-use Rattle.fabric_core.proofs.ToldGaps.{tells_rings, tells_gaps}
+use Rattle.fabric_core.proofs.rows.Lists.{numbers_of_rows, lists_of_rows}
+use Rattle.fabric_core.proofs.rows.RowGaps.{short_rings, few_corners}
+use Rattle.fabric_core.proofs.loads.RingChecks.{simple_rows}
+use Rattle.fabric_core.proofs.edits.Refusals.{IfErr-passed_on}
+use Rattle.fabric_core.proofs.loads.Loaded.{checked_from}
+use Rattle.fabric_core.proofs.loads.ToldGaps.{tells_rings, tells_gaps}
 use Rattle.fabric_core.proofs.all_faults.load_refined_or_all.Goals as goal
 
 pub checked_or_all-requires-clause-short : goal.checked_or_all-requires-clause-short
@@ -30,7 +30,8 @@ all_gaps-requires g c =
     let rings = c.args.refined.rings.items in
     let within : AreWithinLimits (numbered_rows ids rings) = subst (λ xs. AreWithinLimits (numbered_rows xs rings)) c.deref.ensures.value
     (subst (λ xs. AreWithinLimits (numbered_rows c.deref.result.now xs)) c.deref-2.ensures.value c.in_default.ensures) in
-    let lists : corners_of_rings c.deref-4.result.now ≡ rings = ap corners_of_rings c.deref-4.ensures.value ∙ c.in_ok-rings.ensures.ok in
+    let lists : corners_of_rings c.deref-4.result.now ≡ rings = ap corners_of_rings c.deref-4.ensures.value
+    ∙ c.in_ok-rings.ensures.ok in
     record {
       together = subst (λ xs. length (all_corners xs) ≤ LAYER_CORNERS) (sym lists) (few_corners ids rings c.requires.numbered within);
       in_city = subst (λ xs. length xs ≤ most_refined) (sym c.as_slice.ensures) c.requires.city.is_short;
@@ -60,7 +61,8 @@ returns-in_err-all_gaps-clause-faults g c =
     let refined = c.args.refined.refined in
     let within : AreWithinLimits (numbered_rows ids rings) = subst (λ xs. AreWithinLimits (numbered_rows xs rings)) c.deref.ensures.value
     (subst (λ xs. AreWithinLimits (numbered_rows c.deref.result.now xs)) c.deref-2.ensures.value c.in_default.ensures) in
-    let lists : corners_of_rings c.deref-4.result.now ≡ rings = ap corners_of_rings c.deref-4.ensures.value ∙ c.in_ok-rings.ensures.ok in
+    let lists : corners_of_rings c.deref-4.result.now ≡ rings = ap corners_of_rings c.deref-4.ensures.value
+    ∙ c.in_ok-rings.ensures.ok in
     let simple : AreSimple (numbered_rows ids rings) = subst (λ xs. AreSimple (numbered_rows ids xs)) c.in_ok-rings.ensures.ok
     (simple_rows ids c.in_ok-rings.rings.items) in
     IfErr-passed_on c.from_residual-in_err-all_gaps.result c.in_err-all_gaps.field-0.0

@@ -1,6 +1,7 @@
-use Rattle.fabric_core.proofs.InTheCity.{rows_in_box}
-use Rattle.fabric_core.proofs.Tilings.{noded_ground}
+use Rattle.fabric_core.proofs.tilings.InTheCity.{rows_in_box}
+use Rattle.fabric_core.proofs.tilings.Tilings.{noded_ground}
 use Rattle.fabric_core.proofs.box_laws.rows_lie_in_the_box_of_their_city.Goals as goal
 
 pub returns : goal.returns
-returns c = λ rows city corners refined bounds simple noded. rows_in_box rows city refined bounds simple (noded_ground city corners refined noded)
+returns c = λ rows city corners refined bounds simple noded. rows_in_box rows city refined bounds simple
+    (noded_ground city corners refined noded)

@@ -1,6 +1,6 @@
 use Rattle.std.proofs.Common.{sym, ap, get_or}
 use Rattle.std.proofs.lemmas.List.{get_or_default}
-use Rattle.edge_chains.proofs.NodedEdges.{AllZip-more}
+use Rattle.edge_chains.proofs.nodings.NodedEdges.{AllZip-more}
 use Rattle.fabric_core.specs.own.Lists.{IsIdOf}
 use Rattle.fabric_core.proofs.candidates.ids_under.Goals as goal
 

@@ -7,20 +7,24 @@ use Rattle.fabric_core.proofs.change.change_of.Goals as goal
 pub returns-in-Merge-clause-err : goal.returns-in-Merge-clause-err
 returns-in-Merge-clause-err g c =
     let kept = c.args.tiled.now in
-    subst (λ edit. IfErr c.merge_change.result (λ refusal. IsStopped kept (named_ids edit) (IsOwnRefusal (state_of kept) edit refusal) refusal))
+    subst (λ edit. IfErr c.merge_change.result (λ refusal. IsStopped kept (named_ids edit)
+    (IsOwnRefusal (state_of kept) edit refusal) refusal))
     (sym c.in-Merge.is) c.merge_change.ensures.err
 
 pub returns-in-Move-clause-err : goal.returns-in-Move-clause-err
 returns-in-Move-clause-err g c =
     let kept = c.args.tiled.now in
-    subst (λ edit. IfErr c.move_change.result (λ refusal. IsStopped kept (named_ids edit) (IsOwnRefusal (state_of kept) edit refusal) refusal))
+    subst (λ edit. IfErr c.move_change.result (λ refusal. IsStopped kept (named_ids edit)
+    (IsOwnRefusal (state_of kept) edit refusal) refusal))
     (sym c.in-Move.is)
     (subst (λ path. IfErr c.move_change.result
-    (λ refusal. IsStopped kept (c.in-Move.a ∷ c.in-Move.b ∷ []) (IsMoveRefusal (state_of kept) c.in-Move.a c.in-Move.b path refusal) refusal))
+    (λ refusal. IsStopped kept (c.in-Move.a ∷ c.in-Move.b ∷ [])
+    (IsMoveRefusal (state_of kept) c.in-Move.a c.in-Move.b path refusal) refusal))
     c.as_slice-in-Move.ensures c.move_change.ensures.err)
 
 pub returns-in-Insert-clause-err : goal.returns-in-Insert-clause-err
 returns-in-Insert-clause-err g c =
     let kept = c.args.tiled.now in
-    subst (λ edit. IfErr c.insert_change.result (λ refusal. IsStopped kept (named_ids edit) (IsOwnRefusal (state_of kept) edit refusal) refusal))
+    subst (λ edit. IfErr c.insert_change.result (λ refusal. IsStopped kept (named_ids edit)
+    (IsOwnRefusal (state_of kept) edit refusal) refusal))
     (sym c.in-Insert.is) c.insert_change.ensures.err

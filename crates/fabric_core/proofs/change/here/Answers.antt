@@ -1,4 +1,4 @@
-use Rattle.fabric_core.proofs.Stops.{id_gone}
+use Rattle.fabric_core.proofs.edits.Stops.{id_gone}
 use Rattle.fabric_core.proofs.change.here.Goals as goal
 
 pub returns-in-None-clause-err : goal.returns-in-None-clause-err

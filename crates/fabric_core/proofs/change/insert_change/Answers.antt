@@ -2,10 +2,10 @@ use Rattle.std.proofs.Common.{◌≡◌, ◌≢◌, inl, inr, ⊎_elim, refl, sy
 use Rattle.std.specs.Vec.{vec_len}
 use Rattle.std.proofs.lemmas.Bool.{false≢true}
 use Rattle.geo_exact.specs.Order.{is_same}
-use Rattle.geo_exact.proofs.CornerOrder.{same_from_test, is_same_itself}
+use Rattle.geo_exact.proofs.corners_and_turns.CornerOrder.{same_from_test, is_same_itself}
 use Rattle.fabric_core.specs.EditResults.{rows_with_edge}
-use Rattle.fabric_core.proofs.Stops.{none_made, some_made, ids_of_entry}
-use Rattle.fabric_core.proofs.WithEdge.{put_row}
+use Rattle.fabric_core.proofs.edits.Stops.{none_made, some_made, ids_of_entry}
+use Rattle.fabric_core.proofs.edits.WithEdge.{put_row}
 use Rattle.fabric_core.proofs.change.insert_change.Goals as goal
 
 pub returns-then-eq-clause-err : goal.returns-then-eq-clause-err

@@ -12,8 +12,8 @@ use Rattle.fabric_core.specs.Journal.{with_rows, without_ids}
 use Rattle.fabric_core.specs.JournalRows.{row_of, rows_of_entry}
 use Rattle.fabric_core.specs.Refusals.{IsChangeRefusal}
 use Rattle.fabric_core.specs.own.Changes.{IsDraftRefusal, IsRingRefusal, state_of}
-use Rattle.fabric_core.proofs.Drafts.{out_here, out_apart, all_here, news_short, news_few, simple_news}
-use Rattle.fabric_core.proofs.Refusals.{IfErr-passed_on}
+use Rattle.fabric_core.proofs.edits.Drafts.{out_here, out_apart, all_here, news_short, news_few, simple_news}
+use Rattle.fabric_core.proofs.edits.Refusals.{IfErr-passed_on}
 use Rattle.fabric_core.proofs.draft.draft_of.Goals as goal
 
 pub is_within-requires-clause-here : goal.is_within-requires-clause-here
@@ -31,7 +31,13 @@ returns-then-not-is_within-clause-err g c =
     let out = c.in_ok-change.change.out.items in let rows = rows_of_entry c.in_ok-change.change.rows.items in
     inl (inr (
       all_here (state_of c.args.tiled.now) c.tiles.ensures.balanced c.args.edit.now out rows c.in_ok-change.ensures.change,
-      inr (out, rows, c.in_ok-change.ensures.change, λ within. false≢true (sym c.if-not-is_within.true ∙ c.is_within.ensures.1 within)),
+      inr (
+        out,
+        rows,
+        c.in_ok-change.ensures.change,
+        λ within. false≢true (sym c.if-not-is_within.true
+            ∙ c.is_within.ensures.1 within),
+      ),
     ))
 
 pub corners_after-corners-requires-clause-here : goal.corners_after-corners-requires-clause-here
@@ -66,7 +72,8 @@ returns-in_err-shapes-clause-err g c =
     let r = c.in_err-shapes.field-0.0 in let state = state_of c.args.tiled.now in
     let why : IsRingRefusal rows r ⊎ (r ≡ NoMemory) =
     subst (λ entries. IsRingRefusal (rows_of_entry entries) r ⊎ (r ≡ NoMemory)) c.deref.ensures.value c.in_err-shapes.ensures.err in
-    IfErr-passed_on c.from_residual-in_err-shapes.result r (λ refusal. IsDraftRefusal c.args.tiled.now c.args.edit.now refusal ⊎ (refusal ≡ NoMemory))
+    IfErr-passed_on c.from_residual-in_err-shapes.result r (λ refusal.
+    IsDraftRefusal c.args.tiled.now c.args.edit.now refusal ⊎ (refusal ≡ NoMemory))
     c.from_residual-in_err-shapes.ensures.1
     (⊎_elim
     (λ ring. inl (inr (
@@ -93,7 +100,8 @@ returns-clause-is_entry g c =
       is_change = subst (λ e. IsChange state e c.of.result.out c.of.result.rows) (sym edit) change;
       are_simple = subst AreSimple (sym c.of.ensures.rows) (simple_news c.in_ok-shapes.shapes.items rows
           (c.in_ok-shapes.ensures.ok ∙ ap (λ entries. corner_lists (rows_of_entry entries)) c.deref.ensures.value));
-      within = subst (λ xs. AreWithinLayerLimits (with_rows c.of.result.rows (without_ids xs c.args.tiled.now.rows))) (sym c.of.ensures.out)
+      within = subst (λ xs. AreWithinLayerLimits (with_rows c.of.result.rows (without_ids xs c.args.tiled.now.rows)))
+          (sym c.of.ensures.out)
           (subst (λ xs. AreWithinLayerLimits (with_rows xs (without_ids out c.args.tiled.now.rows))) (sym c.of.ensures.rows)
           (c.is_within.ensures.0 c.if-not-is_within.false));
     }

@@ -6,11 +6,12 @@ use Rattle.std.proofs.lemmas.Bool.{false≢true}
 use Rattle.std.proofs.lemmas.List.{take_more, take_all, map-append}
 use Rattle.std.proofs.lemmas.List.Elements.{Contains-get_or}
 use Rattle.geo_exact.specs.Layers.{numbered}
-use Rattle.geo_exact.proofs.InBoxes.{Decides-holds_corner}
+use Rattle.geo_exact.proofs.boxes.InBoxes.{Decides-holds_corner}
 use Rattle.ring_edits.specs.Edits.{has_edge_between, with_corner}
 use Rattle.fabric_core.specs.JournalRows.{row_of, rows_of_entry}
-use Rattle.fabric_core.proofs.RowLists.{ascending}
-use Rattle.fabric_core.proofs.WithEdge.{ArePut, none_put, put_one, put_none, all_put, above_before, edge_is_candidate, edge_off, edge_on, off_the_box}
+use Rattle.fabric_core.proofs.rows.RowLists.{ascending}
+use Rattle.fabric_core.proofs.edits.WithEdge.{ArePut, none_put, put_one, put_none, all_put, above_before}
+use Rattle.fabric_core.proofs.edits.WithEdge.{edge_is_candidate, edge_off, edge_on, off_the_box}
 use Rattle.fabric_core.proofs.edges.rows_with_corner.Goals.{in-Some-2+in_ok-push, in_default-2}
 use Rattle.fabric_core.proofs.edges.rows_with_corner.Goals as goal
 
@@ -34,7 +35,8 @@ loop-id-preserved-then-not-holds g c =
     let off = off_the_box shape.bounds from to shape.ring.corners shape.least_box
     (λ h. false≢true (c.if-not-holds.ensures ∙ (Decides-holds_corner shape.bounds from).1 h)) in
     rw (take_more items k 0 c.loop-id-test.true)
-    (put_none rows from to at (take k items) (rows_of_entry c.loop-id.rows.items) id shape.ring.corners up c.in-Some.ensures c.loop-id.invariant off)
+    (put_none rows from to at (take k items) (rows_of_entry c.loop-id.rows.items) id shape.ring.corners up
+    c.in-Some.ensures c.loop-id.invariant off)
 
 pub loop-id-preserved : goal.loop-id-preserved
 loop-id-preserved g c =
@@ -48,7 +50,8 @@ loop-id-preserved g c =
       | in-Some-2+in_ok-push w ↦
           let corners = w.in-Some-2.corners in
           let put = subst (λ o. IfSome o (λ out. out ≡ with_corner from to at ring)) w.in-Some-2.is c.in_ok-corners.ensures.some in
-          let none = subst (λ o. IsNone o ↔ ((from ≡ to) ⊎ (¬ IsTrue (has_edge_between from to ring)))) w.in-Some-2.is c.in_ok-corners.ensures.none in
+          let none = subst (λ o. IsNone o ↔ ((from ≡ to) ⊎ (¬ IsTrue (has_edge_between from to ring)))) w.in-Some-2.is
+          c.in_ok-corners.ensures.none in
           let on = edge_on from to (has_edge_between from to ring) (λ off. false≢true (sym (none.1 off))) in
           let rise = subst IsStrictlyIncreasing (sym c.deref-id-items.ensures.value) c.in_ok-ids.ensures.ascend in
           subst (λ news. ArePut rows from to at (take k items ++ id ∷ []) news)
@@ -58,7 +61,8 @@ loop-id-preserved g c =
           (put_one rows from to at (take k items) (rows_of_entry entries) id ring up is_row c.loop-id.invariant
           (λ m named. above_before items k id m rise c.loop-id-test.true refl named) on)
       | in_default-2 w ↦
-          let none = subst (λ o. IsNone o ↔ ((from ≡ to) ⊎ (¬ IsTrue (has_edge_between from to ring)))) w.in_default-2.is c.in_ok-corners.ensures.none in
+          let none = subst (λ o. IsNone o ↔ ((from ≡ to) ⊎ (¬ IsTrue (has_edge_between from to ring))))
+          w.in_default-2.is c.in_ok-corners.ensures.none in
           let off = edge_off from to (has_edge_between from to ring) c.requires.apart (none.0 refl) in
           subst (λ news. ArePut rows from to at (take k items ++ id ∷ []) news) (ap (λ v. rows_of_entry v.items) (sym w.rows-is))
           (put_none rows from to at (take k items) (rows_of_entry entries) id ring up is_row c.loop-id.invariant off)
@@ -70,7 +74,8 @@ returns g c =
     let items = c.deref-id-items.result.now in
     let up = ascending rows (subst IsStrictlyIncreasing c.ids-ids.ensures.ids c.ids-ids.ensures.ascending) in
     all_put rows from to at (take c.loop-id.id-index items) (rows_of_entry c.loop-id.rows.items) up
-    (λ row is has. subst (λ ids. Contains ids row.number) (sym c.deref-id-items.ensures.value ∙ sym (take_all c.loop-id.id-index items c.loop-id-test.false))
+    (λ row is has. subst (λ ids. Contains ids row.number) (sym c.deref-id-items.ensures.value
+    ∙ sym (take_all c.loop-id.id-index items c.loop-id-test.false))
     ((c.in_ok-ids.ensures.exactly row.number).1
     (edge_is_candidate rows c.args.tiled.now.city c.args.tiled.now.index from to row c.tiles.ensures.indexed c.requires.in_area is has)))
     c.loop-id.invariant

@@ -1,6 +1,6 @@
 use Rattle.std.proofs.Common.{take}
 use Rattle.fabric_core.specs.JournalRows.{rows_of_entry}
-use Rattle.fabric_core.proofs.WithEdge.{ArePut}
+use Rattle.fabric_core.proofs.edits.WithEdge.{ArePut}
 use Rattle.fabric_core.proofs.edges.rows_with_corner.Given as goal
 
 abbrev pub invariant-loop-id : goal.invariant-loop-id

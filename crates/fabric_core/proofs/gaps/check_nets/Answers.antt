@@ -2,11 +2,12 @@ use Rattle.std.proofs.Common.{inl, rules, w64}
 use Rattle.std.proofs.lemmas.Int.{to_z-of_z}
 use mir.Val.{SFits}
 use Rattle.fabric_core.specs.own.Lists.{corners_of_rings}
-use Rattle.fabric_core.proofs.RowGaps.{equal_nets, least_gap}
+use Rattle.fabric_core.proofs.rows.RowGaps.{equal_nets, least_gap}
 use Rattle.fabric_core.proofs.gaps.check_nets.Goals as goal
 
 pub returns-in-None-clause-ok : goal.returns-in-None-clause-ok
-returns-in-None-clause-ok g c = equal_nets c.in_ok-sum.sum (corners_of_rings c.args.rings.now) c.args.refined.now c.in_ok-sum.ensures c.in-None.ensures.none
+returns-in-None-clause-ok g c = equal_nets c.in_ok-sum.sum (corners_of_rings c.args.rings.now) c.args.refined.now
+    c.in_ok-sum.ensures c.in-None.ensures.none
 
 pub returns-clause-err : goal.returns-clause-err
 returns-clause-err g c =

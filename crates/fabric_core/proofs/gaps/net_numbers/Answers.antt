@@ -1,7 +1,7 @@
 use Rattle.std.proofs.Common.{sym, ap, subst, arith, suc, [], ◌∷◌, ◌++◌, length, take, add-one}
 use Rattle.edge_chains.specs.Counts.{AreNetOf}
 use Rattle.fabric_core.specs.own.Lists.{corners_of_rings}
-use Rattle.fabric_core.proofs.NetSums.{rings_more, count_more, count_so_far, take_all_rings}
+use Rattle.fabric_core.proofs.rows.NetSums.{rings_more, count_more, count_so_far, take_all_rings}
 use Rattle.fabric_core.proofs.gaps.net_numbers.Goals as goal
 
 pub add-requires : goal.add-requires
@@ -25,7 +25,13 @@ loop-ring-preserved g c =
 
 pub take-requires : goal.take-requires
 take-requires g c =
-    omega (arith, count_so_far c.args.rings.now c.loop-ring.ring-index, c.loop-ring.invariant.edges, c.requires.together, c.requires.in_city)
+    omega (
+      arith,
+      count_so_far c.args.rings.now c.loop-ring.ring-index,
+      c.loop-ring.invariant.edges,
+      c.requires.together,
+      c.requires.in_city,
+    )
 
 pub returns : goal.returns
 returns g c =

@@ -1,11 +1,12 @@
-use Rattle.std.proofs.Common.{rules, arith, refl, ℕ, zero, suc, Option, None, List, slice_index_or, ◌≡◌, ◌∙◌, ap, subst, sym, [], ◌∷◌, ◌++◌, length, get_or}
+use Rattle.std.proofs.Common.{rules, arith, refl, ℕ, zero, suc, Option, None, List, slice_index_or, ◌≡◌, ◌∙◌, ap}
+use Rattle.std.proofs.Common.{subst, sym, [], ◌∷◌, ◌++◌, length, get_or}
 use Rattle.std.proofs.lemmas.List.{length-append, length-map}
 use Rattle.geo_exact.specs.Layers.{numbered}
 use Rattle.fabric_core.specs.own.Lists.{corners_of_rings}
 use Rattle.cell_index.specs.Cells.{Indexes}
 use Rattle.parcel_table.specs.Table.{rows_of_keyed, entries_of}
-use Rattle.fabric_core.proofs.Clipped.{none_clipped, one_clipped, all_clipped}
-use Rattle.fabric_core.proofs.ToldRings.{nil_of_no_length}
+use Rattle.fabric_core.proofs.loads.Clipped.{none_clipped, one_clipped, all_clipped}
+use Rattle.fabric_core.proofs.loads.ToldRings.{nil_of_no_length}
 use Rattle.parcel_table.proofs.Tables.{rows_of_keyed-push, entries_of-push}
 use Rattle.fabric_core.proofs.grid_index.clip_all.Goals as goal
 
@@ -21,13 +22,15 @@ pub loop-ring-init : goal.loop-ring-init
 loop-ring-init g c =
     let all : c.into_iter-ring-iterator.result.rest.items ≡ c.args.rings.items = search rules in record {
       clipped =
-          none_clipped c.args.numbers.now (corners_of_rings c.args.rings.items) (corners_of_rings c.into_iter-ring-iterator.result.rest.items)
+          none_clipped c.args.numbers.now (corners_of_rings c.args.rings.items)
+          (corners_of_rings c.into_iter-ring-iterator.result.rest.items)
           (rows_of_keyed c.in_ok-parcels.parcels.parcels) c.in_ok-parcels.parcels.next (length c.in_ok-parcels.parcels.parcels)
           (c.requires.numbered ∙ sym (length-map c.args.rings.items (λ ring. ring.corners)))
           (ap corners_of_rings all) (ap rows_of_keyed c.in_ok-parcels.ensures.empty) c.in_ok-parcels.ensures.next
           (ap length c.in_ok-parcels.ensures.empty);
       area = c.in_ok-index.ensures.area;
-      indexed = subst (λ parcels. Indexes c.in_ok-index.index (entries_of parcels)) (sym c.in_ok-parcels.ensures.empty) c.in_ok-index.ensures.empty;
+      indexed = subst (λ parcels. Indexes c.in_ok-index.index (entries_of parcels))
+          (sym c.in_ok-parcels.ensures.empty) c.in_ok-index.ensures.empty;
       small = omega (arith, c.in_ok-parcels.ensures.next);
       none_gone = λ id. ap (λ fates. slice_index_or fates id None) c.in_ok-parcels.ensures.fates ∙ nothing_there id;
     }
@@ -52,7 +55,13 @@ loop-ring-preserved g c =
       indexed = subst (Indexes c.add.new.self)
           (sym (ap entries_of c.in_ok-key.ensures.parcels ∙ entries_of-push old key (record { id = c.from.result; shape = shape })))
           (c.in_ok-add.ensures.ok (entries_of old) c.loop-ring.invariant.indexed);
-      small = omega (arith, c.in_ok-key.ensures.next, c.from.ensures, c.type_inv.numbers (length old), ap (λ k. get_or numbers k 0) c.len-in-loop-ring.ensures);
+      small = omega (
+        arith,
+        c.in_ok-key.ensures.next,
+        c.from.ensures,
+        c.type_inv.numbers (length old),
+        ap (λ k. get_or numbers k 0) c.len-in-loop-ring.ensures,
+      );
       none_gone = λ id. c.push.ensures.fates id ∙ c.loop-ring.invariant.none_gone id;
     }
 
@@ -60,7 +69,8 @@ pub returns-clause-rows : goal.returns-clause-rows
 returns-clause-rows g c =
     all_clipped c.args.numbers.now (corners_of_rings c.args.rings.items) (corners_of_rings c.loop-ring.ring-iterator.rest.items)
     (rows_of_keyed c.loop-ring.parcels.parcels) c.loop-ring.parcels.next (length c.loop-ring.parcels.parcels)
-    (ap corners_of_rings (nil_of_no_length _ (sym c.loop-ring.ring-iterator.rest.ok.0 ∙ c.in-None.ensures.steps.0))) c.loop-ring.invariant.clipped
+    (ap corners_of_rings (nil_of_no_length _ (sym c.loop-ring.ring-iterator.rest.ok.0 ∙ c.in-None.ensures.steps.0)))
+    c.loop-ring.invariant.clipped
 
 pub returns-clause-next : goal.returns-clause-next
 returns-clause-next g c = c.loop-ring.invariant.clipped.next_is

@@ -2,7 +2,7 @@ use Rattle.std.proofs.Common.{◌≡◌, ◌≤◌, ◌^◌, ℕ, None, length}
 use Rattle.cell_index.specs.Cells.{Indexes}
 use Rattle.fabric_core.specs.own.Lists.{corners_of_rings}
 use Rattle.parcel_table.specs.Table.{rows_of_keyed, entries_of, retired_by}
-use Rattle.fabric_core.proofs.Clipped.{AreClipped}
+use Rattle.fabric_core.proofs.loads.Clipped.{AreClipped}
 use Rattle.fabric_core.proofs.grid_index.clip_all.Given as goal
 
 abbrev pub invariant-loop-ring : goal.invariant-loop-ring

@@ -1,4 +1,4 @@
-use Rattle.edge_chains.proofs.NodedRings.{winding_noded, boundary_noded, area2_noded}
+use Rattle.edge_chains.proofs.nodings.NodedRings.{winding_noded, boundary_noded, area2_noded}
 use Rattle.fabric_core.specs.Rows.{corners_of_layer}
 use Rattle.fabric_core.proofs.laws.a_refined_city_keeps_its_ground.Goals as goal
 

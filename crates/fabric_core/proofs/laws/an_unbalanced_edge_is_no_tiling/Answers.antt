@@ -1,4 +1,4 @@
-use Rattle.fabric_core.proofs.Tilings.{untiled_beside, no_tiling_beside}
+use Rattle.fabric_core.proofs.tilings.Tilings.{untiled_beside, no_tiling_beside}
 use Rattle.fabric_core.proofs.laws.an_unbalanced_edge_is_no_tiling.Goals as goal
 
 pub returns-clause-beside : goal.returns-clause-beside

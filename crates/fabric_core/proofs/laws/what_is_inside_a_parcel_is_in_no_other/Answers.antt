@@ -1,4 +1,4 @@
-use Rattle.fabric_core.proofs.OnOneOnly.{in_no_other, in_the_city, on_no_edge}
+use Rattle.fabric_core.proofs.tilings.OnOneOnly.{in_no_other, in_the_city, on_no_edge}
 use Rattle.fabric_core.proofs.laws.what_is_inside_a_parcel_is_in_no_other.Goals as goal
 
 pub returns-clause-edges : goal.returns-clause-edges

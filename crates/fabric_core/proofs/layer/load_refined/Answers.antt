@@ -5,10 +5,10 @@ use Rattle.fabric_core.specs.Limits.{AreWithinLimits}
 use Rattle.fabric_core.specs.Faults.{AreSimple, IsFirstFault}
 use Rattle.fabric_core.specs.own.Checks.{IsNetsFault}
 use Rattle.fabric_core.specs.own.Lists.{numbered_rows, corners_of_rings, most_refined}
-use Rattle.fabric_core.proofs.RowGaps.{short_rings, few_corners, fault_of_nets}
-use Rattle.fabric_core.proofs.RingChecks.{simple_rows}
-use Rattle.fabric_core.proofs.Refusals.{IfErr-passed_on}
-use Rattle.fabric_core.proofs.Loaded.{checked_from}
+use Rattle.fabric_core.proofs.rows.RowGaps.{short_rings, few_corners, fault_of_nets}
+use Rattle.fabric_core.proofs.loads.RingChecks.{simple_rows}
+use Rattle.fabric_core.proofs.edits.Refusals.{IfErr-passed_on}
+use Rattle.fabric_core.proofs.loads.Loaded.{checked_from}
 use Rattle.fabric_core.proofs.layer.load_refined.Goals as goal
 use Rattle.geo_exact.specs.declared.limits.TheConstants.{LAYER_CORNERS}
 
@@ -26,7 +26,8 @@ check_nets-requires g c =
     let rings = c.args.refined.rings.items in
     let within : AreWithinLimits (numbered_rows ids rings) = subst (λ xs. AreWithinLimits (numbered_rows xs rings)) c.deref.ensures.value
     (subst (λ xs. AreWithinLimits (numbered_rows c.deref.result.now xs)) c.deref-2.ensures.value c.in_default.ensures) in
-    let lists : corners_of_rings c.deref-4.result.now ≡ rings = ap corners_of_rings c.deref-4.ensures.value ∙ c.in_ok-rings.ensures.ok in
+    let lists : corners_of_rings c.deref-4.result.now ≡ rings = ap corners_of_rings c.deref-4.ensures.value
+    ∙ c.in_ok-rings.ensures.ok in
     record {
       together = subst (λ xs. length (all_corners xs) ≤ LAYER_CORNERS) (sym lists) (few_corners ids rings c.requires.numbered within);
       in_city = subst (λ xs. length xs ≤ most_refined) (sym c.as_slice.ensures) c.requires.city.is_short;
@@ -39,12 +40,14 @@ returns-in_err-check_nets-clause-fault g c =
     let refined = c.args.refined.refined in
     let within : AreWithinLimits (numbered_rows ids rings) = subst (λ xs. AreWithinLimits (numbered_rows xs rings)) c.deref.ensures.value
     (subst (λ xs. AreWithinLimits (numbered_rows c.deref.result.now xs)) c.deref-2.ensures.value c.in_default.ensures) in
-    let lists : corners_of_rings c.deref-4.result.now ≡ rings = ap corners_of_rings c.deref-4.ensures.value ∙ c.in_ok-rings.ensures.ok in
+    let lists : corners_of_rings c.deref-4.result.now ≡ rings = ap corners_of_rings c.deref-4.ensures.value
+    ∙ c.in_ok-rings.ensures.ok in
     let simple : AreSimple (numbered_rows ids rings) = subst (λ xs. AreSimple (numbered_rows ids xs)) c.in_ok-rings.ensures.ok
     (simple_rows ids c.in_ok-rings.rings.items) in
     let nets : IsNetsFault rings refined c.in_err-check_nets.field-0.0 ⊎ (c.in_err-check_nets.field-0.0 ≡ NoMemory) =
     subst (λ xs. IsNetsFault xs refined c.in_err-check_nets.field-0.0 ⊎ (c.in_err-check_nets.field-0.0 ≡ NoMemory)) lists
-    (subst (λ xs. IsNetsFault (corners_of_rings c.deref-4.result.now) xs c.in_err-check_nets.field-0.0 ⊎ (c.in_err-check_nets.field-0.0 ≡ NoMemory)) c.as_slice.ensures
+    (subst (λ xs. IsNetsFault (corners_of_rings c.deref-4.result.now) xs c.in_err-check_nets.field-0.0
+    ⊎ (c.in_err-check_nets.field-0.0 ≡ NoMemory)) c.as_slice.ensures
     c.in_err-check_nets.ensures.err) in
     IfErr-passed_on c.from_residual-in_err-check_nets.result c.in_err-check_nets.field-0.0
     (λ fault. IsFirstFault (numbered_rows ids rings) refined fault ⊎ (fault ≡ NoMemory)) c.from_residual-in_err-check_nets.ensures.1

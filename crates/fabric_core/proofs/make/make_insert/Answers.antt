@@ -1,6 +1,6 @@
 use Rattle.std.proofs.Common.{◌∙◌}
 use Rattle.std.proofs.lemmas.Result.{on_ok_weaker}
-use Rattle.fabric_core.proofs.Made.{ids_put, made_put, may_be_put, shapes_put}
+use Rattle.fabric_core.proofs.edits.Made.{ids_put, made_put, may_be_put, shapes_put}
 use Rattle.fabric_core.proofs.make.make_insert.Goals as goal
 
 pub put_in-requires-clause-ids : goal.put_in-requires-clause-ids

@@ -5,10 +5,10 @@ use Rattle.fabric_core.specs.EditResults.{IsChange, IsMergeOf}
 use Rattle.fabric_core.specs.Journal.{refined_by}
 use Rattle.fabric_core.specs.own.Changes.{rings_of_shapes, state_of}
 use Rattle.fabric_core.specs.own.Kept.{IsExchanged}
-use Rattle.fabric_core.proofs.Made.{count_of, made_exchanged, may_be_brought, number_on}
-use Rattle.fabric_core.proofs.Neighbours.{merged_run, run_has_edge, two_parcels}
-use Rattle.fabric_core.proofs.Replays.{BringsNew}
-use Rattle.fabric_core.proofs.RowLists.{has_number}
+use Rattle.fabric_core.proofs.edits.Made.{count_of, made_exchanged, may_be_brought, number_on}
+use Rattle.fabric_core.proofs.edits.Neighbours.{merged_run, run_has_edge, two_parcels}
+use Rattle.fabric_core.proofs.edits.Replays.{BringsNew}
+use Rattle.fabric_core.proofs.rows.RowLists.{has_number}
 use Rattle.fabric_core.proofs.make.make_merge.Goals as goal
 
 pub only-shape-requires : goal.only-shape-requires

@@ -5,9 +5,9 @@ use Rattle.fabric_core.specs.Journal.{refined_by}
 use Rattle.fabric_core.specs.own.Changes.{rings_of_shapes, state_of}
 use Rattle.fabric_core.specs.own.Kept.{IsExchanged}
 use Rattle.geo_exact.specs.Layers.{numbered}
-use Rattle.fabric_core.proofs.Made.{count_of, made_exchanged, may_be_brought, number_on}
-use Rattle.fabric_core.proofs.Replays.{BringsNew}
-use Rattle.fabric_core.proofs.RowLists.{has_number}
+use Rattle.fabric_core.proofs.edits.Made.{count_of, made_exchanged, may_be_brought, number_on}
+use Rattle.fabric_core.proofs.edits.Replays.{BringsNew}
+use Rattle.fabric_core.proofs.rows.RowLists.{has_number}
 use Rattle.fabric_core.proofs.make.make_split.Goals as goal
 
 pub both-left-requires : goal.both-left-requires

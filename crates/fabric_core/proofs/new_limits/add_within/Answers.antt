@@ -4,9 +4,10 @@ use Rattle.std.proofs.lemmas.Bool.{false≢true}
 use Rattle.geo_exact.specs.declared.limits.TheConstants.{RING_CORNERS}
 use Rattle.geo_exact.specs.Layers.{NumberedRing, corner_count}
 use Rattle.fabric_core.specs.JournalRows.{row_of, rows_of_entry}
-use Rattle.fabric_core.proofs.Lists.{AllByRecursion-push, corner_count-append}
-use Rattle.fabric_core.proofs.NewLimits.{entry_more, one_too_long, all_too_long}
-use Rattle.fabric_core.proofs.new_limits.add_within.Goals.{then-count-gt-RING_CORNERS-via-then-count-gt-RING_CORNERS, then-count-gt-RING_CORNERS-via-else-count-gt-RING_CORNERS+then-total-count-gt-LAYER_CORNERS}
+use Rattle.fabric_core.proofs.rows.Lists.{AllByRecursion-push, corner_count-append}
+use Rattle.fabric_core.proofs.rows.NewLimits.{entry_more, one_too_long, all_too_long}
+use Rattle.fabric_core.proofs.new_limits.add_within.Goals.{then-count-gt-RING_CORNERS-via-then-count-gt-RING_CORNERS}
+use Rattle.fabric_core.proofs.new_limits.add_within.Goals.{then-count-gt-RING_CORNERS-via-else-count-gt-RING_CORNERS+then-total-count-gt-LAYER_CORNERS}
 use Rattle.fabric_core.proofs.new_limits.add_within.Goals as goal
 
 pub returns-then-count-gt-RING_CORNERS : goal.returns-then-count-gt-RING_CORNERS

@@ -3,8 +3,8 @@ use Rattle.std.specs.List.Sorted.{IsStrictlyIncreasing}
 use Rattle.std.proofs.lemmas.List.{take_more}
 use Rattle.std.proofs.lemmas.List.Elements.{Contains-get_or}
 use Rattle.geo_exact.specs.Layers.{numbered}
-use Rattle.fabric_core.proofs.RowLists.{ascending, has_row}
-use Rattle.fabric_core.proofs.NewLimits.{AreLeft, none_out, left_after}
+use Rattle.fabric_core.proofs.rows.RowLists.{ascending, has_row}
+use Rattle.fabric_core.proofs.rows.NewLimits.{AreLeft, none_out, left_after}
 use Rattle.fabric_core.proofs.new_limits.corners_left.Goals as goal
 
 pub loop-id-init : goal.loop-id-init
@@ -20,7 +20,8 @@ pub overflow_sub-left : goal.overflow_sub-left
 overflow_sub-left g c =
     let rows = c.args.tiled.now.rows in let ids = c.args.out.now in
     let up = ascending rows (subst IsStrictlyIncreasing c.ids-ids.ensures.ids c.ids-ids.ensures.ascending) in
-    (left_after rows ids c.loop-id.id-index c.loop-id.left c.len-left.result c.in-Some.shape.now.ring.corners up c.requires.apart c.loop-id-test.true
+    (left_after rows ids c.loop-id.id-index c.loop-id.left c.len-left.result c.in-Some.shape.now.ring.corners up
+    c.requires.apart c.loop-id-test.true
     c.in-Some.ensures c.len-left.ensures c.loop-id.invariant).0
 
 pub loop-id-preserved : goal.loop-id-preserved
@@ -28,5 +29,6 @@ loop-id-preserved g c =
     let rows = c.args.tiled.now.rows in let ids = c.args.out.now in
     let up = ascending rows (subst IsStrictlyIncreasing c.ids-ids.ensures.ids c.ids-ids.ensures.ascending) in
     rw (take_more ids c.loop-id.id-index 0 c.loop-id-test.true)
-    (left_after rows ids c.loop-id.id-index c.loop-id.left c.len-left.result c.in-Some.shape.now.ring.corners up c.requires.apart c.loop-id-test.true
+    (left_after rows ids c.loop-id.id-index c.loop-id.left c.len-left.result c.in-Some.shape.now.ring.corners up
+    c.requires.apart c.loop-id-test.true
     c.in-Some.ensures c.len-left.ensures c.loop-id.invariant).1

@@ -1,5 +1,5 @@
 use Rattle.std.proofs.Common.{take}
-use Rattle.fabric_core.proofs.NewLimits.{AreLeft}
+use Rattle.fabric_core.proofs.rows.NewLimits.{AreLeft}
 use Rattle.fabric_core.proofs.new_limits.corners_left.Given as goal
 
 abbrev pub invariant-loop-id : goal.invariant-loop-id

@@ -5,7 +5,7 @@ use Rattle.std.proofs.lemmas.List.{length-map}
 use Rattle.geo_exact.specs.Layers.{NumberedRing}
 use Rattle.fabric_core.specs.Journal.{without_ids}
 use Rattle.fabric_core.specs.JournalRows.{rows_of_entry}
-use Rattle.fabric_core.proofs.NewLimits.{fewer_corners, changed_within}
+use Rattle.fabric_core.proofs.rows.NewLimits.{fewer_corners, changed_within}
 use Rattle.fabric_core.proofs.new_limits.is_within.Goals as goal
 
 pub add_within-requires : goal.add_within-requires

@@ -1,6 +1,6 @@
 use Rattle.std.proofs.Common.{inl, refl, ◌∙◌, ap, subst, arith, ◌+◌, add-one}
 use Rattle.ring_core.specs.Faults.{IsRingFault}
-use Rattle.fabric_core.proofs.NewShapes.{shaped_more, short_at, bad_at}
+use Rattle.fabric_core.proofs.edits.NewShapes.{shaped_more, short_at, bad_at}
 use Rattle.fabric_core.proofs.new_shapes.simple_shapes.Goals as goal
 use Rattle.geo_exact.specs.declared.corner.Corner.{Corner}
 use Rattle.std.proofs.Common.{List, length}
@@ -18,8 +18,10 @@ returns-in-Err-clause-err g c =
     inl (
       c.loop-which.which + 1,
       c.in-Err.fault,
-      rw add-one (bad_at c.args.rows.now c.loop-which.shapes.items c.loop-which.which c.index-rows-which.result c.in-Err.fault c.loop-which-test.true
-          c.index-rows-which.is c.loop-which.invariant (subst (λ ring. IsRingFault ring c.in-Err.fault) c.in_ok-corners.ensures.cases c.in-Err.ensures.err)),
+      rw add-one (bad_at c.args.rows.now c.loop-which.shapes.items c.loop-which.which c.index-rows-which.result
+          c.in-Err.fault c.loop-which-test.true
+          c.index-rows-which.is c.loop-which.invariant
+          (subst (λ ring. IsRingFault ring c.in-Err.fault) c.in_ok-corners.ensures.cases c.in-Err.ensures.err)),
       refl,
     )
 

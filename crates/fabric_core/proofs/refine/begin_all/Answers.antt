@@ -1,7 +1,7 @@
 use Rattle.std.proofs.Common.{◌∙◌, ap, arith, add-one, get_or}
 use Rattle.std.specs.List.{slice_set}
 use Rattle.geo_exact.specs.Rings.{begun_at_least}
-use Rattle.fabric_core.proofs.Lists.{changed_at}
+use Rattle.fabric_core.proofs.rows.Lists.{changed_at}
 use Rattle.fabric_core.proofs.refine.begin_all.Goals as goal
 
 pub loop-ring-preserved : goal.loop-ring-preserved

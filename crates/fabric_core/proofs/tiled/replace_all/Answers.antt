@@ -2,7 +2,7 @@ use Rattle.std.proofs.Common.{◌≡◌, sym, ◌∙◌, ap, subst, arith, ◌�
 use Rattle.std.specs.List.{AllByRecursion}
 use Rattle.parcel_table.specs.Table.{Table, HasId, with_shape}
 use Rattle.fabric_core.specs.own.Lists.{replaced}
-use Rattle.fabric_core.proofs.PutIn.{ids_stay}
+use Rattle.fabric_core.proofs.edits.PutIn.{ids_stay}
 use Rattle.fabric_core.proofs.tiled.replace_all.Goals as goal
 
 pub loop-shape-preserved : goal.loop-shape-preserved
@@ -15,7 +15,8 @@ loop-shape-preserved g c =
       rest = c.replace.ensures ∙ ap (λ (t : Table _). record t { parcels = with_shape id shape now }) c.loop-shape.invariant.rest
           ∙ ap (λ parcels. record c.args.parcels.now { parcels = parcels }) (sym changed);
       same_end = ap (λ parcels. replaced rest c.next.new.self.rest.items parcels) changed
-          ∙ sym (ap (λ xs. replaced xs c.loop-shape.shape-iterator.rest.items now) ids ∙ ap (λ xs. replaced (id ∷ rest) xs now) shapes)
+          ∙ sym (ap (λ xs. replaced xs c.loop-shape.shape-iterator.rest.items now) ids
+          ∙ ap (λ xs. replaced (id ∷ rest) xs now) shapes)
           ∙ c.loop-shape.invariant.same_end;
       same_length = omega (arith, ap length ids, ap length shapes, c.loop-shape.invariant.same_length);
       here = subst (λ parcels. AllByRecursion (HasId parcels) rest) (sym changed)

@@ -1,6 +1,6 @@
 use Rattle.std.proofs.Common.{◌≡◌, ◌⊎◌, inl, inr, ◌∙◌, sym, subst, arith, ℤ, pos, ◌≤◌, length}
 use Rattle.std.proofs.lemmas.Int.{ints}
-use Rattle.fabric_core.proofs.Refusals.{IsErrAnd-weaker}
+use Rattle.fabric_core.proofs.edits.Refusals.{IsErrAnd-weaker}
 use lib.Signed.{◌≤ℤ◌}
 use Rattle.geo_exact.specs.Rings.{begun_at_least}
 use Rattle.geo_exact.specs.declared.limits.TheConstants.{RING_CORNERS}
@@ -9,8 +9,8 @@ use Rattle.ring_core.specs.Clipping.{IsClippedTo}
 use Rattle.ring_core.specs.Faults.{IsRingFault}
 use Rattle.tri_overlap.proofs.Unfolded.{ring_at_most_once}
 use Rattle.fabric_core.specs.declared.city.CityFault.TheVariants.{NoMemory}
-use Rattle.fabric_core.proofs.Beginning.{begun_length}
-use Rattle.fabric_core.proofs.OneFault.{same_ring_fault, same_fold, no_city_fault}
+use Rattle.fabric_core.proofs.loads.BegunRings.{begun_length}
+use Rattle.fabric_core.proofs.loads.OneFault.{same_ring_fault, same_fold, no_city_fault}
 use Rattle.fabric_core.proofs.city.City.new.Goals as goal
 
 once : (z : ℤ) → (z ≡ pos 0) ⊎ (z ≡ pos 1) → (pos 0 ≤ℤ z) × (z ≤ℤ pos 1)
@@ -32,7 +32,8 @@ returns-in-Some-clause-refuses g c = λ fault h.
 
 pub invariant_of-result : goal.invariant_of-result
 invariant_of-result g c = record {
-  few = subst (λ ring. length ring ≤ RING_CORNERS) (sym (c.in_ok-shape.ensures.ring ∙ c.in_ok-ring.ensures.ok ∙ c.begin_at_least.ensures))
+  few = subst (λ ring. length ring ≤ RING_CORNERS) (sym (c.in_ok-shape.ensures.ring ∙ c.in_ok-ring.ensures.ok
+      ∙ c.begin_at_least.ensures))
       (omega (arith, begun_length c.args.ring.corners, c.args.ring.few));
   least_box = c.in_ok-shape.shape.least_box;
   wound_once = λ p. once _ (ring_at_most_once c.in_ok-shape.shape.ring.corners c.in_ok-shape.shape.triangles c.in_ok-shape.shape.made_up

@@ -5,15 +5,16 @@ use Rattle.fabric_core.specs.Journal.{Book}
 use Rattle.fabric_core.specs.Refusals.{IsRefusal, AreParcels, named_ids}
 use Rattle.fabric_core.specs.own.Books.{IsBook}
 use Rattle.fabric_core.specs.own.Changes.{state_of}
-use Rattle.fabric_core.proofs.Booked.{drafted, for_that_alone, for_nothing, one_more}
-use Rattle.fabric_core.proofs.Refusals.{IfErr-passed_on, IsErrAnd-weaker}
+use Rattle.fabric_core.proofs.edits.Booked.{drafted, for_that_alone, for_nothing, one_more}
+use Rattle.fabric_core.proofs.edits.Refusals.{IfErr-passed_on, IsErrAnd-weaker}
 use Rattle.fabric_core.proofs.fabric.Fabric.edit.Goals as goal
 
 pub returns-in_err-draft-clause-refusal : goal.returns-in_err-draft-clause-refusal
 returns-in_err-draft-clause-refusal g c =
     let room : length c.self.inside.journal.items < JOURNAL_ENTRIES = omega (arith, c.len.ensures, c.if-len-ge-JOURNAL_ENTRIES.false) in
     IfErr-passed_on c.from_residual.result c.in_err-draft.field-0.0
-    (λ refusal. IsRefusal c.args.self.now.now c.args.self.now.journal c.args.edit.now refusal ⊎ (refusal ≡ NoMemory)) c.from_residual.ensures.1
+    (λ refusal. IsRefusal c.args.self.now.now c.args.self.now.journal c.args.edit.now refusal
+    ⊎ (refusal ≡ NoMemory)) c.from_residual.ensures.1
     (⊎_elim
     (λ why. inl (subst (λ (b : Book _). IsRefusal b.now b.journal c.args.edit.now c.in_err-draft.field-0.0) c.self.view_is
     (drafted c.self.inside.opening c.self.inside.journal.items c.self.inside.tiled c.self.inside.corners c.self.invariant c.args.edit.now
@@ -26,7 +27,8 @@ returns-in_err-draft-clause-refuses g c = λ s h.
     let told = subst (λ (b : Book _). IsRefusal b.now b.journal c.args.edit.now s) (sym c.self.view_is) h in
     IsErrAnd-weaker c.from_residual.result (λ f. f ≡ c.in_err-draft.field-0.0) (λ f. (f ≡ s) ⊎ (f ≡ NoMemory))
     (λ f e. ⊎_elim
-    (λ why. inl (e ∙ for_that_alone c.self.inside.opening c.self.inside.journal.items c.self.inside.tiled c.self.inside.corners c.self.invariant
+    (λ why. inl (e ∙ for_that_alone c.self.inside.opening c.self.inside.journal.items c.self.inside.tiled
+    c.self.inside.corners c.self.invariant
     c.args.edit.now c.in_err-draft.field-0.0 s
     (drafted c.self.inside.opening c.self.inside.journal.items c.self.inside.tiled c.self.inside.corners c.self.invariant c.args.edit.now
     c.in_err-draft.field-0.0 room why) told))
@@ -37,9 +39,11 @@ pub invariant_of-self-2 : goal.invariant_of-self-2
 invariant_of-self-2 g c =
     let room : length c.self.inside.journal.items < JOURNAL_ENTRIES = omega (arith, c.len.ensures, c.if-len-ge-JOURNAL_ENTRIES.false) in
     let entry = c.in_ok-draft.draft.entry in
-    subst (λ xs. IsBook c.self.inside.opening xs c.carry_out.new.tiled c.in_ok-self-inside.field-0) (sym c.in_ok-self-inside.ensures.journal)
+    subst (λ xs. IsBook c.self.inside.opening xs c.carry_out.new.tiled c.in_ok-self-inside.field-0)
+    (sym c.in_ok-self-inside.ensures.journal)
     (one_more c.self.inside.opening c.self.inside.journal.items c.self.inside.tiled c.self.inside.corners c.self.invariant entry
-    c.carry_out.new.tiled c.in_ok-self-inside.field-0 room (omega (arith, c.in_ok-draft.ensures.number, c.len-2.ensures)) c.in_ok-draft.ensures.is_entry
+    c.carry_out.new.tiled c.in_ok-self-inside.field-0 room
+    (omega (arith, c.in_ok-draft.ensures.number, c.len-2.ensures)) c.in_ok-draft.ensures.is_entry
     c.in_ok-self-inside.ensures.made (c.in_ok-self-inside.ensures.corners ∙ c.in_ok-draft.ensures.corners))
 
 pub returns-clause-refuses : goal.returns-clause-refuses

@@ -4,7 +4,7 @@ use Rattle.fabric_core.specs.Journal.{Book}
 use Rattle.fabric_core.specs.EditResults.{IsEntryOf}
 use Rattle.fabric_core.specs.own.Books.{IsBook}
 use Rattle.fabric_core.specs.own.Changes.{IsDraftRefusal}
-use Rattle.fabric_core.proofs.Booked.{no_entry, one_entry, one_more}
+use Rattle.fabric_core.proofs.edits.Booked.{no_entry, one_entry, one_more}
 use Rattle.fabric_core.proofs.fabric.Fabric.follow.Goals as goal
 
 pub returns-in-Err-clause-fault : goal.returns-in-Err-clause-fault
@@ -15,7 +15,8 @@ returns-in-Err-clause-fault g c =
     (λ some. inl (
       cc (some.1),
       λ due. ⊎_elim
-          (λ why. no_entry c.self.inside.opening c.self.inside.journal.items c.self.inside.tiled c.self.inside.corners c.self.invariant c.args.entry.now
+          (λ why. no_entry c.self.inside.opening c.self.inside.journal.items c.self.inside.tiled c.self.inside.corners
+          c.self.invariant c.args.entry.now
           c.in-Err.refusal room (subst (λ edit. IsDraftRefusal c.self.inside.tiled edit c.in-Err.refusal) c.edit.ensures why)
           (subst (λ (b : Book _). IsEntryOf b.now c.args.entry.now) (sym c.self.view_is) due.is_entry))
           (λ none. some.0 none) c.in-Err.ensures.err,
@@ -38,7 +39,8 @@ pub invariant_of-self-2 : goal.invariant_of-self-2
 invariant_of-self-2 g c =
     let room : length c.self.inside.journal.items < JOURNAL_ENTRIES = omega (arith, c.len-full.ensures, c.if-full.false) in
     let entry = c.in-Ok.draft.entry in
-    subst (λ xs. IsBook c.self.inside.opening xs c.carry_out.new.tiled c.in_ok-self-inside.field-0) (sym c.in_ok-self-inside.ensures.journal)
+    subst (λ xs. IsBook c.self.inside.opening xs c.carry_out.new.tiled c.in_ok-self-inside.field-0)
+    (sym c.in_ok-self-inside.ensures.journal)
     (one_more c.self.inside.opening c.self.inside.journal.items c.self.inside.tiled c.self.inside.corners c.self.invariant entry
     c.carry_out.new.tiled c.in_ok-self-inside.field-0 room (omega (arith, c.in-Ok.ensures.number, c.len.ensures)) c.in-Ok.ensures.is_entry
     c.in_ok-self-inside.ensures.made (c.in_ok-self-inside.ensures.corners ∙ c.in-Ok.ensures.corners))

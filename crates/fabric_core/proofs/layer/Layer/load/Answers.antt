@@ -12,23 +12,25 @@ use Rattle.fabric_core.specs.Rows.{corners_of_layer, AreRefined}
 use Rattle.fabric_core.specs.Faults.{IsFirstFault, IsLoadFault}
 use Rattle.fabric_core.specs.own.Checks.{HaveNoFault, IsRefinedCity}
 use Rattle.fabric_core.specs.own.Lists.{numbered_rows}
-use Rattle.fabric_core.proofs.Lists.{count_of_corners}
-use Rattle.fabric_core.proofs.Loaded.{numbers_rising}
-use Rattle.fabric_core.proofs.FullyNoded.{loaded_where_tiling, untiled_where_told}
-use Rattle.fabric_core.proofs.OneLoadFault.{AreFaultless, refused_by}
-use Rattle.fabric_core.proofs.OneNoding.{noded_short}
-use Rattle.fabric_core.proofs.RefinedRings.{as_many_numbers, refined_rows}
-use Rattle.fabric_core.proofs.Refusals.{IfOk-both}
+use Rattle.fabric_core.proofs.rows.Lists.{count_of_corners}
+use Rattle.fabric_core.proofs.loads.Loaded.{numbers_rising}
+use Rattle.fabric_core.proofs.loads.FullyNoded.{loaded_where_tiling, untiled_where_told}
+use Rattle.fabric_core.proofs.loads.OneLoadFault.{AreFaultless, refused_by}
+use Rattle.fabric_core.proofs.loads.OneNoding.{noded_short}
+use Rattle.fabric_core.proofs.loads.RefinedRings.{as_many_numbers, refined_rows}
+use Rattle.fabric_core.proofs.edits.Refusals.{IfOk-both}
 use Rattle.fabric_core.proofs.layer.Layer.load.Goals as goal
 
 pub load_refined-requires-clause-numbered : goal.load_refined-requires-clause-numbered
 load_refined-requires-clause-numbered g c =
-    as_many_numbers (rings_of c.args.records.items) c.args.city.now.ring.corners c.in_ok-refined.refined.numbers.items c.in_ok-refined.refined.rings.items
+    as_many_numbers (rings_of c.args.records.items) c.args.city.now.ring.corners c.in_ok-refined.refined.numbers.items
+    c.in_ok-refined.refined.rings.items
     c.in_ok-refined.refined.refined c.in_ok-refined.ensures.noded
 
 pub load_refined-requires-clause-rising : goal.load_refined-requires-clause-rising
 load_refined-requires-clause-rising g c =
-    subst IsStrictlyIncreasing (sym c.in_ok-refined.ensures.noded.are_numbers) (numbers_rising (rings_of c.args.records.items) c.requires.numbers)
+    subst IsStrictlyIncreasing (sym c.in_ok-refined.ensures.noded.are_numbers)
+    (numbers_rising (rings_of c.args.records.items) c.requires.numbers)
 
 pub load_refined-requires-clause-city : goal.load_refined-requires-clause-city
 load_refined-requires-clause-city g c =
@@ -45,11 +47,13 @@ load_refined-requires-clause-city g c =
       wound_once = c.args.city.now.wound_once;
       corners = corners_of_layer records city;
       is_noded = c.in_ok-refined.ensures.noded.is_refined;
-      is_short = noded_short city (corners_of_layer records city) c.in_ok-refined.refined.refined c.args.city.now.few few c.in_ok-refined.ensures.noded.is_refined;
+      is_short = noded_short city (corners_of_layer records city) c.in_ok-refined.refined.refined c.args.city.now.few
+          few c.in_ok-refined.ensures.noded.is_refined;
     })
 
 pub load_refined-requires-clause-area : goal.load_refined-requires-clause-area
-load_refined-requires-clause-area g c = subst (IsLeastBox c.args.city.now.bounds) (sym c.in_ok-refined.ensures.city) c.args.city.now.least_box
+load_refined-requires-clause-area g c = subst (IsLeastBox c.args.city.now.bounds) (sym c.in_ok-refined.ensures.city)
+    c.args.city.now.least_box
 
 pub returns-clause-rows : goal.returns-clause-rows
 returns-clause-rows g c =
@@ -57,7 +61,8 @@ returns-clause-rows g c =
     let city = c.args.city.now.ring.corners in
     let ids = c.in_ok-refined.refined.numbers.items in
     let rings = c.in_ok-refined.refined.rings.items in
-    IfOk-both c.load_refined.result (λ layer. layer.rows ≡ numbered_rows ids rings) (λ layer. layer.refined ≡ c.in_ok-refined.refined.refined)
+    IfOk-both c.load_refined.result (λ layer. layer.rows ≡ numbered_rows ids rings) (λ layer. layer.refined
+    ≡ c.in_ok-refined.refined.refined)
     (λ layer. AreRefined records city layer.rows layer.refined)
     (λ layer same_rows same_refined. subst (λ rows. AreRefined records city rows layer.refined) (sym same_rows)
     (subst (λ refined. AreRefined records city (numbered_rows ids rings) refined) (sym same_refined)
@@ -89,7 +94,8 @@ returns-clause-refuses g c =
     let records = rings_of c.args.records.items in
     let city = c.args.city.now.ring.corners in
     refused_by c.load_refined.result records city
-    (IfOk-both c.load_refined.result (λ layer. AreRefined records city layer.rows layer.refined) (λ layer. HaveNoFault layer.rows layer.refined)
+    (IfOk-both c.load_refined.result (λ layer. AreRefined records city layer.rows layer.refined) (λ layer.
+    HaveNoFault layer.rows layer.refined)
     (λ layer. AreFaultless records city)
     (λ layer h k. record { rows = layer.rows; refined = layer.refined; are_refined = h; no_fault = k })
     (returns-clause-rows g c) c.load_refined.ensures.no_fault)
@@ -97,8 +103,10 @@ returns-clause-refuses g c =
 
 pub returns-clause-loads : goal.returns-clause-loads
 returns-clause-loads g c =
-    loaded_where_tiling c.load_refined.result (rings_of c.args.records.items) c.args.city.now.ring.corners (returns-clause-rows g c) (returns-clause-fault g c)
+    loaded_where_tiling c.load_refined.result (rings_of c.args.records.items) c.args.city.now.ring.corners
+    (returns-clause-rows g c) (returns-clause-fault g c)
 
 pub returns-clause-gap : goal.returns-clause-gap
 returns-clause-gap g c = λ rows refined a b net h e.
-    untiled_where_told c.load_refined.result (rings_of c.args.records.items) c.args.city.now.ring.corners (returns-clause-fault g c) rows refined a b net h e
+    untiled_where_told c.load_refined.result (rings_of c.args.records.items) c.args.city.now.ring.corners
+    (returns-clause-fault g c) rows refined a b net h e

@@ -12,13 +12,13 @@ use Rattle.fabric_core.specs.Rows.{corners_of_layer, AreRefined}
 use Rattle.fabric_core.specs.Faults.{AreLoadFaults}
 use Rattle.fabric_core.specs.own.Checks.{HaveNoFault, IsRefinedCity, AreTold}
 use Rattle.fabric_core.specs.own.Lists.{numbered_rows}
-use Rattle.fabric_core.proofs.Lists.{count_of_corners}
-use Rattle.fabric_core.proofs.Loaded.{numbers_rising}
-use Rattle.fabric_core.proofs.OneLoadFault.{AreFaultless}
-use Rattle.fabric_core.proofs.ToldGaps.{refused_by_all}
-use Rattle.fabric_core.proofs.OneNoding.{noded_short}
-use Rattle.fabric_core.proofs.RefinedRings.{as_many_numbers, refined_rows}
-use Rattle.fabric_core.proofs.Refusals.{IfOk-both}
+use Rattle.fabric_core.proofs.rows.Lists.{count_of_corners}
+use Rattle.fabric_core.proofs.loads.Loaded.{numbers_rising}
+use Rattle.fabric_core.proofs.loads.OneLoadFault.{AreFaultless}
+use Rattle.fabric_core.proofs.loads.ToldGaps.{refused_by_all}
+use Rattle.fabric_core.proofs.loads.OneNoding.{noded_short}
+use Rattle.fabric_core.proofs.loads.RefinedRings.{as_many_numbers, refined_rows}
+use Rattle.fabric_core.proofs.edits.Refusals.{IfOk-both}
 use Rattle.fabric_core.proofs.layer.Layer.load_or_all.Goals as goal
 
 pub load_refined_or_all-requires-clause-numbered : goal.load_refined_or_all-requires-clause-numbered
@@ -52,7 +52,8 @@ load_refined_or_all-requires-clause-city g c =
     })
 
 pub load_refined_or_all-requires-clause-area : goal.load_refined_or_all-requires-clause-area
-load_refined_or_all-requires-clause-area g c = subst (IsLeastBox c.args.city.now.bounds) (sym c.in_ok-refined.ensures.city) c.args.city.now.least_box
+load_refined_or_all-requires-clause-area g c =
+    subst (IsLeastBox c.args.city.now.bounds) (sym c.in_ok-refined.ensures.city) c.args.city.now.least_box
 
 pub returns-clause-rows : goal.returns-clause-rows
 returns-clause-rows g c =

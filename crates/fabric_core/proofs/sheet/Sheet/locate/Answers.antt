@@ -6,4 +6,5 @@ use Rattle.fabric_core.proofs.sheet.Sheet.locate.Goals as goal
 
 pub returns : goal.returns
 returns g c =
-    subst (λ (b : Book _). IfOk c.locate.result (λ at. IsLocatedAt b.now.rows (corner_point c.args.corner) at)) c.self.view_is c.locate.ensures
+    subst (λ (b : Book _). IfOk c.locate.result (λ at. IsLocatedAt b.now.rows (corner_point c.args.corner) at))
+    c.self.view_is c.locate.ensures

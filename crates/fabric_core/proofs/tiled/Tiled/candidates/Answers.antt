@@ -8,7 +8,7 @@ use Rattle.fabric_core.specs.GridIndex.{IsCandidate}
 use Rattle.fabric_core.specs.own.Kept.{Kept}
 use Rattle.parcel_table.specs.Table.{entries_of}
 use Rattle.fabric_core.specs.own.Lists.{IsIdOf}
-use Rattle.fabric_core.proofs.Between.{parcel_between, ids_exactly, meeting_parcel}
+use Rattle.fabric_core.proofs.places.Between.{parcel_between, ids_exactly, meeting_parcel}
 use Rattle.fabric_core.proofs.tiled.Tiled.candidates.Goals as goal
 
 pub ids_under-requires : goal.ids_under-requires
@@ -37,7 +37,8 @@ returns-clause-meeting g c =
     let found = c.in_ok-keys.ensures.found (entries_of parcels) c.self.invariant.indexed in
     let zip = subst (λ xs. AllZip (IsIdOf parcels) xs under) c.deref.ensures.value c.in_ok-ids.ensures in
     subst (λ (t : Kept). (row : NumberedRing) (ring : List Corner) → Contains t.rows row
-    → All (HoldsCorner (record { low = low; high = high })) ring → InteriorsMeet row.corners ring → Contains ids row.number) c.self.view_is
+    → All (HoldsCorner (record { low = low; high = high })) ring → InteriorsMeet row.corners ring
+    → Contains ids row.number) c.self.view_is
     (λ row ring is_row between meet.
     (ids_exactly parcels city area low high c.self.invariant.area keys under ids found zip c.sort_once.ensures.same row.number).1
     (meeting_parcel parcels city area low high c.self.invariant.area row ring c.self.invariant.in_area is_row between meet))

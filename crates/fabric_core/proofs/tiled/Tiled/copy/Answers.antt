@@ -1,8 +1,8 @@
 use Rattle.std.proofs.Common.{◌≡◌, sym, ◌∙◌, ap, subst}
 use Rattle.parcel_table.proofs.Clones.{same_rows, same_entries}
 use Rattle.fabric_core.specs.own.Kept.{Kept, IsKept}
-use Rattle.fabric_core.proofs.Copied.{copied}
-use Rattle.fabric_core.proofs.Exchanges.{shown}
+use Rattle.fabric_core.proofs.edits.Copied.{copied}
+use Rattle.fabric_core.proofs.edits.Exchanges.{shown}
 use Rattle.fabric_core.proofs.tiled.Tiled.copy.Goals as goal
 
 pub invariant_of-result : goal.invariant_of-result
@@ -23,5 +23,8 @@ returns g c =
     ∙ ap (λ index. shown c.self.inside.city c.self.inside.refined copy index) c.in_ok-index.ensures.cases
     ∙ ap (λ rows. record (shown c.self.inside.city c.self.inside.refined copy c.self.inside.index) { rows = rows })
     (same_rows old.parcels copy.parcels clones.parcels)
-    ∙ ap (λ next. record (shown c.self.inside.city c.self.inside.refined old c.self.inside.index) { next = next; fates = copy.fates }) clones.next
+    ∙ ap (λ next. record (shown c.self.inside.city c.self.inside.refined old c.self.inside.index) {
+      next = next;
+      fates = copy.fates;
+    }) clones.next
     ∙ ap (λ fates. record (shown c.self.inside.city c.self.inside.refined old c.self.inside.index) { fates = fates }) clones.fates)

@@ -6,24 +6,27 @@ use Rattle.parcel_table.specs.Table.{HasId}
 use Rattle.fabric_core.specs.Rows.{numbers}
 use Rattle.fabric_core.specs.Journal.{without_ids}
 use Rattle.fabric_core.specs.own.Kept.{Kept, MayBeKept, IsExchanged}
-use Rattle.fabric_core.proofs.Exchanges.{shown, has_id, entry_is, kept_after, rows_after, divided, fate_pushed, fate_of_one}
+use Rattle.fabric_core.proofs.edits.Exchanges.{shown, has_id, entry_is, kept_after, rows_after, divided, fate_pushed, fate_of_one}
 use Rattle.fabric_core.proofs.tiled.Tiled.divide.Goals as goal
 
 pub entry_of-gone-requires : goal.entry_of-gone-requires
 entry_of-gone-requires g c =
     subst (λ parcels. HasId parcels c.args.id) (sym (ap (λ table. table.parcels) c.in_ok-reserve.ensures.kept))
-    (has_id c.self.inside.parcels.parcels c.args.id (subst (λ (t : Kept). Contains (numbers t.rows) c.args.id) (sym c.self.view_is) c.requires.here))
+    (has_id c.self.inside.parcels.parcels c.args.id (subst (λ (t : Kept). Contains (numbers t.rows) c.args.id)
+    (sym c.self.view_is) c.requires.here))
 
 pub succeed-requires-clause-here : goal.succeed-requires-clause-here
 succeed-requires-clause-here g c =
     subst (λ parcels. HasId parcels c.args.id) (sym (ap (λ table. table.parcels) c.in_ok-reserve.ensures.kept))
-    (has_id c.self.inside.parcels.parcels c.args.id (subst (λ (t : Kept). Contains (numbers t.rows) c.args.id) (sym c.self.view_is) c.requires.here))
+    (has_id c.self.inside.parcels.parcels c.args.id (subst (λ (t : Kept). Contains (numbers t.rows) c.args.id)
+    (sym c.self.view_is) c.requires.here))
 
 pub invariant_of-self-2 : goal.invariant_of-self-2
 invariant_of-self-2 g c =
     let old = c.self.inside.parcels in let gone = c.entry_of-gone.result in let w = c.entry_of-gone.ensures in
     let parcels = ap (λ table. table.parcels) c.in_ok-reserve.ensures.kept in
-    kept_after old.parcels ((gone.key, w.parcel) ∷ []) ((gone.key, record { id = old.next; shape = c.args.left }) ∷ (c.push_reserved.result, record { id = old.next + 1; shape = c.args.right }) ∷ []) c.push_reserved.new.self.parcels
+    kept_after old.parcels ((gone.key, w.parcel) ∷ []) ((gone.key, record { id = old.next; shape = c.args.left })
+    ∷ (c.push_reserved.result, record { id = old.next + 1; shape = c.args.right }) ∷ []) c.push_reserved.new.self.parcels
     (c.args.id ∷ []) (gone ∷ [])
     (record { key = gone.key; bounds = c.args.left.bounds } ∷ record { key = c.vacant_key.result; bounds = c.args.right.bounds } ∷ [])
     c.self.inside.city c.self.inside.refined c.self.inside.index c.change.new.self
@@ -32,8 +35,10 @@ invariant_of-self-2 g c =
     (ap (λ (e : Entry). e ∷ []) (entry_is c.reserve.new.self.parcels c.args.id gone w))
     (ap (λ (k : ℕ). record { key = gone.key; bounds = c.args.left.bounds } ∷ record { key = k; bounds = c.args.right.bounds } ∷ [])
     (c.vacant_key.ensures ∙ sym (c.push_reserved.ensures.key ∙ c.succeed.ensures.vacant)))
-    (divided old c.reserve.new.self c.succeed.new.self c.push_reserved.new.self c.args.id gone.key c.push_reserved.result c.args.left c.args.right
-    parcels (ap (λ table. table.next) c.in_ok-reserve.ensures.kept) (c.succeed.ensures.parcels gone.key (record { parcel = w.parcel; is_here = w.is_here; has_id = w.has_id })) c.succeed.ensures.next
+    (divided old c.reserve.new.self c.succeed.new.self c.push_reserved.new.self c.args.id gone.key
+    c.push_reserved.result c.args.left c.args.right
+    parcels (ap (λ table. table.next) c.in_ok-reserve.ensures.kept) (c.succeed.ensures.parcels gone.key
+    (record { parcel = w.parcel; is_here = w.is_here; has_id = w.has_id })) c.succeed.ensures.next
     c.push_reserved.ensures.parcels)
     c.stand_apart-2.ensures.ascend
     (subst (λ (t : Kept). MayBeKept (without_ids (c.args.id ∷ []) t.rows ++ numbered t.next c.args.left.ring.corners
@@ -48,22 +53,27 @@ returns-clause-ok g c =
     (c.args.id ∷ []) c.args.by (numbered t.next c.args.left.ring.corners
     ∷ numbered (t.next + 1) c.args.right.ring.corners ∷ [])) c.self.view_is (record {
       rows = rows_after old.parcels
-          ((gone.key, record { id = old.next; shape = c.args.left }) ∷ (c.push_reserved.result, record { id = old.next + 1; shape = c.args.right }) ∷ [])
+          ((gone.key, record { id = old.next; shape = c.args.left })
+          ∷ (c.push_reserved.result, record { id = old.next + 1; shape = c.args.right }) ∷ [])
           c.push_reserved.new.self.parcels (c.args.id ∷ [])
-          (divided old c.reserve.new.self c.succeed.new.self c.push_reserved.new.self c.args.id gone.key c.push_reserved.result c.args.left c.args.right
+          (divided old c.reserve.new.self c.succeed.new.self c.push_reserved.new.self c.args.id gone.key
+          c.push_reserved.result c.args.left c.args.right
           (ap (λ table. table.parcels) kept) (ap (λ table. table.next) kept)
           (c.succeed.ensures.parcels gone.key (record { parcel = w.parcel; is_here = w.is_here; has_id = w.has_id })) c.succeed.ensures.next
           c.push_reserved.ensures.parcels);
       city = refl;
       refined = refl;
-      next = c.push_reserved.ensures.next ∙ ap (λ n. n + 1) (c.succeed.ensures.next ∙ ap (λ table. table.next + 1) kept) ∙ omega arith;
+      next = c.push_reserved.ensures.next ∙ ap (λ n. n + 1) (c.succeed.ensures.next
+          ∙ ap (λ table. table.next + 1) kept) ∙ omega arith;
       fates = λ id. ap (λ fates. slice_index_or fates id None) c.push_reserved.ensures.fates ∙ fate_pushed c.succeed.new.self.fates id
-          ∙ ap (λ fates. slice_index_or fates id None) (c.succeed.ensures.fates ∙ ap (λ table. slice_set table.fates c.args.id (Some c.args.by) ++ None ∷ []) kept)
+          ∙ ap (λ fates. slice_index_or fates id None) (c.succeed.ensures.fates
+          ∙ ap (λ table. slice_set table.fates c.args.id (Some c.args.by) ++ None ∷ []) kept)
           ∙ fate_of_one old.fates c.args.id c.args.by id
           (omega (
             arith,
             c.stand_apart.ensures.fates,
             c.stand_apart.ensures.below c.args.id
-                (has_id old.parcels c.args.id (subst (λ (t : Kept). Contains (numbers t.rows) c.args.id) (sym c.self.view_is) c.requires.here)),
+                (has_id old.parcels c.args.id (subst (λ (t : Kept). Contains (numbers t.rows) c.args.id)
+                (sym c.self.view_is) c.requires.here)),
           ));
     })

@@ -5,7 +5,7 @@ use Rattle.ring_core.specs.Sides.{IsSide}
 use Rattle.ring_core.specs.declared.side.Side.TheVariants.{Inside}
 use Rattle.fabric_core.specs.Locate.{IsInsideOf}
 use Rattle.fabric_core.specs.own.Kept.{Kept}
-use Rattle.fabric_core.proofs.Hinted.{is_short, inside_it, inside_core}
+use Rattle.fabric_core.proofs.places.Hinted.{is_short, inside_it, inside_core}
 use Rattle.fabric_core.proofs.tiled.Tiled.holder.Goals as goal
 
 pub side_of-requires : goal.side_of-requires

@@ -7,7 +7,8 @@ use Rattle.fabric_core.proofs.tiled.Tiled.ids.Goals as goal
 
 pub returns-clause-ids : goal.returns-clause-ids
 returns-clause-ids g c =
-    subst (λ (t : Kept). c.ids.result ≡ numbers t.rows) c.self.view_is (c.ids.ensures ∙ sym (ids_of_rows c.self.inside.parcels.parcels))
+    subst (λ (t : Kept). c.ids.result ≡ numbers t.rows) c.self.view_is (c.ids.ensures
+    ∙ sym (ids_of_rows c.self.inside.parcels.parcels))
 
 pub returns-clause-ascending : goal.returns-clause-ascending
 returns-clause-ascending g c =

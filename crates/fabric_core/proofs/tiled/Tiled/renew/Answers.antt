@@ -1,4 +1,5 @@
-use Rattle.std.proofs.Common.{arith, Some, None, slice_index_or, ◌≢◌, sym, ◌∙◌, ap, subst, refl, ℕ, length, ◌+◌, ◌<◌, [], ◌∷◌, ◌++◌}
+use Rattle.std.proofs.Common.{arith, Some, None, slice_index_or, ◌≢◌, sym, ◌∙◌, ap, subst, refl, ℕ, length, ◌+◌, ◌<◌}
+use Rattle.std.proofs.Common.{[], ◌∷◌, ◌++◌}
 use Rattle.std.specs.List.{Contains, slice_set}
 use Rattle.std.proofs.lemmas.List.{length-append, length-set}
 use Rattle.geo_exact.specs.Layers.{numbered}
@@ -7,32 +8,47 @@ use Rattle.parcel_table.specs.Table.{HasId, IsKeyOf}
 use Rattle.fabric_core.specs.Rows.{numbers}
 use Rattle.fabric_core.specs.Journal.{without_ids}
 use Rattle.fabric_core.specs.own.Kept.{Kept, MayBeKept, IsExchanged}
-use Rattle.fabric_core.proofs.Exchanges.{shown, has_id, entry_is, kept_after, rows_after, renewed, still_key, fate_pushed, fate_of_two}
+use Rattle.fabric_core.proofs.edits.Exchanges.{shown, has_id, entry_is, kept_after, rows_after, renewed, still_key}
+use Rattle.fabric_core.proofs.edits.Exchanges.{fate_pushed, fate_of_two}
 use Rattle.fabric_core.proofs.tiled.Tiled.renew.Goals as goal
 
 pub entry_of-from_a-requires : goal.entry_of-from_a-requires
 entry_of-from_a-requires g c =
     subst (λ parcels. HasId parcels c.args.a) (sym (ap (λ table. table.parcels) c.in_ok-reserve.ensures.kept))
-    (has_id c.self.inside.parcels.parcels c.args.a (subst (λ (t : Kept). Contains (numbers t.rows) c.args.a) (sym c.self.view_is) c.requires.a_here))
+    (has_id c.self.inside.parcels.parcels c.args.a (subst (λ (t : Kept). Contains (numbers t.rows) c.args.a)
+    (sym c.self.view_is) c.requires.a_here))
 
 pub entry_of-from_b-requires : goal.entry_of-from_b-requires
 entry_of-from_b-requires g c =
     subst (λ parcels. HasId parcels c.args.b) (sym (ap (λ table. table.parcels) c.in_ok-reserve.ensures.kept))
-    (has_id c.self.inside.parcels.parcels c.args.b (subst (λ (t : Kept). Contains (numbers t.rows) c.args.b) (sym c.self.view_is) c.requires.b_here))
+    (has_id c.self.inside.parcels.parcels c.args.b (subst (λ (t : Kept). Contains (numbers t.rows) c.args.b)
+    (sym c.self.view_is) c.requires.b_here))
 
 pub succeed-requires-clause-here : goal.succeed-requires-clause-here
 succeed-requires-clause-here g c =
     subst (λ parcels. HasId parcels c.args.a) (sym (ap (λ table. table.parcels) c.in_ok-reserve.ensures.kept))
-    (has_id c.self.inside.parcels.parcels c.args.a (subst (λ (t : Kept). Contains (numbers t.rows) c.args.a) (sym c.self.view_is) c.requires.a_here))
+    (has_id c.self.inside.parcels.parcels c.args.a (subst (λ (t : Kept). Contains (numbers t.rows) c.args.a)
+    (sym c.self.view_is) c.requires.a_here))
 
 pub succeed-requires-2-clause-here : goal.succeed-requires-2-clause-here
 succeed-requires-2-clause-here g c =
     let a = c.entry_of-from_a.ensures in let b = c.entry_of-from_b.ensures in (
       c.entry_of-from_b.result.key,
       subst (λ parcels. IsKeyOf parcels c.args.b c.entry_of-from_b.result.key)
-          (sym (c.succeed.ensures.parcels c.entry_of-from_a.result.key (record { parcel = a.parcel; is_here = a.is_here; has_id = a.has_id })))
-          (still_key c.reserve.new.self.parcels ((c.entry_of-from_a.result.key, record { id = c.reserve.new.self.next; shape = c.args.of_a }) ∷ [])
-          c.args.a c.args.b c.entry_of-from_b.result.key c.requires.apart (record { parcel = b.parcel; is_here = b.is_here; has_id = b.has_id })),
+          (sym (c.succeed.ensures.parcels c.entry_of-from_a.result.key (record {
+            parcel = a.parcel;
+            is_here =
+                a.is_here;
+            has_id = a.has_id;
+          })))
+          (still_key c.reserve.new.self.parcels
+          ((c.entry_of-from_a.result.key, record { id = c.reserve.new.self.next; shape = c.args.of_a }) ∷ [])
+          c.args.a c.args.b c.entry_of-from_b.result.key c.requires.apart (record {
+            parcel = b.parcel;
+            is_here =
+                b.is_here;
+            has_id = b.has_id;
+          })),
     )
 
 -- the next id is no parcel's
@@ -45,19 +61,26 @@ invariant_of-self-2 g c =
     let a = c.entry_of-from_a.ensures in let b = c.entry_of-from_b.ensures in
     let kept = c.in_ok-reserve.ensures.kept in let parcels = ap (λ table. table.parcels) c.in_ok-reserve.ensures.kept in
     kept_after old.parcels ((from_a.key, a.parcel) ∷ (from_b.key, b.parcel) ∷ [])
-    ((from_a.key, record { id = old.next; shape = c.args.of_a }) ∷ (from_b.key, record { id = old.next + 1; shape = c.args.of_b }) ∷ []) c.succeed-2.new.self.parcels
-    (c.args.a ∷ c.args.b ∷ []) (from_a ∷ from_b ∷ []) (record { key = from_a.key; bounds = c.args.of_a.bounds } ∷ record { key = from_b.key; bounds = c.args.of_b.bounds } ∷ [])
+    ((from_a.key, record { id = old.next; shape = c.args.of_a })
+    ∷ (from_b.key, record { id = old.next + 1; shape = c.args.of_b }) ∷ []) c.succeed-2.new.self.parcels
+    (c.args.a ∷ c.args.b ∷ []) (from_a ∷ from_b ∷ []) (record { key = from_a.key; bounds = c.args.of_a.bounds }
+    ∷ record { key = from_b.key; bounds = c.args.of_b.bounds } ∷ [])
     c.self.inside.city c.self.inside.refined c.self.inside.index c.change.new.self
     (ap (λ n. n ∷ b.parcel.id ∷ []) a.has_id ∙ ap (λ n. c.args.a ∷ n ∷ []) b.has_id)
-    c.self.invariant c.stand_apart.ensures.ascend c.stand_apart.ensures.keys
-    (subst (λ xs. Contains xs (from_a.key, a.parcel)) parcels a.is_here, (subst (λ xs. Contains xs (from_b.key, b.parcel)) parcels b.is_here, tt))
+    c.self.invariant c.stand_apart.ensures.ascend c.stand_apart.ensures.keys (
+      subst (λ xs. Contains xs (from_a.key, a.parcel)) parcels a.is_here,
+      (subst (λ xs. Contains xs (from_b.key, b.parcel)) parcels b.is_here, tt),
+    )
     (ap (λ (e : Entry). e ∷ from_b ∷ []) (entry_is c.reserve.new.self.parcels c.args.a from_a a)
     ∙ ap (λ (e : Entry). record { key = from_a.key; bounds = a.parcel.shape.bounds } ∷ e ∷ [])
     (entry_is c.reserve.new.self.parcels c.args.b from_b b))
     refl
-    (renewed old c.reserve.new.self c.succeed.new.self c.succeed-2.new.self c.args.a c.args.b from_a.key from_b.key c.args.of_a c.args.of_b parcels
+    (renewed old c.reserve.new.self c.succeed.new.self c.succeed-2.new.self c.args.a c.args.b from_a.key from_b.key
+    c.args.of_a c.args.of_b parcels
     (ap (λ table. table.next) kept)
-    (next_is_other old.next c.args.b (c.stand_apart.ensures.below c.args.b (has_id c.self.inside.parcels.parcels c.args.b (subst (λ (t : Kept). Contains (numbers t.rows) c.args.b) (sym c.self.view_is) c.requires.b_here))))
+    (next_is_other old.next c.args.b (c.stand_apart.ensures.below c.args.b
+    (has_id c.self.inside.parcels.parcels c.args.b (subst (λ (t : Kept). Contains (numbers t.rows) c.args.b)
+    (sym c.self.view_is) c.requires.b_here))))
     (c.succeed.ensures.parcels from_a.key (record { parcel = a.parcel; is_here = a.is_here; has_id = a.has_id })) c.succeed.ensures.next
     (c.succeed-2.ensures.parcels from_b.key (subst (λ parcels. IsKeyOf parcels c.args.b from_b.key)
     (sym (c.succeed.ensures.parcels from_a.key (record { parcel = a.parcel; is_here = a.is_here; has_id = a.has_id })))
@@ -73,17 +96,26 @@ pub returns-clause-ok : goal.returns-clause-ok
 returns-clause-ok g c =
     let old = c.self.inside.parcels in let from_a = c.entry_of-from_a.result in let from_b = c.entry_of-from_b.result in
     let a = c.entry_of-from_a.ensures in let b = c.entry_of-from_b.ensures in let kept = c.in_ok-reserve.ensures.kept in
-    let below_a = c.stand_apart.ensures.below c.args.a (has_id c.self.inside.parcels.parcels c.args.a (subst (λ (t : Kept). Contains (numbers t.rows) c.args.a) (sym c.self.view_is) c.requires.a_here)) in
-    let below_b = c.stand_apart.ensures.below c.args.b (has_id c.self.inside.parcels.parcels c.args.b (subst (λ (t : Kept). Contains (numbers t.rows) c.args.b) (sym c.self.view_is) c.requires.b_here)) in
+    let below_a = c.stand_apart.ensures.below c.args.a (has_id c.self.inside.parcels.parcels c.args.a
+    (subst (λ (t : Kept). Contains (numbers t.rows) c.args.a) (sym c.self.view_is) c.requires.a_here)) in
+    let below_b = c.stand_apart.ensures.below c.args.b (has_id c.self.inside.parcels.parcels c.args.b
+    (subst (λ (t : Kept). Contains (numbers t.rows) c.args.b) (sym c.self.view_is) c.requires.b_here)) in
     let fates_a = c.succeed.ensures.fates ∙ ap (λ table. slice_set table.fates c.args.a (Some c.args.by) ++ None ∷ []) kept in
     subst (λ (t : Kept). IsExchanged t (shown c.self.inside.city c.self.inside.refined c.succeed-2.new.self c.change.new.self)
     (c.args.a ∷ c.args.b ∷ []) c.args.by (numbered t.next c.args.of_a.ring.corners
     ∷ numbered (t.next + 1) c.args.of_b.ring.corners ∷ [])) c.self.view_is (record {
-      rows = rows_after old.parcels ((from_a.key, record { id = old.next; shape = c.args.of_a }) ∷ (from_b.key, record { id = old.next + 1; shape = c.args.of_b }) ∷ []) c.succeed-2.new.self.parcels
+      rows = rows_after old.parcels ((from_a.key, record { id = old.next; shape = c.args.of_a })
+          ∷ (from_b.key, record { id = old.next + 1; shape = c.args.of_b }) ∷ []) c.succeed-2.new.self.parcels
           (c.args.a ∷ c.args.b ∷ [])
-          (renewed old c.reserve.new.self c.succeed.new.self c.succeed-2.new.self c.args.a c.args.b from_a.key from_b.key c.args.of_a c.args.of_b
+          (renewed old c.reserve.new.self c.succeed.new.self c.succeed-2.new.self c.args.a c.args.b from_a.key
+          from_b.key c.args.of_a c.args.of_b
           (ap (λ table. table.parcels) kept) (ap (λ table. table.next) kept) (next_is_other old.next c.args.b below_b)
-          (c.succeed.ensures.parcels from_a.key (record { parcel = a.parcel; is_here = a.is_here; has_id = a.has_id })) c.succeed.ensures.next
+          (c.succeed.ensures.parcels from_a.key (record {
+            parcel = a.parcel;
+            is_here = a.is_here;
+            has_id =
+                a.has_id;
+          })) c.succeed.ensures.next
           (c.succeed-2.ensures.parcels from_b.key (subst (λ parcels. IsKeyOf parcels c.args.b from_b.key)
           (sym (c.succeed.ensures.parcels from_a.key (record { parcel = a.parcel; is_here = a.is_here; has_id = a.has_id })))
           (still_key c.reserve.new.self.parcels ((from_a.key, record { id = c.reserve.new.self.next; shape = c.args.of_a }) ∷ [])

@@ -10,10 +10,10 @@ use Rattle.geo_exact.specs.Bounds.{HoldsCorner}
 use Rattle.parcel_table.specs.Table.{rows_of_keyed}
 use Rattle.fabric_core.specs.own.Balanced.{IsBalanced}
 use Rattle.fabric_core.specs.own.Changes.{state_of}
-use Rattle.fabric_core.proofs.RowLists.{ascending}
-use Rattle.fabric_core.proofs.Exchanged.{simple_keyed}
-use Rattle.fabric_core.proofs.Exchanges.{has_id, rows_below}
-use Rattle.fabric_core.proofs.Loaded.{is_indexed, kept_tiles}
+use Rattle.fabric_core.proofs.rows.RowLists.{ascending}
+use Rattle.fabric_core.proofs.edits.Exchanged.{simple_keyed}
+use Rattle.fabric_core.proofs.edits.Exchanges.{has_id, rows_below}
+use Rattle.fabric_core.proofs.loads.Loaded.{is_indexed, kept_tiles}
 use Rattle.fabric_core.proofs.tiled.Tiled.tiles.Goals as goal
 
 pub returns-clause-tiling : goal.returns-clause-tiling
@@ -35,7 +35,8 @@ returns-clause-ground g c = subst (λ (t : Kept). CoversAlike t.city t.refined) 
 
 pub returns-clause-in_area : goal.returns-clause-in_area
 returns-clause-in_area g c =
-    subst (λ (t : Kept). AllByRecursion (λ row. All (HoldsCorner t.index.area) row.corners) t.rows) c.self.view_is c.self.invariant.in_area
+    subst (λ (t : Kept). AllByRecursion (λ row. All (HoldsCorner t.index.area) row.corners) t.rows) c.self.view_is
+    c.self.invariant.in_area
 
 pub returns-clause-balanced : goal.returns-clause-balanced
 returns-clause-balanced g c =

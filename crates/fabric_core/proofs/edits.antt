@@ -1,0 +1,17 @@
+pub mod Refusals
+pub mod Exchanged
+pub mod Exchanges
+pub mod Stops
+pub mod NewShapes
+pub mod Replays
+pub mod Retirements
+pub mod Neighbours
+pub mod OneRefusal
+pub mod EntryNets
+pub mod PutIn
+pub mod WithEdge
+pub mod LawfulJournals
+pub mod Made
+pub mod Booked
+pub mod Drafts
+pub mod Copied

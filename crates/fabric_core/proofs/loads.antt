@@ -1,0 +1,11 @@
+pub mod OneFault
+pub mod RefinedRings
+pub mod RingChecks
+pub mod Loaded
+pub mod OneNoding
+pub mod BegunRings
+pub mod OneLoadFault
+pub mod FullyNoded
+pub mod ToldRings
+pub mod ToldGaps
+pub mod Clipped

@@ -1,0 +1,4 @@
+pub mod Located
+pub mod FromOneCell
+pub mod Between
+pub mod Hinted
