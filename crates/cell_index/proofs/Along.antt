@@ -1,5 +1,6 @@
 -- Cells along an axis: their order, those of the area, and numbers that are capped at the grid's end.
-use Rattle.std.proofs.Common.{◌≡◌, ◌↔◌, sym, refl, ℕ, ◌+◌, ◌-◌, ◌/◌, ◌<◌, ◌≤◌, min, arith, true, false, ℤ, ◌-ℤ◌}
+use Rattle.std.proofs.Common.{◌≡◌, ◌↔◌, sym, refl, ℕ, ◌+◌, ◌-◌, ◌/◌, ◌<◌, ◌≤◌, min, arith, true, false}
+use Rattle.std.proofs.Common.{ℤ, ◌-ℤ◌}
 use Rattle.std.specs.Prelude.{int_lt, unsigned_abs}
 use Rattle.std.specs.Int.{int_min, int_max}
 use Rattle.std.proofs.Math.Nat.{div-add-mod'}
@@ -13,13 +14,14 @@ use Rattle.cell_index.specs.declared.axis.TheConstants.{ACROSS}
 use Rattle.cell_index.specs.Cells.{distance, cell_of, column, row, brought_into, IsCellBetween}
 
 -- numbers capped at n say the same of the numbers below n
-pub capped : (n a b f l : ℕ) → f ≡ min n a → l ≡ min n b → (i : ℕ) → i < n → ((f ≤ i) × (i ≤ l)) ↔ ((a ≤ i) × (i ≤ b))
+pub capped : (n a b f l : ℕ) → f ≡ min n a → l ≡ min n b → (i : ℕ) → i < n → ((f ≤ i) × (i ≤ l))
+    ↔ ((a ≤ i) × (i ≤ b))
 capped n a b f l e g i h = (λ p. (omega (arith, e, p.0), omega (arith, g, p.1)), λ p. (omega (arith, e, p.0), omega (arith, g, p.1)))
 
 pub count_capped : (n a b f l : ℕ) → f ≡ min n a → l ≡ min n b → min n (l + 1) - min n f ≡ min n (b + 1) - min n a
 count_capped n a b f l e g = omega (arith, e, g)
 
-pub under_cap : (n a f : ℕ) → f ≡ min n a → a < n → f ≡ a
+under_cap : (n a f : ℕ) → f ≡ min n a → a < n → f ≡ a
 under_cap n a f e h = omega (arith, e, h)
 
 -- ---- distances
@@ -35,7 +37,8 @@ further from u v h k = omega (arith, ints)
 pub distance_grows : (from u v : ℤ) → u ≤ℤ v → distance from u ≤ distance from v
 distance_grows from u v h =
     by_lt_z from u
-    (λ p. let q : from <ℤ v = omega (arith, ints, p, h) in omega (arith, distance_up from u p, distance_up from v q, further from u v p h))
+    (λ p. let q : from <ℤ v = omega (arith, ints, p, h) in
+    omega (arith, distance_up from u p, distance_up from v q, further from u v p h))
     (λ p. omega (arith, distance_none from u p))
 
 -- ---- cells
@@ -52,8 +55,21 @@ last_cell a n h = div_below a (n / 64 + 1) 64 (omega arith) (omega (arith, div-a
 pub cell_in_grid : (low high z : ℤ) → z ≤ℤ high → cell_of low high z < ACROSS
 cell_in_grid low high z h = last_cell (distance low z) (distance low high) (distance_grows low z high h)
 
-pub corner_in_grid : (area : Bounds) (corner : Corner) → HoldsCorner area corner → (column area corner.x < ACROSS) × (row area corner.y < ACROSS)
+corner_in_grid : (area : Bounds) (corner : Corner) → HoldsCorner area corner → (column area corner.x < ACROSS)
+    × (row area corner.y < ACROSS)
 corner_in_grid area corner h = (cell_in_grid area.low.x area.high.x corner.x h.east, cell_in_grid area.low.y area.high.y corner.y h.north)
+
+-- the column and the row of a corner of the area are below the cap, so that numbers capped there are theirs
+pub cells_in_grid : (area : Bounds) (corner : Corner) (i j : ℕ) → HoldsCorner area corner
+    → i ≡ min ACROSS (column area corner.x) → j ≡ min ACROSS (row area corner.y)
+    → (i ≡ column area corner.x) × (j ≡ row area corner.y) × (column area corner.x < ACROSS) × (row area corner.y < ACROSS)
+cells_in_grid area corner i j h e f =
+    let inside = corner_in_grid area corner h in (
+      under_cap ACROSS (column area corner.x) i e inside.0,
+      under_cap ACROSS (row area corner.y) j f inside.1,
+      inside.0,
+      inside.1,
+    )
 
 -- ---- coordinates that are brought into the area
 kept_in : (low high z : ℤ) → low ≤ℤ high → int_max low (int_min high z) ≤ℤ high

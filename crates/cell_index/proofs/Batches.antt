@@ -1,5 +1,6 @@
 -- Several entries are taken out or added one after another, in room that was made before.
-use Rattle.std.proofs.Common.{◌≡◌, ◌∙◌, ⊎_elim, refl, sym, ap, subst, ℕ, ◌+◌, ◌<◌, ◌≤◌, arith, Bool, true, false, not, ◌&&◌, ◌||◌, List, [], ◌∷◌, ◌++◌, length, get_or, take}
+use Rattle.std.proofs.Common.{◌≡◌, ◌∙◌, ⊎_elim, refl, sym, ap, subst, ℕ, ◌+◌, ◌<◌, ◌≤◌, arith, Bool, true}
+use Rattle.std.proofs.Common.{false, not, ◌&&◌, ◌||◌, List, [], ◌∷◌, ◌++◌, length, get_or, take}
 use Rattle.std.specs.List.{filter, list_any, Contains}
 use Rattle.std.proofs.lemmas.List.{take_more, append_assoc}
 use Rattle.std.proofs.lemmas.List.Elements.{filter_agree, Contains-append_cases}
@@ -10,9 +11,10 @@ use Rattle.geo_exact.specs.declared.bounds.Bounds.{Bounds}
 use Rattle.cell_index.specs.declared.entry.Entry.{Entry}
 use Rattle.cell_index.specs.declared.places.Places.{Places}
 use Rattle.cell_index.specs.Cells.{is_same_entry, without}
-use Rattle.cell_index.specs.own.Ranges.{is_kept_in, place_count, place_at, Cell, cell_at, contents, HaveRoom, HaveRoomForAll, KeepRoom, Keeps, IsChanged, with_entry, passing}
+use Rattle.cell_index.specs.own.Ranges.{is_kept_in, place_count, place_at, Cell, cell_at, contents, HaveRoom}
+use Rattle.cell_index.specs.own.Ranges.{HaveRoomForAll, KeepRoom, Keeps, IsChanged, with_entry, passing}
 use Rattle.cell_index.proofs.KeptPlaces.{place_inside}
-use Rattle.cell_index.proofs.Keeping.{item_at, filter_both, AreWhereKept, changed_there, same_elsewhere, added, removed}
+use Rattle.cell_index.proofs.CellsKept.{item_at, filter_both, AreWhereKept, changed_there, same_elsewhere, added, removed}
 use Rattle.cell_index.proofs.Members.{by_test, either_member}
 
 -- ---- the entries that go, one by one
@@ -23,14 +25,16 @@ not_either false b = refl
 without_both : (gone more entries : List Entry) → without (gone ++ more) entries ≡ without more (without gone entries)
 without_both gone more entries =
     filter_agree _ _
-    (λ e. ap not (list_any-append (is_same_entry e) gone more) ∙ not_either (list_any (is_same_entry e) gone) (list_any (is_same_entry e) more)) entries
+    (λ e. ap not (list_any-append (is_same_entry e) gone more) ∙ not_either (list_any (is_same_entry e) gone)
+    (list_any (is_same_entry e) more)) entries
     ∙ sym (filter_both (λ e. not (list_any (is_same_entry e) more)) (λ e. not (list_any (is_same_entry e) gone)) entries)
 
 pub without_nothing : (entries : List Entry) → without [] entries ≡ entries
 without_nothing [] = refl
 without_nothing (x ∷ xs) = ap (λ ys. x ∷ ys) (without_nothing xs)
 
-pub one_gone_more : (area : Bounds) (places : Places) (gone : List Entry) (n : ℕ) (x : Entry) (old new : List Cell) → n < length gone → x ≡ get_or gone n x
+pub one_gone_more : (area : Bounds) (places : Places) (gone : List Entry) (n : ℕ) (x : Entry) (old new : List Cell)
+    → n < length gone → x ≡ get_or gone n x
     → AreWhereKept places area x.bounds → IsChanged places (place_count places) (passing (λ e. not (is_same_entry e x))) old new
     → (entries : List Entry) → Keeps area old (without (take n gone) entries) → Keeps area new (without (take (n + 1) gone) entries)
 one_gone_more area places gone n x old new inside is where_kept h entries kept =
@@ -41,7 +45,8 @@ one_gone_more area places gone n x old new inside is where_kept h entries kept =
     (removed area places x old new where_kept h (without (take n gone) entries) kept)
 
 -- ---- the entries that come, one by one
-pub one_come_more : (area : Bounds) (places : Places) (come : List Entry) (n : ℕ) (x : Entry) (old new : List Cell) → n < length come → x ≡ get_or come n x
+pub one_come_more : (area : Bounds) (places : Places) (come : List Entry) (n : ℕ) (x : Entry) (old new : List Cell)
+    → n < length come → x ≡ get_or come n x
     → AreWhereKept places area x.bounds → IsChanged places (place_count places) (with_entry x) old new
     → (entries : List Entry) → Keeps area old (entries ++ take n come) → Keeps area new (entries ++ take (n + 1) come)
 one_come_more area places come n x old new inside is where_kept h entries kept =
@@ -52,7 +57,8 @@ one_come_more area places come n x old new inside is where_kept h entries kept =
     (added area places x old new where_kept h (entries ++ take n come) kept)
 
 -- ---- room
-pub room_of : (area : Bounds) (places : Places) (come : List Entry) (count : ℕ) (x : Entry) (cells : List Cell) → Contains come x → 1 ≤ count
+pub room_of : (area : Bounds) (places : Places) (come : List Entry) (count : ℕ) (x : Entry) (cells : List Cell)
+    → Contains come x → 1 ≤ count
     → AreWhereKept places area x.bounds → HaveRoomForAll area come count cells → HaveRoom places (place_count places) 1 cells
 room_of area places come count x cells member some where_kept room m q =
     let inside = place_inside places m q in
@@ -60,7 +66,8 @@ room_of area places come count x cells member some where_kept room m q =
     omega (arith, here, some)
 
 -- a cell that has what it had, and no less room
-still_room : (old new : List Cell) (k count : ℕ) → length old ≡ 4097 → length new ≡ 4097 → contents new ≡ contents old → KeepRoom old new → k ≤ 4096
+still_room : (old new : List Cell) (k count : ℕ) → length old ≡ 4097 → length new ≡ 4097 → contents new ≡ contents old
+    → KeepRoom old new → k ≤ 4096
     → HasRoomFor (cell_at old k) count → HasRoomFor (cell_at new k) count
 still_room old new k count lo ln same more inside room =
     let items : (cell_at new k).items ≡ (cell_at old k).items =
@@ -68,7 +75,8 @@ still_room old new k count lo ln same more inside room =
     omega (arith, room, more k, ap length items)
 
 pub room_for_one_more : (area : Bounds) (places : Places) (come : List Entry) (n count : ℕ) (x : Entry) (old new : List Cell)
-    → n < length come → x ≡ get_or come n x → length old ≡ 4097 → length new ≡ 4097 → contents new ≡ contents old → KeepRoom old new
+    → n < length come → x ≡ get_or come n x → length old ≡ 4097 → length new ≡ 4097 → contents new ≡ contents old
+    → KeepRoom old new
     → AreWhereKept places area x.bounds → HaveRoom places (place_count places) count new
     → HaveRoomForAll area (take n come) count old → HaveRoomForAll area (take (n + 1) come) count new
 room_for_one_more area places come n count x old new inside is lo ln same more where_kept made room e member k within kept =
@@ -104,7 +112,8 @@ one_longer c x count less h room = omega (arith, h, room, length-snoc c.items x)
     length-snoc [] y = refl
     length-snoc (z ∷ xs) y = omega (arith, length-snoc xs y)
 
-pub room_after_adding : (area : Bounds) (places : Places) (x : Entry) (old new : List Cell) (come : List Entry) (count less : ℕ) → less + 1 ≤ count
+pub room_after_adding : (area : Bounds) (places : Places) (x : Entry) (old new : List Cell) (come : List Entry)
+    (count less : ℕ) → less + 1 ≤ count
     → AreWhereKept places area x.bounds → IsChanged places (place_count places) (with_entry x) old new
     → HaveRoomForAll area come count old → HaveRoomForAll area come less new
 room_after_adding area places x old new come count less few where_kept h room e member k inside kept =

@@ -1,5 +1,6 @@
 -- Cells are changed one after another.
-use Rattle.std.proofs.Common.{◌≡◌, ◌≢◌, ◌∙◌, inl, inr, sym, ap, subst, ℕ, ◌+◌, ◌<◌, ◌≤◌, arith, List, [], length, get_or, slice_set, below_more}
+use Rattle.std.proofs.Common.{◌≡◌, ◌≢◌, ◌∙◌, inl, inr, sym, ap, subst, ℕ, ◌+◌, ◌<◌, ◌≤◌, arith, List, []}
+use Rattle.std.proofs.Common.{length, get_or, slice_set, below_more}
 use Rattle.std.proofs.lemmas.Bool.{cases_eq}
 use Rattle.std.proofs.lemmas.List.{get_or-set_same, get_or-set_other, get_or_default, get_or-map, map-set, set-get_or}
 use Rattle.smallvec.specs.SmallVec.{HasRoomFor}
@@ -18,7 +19,8 @@ module _ (places : Places) (n k : ℕ) (below : n < place_count places) (is : k 
 
   -- one cell more is changed
   pub changed_more : (change : Cell → Cell) (old now : List Cell) (d made : Cell) → k < length now
-      → made ≡ change (get_or now k d) → IsChanged places n change old now → IsChanged places (n + 1) change old (slice_set now k made)
+      → made ≡ change (get_or now k d) → IsChanged places n change old now
+      → IsChanged places (n + 1) change old (slice_set now k made)
   changed_more change old now d made inside e h = record {
     changed = below_more (λ m. cell_at (slice_set now k made) (place_at places m) ≡ change (cell_at old (place_at places m))) n
         (λ m q. get_or-set_other now k (place_at places m) made no_cell (other_number m q) ∙ h.changed m q)
@@ -26,7 +28,8 @@ module _ (places : Places) (n k : ℕ) (below : n < place_count places) (is : k 
         (get_or-set_same now k made no_cell inside ∙ e
         ∙ ap change (get_or_default now k d no_cell inside ∙ h.others k other_number)));
     others = λ z off.
-        get_or-set_other now k z made no_cell (λ e. off n (omega arith) (sym is ∙ sym e)) ∙ h.others z (λ m q. off m (omega (arith, q)));
+        get_or-set_other now k z made no_cell (λ e. off n (omega arith) (sym is ∙ sym e))
+        ∙ h.others z (λ m q. off m (omega (arith, q)));
   }
 
   -- one cell more has room, and what stands in the cells stays

@@ -1,5 +1,7 @@
 -- The keys that are gathered from the cells of a range: those of all entries that stand in one of these, each from one cell.
-use Rattle.std.proofs.Common.{◌≡◌, ◌≢◌, ◌↔◌, ◌∙◌, ⊎_elim, refl, sym, ap, subst, ℕ, zero, suc, ◌+◌, ◌*◌, ◌<◌, ◌≤◌, max, min, nat_lt, not, arith, add-one, Bool, true, false, ◌&&◌, List, [], ◌++◌, map, get_or}
+use Rattle.std.proofs.Common.{◌≡◌, ◌≢◌, ◌↔◌, ◌∙◌, ⊎_elim, refl, sym, ap, subst, ℕ, zero, suc, ◌+◌, ◌*◌}
+use Rattle.std.proofs.Common.{◌<◌, ◌≤◌, max, min, nat_lt, not, arith, add-one, Bool, true, false, ◌&&◌, List, []}
+use Rattle.std.proofs.Common.{◌++◌, map, get_or}
 use Rattle.std.specs.List.{filter, Contains, AllPairs}
 use Rattle.std.proofs.lemmas.Bool.{cases_lt, false≢true}
 use Rattle.std.proofs.lemmas.Bool.Decides.{nat_tests}
@@ -10,12 +12,14 @@ use Rattle.geo_exact.specs.declared.corner.Corner.{Corner}
 use Rattle.geo_exact.specs.Places.{origin}
 use Rattle.cell_index.specs.declared.entry.Entry.{Entry}
 use Rattle.cell_index.specs.declared.range.CellRange.{CellRange}
-use Rattle.cell_index.specs.Cells.{column, row, stands_in, is_wide, narrow, Grid, Indexes, HaveOwnKeys, IsCellBetween, IsKeyBetween, StandsBetween}
-use Rattle.cell_index.specs.own.Ranges.{HasCell, cell_count, column_at, row_at, number_at, is_first_common, is_first_at, gathered, has_some_of}
+use Rattle.cell_index.specs.Cells.{column, row, stands_in, is_wide, narrow, Grid, Indexes, HaveOwnKeys, IsCellBetween}
+use Rattle.cell_index.specs.Cells.{IsKeyBetween, StandsBetween}
+use Rattle.cell_index.specs.own.Ranges.{HasCell, cell_count, column_at, row_at, number_at, is_first_common}
+use Rattle.cell_index.specs.own.Ranges.{is_first_at, gathered, has_some_of}
 use Rattle.cell_index.proofs.Along.{between_in_grid}
 use Rattle.cell_index.proofs.Members.{by_test, filtered, from_filtered, mapped, from_mapped, pairs_joined, pairs_mapped, same_member}
 use Rattle.cell_index.proofs.Ranges.{has_cell, column_in_grid, row_in_grid, nth_cell, one_number}
-use Rattle.cell_index.proofs.Standing.{Stands, Decides-stands}
+use Rattle.cell_index.proofs.BoxesInCells.{Stands, Decides-stands}
 
 -- what the n-th cell gives
 abbrev gives : Bounds → CellRange → List (List Entry) → ℕ → List Entry
@@ -48,7 +52,8 @@ and_true a b e f = rw (e, f) refl
 
 -- in each cell are exactly the entries whose boxes stand there
 abbrev InCells : Bounds → List (List Entry) → List Entry → Type 0
-InCells area cells entries = (i j : ℕ) → i < 64 → j < 64 → get_or cells (64 * i + j) [] ≡ filter (λ e. stands_in area i j e.bounds) entries
+InCells area cells entries = (i j : ℕ) → i < 64 → j < 64 → get_or cells (64 * i + j) []
+    ≡ filter (λ e. stands_in area i j e.bounds) entries
 
 module _ (area : Bounds) (range : CellRange) (cells : List (List Entry)) (entries : List Entry)
     (index : InCells area cells entries) where
@@ -60,7 +65,8 @@ module _ (area : Bounds) (range : CellRange) (cells : List (List Entry)) (entrie
   -- an entry that stands in the n-th cell, which is its first
   abbrev IsGivenAt : ℕ → Entry → Type 0
   IsGivenAt n e =
-      Contains entries e × (stands_in area (column_at range n) (row_at range n) e.bounds ≡ true) × (is_first_at area range n e.bounds ≡ true)
+      Contains entries e × (stands_in area (column_at range n) (row_at range n) e.bounds ≡ true)
+      × (is_first_at area range n e.bounds ≡ true)
 
   given_at : (n : ℕ) (e : Entry) → n < cell_count range → Contains (gives area range cells n) e → IsGivenAt n e
   given_at n e b h =
@@ -103,8 +109,10 @@ module _ (area : Bounds) (range : CellRange) (cells : List (List Entry)) (entrie
   -- ---- each once
   one_cell : (m n : ℕ) (e : Entry) → m < cell_count range → n < cell_count range → IsGivenAt m e → IsGivenAt n e → m ≡ n
   one_cell m n e b c h k =
-      let at_m : Stands area (column_at range m) (row_at range m) e.bounds = (Decides-stands area (column_at range m) (row_at range m) e.bounds).0 h.1 in
-      let at_n : Stands area (column_at range n) (row_at range n) e.bounds = (Decides-stands area (column_at range n) (row_at range n) e.bounds).0 k.1 in
+      let at_m : Stands area (column_at range m) (row_at range m) e.bounds =
+      (Decides-stands area (column_at range m) (row_at range m) e.bounds).0 h.1 in
+      let at_n : Stands area (column_at range n) (row_at range n) e.bounds =
+      (Decides-stands area (column_at range n) (row_at range n) e.bounds).0 k.1 in
       let first_m = both_true _ _ h.2 in
       let first_n = both_true _ _ k.2 in
       let has_m : HasCell range (column_at range m) (row_at range m) = has_cell range m b in
@@ -134,7 +142,8 @@ module _ (area : Bounds) (range : CellRange) (cells : List (List Entry)) (entrie
       omega (arith, m.1, number))
 
   -- ---- exactly those that stand between
-  module _ (low high : Corner) (covers : (i j : ℕ) → i < 64 → j < 64 → HasCell range i j ↔ IsCellBetween area low high i j) (key : ℕ) where
+  module _ (low high : Corner) (covers : (i j : ℕ) → i < 64 → j < 64 → HasCell range i j
+      ↔ IsCellBetween area low high i j) (key : ℕ) where
     stands_between : Contains (gathered area range cells (cell_count range)) key → IsKeyBetween area low high entries key
     stands_between h =
         let m = from_gathered (cell_count range) key (omega arith) h in
@@ -146,7 +155,8 @@ module _ (area : Bounds) (range : CellRange) (cells : List (List Entry)) (entrie
         )
 
     -- the first cell that the entry has in common with the range
-    from_first : (e : Entry) → Contains entries e → e.key ≡ key → (i j : ℕ) → HasCell range i j → stands_in area i j e.bounds ≡ true
+    from_first : (e : Entry) → Contains entries e → e.key ≡ key → (i j : ℕ) → HasCell range i j
+        → stands_in area i j e.bounds ≡ true
         → Contains (gathered area range cells (cell_count range)) key
     from_first e member is i j has stands =
         let s : Stands area i j e.bounds = (Decides-stands area i j e.bounds).0 stands in
@@ -170,7 +180,8 @@ module _ (area : Bounds) (range : CellRange) (cells : List (List Entry)) (entrie
               rw (n.2, n.3) there,
               and_true (is_first_common range.columns.first (column area e.bounds.low.x) (column_at range n.0))
                   (is_first_common range.rows.first (row area e.bounds.low.y) (row_at range n.0))
-                  (rw n.2 (is_first range.columns.first (column area e.bounds.low.x))) (rw n.3 (is_first range.rows.first (row area e.bounds.low.y))),
+                  (rw n.2 (is_first range.columns.first (column area e.bounds.low.x)))
+                  (rw n.3 (is_first range.rows.first (row area e.bounds.low.y))),
             ),
             is,
           ),
@@ -185,7 +196,8 @@ module _ (area : Bounds) (range : CellRange) (cells : List (List Entry)) (entrie
     exactly = (stands_between, is_gathered)
 
 -- ---- what is beside the cells
-common_test : (f n a b : ℕ) → nat_lt (max f a) (min (f + n) (b + 1)) ≡ true → (i : ℕ) × ((f ≤ i) × (i < f + n)) × ((a ≤ i) × (i ≤ b))
+common_test : (f n a b : ℕ) → nat_lt (max f a) (min (f + n) (b + 1)) ≡ true → (i : ℕ) × ((f ≤ i) × (i < f + n))
+    × ((a ≤ i) × (i ≤ b))
 common_test f n a b t =
     let less : max f a < min (f + n) (b + 1) = grind (arith, nat_tests) in
     (max f a, (omega arith, omega (arith, less)), (omega arith, omega (arith, less)))
@@ -213,7 +225,8 @@ module _ (area : Bounds) (range : CellRange) (low high : Corner)
       let has : HasCell range i j = (covers i j inside.0 inside.1).1 between in
       let s : Stands area i j box = (Decides-stands area i j box).0 stands in
       and_true _ _
-      (common_found range.columns.first range.columns.count (column area box.low.x) (column area box.high.x) i has.from_column has.to_column s.0.0 s.0.1)
+      (common_found range.columns.first range.columns.count (column area box.low.x) (column area box.high.x) i
+      has.from_column has.to_column s.0.0 s.0.1)
       (common_found range.rows.first range.rows.count (row area box.low.y) (row area box.high.y) j has.from_row has.to_row s.1.0 s.1.1)
 
 -- ---- what is in the cells and what is beside them
@@ -236,14 +249,16 @@ module _ (grid : Grid) (range : CellRange) (entries : List Entry) (index : Index
       let is = from_filtered IsWide entries m.0 (subst (λ xs. Contains xs m.0) index.beside_cells some.0) in
       (m.0, is.0, m.2, is.1, some.1)
 
-  pub all_exactly : (low high : Corner) → ((i j : ℕ) → i < 64 → j < 64 → HasCell range i j ↔ IsCellBetween grid.area low high i j) → (key : ℕ)
+  pub all_exactly : (low high : Corner) → ((i j : ℕ) → i < 64 → j < 64 → HasCell range i j
+      ↔ IsCellBetween grid.area low high i j) → (key : ℕ)
       → Contains all_found key ↔ IsKeyBetween grid.area low high entries key
   all_exactly low high covers key = (
     λ h. ⊎_elim
         (λ in_cells.
         let found = (exactly grid.area range grid.cells (narrow grid.area entries) index.in_cells low high covers key).0 in_cells in
         (found.0, (from_filtered (λ e. not (IsWide e)) entries found.0 found.1).0, found.2, found.3))
-        (λ beside. let found = from_beside key beside in (found.0, found.1, found.2, some_stand grid.area range low high covers found.0.bounds found.4))
+        (λ beside. let found = from_beside key beside in
+        (found.0, found.1, found.2, some_stand grid.area range low high covers found.0.bounds found.4))
         (Contains-append_cases (gathered grid.area range grid.cells (cell_count range)) (found_beside grid.area range grid.beside) key h),
     λ k. by_test (IsWide k.0)
         (λ w. Contains-append_right (gathered grid.area range grid.cells (cell_count range)) (found_beside grid.area range grid.beside) key

@@ -1,5 +1,6 @@
 -- The places of an entry, one by one: each has a number of its own, and they are the cells that the entry is kept in.
-use Rattle.std.proofs.Common.{◌≡◌, ◌↔◌, ◌∙◌, sym, ap, subst, ℕ, ◌+◌, ◌*◌, ◌/◌, ◌%◌, ◌<◌, ◌≤◌, ◌==◌, arith, Bool, true, false, not, ◌&&◌, cond, ⊎_elim}
+use Rattle.std.proofs.Common.{◌≡◌, ◌↔◌, ◌∙◌, sym, ap, subst, ℕ, ◌+◌, ◌*◌, ◌/◌, ◌%◌, ◌<◌, ◌≤◌}
+use Rattle.std.proofs.Common.{◌==◌, arith, Bool, true, false, not, ◌&&◌, cond, ⊎_elim}
 use Rattle.std.specs.Prelude.{IsTrue}
 use Rattle.std.proofs.Math.Nat.{div-add-mod'}
 use Rattle.std.proofs.lemmas.Bool.{cases_lt, false≢true}
@@ -13,7 +14,8 @@ use Rattle.cell_index.specs.Cells.{stands_in, is_wide}
 use Rattle.cell_index.specs.own.Ranges.{HasCell, cell_count, column_at, row_at, number_at, is_kept_in, place_count, place_at, HasPlace}
 use Rattle.cell_index.proofs.Ranges.{nth_cell, has_cell, row_in_grid, column_in_grid, same_cell_number, one_number}
 
-pub one_place : (places : Places) (m n : ℕ) → m < place_count places → n < place_count places → place_at places m ≡ place_at places n → m ≡ n
+pub one_place : (places : Places) (m n : ℕ) → m < place_count places → n < place_count places → place_at places m
+    ≡ place_at places n → m ≡ n
 one_place (Cells range) m n b c e = one_number range m n b c e
 one_place Wide m n b c e = omega (arith, b, c)
 
@@ -43,7 +45,8 @@ row_of i j h = ap (λ n. n % 64) (swapped i j) ∙ mod-mul-add i 64 j h
 is_no_wide_cell : (k : ℕ) → k < 4096 → (k == 4096) ≡ false
 is_no_wide_cell k h = grind (arith, nat_tests)
 
-pub kept_in_grid : (area box : Bounds) (k : ℕ) → k < 4096 → is_kept_in area k box ≡ (not (is_wide area box) && stands_in area (k / 64) (k % 64) box)
+pub kept_in_grid : (area box : Bounds) (k : ℕ) → k < 4096 → is_kept_in area k box
+    ≡ (not (is_wide area box) && stands_in area (k / 64) (k % 64) box)
 kept_in_grid area box k h =
     ap (λ b. cond b (is_wide area box) (not (is_wide area box) && stands_in area (k / 64) (k % 64) box)) (is_no_wide_cell k h)
 
@@ -76,11 +79,13 @@ pub cells_hold : (area box : Bounds) (range : CellRange) → Covers range area b
 cells_hold area box range covers narrow k inside = by_lt k 4096
     (λ in_grid. (
       λ place.
-          let same = same_cell_number (column_at range place.0) (row_at range place.0) (k / 64) (k % 64) (row_in_grid range place.0 place.1) (low_row k)
+          let same = same_cell_number (column_at range place.0) (row_at range place.0) (k / 64) (k % 64)
+          (row_in_grid range place.0 place.1) (low_row k)
           (place.2 ∙ sym (whole k)) in
           kept_in_grid area box k in_grid ∙ narrow_kept (is_wide area box) (stands_in area (k / 64) (k % 64) box) narrow
           ((covers (k / 64) (k % 64) (low_column k in_grid) (low_row k)).0
-          (subst (HasCell range (k / 64)) same.1 (subst (λ a. HasCell range a (row_at range place.0)) same.0 (has_cell range place.0 place.1)))),
+          (subst (HasCell range (k / 64)) same.1 (subst (λ a. HasCell range a (row_at range place.0)) same.0
+          (has_cell range place.0 place.1)))),
       λ t.
           let n = nth_cell range (k / 64) (k % 64) ((covers (k / 64) (k % 64) (low_column k in_grid) (low_row k)).1
           (stands_if_kept (is_wide area box) (stands_in area (k / 64) (k % 64) box) (sym (kept_in_grid area box k in_grid) ∙ t))) in
@@ -101,10 +106,12 @@ cells_hold area box range covers narrow k inside = by_lt k 4096
     in_grid_only : (n : ℕ) → n < cell_count range → number_at range n ≡ 4096 → ⊥
     in_grid_only n b e = omega (arith, row_in_grid range n b, column_in_grid range n b, e)
 
-pub wide_holds : (area box : Bounds) → is_wide area box ≡ true → (k : ℕ) → k ≤ 4096 → HasPlace Wide k ↔ IsTrue (is_kept_in area k box)
+pub wide_holds : (area box : Bounds) → is_wide area box ≡ true → (k : ℕ) → k ≤ 4096 → HasPlace Wide k
+    ↔ IsTrue (is_kept_in area k box)
 wide_holds area box w k inside = (
   λ place. subst (λ n. is_kept_in area n box ≡ true) place.2 w,
   λ t. by_lt k 4096
-      (λ in_grid. absurd (not_kept (is_wide area box) (stands_in area (k / 64) (k % 64) box) w (sym (kept_in_grid area box k in_grid) ∙ t)))
+      (λ in_grid. absurd (not_kept (is_wide area box) (stands_in area (k / 64) (k % 64) box) w
+      (sym (kept_in_grid area box k in_grid) ∙ t)))
       (λ behind. (0, omega arith, omega (arith, inside, behind))),
 )

@@ -2,9 +2,9 @@ pub mod Along
 pub mod Ranges
 pub mod KeptPlaces
 pub mod Changes
-pub mod Standing
+pub mod BoxesInCells
 pub mod Members
-pub mod Keeping
+pub mod CellsKept
 pub mod Batches
 pub mod Gathered
 pub mod Searches

@@ -1,5 +1,6 @@
 -- Members of lists that are mapped, filtered and joined, and pairs of them.
-use Rattle.std.proofs.Common.{◌≡◌, ◌≢◌, ◌⊎◌, ◌∙◌, inl, inr, ⊎_elim, refl, sym, ap, subst, zero, suc, ◌-◌, ◌<◌, arith, Bool, true, false, ◌&&◌, cond, List, [], ◌∷◌, ◌++◌, length, map, get_or}
+use Rattle.std.proofs.Common.{◌≡◌, ◌≢◌, ◌⊎◌, ◌∙◌, inl, inr, ⊎_elim, refl, sym, ap, subst, zero, suc, ◌-◌}
+use Rattle.std.proofs.Common.{◌<◌, arith, Bool, true, false, ◌&&◌, cond, List, [], ◌∷◌, ◌++◌, length, map, get_or}
 use Rattle.std.specs.List.{filter, Contains, AllPairs}
 use Rattle.std.proofs.lemmas.Bool.{cases_lt}
 use Rattle.std.proofs.lemmas.List.{length-map, length-append, get_or-map, get_or_append_left, get_or-append_right, get_or_default}
@@ -78,14 +79,16 @@ module _ {X : Type 0} where
       (cases_lt i (length xs))))
       (cases_lt j (length xs))
 
-  pub pairs_mapped : {Y : Type 0} (f : X → Y) (e : X) (xs : List X) → AllPairs (λ x y. f x ≢ f y) xs → AllPairs (λ x y. x ≢ y) (map f xs)
+  pub pairs_mapped : {Y : Type 0} (f : X → Y) (e : X) (xs : List X) → AllPairs (λ x y. f x ≢ f y) xs
+      → AllPairs (λ x y. x ≢ y) (map f xs)
   pairs_mapped f e xs h i j d before below =
       let inside : j < length xs = omega (arith, below, length-map xs f) in
       let first : i < length xs = omega (arith, before, inside) in
       λ same. h i j e before inside (sym (get_or-map f xs i e d first) ∙ same ∙ get_or-map f xs j e d inside)
 
   -- members that are told apart by f are equal where f is
-  pub same_member : {Y : Type 0} (f : X → Y) (xs : List X) (x y : X) → AllPairs (λ a b. f a ≢ f b) xs → Contains xs x → Contains xs y → f x ≡ f y → x ≡ y
+  pub same_member : {Y : Type 0} (f : X → Y) (xs : List X) (x y : X) → AllPairs (λ a b. f a ≢ f b) xs → Contains xs x
+      → Contains xs y → f x ≡ f y → x ≡ y
   same_member f xs x y apart h k e =
       ⊎_elim
       (λ less. absurd (apart h.0 k.0 x less k.1 (ap f h.2 ∙ e ∙ sym (ap f (get_or_default xs k.0 x y k.1 ∙ k.2)))))

@@ -44,15 +44,18 @@ same_place m n r e f = sym (div-add-mod' m r) ∙ ap (λ q. q * r + m % r) e ∙
 cancel : (a b c : ℕ) → a + b ≡ a + c → b ≡ c
 cancel a b c e = omega (arith, e)
 
-pub one_number : (range : CellRange) (m n : ℕ) → m < cell_count range → n < cell_count range → number_at range m ≡ number_at range n → m ≡ n
+pub one_number : (range : CellRange) (m n : ℕ) → m < cell_count range → n < cell_count range → number_at range m
+    ≡ number_at range n → m ≡ n
 one_number range m n h b e =
-    let same = same_cell_number (column_at range m) (row_at range m) (column_at range n) (row_at range n) (row_in_grid range m h) (row_in_grid range n b) e in
+    let same = same_cell_number (column_at range m) (row_at range m) (column_at range n) (row_at range n)
+    (row_in_grid range m h) (row_in_grid range n b) e in
     same_place m n range.rows.count
     (cancel range.columns.first (m / range.rows.count) (n / range.rows.count) same.0)
     (cancel range.rows.first (m % range.rows.count) (n % range.rows.count) same.1)
 
 -- each cell of the range is the n-th, for some n
-pub nth_cell : (range : CellRange) (i j : ℕ) → HasCell range i j → (n : ℕ) × (n < cell_count range) × (column_at range n ≡ i) × (row_at range n ≡ j)
+pub nth_cell : (range : CellRange) (i j : ℕ) → HasCell range i j → (n : ℕ) × (n < cell_count range)
+    × (column_at range n ≡ i) × (row_at range n ≡ j)
 nth_cell range i j h =
     let a : ℕ = i - range.columns.first in
     let b : ℕ = j - range.rows.first in

@@ -12,11 +12,11 @@ use Rattle.geo_exact.specs.Interiors.{InteriorsMeet}
 use Rattle.geo_exact.specs.Point.{Point, corner_point}
 use Rattle.geo_exact.specs.Turn.{IsOnRing}
 use Rattle.geo_exact.specs.Winding.{winding, IsInterior}
-use Rattle.geo_exact.proofs.BeyondBoxes.{beyond_box}
-use Rattle.geo_exact.proofs.Signs.{mul_lt}
+use Rattle.geo_exact.proofs.boxes.BeyondBoxes.{beyond_box}
+use Rattle.geo_exact.proofs.numbers.Signs.{mul_lt}
 use Rattle.cell_index.specs.Cells.{cell_of, column, row, stands_at, brought_into, StandsBetween}
 use Rattle.cell_index.proofs.Along.{cell_grows}
-use Rattle.cell_index.proofs.Standing.{Decides-stands}
+use Rattle.cell_index.proofs.BoxesInCells.{Decides-stands}
 
 -- ---- one cell
 short : (z l : ℤ) → z <ℤ l → z <ℤ (l *ℤ pos 1)
@@ -25,7 +25,8 @@ short z l h = omega (arith, ints, h)
 past : (z l : ℤ) → l <ℤ z → (l *ℤ pos 1) <ℤ z
 past z l h = omega (arith, ints, h)
 
-pub beyond_or_stands : (area box : Bounds) (corner : Corner) → IsBeyondBox (corner_point corner) box ⊎ IsTrue (stands_at area corner box)
+pub beyond_or_stands : (area box : Bounds) (corner : Corner) → IsBeyondBox (corner_point corner) box
+    ⊎ IsTrue (stands_at area corner box)
 beyond_or_stands area box corner =
     by_lt_z corner.x box.low.x (λ h. inl (inl (short corner.x box.low.x h)))
     (λ west. by_lt_z box.high.x corner.x (λ h. inl (inr (inl (past corner.x box.high.x h))))
@@ -63,14 +64,18 @@ brought_grows a b u v h = omega (arith, ints, clamps, h)
 
 -- along one axis: the area from a to b, in it a box from l to h, and corners at u and v
 common_cell : (a b l h u v : ℤ) → a ≤ℤ l → h ≤ℤ b → l ≤ℤ h → u ≤ℤ v → l ≤ℤ v → u ≤ℤ h
-    → (i : ℕ) × ((cell_of a b l ≤ i) × (i ≤ cell_of a b h)) × ((cell_of a b (brought_into a b u) ≤ i) × (i ≤ cell_of a b (brought_into a b v)))
+    → (i : ℕ) × ((cell_of a b l ≤ i) × (i ≤ cell_of a b h)) × ((cell_of a b (brought_into a b u) ≤ i)
+    × (i ≤ cell_of a b (brought_into a b v)))
 common_cell a b l h u v al hb lh uv lv uh =
     let one : cell_of a b l ≤ cell_of a b h = cell_grows a b l h lh in
     let two : cell_of a b (brought_into a b u) ≤ cell_of a b h = cell_grows a b (brought_into a b u) h (kept_high a b l h u al lh uh) in
     let three : cell_of a b l ≤ cell_of a b (brought_into a b v) = cell_grows a b l (brought_into a b v) (kept_low a b l h v lh hb lv) in
     let four : cell_of a b (brought_into a b u) ≤ cell_of a b (brought_into a b v) =
-    cell_grows a b (brought_into a b u) (brought_into a b v) (brought_grows a b u v uv) in
-    (max (cell_of a b l) (cell_of a b (brought_into a b u)), (omega arith, omega (arith, one, two)), (omega arith, omega (arith, three, four)))
+    cell_grows a b (brought_into a b u) (brought_into a b v) (brought_grows a b u v uv) in (
+      max (cell_of a b l) (cell_of a b (brought_into a b u)),
+      (omega arith, omega (arith, one, two)),
+      (omega arith, omega (arith, three, four)),
+    )
 
 -- what a place says of the two ends of a range that has it
 unscaled : (d x u v : ℤ) → pos 0 <ℤ d → (x <ℤ (u *ℤ d) → ⊥) → ((v *ℤ d) <ℤ x → ⊥) → u ≤ℤ v
@@ -82,11 +87,13 @@ unscaled d x u v h low high =
     le_lt : (s t r : ℤ) → s <ℤ t → t ≤ℤ r → s <ℤ r
     le_lt s t r h k = omega (arith, ints, h, k)
 
-pub interiors_share_a_cell : (area box : Bounds) (low high : Corner) (ring other : List Corner) → All (HoldsCorner box) ring → IsWider box area
+pub interiors_share_a_cell : (area box : Bounds) (low high : Corner) (ring other : List Corner)
+    → All (HoldsCorner box) ring → IsWider box area
     → All (HoldsCorner (record { low = low; high = high })) other → InteriorsMeet ring other → StandsBetween area low high box
 interiors_share_a_cell area box low high ring other all wider between (p, inner, outer) =
     let in_box : ¬ IsBeyondBox p box = λ b. (off_ring p box ring all b).1 inner in
-    let in_search : ¬ IsBeyondBox p (record { low = low; high = high }) = λ b. (off_ring p (record { low = low; high = high }) other between b).1 outer in
+    let in_search : ¬ IsBeyondBox p (record { low = low; high = high }) =
+    λ b. (off_ring p (record { low = low; high = high }) other between b).1 outer in
     let i = common_cell area.low.x area.high.x box.low.x box.high.x low.x high.x wider.0.0 wider.0.1
     (unscaled p.d p.x box.low.x box.high.x p.d_positive (λ h. in_box (inl h)) (λ h. in_box (inr (inl h))))
     (unscaled p.d p.x low.x high.x p.d_positive (λ h. in_search (inl h)) (λ h. in_search (inr (inl h))))

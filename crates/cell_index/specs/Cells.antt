@@ -1,5 +1,7 @@
 -- A grid of 64 by 64 cells over an area, and which boxes stand in which of its cells (this product's own).
-use Rattle.std.specs.Prelude.{◌≡◌, ◌≢◌, ℕ, ℤ, ◌+◌, ◌-◌, ◌*◌, ◌/◌, ◌<◌, ◌≤◌, ◌-ℤ◌, int_lt, nat_eq, nat_le, nat_lt, min, Bool, ◌&&◌, not, IsTrue, if◌then◌else◌, unsigned_abs, List, [], ◌++◌, length, slice_index_or}
+use Rattle.std.specs.Prelude.{◌≡◌, ◌≢◌, ℕ, ℤ, ◌+◌, ◌-◌, ◌*◌, ◌/◌, ◌<◌, ◌≤◌, ◌-ℤ◌, int_lt}
+use Rattle.std.specs.Prelude.{nat_eq, nat_le, nat_lt, min, Bool, ◌&&◌, not, IsTrue, if◌then◌else◌, unsigned_abs, List}
+use Rattle.std.specs.Prelude.{[], ◌++◌, length, slice_index_or}
 use Rattle.std.specs.Int.{int_min, int_max}
 use Rattle.std.specs.List.{filter, list_any, Contains, AllPairs}
 use Rattle.geo_exact.specs.declared.bounds.Bounds.{Bounds}
@@ -33,7 +35,8 @@ is_among m n i = nat_le m i && nat_le i n
 
 -- the box stands in the cell of column i and row j: both lie between those of the box's two corners
 abbrev pub stands_in : Bounds → ℕ → ℕ → Bounds → Bool
-stands_in area i j box = is_among (column area box.low.x) (column area box.high.x) i && is_among (row area box.low.y) (row area box.high.y) j
+stands_in area i j box = is_among (column area box.low.x) (column area box.high.x) i && is_among (row area box.low.y)
+    (row area box.high.y) j
 
 -- the box stands in the corner's cell
 abbrev pub stands_at : Bounds → Corner → Bounds → Bool

@@ -6,7 +6,8 @@ ghost use Rattle.cell_index.specs.Cells.{distance as distance_of, cell_side as s
 /// How many cells the grid has along each axis.
 pub(crate) const ACROSS: usize = 64;
 
-/// The most cells that a box stands in and is still kept in: two columns, or two rows. A strip across the area stands in no more.
+/// The most cells that a box stands in and is still kept in: two columns, or two rows. A strip
+/// across the area stands in no more.
 pub(crate) const MOST_CELLS: usize = 128;
 
 /// How far `to` is above `from`, in centimetres; 0 where it is not.

@@ -9,8 +9,8 @@ use crate::places::places_of;
 use geo_exact::Bounds;
 use std::alloc::{AllocError, Allocator};
 
-/// Makes room for so many entries in each cell that some entries will be kept in. What is kept does not change, also where memory
-/// is refused.
+/// Makes room for so many entries in each cell that some entries will be kept in. What is kept does
+/// not change, also where memory is refused.
 pub fn make_room_for_all<'a, H: Allocator>(
     cells: &mut [Cell<'a, H>],
     area: Bounds,

@@ -8,11 +8,12 @@ use crate::places::Places;
 use smallvec::SmallVec;
 use std::alloc::{AllocError, Allocator};
 
-/// What is kept in one cell. Four entries lie in the cell itself: most cells over a town of a thousand parcels have no more, and
-/// need no memory of their own.
+/// What is kept in one cell. Four entries lie in the cell itself: most cells over a town of a
+/// thousand parcels have no more, and need no memory of their own.
 pub type Cell<'a, H> = SmallVec<Entry, 4, &'a H>;
 
-/// Makes room for `count` more entries in each of some cells. What is kept in them does not change, also where memory is refused.
+/// Makes room for `count` more entries in each of some cells. What is kept in them does not change,
+/// also where memory is refused.
 pub fn make_room<'a, H: Allocator>(
     cells: &mut [Cell<'a, H>],
     places: Places,

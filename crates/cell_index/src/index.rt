@@ -16,13 +16,14 @@ use smallvec::SmallVec;
 use std::alloc::{AllocError, Allocator};
 use std::marker::Model;
 
-/// Which boxes stand in which cells of a grid of 64 by 64 cells over an area. Contracts see the area and what stands in each
-/// cell.
+/// Which boxes stand in which cells of a grid of 64 by 64 cells over an area. Contracts see the
+/// area and what stands in each cell.
 ///
-/// A cell is `(high - low) / 64 + 1` centimetres wide, whole division, and likewise high. A box stands in the cells between
-/// those of its two corners, these included. An entry is kept in each cell where its box stands, its key and its box side by
-/// side; but where these are more than 128 cells, the box is wide, and its entry is kept once, beside the cells. So a search reads
-/// one cell and what is beside the cells. The memory is that of the heap that was lent.
+/// A cell is `(high - low) / 64 + 1` centimetres wide, whole division, and likewise high. A box
+/// stands in the cells between those of its two corners, these included. An entry is kept in each
+/// cell where its box stands, its key and its box side by side; but where these are more than 128
+/// cells, the box is wide, and its entry is kept once, beside the cells. So a search reads one cell
+/// and what is beside the cells. The memory is that of the heap that was lent.
 #[derive(Drop)]
 pub struct CellIndex<'a, H: Allocator> {
     area: Bounds,
@@ -96,8 +97,8 @@ impl<'a, H: Allocator> CellIndex<'a, H> {
         );
     }
 
-    /// Takes out what is gone and then adds what comes. Room is made for all of it first, so where memory is refused, nothing has
-    /// changed.
+    /// Takes out what is gone and then adds what comes. Room is made for all of it first, so where
+    /// memory is refused, nothing has changed.
     ///
     /// # Errors
     ///
@@ -114,8 +115,8 @@ impl<'a, H: Allocator> CellIndex<'a, H> {
         Ok(())
     }
 
-    /// What is kept in the cell of a corner in the area: what stands there and is not wide. What is wide is [`beside`](Self::beside)
-    /// the cells, wherever it stands.
+    /// What is kept in the cell of a corner in the area: what stands there and is not wide. What is
+    /// wide is [`beside`](Self::beside) the cells, wherever it stands.
     pub fn at(&self, corner: Corner) -> &[Entry]
         requires { HoldsCorner self.now.area corner }
         ensures { (entries : List Entry) → Indexes self.now entries → result.now
@@ -134,9 +135,9 @@ impl<'a, H: Allocator> CellIndex<'a, H> {
         kept.as_slice()
     }
 
-    /// The keys of the entries that stand in some cell between the cells of two corners, these included, each once. The corners,
-    /// the first west and south of the second, are brought into the area first, to the nearer end where a coordinate lies
-    /// outside.
+    /// The keys of the entries that stand in some cell between the cells of two corners, these
+    /// included, each once. The corners, the first west and south of the second, are brought into the
+    /// area first, to the nearer end where a coordinate lies outside.
     ///
     /// # Errors
     ///

@@ -49,7 +49,8 @@ fn is_first_common(first: usize, i: usize, low: i64, high: i64, z: i64) -> bool
     i == first || i == cell_of(low, high, z)
 }
 
-/// Whether some cells of a span along an axis are among those from the one that `from` is in to the one that `to` is in.
+/// Whether some cells of a span along an axis are among those from the one that `from` is in to the
+/// one that `to` is in.
 fn have_common(span: Span, low: i64, high: i64, from: i64, to: i64) -> bool
     ensures { result ≡ common_along span (cell_along low high from) (cell_along low high to) }
 {
@@ -84,8 +85,8 @@ impl CellRange {
         self.rows.first + n % self.rows.count
     }
 
-    /// Whether the `n`-th cell is the first, in both directions, that the range has in common with the cells of a box that
-    /// stands there.
+    /// Whether the `n`-th cell is the first, in both directions, that the range has in common with
+    /// the cells of a box that stands there.
     pub fn is_first(self, area: Bounds, n: usize, bounds: Bounds) -> bool
         requires { n < cell_count self }
         ensures { result ≡ is_first_at area self n bounds }

@@ -1,5 +1,6 @@
 -- Files of clerks' edits, read one after the other.
-use Rattle.std.proofs.Common.{◌≡◌, ◌⊎◌, inl, inr, ℕ, ◌+◌, List, [], ◌∷◌, ◌++◌, sym, ◌∙◌, subst, append_assoc, append-nil}
+use Rattle.std.proofs.Common.{◌≡◌, ◌⊎◌, inl, inr, ℕ, ◌+◌, List, [], ◌∷◌, ◌++◌, sym, ◌∙◌, subst}
+use Rattle.std.proofs.Common.{append_assoc, append-nil}
 use Rattle.ring_edits.specs.declared.edit.Edit.{Edit}
 use Rattle.line_files.specs.ClerkFile.{IsClerkFile, IsFirstBadLine}
 use Rattle.clerk_runs.specs.declared.files.FilesFault.{FilesFault}
@@ -7,7 +8,8 @@ use Rattle.clerk_runs.specs.declared.files.FilesFault.TheVariants.{BadLine, NoMe
 use Rattle.clerk_runs.specs.ClerkFiles.{AreClerkFiles, IsFirstBadFrom, IsFirstBadOfAll}
 
 -- the files before these are read, and have no bad line
-pub record HaveRead {A : Type 0} (all : List (List ℕ)) (first : ℕ) (left : List (List ℕ)) (clerks : List (List (ℕ × Edit A))) : Type 0 where
+pub record HaveRead {A : Type 0} (all : List (List ℕ)) (first : ℕ) (left : List (List ℕ))
+    (clerks : List (List (ℕ × Edit A))) : Type 0 where
   pub adds : (more : List (List (ℕ × Edit A))) → AreClerkFiles left more → AreClerkFiles all (clerks ++ more)
   pub is_fault : (clerk line : ℕ) → IsFirstBadFrom first left clerk line → IsFirstBadOfAll all clerk line
   pub is_here : (clerk line : ℕ) → IsFirstBadOfAll all clerk line → IsFirstBadFrom first left clerk line
@@ -17,7 +19,8 @@ pub none_read : {A : Type 0} (all : List (List ℕ)) → HaveRead {A = A} all 1 
 none_read all = record { adds = λ more m. m; is_fault = λ clerk line h. h; is_here = λ clerk line h. h }
 
 -- one file more
-pub more_read : {A : Type 0} (all : List (List ℕ)) (first : ℕ) (file : List ℕ) (left : List (List ℕ)) (clerks : List (List (ℕ × Edit A)))
+pub more_read : {A : Type 0} (all : List (List ℕ)) (first : ℕ) (file : List ℕ) (left : List (List ℕ))
+    (clerks : List (List (ℕ × Edit A)))
     (edits : List (ℕ × Edit A)) → HaveRead all first (file ∷ left) clerks → IsClerkFile file edits
     → ((line : ℕ) → ¬ IsFirstBadLine file line) → HaveRead all (first + 1) left (clerks ++ edits ∷ [])
 more_read all first file left clerks edits h is good = record {
@@ -37,7 +40,8 @@ same_line : (a b m n : ℕ) → BadLine a m ≡ BadLine b n → m ≡ n
 same_line a b m n is = cc is
 
 -- where the next file has a bad line, that is the fault
-pub is_told : {A : Type 0} (all : List (List ℕ)) (first : ℕ) (file : List ℕ) (left : List (List ℕ)) (clerks : List (List (ℕ × Edit A)))
+pub is_told : {A : Type 0} (all : List (List ℕ)) (first : ℕ) (file : List ℕ) (left : List (List ℕ))
+    (clerks : List (List (ℕ × Edit A)))
     (e : FilesFault) → HaveRead all first (file ∷ left) clerks → IsTold first file e
     → (clerk line : ℕ) → e ≡ BadLine clerk line → IsFirstBadOfAll all clerk line
 is_told all first file left clerks e h (inl k) clerk line is =
@@ -47,7 +51,8 @@ is_told all first file left clerks e h (inl k) clerk line is =
 is_told all first file left clerks e h (inr k) clerk line is = absurd (cc (k, is))
 
 -- and it is the fault that is due
-pub due_is_told : {A : Type 0} (all : List (List ℕ)) (first : ℕ) (file : List ℕ) (left : List (List ℕ)) (clerks : List (List (ℕ × Edit A)))
+pub due_is_told : {A : Type 0} (all : List (List ℕ)) (first : ℕ) (file : List ℕ) (left : List (List ℕ))
+    (clerks : List (List (ℕ × Edit A)))
     (e : FilesFault) → HaveRead all first (file ∷ left) clerks → IsTold first file e
     → ((line : ℕ) → IsFirstBadLine file line → (e ≡ BadLine first line) ⊎ (e ≡ NoMemory))
     → (clerk line : ℕ) → IsFirstBadOfAll all clerk line → (e ≡ BadLine clerk line) ⊎ (e ≡ NoMemory)

@@ -1,5 +1,6 @@
 -- What the jobs of all clerks leave together.
-use Rattle.std.proofs.Common.{◌≡◌, refl, sym, ap, subst, ◌∙◌, arith, ℕ, zero, suc, ◌+◌, Bool, false, List, [], ◌∷◌, map, length}
+use Rattle.std.proofs.Common.{◌≡◌, refl, sym, ap, subst, ◌∙◌, arith, ℕ, zero, suc, ◌+◌, Bool, false, List, [], ◌∷◌}
+use Rattle.std.proofs.Common.{map, length}
 use Rattle.std.specs.Prelude.{All}
 use Rattle.std.specs.List.{AllZip, flat_map}
 use Rattle.std.proofs.lemmas.List.Elements.{All-head, All-tail, All-same}
@@ -17,14 +18,16 @@ pub length_fresh : (A : Type 0) (before n : ℕ) → length (fresh_cards {A = A}
 length_fresh A before zero = refl
 length_fresh A before (suc n) = ap suc (length_fresh A (suc before) n)
 
-module _ {A X : Type 0} (run : Run) (card : X → CardState A) (edits : X → List (ℕ × Edit A)) (refused : X → Bool) (lines : X → List ℕ)
+module _ {A X : Type 0} (run : Run) (card : X → CardState A) (edits : X → List (ℕ × Edit A)) (refused : X
+    → Bool) (lines : X → List ℕ)
     (receipts : X → List (ReceiptState A)) where
   -- a job that was done
   abbrev pub Works : X → X → Type 0
   Works old new = IsWorked run (card old) (edits old) (card new) (refused new) (lines new) (receipts new)
 
   -- one clerk's lines tell of his edits and of the entries that the journal has of him
-  one_told : (journal : List (JournalEntry A)) (clerk : ℕ) (old new : X) → Works old new → card old ≡ record { clerk = clerk; made = [] }
+  one_told : (journal : List (JournalEntry A)) (clerk : ℕ) (old new : X) → Works old new
+      → card old ≡ record { clerk = clerk; made = [] }
       → refused new ≡ false → Agrees journal (card new) → AreTold run clerk [] (edits old) (of_clerk clerk journal) (lines new)
   one_told journal clerk old new works fresh not_refused agrees =
       let old_clerk : (card old).clerk ≡ clerk = ap (λ (c : CardState A). c.clerk) fresh in
@@ -57,8 +60,10 @@ module _ {A X : Type 0} (run : Run) (card : X → CardState A) (edits : X → Li
       )
 
   -- ---- what the clerks of an office with no entry before lead to
-  pub made_at : (office : OfficeId A) → run ≡ run_at office → office.origin.journal ≡ [] → (olds news : List X) → AllZip Works olds news
-      → map card olds ≡ fresh_cards 0 run.clerks → All (λ new. refused new ≡ false) news → (book : Book A) → IsSheetOf office (map card news) book
+  pub made_at : (office : OfficeId A) → run ≡ run_at office → office.origin.journal ≡ [] → (olds news : List X)
+      → AllZip Works olds news
+      → map card olds ≡ fresh_cards 0 run.clerks → All (λ new. refused new ≡ false) news → (book : Book A)
+      → IsSheetOf office (map card news) book
       → IsLawful book.opening book.journal → replay book.opening book.journal ≡ book.now
       → AreMadeIn run (map edits olds) (register_of book) (flat_map lines news)
   made_at office at none olds news zip fresh not_refused book sheet lawful replays =
@@ -69,7 +74,8 @@ module _ {A X : Type 0} (run : Run) (card : X → CardState A) (edits : X → Li
         is_journal = record {
           lawful = subst (λ o. IsLawful o journal) opening lawful;
           of_clerks = subst (λ n. All (λ entry. IsClerk n entry.clerk) journal) (sym (ap (λ (r : Run). r.clerks) at))
-              (All-same (λ (entry : JournalEntry A). IsClerk office.clerks entry.clerk) journal (behind office.origin journal) (sym same) sheet.of_clerks);
+              (All-same (λ (entry : JournalEntry A). IsClerk office.clerks entry.clerk) journal
+              (behind office.origin journal) (sym same) sheet.of_clerks);
         };
         leads = sym replays ∙ ap (λ o. replay o journal) opening;
         are_told = each_told journal 0 run.clerks olds news zip fresh not_refused
@@ -77,7 +83,8 @@ module _ {A X : Type 0} (run : Run) (card : X → CardState A) (edits : X → Li
       }
 
 -- the run of an office that is known
-pub run_is : {A : Type 0} (office : OfficeId A) (clerks : ℕ) (book : Book A) → office.clerks ≡ clerks → office.origin ≡ origin_of book
+pub run_is : {A : Type 0} (office : OfficeId A) (clerks : ℕ) (book : Book A) → office.clerks ≡ clerks
+    → office.origin ≡ origin_of book
     → record { clerks = clerks; opening = book.opening } ≡ run_at office
 run_is {A} office clerks book count origin =
     let opening : office.origin.opening ≡ book.opening = ap (λ (o : Origin A). o.opening) origin in
@@ -88,19 +95,23 @@ pub origin_empty : {A : Type 0} (office : OfficeId A) (book : Book A) → office
 origin_empty {A} office book origin none = ap (λ (o : Origin A). o.journal) origin ∙ none
 
 -- what the jobs of an office that is known leave
-pub made_known : {A X : Type 0} (card : X → CardState A) (edits : X → List (ℕ × Edit A)) (refused : X → Bool) (lines : X → List ℕ)
-    (receipts : X → List (ReceiptState A)) (office : OfficeId A) (clerks : List (List (ℕ × Edit A))) (fabric sheet : Book A) (jobs done : List X)
+pub made_known : {A X : Type 0} (card : X → CardState A) (edits : X → List (ℕ × Edit A)) (refused : X
+    → Bool) (lines : X → List ℕ)
+    (receipts : X → List (ReceiptState A)) (office : OfficeId A) (clerks : List (List (ℕ × Edit A)))
+    (fabric sheet : Book A) (jobs done : List X)
     (text : List ℕ) → office.clerks ≡ length clerks → office.origin ≡ origin_of fabric → fabric.journal ≡ []
     → AllZip (λ old new. IsWorked (run_at office) (card old) (edits old) (card new) (refused new) (lines new) (receipts new)) jobs done
     → map card jobs ≡ fresh_cards 0 (length clerks) → map edits jobs ≡ clerks → text ≡ flat_map lines done
     → All (λ new. refused new ≡ false) done → IsSheetOf office (map card done) sheet → IsLawful sheet.opening sheet.journal
     → replay sheet.opening sheet.journal ≡ sheet.now
     → AreMadeIn (record { clerks = length clerks; opening = fabric.opening }) clerks (register_of sheet) text
-made_known card edits refused lines receipts office clerks fabric sheet jobs done text count origin none zip fresh all joined not_refused is_sheet
+made_known card edits refused lines receipts office clerks fabric sheet jobs done text count origin none zip fresh all
+    joined not_refused is_sheet
     lawful replays =
     let at = run_is office (length clerks) fabric count origin in
     let cards = fresh ∙ ap (λ n. fresh_cards 0 n) (sym count) in
-    let made = made_at (run_at office) card edits refused lines receipts office refl (origin_empty office fabric origin none) jobs done zip cards
+    let made = made_at (run_at office) card edits refused lines receipts office refl
+    (origin_empty office fabric origin none) jobs done zip cards
     not_refused sheet is_sheet lawful replays in
     subst (λ run. AreMadeIn run clerks (register_of sheet) text) (sym at)
     (subst (λ list. AreMadeIn (run_at office) list (register_of sheet) text) all

@@ -1,4 +1,4 @@
-pub mod Passing
+pub mod PassedOn
 pub mod ClerksRead
 pub mod Submitted
 pub mod EachTold

@@ -1,5 +1,6 @@
 -- A clerk's edits, submitted one after the other.
-use Rattle.std.proofs.Common.{◌≡◌, ◌⊎◌, inl, inr, refl, sym, ap, subst, ◌∙◌, ℕ, List, [], ◌∷◌, ◌++◌, map, drop, length, append_assoc, append-nil}
+use Rattle.std.proofs.Common.{◌≡◌, ◌⊎◌, inl, inr, refl, sym, ap, subst, ◌∙◌, ℕ, List, [], ◌∷◌, ◌++◌, map}
+use Rattle.std.proofs.Common.{drop, length, append_assoc, append-nil}
 use Rattle.std.specs.Prelude.{All}
 use Rattle.std.proofs.lemmas.List.{map-append}
 use Rattle.std.proofs.lemmas.List.Elements.{All-nil, All-push, All-same}
@@ -30,7 +31,8 @@ module _ {A : Type 0} where
         journal = is.journal;
         is_journal = record {
           lawful = is.sometime.lawful;
-          of_clerks = All-same (λ (entry : JournalEntry A). IsClerk office.clerks entry.clerk) is.journal (behind office.origin is.journal) (sym same)
+          of_clerks = All-same (λ (entry : JournalEntry A). IsClerk office.clerks entry.clerk) is.journal
+              (behind office.origin is.journal) (sym same)
               is.sometime.of_clerks;
         };
         has_made = sym (rw same at is.sometime.agrees);
@@ -55,7 +57,8 @@ module _ {A : Type 0} where
 
   -- none is told
   pub none_said : (run : Run) (clerk : ℕ) (all : List (ℕ × Edit A)) (made : List (JournalEntry A)) (lines : List ℕ)
-      (receipts : List (ReceiptState A)) → made ≡ [] → lines ≡ [] → receipts ≡ [] → HaveSaid run clerk all all made lines receipts
+      (receipts : List (ReceiptState A)) → made ≡ [] → lines ≡ [] → receipts ≡ []
+      → HaveSaid run clerk all all made lines receipts
   none_said run clerk all made lines receipts none no_lines no_receipts = rw (none, no_lines, no_receipts) (record {
     adds = λ entries text told. told;
     are_all = refl;
@@ -63,7 +66,8 @@ module _ {A : Type 0} where
   })
 
   -- one edit more is accepted
-  pub accepted_more : (run : Run) (card after : CardState A) (all left : List (ℕ × Edit A)) (told : ℕ × Edit A) (lines lines_after : List ℕ)
+  pub accepted_more : (run : Run) (card after : CardState A) (all left : List (ℕ × Edit A)) (told : ℕ × Edit A)
+      (lines lines_after : List ℕ)
       (receipts receipts_after : List (ReceiptState A)) → HaveSaid run card.clerk all (told ∷ left) card.made lines receipts
       → IsAccepted card told after lines lines_after receipts receipts_after
       → HaveSaid run card.clerk all left after.made lines_after receipts_after
@@ -81,7 +85,8 @@ module _ {A : Type 0} where
   }
 
   -- one edit more is refused
-  pub refused_more : (run : Run) (card after : CardState A) (all left : List (ℕ × Edit A)) (told : ℕ × Edit A) (lines lines_after : List ℕ)
+  pub refused_more : (run : Run) (card after : CardState A) (all left : List (ℕ × Edit A)) (told : ℕ × Edit A)
+      (lines lines_after : List ℕ)
       (receipts receipts_after : List (ReceiptState A)) → HaveSaid run card.clerk all (told ∷ left) card.made lines receipts
       → IsRefused run card told after lines lines_after receipts receipts_after
       → HaveSaid run card.clerk all left after.made lines_after receipts_after
@@ -95,7 +100,8 @@ module _ {A : Type 0} where
     tell = All-same Tells receipts_after receipts is.kept h.tell;
   }
 
-  pub one_more : (run : Run) (card after : CardState A) (all left : List (ℕ × Edit A)) (told : ℕ × Edit A) (lines lines_after : List ℕ)
+  pub one_more : (run : Run) (card after : CardState A) (all left : List (ℕ × Edit A)) (told : ℕ × Edit A)
+      (lines lines_after : List ℕ)
       (receipts receipts_after : List (ReceiptState A)) → HaveSaid run card.clerk all (told ∷ left) card.made lines receipts
       → IsAccepted card told after lines lines_after receipts receipts_after
       ⊎ IsRefused run card told after lines lines_after receipts receipts_after

@@ -1,5 +1,7 @@
 -- What a window has seen that learnt every receipt: it begins with the journal.
-use Rattle.std.proofs.Common.{◌≡◌, inl, inr, get_or, refl, sym, ap, subst, ◌∙◌, arith, ℕ, zero, suc, ◌+◌, ◌<◌, ◌≤◌, nat_eq, Bool, true, false, cond, List, [], ◌∷◌, ◌++◌, map, length, append_assoc, append-nil, length-append}
+use Rattle.std.proofs.Common.{◌≡◌, inl, inr, get_or, refl, sym, ap, subst, ◌∙◌, arith, ℕ, zero, suc, ◌+◌, ◌<◌}
+use Rattle.std.proofs.Common.{◌≤◌, nat_eq, Bool, true, false, cond, List, [], ◌∷◌, ◌++◌, map, length, append_assoc}
+use Rattle.std.proofs.Common.{append-nil, length-append}
 use Rattle.std.specs.Prelude.{All}
 use Rattle.std.specs.List.{AllZip}
 use Rattle.std.proofs.lemmas.Bool.Decides.{nat_tests}
@@ -30,7 +32,8 @@ module _ {A : Type 0} where
   }
 
   -- the entry of a receipt that is learnt stands in what was seen
-  stands : {seen : List (JournalEntry A)} (receipt : ReceiptState A) → Tells receipt → IsLearnt seen receipt → Stands seen receipt.entry
+  stands : {seen : List (JournalEntry A)} (receipt : ReceiptState A) → Tells receipt → IsLearnt seen receipt
+      → Stands seen receipt.entry
   stands {seen} receipt tells is = record { told = receipt.told; ends = tells is.published; begins = is.begins }
 
   -- ---- the journal's entries, one after the other
@@ -46,7 +49,8 @@ module _ {A : Type 0} where
       let same : front ≡ before = is_whole front before shorter (omega (arith, same_length)) in
       subst (λ l. IsPrefix l seen) (s.ends.ends ∙ ap (λ l. l ++ entry ∷ []) (sym same)) s.begins
 
-  all_seen : (seen : List (JournalEntry A)) (state : State) (front rest : List (JournalEntry A)) → AreLawfulFrom state (length front + 1) rest
+  all_seen : (seen : List (JournalEntry A)) (state : State) (front rest : List (JournalEntry A))
+      → AreLawfulFrom state (length front + 1) rest
       → IsPrefix front seen → All (Stands seen) rest → IsPrefix (front ++ rest) seen
   all_seen seen state front [] lawful begins stand = subst (λ l. IsPrefix l seen) (sym (append-nil front)) begins
   all_seen seen state front (entry ∷ rest) lawful begins stand =
@@ -78,7 +82,8 @@ module _ {A : Type 0} where
       (of_each P n rest (All-tail (λ (e : JournalEntry A). IsClerk n e.clerk) entry rest are)
       (λ clerk k. of_rest P (nat_eq entry.clerk clerk) entry (of_clerk clerk rest) (each clerk k)))
 
-module _ {A X : Type 0} (run : Run) (card : X → CardState A) (edits : X → List (ℕ × Edit A)) (refused : X → Bool) (lines : X → List ℕ)
+module _ {A X : Type 0} (run : Run) (card : X → CardState A) (edits : X → List (ℕ × Edit A)) (refused : X
+    → Bool) (lines : X → List ℕ)
     (receipts : X → List (ReceiptState A)) (journal seen : List (JournalEntry A)) where
   abbrev Works : X → X → Type 0
   Works old new = IsWorked run (card old) (edits old) (card new) (refused new) (lines new) (receipts new)
@@ -106,33 +111,39 @@ module _ {A X : Type 0} (run : Run) (card : X → CardState A) (edits : X → Li
   clerk_stand before zero olds news zip fresh not_refused agree learnt clerk above below = absurd (omega (arith, above, below))
   clerk_stand before (suc n) [] news zip fresh not_refused agree learnt clerk above below = absurd (cc fresh)
   clerk_stand before (suc n) (old ∷ olds) [] zip fresh not_refused agree learnt clerk above below = absurd zip
-  clerk_stand before (suc n) (old ∷ olds) (new ∷ news) zip fresh not_refused agree learnt clerk above below = elim (cases_eq clerk (suc before)) [
-    | inl is ↦
-        let first : card old ≡ record { clerk = suc before; made = [] } = cc fresh in
-        subst (λ k. All (Stands seen) (of_clerk k journal)) (sym is)
-        (his_stand (suc before) old new zip.0 first (All-head (λ x. refused x ≡ false) new news not_refused)
-        (All-head (Agrees journal) (card new) (map card news) agree) (All-head AreLearnt new news learnt))
-    | inr not ↦
-        let rest : map card olds ≡ fresh_cards (suc before) n = cc fresh in
-        clerk_stand (suc before) n olds news zip.1 rest (All-tail (λ x. refused x ≡ false) new news not_refused)
-        (All-tail (Agrees journal) (card new) (map card news) agree) (All-tail AreLearnt new news learnt) clerk
-        (grind (arith, above, not)) (omega (arith, below))
-  ]
+  clerk_stand before (suc n) (old ∷ olds) (new ∷ news) zip fresh not_refused agree learnt clerk above below =
+      elim (cases_eq clerk (suc before)) [
+        | inl is ↦
+            let first : card old ≡ record { clerk = suc before; made = [] } = cc fresh in
+            subst (λ k. All (Stands seen) (of_clerk k journal)) (sym is)
+            (his_stand (suc before) old new zip.0 first (All-head (λ x. refused x ≡ false) new news not_refused)
+            (All-head (Agrees journal) (card new) (map card news) agree) (All-head AreLearnt new news learnt))
+        | inr not ↦
+            let rest : map card olds ≡ fresh_cards (suc before) n = cc fresh in
+            clerk_stand (suc before) n olds news zip.1 rest (All-tail (λ x. refused x ≡ false) new news not_refused)
+            (All-tail (Agrees journal) (card new) (map card news) agree) (All-tail AreLearnt new news learnt) clerk
+            (grind (arith, above, not)) (omega (arith, below))
+      ]
 
--- what jobs leave whose receipts are all learnt at an office whose fabric was handed in with no entry: what was seen begins with the journal
-pub journal_seen : {A X : Type 0} (card : X → CardState A) (edits : X → List (ℕ × Edit A)) (refused : X → Bool) (lines : X → List ℕ)
+-- what jobs leave whose receipts are all learnt at an office whose fabric was handed in with no entry: what was seen
+-- begins with the journal
+pub journal_seen : {A X : Type 0} (card : X → CardState A) (edits : X → List (ℕ × Edit A)) (refused : X
+    → Bool) (lines : X → List ℕ)
     (receipts : X → List (ReceiptState A)) (office : OfficeId A) (sheet : Book A) (seen : List (JournalEntry A)) (jobs done : List X)
     → office.origin.journal ≡ []
     → AllZip (λ old new. IsWorked (run_at office) (card old) (edits old) (card new) (refused new) (lines new) (receipts new)) jobs done
-    → map card jobs ≡ fresh_cards 0 office.clerks → All (λ new. refused new ≡ false) done → IsSheetOf office (map card done) sheet
+    → map card jobs ≡ fresh_cards 0 office.clerks → All (λ new. refused new ≡ false) done
+    → IsSheetOf office (map card done) sheet
     → IsLawful sheet.opening sheet.journal → All (λ new. All (IsLearnt seen) (receipts new)) done → IsPrefix sheet.journal seen
 journal_seen {A} card edits refused lines receipts office sheet seen jobs done none zip fresh not_refused is_sheet lawful learnt =
     let journal : List (JournalEntry A) = sheet.journal in
     let same : behind office.origin journal ≡ journal = behind_none office journal none in
     let agree : All (Agrees journal) (map card done) = subst (λ l. All (Agrees l) (map card done)) same is_sheet.agree in
     let are : All (λ entry. IsClerk office.clerks entry.clerk) journal =
-    All-same (λ (entry : JournalEntry A). IsClerk office.clerks entry.clerk) journal (behind office.origin journal) (sym same) is_sheet.of_clerks in
+    All-same (λ (entry : JournalEntry A). IsClerk office.clerks entry.clerk) journal (behind office.origin journal)
+    (sym same) is_sheet.of_clerks in
     let each : (clerk : ℕ) → IsClerk office.clerks clerk → All (Stands seen) (of_clerk clerk journal) =
-    λ clerk is. clerk_stand (run_at office) card edits refused lines receipts journal seen 0 office.clerks jobs done zip fresh not_refused agree
+    λ clerk is. clerk_stand (run_at office) card edits refused lines receipts journal seen 0 office.clerks jobs done
+    zip fresh not_refused agree
     learnt clerk (omega (arith, is.from_one)) (omega (arith, is.to_n)) in
     all_seen seen sheet.opening [] journal lawful (seen, refl) (of_each (Stands seen) office.clerks journal are each)

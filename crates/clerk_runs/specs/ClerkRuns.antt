@@ -43,7 +43,8 @@ module _ {A : Type 0} where
     pub lawful : IsLawful run.opening journal
     pub of_clerks : All (λ entry. IsClerk run.clerks entry.clerk) journal
 
-  -- the refusal is due after some such list, in which the clerk's entries are those that were accepted of him before; the others' may be any,
+  -- the refusal is due after some such list, in which the clerk's entries are those that were accepted of him before;
+  -- the others' may be any,
   -- and the list need not be a beginning of the run's journal
   pub record IsRefusalDue (run : Run) (clerk : ℕ) (made : List (JournalEntry A)) (edit : Edit A) (refusal : Refusal) : Type 0 where
     pub journal : List (JournalEntry A)
@@ -51,17 +52,20 @@ module _ {A : Type 0} where
     pub has_made : of_clerk clerk journal ≡ made
     pub is_refusal : IsRefusal (replay run.opening journal) journal edit refusal
 
-  -- a clerk's edits, each behind its line's number, are told in order: `ok` under the number of the next of the clerk's entries, which has the
+  -- a clerk's edits, each behind its line's number, are told in order: `ok` under the number of the next of the
+  -- clerk's entries, which has the
   -- edit, or `refused` for a reason that was due, or for want of memory; he has no other entries, and `made` are his from before
   abbrev pub AreTold : Run → ℕ → List (JournalEntry A) → List (ℕ × Edit A) → List (JournalEntry A) → List ℕ → Type 0
   AreTold run clerk made [] entries text = (entries ≡ []) × (text ≡ [])
   AreTold run clerk made (told ∷ rest) entries text =
-      ((entry : JournalEntry A) × (others : List (JournalEntry A)) × (more : List ℕ) × (entries ≡ entry ∷ others) × (entry.edit ≡ told.1)
+      ((entry : JournalEntry A) × (others : List (JournalEntry A)) × (more : List ℕ) × (entries ≡ entry ∷ others)
+      × (entry.edit ≡ told.1)
       × (text ≡ ok_line clerk told.0 entry.number ++ more) × AreTold run clerk (made ++ entry ∷ []) rest others more)
       ⊎ ((refusal : Refusal) × (more : List ℕ) × (IsRefusalDue run clerk made told.1 refusal ⊎ (refusal ≡ NoMemory))
       × (text ≡ refused_line clerk told.0 refusal ++ more) × AreTold run clerk made rest entries more)
 
-  -- the lines of each clerk, one clerk's after the other's, tell of his edits and of the journal's entries that are his; clerks are numbered on
+  -- the lines of each clerk, one clerk's after the other's, tell of his edits and of the journal's entries that are
+  -- his; clerks are numbered on
   -- from a first one
   abbrev pub AreEachTold : Run → ℕ → List (List (ℕ × Edit A)) → List (JournalEntry A) → List ℕ → Type 0
   AreEachTold run clerk [] journal text = text ≡ []

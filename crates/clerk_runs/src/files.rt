@@ -29,8 +29,8 @@ impl<A: Allocator> Model for ClerkEdits<A> {
 /// Why clerks' files are refused.
 #[derive(Clone, Copy, Debug, PartialEq, Eq)]
 pub enum FilesFault {
-    /// L1: the file of this clerk, from 1, is the first that has a bad line, and this line, from 1, is its first that is neither skipped nor
-    /// an edit.
+    /// L1: the file of this clerk, from 1, is the first that has a bad line, and this line, from 1,
+    /// is its first that is neither skipped nor an edit.
     BadLine(u32, u64),
     /// An allocation was refused.
     NoMemory,
@@ -56,7 +56,8 @@ impl<T: Drop> From<AllocFailed<T>> for FilesFault {
 ///
 /// # Errors
 ///
-/// [`FilesFault::BadLine`] with the first line that is no edit of the first file that has one, and [`FilesFault::NoMemory`].
+/// [`FilesFault::BadLine`] with the first line that is no edit of the first file that has one, and
+/// [`FilesFault::NoMemory`].
 pub fn read_clerks<'h, H: Allocator, A: Allocator>(
     heap: &'h H,
     files: &[Vec<u8, A>],

@@ -18,7 +18,8 @@ pub(crate) struct Counter<'r, 'h, H: Allocator, J: Naming<H>, R: Wait> {
     ghost opened: { J.office.origin.journal ≡ [] },
 }
 
-/// A clerk's job: his card and his edits, and what comes of them: the line of each, and the receipt of each that was accepted.
+/// A clerk's job: his card and his edits, and what comes of them: the line of each, and the receipt
+/// of each that was accepted.
 #[derive(Drop)]
 pub(crate) struct ClerkJob<'h, H: Allocator, J: Naming<H>> {
     pub(crate) card: Card<'h, H, J>,

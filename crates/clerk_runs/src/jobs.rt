@@ -40,8 +40,8 @@ pub(crate) fn jobs_of<'h, H: Allocator, J: Naming<H>>(
     Ok(jobs)
 }
 
-/// What clerks leave whose jobs are done: their cards, their lines, one clerk's after the other's, and whether a version with each of
-/// their entries was published.
+/// What clerks leave whose jobs are done: their cards, their lines, one clerk's after the other's,
+/// and whether a version with each of their entries was published.
 #[derive(Drop)]
 pub(crate) struct Done<'h, H: Allocator, J: Naming<H>> {
     pub(crate) cards: Vec<Card<'h, H, J>, &'h H>,

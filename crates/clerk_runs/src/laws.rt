@@ -16,7 +16,8 @@ pub fn without_clerks_nothing_changes<A: Allocator>()
         → (after ≡ opened tiles) × (lines ≡ []) }
 {}
 
-/// Where one clerk edits, what he is refused is due after the entries that were accepted of him before, and nothing else.
+/// Where one clerk edits, what he is refused is due after the entries that were accepted of him
+/// before, and nothing else.
 #[tactic(auto, using(crate::proofs::FewClerks::due_after_his))]
 pub fn with_one_clerk_a_refusal_is_due_after_his_entries<A: Allocator>()
     ensures { (run : Run) (made : List (JournalEntry A)) (edit : EditValue A) (refusal : RefusalValue) → run.clerks ≡ 1

@@ -29,8 +29,8 @@ pub(crate) fn learn_all<'h, H: Allocator, J: Naming<H>>(
     all
 }
 
-/// Where corners lie among the parcels of a sheet, asked at a window that has seen all of the sheet's entries, or of the sheet where it
-/// has not.
+/// Where corners lie among the parcels of a sheet, asked at a window that has seen all of the
+/// sheet's entries, or of the sheet where it has not.
 pub(crate) fn places_of<'h, H: Allocator, J: Naming<H>>(
     heap: &'h H,
     window: &mut Window<'h, H, J>,
@@ -49,8 +49,9 @@ pub(crate) fn places_of<'h, H: Allocator, J: Naming<H>>(
     Ok(places)
 }
 
-/// Where a corner lies among the parcels of a sheet, asked at a window that has seen all of the sheet's entries. Where it has not, its
-/// answer rests on more entries, or it has no version, the sheet is asked.
+/// Where a corner lies among the parcels of a sheet, asked at a window that has seen all of the
+/// sheet's entries. Where it has not, its answer rests on more entries, or it has no version, the
+/// sheet is asked.
 fn place_of<'h, H: Allocator, J: Naming<H>>(
     window: &mut Window<'h, H, J>,
     has_seen: bool,

@@ -1,5 +1,7 @@
 -- What stands behind the beginning of a list, and journals that begin with that of the fabric which was handed in.
-use Rattle.std.proofs.Common.{◌≡◌, ◌⊎◌, inl, inr, Some, None, Option, true, get_or, slice_get, ◌+◌, ◌≤◌, ◌<◌, ℕ, List, [], ◌∷◌, ◌++◌, drop, length, refl, ap, sym, ◌∙◌, subst, arith, append_assoc, append-nil, length-append}
+use Rattle.std.proofs.Common.{◌≡◌, ◌⊎◌, inl, inr, Some, None, Option, true, get_or, slice_get, ◌+◌, ◌≤◌, ◌<◌, ℕ}
+use Rattle.std.proofs.Common.{List, [], ◌∷◌, ◌++◌, drop, length, refl, ap, sym, ◌∙◌, subst, arith, append_assoc}
+use Rattle.std.proofs.Common.{append-nil, length-append}
 use Rattle.std.specs.Prelude.{is_some, IfSome}
 use Rattle.std.proofs.Math.Seq.{drop-append_seam}
 use Rattle.std.proofs.lemmas.List.{drop-append-le, get_or-drop}
@@ -46,7 +48,8 @@ module _ {X : Type 0} where
 
 module _ {A : Type 0} where
   -- a fabric's journal is that of the one handed in, and what stands behind it
-  pub journal_is : (origin : Origin A) (book : Book A) → IsOfOrigin origin book → book.journal ≡ origin.journal ++ behind origin book.journal
+  pub journal_is : (origin : Origin A) (book : Book A) → IsOfOrigin origin book
+      → book.journal ≡ origin.journal ++ behind origin book.journal
   journal_is origin book of = both_parts origin.journal book.journal of.begins
 
   -- the fabric that is handed in comes of itself
@@ -76,7 +79,10 @@ module _ {A : Type 0} where
   -- what is learnt of entries behind one journal
   pub learns_behind : (opening : State) (front before told after : List (JournalEntry A)) → (after ≡ before) ⊎ (after ≡ told)
       → IsPrefix before after → IsPrefix told after
-      → Learns (record { opening = opening; seen = front ++ before }) (front ++ told) (record { opening = opening; seen = front ++ after })
+      → Learns (record { opening = opening; seen = front ++ before }) (front ++ told) (record {
+        opening = opening;
+        seen = front ++ after;
+      })
   learns_behind opening front before told after is_one this that = record {
     opening = refl;
     longer = record {
@@ -104,12 +110,14 @@ module _ {A : Type 0} where
 
   -- a version that was entered: its fabric's journal is what the window has seen then
   module _ (origin : Origin A) (book : Book A) (of : IsOfOrigin origin book) where
-    pub entered : (before told after : List (JournalEntry A)) → behind origin book.journal ≡ told → (after ≡ before) ⊎ (after ≡ told)
+    pub entered : (before told after : List (JournalEntry A)) → behind origin book.journal ≡ told → (after ≡ before)
+        ⊎ (after ≡ told)
         → IsPrefix told after → length before ≤ length told → origin.journal ++ after ≡ book.journal
     entered before told after is is_one that le =
         ap (λ l. origin.journal ++ l) (becomes before told after is_one that le ∙ sym is) ∙ sym (journal_is origin book of)
 
-    pub lawful_at : (seen : List (JournalEntry A)) → seen ≡ book.journal → IsLawful book.opening book.journal → IsLawful origin.opening seen
+    pub lawful_at : (seen : List (JournalEntry A)) → seen ≡ book.journal → IsLawful book.opening book.journal
+        → IsLawful origin.opening seen
     lawful_at seen is lawful = subst (IsLawful origin.opening) (sym is) (subst (λ o. IsLawful o book.journal) of.opening lawful)
 
     pub leads_to : (seen : List (JournalEntry A)) → seen ≡ book.journal → replay book.opening book.journal ≡ book.now
@@ -139,4 +147,5 @@ module _ {A : Type 0} where
       → EndsWith entry entry.number (told_by origin front)
   told_ends origin None entries journal after entry Q some whole more number is = absurd (cc is)
   told_ends origin (Some list) entries journal after entry Q some whole more number is =
-      subst (EndsWith entry entry.number) (sym (ap (λ l. origin.journal ++ l) some.0 ∙ (sym whole ∙ more))) (ends_with journal entry number)
+      subst (EndsWith entry entry.number) (sym (ap (λ l. origin.journal ++ l) some.0 ∙ (sym whole ∙ more)))
+      (ends_with journal entry number)

@@ -1,5 +1,6 @@
 -- The entries of one clerk, and what a desk keeps of them.
-use Rattle.std.proofs.Common.{◌≡◌, ◌+◌, ◌≤◌, ℕ, zero, suc, Bool, true, false, cond, nat_eq, List, [], ◌∷◌, ◌++◌, map, length, refl, ap, sym, ◌∙◌, subst, arith, append_assoc}
+use Rattle.std.proofs.Common.{◌≡◌, ◌+◌, ◌≤◌, ℕ, zero, suc, Bool, true, false, cond, nat_eq, List, [], ◌∷◌, ◌++◌}
+use Rattle.std.proofs.Common.{map, length, refl, ap, sym, ◌∙◌, subst, arith, append_assoc}
 use Rattle.std.specs.List.{filter}
 use Rattle.std.proofs.lemmas.List.{map-append, length-drop}
 use Rattle.std.proofs.lemmas.List.Sums.{length-filter, count_by-le-length}
@@ -50,7 +51,8 @@ module _ {A : Type 0} where
     known_of clerk = ap (λ l. Cards.of_clerk clerk l) keeps.known ∙ one_clerks clerk (behind office.origin book.journal)
 
     -- a card has no more entries than the journal
-    pub few_made : (clerk : ℕ) (made : List (JournalEntry A)) → made ≡ Cards.of_clerk clerk keeper.all → length made ≤ length book.journal
+    pub few_made : (clerk : ℕ) (made : List (JournalEntry A)) → made ≡ Cards.of_clerk clerk keeper.all
+        → length made ≤ length book.journal
     few_made clerk made agrees =
         let same = ap length (agrees ∙ known_of clerk) in
         let most = not_more clerk (behind office.origin book.journal) in
@@ -69,7 +71,8 @@ module _ {A : Type 0} where
 
     -- it is kept with one entry more
     pub keeps_more : (new : Book A) (kept : Kept (JournalEntry A)) (entry : JournalEntry A) (clerk : ℕ) → IsClerk keeper.dealt clerk
-        → entry.clerk ≡ clerk → new.city ≡ book.city → new.opening ≡ book.opening → new.journal ≡ book.journal ++ entry ∷ []
+        → entry.clerk ≡ clerk → new.city ≡ book.city → new.opening ≡ book.opening
+        → new.journal ≡ book.journal ++ entry ∷ []
         → kept ≡ record keeper { all = keeper.all ++ (clerk, entry) ∷ [] }
         → Keeps office new kept handed n
     keeps_more new kept entry clerk is_clerk same city opening journal is =

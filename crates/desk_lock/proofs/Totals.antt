@@ -1,5 +1,6 @@
 -- What all cards of an office account for together.
-use Rattle.std.proofs.Common.{◌≡◌, ◌+◌, ℕ, List, [], ◌∷◌, ◌++◌, map, length, refl, ap, sym, ◌∙◌, subst, arith, append-nil, length-append}
+use Rattle.std.proofs.Common.{◌≡◌, ◌+◌, ℕ, List, [], ◌∷◌, ◌++◌, map, length, refl, ap, sym, ◌∙◌, subst, arith}
+use Rattle.std.proofs.Common.{append-nil, length-append}
 use Rattle.std.specs.List.{All, sum_by}
 use Rattle.std.proofs.lemmas.List.{length-map}
 use Rattle.std.proofs.lemmas.List.Sums.{sum_by-cons}
@@ -13,7 +14,8 @@ use Rattle.desk_lock.proofs.Clerks.{as_pair, known_of}
 
 module _ {A : Type 0} where
   -- as many entries as the cards say
-  counted : (cards : List (CardState A)) → sum_by (λ card. length card.1) (map as_pair cards) ≡ sum_by (λ card. length card.made) cards
+  counted : (cards : List (CardState A)) → sum_by (λ card. length card.1) (map as_pair cards)
+      ≡ sum_by (λ card. length card.made) cards
   counted [] = refl
   counted (card ∷ cards) =
       sum_by-cons (λ (c : ℕ × List (JournalEntry A)). length c.1) (as_pair card) (map as_pair cards)

@@ -1,5 +1,6 @@
 -- An office at which several clerks edit one fabric, and what its cards, receipts and windows tell (this product's own).
-use Rattle.std.specs.Prelude.{◌≡◌, ◌⊎◌, Bool, ℕ, zero, suc, ◌+◌, nat_eq, List, [], ◌∷◌, ◌++◌, drop, length, sum_by, All}
+use Rattle.std.specs.Prelude.{◌≡◌, ◌⊎◌, Bool, ℕ, zero, suc, ◌+◌, nat_eq, List, [], ◌∷◌, ◌++◌, drop, length}
+use Rattle.std.specs.Prelude.{sum_by, All}
 use Rattle.std.specs.List.{filter}
 use mathlib.Core.List.{IsPrefix}
 use Rattle.geo_exact.specs.declared.corner.Corner.{Corner}
@@ -81,7 +82,8 @@ module _ {A : Type 0} where
   abbrev pub window_of : Origin A → WindowState A
   window_of origin = record { opening = origin.opening; seen = origin.journal }
 
-  -- a journal of the office at some time, at which the card's clerk had made what the card says: lawful, first the entries of the fabric that
+  -- a journal of the office at some time, at which the card's clerk had made what the card says: lawful, first the
+  -- entries of the fabric that
   -- was handed in, then entries of the office's clerks alone
   pub record IsSometime (office : OfficeId A) (card : CardState A) (journal : List (JournalEntry A)) : Type 0 where
     pub lawful : IsLawful office.origin.opening journal
@@ -112,7 +114,8 @@ module _ {A : Type 0} where
     pub opening : after.opening ≡ before.opening
     pub longer : IsLonger before.seen told after.seen
 
-  -- a fabric has, behind the entries of the fabric that was handed in, entries of the office's clerks alone, and of each of these cards' clerks
+  -- a fabric has, behind the entries of the fabric that was handed in, entries of the office's clerks alone, and of
+  -- each of these cards' clerks
   -- what the card says
   pub record IsSheetOf (office : OfficeId A) (cards : List (CardState A)) (book : Book A) : Type 0 where
     pub of_origin : IsOfOrigin office.origin book

@@ -28,10 +28,11 @@ use std::sync::Wait;
 /// The writer of the versions that windows take.
 pub(crate) type Copies<'a, H, J, R> = Publisher<Copied<'a, H, J>, Entry<&'a H>, J, R, &'a H>;
 
-/// What lies under an office's lock: the fabric, who keeps the cards, and the writer of the published versions. Each desk that the lock
-/// frees keeps these.
+/// What lies under an office's lock: the fabric, who keeps the cards, and the writer of the
+/// published versions. Each desk that the lock frees keeps these.
 ///
-/// Contracts see the fabric, the entries that were accepted at the desk, and the journal of the version that windows take.
+/// Contracts see the fabric, the entries that were accepted at the desk, and the journal of the
+/// version that windows take.
 #[derive(Drop)]
 pub struct Desk<'a, H: Allocator, J: Naming<H>, R: Wait + Drop> {
     pub(crate) fabric: Fabric<'a, H>,
@@ -59,8 +60,9 @@ impl<'a, H: Allocator, J: Naming<H>, R: Wait + Drop> Model for Desk<'a, H, J, R>
 }
 
 impl<'a, H: Allocator, J: Naming<H>, R: Wait + Drop> Desk<'a, H, J, R> {
-    /// The desk's fabric tiles its city, its index and journal agree with its rows, and it comes of the fabric that was handed to the
-    /// office, with entries of the office's clerks alone behind those of that fabric.
+    /// The desk's fabric tiles its city, its index and journal agree with its rows, and it comes of
+    /// the fabric that was handed to the office, with entries of the office's clerks alone behind
+    /// those of that fabric.
     pub fn tiles(&self)
         ensures tiling { IsTiling self.now.book.now.rows self.now.book.city }
         ensures simple { AreSimple self.now.book.now.rows }
@@ -88,7 +90,8 @@ impl<'a, H: Allocator, J: Naming<H>, R: Wait + Drop> Desk<'a, H, J, R> {
         // What is before is lawful, and the card's entries are its clerk's.
         ensures sometime { IsSometime J.office card.old self.old.book.journal }
         ensures replays { replay J.office.origin.opening self.old.book.journal ≡ self.old.book.now }
-        // An accepted edit: the entry is that of this edit by the card's clerk on the state before, under the next number.
+        // An accepted edit: the entry is that of this edit by the card's clerk on the state before,
+        // under the next number.
         ensures is_entry { IfOk result (λ entry. IsEntryOf self.old.book.now entry) }
         ensures edit { IfOk result (λ entry. entry.edit ≡ edit.now) }
         ensures clerk { IfOk result (λ entry. entry.clerk ≡ card.old.clerk) }
@@ -116,8 +119,9 @@ impl<'a, H: Allocator, J: Naming<H>, R: Wait + Drop> Desk<'a, H, J, R> {
         Ok(entry)
     }
 
-    /// Hands on all entries that are not handed on yet, in order, and publishes: what is published then. `None` where that is refused; the
-    /// next call takes what is missing. It waits for those who read at this moment.
+    /// Hands on all entries that are not handed on yet, in order, and publishes: what is published
+    /// then. `None` where that is refused; the next call takes what is missing. It waits for those
+    /// who read at this moment.
     pub fn publish(&mut self) -> Option<Front<Entry<&'a H>, J>>
         ensures book { (self.new.book ≡ self.old.book) × (self.new.entries ≡ self.old.entries) }
         ensures some { IfSome result (λ front. (front ≡ self.old.entries) × (self.new.published ≡ self.old.book.journal)) }
@@ -127,8 +131,8 @@ impl<'a, H: Allocator, J: Naming<H>, R: Wait + Drop> Desk<'a, H, J, R> {
         if all { self.publisher.publish() } else { None }
     }
 
-    /// Compares cards with the journal: the entries that were accepted with each are all of its clerk behind those of the fabric that was
-    /// handed in.
+    /// Compares cards with the journal: the entries that were accepted with each are all of its clerk
+    /// behind those of the fabric that was handed in.
     pub fn compare(&mut self, cards: &mut [Card<'a, H, J>])
         ensures same { (self.new ≡ self.old) × (cards.new ≡ cards.old) }
         ensures agree { All (Agrees self.old.entries) cards.old }

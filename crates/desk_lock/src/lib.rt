@@ -1,6 +1,7 @@
-//! An office at which several clerks edit one fabric, one at a time behind a lock, while others read published versions of it without
-//! waiting. What lies under the lock is a fabric that tiles its city, with a lawful journal; clerks' cards count what was made with
-//! them, and a window sees at least what it was told.
+//! An office at which several clerks edit one fabric, one at a time behind a lock, while others
+//! read published versions of it without waiting. What lies under the lock is a fabric that tiles
+//! its city, with a lawful journal; clerks' cards count what was made with them, and a window sees
+//! at least what it was told.
 #![tactic(auto)]
 
 mod card;

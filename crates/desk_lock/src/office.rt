@@ -41,13 +41,14 @@ type Opened<'a, H, J, R> = (
 );
 
 impl<'a, H: Allocator, J: Naming<H>, R: Wait + Drop> Office<'a, H, J, R> {
-    /// Opens an office for so many clerks with so many windows. Card k is that of clerk k, from 1. Each window sees the fabric as it was
-    /// handed in.
+    /// Opens an office for so many clerks with so many windows. Card k is that of clerk k, from 1.
+    /// Each window sees the fabric as it was handed in.
     ///
     /// # Errors
     ///
-    /// The fabric comes back with the first of these that applies: [`OpenFault::Places`] (K1) for none or more than 8 clerks, then
-    /// windows; and [`OpenFault::NoWindow`] (K3) or [`OpenFault::NoMemory`].
+    /// The fabric comes back with the first of these that applies: [`OpenFault::Places`] (K1) for
+    /// none or more than 8 clerks, then windows; and [`OpenFault::NoWindow`] (K3) or
+    /// [`OpenFault::NoMemory`].
     pub fn open(
         heap: &'a H,
         rt: R,
@@ -78,6 +79,11 @@ impl<'a, H: Allocator, J: Naming<H>, R: Wait + Drop> Office<'a, H, J, R> {
     /// # Errors
     ///
     /// As [`Fabric::edit`]; card and fabric are unchanged then.
+    ///
+    /// ```
+    /// let receipt = office.submit(rt, &mut card, &edit)?;
+    /// window.learn(&receipt);
+    /// ```
     pub fn submit<W: Wait>(
         &self,
         rt: &W,
@@ -101,7 +107,14 @@ impl<'a, H: Allocator, J: Naming<H>, R: Wait + Drop> Office<'a, H, J, R> {
         Ok(Receipt { entry, front, heap })
     }
 
-    /// Takes the lock, and publishes all entries that are not published yet; it adds none. `None` where that is refused.
+    /// Takes the lock, and publishes all entries that are not published yet; it adds none. `None`
+    /// where that is refused.
+    ///
+    /// ```
+    /// if let Some(notice) = office.publish(rt) {
+    ///     window.learn_notice(&notice);
+    /// }
+    /// ```
     pub fn publish<W: Wait>(&self, rt: &W) -> Option<Notice<'a, H, J>> {
         let mut desk = self.desk.lock(rt);
         let front = desk.publish()?;
@@ -111,12 +124,17 @@ impl<'a, H: Allocator, J: Naming<H>, R: Wait + Drop> Office<'a, H, J, R> {
         })
     }
 
-    /// Takes the lock, and copies the fabric: the sheet has of each given card's clerk, behind the entries of the fabric that was handed
-    /// in, those that were accepted with the card. The cards stay as they are.
+    /// Takes the lock, and copies the fabric: the sheet has of each given card's clerk, behind the
+    /// entries of the fabric that was handed in, those that were accepted with the card. The cards
+    /// stay as they are.
     ///
     /// # Errors
     ///
     /// [`AllocError`] where an allocation is refused.
+    ///
+    /// ```
+    /// let sheet = office.sheet(rt, cards.as_mut_slice())?;
+    /// ```
     pub fn sheet<W: Wait>(
         &self,
         rt: &W,
@@ -131,8 +149,8 @@ impl<'a, H: Allocator, J: Naming<H>, R: Wait + Drop> Office<'a, H, J, R> {
         desk.sheet()
     }
 
-    /// Closes the office, with all cards: the fabric, whose journal has the entries that were accepted with them, and no others, behind
-    /// those of the fabric that was handed in.
+    /// Closes the office, with all cards: the fabric, whose journal has the entries that were
+    /// accepted with them, and no others, behind those of the fabric that was handed in.
     ///
     /// # Errors
     ///

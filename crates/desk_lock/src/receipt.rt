@@ -46,7 +46,8 @@ impl<'a, H: Allocator, J: Naming<H>> Published<'a, H, J> {
 
 /// A receipt for an edit that was accepted: its entry, and whether a version with it was published.
 ///
-/// Contracts see the entry, whether it was published, and the journal that it tells: the entries up to its own where it was, else none.
+/// Contracts see the entry, whether it was published, and the journal that it tells: the entries up
+/// to its own where it was, else none.
 #[derive(Drop)]
 pub struct Receipt<'a, H: Allocator, J: Naming<H>> {
     pub(crate) entry: Entry<&'a H>,

@@ -22,7 +22,8 @@ use std::marker::Model;
 /// Why a window does not answer.
 #[derive(Clone, Copy, Debug, PartialEq, Eq)]
 pub enum LocateFault {
-    /// K4: there is no version to answer from, as may be once the office is closed, or none as new as what the window was told.
+    /// K4: there is no version to answer from, as may be once the office is closed, or none as new as
+    /// what the window was told.
     NoVersion,
     /// An allocation was refused.
     NoMemory,
@@ -39,11 +40,11 @@ impl From<AllocError> for LocateFault {
     }
 }
 
-/// A window of an office: it answers where a place lies, from a published version, and waits for nobody. It may go to a thread of its
-/// own.
+/// A window of an office: it answers where a place lies, from a published version, and waits for
+/// nobody. It may go to a thread of its own.
 ///
-/// Contracts see the state in which the office's fabric was opened, and the entries that the versions which the window entered and the
-/// receipts which it learnt rest on.
+/// Contracts see the state in which the office's fabric was opened, and the entries that the
+/// versions which the window entered and the receipts which it learnt rest on.
 #[derive(Drop)]
 pub struct Window<'a, H: Allocator, J: Naming<H>> {
     pub(crate) reader: ReadHandle<Version<Copied<'a, H, J>, Entry<&'a H>, J>, &'a H>,
@@ -66,7 +67,8 @@ impl<'a, H: Allocator, J: Naming<H>> Model for Window<'a, H, J> {
 }
 
 impl<'a, H: Allocator, J: Naming<H>> Window<'a, H, J> {
-    /// Learns a receipt: each later answer has at least the entries that it tells. One that was not published tells nothing.
+    /// Learns a receipt: each later answer has at least the entries that it tells. One that was not
+    /// published tells nothing.
     pub fn learn(&mut self, receipt: &Receipt<'a, H, J>)
         ensures { Learns self.old receipt.now.told self.new }
     {
@@ -83,14 +85,21 @@ impl<'a, H: Allocator, J: Naming<H>> Window<'a, H, J> {
         self.front.learn(&notice.front);
     }
 
-    /// Where a corner lies among the parcels after some of the entries, with how many entries these are: all that this window had seen
-    /// or was told, and those published since, as far as it finds them.
+    /// Where a corner lies among the parcels after some of the entries, with how many entries these
+    /// are: all that this window had seen or was told, and those published since, as far as it finds
+    /// them.
     ///
     /// # Errors
     ///
-    /// [`LocateFault::NoVersion`] (K4) where there is no version, as may be once the office is closed, or none as new as what this window
-    /// was told: nothing has changed then. And
-    /// [`LocateFault::NoMemory`] where an allocation is refused; the window may have seen more entries then.
+    /// [`LocateFault::NoVersion`] (K4) where there is no version, as may be once the office is
+    /// closed, or none as new as what this window was told: nothing has changed then. And
+    /// [`LocateFault::NoMemory`] where an allocation is refused; the window may have seen more
+    /// entries then.
+    ///
+    /// ```
+    /// window.learn(&receipt);
+    /// let (entries, at) = window.locate(corner)?;
+    /// ```
     pub fn locate(&mut self, corner: Corner) -> Result<(u64, At<&'a H>), LocateFault>
         ensures opening { self.new.opening ≡ self.old.opening }
         ensures begins { IsPrefix self.old.seen self.new.seen }

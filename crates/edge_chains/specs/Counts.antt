@@ -1,5 +1,6 @@
 -- What an `EdgeSum` shows: undirected edges with their net numbers (this product's own).
-use Rattle.std.specs.Prelude.{◌≡◌, ◌≢◌, ℕ, ℤ, pos, ◌-ℤ◌, neg_ℤ, Bool, ◌&&◌, ◌||◌, if◌then◌else◌, IsTrue, IsSome, Some, List}
+use Rattle.std.specs.Prelude.{◌≡◌, ◌≢◌, ℕ, ℤ, pos, ◌-ℤ◌, neg_ℤ, Bool, ◌&&◌, ◌||◌, if◌then◌else◌}
+use Rattle.std.specs.Prelude.{IsTrue, IsSome, Some, List}
 use Rattle.std.specs.Option.{unwrap_or}
 use Rattle.std.specs.Map.{lookup}
 use Rattle.geo_exact.specs.Limit.{IsWithin}
@@ -31,7 +32,8 @@ net_at counts a b =
     then number_at counts a b
     else (if is_before b a then neg_ℤ (number_at counts b a) else pos 0)
 
--- the counts as an `EdgeSum` keeps them, a map without repeated edges: each edge has its lesser corner first, and a number other than 0 of size n at most
+-- the counts as an `EdgeSum` keeps them, a map without repeated edges: each edge has its lesser corner first, and a
+-- number other than 0 of size n at most
 pub record AreCounts (counts : List ((Corner × Corner) × ℤ)) (n : ℕ) : Type 0 where
   pub in_order : (edge : Corner × Corner) → IsSome (lookup (is_same_edge edge) counts) → IsTrue (is_before edge.0 edge.1)
   pub no_zero : (edge : Corner × Corner) → lookup (is_same_edge edge) counts ≢ Some (pos 0)

@@ -1,5 +1,7 @@
--- Net numbers of directed edges over lists of rings (this product's own; OGC 06-103r4, 6.1.6, Curve: a line runs from a start point to an end point).
-use Rattle.std.specs.Prelude.{ℕ, ◌+◌, ℤ, pos, ◌+ℤ◌, ◌-ℤ◌, Bool, ◌&&◌, if◌then◌else◌, List, [], ◌∷◌, ◌++◌}
+-- Net numbers of directed edges over lists of rings (this product's own; OGC 06-103r4, 6.1.6, Curve: a line runs from
+-- a start point to an end point).
+use Rattle.std.specs.Prelude.{ℕ, ◌+◌, ℤ, pos, ◌+ℤ◌, ◌-ℤ◌, Bool, ◌&&◌, if◌then◌else◌, List, [], ◌∷◌}
+use Rattle.std.specs.Prelude.{◌++◌}
 use Rattle.geo_exact.specs.declared.corner.Corner.{Corner}
 use Rattle.geo_exact.specs.Order.{is_same}
 use Rattle.geo_exact.specs.Point.{Point}

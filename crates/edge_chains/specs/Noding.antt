@@ -1,4 +1,5 @@
--- Noding: rings with corners inserted where they lie strictly inside an edge (OGC 06-103r4, 6.1.15.1: a line's interior is what is left without its ends).
+-- Noding: rings with corners inserted where they lie strictly inside an edge (OGC 06-103r4, 6.1.15.1: a line's
+-- interior is what is left without its ends).
 use Rattle.std.specs.Prelude.{◌≡◌, ◌↔◌, List, [], ◌∷◌, ◌++◌, ⊤}
 use Rattle.std.specs.List.{Contains}
 use Rattle.geo_exact.specs.declared.corner.Corner.{Corner}

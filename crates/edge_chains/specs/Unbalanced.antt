@@ -8,9 +8,11 @@ use Rattle.edge_chains.specs.Counts.{Counts, net_at, is_edge_before}
 -- each edge comes before those behind it, by its first corner and then by its second
 abbrev pub AreInEdgeOrder : List (Corner × Corner × ℤ) → Type 0
 AreInEdgeOrder [] = ⊤
-AreInEdgeOrder (edge ∷ rest) = AllByRecursion (λ later. IsTrue (is_edge_before (edge.0, edge.1) (later.0, later.1))) rest × AreInEdgeOrder rest
+AreInEdgeOrder (edge ∷ rest) = AllByRecursion (λ later. IsTrue (is_edge_before (edge.0, edge.1) (later.0, later.1)))
+    rest × AreInEdgeOrder rest
 
 -- the list has exactly the edges a, b with a before b whose number is not 0, with that number, in order and each once
 pub record AreUnbalanced (sum : Counts) (edges : List (Corner × Corner × ℤ)) : Type 0 where
   pub ascend : AreInEdgeOrder edges
-  pub exactly : (a b : Corner) (n : ℤ) → Contains edges (a, b, n) ↔ (IsTrue (is_before a b) × (net_at sum.counts a b ≡ n) × (n ≢ pos 0))
+  pub exactly : (a b : Corner) (n : ℤ) → Contains edges (a, b, n)
+      ↔ (IsTrue (is_before a b) × (net_at sum.counts a b ≡ n) × (n ≢ pos 0))

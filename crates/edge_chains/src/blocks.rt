@@ -56,8 +56,8 @@ impl<A: Allocator + Copy> Blocks<A> {
         self.corners.as_slice()
     }
 
-    /// Those of the corners that lie strictly inside the edge from a to b, in the order of the list; `None` where more than `most`
-    /// places are looked at.
+    /// Those of the corners that lie strictly inside the edge from a to b, in the order of the list;
+    /// `None` where more than `most` places are looked at.
     pub fn inside(
         &self,
         a: Corner,
@@ -93,8 +93,8 @@ impl<A: Allocator + Copy> Blocks<A> {
     }
 }
 
-/// A corner beside its place in Morton's order (Z-order), which neighbours in the plane mostly have near each other. Only the speed
-/// rests on it.
+/// A corner beside its place in Morton's order (Z-order), which neighbours in the plane mostly have
+/// near each other. Only the speed rests on it.
 #[derive(Clone, Copy)]
 struct Placed {
     place: u64,
@@ -154,8 +154,8 @@ fn apart(number: u64) -> u64 {
     (bits | bits << 1) & 0x5555_5555_5555_5555
 }
 
-/// Those of the corners that lie strictly inside an edge, in the order of the list; `None` where more than `most` places are
-/// looked at.
+/// Those of the corners that lie strictly inside an edge, in the order of the list; `None` where
+/// more than `most` places are looked at.
 ///
 /// At each place a block begins that goes up to `ends`, with its box; a block whose box the edge misses is passed over.
 fn collect<A: Allocator + Copy>(
@@ -226,7 +226,8 @@ fn collect_few<A: Allocator + Copy>(
     Ok(Some(found))
 }
 
-/// Where the block at each of n places ends: those of a tree in which a block is its first place and two halves of the rest.
+/// Where the block at each of n places ends: those of a tree in which a block is its first place
+/// and two halves of the rest.
 fn block_ends<A: Allocator + Copy>(alloc: A, n: usize) -> Result<Vec<usize, A>, AllocError>
     ensures { IfOk result (λ ends. AreEnds n ends.items) }
 {

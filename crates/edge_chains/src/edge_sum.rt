@@ -27,10 +27,12 @@ type Numbers<A> = HashMap<(Corner, Corner), i64, BuildHasherDefault<FoldHasher>,
 
 /// Net numbers of directed edges over the rings added so far, less those over the rings taken.
 ///
-/// It is a map from undirected edges a, b with a before b to the number of directed edges from a to b minus the
-/// number from b to a, and it has no entry for 0. So two sets of rings, one added and the other taken, have the same
-/// net edges exactly where [`first_unbalanced`](EdgeSum::first_unbalanced) finds none. An edge of no length changes no
-/// net number; [`edges`](EdgeSum::edges) counts it. A ring of n corners takes time in proportion to n, whatever was counted before.
+/// It is a map from undirected edges a, b with a before b to the number of directed edges from a to
+/// b minus the number from b to a, and it has no entry for 0. So two sets of rings, one added and
+/// the other taken, have the same net edges exactly where
+/// [`first_unbalanced`](EdgeSum::first_unbalanced) finds none. An edge of no length changes no net
+/// number; [`edges`](EdgeSum::edges) counts it. A ring of n corners takes time in proportion to n,
+/// whatever was counted before.
 #[derive(Drop)]
 pub struct EdgeSum<A: Allocator> {
     pub(crate) numbers: Numbers<A>,
@@ -49,6 +51,12 @@ impl<A: Allocator> Model for EdgeSum<A> {
 
 impl<A: Allocator + Copy> EdgeSum<A> {
     /// No edge yet; nothing is allocated.
+    ///
+    /// ```
+    /// let mut sum = EdgeSum::new(alloc);
+    /// sum.add(parcel)?;
+    /// sum.take(city)?;
+    /// ```
     pub fn new(alloc: A) -> EdgeSum<A>
         ensures net { AreNetOf result [] [] }
         ensures edges { result.edges ≡ 0 }
@@ -100,8 +108,13 @@ impl<A: Allocator + Copy> EdgeSum<A> {
         self.count(ring, Side::Taken)
     }
 
-    /// The least edge with a number other than 0, by its first corner and then by its second, and that number; `None` where all
-    /// are 0. It takes no memory, and time in proportion to the edges.
+    /// The least edge with a number other than 0, by its first corner and then by its second, and
+    /// that number; `None` where all are 0. It takes no memory, and time in proportion to the edges.
+    ///
+    /// ```
+    /// // Parcels from 0 to 60 and from 61 to 100: ((60, 0), (60, 100), 1).
+    /// let gap = sum.first_unbalanced();
+    /// ```
     pub fn first_unbalanced(&self) -> Option<(Corner, Corner, i64)>
         ensures none { IfNone result ((a b : Corner) → net_at self.now.counts a b ≡ pos 0) }
         // Where there is none, both sides go round each point equally often and have the same area.
@@ -123,8 +136,9 @@ impl<A: Allocator + Copy> EdgeSum<A> {
         Some((a, b, number))
     }
 
-    /// All edges with a number other than 0, each with its lesser corner first and with that number, by their first corners and
-    /// then by their second. The time grows with the number of edges, times its logarithm.
+    /// All edges with a number other than 0, each with its lesser corner first and with that number,
+    /// by their first corners and then by their second. The time grows with the number of edges,
+    /// times its logarithm.
     ///
     /// # Errors
     ///

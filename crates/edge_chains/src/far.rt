@@ -20,14 +20,16 @@ const FEW_STEPS: u64 = 64;
 /// How many steps an edge has at most whose places are looked up where the tree of boxes is slow.
 const MANY_STEPS: u64 = 4096;
 
-/// How many places of the tree are looked at before an edge is slow, and what part of all corners besides where it has more steps.
+/// How many places of the tree are looked at before an edge is slow, and what part of all corners
+/// besides where it has more steps.
 const QUICK: usize = 256;
 
 /// Corners for many searches, as a list in some order.
 ///
-/// Where an edge has few steps between whole places, each of these places is looked up. Any other edge goes through a tree of boxes,
-/// for a while: where that is slow, the places of its steps are looked up, if they are not too many; and where many edges in one
-/// direction are slow, all corners are put in order across it, once, and each further edge in that direction is looked up among
+/// Where an edge has few steps between whole places, each of these places is looked up. Any other
+/// edge goes through a tree of boxes, for a while: where that is slow, the places of its steps are
+/// looked up, if they are not too many; and where many edges in one direction are slow, all corners
+/// are put in order across it, once, and each further edge in that direction is looked up among
 /// those on its line.
 #[derive(Drop)]
 pub(crate) struct Far<A: Allocator> {
@@ -145,7 +147,8 @@ impl<A: Allocator + Copy> Far<A> {
         }
     }
 
-    /// The same, through the tree of boxes; where that looks at half as many places as there are corners, each corner is tried.
+    /// The same, through the tree of boxes; where that looks at half as many places as there are
+    /// corners, each corner is tried.
     fn in_boxes(&self, a: Corner, b: Corner) -> Result<Vec<Corner, A>, AllocError>
         ensures { IfOk result (λ found. AreInside self.now a b found.items) }
     {

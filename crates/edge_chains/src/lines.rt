@@ -116,7 +116,8 @@ fn first_behind(ranked: &[Ranked], low: Ranked) -> usize
     from
 }
 
-/// The corners of those that stand between two, as far as they lie strictly inside the edge from the one's corner to the other's.
+/// The corners of those that stand between two, as far as they lie strictly inside the edge from
+/// the one's corner to the other's.
 fn between<A: Allocator + Copy>(
     alloc: A,
     ranked: &[Ranked],

@@ -71,12 +71,17 @@ fn node_ring<A: Allocator + Copy>(
 
 /// Each ring with exactly those of the corners inserted that lie strictly inside an edge, in order along it, each once.
 ///
-/// Where all corners of the rings are among them, no corner lies strictly inside an edge afterwards. Corners are in whole
-/// centimetres.
+/// Where all corners of the rings are among them, no corner lies strictly inside an edge
+/// afterwards. Corners are in whole centimetres.
 ///
 /// # Errors
 ///
 /// [`AllocError`] where an allocation is refused.
+///
+/// ```
+/// // (0, 0) (100, 0) (100, 100) (0, 100) with (60, 0) among the corners: (60, 0) comes behind (0, 0).
+/// let noded = node(alloc, rings, corners)?;
+/// ```
 pub fn node<A: Allocator + Copy>(
     alloc: A,
     rings: &[Corners<A>],

@@ -1,5 +1,7 @@
 -- What who keeps knows of one stub, and of all stubs.
-use Rattle.std.proofs.Common.{◌≡◌, ⊎_elim, refl, sym, ◌∙◌, ap, arith, ℕ, zero, suc, ◌+◌, ◌-◌, ◌<◌, ◌≤◌, Bool, true, false, nat_eq, cond, List, [], ◌∷◌, ◌++◌, map, length, take, eq-eqb, length-append}
+use Rattle.std.proofs.Common.{◌≡◌, ⊎_elim, refl, sym, ◌∙◌, ap, arith, ℕ, zero, suc, ◌+◌, ◌-◌, ◌<◌, ◌≤◌}
+use Rattle.std.proofs.Common.{Bool, true, false, nat_eq, cond, List, [], ◌∷◌, ◌++◌, map, length, take, eq-eqb}
+use Rattle.std.proofs.Common.{length-append}
 use Rattle.std.specs.Prelude.{filter, sum_by}
 use Rattle.std.specs.List.{AllByRecursion}
 use Rattle.std.proofs.lemmas.Bool.{cases_eq, cases_lt}
@@ -7,7 +9,8 @@ use Rattle.std.proofs.lemmas.List.Elements.{All-from_recursion}
 use Rattle.std.proofs.lemmas.List.Sums.{sum_by-cons}
 use Rattle.entry_cards.specs.Cards.{IsClerk, HasAll, AccountFor, of_clerk, times}
 use Rattle.entry_cards.specs.own.Rule.{blank_cards, taken_in, AreKnown}
-use Rattle.entry_cards.proofs.Lists.{all_left, all_right, beyond_next, times-cons, times-append, times_first, length-blank_cards, blank_before, blank_one, at_most_one, one_is_clerk}
+use Rattle.entry_cards.proofs.Lists.{all_left, all_right, beyond_next, times-cons, times-append, times_first}
+use Rattle.entry_cards.proofs.Lists.{length-blank_cards, blank_before, blank_one, at_most_one, one_is_clerk}
 
 take_front : {X : Type 0} (xs ys : List X) → take (length xs) (xs ++ ys) ≡ xs
 take_front [] ys = refl
@@ -26,7 +29,8 @@ module _ {E : Type 0} where
       ap (λ b. map (λ (e : ℕ × E). e.1) (cond b ((k, entry) ∷ rest) rest)) (eq-eqb k k refl)
 
   -- entries of clerks up to m, of whom those beyond n have none, are of clerks up to n
-  all_of_dealt : (n m : ℕ) (all : List (ℕ × E)) → AllByRecursion (λ e. IsClerk m e.0) all → ((k : ℕ) → n < k → k ≤ m → of_clerk k all ≡ [])
+  all_of_dealt : (n m : ℕ) (all : List (ℕ × E)) → AllByRecursion (λ e. IsClerk m e.0) all
+      → ((k : ℕ) → n < k → k ≤ m → of_clerk k all ≡ [])
       → AllByRecursion (λ e. IsClerk n e.0) all
   all_of_dealt n m [] of_clerks none = tt
   all_of_dealt n m ((k, entry) ∷ all) of_clerks none = (
@@ -124,7 +128,8 @@ module _ {E : Type 0} where
         },
       )
 
-  pub all_stubs : (clerks dealt : ℕ) (all : List (ℕ × E)) (cards : List (ℕ × List E)) → dealt ≤ clerks → length cards ≡ dealt
+  pub all_stubs : (clerks dealt : ℕ) (all : List (ℕ × E)) (cards : List (ℕ × List E)) → dealt ≤ clerks
+      → length cards ≡ dealt
       → AreKnown clerks all (cards ++ blank_cards dealt (clerks - dealt)) → AccountFor dealt all cards
   all_stubs clerks dealt all cards few count known =
       let n : ℕ = clerks - dealt in

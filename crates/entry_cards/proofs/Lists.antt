@@ -1,5 +1,6 @@
 -- Cards of clerks, and the entries of one clerk in a list.
-use Rattle.std.proofs.Common.{◌≡◌, ◌≢◌, ⊎_elim, refl, sym, ◌∙◌, ap, arith, ℕ, zero, suc, ◌+◌, ◌<◌, ◌≤◌, nat_eq, cond, List, [], ◌∷◌, ◌++◌, map, length, append-nil, eq-eqb, ne_eqb}
+use Rattle.std.proofs.Common.{◌≡◌, ◌≢◌, ⊎_elim, refl, sym, ◌∙◌, ap, arith, ℕ, zero, suc, ◌+◌, ◌<◌, ◌≤◌}
+use Rattle.std.proofs.Common.{nat_eq, cond, List, [], ◌∷◌, ◌++◌, map, length, append-nil, eq-eqb, ne_eqb}
 use Rattle.std.specs.List.{AllByRecursion}
 use Rattle.std.proofs.lemmas.Bool.{cases_eq, cases_lt}
 use Rattle.std.proofs.lemmas.List.{map-append}
@@ -113,12 +114,14 @@ module _ {E : Type 0} where
   of_clerk-append k xs ys =
       ap (map (λ entry. entry.1)) (filter-append (λ entry. nat_eq entry.0 k) xs ys) ∙ map-append (λ entry. entry.1) _ _
 
-  pub of_clerk_more : (k : ℕ) (all : List (ℕ × E)) (entry : E) → of_clerk k (all ++ (k, entry) ∷ []) ≡ of_clerk k all ++ entry ∷ []
+  pub of_clerk_more : (k : ℕ) (all : List (ℕ × E)) (entry : E) → of_clerk k (all ++ (k, entry) ∷ []) ≡ of_clerk k all
+      ++ entry ∷ []
   of_clerk_more k all entry =
       of_clerk-append k all ((k, entry) ∷ [])
       ∙ ap (λ b. of_clerk k all ++ map (λ (e : ℕ × E). e.1) (cond b ((k, entry) ∷ []) [])) (eq-eqb k k refl)
 
-  pub of_clerk_other : (k c : ℕ) (all : List (ℕ × E)) (entry : E) → k ≢ c → of_clerk k (all ++ (c, entry) ∷ []) ≡ of_clerk k all
+  pub of_clerk_other : (k c : ℕ) (all : List (ℕ × E)) (entry : E) → k ≢ c → of_clerk k (all ++ (c, entry) ∷ [])
+      ≡ of_clerk k all
   of_clerk_other k c all entry apart =
       of_clerk-append k all ((c, entry) ∷ [])
       ∙ ap (λ b. of_clerk k all ++ map (λ (e : ℕ × E). e.1) (cond b ((c, entry) ∷ []) [])) (ne_eqb c k (λ same. apart (sym same)))

@@ -1,5 +1,6 @@
 -- The mark of who keeps, after each step: the cards that it has stand before those of the clerks that were not dealt.
-use Rattle.std.proofs.Common.{◌≡◌, sym, ◌∙◌, ap, subst, arith, ℕ, suc, ◌+◌, ◌-◌, ◌<◌, List, [], ◌∷◌, ◌++◌}
+use Rattle.std.proofs.Common.{◌≡◌, sym, ◌∙◌, ap, subst, arith, ℕ, suc, ◌+◌, ◌-◌, ◌<◌, List, [], ◌∷◌}
+use Rattle.std.proofs.Common.{◌++◌}
 use mathlib.Core.Option.{some-injective}
 use lib.ListN.{get_elem?}
 use Rattle.atomic_table.specs.Table.{Me}
@@ -60,5 +61,12 @@ module _ {E : Type 0} where
 
   pub shows_card : (v : Gathered E) (card : ℕ × List E) (all : List (ℕ × E)) (cards : List (ℕ × List E)) → all ≡ v.all
       → cards ≡ card ∷ v.cards
-      → ◌≡◌ {A = Gathered E} record { name = v.name; clerks = v.clerks; dealt = v.dealt; all = all; cards = cards } (with_card card v)
+      → ◌≡◌ {A = Gathered E} record {
+        name = v.name;
+        clerks = v.clerks;
+        dealt = v.dealt;
+        all = all;
+        cards =
+            cards;
+      } (with_card card v)
   shows_card v card all cards same taken i = record { name = v.name; clerks = v.clerks; dealt = v.dealt; all = same i; cards = taken i }

@@ -1,5 +1,6 @@
 -- Each step keeps the rule of the views.
-use Rattle.std.proofs.Common.{◌≡◌, ⊎_elim, refl, sym, ◌∙◌, ap, subst, arith, ℕ, zero, suc, ◌+◌, ◌<◌, ◌≤◌, Bool, true, false, List, [], ◌∷◌, ◌++◌, length, set, length-append}
+use Rattle.std.proofs.Common.{◌≡◌, ⊎_elim, refl, sym, ◌∙◌, ap, subst, arith, ℕ, zero, suc, ◌+◌, ◌<◌, ◌≤◌}
+use Rattle.std.proofs.Common.{Bool, true, false, List, [], ◌∷◌, ◌++◌, length, set, length-append}
 use Rattle.std.specs.Prelude.{sum_by}
 use Rattle.std.specs.List.{AllByRecursion}
 use Rattle.std.proofs.lemmas.List.Sums.{sum_by-cons, sum_by_push}
@@ -8,8 +9,10 @@ use lib.ListN.{get_elem?}
 use Rattle.atomic_table.proofs.Lists.{at_set, at_snoc, set_else, set_again}
 use Rattle.entry_cards.specs.declared.view.View.{View}
 use Rattle.entry_cards.specs.Cards.{IsClerk, HasAll, times}
-use Rattle.entry_cards.specs.own.Rule.{blank_cards, IsKept, keeper_view, stub_view, spent_view, joined, without_first, first_of, with_entry, with_more, AreKnown, KnowsCards}
-use Rattle.entry_cards.proofs.Lists.{all_append, times-cons, times-append, times_at_most, times_first, length-blank_cards, at_most_one, one_is_clerk, of_clerk_more, others_have_all}
+use Rattle.entry_cards.specs.own.Rule.{blank_cards, IsKept, keeper_view, stub_view, spent_view, joined, without_first}
+use Rattle.entry_cards.specs.own.Rule.{first_of, with_entry, with_more, AreKnown, KnowsCards}
+use Rattle.entry_cards.proofs.Lists.{all_append, times-cons, times-append, times_at_most, times_first}
+use Rattle.entry_cards.proofs.Lists.{length-blank_cards, at_most_one, one_is_clerk, of_clerk_more, others_have_all}
 use Rattle.entry_cards.proofs.Sums.{sum_set, at_in, two_in, all_in_one}
 
 true_is_not_false : {P : Type 0} → false ≡ true → P
@@ -35,7 +38,8 @@ module _ {E : Type 0} where
   of clerks keeps all cards = record { clerks = clerks; keeps = keeps; all = all; cards = cards }
 
   -- ---- an entry is added
-  pub adds : (clerks : ℕ) (views : List (View E)) (id n : ℕ) (keeps : Bool) (xs : List (ℕ × E)) (cards : List (ℕ × List E)) (entry : E)
+  pub adds : (clerks : ℕ) (views : List (View E)) (id n : ℕ) (keeps : Bool) (xs : List (ℕ × E))
+      (cards : List (ℕ × List E)) (entry : E)
       → IsKept clerks views
       → get_elem? views id ≡ some (of n keeps xs cards) → keeps ≡ true → 0 < length cards
       → IsKept clerks (set views id (with_more (of n keeps xs cards) (some entry)))
@@ -100,8 +104,11 @@ module _ {E : Type 0} where
         knows = λ seat u there keeps'. ⊎_elim
             (λ before. ⊎_elim
             (λ same.
-            let mine = kept.knows id v at (ap (λ (x : View E). x.keeps) same.1 ∙ keeps') in
-            (same.0 ∙ mine.0, ap (λ (x : View E). x.all) (sym same.1) ∙ mine.1, ap (λ (x : View E). x.clerks) (sym same.1) ∙ mine.2))
+            let mine = kept.knows id v at (ap (λ (x : View E). x.keeps) same.1 ∙ keeps') in (
+              same.0 ∙ mine.0,
+              ap (λ (x : View E). x.all) (sym same.1) ∙ mine.1,
+              ap (λ (x : View E). x.clerks) (sym same.1) ∙ mine.2,
+            ))
             (λ other. kept.knows seat u other.1 keeps')
             (at_set views id seat w u before))
             (λ last. true_is_not_false (ap (λ (x : View E). x.keeps) last ∙ keeps'))
@@ -145,8 +152,11 @@ module _ {E : Type 0} where
             (λ spent. true_is_not_false (ap (λ (x : View E). x.keeps) spent.1 ∙ keeps))
             (λ left. ⊎_elim
             (λ same.
-            let mine = kept.knows id v at (ap (λ (x : View E). x.keeps) same.1 ∙ keeps) in
-            (same.0 ∙ mine.0, ap (λ (x : View E). x.all) (sym same.1) ∙ mine.1, ap (λ (x : View E). x.clerks) (sym same.1) ∙ mine.2))
+            let mine = kept.knows id v at (ap (λ (x : View E). x.keeps) same.1 ∙ keeps) in (
+              same.0 ∙ mine.0,
+              ap (λ (x : View E). x.all) (sym same.1) ∙ mine.1,
+              ap (λ (x : View E). x.clerks) (sym same.1) ∙ mine.2,
+            ))
             (λ apart'. kept.knows seat u apart'.1 keeps)
             (at_set views id seat both u left.1))
             (at_set first other seat spent_view u stands);

@@ -68,8 +68,8 @@ impl<E, A: Allocator> Gathering<E, A> {
         self.cards.join(&mut self.mark, badge.into_seat());
     }
 
-    /// With as many stubs as were dealt: each has all entries of its clerk, they are of the clerks from 1 on, one each, and
-    /// together they have all entries.
+    /// With as many stubs as were dealt: each has all entries of its clerk, they are of the clerks
+    /// from 1 on, one each, and together they have all entries.
     pub fn confirm(&mut self)
         requires all_stubs { length self.old.cards ≡ self.old.dealt }
         ensures same { self.new ≡ self.old }

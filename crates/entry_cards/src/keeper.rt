@@ -9,8 +9,8 @@ use std::alloc::{AllocError, Allocator};
 use std::marker::Model;
 use std::mem;
 
-/// Who keeps the list of all entries that are made with the stubs that it deals, and knows each entry's clerk. Contracts
-/// see a `Kept`.
+/// Who keeps the list of all entries that are made with the stubs that it deals, and knows each
+/// entry's clerk. Contracts see a `Kept`.
 #[derive(Drop)]
 pub struct Keeper<E, A: Allocator> {
     cards: Cards<E, A>,
@@ -87,8 +87,8 @@ impl<E, A: Allocator> Keeper<E, A> {
         stub.badge = self.cards.card_off(&mut self.mark).into_badge();
     }
 
-    /// Compares a stub with the list: the entries that were made with it are all that the list has of its clerk, who was
-    /// dealt it.
+    /// Compares a stub with the list: the entries that were made with it are all that the list has of
+    /// its clerk, who was dealt it.
     pub fn compare(&mut self, stub: &mut Stub<E>)
         requires own { stub.old.name ≡ self.old.name }
         ensures same { (self.new ≡ self.old) × (stub.new ≡ stub.old) }

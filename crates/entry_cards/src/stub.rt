@@ -2,8 +2,8 @@ use crate::view::View;
 use atomic_table::Badge;
 use std::marker::Model;
 
-/// A clerk's stub: the proof's part of the clerk's card, which knows the entries that were made with it. It has no bytes,
-/// and may go to another thread. Contracts see an `Own`.
+/// A clerk's stub: the proof's part of the clerk's card, which knows the entries that were made
+/// with it. It has no bytes, and may go to another thread. Contracts see an `Own`.
 #[derive(Drop)]
 pub struct Stub<E> {
     pub(crate) badge: Badge<View<E>>,

@@ -1,5 +1,6 @@
 -- Beginnings of one list.
-use Rattle.std.proofs.Common.{◌⊎◌, inl, inr, ◌+◌, subst, Some, slice_get, ◌≡◌, ◌≤◌, List, [], ◌∷◌, ◌++◌, length, refl, ap, sym, ◌∙◌, arith, append_assoc, length-append}
+use Rattle.std.proofs.Common.{◌⊎◌, inl, inr, ◌+◌, subst, Some, slice_get, ◌≡◌, ◌≤◌, List, [], ◌∷◌, ◌++◌}
+use Rattle.std.proofs.Common.{length, refl, ap, sym, ◌∙◌, arith, append_assoc, length-append}
 use mathlib.Core.List.{IsPrefix}
 
 -- each list begins with itself
@@ -46,7 +47,8 @@ longer_by_one xs ys zs before x ends more (inr is) p q =
     is ∙ ends ∙ ap (λ w. w ++ x ∷ []) (sym same)
 
 -- the next entry of the whole makes a beginning longer
-pub next_begins : {A : Type 0} (xs ys : List A) (x : A) → IsPrefix xs ys → slice_get ys (length xs) ≡ Some x → IsPrefix (xs ++ x ∷ []) ys
+pub next_begins : {A : Type 0} (xs ys : List A) (x : A) → IsPrefix xs ys → slice_get ys (length xs) ≡ Some x
+    → IsPrefix (xs ++ x ∷ []) ys
 next_begins [] [] x p h = absurd cc
 next_begins [] (y ∷ ys) x p h = (ys, cc h)
 next_begins (z ∷ xs) [] x p h = absurd (cc (p.1))

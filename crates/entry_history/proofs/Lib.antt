@@ -1,2 +1,2 @@
 pub mod Beginnings
-mod Adding
+mod OneEntryMore

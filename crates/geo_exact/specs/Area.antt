@@ -1,4 +1,5 @@
--- Twice the signed area of a ring, positive for a counterclockwise one; of a simple ring its absolute value is twice the Area of OGC 06-103r4, 6.1.10.2.
+-- Twice the signed area of a ring, positive for a counterclockwise one; of a simple ring its absolute value is twice
+-- the Area of OGC 06-103r4, 6.1.10.2.
 use Rattle.std.specs.Prelude.{ℤ, ◌-ℤ◌, ◌*ℤ◌, List}
 use Rattle.geo_exact.specs.declared.corner.Corner.{Corner}
 use Rattle.geo_exact.specs.Rings.{Edge, edges, sum_over}

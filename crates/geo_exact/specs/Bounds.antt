@@ -31,7 +31,8 @@ pub record IsInsideBox (p : Point) (box : Bounds) : Type 0 where
 -- p is beyond a side of the box, and not on it
 abbrev pub IsBeyondBox : Point → Bounds → Type 0
 IsBeyondBox p box =
-    (p.x <ℤ (box.low.x *ℤ p.d)) ⊎ ((box.high.x *ℤ p.d) <ℤ p.x) ⊎ (p.y <ℤ (box.low.y *ℤ p.d)) ⊎ ((box.high.y *ℤ p.d) <ℤ p.y)
+    (p.x <ℤ (box.low.x *ℤ p.d)) ⊎ ((box.high.x *ℤ p.d) <ℤ p.x) ⊎ (p.y <ℤ (box.low.y *ℤ p.d))
+    ⊎ ((box.high.y *ℤ p.d) <ℤ p.y)
 
 -- the box has no inner place: in x or in y it ends where it begins, or before
 abbrev pub IsEmptyBox : Bounds → Type 0

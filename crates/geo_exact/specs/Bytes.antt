@@ -1,5 +1,7 @@
--- What a reader or a writer does to the bytes that it tells of, and to its count of failures (this product's own streams, over Read and Write of std).
-use Rattle.std.specs.Prelude.{◌≡◌, ◌≢◌, ℕ, ◌+◌, ◌-◌, ◌^◌, ◌<◌, min, List, length, take, Option, Result, Ok, Err, IsErr}
+-- What a reader or a writer does to the bytes that it tells of, and to its count of failures (this product's own
+-- streams, over Read and Write of std).
+use Rattle.std.specs.Prelude.{◌≡◌, ◌≢◌, ℕ, ◌+◌, ◌-◌, ◌^◌, ◌<◌, min, List, length, take, Option, Result, Ok}
+use Rattle.std.specs.Prelude.{Err, IsErr}
 use Rattle.std.specs.Io.KnownBytes.{Consumes, Appends, Keeps, IsAtEnd}
 
 -- the count after one more failure: at the greatest number it stays

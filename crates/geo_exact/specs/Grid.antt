@@ -1,5 +1,6 @@
 -- The centimetre grid of a double (Technical Description, July 1998, "Numeric Types"; IEEE 754, binary64: its fields and its value).
-use Rattle.std.specs.Prelude.{◌≡◌, ℕ, ◌+◌, ◌*◌, ◌/◌, ◌%◌, ◌^◌, ◌<◌, ℤ, pos, neg_ℤ, ◌-ℤ◌, ◌*ℤ◌, ◌==◌, Bool, nat_lt, nat_le, if◌then◌else◌, Result, Ok, Err}
+use Rattle.std.specs.Prelude.{◌≡◌, ℕ, ◌+◌, ◌*◌, ◌/◌, ◌%◌, ◌^◌, ◌<◌, ℤ, pos, neg_ℤ, ◌-ℤ◌}
+use Rattle.std.specs.Prelude.{◌*ℤ◌, ◌==◌, Bool, nat_lt, nat_le, if◌then◌else◌, Result, Ok, Err}
 use Rattle.std.specs.Int.{abs_diff}
 use Rattle.geo_exact.specs.declared.coord.Unit.{Unit}
 use Rattle.geo_exact.specs.declared.coord.Unit.TheVariants.{Cm, M}

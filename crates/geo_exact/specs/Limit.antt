@@ -1,4 +1,5 @@
--- The range of a coordinate: this product's own limit (the Technical Description, July 1998, "Numeric Types", rules out infinities and not-a-number alone).
+-- The range of a coordinate: this product's own limit (the Technical Description, July 1998, "Numeric Types", rules
+-- out infinities and not-a-number alone).
 use Rattle.std.specs.Prelude.{ℕ, ℤ, pos, neg_ℤ, ◌≤ℤ◌}
 use Rattle.std.specs.Int.RustNames.{unsigned_abs}
 use Rattle.geo_exact.specs.declared.limits.TheConstants.{LIMIT}

@@ -1,4 +1,5 @@
--- Inside of an edge, and segments between rational points (OGC 06-103r4, 6.1.7, Line; 6.1.15.1: a line's interior is what is left without its ends).
+-- Inside of an edge, and segments between rational points (OGC 06-103r4, 6.1.7, Line; 6.1.15.1: a line's interior is
+-- what is left without its ends).
 use Rattle.std.specs.Prelude.{◌≡◌, ◌≢◌, ℤ, pos, ◌+ℤ◌, ◌*ℤ◌, ◌<ℤ◌, ◌≤ℤ◌}
 use Rattle.geo_exact.specs.declared.corner.Corner.{Corner}
 use Rattle.geo_exact.specs.Point.{Point, IsPlaceOf, corner_point}

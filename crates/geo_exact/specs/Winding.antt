@@ -1,5 +1,7 @@
--- The winding number of a ring round a point, and the ring's interior (OGC 06-103r4, 6.1.11, Polygon: interior of a simple counterclockwise ring).
--- A shapefile has its outer rings clockwise (Technical Description, July 1998, "Polygon"); such a ring has no interior here until it is turned round.
+-- The winding number of a ring round a point, and the ring's interior (OGC 06-103r4, 6.1.11, Polygon: interior of a
+-- simple counterclockwise ring).
+-- A shapefile has its outer rings clockwise (Technical Description, July 1998, "Polygon"); such a ring has no
+-- interior here until it is turned round.
 use Rattle.std.specs.Prelude.{ℤ, pos, negsuc, ◌*ℤ◌, ◌≤ℤ◌, int_le, int_lt, Bool, if◌then◌else◌, List}
 use Rattle.geo_exact.specs.declared.corner.Corner.{Corner}
 use Rattle.geo_exact.specs.Point.{Point}

@@ -7,7 +7,7 @@ use crate::limits::LIST_CORNERS;
 use crate::products::wide_product;
 
 /// The product of two coordinates.
-#[tactic(auto, using(crate::proofs::Within::product_within))]
+#[tactic(auto, using(crate::proofs::numbers::Within::product_within))]
 fn coordinate_product(u: i64, v: i64) -> i128
     requires first { IsWithin limit u }
     requires second { IsWithin limit v }
@@ -27,6 +27,11 @@ fn edge_area2(from: Corner, to: Corner) -> i128
 
 /// Twice the signed area that a ring of corners goes round, in square centimetres: positive for a
 /// counterclockwise ring, 0 for no corner. A ring here has at most [`LIST_CORNERS`](crate::LIST_CORNERS) corners.
+///
+/// ```
+/// // The square (0, 0) (100, 0) (100, 100) (0, 100):
+/// assert_eq!(area2(square.as_slice()), 20_000);
+/// ```
 pub fn area2(ring: &[Corner]) -> i128
     requires { length ring.now ≤ LIST_CORNERS }
     ensures value { result ≡ area2_of ring.now }

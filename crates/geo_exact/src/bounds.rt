@@ -122,6 +122,10 @@ impl Bounds {
     }
 
     /// The least box that reaches as far as both boxes.
+    ///
+    /// ```
+    /// let bounds = Bounds::of_corner(a).around(Bounds::of_corner(b));
+    /// ```
     pub fn around(self, other: Bounds) -> Bounds
         ensures left { result.low.x ≡ int_min self.low.x other.low.x }
         ensures bottom { result.low.y ≡ int_min self.low.y other.low.y }

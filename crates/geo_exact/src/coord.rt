@@ -98,8 +98,8 @@ fn near_size(numerator: u64, shift: u64) -> Result<u64, CoordFault>
     Ok(nearest as u64)
 }
 
-/// The coordinate of a double of a size from 1 to `2 ^ 52` where it is a whole number of centimetres within the limit: of those
-/// of a file nearly all are.
+/// The coordinate of a double of a size from 1 to `2 ^ 52` where it is a whole number of
+/// centimetres within the limit: of those of a file nearly all are.
 fn whole_coordinate(bits: u64, unit: Unit) -> Option<i64>
     ensures { IfSome result (λ k. coordinate bits unit ≡ Ok k) }
 {
@@ -116,8 +116,8 @@ fn whole_coordinate(bits: u64, unit: Unit) -> Option<i64>
     Some(if bits >> 63 == 0 { size } else { -size })
 }
 
-/// The coordinate of any double. It stands apart, so that its 128-bit steps take no registers from the loop that reads whole
-/// numbers.
+/// The coordinate of any double. It stands apart, so that its 128-bit steps take no registers from
+/// the loop that reads whole numbers.
 #[inline(never)]
 fn signed_coordinate(bits: u64, unit: Unit) -> Result<i64, CoordFault>
     ensures { result ≡ coordinate bits unit }
@@ -153,6 +153,11 @@ fn any_coordinate(bits: u64, unit: Unit) -> Result<i64, CoordFault>
 ///
 /// [`CoordFault::NotNumber`] for an infinity or a not-a-number, [`CoordFault::OffGrid`] where there is no such
 /// `k`, [`CoordFault::TooFar`] where it is beyond [`LIMIT`](crate::LIMIT).
+///
+/// ```
+/// assert_eq!(read_coord(0x4028AE147AE147AE, Unit::M), Ok(1234)); // 12.34 m
+/// assert_eq!(read_coord(0x4028B0A3D70A3D71, Unit::M), Err(CoordFault::OffGrid)); // 12.345 m
+/// ```
 pub fn read_coord(bits: u64, unit: Unit) -> Result<i64, CoordFault>
     ensures exact { result ≡ coordinate bits unit }
     ensures on_grid { IfOk result (λ k. IsOnGrid bits unit k) }
@@ -165,7 +170,7 @@ pub fn read_coord(bits: u64, unit: Unit) -> Result<i64, CoordFault>
 }
 
 /// A double is on the grid at one whole centimetre at most.
-#[tactic(auto, using(crate::proofs::Coordinates::one_fits))]
+#[tactic(auto, using(crate::proofs::doubles::Coordinates::one_fits))]
 pub fn one_centimetre_fits()
     ensures { (bits : ℕ) (unit : Unit) (k l : ℤ) → IsOnGrid bits unit k → IsOnGrid bits unit l → k ≡ l }
 {}
@@ -177,7 +182,7 @@ pub fn coordinates_are_on_the_grid()
 {}
 
 /// `coordinate` answers a fault exactly where it is the double's.
-#[tactic(auto, using(crate::proofs::Coordinates::refused_iff))]
+#[tactic(auto, using(crate::proofs::doubles::Coordinates::refused_iff))]
 pub fn coordinate_faults_are_exact()
     ensures { (bits : ℕ) (unit : Unit) (f : CoordFault) → (coordinate bits unit ≡ Err f) ↔ IsCoordFault bits unit f }
 {}

@@ -18,6 +18,10 @@ pub struct Corner {
 
 impl Corner {
     /// The corner at a place, or `None` where a coordinate is beyond the limit.
+    ///
+    /// ```
+    /// let corner = Corner::new(60, 100); // Some; Corner::new(10_000_000_001, 0) is None
+    /// ```
     pub fn new(x: i64, y: i64) -> Option<Corner>
         ensures valid { IsSome result ↔ (IsWithin limit x × IsWithin limit y) }
         ensures made { IfSome result (λ corner. (corner.x ≡ x) × (corner.y ≡ y)) }

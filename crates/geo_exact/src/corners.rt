@@ -89,6 +89,11 @@ impl<A: Allocator> Corners<A> {
     }
 
     /// Turns the ring round, with its first corner kept first.
+    ///
+    /// ```
+    /// // (0, 0) (0, 100) (100, 100) becomes (0, 0) (100, 100) (0, 100).
+    /// ring.turn_round();
+    /// ```
     pub fn turn_round(&mut self)
         ensures { self.new ≡ turned_round self.old }
     {
@@ -97,8 +102,14 @@ impl<A: Allocator> Corners<A> {
         }
     }
 
-    /// Begins the ring at its least corner, by `x` and then by `y`: where that corner comes more than once, at the first
-    /// of its places. The corners before it come last, so the ring has the same edges, begun elsewhere.
+    /// Begins the ring at its least corner, by `x` and then by `y`: where that corner comes more than
+    /// once, at the first of its places. The corners before it come last, so the ring has the same
+    /// edges, begun elsewhere.
+    ///
+    /// ```
+    /// // (100, 0) (100, 100) (0, 100) (0, 0) becomes (0, 0) (100, 0) (100, 100) (0, 100).
+    /// ring.begin_at_least();
+    /// ```
     pub fn begin_at_least(&mut self)
         ensures { self.new ≡ begun_at_least self.old }
     {

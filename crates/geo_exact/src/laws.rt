@@ -29,21 +29,21 @@ pub fn a_ring_is_begun_at_a_corner_of_it()
 
 /// A ring turned round, its first corner kept first, has the opposite winding number round every
 /// point, and the opposite signed area.
-#[tactic(auto, using(crate::proofs::Windings::winding_turned_round, crate::proofs::Windings::area2_turned_round))]
+#[tactic(auto, using(crate::proofs::rings::Windings::winding_turned_round, crate::proofs::rings::Windings::area2_turned_round))]
 pub fn a_ring_turned_round_has_the_opposite_orientation()
     ensures winding_number { (p : Point) (ring : List Corner) → winding p (turned_round ring) ≡ neg_ℤ (winding p ring) }
     ensures signed_area { (ring : List Corner) → area2 (turned_round ring) ≡ neg_ℤ (area2 ring) }
 {}
 
 /// What a corner turns is what its place turns, as a rational point.
-#[tactic(auto, using(crate::proofs::TurnLaws::turn_at_corner))]
+#[tactic(auto, using(crate::proofs::corners_and_turns::TurnLaws::turn_at_corner))]
 pub fn a_corner_turns_as_its_place()
     ensures { (a b c : Corner) → turn_at a b (corner_point c) ≡ turn a b c }
 {}
 
 /// A corner put into an edge that it lies on changes nothing: each winding number and the signed
 /// area stay.
-#[tactic(auto, using(crate::proofs::Windings::winding_inserts, crate::proofs::Windings::area2_inserts))]
+#[tactic(auto, using(crate::proofs::rings::Windings::winding_inserts, crate::proofs::rings::Windings::area2_inserts))]
 pub fn a_corner_on_an_edge_changes_nothing()
     ensures winding_number { (p : Point) (front back : List Corner) (a b m : Corner) → IsOnEdge (corner_point m) a b
         → winding p (front ++ a ∷ m ∷ b ∷ back) ≡ winding p (front ++ a ∷ b ∷ back) }
@@ -53,7 +53,7 @@ pub fn a_corner_on_an_edge_changes_nothing()
 
 /// A counterclockwise triangle goes round a point once or not at all: once round each point that is
 /// left of its three edges, and not at all round a point that is right of one of them.
-#[tactic(auto, using(crate::proofs::Triangles::triangle_windings))]
+#[tactic(auto, using(crate::proofs::rings::Triangles::triangle_windings))]
 pub fn a_triangle_winds_once_round_its_inside()
     ensures at_most_once { (a b c : Corner) (p : Point) → pos 0 <ℤ turn a b c
         → (winding p (a ∷ b ∷ c ∷ []) ≡ pos 0) ⊎ (winding p (a ∷ b ∷ c ∷ []) ≡ pos 1) }
@@ -66,7 +66,7 @@ pub fn a_triangle_winds_once_round_its_inside()
 {}
 
 /// The interior of a counterclockwise triangle is the set of the points left of its three edges.
-#[tactic(auto, using(crate::proofs::Triangles::triangle_interior))]
+#[tactic(auto, using(crate::proofs::rings::Triangles::triangle_interior))]
 pub fn the_interior_of_a_triangle_is_left_of_its_edges()
     ensures interior { (a b c : Corner) (p : Point) → pos 0 <ℤ turn a b c
         → IsInterior p (a ∷ b ∷ c ∷ [])
@@ -75,7 +75,7 @@ pub fn the_interior_of_a_triangle_is_left_of_its_edges()
 
 /// Along a way that meets no edge of a ring its winding number stays: where no point of the segment
 /// from p to q is on the ring, the ring goes round q as often as round p.
-#[tactic(auto, using(crate::proofs::Ways::winding_along))]
+#[tactic(auto, using(crate::proofs::rings::Ways::winding_along))]
 pub fn a_way_off_the_ring_keeps_its_winding_number()
     ensures winding_number { (p q : Point) (ring : List Corner)
         → ((m : Point) → IsOnSegment m p q → ¬ IsOnRing m ring)

@@ -1,5 +1,5 @@
-//! The product's limits, each in one place: code, contracts and definitions name these constants, and what follows from one is
-//! written as an expression of it.
+//! The product's limits, each in one place: code, contracts and definitions name these constants,
+//! and what follows from one is written as an expression of it.
 
 /// The greatest distance of a coordinate from 0, in centimetres: 100,000 kilometres.
 pub const LIMIT: i64 = 10_000_000_000;

@@ -25,7 +25,7 @@ fn way_between(from: Corner, to: Corner) -> Way
 }
 
 /// The product of two sides of a box.
-#[tactic(auto, using(crate::proofs::Within::product_within))]
+#[tactic(auto, using(crate::proofs::numbers::Within::product_within))]
 fn side_product(u: i64, v: i64) -> i128
     requires first { IsWithin (2 * limit) u }
     requires second { IsWithin (2 * limit) v }
@@ -45,6 +45,11 @@ fn spanned(u: Way, v: Way) -> i128
 
 /// The orientation of three corners: twice the signed area of the triangle `a`, `b`, `c`, in square
 /// centimetres, positive where `c` is left of the way from `a` to `b`.
+///
+/// ```
+/// // From (0, 0) to (10, 0), (0, 5) is on the left:
+/// assert_eq!(turn(a, b, c), 50);
+/// ```
 pub fn turn(a: Corner, b: Corner, c: Corner) -> i128
     ensures value { result ≡ turn_of a b c }
     ensures bound { IsWithin (8 * (limit * limit)) result }

@@ -20,6 +20,11 @@ fn is_between(u: i64, v: i64, w: i64) -> bool
 /// Whether the corner `p` lies on the edge from `a` to `b`, the ends included.
 ///
 /// An edge whose ends are equal has that one point.
+///
+/// ```
+/// // (30, 0) lies on the edge from (0, 0) to (60, 0), and (61, 0) does not.
+/// assert!(on_segment(a, b, p));
+/// ```
 pub fn on_segment(a: Corner, b: Corner, p: Corner) -> bool
     ensures { IsTrue result ↔ IsOnEdge (corner_point p) a b }
 {

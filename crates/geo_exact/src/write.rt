@@ -57,6 +57,10 @@ fn coordinate_bits(k: i64) -> u64
 /// sign bit 0.
 ///
 /// [`read_coord`](crate::read_coord) in [`Unit::Cm`](crate::Unit::Cm) reads `k` back.
+///
+/// ```
+/// assert_eq!(write_coord(100), 0x4059000000000000);
+/// ```
 pub fn write_coord(k: i64) -> u64
     requires { IsWithin limit k }
     ensures value { result ≡ bits_of k }

@@ -39,8 +39,9 @@ impl<C, J: Job<C>> Promise<J> for StaysAs<C, J> {
     ghost kept_by = { λ promise job. J.stays promise.was.value job };
 }
 
-/// Does each job in a thread of its own, and hands all back in their order. Jobs for which the system refused a thread are done in this
-/// thread, each behind those in front of it; the least rank of these is told.
+/// Does each job in a thread of its own, and hands all back in their order. Jobs for which the
+/// system refused a thread are done in this thread, each behind those in front of it; the least
+/// rank of these is told.
 ///
 /// # Errors
 ///

@@ -15,11 +15,13 @@ use Rattle.line_files.proofs.Said.{IsGrammar}
 -- ---- a path
 -- where no corner follows, but words do, all are no path
 pub no_path : (all words : List (List ℕ)) (path : List Corner) → IsReadTo all words path → words ≢ []
-    → ((corner : Corner) → (left : List (List ℕ)) → ¬ TakesCorner words corner left) → (whole : List Corner) → ¬ ArePath all whole
+    → ((corner : Corner) → (left : List (List ℕ)) → ¬ TakesCorner words corner left) → (whole : List Corner)
+    → ¬ ArePath all whole
 no_path all words path h some none whole w = let o = h.only whole w.are_corners in stuck words some none o.0 o.1
 
 -- where no word is left, all words are the path
-pub whole_path : (all words : List (List ℕ)) (path : List Corner) → IsReadTo all words path → words ≡ [] → path ≢ [] → ArePath all path
+pub whole_path : (all words : List (List ℕ)) (path : List Corner) → IsReadTo all words path → words ≡ [] → path ≢ []
+    → ArePath all path
 whole_path all words path h e some = record { are_corners = all_read all words path h e; has_one = some }
 
 pub no_corners : (all words : List (List ℕ)) (path : List Corner) → IsReadTo all words path → words ≡ [] → path ≡ []
@@ -57,7 +59,8 @@ module _ {A : Type 0} (words : List (List ℕ)) where
   only_move (Insert from to at) h = let e : codes "move" ≡ codes "insert" = cc in absurd (cc)
 
   pub only_insert : (edit : Edit A) → SayEdit (codes "insert" ∷ words) edit
-      → (from : Corner) × (to : Corner) × (at : Corner) × (edit ≡ Insert from to at) × IsInsertLine (codes "insert" ∷ words) from to at
+      → (from : Corner) × (to : Corner) × (at : Corner) × (edit ≡ Insert from to at)
+      × IsInsertLine (codes "insert" ∷ words) from to at
   only_insert (Split id path) h = let e : codes "insert" ≡ codes "split" = cc in absurd (cc)
   only_insert (Merge a b) h = let e : codes "insert" ≡ codes "merge" = cc in absurd (cc)
   only_insert (Move a b path) h = let e : codes "insert" ≡ codes "move" = cc in absurd (cc)
@@ -190,10 +193,15 @@ say_retyped B words (Merge a b) h = h
 say_retyped B words (Move a b path) h = h
 say_retyped B words (Insert from to at) h = h
 
-bad_retyped : (A B : Type 0) (number : ℕ) (line : List ℕ) → IsBad (SaysEdit {A = A}) number line → IsBad (SaysEdit {A = B}) number line
+bad_retyped : (A B : Type 0) (number : ℕ) (line : List ℕ) → IsBad (SaysEdit {A = A}) number line
+    → IsBad (SaysEdit {A = B}) number line
 bad_retyped A B number line h = record {
   is_not_skipped = h.is_not_skipped;
-  says_nothing = λ x k. h.says_nothing (x.0, retyped A x.1) record { is_number = k.is_number; is_edit = say_retyped A (words_of line) x.1 k.is_edit };
+  says_nothing = λ x k. h.says_nothing (x.0, retyped A x.1) record {
+    is_number = k.is_number;
+    is_edit =
+        say_retyped A (words_of line) x.1 k.is_edit;
+  };
 }
 
 pub first_bad_retyped : (A B : Type 0) (number : ℕ) (lines : List (List ℕ)) (n : ℕ) → IsFirstBad (SaysEdit {A = A}) number lines n

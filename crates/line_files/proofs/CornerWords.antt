@@ -1,5 +1,6 @@
 -- Words that are corners, two by two: taken so far, and what is left.
-use Rattle.std.proofs.Common.{◌≡◌, ◌≢◌, List, [], ◌∷◌, ◌++◌, ℕ, refl, ap, sym, ◌∙◌, subst, append_assoc, append-nil}
+use Rattle.std.proofs.Common.{◌≡◌, ◌≢◌, List, [], ◌∷◌, ◌++◌, ℕ, refl, ap, sym, ◌∙◌, subst, append_assoc}
+use Rattle.std.proofs.Common.{append-nil}
 use Rattle.geo_exact.specs.declared.corner.Corner.{Corner}
 use Rattle.line_files.specs.TextNumbers.{IsCornerText, AreCornerWords}
 use Rattle.line_files.specs.own.EditWords.{TakesCorner}
@@ -29,7 +30,8 @@ same_taken words left rest a b t u =
     let ey : u.y ≡ t.y = cc in
     one_corner t.x t.y a b t.is_corner (subst (λ y. IsCornerText t.x y b) ey (subst (λ x. IsCornerText x u.y b) ex u.is_corner))
 
-no_corner_of_none : (words : List (List ℕ)) (corner : Corner) (corners : List Corner) → words ≡ [] → ¬ AreCornerWords words (corner ∷ corners)
+no_corner_of_none : (words : List (List ℕ)) (corner : Corner) (corners : List Corner) → words ≡ []
+    → ¬ AreCornerWords words (corner ∷ corners)
 no_corner_of_none words corner corners e h = let f : [] ≡ h.0 ∷ h.1 ∷ h.2 = sym e ∙ h.3 in absurd (cc)
 
 -- words are one list of corners
@@ -45,9 +47,11 @@ same_corners words (c ∷ cs) (d ∷ ds) h k =
 -- ---- a path that is read so far, and the words that are left
 pub record IsReadTo (all left : List (List ℕ)) (path : List Corner) : Type 0 where
   pub adds : (more : List Corner) → AreCornerWords left more → AreCornerWords all (path ++ more)
-  pub only : (whole : List Corner) → AreCornerWords all whole → (more : List Corner) × AreCornerWords left more × (whole ≡ path ++ more)
+  pub only : (whole : List Corner) → AreCornerWords all whole → (more : List Corner) × AreCornerWords left more
+      × (whole ≡ path ++ more)
 
-taken_only : (words left : List (List ℕ)) (corner : Corner) → TakesCorner words corner left → (more : List Corner) → AreCornerWords words more
+taken_only : (words left : List (List ℕ)) (corner : Corner) → TakesCorner words corner left → (more : List Corner)
+    → AreCornerWords words more
     → (rest : List Corner) × AreCornerWords left rest × (more ≡ corner ∷ rest)
 taken_only words left corner t [] h = let f : [] ≡ t.x ∷ t.y ∷ left = sym h ∙ t.are_words in absurd (cc)
 taken_only words left corner t (c ∷ cs) h =
@@ -56,12 +60,14 @@ taken_only words left corner t (c ∷ cs) h =
 pub one_more_read : (all words left : List (List ℕ)) (path : List Corner) (corner : Corner) → IsReadTo all words path
     → TakesCorner words corner left → IsReadTo all left (path ++ corner ∷ [])
 one_more_read all words left path corner h t = record {
-  adds = λ more m. subst (AreCornerWords all) (sym (append_assoc path (corner ∷ []) more)) (h.adds (corner ∷ more) (joined words left corner more t m));
+  adds = λ more m. subst (AreCornerWords all) (sym (append_assoc path (corner ∷ []) more))
+      (h.adds (corner ∷ more) (joined words left corner more t m));
   only = λ whole w. let o = h.only whole w in let r = taken_only words left corner t o.0 o.1 in
       (r.0, r.1, o.2 ∙ ap (λ more. path ++ more) r.2 ∙ sym (append_assoc path (corner ∷ []) r.0));
 }
 
-pub stuck : (words : List (List ℕ)) → words ≢ [] → ((corner : Corner) → (left : List (List ℕ)) → ¬ TakesCorner words corner left)
+pub stuck : (words : List (List ℕ)) → words ≢ [] → ((corner : Corner) → (left : List (List ℕ))
+    → ¬ TakesCorner words corner left)
     → (more : List Corner) → ¬ AreCornerWords words more
 stuck words some none [] h = some h
 stuck words some none (c ∷ cs) h = none c h.2 (ahead words c cs h)

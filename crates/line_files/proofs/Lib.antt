@@ -4,4 +4,4 @@ pub mod Numerals
 pub mod WordLists
 pub mod CornerWords
 pub mod ClerkWords
-pub mod Passing
+pub mod PassedOn

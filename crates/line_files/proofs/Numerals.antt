@@ -1,5 +1,6 @@
 -- Digits and signs in texts.
-use Rattle.std.proofs.Common.{◌≡◌, ◌≢◌, inl, inr, ℕ, zero, suc, ◌<◌, ◌≤◌, List, [], ◌∷◌, ◌++◌, length, get_or, take, ◌^◌, refl, ap, sym, ◌∙◌, subst, arith, append_assoc, codes}
+use Rattle.std.proofs.Common.{◌≡◌, ◌≢◌, inl, inr, ℕ, zero, suc, ◌<◌, ◌≤◌, List, [], ◌∷◌, ◌++◌, length}
+use Rattle.std.proofs.Common.{get_or, take, ◌^◌, refl, ap, sym, ◌∙◌, subst, arith, append_assoc, codes}
 use Rattle.std.specs.Prelude.{ℤ, pos, neg_ℤ}
 use Rattle.std.specs.List.{AllByRecursion}
 use Rattle.std.specs.Char.{digit_value}
@@ -10,14 +11,15 @@ use Rattle.std.proofs.lemmas.List.{length-take-le}
 use Rattle.std.proofs.lemmas.Int.Digits.{digits_value-lt}
 use Rattle.geo_exact.specs.Limit.{IsWithin, limit}
 use Rattle.geo_exact.specs.declared.corner.Corner.{Corner}
-use Rattle.geo_exact.proofs.SameCorner.{corner_same}
+use Rattle.geo_exact.proofs.corners_and_turns.SameCorner.{corner_same}
 use Rattle.line_files.specs.TextNumbers.{IsNumber, IsSigned, IsCornerText}
 use Rattle.line_files.specs.PointLines.{IsPointLine, IsNumberedPointLine}
 use Rattle.line_files.specs.own.Splitting.{IsSplitAt}
 use Rattle.line_files.proofs.Said.{IsGrammar}
 
 -- each byte of digits is one
-pub digit_at : (radix : ℕ) (text : List ℕ) (i : ℕ) → i < length text → AllDigits radix text → digit_value (get_or text i 0) < radix
+pub digit_at : (radix : ℕ) (text : List ℕ) (i : ℕ) → i < length text → AllDigits radix text
+    → digit_value (get_or text i 0) < radix
 digit_at radix [] i l h = absurd (omega arith)
 digit_at radix (b ∷ bs) zero l h = h.0
 digit_at radix (b ∷ bs) (suc i) l h = digit_at radix bs i (omega arith) h.1
@@ -71,7 +73,8 @@ no_minus text first digits e minus none z within h =
     far_or_none text digits (e ∙ ap (λ b. b ∷ digits) minus) none z within h
 
 -- ---- so few digits are a small number
-pub few_digits : (text : List ℕ) (i value : ℕ) → i < length text → length text ≤ 19 → AllDigits 10 (take i text) → value ≡ digits_value 10 (take i text)
+pub few_digits : (text : List ℕ) (i value : ℕ) → i < length text → length text ≤ 19 → AllDigits 10 (take i text)
+    → value ≡ digits_value 10 (take i text)
     → value < 1000000000000000000
 few_digits text i value l few h e =
     let long : length (take i text) ≤ 18 = omega (arith, length-take-le i text (omega arith)) in
@@ -113,16 +116,19 @@ lacks_none c (x ∷ xs) ys h = lacks_none c xs ys h.1
 spaced : (line : List ℕ) (corner : Corner) (h : IsPointLine line corner) → line ≡ h.x ++ 32 ∷ h.y
 spaced line corner h = h.is_line ∙ append_assoc h.x (codes " ") h.y
 
-corner_text_split : (line front back : List ℕ) (corner : Corner) → line ≡ front ++ 32 ∷ back → AllByRecursion (λ b. b ≢ 32) front
+corner_text_split : (line front back : List ℕ) (corner : Corner) → line ≡ front ++ 32 ∷ back
+    → AllByRecursion (λ b. b ≢ 32) front
     → IsPointLine line corner → IsCornerText front back corner
 corner_text_split line front back corner whole lacks h =
-    let r = same_split 32 h.x h.y front back (signed_lacks_space h.x corner.x h.is_corner.is_x) lacks (sym (spaced line corner h) ∙ whole) in
+    let r = same_split 32 h.x h.y front back (signed_lacks_space h.x corner.x h.is_corner.is_x) lacks
+    (sym (spaced line corner h) ∙ whole) in
     subst (λ x. IsCornerText x back corner) r.0 (subst (λ y. IsCornerText h.x y corner) r.1 h.is_corner)
 
 pub no_space_no_point : (line : List ℕ) → AllByRecursion (λ b. b ≢ 32) line → (corner : Corner) → ¬ IsPointLine line corner
 no_space_no_point line lacks corner h = lacks_none 32 h.x h.y (subst (AllByRecursion (λ b. b ≢ 32)) (spaced line corner h) lacks)
 
-pub point_by_split : (line front back : List ℕ) (corner : Corner) → IsSplitAt 32 line front back → AllByRecursion (λ b. b ≢ 32) front
+pub point_by_split : (line front back : List ℕ) (corner : Corner) → IsSplitAt 32 line front back
+    → AllByRecursion (λ b. b ≢ 32) front
     → IsPointLine line corner → IsCornerText front back corner
 point_by_split line front back corner h lacks k = corner_text_split line front back corner h.whole lacks k
 

@@ -1,5 +1,6 @@
 -- Lines that are read one after the other: what they say so far, and what is left.
-use Rattle.std.proofs.Common.{◌≡◌, inl, inr, ℕ, ◌+◌, List, [], ◌∷◌, ◌++◌, refl, ap, sym, ◌∙◌, subst, append_assoc, append-nil}
+use Rattle.std.proofs.Common.{◌≡◌, inl, inr, ℕ, ◌+◌, List, [], ◌∷◌, ◌++◌, refl, ap, sym, ◌∙◌, subst}
+use Rattle.std.proofs.Common.{append_assoc, append-nil}
 use Rattle.line_files.specs.TextLines.{IsSkipped, AreSaid, IsBad, IsFirstBad}
 
 -- a line says one thing at most
@@ -7,7 +8,8 @@ pub record IsGrammar {X : Type 0} (Says : ℕ → List ℕ → X → Type 0) : T
   pub unique : (n : ℕ) (line : List ℕ) (x y : X) → Says n line x → Says n line y → x ≡ y
 
 -- lines before the one of this number say these things, and these lines are left
-pub record AreRead {X : Type 0} (Says : ℕ → List ℕ → X → Type 0) (all : List (List ℕ)) (number : ℕ) (left : List (List ℕ)) (said : List X) : Type 0 where
+pub record AreRead {X : Type 0} (Says : ℕ → List ℕ → X → Type 0) (all : List (List ℕ)) (number : ℕ)
+    (left : List (List ℕ)) (said : List X) : Type 0 where
   pub adds : (more : List X) → AreSaid Says number left more → AreSaid Says 1 all (said ++ more)
   pub only : (whole : List X) → AreSaid Says 1 all whole → (more : List X) × AreSaid Says number left more × (whole ≡ said ++ more)
   pub bad : (n : ℕ) → IsFirstBad Says number left n → IsFirstBad Says 1 all n
@@ -22,7 +24,8 @@ none_read Says all = record {
   same_bad = λ n h. h;
 }
 
-module _ {X : Type 0} (Says : ℕ → List ℕ → X → Type 0) (grammar : IsGrammar Says) (all : List (List ℕ)) (number : ℕ) (line : List ℕ) (left : List (List ℕ)) (said : List X) where
+module _ {X : Type 0} (Says : ℕ → List ℕ → X → Type 0) (grammar : IsGrammar Says) (all : List (List ℕ)) (number : ℕ)
+    (line : List ℕ) (left : List (List ℕ)) (said : List X) where
   -- one more line is read, which is skipped
   pub skipped_read : AreRead Says all number (line ∷ left) said → IsSkipped line → AreRead Says all (number + 1) left said
   skipped_read h k = record {
@@ -39,15 +42,18 @@ module _ {X : Type 0} (Says : ℕ → List ℕ → X → Type 0) (grammar : IsGr
   }
 
   -- one that says something
-  pub said_read : (x : X) → AreRead Says all number (line ∷ left) said → ¬ IsSkipped line → Says number line x → AreRead Says all (number + 1) left (said ++ x ∷ [])
+  pub said_read : (x : X) → AreRead Says all number (line ∷ left) said → ¬ IsSkipped line → Says number line x
+      → AreRead Says all (number + 1) left (said ++ x ∷ [])
   said_read x h apart k = record {
-    adds = λ more m. subst (AreSaid Says 1 all) (sym (append_assoc said (x ∷ []) more)) (h.adds (x ∷ more) (inr (x, more, refl, apart, k, m)));
+    adds = λ more m. subst (AreSaid Says 1 all) (sym (append_assoc said (x ∷ []) more))
+        (h.adds (x ∷ more) (inr (x, more, refl, apart, k, m)));
     only = λ whole w. let o = h.only whole w in elim o.1 [
       | inl m ↦ absurd (apart m.0)
       | inr m ↦ (
         m.1,
         m.5,
-        o.2 ∙ ap (λ more. said ++ more) (m.2 ∙ ap (λ y. y ∷ m.1) (grammar.unique number line m.0 x m.4 k)) ∙ sym (append_assoc said (x ∷ []) m.1),
+        o.2 ∙ ap (λ more. said ++ more) (m.2 ∙ ap (λ y. y ∷ m.1) (grammar.unique number line m.0 x m.4 k))
+            ∙ sym (append_assoc said (x ∷ []) m.1),
       )
     ];
     bad = λ n b. h.bad n (inr (λ wrong. wrong.says_nothing x k, b));
@@ -58,7 +64,8 @@ module _ {X : Type 0} (Says : ℕ → List ℕ → X → Type 0) (grammar : IsGr
   }
 
   -- at a bad line nothing is said by all, and it is the first bad one
-  pub none_said : AreRead Says all number (line ∷ left) said → IsBad Says number line → (whole : List X) → ¬ AreSaid Says 1 all whole
+  pub none_said : AreRead Says all number (line ∷ left) said → IsBad Says number line → (whole : List X)
+      → ¬ AreSaid Says 1 all whole
   none_said h k whole w = let o = h.only whole w in elim o.1 [
     | inl m ↦ absurd (k.is_not_skipped m.0)
     | inr m ↦ absurd (k.says_nothing m.0 m.4)
@@ -67,7 +74,8 @@ module _ {X : Type 0} (Says : ℕ → List ℕ → X → Type 0) (grammar : IsGr
   pub bad_read : AreRead Says all number (line ∷ left) said → IsBad Says number line → IsFirstBad Says 1 all number
   bad_read h k = h.bad number (inl (k, refl))
 
-  pub one_bad : AreRead Says all number (line ∷ left) said → IsBad Says number line → (n : ℕ) → IsFirstBad Says 1 all n → n ≡ number
+  pub one_bad : AreRead Says all number (line ∷ left) said → IsBad Says number line → (n : ℕ)
+      → IsFirstBad Says 1 all n → n ≡ number
   one_bad h k n b = elim (h.same_bad n b) [
     | inl m ↦ m.1
     | inr m ↦ absurd (m.0 k)

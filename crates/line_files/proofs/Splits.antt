@@ -1,5 +1,6 @@
 -- The first line of a text, by where its first line feed stands.
-use Rattle.std.proofs.Common.{◌≡◌, ◌≢◌, ℕ, List, [], ◌∷◌, ◌++◌, Bool, true, false, ◌==◌, ◌&&◌, cond, refl, ap, ◌∙◌, ◌<◌, length, arith}
+use Rattle.std.proofs.Common.{◌≡◌, ◌≢◌, ℕ, List, [], ◌∷◌, ◌++◌, Bool, true, false, ◌==◌, ◌&&◌, cond, refl}
+use Rattle.std.proofs.Common.{ap, ◌∙◌, ◌<◌, length, arith}
 use Rattle.std.proofs.lemmas.Bool.{ne_eqb, and_right, cond-false}
 use Rattle.std.proofs.lemmas.List.Elements.{recursion_from_All}
 use Rattle.std.specs.List.{All, AllByRecursion}
@@ -21,10 +22,12 @@ before_feed : (b : ℕ) (rest : List ℕ) → b ≢ 10 → lines_of (b ∷ 10 �
 before_feed b rest ne = cond-false (b == 10) _ _ (ne_eqb b 10 ne) ∙ by_return (b == 13) b rest
 
 -- a line with its line feed
-with_feed : (line rest : List ℕ) → AllByRecursion (λ b. b ≢ 10) line → lines_of (line ++ 10 ∷ rest) ≡ without_return line ∷ lines_of rest
+with_feed : (line rest : List ℕ) → AllByRecursion (λ b. b ≢ 10) line → lines_of (line ++ 10 ∷ rest)
+    ≡ without_return line ∷ lines_of rest
 with_feed [] rest h = refl
 with_feed (b ∷ []) rest h = before_feed b rest h.0
-with_feed (b ∷ c ∷ bs) rest h = ordinary b (c ∷ bs ++ 10 ∷ rest) h.0 (ne_eqb c 10 h.1.0) ∙ ap (with_first b) (with_feed (c ∷ bs) rest h.1)
+with_feed (b ∷ c ∷ bs) rest h = ordinary b (c ∷ bs ++ 10 ∷ rest) h.0 (ne_eqb c 10 h.1.0)
+    ∙ ap (with_first b) (with_feed (c ∷ bs) rest h.1)
 
 -- the last line, without
 without_feed : (b : ℕ) (bs : List ℕ) → AllByRecursion (λ b. b ≢ 10) (b ∷ bs) → lines_of (b ∷ bs) ≡ (b ∷ bs) ∷ []

@@ -1,5 +1,6 @@
 -- The words of a line, by where its first space stands.
-use Rattle.std.proofs.Common.{◌≡◌, ◌≢◌, ℕ, List, [], ◌∷◌, Bool, true, false, ◌==◌, cond, IsTrue, refl, ap, sym, ◌∙◌}
+use Rattle.std.proofs.Common.{◌≡◌, ◌≢◌, ℕ, List, [], ◌∷◌, Bool, true, false, ◌==◌, cond, IsTrue, refl, ap, sym}
+use Rattle.std.proofs.Common.{◌∙◌}
 use Rattle.std.specs.List.{All, onto_first}
 use Rattle.std.proofs.lemmas.Bool.{ne_eqb}
 use Rattle.std.proofs.lemmas.List.Elements.{All-weaker}
@@ -23,11 +24,13 @@ some_word (b ∷ bs) e = either_some (b == 32) b (words_of bs) (words_of bs) e
 -- the first of more words
 pub first_of_words : (line word behind : List ℕ) → IsSplitAt 32 line word behind → words_of line ≡ word ∷ words_of behind
 first_of_words line word behind h = ap words_of h.whole
-    ∙ slice_split_at (λ b. b == 32) word 32 behind (All-weaker (λ b. b ≢ 32) (λ b. (b == 32) ≡ false) (λ b. ne_eqb b 32) word h.lacks) refl
+    ∙ slice_split_at (λ b. b == 32) word 32 behind (All-weaker (λ b. b ≢ 32) (λ b. (b == 32) ≡ false)
+    (λ b. ne_eqb b 32) word h.lacks) refl
 
 -- the last one
 pub last_word : (line : List ℕ) → All (λ b. b ≢ 32) line → words_of line ≡ line ∷ []
-last_word line h = slice_split_none (λ b. b == 32) line (All-weaker (λ b. b ≢ 32) (λ b. (b == 32) ≡ false) (λ b. ne_eqb b 32) line h)
+last_word line h = slice_split_none (λ b. b == 32) line (All-weaker (λ b. b ≢ 32) (λ b. (b == 32) ≡ false)
+    (λ b. ne_eqb b 32) line h)
 
 -- ---- the words that are still to be read
 pub is_left : (t : Bool) (left words : List (List ℕ)) → cond t [] words ≡ left → words ≢ []
@@ -35,12 +38,14 @@ pub is_left : (t : Bool) (left words : List (List ℕ)) → cond t [] words ≡ 
 is_left true left words e some = (λ _. sym e, λ _. refl)
 is_left false left words e some = (λ h. absurd (cc), λ h. absurd (some (e ∙ h)))
 
-pub next_left : (t : Bool) (left words more : List (List ℕ)) (word : List ℕ) → cond t [] words ≡ left → t ≡ false → words ≡ word ∷ more
+pub next_left : (t : Bool) (left words more : List (List ℕ)) (word : List ℕ) → cond t [] words ≡ left → t ≡ false
+    → words ≡ word ∷ more
     → left ≡ word ∷ cond t [] more
 next_left true left words more word e f h = absurd (cc)
 next_left false left words more word e f h = sym e ∙ h
 
-pub last_left : (t : Bool) (left words : List (List ℕ)) (word : List ℕ) → cond t [] words ≡ left → t ≡ false → words ≡ word ∷ []
+pub last_left : (t : Bool) (left words : List (List ℕ)) (word : List ℕ) → cond t [] words ≡ left → t ≡ false
+    → words ≡ word ∷ []
     → left ≡ word ∷ []
 last_left true left words word e f h = absurd (cc)
 last_left false left words word e f h = sym e ∙ h

@@ -1,5 +1,6 @@
 -- Texts that fall into lines, and what their lines say (this product's own).
-use Rattle.std.specs.Prelude.{◌≡◌, ◌⊎◌, ⊤, ℕ, ◌+◌, Bool, false, ◌&&◌, ◌==◌, List, [], ◌∷◌, if◌then◌else◌}
+use Rattle.std.specs.Prelude.{◌≡◌, ◌⊎◌, ⊤, ℕ, ◌+◌, Bool, false, ◌&&◌, ◌==◌, List, [], ◌∷◌}
+use Rattle.std.specs.Prelude.{if◌then◌else◌}
 
 -- whether a text begins with this byte
 abbrev pub begins_with : ℕ → List ℕ → Bool
@@ -28,7 +29,8 @@ IsSkipped (b ∷ bs) = b ≡ 35
 abbrev pub AreSaid : {X : Type 0} → (ℕ → List ℕ → X → Type 0) → ℕ → List (List ℕ) → List X → Type 0
 AreSaid Says number [] said = said ≡ []
 AreSaid {X} Says number (line ∷ lines) said = (IsSkipped line × AreSaid Says (number + 1) lines said)
-    ⊎ ((x : X) × (rest : List X) × (said ≡ x ∷ rest) × (¬ IsSkipped line) × Says number line x × AreSaid Says (number + 1) lines rest)
+    ⊎ ((x : X) × (rest : List X) × (said ≡ x ∷ rest) × (¬ IsSkipped line) × Says number line x
+    × AreSaid Says (number + 1) lines rest)
 
 -- a line that is neither skipped nor says anything
 pub record IsBad {X : Type 0} (Says : ℕ → List ℕ → X → Type 0) (number : ℕ) (line : List ℕ) : Type 0 where

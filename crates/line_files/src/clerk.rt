@@ -35,19 +35,25 @@ impl<T: Drop> From<AllocFailed<T>> for ClerkFault {
     }
 }
 
-/// The edits of a clerk's file, in order, each with the number of its line, counted from 1. Lines that are empty, or begin
-/// with `#`, are skipped, and counted. Each other line is one of
+/// The edits of a clerk's file, in order, each with the number of its line, counted from 1. Lines
+/// that are empty, or begin with `#`, are skipped, and counted. Each other line is one of
 ///
 /// - `split ID X Y X Y ..`, with one corner or more,
 /// - `merge ID ID`,
 /// - `move ID ID X Y X Y ..`, with one corner or more,
 /// - `insert X Y X Y X Y`, the two ends of an edge and the new corner on it,
 ///
-/// with one space between words. Coordinates are in whole centimetres. Whether an edit can be carried out is not looked at.
+/// with one space between words. Coordinates are in whole centimetres. Whether an edit can be
+/// carried out is not looked at.
 ///
 /// # Errors
 ///
 /// [`ClerkFault::Line`] with the first line that is neither an edit nor skipped, and [`ClerkFault::NoMemory`].
+///
+/// ```
+/// // "merge 3 4\n": one edit, of line 1.
+/// let edits = read_clerk(alloc, text)?;
+/// ```
 pub fn read_clerk<A: Allocator + Copy>(
     alloc: A,
     bytes: &[u8],

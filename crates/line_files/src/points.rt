@@ -34,6 +34,11 @@ impl<T: Drop> From<AllocFailed<T>> for PointsFault {
 /// # Errors
 ///
 /// [`PointsFault::BadLine`] with the first line that is neither a point nor skipped, and [`PointsFault::NoMemory`].
+///
+/// ```
+/// // "10 10\n\n60 50\n": two points.
+/// let points = read_points(alloc, text)?;
+/// ```
 pub fn read_points<A: Allocator>(alloc: A, text: &[u8]) -> Result<Vec<Corner, A>, PointsFault>
     ensures points { IfOk result (λ points. ArePoints text.now points.items) }
     ensures bad { (number : ℕ) → IsErrOf result (PointsFault.BadLine number) → IsFirstBadPoint text.now number }

@@ -1,5 +1,6 @@
 -- All faults of a layer's rings, as they are told.
-use Rattle.std.proofs.Common.{◌≡◌, ◌⊎◌, inl, inr, refl, sym, ◌∙◌, ap, subst, ℕ, List, [], append-nil, Option, None, Some}
+use Rattle.std.proofs.Common.{◌≡◌, ◌⊎◌, inl, inr, refl, sym, ◌∙◌, ap, subst, ℕ, List, [], append-nil, Option, None}
+use Rattle.std.proofs.Common.{Some}
 use Rattle.std.specs.Io.KnownBytes.{Appends}
 use Rattle.geo_exact.specs.declared.coord.Unit.{Unit as LengthUnit}
 use Rattle.geo_exact.specs.declared.corner.Corner.{Corner}
@@ -10,7 +11,7 @@ use Rattle.fabric_core.specs.declared.layer.LoadFault.{LoadFault}
 use Rattle.fabric_core.specs.declared.layer.LoadFault.TheVariants.{NoMemory as LayerMemory}
 use Rattle.fabric_core.specs.Rows.{Tiles}
 use Rattle.fabric_core.specs.Faults.{IsFirstFault as IsFirstOfRows, IsLoadFault, AreLoadFaults, BeginsWith}
-use Rattle.fabric_core.proofs.ToldGaps.{begins_once}
+use Rattle.fabric_core.proofs.loads.ToldGaps.{begins_once}
 use Rattle.parcel_runs.specs.declared.fault.Role.{Role}
 use Rattle.parcel_runs.specs.declared.fault.ToolFault.{ToolFault}
 use Rattle.parcel_runs.specs.declared.fault.ToolFault.TheVariants.{NoMemory, Output}
@@ -37,7 +38,8 @@ first_is_fault records city all first h begins = record {
   is_first = subst (IsFirstOfRows h.rows h.refined) (begins_once all h.first first h.begins begins) h.is_first;
 }
 
-told_first : {A : Type 0} (role : Role) (files : Files) (unit : LengthUnit) (city : List Corner) (records : List NumberedRing) (all : AllFaults A)
+told_first : {A : Type 0} (role : Role) (files : Files) (unit : LengthUnit) (city : List Corner)
+    (records : List NumberedRing) (all : AllFaults A)
     (first : LoadFault) → IsLayerFile files.main files.index unit records → AreLoadFaults records city all → BeginsWith all first
     → IsLoadFault records city first → IsToldInFull role files unit city (told_of_load role first) (fault_lines all)
 told_first role files unit city records (AllTooMany n) first is h begins k =
@@ -93,10 +95,12 @@ told_first role files unit city records (Gaps gaps) first is h begins k =
 told_first role files unit city records AllNoMemory first is h begins k = absurd h.are_all
 
 -- what is answered of a layer that has faults
-pub told_in_full : {A : Type 0} (role : Role) (files : Files) (unit : LengthUnit) (city : List Corner) (records : List NumberedRing) (all : AllFaults A)
+pub told_in_full : {A : Type 0} (role : Role) (files : Files) (unit : LengthUnit) (city : List Corner)
+    (records : List NumberedRing) (all : AllFaults A)
     (first : LoadFault) (fault : ToolFault)
     (lines : List ℕ) → IsLayerFile files.main files.index unit records → AreLoadFaults records city all
-    → BeginsWith all first → fault ≡ told_of_load role first → lines ≡ fault_lines all → IsToldInFull role files unit city fault lines
+    → BeginsWith all first → fault ≡ told_of_load role first → lines ≡ fault_lines all
+    → IsToldInFull role files unit city fault lines
 told_in_full role files unit city records all first fault lines is h begins e f =
     subst (λ x. IsToldInFull role files unit city x lines) (sym e) (subst (IsToldInFull role files unit city (told_of_load role first))
     (sym f)
@@ -115,10 +119,12 @@ begins_some records city all (inl k) = (k.first, k.begins)
 begins_some records city all (inr e) = (LayerMemory, subst (λ x. BeginsWith x LayerMemory) (sym e) refl)
 
 -- what is answered of a layer that is not loaded
-pub told_or_no_memory : {A : Type 0} (role : Role) (files : Files) (unit : LengthUnit) (city : List Corner) (records : List NumberedRing) (all : AllFaults A)
+pub told_or_no_memory : {A : Type 0} (role : Role) (files : Files) (unit : LengthUnit) (city : List Corner)
+    (records : List NumberedRing) (all : AllFaults A)
     (fault : ToolFault) (lines : List ℕ) → IsLayerFile files.main files.index unit records
     → AreLoadFaults records city all ⊎ (all ≡ AllNoMemory)
-    → ((first : LoadFault) × BeginsWith all first × (fault ≡ told_of_load role first) × (lines ≡ fault_lines all)) ⊎ ((fault ≡ NoMemory) × (lines ≡ []))
+    → ((first : LoadFault) × BeginsWith all first × (fault ≡ told_of_load role first) × (lines ≡ fault_lines all))
+    ⊎ ((fault ≡ NoMemory) × (lines ≡ []))
     → IsToldInFull role files unit city fault lines ⊎ ((fault ≡ NoMemory) × (lines ≡ []))
 told_or_no_memory role files unit city records all fault lines is (inl k) (inl h) =
     inl (told_in_full role files unit city records all h.0 fault lines is k h.1 h.2 h.3)
@@ -127,11 +133,14 @@ told_or_no_memory role files unit city records all fault lines is (inr e) (inl h
 told_or_no_memory role files unit city records all fault lines is k (inr h) = inr h
 
 -- and it is what is due
-pub due_told : {A : Type 0} (role : Role) (files : Files) (unit : LengthUnit) (city : List Corner) (records : List NumberedRing) (all : AllFaults A)
-    (answer : ToolFault) (lines : List ℕ) → ((rings : List NumberedRing) → IsLayerFile files.main files.index unit rings → records ≡ rings)
+pub due_told : {A : Type 0} (role : Role) (files : Files) (unit : LengthUnit) (city : List Corner)
+    (records : List NumberedRing) (all : AllFaults A)
+    (answer : ToolFault) (lines : List ℕ)
+    → ((rings : List NumberedRing) → IsLayerFile files.main files.index unit rings → records ≡ rings)
     → ((fault : FileFault) → IsFirstFault files.main files.index unit fault → ⊥)
     → ((fault : LoadFault) → IsLoadFault records city fault → BeginsWith all fault ⊎ (all ≡ AllNoMemory))
-    → ((first : LoadFault) × BeginsWith all first × (answer ≡ told_of_load role first) × (lines ≡ fault_lines all)) ⊎ ((answer ≡ NoMemory) × (lines ≡ []))
+    → ((first : LoadFault) × BeginsWith all first × (answer ≡ told_of_load role first) × (lines ≡ fault_lines all))
+    ⊎ ((answer ≡ NoMemory) × (lines ≡ []))
     → (fault : ToolFault) → IsFaultOfLayer role files unit city fault → (answer ≡ fault) ⊎ (answer ≡ NoMemory)
 due_told role files unit city records all answer lines only sound refuses (inl h) fault k =
     subst (λ x. (x ≡ fault) ⊎ (x ≡ NoMemory)) (sym h.2) (layer_refused role files unit city records h.0 only sound
@@ -139,10 +148,12 @@ due_told role files unit city records all answer lines only sound refuses (inl h
 due_told role files unit city records all answer lines only sound refuses (inr h) fault k = inr h.0
 
 -- a layer that tiles the city is refused for want of memory alone
-pub all_loaded : {A : Type 0} (role : Role) (files : Files) (unit : LengthUnit) (city : List Corner) (tiles : Tiles) (records : List NumberedRing)
+pub all_loaded : {A : Type 0} (role : Role) (files : Files) (unit : LengthUnit) (city : List Corner) (tiles : Tiles)
+    (records : List NumberedRing)
     (all : AllFaults A) (answer : ToolFault) (lines : List ℕ) → (h : IsTiledBy files unit city tiles) → records ≡ h.records
     → AreLoadFaults records city all ⊎ (all ≡ AllNoMemory)
-    → ((first : LoadFault) × BeginsWith all first × (answer ≡ told_of_load role first) × (lines ≡ fault_lines all)) ⊎ ((answer ≡ NoMemory) × (lines ≡ []))
+    → ((first : LoadFault) × BeginsWith all first × (answer ≡ told_of_load role first) × (lines ≡ fault_lines all))
+    ⊎ ((answer ≡ NoMemory) × (lines ≡ []))
     → answer ≡ NoMemory
 all_loaded role files unit city tiles records all answer lines h same (inl k) (inl m) =
     absurd (h.has_no_fault m.0 (subst (λ rings. IsLoadFault rings city m.0) same (first_is_fault records city all m.0 k m.1)))
@@ -157,14 +168,19 @@ appends_none (Some bytes) = sym (append-nil bytes)
 
 pub none_written : (city parcels : Files) (unit : LengthUnit) (fault : ToolFault) (told : Option (List ℕ)) → IsWant fault
     → WritesLinesBefore city parcels unit fault told told
-none_written city parcels unit fault told (inl e) = subst (λ x. WritesLinesBefore city parcels unit x told told) (sym e) ([], refl, appends_none told)
-none_written city parcels unit fault told (inr e) = subst (λ x. WritesLinesBefore city parcels unit x told told) (sym e) ([], refl, appends_none told)
+none_written city parcels unit fault told (inl e) = subst (λ x. WritesLinesBefore city parcels unit x told told)
+    (sym e) ([], refl, appends_none told)
+none_written city parcels unit fault told (inr e) = subst (λ x. WritesLinesBefore city parcels unit x told told)
+    (sym e) ([], refl, appends_none told)
 
-pub lines_written : (city parcels : Files) (unit : LengthUnit) (clerks : List (List ℕ)) (fault : ToolFault) (lines text : List ℕ) (old new : Option (List ℕ))
+pub lines_written : (city parcels : Files) (unit : LengthUnit) (clerks : List (List ℕ)) (fault : ToolFault)
+    (lines text : List ℕ) (old new : Option (List ℕ))
     → text ≡ lines
     → Appends old new text
-    → (IsRunFault city parcels unit clerks fault × AreLinesBefore city parcels unit fault lines) ⊎ ((fault ≡ NoMemory) × (lines ≡ []))
-    → ((IsRunFault city parcels unit clerks fault ⊎ IsWant fault) × WritesLinesBefore city parcels unit fault old new) ⊎ (fault ≡ Output)
+    → (IsRunFault city parcels unit clerks fault × AreLinesBefore city parcels unit fault lines)
+    ⊎ ((fault ≡ NoMemory) × (lines ≡ []))
+    → ((IsRunFault city parcels unit clerks fault ⊎ IsWant fault) × WritesLinesBefore city parcels unit fault old new)
+    ⊎ (fault ≡ Output)
 lines_written city parcels unit clerks fault lines text old new e put (inl h) = inl (inl h.0, (lines, h.1, subst (Appends old new) e put))
 lines_written city parcels unit clerks fault lines text old new e put (inr h) =
     inl (inr (inl h.0), subst (λ x. WritesLinesBefore city parcels unit x old new) (sym h.0) (lines, h.1, subst (Appends old new) e put))

@@ -10,10 +10,12 @@ use Rattle.parcel_runs.specs.TilingFiles.{Files, IsCityOf}
 
 -- a list that is begun elsewhere is as long
 begun_length : {X : Type 0} (k : ℕ) (xs : List X) → length (begun_at k xs) ≡ length xs
-begun_length k xs = omega (arith, length-append (drop k xs) (take k xs), length-append (take k xs) (drop k xs), ap length (take-append-drop k xs))
+begun_length k xs =
+    omega (arith, length-append (drop k xs) (take k xs), length-append (take k xs) (drop k xs), ap length (take-append-drop k xs))
 
 -- a city of a layer file has as many corners as such a file may have
-pub city_short : (files : Files) (unit : LengthUnit) (corners : List Corner) (h : IsCityOf files unit corners) → corner_count (h.ring ∷ []) ≤ LAYER_CORNERS
+pub city_short : (files : Files) (unit : LengthUnit) (corners : List Corner) (h : IsCityOf files unit corners)
+    → corner_count (h.ring ∷ []) ≤ LAYER_CORNERS
     → length corners ≤ LIST_CORNERS
 city_short files unit corners h few =
     let same : length (begun_at_least h.ring.corners) ≡ length h.ring.corners = begun_length _ h.ring.corners in

@@ -1,5 +1,6 @@
 -- What edits of clerks lead to.
-use Rattle.std.proofs.Common.{true, ◌==◌, ◌≡◌, ℕ, ◌+◌, ◌≤◌, List, [], ◌∷◌, length, arith, refl, sym, ap, subst, ◌∙◌}
+use Rattle.std.proofs.Common.{true, ◌==◌, ◌≡◌, ℕ, ◌+◌, ◌≤◌, List, [], ◌∷◌, length, arith, refl, sym, ap, subst}
+use Rattle.std.proofs.Common.{◌∙◌}
 use Rattle.std.proofs.lemmas.Bool.Decides.{nat_tests}
 use Rattle.geo_exact.specs.declared.limits.TheConstants.{LAYER_RECORDS}
 use Rattle.fabric_core.specs.Rows.{Tiles}
@@ -26,12 +27,15 @@ lawful_few : {A : Type 0} (state : State) (number : ℕ) (entries : List (Journa
 lawful_few state number [] h few = few
 lawful_few state number (entry ∷ rest) h few = lawful_few (after_entry state entry) (number + 1) rest h.2 h.1.within.number
 
-pub made_few : {A : Type 0} (run : Run) (after : Register A) → IsJournal run after.journal → after.now ≡ replay run.opening after.journal
+pub made_few : {A : Type 0} (run : Run) (after : Register A) → IsJournal run after.journal
+    → after.now ≡ replay run.opening after.journal
     → length run.opening.rows ≤ LAYER_RECORDS → length after.now.rows ≤ LAYER_RECORDS
-made_few run after is leads few = subst (λ state. length state.rows ≤ LAYER_RECORDS) (sym leads) (lawful_few run.opening 1 after.journal is.lawful few)
+made_few run after is leads few = subst (λ state. length state.rows ≤ LAYER_RECORDS) (sym leads)
+    (lawful_few run.opening 1 after.journal is.lawful few)
 
 -- a book that has the state and the journal of a register is that register
 pub same_register : {A : Type 0} (register : Register A) (book : Book A) → book.now ≡ register.now → book.journal ≡ register.journal
     → register ≡ register_of book
 same_register register book e f =
-    ap (λ now. record { now = now; journal = register.journal }) (sym e) ∙ ap (λ journal. record { now = book.now; journal = journal }) (sym f)
+    ap (λ now. record { now = now; journal = register.journal }) (sym e)
+    ∙ ap (λ journal. record { now = book.now; journal = journal }) (sym f)

@@ -1,4 +1,4 @@
-pub mod Passing
+pub mod PassedOn
 pub mod TilingFaults
 pub mod CityLimit
 pub mod SimpleRings

@@ -13,7 +13,8 @@ use Rattle.parcel_runs.specs.own.LinesAndReports.{WritesBoth, BeginsBoth}
 use Rattle.parcel_runs.proofs.RunFaults.{clerks_no_output, layers_no_output, want_no_output}
 
 -- lines and the report of a table are the overlay's
-module _ {A : Type 0} (city parcels zones : Files) (unit : LengthUnit) (clerks : List (List ℕ)) (tiles regions : Tiles) (after : Register A)
+module _ {A : Type 0} (city parcels zones : Files) (unit : LengthUnit) (clerks : List (List ℕ))
+    (tiles regions : Tiles) (after : Register A)
     (told : List ℕ) (table : Overlay) (are : AreZoned city parcels zones unit tiles regions) (edited : IsEdited tiles clerks after told)
     (is : IsTableOf after regions table) (old new : Option (List ℕ)) where
   pub all_written : WritesBoth told table old new → WritesOverlay A city parcels zones unit clerks old new

@@ -37,12 +37,14 @@ pub few_rows : (files : Files) (unit : LengthUnit) (city : List Corner) (tiles :
     → ((records : List NumberedRing) → IsLayerFile files.main files.index unit records → length records ≤ LAYER_RECORDS)
     → length tiles.rows ≤ LAYER_RECORDS
 few_rows files unit city tiles h few =
-    subst (λ n. n ≤ LAYER_RECORDS) (length_all_zip (IsRowOf (corners_of_layer h.records city)) h.records tiles.rows h.are_refined.are_rows)
+    subst (λ n. n ≤ LAYER_RECORDS) (length_all_zip (IsRowOf (corners_of_layer h.records city)) h.records tiles.rows
+    h.are_refined.are_rows)
     (few h.records h.are_records)
 
 -- the rings of shapes, where their rows are these
 pub lists_of_shapes : {A : Type 0} (shapes : List (ℕ × Shape A)) (rows : List NumberedRing)
-    → map (λ shape. numbered shape.0 shape.1.ring.corners) shapes ≡ rows → map (λ shape. shape.1.ring.corners) shapes ≡ corner_lists rows
+    → map (λ shape. numbered shape.0 shape.1.ring.corners) shapes ≡ rows → map (λ shape. shape.1.ring.corners) shapes
+    ≡ corner_lists rows
 lists_of_shapes shapes rows e = rings shapes ∙ ap corner_lists e
   where
     rings : {A : Type 0} (shapes : List (ℕ × Shape A))
@@ -51,8 +53,10 @@ lists_of_shapes shapes rows e = rings shapes ∙ ap corner_lists e
     rings (shape ∷ shapes) = ap (λ lists. shape.1.ring.corners ∷ lists) (rings shapes)
 
 -- ---- how many corners
-pub each_short : {S : Type 0} (ring : S → List Corner) (shapes : List S) (rows : List NumberedRing) → map ring shapes ≡ corner_lists rows
-    → AllByRecursion (λ row. length row.corners ≤ RING_CORNERS) rows → AllByRecursion (λ shape. length (ring shape) ≤ RING_CORNERS) shapes
+pub each_short : {S : Type 0} (ring : S → List Corner) (shapes : List S) (rows : List NumberedRing)
+    → map ring shapes ≡ corner_lists rows
+    → AllByRecursion (λ row. length row.corners ≤ RING_CORNERS) rows
+    → AllByRecursion (λ shape. length (ring shape) ≤ RING_CORNERS) shapes
 each_short ring [] rows e h = tt
 each_short ring (shape ∷ shapes) [] e h = absurd (empty_or (ring shape) (map ring shapes) (sym e))
 each_short ring (shape ∷ shapes) (row ∷ rows) e h = (

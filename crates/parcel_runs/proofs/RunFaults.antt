@@ -21,7 +21,11 @@ pub few_fault : {A : Type 0} (city parcels : Files) (unit : LengthUnit) (clerks 
     → IsRunFault city parcels unit (texts_of clerks) fault → (IsTilesFault city parcels unit fault → P)
     → ((tiles : Tiles) → AreTiles city parcels unit tiles → IsClerkFault (texts_of clerks) fault → P) → P
 few_fault city parcels unit clerks P fault few (inl h) of_tiles behind = absurd (omega (arith, h.are_more, few_texts clerks few))
-few_fault city parcels unit clerks P fault few (inr h) of_tiles behind = elim h.1 [ inl k ↦ of_tiles k | inr k ↦ behind k.tiles k.are_tiles k.is_first ]
+few_fault city parcels unit clerks P fault few (inr h) of_tiles behind = elim h.1 [
+  | inl k ↦ of_tiles k
+  | inr k ↦
+      behind k.tiles k.are_tiles k.is_first
+]
 
 -- a fault of the layers is the run's
 pub of_layers : {A : Type 0} (city parcels : Files) (unit : LengthUnit) (clerks : List (Vec ℕ A)) (fault : ToolFault)
@@ -49,10 +53,12 @@ no_lines_before : (city parcels : Files) (unit : LengthUnit) (clerks : List (Lis
 no_lines_before city parcels unit clerks fault h = subst (λ x. AreLinesBefore city parcels unit x []) (sym h.3) refl
 
 -- a fault of the clerks' files, as it is told with the lines before it
-pub told_behind : {A : Type 0} (city parcels : Files) (unit : LengthUnit) (clerks : List (Vec ℕ A)) (tiles : Tiles) (fault told : ToolFault) (lines : List ℕ)
+pub told_behind : {A : Type 0} (city parcels : Files) (unit : LengthUnit) (clerks : List (Vec ℕ A)) (tiles : Tiles)
+    (fault told : ToolFault) (lines : List ℕ)
     → length clerks ≤ CLERKS → AreTiles city parcels unit tiles → IsClerkFault (texts_of clerks) fault ⊎ (fault ≡ NoMemory)
     → told ≡ fault → lines ≡ []
-    → (IsRunFault city parcels unit (texts_of clerks) told × AreLinesBefore city parcels unit told lines) ⊎ ((told ≡ NoMemory) × (lines ≡ []))
+    → (IsRunFault city parcels unit (texts_of clerks) told × AreLinesBefore city parcels unit told lines)
+    ⊎ ((told ≡ NoMemory) × (lines ≡ []))
 told_behind city parcels unit clerks tiles fault told lines few are (inl h) same none = inl (
   subst (IsRunFault city parcels unit (texts_of clerks)) (sym same) (of_clerks city parcels unit clerks tiles fault few are h),
   subst (λ x. AreLinesBefore city parcels unit x lines) (sym same)

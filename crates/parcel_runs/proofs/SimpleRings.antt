@@ -1,5 +1,6 @@
 -- A simple ring is in normal form: it has three corners, and no two neighbours are equal.
-use Rattle.std.proofs.Common.{◌≡◌, refl, ◌≢◌, ℕ, suc, ◌<◌, ◌≤◌, ◌∙◌, sym, subst, arith, inl, inr, List, [], ◌∷◌, length, Some, slice_get}
+use Rattle.std.proofs.Common.{◌≡◌, refl, ◌≢◌, ℕ, suc, ◌<◌, ◌≤◌, ◌∙◌, sym, subst, arith, inl, inr, List, []}
+use Rattle.std.proofs.Common.{◌∷◌, length, Some, slice_get}
 use Rattle.std.proofs.lemmas.Int.{ints}
 use Rattle.std.proofs.lemmas.Option.{slice_get_within}
 use Rattle.std.proofs.lemmas.Bool.Decides.{nat_tests}
@@ -12,16 +13,17 @@ use Rattle.geo_exact.specs.Places.{corner_at, after, before}
 use Rattle.geo_exact.specs.Rings.{edges, HasNoRepeats}
 use Rattle.geo_exact.specs.Area.{area2}
 use Rattle.geo_exact.specs.Turn.{IsOnEdge}
-use Rattle.geo_exact.proofs.Begun.{ring_count}
-use Rattle.geo_exact.proofs.OnEdge.{on_edge_start, on_edge_end}
+use Rattle.geo_exact.proofs.rings.Begun.{ring_count}
+use Rattle.geo_exact.proofs.corners_and_turns.OnEdge.{on_edge_start, on_edge_end}
 use Rattle.ring_core.specs.Simple.{IsSimpleRing, MeetOnlyAsNeighbours}
-use Rattle.ring_core.proofs.Corners.{three_corners}
-use Rattle.ring_core.proofs.EdgeNumbers.{ring_joins}
-use Rattle.ring_core.proofs.LeftSimple.{apart_meet}
-use Rattle.ring_core.proofs.RoundNumbers.{after_in, before_in, neighbours_apart}
+use Rattle.ring_core.proofs.edges.Corners.{three_corners}
+use Rattle.ring_core.proofs.edges.EdgeNumbers.{ring_joins}
+use Rattle.ring_core.proofs.ears.LeftSimple.{apart_meet}
+use Rattle.ring_core.proofs.edges.RoundNumbers.{after_in, before_in, neighbours_apart}
 
 -- what holds of each item by its place holds of all
-each_of : {X : Type 0} (P : X → Type 0) (xs : List X) → ((i : ℕ) (x : X) → slice_get xs i ≡ Some x → P x) → AllByRecursion P xs
+each_of : {X : Type 0} (P : X → Type 0) (xs : List X) → ((i : ℕ) (x : X) → slice_get xs i ≡ Some x → P x)
+    → AllByRecursion P xs
 each_of P [] h = tt
 each_of P (x ∷ xs) h = (h 0 x refl, each_of P xs (λ i y e. h (suc i) y e))
 

@@ -28,7 +28,8 @@ by_layer city parcels zones unit corners P fault only (inr h) of_city of_parcels
 
 -- what tiles the one city that there is
 pub tiled_in : (city files : Files) (unit : LengthUnit) (corners other : List Corner) (tiles : Tiles)
-    → ((other : List Corner) → IsCityOf city unit other → corners ≡ other) → IsCityOf city unit other → IsTiledBy files unit other tiles
+    → ((other : List Corner) → IsCityOf city unit other → corners ≡ other) → IsCityOf city unit other
+    → IsTiledBy files unit other tiles
     → IsTiledBy files unit corners tiles
 tiled_in city files unit corners other tiles only is h = subst (λ c. IsTiledBy files unit c tiles) (sym (only other is)) h
 
@@ -40,7 +41,8 @@ are_tiles_of city parcels unit corners tiles is h = record {
 }
 
 -- a fault of the zones' files, as it is told behind the parcels'
-pub of_zones : (city parcels zones : Files) (unit : LengthUnit) (corners : List Corner) (tiles : Tiles) (fault : ToolFault) → IsCityOf city unit corners
+pub of_zones : (city parcels zones : Files) (unit : LengthUnit) (corners : List Corner) (tiles : Tiles)
+    (fault : ToolFault) → IsCityOf city unit corners
     → IsTiledBy parcels unit corners tiles → IsFaultOfLayer Zones zones unit corners fault ⊎ (fault ≡ NoMemory)
     → IsLayersFault city parcels zones unit fault ⊎ (fault ≡ NoMemory)
 of_zones city parcels zones unit corners tiles fault is h (inl k) = inl (inr record {
@@ -51,17 +53,21 @@ of_zones city parcels zones unit corners tiles fault is h (inl k) = inl (inr rec
 of_zones city parcels zones unit corners tiles fault is h (inr e) = inr e
 
 -- an overlay's fault, where there are few clerks' files, is of the layers or behind them
-pub few_overlay_fault : {A : Type 0} (city parcels zones : Files) (unit : LengthUnit) (clerks : List (Vec ℕ A)) (P : Type 0) (fault : ToolFault)
+pub few_overlay_fault : {A : Type 0} (city parcels zones : Files) (unit : LengthUnit) (clerks : List (Vec ℕ A))
+    (P : Type 0) (fault : ToolFault)
     → length clerks ≤ CLERKS → IsOverlayFault city parcels zones unit (texts_of clerks) fault
     → (IsLayersFault city parcels zones unit fault → P)
     → ((tiles regions : Tiles) → AreZoned city parcels zones unit tiles regions → IsClerkFault (texts_of clerks) fault → P) → P
-few_overlay_fault city parcels zones unit clerks P fault few (inl h) of_layers behind = absurd (omega (arith, h.are_more, few_texts clerks few))
+few_overlay_fault city parcels zones unit clerks P fault few (inl h) of_layers behind =
+    absurd (omega (arith, h.are_more, few_texts clerks few))
 few_overlay_fault city parcels zones unit clerks P fault few (inr h) of_layers behind =
     elim h.1 [ inl k ↦ of_layers k | inr k ↦ behind k.tiles k.regions k.are_zoned k.is_first ]
 
 -- a fault of the clerks' files, as it is told behind the layers'
-pub behind_zones : {A : Type 0} (city parcels zones : Files) (unit : LengthUnit) (clerks : List (Vec ℕ A)) (tiles regions : Tiles) (fault : ToolFault)
-    → length clerks ≤ CLERKS → AreZoned city parcels zones unit tiles regions → IsClerkFault (texts_of clerks) fault ⊎ (fault ≡ NoMemory)
+pub behind_zones : {A : Type 0} (city parcels zones : Files) (unit : LengthUnit) (clerks : List (Vec ℕ A))
+    (tiles regions : Tiles) (fault : ToolFault)
+    → length clerks ≤ CLERKS → AreZoned city parcels zones unit tiles regions → IsClerkFault (texts_of clerks) fault
+    ⊎ (fault ≡ NoMemory)
     → IsOverlayFault city parcels zones unit (texts_of clerks) fault ⊎ (fault ≡ NoMemory)
 behind_zones city parcels zones unit clerks tiles regions fault few are (inl h) =
     inl (inr (few_texts clerks few, inr record { tiles = tiles; regions = regions; are_zoned = are; is_first = h }))

@@ -1,4 +1,5 @@
--- The text of an area report: for each ring a line with its record's number and twice its area, without sign (OGC 06-103r4, 6.1.10, Surface: Area).
+-- The text of an area report: for each ring a line with its record's number and twice its area, without sign (OGC
+-- 06-103r4, 6.1.10, Surface: Area).
 use Rattle.std.specs.Prelude.{List, ℕ, ◌++◌, codes, decimal, unsigned_abs, Option}
 use Rattle.std.specs.List.{flat_map}
 use Rattle.std.specs.Io.KnownBytes.{Appends}
@@ -21,7 +22,8 @@ pub record WritesReport (main : List ℕ) (index : Option (List ℕ)) (unit : Le
   pub is_file : IsLayerFile main index unit rings
   pub is_written : Appends old new (area_report rings)
 
--- the bytes are a layer's main file and, where there is one, its index, and a beginning of the report of its rings was written after the told bytes
+-- the bytes are a layer's main file and, where there is one, its index, and a beginning of the report of its rings
+-- was written after the told bytes
 pub record WritesBeginning (main : List ℕ) (index : Option (List ℕ)) (unit : LengthUnit) (old new : Option (List ℕ)) : Type 0 where
   pub rings : List NumberedRing
   pub is_file : IsLayerFile main index unit rings

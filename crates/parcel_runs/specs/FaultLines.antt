@@ -1,4 +1,5 @@
--- The lines of a check that tells all faults (this product's own). Numbers are in decimal, with a minus sign where they are below 0; corners in centimetres.
+-- The lines of a check that tells all faults (this product's own). Numbers are in decimal, with a minus sign where
+-- they are below 0; corners in centimetres.
 use Rattle.std.specs.Prelude.{◌≡◌, ℕ, ℤ, List, [], ◌++◌, codes, decimal, Option, None, Some, Vec}
 use Rattle.std.specs.Fmt.{signed_decimal}
 use Rattle.std.specs.List.{flat_map}
@@ -61,7 +62,8 @@ pub record AreLayerLines (files : Files) (unit : LengthUnit) (city : List Corner
   pub are_refined : AreRefined records city rows refined
   pub are_lines : AreKindLines rows refined fault lines
 
--- the lines that come before a fault: where the rings are refused as parcels of their city, those of all faults of the fault's kind, and else none
+-- the lines that come before a fault: where the rings are refused as parcels of their city, those of all faults of
+-- the fault's kind, and else none
 abbrev pub AreLinesBefore : Files → Files → LengthUnit → ToolFault → List ℕ → Type 0
 AreLinesBefore city parcels unit (NoTiling role fault) lines =
     (corners : List Corner) × IsCityOf city unit corners × AreLayerLines parcels unit corners fault lines
@@ -80,7 +82,8 @@ AreLinesBefore city parcels unit NoMemory lines = lines ≡ []
 
 -- those lines were written after the told bytes
 abbrev pub WritesLinesBefore : Files → Files → LengthUnit → ToolFault → Option (List ℕ) → Option (List ℕ) → Type 0
-WritesLinesBefore city parcels unit fault old new = (lines : List ℕ) × AreLinesBefore city parcels unit fault lines × Appends old new lines
+WritesLinesBefore city parcels unit fault old new = (lines : List ℕ) × AreLinesBefore city parcels unit fault lines
+    × Appends old new lines
 
 -- the text, where there is one
 abbrev pub text_or_none : {A : Type 0} → Option (Vec ℕ A) → List ℕ

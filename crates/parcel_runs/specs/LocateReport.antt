@@ -1,4 +1,5 @@
--- The lines that tell where points lie (this product's own). Numbers are in decimal, with a minus sign where they are below 0; points in centimetres.
+-- The lines that tell where points lie (this product's own). Numbers are in decimal, with a minus sign where they are
+-- below 0; points in centimetres.
 use Rattle.std.specs.Prelude.{◌≡◌, ◌≢◌, ◌⊎◌, ℕ, List, [], ◌∷◌, ◌++◌, codes, decimal, Option}
 use Rattle.std.specs.List.{flat_map}
 use Rattle.std.specs.Io.KnownBytes.{Appends}
@@ -20,7 +21,8 @@ use Rattle.parcel_runs.specs.RunFaults.{IsRunFault}
 abbrev pub id_text : ℕ → List ℕ
 id_text id = codes " " ++ decimal id
 
--- `edge ID ID ..` with all parcels on whose edges p lies, ascending, where there is one; else `inside ID` with the one that it is inside of; else `outside`
+-- `edge ID ID ..` with all parcels on whose edges p lies, ascending, where there is one; else `inside ID` with the
+-- one that it is inside of; else `outside`
 abbrev pub IsPlaceText : List NumberedRing → Point → List ℕ → Type 0
 IsPlaceText rows p text = ((ids : List ℕ) × AreAllOnEdge rows p ids × (ids ≢ []) × (text ≡ codes "edge" ++ flat_map id_text ids))
     ⊎ ((id : ℕ) × AreAllOnEdge rows p [] × IsInsideOf rows p id × (text ≡ codes "inside" ++ id_text id))
@@ -55,7 +57,8 @@ pub record WritesPlacesOfText (A : Type 0) (city parcels : Files) (unit : Length
   pub are_written : WritesPlaces A city parcels unit clerks points old new
 
 -- the parcels' files tile the city of the city's files, the clerks' files have no fault, and the fault is the text's first bad line
-pub record IsPointsFault (city parcels : Files) (unit : LengthUnit) (clerks : List (List ℕ)) (text : List ℕ) (fault : ToolFault) : Type 0 where
+pub record IsPointsFault (city parcels : Files) (unit : LengthUnit) (clerks : List (List ℕ)) (text : List ℕ)
+    (fault : ToolFault) : Type 0 where
   pub tiles : Tiles
   pub are_tiles : AreTiles city parcels unit tiles
   pub no_other : (other : ToolFault) → ¬ IsRunFault city parcels unit clerks other

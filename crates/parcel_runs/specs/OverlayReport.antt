@@ -26,9 +26,11 @@ pub record IsTableOf {A : Type 0} (after : Register A) (regions : Tiles) (table 
   pub entries : table.entries ≡ length after.journal
   pub is_table : IsOverlapTable table.rows table.zones table.pairs
 
--- The text of an overlay: the lines of the clerks' edits, and then the report of the parcels that these lead to and the zones, both as the files
+-- The text of an overlay: the lines of the clerks' edits, and then the report of the parcels that these lead to and
+-- the zones, both as the files
 -- have them. Edits are in a memory A.
-pub record IsOverlayText (A : Type 0) (city parcels zones : Files) (unit : LengthUnit) (clerks : List (List ℕ)) (text : List ℕ) : Type 0 where
+pub record IsOverlayText (A : Type 0) (city parcels zones : Files) (unit : LengthUnit) (clerks : List (List ℕ))
+    (text : List ℕ) : Type 0 where
   pub tiles : Tiles
   pub regions : Tiles
   pub are_zoned : AreZoned city parcels zones unit tiles regions
@@ -42,14 +44,16 @@ pub record IsOverlayText (A : Type 0) (city parcels zones : Files) (unit : Lengt
   pub is_text : text ≡ told ++ report
 
 -- it was written after the told bytes
-pub record WritesOverlay (A : Type 0) (city parcels zones : Files) (unit : LengthUnit) (clerks : List (List ℕ)) (old new : Option (List ℕ))
+pub record WritesOverlay (A : Type 0) (city parcels zones : Files) (unit : LengthUnit) (clerks : List (List ℕ))
+    (old new : Option (List ℕ))
     : Type 0 where
   pub text : List ℕ
   pub is_overlay : IsOverlayText A city parcels zones unit clerks text
   pub is_written : Appends old new text
 
 -- a beginning of it was written after the told bytes
-pub record BeginsOverlay (A : Type 0) (city parcels zones : Files) (unit : LengthUnit) (clerks : List (List ℕ)) (old new : Option (List ℕ))
+pub record BeginsOverlay (A : Type 0) (city parcels zones : Files) (unit : LengthUnit) (clerks : List (List ℕ))
+    (old new : Option (List ℕ))
     : Type 0 where
   pub text : List ℕ
   pub is_overlay : IsOverlayText A city parcels zones unit clerks text

@@ -22,7 +22,8 @@ bytes_of (Err fault) = Err fault
 -- In what follows `reads` tells what reading the file at a path may answer.
 
 -- what the bytes of a text are by its path: as they were read, or the path; memory may always be wanted
-abbrev pub IsTextBy : {A : Type 0} → (List ℕ → Result (List ℕ) PathFault → Type 0) → Bor (List ℕ) → Result (Vec ℕ A) ToolFault → Type 0
+abbrev pub IsTextBy : {A : Type 0} → (List ℕ → Result (List ℕ) PathFault → Type 0) → Bor (List ℕ)
+    → Result (Vec ℕ A) ToolFault → Type 0
 IsTextBy reads path (Ok bytes) = reads path.now (Ok bytes.items)
 IsTextBy reads path (Err (Unreadable told)) = (told ≡ path) × (reads path.now (Err NotOpened) ⊎ reads path.now (Err NotRead))
 IsTextBy reads path (Err NoMemory) = ⊤
@@ -52,7 +53,8 @@ pub record IsIndexUnread (reads : List ℕ → Result (List ℕ) PathFault → T
 
 -- what a layer's files are by the path of the main file: both as they were read, or the path of the one that was not; memory may always be
 -- wanted
-abbrev pub IsSourceBy : {A : Type 0} → (List ℕ → Result (List ℕ) PathFault → Type 0) → Bor (List ℕ) → Result (Source A) ToolFault → Type 0
+abbrev pub IsSourceBy : {A : Type 0} → (List ℕ → Result (List ℕ) PathFault → Type 0) → Bor (List ℕ)
+    → Result (Source A) ToolFault → Type 0
 IsSourceBy reads path (Ok source) = reads path.now (Ok source.main.items) × IsIndexBy reads path.now (index_of source)
 IsSourceBy reads path (Err (Unreadable told)) = (told ≡ path) × (reads path.now (Err NotOpened) ⊎ reads path.now (Err NotRead))
 IsSourceBy reads path (Err (UnreadableIndex stem)) = IsIndexUnread reads path.now stem.now

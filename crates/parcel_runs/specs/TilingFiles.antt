@@ -1,4 +1,5 @@
--- A city's files and a layer's files that tile it, and the first fault of those that do not (the order of the faults is this product's own).
+-- A city's files and a layer's files that tile it, and the first fault of those that do not (the order of the faults
+-- is this product's own).
 use Rattle.std.specs.Prelude.{◌≡◌, ◌≢◌, ◌⊎◌, ℕ, List, [], ◌∷◌, length, Option}
 use Rattle.geo_exact.specs.declared.coord.Unit.{Unit as LengthUnit}
 use Rattle.geo_exact.specs.declared.corner.Corner.{Corner}

@@ -92,8 +92,8 @@ fn refusal_of<A: Allocator, B: Allocator>(alloc: A, role: Role, all: &AllFaults<
     }
 }
 
-/// The layer of the parcels' files, which tiles the city of the city's files, or all faults of the parcels of the first's
-/// kind.
+/// The layer of the parcels' files, which tiles the city of the city's files, or all faults of the
+/// parcels of the first's kind.
 ///
 /// # Errors
 ///
@@ -118,8 +118,8 @@ fn load_tiles_or_lines<'h, H: Allocator, A: Allocator>(
     read_tiles_or_lines(heap, &city, Role::Parcels, parcels, unit)
 }
 
-/// The layer of the parcels' files, which tiles the city of the city's files, and the edits of clerks' files; or all faults of
-/// the parcels of the first's kind.
+/// The layer of the parcels' files, which tiles the city of the city's files, and the edits of
+/// clerks' files; or all faults of the parcels of the first's kind.
 ///
 /// # Errors
 ///

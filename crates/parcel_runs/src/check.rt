@@ -27,16 +27,18 @@ use std::sync::Wait;
 use std::thread::Threads;
 use text_puts::put_all;
 
-/// Writes `tiling N AREA2` where the parcels tile their city exactly: how many they are, and twice the city's area in square
-/// centimetres. Before that the edits of clerks' files are made at one office, each file's by a thread of its own, line by line,
-/// and a line for each is written, by clerk and line; clerk K is that of file K, from 1. All files are checked whole before the
-/// first edit is made.
+/// Writes `tiling N AREA2` where the parcels tile their city exactly: how many they are, and twice
+/// the city's area in square centimetres. Before that the edits of clerks' files are made at one
+/// office, each file's by a thread of its own, line by line, and a line for each is written, by
+/// clerk and line; clerk K is that of file K, from 1. All files are checked whole before the first
+/// edit is made.
 ///
 /// # Errors
 ///
-/// [`ToolFault::ClerkCount`] for more than 8 clerks' files; the first fault of the city's files and ring, then of the
-/// parcels' files and rings, then the first bad line of the clerks' files; [`ToolFault::NoWindow`] and [`ToolFault::NoMemory`];
-/// all before anything is written. [`ToolFault::Output`] where a write failed.
+/// [`ToolFault::ClerkCount`] for more than 8 clerks' files; the first fault of the city's files and
+/// ring, then of the parcels' files and rings, then the first bad line of the clerks' files;
+/// [`ToolFault::NoWindow`] and [`ToolFault::NoMemory`]; all before anything is written.
+/// [`ToolFault::Output`] where a write failed.
 pub fn check<'h, R: Threads + Wait + Sync, H: Allocator + Send + Sync, A: Allocator, W: ByteOut>(
     rt: &R,
     heap: &'h H,
@@ -64,15 +66,16 @@ pub fn check<'h, R: Threads + Wait + Sync, H: Allocator + Send + Sync, A: Alloca
     Ok(())
 }
 
-/// As [`check`], but where the rings are refused as parcels of their city, the lines of all faults of the first's kind come
-/// before the first is answered: `ring R FAULT` for each record whose ring is refused, by ascending number, or else `edge AX
-/// AY BX BY net N` for each edge that the parcels do not have as often as their city, by its first corner and then by its
-/// second. A record whose ring is too long, or passes the layer's limit, has no line. No edit is made then.
+/// As [`check`], but where the rings are refused as parcels of their city, the lines of all faults
+/// of the first's kind come before the first is answered: `ring R FAULT` for each record whose ring
+/// is refused, by ascending number, or else `edge AX AY BX BY net N` for each edge that the parcels
+/// do not have as often as their city, by its first corner and then by its second. A record whose
+/// ring is too long, or passes the layer's limit, has no line. No edit is made then.
 ///
 /// # Errors
 ///
-/// Those of [`check`]; a fault of the files or of the city, [`ToolFault::NoWindow`] and [`ToolFault::NoMemory`], before anything
-/// is written.
+/// Those of [`check`]; a fault of the files or of the city, [`ToolFault::NoWindow`] and
+/// [`ToolFault::NoMemory`], before anything is written.
 pub fn check_all<
     'h,
     R: Threads + Wait + Sync,

@@ -27,11 +27,13 @@ pub fn refuse_many_clerks(count: usize) -> Result<(), ToolFault<'static>>
     Ok(())
 }
 
-/// The edits of clerks' files; clerk K is that of file K, from 1. The first bad line of the files is a fault of the run.
+/// The edits of clerks' files; clerk K is that of file K, from 1. The first bad line of the files
+/// is a fault of the run.
 ///
 /// # Errors
 ///
-/// [`ToolFault::ClerkLine`] with the first line that is no edit of the first file that has one, and [`ToolFault::NoMemory`].
+/// [`ToolFault::ClerkLine`] with the first line that is no edit of the first file that has one, and
+/// [`ToolFault::NoMemory`].
 pub fn read_clerk_files<'h, H: Allocator, A: Allocator>(
     heap: &'h H,
     files: &[Vec<u8, A>],

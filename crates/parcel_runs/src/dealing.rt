@@ -7,8 +7,8 @@ ghost use Rattle.parcel_runs.specs.own.Dealing.{dealt};
 use fabric_core::Ids;
 use std::alloc::{AllocError, Allocator};
 
-/// Deals ids to so many workers one by one, in their order: worker k gets those at places k, k + workers and so on. Each id is
-/// dealt once.
+/// Deals ids to so many workers one by one, in their order: worker k gets those at places k, k +
+/// workers and so on. Each id is dealt once.
 pub fn deal<'h, H: Allocator>(
     heap: &'h H,
     ids: Ids<'_, &'h H>,

@@ -102,8 +102,9 @@ impl<'h, H: Allocator> Parcels<'h, H> {
     }
 }
 
-/// A layer after the edits of clerks, all of whom make theirs at the same time at one office, each in a thread of his own; and
-/// where corners lie then. Without clerks the layer stays as it is, and no office is opened.
+/// A layer after the edits of clerks, all of whom make theirs at the same time at one office, each
+/// in a thread of his own; and where corners lie then. Without clerks the layer stays as it is, and
+/// no office is opened.
 ///
 /// # Errors
 ///

@@ -36,15 +36,18 @@ pub struct Exported<A: Allocator> {
     pub lines: Vec<u8, A>,
 }
 
-/// The two files of the parcels' layer, where the parcels tile their city exactly: its rings, each with all corners of the
-/// layer and the city that lie inside its edges, by ascending id and numbered anew from 1. Coordinates are in centimetres,
-/// whatever the unit that was read. Before that the edits of clerks' files are made at one office, each file's by a thread of
-/// its own, line by line; clerk K is that of file K, from 1. An edit that is refused changes nothing, and its line says why.
+/// The two files of the parcels' layer, where the parcels tile their city exactly: its rings, each
+/// with all corners of the layer and the city that lie inside its edges, by ascending id and
+/// numbered anew from 1. Coordinates are in centimetres, whatever the unit that was read. Before
+/// that the edits of clerks' files are made at one office, each file's by a thread of its own, line
+/// by line; clerk K is that of file K, from 1. An edit that is refused changes nothing, and its
+/// line says why.
 ///
 /// # Errors
 ///
-/// [`ToolFault::ClerkCount`] for more than 8 clerks' files; the first fault of the city's files and ring, then of the
-/// parcels' files and rings, then the first bad line of the clerks' files; [`ToolFault::NoWindow`] and [`ToolFault::NoMemory`].
+/// [`ToolFault::ClerkCount`] for more than 8 clerks' files; the first fault of the city's files and
+/// ring, then of the parcels' files and rings, then the first bad line of the clerks' files;
+/// [`ToolFault::NoWindow`] and [`ToolFault::NoMemory`].
 pub fn export<'h, R: Threads + Wait + Sync, H: Allocator + Send + Sync, A: Allocator>(
     rt: &R,
     heap: &'h H,

@@ -12,7 +12,8 @@ use itoa::Buffer;
 use ring_core::RingFault;
 use std::alloc::{AllocError, Allocator};
 
-/// The lines of all faults: `ring R FAULT` for each ring, or `edge AX AY BX BY net N` for each edge, corners in centimetres.
+/// The lines of all faults: `ring R FAULT` for each ring, or `edge AX AY BX BY net N` for each
+/// edge, corners in centimetres.
 pub fn fault_lines<A: Allocator, B: Allocator>(
     alloc: A,
     all: &AllFaults<B>,

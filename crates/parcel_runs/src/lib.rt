@@ -1,5 +1,6 @@
-//! What runs of the program do: layers read from their files, their areas told, whether they tile their city, where points
-//! lie among their parcels, which parcels and zones overlap, edits of clerks made, and layers written anew.
+//! What runs of the program do: layers read from their files, their areas told, whether they tile
+//! their city, where points lie among their parcels, which parcels and zones overlap, edits of
+//! clerks made, and layers written anew.
 //!
 //! Each call answers from the bytes of the files, and says to which layer a fault belongs.
 #![tactic(auto)]

@@ -30,16 +30,18 @@ use std::sync::Wait;
 use std::thread::Threads;
 use text_puts::put_all;
 
-/// Writes for each point in order, where the parcels tile their city, `X Y inside ID`, `X Y edge ID ID ..` with all parcels
-/// on whose edges it lies, or `X Y outside`. Before that the edits of clerks' files are made at one office, each file's by a
-/// thread of its own, line by line, and a line for each is written, by clerk and line; clerk K is that of file K, from 1. All
-/// files are checked whole before the first edit is made.
+/// Writes for each point in order, where the parcels tile their city, `X Y inside ID`, `X Y edge ID
+/// ID ..` with all parcels on whose edges it lies, or `X Y outside`. Before that the edits of
+/// clerks' files are made at one office, each file's by a thread of its own, line by line, and a
+/// line for each is written, by clerk and line; clerk K is that of file K, from 1. All files are
+/// checked whole before the first edit is made.
 ///
 /// # Errors
 ///
-/// [`ToolFault::ClerkCount`] for more than 8 clerks' files; the first fault of the city's files and ring, then of the
-/// parcels' files and rings, then the first bad line of the clerks' files; [`ToolFault::NoWindow`] and [`ToolFault::NoMemory`];
-/// all before anything is written. [`ToolFault::Output`] where a write failed.
+/// [`ToolFault::ClerkCount`] for more than 8 clerks' files; the first fault of the city's files and
+/// ring, then of the parcels' files and rings, then the first bad line of the clerks' files;
+/// [`ToolFault::NoWindow`] and [`ToolFault::NoMemory`]; all before anything is written.
+/// [`ToolFault::Output`] where a write failed.
 pub fn locate<'h, R: Threads + Wait + Sync, H: Allocator + Send + Sync, A: Allocator, W: ByteOut>(
     rt: &R,
     heap: &'h H,
@@ -67,13 +69,13 @@ pub fn locate<'h, R: Threads + Wait + Sync, H: Allocator + Send + Sync, A: Alloc
     Ok(())
 }
 
-/// As [`locate`], of the points of a text: each line is a point `X Y`, in whole centimetres, unless it is empty or begins
-/// with `#`.
+/// As [`locate`], of the points of a text: each line is a point `X Y`, in whole centimetres, unless
+/// it is empty or begins with `#`.
 ///
 /// # Errors
 ///
-/// Those of [`locate`]; behind those of the layers' and clerks' files [`ToolFault::PointLine`] with the first line that is
-/// no point, before anything is written.
+/// Those of [`locate`]; behind those of the layers' and clerks' files [`ToolFault::PointLine`] with
+/// the first line that is no point, before anything is written.
 pub fn locate_text<
     'h,
     R: Threads + Wait + Sync,

@@ -26,17 +26,20 @@ use std::sync::Wait;
 use std::thread::Threads;
 use text_puts::put_all;
 
-/// Writes which parcels and which zones overlap, where both tile one city: `entries N`, how many edits led to these parcels; `pair
-/// ID ZONE` for each parcel and zone whose interiors have a common point; `split ID` for each parcel that overlaps two zones or
-/// more; and `within ID ZONE` for each other parcel. Before that the edits of clerks' files are made at one office, each file's by a
-/// thread of its own, line by line, and a line for each is written, by clerk and line; clerk K is that of file K, from 1. So many
-/// workers share the parcels. All files are checked whole before the first edit is made.
+/// Writes which parcels and which zones overlap, where both tile one city: `entries N`, how many
+/// edits led to these parcels; `pair ID ZONE` for each parcel and zone whose interiors have a
+/// common point; `split ID` for each parcel that overlaps two zones or more; and `within ID ZONE`
+/// for each other parcel. Before that the edits of clerks' files are made at one office, each
+/// file's by a thread of its own, line by line, and a line for each is written, by clerk and line;
+/// clerk K is that of file K, from 1. So many workers share the parcels. All files are checked
+/// whole before the first edit is made.
 ///
 /// # Errors
 ///
-/// [`ToolFault::ClerkCount`] for more than 8 clerks' files; the first fault of the city's files and ring, then of the parcels'
-/// files and rings, then of the zones', then the first bad line of the clerks' files; [`ToolFault::NoWindow`],
-/// [`ToolFault::NoThread`] and [`ToolFault::NoMemory`]; all before anything is written. [`ToolFault::Output`] where a write failed.
+/// [`ToolFault::ClerkCount`] for more than 8 clerks' files; the first fault of the city's files and
+/// ring, then of the parcels' files and rings, then of the zones', then the first bad line of the
+/// clerks' files; [`ToolFault::NoWindow`], [`ToolFault::NoThread`] and [`ToolFault::NoMemory`]; all
+/// before anything is written. [`ToolFault::Output`] where a write failed.
 pub fn overlay<'h, R: Threads + Wait + Sync, H: Allocator + Send + Sync, A: Allocator, W: ByteOut>(
     rt: &R,
     heap: &'h H,

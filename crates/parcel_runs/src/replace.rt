@@ -15,13 +15,15 @@ const NAMES: u32 = 100;
 
 /// Replaces the layer BASE.shp and BASE.shx, or makes it, by one of these bytes.
 ///
-/// Both files are written aside in the same folder, flushed and synchronised, and then renamed, the main file first. A file that
-/// is written aside takes a name that nothing has, such as `BASE.shp.0.new`, and is removed where it is not renamed. So a fault
-/// before the first renaming leaves what stood under BASE as it was. Between the two the main file is the new one, and the index
-/// is the old one or there is none: a fault there leaves them so, and a reader then finds that the old index disagrees, unless it
-/// fits.
+/// Both files are written aside in the same folder, flushed and synchronised, and then renamed, the
+/// main file first. A file that is written aside takes a name that nothing has, such as
+/// `BASE.shp.0.new`, and is removed where it is not renamed. So a fault before the first renaming
+/// leaves what stood under BASE as it was. Between the two the main file is the new one, and the
+/// index is the old one or there is none: a fault there leaves them so, and a reader then finds
+/// that the old index disagrees, unless it fits.
 ///
-/// No contract can say what stands on a disk: tests show it, over a file system that fails at each of its calls in turn.
+/// No contract can say what stands on a disk: tests show it, over a file system that fails at each
+/// of its calls in turn.
 ///
 /// # Errors
 ///

@@ -102,8 +102,8 @@ pub fn read_text<'a, F: Folder, A: Allocator + Copy>(
     }
 }
 
-/// Reads a layer's files by the path of the main file. Where that ends in `.shp` and the same path ending in `.shx` can be
-/// opened, that is the layer's index; otherwise it has none.
+/// Reads a layer's files by the path of the main file. Where that ends in `.shp` and the same path
+/// ending in `.shx` can be opened, that is the layer's index; otherwise it has none.
 ///
 /// # Errors
 ///

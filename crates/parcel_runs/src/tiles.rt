@@ -103,8 +103,8 @@ pub fn read_tiles<'h, H: Allocator, A: Allocator>(
 ///
 /// # Errors
 ///
-/// The first fault of the city's files, the number of their rings, or the ring's fault; then the first fault of the parcels'
-/// files, or of their rings as a layer; and [`ToolFault::NoMemory`].
+/// The first fault of the city's files, the number of their rings, or the ring's fault; then the
+/// first fault of the parcels' files, or of their rings as a layer; and [`ToolFault::NoMemory`].
 fn load_tiles<'h, H: Allocator, A: Allocator>(
     heap: &'h H,
     city: &Source<A>,
@@ -128,9 +128,10 @@ fn load_tiles<'h, H: Allocator, A: Allocator>(
 ///
 /// # Errors
 ///
-/// [`ToolFault::ClerkCount`] for more than 8 clerks' files; the first fault of the city's files, the number of their rings,
-/// or the ring's fault; then the first fault of the parcels' files, or of their rings as a layer; then the first bad line of
-/// the clerks' files; and [`ToolFault::NoMemory`].
+/// [`ToolFault::ClerkCount`] for more than 8 clerks' files; the first fault of the city's files,
+/// the number of their rings, or the ring's fault; then the first fault of the parcels' files, or
+/// of their rings as a layer; then the first bad line of the clerks' files; and
+/// [`ToolFault::NoMemory`].
 pub fn load_unedited<'h, H: Allocator, A: Allocator>(
     heap: &'h H,
     city: &Source<A>,

@@ -62,8 +62,9 @@ fn load_layers<'h, H: Allocator, A: Allocator>(
 ///
 /// # Errors
 ///
-/// [`ToolFault::ClerkCount`] for more than 8 clerks' files; the first fault of the city's files and ring, then of the
-/// parcels' files and rings, then of the zones'; then the first bad line of the clerks' files; and [`ToolFault::NoMemory`].
+/// [`ToolFault::ClerkCount`] for more than 8 clerks' files; the first fault of the city's files and
+/// ring, then of the parcels' files and rings, then of the zones'; then the first bad line of the
+/// clerks' files; and [`ToolFault::NoMemory`].
 pub fn load_zoned<'h, H: Allocator, A: Allocator>(
     heap: &'h H,
     city: &Source<A>,

@@ -1,5 +1,6 @@
 -- Each parcel of a slab is one of the table that belongs to it: as many are found by their ids as there are.
-use Rattle.std.proofs.Common.{◌≡◌, ◌⊎◌, inl, inr, ⊎_elim, refl, sym, ◌∙◌, ap, subst, arith, ℕ, ◌+◌, ◌<◌, ◌≤◌}
+use Rattle.std.proofs.Common.{◌≡◌, ◌⊎◌, inl, inr, ⊎_elim, refl, sym, ◌∙◌, ap, subst, arith, ℕ, ◌+◌, ◌<◌}
+use Rattle.std.proofs.Common.{◌≤◌}
 use Rattle.std.proofs.Common.{List, [], ◌∷◌, length, set, Option, Some, None, is_some, cond, MatchOption, Bor}
 use Rattle.std.specs.Prelude.{option_copied}
 use Rattle.std.specs.List.{Contains}

@@ -5,7 +5,7 @@ use lib.Signed.{◌≤ℤ◌}
 use Rattle.geo_exact.specs.declared.bounds.Bounds.{Bounds}
 use Rattle.geo_exact.specs.declared.corner.Corner.{Corner}
 use Rattle.geo_exact.specs.Bounds.{IsLeastBox}
-use Rattle.geo_exact.proofs.SameCorner.{corner_same}
+use Rattle.geo_exact.proofs.corners_and_turns.SameCorner.{corner_same}
 
 -- a list of corners has one least box
 pub one_least_box : (a b : Bounds) (corners : List Corner) → IsLeastBox a corners → IsLeastBox b corners → a ≡ b

@@ -1,6 +1,8 @@
 -- Parcels once one place of the table has changed, and the slot of the parcel that it led to.
 use Rattle.std.specs.Prelude.{option_map}
-use Rattle.std.proofs.Common.{◌≡◌, ◌≢◌, refl, sym, ◌∙◌, ap, subst, arith, ℕ, zero, suc, ◌+◌, ◌<◌, cond, not, List, [], ◌∷◌, ◌++◌, length, set, replicate, get_or, is_some, if◌then◌else◌, Option, Some, None}
+use Rattle.std.proofs.Common.{◌≡◌, ◌≢◌, refl, sym, ◌∙◌, ap, subst, arith, ℕ, zero, suc, ◌+◌, ◌<◌, cond, not}
+use Rattle.std.proofs.Common.{List, [], ◌∷◌, ◌++◌, length, set, replicate, get_or, is_some, if◌then◌else◌, Option}
+use Rattle.std.proofs.Common.{Some, None}
 use Rattle.std.specs.List.{cons_option}
 use Rattle.std.proofs.lemmas.Bool.{eq-eqb, ne_eqb}
 use Rattle.std.proofs.lemmas.List.{set-get_or, length-append, length-set}
@@ -24,7 +26,8 @@ module _ {A : Type 0} where
     pub below : id < length places
     pub leads : get_or places id Unused ≡ Here key
 
-  pub leads_to : (slab : Slab (Parcel A)) (places : List Place) (id key : ℕ) → ArePlaced slab 0 places → IsKeyOf (keyed slab places) id key
+  pub leads_to : (slab : Slab (Parcel A)) (places : List Place) (id key : ℕ) → ArePlaced slab 0 places
+      → IsKeyOf (keyed slab places) id key
       → LeadsTo slab places id key
   leads_to slab places id key h k = record {
     parcel = k.parcel;
@@ -80,7 +83,8 @@ module _ {A : Type 0} where
     other_slot k parcel there differs = up.others k (λ e. differs
         (ap (λ (p : Parcel A). p.id) (same_parcel parcel here (sym there ∙ ap (get old) e ∙ is)) ∙ its))
 
-    keyed-after : (first : ℕ) (places : List Place) → ArePlaced old first places → id < first → keyed new places ≡ keyed old places
+    keyed-after : (first : ℕ) (places : List Place) → ArePlaced old first places → id < first
+        → keyed new places ≡ keyed old places
     keyed-after first [] h l = refl
     keyed-after first (Unused ∷ places) h l = keyed-after (first + 1) places h (omega arith)
     keyed-after first (Retired by ∷ places) h l = keyed-after (first + 1) places h (omega arith)
@@ -91,8 +95,10 @@ module _ {A : Type 0} where
     placed-after first [] h l = tt
     placed-after first (Unused ∷ places) h l = placed-after (first + 1) places h (omega arith)
     placed-after first (Retired by ∷ places) h l = placed-after (first + 1) places h (omega arith)
-    placed-after first (Here k ∷ places) h l =
-        ((h.0.0, other_slot k h.0.0 h.0.1 (λ e. omega (arith, e, h.0.2)) ∙ h.0.1, h.0.2), placed-after (first + 1) places h.1 (omega arith))
+    placed-after first (Here k ∷ places) h l = (
+      (h.0.0, other_slot k h.0.0 h.0.1 (λ e. omega (arith, e, h.0.2)) ∙ h.0.1, h.0.2),
+      placed-after (first + 1) places h.1 (omega arith),
+    )
 
     pub length-at : (first n : ℕ) (places : List Place) → ArePlaced old first places → first + n ≡ id → n < length places
         → get_or places n Unused ≡ Here key
@@ -138,7 +144,8 @@ module _ {A : Type 0} where
     )
 
     module _ (F : List (ℕ × Parcel A) → List (ℕ × Parcel A)) (ex : Exchanges id key here (keyed_at new place) F) where
-      same-after : (first : ℕ) (places : List Place) → ArePlaced old first places → id < first → F (keyed old places) ≡ keyed old places
+      same-after : (first : ℕ) (places : List Place) → ArePlaced old first places → id < first → F (keyed old places)
+          ≡ keyed old places
       same-after first [] h l = ex.nil
       same-after first (Unused ∷ places) h l = same-after (first + 1) places h (omega arith)
       same-after first (Retired by ∷ places) h l = same-after (first + 1) places h (omega arith)
@@ -172,7 +179,8 @@ module _ {A : Type 0} where
     pub is_table : IsTable new after
     pub one_less : keyed new after ≡ without_id id (keyed old before)
 
-  pub retired : (old new : Slab (Parcel A)) (places : List Place) (id key by : ℕ) → IsTable old places → IsKeyOf (keyed old places) id key
+  pub retired : (old new : Slab (Parcel A)) (places : List Place) (id key by : ℕ) → IsTable old places
+      → IsKeyOf (keyed old places) id key
       → Updates old new key None → slab_len new + 1 ≡ slab_len old → IsRetired old new places (set places id (Retired by)) id
   retired old new places id key by h k up less = record {
     is_table = record {
@@ -242,7 +250,8 @@ module _ {A : Type 0} where
       up = Updates-with_value old key parcel (ap is_some w.is_there)
 
       both : keyed new (set places id (Retired by) ++ Here key ∷ []) ≡ keyed new (set places id (Retired by)) ++ (key, parcel) ∷ []
-      both = keyed-append new (set places id (Retired by)) (Here key ∷ []) ∙ ap (λ xs. keyed new (set places id (Retired by)) ++ xs) last
+      both = keyed-append new (set places id (Retired by)) (Here key ∷ [])
+          ∙ ap (λ xs. keyed new (set places id (Retired by)) ++ xs) last
         where
           last : keyed new (Here key ∷ []) ≡ (key, parcel) ∷ []
           last = rw up.changed refl

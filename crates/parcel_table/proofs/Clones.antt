@@ -1,6 +1,7 @@
 -- Copies of parcels, and of tables of them.
 use Rattle.std.specs.Prelude.{option_map}
-use Rattle.std.proofs.Common.{◌≡◌, refl, ◌∙◌, ap, subst, arith, ℕ, zero, suc, ◌+◌, cond, List, [], ◌∷◌, get_or, count_by, is_some, Option, Some, None}
+use Rattle.std.proofs.Common.{◌≡◌, refl, ◌∙◌, ap, subst, arith, ℕ, zero, suc, ◌+◌, cond, List, [], ◌∷◌, get_or}
+use Rattle.std.proofs.Common.{count_by, is_some, Option, Some, None}
 use Rattle.std.specs.Prelude.{IsSomeAnd}
 use Rattle.std.specs.List.{AllZip, cons_option}
 use Rattle.std.proofs.lemmas.List.Elements.{length_all_zip}
@@ -41,7 +42,8 @@ module _ {A : Type 0} where
   slot_at (x ∷ xs) (y ∷ ys) zero h = h.0
   slot_at (x ∷ xs) (y ∷ ys) (suc key) h = slot_at xs ys key h.1
 
-  slots_count : (xs ys : List (Option (Parcel A))) → AllZip (IsSlotClone IsParcelClone) xs ys → count_by is_some ys ≡ count_by is_some xs
+  slots_count : (xs ys : List (Option (Parcel A))) → AllZip (IsSlotClone IsParcelClone) xs ys → count_by is_some ys
+      ≡ count_by is_some xs
   slots_count [] [] h = refl
   slots_count [] (y ∷ ys) h = absurd h
   slots_count (x ∷ xs) [] h = absurd h
@@ -61,9 +63,11 @@ module _ {A : Type 0} where
     keyed_clones [] = tt
     keyed_clones (Unused ∷ places) = keyed_clones places
     keyed_clones (Retired by ∷ places) = keyed_clones places
-    keyed_clones (Here key ∷ places) = by_slots (get slab key) (get copy key) (slot_at slab.slots copy.slots key zip) (keyed_clones places)
+    keyed_clones (Here key ∷ places) = by_slots (get slab key) (get copy key) (slot_at slab.slots copy.slots key zip)
+        (keyed_clones places)
       where
-        by_slots : (x y : Option (Parcel A)) → IsSlotClone IsParcelClone x y → AllZip IsKeyedClone (keyed slab places) (keyed copy places)
+        by_slots : (x y : Option (Parcel A)) → IsSlotClone IsParcelClone x y
+            → AllZip IsKeyedClone (keyed slab places) (keyed copy places)
             → AllZip IsKeyedClone (cons_option (option_map (λ parcel. (key, parcel)) x) (keyed slab places))
             (cons_option (option_map (λ parcel. (key, parcel)) y) (keyed copy places))
         by_slots None None h later = later
@@ -93,7 +97,8 @@ module _ {A : Type 0} where
     }
 
   -- ---- copies of parcels have the same rows and the same entries
-  pub same_rows : (parcels copies : List (ℕ × Parcel A)) → AllZip IsKeyedClone parcels copies → rows_of_keyed copies ≡ rows_of_keyed parcels
+  pub same_rows : (parcels copies : List (ℕ × Parcel A)) → AllZip IsKeyedClone parcels copies → rows_of_keyed copies
+      ≡ rows_of_keyed parcels
   same_rows [] [] h = refl
   same_rows [] (y ∷ ys) h = absurd h
   same_rows (x ∷ xs) [] h = absurd h
@@ -102,7 +107,8 @@ module _ {A : Type 0} where
       ∙ ap (λ corners. numbered x.1.id corners ∷ rows_of_keyed ys) h.0.1.ring
       ∙ ap (λ rows. numbered x.1.id x.1.shape.ring.corners ∷ rows) (same_rows xs ys h.1)
 
-  pub same_entries : (parcels copies : List (ℕ × Parcel A)) → AllZip IsKeyedClone parcels copies → entries_of copies ≡ entries_of parcels
+  pub same_entries : (parcels copies : List (ℕ × Parcel A)) → AllZip IsKeyedClone parcels copies → entries_of copies
+      ≡ entries_of parcels
   same_entries [] [] h = refl
   same_entries [] (y ∷ ys) h = absurd h
   same_entries (x ∷ xs) [] h = absurd h

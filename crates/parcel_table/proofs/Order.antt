@@ -1,5 +1,6 @@
 -- What each table keeps: keys of their own, ascending ids below the next, and one fate for each id.
-use Rattle.std.proofs.Common.{◌≡◌, ◌≢◌, ◌⊎◌, inl, inr, refl, sym, ◌∙◌, ap, subst, arith, ℕ, zero, suc, ◌+◌, ◌<◌, List, [], ◌∷◌, ◌++◌, length, map, get_or, Option, None}
+use Rattle.std.proofs.Common.{◌≡◌, ◌≢◌, ◌⊎◌, inl, inr, refl, sym, ◌∙◌, ap, subst, arith, ℕ, zero, suc, ◌+◌}
+use Rattle.std.proofs.Common.{◌<◌, List, [], ◌∷◌, ◌++◌, length, map, get_or, Option, None}
 use Rattle.std.specs.List.{All, AllPairs, Contains}
 use Rattle.std.specs.List.Sorted.{IsStrictlyIncreasing}
 use Rattle.std.proofs.Math.ListN.{get_or-map}
@@ -111,7 +112,8 @@ module _ {A : Type 0} where
       none_at slab places id h at key k.parcel (subst (λ parcels. Contains parcels (key, k.parcel)) (sym e) k.is_here) k.has_id
 
   pub fate_of_place : (t : Table A) (slab : Slab (Parcel A)) (places : List Place) (id : ℕ) (place : Place) → ArePlaced slab 0 places
-      → keyed slab places ≡ t.parcels → map fate_at places ≡ t.fates → get_or places id Unused ≡ place → IsFateOf t id (fate_of place)
+      → keyed slab places ≡ t.parcels → map fate_at places ≡ t.fates → get_or places id Unused ≡ place
+      → IsFateOf t id (fate_of place)
   fate_of_place t slab places id Unused h e f at =
       (none_here t slab places id h e (ap (parcel_at slab) at), retired_at t places id f ∙ ap fate_at at)
   fate_of_place t slab places id (Retired by) h e f at =

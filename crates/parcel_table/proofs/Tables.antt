@@ -1,6 +1,8 @@
 -- Parcels kept in a slab, and found by a table of ids.
 use Rattle.std.specs.Prelude.{option_map}
-use Rattle.std.proofs.Common.{◌≡◌, ◌≢◌, ⊎_elim, refl, sym, ◌∙◌, ap, subst, arith, ℕ, zero, suc, ◌+◌, ◌<◌, List, [], ◌∷◌, ◌++◌, length, map, filter_map, replicate, get_or, Option, Some, None, MatchOption, Bor, Result, Ok, Err}
+use Rattle.std.proofs.Common.{◌≡◌, ◌≢◌, ⊎_elim, refl, sym, ◌∙◌, ap, subst, arith, ℕ, zero, suc, ◌+◌, ◌<◌}
+use Rattle.std.proofs.Common.{List, [], ◌∷◌, ◌++◌, length, map, filter_map, replicate, get_or, Option, Some, None}
+use Rattle.std.proofs.Common.{MatchOption, Bor, Result, Ok, Err}
 use Rattle.std.specs.List.{Contains, cons_option}
 use Rattle.std.specs.Result.{OnErr}
 use Rattle.std.proofs.lemmas.List.{append-nil, length-append}
@@ -40,7 +42,8 @@ module _ {A : Type 0} where
   placed-unused slab id zero = tt
   placed-unused slab id (suc n) = placed-unused slab (id + 1) n
 
-  pub placed-append : (slab : Slab (Parcel A)) (id : ℕ) (xs ys : List Place) → ArePlaced slab id xs → ArePlaced slab (id + length xs) ys
+  pub placed-append : (slab : Slab (Parcel A)) (id : ℕ) (xs ys : List Place) → ArePlaced slab id xs
+      → ArePlaced slab (id + length xs) ys
       → ArePlaced slab id (xs ++ ys)
   placed-append slab id [] ys h k = subst (λ n. ArePlaced slab n ys) (omega arith) k
   placed-append slab id (Unused ∷ xs) ys h k =
@@ -142,7 +145,8 @@ module _ {A : Type 0} where
     pub leads : get_or places place Unused ≡ Here key
     pub is_there : get slab key ≡ Some parcel
 
-  pub stands_at : (slab : Slab (Parcel A)) (first : ℕ) (places : List Place) (key : ℕ) (parcel : Parcel A) → ArePlaced slab first places
+  pub stands_at : (slab : Slab (Parcel A)) (first : ℕ) (places : List Place) (key : ℕ) (parcel : Parcel A)
+      → ArePlaced slab first places
       → Contains (keyed slab places) (key, parcel) → StandsAt slab first places key parcel
   stands_at slab first [] key parcel h c = absurd (none_in_nil (key, parcel) c)
   stands_at slab first (Unused ∷ places) key parcel h c = later (stands_at slab (first + 1) places key parcel h c)
@@ -198,7 +202,8 @@ module _ {A : Type 0} where
   none_at slab places id h none key parcel c e =
       let w = stands_at slab 0 places key parcel h c in
       let there : w.place ≡ id = omega (arith, w.is_id, e) in
-      no_parcel parcel (sym w.is_there ∙ ap (parcel_at slab) (sym w.leads) ∙ ap (λ k. parcel_at slab (get_or places k Unused)) there ∙ none)
+      no_parcel parcel (sym w.is_there ∙ ap (parcel_at slab) (sym w.leads)
+      ∙ ap (λ k. parcel_at slab (get_or places k Unused)) there ∙ none)
 
   -- ---- parcels with and without their keys
   pub shapes_of_keyed : (slab : Slab (Parcel A)) (places : List Place) → shapes_of (keyed slab places) ≡ shapes_at slab places
@@ -250,7 +255,8 @@ module _ {A : Type 0} where
       (row_of_parcel parcels key parcel later))
       (Contains-cons_cases first (key, parcel) parcels c)
 
-  pub no_row : (parcels : List (ℕ × Parcel A)) (id : ℕ) → ((key : ℕ) (parcel : Parcel A) → Contains parcels (key, parcel) → parcel.id ≢ id)
+  pub no_row : (parcels : List (ℕ × Parcel A)) (id : ℕ)
+      → ((key : ℕ) (parcel : Parcel A) → Contains parcels (key, parcel) → parcel.id ≢ id)
       → (row : NumberedRing) → Contains (rows_of_keyed parcels) row → row.number ≢ id
   no_row [] id none row c e = none_in_nil row c
   no_row (first ∷ parcels) id none row c e = ⊎_elim

@@ -36,11 +36,12 @@ impl<A: Allocator + Copy> Clone for Parcel<A> {
     }
 }
 
-/// The parcels of a layer, each under a key that stays its own, and found by its id at once. A change of one takes no time
-/// that grows with the number of the others; it may have to move them to get room, which [`Parcels::reserve`] does before.
+/// The parcels of a layer, each under a key that stays its own, and found by its id at once. A
+/// change of one takes no time that grows with the number of the others; it may have to move them
+/// to get room, which [`Parcels::reserve`] does before.
 ///
-/// A parcel's id is never given out again. Contracts see the parcels beside their keys, by ascending id, and what became of
-/// all ids that were given out.
+/// A parcel's id is never given out again. Contracts see the parcels beside their keys, by
+/// ascending id, and what became of all ids that were given out.
 #[derive(Drop)]
 pub struct Parcels<A: Allocator> {
     slab: Slab<Parcel<A>, A>,
@@ -94,7 +95,8 @@ impl<A: Allocator + Copy> Parcels<A> {
         Ok(Parcels { slab, places })
     }
 
-    /// Puts a parcel in, under an id that is not below the next one; its key. The ids that are passed over stay unknown.
+    /// Puts a parcel in, under an id that is not below the next one; its key. The ids that are passed
+    /// over stay unknown.
     ///
     /// # Errors
     ///

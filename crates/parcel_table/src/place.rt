@@ -33,7 +33,8 @@ pub(crate) fn place_of(places: &[Place], id: u64) -> Place
     places.get(id as usize).copied().unwrap_or(Place::Unused)
 }
 
-/// Makes room for the place of this id, which is not below the next one: the ids before it were never given to a parcel.
+/// Makes room for the place of this id, which is not below the next one: the ids before it were
+/// never given to a parcel.
 pub(crate) fn make_room<A: Allocator>(
     places: &mut Vec<Place, A>,
     id: usize,

@@ -10,7 +10,8 @@ fold_appends xs (y ∷ ys) = fold_appends (xs ++ y ∷ []) ys ∙ append_assoc x
 -- the copy that was shown, with what was pending and the entry that waited, has all that was handed on
 pub shows_all : {E : Type 0} (old pending front shown given now : List E) (waiting : Option E)
     → (old ++ pending) ++ waiting_list waiting ≡ front
-    → shown ≡ old → given ≡ pending ++ waiting_list waiting → now ≡ fold (λ entries entry. entries ++ entry ∷ []) shown given → now ≡ front
+    → shown ≡ old → given ≡ pending ++ waiting_list waiting
+    → now ≡ fold (λ entries entry. entries ++ entry ∷ []) shown given → now ≡ front
 shows_all old pending front shown given now waiting all same is folds =
     folds ∙ fold_appends shown given ∙ ap (λ xs. xs ++ given) same ∙ ap (λ xs. old ++ xs) is
     ∙ sym (append_assoc old pending (waiting_list waiting)) ∙ all
@@ -19,4 +20,5 @@ shows_all old pending front shown given now waiting all same is folds =
 pub nothing_left : {E : Type 0} (now pending front : List E) (waiting : Option E) → now ≡ front → pending ≡ [] → waiting ≡ None
     → (now ++ pending) ++ waiting_list waiting ≡ front
 nothing_left now pending front waiting is none gone =
-    ap (λ w. (now ++ pending) ++ waiting_list w) gone ∙ append-nil (now ++ pending) ∙ ap (λ xs. now ++ xs) none ∙ append-nil now ∙ is
+    ap (λ w. (now ++ pending) ++ waiting_list w) gone ∙ append-nil (now ++ pending) ∙ ap (λ xs. now ++ xs) none
+    ∙ append-nil now ∙ is

@@ -109,9 +109,9 @@ impl<F: Follows<E>, E: Drop, J: Naming, R: Wait + Drop, A: Allocator> Publisher<
         Ok(())
     }
 
-    /// Publishes: the list of all entries that were handed on, which the published copy has followed then. `None` where a
-    /// copy had no memory for it: what is published stays, and the next call goes on from there. It waits for those who
-    /// read at this moment.
+    /// Publishes: the list of all entries that were handed on, which the published copy has followed
+    /// then. `None` where a copy had no memory for it: what is published stays, and the next call
+    /// goes on from there. It waits for those who read at this moment.
     pub fn publish(&mut self) -> Option<Front<E, J>>
         ensures handed { self.new.handed ≡ self.old.handed }
         ensures some { IfSome result (λ front. (front ≡ self.old.handed) × (self.new.shown ≡ self.old.handed)) }

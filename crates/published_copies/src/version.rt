@@ -59,7 +59,8 @@ impl<F: Follows<E>, E: Drop, J: Naming> Version<F, E, J> {
     }
 }
 
-/// An entry that is handed on to the copies, beside the beginning of the list that ends with it. Contracts see the entry.
+/// An entry that is handed on to the copies, beside the beginning of the list that ends with it.
+/// Contracts see the entry.
 #[derive(Drop)]
 pub struct Told<E: Drop, J: Naming> {
     entry: E,

@@ -6,8 +6,8 @@ use std::sync::atomic::{AtomicU64, Ordering};
 
 /// Passes each call on to an inner allocator, but for one `allocate`, which it refuses.
 ///
-/// The collections of std grow by `allocate`, so a growth is one call. A reference to it is an allocator too: a test hands
-/// out `&heap`, and so has one count for all that it calls.
+/// The collections of std grow by `allocate`, so a growth is one call. A reference to it is an
+/// allocator too: a test hands out `&heap`, and so has one count for all that it calls.
 pub struct Refusing<B: Allocator> {
     inner: B,
     left: AtomicU64,
@@ -29,7 +29,8 @@ impl<B: Allocator> Refusing<B> {
 
     /// The call to refuse lies behind, or there is none: each later call is passed on.
     ///
-    /// So a test tells an answer after the refusal, which has to say that memory was wanting, from one with no refusal at all.
+    /// So a test tells an answer after the refusal, which has to say that memory was wanting, from
+    /// one with no refusal at all.
     pub fn is_spent(&self) -> bool {
         self.left.load(Ordering::SeqCst) == 0
     }

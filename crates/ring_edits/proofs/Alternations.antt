@@ -4,7 +4,7 @@ use Rattle.std.proofs.Common.{ℕ, suc, ◌+◌, ◌-◌, ◌<◌, ◌≤◌, ze
 use Rattle.std.specs.Prelude.{if◌then◌else◌}
 use Rattle.std.proofs.lemmas.Bool.{cases_lt, false≢true}
 use Rattle.std.proofs.lemmas.Bool.Decides.{nat_tests}
-use Rattle.ring_core.proofs.BegunElsewhere.{number_from, number_to}
+use Rattle.ring_core.proofs.ears.BegunElsewhere.{number_from, number_to}
 use Rattle.ring_edits.specs.own.Borders.{IsAlikeUpTo, is_on_run, IsFromTo}
 
 -- those with the property are the m first ones, counted from s on
@@ -61,7 +61,8 @@ in_order n s p q h a b =
     (cases_lt p s)
 
 -- nor do they change four times round the circle
-four_times : (n s m p q r : ℕ) → s < n → 0 < p → p < q → q < r → r < n → number_to n s 0 < m → m ≤ number_to n s p → number_to n s q < m
+four_times : (n s m p q r : ℕ) → s < n → 0 < p → p < q → q < r → r < n → number_to n s 0 < m → m ≤ number_to n s p
+    → number_to n s q < m
     → m ≤ number_to n s r → ⊥
 four_times n s m p q r a b c d e f g h i =
     ⊎_elim
@@ -131,7 +132,8 @@ r_above P n first p q r h b =
     (cases_lt q r)
 
 -- where a third change comes, they are not one run
-pub not_one_run : (P : ℕ → Type 0) (n : ℕ) (first : Bool) (p q r : ℕ) → AreThree P n first p q r → r < n → IsOneRun P n → ⊥
+pub not_one_run : (P : ℕ → Type 0) (n : ℕ) (first : Bool) (p q r : ℕ) → AreThree P n first p q r → r < n
+    → IsOneRun P n → ⊥
 not_one_run P n true p q r h b one =
     changes_four_times P n one p q r (p_above P n true p q r h) (q_above P n true p q r h) (r_above P n true p q r h b) b
     (h.begins.1 refl) (λ x. never ((h.to_p.there h.p_below).0 x))

@@ -9,8 +9,8 @@ use Rattle.geo_exact.specs.Area.{area2}
 use Rattle.geo_exact.specs.Places.{corner_at}
 use Rattle.ring_core.specs.Simple.{IsSimpleRing}
 use Rattle.ring_edits.specs.Round.{HasApartCorners}
-use Rattle.ring_core.proofs.Corners.{three_corners}
-use Rattle.ring_core.proofs.LeastCorners.{AreApart, are_apart}
+use Rattle.ring_core.proofs.edges.Corners.{three_corners}
+use Rattle.ring_core.proofs.ears.LeastCorners.{AreApart, are_apart}
 
 first_flat : (a b : Corner) → pos 0 <ℤ area2 (a ∷ a ∷ b ∷ []) → ⊥
 first_flat a b h = absurd (omega (arith, ints, h))

@@ -10,11 +10,11 @@ use Rattle.std.proofs.lemmas.List.{length-append, length-take-le, length-drop}
 use Rattle.geo_exact.specs.declared.corner.Corner.{Corner}
 use Rattle.geo_exact.specs.Places.{corner_at, after}
 use Rattle.geo_exact.specs.Rings.{Edge, path, edges, begun_at}
-use Rattle.geo_exact.proofs.EdgeSums.{path-join}
-use Rattle.geo_exact.proofs.Begun.{path_count, ring_count}
-use Rattle.ring_core.proofs.EdgeNumbers.{ring_joins}
-use Rattle.ring_core.proofs.BegunElsewhere.{number_from, is_begun, begun_length}
-use Rattle.ring_core.proofs.RoundNumbers.{after_in}
+use Rattle.geo_exact.proofs.rings.EdgeSums.{path-join}
+use Rattle.geo_exact.proofs.rings.Begun.{path_count, ring_count}
+use Rattle.ring_core.proofs.edges.EdgeNumbers.{ring_joins}
+use Rattle.ring_core.proofs.ears.BegunElsewhere.{number_from, is_begun, begun_length}
+use Rattle.ring_core.proofs.edges.RoundNumbers.{after_in}
 use Rattle.std.proofs.lemmas.Option.{slice_get_within}
 use Rattle.ring_edits.specs.Round.{HasEdge}
 use Rattle.ring_edits.specs.Edits.{IsSharedAt, IsSharedWith, IsShared, IsSharedRun, ShareOneRun, AreNeighbours, IsBorderFault}
@@ -73,12 +73,14 @@ edge_there ring s t e h b i =
     let j = ring_joins (begun_at s ring) t e i in
     let n : length (begun_at s ring) ≡ length ring = begun_length ring s h in (
       j.0 ∙ begun.same.corners t b,
-      j.1 ∙ ap (λ m. corner_at (begun_at s ring) (after m t)) n ∙ begun.same.corners (after (length ring) t) (after_in (length ring) t b)
+      j.1 ∙ ap (λ m. corner_at (begun_at s ring) (after m t)) n ∙ begun.same.corners (after (length ring) t)
+          (after_in (length ring) t b)
           ∙ ap (corner_at ring) (begun.follows t b),
     )
 
 -- so it is shared where that edge is
-shared_there : (a b : List Corner) (s t : ℕ) (e : Edge) → s < length a → t < length a → slice_get (edges (begun_at s a)) t ≡ Some e
+shared_there : (a b : List Corner) (s t : ℕ) (e : Edge) → s < length a → t < length a
+    → slice_get (edges (begun_at s a)) t ≡ Some e
     → IsSharedWith b e ↔ IsSharedAt a b (number_from (length a) s t)
 shared_there a b s t e h k i =
     let r = edge_there a s t e h k i in (
@@ -92,7 +94,8 @@ one_run a b h =
     let u = h.0 in let v = h.1 in let onward = h.2.0 in let back = h.2.1 in let x = h.2.2 in
     let n : length a ≡ length onward + length back + 2 =
     sym (begun_length a x.round.start x.round.within) ∙ ap length x.round.round ∙ omega (arith, length-append onward (v ∷ back)) in
-    let es : edges (begun_at x.round.start a) ≡ path u onward v ++ path v back u = ap edges x.round.round ∙ edges_round u v onward back in
+    let es : edges (begun_at x.round.start a) ≡ path u onward v ++ path v back u = ap edges x.round.round
+    ∙ edges_round u v onward back in
     record {
       s = x.round.start;
       m = length (path u onward v);

@@ -29,7 +29,8 @@ split_nets ring corners left right h c d =
     (net_back h.from h.to h.between c d)
     ∙ sym (net_of_one ring c d)
   where
-    total : (left right ring there here onward back : ℤ) → left ≡ there +ℤ back → right ≡ onward +ℤ here → ring ≡ onward +ℤ back
+    total : (left right ring there here onward back : ℤ) → left ≡ there +ℤ back → right ≡ onward +ℤ here
+        → ring ≡ onward +ℤ back
         → there +ℤ here ≡ pos 0 → left +ℤ right ≡ ring
     total left right ring there here onward back h k l m = omega (arith, ints)
 
@@ -56,10 +57,12 @@ merge_nets a b out simple_a simple_b h c d =
     (run_cancels h.u h.v h.run h.back c d (shared_back a b h.u h.v h.run h.of_a h.of_b h.back simple_a simple_b h.shared h.round_b))
     ∙ sym (net_of_two a b c d)
   where
-    total : (out a b run of_a of_b back : ℤ) → out ≡ of_a +ℤ of_b → a ≡ run +ℤ of_a → b ≡ of_b +ℤ back → run +ℤ back ≡ pos 0 → out ≡ a +ℤ b
+    total : (out a b run of_a of_b back : ℤ) → out ≡ of_a +ℤ of_b → a ≡ run +ℤ of_a → b ≡ of_b +ℤ back
+        → run +ℤ back ≡ pos 0 → out ≡ a +ℤ b
     total out a b run of_a of_b back h k l m = omega (arith, ints)
 
-pub move_nets : (a b corners out_a out_b : List Corner) → IsSimpleRing a → IsSimpleRing b → IsMove a b corners out_a out_b → (c d : Corner)
+pub move_nets : (a b corners out_a out_b : List Corner) → IsSimpleRing a → IsSimpleRing b
+    → IsMove a b corners out_a out_b → (c d : Corner)
     → net_count (out_a ∷ out_b ∷ []) c d ≡ net_count (a ∷ b ∷ []) c d
 move_nets a b corners out_a out_b simple_a simple_b h c d =
     net_of_two out_a out_b c d
@@ -75,6 +78,7 @@ move_nets a b corners out_a out_b simple_a simple_b h c d =
     (run_cancels h.u h.v h.run h.back c d (shared_back a b h.u h.v h.run h.of_a h.of_b h.back simple_a simple_b h.shared h.round_b))
     ∙ sym (net_of_two a b c d)
   where
-    total : (out_a out_b a b there here run of_a of_b back : ℤ) → out_a ≡ there +ℤ of_a → out_b ≡ here +ℤ of_b → a ≡ run +ℤ of_a
+    total : (out_a out_b a b there here run of_a of_b back : ℤ) → out_a ≡ there +ℤ of_a → out_b ≡ here +ℤ of_b
+        → a ≡ run +ℤ of_a
         → b ≡ of_b +ℤ back → there +ℤ here ≡ pos 0 → run +ℤ back ≡ pos 0 → out_a +ℤ out_b ≡ a +ℤ b
     total out_a out_b a b there here run of_a of_b back h k l m n o = omega (arith, ints)

@@ -1,5 +1,6 @@
 -- The ends of the run of edges that two rings share, in both of them; and what is made there.
-use Rattle.std.proofs.Common.{◌≡◌, ◌≢◌, refl, sym, ◌∙◌, ap, subst, arith, ℕ, ◌<◌, List, [], ◌∷◌, ◌++◌, length, reverse, append_assoc, true}
+use Rattle.std.proofs.Common.{◌≡◌, ◌≢◌, refl, sym, ◌∙◌, ap, subst, arith, ℕ, ◌<◌, List, [], ◌∷◌, ◌++◌}
+use Rattle.std.proofs.Common.{length, reverse, append_assoc, true}
 use Rattle.std.specs.List.{Contains}
 use Rattle.std.proofs.lemmas.Bool.Decides.{nat_tests}
 use Rattle.std.proofs.lemmas.List.{get_or_default, reverse-append}
@@ -7,8 +8,8 @@ use Rattle.geo_exact.specs.declared.corner.Corner.{Corner}
 use Rattle.geo_exact.specs.Places.{corner_at, origin, after, before}
 use Rattle.geo_exact.specs.Rings.{begun_at_least}
 use Rattle.ring_core.specs.Simple.{IsSimpleRing}
-use Rattle.ring_core.proofs.RoundNumbers.{after_in, before_in}
-use Rattle.ring_core.proofs.LeftSimple.{after_before}
+use Rattle.ring_core.proofs.edges.RoundNumbers.{after_in, before_in}
+use Rattle.ring_core.proofs.ears.LeftSimple.{after_before}
 use Rattle.ring_edits.specs.Round.{GoesRound, HasEdge}
 use Rattle.ring_edits.specs.Edits.{IsPath, IsMerge, IsMove, IsBadBorder}
 use Rattle.ring_edits.specs.own.Between.{between}
@@ -46,7 +47,8 @@ ends_in_other a b i j v h e =
 pub corners_apart : (a b : List Corner) (i j : ℕ) → IsSimpleRing a → IsSharedFromTo a b i j → corner_at a i ≢ corner_at a j
 corners_apart a b i j simple h = simple_apart a simple i j h.i_in_ring h.j_in_ring h.apart
 
-pub border_at : (a b : List Corner) (i j k l : ℕ) → IsSimpleRing a → IsSharedFromTo a b i j → k < length b → corner_at b k ≡ corner_at a i
+pub border_at : (a b : List Corner) (i j k l : ℕ) → IsSimpleRing a → IsSharedFromTo a b i j → k < length b
+    → corner_at b k ≡ corner_at a i
     → l < length b → corner_at b l ≡ corner_at a j → IsBorderAt a b i j k l
 border_at a b i j k l simple h x e y f = record {
   shared = h;
@@ -62,7 +64,8 @@ other_round : (a b : List Corner) (i j k l : ℕ) → IsBorderAt a b i j k l
     → GoesRound b (corner_at a i) (between b k l) (corner_at a j) (between b l k)
 other_round a b i j k l h =
     subst (λ u. GoesRound b u (between b k l) (corner_at a j) (between b l k)) h.same_u
-    (subst (λ v. GoesRound b (corner_at b k) (between b k l) v (between b l k)) h.same_v (goes_round b k l h.k_in_ring h.l_in_ring h.apart))
+    (subst (λ v. GoesRound b (corner_at b k) (between b k l) v (between b l k)) h.same_v
+    (goes_round b k l h.k_in_ring h.l_in_ring h.apart))
 
 pub is_merge : (a b out : List Corner) (i j k l : ℕ) → IsBorderAt a b i j k l
     → out ≡ begun_at_least (corner_at a j ∷ between a j i ++ corner_at a i ∷ between b k l) → IsMerge a b out
@@ -78,7 +81,8 @@ is_merge a b out i j k l h e = record {
   out_is = e;
 }
 
-reversed_path : (u v : Corner) (corners middle : List Corner) → IsPath corners u middle v → reverse corners ≡ v ∷ reverse middle ++ u ∷ []
+reversed_path : (u v : Corner) (corners middle : List Corner) → IsPath corners u middle v
+    → reverse corners ≡ v ∷ reverse middle ++ u ∷ []
 reversed_path u v corners middle h =
     ap reverse h.is ∙ reverse-append (u ∷ middle) (v ∷ []) ∙ ap (λ xs. v ∷ xs) (reverse-append (u ∷ []) middle)
 

@@ -1,10 +1,11 @@
 -- How many corners the new rings have.
-use Rattle.std.proofs.Common.{◌≡◌, sym, ◌∙◌, ap, arith, ℕ, ◌+◌, ◌≤◌, List, [], ◌∷◌, ◌++◌, length, take, drop, reverse}
+use Rattle.std.proofs.Common.{◌≡◌, sym, ◌∙◌, ap, arith, ℕ, ◌+◌, ◌≤◌, List, [], ◌∷◌, ◌++◌, length, take}
+use Rattle.std.proofs.Common.{drop, reverse}
 use Rattle.std.proofs.lemmas.List.{length-append, length-take-le, length-drop, length-reverse}
 use Rattle.geo_exact.specs.declared.corner.Corner.{Corner}
 use Rattle.geo_exact.specs.Rings.{begun_at, begun_at_least}
-use Rattle.geo_exact.proofs.Begun.{least_within}
-use Rattle.ring_core.proofs.BegunElsewhere.{begun_length}
+use Rattle.geo_exact.proofs.rings.Begun.{least_within}
+use Rattle.ring_core.proofs.ears.BegunElsewhere.{begun_length}
 use Rattle.ring_edits.specs.Round.{GoesRound}
 use Rattle.ring_edits.specs.Edits.{IsPath, IsSplit, IsMerge, IsMove}
 

@@ -1,6 +1,7 @@
 -- A ring whose corners are apart has an edge between two corners once, and in one direction; so one corner is put into it.
 use Rattle.std.proofs.Common.{◌≡◌, ◌≢◌, ⊎_elim, refl, sym, ◌∙◌, ap, subst, arith, Bool, true, false, ◌&&◌, ◌||◌}
-use Rattle.std.proofs.Common.{if◌then◌else◌, ℕ, suc, ◌+◌, ◌<◌, ◌≤◌, List, [], ◌∷◌, ◌++◌, length, take, drop, Some}
+use Rattle.std.proofs.Common.{if◌then◌else◌, ℕ, suc, ◌+◌, ◌<◌, ◌≤◌, List, [], ◌∷◌, ◌++◌, length, take, drop}
+use Rattle.std.proofs.Common.{Some}
 use Rattle.std.specs.List.{Contains, list_any}
 use Rattle.std.specs.Prelude.{slice_get}
 use Rattle.std.proofs.lemmas.Bool.{cases_lt, false≢true}
@@ -11,15 +12,15 @@ use Rattle.geo_exact.specs.declared.corner.Corner.{Corner}
 use Rattle.geo_exact.specs.Order.{is_same}
 use Rattle.geo_exact.specs.Places.{corner_at, after}
 use Rattle.geo_exact.specs.Rings.{Edge, path, edges, begun_at}
-use Rattle.geo_exact.proofs.Begun.{edges_begun, ring_count}
-use Rattle.geo_exact.proofs.CornerOrder.{is_same_itself, same_from_test}
-use Rattle.geo_exact.proofs.EdgeSums.{edge_of}
+use Rattle.geo_exact.proofs.rings.Begun.{edges_begun, ring_count}
+use Rattle.geo_exact.proofs.corners_and_turns.CornerOrder.{is_same_itself, same_from_test}
+use Rattle.geo_exact.proofs.rings.EdgeSums.{edge_of}
 use Rattle.edge_chains.specs.Net.{runs_from_to, edge_count}
-use Rattle.edge_chains.proofs.Balance.{find_edge}
-use Rattle.edge_chains.proofs.Nets.{edge_count-append}
-use Rattle.ring_core.proofs.BegunElsewhere.{number_from, is_begun, begun_length}
-use Rattle.ring_core.proofs.EdgeNumbers.{ring_joins}
-use Rattle.ring_core.proofs.LeastCorners.{AreApart}
+use Rattle.edge_chains.proofs.nets.Balance.{find_edge}
+use Rattle.edge_chains.proofs.nets.Nets.{edge_count-append}
+use Rattle.ring_core.proofs.ears.BegunElsewhere.{number_from, is_begun, begun_length}
+use Rattle.ring_core.proofs.edges.EdgeNumbers.{ring_joins}
+use Rattle.ring_core.proofs.ears.LeastCorners.{AreApart}
 use Rattle.ring_edits.specs.Edits.{joins, has_edge_between, put_along, put_between}
 use Rattle.ring_edits.specs.Round.{HasEdge, HasEdgeAt, HasApartCorners}
 use Rattle.ring_edits.proofs.Rounds.{from_corner}
@@ -36,7 +37,8 @@ next_number n k h l = grind (arith, nat_tests)
 alone : (n k : ℕ) → k < n → n ≤ 1 → after n k ≡ k
 alone n k h l = grind (arith, nat_tests)
 
-begun_there : (ring : List Corner) (k : ℕ) → k < length ring → begun_at k ring ≡ corner_at ring k ∷ drop (k + 1) ring ++ take k ring
+begun_there : (ring : List Corner) (k : ℕ) → k < length ring → begun_at k ring ≡ corner_at ring k ∷ drop (k + 1) ring
+    ++ take k ring
 begun_there ring k h = ap (λ xs. xs ++ take k ring) (from_corner ring k h)
 
 others_length : (ring : List Corner) (k : ℕ) → k < length ring → length (drop (k + 1) ring ++ take k ring) + 1 ≡ length ring
@@ -67,14 +69,16 @@ other_edge u v a b h = both (is_same a u) (is_same b v) (λ e f. h (same_from_te
     both true false h = refl
     both false q h = refl
 
-not_counted : (e : Edge) (es : List Edge) (u v : Corner) → runs_from_to u v e ≡ false → edge_count es u v ≡ 0 → edge_count (e ∷ es) u v ≡ 0
+not_counted : (e : Edge) (es : List Edge) (u v : Corner) → runs_from_to u v e ≡ false → edge_count es u v ≡ 0
+    → edge_count (e ∷ es) u v ≡ 0
 not_counted e es u v h k = counted (runs_from_to u v e) (edge_count es u v) h k
   where
     counted : (b : Bool) (n : ℕ) → b ≡ false → n ≡ 0 → (if b then 1 else 0) + n ≡ 0
     counted true n x y = absurd (false≢true (sym x))
     counted false n x y = omega arith
 
-none_from : (from to : Corner) (xs : List Corner) (u v : Corner) → from ≢ u → (Contains xs u → ⊥) → edge_count (path from xs to) u v ≡ 0
+none_from : (from to : Corner) (xs : List Corner) (u v : Corner) → from ≢ u → (Contains xs u → ⊥)
+    → edge_count (path from xs to) u v ≡ 0
 none_from from to [] u v h k = not_counted (edge_of from to) [] u v (other_edge u v from to (λ e f. h e)) refl
 none_from from to (x ∷ xs) u v h k =
     not_counted (edge_of from x) (path x xs to) u v (other_edge u v from x (λ e f. h e))
@@ -90,7 +94,8 @@ itself_counted u v es = once (is_same u u) (is_same v v) (is_same_itself u) (is_
     once false q x y = absurd (false≢true x)
 
 -- the edges behind that from u to v: none goes between them
-rest_none : (u v : Corner) (others : List Corner) → u ≢ v → (Contains (v ∷ others) u → ⊥) → (Contains others v → ⊥) → 0 < length others
+rest_none : (u v : Corner) (others : List Corner) → u ≢ v → (Contains (v ∷ others) u → ⊥) → (Contains others v → ⊥)
+    → 0 < length others
     → (edge_count (path v others u) u v ≡ 0) × (edge_count (path v others u) v u ≡ 0)
 rest_none u v [] h k l b = absurd (omega arith)
 rest_none u v (o ∷ others) h k l b = (

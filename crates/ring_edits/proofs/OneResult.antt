@@ -1,5 +1,6 @@
 -- Split, merge and move have one result: where a ring is gone round, and which edges are shared, leaves no choice.
-use Rattle.std.proofs.Common.{◌≡◌, ⊎_elim, refl, sym, ◌∙◌, ap, subst, arith, ℕ, suc, ◌+◌, ◌-◌, ◌<◌, List, [], ◌∷◌, ◌++◌, length, take}
+use Rattle.std.proofs.Common.{◌≡◌, ⊎_elim, refl, sym, ◌∙◌, ap, subst, arith, ℕ, suc, ◌+◌, ◌-◌, ◌<◌, List, []}
+use Rattle.std.proofs.Common.{◌∷◌, ◌++◌, length, take}
 use Rattle.std.proofs.Common.{reverse}
 use Rattle.std.specs.List.{Contains}
 use Rattle.std.proofs.lemmas.Bool.{cases_lt}
@@ -8,9 +9,9 @@ use Rattle.std.proofs.lemmas.List.{length-append}
 use Rattle.geo_exact.specs.declared.corner.Corner.{Corner}
 use Rattle.geo_exact.specs.Places.{corner_at}
 use Rattle.geo_exact.specs.Rings.{path, begun_at, begun_at_least}
-use Rattle.geo_exact.proofs.Begun.{path_count}
-use Rattle.ring_core.proofs.BegunElsewhere.{number_from, number_to}
-use Rattle.ring_core.proofs.LeastCorners.{AreApart}
+use Rattle.geo_exact.proofs.rings.Begun.{path_count}
+use Rattle.ring_core.proofs.ears.BegunElsewhere.{number_from, number_to}
+use Rattle.ring_core.proofs.ears.LeastCorners.{AreApart}
 use Rattle.ring_edits.specs.Edits.{IsPath, IsSplit, IsSharedAt, IsShared, IsMerge, IsMove}
 use Rattle.ring_edits.specs.Round.{GoesRound, HasApartCorners}
 use Rattle.ring_edits.proofs.Alternations.{IsOneRun, has_or_not}
@@ -31,7 +32,8 @@ same_parts (x ∷ xs) (y ∷ ys) v w cs bs n e =
     (ap (λ c. c ∷ xs) head ∙ ap (λ zs. y ∷ zs) r.0, r.1, r.2)
 
 -- where the item is in neither first part
-same_split : (v : Corner) (xs ys cs bs : List Corner) → (Contains xs v → ⊥) → (Contains ys v → ⊥) → xs ++ v ∷ cs ≡ ys ++ v ∷ bs
+same_split : (v : Corner) (xs ys cs bs : List Corner) → (Contains xs v → ⊥) → (Contains ys v → ⊥)
+    → xs ++ v ∷ cs ≡ ys ++ v ∷ bs
     → (xs ≡ ys) × (cs ≡ bs)
 same_split v [] [] cs bs h k e = (refl, (cc))
 same_split v [] (y ∷ ys) cs bs h k e = let f : y ≡ v = cc in absurd (k (0, omega arith, f))
@@ -69,7 +71,8 @@ same_round ring u v xs ys cs bs apart h k =
 
     off : (ring : List Corner) (u v : Corner) (xs cs : List Corner) → AreApart ring → GoesRound ring u xs v cs → Contains xs v → ⊥
     off ring u v xs cs apart h c =
-        (split_apart v (u ∷ xs) cs (subst AreApart h.round (begun_apart ring h.start h.within apart))).0 (suc c.0, omega (arith, c.1), c.2)
+        (split_apart v (u ∷ xs) cs (subst AreApart h.round (begun_apart ring h.start h.within apart))).0
+        (suc c.0, omega (arith, c.1), c.2)
 
 -- ---- numbers that have a property in one run round a circle
 one_less : (n s k : ℕ) → s < n → k < n → 0 < number_to n s k → number_to n s (number_from n k (n - 1)) + 1 ≡ number_to n s k

@@ -1,5 +1,6 @@
 -- A corner put into each edge of a ring between two others: the edges of what comes out, and measures over them.
-use Rattle.std.proofs.Common.{◌≡◌, ◌⊎◌, ◌↔◌, inl, inr, ⊎_elim, refl, sym, ◌∙◌, ap, subst, arith, Bool, true, false, IsTrue, ◌||◌}
+use Rattle.std.proofs.Common.{◌≡◌, ◌⊎◌, ◌↔◌, inl, inr, ⊎_elim, refl, sym, ◌∙◌, ap, subst, arith, Bool, true}
+use Rattle.std.proofs.Common.{false, IsTrue, ◌||◌}
 use Rattle.std.proofs.Common.{if◌then◌else◌, ℤ, ◌+ℤ◌, List, [], ◌∷◌, ◌++◌}
 use Rattle.std.specs.List.{list_any}
 use Rattle.std.proofs.lemmas.Int.{ints}
@@ -9,11 +10,11 @@ use Rattle.geo_exact.specs.Point.{Point}
 use Rattle.geo_exact.specs.Rings.{Edge, path, edges, sum_over}
 use Rattle.geo_exact.specs.Segments.{IsStrictlyInside}
 use Rattle.geo_exact.specs.Turn.{IsOnEdge, IsOnSome, IsOnRing}
-use Rattle.geo_exact.proofs.EdgeSums.{edge_of, sum_over-append}
-use Rattle.geo_exact.proofs.OnRings.{IsOnSome-left, IsOnSome-right, IsOnSome-either}
+use Rattle.geo_exact.proofs.rings.EdgeSums.{edge_of, sum_over-append}
+use Rattle.geo_exact.proofs.rings.OnRings.{IsOnSome-left, IsOnSome-right, IsOnSome-either}
 use Rattle.edge_chains.specs.Net.{runs_from_to}
-use Rattle.edge_chains.proofs.Changes.{Decides-is_same_edge}
-use Rattle.edge_chains.proofs.Parts.{on_parts, on_whole_first, on_whole_second, strictly_back}
+use Rattle.edge_chains.proofs.nets.Changes.{Decides-is_same_edge}
+use Rattle.edge_chains.proofs.edges.Parts.{on_parts, on_whole_first, on_whole_second, strictly_back}
 use Rattle.ring_edits.specs.Edits.{joins, has_edge_between, put_along, put_between}
 
 -- an edge, or its two parts where it is cut
@@ -32,7 +33,8 @@ one_edge : (cut : Bool) (from to at : Corner)
 one_edge true from to at = (at ∷ [], refl, refl)
 one_edge false from to at = ([], refl, refl)
 
-more_edges : (cut : Bool) (from next to at : Corner) (xs tail : List Corner) (es : List Edge) → xs ≡ next ∷ tail → path next tail to ≡ es
+more_edges : (cut : Bool) (from next to at : Corner) (xs tail : List Corner) (es : List Edge) → xs ≡ next ∷ tail
+    → path next tail to ≡ es
     → (more : List Corner) × (from ∷ (if cut then at ∷ xs else xs) ≡ from ∷ more)
     × (path from more to ≡ cut_one cut at (edge_of from next) ++ es)
 more_edges true from next to at xs tail es h k =
@@ -40,7 +42,8 @@ more_edges true from next to at xs tail es h k =
 more_edges false from next to at xs tail es h k = (next ∷ tail, ap (λ ys. from ∷ ys) h, ap (λ fs. edge_of from next ∷ fs) k)
 
 pub put_path : (u v at from to : Corner) (rest : List Corner)
-    → (tail : List Corner) × (put_along u v at (path from rest to) ≡ from ∷ tail) × (path from tail to ≡ cut_all u v at (path from rest to))
+    → (tail : List Corner) × (put_along u v at (path from rest to) ≡ from ∷ tail)
+    × (path from tail to ≡ cut_all u v at (path from rest to))
 put_path u v at from to [] = one_edge (joins u v (edge_of from to)) from to at
 put_path u v at from to (next ∷ rest) =
     let w = put_path u v at next to rest in
@@ -59,7 +62,8 @@ joined_either u v e h = either (runs_from_to u v e) (runs_from_to v u e) refl re
     same a b k = let w = (Decides-is_same_edge (e.from, e.to) (a, b)).0 k in
         ap (λ (x : Corner). edge_of x e.to) w.0 ∙ ap (λ (y : Corner). edge_of a y) w.1
 
-    either : (p q : Bool) → runs_from_to u v e ≡ p → runs_from_to v u e ≡ q → (p || q) ≡ true → (e ≡ edge_of u v) ⊎ (e ≡ edge_of v u)
+    either : (p q : Bool) → runs_from_to u v e ≡ p → runs_from_to v u e ≡ q → (p || q) ≡ true → (e ≡ edge_of u v)
+        ⊎ (e ≡ edge_of v u)
     either true q x y k = inl (same u v x)
     either false true x y k = inr (same v u y)
     either false false x y k = absurd (false≢true k)
@@ -81,7 +85,8 @@ put_nothing u v at from to (next ∷ rest) h = more (joins u v (edge_of from nex
   where
     more : (b : Bool) → (b || list_any (joins u v) (path next rest to)) ≡ false
         → (list_any (joins u v) (path next rest to) ≡ false → put_along u v at (path next rest to) ≡ next ∷ rest)
-        → from ∷ (if b then at ∷ put_along u v at (path next rest to) else put_along u v at (path next rest to)) ≡ from ∷ next ∷ rest
+        → from ∷ (if b then at ∷ put_along u v at (path next rest to) else put_along u v at (path next rest to))
+        ≡ from ∷ next ∷ rest
     more true k later = absurd (false≢true (sym k))
     more false k later = ap (λ ys. from ∷ ys) (later k)
 

@@ -1,5 +1,6 @@
 -- A corner strictly inside an edge, put into it: the ring covers what it covered, and its least box and least corner stay.
-use Rattle.std.proofs.Common.{◌≡◌, ⊎_elim, inl, inr, refl, sym, ◌∙◌, ap, subst, arith, Bool, true, false, if◌then◌else◌, not}
+use Rattle.std.proofs.Common.{◌≡◌, ⊎_elim, inl, inr, refl, sym, ◌∙◌, ap, subst, arith, Bool, true, false}
+use Rattle.std.proofs.Common.{if◌then◌else◌, not}
 use Rattle.std.proofs.Common.{◌+◌, ℤ, pos, ◌-ℤ◌, ◌*ℤ◌, List, [], ◌∷◌, ◌++◌, length, take, drop}
 use Rattle.std.specs.List.{All, AllByRecursion}
 use Rattle.std.proofs.lemmas.Int.{ints, clamps, by_lt_z}
@@ -22,14 +23,14 @@ use Rattle.geo_exact.specs.Rings.{Edge, path, begun_at, begun_at_least}
 use Rattle.geo_exact.specs.Segments.{IsStrictlyInside}
 use Rattle.geo_exact.specs.Turn.{IsOnRing}
 use Rattle.geo_exact.specs.Winding.{crossing, winding}
-use Rattle.geo_exact.proofs.Begun.{least_within, least_is_first, sum_over-begun}
-use Rattle.geo_exact.proofs.CornerOrder.{Decides-is_before, false_where, is_before_ranks}
-use Rattle.geo_exact.proofs.Crossings.{crossing_cut, edge_area2_cut}
-use Rattle.geo_exact.proofs.EdgeSums.{edge_of}
-use Rattle.geo_exact.proofs.OnRings.{on_ring_begun}
-use Rattle.geo_exact.proofs.Signs.{zero_of_mul}
-use Rattle.edge_chains.proofs.Inside.{inside_from_strictly}
-use Rattle.edge_chains.proofs.Parts.{strictly_back}
+use Rattle.geo_exact.proofs.rings.Begun.{least_within, least_is_first, sum_over-begun}
+use Rattle.geo_exact.proofs.corners_and_turns.CornerOrder.{Decides-is_before, false_where, is_before_ranks}
+use Rattle.geo_exact.proofs.rings.Crossings.{crossing_cut, edge_area2_cut}
+use Rattle.geo_exact.proofs.rings.EdgeSums.{edge_of}
+use Rattle.geo_exact.proofs.rings.OnRings.{on_ring_begun}
+use Rattle.geo_exact.proofs.numbers.Signs.{zero_of_mul}
+use Rattle.edge_chains.proofs.edges.Inside.{inside_from_strictly}
+use Rattle.edge_chains.proofs.edges.Parts.{strictly_back}
 use Rattle.ring_edits.specs.Edits.{joins, put_along, put_between, with_corner, CoversAlike}
 use Rattle.ring_edits.proofs.PutEdges.{put_path, joined_either, sum_over-put, on_ring_put}
 use Rattle.ring_edits.proofs.Rounds.{from_corner}
@@ -56,7 +57,8 @@ pub with_corner_covers : (u v at : Corner) (ring : List Corner) → IsStrictlyIn
 with_corner_covers u v at ring h = begun_covers ring (put_between u v at ring) (put_covers u v at ring h)
 
 -- ---- what all corners have
-held_or : (P : Corner → Type 0) (cut : Bool) (c at : Corner) (xs : List Corner) → P c → (cut ≡ true → P at) → AllByRecursion P xs
+held_or : (P : Corner → Type 0) (cut : Bool) (c at : Corner) (xs : List Corner) → P c → (cut ≡ true → P at)
+    → AllByRecursion P xs
     → AllByRecursion P (c ∷ (if cut then at ∷ xs else xs))
 held_or P true c at xs h k l = (h, (k refl, l))
 held_or P false c at xs h k l = (h, l)
@@ -90,7 +92,8 @@ module _ (P : Corner → Type 0) (u v at : Corner) (between : P u → P v → P 
   all_put ring h = All-from_recursion P (put_between u v at ring) (held_put ring (recursion_from_All P ring h))
 
 -- each corner of the ring is one of the other
-left_along : (P : Corner → Type 0) (u v at from to : Corner) (rest : List Corner) → AllByRecursion P (put_along u v at (path from rest to))
+left_along : (P : Corner → Type 0) (u v at from to : Corner) (rest : List Corner)
+    → AllByRecursion P (put_along u v at (path from rest to))
     → AllByRecursion P (from ∷ rest)
 left_along P u v at from to [] h = (h.0, tt)
 left_along P u v at from to (next ∷ rest) h =
@@ -121,7 +124,8 @@ all_begun P ring h =
     (All-take P (length front) (front ++ back) k)))
 
 -- ---- the least box
-held_between : (box : Bounds) (u v at : Corner) → IsStrictlyInside at u v → HoldsCorner box u → HoldsCorner box v → HoldsCorner box at
+held_between : (box : Bounds) (u v at : Corner) → IsStrictlyInside at u v → HoldsCorner box u → HoldsCorner box v
+    → HoldsCorner box at
 held_between box u v at h k l =
     let i = inside_from_strictly at u v h in record {
       west = omega (arith, ints, clamps, i.0.0.0, k.west, l.west);
@@ -150,7 +154,8 @@ abbrev NotBefore : Corner → Corner → Type 0
 NotBefore c o = is_before o c ≡ false
 
 -- strictly between two numbers of one line, of which one is the corner's own
-beside : (ux uy vx vy ax ay : ℤ) → ux ≡ ax → ax <ℤ vx → (vx -ℤ ux) *ℤ (ay -ℤ uy) -ℤ (vy -ℤ uy) *ℤ (ax -ℤ ux) ≡ pos 0 → ay ≡ uy
+beside : (ux uy vx vy ax ay : ℤ) → ux ≡ ax → ax <ℤ vx → (vx -ℤ ux) *ℤ (ay -ℤ uy) -ℤ (vy -ℤ uy) *ℤ (ax -ℤ ux)
+    ≡ pos 0 → ay ≡ uy
 beside ux uy vx vy ax ay e h k =
     let z : ax -ℤ ux ≡ pos 0 = omega (arith, ints, e) in
     let m : (vx -ℤ ux) *ℤ (ay -ℤ uy) ≡ pos 0 = dropped ((vx -ℤ ux) *ℤ (ay -ℤ uy)) (vy -ℤ uy) (ax -ℤ ux) z k in
@@ -201,16 +206,19 @@ not_before_between c u v at h k l = false_where (is_before at c) (Decides-is_bef
         too_low k e = omega (arith, ints, k, e, m.1)
 
 -- the first corner of a ring that is begun at its least
-first_least : (first : Corner) (rest : List Corner) → begun_at_least (first ∷ rest) ≡ first ∷ rest → All (NotBefore first) (first ∷ rest)
+first_least : (first : Corner) (rest : List Corner) → begun_at_least (first ∷ rest) ≡ first ∷ rest
+    → All (NotBefore first) (first ∷ rest)
 first_least first rest h =
     let ring = first ∷ rest in
     let w = IsFirstBest-from_best_of is_before_ranks first rest in
     let same : corner_at ring w.0 ∷ drop (w.0 + 1) ring ++ take w.0 ring ≡ ring =
-    ap (λ xs. xs ++ take w.0 ring) (sym (from_corner ring w.0 w.1.0)) ∙ ap (λ k. begun_at k ring) (sym (least_is_first ring w.0 w.1)) ∙ h in
+    ap (λ xs. xs ++ take w.0 ring) (sym (from_corner ring w.0 w.1.0))
+    ∙ ap (λ k. begun_at k ring) (sym (least_is_first ring w.0 w.1)) ∙ h in
     let head : corner_at ring w.0 ≡ first = ap (λ xs. corner_at xs 0) same in
     All-from_get_or (NotBefore first) ring origin (λ i b. subst (λ c. NotBefore c (corner_at ring i)) head (w.1.1 i origin b))
 
-begins_least : (first : Corner) (rest : List Corner) → All (NotBefore first) (first ∷ rest) → begun_at_least (first ∷ rest) ≡ first ∷ rest
+begins_least : (first : Corner) (rest : List Corner) → All (NotBefore first) (first ∷ rest)
+    → begun_at_least (first ∷ rest) ≡ first ∷ rest
 begins_least first rest h =
     let ring = first ∷ rest in
     ap (λ k. begun_at k ring)

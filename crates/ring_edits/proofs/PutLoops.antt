@@ -1,5 +1,6 @@
 -- The passes over a ring's edges that look for an edge, and that put a corner in.
-use Rattle.std.proofs.Common.{◌≡◌, sym, ◌∙◌, ap, arith, Bool, true, false, ◌||◌, if◌then◌else◌, ℕ, ◌+◌, ◌<◌, ◌≤◌}
+use Rattle.std.proofs.Common.{◌≡◌, sym, ◌∙◌, ap, arith, Bool, true, false, ◌||◌, if◌then◌else◌, ℕ, ◌+◌, ◌<◌}
+use Rattle.std.proofs.Common.{◌≤◌}
 use Rattle.std.proofs.Common.{List, [], ◌∷◌, ◌++◌, length, drop, get_or, append_assoc, append-nil}
 use Rattle.std.specs.List.{list_any}
 use Rattle.std.proofs.lemmas.List.{drop_all}
@@ -7,10 +8,10 @@ use Rattle.std.proofs.lemmas.Option.{slice_get-get_or}
 use Rattle.geo_exact.specs.declared.corner.Corner.{Corner}
 use Rattle.geo_exact.specs.Places.{corner_at, after}
 use Rattle.geo_exact.specs.Rings.{edges}
-use Rattle.geo_exact.proofs.Begun.{ring_count}
-use Rattle.geo_exact.proofs.Dropped.{drop_item}
-use Rattle.geo_exact.proofs.EdgeSums.{edge_of}
-use Rattle.ring_core.proofs.EdgeNumbers.{ring_joins}
+use Rattle.geo_exact.proofs.rings.Begun.{ring_count}
+use Rattle.geo_exact.proofs.numbers.Dropped.{drop_item}
+use Rattle.geo_exact.proofs.rings.EdgeSums.{edge_of}
+use Rattle.ring_core.proofs.edges.EdgeNumbers.{ring_joins}
 use Rattle.ring_edits.specs.Edits.{joins, has_edge_between, put_along, put_between}
 use Rattle.ring_edits.specs.own.Between.{edge_at}
 
@@ -21,23 +22,28 @@ edge_here ring i h =
     let e = get_or (edges ring) i (edge_at ring i) in
     let j = ring_joins ring i e (slice_get-get_or (edges ring) i (edge_at ring i) b) in
     drop_item (edges ring) i (edge_at ring i) b
-    (ap (λ (x : Corner). edge_of x (corner_at ring (after (length ring) i))) (sym j.0) ∙ ap (λ (y : Corner). edge_of e.from y) (sym j.1))
+    (ap (λ (x : Corner). edge_of x (corner_at ring (after (length ring) i))) (sym j.0)
+    ∙ ap (λ (y : Corner). edge_of e.from y) (sym j.1))
 
 -- no edge is left behind the last
 pub no_more : (ring : List Corner) (i : ℕ) → length ring ≤ i → drop i (edges ring) ≡ []
 no_more ring i h = drop_all i (edges ring) (omega (arith, ring_count ring))
 
 -- ---- looking for an edge
-pub found_here : (u v : Corner) (ring : List Corner) (i : ℕ) (r : Bool) → i < length ring → r ≡ joins u v (edge_at ring i) → r ≡ true
+pub found_here : (u v : Corner) (ring : List Corner) (i : ℕ) (r : Bool) → i < length ring
+    → r ≡ joins u v (edge_at ring i) → r ≡ true
     → list_any (joins u v) (drop i (edges ring)) ≡ has_edge_between u v ring → true ≡ has_edge_between u v ring
 found_here u v ring i r h e k l =
-    ap (λ b. b || list_any (joins u v) (drop (i + 1) (edges ring))) (sym k ∙ e) ∙ sym (ap (list_any (joins u v)) (edge_here ring i h)) ∙ l
+    ap (λ b. b || list_any (joins u v) (drop (i + 1) (edges ring))) (sym k ∙ e)
+    ∙ sym (ap (list_any (joins u v)) (edge_here ring i h)) ∙ l
 
-pub not_here : (u v : Corner) (ring : List Corner) (i : ℕ) (r : Bool) → i < length ring → r ≡ joins u v (edge_at ring i) → r ≡ false
+pub not_here : (u v : Corner) (ring : List Corner) (i : ℕ) (r : Bool) → i < length ring
+    → r ≡ joins u v (edge_at ring i) → r ≡ false
     → list_any (joins u v) (drop i (edges ring)) ≡ has_edge_between u v ring
     → list_any (joins u v) (drop (i + 1) (edges ring)) ≡ has_edge_between u v ring
 not_here u v ring i r h e k l =
-    ap (λ b. b || list_any (joins u v) (drop (i + 1) (edges ring))) (sym k ∙ e) ∙ sym (ap (list_any (joins u v)) (edge_here ring i h)) ∙ l
+    ap (λ b. b || list_any (joins u v) (drop (i + 1) (edges ring))) (sym k ∙ e)
+    ∙ sym (ap (list_any (joins u v)) (edge_here ring i h)) ∙ l
 
 pub not_anywhere : (u v : Corner) (ring : List Corner) (i : ℕ) → length ring ≤ i
     → list_any (joins u v) (drop i (edges ring)) ≡ has_edge_between u v ring → false ≡ has_edge_between u v ring
@@ -46,7 +52,8 @@ not_anywhere u v ring i h l = sym (ap (list_any (joins u v)) (no_more ring i h))
 -- ---- putting the corner in
 put_step : (b : Bool) (xs ys zs : List Corner) (c at : Corner) → zs ≡ (if b then (xs ++ c ∷ []) ++ at ∷ [] else xs ++ c ∷ [])
     → zs ++ ys ≡ xs ++ c ∷ (if b then at ∷ ys else ys)
-put_step true xs ys zs c at h = ap (λ l. l ++ ys) h ∙ append_assoc (xs ++ c ∷ []) (at ∷ []) ys ∙ append_assoc xs (c ∷ []) (at ∷ ys)
+put_step true xs ys zs c at h = ap (λ l. l ++ ys) h ∙ append_assoc (xs ++ c ∷ []) (at ∷ []) ys
+    ∙ append_assoc xs (c ∷ []) (at ∷ ys)
 put_step false xs ys zs c at h = ap (λ l. l ++ ys) h ∙ append_assoc xs (c ∷ []) ys
 
 pub put_more : (u v at : Corner) (ring xs zs : List Corner) (i : ℕ) (c : Corner) → i < length ring → c ≡ corner_at ring i

@@ -1,17 +1,18 @@
 -- Net numbers of directed edges where a corner is put into each edge between two others.
-use Rattle.std.proofs.Common.{◌≡◌, ◌≢◌, ⊎_elim, refl, sym, ◌∙◌, ap, subst, arith, Bool, true, false, ◌&&◌, ◌||◌, if◌then◌else◌}
+use Rattle.std.proofs.Common.{◌≡◌, ◌≢◌, ⊎_elim, refl, sym, ◌∙◌, ap, subst, arith, Bool, true, false, ◌&&◌, ◌||◌}
+use Rattle.std.proofs.Common.{if◌then◌else◌}
 use Rattle.std.proofs.Common.{◌+◌, ℤ, ◌+ℤ◌, ◌-ℤ◌, ◌*ℤ◌, neg_ℤ, List, [], ◌∷◌, map}
 use Rattle.std.proofs.lemmas.Int.{ints}
 use lib.IntN.{pos}
 use Rattle.geo_exact.specs.declared.corner.Corner.{Corner}
 use Rattle.geo_exact.specs.Order.{is_same}
 use Rattle.geo_exact.specs.Rings.{Edge, edges}
-use Rattle.geo_exact.proofs.CornerOrder.{Decides-is_same, is_same_itself}
-use Rattle.geo_exact.proofs.EdgeSums.{edge_of}
-use Rattle.geo_exact.proofs.Differences.{add-mul}
+use Rattle.geo_exact.proofs.corners_and_turns.CornerOrder.{Decides-is_same, is_same_itself}
+use Rattle.geo_exact.proofs.rings.EdgeSums.{edge_of}
+use Rattle.geo_exact.proofs.numbers.Differences.{add-mul}
 use Rattle.edge_chains.specs.Net.{runs_from_to, all_edges, net_of_edges, net_count}
-use Rattle.edge_chains.proofs.Nets.{net_of_append}
-use Rattle.edge_chains.proofs.Changes.{net_of_turned}
+use Rattle.edge_chains.proofs.nets.Nets.{net_of_append}
+use Rattle.edge_chains.proofs.nets.Changes.{net_of_turned}
 use Rattle.ring_edits.specs.Edits.{joins, put_between, with_corner}
 use Rattle.ring_edits.proofs.PutEdges.{cut_one, cut_all, edges_put, joined_either}
 use Rattle.ring_edits.proofs.RoundNets.{net_at_least}
@@ -33,7 +34,8 @@ nothing_is : (z s d : ℤ) → s ≡ pos 0 → z ≡ z +ℤ s *ℤ d
 nothing_is z s d h = rw h (omega (arith, ints))
 
 parted : (a at b c d : Corner)
-    → net_of_edges (edge_of a at ∷ edge_of at b ∷ []) c d ≡ net_of_edges (edge_of a at ∷ []) c d +ℤ net_of_edges (edge_of at b ∷ []) c d
+    → net_of_edges (edge_of a at ∷ edge_of at b ∷ []) c d ≡ net_of_edges (edge_of a at ∷ []) c d +ℤ net_of_edges
+    (edge_of at b ∷ []) c d
 parted a at b c d = net_of_append (edge_of a at ∷ []) (edge_of at b ∷ []) c d
 
 not_counted : (u v : Corner) (e : Edge) → joins u v e ≡ false → net_of_edges (e ∷ []) u v ≡ pos 0
@@ -59,7 +61,8 @@ turned_once : (u v : Corner) → u ≢ v → net_of_edges (edge_of v u ∷ []) u
 turned_once u v off = net_of_turned u v u v ∙ ap neg_ℤ (itself_once u v off)
 
 net_one : (u v at : Corner) (e : Edge) (c d : Corner) → u ≢ v
-    → net_of_edges (cut_one (joins u v e) at e) c d ≡ net_of_edges (e ∷ []) c d +ℤ net_of_edges (e ∷ []) u v *ℤ detour u v at c d
+    → net_of_edges (cut_one (joins u v e) at e) c d ≡ net_of_edges (e ∷ []) c d +ℤ net_of_edges
+    (e ∷ []) u v *ℤ detour u v at c d
 net_one u v at e c d off = decide (joins u v e) refl
   where
     decide : (b : Bool) → joins u v e ≡ b
@@ -79,7 +82,8 @@ net_one u v at e c d off = decide (joins u v e) refl
     decide false h = nothing_is (net_of_edges (e ∷ []) c d) (net_of_edges (e ∷ []) u v) (detour u v at c d) (not_counted u v e h)
 
 -- ---- many edges, and rings
-together : (out outs ring rows s t z : ℤ) → out ≡ ring +ℤ s *ℤ z → outs ≡ rows +ℤ t *ℤ z → out +ℤ outs ≡ (ring +ℤ rows) +ℤ (s +ℤ t) *ℤ z
+together : (out outs ring rows s t z : ℤ) → out ≡ ring +ℤ s *ℤ z → outs ≡ rows +ℤ t *ℤ z
+    → out +ℤ outs ≡ (ring +ℤ rows) +ℤ (s +ℤ t) *ℤ z
 together out outs ring rows s t z h k = omega (arith, ints, add-mul s t z)
 
 net_cut : (u v at : Corner) (es : List Edge) (c d : Corner) → u ≢ v
@@ -90,7 +94,8 @@ net_cut u v at (e ∷ es) c d off =
     ∙ together (net_of_edges (cut_one (joins u v e) at e) c d) (net_of_edges (cut_all u v at es) c d) (net_of_edges (e ∷ []) c d)
     (net_of_edges es c d) (net_of_edges (e ∷ []) u v) (net_of_edges es u v) (detour u v at c d)
     (net_one u v at e c d off) (net_cut u v at es c d off)
-    ∙ ap (λ z. z +ℤ (net_of_edges (e ∷ []) u v +ℤ net_of_edges es u v) *ℤ detour u v at c d) (sym (net_of_append (e ∷ []) es c d))
+    ∙ ap (λ z. z +ℤ (net_of_edges (e ∷ []) u v +ℤ net_of_edges es u v) *ℤ detour u v at c d)
+    (sym (net_of_append (e ∷ []) es c d))
     ∙ ap (λ z. net_of_edges (e ∷ es) c d +ℤ z *ℤ detour u v at c d) (sym (net_of_append (e ∷ []) es u v))
 
 net_put : (u v at : Corner) (ring : List Corner) (c d : Corner) → u ≢ v

@@ -1,15 +1,16 @@
 -- Net numbers of edges round rings: by their runs, and where a path is walked there and back.
-use Rattle.std.proofs.Common.{◌≡◌, sym, ◌∙◌, ap, arith, ℕ, ◌≤◌, ℤ, ◌+ℤ◌, List, [], ◌∷◌, ◌++◌, length, take, drop, reverse}
+use Rattle.std.proofs.Common.{◌≡◌, sym, ◌∙◌, ap, arith, ℕ, ◌≤◌, ℤ, ◌+ℤ◌, List, [], ◌∷◌, ◌++◌, length}
+use Rattle.std.proofs.Common.{take, drop, reverse}
 use Rattle.std.proofs.lemmas.Int.{ints}
 use Rattle.std.proofs.lemmas.List.{take-append-drop, reverse-append, append-nil}
 use lib.IntN.{pos}
 use Rattle.geo_exact.specs.declared.corner.Corner.{Corner}
 use Rattle.geo_exact.specs.Rings.{path, edges, begun_at, begun_at_least}
-use Rattle.geo_exact.proofs.EdgeSums.{edge_of, path-join}
-use Rattle.geo_exact.proofs.Begun.{edges_begun, least_within}
+use Rattle.geo_exact.proofs.rings.EdgeSums.{edge_of, path-join}
+use Rattle.geo_exact.proofs.rings.Begun.{edges_begun, least_within}
 use Rattle.edge_chains.specs.Net.{net_of_edges, net_count}
-use Rattle.edge_chains.proofs.Nets.{net_of_append}
-use Rattle.edge_chains.proofs.Changes.{net_of_turned}
+use Rattle.edge_chains.proofs.nets.Nets.{net_of_append}
+use Rattle.edge_chains.proofs.nets.Changes.{net_of_turned}
 use Rattle.ring_edits.specs.Round.{GoesRound}
 use Rattle.ring_edits.proofs.Borders.{edges_round}
 
@@ -58,7 +59,8 @@ net_back u v (x ∷ xs) c d =
     ap (λ ys. net_of_edges (path v ys u) c d) (reverse-append (x ∷ []) xs)
     ∙ ap (λ es. net_of_edges es c d) (path-join v x u (reverse xs) [])
     ∙ net_of_append (path v (reverse xs) x) (edge_of x u ∷ []) c d in
-    total (net_of_edges (path u (x ∷ xs) v) c d) (net_of_edges (path v (reverse (x ∷ xs)) u) c d) (net_of_edges (edge_of u x ∷ []) c d)
+    total (net_of_edges (path u (x ∷ xs) v) c d) (net_of_edges (path v (reverse (x ∷ xs)) u) c d)
+    (net_of_edges (edge_of u x ∷ []) c d)
     (net_of_edges (edge_of x u ∷ []) c d) (net_of_edges (path x xs v) c d) (net_of_edges (path v (reverse xs) x) c d)
     first last (net_turned u x c d) (net_back x v xs c d)
   where

@@ -10,7 +10,7 @@ use Rattle.std.proofs.lemmas.List.Folds.{drop_split}
 use Rattle.geo_exact.specs.declared.corner.Corner.{Corner}
 use Rattle.geo_exact.specs.Places.{corner_at, origin}
 use Rattle.geo_exact.specs.Rings.{begun_at, begun_at_least}
-use Rattle.geo_exact.proofs.Dropped.{drop_item}
+use Rattle.geo_exact.proofs.numbers.Dropped.{drop_item}
 use Rattle.ring_edits.specs.Round.{GoesRound}
 use Rattle.ring_edits.specs.Edits.{IsPath, IsPathAcross, IsSplit}
 use Rattle.ring_edits.specs.own.Between.{between, IsPathAt}
@@ -45,7 +45,8 @@ goes_up : (ring : List Corner) (i j : ℕ) → i < j → j < length ring
     → begun_at i ring ≡ corner_at ring i ∷ between ring i j ++ corner_at ring j ∷ between ring j i
 goes_up ring i j h k =
     ap (λ xs. xs ++ take i ring) (from_corner ring i (omega arith) ∙ ap (λ xs. corner_at ring i ∷ xs) (upward ring i j h k))
-    ∙ ap (λ xs. corner_at ring i ∷ xs) (append_assoc (slice_range ring (i + 1) j) (corner_at ring j ∷ drop (j + 1) ring) (take i ring))
+    ∙ ap (λ xs. corner_at ring i ∷ xs) (append_assoc (slice_range ring (i + 1) j)
+    (corner_at ring j ∷ drop (j + 1) ring) (take i ring))
     ∙ ap (λ xs. corner_at ring i ∷ xs ++ corner_at ring j ∷ (drop (j + 1) ring ++ take i ring)) (sym (between_up ring i j h))
     ∙ ap (λ xs. corner_at ring i ∷ between ring i j ++ corner_at ring j ∷ xs) (sym (between_down ring j i (omega arith)))
 
@@ -84,7 +85,8 @@ across ring corners i j h = record {
 }
 
 -- what stands between its ends
-middle_is : (u v : Corner) (corners middle : List Corner) → IsPath corners u middle v → slice_range corners 1 (length corners - 1) ≡ middle
+middle_is : (u v : Corner) (corners middle : List Corner) → IsPath corners u middle v
+    → slice_range corners 1 (length corners - 1) ≡ middle
 middle_is u v corners middle h =
     ap (λ xs. slice_range xs 1 (length xs - 1)) h.is
     ∙ ap (λ n. take n (middle ++ v ∷ [])) (let e = length-append middle (v ∷ []) in omega (arith, e))

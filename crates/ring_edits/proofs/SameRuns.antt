@@ -10,13 +10,13 @@ use Rattle.std.proofs.lemmas.List.Sorted.{Contains-permutation, IsPermutation-re
 use Rattle.geo_exact.specs.declared.corner.Corner.{Corner}
 use Rattle.geo_exact.specs.Places.{corner_at, origin, after}
 use Rattle.geo_exact.specs.Rings.{Edge, path, edges, begun_at}
-use Rattle.geo_exact.proofs.EdgeSums.{turned_edge, path-join}
-use Rattle.geo_exact.proofs.Begun.{ring_count}
+use Rattle.geo_exact.proofs.rings.EdgeSums.{turned_edge, path-join}
+use Rattle.geo_exact.proofs.rings.Begun.{ring_count}
 use Rattle.ring_core.specs.Simple.{IsSimpleRing}
-use Rattle.ring_core.proofs.LeftSimple.{same_or, after_same}
-use Rattle.ring_core.proofs.LeastCorners.{AreApart}
-use Rattle.ring_core.proofs.RoundNumbers.{after_in}
-use Rattle.ring_core.proofs.BegunElsewhere.{number_from, is_begun, begun_length}
+use Rattle.ring_core.proofs.ears.LeftSimple.{same_or, after_same}
+use Rattle.ring_core.proofs.ears.LeastCorners.{AreApart}
+use Rattle.ring_core.proofs.edges.RoundNumbers.{after_in}
+use Rattle.ring_core.proofs.ears.BegunElsewhere.{number_from, is_begun, begun_length}
 use Rattle.ring_edits.specs.Round.{GoesRound, HasEdge}
 use Rattle.ring_edits.specs.Edits.{IsSharedWith, IsShared}
 use Rattle.ring_edits.proofs.Apart.{simple_apart}
@@ -37,7 +37,8 @@ one_before ring h u v w x y =
     sym x.1.from ∙ sym (ap (corner_at ring) f) ∙ y.1.from
 
 -- ---- a corner at which two runs meet is on neither
-pub split_apart : (v : Corner) (front back : List Corner) → AreApart (front ++ v ∷ back) → (Contains front v → ⊥) × (Contains back v → ⊥)
+pub split_apart : (v : Corner) (front back : List Corner) → AreApart (front ++ v ∷ back) → (Contains front v → ⊥)
+    × (Contains back v → ⊥)
 split_apart v front back h =
     let whole = front ++ v ∷ back in
     let n : length whole ≡ length front + (length back + 1) = length-append front (v ∷ back) ∙ omega arith in

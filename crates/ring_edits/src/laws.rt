@@ -52,8 +52,9 @@ pub fn inserting_keeps_the_least_box()
         → IsLeastBox bounds ring → IsLeastBox bounds (with_corner from to at ring) }
 {}
 
-/// A ring that begins at its least corner still begins there where a corner is put in strictly inside an edge, and stays
-/// as it is where it has no such edge. (What is begun at its least corner begins there.)
+/// A ring that begins at its least corner still begins there where a corner is put in strictly
+/// inside an edge, and stays as it is where it has no such edge. (What is begun at its least corner
+/// begins there.)
 pub fn inserting_keeps_where_a_ring_begins()
     ensures begun { (from to at : Corner) (ring : List Corner) → IsStrictlyInside at from to → begun_at_least ring ≡ ring
         → with_corner from to at ring ≡ put_between from to at ring }

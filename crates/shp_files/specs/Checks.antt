@@ -1,5 +1,7 @@
 -- The checks of a main file, in their order, each with the fault that it answers: this profile of the Technical Description (July 1998).
-use Rattle.std.specs.Prelude.{ℕ, zero, suc, ◌+◌, ◌*◌, ◌-◌, ◌||◌, ◌&&◌, ◌==◌, nat_lt, not, ℤ, pos, int_lt, Bool, true, false, if◌then◌else◌, List, [], ◌∷◌, ◌++◌, length, Option, Some, None, Result, Ok, Err}
+use Rattle.std.specs.Prelude.{ℕ, zero, suc, ◌+◌, ◌*◌, ◌-◌, ◌||◌, ◌&&◌, ◌==◌, nat_lt, not, ℤ, pos, int_lt, Bool}
+use Rattle.std.specs.Prelude.{true, false, if◌then◌else◌, List, [], ◌∷◌, ◌++◌, length, Option, Some, None, Result, Ok}
+use Rattle.std.specs.Prelude.{Err}
 use Rattle.std.specs.Ordering.{int_eq}
 use Rattle.geo_exact.specs.declared.coord.Unit.{Unit as LengthUnit}
 use Rattle.geo_exact.specs.declared.coord.CoordFault.{CoordFault}
@@ -10,7 +12,8 @@ use Rattle.shp_files.specs.declared.fault.FileName.TheVariants.{Main}
 use Rattle.shp_files.specs.declared.fault.FaultKind.{FaultKind}
 use Rattle.shp_files.specs.declared.fault.FaultKind.TheVariants as kinds
 use Rattle.shp_files.specs.declared.fault.FileFault.{FileFault}
-use Rattle.shp_files.specs.Layout.{double_at, file_code, file_words, version, header_shape_type, content_words, shape_type, part_count, point_count, first_part, natural}
+use Rattle.shp_files.specs.Layout.{double_at, file_code, file_words, version, header_shape_type, content_words}
+use Rattle.shp_files.specs.Layout.{shape_type, part_count, point_count, first_part, natural}
 
 -- one check: when it fails, and what it then answers
 pub record Check : Type 0 where
@@ -79,7 +82,8 @@ shape_checks main position start =
     ∷ check (is_null main start && is_not (content_words main start) (pos 2)) (fault position (start + 4) kinds.Content)
     ∷ []
 
--- The checks of a polygon's counts, where the polygons before it have so many corners together. (The third never fails behind the first: it stands here
+-- The checks of a polygon's counts, where the polygons before it have so many corners together. (The third never
+-- fails behind the first: it stands here
 -- so that the table reads by itself.)
 unfoldable pub count_checks : List ℕ → ℕ → ℕ → ℕ → List Check
 count_checks main position start corners_before =
@@ -135,7 +139,8 @@ distinct_points main unit at (suc count) =
 -- the check of the corners that are left where neighbours that are equal, round the ring, are kept once
 unfoldable pub corner_checks : List ℕ → LengthUnit → ℕ → ℕ → List Check
 corner_checks main unit position start =
-    check (nat_lt (distinct_points main unit (start + 56) (points_of main start - 1)) 3) (fault position (start + 48) kinds.FewPoints) ∷ []
+    check (nat_lt (distinct_points main unit (start + 56) (points_of main start - 1)) 3)
+    (fault position (start + 48) kinds.FewPoints) ∷ []
 
 -- all checks of a polygon
 unfoldable pub polygon_checks : List ℕ → LengthUnit → ℕ → ℕ → ℕ → List Check

@@ -8,7 +8,8 @@ use Rattle.shp_files.specs.Checks.{first_failure, header_checks, record_checks, 
 use Rattle.shp_files.specs.IndexChecks.{entry_checks}
 use Rattle.shp_files.specs.LayerFile.{NumberedRing, IsLayerFile}
 
--- The record at this position begins at this byte, and the polygons before it have so many corners together: the header and all records before it
+-- The record at this position begins at this byte, and the polygons before it have so many corners together: the
+-- header and all records before it
 -- pass their checks.
 pub data Reaches (main : List ℕ) (unit : LengthUnit) : ℕ → ℕ → ℕ → Type 0 where
   first : first_failure (header_checks Main main) ≡ None → Reaches main unit 1 100 0
@@ -35,7 +36,8 @@ pub record IsAccepted (main : List ℕ) (unit : LengthUnit) : Type 0 where
   pub corners : ℕ
   pub is_reached : Reaches main unit position (declared_end main) corners
 
--- The index stops at a record, or behind the last: the header of the index passes its checks, and so do the index records before; the first check
+-- The index stops at a record, or behind the last: the header of the index passes its checks, and so do the index
+-- records before; the first check
 -- that fails here answers this fault.
 pub record IndexStopsAt (main index : List ℕ) (unit : LengthUnit) (fault : FileFault) : Type 0 where
   pub position : ℕ
@@ -57,4 +59,5 @@ IsFirstFault main (Some index) unit fault = IsMainFault main unit fault ⊎ (IsA
 
 -- a text is a layer's files, or has a first fault
 abbrev pub IsDecided : List ℕ → Option (List ℕ) → LengthUnit → Type 0
-IsDecided main index unit = ((rings : List NumberedRing) × IsLayerFile main index unit rings) ⊎ ((fault : FileFault) × IsFirstFault main index unit fault)
+IsDecided main index unit = ((rings : List NumberedRing) × IsLayerFile main index unit rings)
+    ⊎ ((fault : FileFault) × IsFirstFault main index unit fault)

@@ -20,12 +20,14 @@ unfoldable pub index_end_checks : List ℕ → ℕ → List Check
 index_end_checks index position =
     check (not (declared_end index == entry_place position)) (disagreement position (entry_place position)) ∷ []
 
--- the index record of the record at this position, which begins at this byte of the main file: that it is there, its offset, and its content length
+-- the index record of the record at this position, which begins at this byte of the main file: that it is there, its
+-- offset, and its content length
 unfoldable pub index_record_checks : List ℕ → List ℕ → ℕ → ℕ → List Check
 index_record_checks main index position start =
     check (nat_lt (declared_end index) (entry_place position + 8)) (disagreement position (entry_place position))
     ∷ check (is_not (offset_words index (entry_place position)) (pos (start / 2))) (disagreement position (entry_place position))
-    ∷ check (is_not (content_words index (entry_place position)) (content_words main start)) (disagreement position (entry_place position + 4))
+    ∷ check (is_not (content_words index (entry_place position)) (content_words main start))
+    (disagreement position (entry_place position + 4))
     ∷ []
 
 -- the checks of the index at this position, where the main file's records before it end at this byte

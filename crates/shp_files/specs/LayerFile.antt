@@ -1,16 +1,21 @@
--- A layer's main file as a whole text: a header, records of null shapes and polygons, and bytes that are ignored (Technical Description, July 1998,
--- "Organization of the Main File", "The Main File Header", "Record Headers", "Null Shapes", "Polygon"); and, where it is given, its index file: a header,
+-- A layer's main file as a whole text: a header, records of null shapes and polygons, and bytes that are ignored
+-- (Technical Description, July 1998,
+-- "Organization of the Main File", "The Main File Header", "Record Headers", "Null Shapes", "Polygon"); and, where it
+-- is given, its index file: a header,
 -- an index record for each record, and bytes that are ignored ("Organization of the Index File", "Index Records").
--- The bytes behind the declared length, which are ignored, and the limits on records and corners are this product's own. Boxes, ranges, unused bytes and
+-- The bytes behind the declared length, which are ignored, and the limits on records and corners are this product's
+-- own. Boxes, ranges, unused bytes and
 -- stored record numbers are not compared.
-use Rattle.std.specs.Prelude.{◌≡◌, ◌⊎◌, ℕ, ◌+◌, ◌*◌, ◌≤◌, pos, ◌+ℤ◌, ◌*ℤ◌, List, [], ◌∷◌, ◌++◌, length, map, Option, IfSome}
+use Rattle.std.specs.Prelude.{◌≡◌, ◌⊎◌, ℕ, ◌+◌, ◌*◌, ◌≤◌, pos, ◌+ℤ◌, ◌*ℤ◌, List, [], ◌∷◌}
+use Rattle.std.specs.Prelude.{◌++◌, length, map, Option, IfSome}
 use Rattle.geo_exact.specs.declared.corner.Corner.{Corner}
 use Rattle.geo_exact.specs.declared.coord.Unit.{Unit as LengthUnit}
 use Rattle.geo_exact.specs.Grid.{IsOnGrid}
 use Rattle.geo_exact.specs.declared.limits.TheConstants.{LAYER_CORNERS, LAYER_RECORDS, RING_CORNERS}
 pub use Rattle.geo_exact.specs.Layers.{NumberedRing, numbered, rings_of, corner_count}
 use Rattle.shp_files.specs.NormalForm.{kept_once, normal_form}
-use Rattle.shp_files.specs.Layout.{double_at, file_code, file_words, version, header_shape_type, content_words, shape_type, part_count, point_count, first_part, offset_words}
+use Rattle.shp_files.specs.Layout.{double_at, file_code, file_words, version, header_shape_type, content_words}
+use Rattle.shp_files.specs.Layout.{shape_type, part_count, point_count, first_part, offset_words}
 
 -- the header of a file that is `declared` bytes long
 pub record IsHeader (header : List ℕ) (declared : ℕ) : Type 0 where
@@ -20,7 +25,8 @@ pub record IsHeader (header : List ℕ) (declared : ℕ) : Type 0 where
   pub has_version : version header ≡ pos 1000
   pub has_type : header_shape_type header ≡ pos 5
 
--- the points that stand from a byte on are these corners, each coordinate by the grid of its double (a `Corner` is within the limit by its type)
+-- the points that stand from a byte on are these corners, each coordinate by the grid of its double (a `Corner` is
+-- within the limit by its type)
 abbrev pub ArePoints : LengthUnit → List ℕ → ℕ → List Corner → Type 0
 ArePoints unit bytes at [] = Unit {0}
 ArePoints unit bytes at (corner ∷ rest) =

@@ -1,6 +1,9 @@
--- The two files of a layer, as they are written (Technical Description, July 1998: "Organization of the Main File", "The Main File Header", "Record
--- Headers", "Polygon", "Organization of the Index File"). The box of no ring, all 0, and the order of a ring of area 0 are this product's own.
-use Rattle.std.specs.Prelude.{ℕ, ◌+◌, ◌*◌, ◌/◌, ℤ, pos, int_lt, if◌then◌else◌, List, [], ◌∷◌, ◌++◌, length, map, replicate, fold, flat_map}
+-- The two files of a layer, as they are written (Technical Description, July 1998: "Organization of the Main File",
+-- "The Main File Header", "Record
+-- Headers", "Polygon", "Organization of the Index File"). The box of no ring, all 0, and the order of a ring of area
+-- 0 are this product's own.
+use Rattle.std.specs.Prelude.{ℕ, ◌+◌, ◌*◌, ◌/◌, ℤ, pos, int_lt, if◌then◌else◌, List, [], ◌∷◌, ◌++◌, length}
+use Rattle.std.specs.Prelude.{map, replicate, fold, flat_map}
 use Rattle.std.specs.Int.{int_min, int_max}
 use Rattle.byteorder.specs.Endian.{big_bytes, little_bytes}
 use Rattle.geo_exact.specs.declared.corner.Corner.{Corner}
@@ -10,7 +13,8 @@ use Rattle.geo_exact.specs.Rings.{turned_round}
 use Rattle.geo_exact.specs.declared.raw_ring.RawRing.{RawRing}
 use Rattle.shp_files.specs.LayerFile.{NumberedRing, numbered, closed, joined}
 
--- "Numeric Types", "Byte Order": a whole number of 32 bits, its most significant byte first or last, and a double, its most significant byte last
+-- "Numeric Types", "Byte Order": a whole number of 32 bits, its most significant byte first or last, and a double,
+-- its most significant byte last
 unfoldable pub big : ℕ → List ℕ
 big n = big_bytes 4 n
 
@@ -49,7 +53,8 @@ y_of corner = corner.y
 -- the bounding box of corners: Xmin, Ymin, Xmax, Ymax
 unfoldable pub box : List Corner → List ℕ
 box corners =
-    double (least (map x_of corners)) ++ double (least (map y_of corners)) ++ double (greatest (map x_of corners)) ++ double (greatest (map y_of corners))
+    double (least (map x_of corners)) ++ double (least (map y_of corners)) ++ double (greatest (map x_of corners))
+    ++ double (greatest (map y_of corners))
 
 -- a ring as a polygon has it, its interior to the right of the walk: one of positive area is turned round
 abbrev pub as_written : List Corner → List Corner
@@ -72,7 +77,8 @@ abbrev pub records : ℕ → List (List Corner) → List (List ℕ)
 records number [] = []
 records number (ring ∷ rings) = record_bytes number ring ∷ records (number + 1) rings
 
--- "Main File Header": the file code, unused bytes, the file's length, the version, the shape type, the box of all corners, and the ranges of Z
+-- "Main File Header": the file code, unused bytes, the file's length, the version, the shape type, the box of all
+-- corners, and the ranges of Z
 -- and M, which polygons do not have
 unfoldable pub header : ℕ → List Corner → List ℕ
 header file_words corners = big 9994 ++ zeros 20 ++ big file_words ++ little 1000 ++ little 5 ++ box corners ++ zeros 32
@@ -85,7 +91,8 @@ all_corners rings = flat_map (λ ring. ring) rings
 unfoldable pub written_main : List (List Corner) → List ℕ
 written_main rings = header (50 + words (joined (records 1 rings))) (all_corners rings) ++ joined (records 1 rings)
 
--- "Index Records": for each record the place in the main file at which it begins, and its content's length, both in words. A record's header has
+-- "Index Records": for each record the place in the main file at which it begins, and its content's length, both in
+-- words. A record's header has
 -- 4 words. The first of these rings' records begins at this place.
 abbrev pub index_records : ℕ → List (List Corner) → List ℕ
 index_records place [] = []

@@ -45,8 +45,8 @@ pub enum FaultKind {
 pub struct FileFault {
     /// The file that has the fault.
     pub file: FileName,
-    /// The record's position, from 1; 0 for the header. Where the index goes on behind the main file's last record it is one
-    /// more than the main file has.
+    /// The record's position, from 1; 0 for the header. Where the index goes on behind the main
+    /// file's last record it is one more than the main file has.
     pub position: u32,
     /// The byte of the file at which the fault lies, from 0.
     pub place: u64,

@@ -15,16 +15,23 @@ use crate::record::{RecordHead, read_record};
 use geo_exact::{RawRing, Unit};
 use std::alloc::Allocator;
 
-/// Reads the rings of a layer's main file (`.shp`), each with its record's number, and checks its index (`.shx`) where one is given.
+/// Reads the rings of a layer's main file (`.shp`), each with its record's number, and checks its
+/// index (`.shx`) where one is given.
 ///
-/// The rings are those of the file's polygons, in the file's order; a null shape gives none. Their corners are in centimetres,
-/// without the closing repeat, in normal form ([`RawRing`]): counterclockwise, with equal neighbours kept once. Bytes behind a
-/// file's declared length are ignored.
+/// The rings are those of the file's polygons, in the file's order; a null shape gives none. Their
+/// corners are in centimetres, without the closing repeat, in normal form ([`RawRing`]):
+/// counterclockwise, with equal neighbours kept once. Bytes behind a file's declared length are
+/// ignored.
 ///
 /// # Errors
 ///
 /// [`LayerFault::File`] with the first fault in the order of the checks, those of the main file first, and
 /// [`LayerFault::NoMemory`] only where a growth was refused.
+///
+/// ```
+/// let rings = read_layer(alloc, main.as_slice(), Some(index.as_slice()), Unit::Cm)?;
+/// let area = area2(rings[0].corners.as_slice());
+/// ```
 pub fn read_layer<A: Allocator + Copy>(
     alloc: A,
     main: &[u8],

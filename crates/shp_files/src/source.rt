@@ -12,7 +12,8 @@ use std::alloc::{AllocError, Allocator};
 /// The zeros that are added at first.
 const LEAST_PIECE: usize = 16384;
 
-/// The most zeros that are added at once: so few that they are still in the processor's cache when bytes take their places.
+/// The most zeros that are added at once: so few that they are still in the processor's cache when
+/// bytes take their places.
 const MOST_PIECE: usize = 262_144;
 
 /// Why a reader's bytes were not read.
@@ -48,6 +49,10 @@ impl From<AllocError> for ReadFault {
 ///
 /// [`ReadFault::Device`] only where the reader failed in this call, [`ReadFault::TooLong`], and
 /// [`ReadFault::NoMemory`] only where a growth was refused. With each of them no bytes are handed on.
+///
+/// ```
+/// let main = read_all(alloc, &mut Counted::new(File::open(rt, path)?))?;
+/// ```
 pub fn read_all<A: Allocator + Copy, R: ByteIn>(
     alloc: A,
     reader: &mut R,

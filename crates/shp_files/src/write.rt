@@ -213,14 +213,18 @@ fn write_index<A: Allocator + Copy>(
 
 /// A layer's main file and its index file, in centimetres.
 ///
-/// Each ring is a record, numbered from 1 in the order of the list. A ring of positive twice-area is written clockwise, its
-/// first corner first, as the Technical Description asks; any other in its own order. There may be at most 65,536
-/// rings, with at most 1,000,000 corners together.
+/// Each ring is a record, numbered from 1 in the order of the list. A ring of positive twice-area
+/// is written clockwise, its first corner first, as the Technical Description asks; any other in
+/// its own order. There may be at most 65,536 rings, with at most 1,000,000 corners together.
 ///
 /// # Errors
 ///
 /// `AllocError` where the memory for one of the files is refused.
-#[tactic(auto, using(crate::proofs::WrittenRings::same_count))]
+///
+/// ```
+/// let (main, index) = write_layer(alloc, rings.as_slice())?;
+/// ```
+#[tactic(auto, using(crate::proofs::written::WrittenRings::same_count))]
 pub fn write_layer<A: Allocator + Copy>(
     alloc: A,
     rings: &[RawRing<A>],
@@ -239,9 +243,10 @@ pub fn write_layer<A: Allocator + Copy>(
     Ok((main, index))
 }
 
-/// The main file that is written, alone or with the index that is written, is a layer's in centimetres, of the same rings,
-/// numbered from 1: reading it back gives the same corner lists. The rings are in normal form, as a [`RawRing`] is by its type.
-#[tactic(auto, using(crate::proofs::WrittenLayer::written_layer, crate::proofs::WrittenLayer::written_with_index))]
+/// The main file that is written, alone or with the index that is written, is a layer's in
+/// centimetres, of the same rings, numbered from 1: reading it back gives the same corner lists.
+/// The rings are in normal form, as a [`RawRing`] is by its type.
+#[tactic(auto, using(crate::proofs::written::WrittenLayer::written_layer, crate::proofs::written::WrittenLayer::written_with_index))]
 pub fn a_written_file_is_a_layer_file()
     ensures alone { (rings : List (List CornerValue))
         → All IsNormal rings → length rings ≤ LAYER_RECORDS → length (all_corners rings) ≤ LAYER_CORNERS
@@ -253,7 +258,7 @@ pub fn a_written_file_is_a_layer_file()
 
 /// A ring whose twice-area is not negative is written so that turning it round again, where its twice-area has become
 /// negative, gives back the same list of corners.
-#[tactic(auto, using(crate::proofs::WrittenLayer::turned_back))]
+#[tactic(auto, using(crate::proofs::written::WrittenLayer::turned_back))]
 pub fn a_written_ring_is_turned_back()
     ensures { (ring : List CornerValue) → pos 0 ≤ℤ area2_of ring
         → (if int_lt (area2_of (as_written ring)) (pos 0) then turned_round (as_written ring) else as_written ring) ≡ ring }

@@ -12,8 +12,8 @@ use std::marker::Model;
 // How many bytes are gathered before they are put.
 const ROOM: usize = 4096;
 
-/// The end of a text, which is gathered and not put yet, so that short pieces make few puts. It takes no memory but its own.
-/// Contracts see its bytes.
+/// The end of a text, which is gathered and not put yet, so that short pieces make few puts. It
+/// takes no memory but its own. Contracts see its bytes.
 #[derive(Drop)]
 pub struct Pending {
     bytes: ArrayVec<u8, ROOM>,

@@ -8,20 +8,21 @@ use Rattle.geo_exact.specs.Point.{Point}
 use Rattle.geo_exact.specs.Turn.{turn, turn_at}
 use Rattle.geo_exact.specs.Winding.{IsInterior}
 use Rattle.geo_exact.specs.Interiors.{InteriorsMeet}
-use Rattle.geo_exact.proofs.Differences.{expand}
-use Rattle.geo_exact.proofs.Signs.{mul_neg, mul_not_pos, mul_lt, mul_le}
-use Rattle.geo_exact.proofs.Triangles.{triangle_interior}
-use Rattle.geo_exact.proofs.TurnLaws.{weighed_x, weighed_y}
+use Rattle.geo_exact.proofs.numbers.Differences.{expand}
+use Rattle.geo_exact.proofs.numbers.Signs.{mul_neg, mul_not_pos, mul_lt, mul_le}
+use Rattle.geo_exact.proofs.rings.Triangles.{triangle_interior}
+use Rattle.geo_exact.proofs.corners_and_turns.TurnLaws.{weighed_x, weighed_y}
 use Rattle.ring_core.specs.declared.triangle.Tri.{Tri}
 use Rattle.ring_core.specs.Sums.{triangle_ring}
 use Rattle.geo_exact.specs.declared.bounds.Bounds.{Bounds}
 use Rattle.geo_exact.specs.Bounds.{BoxesAreApart, IsInsideBox}
-use Rattle.geo_exact.proofs.InBoxes.{not_in_both}
+use Rattle.geo_exact.proofs.boxes.InBoxes.{not_in_both}
 use Rattle.ring_core.specs.Boxes.{HoldsTriangle}
 use Rattle.tri_overlap.specs.own.Bounding.{HoldsMeeting, IsRightOfSome}
 
 -- a weighed sum without a positive term, one of which is negative, is negative
-some_negative : (u v w a b c : ℤ) → pos 0 <ℤ u → pos 0 <ℤ v → pos 0 <ℤ w → a <ℤ pos 0 → b ≤ℤ pos 0 → c ≤ℤ pos 0
+some_negative : (u v w a b c : ℤ) → pos 0 <ℤ u → pos 0 <ℤ v → pos 0 <ℤ w → a <ℤ pos 0 → b ≤ℤ pos 0
+    → c ≤ℤ pos 0
     → (u *ℤ a +ℤ v *ℤ b +ℤ w *ℤ c) <ℤ pos 0
 some_negative u v w a b c hu hv hw ha hb hc =
     omega (arith, ints, mul_neg u a hu ha, mul_not_pos v b (omega (arith, ints)) hb, mul_not_pos w c (omega (arith, ints)) hc)
@@ -41,8 +42,10 @@ mean_below : (u v w a b c x d m : ℤ) → pos 0 <ℤ u → pos 0 <ℤ v → pos
     → a ≤ℤ m → b ≤ℤ m → c ≤ℤ m → ¬ ((a ≡ m) × (b ≡ m) × (c ≡ m)) → x <ℤ (m *ℤ d)
 mean_below u v w a b c x d m hu hv hw hd e ha hb hc differ =
     by_lt_z x (m *ℤ d) (λ p. p)
-    (λ p. let not_above : (z : ℤ) → z ≤ℤ m → (z *ℤ d -ℤ x) ≤ℤ pos 0 = λ z h. omega (arith, ints, mul_le z m d (omega (arith, ints)) h, p) in
-    let z = all_zero u v w (a *ℤ d -ℤ x) (b *ℤ d -ℤ x) (c *ℤ d -ℤ x) hu hv hw (not_above a ha) (not_above b hb) (not_above c hc) e in
+    (λ p. let not_above : (z : ℤ) → z ≤ℤ m → (z *ℤ d -ℤ x) ≤ℤ pos 0 =
+    λ z h. omega (arith, ints, mul_le z m d (omega (arith, ints)) h, p) in
+    let z = all_zero u v w (a *ℤ d -ℤ x) (b *ℤ d -ℤ x) (c *ℤ d -ℤ x) hu hv hw (not_above a ha) (not_above b hb)
+    (not_above c hc) e in
     let at_top : (z : ℤ) → z ≤ℤ m → z *ℤ d -ℤ x ≡ pos 0 → z ≡ m =
     λ z h k. by_lt_z z m (λ q. absurd (omega (arith, ints, mul_lt z m d hd q, p, k))) (λ q. omega (arith, ints)) in
     absurd (differ (at_top a ha z.0, at_top b hb z.1, at_top c hc z.2)))
@@ -58,7 +61,8 @@ mean_above u v w a b c x d m hu hv hw hd e ha hb hc differ =
     omega (arith, ints, simp expand at below)
   where
     negated : (u v w a b c x d : ℤ) → u *ℤ (a *ℤ d -ℤ x) +ℤ v *ℤ (b *ℤ d -ℤ x) +ℤ w *ℤ (c *ℤ d -ℤ x) ≡ pos 0
-        → u *ℤ (neg_ℤ a *ℤ d -ℤ neg_ℤ x) +ℤ v *ℤ (neg_ℤ b *ℤ d -ℤ neg_ℤ x) +ℤ w *ℤ (neg_ℤ c *ℤ d -ℤ neg_ℤ x) ≡ pos 0
+        → u *ℤ (neg_ℤ a *ℤ d -ℤ neg_ℤ x) +ℤ v *ℤ (neg_ℤ b *ℤ d -ℤ neg_ℤ x)
+        +ℤ w *ℤ (neg_ℤ c *ℤ d -ℤ neg_ℤ x) ≡ pos 0
     negated u v w a b c x d e = simp expand (omega (arith, ints, simp expand at e))
 
 -- corners on a line along an axis don't turn
@@ -83,14 +87,19 @@ inside_box t p box h i =
     let w = turn_at t.a t.b p in
     let x = weighed_x t.a t.b t.c p in
     let y = weighed_y t.a t.b t.c p in record {
-      west = mean_above u v w t.a.x t.b.x t.c.x p.x p.d box.low.x left.1 left.2 left.0 p.d_positive x h.a.west h.b.west h.c.west (flat_in_x t.a t.b t.c box.low.x t.turns_left);
-      east = mean_below u v w t.a.x t.b.x t.c.x p.x p.d box.high.x left.1 left.2 left.0 p.d_positive x h.a.east h.b.east h.c.east (flat_in_x t.a t.b t.c box.high.x t.turns_left);
-      south = mean_above u v w t.a.y t.b.y t.c.y p.y p.d box.low.y left.1 left.2 left.0 p.d_positive y h.a.south h.b.south h.c.south (flat_in_y t.a t.b t.c box.low.y t.turns_left);
-      north = mean_below u v w t.a.y t.b.y t.c.y p.y p.d box.high.y left.1 left.2 left.0 p.d_positive y h.a.north h.b.north h.c.north (flat_in_y t.a t.b t.c box.high.y t.turns_left);
+      west = mean_above u v w t.a.x t.b.x t.c.x p.x p.d box.low.x left.1 left.2 left.0 p.d_positive x h.a.west
+          h.b.west h.c.west (flat_in_x t.a t.b t.c box.low.x t.turns_left);
+      east = mean_below u v w t.a.x t.b.x t.c.x p.x p.d box.high.x left.1 left.2 left.0 p.d_positive x h.a.east
+          h.b.east h.c.east (flat_in_x t.a t.b t.c box.high.x t.turns_left);
+      south = mean_above u v w t.a.y t.b.y t.c.y p.y p.d box.low.y left.1 left.2 left.0 p.d_positive y h.a.south
+          h.b.south h.c.south (flat_in_y t.a t.b t.c box.low.y t.turns_left);
+      north = mean_below u v w t.a.y t.b.y t.c.y p.y p.d box.high.y left.1 left.2 left.0 p.d_positive y h.a.north
+          h.b.north h.c.north (flat_in_y t.a t.b t.c box.high.y t.turns_left);
     }
 
 -- triangles have no common inner point where one is in a box that is apart from another that has all of them
-pub apart_triangles : (s t : Tri) (box other : Bounds) → HoldsMeeting box s t → HoldsTriangle other t → BoxesAreApart box other → ¬ InteriorsMeet (triangle_ring s) (triangle_ring t)
+pub apart_triangles : (s t : Tri) (box other : Bounds) → HoldsMeeting box s t → HoldsTriangle other t
+    → BoxesAreApart box other → ¬ InteriorsMeet (triangle_ring s) (triangle_ring t)
 apart_triangles s t box other h k a m = not_in_both m.0 box other a (h m.0 m.1 m.2) (inside_box t m.0 other k m.2)
 
 -- what is inside a triangle is left of each of its edges

@@ -1,4 +1,4 @@
--- Convex sets of rational points: blends of points, half planes, and Helly's theorem for four sets in the plane.
+-- Convex sets of rational points: blends of points, and half planes.
 use Rattle.std.proofs.Common.{◌≡◌, refl, ◌∙◌, ap, arith, [], ◌∷◌}
 use Rattle.std.proofs.lemmas.Int.{ints, by_lt_z}
 use lib.IntN.{ℤ, pos, ◌+ℤ◌, ◌-ℤ◌, ◌*ℤ◌}
@@ -6,8 +6,8 @@ use lib.Signed.{◌<ℤ◌, ◌≤ℤ◌}
 use Rattle.geo_exact.specs.declared.corner.Corner.{Corner}
 use Rattle.geo_exact.specs.Point.{Point}
 use Rattle.geo_exact.specs.Turn.{turn_at}
-use Rattle.geo_exact.proofs.Signs.{mul_pos, mul_not_neg}
-use Rattle.geo_exact.proofs.Polynomials.{Expr, var, add, mul, sub, same_by}
+use Rattle.geo_exact.proofs.numbers.Signs.{mul_pos, mul_not_neg}
+use Rattle.geo_exact.proofs.numbers.Polynomials.{Expr, var, add, mul, sub, same_by}
 
 -- s is k p + l q + m r with no negative coefficient, in homogeneous coordinates: a place in the triangle of p, q and r
 pub record IsBlend (s p q r : Point) (k l m : ℤ) : Type 0 where
@@ -27,7 +27,8 @@ pub blend_positive : (k l m a b c u v w : ℤ) → pos 0 ≤ℤ k → pos 0 ≤�
     → pos 0 <ℤ (k *ℤ u +ℤ l *ℤ v +ℤ m *ℤ w) → pos 0 <ℤ a → pos 0 <ℤ b → pos 0 <ℤ c
     → pos 0 <ℤ (k *ℤ a +ℤ l *ℤ b +ℤ m *ℤ c)
 blend_positive k l m a b c u v w hk hl hm h ha hb hc =
-    let not_neg : (z t : ℤ) → pos 0 ≤ℤ z → pos 0 <ℤ t → pos 0 ≤ℤ (z *ℤ t) = λ z t i j. mul_not_neg z t i (omega (arith, ints)) in
+    let not_neg : (z t : ℤ) → pos 0 ≤ℤ z → pos 0 <ℤ t → pos 0 ≤ℤ (z *ℤ t) =
+    λ z t i j. mul_not_neg z t i (omega (arith, ints)) in
     by_lt_z (pos 0) k
     (λ p. omega (arith, ints, mul_pos k a p ha, not_neg l b hl hb, not_neg m c hm hc))
     (λ p. by_lt_z (pos 0) l
@@ -50,7 +51,8 @@ abbrev sum_expr : Expr → Expr → Expr → Expr
 sum_expr p q r = add (add (mul (var 4) p) (mul (var 5) q)) (mul (var 6) r)
 
 form_blend : (ax ay bx by k l m px py pd qx qy qd rx ry rd : ℤ)
-    → form ax ay bx by (k *ℤ px +ℤ l *ℤ qx +ℤ m *ℤ rx) (k *ℤ py +ℤ l *ℤ qy +ℤ m *ℤ ry) (k *ℤ pd +ℤ l *ℤ qd +ℤ m *ℤ rd)
+    → form ax ay bx by (k *ℤ px +ℤ l *ℤ qx +ℤ m *ℤ rx) (k *ℤ py +ℤ l *ℤ qy +ℤ m *ℤ ry) (k *ℤ pd +ℤ l *ℤ qd
+    +ℤ m *ℤ rd)
     ≡ k *ℤ form ax ay bx by px py pd +ℤ l *ℤ form ax ay bx by qx qy qd +ℤ m *ℤ form ax ay bx by rx ry rd
 form_blend ax ay bx by k l m px py pd qx qy qd rx ry rd =
     same_by (ax ∷ ay ∷ bx ∷ by ∷ k ∷ l ∷ m ∷ px ∷ py ∷ pd ∷ qx ∷ qy ∷ qd ∷ rx ∷ ry ∷ rd ∷ [])

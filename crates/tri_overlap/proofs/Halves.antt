@@ -1,16 +1,17 @@
 -- Two lists of triangles, the second cut in two: what the first has in common with either part.
-use Rattle.std.proofs.Common.{◌≡◌, arith, inl, inr, ◌⊎◌, ◌↔◌, ℕ, List, [], ◌∷◌, ◌++◌, take, drop, ◌<◌, length, get_or}
+use Rattle.std.proofs.Common.{◌≡◌, arith, inl, inr, ◌⊎◌, ◌↔◌, ℕ, List, [], ◌∷◌, ◌++◌, take, drop, ◌<◌}
+use Rattle.std.proofs.Common.{length, get_or}
 use Rattle.std.proofs.lemmas.List.{take-append-drop}
 use Rattle.std.proofs.lemmas.List.Elements.{All-tail}
 use Rattle.geo_exact.specs.Point.{Point}
 use Rattle.geo_exact.specs.Winding.{IsInterior}
-use Rattle.geo_exact.proofs.Dropped.{drop_item}
+use Rattle.geo_exact.proofs.numbers.Dropped.{drop_item}
 use Rattle.ring_core.specs.declared.triangle.Tri.{Tri}
 use Rattle.ring_core.specs.Sums.{triangle_ring}
 use Rattle.std.specs.List.{All}
 use Rattle.geo_exact.specs.declared.bounds.Bounds.{Bounds}
 use Rattle.geo_exact.specs.Bounds.{IsInsideBox, BoxesAreApart}
-use Rattle.geo_exact.proofs.InBoxes.{not_in_both}
+use Rattle.geo_exact.proofs.boxes.InBoxes.{not_in_both}
 use Rattle.ring_core.specs.Boxes.{HoldsTriangle}
 use Rattle.tri_overlap.specs.own.Bounding.{InSome}
 use Rattle.tri_overlap.specs.own.Pairs.{SomePairMeets}
@@ -42,7 +43,8 @@ pub of_back : (p : Point) (i : ℕ) (us : List Tri) → InSome p (drop i us) →
 of_back p i us h = rw (take-append-drop i us) at (in_back p (take i us) (drop i us) h)
 
 -- what is in an item of the list is in the list
-pub in_item : (p : Point) (ts : List Tri) (i : ℕ) (t : Tri) → i < length ts → t ≡ get_or ts i t → IsInterior p (triangle_ring t) → InSome p ts
+pub in_item : (p : Point) (ts : List Tri) (i : ℕ) (t : Tri) → i < length ts → t ≡ get_or ts i t
+    → IsInterior p (triangle_ring t) → InSome p ts
 in_item p ts i t h e k = of_back p i ts (rw (drop_item ts i t h e) (inl k))
 
 -- some pair meets exactly where one does of a half and the other list
@@ -66,7 +68,8 @@ inside_all box (u ∷ us) h p (inl j) = inside_box u p box (h 0 u (omega arith))
 inside_all box (u ∷ us) h p (inr j) = inside_all box us (All-tail (HoldsTriangle box) u us h) p j
 
 -- lists of triangles in boxes that are apart have no two that meet
-pub apart_lists : (box other : Bounds) (ts us : List Tri) → All (HoldsTriangle box) ts → All (HoldsTriangle other) us → BoxesAreApart box other
+pub apart_lists : (box other : Bounds) (ts us : List Tri) → All (HoldsTriangle box) ts → All (HoldsTriangle other) us
+    → BoxesAreApart box other
     → ¬ SomePairMeets ts us
 apart_lists box other ts us h k a m =
     let w = point_of_pair ts us m in

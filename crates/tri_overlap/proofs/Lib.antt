@@ -1,6 +1,8 @@
 pub mod Convex
+pub mod Dependence
+pub mod Radon
 pub mod Helly
-pub mod Separating
+pub mod SeparatedTriangles
 pub mod Farthest
 pub mod Halves
 pub mod Boxes

@@ -16,7 +16,8 @@ overlap_of ts i j s t h k e f m = record {
   meet = m;
 }
 
-pub meet_of : (ts : List Tri) (i j : ℕ) (s t : Tri) → s ≡ get_or ts i s → t ≡ get_or ts j t → OverlapAt ts i j → InteriorsMeet (triangle_ring s) (triangle_ring t)
+pub meet_of : (ts : List Tri) (i j : ℕ) (s t : Tri) → s ≡ get_or ts i s → t ≡ get_or ts j t → OverlapAt ts i j
+    → InteriorsMeet (triangle_ring s) (triangle_ring t)
 meet_of ts i j s t e f o =
     let u : s ≡ o.one = e ∙ get_or_from_slice_get ts i o.one s o.at_i in
     let v : t ≡ o.other = f ∙ get_or_from_slice_get ts j o.other t o.at_j in

@@ -9,8 +9,8 @@ use Rattle.geo_exact.specs.Rings.{Edge, edges}
 use Rattle.geo_exact.specs.Turn.{IsOnSome}
 use Rattle.geo_exact.specs.Winding.{winding, IsInterior}
 use Rattle.geo_exact.specs.Interiors.{InteriorsMeet}
-use Rattle.geo_exact.proofs.Triangles.{triangle_winds_at_most_once}
-use Rattle.geo_exact.proofs.Moved.{moved, moved_off_some, moved_interior}
+use Rattle.geo_exact.proofs.rings.Triangles.{triangle_winds_at_most_once}
+use Rattle.geo_exact.proofs.corners_and_turns.Moved.{moved, moved_off_some, moved_interior}
 use Rattle.ring_core.specs.declared.triangle.Tri.{Tri}
 use Rattle.ring_core.specs.Sums.{triangle_ring, winding_of_triangles, MakeUp}
 use Rattle.tri_overlap.specs.own.Bounding.{InSome}
@@ -66,7 +66,8 @@ meeting_point : (t u : Tri) → InteriorsMeet (triangle_ring t) (triangle_ring u
     → (p : Point) × IsOffEdges p × IsInterior p (triangle_ring t) × IsInterior p (triangle_ring u)
 meeting_point t u m = (moved m.0, off_edges m.0, moved_interior (triangle_ring t) m.0 m.1, moved_interior (triangle_ring u) m.0 m.2)
 
-pub point_of_one : (t : Tri) (us : List Tri) → MeetsSome t us → (p : Point) × IsOffEdges p × IsInterior p (triangle_ring t) × InSome p us
+pub point_of_one : (t : Tri) (us : List Tri) → MeetsSome t us → (p : Point) × IsOffEdges p
+    × IsInterior p (triangle_ring t) × InSome p us
 point_of_one t [] h = absurd h
 point_of_one t (u ∷ us) (inl h) = let w = meeting_point t u h in (w.0, w.1, w.2, inl w.3)
 point_of_one t (u ∷ us) (inr h) = let w = point_of_one t us h in (w.0, w.1, w.2, inr w.3)

@@ -8,7 +8,7 @@ use Rattle.ring_core.specs.declared.triangle.Tri.{Tri}
 use Rattle.ring_core.specs.Sums.{triangle_ring}
 use Rattle.tri_overlap.specs.own.Pairs.{SeesSome, NoEdgeSeparates}
 use Rattle.tri_overlap.specs.Separation.{IsBeyond, SomeEdgeSeparates}
-use Rattle.tri_overlap.proofs.Separating.{meet_unseparated, unseparated_meet}
+use Rattle.tri_overlap.proofs.SeparatedTriangles.{meet_unseparated, unseparated_meet}
 
 up_or_not : (z : ℤ) → (pos 0 <ℤ z) ⊎ (z ≤ℤ pos 0)
 up_or_not z = by_lt_z (pos 0) z (λ p. inl p) (λ p. inr (omega (arith, ints, p)))
@@ -67,11 +67,13 @@ separated s t apart =
       ]
     ]
 
-apart_from_edge : (s t : Tri) → SomeEdgeSeparates s t ⊎ SomeEdgeSeparates t s → InteriorsMeet (triangle_ring s) (triangle_ring t) → ⊥
+apart_from_edge : (s t : Tri) → SomeEdgeSeparates s t ⊎ SomeEdgeSeparates t s
+    → InteriorsMeet (triangle_ring s) (triangle_ring t) → ⊥
 apart_from_edge s t some meet =
     let none = unseparated_meet s t meet in
     elim some [ inl h ↦ none_nor_some s t none.0 h | inr h ↦ none_nor_some t s none.1 h ]
 
 -- two triangles have no common inner point exactly where an edge of one separates it from the other
-pub apart_by_an_edge : (s t : Tri) → (¬ InteriorsMeet (triangle_ring s) (triangle_ring t)) ↔ (SomeEdgeSeparates s t ⊎ SomeEdgeSeparates t s)
+pub apart_by_an_edge : (s t : Tri) → (¬ InteriorsMeet (triangle_ring s) (triangle_ring t))
+    ↔ (SomeEdgeSeparates s t ⊎ SomeEdgeSeparates t s)
 apart_by_an_edge s t = (separated s t, λ some meet. apart_from_edge s t some meet)

@@ -1,4 +1,5 @@
--- Separating edges: two triangles are apart exactly where an edge of one of them separates it from the other (E. Helly's theorem, 1923, for half planes).
+-- Separating edges: two triangles are apart exactly where an edge of one of them separates it from the other (E.
+-- Helly's theorem, 1923, for half planes).
 use Rattle.std.specs.Prelude.{◌⊎◌, pos, ◌≤ℤ◌}
 use Rattle.geo_exact.specs.declared.corner.Corner.{Corner}
 use Rattle.geo_exact.specs.Turn.{turn}

@@ -41,6 +41,10 @@ pub fn first_overlap(triangles: &[Tri]) -> Option<(usize, usize)>
 /// from 0; none where no two do. It takes no memory.
 ///
 /// The time grows with the square of the number of triangles.
+///
+/// ```
+/// assert_eq!(folded(&shape), None); // no two of its triangles overlap
+/// ```
 pub fn folded<A: Allocator>(shape: &Shape<A>) -> Option<(usize, usize)>
     ensures { MatchOption result
         (HasNoOverlap shape.now.triangles)

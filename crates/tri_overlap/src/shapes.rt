@@ -45,8 +45,9 @@ fn some_pair_meets(window: Bounds, first: &[Tri], second: &[Tri]) -> bool
 
 /// The same, of long lists.
 ///
-/// The window is narrowed to what the first list has in it, and the second list is halved. Each half then takes the first
-/// list's place, so that both are halved in turn; where they only touch, the window is soon empty.
+/// The window is narrowed to what the first list has in it, and the second list is halved. Each
+/// half then takes the first list's place, so that both are halved in turn; where they only touch,
+/// the window is soon empty.
 fn meet_within(window: Bounds, first: &[Tri], second: &[Tri]) -> bool
     requires { HoldsCommon window first.now second.now }
     ensures { IsTrue result ↔ SomePairMeets first.now second.now }
@@ -65,8 +66,15 @@ fn meet_within(window: Bounds, first: &[Tri], second: &[Tri]) -> bool
 /// Whether the interiors of two shapes have a common point, with fractions: the first entry of the
 /// nine-intersection matrix (OGC 06-103r4, 6.1.15.2). Touching is no overlap; it takes no memory.
 ///
-/// Shapes whose boxes are apart are told so at once. Else the lists of triangles are halved and halved again, and parts that have no place in common are left out. At worst, where
-/// nearly all boxes meet, the time grows with the product of the numbers of triangles.
+/// Shapes whose boxes are apart are told so at once. Else the lists of triangles are halved and
+/// halved again, and parts that have no place in common are left out. At worst, where nearly all
+/// boxes meet, the time grows with the product of the numbers of triangles.
+///
+/// ```
+/// if shapes_overlap(&parcel, &zone) {
+///     pairs.push((id, number))?;
+/// }
+/// ```
 pub fn shapes_overlap<A: Allocator, B: Allocator>(first: &Shape<A>, second: &Shape<B>) -> bool
     ensures { IsTrue result ↔ InteriorsMeet first.now.ring.corners second.now.ring.corners }
 {

@@ -46,6 +46,11 @@ pub fn meet_in_box(first: &Tri, bounds: Bounds, second: &Tri) -> bool
 ///
 /// Two triangles of positive area have none exactly when some edge of one has all corners of the other
 /// on its right or on its line (the separating edge). Touching is no overlap.
+///
+/// ```
+/// // (0, 0) (60, 0) (0, 60) and (60, 0) (60, 60) (0, 60) have an edge in common, no more.
+/// assert!(!triangles_overlap(&first, &second));
+/// ```
 pub fn triangles_overlap(first: &Tri, second: &Tri) -> bool
     ensures { IsTrue result ↔ InteriorsMeet (triangle_ring first.now) (triangle_ring second.now) }
 {

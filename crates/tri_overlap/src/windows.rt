@@ -9,7 +9,8 @@ ghost use Rattle.tri_overlap.specs.own.Bounding.{InSome, IsRightOf, IsRightOfSom
 use geo_exact::{Bounds, Corner, turn};
 use ring_core::{Tri, bounds_of};
 
-/// Of the two ends of a range, the one that lies ahead on a way from `from` to `to`: `high` where the way does not fall.
+/// Of the two ends of a range, the one that lies ahead on a way from `from` to `to`: `high` where
+/// the way does not fall.
 fn ahead(from: i64, to: i64, low: i64, high: i64) -> i64
     ensures rising { from ≤ℤ to → result ≡ high }
     ensures falling { to <ℤ from → result ≡ low }

@@ -8,15 +8,16 @@ use Rattle.std.specs.List.Sorted.{IsNonDecreasingBy, IsPartitionPoint}
 use Rattle.std.proofs.lemmas.Bool.{ltb-true, ltb-false, false≢true}
 use Rattle.std.proofs.lemmas.List.{take-append-drop}
 use Rattle.std.proofs.lemmas.List.Elements.{Contains-append_right, Contains-append_cases}
-use Rattle.edge_chains.proofs.NodedEdges.{none_in_nil, Contains-here, Contains-cases}
-use Rattle.fabric_core.proofs.OneParcel.{of_each}
+use Rattle.edge_chains.proofs.nodings.NodedEdges.{none_in_nil, Contains-here, Contains-cases}
+use Rattle.fabric_core.proofs.tilings.OneParcel.{of_each}
 use Rattle.zone_tables.specs.declared.zoning.Zoning.{Zoning}
 use Rattle.zone_tables.specs.Overlap.{IsPairBefore, AreInPairOrder}
 use Rattle.zone_tables.specs.own.Zonings.{zonings, IsFrom, IsOnlyZone}
 use Rattle.zone_tables.proofs.Zonings.{AreTold, zonings_told, one_zone, single_of_one}
 
 -- ascending pairs have ascending ids
-not_falling : (pair : ℕ × ℕ) (pairs : List (ℕ × ℕ)) → AllByRecursion (IsPairBefore pair) pairs → AllByRecursion (λ later. pair.0 ≤ later.0) pairs
+not_falling : (pair : ℕ × ℕ) (pairs : List (ℕ × ℕ)) → AllByRecursion (IsPairBefore pair) pairs
+    → AllByRecursion (λ later. pair.0 ≤ later.0) pairs
 not_falling pair [] h = tt
 not_falling pair (later ∷ rest) h =
     (⊎_elim (λ l. omega (arith, l)) (λ l. omega (arith, l.0)) h.0, not_falling pair rest h.1)
@@ -35,24 +36,28 @@ ids_do_not_fall (pair ∷ rest) up (suc i) zero d h l = absurd (omega (arith, h)
 ids_do_not_fall (pair ∷ rest) up (suc i) (suc j) d h l = ids_do_not_fall rest up.1 i j d (omega (arith, h)) (omega (arith, l))
 
 -- ---- the pairs on both sides of a place
-all_taken : {X : Type 0} (P : X → Type 0) (xs : List X) (i : ℕ) → ((k : ℕ) (d : X) → k < i → P (get_or xs k d)) → AllByRecursion P (take i xs)
+all_taken : {X : Type 0} (P : X → Type 0) (xs : List X) (i : ℕ) → ((k : ℕ) (d : X) → k < i → P (get_or xs k d))
+    → AllByRecursion P (take i xs)
 all_taken P [] zero h = tt
 all_taken P [] (suc i) h = tt
 all_taken P (x ∷ xs) zero h = tt
 all_taken P (x ∷ xs) (suc i) h = (h 0 x (omega arith), all_taken P xs i (λ k d l. h (suc k) d (omega (arith, l))))
 
-all_listed : {X : Type 0} (P : X → Type 0) (xs : List X) → ((k : ℕ) (d : X) → k < length xs → P (get_or xs k d)) → AllByRecursion P xs
+all_listed : {X : Type 0} (P : X → Type 0) (xs : List X) → ((k : ℕ) (d : X) → k < length xs → P (get_or xs k d))
+    → AllByRecursion P xs
 all_listed P [] h = tt
 all_listed P (x ∷ xs) h = (h 0 x (omega arith), all_listed P xs (λ k d l. h (suc k) d (omega (arith, l))))
 
-all_dropped : {X : Type 0} (P : X → Type 0) (xs : List X) (i : ℕ) → ((k : ℕ) (d : X) → i ≤ k → k < length xs → P (get_or xs k d)) → AllByRecursion P (drop i xs)
+all_dropped : {X : Type 0} (P : X → Type 0) (xs : List X) (i : ℕ) → ((k : ℕ) (d : X) → i ≤ k → k < length xs
+    → P (get_or xs k d)) → AllByRecursion P (drop i xs)
 all_dropped P [] zero h = tt
 all_dropped P [] (suc i) h = tt
 all_dropped P (x ∷ xs) zero h = all_listed P (x ∷ xs) (λ k d l. h k d (omega arith) l)
 all_dropped P (x ∷ xs) (suc i) h = all_dropped P xs i (λ k d m l. h (suc k) d (omega (arith, m)) (omega (arith, l)))
 
 pub is_from : (id : ℕ) (pairs : List (ℕ × ℕ)) (start : ℕ)
-    → IsPartitionPoint (λ (pair : ℕ × ℕ). nat_lt pair.0 id ≡ true) (λ (pair : ℕ × ℕ). nat_lt pair.0 id ≡ false) pairs start
+    → IsPartitionPoint (λ (pair : ℕ × ℕ). nat_lt pair.0 id ≡ true) (λ (pair : ℕ × ℕ). nat_lt pair.0 id
+    ≡ false) pairs start
     → IsFrom id pairs (drop start pairs)
 is_from id pairs start h = record {
   before = take start pairs;
@@ -69,7 +74,8 @@ order_behind (pair ∷ before) rest up = order_behind before rest up.1
 module _ (id : ℕ) (pairs rest : List (ℕ × ℕ)) (from : IsFrom id pairs rest) where
   stands_there : (zone : ℕ) → Contains pairs (id, zone) → Contains rest (id, zone)
   stands_there zone c = ⊎_elim
-      (λ l. absurd (let low : id < id = of_each (λ (pair : ℕ × ℕ). pair.0 < id) from.before (id, zone) from.lower l in omega (arith, low)))
+      (λ l. absurd (let low : id < id = of_each (λ (pair : ℕ × ℕ). pair.0 < id) from.before (id, zone) from.lower l in
+      omega (arith, low)))
       (λ l. l)
       (Contains-append_cases from.before rest (id, zone) (subst (λ all. Contains all (id, zone)) from.are_all c))
 
@@ -102,7 +108,8 @@ module _ (id : ℕ) (pairs rest : List (ℕ × ℕ)) (from : IsFrom id pairs res
           (ascend.each parcel (Contains-here parcel others)).here in omega (arith, above, not_below, e)))
           (Contains-cases parcel others found c)
 
-      pub first_is_only : (zone : ℕ) → IsOnlyZone pairs id zone ↔ ((parcel.id ≡ id) × (parcel.is_split ≡ false) × (parcel.zone ≡ zone))
+      pub first_is_only : (zone : ℕ) → IsOnlyZone pairs id zone ↔ ((parcel.id ≡ id) × (parcel.is_split ≡ false)
+          × (parcel.zone ≡ zone))
       first_is_only zone =
           let each = (subst (λ all. AreTold rest all) are told).each parcel (Contains-here parcel others) in (
             (λ h. let only = (same_only zone).0 h in
@@ -115,7 +122,8 @@ module _ (id : ℕ) (pairs rest : List (ℕ × ℕ)) (from : IsFrom id pairs res
 
 -- what is answered: the first parcel's zone where it is the one with this id, and not split
 pub answers_zone : (b : Bool) (parcel : Zoning) (id zone : ℕ) (answer : Option ℕ) → answer ≡ then_some b parcel.zone
-    → (b ≡ true → (parcel.id ≡ id) × (parcel.is_split ≡ false)) → (parcel.id ≡ id → parcel.is_split ≡ false → b ≡ true)
+    → (b ≡ true → (parcel.id ≡ id) × (parcel.is_split ≡ false)) → (parcel.id ≡ id → parcel.is_split ≡ false
+    → b ≡ true)
     → (answer ≡ Some zone) ↔ ((parcel.id ≡ id) × (parcel.is_split ≡ false) × (parcel.zone ≡ zone))
 answers_zone true parcel id zone answer e h k = (
   (λ some. let both = h refl in let same : parcel.zone ≡ zone = cc in (both.0, both.1, same)),

@@ -8,14 +8,15 @@ use Rattle.geo_exact.specs.Layers.{NumberedRing}
 use Rattle.fabric_core.specs.Rows.{numbers}
 use Rattle.fabric_core.specs.Tiling.{IsTiling}
 use Rattle.fabric_core.specs.Faults.{AreSimple}
-use Rattle.fabric_core.proofs.RowLists.{Contains-mapped}
+use Rattle.fabric_core.proofs.rows.RowLists.{Contains-mapped}
 use Rattle.zone_tables.specs.Overlap.{Overlay, Overlaps, OverlapsAlone, IsOverlapTable, IsSplitZoned, AreSplitZoned}
 use Rattle.zone_tables.specs.Within.{IsWithinZone}
 use Rattle.zone_tables.specs.Report.{AreWithinZones, IsReport}
 use Rattle.zone_tables.specs.own.Zonings.{zonings, split_ids, single_zones, IsOnlyZone}
 use Rattle.zone_tables.specs.own.Texts.{report_text}
 use Rattle.zone_tables.proofs.Zones.{overlaps_some, within_its_only, overlaps_alone}
-use Rattle.zone_tables.proofs.Zonings.{AreTold, HasTwo, zonings_told, split_exactly, single_exactly, split_or_single, splits_rise, singles_rise}
+use Rattle.zone_tables.proofs.Zonings.{AreTold, HasTwo, zonings_told, split_exactly, single_exactly, split_or_single}
+use Rattle.zone_tables.proofs.Zonings.{splits_rise, singles_rise}
 
 -- the table's parcels, zones and city
 pub record Stands (rows zones : List NumberedRing) (city : List Corner) (pairs : List (ℕ × ℕ)) : Type 0 where
@@ -85,14 +86,22 @@ module _ (rows zones : List NumberedRing) (city : List Corner) (pairs : List (�
     );
   }
 
-  each_told : (id : ℕ) → Contains (numbers rows) id → Contains (split_ids (zonings pairs)) id ⊎ Contains (map (λ (p : ℕ × ℕ). p.0) (single_zones (zonings pairs))) id
+  each_told : (id : ℕ) → Contains (numbers rows) id → Contains (split_ids (zonings pairs)) id
+      ⊎ Contains (map (λ (p : ℕ × ℕ). p.0) (single_zones (zonings pairs))) id
   each_told id c =
       let w = overlaps_some rows zones city stands.tiling stands.zones_tile stands.simple id c in
       ⊎_elim (λ h. inl h)
       (λ h. inr (Contains-mapped (λ (p : ℕ × ℕ). p.0) (single_zones (zonings pairs)) (id, h.0) h.1))
       (split_or_single pairs (zonings pairs) are_told id w.0 ((stands.table.exactly id w.0).1 w.1))
 
-  pub is_report : (entries : ℕ) → IsReport (record { rows = rows; zones = zones; city = city; pairs = pairs; entries = entries }) (report_text entries pairs)
+  pub is_report : (entries : ℕ) → IsReport (record {
+    rows = rows;
+    zones = zones;
+    city = city;
+    pairs = pairs;
+    entries =
+        entries;
+  }) (report_text entries pairs)
   is_report entries = record {
     is_table = stands.table;
     splits = split_ids (zonings pairs);
@@ -111,4 +120,11 @@ pub table_report : (table : Overlay) (entries : ℕ) (pairs : List (ℕ × ℕ))
 table_report table entries pairs are_all tiling zones_tile simple ids_rise zones_rise e s =
     subst (IsReport table) (ap (λ n. report_text n table.pairs) (sym e) ∙ ap (report_text entries) (sym s))
     (is_report table.rows table.zones table.city table.pairs
-    (record { table = are_all; tiling = tiling; zones_tile = zones_tile; simple = simple; ids_rise = ids_rise; zones_rise = zones_rise }) table.entries)
+    (record {
+      table = are_all;
+      tiling = tiling;
+      zones_tile = zones_tile;
+      simple = simple;
+      ids_rise = ids_rise;
+      zones_rise = zones_rise;
+    }) table.entries)

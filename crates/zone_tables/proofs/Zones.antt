@@ -1,6 +1,8 @@
--- Parcels and zones that tile one city: each parcel overlaps a zone, and is within a zone exactly where it overlaps this one alone. A point that is moved
+-- Parcels and zones that tile one city: each parcel overlaps a zone, and is within a zone exactly where it overlaps
+-- this one alone. A point that is moved
 -- a little is off all edges, and each ring goes round it as round the point itself.
-use Rattle.std.proofs.Common.{◌≡◌, ◌⊎◌, ⊎_elim, refl, sym, ◌∙◌, ap, subst, arith, ℕ, ℤ, pos, ◌+ℤ◌, List, [], ◌∷◌, ◌++◌}
+use Rattle.std.proofs.Common.{◌≡◌, ◌⊎◌, ⊎_elim, refl, sym, ◌∙◌, ap, subst, arith, ℕ, ℤ, pos, ◌+ℤ◌, List, []}
+use Rattle.std.proofs.Common.{◌∷◌, ◌++◌}
 use Rattle.std.specs.Prelude.{◌↔◌}
 use Rattle.std.specs.List.{AllByRecursion, Contains}
 use Rattle.std.specs.List.Sorted.{IsStrictlyIncreasing}
@@ -13,17 +15,17 @@ use Rattle.geo_exact.specs.Rings.{edges}
 use Rattle.geo_exact.specs.Turn.{turn, turn_at, IsOnRing}
 use Rattle.geo_exact.specs.Winding.{winding, IsInterior}
 use Rattle.geo_exact.specs.Layers.{NumberedRing, numbered}
-use Rattle.geo_exact.proofs.Moved.{moved, moved_interior, moved_off_some, moved_winding}
+use Rattle.geo_exact.proofs.corners_and_turns.Moved.{moved, moved_interior, moved_off_some, moved_winding}
 use Rattle.ring_core.specs.declared.triangle.Tri.{Tri}
 use Rattle.ring_core.specs.Simple.{IsSimpleRing}
-use Rattle.edge_chains.proofs.NodedEdges.{Contains-here, Contains-cases, all_from_contains}
+use Rattle.edge_chains.proofs.nodings.NodedEdges.{Contains-here, Contains-cases, all_from_contains}
 use Rattle.fabric_core.specs.Rows.{numbers}
 use Rattle.fabric_core.specs.Tiling.{IsTiling, IsOffEdges, IsInNone, IsInOne}
 use Rattle.fabric_core.specs.Faults.{AreSimple}
-use Rattle.fabric_core.proofs.OneParcel.{of_each}
-use Rattle.fabric_core.proofs.OneRow.{in_city, in_the_row, is_the_row, moved_off}
-use Rattle.fabric_core.proofs.RowLists.{ascending, same_row, has_row}
-use Rattle.fabric_core.proofs.InnerPoints.{inner_point}
+use Rattle.fabric_core.proofs.tilings.OneParcel.{of_each}
+use Rattle.fabric_core.proofs.tilings.OneRow.{in_city, in_the_row, is_the_row, moved_off}
+use Rattle.fabric_core.proofs.rows.RowLists.{ascending, same_row, has_row}
+use Rattle.fabric_core.proofs.tilings.InnerPoints.{inner_point}
 use Rattle.zone_tables.specs.Overlap.{Overlaps, OverlapsAlone, IsSplitZoned}
 use Rattle.zone_tables.specs.Within.{IsOffZones, IsWithin, IsWithinZone}
 
@@ -87,8 +89,10 @@ module _ (rows zones : List NumberedRing) (city : List Corner) (tiling : IsTilin
           is_within = λ p i off.
               let one = in_one_zone p h.parcel h.is_row i in
               let there = overlaps_there p h.parcel h.is_row i in
-              let is_it : one.row.number ≡ zone = alone.no_other one.row.number (subst (λ n. Overlaps rows zones n one.row.number) h.has_id there) in
-              let same : one.row ≡ h.region = one_zone one.row h.region (in_the_row (moved p) zones one) h.is_zone (is_it ∙ sym h.has_zone) in
+              let is_it : one.row.number ≡ zone =
+              alone.no_other one.row.number (subst (λ n. Overlaps rows zones n one.row.number) h.has_id there) in
+              let same : one.row ≡ h.region = one_zone one.row h.region (in_the_row (moved p) zones one) h.is_zone
+              (is_it ∙ sym h.has_zone) in
               subst (λ (row : NumberedRing). IsInterior p row.corners) same
               (moved_back p one.row.corners (off one.row (in_the_row (moved p) zones one)) (wound_once (moved p) one));
         }
@@ -109,12 +113,14 @@ module _ (rows zones : List NumberedRing) (city : List Corner) (tiling : IsTilin
           let i : IsInterior p h.parcel.corners = subst (λ (row : NumberedRing). IsInterior p row.corners) same k.interiors_meet.1 in
           let one = in_one_zone p h.parcel h.is_row i in
           let here : h.region ≡ one.row = is_the_row (moved p) zones one h.region h.is_zone (there p i) in
-          let also : k.region ≡ one.row = is_the_row (moved p) zones one k.region k.is_zone (moved_interior k.region.corners p k.interiors_meet.2) in
+          let also : k.region ≡ one.row = is_the_row (moved p) zones one k.region k.is_zone
+          (moved_interior k.region.corners p k.interiors_meet.2) in
           sym k.has_zone ∙ ap (λ (row : NumberedRing). row.number) (also ∙ sym here) ∙ h.has_zone
 
       pub overlaps_alone : OverlapsAlone rows zones id zone
       overlaps_alone =
-          let inner = inner_point h.parcel.corners (of_each (λ (row : NumberedRing). IsSimpleRing row.corners) rows h.parcel simple h.is_row) in record {
+          let inner = inner_point h.parcel.corners (of_each (λ (row : NumberedRing). IsSimpleRing row.corners) rows
+          h.parcel simple h.is_row) in record {
             overlaps = record {
               parcel = h.parcel;
               is_row = h.is_row;

@@ -1,5 +1,6 @@
 -- The parcels that ascending pairs speak of: each once, with its first zone, and split exactly where it has another.
-use Rattle.std.proofs.Common.{◌≡◌, ◌≢◌, ◌⊎◌, inl, inr, ⊎_elim, refl, sym, ◌∙◌, ap, subst, arith, Bool, true, false, cond, not}
+use Rattle.std.proofs.Common.{◌≡◌, ◌≢◌, ◌⊎◌, inl, inr, ⊎_elim, refl, sym, ◌∙◌, ap, subst, arith, Bool, true}
+use Rattle.std.proofs.Common.{false, cond, not}
 use Rattle.std.proofs.Common.{ℕ, zero, suc, ◌+◌, ◌<◌, ◌≤◌, List, [], ◌∷◌, length, map, add-one}
 use Rattle.std.specs.Prelude.{nat_eq, nat_lt, slice_index, ◌↔◌}
 use Rattle.std.specs.Bool.{⊤}
@@ -7,9 +8,10 @@ use Rattle.std.specs.List.{AllByRecursion, Contains, filter}
 use Rattle.std.specs.List.Sorted.{IsStrictlyIncreasing}
 use Rattle.std.proofs.lemmas.Bool.{cases_Bool, le-ltb, lt-ltb, eq-eqb, not-true, not_from_true, not_from_false, false≢true}
 use Rattle.std.proofs.lemmas.Bool.Decides.{eqb_tells}
-use Rattle.edge_chains.proofs.NodedEdges.{none_in_nil, Contains-here, Contains-there, Contains-cases}
-use Rattle.fabric_core.proofs.OneParcel.{of_each}
-use Rattle.fabric_core.proofs.RowLists.{AllByRecursion-filter, AllByRecursion-weaker, Contains-kept, Contains-from_kept, Contains-mapped, Contains-from_mapped}
+use Rattle.edge_chains.proofs.nodings.NodedEdges.{none_in_nil, Contains-here, Contains-there, Contains-cases}
+use Rattle.fabric_core.proofs.tilings.OneParcel.{of_each}
+use Rattle.fabric_core.proofs.rows.RowLists.{AllByRecursion-filter, AllByRecursion-weaker, Contains-kept}
+use Rattle.fabric_core.proofs.rows.RowLists.{Contains-from_kept, Contains-mapped, Contains-from_mapped}
 use Rattle.zone_tables.specs.declared.zoning.Zoning.{Zoning}
 use Rattle.zone_tables.specs.Overlap.{IsPairBefore, AreInPairOrder}
 use Rattle.zone_tables.specs.own.Zonings.{behind, with_pair, zonings, split_ids, single_zones, IsFrom, IsOnlyZone}
@@ -22,7 +24,8 @@ pub behind_fewer : (id : ℕ) (pairs : List (ℕ × ℕ)) → length (behind id 
 behind_fewer id [] = omega arith
 behind_fewer id (pair ∷ pairs) = by_test (nat_eq pair.0 id) (behind_fewer id pairs)
   where
-    by_test : (b : Bool) → length (behind id pairs) ≤ length pairs → length (cond b (behind id pairs) (pair ∷ pairs)) ≤ length (pair ∷ pairs)
+    by_test : (b : Bool) → length (behind id pairs) ≤ length pairs → length (cond b (behind id pairs) (pair ∷ pairs))
+        ≤ length (pair ∷ pairs)
     by_test true h = omega (arith, h)
     by_test false h = omega arith
 
@@ -33,9 +36,11 @@ zonings_first id zone [] = refl
 zonings_first id zone (pair ∷ pairs) =
     let later = zonings_first pair.0 pair.1 pairs in ap (with_pair (id, zone)) later ∙ by_test later (eqb_tells pair.0 id)
   where
-    by_test : zonings (pair ∷ pairs) ≡ zoning pair.0 pair.1 (nat_lt (length (behind pair.0 pairs)) (length pairs)) ∷ zonings (behind pair.0 pairs)
+    by_test : zonings (pair ∷ pairs) ≡ zoning pair.0 pair.1 (nat_lt (length (behind pair.0 pairs)) (length pairs))
+        ∷ zonings (behind pair.0 pairs)
         → ((nat_eq pair.0 id ≡ true) × (pair.0 ≡ id)) ⊎ ((nat_eq pair.0 id ≡ false) × (pair.0 ≢ id))
-        → with_pair (id, zone) (zoning pair.0 pair.1 (nat_lt (length (behind pair.0 pairs)) (length pairs)) ∷ zonings (behind pair.0 pairs))
+        → with_pair (id, zone) (zoning pair.0 pair.1 (nat_lt (length (behind pair.0 pairs)) (length pairs))
+        ∷ zonings (behind pair.0 pairs))
         ≡ zoning id zone (nat_lt (length (behind id (pair ∷ pairs))) (length (pair ∷ pairs))) ∷ zonings (behind id (pair ∷ pairs))
     by_test later (inl h) =
         let more : nat_lt (length (behind id pairs)) (suc (length pairs)) ≡ true = lt-ltb _ _ (omega (arith, behind_fewer id pairs)) in
@@ -63,19 +68,23 @@ pub record AreTold (pairs : List (ℕ × ℕ)) (parcels : List Zoning) : Type 0 
   pub all : (id zone : ℕ) → Contains pairs (id, zone) → (parcel : Zoning) × Contains parcels parcel × (parcel.id ≡ id)
 
 -- one more pair, and a parcel that it is none of
-told_behind : (pair : ℕ × ℕ) (pairs : List (ℕ × ℕ)) (parcel : Zoning) → pair.0 ≢ parcel.id → IsTold pairs parcel → IsTold (pair ∷ pairs) parcel
+told_behind : (pair : ℕ × ℕ) (pairs : List (ℕ × ℕ)) (parcel : Zoning) → pair.0 ≢ parcel.id → IsTold pairs parcel
+    → IsTold (pair ∷ pairs) parcel
 told_behind pair pairs parcel apart h = record {
   here = Contains-there pair pairs _ h.here;
   more = λ e. let m = h.more e in (m.0, m.1, Contains-there pair pairs _ m.2);
-  alone = λ e other c. ⊎_elim (λ s. absurd (apart (ap (λ (p : ℕ × ℕ). p.0) s))) (λ l. h.alone e other l) (Contains-cases pair pairs (parcel.id, other) c);
+  alone = λ e other c. ⊎_elim (λ s. absurd (apart (ap (λ (p : ℕ × ℕ). p.0) s))) (λ l. h.alone e other l)
+      (Contains-cases pair pairs (parcel.id, other) c);
 }
 
 -- one more pair, which is the first of its parcel
-told_first : (pair : ℕ × ℕ) (pairs : List (ℕ × ℕ)) → ((other : ℕ) → Contains pairs (pair.0, other) → ⊥) → IsTold (pair ∷ pairs) (zoning pair.0 pair.1 false)
+told_first : (pair : ℕ × ℕ) (pairs : List (ℕ × ℕ)) → ((other : ℕ) → Contains pairs (pair.0, other) → ⊥)
+    → IsTold (pair ∷ pairs) (zoning pair.0 pair.1 false)
 told_first pair pairs none = record {
   here = Contains-here pair pairs;
   more = λ e. absurd (false≢true e);
-  alone = λ e other c. ⊎_elim (λ s. sym (ap (λ (p : ℕ × ℕ). p.1) s)) (λ l. absurd (none other l)) (Contains-cases pair pairs (pair.0, other) c);
+  alone = λ e other c. ⊎_elim (λ s. sym (ap (λ (p : ℕ × ℕ). p.1) s)) (λ l. absurd (none other l))
+      (Contains-cases pair pairs (pair.0, other) c);
 }
 
 -- one more pair before parcels that all come later
@@ -91,7 +100,8 @@ told_new pair pairs parcels later told =
       each = λ parcel c. ⊎_elim
           (λ s. subst (IsTold (pair ∷ pairs)) s (told_first pair pairs none))
           (λ l. told_behind pair pairs parcel
-          (λ e. let m : pair.0 < parcel.id = of_each (λ (p : Zoning). pair.0 < p.id) parcels parcel later l in omega (arith, m, e)) (told.each parcel l))
+          (λ e. let m : pair.0 < parcel.id = of_each (λ (p : Zoning). pair.0 < p.id) parcels parcel later l in
+          omega (arith, m, e)) (told.each parcel l))
           (Contains-cases new parcels parcel c);
       all = λ id zone c. ⊎_elim
           (λ s. (new, Contains-here new parcels, ap (λ (p : ℕ × ℕ). p.0) s))
@@ -100,11 +110,13 @@ told_new pair pairs parcels later told =
     }
 
 -- one more pair of the first parcel
-told_same : (pair : ℕ × ℕ) (pairs : List (ℕ × ℕ)) (first : Zoning) (rest : List Zoning) → first.id ≡ pair.0 → pair.1 ≢ first.zone
+told_same : (pair : ℕ × ℕ) (pairs : List (ℕ × ℕ)) (first : Zoning) (rest : List Zoning) → first.id ≡ pair.0
+    → pair.1 ≢ first.zone
     → AreTold pairs (first ∷ rest) → AreTold (pair ∷ pairs) (zoning pair.0 pair.1 true ∷ rest)
 told_same pair pairs first rest same apart told =
     let new = zoning pair.0 pair.1 true in
-    let later : AllByRecursion (λ later. pair.0 < later.id) rest = subst (λ n. AllByRecursion (λ later. n < later.id) rest) same told.up.0 in
+    let later : AllByRecursion (λ later. pair.0 < later.id) rest =
+    subst (λ n. AllByRecursion (λ later. n < later.id) rest) same told.up.0 in
     let old : IsTold pairs first = told.each first (Contains-here first rest) in
     record {
       up = (later, told.up.1);
@@ -140,12 +152,20 @@ told_pair pair pairs (first ∷ rest) before told =
     (λ e. ⊎_elim (λ l. omega (arith, l, same.1)) (λ l. omega (arith, l.1, e)) order) told))
     (λ other. rw (other.0)
     (let less : pair.0 < first.id = ⊎_elim (λ l. l) (λ l. absurd (other.1 (sym l.0))) order in
-    told_new pair pairs (first ∷ rest)
-    (less, AllByRecursion-weaker (λ (p : Zoning). first.id < p.id) (λ (p : Zoning). pair.0 < p.id) (λ p h. omega (arith, h, less)) rest told.up.0) told))
+    told_new pair pairs (first ∷ rest) (
+      less,
+      AllByRecursion-weaker (λ (p : Zoning). first.id < p.id) (λ (p : Zoning). pair.0 < p.id) (λ p h.
+          omega (arith, h, less)) rest told.up.0,
+    ) told))
     (eqb_tells first.id pair.0)
 
 pub zonings_told : (pairs : List (ℕ × ℕ)) → AreInPairOrder pairs → AreTold pairs (zonings pairs)
-zonings_told [] up = record { up = tt; each = λ parcel c. absurd (none_in_nil parcel c); all = λ id zone c. absurd (none_in_nil (id, zone) c) }
+zonings_told [] up = record {
+  up = tt;
+  each = λ parcel c. absurd (none_in_nil parcel c);
+  all =
+      λ id zone c. absurd (none_in_nil (id, zone) c);
+}
 zonings_told (pair ∷ pairs) up = told_pair pair pairs (zonings pairs) up.0 (zonings_told pairs up.1)
 
 -- ---- the parcels that are split, and the others
@@ -153,22 +173,29 @@ zonings_told (pair ∷ pairs) up = told_pair pair pairs (zonings pairs) up.0 (zo
 abbrev pub HasTwo : List (ℕ × ℕ) → ℕ → Type 0
 HasTwo pairs id = (zone : ℕ) × (other : ℕ) × (zone ≢ other) × Contains pairs (id, zone) × Contains pairs (id, other)
 
-two_zones : (pairs : List (ℕ × ℕ)) (parcel : Zoning) (id : ℕ) → IsTold pairs parcel → parcel.id ≡ id → parcel.is_split ≡ true → HasTwo pairs id
+two_zones : (pairs : List (ℕ × ℕ)) (parcel : Zoning) (id : ℕ) → IsTold pairs parcel → parcel.id ≡ id
+    → parcel.is_split ≡ true → HasTwo pairs id
 two_zones pairs parcel id h e split =
-    let m = h.more split in (parcel.zone, m.0, m.1, subst (λ n. Contains pairs (n, parcel.zone)) e h.here, subst (λ n. Contains pairs (n, m.0)) e m.2)
+    let m = h.more split in
+    (parcel.zone, m.0, m.1, subst (λ n. Contains pairs (n, parcel.zone)) e h.here, subst (λ n. Contains pairs (n, m.0)) e m.2)
 
-pub one_zone : (pairs : List (ℕ × ℕ)) (parcel : Zoning) (id : ℕ) → IsTold pairs parcel → parcel.id ≡ id → parcel.is_split ≡ false
+pub one_zone : (pairs : List (ℕ × ℕ)) (parcel : Zoning) (id : ℕ) → IsTold pairs parcel → parcel.id ≡ id
+    → parcel.is_split ≡ false
     → IsOnlyZone pairs id parcel.zone
-one_zone pairs parcel id h e single =
-    (subst (λ n. Contains pairs (n, parcel.zone)) e h.here, λ other c. h.alone single other (subst (λ n. Contains pairs (n, other)) (sym e) c))
+one_zone pairs parcel id h e single = (
+  subst (λ n. Contains pairs (n, parcel.zone)) e h.here,
+  λ other c. h.alone single other (subst (λ n. Contains pairs (n, other)) (sym e) c),
+)
 
 is_split_of_two : (pairs : List (ℕ × ℕ)) (parcel : Zoning) (id : ℕ) → IsTold pairs parcel → parcel.id ≡ id → HasTwo pairs id
     → parcel.is_split ≡ true
 is_split_of_two pairs parcel id h e two =
     ⊎_elim (λ yes. yes)
-    (λ no. let one = one_zone pairs parcel id h e no in absurd (two.2 (one.1 two.0 two.3 ∙ sym (one.1 two.1 two.4)))) (cases_Bool parcel.is_split)
+    (λ no. let one = one_zone pairs parcel id h e no in absurd (two.2 (one.1 two.0 two.3 ∙ sym (one.1 two.1 two.4))))
+    (cases_Bool parcel.is_split)
 
-pub single_of_one : (pairs : List (ℕ × ℕ)) (parcel : Zoning) (id zone : ℕ) → IsTold pairs parcel → parcel.id ≡ id → IsOnlyZone pairs id zone
+pub single_of_one : (pairs : List (ℕ × ℕ)) (parcel : Zoning) (id zone : ℕ) → IsTold pairs parcel → parcel.id ≡ id
+    → IsOnlyZone pairs id zone
     → (parcel.is_split ≡ false) × (parcel.zone ≡ zone)
 single_of_one pairs parcel id zone h e one =
     let same : parcel.zone ≡ zone = one.1 parcel.zone (subst (λ n. Contains pairs (n, parcel.zone)) e h.here) in (
@@ -234,13 +261,16 @@ AscendById-filter test (parcel ∷ rest) up = by_test (test parcel) (AscendById-
     by_test false later = later
 
 pub splits_rise : (parcels : List Zoning) → AscendById parcels → IsStrictlyIncreasing (split_ids parcels)
-splits_rise parcels up = rising_ids (filter (λ (p : Zoning). p.is_split) parcels) (AscendById-filter (λ (p : Zoning). p.is_split) parcels up)
+splits_rise parcels up = rising_ids (filter (λ (p : Zoning). p.is_split) parcels)
+    (AscendById-filter (λ (p : Zoning). p.is_split) parcels up)
 
-firsts : (parcels : List Zoning) → map (λ (p : ℕ × ℕ). p.0) (map (λ (p : Zoning). (p.id, p.zone)) parcels) ≡ map (λ (p : Zoning). p.id) parcels
+firsts : (parcels : List Zoning) → map (λ (p : ℕ × ℕ). p.0) (map (λ (p : Zoning). (p.id, p.zone)) parcels)
+    ≡ map (λ (p : Zoning). p.id) parcels
 firsts [] = refl
 firsts (parcel ∷ rest) = ap (λ ids. parcel.id ∷ ids) (firsts rest)
 
-pub singles_rise : (parcels : List Zoning) → AscendById parcels → IsStrictlyIncreasing (map (λ (p : ℕ × ℕ). p.0) (single_zones parcels))
+pub singles_rise : (parcels : List Zoning) → AscendById parcels
+    → IsStrictlyIncreasing (map (λ (p : ℕ × ℕ). p.0) (single_zones parcels))
 singles_rise parcels up =
     subst IsStrictlyIncreasing (sym (firsts (filter (λ (p : Zoning). not p.is_split) parcels)))
     (rising_ids (filter (λ (p : Zoning). not p.is_split) parcels) (AscendById-filter (λ (p : Zoning). not p.is_split) parcels up))
@@ -250,9 +280,11 @@ pub next_split : (parcels : List Zoning) (parcel : Zoning) (rest : List Zoning) 
     → split_ids parcels ≡ parcel.id ∷ split_ids rest
 next_split parcels parcel rest e split =
     ap split_ids e
-    ∙ ap (λ b. map (λ (p : Zoning). p.id) (cond b (parcel ∷ filter (λ (p : Zoning). p.is_split) rest) (filter (λ (p : Zoning). p.is_split) rest))) split
+    ∙ ap (λ b. map (λ (p : Zoning). p.id) (cond b (parcel ∷ filter (λ (p : Zoning). p.is_split) rest)
+    (filter (λ (p : Zoning). p.is_split) rest))) split
 
-pub next_single : (parcels : List Zoning) (parcel : Zoning) (rest : List Zoning) → parcels ≡ parcel ∷ rest → not parcel.is_split ≡ true
+pub next_single : (parcels : List Zoning) (parcel : Zoning) (rest : List Zoning) → parcels ≡ parcel ∷ rest
+    → not parcel.is_split ≡ true
     → single_zones parcels ≡ (parcel.id, parcel.zone) ∷ single_zones rest
 next_single parcels parcel rest e single =
     ap single_zones e

@@ -1,4 +1,5 @@
--- Which parcels and zones overlap: those whose interiors have a common point (the first entry of the nine-intersection matrix, OGC 06-103r4, 6.1.15.2).
+-- Which parcels and zones overlap: those whose interiors have a common point (the first entry of the
+-- nine-intersection matrix, OGC 06-103r4, 6.1.15.2).
 -- A row is a parcel's or a zone's ring under its id.
 use Rattle.std.specs.Prelude.{◌≡◌, ◌≢◌, ◌⊎◌, ◌↔◌, ⊤, ℕ, ◌<◌, List, [], ◌∷◌}
 use Rattle.std.specs.List.{AllByRecursion, Contains}

@@ -1,4 +1,5 @@
--- The text of an overlay's report (this product's own): how many entries the journal had, the pairs, the split-zoned parcels, and the zone of each other
+-- The text of an overlay's report (this product's own): how many entries the journal had, the pairs, the split-zoned
+-- parcels, and the zone of each other
 -- parcel. Numbers are in decimal.
 use Rattle.std.specs.Prelude.{◌≡◌, ◌⊎◌, ◌↔◌, ℕ, List, [], ◌∷◌, ◌++◌, map, codes, decimal, Option}
 use Rattle.std.specs.List.{Contains, flat_map}
@@ -39,7 +40,8 @@ pub record AreWithinZones (rows zones : List NumberedRing) (pairs : List (ℕ ×
   pub ascend : IsStrictlyIncreasing (map (λ pair. pair.0) pairs)
   pub exactly : (id zone : ℕ) → Contains pairs (id, zone) ↔ IsWithinZone rows zones id zone
 
--- The text tells the table of its parcels and zones: the pairs, which are all that overlap, the split-zoned parcels, and each other parcel with the
+-- The text tells the table of its parcels and zones: the pairs, which are all that overlap, the split-zoned parcels,
+-- and each other parcel with the
 -- zone that it is within.
 pub record IsReport (table : Overlay) (text : List ℕ) : Type 0 where
   pub is_table : IsOverlapTable table.rows table.zones table.pairs
@@ -48,7 +50,8 @@ pub record IsReport (table : Overlay) (text : List ℕ) : Type 0 where
   pub others : List (ℕ × ℕ)
   pub are_within : AreWithinZones table.rows table.zones others
   pub each_is_told : (id : ℕ) → Contains (numbers table.rows) id → Contains splits id ⊎ Contains (map (λ pair. pair.0) others) id
-  pub is_text : text ≡ entries_line table.entries ++ flat_map pair_line table.pairs ++ flat_map split_line splits ++ flat_map within_line others
+  pub is_text : text ≡ entries_line table.entries ++ flat_map pair_line table.pairs ++ flat_map split_line splits
+      ++ flat_map within_line others
 
 -- the report was written after the told bytes
 pub record WritesReport (table : Overlay) (old new : Option (List ℕ)) : Type 0 where

@@ -1,4 +1,5 @@
--- What a parcel within a zone is: no edge of a zone counts (this product's own; interiors and boundaries are those of OGC 06-103r4, 6.1.11, Polygon).
+-- What a parcel within a zone is: no edge of a zone counts (this product's own; interiors and boundaries are those of
+-- OGC 06-103r4, 6.1.11, Polygon).
 use Rattle.std.specs.Prelude.{◌≡◌, ℕ, List}
 use Rattle.std.specs.List.{Contains}
 use Rattle.geo_exact.specs.declared.corner.Corner.{Corner}

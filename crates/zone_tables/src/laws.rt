@@ -18,10 +18,11 @@ pub fn each_parcel_overlaps_a_zone()
         → (zone : ℕ) × Overlaps rows zones id zone }
 {}
 
-/// Where parcels that are simple and zones tile one city, a parcel is within a zone exactly where it overlaps this zone and no other.
+/// Where parcels that are simple and zones tile one city, a parcel is within a zone exactly where
+/// it overlaps this zone and no other.
 ///
-/// Beside an interior point of the parcel that is on no zone's edge is one off all edges, and the zones go round both alike. It lies
-/// in one zone, which the parcel overlaps.
+/// Beside an interior point of the parcel that is on no zone's edge is one off all edges, and the
+/// zones go round both alike. It lies in one zone, which the parcel overlaps.
 pub fn a_parcel_is_within_its_only_zone()
     ensures { (rows zones : List NumberedRing) (city : List Corner) (id zone : ℕ)
         → AreSimple rows → IsTiling rows city → IsTiling zones city

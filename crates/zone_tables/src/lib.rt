@@ -1,5 +1,6 @@
-//! The table of an overlay: which parcels of a sheet and which zones have a common interior point, which parcels are split by
-//! zones, within which zone each other parcel is, and the report of all that.
+//! The table of an overlay: which parcels of a sheet and which zones have a common interior point,
+//! which parcels are split by zones, within which zone each other parcel is, and the report of all
+//! that.
 #![tactic(auto)]
 
 mod laws;

@@ -14,7 +14,8 @@ use geo_exact::{ByteOut, Failed};
 use itoa::Buffer;
 use text_puts::Pending;
 
-/// Adds the lines of a table: how many entries there were, its pairs, the parcels that have more than one, and the others.
+/// Adds the lines of a table: how many entries there were, its pairs, the parcels that have more
+/// than one, and the others.
 pub(crate) fn add_report<W: ByteOut>(
     pending: &mut Pending,
     entries: u64,

@@ -23,12 +23,17 @@ impl From<Failed> for WriteFault {
     }
 }
 
-/// Writes a line `entries N`, a line `pair ID ZONE` for each pair, a line `split ID` for each parcel that overlaps two zones or
-/// more, and a line `within ID ZONE` for each other parcel, each group ascending. It takes no memory.
+/// Writes a line `entries N`, a line `pair ID ZONE` for each pair, a line `split ID` for each
+/// parcel that overlaps two zones or more, and a line `within ID ZONE` for each other parcel, each
+/// group ascending. It takes no memory.
 ///
 /// # Errors
 ///
 /// [`WriteFault::Device`] where the writer failed; a beginning of the report was written then.
+///
+/// ```
+/// write_report(&table, &mut Counted::new(stdout))?;
+/// ```
 pub fn write_report<'t, 'h, H: Allocator, A: Allocator, W: ByteOut>(
     table: &Table<'t, 'h, H, A>,
     out: &mut W,

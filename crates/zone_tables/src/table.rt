@@ -13,11 +13,12 @@ use fabric_core::{Layer, Sheet};
 use std::alloc::{AllocError, Allocator};
 use std::marker::Model;
 
-/// Which parcels of a sheet and which zones overlap: all pairs of a parcel and a zone whose interiors have a common point, each
-/// once, by ascending parcel and then by ascending zone. Touching along an edge or in a corner is no overlap.
+/// Which parcels of a sheet and which zones overlap: all pairs of a parcel and a zone whose
+/// interiors have a common point, each once, by ascending parcel and then by ascending zone.
+/// Touching along an edge or in a corner is no overlap.
 ///
-/// Contracts see the parcels' rows and the zones', the city that both tile, the pairs, and how many entries the sheet's journal
-/// has.
+/// Contracts see the parcels' rows and the zones', the city that both tile, the pairs, and how many
+/// entries the sheet's journal has.
 #[derive(Drop)]
 pub struct Table<'t, 'h, H: Allocator, A: Allocator> {
     sheet: &'t Sheet<'h, H>,
@@ -101,6 +102,10 @@ impl<'t, 'h, H: Allocator, A: Allocator> Table<'t, 'h, H, A> {
     /// # Errors
     ///
     /// [`AllocError`] where the list is refused.
+    ///
+    /// ```
+    /// let split = table.split_zoned()?; // ids of the parcels with two zones or more
+    /// ```
     pub fn split_zoned(&self) -> Result<Vec<u64, A>, AllocError>
     where
         A: Copy,
@@ -116,8 +121,14 @@ impl<'t, 'h, H: Allocator, A: Allocator> Table<'t, 'h, H, A> {
         Ok(ids)
     }
 
-    /// The zone that a parcel is within: each interior point of the parcel that lies on no zone's edge is an interior point of that
-    /// zone. It is the one zone that the parcel overlaps; `None` where it overlaps more, or the id is no parcel's.
+    /// The zone that a parcel is within: each interior point of the parcel that lies on no zone's
+    /// edge is an interior point of that zone. It is the one zone that the parcel overlaps; `None`
+    /// where it overlaps more, or the id is no parcel's.
+    ///
+    /// ```
+    /// // Parcels 1 and 2, zones from 0 to 50 and from 50 to 100:
+    /// assert_eq!(table.within(2), Some(2));
+    /// ```
     pub fn within(&self, id: u64) -> Option<u64>
         ensures within { (zone : ℕ) → (result ≡ Some zone) ↔ IsWithinZone self.now.rows self.now.zones id zone }
         ensures alone { (zone : ℕ) → (result ≡ Some zone) ↔ OverlapsAlone self.now.rows self.now.zones id zone }

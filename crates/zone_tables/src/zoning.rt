@@ -15,7 +15,8 @@ pub(crate) struct Zoning {
     pub is_split: bool,
 }
 
-/// The parcels that pairs speak of, where the pairs of each stand together. Contracts see the list of those that are left.
+/// The parcels that pairs speak of, where the pairs of each stand together. Contracts see the list
+/// of those that are left.
 #[derive(Drop)]
 pub(crate) struct Zonings<'p> {
     pairs: &'p [(u64, u64)],

@@ -1,5 +1,7 @@
 -- How the code goes over the cells of a range, one by one. Public contracts do not speak of it.
-use Rattle.std.specs.Prelude.{◌≡◌, ◌≢◌, ℕ, zero, suc, ◌+◌, ◌*◌, ◌/◌, ◌%◌, ◌<◌, ◌≤◌, ◌==◌, Bool, ◌&&◌, ◌||◌, true, not, nat_lt, min, max, if◌then◌else◌, List, [], ◌∷◌, ◌++◌, map, take, slice_index_or}
+use Rattle.std.specs.Prelude.{◌≡◌, ◌≢◌, ℕ, zero, suc, ◌+◌, ◌*◌, ◌/◌, ◌%◌, ◌<◌, ◌≤◌, ◌==◌, Bool}
+use Rattle.std.specs.Prelude.{◌&&◌, ◌||◌, true, not, nat_lt, min, max, if◌then◌else◌, List, [], ◌∷◌, ◌++◌, map}
+use Rattle.std.specs.Prelude.{take, slice_index_or}
 use Rattle.std.specs.List.{filter, Contains}
 use Rattle.smallvec.specs.SmallVec.{SmallVec, HasRoomFor}
 use Rattle.cell_index.specs.declared.axis.TheConstants.{ACROSS}
@@ -80,7 +82,8 @@ HaveRoomForAll area entries count cells = (entry : Entry) → Contains entries e
 
 -- in each cell are exactly the entries that are kept there
 abbrev pub Keeps : Bounds → List Cell → List Entry → Type 0
-Keeps area cells entries = (k : ℕ) → k ≤ WIDE_CELL → (cell_at cells k).items ≡ filter (λ entry. is_kept_in area k entry.bounds) entries
+Keeps area cells entries = (k : ℕ) → k ≤ WIDE_CELL → (cell_at cells k).items
+    ≡ filter (λ entry. is_kept_in area k entry.bounds) entries
 
 -- no cell has less room than it had
 abbrev pub KeepRoom : List Cell → List Cell → Type 0
@@ -106,13 +109,15 @@ is_first_common first low i = (i == first) || (i == low)
 -- the n-th cell of the range is the first, in both directions, that it has in common with those of the box, where the box stands there
 abbrev pub is_first_at : Bounds → CellRange → ℕ → Bounds → Bool
 is_first_at area range n box =
-    is_first_common range.columns.first (column area box.low.x) (column_at range n) && is_first_common range.rows.first (row area box.low.y) (row_at range n)
+    is_first_common range.columns.first (column area box.low.x) (column_at range n)
+    && is_first_common range.rows.first (row area box.low.y) (row_at range n)
 
 -- the keys of the entries in the first n cells of a range, each from its first cell
 abbrev pub gathered : Bounds → CellRange → List (List Entry) → ℕ → List ℕ
 gathered area range cells zero = []
 gathered area range cells (suc n) =
-    gathered area range cells n ++ map (λ entry. entry.key) (filter (λ entry. is_first_at area range n entry.bounds) (slice_index_or cells (number_at range n) []))
+    gathered area range cells n ++ map (λ entry. entry.key) (filter (λ entry. is_first_at area range n entry.bounds)
+    (slice_index_or cells (number_at range n) []))
 
 -- some cell of a span along an axis is from one cell to another
 abbrev pub common_along : Span → (from to : ℕ) → Bool
@@ -121,4 +126,5 @@ common_along span from to = nat_lt (max span.first from) (min (span.first + span
 -- the box stands in some cell of the range
 abbrev pub has_some_of : Bounds → CellRange → Bounds → Bool
 has_some_of area range box =
-    common_along range.columns (column area box.low.x) (column area box.high.x) && common_along range.rows (row area box.low.y) (row area box.high.y)
+    common_along range.columns (column area box.low.x) (column area box.high.x) && common_along range.rows
+    (row area box.low.y) (row area box.high.y)

@@ -45,7 +45,8 @@ module _ {A : Type 0} where
     pub tell : All Tells receipts
 
   -- a job is worked off, unless memory was refused it: what it says from a card with no entries
-  pub record IsWorked (run : Run) (card : CardState A) (edits : List (ℕ × Edit A)) (after : CardState A) (refused : Bool) (lines : List ℕ)
+  pub record IsWorked (run : Run) (card : CardState A) (edits : List (ℕ × Edit A)) (after : CardState A)
+      (refused : Bool) (lines : List ℕ)
       (receipts : List (ReceiptState A)) : Type 0 where
     pub same_clerk : after.clerk ≡ card.clerk
     pub said : card.made ≡ [] → refused ≡ false → HasSaid run card.clerk edits after.made lines receipts

@@ -13,4 +13,5 @@ is_between u v z = is_from_to (int_min u v) (int_max u v) z
 
 -- the test of `IsStrictlyInside`
 abbrev pub is_strictly_inside : Corner → Corner → Corner → Bool
-is_strictly_inside c a b = (is_between a.x b.x c.x && is_between a.y b.y c.y) && (int_eq (turn a b c) (pos 0) && (not (is_same c a) && not (is_same c b)))
+is_strictly_inside c a b = (is_between a.x b.x c.x && is_between a.y b.y c.y)
+    && (int_eq (turn a b c) (pos 0) && (not (is_same c a) && not (is_same c b)))

@@ -1,5 +1,6 @@
 -- Corners in order across a direction and along it: where the code looks for corners on one line. Public contracts do not speak of it.
-use Rattle.std.specs.Prelude.{◌≡◌, ◌↔◌, Bool, IfSome, IsTrue, Option, ℕ, ◌<◌, ℤ, ◌-ℤ◌, ◌*ℤ◌, List, length, map, slice_index_or}
+use Rattle.std.specs.Prelude.{◌≡◌, ◌↔◌, Bool, IfSome, IsTrue, Option, ℕ, ◌<◌, ℤ, ◌-ℤ◌, ◌*ℤ◌, List, length}
+use Rattle.std.specs.Prelude.{map, slice_index_or}
 use Rattle.std.specs.List.{All, Contains}
 use Rattle.geo_exact.specs.Segments.{IsStrictlyInside}
 use Rattle.std.specs.declared.cmp.Ordering.{Ordering}

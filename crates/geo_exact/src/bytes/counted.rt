@@ -13,6 +13,10 @@ pub struct Counted<T> {
 
 impl<T> Counted<T> {
     /// The stream, with no failure yet.
+    ///
+    /// ```
+    /// let mut reader = Counted::new(File::open(rt, path)?);
+    /// ```
     pub fn new(inner: T) -> Counted<T>
         ensures inner { result.inner ≡ inner }
         ensures failures { result.failures ≡ 0 }

@@ -14,6 +14,10 @@ pub struct FailAt<T> {
 
 impl<T> FailAt<T> {
     /// Fails at the call of this number, from 1; at none for 0.
+    ///
+    /// ```
+    /// let mut reader = FailAt::new(bytes.as_slice(), 3); // the third pull fails
+    /// ```
     pub fn new(inner: T, call: u64) -> FailAt<T>
         ensures inner { result.inner ≡ inner }
         ensures calls_left { result.calls_left ≡ call }

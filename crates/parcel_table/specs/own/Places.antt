@@ -1,5 +1,7 @@
--- How parcels are kept: each in a slab under a key, and for each id below the next one what has become of it. Public contracts do not speak of it.
-use Rattle.std.specs.Prelude.{⊤, ◌≡◌, ℕ, ◌+◌, ◌-◌, min, List, [], ◌∷◌, map, filter_map, length, Option, Some, None, option_map}
+-- How parcels are kept: each in a slab under a key, and for each id below the next one what has become of it. Public
+-- contracts do not speak of it.
+use Rattle.std.specs.Prelude.{⊤, ◌≡◌, ℕ, ◌+◌, ◌-◌, min, List, [], ◌∷◌, map, filter_map, length, Option, Some, None}
+use Rattle.std.specs.Prelude.{option_map}
 use Rattle.slab.specs.Slab.{Slab, get, slab_len}
 use Rattle.ring_core.specs.declared.shape.Shape.{Shape}
 use Rattle.parcel_table.specs.declared.parcels.Parcel.{Parcel}

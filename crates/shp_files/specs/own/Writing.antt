@@ -1,4 +1,5 @@
--- What the writer's own functions hand on: the box of the corners so far. These words are the code's own: no public contract speaks of them.
+-- What the writer's own functions hand on: the box of the corners so far. These words are the code's own: no public
+-- contract speaks of them.
 use Rattle.std.specs.Prelude.{◌≡◌, ◌<◌, List, [], length, map, Option, Some, None}
 use Rattle.geo_exact.specs.declared.corner.Corner.{Corner}
 use Rattle.geo_exact.specs.declared.bounds.Bounds.{Bounds}

@@ -1,5 +1,6 @@
 -- The pairs of a table, parcel by parcel. Public contracts do not speak of it.
-use Rattle.std.specs.Prelude.{◌≡◌, ℕ, ◌<◌, ◌≤◌, nat_eq, true, false, if◌then◌else◌, List, [], ◌∷◌, ◌++◌, map, not}
+use Rattle.std.specs.Prelude.{◌≡◌, ℕ, ◌<◌, ◌≤◌, nat_eq, true, false, if◌then◌else◌, List, [], ◌∷◌, ◌++◌}
+use Rattle.std.specs.Prelude.{map, not}
 use Rattle.std.specs.List.{AllByRecursion, Contains, filter}
 use Rattle.zone_tables.specs.declared.zoning.Zoning.{Zoning}
 

@@ -14,10 +14,13 @@ loop-entry-init g c = record {
 pub loop-entry-preserved : goal.loop-entry-preserved
 loop-entry-preserved g c = record {
   kept = λ entries kept.
-      one_gone_more c.args.area c.places_of.result c.args.gone.now c.loop-entry.entry-index c.entry-item.result c.loop-entry.cells c.take_out.new.cells
-      (omega (arith, c.loop-entry-test.true)) c.entry-item.is c.places_of.ensures c.take_out.ensures entries (c.loop-entry.invariant.kept entries kept);
+      one_gone_more c.args.area c.places_of.result c.args.gone.now c.loop-entry.entry-index c.entry-item.result
+      c.loop-entry.cells c.take_out.new.cells
+      (omega (arith, c.loop-entry-test.true)) c.entry-item.is c.places_of.ensures c.take_out.ensures entries
+      (c.loop-entry.invariant.kept entries kept);
   room = λ come count room.
-      room_after_taking c.args.area c.places_of.result c.entry-item.result c.loop-entry.cells c.take_out.new.cells c.places_of.ensures c.take_out.ensures
+      room_after_taking c.args.area c.places_of.result c.entry-item.result c.loop-entry.cells c.take_out.new.cells
+      c.places_of.ensures c.take_out.ensures
       come count (c.loop-entry.invariant.room come count room);
 }
 

@@ -6,6 +6,8 @@ use Rattle.cell_index.proofs.batch.take_all_out.Given as goal
 
 abbrev pub invariant-loop-entry : goal.invariant-loop-entry
 invariant-loop-entry g l = record {
-  kept : (entries : List Entry) → Keeps l.area l.initial.cells entries → Keeps l.area l.cells (without (take l.entry-index l.gone) entries);
-  room : (come : List Entry) (count : ℕ) → HaveRoomForAll l.area come count l.initial.cells → HaveRoomForAll l.area come count l.cells;
+  kept : (entries : List Entry) → Keeps l.area l.initial.cells entries
+      → Keeps l.area l.cells (without (take l.entry-index l.gone) entries);
+  room : (come : List Entry) (count : ℕ) → HaveRoomForAll l.area come count l.initial.cells
+      → HaveRoomForAll l.area come count l.cells;
 }

@@ -8,7 +8,8 @@ loop-n-preserved g c =
     record {
       kept = contents_kept c.loop-n.cells c.number.result c.index-cells-number.result c.reserve.new.self inside c.reserve.ensures.items
           ∙ c.loop-n.invariant.kept;
-      room = room_more c.args.places c.loop-n.n c.number.result (omega (arith, c.loop-n-test.true, c.count-n-end.ensures)) c.number.ensures.value
+      room = room_more c.args.places c.loop-n.n c.number.result
+          (omega (arith, c.loop-n-test.true, c.count-n-end.ensures)) c.number.ensures.value
           c.args.count c.loop-n.cells c.reserve.new.self inside c.in_ok-reserve.ensures.ok c.loop-n.invariant.room;
       no_less = room_kept c.args.cells.now c.loop-n.cells c.number.result c.index-cells-number.result c.reserve.new.self inside
           c.reserve.ensures.capacity c.loop-n.invariant.no_less;

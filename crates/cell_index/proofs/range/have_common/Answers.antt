@@ -8,9 +8,11 @@ use Rattle.cell_index.proofs.KeptPlaces.{by_lt}
 use Rattle.cell_index.proofs.range.have_common.Goals as goal
 
 same_tests : (a b c d : ℕ) → (a < b → c < d) → (c < d → a < b) → nat_lt a b ≡ nat_lt c d
-same_tests a b c d f h = by_lt a b (λ p. let q = f p in grind (arith, nat_tests)) (λ p. by_lt c d (λ q. absurd (let r = h q in omega (arith, r, p))) (λ q. grind (arith, nat_tests)))
+same_tests a b c d f h = by_lt a b (λ p. let q = f p in grind (arith, nat_tests))
+    (λ p. by_lt c d (λ q. absurd (let r = h q in omega (arith, r, p))) (λ q. grind (arith, nat_tests)))
 
-capped : (span : Span) (u v f t first end : ℕ) → f ≡ min 64 u → t ≡ min 64 v → first ≡ max span.first f → end ≡ min (span.first + span.count) (t + 1)
+capped : (span : Span) (u v f t first end : ℕ) → f ≡ min 64 u → t ≡ min 64 v → first ≡ max span.first f
+    → end ≡ min (span.first + span.count) (t + 1)
     → nat_lt first end ≡ common_along span u v
 capped span u v f t first end a b c d =
     same_tests first end (max span.first u) (min (span.first + span.count) (v + 1))

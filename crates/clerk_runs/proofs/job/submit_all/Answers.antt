@@ -17,7 +17,8 @@ loop-told-preserved g c =
     let i = c.loop-told.told-index in
     let run = run_at g.J.Naming-1.office in
     let left : drop i edits ≡ c.told-item.result ∷ drop (i + 1) edits =
-    rw (add-one, drop-cons edits i c.told-item.result c.loop-told-test.true) (ap (λ told. told ∷ drop (suc i) edits) (sym c.told-item.is)) in
+    rw (add-one, drop-cons edits i c.told-item.result c.loop-told-test.true) (ap (λ told. told ∷ drop (suc i) edits)
+    (sym c.told-item.is)) in
     let clerk = c.loop-told.invariant.clerk in
     record {
       clerk = c.in_ok-submit_edit.ensures.clerk ∙ clerk;

@@ -19,7 +19,8 @@ loop-receipt-preserved g c =
     let receipts = c.args.receipts.now in
     let i = c.loop-receipt.receipt-index in
     let left : drop i receipts ≡ c.receipt-item.result ∷ drop (i + 1) receipts =
-    rw (add-one, drop-cons receipts i c.receipt-item.result c.loop-receipt-test.true) (ap (λ r. r ∷ drop (suc i) receipts) (sym c.receipt-item.is)) in
+    rw (add-one, drop-cons receipts i c.receipt-item.result c.loop-receipt-test.true)
+    (ap (λ r. r ∷ drop (suc i) receipts) (sym c.receipt-item.is)) in
     record {
       opening = c.learn.ensures.opening ∙ c.loop-receipt.invariant.opening;
       begins = begins_whole _ _ _ c.loop-receipt.invariant.begins c.learn.ensures.longer.begins;

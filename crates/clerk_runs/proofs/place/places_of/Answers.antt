@@ -17,7 +17,8 @@ loop-corner-preserved g c =
     let corners = c.args.corners.now in
     let i = c.loop-corner.corner-index in
     let left : drop i corners ≡ c.corner-item.result ∷ drop (i + 1) corners =
-    rw (add-one, drop-cons corners i c.corner-item.result c.loop-corner-test.true) (ap (λ p. p ∷ drop (suc i) corners) (sym c.corner-item.is)) in
+    rw (add-one, drop-cons corners i c.corner-item.result c.loop-corner-test.true) (ap (λ p. p ∷ drop (suc i) corners)
+    (sym c.corner-item.is)) in
     record {
       opening = c.in_ok-place_of.ensures.opening ∙ c.loop-corner.invariant.opening;
       has_seen = λ has. begins_whole _ _ _ (c.loop-corner.invariant.has_seen has) c.in_ok-place_of.ensures.begins;
@@ -28,4 +29,5 @@ loop-corner-preserved g c =
 
 pub returns : goal.returns
 returns g c =
-    all_located _ _ _ (rw (drop_all c.loop-corner.corner-index c.args.corners.now c.loop-corner-test.false) at c.loop-corner.invariant.located)
+    all_located _ _ _ (rw (drop_all c.loop-corner.corner-index c.args.corners.now c.loop-corner-test.false) at
+    c.loop-corner.invariant.located)

@@ -17,7 +17,12 @@ loop-place-preserved g c =
       begins = subst (λ l. IsPrefix l (drop c.args.from c.args.journal.now)) (sym more)
           (next_handed c.loop-place.publisher.handed c.args.journal.now c.args.from c.loop-place.place c.index-journal-from.result
           c.loop-place.invariant.begins c.loop-place.invariant.count less c.index-journal-from.is);
-      count = omega (arith, ap length more, length-append c.loop-place.publisher.handed (c.index-journal-from.result ∷ []), c.loop-place.invariant.count);
+      count = omega (
+        arith,
+        ap length more,
+        length-append c.loop-place.publisher.handed (c.index-journal-from.result ∷ []),
+        c.loop-place.invariant.count,
+      );
       shown = c.in-Ok-hand_on.ensures.shown ∙ c.loop-place.invariant.shown;
     }
 

@@ -20,4 +20,5 @@ loop-place-preserved g c = record {
 pub returns-clause-windows : goal.returns-clause-windows
 returns-clause-windows g c =
     c.loop-place.invariant.windows
-    ∙ ap (λ n. replicate n (window_of g.J.Naming-1.office.origin)) (grind (arith, nat_tests, c.loop-place-test.false, c.loop-place.auto.place-end))
+    ∙ ap (λ n. replicate n (window_of g.J.Naming-1.office.origin))
+    (grind (arith, nat_tests, c.loop-place-test.false, c.loop-place.auto.place-end))

@@ -1,5 +1,5 @@
 use Rattle.std.proofs.Common.{◌-◌, arith}
-use Rattle.edge_chains.proofs.Boxes.{HasOwn-set, HasBlock-set}
+use Rattle.edge_chains.proofs.edges.Boxes.{HasOwn-set, HasBlock-set}
 use Rattle.edge_chains.proofs.blocks.block_boxes.Goals as goal
 
 pub loop-at-preserved : goal.loop-at-preserved
@@ -12,7 +12,8 @@ loop-at-preserved g c =
     record {
       in_range = omega (arith, inv.in_range);
       as_many = inv.as_many;
-      own = λ k l. HasOwn-set c.args.corners.now c.loop-at.boxes.items i c.block_box-bounds.result (omega (arith, inv.in_range, inv.as_many))
+      own = λ k l. HasOwn-set c.args.corners.now c.loop-at.boxes.items i c.block_box-bounds.result
+          (omega (arith, inv.in_range, inv.as_many))
           (λ x. h i x (omega arith) here.0) k (inv.own k l);
       blocks = λ k l m. HasBlock-set c.args.corners.now c.args.ends.now c.loop-at.boxes.items i c.block_box-bounds.result
           (omega (arith, inv.in_range, inv.as_many)) h k

@@ -1,6 +1,6 @@
 use Rattle.std.proofs.Common.{◌∙◌, sym, subst, arith, slice_index, slice_index_or}
 use Rattle.geo_exact.specs.Bounds.{holds_corner, HoldsCorner}
-use Rattle.edge_chains.proofs.Boxes.{filter_skips}
+use Rattle.edge_chains.proofs.edges.Boxes.{filter_skips}
 use Rattle.edge_chains.proofs.blocks.collect_few.Goals as goal
 
 pub loop-at-preserved-then-are_disjoint : goal.loop-at-preserved-then-are_disjoint
@@ -12,6 +12,7 @@ loop-at-preserved-then-are_disjoint g c =
       in_range = here.1;
       so_far = c.loop-at.invariant.so_far ∙ sym (filter_skips (λ x. holds_corner c.args.bounds.now x) c.args.corners.now d at
           (slice_index c.args.ends.now at) (omega (arith, here)) here.1
-          (λ k l m. c.are_disjoint.ensures c.if-are_disjoint.true _ (subst (λ box. HoldsCorner box (slice_index_or c.args.corners.now k d)) (sym c.index-boxes-at.is)
+          (λ k l m. c.are_disjoint.ensures c.if-are_disjoint.true _
+          (subst (λ box. HoldsCorner box (slice_index_or c.args.corners.now k d)) (sym c.index-boxes-at.is)
           (c.requires.have_blocks at c.loop-at-test.true k d c.index-boxes-at.result l m))));
     }

@@ -3,7 +3,7 @@ use Rattle.std.proofs.lemmas.List.Kept.{Contains-dedup, Contains-from_dedup}
 use Rattle.std.proofs.lemmas.List.Sorted.{Contains-permutation, IsPermutation-sym, IsPermutation-map}
 use Rattle.std.proofs.Common.{◌≡◌, map, subst, sym}
 use Rattle.std.specs.List.Sorted.{IsPermutation}
-use Rattle.geo_exact.proofs.CornerOrder.{same_from_test}
+use Rattle.geo_exact.proofs.corners_and_turns.CornerOrder.{same_from_test}
 use Rattle.geo_exact.specs.Order.{is_same_equivalence}
 use Rattle.edge_chains.proofs.blocks.spread.Goals as goal
 
@@ -18,6 +18,7 @@ returns g c =
     (IsPermutation-map (λ it. it.corner) c.in_ok-placed.placed.items c.deref.result.now
     (subst (IsPermutation c.in_ok-placed.placed.items) (sym c.deref.ensures.value) c.sort_unstable_by_key.ensures.permutation))) in
     λ x. (
-      λ h. Contains-permutation _ _ x (IsPermutation-sym c.args.corners.now c.in_ok-spread.spread.items moved) (Contains-from_dedup _ c.in_ok-spread.spread.items x (rw is at h)),
+      λ h. Contains-permutation _ _ x (IsPermutation-sym c.args.corners.now c.in_ok-spread.spread.items moved)
+          (Contains-from_dedup _ c.in_ok-spread.spread.items x (rw is at h)),
       λ h. rw is (Contains-dedup is_same_equivalence same_from_test c.in_ok-spread.spread.items x (Contains-permutation _ _ x moved h)),
     )

@@ -1,12 +1,12 @@
 use Rattle.std.proofs.Common.{◌≡◌, sym, ◌∙◌, pos, neg_ℤ, ◌+ℤ◌, ◌+◌, true, ℤ, [], ◌∷◌, arith}
 use Rattle.std.proofs.lemmas.Int.{ints}
 use Rattle.geo_exact.specs.Limit.{IsWithin}
-use Rattle.geo_exact.proofs.EdgeSums.{edge_of}
+use Rattle.geo_exact.proofs.rings.EdgeSums.{edge_of}
 use Rattle.edge_chains.specs.Net.{net_of_edges}
 use Rattle.edge_chains.specs.Counts.{net_at}
 use Rattle.geo_exact.specs.Order.{is_before}
-use Rattle.geo_exact.proofs.CornerOrder.{Decides-is_before, same_unless_before}
-use Rattle.edge_chains.proofs.Changes.{net_at_up, net_at_down, net_of_no_length, AreCounts-changed, AreCounts-upto}
+use Rattle.geo_exact.proofs.corners_and_turns.CornerOrder.{Decides-is_before, same_unless_before}
+use Rattle.edge_chains.proofs.nets.Changes.{net_at_up, net_at_down, net_of_no_length, AreCounts-changed, AreCounts-upto}
 use Rattle.edge_chains.proofs.edge_sum.count_directed.Goals as goal
 
 one : IsWithin 1 (pos 1)
@@ -42,7 +42,8 @@ returns-then-comes_before-2-clause-net g c =
 pub returns-then-comes_before-2-clause-kept : goal.returns-then-comes_before-2-clause-kept
 returns-then-comes_before-2-clause-kept g c =
     let t : is_before c.args.to c.args.from ≡ true = sym c.comes_before-else-comes_before.ensures ∙ c.if-comes_before-2.true in
-    λ n k. AreCounts-changed c.args.numbers.now.entries c.change-then-comes_before-2.new.numbers.entries c.args.to c.args.from (neg_ℤ (pos 1)) n
+    λ n k. AreCounts-changed c.args.numbers.now.entries c.change-then-comes_before-2.new.numbers.entries c.args.to
+    c.args.from (neg_ℤ (pos 1)) n
     ((Decides-is_before c.args.to c.args.from).0 t) minus_one c.change-then-comes_before-2.ensures.changed k
 
 pub returns-else-comes_before-2-clause-net : goal.returns-else-comes_before-2-clause-net

@@ -1,6 +1,6 @@
 use Rattle.std.proofs.Common.{◌∙◌, ap, ◌+ℤ◌}
 use Rattle.edge_chains.specs.Counts.{net_at}
-use Rattle.edge_chains.proofs.Changes.{net_of_turned}
+use Rattle.edge_chains.proofs.nets.Changes.{net_of_turned}
 use Rattle.edge_chains.proofs.edge_sum.count_edge.Goals as goal
 
 pub returns-in-Taken-clause-net : goal.returns-in-Taken-clause-net

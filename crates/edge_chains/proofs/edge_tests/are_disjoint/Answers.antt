@@ -1,4 +1,4 @@
-use Rattle.edge_chains.proofs.Inside.{none_off}
+use Rattle.edge_chains.proofs.edges.Inside.{none_off}
 use Rattle.edge_chains.proofs.edge_tests.are_disjoint.Goals as goal
 
 pub returns : goal.returns

@@ -1,4 +1,4 @@
-use Rattle.edge_chains.proofs.Inside.{none_past}
+use Rattle.edge_chains.proofs.edges.Inside.{none_past}
 use Rattle.edge_chains.proofs.edge_tests.is_past.Goals as goal
 
 pub returns : goal.returns

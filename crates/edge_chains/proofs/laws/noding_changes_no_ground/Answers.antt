@@ -1,4 +1,4 @@
-use Rattle.edge_chains.proofs.NodedRings.{winding_noded, boundary_noded, area2_noded, AreFullyNoded-noded}
+use Rattle.edge_chains.proofs.nodings.NodedRings.{winding_noded, boundary_noded, area2_noded, AreFullyNoded-noded}
 use Rattle.edge_chains.proofs.laws.noding_changes_no_ground.Goals as goal
 
 pub returns-clause-windings : goal.returns-clause-windings

@@ -1,5 +1,5 @@
 use Rattle.std.proofs.Common.{◌-◌, ◌≤◌, length}
-use Rattle.edge_chains.proofs.OnLines.{AreOnly, HasUpTo}
+use Rattle.edge_chains.proofs.edges.OnLines.{AreOnly, HasUpTo}
 use Rattle.edge_chains.proofs.lines.between.Given as goal
 
 abbrev pub invariant-loop-at : goal.invariant-loop-at

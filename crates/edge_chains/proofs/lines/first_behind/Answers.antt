@@ -1,5 +1,5 @@
 use Rattle.std.proofs.Common.{sym, ◌∙◌, arith, ◌+◌, ◌-◌, ◌/◌, ◌<◌}
-use Rattle.edge_chains.proofs.OnLines.{not_behind_here}
+use Rattle.edge_chains.proofs.edges.OnLines.{not_behind_here}
 use Rattle.edge_chains.proofs.lines.first_behind.Goals as goal
 
 pub loop-from-preserved : goal.loop-from-preserved

@@ -2,8 +2,8 @@ use Rattle.std.proofs.Common.{◌≡◌, arith, lit<, ◌∙◌, FitsSigned, rul
 use Rattle.std.specs.Int.{w64}
 use Rattle.std.proofs.lemmas.Int.{ints, to_z-of_z}
 use Rattle.geo_exact.specs.Limit.{IsWithin, limit}
-use Rattle.geo_exact.proofs.Within.{wide_sub}
-use Rattle.edge_chains.proofs.OnLines.{product_small}
+use Rattle.geo_exact.proofs.numbers.Within.{wide_sub}
+use Rattle.edge_chains.proofs.edges.OnLines.{product_small}
 use Rattle.edge_chains.proofs.lines.rank.Goals as goal
 
 pub overflow_sub-result : goal.overflow_sub-result
@@ -12,9 +12,11 @@ overflow_sub-result c =
     let y : FitsSigned w64 c.args.corner.y = omega (arith, ints) in
     let u : FitsSigned w64 c.args.across = search rules in
     let v : FitsSigned w64 c.args.up = search rules in
-    let p : IsWithin (2 ^ 63 * limit) c.wide_product.result = product_small c.args.across c.args.corner.y c.wide_product.result u c.args.corner.y_in_range
+    let p : IsWithin (2 ^ 63 * limit) c.wide_product.result =
+    product_small c.args.across c.args.corner.y c.wide_product.result u c.args.corner.y_in_range
     (simp to_z-of_z at c.wide_product.ensures) in
-    let q : IsWithin (2 ^ 63 * limit) c.wide_product-2.result = product_small c.args.up c.args.corner.x c.wide_product-2.result v c.args.corner.x_in_range
+    let q : IsWithin (2 ^ 63 * limit) c.wide_product-2.result =
+    product_small c.args.up c.args.corner.x c.wide_product-2.result v c.args.corner.x_in_range
     (simp to_z-of_z at c.wide_product-2.ensures) in
     omega (arith, ints, p.low, p.high, q.low, q.high)
 

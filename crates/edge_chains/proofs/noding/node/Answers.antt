@@ -6,8 +6,8 @@ use Rattle.geo_exact.specs.Turn.{IsOnRing}
 use Rattle.geo_exact.specs.Winding.{winding}
 use Rattle.geo_exact.specs.Area.{area2}
 use Rattle.edge_chains.specs.Noding.{IsNoded}
-use Rattle.edge_chains.proofs.NodedEdges.{AllZip-weaker, AreNodedEdges-alike}
-use Rattle.edge_chains.proofs.NodedRings.{winding_noded, boundary_noded, area2_noded, AreFullyNoded-noded}
+use Rattle.edge_chains.proofs.nodings.NodedEdges.{AllZip-weaker, AreNodedEdges-alike}
+use Rattle.edge_chains.proofs.nodings.NodedRings.{winding_noded, boundary_noded, area2_noded, AreFullyNoded-noded}
 use Rattle.edge_chains.proofs.noding.node.Goals as goal
 
 pub returns-clause-noded : goal.returns-clause-noded

@@ -1,6 +1,6 @@
 use Rattle.std.proofs.Common.{subst, ◌∙◌}
 use Rattle.edge_chains.specs.Noding.{IsNoded}
-use Rattle.edge_chains.proofs.NodedEdges.{AllZip-more}
+use Rattle.edge_chains.proofs.nodings.NodedEdges.{AllZip-more}
 use Rattle.edge_chains.proofs.noding.node_all.Goals as goal
 
 pub loop-ring-preserved : goal.loop-ring-preserved
@@ -11,7 +11,8 @@ loop-ring-preserved g c =
     record {
       same = c.in_ok-node_ring.ensures.same ∙ inv.same;
       so_far = rw c.in_ok-push.ensures.items
-          (AllZip-more (λ ring out. IsNoded ring before out) c.args.rings.now c.loop-ring.noded.items c.loop-ring.ring-index c.ring-item.result out
+          (AllZip-more (λ ring out. IsNoded ring before out) c.args.rings.now c.loop-ring.noded.items
+          c.loop-ring.ring-index c.ring-item.result out
           c.loop-ring-test.true c.ring-item.is inv.so_far
           (subst (λ search. IsNoded c.ring-item.result search out) inv.same
           (subst (λ ring. IsNoded ring c.loop-ring.search out) c.as_slice.ensures c.in_ok-node_ring.ensures.noded)));

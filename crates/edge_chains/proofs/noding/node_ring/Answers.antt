@@ -1,9 +1,9 @@
 use Rattle.std.proofs.Common.{◌≡◌, sym, ◌∙◌, ap, subst, arith, List, ◌∷◌, ◌++◌}
 use Rattle.geo_exact.specs.declared.corner.Corner.{Corner}
 use Rattle.geo_exact.specs.Rings.{path}
-use Rattle.geo_exact.proofs.EdgeSums.{edge_of}
+use Rattle.geo_exact.proofs.rings.EdgeSums.{edge_of}
 use Rattle.edge_chains.specs.Noding.{IsNodedEdge, AreNodedEdges, IsNoded}
-use Rattle.edge_chains.proofs.NodedEdges.{noded_more, noded_all, noded_ring, noded_nothing}
+use Rattle.edge_chains.proofs.nodings.NodedEdges.{noded_more, noded_all, noded_ring, noded_nothing}
 use Rattle.edge_chains.proofs.noding.node_ring.Goals.{in-Some+else-loop-at-test+in_ok-node_edge-2, in_default}
 use Rattle.edge_chains.proofs.noding.node_ring.Goals as goal
 
@@ -35,7 +35,8 @@ returns-clause-noded g c = subst (IsNoded c.args.ring.now c.args.search.now) (sy
       (noded_all corners whole w.loop-at.noded.items w.node_edge-in-Some.new.noded.items w.loop-at.from first rest w.loop-at.at
       (omega (arith, w.loop-at-test.false, w.loop-at.auto.at-end))
       (subst (λ search. (inner : List Corner) × IsNodedEdge search (edge_of w.loop-at.from first) inner
-      × (w.node_edge-in-Some.new.noded.items ≡ w.loop-at.noded.items ++ w.loop-at.from ∷ inner)) inv.same w.in_ok-node_edge-2.ensures.noded) inv.so_far))
+      × (w.node_edge-in-Some.new.noded.items ≡ w.loop-at.noded.items ++ w.loop-at.from ∷ inner)) inv.same
+      w.in_ok-node_edge-2.ensures.noded) inv.so_far))
   | in_default w ↦ noded_nothing c.args.search.now c.args.ring.now c.match-split_first.noded.items w.in_default.ensures.cases
       (ap (λ v. v.items) w.noded-is ∙ c.in_ok-noded.ensures.items)
 ])

@@ -1,7 +1,7 @@
 use Rattle.std.proofs.lemmas.List.Filters.{dedup_is}
 use Rattle.std.proofs.lemmas.List.Kept.{Contains-dedup, Contains-from_dedup, IsStrictlySortedBy-dedup}
 use Rattle.std.proofs.lemmas.List.Sorted.{Contains-permutation, IsPermutation-sym}
-use Rattle.geo_exact.proofs.CornerOrder.{corner_cmp_total, corner_ties, same_from_test}
+use Rattle.geo_exact.proofs.corners_and_turns.CornerOrder.{corner_cmp_total, corner_ties, same_from_test}
 use Rattle.geo_exact.specs.Order.{is_same_equivalence}
 use Rattle.edge_chains.proofs.noding.sort_once.Goals as goal
 

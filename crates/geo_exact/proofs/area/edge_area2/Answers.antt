@@ -1,7 +1,7 @@
 use Rattle.std.proofs.Common.{arith, lit<, ◌∙◌, FitsSigned}
 use Rattle.std.specs.Int.{w64}
 use Rattle.std.proofs.lemmas.Int.{ints, to_z-of_z}
-use Rattle.geo_exact.proofs.Within.{wide_sub}
+use Rattle.geo_exact.proofs.numbers.Within.{wide_sub}
 use Rattle.geo_exact.proofs.area.edge_area2.Goals as goal
 
 pub overflow_sub-result : goal.overflow_sub-result

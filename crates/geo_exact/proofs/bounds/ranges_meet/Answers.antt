@@ -25,4 +25,5 @@ returns-then-u-v c =
 pub returns-else-u-v : goal.returns-else-u-v
 returns-else-u-v c =
     let u = c.ranges.u in let v = c.ranges.v in let s = c.ranges.s in let t = c.ranges.t in
-    falling c.reaches-else-u-v.result c.args.u c.args.v c.args.s c.args.t (omega (arith, ints)) (simp to_z-of_z at c.reaches-else-u-v.ensures)
+    falling c.reaches-else-u-v.result c.args.u c.args.v c.args.s c.args.t (omega (arith, ints))
+    (simp to_z-of_z at c.reaches-else-u-v.ensures)

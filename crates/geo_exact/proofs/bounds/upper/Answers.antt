@@ -1,6 +1,6 @@
 use Rattle.std.proofs.Common.{arith, FitsSigned, w64}
 use Rattle.std.proofs.lemmas.Int.{ints, to_z-of_z}
-use Rattle.geo_exact.proofs.Within.{max_within}
+use Rattle.geo_exact.proofs.numbers.Within.{max_within}
 use Rattle.geo_exact.proofs.bounds.upper.Goals as goal
 
 pub invariant_of-result : goal.invariant_of-result

@@ -1,4 +1,4 @@
-use Rattle.geo_exact.proofs.Coordinates.{accepted_iff}
+use Rattle.geo_exact.proofs.doubles.Coordinates.{accepted_iff}
 use Rattle.geo_exact.proofs.coord.coordinates_are_on_the_grid.Goals as goal
 
 pub returns : goal.returns

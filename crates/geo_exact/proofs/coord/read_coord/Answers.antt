@@ -1,5 +1,5 @@
 use Rattle.std.proofs.Common.{◌∙◌}
-use Rattle.geo_exact.proofs.Coordinates.{within_of, on_grid_of, refused_of, accepted_when, refused_when}
+use Rattle.geo_exact.proofs.doubles.Coordinates.{within_of, on_grid_of, refused_of, accepted_when, refused_when}
 use Rattle.geo_exact.proofs.coord.read_coord.Goals as goal
 
 pub returns : goal.returns

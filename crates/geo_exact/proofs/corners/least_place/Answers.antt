@@ -3,8 +3,8 @@ use Rattle.std.proofs.lemmas.Bool.{false≢true}
 use Rattle.std.specs.List.{IsFirstBest}
 use Rattle.std.proofs.lemmas.List.MinMax.{IsFirstBest-takes, IsFirstBest-keeps}
 use Rattle.geo_exact.specs.Order.{is_before}
-use Rattle.geo_exact.proofs.Begun.{least_is_first}
-use Rattle.geo_exact.proofs.CornerOrder.{is_before_ranks}
+use Rattle.geo_exact.proofs.rings.Begun.{least_is_first}
+use Rattle.geo_exact.proofs.corners_and_turns.CornerOrder.{is_before_ranks}
 use Rattle.geo_exact.proofs.corners.least_place.Goals as goal
 use Rattle.geo_exact.proofs.corners.least_place.Goals.{then-comes_before, else-comes_before}
 
@@ -27,5 +27,6 @@ not_zero (suc n) r e f = omega arith
 pub returns-clause-value : goal.returns-clause-value
 returns-clause-value c =
     let ring = c.args.corners.now in
-    let at_end : c.loop-k.k ≡ length ring = omega (arith, not_zero (length ring) c.is_empty.result c.is_empty.ensures c.if-is_empty.false) in
+    let at_end : c.loop-k.k ≡ length ring =
+    omega (arith, not_zero (length ring) c.is_empty.result c.is_empty.ensures c.if-is_empty.false) in
     sym (least_is_first ring c.loop-k.least (subst (λ i. IsFirstBest is_before ring i c.loop-k.least) at_end c.loop-k.invariant))

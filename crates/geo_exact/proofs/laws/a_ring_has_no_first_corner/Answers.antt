@@ -1,6 +1,6 @@
-use Rattle.geo_exact.proofs.Begun.{edges_begun}
-use Rattle.geo_exact.proofs.OnRings.{on_ring_begun}
-use Rattle.geo_exact.proofs.Windings.{winding_begun, area2_begun}
+use Rattle.geo_exact.proofs.rings.Begun.{edges_begun}
+use Rattle.geo_exact.proofs.rings.OnRings.{on_ring_begun}
+use Rattle.geo_exact.proofs.rings.Windings.{winding_begun, area2_begun}
 use Rattle.geo_exact.proofs.laws.a_ring_has_no_first_corner.Goals as goal
 
 pub returns-clause-edges : goal.returns-clause-edges

@@ -1,11 +1,12 @@
-use Rattle.std.proofs.Common.{◌≡◌, IsTrue, ◌↔◌, ℤ, pos, ◌≤ℤ◌, nat_eq, of_z, to_z, FitsSigned, arith, ◌∙◌, sym, ap, Bool, ◌*◌}
+use Rattle.std.proofs.Common.{◌≡◌, IsTrue, ◌↔◌, ℤ, pos, ◌≤ℤ◌, nat_eq, of_z, to_z, FitsSigned, arith, ◌∙◌, sym}
+use Rattle.std.proofs.Common.{ap, Bool, ◌*◌}
 use Rattle.std.specs.Int.{w128, w64, int_min, int_max}
 use Rattle.std.proofs.lemmas.Int.{ints, to_z-of_z}
 use Rattle.std.proofs.lemmas.Bool.Decides.{nat_tests}
 use Rattle.std.proofs.lemmas.Bool.{false≢true}
 use Rattle.geo_exact.specs.Limit.{IsWithin, limit}
-use Rattle.geo_exact.proofs.CornerPoints.{on_edge_from_box, box_from_on_edge}
-use Rattle.geo_exact.proofs.TurnLaws.{corner_on_line}
+use Rattle.geo_exact.proofs.corners_and_turns.CornerPoints.{on_edge_from_box, box_from_on_edge}
+use Rattle.geo_exact.proofs.corners_and_turns.TurnLaws.{corner_on_line}
 use Rattle.geo_exact.proofs.segment.on_segment.Goals as goal
 
 -- a clause about coordinates, as the code passes them

@@ -2,7 +2,7 @@ use Rattle.std.proofs.Common.{sym, ◌∙◌, ap, arith, FitsSigned}
 use Rattle.std.specs.Int.{w64}
 use Rattle.std.proofs.lemmas.Int.{ints, to_z-of_z}
 use Rattle.geo_exact.specs.Doubles.{whole_bits}
-use Rattle.geo_exact.proofs.Doubles.{bits_minus, bits_plus}
+use Rattle.geo_exact.proofs.doubles.Doubles.{bits_minus, bits_plus}
 use Rattle.geo_exact.proofs.write.coordinate_bits.Goals as goal
 
 pub returns-then-k-lt0 : goal.returns-then-k-lt0

@@ -1,6 +1,6 @@
 use Rattle.std.proofs.Common.{◌≡◌, ℕ, ◌-◌, ap}
 use Rattle.geo_exact.specs.Doubles.{highest_bit}
-use Rattle.geo_exact.proofs.Doubles.{IsHighest, highest_is}
+use Rattle.geo_exact.proofs.doubles.Doubles.{IsHighest, highest_is}
 use Rattle.geo_exact.proofs.write.highest_bit.Goals as goal
 
 -- what the code computes

@@ -1,10 +1,11 @@
 use Rattle.std.proofs.Common.{◌≡◌, ℕ, ◌+◌, ◌*◌, ◌-◌, ◌^◌, ◌%◌, ◌≤◌, refl, sym, ◌∙◌, ap, arith}
 use Rattle.geo_exact.specs.Doubles.{highest_bit, whole_bits}
-use Rattle.geo_exact.proofs.Doubles.{whole_bits_of, no_bits}
+use Rattle.geo_exact.proofs.doubles.Doubles.{whole_bits_of, no_bits}
 use Rattle.geo_exact.proofs.write.whole_bits.Goals as goal
 
 -- what the code computes
-computed : (n t f : ℕ) → (n ≡ 0 → ⊥) → t ≡ highest_bit n → t ≤ 52 → f ≡ n * 2 ^ (52 - t) - 2 ^ 52 → (1023 + t) * 2 ^ 52 % 2 ^ 64 + f ≡ whole_bits n
+computed : (n t f : ℕ) → (n ≡ 0 → ⊥) → t ≡ highest_bit n → t ≤ 52 → f ≡ n * 2 ^ (52 - t) - 2 ^ 52
+    → (1023 + t) * 2 ^ 52 % 2 ^ 64 + f ≡ whole_bits n
 computed n t f some ht bound hf =
     let small : (1023 + t) * 2 ^ 52 % 2 ^ 64 ≡ (1023 + t) * 2 ^ 52 = omega arith in
     rw (small, hf, ht, whole_bits_of n (omega (arith, some))) refl

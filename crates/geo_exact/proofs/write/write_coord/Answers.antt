@@ -5,7 +5,7 @@ use Rattle.geo_exact.specs.declared.coord.Unit.TheVariants.{Cm}
 use Rattle.geo_exact.specs.Grid.{IsOnGrid, coordinate, scaled_value}
 use Rattle.geo_exact.specs.Limit.{IsWithin, limit}
 use Rattle.geo_exact.specs.Doubles.{bits_of}
-use Rattle.geo_exact.proofs.Doubles.{bits_exact, bits_zero, on_grid_at, bits_read}
+use Rattle.geo_exact.proofs.doubles.Doubles.{bits_exact, bits_zero, on_grid_at, bits_read}
 use Rattle.geo_exact.proofs.write.write_coord.Goals as goal
 
 -- what is said of the bits of a coordinate

@@ -1,6 +1,6 @@
 use Rattle.std.proofs.Common.{◌≡◌, subst}
 use Rattle.line_files.specs.TextNumbers.{IsCornerText}
-use Rattle.line_files.proofs.Passing.{if_none}
+use Rattle.line_files.proofs.PassedOn.{if_none}
 use Rattle.line_files.proofs.edit_words.take_corner.Goals as goal
 
 pub returns-clause-none : goal.returns-clause-none

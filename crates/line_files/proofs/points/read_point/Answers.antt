@@ -1,7 +1,7 @@
 use Rattle.std.proofs.Common.{◌≢◌}
 use Rattle.std.proofs.lemmas.List.Elements.{recursion_from_All}
 use Rattle.line_files.proofs.Numerals.{point_by_split}
-use Rattle.line_files.proofs.Passing.{if_none}
+use Rattle.line_files.proofs.PassedOn.{if_none}
 use Rattle.line_files.proofs.points.read_point.Goals as goal
 
 pub returns-clause-none : goal.returns-clause-none

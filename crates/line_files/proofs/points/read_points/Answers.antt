@@ -8,7 +8,8 @@ use Rattle.line_files.proofs.points.read_points.Goals as goal
 
 pub loop-rest-preserved-in-Skipped : goal.loop-rest-preserved-in-Skipped
 loop-rest-preserved-in-Skipped g c = record {
-  read = skipped_read IsNumberedPointLine points_are_grammar _ _ _ _ _ (rw c.split_line.ensures.lines at c.loop-rest.invariant.read) c.in-Skipped.ensures;
+  read = skipped_read IsNumberedPointLine points_are_grammar _ _ _ _ _
+      (rw c.split_line.ensures.lines at c.loop-rest.invariant.read) c.in-Skipped.ensures;
   counted = omega arith;
 }
 
@@ -23,11 +24,13 @@ pub returns-in-Bad-clause-bad : goal.returns-in-Bad-clause-bad
 returns-in-Bad-clause-bad g c = λ number e.
     let same : c.loop-rest.number + 1 ≡ number = cc in
     subst (IsFirstBadPoint c.args.text.now) same
-    (bad_read IsNumberedPointLine points_are_grammar _ _ _ _ _ (rw c.split_line.ensures.lines at c.loop-rest.invariant.read) (c.in-Bad.ensures _))
+    (bad_read IsNumberedPointLine points_are_grammar _ _ _ _ _
+    (rw c.split_line.ensures.lines at c.loop-rest.invariant.read) (c.in-Bad.ensures _))
 
 pub returns-in-Bad-clause-reads : goal.returns-in-Bad-clause-reads
 returns-in-Bad-clause-reads g c = λ points h.
-    absurd (none_said IsNumberedPointLine points_are_grammar _ _ _ _ _ (rw c.split_line.ensures.lines at c.loop-rest.invariant.read) (c.in-Bad.ensures _) points h)
+    absurd (none_said IsNumberedPointLine points_are_grammar _ _ _ _ _
+    (rw c.split_line.ensures.lines at c.loop-rest.invariant.read) (c.in-Bad.ensures _) points h)
 
 pub returns-in-Bad-clause-refuses : goal.returns-in-Bad-clause-refuses
 returns-in-Bad-clause-refuses g c = λ number h.

@@ -6,7 +6,8 @@ use Rattle.line_files.proofs.text_lines.without_return.Goals as goal
 pub returns-then-last-eq13 : goal.returns-then-last-eq13
 returns-then-last-eq13 c =
     let front = c.in-Some.front.now in
-    sym (ap without_return (c.in-Some.ensures.cases.0 ∙ ap (λ last. front ++ last ∷ []) c.if-last-eq13.true) ∙ ends_with_return front)
+    sym (ap without_return (c.in-Some.ensures.cases.0 ∙ ap (λ last. front ++ last ∷ []) c.if-last-eq13.true)
+    ∙ ends_with_return front)
 
 pub returns-else-last-eq13 : goal.returns-else-last-eq13
 returns-else-last-eq13 c =

@@ -10,13 +10,18 @@ returns-in_err-digit-clause-none c =
 
 pub overflow_mul-value : goal.overflow_mul-value
 overflow_mul-value c =
-    omega (arith, few_digits c.args.digits.now c.loop-byte.byte-index c.loop-byte.value c.loop-byte-test.true c.requires c.loop-byte.invariant.0 c.loop-byte.invariant.1)
+    omega (
+      arith,
+      few_digits c.args.digits.now c.loop-byte.byte-index c.loop-byte.value c.loop-byte-test.true
+          c.requires c.loop-byte.invariant.0 c.loop-byte.invariant.1,
+    )
 
 pub overflow_add-value : goal.overflow_add-value
 overflow_add-value c =
     omega (
       arith,
-      few_digits c.args.digits.now c.loop-byte.byte-index c.loop-byte.value c.loop-byte-test.true c.requires c.loop-byte.invariant.0 c.loop-byte.invariant.1,
+      few_digits c.args.digits.now c.loop-byte.byte-index c.loop-byte.value c.loop-byte-test.true c.requires
+          c.loop-byte.invariant.0 c.loop-byte.invariant.1,
       c.in_ok-digit.ensures.value.0,
       c.in_ok-digit.ensures.value.1,
       c.from-in-loop-byte.ensures,

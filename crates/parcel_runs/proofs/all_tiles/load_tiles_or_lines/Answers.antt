@@ -1,9 +1,9 @@
 use Rattle.std.proofs.Common.{inl, inr, ◌≡◌, ◌⊎◌, ◌∙◌, sym, subst}
-use Rattle.fabric_core.proofs.Refusals.{IsErrAnd-weaker}
+use Rattle.fabric_core.proofs.edits.Refusals.{IsErrAnd-weaker}
 use Rattle.parcel_runs.specs.declared.fault.Role.TheVariants.{Parcels}
 use Rattle.parcel_runs.specs.declared.fault.ToolFault.TheVariants.{NoMemory}
 use Rattle.parcel_runs.specs.TilingFiles.{files_of, IsFaultOfLayer, IsTiledBy}
-use Rattle.parcel_runs.proofs.Passing.{passed_as}
+use Rattle.parcel_runs.proofs.PassedOn.{passed_as}
 use Rattle.parcel_runs.proofs.all_tiles.load_tiles_or_lines.Goals as goal
 
 pub returns-in_err-city-clause-refuses : goal.returns-in_err-city-clause-refuses

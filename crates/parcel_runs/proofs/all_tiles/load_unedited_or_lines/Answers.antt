@@ -1,12 +1,12 @@
 use Rattle.std.proofs.Common.{rules, ◌≡◌, ◌⊎◌, inr, [], ◌≤◌, length, sym, ap, subst}
-use Rattle.fabric_core.proofs.Refusals.{IsErrAnd-weaker}
+use Rattle.fabric_core.proofs.edits.Refusals.{IsErrAnd-weaker}
 use Rattle.parcel_runs.specs.declared.clerks.TheConstants.{CLERKS}
 use Rattle.parcel_runs.specs.declared.fault.ToolFault.TheVariants.{NoMemory}
 use Rattle.parcel_runs.specs.FaultLines.{AreLinesBefore, text_or_none}
 use Rattle.parcel_runs.specs.TilingFiles.{files_of}
 use Rattle.clerk_runs.specs.ClerkFiles.{texts_of}
 use Rattle.parcel_runs.specs.RunFaults.{IsRunFault}
-use Rattle.parcel_runs.proofs.Passing.{passed_as}
+use Rattle.parcel_runs.proofs.PassedOn.{passed_as}
 use Rattle.parcel_runs.proofs.RunFaults.{few_fault, told_behind}
 use Rattle.parcel_runs.proofs.all_tiles.load_unedited_or_lines.Goals as goal
 
@@ -16,7 +16,8 @@ returns-in_err-layer-clause-refuses g c = λ fault h.
     let e = c.in_err-layer.field-0.0 in
     IsErrAnd-weaker c.from_residual-in_err-layer.result _ (λ refusal. (refusal.fault ≡ fault) ⊎ (refusal.fault ≡ NoMemory))
     (λ refusal same. subst (λ r. (r.fault ≡ fault) ⊎ (r.fault ≡ NoMemory)) (sym same)
-    (few_fault (files_of c.args.city.now) (files_of c.args.parcels.now) c.args.unit c.args.clerks.now ((e.fault ≡ fault) ⊎ (e.fault ≡ NoMemory)) fault few h
+    (few_fault (files_of c.args.city.now) (files_of c.args.parcels.now) c.args.unit c.args.clerks.now
+    ((e.fault ≡ fault) ⊎ (e.fault ≡ NoMemory)) fault few h
     (λ k. c.in_err-layer.ensures.refuses fault k)
     (λ tiles are k. inr (c.in_err-layer.ensures.loads tiles are)))) c.from_residual-in_err-layer.ensures.1
 
@@ -38,7 +39,8 @@ returns-in_err-edits-clause-refuses g c = λ fault h.
     let e = c.in_err-edits.field-0.0 in
     IsErrAnd-weaker c.from_residual-in_err-edits.result _ (λ refusal. (refusal.fault ≡ fault) ⊎ (refusal.fault ≡ NoMemory))
     (λ refusal told. subst (λ x. (x ≡ fault) ⊎ (x ≡ NoMemory)) (sym told.0)
-    (few_fault (files_of c.args.city.now) (files_of c.args.parcels.now) c.args.unit c.args.clerks.now ((e ≡ fault) ⊎ (e ≡ NoMemory)) fault few h
+    (few_fault (files_of c.args.city.now) (files_of c.args.parcels.now) c.args.unit c.args.clerks.now ((e ≡ fault)
+    ⊎ (e ≡ NoMemory)) fault few h
     (λ k. absurd (c.in_ok-layer.ensures.refuses fault k))
     (λ tiles are k. c.in_err-edits.ensures.refuses fault k))) c.from_residual-in_err-edits.ensures.1
 

@@ -1,10 +1,10 @@
 use Rattle.std.proofs.Common.{◌≡◌, ◌⊎◌, ◌∙◌, sym, subst}
 use Rattle.geo_exact.specs.Layers.{rings_of}
-use Rattle.fabric_core.proofs.Refusals.{IsErrAnd-weaker}
+use Rattle.fabric_core.proofs.edits.Refusals.{IsErrAnd-weaker}
 use Rattle.parcel_runs.specs.declared.fault.ToolFault.TheVariants.{NoMemory}
 use Rattle.parcel_runs.specs.FaultLines.{text_or_none}
 use Rattle.parcel_runs.specs.TilingFiles.{files_of}
-use Rattle.parcel_runs.proofs.Passing.{passed_as}
+use Rattle.parcel_runs.proofs.PassedOn.{passed_as}
 use Rattle.parcel_runs.proofs.TilingFaults.{layer_unread, layer_has_none}
 use Rattle.parcel_runs.proofs.AllTiles.{begins_some, told_or_no_memory, due_told, all_loaded}
 use Rattle.parcel_runs.proofs.all_tiles.read_tiles_or_lines.Goals as goal
@@ -32,7 +32,8 @@ returns-in-Err-clause-fault g c =
     told_or_no_memory c.args.role (files_of c.args.files.now) c.args.unit c.args.city.now.ring.corners
     (rings_of c.in_ok-records.records.items) c.in-Err.all
     c.refusal_of.result.fault (text_or_none c.refusal_of.result.lines)
-    (rw (← c.as_slice.ensures.value, ← c.index_bytes.ensures.bytes) c.in_ok-records.ensures.ok) c.in-Err.ensures.faults c.refusal_of.ensures
+    (rw (← c.as_slice.ensures.value, ← c.index_bytes.ensures.bytes) c.in_ok-records.ensures.ok)
+    c.in-Err.ensures.faults c.refusal_of.ensures
 
 pub returns-in-Err-clause-refuses : goal.returns-in-Err-clause-refuses
 returns-in-Err-clause-refuses g c = λ fault h.
@@ -60,7 +61,8 @@ returns-in_err-records-clause-loads g c = λ tiles h.
 
 pub returns-in-Err-clause-loads : goal.returns-in-Err-clause-loads
 returns-in-Err-clause-loads g c = λ tiles h.
-    all_loaded c.args.role (files_of c.args.files.now) c.args.unit c.args.city.now.ring.corners tiles (rings_of c.in_ok-records.records.items) c.in-Err.all
+    all_loaded c.args.role (files_of c.args.files.now) c.args.unit c.args.city.now.ring.corners tiles
+    (rings_of c.in_ok-records.records.items) c.in-Err.all
     c.refusal_of.result.fault (text_or_none c.refusal_of.result.lines) h
     (c.in_ok-records.ensures.reads h.records (rw (c.as_slice.ensures.value, c.index_bytes.ensures.bytes) h.are_records))
     c.in-Err.ensures.faults c.refusal_of.ensures

@@ -8,7 +8,7 @@ use Rattle.parcel_runs.specs.FaultLines.{text_or_none}
 use Rattle.parcel_runs.specs.declared.fault.ToolFault.TheVariants.{NoMemory}
 use Rattle.parcel_runs.proofs.AllTiles.{lines_written, none_written}
 use Rattle.parcel_runs.proofs.CityLimit.{city_short}
-use Rattle.parcel_runs.proofs.Passing.{passed_if, passed_is}
+use Rattle.parcel_runs.proofs.PassedOn.{passed_if, passed_is}
 use Rattle.parcel_runs.proofs.RunFaults.{no_output, want_no_output}
 use Rattle.parcel_runs.proofs.check.check_all.Goals as goal
 
@@ -38,7 +38,10 @@ returns-in_ok-put_all-in-Err-clause-fault g c =
     c.lines.result.now (g.W.ByteOut.written c.args.out.now) _ c.lines.ensures c.in_ok-put_all-in-Err.ensures.ok c.in-Err.ensures.fault
 
 pub returns-in_ok-put_all-in-Err-clause-refuses : goal.returns-in_ok-put_all-in-Err-clause-refuses
-returns-in_ok-put_all-in-Err-clause-refuses g c = λ fault h. elim (c.in-Err.ensures.refuses fault h) [ inl e ↦ inl e | inr e ↦ inr (inl e) ]
+returns-in_ok-put_all-in-Err-clause-refuses g c = λ fault h. elim (c.in-Err.ensures.refuses fault h) [
+  | inl e ↦ inl e
+  | inr e ↦ inr (inl e)
+]
 
 pub returns-in_err-text-in-Ok-clause-fault : goal.returns-in_err-text-in-Ok-clause-fault
 returns-in_err-text-in-Ok-clause-fault g c =
@@ -58,6 +61,7 @@ returns-in_err-text-in-Ok-clause-refuses g c = λ fault h. absurd (c.in-Ok.ensur
 pub returns-in_ok-put_all-in-Err-clause-failed : goal.returns-in_ok-put_all-in-Err-clause-failed
 returns-in_ok-put_all-in-Err-clause-failed g c = λ h.
     let fault = c.in-Err.refusal.fault in
-    let answered : IsRunFault (files_of c.args.city.now) (files_of c.args.parcels.now) c.args.unit (texts_of c.args.clerks.now) fault ⊎ (fault ≡ NoMemory) =
+    let answered : IsRunFault (files_of c.args.city.now) (files_of c.args.parcels.now) c.args.unit
+    (texts_of c.args.clerks.now) fault ⊎ (fault ≡ NoMemory) =
     elim c.in-Err.ensures.fault [ inl k ↦ inl k.0 | inr k ↦ inr k.0 ] in
     absurd (no_output _ _ _ _ fault answered (passed_is _ fault _ refl h))

@@ -12,7 +12,9 @@ rings_to_write-requires-clause-count g c =
     let rows = (register_of_parcels c.in_ok-parcels.field-0.parcels).now.rows in
     subst (λ n. n ≤ LAYER_RECORDS)
     (sym (as_many (λ shape. shape.1.ring.corners) c.shapes.result rows (lists_of_shapes c.shapes.result rows c.shapes.ensures)))
-    (made_few _ _ c.in_ok-parcels.ensures.made.is_journal c.in_ok-parcels.ensures.made.leads (few_rows _ _ _ _ c.in_ok-unedited.ensures.tiles.is_tiled (λ records h. c.a_layer_file_is_within_the_limits.ensures.rings _ _ _ records h)))
+    (made_few _ _ c.in_ok-parcels.ensures.made.is_journal c.in_ok-parcels.ensures.made.leads
+    (few_rows _ _ _ _ c.in_ok-unedited.ensures.tiles.is_tiled (λ records h.
+    c.a_layer_file_is_within_the_limits.ensures.rings _ _ _ records h)))
 
 pub rings_to_write-requires-clause-short : goal.rings_to_write-requires-clause-short
 rings_to_write-requires-clause-short g c =
@@ -26,7 +28,9 @@ write_layer-requires-clause-rings g c =
     let lists : lists_of_rings c.deref.result.now ≡ corner_lists rows =
     ap lists_of_rings c.deref.ensures.value ∙ c.in_ok-rings.ensures ∙ lists_of_shapes c.shapes.result rows c.shapes.ensures in
     subst (λ n. n ≤ LAYER_RECORDS) (sym (as_many (λ ring. ring.corners) c.deref.result.now rows lists))
-    (made_few _ _ c.in_ok-parcels.ensures.made.is_journal c.in_ok-parcels.ensures.made.leads (few_rows _ _ _ _ c.in_ok-unedited.ensures.tiles.is_tiled (λ records h. c.a_layer_file_is_within_the_limits.ensures.rings _ _ _ records h)))
+    (made_few _ _ c.in_ok-parcels.ensures.made.is_journal c.in_ok-parcels.ensures.made.leads
+    (few_rows _ _ _ _ c.in_ok-unedited.ensures.tiles.is_tiled (λ records h.
+    c.a_layer_file_is_within_the_limits.ensures.rings _ _ _ records h)))
 
 pub write_layer-requires-clause-corners : goal.write_layer-requires-clause-corners
 write_layer-requires-clause-corners g c =

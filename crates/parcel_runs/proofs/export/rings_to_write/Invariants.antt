@@ -7,5 +7,6 @@ use Rattle.parcel_runs.proofs.export.rings_to_write.Given as goal
 abbrev pub invariant-loop-shape : goal.invariant-loop-shape
 invariant-loop-shape g l =
     (l.number + length l.shape-iterator ≡ length l.fn.shapes)
-    × (corner_lists l.rings.items ++ map (λ shape. shape.1.ring.corners) l.shape-iterator ≡ map (λ shape. shape.1.ring.corners) l.fn.shapes)
+    × (corner_lists l.rings.items ++ map (λ shape. shape.1.ring.corners) l.shape-iterator
+    ≡ map (λ shape. shape.1.ring.corners) l.fn.shapes)
     × AllByRecursion (λ shape. length shape.1.ring.corners ≤ RING_CORNERS) l.shape-iterator

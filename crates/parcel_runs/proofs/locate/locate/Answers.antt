@@ -1,6 +1,6 @@
 use Rattle.std.proofs.Common.{inl, inr, refl, ◌∙◌, subst}
 use Rattle.std.specs.Io.KnownBytes.{Appends}
-use Rattle.parcel_runs.proofs.Passing.{passed_if, passed_is}
+use Rattle.parcel_runs.proofs.PassedOn.{passed_if, passed_is}
 use Rattle.parcel_runs.proofs.RunFaults.{no_output, want_no_output}
 use Rattle.parcel_runs.proofs.locate.locate.Goals as goal
 
@@ -9,7 +9,8 @@ returns-in_err-unedited-clause-failed g c = λ h.
     absurd (no_output _ _ _ _ c.in_err-unedited.field-0.0 c.in_err-unedited.ensures.fault (passed_is _ _ _ c.from_residual.ensures.1 h))
 
 pub returns-in_err-lines-clause-fault : goal.returns-in_err-lines-clause-fault
-returns-in_err-lines-clause-fault g c = passed_if _ _ _ c.from_residual-in_err-lines.ensures.1 (inr (inl (c.in_err-lines.ensures.fault, refl)))
+returns-in_err-lines-clause-fault g c = passed_if _ _ _ c.from_residual-in_err-lines.ensures.1
+    (inr (inl (c.in_err-lines.ensures.fault, refl)))
 
 pub returns-in_err-lines-clause-failed : goal.returns-in_err-lines-clause-failed
 returns-in_err-lines-clause-failed g c = λ h.

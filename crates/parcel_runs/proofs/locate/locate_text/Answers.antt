@@ -2,7 +2,7 @@ use Rattle.std.proofs.Common.{inl, inr, refl, ◌∙◌, subst}
 use Rattle.std.specs.Io.KnownBytes.{Appends}
 use Rattle.parcel_runs.specs.LocateReport.{ArePlaceLines}
 use Rattle.parcel_runs.proofs.RunFaults.{no_output, want_no_output}
-use Rattle.parcel_runs.proofs.Passing.{passed_on, passed_if, passed_is}
+use Rattle.parcel_runs.proofs.PassedOn.{passed_on, passed_if, passed_is}
 use Rattle.parcel_runs.proofs.locate.locate_text.Goals as goal
 
 pub returns-in_err-unedited-clause-refuses : goal.returns-in_err-unedited-clause-refuses
@@ -46,7 +46,8 @@ returns-in_err-put_all-clause-refuses g c = λ fault h. elim h [
 ]
 
 pub returns-in_err-lines-clause-fault : goal.returns-in_err-lines-clause-fault
-returns-in_err-lines-clause-fault g c = passed_if _ _ _ c.from_residual-in_err-lines.ensures.1 (inr (inl (c.in_err-lines.ensures.fault, refl)))
+returns-in_err-lines-clause-fault g c = passed_if _ _ _ c.from_residual-in_err-lines.ensures.1
+    (inr (inl (c.in_err-lines.ensures.fault, refl)))
 
 pub returns-in_err-lines-clause-failed : goal.returns-in_err-lines-clause-failed
 returns-in_err-lines-clause-failed g c = λ h.
@@ -62,7 +63,12 @@ returns-clause-ok g c =
         are_tiles = c.in_ok-unedited.ensures.tiles;
         after = told.0;
         told = told.1;
-        is_edited = record { clerks = c.in_ok-unedited.unedited.clerks.items; are_files = c.in_ok-unedited.ensures.edits; are_made = told.3 };
+        is_edited = record {
+          clerks = c.in_ok-unedited.unedited.clerks.items;
+          are_files =
+              c.in_ok-unedited.ensures.edits;
+          are_made = told.3;
+        };
         lines = told.2;
         are_lines = subst (λ points. ArePlaceLines told.0.now.rows points told.2) c.deref.ensures.value told.4;
         is_written = subst (Appends (g.W.ByteOut.written c.args.out.now) (g.W.ByteOut.written c.put_all.new.out))

@@ -10,7 +10,8 @@ use Rattle.parcel_runs.proofs.locate.located_text.Goals as goal
 pub push_place_lines-requires : goal.push_place_lines-requires
 push_place_lines-requires g c =
     ap length c.as_slice.ensures.value
-    ∙ AllZip-long (λ corner at. IsLocatedAt (register_of_parcels c.in_ok-lines.field-0.parcels).now.rows (corner_point corner) at) c.args.points.now _
+    ∙ AllZip-long (λ corner at. IsLocatedAt (register_of_parcels c.in_ok-lines.field-0.parcels).now.rows
+    (corner_point corner) at) c.args.points.now _
     c.in_ok-lines.ensures.places
 
 pub returns-clause-text : goal.returns-clause-text

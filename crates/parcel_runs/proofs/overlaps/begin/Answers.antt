@@ -33,4 +33,5 @@ told_of_round-requires g c =
 
 pub returns-in-Ok-clause-all : goal.returns-in-Ok-clause-all
 returns-in-Ok-clause-all g c =
-    ap length c.in-Ok.ensures.hands ∙ length_fresh_hands _ _ ∙ sym (ap length c.in-Ok.ensures.lists ∙ length-map c.in_ok-lists.lists.items (λ list. list.items))
+    ap length c.in-Ok.ensures.hands ∙ length_fresh_hands _ _ ∙ sym (ap length c.in-Ok.ensures.lists
+    ∙ length-map c.in_ok-lists.lists.items (λ list. list.items))

@@ -5,13 +5,14 @@ use Rattle.clerk_runs.specs.ClerkRuns.{register_of, IsEdited}
 use Rattle.parcel_runs.specs.TilingFiles.{files_of}
 use Rattle.parcel_runs.specs.OverlayReport.{IsTableOf}
 use Rattle.parcel_runs.specs.own.LinesAndReports.{WritesBoth, BeginsBoth}
-use Rattle.parcel_runs.proofs.Passing.{passed_on, passed_if, passed_is}
+use Rattle.parcel_runs.proofs.PassedOn.{passed_on, passed_if, passed_is}
 use Rattle.parcel_runs.proofs.RunFaults.{want_no_output}
 use Rattle.parcel_runs.proofs.OverlayTexts.{no_output, overlay_want_no_output, all_written, some_written, on_output, output_alone, on_ok}
 use Rattle.parcel_runs.proofs.overlay.overlay.Goals as goal
 
 pub returns-in_err-unedited-clause-refuses : goal.returns-in_err-unedited-clause-refuses
-returns-in_err-unedited-clause-refuses g c = λ fault h. passed_on _ _ _ c.from_residual.ensures.1 (c.in_err-unedited.ensures.refuses fault h)
+returns-in_err-unedited-clause-refuses g c = λ fault h. passed_on _ _ _ c.from_residual.ensures.1
+    (c.in_err-unedited.ensures.refuses fault h)
 
 pub returns-in_err-unedited-clause-output : goal.returns-in_err-unedited-clause-output
 returns-in_err-unedited-clause-output g c = λ h.
@@ -37,7 +38,8 @@ returns-in_err-sheet-clause-failed g c = λ h.
     absurd (want_no_output _ c.in_err-sheet.ensures.fault (passed_is _ _ _ c.from_residual-in_err-sheet.ensures.1 h))
 
 pub returns-in_err-table-clause-fault : goal.returns-in_err-table-clause-fault
-returns-in_err-table-clause-fault g c = passed_if _ _ _ c.from_residual-in_err-table.ensures.1 (inr (inl (c.in_err-table.ensures.fault, refl)))
+returns-in_err-table-clause-fault g c = passed_if _ _ _ c.from_residual-in_err-table.ensures.1
+    (inr (inl (c.in_err-table.ensures.fault, refl)))
 
 pub returns-in_err-table-clause-refuses : goal.returns-in_err-table-clause-refuses
 returns-in_err-table-clause-refuses g c = λ fault h. absurd (c.in_ok-unedited.ensures.refuses fault h)
@@ -68,9 +70,11 @@ returns-clause-ok g c =
       is_table = c.in_ok-table.ensures.table;
     } in
     on_ok c.write_both.result _ _
-    (all_written (files_of c.args.city.now) (files_of c.args.parcels.now) (files_of c.args.zones.now) c.args.unit (texts_of c.args.clerks.now) unedited.layer
+    (all_written (files_of c.args.city.now) (files_of c.args.parcels.now) (files_of c.args.zones.now) c.args.unit
+    (texts_of c.args.clerks.now) unedited.layer
     c.in_ok-unedited.field-0.zones (register_of sheet) lines.items table c.in_ok-unedited.ensures.zoned edited is _ _)
-    (subst (λ l. OnOk c.write_both.result (WritesBoth l table (g.W.ByteOut.written c.args.out.now) (g.W.ByteOut.written c.write_both.new.out)))
+    (subst (λ l. OnOk c.write_both.result (WritesBoth l table (g.W.ByteOut.written c.args.out.now)
+    (g.W.ByteOut.written c.write_both.new.out)))
     c.as_slice.ensures.value c.write_both.ensures.ok)
 
 pub returns-clause-fault : goal.returns-clause-fault
@@ -96,8 +100,10 @@ returns-clause-output g c = λ h.
       entries = c.in_ok-table.ensures.entries;
       is_table = c.in_ok-table.ensures.table;
     } in
-    some_written (files_of c.args.city.now) (files_of c.args.parcels.now) (files_of c.args.zones.now) c.args.unit (texts_of c.args.clerks.now) unedited.layer
+    some_written (files_of c.args.city.now) (files_of c.args.parcels.now) (files_of c.args.zones.now) c.args.unit
+    (texts_of c.args.clerks.now) unedited.layer
     c.in_ok-unedited.field-0.zones (register_of sheet) lines.items table c.in_ok-unedited.ensures.zoned edited is _ _
     (on_output c.write_both.result _
-    (subst (λ l. OnErr c.write_both.result (BeginsBoth l table (g.W.ByteOut.written c.args.out.now) (g.W.ByteOut.written c.write_both.new.out)))
+    (subst (λ l. OnErr c.write_both.result (BeginsBoth l table (g.W.ByteOut.written c.args.out.now)
+    (g.W.ByteOut.written c.write_both.new.out)))
     c.as_slice.ensures.value c.write_both.ensures.err) h)

@@ -1,5 +1,5 @@
 use Rattle.std.proofs.Common.{inl, inr, sym, subst}
-use Rattle.parcel_runs.proofs.Passing.{passed_on, passed_if}
+use Rattle.parcel_runs.proofs.PassedOn.{passed_on, passed_if}
 use Rattle.parcel_runs.proofs.tiles.load_tiles.Goals as goal
 use Rattle.parcel_runs.specs.TilingFiles.{files_of, IsFaultOfLayer, IsTiledBy}
 use Rattle.parcel_runs.specs.declared.fault.Role.TheVariants.{Parcels}

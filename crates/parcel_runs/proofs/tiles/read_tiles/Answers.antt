@@ -1,5 +1,5 @@
 use Rattle.geo_exact.specs.Layers.{rings_of}
-use Rattle.parcel_runs.proofs.Passing.{passed_on, passed_if}
+use Rattle.parcel_runs.proofs.PassedOn.{passed_on, passed_if}
 use Rattle.parcel_runs.proofs.TilingFaults.{layer_unread, layer_refused, layer_has_none, layer_loaded}
 use Rattle.parcel_runs.proofs.tiles.read_tiles.Goals as goal
 

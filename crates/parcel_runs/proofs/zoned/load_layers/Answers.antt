@@ -1,7 +1,7 @@
 use Rattle.std.proofs.Common.{◌≡◌, ◌⊎◌, inl, inr}
 use Rattle.parcel_runs.specs.declared.fault.ToolFault.TheVariants.{NoMemory}
 use Rattle.parcel_runs.specs.TilingFiles.{files_of}
-use Rattle.parcel_runs.proofs.Passing.{passed_on, passed_if}
+use Rattle.parcel_runs.proofs.PassedOn.{passed_on, passed_if}
 use Rattle.parcel_runs.proofs.ZonedFaults.{by_layer, tiled_in, of_zones}
 use Rattle.parcel_runs.proofs.zoned.load_layers.Goals as goal
 
@@ -19,14 +19,16 @@ pub returns-in_err-parcels-clause-loads : goal.returns-in_err-parcels-clause-loa
 returns-in_err-parcels-clause-loads g c = λ tiles regions h.
     passed_if _ _ _ c.from_residual-in_err-parcels.ensures.1
     (c.in_err-parcels.ensures.loads tiles
-    (tiled_in (files_of c.args.city.now) (files_of c.args.parcels.now) c.args.unit c.in_ok-city.city.ring.corners tiles.city tiles c.in_ok-city.ensures.reads
+    (tiled_in (files_of c.args.city.now) (files_of c.args.parcels.now) c.args.unit c.in_ok-city.city.ring.corners
+    tiles.city tiles c.in_ok-city.ensures.reads
     h.are_tiles.is_city h.are_tiles.is_tiled))
 
 pub returns-in_err-parcels-clause-refuses : goal.returns-in_err-parcels-clause-refuses
 returns-in_err-parcels-clause-refuses g c = λ fault h.
     let e = c.in_err-parcels.field-0.0 in
     passed_on _ e (λ told. (told ≡ fault) ⊎ (told ≡ NoMemory)) c.from_residual-in_err-parcels.ensures.1
-    (by_layer (files_of c.args.city.now) (files_of c.args.parcels.now) (files_of c.args.zones.now) c.args.unit c.in_ok-city.city.ring.corners
+    (by_layer (files_of c.args.city.now) (files_of c.args.parcels.now) (files_of c.args.zones.now) c.args.unit
+    c.in_ok-city.city.ring.corners
     ((e ≡ fault) ⊎ (e ≡ NoMemory)) fault c.in_ok-city.ensures.reads h
     (λ k. absurd (c.in_ok-city.ensures.refuses fault k))
     (λ k. c.in_err-parcels.ensures.refuses fault k)
@@ -35,21 +37,24 @@ returns-in_err-parcels-clause-refuses g c = λ fault h.
 pub returns-in_err-zones-clause-fault : goal.returns-in_err-zones-clause-fault
 returns-in_err-zones-clause-fault g c =
     passed_if _ _ _ c.from_residual-in_err-zones.ensures.1
-    (of_zones (files_of c.args.city.now) (files_of c.args.parcels.now) (files_of c.args.zones.now) c.args.unit c.in_ok-city.city.ring.corners
+    (of_zones (files_of c.args.city.now) (files_of c.args.parcels.now) (files_of c.args.zones.now) c.args.unit
+    c.in_ok-city.city.ring.corners
     c.in_ok-parcels.parcels c.in_err-zones.field-0.0 c.in_ok-city.ensures.city c.in_ok-parcels.ensures.layer c.in_err-zones.ensures.fault)
 
 pub returns-in_err-zones-clause-loads : goal.returns-in_err-zones-clause-loads
 returns-in_err-zones-clause-loads g c = λ tiles regions h.
     passed_if _ _ _ c.from_residual-in_err-zones.ensures.1
     (c.in_err-zones.ensures.loads regions
-    (tiled_in (files_of c.args.city.now) (files_of c.args.zones.now) c.args.unit c.in_ok-city.city.ring.corners tiles.city regions c.in_ok-city.ensures.reads
+    (tiled_in (files_of c.args.city.now) (files_of c.args.zones.now) c.args.unit c.in_ok-city.city.ring.corners
+    tiles.city regions c.in_ok-city.ensures.reads
     h.are_tiles.is_city h.are_regions))
 
 pub returns-in_err-zones-clause-refuses : goal.returns-in_err-zones-clause-refuses
 returns-in_err-zones-clause-refuses g c = λ fault h.
     let e = c.in_err-zones.field-0.0 in
     passed_on _ e (λ told. (told ≡ fault) ⊎ (told ≡ NoMemory)) c.from_residual-in_err-zones.ensures.1
-    (by_layer (files_of c.args.city.now) (files_of c.args.parcels.now) (files_of c.args.zones.now) c.args.unit c.in_ok-city.city.ring.corners
+    (by_layer (files_of c.args.city.now) (files_of c.args.parcels.now) (files_of c.args.zones.now) c.args.unit
+    c.in_ok-city.city.ring.corners
     ((e ≡ fault) ⊎ (e ≡ NoMemory)) fault c.in_ok-city.ensures.reads h
     (λ k. absurd (c.in_ok-city.ensures.refuses fault k))
     (λ k. absurd (c.in_ok-parcels.ensures.refuses fault k))

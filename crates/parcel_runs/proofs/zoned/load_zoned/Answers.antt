@@ -2,7 +2,7 @@ use Rattle.std.proofs.Common.{rules, ◌≡◌, ◌⊎◌, inr, ◌≤◌, lengt
 use Rattle.parcel_runs.specs.declared.clerks.TheConstants.{CLERKS}
 use Rattle.parcel_runs.specs.declared.fault.ToolFault.TheVariants.{NoMemory}
 use Rattle.parcel_runs.specs.TilingFiles.{files_of}
-use Rattle.parcel_runs.proofs.Passing.{passed_on, passed_if}
+use Rattle.parcel_runs.proofs.PassedOn.{passed_on, passed_if}
 use Rattle.parcel_runs.proofs.ZonedFaults.{few_overlay_fault, behind_zones}
 use Rattle.parcel_runs.proofs.zoned.load_zoned.Goals as goal
 
@@ -21,7 +21,8 @@ returns-in_err-edits-clause-fault g c =
     let few : length c.args.clerks.now ≤ CLERKS = search rules in
     passed_if _ _ _ c.from_residual-in_err-edits.ensures.1
     (behind_zones (files_of c.args.city.now) (files_of c.args.parcels.now) (files_of c.args.zones.now) c.args.unit c.args.clerks.now
-    c.in_ok-parcels.field-0.parcels c.in_ok-parcels.field-0.zones c.in_err-edits.field-0.0 few c.in_ok-parcels.ensures.layers c.in_err-edits.ensures.fault)
+    c.in_ok-parcels.field-0.parcels c.in_ok-parcels.field-0.zones c.in_err-edits.field-0.0 few
+    c.in_ok-parcels.ensures.layers c.in_err-edits.ensures.fault)
 
 pub returns-in_err-edits-clause-refuses : goal.returns-in_err-edits-clause-refuses
 returns-in_err-edits-clause-refuses g c = λ fault h.

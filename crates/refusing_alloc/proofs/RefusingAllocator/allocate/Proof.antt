@@ -34,12 +34,13 @@ use prog.Wp.{Tables, WpFn}
 use seplogic.Ra.Ura.{Ura}
 use sound.WpLaws.{fm_of}
 use types.ByLocal.{alloc_all, env, free_all, get, lands_as, look_at, pass_all, sets, through}
-use types.Kit.{‵, raw, ◌⊛◌, some, later, given, at_ret, ◌$◌, ◌∵◌, !, qed, by, move, keep, use0, use1, use2, split, join, pick, learn}
+use types.Kit.{‵, raw, ◌⊛◌, some, later, given, at_ret, ◌$◌, ◌∵◌, !, qed, by, move, keep, use0, use1, use2, split}
+use types.Kit.{join, pick, learn}
 use types.Kit.{fsplit, fjoin, suffices, await, done, ⋆}
 use types.Logic.{Logic}
 use types.Part.{agg}
 use types.Run.{addr, and_then, branches, enter, exec, first, fld, lit, no_more, returns, returns_within, skips, stop}
-use Rattle.refusing_alloc.proofs.Counting.{Asks, asking, may_ask, was_asked}
+use Rattle.refusing_alloc.proofs.CountedCalls.{Asks, asking, may_ask, was_asked}
 use Rattle.refusing_alloc.proofs.RefusingAllocator.allocate.Code as code
 use Rattle.refusing_alloc.proofs.RefusingAllocator.allocate.Statement as stated
 use Rattle.refusing_alloc.proofs.is_refused.Met as is_refused
@@ -96,7 +97,8 @@ module _ (Z : Al) {M : Type 1} {𝓤 : Ura M} (𝓛 : Logic 𝓤) (at_mem : Memo
 
     -- What the function's end takes: the answer, its block if it has one, and the tokens that came in.
     ends : (v : Val) (answer : Answer.Denot)
-        → ent 𝓤 (⋆ 𝓛 (‵ (Answer.own_val answer (v ∷ [])) ∷ ‵ (block_if_ok (token Z self.now.inner) τ answer) ∷ ‵ (flft κ q)
+        → ent 𝓤 (⋆ 𝓛 (‵ (Answer.own_val answer (v ∷ [])) ∷ ‵ (block_if_ok (token Z self.now.inner) τ answer)
+        ∷ ‵ (flft κ q)
         ∷ (‵ (flft ρ s) ⊛ ‵ ftrue) ∷ [])) (Post v)
     ends v answer =
         qed 𝓛 (‵ (Answer.own_val answer (v ∷ [])) ∷ ‵ (block_if_ok (token Z self.now.inner) τ answer) ∷ ‵ (flft κ q)
@@ -144,7 +146,8 @@ module _ (Z : Al) {M : Type 1} {𝓤 : Ura M} (𝓛 : Logic 𝓤) (at_mem : Memo
           (Takes-goes Z 𝓛 at_mem run κ q at inner (⊑_trans κ ρ Z.row.lives in_type lives) n a τ said.0 said.1 n_fits a_fits) $
           calls_at ! (fm_of 𝓤 H 𝓛.laws 𝓣) (Takes Z 𝓛 at_mem run) took call
           (and_then ! (get ! refl) (and_then ! (get ! refl) (and_then ! (get ! refl) (no_more !)))) (λ v.
-          use1 𝓛 (later (raw (Answered Z 𝓛 at_mem run inner τ v) ⊛ ‵ (flft κ q))) (Takes-gives Z 𝓛 at_mem run κ q at inner n a τ v) $
+          use1 𝓛 (later (raw (Answered Z 𝓛 at_mem run inner τ v) ⊛ ‵ (flft κ q)))
+          (Takes-gives Z 𝓛 at_mem run κ q at inner n a τ v) $
           await ! tt $ split ! $
           answers Z ! at_mem run inner τ v
           (λ b o is_ok. fjoin ! $ lands_as ! is_ok refl (Answer-typed true b o) $ returns ! (look_at ! 0 refl) $ free_all ! refl $

@@ -30,7 +30,8 @@ use prog.Wp.{Tables, WpFn}
 use seplogic.Ra.Ura.{Ura}
 use sound.WpLaws.{fm_of}
 use types.ByLocal.{alloc_all, free_all, get, lands_as, look_at, pass_all, sets, through}
-use types.Kit.{Item, ‵, raw, ◌⊛◌, later, given, ◌$◌, ◌∵◌, !, qed, by, move, keep, use1, split, split3, join, learn, fsplit, fjoin, feq_i}
+use types.Kit.{Item, ‵, raw, ◌⊛◌, later, given, ◌$◌, ◌∵◌, !, qed, by, move, keep, use1, split, split3, join, learn}
+use types.Kit.{fsplit, fjoin, feq_i}
 use types.Kit.{suffices, await, done}
 use types.Logic.{Logic}
 use types.Run.{addr, and_then, enter, fld, no_more, of_opd, returns, stop, unit_lit}
@@ -134,7 +135,10 @@ deallocate_spec 𝓤 𝓛 𝓜 𝓡 wired Y L g d drops met _ =
       Goes-dropped 𝓛 2 (heap Z) yes (λ κs x f. refl),
       (
         Goes-dropped 𝓛 2 (plain (λ _. RawPtr)) yes (λ κs x f. refl),
-        (Goes-dropped 𝓛 2 (plain (λ _. usize)) yes (λ κs x f. refl), (Goes-dropped 𝓛 2 (plain (λ _. usize)) yes (λ κs x f. refl), tt)),
+        (
+          Goes-dropped 𝓛 2 (plain (λ _. usize)) yes (λ κs x f. refl),
+          (Goes-dropped 𝓛 2 (plain (λ _. usize)) yes (λ κs x f. refl), tt),
+        ),
       ),
     ) in
     proved 𝓛 (ended Z) (stayed Z) (clauses Z 𝓛 𝓜.mem 𝓡.returns) 𝓜 𝓡 go

@@ -25,6 +25,7 @@ returns-clause-border c =
     let l = c.in-Some-place_of.ensures in
     border_at c.args.a.now c.args.b.now c.in_ok-from_in_a.from_in_a c.in_ok-from_in_a.to_in_a c.in-Some.from_in_b c.in-Some-place_of.to_in_b
     c.requires h k.0
-    (k.1 ∙ c.index-a-from_in_a.is ∙ get_or_default c.args.a.now c.in_ok-from_in_a.from_in_a c.index-a-from_in_a.result origin h.i_in_ring)
+    (k.1 ∙ c.index-a-from_in_a.is ∙ get_or_default c.args.a.now c.in_ok-from_in_a.from_in_a c.index-a-from_in_a.result
+    origin h.i_in_ring)
     l.0
     (l.1 ∙ c.index-a-to_in_a.is ∙ get_or_default c.args.a.now c.in_ok-from_in_a.to_in_a c.index-a-to_in_a.result origin h.j_in_ring)

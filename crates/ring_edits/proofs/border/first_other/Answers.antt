@@ -1,10 +1,12 @@
-use Rattle.std.proofs.Common.{◌≡◌, ◌↔◌, ⊎_elim, ℕ, ◌+◌, ◌<◌, ◌≤◌, sym, subst, arith, refl, Bool, true, false, not, IsTrue}
+use Rattle.std.proofs.Common.{◌≡◌, ◌↔◌, ⊎_elim, ℕ, ◌+◌, ◌<◌, ◌≤◌, sym, subst, arith, refl, Bool, true, false}
+use Rattle.std.proofs.Common.{not, IsTrue}
 use Rattle.std.proofs.lemmas.Bool.{cases_lt, false≢true}
 use mathlib.Core.Bool.{beq as bool_eq}
 use Rattle.ring_edits.specs.Edits.{IsSharedAt}
 use Rattle.ring_edits.proofs.border.first_other.Goals as goal
 
-one_more : (P : ℕ → Type 0) (from i : ℕ) (holds : Bool) → ((k : ℕ) → from ≤ k → k < i → P k ↔ IsTrue holds) → P i ↔ IsTrue holds
+one_more : (P : ℕ → Type 0) (from i : ℕ) (holds : Bool) → ((k : ℕ) → from ≤ k → k < i → P k ↔ IsTrue holds)
+    → P i ↔ IsTrue holds
     → (k : ℕ) → from ≤ k → k < i + 1 → P k ↔ IsTrue holds
 one_more P from i holds h new k low high =
     ⊎_elim (λ l. h k low l) (λ l. let e : i ≡ k = omega arith in subst (λ z. P z ↔ IsTrue holds) e new) (cases_lt k i)

@@ -12,7 +12,8 @@ not_zero zero r e f = absurd (false≢true (sym f ∙ e))
 not_zero (suc n) r e f = omega arith
 
 -- the first going on ends behind all edges
-to_the_end : (P : ℕ → Type 0) (n p : ℕ) (first held : Bool) → IsAlikeUpTo P n 0 first p → p ≡ n → first ≡ held → IsAlikeUpTo P n 0 held n
+to_the_end : (P : ℕ → Type 0) (n p : ℕ) (first held : Bool) → IsAlikeUpTo P n 0 first p → p ≡ n → first ≡ held
+    → IsAlikeUpTo P n 0 held n
 to_the_end P n p first held h e f = subst (λ b. IsAlikeUpTo P n 0 b n) f (subst (λ q. IsAlikeUpTo P n 0 first q) e h)
 
 pub returns-then-begins_shared-clause-err : goal.returns-then-begins_shared-clause-err

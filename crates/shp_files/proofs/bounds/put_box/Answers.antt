@@ -1,6 +1,6 @@
 use Rattle.std.proofs.Common.{refl}
-use Rattle.shp_files.proofs.Bounding.{box_of}
-use Rattle.shp_files.proofs.Puts.{appended}
+use Rattle.shp_files.proofs.rings.LeastBounds.{box_of}
+use Rattle.shp_files.proofs.written.Puts.{appended}
 use Rattle.shp_files.proofs.bounds.put_box.Goals as goal
 
 pub returns : goal.returns

@@ -3,7 +3,7 @@ use Rattle.std.specs.Int.{int_min, int_max}
 use Rattle.geo_exact.specs.declared.corner.Corner.{Corner}
 use Rattle.geo_exact.specs.declared.bounds.Bounds.{Bounds}
 use Rattle.shp_files.specs.own.Writing.{MayBeBounds}
-use Rattle.shp_files.proofs.Bounding.{bounds_one, bounds_push}
+use Rattle.shp_files.proofs.rings.LeastBounds.{bounds_one, bounds_push}
 use Rattle.shp_files.proofs.bounds.with_corner.Goals as goal
 
 pub returns-in-None : goal.returns-in-None

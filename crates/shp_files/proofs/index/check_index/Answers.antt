@@ -3,7 +3,7 @@ use Rattle.std.proofs.lemmas.Result.{err_from_is_err_and}
 use Rattle.shp_files.specs.declared.fault.FileFault.{FileFault}
 use Rattle.shp_files.specs.FirstFault.{IsIndexFault}
 use Rattle.shp_files.specs.Checks.{declared_end}
-use Rattle.shp_files.proofs.Checking.{checked_first, checked_next, frame_here, fault_at_record, agrees_where, fault_where}
+use Rattle.shp_files.proofs.lines.IndexChecked.{checked_first, checked_next, frame_here, fault_at_record, agrees_where, fault_where}
 use Rattle.shp_files.proofs.index.check_index.Goals as goal
 
 pub loop-head-init : goal.loop-head-init
@@ -23,7 +23,8 @@ pub returns-in_err-check_index_record-clause-fault : goal.returns-in_err-check_i
 returns-in_err-check_index_record-clause-fault c = λ unit all.
     let apart : c.loop-head.head.start ≢ declared_end c.args.main.now = λ e. c.loop-head-test.true (e ∙ sym c.requires.end) in
     let p = err_from_is_err_and c.from_residual-in_err-check_index_record.result c.from_residual-in_err-check_index_record.ensures.1 in
-    let is = fault_at_record c.args.main.now c.args.index.now unit c.loop-head.head.position c.loop-head.head.start c.in_err-check_index_record.field-0.0
+    let is = fault_at_record c.args.main.now c.args.index.now unit c.loop-head.head.position c.loop-head.head.start
+    c.in_err-check_index_record.field-0.0
     (c.loop-head.invariant.checked unit all) apart c.in_err-check_index_record.ensures in
     rw p.1 (subst (λ (fault : FileFault). IsIndexFault c.args.main.now c.args.index.now unit fault) (sym p.2) is)
 
@@ -49,16 +50,19 @@ loop-head-preserved c =
       from_1 = omega (arith, new.position);
       start = omega (arith, new.start, frame.within, c.requires.end);
       checked = λ u ok. rw (new.position, new.start)
-          (checked_next c.args.main.now c.args.index.now u c.loop-head.head.position c.loop-head.head.start ok (c.loop-head.invariant.checked u ok) apart
+          (checked_next c.args.main.now c.args.index.now u c.loop-head.head.position c.loop-head.head.start ok
+          (c.loop-head.invariant.checked u ok) apart
           c.in_ok-check_index_record.ensures);
     }
 
 pub returns-clause-agrees : goal.returns-clause-agrees
 returns-clause-agrees c = λ unit all ok.
-    agrees_where c.args.main.now c.args.index.now unit c.loop-head.head.position c.loop-head.head.start c.check_index_end.result (c.loop-head.invariant.checked unit all)
+    agrees_where c.args.main.now c.args.index.now unit c.loop-head.head.position c.loop-head.head.start
+    c.check_index_end.result (c.loop-head.invariant.checked unit all)
     (c.loop-head-test.false ∙ c.requires.end) (c.check_index_end.ensures c.args.index.now c.in_ok-index_end.ensures.end) ok
 
 pub returns-clause-fault : goal.returns-clause-fault
 returns-clause-fault c = λ unit all.
-    fault_where c.args.main.now c.args.index.now unit c.loop-head.head.position c.loop-head.head.start c.check_index_end.result (c.loop-head.invariant.checked unit all)
+    fault_where c.args.main.now c.args.index.now unit c.loop-head.head.position c.loop-head.head.start
+    c.check_index_end.result (c.loop-head.invariant.checked unit all)
     (c.loop-head-test.false ∙ c.requires.end) (c.check_index_end.ensures c.args.index.now c.in_ok-index_end.ensures.end)

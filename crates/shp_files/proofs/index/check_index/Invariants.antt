@@ -1,7 +1,7 @@
 use Rattle.std.proofs.Common.{◌≤◌, ◌-◌}
 use Rattle.geo_exact.specs.declared.coord.Unit.{Unit as LengthUnit}
 use Rattle.shp_files.specs.FirstFault.{IsAccepted}
-use Rattle.shp_files.proofs.Checking.{IsChecked}
+use Rattle.shp_files.proofs.lines.IndexChecked.{IsChecked}
 use Rattle.shp_files.proofs.index.check_index.Given as goal
 
 abbrev pub invariant-loop-head : goal.invariant-loop-head

@@ -1,4 +1,4 @@
-use Rattle.shp_files.proofs.Laws.{one_list_of_rings}
+use Rattle.shp_files.proofs.layers.Laws.{one_list_of_rings}
 use Rattle.shp_files.proofs.layer.a_layer_file_has_one_list_of_rings.Goals as goal
 
 pub returns : goal.returns

@@ -1,6 +1,6 @@
 use Rattle.std.specs.Prelude.{option_copied}
 use Rattle.shp_files.specs.LayerFile.{rings_of}
-use Rattle.shp_files.proofs.Answering.{layer_is_answered, fault_is_answered}
+use Rattle.shp_files.proofs.lines.Answered.{layer_is_answered, fault_is_answered}
 use Rattle.shp_files.proofs.layer.read_layer.Goals as goal
 
 pub returns-clause-reads : goal.returns-clause-reads

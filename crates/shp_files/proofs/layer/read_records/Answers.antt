@@ -3,9 +3,9 @@ use Rattle.std.proofs.lemmas.Result.{err_from_is_err_and}
 use Rattle.std.proofs.lemmas.List.{map_push}
 use Rattle.shp_files.specs.LayerFile.{numbered, rings_of}
 use Rattle.shp_files.specs.Checks.{declared_end}
-use Rattle.shp_files.proofs.Walk.{read_to_null, read_to_polygon, stops_at}
-use Rattle.shp_files.proofs.Walk.Reads.{none}
-use Rattle.shp_files.proofs.Sound.{layer_file}
+use Rattle.shp_files.proofs.layers.Walk.{read_to_null, read_to_polygon, stops_at}
+use Rattle.shp_files.proofs.layers.Walk.Reads.{none}
+use Rattle.shp_files.proofs.layers.Sound.{layer_file}
 use Rattle.shp_files.proofs.layer.read_records.Goals as goal
 
 pub loop-head-init : goal.loop-head-init
@@ -21,7 +21,8 @@ returns-in_err-found-clause-fault g c = λ fault is.
     let p = err_from_is_err_and c.from_residual.result c.from_residual.ensures.1 in
     let apart : c.loop-head.head.start ≢ declared_end c.args.main.now = λ e. c.loop-head-test.true (e ∙ sym c.requires.end) in
     let old = c.loop-head.invariant.read in
-    stops_at c.args.main.now c.args.unit c.loop-head.head.position c.loop-head.head.start old.drawn c.loop-head.corners_before c.in_err-found.field-0.0 fault
+    stops_at c.args.main.now c.args.unit c.loop-head.head.position c.loop-head.head.start old.drawn
+    c.loop-head.corners_before c.in_err-found.field-0.0 fault
     old.reads old.count apart c.in_err-found.ensures.checked (let q = p.1 in let r = p.2 in cc)
 
 pub loop-head-preserved-in_ok-push : goal.loop-head-preserved-in_ok-push
@@ -29,10 +30,14 @@ loop-head-preserved-in_ok-push g c =
     let apart : c.loop-head.head.start ≢ declared_end c.args.main.now = λ e. c.loop-head-test.true (e ∙ sym c.requires.end) in
     let new = c.in_ok-found.ensures in
     let ring = rw c.in-Some.is at new.ring in
-    let pushed : rings_of c.push.new.self.items ≡ rings_of c.loop-head.rings.items ++ numbered c.loop-head.head.position c.in-Some.ring.corners ∷ [] =
-    rw (c.in_ok-push.ensures.items, c.in-Some.ring-is) (map_push _ c.loop-head.rings.items _ ∙ ap (λ n. rings_of c.loop-head.rings.items ++ numbered n c.in-Some.ring.corners ∷ []) ring.1) in
+    let pushed : rings_of c.push.new.self.items ≡ rings_of c.loop-head.rings.items
+    ++ numbered c.loop-head.head.position c.in-Some.ring.corners ∷ [] =
+    rw (c.in_ok-push.ensures.items, c.in-Some.ring-is) (map_push _ c.loop-head.rings.items _
+    ∙ ap (λ n. rings_of c.loop-head.rings.items ++ numbered n c.in-Some.ring.corners ∷ []) ring.1) in
     record {
-      read = rw pushed (read_to_polygon c.args.main.now c.args.unit c.loop-head.head.position c.loop-head.head.start c.loop-head.corners_before c.in_ok-found.found.end c.in_ok-found.found.drawn (rings_of c.loop-head.rings.items) c.in-Some.ring.corners
+      read = rw pushed (read_to_polygon c.args.main.now c.args.unit c.loop-head.head.position c.loop-head.head.start
+          c.loop-head.corners_before c.in_ok-found.found.end c.in_ok-found.found.drawn
+          (rings_of c.loop-head.rings.items) c.in-Some.ring.corners
           c.loop-head.invariant.read apart new.checked ring.0 new.end ring.2 ring.3);
       few_together = new.few_together;
       few = omega (arith, new.few);
@@ -45,7 +50,8 @@ loop-head-preserved g c =
     let new = c.in_ok-found.ensures in
     let null = rw c.in_default.is at new.null in
     record {
-      read = read_to_null c.args.main.now c.args.unit c.loop-head.head.position c.loop-head.head.start c.loop-head.corners_before c.in_ok-found.found.end c.in_ok-found.found.drawn (rings_of c.loop-head.rings.items)
+      read = read_to_null c.args.main.now c.args.unit c.loop-head.head.position c.loop-head.head.start
+          c.loop-head.corners_before c.in_ok-found.found.end c.in_ok-found.found.drawn (rings_of c.loop-head.rings.items)
           c.loop-head.invariant.read apart new.checked null.0 new.end null.1;
       few_together = new.few_together;
       few = omega (arith, new.few);
@@ -55,4 +61,5 @@ loop-head-preserved g c =
 pub returns-clause-layer : goal.returns-clause-layer
 returns-clause-layer g c =
     let all = c.loop-head.invariant.read in
-    layer_file c.args.main.now c.args.unit c.loop-head.head.position c.loop-head.head.start all.drawn (rings_of c.loop-head.rings.items) all.reads (c.loop-head-test.false ∙ c.requires.end) all.are
+    layer_file c.args.main.now c.args.unit c.loop-head.head.position c.loop-head.head.start all.drawn
+    (rings_of c.loop-head.rings.items) all.reads (c.loop-head-test.false ∙ c.requires.end) all.are

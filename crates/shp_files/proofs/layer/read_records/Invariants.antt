@@ -1,6 +1,6 @@
 use Rattle.std.proofs.Common.{◌≤◌, ◌-◌, ◌+◌}
 use Rattle.shp_files.specs.LayerFile.{rings_of}
-use Rattle.shp_files.proofs.Walk.{IsReadTo}
+use Rattle.shp_files.proofs.layers.Walk.{IsReadTo}
 use Rattle.shp_files.proofs.layer.read_records.Given as goal
 use Rattle.geo_exact.specs.declared.limits.TheConstants.{LAYER_CORNERS, LAYER_RECORDS}
 

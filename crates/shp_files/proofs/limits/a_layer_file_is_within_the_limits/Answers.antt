@@ -1,4 +1,4 @@
-use Rattle.shp_files.proofs.Within.{rings_within, corners_within, numbers_within}
+use Rattle.shp_files.proofs.numbers.Within.{rings_within, corners_within, numbers_within}
 use Rattle.shp_files.proofs.limits.a_layer_file_is_within_the_limits.Goals as goal
 
 pub returns-clause-rings : goal.returns-clause-rings

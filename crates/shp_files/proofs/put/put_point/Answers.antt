@@ -1,5 +1,5 @@
 use Rattle.std.proofs.Common.{◌∙◌}
-use Rattle.shp_files.proofs.Puts.{extended, point_bytes}
+use Rattle.shp_files.proofs.written.Puts.{extended, point_bytes}
 use Rattle.shp_files.proofs.put.put_point.Goals as goal
 
 pub returns : goal.returns

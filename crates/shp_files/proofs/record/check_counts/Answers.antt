@@ -2,8 +2,8 @@ use Rattle.std.proofs.Common.{rules, arith, FitsSigned, w32}
 use Rattle.std.proofs.lemmas.Int.{to_z-of_z}
 use Rattle.shp_files.specs.Layout.{content_words}
 use Rattle.shp_files.specs.Checks.{first_failure, count_checks}
-use Rattle.shp_files.proofs.Lines.{on, at, passed}
-use Rattle.shp_files.proofs.Numbers.{natural_from}
+use Rattle.shp_files.proofs.lines.Lines.{on, at, passed}
+use Rattle.shp_files.proofs.numbers.Numbers.{natural_from}
 use Rattle.shp_files.proofs.record.check_counts.Goals as goal
 
 pub little_at-parts-requires : goal.little_at-parts-requires

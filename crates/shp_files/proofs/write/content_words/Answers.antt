@@ -1,5 +1,5 @@
 use Rattle.std.proofs.Common.{arith}
-use Rattle.shp_files.proofs.Sizes.{words_of_content}
+use Rattle.shp_files.proofs.numbers.Sizes.{words_of_content}
 use Rattle.shp_files.proofs.write.content_words.Goals as goal
 
 pub returns : goal.returns

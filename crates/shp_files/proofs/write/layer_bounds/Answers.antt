@@ -3,7 +3,7 @@ use Rattle.std.proofs.lemmas.List.{take_all}
 use Rattle.geo_exact.specs.declared.corner.Corner.{Corner}
 use Rattle.shp_files.specs.Written.{corner_lists, all_corners}
 use Rattle.shp_files.specs.own.Writing.{MayBeBounds}
-use Rattle.shp_files.proofs.Rings.{ring_corners, corners_push}
+use Rattle.shp_files.proofs.layers.Rings.{ring_corners, corners_push}
 use Rattle.shp_files.proofs.write.layer_bounds.Goals as goal
 
 pub loop-ring-preserved : goal.loop-ring-preserved
@@ -17,4 +17,5 @@ loop-ring-preserved g c =
 pub returns : goal.returns
 returns g c =
     let P : List Corner → Type 0 = MayBeBounds c.loop-ring.bounds in
-    subst P (ap (λ rings. all_corners (corner_lists rings)) (take_all c.loop-ring.ring-index c.args.rings.now c.loop-ring-test.false)) c.loop-ring.invariant
+    subst P (ap (λ rings. all_corners (corner_lists rings))
+    (take_all c.loop-ring.ring-index c.args.rings.now c.loop-ring-test.false)) c.loop-ring.invariant

@@ -1,6 +1,6 @@
 use Rattle.std.proofs.Common.{refl}
 use Rattle.shp_files.specs.Written.{zeros, header}
-use Rattle.shp_files.proofs.Puts.{more, appended, extended}
+use Rattle.shp_files.proofs.written.Puts.{more, appended, extended}
 use Rattle.shp_files.proofs.write.put_header.Goals as goal
 
 pub returns : goal.returns

@@ -1,6 +1,6 @@
 use Rattle.std.proofs.Common.{◌++◌, refl, ◌∙◌, ap}
 use Rattle.shp_files.specs.Written.{big, record_bytes}
-use Rattle.shp_files.proofs.Puts.{more, appended}
+use Rattle.shp_files.proofs.written.Puts.{more, appended}
 use Rattle.shp_files.proofs.write.put_record.Goals as goal
 
 pub returns : goal.returns

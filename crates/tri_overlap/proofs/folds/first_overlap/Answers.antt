@@ -19,7 +19,8 @@ returns-in-Some c =
 pub loop-i-preserved : goal.loop-i-preserved
 loop-i-preserved c =
     let ts = c.args.triangles.now in
-    λ k m h o. below_more (λ n. n < m → ¬ OverlapAt ts n m) c.loop-i.i (λ n q r. c.loop-i.invariant n m q r) (λ r. c.in_default.ensures m r) k h o
+    λ k m h o. below_more (λ n. n < m → ¬ OverlapAt ts n m) c.loop-i.i (λ n q r. c.loop-i.invariant n m q r)
+    (λ r. c.in_default.ensures m r) k h o
 
 pub returns : goal.returns
 returns c = λ i j o b h. c.loop-i.invariant i j (omega arith) o h

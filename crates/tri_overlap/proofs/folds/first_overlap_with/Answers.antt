@@ -21,7 +21,8 @@ loop-j-preserved c =
     let ts = c.args.triangles.now in let i = c.args.i in
     λ k o b. below_more (λ m. i < m → ¬ OverlapAt ts i m) c.loop-j.j (λ m r q. c.loop-j.invariant m q r)
     (λ _ m. false≢true (sym c.if-meet_in_box.false
-    ∙ c.meet_in_box.ensures.1 (meet_of ts i c.loop-j.j c.index-triangles-i.result c.index-triangles-j.result c.index-triangles-i.is c.index-triangles-j.is m))) k b o
+    ∙ c.meet_in_box.ensures.1 (meet_of ts i c.loop-j.j c.index-triangles-i.result c.index-triangles-j.result
+    c.index-triangles-i.is c.index-triangles-j.is m))) k b o
 
 pub returns : goal.returns
 returns c = λ j o h.

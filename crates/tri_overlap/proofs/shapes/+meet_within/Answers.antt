@@ -1,6 +1,6 @@
 use Rattle.std.proofs.Common.{rules, sym, ◌∙◌, ◌/◌, inl, inr, length}
 use Rattle.std.proofs.lemmas.Bool.{false≢true}
-use Rattle.geo_exact.proofs.InBoxes.{nothing_in_empty}
+use Rattle.geo_exact.proofs.boxes.InBoxes.{nothing_in_empty}
 use Rattle.tri_overlap.proofs.Halves.{of_front, of_back, halves_meet}
 use Rattle.tri_overlap.proofs.RingPairs.{point_of_pair}
 use Rattle.tri_overlap.proofs.shapes.+meet_within.Goals as goal

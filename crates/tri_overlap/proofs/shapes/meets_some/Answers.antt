@@ -1,8 +1,8 @@
 use Rattle.std.proofs.Common.{refl, inl, inr}
 use Rattle.std.proofs.lemmas.Bool.{false≢true}
-use Rattle.geo_exact.proofs.Dropped.{drop_item}
+use Rattle.geo_exact.proofs.numbers.Dropped.{drop_item}
 use Rattle.tri_overlap.proofs.Boxes.{inside_box}
-use Rattle.geo_exact.proofs.InBoxes.{nothing_in_empty}
+use Rattle.geo_exact.proofs.boxes.InBoxes.{nothing_in_empty}
 use Rattle.tri_overlap.proofs.Halves.{in_item}
 use Rattle.tri_overlap.proofs.RingPairs.{point_of_one}
 use Rattle.tri_overlap.proofs.shapes.meets_some.Goals as goal

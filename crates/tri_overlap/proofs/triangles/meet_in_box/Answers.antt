@@ -1,7 +1,7 @@
 use Rattle.std.proofs.Common.{refl}
 use Rattle.std.proofs.lemmas.Bool.{false≢true}
 use Rattle.tri_overlap.proofs.Boxes.{apart_triangles}
-use Rattle.tri_overlap.proofs.Separating.{meet_unseparated, unseparated_meet}
+use Rattle.tri_overlap.proofs.SeparatedTriangles.{meet_unseparated, unseparated_meet}
 use Rattle.tri_overlap.proofs.triangles.meet_in_box.Goals as goal
 
 pub returns-then-each_edge_sees : goal.returns-then-each_edge_sees
@@ -21,5 +21,6 @@ returns-else-each_edge_sees c =
 pub returns-then-is_apart : goal.returns-then-is_apart
 returns-then-is_apart c = (
   λ b. absurd (false≢true b),
-  λ m. absurd (apart_triangles c.args.first.now c.args.second.now _ _ c.requires c.bounds_of.ensures (c.is_apart.ensures.0 c.if-is_apart.true) m),
+  λ m. absurd (apart_triangles c.args.first.now c.args.second.now _ _ c.requires c.bounds_of.ensures
+      (c.is_apart.ensures.0 c.if-is_apart.true) m),
 )

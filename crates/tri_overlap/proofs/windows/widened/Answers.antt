@@ -1,5 +1,5 @@
 use Rattle.tri_overlap.proofs.Boxes.{inside_box, not_right}
-use Rattle.geo_exact.proofs.InBoxes.{nothing_in_empty, inside_wider}
+use Rattle.geo_exact.proofs.boxes.InBoxes.{nothing_in_empty, inside_wider}
 use Rattle.tri_overlap.proofs.windows.widened.Goals.{then-is_empty-via-then-is_empty, then-is_empty-via-else-is_empty+then-is_wider}
 use Rattle.tri_overlap.proofs.windows.widened.Goals.{then-is_empty-via-else-is_empty+else-is_wider+then-misses}
 use Rattle.tri_overlap.proofs.windows.widened.Goals as goal
@@ -10,7 +10,8 @@ returns-then-is_empty-clause-added c = λ p i w.
     elim c.then-is_empty.branch [
       | then-is_empty-via-then-is_empty b ↦ absurd (nothing_in_empty _ (c.is_empty.ensures.0 b.if-is_empty.true) p h)
       | then-is_empty-via-else-is_empty+then-is_wider b ↦ inside_wider _ _ (b.is_wider.ensures.0 b.if-is_wider.true) p h
-      | then-is_empty-via-else-is_empty+else-is_wider+then-misses b ↦ absurd (not_right _ c.args.triangle.now (b.misses.ensures b.if-misses.true) p h i)
+      | then-is_empty-via-else-is_empty+else-is_wider+then-misses b ↦
+          absurd (not_right _ c.args.triangle.now (b.misses.ensures b.if-misses.true) p h i)
     ]
 
 pub returns-clause-kept : goal.returns-clause-kept

@@ -11,11 +11,13 @@ returns-in_err-add-clause-err g c =
 pub returns-clause-ok : goal.returns-clause-ok
 returns-clause-ok g c =
     on_ok_weaker c.add-2.result
-    (λ h. passes_both _ _ _ c.args.pending.now _ _ (32 ∷ []) _ c.in_ok-add.ensures.ok (rw (← c.format.ensures.text, ← c.as_bytes.ensures.value) h))
+    (λ h. passes_both _ _ _ c.args.pending.now _ _ (32 ∷ []) _ c.in_ok-add.ensures.ok
+    (rw (← c.format.ensures.text, ← c.as_bytes.ensures.value) h))
     c.add-2.ensures.ok
 
 pub returns-clause-err : goal.returns-clause-err
 returns-clause-err g c =
     on_err_weaker c.add-2.result
-    (λ h. begins_later _ _ _ c.args.pending.now _ (32 ∷ []) _ c.in_ok-add.ensures.ok (rw (← c.format.ensures.text, ← c.as_bytes.ensures.value) h))
+    (λ h. begins_later _ _ _ c.args.pending.now _ (32 ∷ []) _ c.in_ok-add.ensures.ok
+    (rw (← c.format.ensures.text, ← c.as_bytes.ensures.value) h))
     c.add-2.ensures.err

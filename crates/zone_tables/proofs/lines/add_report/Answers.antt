@@ -49,7 +49,8 @@ returns-clause-ok g c =
     let pairs = c.args.pairs.now in
     let first = entries_line c.args.entries in
     let two = passes_both _ _ _ c.args.pending.now _ _ first (pairs_text pairs) c.in_ok-add_line.ensures.ok c.in_ok-add_pairs.ensures.ok in
-    let three = passes_both _ _ _ c.args.pending.now _ _ (first ++ pairs_text pairs) (splits_text pairs) two c.in_ok-add_splits.ensures.ok in
+    let three = passes_both _ _ _ c.args.pending.now _ _ (first ++ pairs_text pairs) (splits_text pairs) two
+    c.in_ok-add_splits.ensures.ok in
     on_ok_weaker c.add_singles.result
     (λ h. passes_both _ _ _ c.args.pending.now _ _ (first ++ pairs_text pairs ++ splits_text pairs) (singles_text pairs) three h)
     c.add_singles.ensures.ok
@@ -59,7 +60,8 @@ returns-clause-err g c =
     let pairs = c.args.pairs.now in
     let first = entries_line c.args.entries in
     let two = passes_both _ _ _ c.args.pending.now _ _ first (pairs_text pairs) c.in_ok-add_line.ensures.ok c.in_ok-add_pairs.ensures.ok in
-    let three = passes_both _ _ _ c.args.pending.now _ _ (first ++ pairs_text pairs) (splits_text pairs) two c.in_ok-add_splits.ensures.ok in
+    let three = passes_both _ _ _ c.args.pending.now _ _ (first ++ pairs_text pairs) (splits_text pairs) two
+    c.in_ok-add_splits.ensures.ok in
     on_err_weaker c.add_singles.result
     (λ h. begins_later _ _ _ c.args.pending.now _ (first ++ pairs_text pairs ++ splits_text pairs) (singles_text pairs) three h)
     c.add_singles.ensures.err

@@ -11,7 +11,8 @@ returns-in_err-add_report-clause-begun g c =
     (record {
       text = report_text c.entries.result c.pairs.result.now;
       is_report = table_report c.args.table.now c.entries.result c.pairs.result.now c.stands.ensures.table c.stands.ensures.tiling
-          c.stands.ensures.zones_tile c.stands.ensures.simple c.stands.ensures.ids_rise c.stands.ensures.zones_rise c.entries.ensures c.pairs.ensures.pairs;
+          c.stands.ensures.zones_tile c.stands.ensures.simple c.stands.ensures.ids_rise c.stands.ensures.zones_rise
+          c.entries.ensures c.pairs.ensures.pairs;
       is_begun = begins_alone _ _ c.new-pending.result _ c.new-pending.ensures c.in_err-add_report.ensures.err;
     })
 
@@ -22,14 +23,17 @@ returns-in_err-finish-clause-begun g c =
     (record {
       text = report_text c.entries.result c.pairs.result.now;
       is_report = table_report c.args.table.now c.entries.result c.pairs.result.now c.stands.ensures.table c.stands.ensures.tiling
-          c.stands.ensures.zones_tile c.stands.ensures.simple c.stands.ensures.ids_rise c.stands.ensures.zones_rise c.entries.ensures c.pairs.ensures.pairs;
-      is_begun = beginning_passed _ _ _ c.new-pending.result _ _ c.new-pending.ensures c.in_ok-add_report.ensures.ok c.in_err-finish.ensures.err;
+          c.stands.ensures.zones_tile c.stands.ensures.simple c.stands.ensures.ids_rise c.stands.ensures.zones_rise
+          c.entries.ensures c.pairs.ensures.pairs;
+      is_begun = beginning_passed _ _ _ c.new-pending.result _ _ c.new-pending.ensures c.in_ok-add_report.ensures.ok
+          c.in_err-finish.ensures.err;
     })
 
 pub returns-clause-ok : goal.returns-clause-ok
 returns-clause-ok g c = record {
   text = report_text c.entries.result c.pairs.result.now;
   is_report = table_report c.args.table.now c.entries.result c.pairs.result.now c.stands.ensures.table c.stands.ensures.tiling
-      c.stands.ensures.zones_tile c.stands.ensures.simple c.stands.ensures.ids_rise c.stands.ensures.zones_rise c.entries.ensures c.pairs.ensures.pairs;
+      c.stands.ensures.zones_tile c.stands.ensures.simple c.stands.ensures.ids_rise c.stands.ensures.zones_rise
+      c.entries.ensures c.pairs.ensures.pairs;
   is_written = all_passed _ _ _ c.new-pending.result _ _ c.new-pending.ensures c.in_ok-add_report.ensures.ok c.in_ok-finish.ensures.ok;
 }

@@ -9,7 +9,8 @@ pub returns : goal.returns
 returns c =
     let start = c.partition_point-start.result in
     let pairs = c.args.pairs.now in
-    let whole : take (length pairs - start) (drop start pairs) ≡ drop start pairs = take_all _ _ (omega (arith, length-drop start pairs)) in
+    let whole : take (length pairs - start) (drop start pairs) ≡ drop start pairs =
+    take_all _ _ (omega (arith, length-drop start pairs)) in
     rw whole
     (is_from c.args.id pairs start
     (IsPartitionPoint-from_clause (λ (pair : ℕ × ℕ). nat_lt pair.0 c.args.id) pairs start c.partition_point-start.ensures.partitioned

@@ -11,7 +11,8 @@ returns-clause-found g c = λ entries index key.
     subst (λ items. Contains items key ↔ IsKeyBetween grid.area low high entries key)
     (sym (c.in_ok-gather_beside.ensures ∙ ap (λ keys. keys ++ found_beside grid.area range grid.beside) c.in_ok-keys.ensures))
     (all_exactly grid range entries index low high
-    (subst (λ shown. (i j : ℕ) → i < 64 → j < 64 → HasCell range i j ↔ IsCellBetween shown.area low high i j) c.self.view_is c.cells_toward-range.ensures) key)
+    (subst (λ shown. (i j : ℕ) → i < 64 → j < 64 → HasCell range i j ↔ IsCellBetween shown.area low high i j)
+    c.self.view_is c.cells_toward-range.ensures) key)
 
 pub returns-clause-once : goal.returns-clause-once
 returns-clause-once g c = λ entries index own.

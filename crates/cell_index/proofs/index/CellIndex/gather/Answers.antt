@@ -2,7 +2,7 @@ use Rattle.std.proofs.Common.{◌∙◌, ◌<◌, ◌++◌, ap, sym, arith, map,
 use Rattle.std.specs.List.{filter}
 use Rattle.std.proofs.lemmas.List.{take_all, get_or_default}
 use Rattle.cell_index.specs.own.Ranges.{shown, gathered, is_first_at, no_cell, number_at}
-use Rattle.cell_index.proofs.Keeping.{items_shown}
+use Rattle.cell_index.proofs.CellsKept.{items_shown}
 use Rattle.cell_index.proofs.Gathered.{gathered_more}
 use Rattle.cell_index.proofs.index.CellIndex.gather.Goals as goal
 

@@ -2,7 +2,7 @@ use Rattle.std.proofs.Common.{◌≡◌, arith, ◌∙◌, ◌+◌, ap, length, 
 use Rattle.std.proofs.lemmas.List.{length_push}
 use Rattle.std.proofs.lemmas.List.Elements.{All-push}
 use Rattle.cell_index.specs.own.Ranges.{no_cell}
-use Rattle.cell_index.proofs.Keeping.{shows}
+use Rattle.cell_index.proofs.CellsKept.{shows}
 use Rattle.cell_index.proofs.index.CellIndex.new.Goals as goal
 
 pub loop-init : goal.loop-init
@@ -13,8 +13,10 @@ loop-init g c = record {
 
 pub loop-preserved : goal.loop-preserved
 loop-preserved g c = record {
-  so_many = ap length c.in_ok-push.ensures.items ∙ length_push c.loop.cells.items c.new.result ∙ ap (λ n. n + 1) c.loop.invariant.so_many;
-  empty = rw c.in_ok-push.ensures.items (All-push (λ x. x.items ≡ []) c.loop.cells.items c.new.result c.loop.invariant.empty c.new.ensures.items);
+  so_many = ap length c.in_ok-push.ensures.items ∙ length_push c.loop.cells.items c.new.result
+      ∙ ap (λ n. n + 1) c.loop.invariant.so_many;
+  empty = rw c.in_ok-push.ensures.items (All-push (λ x. x.items ≡ []) c.loop.cells.items c.new.result
+      c.loop.invariant.empty c.new.ensures.items);
 }
 
 pub invariant_of-result : goal.invariant_of-result

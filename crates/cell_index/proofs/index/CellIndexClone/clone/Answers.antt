@@ -1,7 +1,7 @@
 use Rattle.std.proofs.Common.{◌≡◌, ◌∙◌, ◌++◌, ◌∷◌, ◌<◌, ◌≤◌, [], ap, sym, arith, length, get_or, take}
 use Rattle.std.proofs.lemmas.List.{map-append, take_more, take_all, length-map, get_or_default}
 use Rattle.cell_index.specs.own.Ranges.{contents, Cell, no_cell}
-use Rattle.cell_index.proofs.Keeping.{item_at, shown_alike}
+use Rattle.cell_index.proofs.CellsKept.{item_at, shown_alike}
 use Rattle.cell_index.proofs.index.CellIndexClone.clone.Goals as goal
 
 pub loop-cell-preserved : goal.loop-cell-preserved
@@ -24,17 +24,27 @@ loop-cell-preserved g c =
 pub invariant_of-result : goal.invariant_of-result
 invariant_of-result g c =
     let source = c.self.inside.cells.items in
-    let end : length source ≤ c.loop-cell.cell-index = omega (arith, c.loop-cell-test.false, ap length c.as_slice-cell-items.ensures.value) in
+    let end : length source ≤ c.loop-cell.cell-index =
+    omega (arith, c.loop-cell-test.false, ap length c.as_slice-cell-items.ensures.value) in
     let all : contents c.loop-cell.cells.items ≡ contents source =
-    c.loop-cell.invariant ∙ take_all c.loop-cell.cell-index (contents source) (omega (arith, end, length-map source (λ (x : Cell). x.items))) in
-    omega (arith, ap length all, length-map source (λ (x : Cell). x.items), length-map c.loop-cell.cells.items (λ (x : Cell). x.items), c.self.invariant)
+    c.loop-cell.invariant ∙ take_all c.loop-cell.cell-index (contents source)
+    (omega (arith, end, length-map source (λ (x : Cell). x.items))) in
+    omega (
+      arith,
+      ap length all,
+      length-map source (λ (x : Cell). x.items),
+      length-map c.loop-cell.cells.items (λ (x : Cell). x.items),
+      c.self.invariant,
+    )
 
 pub returns : goal.returns
 returns g c =
     let source = c.self.inside.cells.items in
-    let end : length source ≤ c.loop-cell.cell-index = omega (arith, c.loop-cell-test.false, ap length c.as_slice-cell-items.ensures.value) in
+    let end : length source ≤ c.loop-cell.cell-index =
+    omega (arith, c.loop-cell-test.false, ap length c.as_slice-cell-items.ensures.value) in
     record {
       cases = shown_alike c.self.inside.area c.loop-cell.cells.items source
-          (c.loop-cell.invariant ∙ take_all c.loop-cell.cell-index (contents source) (omega (arith, end, length-map source (λ (x : Cell). x.items))))
+          (c.loop-cell.invariant ∙ take_all c.loop-cell.cell-index (contents source)
+          (omega (arith, end, length-map source (λ (x : Cell). x.items))))
           ∙ c.self.view_is;
     }

@@ -8,6 +8,7 @@ returns-clause-told g c =
     let whole : c.deref_mut-2.result.now.book.journal ≡ g.J.Naming-1.office.origin.journal ++ c.deref_mut-2.result.now.entries =
     cc (c.tiles.ensures.entries, same) in
     let now : c.edit.new.self ≡ c.deref_mut-2.result.now = cc (c.deref_mut-2.ensures.value) in
-    rw c.of-front.ensures (told_ends g.J.Naming-1.office.origin c.publish.result c.deref_mut-2.result.now.entries c.deref_mut.result.now.book.journal
+    rw c.of-front.ensures (told_ends g.J.Naming-1.office.origin c.publish.result c.deref_mut-2.result.now.entries
+    c.deref_mut.result.now.book.journal
     c.deref_mut-2.result.now.book.journal c.in_ok-entry.entry _ c.publish.ensures.some whole
     (cc (c.in_ok-entry.ensures.journal, now)) c.in_ok-entry.ensures.number)

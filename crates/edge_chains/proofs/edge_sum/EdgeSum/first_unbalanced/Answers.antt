@@ -2,10 +2,10 @@ use Rattle.std.proofs.Common.{sym, ap, ◌∙◌, subst, ◌++◌, ◌∷◌, []
 use Rattle.std.proofs.lemmas.Int.{to_z-of_z}
 use mir.Val.{SFits}
 use Rattle.edge_chains.specs.Counts.{net_at, Counts, AreCounts}
-use Rattle.edge_chains.proofs.Firsts.{IsFirstOf, IsFirstOf-more, IsFirstOf-whole, IsFirstUnbalanced-from_first}
-use Rattle.edge_chains.proofs.Firsts.{found_next, one_more_done, none_counted, if_none_always}
-use Rattle.edge_chains.proofs.Jumps.{jump_beside}
-use Rattle.edge_chains.proofs.Balance.{winding_of_rings-balanced, area2_of_rings-balanced, balanced_where_zero}
+use Rattle.edge_chains.proofs.nets.Firsts.{IsFirstOf, IsFirstOf-more, IsFirstOf-whole, IsFirstUnbalanced-from_first}
+use Rattle.edge_chains.proofs.nets.Firsts.{found_next, one_more_done, none_counted, if_none_always}
+use Rattle.edge_chains.proofs.jumps.Jumps.{jump_beside}
+use Rattle.edge_chains.proofs.nets.Balance.{winding_of_rings-balanced, area2_of_rings-balanced, balanced_where_zero}
 use Rattle.edge_chains.proofs.edge_sum.EdgeSum.first_unbalanced.Goals as goal
 
 pub loop-edge-preserved : goal.loop-edge-preserved
@@ -20,7 +20,8 @@ loop-edge-preserved g c =
       one_more_done c.args.self.now.counts h.0 c.loop-edge.edge-iterator c.next.new.self
           (c.in-Some.edge.now, c.in-Some.number.now) h.1 c.in-Some.ensures.steps,
       IsFirstOf-more c.args.self.now.counts h.0 c.loop-edge.first (c.in-Some.edge.now, c.in-Some.number.now) c.earlier.result found
-          (rw (to_z-of_z w64 c.in-Some.number.now f) at c.earlier.ensures.only) (rw (to_z-of_z w64 c.in-Some.number.now f) at c.earlier.ensures.first) h.2,
+          (rw (to_z-of_z w64 c.in-Some.number.now f) at c.earlier.ensures.only)
+          (rw (to_z-of_z w64 c.in-Some.number.now f) at c.earlier.ensures.first) h.2,
     )
 
 pub returns-clause-first : goal.returns-clause-first
@@ -41,7 +42,8 @@ returns-in_err-a-clause-windings g c =
     subst (λ x. IsFirstOf c.args.self.now.counts x c.args.self.now.counts) c.in_err-a.was
     (IsFirstOf-whole c.args.self.now.counts h.0 c.loop-edge.edge-iterator c.loop-edge.first c.in-None.ensures.steps.0 h.1 h.2) in
     if_none_always _ c.from_residual.result
-    (λ added taken k. winding_of_rings-balanced added taken (balanced_where_zero c.args.self.now added taken k (none_counted c.args.self.now.counts none)))
+    (λ added taken k. winding_of_rings-balanced added taken (balanced_where_zero c.args.self.now added taken k
+    (none_counted c.args.self.now.counts none)))
 
 pub returns-in_err-a-clause-areas : goal.returns-in_err-a-clause-areas
 returns-in_err-a-clause-areas g c =
@@ -50,9 +52,12 @@ returns-in_err-a-clause-areas g c =
     subst (λ x. IsFirstOf c.args.self.now.counts x c.args.self.now.counts) c.in_err-a.was
     (IsFirstOf-whole c.args.self.now.counts h.0 c.loop-edge.edge-iterator c.loop-edge.first c.in-None.ensures.steps.0 h.1 h.2) in
     if_none_always _ c.from_residual.result
-    (λ added taken k. area2_of_rings-balanced added taken (balanced_where_zero c.args.self.now added taken k (none_counted c.args.self.now.counts none)))
+    (λ added taken k. area2_of_rings-balanced added taken (balanced_where_zero c.args.self.now added taken k
+    (none_counted c.args.self.now.counts none)))
 
 pub returns-clause-jump : goal.returns-clause-jump
 returns-clause-jump g c =
     let first = returns-clause-first g c in
-    λ added taken k h. jump_beside added taken h c.in_ok-a.a c.in_ok-a.b (λ z. first.is_unbalanced (sym {a = net_at c.args.self.now.counts c.in_ok-a.a c.in_ok-a.b} first.number ∙ k c.in_ok-a.a c.in_ok-a.b ∙ z))
+    λ added taken k h. jump_beside added taken h c.in_ok-a.a c.in_ok-a.b
+    (λ z. first.is_unbalanced (sym {a = net_at c.args.self.now.counts c.in_ok-a.a c.in_ok-a.b} first.number
+    ∙ k c.in_ok-a.a c.in_ok-a.b ∙ z))

@@ -3,7 +3,7 @@ use Rattle.std.specs.List.{IsDistinct}
 use Rattle.std.specs.List.Sorted.{IsPermutation}
 use Rattle.std.specs.Map.{keys_of}
 use Rattle.edge_chains.specs.Counts.{Counts, is_same_edge, AreCounts}
-use Rattle.edge_chains.proofs.Unbalanced.{told_whole, are_unbalanced}
+use Rattle.edge_chains.proofs.nets.Unbalanced.{told_whole, are_unbalanced}
 use Rattle.edge_chains.proofs.edge_sum.EdgeSum.unbalanced.Goals as goal
 
 pub returns : goal.returns

@@ -1,5 +1,5 @@
 use Rattle.std.proofs.Common.{◌≡◌, ◌++◌, map}
-use Rattle.edge_chains.proofs.Unbalanced.{told}
+use Rattle.edge_chains.proofs.nets.Unbalanced.{told}
 use Rattle.edge_chains.proofs.edge_sum.EdgeSum.unbalanced.Given as goal
 
 abbrev pub invariant-loop-a : goal.invariant-loop-a

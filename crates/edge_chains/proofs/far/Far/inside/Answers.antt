@@ -1,5 +1,5 @@
 use Rattle.std.proofs.lemmas.Result.{IfOk-weaker}
-use Rattle.edge_chains.proofs.OnSteps.{inside_turned}
+use Rattle.edge_chains.proofs.edges.OnSteps.{inside_turned}
 use Rattle.edge_chains.proofs.far.Far.inside.Goals as goal
 
 pub returns-then-comes_before-clause-found : goal.returns-then-comes_before-clause-found

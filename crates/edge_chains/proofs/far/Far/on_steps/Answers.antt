@@ -2,7 +2,7 @@ use Rattle.std.proofs.Common.{◌↔◌, subst, ◌∙◌, IfSome}
 use Rattle.std.specs.List.{Contains}
 use Rattle.std.proofs.lemmas.Result.{IfOk-weaker}
 use Rattle.geo_exact.specs.declared.corner.Corner.{Corner}
-use Rattle.edge_chains.proofs.OnSteps.{inside_alike}
+use Rattle.edge_chains.proofs.edges.OnSteps.{inside_alike}
 use Rattle.edge_chains.proofs.far.Far.on_steps.Goals as goal
 
 pub returns-in-Some-clause-found : goal.returns-in-Some-clause-found

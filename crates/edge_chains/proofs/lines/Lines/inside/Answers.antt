@@ -5,7 +5,7 @@ use Rattle.std.proofs.lemmas.Result.{IfOk-weaker}
 use Rattle.edge_chains.specs.declared.lines.Ranked.{Ranked}
 use Rattle.edge_chains.specs.own.Lines.{AreBetween, AreRanked, Ranks, rank_of}
 use Rattle.edge_chains.specs.own.Steps.{AreInside, AreSteps}
-use Rattle.edge_chains.proofs.OnLines.{inside_all}
+use Rattle.edge_chains.proofs.edges.OnLines.{inside_all}
 use Rattle.edge_chains.proofs.lines.Lines.inside.Goals as goal
 
 pub returns : goal.returns
@@ -24,7 +24,8 @@ returns g c =
     let e : rank ≡ rank_of u v a = simp to_z-of_z (simp to_z-of_z at c.rank-rank.ensures) in
     let steps : AreSteps a b u v c.requires.along.0 =
     subst (λ z. AreSteps a b z v c.requires.along.0) (sym (ap (λ (r : Ranks). r.across) c.self.view_is))
-    (subst (λ z. AreSteps a b c.args.self.now.across z c.requires.along.0) (sym (ap (λ (r : Ranks). r.up) c.self.view_is)) c.requires.along.1) in
+    (subst (λ z. AreSteps a b c.args.self.now.across z c.requires.along.0)
+    (sym (ap (λ (r : Ranks). r.up) c.self.view_is)) c.requires.along.1) in
     let are : AreRanked u v ranked = c.self.invariant in
     IfOk-weaker c.between.result _ _
     (λ found h. subst (λ corners. AreInside corners a b found.items) (ap (λ (r : Ranks). r.corners) c.self.view_is)

@@ -1,6 +1,6 @@
 use Rattle.std.proofs.Common.{◌-◌, ◌<◌}
 use Rattle.edge_chains.specs.own.Steps.{IsStep}
-use Rattle.edge_chains.proofs.OnSteps.{AreFoundSteps}
+use Rattle.edge_chains.proofs.edges.OnSteps.{AreFoundSteps}
 use Rattle.edge_chains.proofs.points.Points.inside.Given as goal
 
 abbrev pub invariant-loop-done : goal.invariant-loop-done

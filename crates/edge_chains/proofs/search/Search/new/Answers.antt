@@ -1,6 +1,6 @@
 use Rattle.std.proofs.Common.{sym, ◌∙◌}
 use Rattle.geo_exact.specs.Bounds.{holds_corner}
-use Rattle.edge_chains.proofs.Boxes.{filter_none}
+use Rattle.edge_chains.proofs.edges.Boxes.{filter_none}
 use Rattle.edge_chains.proofs.search.Search.new.Goals as goal
 
 pub invariant_of-result : goal.invariant_of-result

@@ -1,5 +1,5 @@
 use Rattle.std.proofs.Common.{sym, ◌∙◌, ap}
-use Rattle.entry_history.proofs.Adding.{adds_moves}
+use Rattle.entry_history.proofs.OneEntryMore.{adds_moves}
 use Rattle.entry_history.proofs.front.Front.add.Goals as goal
 
 pub compare_exchange-found-requires : goal.compare_exchange-found-requires

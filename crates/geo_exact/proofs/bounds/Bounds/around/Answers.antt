@@ -1,4 +1,4 @@
-use Rattle.geo_exact.proofs.Extremes.{min_of, max_of}
+use Rattle.geo_exact.proofs.numbers.Extremes.{min_of, max_of}
 use Rattle.geo_exact.proofs.bounds.Bounds.around.Goals as goal
 
 pub returns-clause-first : goal.returns-clause-first

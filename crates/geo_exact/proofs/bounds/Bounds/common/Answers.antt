@@ -1,4 +1,4 @@
-use Rattle.geo_exact.proofs.Extremes.{above_max, below_min}
+use Rattle.geo_exact.proofs.numbers.Extremes.{above_max, below_min}
 use Rattle.geo_exact.proofs.bounds.Bounds.common.Goals as goal
 
 pub returns : goal.returns

@@ -1,7 +1,7 @@
 use Rattle.std.proofs.Common.{inl, inr, sym, ◌∙◌}
 use Rattle.std.proofs.lemmas.Bool.{false≢true}
 use Rattle.std.proofs.lemmas.Int.{to_z-of_z}
-use Rattle.geo_exact.proofs.Fits.{fits_x, fits_y}
+use Rattle.geo_exact.proofs.numbers.Fits.{fits_x, fits_y}
 use Rattle.geo_exact.proofs.bounds.Bounds.is_apart.Goals as goal
 
 pub returns-then-ends_before : goal.returns-then-ends_before

@@ -1,5 +1,5 @@
 use Rattle.std.proofs.lemmas.Slice.Eq.{slice_eq-Decides}
-use Rattle.geo_exact.proofs.CornerOrder.{Decides-is_same}
+use Rattle.geo_exact.proofs.corners_and_turns.CornerOrder.{Decides-is_same}
 use Rattle.geo_exact.proofs.corners.CornersPartialEq.eq.Goals as goal
 
 pub returns-clause-same : goal.returns-clause-same

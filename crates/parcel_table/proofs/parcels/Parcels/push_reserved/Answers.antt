@@ -18,5 +18,7 @@ returns-clause-parcels g c =
     (record { id = c.next_id-id.result; shape = c.args.shape }) c.self.invariant
     (ap (λ t. t.next) c.self.view_is ∙ sym c.next_id-id.ensures)
     c.insert_reserved-key.ensures.was_vacant c.insert_reserved-key.ensures.updates c.insert_reserved-key.ensures.len).one_more
-    ∙ ap (λ t. t.parcels ++ (c.insert_reserved-key.result, record { id = c.next_id-id.result; shape = c.args.shape }) ∷ []) c.self.view_is
-    ∙ ap (λ n. c.args.self.now.parcels ++ (c.insert_reserved-key.result, record { id = n; shape = c.args.shape }) ∷ []) c.next_id-id.ensures
+    ∙ ap (λ t. t.parcels ++ (c.insert_reserved-key.result, record { id = c.next_id-id.result; shape = c.args.shape })
+    ∷ []) c.self.view_is
+    ∙ ap (λ n. c.args.self.now.parcels ++ (c.insert_reserved-key.result, record { id = n; shape = c.args.shape })
+    ∷ []) c.next_id-id.ensures

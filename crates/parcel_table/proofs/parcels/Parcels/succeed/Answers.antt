@@ -1,4 +1,5 @@
-use Rattle.std.proofs.Common.{◌≡◌, ◌++◌, ◌∷◌, [], sym, ◌∙◌, ap, subst, arith, set, is_some, Some, None, slice_set, map}
+use Rattle.std.proofs.Common.{◌≡◌, ◌++◌, ◌∷◌, [], sym, ◌∙◌, ap, subst, arith, set, is_some, Some, None, slice_set}
+use Rattle.std.proofs.Common.{map}
 use Rattle.std.proofs.lemmas.List.{map-set, map-append}
 use Rattle.slab.specs.Slab.{with_value}
 use Rattle.parcel_table.specs.declared.place.Place.TheVariants.{Retired, Here}
@@ -45,7 +46,8 @@ returns-clause-parcels g c key k =
     (c.key_of-key.result, record { id = c.next_id-next.result; shape = c.args.shape }) ∷ []) c.self.view_is
     ∙ ap (λ n. without_id c.args.id c.args.self.now.parcels ++
     (c.key_of-key.result, record { id = n; shape = c.args.shape }) ∷ []) c.next_id-next.ensures
-    ∙ ap (λ n. without_id c.args.id c.args.self.now.parcels ++ (n, record { id = c.args.self.now.next; shape = c.args.shape }) ∷ []) first
+    ∙ ap (λ n. without_id c.args.id c.args.self.now.parcels
+    ++ (n, record { id = c.args.self.now.next; shape = c.args.shape }) ∷ []) first
 
 pub returns-clause-fates : goal.returns-clause-fates
 returns-clause-fates g c =

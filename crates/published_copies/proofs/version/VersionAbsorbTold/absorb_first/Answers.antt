@@ -9,7 +9,8 @@ invariant_of-self-2 g c =
     omega (arith, c.len.ensures, c.len-2.ensures, c.if-len.false, ap length c.operation.invariant.ends, split) in
     c.in_ok-follow.ensures.followed
     ∙ ap (λ xs. xs ++ c.operation.inside.entry ∷ []) c.self.invariant
-    ∙ sym (longer_by_one c.self.inside.front c.operation.inside.front c.learn.new.self c.operation.invariant.before c.operation.inside.entry
+    ∙ sym (longer_by_one c.self.inside.front c.operation.inside.front c.learn.new.self c.operation.invariant.before
+    c.operation.inside.entry
     c.operation.invariant.ends more c.learn.ensures.one c.learn.ensures.this c.learn.ensures.that)
 
 pub returns-clause-absorbed : goal.returns-clause-absorbed

@@ -22,4 +22,5 @@ pub returns-clause-err : goal.returns-clause-err
 returns-clause-err g c =
     let same : c.try_extend_from_slice.new.self.items ≡ c.args.self.now = grind (arith, common_steps) in
     on_err_weaker c.put_all.result
-    (λ h. rw (← same) (begins_behind _ _ _ c.try_extend_from_slice.new.self.items c.args.piece.now c.in_ok-finish.ensures.ok h)) c.put_all.ensures.err
+    (λ h. rw (← same) (begins_behind _ _ _ c.try_extend_from_slice.new.self.items c.args.piece.now
+    c.in_ok-finish.ensures.ok h)) c.put_all.ensures.err

@@ -9,7 +9,8 @@ pub returns-clause-within : goal.returns-clause-within
 returns-clause-within g c = λ zone.
     let table = c.args.self.now in
     let same : c.deref.result.now ≡ table.pairs = c.deref.ensures.value ∙ ap (λ (t : Overlay). t.pairs) c.self.view_is in
-    let only = subst (λ (pairs : List (ℕ × ℕ)). (c.only_zone.result ≡ Some zone) ↔ IsOnlyZone pairs c.args.id zone) same (c.only_zone.ensures zone) in
+    let only = subst (λ (pairs : List (ℕ × ℕ)). (c.only_zone.result ≡ Some zone) ↔ IsOnlyZone pairs c.args.id zone)
+    same (c.only_zone.ensures zone) in
     let stands : Stands table.rows table.zones table.city table.pairs = record {
       table = c.stands.ensures.table;
       tiling = c.stands.ensures.tiling;
@@ -25,6 +26,7 @@ pub returns-clause-alone : goal.returns-clause-alone
 returns-clause-alone g c = λ zone.
     let table = c.args.self.now in
     let same : c.deref.result.now ≡ table.pairs = c.deref.ensures.value ∙ ap (λ (t : Overlay). t.pairs) c.self.view_is in
-    let only = subst (λ (pairs : List (ℕ × ℕ)). (c.only_zone.result ≡ Some zone) ↔ IsOnlyZone pairs c.args.id zone) same (c.only_zone.ensures zone) in
+    let only = subst (λ (pairs : List (ℕ × ℕ)). (c.only_zone.result ≡ Some zone) ↔ IsOnlyZone pairs c.args.id zone)
+    same (c.only_zone.ensures zone) in
     let known = one_is_alone table.rows table.zones table.pairs c.stands.ensures.table c.args.id zone in
     ((λ h. known.0 (only.0 h)), (λ h. only.1 (known.1 h)))

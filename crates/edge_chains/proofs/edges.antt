@@ -1,0 +1,9 @@
+pub mod Corners
+pub mod Inside
+pub mod Boxes
+pub mod Along
+pub mod Sorted
+pub mod Parts
+pub mod Segments
+pub mod OnSteps
+pub mod OnLines

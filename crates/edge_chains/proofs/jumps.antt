@@ -1,0 +1,5 @@
+pub mod Beside
+pub mod EdgeJumps
+pub mod Steep
+pub mod Level
+pub mod Jumps

@@ -1,0 +1,5 @@
+pub mod Changes
+pub mod Nets
+pub mod Firsts
+pub mod Unbalanced
+pub mod Balance

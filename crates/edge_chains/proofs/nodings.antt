@@ -1,0 +1,2 @@
+pub mod NodedEdges
+pub mod NodedRings

@@ -1,0 +1,3 @@
+pub mod InBoxes
+pub mod BeyondBoxes
+pub mod NearCorners

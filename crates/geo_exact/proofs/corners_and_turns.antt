@@ -1,0 +1,9 @@
+pub mod SameCorner
+pub mod CornerOrder
+pub mod TurnLaws
+pub mod OnEdge
+pub mod Sides
+pub mod Means
+pub mod Moved
+pub mod SamePlace
+pub mod CornerPoints

@@ -1,0 +1,4 @@
+pub mod GridRows
+pub mod Coordinates
+pub mod Doubles
+pub mod DoubleRows

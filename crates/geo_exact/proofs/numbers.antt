@@ -1,0 +1,11 @@
+pub mod Differences
+pub mod Dropped
+pub mod Orders
+pub mod Firsts
+pub mod Polynomials
+pub mod Signs
+pub mod Within
+pub mod Extremes
+pub mod Fits
+pub mod Nearest
+pub mod Signed

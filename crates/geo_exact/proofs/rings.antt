@@ -1,0 +1,10 @@
+pub mod Begun
+pub mod OnRings
+pub mod EdgeSums
+pub mod Crossings
+pub mod Ways
+pub mod Wedges
+pub mod Windings
+pub mod Triangles
+pub mod Paths
+pub mod Rows

@@ -1,0 +1,10 @@
+pub mod PulledBehind
+pub mod Polygons
+pub mod Headers
+pub mod Walk
+pub mod Sound
+pub mod Complete
+pub mod Indexes
+pub mod Laws
+pub mod LayerOrFault
+pub mod Rings
