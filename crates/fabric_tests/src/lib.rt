@@ -1,15 +1,22 @@
-//! Tests of cities and layers: worked examples of tilings, of searches and of each refusal, searches beside plain scans, growths that
-//! are refused, and layers of the greatest size.
+//! Tests of cities, layers and fabrics: worked examples of tilings, of searches, of each edit and
+//! of each refusal, searches beside plain scans, growths that are refused, and layers of the
+//! greatest size.
 #![tactic(auto)]
 
 #[cfg(test)]
 mod candidates;
 #[cfg(test)]
+mod changes;
+#[cfg(test)]
 mod cities;
+#[cfg(test)]
+mod follows;
 #[cfg(test)]
 mod loading;
 #[cfg(test)]
 mod locating;
+#[cfg(test)]
+mod opened;
 #[cfg(test)]
 mod plain_scans;
 #[cfg(test)]
@@ -18,5 +25,7 @@ mod refusals;
 mod searches_refused;
 #[cfg(test)]
 mod size;
+#[cfg(test)]
+mod steps;
 #[cfg(test)]
 mod tilings;

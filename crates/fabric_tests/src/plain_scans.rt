@@ -1,5 +1,5 @@
-//! A layer's answers beside those of a scan over all its parcels, for tilings and corners that are drawn at random. The generator
-//! begins with the same words each time.
+//! A layer's answers beside those of a scan over all its parcels, for tilings and corners that are
+//! drawn at random. The generator begins with the same words each time.
 
 use crate::loading::load_lists;
 use fabric_core::{At, Layer};
@@ -86,7 +86,8 @@ fn is_on_edge(ring: &[Corner], place: Corner) -> bool {
     false
 }
 
-/// How many times a ring goes round a corner: the edges that pass it upward on its right, less those that pass it downward there.
+/// How many times a ring goes round a corner: the edges that pass it upward on its right, less
+/// those that pass it downward there.
 fn winding(ring: &[Corner], place: Corner) -> i64 {
     let Some(last) = ring.last() else {
         return 0;
@@ -155,8 +156,8 @@ fn are_candidates<H: Allocator>(
     Ok(layer.candidates(low, high)?.as_slice() == want.as_slice())
 }
 
-/// Whether fifty corners that are drawn are located where a scan finds them, and the candidates between each and the one
-/// before it are those of a scan.
+/// Whether fifty corners that are drawn are located where a scan finds them, and the candidates
+/// between each and the one before it are those of a scan.
 fn answers_as_a_scan<H: Allocator>(
     heap: &Global,
     layer: &Layer<'_, H>,

@@ -1,5 +1,5 @@
-//! Each growth of a call refused in turn: its answer is want of memory, and with memory the same call gives the answer that it
-//! has to give.
+//! Each growth of a call refused in turn: its answer is want of memory, and with memory the same
+//! call gives the answer that it has to give.
 
 use crate::loading::{EAST, SQUARE, WEST, records, sound_city};
 use fabric_core::{AllFaults, City, CityFault, Layer, LoadFault};

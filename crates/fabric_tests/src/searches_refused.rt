@@ -1,5 +1,5 @@
-//! Each growth of a search of a layer refused in turn: the answer is want of memory, and with memory the same search finds what it
-//! has to find.
+//! Each growth of a search of a layer refused in turn: the answer is want of memory, and with
+//! memory the same search finds what it has to find.
 
 use crate::candidates::between;
 use crate::loading::{EAST, SQUARE, WEST, tiling};
@@ -15,8 +15,8 @@ const MOST: u64 = 100;
 /// The heap of the tests here.
 type Heap = Refusing<Global>;
 
-/// A corner is located on the edge of both parcels, or growth `number` is refused, and then it is located with memory; whether it was
-/// refused.
+/// A corner is located on the edge of both parcels, or growth `number` is refused, and then it is
+/// located with memory; whether it was refused.
 fn is_locating_refused(heap: &Heap, layer: &Layer<'_, Heap>, number: u64) -> Result<bool, Fail> {
     let corner = corner((60, 50))?;
     heap.refuse(number);
@@ -50,8 +50,8 @@ fn locating(rt: HostRuntime) -> Result<(), Fail> {
     Err(Fail::new("each growth was refused"))
 }
 
-/// The candidates of both parcels' border are found, or growth `number` is refused, and then they are found with memory; whether it
-/// was refused.
+/// The candidates of both parcels' border are found, or growth `number` is refused, and then they
+/// are found with memory; whether it was refused.
 fn is_finding_refused(heap: &Heap, layer: &Layer<'_, Heap>, number: u64) -> Result<bool, Fail> {
     heap.refuse(number);
     let found = between(layer, (60, 0), (60, 100))?;

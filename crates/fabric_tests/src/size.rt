@@ -28,7 +28,8 @@ fn above(heap: &Global) -> Result<Corners<&Global>, Fail> {
     Ok(list)
 }
 
-/// How many corners the first parcel has, in a layer of a parcel with this ring and the one above the border; or why it is none.
+/// How many corners the first parcel has, in a layer of a parcel with this ring and the one above
+/// the border; or why it is none.
 fn first_of_two(heap: &Global, below: &[Place]) -> Result<Result<usize, LoadFault>, Fail> {
     let mut lists = Vec::new(heap);
     lists.push(corners(heap, below)?)?;

@@ -1,5 +1,5 @@
-//! Each growth of a round refused in turn: the answer is want of memory, what was handed in comes back as it was, and with
-//! memory the round goes on to its table.
+//! Each growth of a round refused in turn: the answer is want of memory, what was handed in comes
+//! back as it was, and with memory the round goes on to its table.
 
 use crate::gates::Open;
 use crate::loaded::{HALVES, PARCELS, SQUARE, layer, sheet};
@@ -137,58 +137,87 @@ fn is_run_refused<'t, 'h, R: Threads + Wait + Sync>(
     }
 }
 
-#[test]
-fn begins_with_memory(rt: HostRuntime) -> Result<(), Fail> {
-    let heap = Refusing::new(rt.alloc(), 0);
-    let sheet = sheet(&heap, &SQUARE, &PARCELS)?;
-    let zones = layer(&heap, &SQUARE, &HALVES)?;
+/// A call in which growths are refused.
+#[derive(Clone, Copy)]
+enum Call {
+    /// A round is begun.
+    Begin,
+    /// A hand steps.
+    Step,
+    /// A round is closed.
+    Close,
+    /// A round is worked off by threads.
+    Run,
+}
+
+/// Whether growth `number` of a call was refused.
+fn is_refused<'t, 'h, R: Threads + Wait + Sync>(
+    rt: &R,
+    heap: &'h Heap,
+    sheet: &'t Sheet<'h, Heap>,
+    zones: &'t Layer<'h, Heap>,
+    call: Call,
+    number: u64,
+) -> Result<bool, Fail> {
+    match call {
+        Call::Begin => is_begin_refused(heap, sheet, zones, number),
+        Call::Step => is_step_refused(heap, sheet, zones, number),
+        Call::Close => is_close_refused(heap, sheet, zones, number),
+        Call::Run => is_run_refused(rt, heap, sheet, zones, number),
+    }
+}
+
+/// The first growth of a call that is not refused, since it makes fewer.
+fn first_unrefused<'t, 'h, R: Threads + Wait + Sync>(
+    rt: &R,
+    heap: &'h Heap,
+    sheet: &'t Sheet<'h, Heap>,
+    zones: &'t Layer<'h, Heap>,
+    call: Call,
+) -> Result<u64, Fail> {
     for number in 1..MOST {
-        if !is_begin_refused(&heap, &sheet, &zones, number)? {
-            assert!(rt; number > 5);
-            return Ok(());
+        if !is_refused(rt, heap, sheet, zones, call, number)? {
+            return Ok(number);
         }
     }
     Err(Fail::new("each growth was refused"))
+}
+
+/// The same of a call over both parcels and both zones.
+fn first_unrefused_of_both<R: Threads + Wait + Sync>(
+    rt: &R,
+    heap: &Heap,
+    call: Call,
+) -> Result<u64, Fail> {
+    let sheet = sheet(heap, &SQUARE, &PARCELS)?;
+    let zones = layer(heap, &SQUARE, &HALVES)?;
+    first_unrefused(rt, heap, &sheet, &zones, call)
+}
+
+#[test]
+fn begins_with_memory(rt: HostRuntime) -> Result<(), Fail> {
+    let heap = Refusing::new(rt.alloc(), 0);
+    assert!(rt; first_unrefused_of_both(&rt, &heap, Call::Begin)? > 5);
+    Ok(())
 }
 
 #[test]
 fn steps_with_memory(rt: HostRuntime) -> Result<(), Fail> {
     let heap = Refusing::new(rt.alloc(), 0);
-    let sheet = sheet(&heap, &SQUARE, &PARCELS)?;
-    let zones = layer(&heap, &SQUARE, &HALVES)?;
-    for number in 1..MOST {
-        if !is_step_refused(&heap, &sheet, &zones, number)? {
-            assert!(rt; number > 2);
-            return Ok(());
-        }
-    }
-    Err(Fail::new("each growth was refused"))
+    assert!(rt; first_unrefused_of_both(&rt, &heap, Call::Step)? > 2);
+    Ok(())
 }
 
 #[test]
 fn closes_with_memory(rt: HostRuntime) -> Result<(), Fail> {
     let heap = Refusing::new(rt.alloc(), 0);
-    let sheet = sheet(&heap, &SQUARE, &PARCELS)?;
-    let zones = layer(&heap, &SQUARE, &HALVES)?;
-    for number in 1..MOST {
-        if !is_close_refused(&heap, &sheet, &zones, number)? {
-            assert!(rt; number > 1);
-            return Ok(());
-        }
-    }
-    Err(Fail::new("each growth was refused"))
+    assert!(rt; first_unrefused_of_both(&rt, &heap, Call::Close)? > 1);
+    Ok(())
 }
 
 #[test]
 fn runs_with_memory(rt: HostRuntime) -> Result<(), Fail> {
     let heap = Refusing::new(rt.alloc(), 0);
-    let sheet = sheet(&heap, &SQUARE, &PARCELS)?;
-    let zones = layer(&heap, &SQUARE, &HALVES)?;
-    for number in 1..MOST {
-        if !is_run_refused(&rt, &heap, &sheet, &zones, number)? {
-            assert!(rt; number > 3);
-            return Ok(());
-        }
-    }
-    Err(Fail::new("each growth was refused"))
+    assert!(rt; first_unrefused_of_both(&rt, &heap, Call::Run)? > 3);
+    Ok(())
 }

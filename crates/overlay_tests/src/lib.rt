@@ -1,5 +1,6 @@
-//! Tests of the overlay: worked examples of its tables for several sharings and orders of steps, hands that work at the
-//! same time, and each refusal.
+//! Tests of the overlay: worked examples of its table, of what the table tells and of its report;
+//! tables for several sharings and orders of steps, hands that work at the same time, and each
+//! refusal.
 #![tactic(auto)]
 
 #[cfg(test)]
@@ -9,8 +10,14 @@ mod growths;
 #[cfg(test)]
 mod loaded;
 #[cfg(test)]
+mod pairs;
+#[cfg(test)]
 mod refusals;
+#[cfg(test)]
+mod reports;
 #[cfg(test)]
 mod rounds;
 #[cfg(test)]
 mod steps;
+#[cfg(test)]
+mod tables;

@@ -1,7 +1,11 @@
 //! Sheets and zones as a run has them: of rings that were read from the bytes of a layer file.
 
+ghost use Rattle.std.specs.Prelude.{◌≡◌, ◌≤◌, IfOk};
+ghost use Rattle.geo_exact.specs.Layers.{corner_count, NumbersRise, rings_of};
+ghost use Rattle.geo_exact.specs.declared.limits.TheConstants.{LAYER_CORNERS, LAYER_RECORDS};
+
 use fabric_core::{City, Fabric, Layer, Sheet};
-use geo_exact::Unit;
+use geo_exact::{RawRing, Unit};
 use shp_files::{a_layer_file_is_within_the_limits, read_layer};
 use std::alloc::Allocator;
 use std::test::Fail;
@@ -31,15 +35,29 @@ pub const PARCELS: [&[Place]; 2] = [&WEST, &EAST];
 /// Both zones.
 pub const HALVES: [&[Place]; 2] = [&LEFT, &RIGHT];
 
-/// The city at these places.
-fn city<'a, H: Allocator>(heap: &'a H, ring: &[Place]) -> Result<City<'a, H>, Fail> {
+/// A list of rings under their numbers, as a layer file gives them.
+type Records<'a, H> = Vec<RawRing<&'a H>, &'a H>;
+
+/// The rings that are read from the main file of the rings at these places, numbered from 1.
+fn records<'a, H: Allocator>(heap: &'a H, rings: Rings<'_>) -> Result<Records<'a, H>, Fail>
+    ensures numbers { IfOk result (λ records. NumbersRise 0 LAYER_RECORDS (rings_of records.items)) }
+    ensures corners { IfOk result (λ records. corner_count (rings_of records.items) ≤ LAYER_CORNERS) }
+{
     let mut lists = Vec::new(heap);
-    lists.push(corners(heap, ring)?)?;
+    for ring in rings {
+        lists.push(corners(heap, ring)?)?;
+    }
     let file = layer_file(heap, &lists)?;
-    let Ok(mut records) = read_layer(heap, &file, None, Unit::Cm) else {
-        return Err(Fail::new("no layer file"));
-    };
-    let Some(ring) = records.pop() else {
+    a_layer_file_is_within_the_limits();
+    match read_layer(heap, &file, None, Unit::Cm) {
+        Ok(records) => Ok(records),
+        Err(_) => Err(Fail::new("no layer file")),
+    }
+}
+
+/// The city at these places.
+pub fn city<'a, H: Allocator>(heap: &'a H, ground: &[Place]) -> Result<City<'a, H>, Fail> {
+    let Some(ring) = records(heap, &[ground])?.pop() else {
         return Err(Fail::new("no ring"));
     };
     match City::new(heap, ring) {
@@ -48,36 +66,63 @@ fn city<'a, H: Allocator>(heap: &'a H, ring: &[Place]) -> Result<City<'a, H>, Fa
     }
 }
 
-/// The layer of the rings at these places, in the city.
-pub fn layer<'a, H: Allocator>(
+/// The layer of the rings at these places, in a city.
+pub fn layer_in<'a, H: Allocator>(
     heap: &'a H,
-    ground: &[Place],
-    rings: &[&[Place]],
-) -> Result<Layer<'a, H>, Fail> {
-    let city = city(heap, ground)?;
-    let mut lists = Vec::new(heap);
-    for ring in rings {
-        lists.push(corners(heap, ring)?)?;
-    }
-    let file = layer_file(heap, &lists)?;
-    a_layer_file_is_within_the_limits();
-    let Ok(records) = read_layer(heap, &file, None, Unit::Cm) else {
-        return Err(Fail::new("no layer file"));
-    };
-    match Layer::load(heap, &city, records) {
+    city: &City<'a, H>,
+    rings: Rings<'_>,
+) -> Result<Layer<'a, H>, Fail>
+    ensures { IfOk result (λ layer. layer.city ≡ city.now.ring.corners) }
+{
+    match Layer::load(heap, city, records(heap, rings)?) {
         Ok(layer) => Ok(layer),
         Err(_) => Err(Fail::new("no tiling")),
     }
 }
 
-/// The sheet of the fabric that is opened from that layer.
+/// The fabric that is opened from that layer.
+pub fn fabric_in<'a, H: Allocator>(
+    heap: &'a H,
+    city: &City<'a, H>,
+    rings: Rings<'_>,
+) -> Result<Fabric<'a, H>, Fail>
+    ensures { IfOk result (λ fabric. fabric.city ≡ city.now.ring.corners) }
+{
+    match Fabric::open(layer_in(heap, city, rings)?) {
+        Ok(fabric) => Ok(fabric),
+        Err(_) => Err(Fail::new("memory is wanting")),
+    }
+}
+
+/// A sheet of that fabric.
+pub fn sheet_in<'a, H: Allocator>(
+    heap: &'a H,
+    city: &City<'a, H>,
+    rings: Rings<'_>,
+) -> Result<Sheet<'a, H>, Fail>
+    ensures { IfOk result (λ sheet. sheet.city ≡ city.now.ring.corners) }
+{
+    let fabric = fabric_in(heap, city, rings)?;
+    let sheet = fabric.sheet()?;
+    Ok(sheet)
+}
+
+/// The layer of the rings at these places, in the city at those.
+pub fn layer<'a, H: Allocator>(
+    heap: &'a H,
+    ground: &[Place],
+    rings: Rings<'_>,
+) -> Result<Layer<'a, H>, Fail> {
+    let city = city(heap, ground)?;
+    layer_in(heap, &city, rings)
+}
+
+/// A sheet of the fabric that is opened from that layer.
 pub fn sheet<'a, H: Allocator>(
     heap: &'a H,
     ground: &[Place],
-    rings: &[&[Place]],
+    rings: Rings<'_>,
 ) -> Result<Sheet<'a, H>, Fail> {
-    match Fabric::open(layer(heap, ground, rings)?) {
-        Ok(fabric) => Ok(fabric.sheet()?),
-        Err(_) => Err(Fail::new("memory is wanting")),
-    }
+    let city = city(heap, ground)?;
+    sheet_in(heap, &city, rings)
 }

@@ -3,8 +3,8 @@
 use std::test::Fail;
 use test_builders::count_clipped;
 
-/// How many polygons there are was counted by a search that tries every list of corners: 516 triangles, 2290 of four corners, 10004
-/// of five and 35360 of six.
+/// How many polygons there are was counted by a search that tries every list of corners: 516
+/// triangles, 2290 of four corners, 10004 of five and 35360 of six.
 #[test]
 fn every_small_polygon_is_clipped(rt: HostRuntime) -> Result<(), Fail> {
     assert_eq!(rt; count_clipped(rt.alloc(), 6)?, 48170);

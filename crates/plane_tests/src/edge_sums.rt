@@ -1,5 +1,5 @@
-//! Each growth refused in turn of adding a ring to an edge sum, and of taking one: nothing has changed, and with memory the same
-//! call counts the ring.
+//! Each growth refused in turn of adding a ring to an edge sum, and of taking one: nothing has
+//! changed, and with memory the same call counts the ring.
 
 use edge_chains::EdgeSum;
 use geo_exact::{Corner, Corners};
@@ -48,8 +48,9 @@ fn expect(
     }
 }
 
-/// A square is added; then a ring of 80 corners is added or taken, for which the map has no room yet. Growth `number` is refused, and
-/// then nothing has changed and with memory the ring is counted; whether it was refused.
+/// A square is added; then a ring of 80 corners is added or taken, for which the map has no room
+/// yet. Growth `number` is refused, and then nothing has changed and with memory the ring is
+/// counted; whether it was refused.
 fn is_counting_refused(heap: &Heap, number: u64, is_added: bool) -> Result<bool, Fail> {
     let square = rectangle(heap, (0, 10), (-20, -10))?;
     let ring = saw(heap, 80)?;

@@ -1,5 +1,5 @@
-//! Tests of numbers and corners, of rings and the triangles that they are clipped to, of overlaps, and of edges: outside vectors,
-//! growths that are refused, and rings of the greatest size.
+//! Tests of numbers and corners, of rings and the triangles that they are clipped to, of overlaps,
+//! and of edges: outside vectors, growths that are refused, and rings of the greatest size.
 #![tactic(auto)]
 
 #[cfg(test)]

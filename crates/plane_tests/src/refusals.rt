@@ -1,5 +1,5 @@
-//! Each growth of a call refused in turn: its answer is want of memory, nothing has changed, and with memory the same call gives
-//! the answer that it has to give.
+//! Each growth of a call refused in turn: its answer is want of memory, nothing has changed, and
+//! with memory the same call gives the answer that it has to give.
 
 use edge_chains::node;
 use geo_exact::{Corner, Corners};
@@ -55,7 +55,8 @@ fn a_list_of_corners(rt: HostRuntime) -> Result<(), Fail> {
     Ok(())
 }
 
-/// A ring is clipped to these triangles, or growth `number` is refused, and then it is clipped with memory; whether it was refused.
+/// A ring is clipped to these triangles, or growth `number` is refused, and then it is clipped with
+/// memory; whether it was refused.
 fn is_clipping_refused(heap: &Heap, number: u64, want: &[Tri]) -> Result<bool, Fail> {
     let ring = simple_ring(heap, &BENT)?;
     heap.refuse(number);

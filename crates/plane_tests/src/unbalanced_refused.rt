@@ -1,4 +1,5 @@
-//! Each growth of telling all unbalanced edges refused in turn: the sum is as it was, and with memory the same call tells them all.
+//! Each growth of telling all unbalanced edges refused in turn: the sum is as it was, and with
+//! memory the same call tells them all.
 
 use edge_chains::EdgeSum;
 use geo_exact::Corner;
@@ -21,7 +22,8 @@ const WANT: [(Corner, Corner, i64); 4] = [
     (Corner { x: 10, y: -20 }, Corner { x: 10, y: -10 }, 1),
 ];
 
-/// The edges of a square are told, or growth `number` is refused and they are told with memory then; whether it was refused.
+/// The edges of a square are told, or growth `number` is refused and they are told with memory
+/// then; whether it was refused.
 fn is_telling_refused(heap: &Heap, number: u64) -> Result<bool, Fail> {
     let square = rectangle(heap, (0, 10), (-20, -10))?;
     let mut sum = EdgeSum::new(heap);

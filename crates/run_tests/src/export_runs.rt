@@ -119,7 +119,8 @@ const LOWER: [Place; 4] = [(60, 0), (100, 0), (100, 50), (60, 50)];
 
 const UPPER: [Place; 4] = [(60, 50), (100, 50), (100, 100), (60, 100)];
 
-/// Tilings, of which the third has null shapes between its parcels, which are numbered anew by ascending id; and what is none.
+/// Tilings, of which the third has null shapes between its parcels, which are numbered anew by
+/// ascending id; and what is none.
 const ROWS: [Row; 12] = [
     (&CITY, &[&WEST, &EAST], "exported 2\n1 12000\n2 8000\n"),
     (

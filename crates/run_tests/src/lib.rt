@@ -1,5 +1,6 @@
-//! Tests of runs: what they print and write, what clerks' edits lead to, which zones overlap, the texts of faults, which files are read and how
-//! files are replaced, and what a run answers whose growths are refused.
+//! Tests of runs: what they print and write, what clerks' edits lead to, which zones overlap, the
+//! texts of faults, which files are read and how files are replaced, and what a run answers whose
+//! growths are refused.
 #![tactic(auto)]
 
 #[cfg(test)]

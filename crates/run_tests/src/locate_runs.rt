@@ -46,8 +46,8 @@ pub fn told_of_two<R: Threads + Wait + Sync>(
     )
 }
 
-/// The ring of a city, or no corner for a null shape; the rings of its parcels; how many bytes of their file there are; points; and what
-/// is told of them.
+/// The ring of a city, or no corner for a null shape; the rings of its parcels; how many bytes of
+/// their file there are; points; and what is told of them.
 type Row = (
     &'static [Place],
     &'static [&'static [Place]],

@@ -15,7 +15,8 @@ pub const HALVES: [&[Place]; 2] = [
     &[(50, 0), (100, 0), (100, 100), (50, 100)],
 ];
 
-/// What four workers print for the two rectangles and these zones, with clerks' files of these texts, on whichever stream.
+/// What four workers print for the two rectangles and these zones, with clerks' files of these
+/// texts, on whichever stream.
 fn told<R: Threads + Wait + Sync>(
     rt: &R,
     alloc: Global,

@@ -1,5 +1,5 @@
-//! Each growth of a run refused in turn: its answer is want of memory, nothing was printed, and with memory the same run
-//! prints what it has to print.
+//! Each growth of a run refused in turn: its answer is want of memory, nothing was printed, and
+//! with memory the same run prints what it has to print.
 
 use crate::edit_runs::files;
 use crate::export_runs::{BEYOND, CITY, EAST, WEST, alone, layer};
@@ -118,8 +118,8 @@ fn was_refused(heap: &Heap) -> bool {
     is_refused
 }
 
-/// Whether a run with this growth refused told of it and printed nothing; where there was no such growth, `None`, once it
-/// printed what it has to print.
+/// Whether a run with this growth refused told of it and printed nothing; where there was no such
+/// growth, `None`, once it printed what it has to print.
 fn is_told<'h, R: Threads + Wait + Sync>(
     rt: &R,
     alloc: Global,
@@ -168,8 +168,8 @@ const WANT_TOLD: &str = "clerk 1 line 1 refused no memory\nexported 2\n";
 /// What it prints with memory.
 const MERGE_TOLD: &str = "clerk 1 line 1 ok 1\nexported 1\n";
 
-/// Whether that is what an export with the merge may answer: where a growth could be done without, the lines are those of a run
-/// with memory.
+/// Whether that is what an export with the merge may answer: where a growth could be done without,
+/// the lines are those of a run with memory.
 fn is_edited<A: Allocator>(
     answer: &Result<Exported<A>, ToolFault<'static>>,
     is_refused: bool,

@@ -8,8 +8,8 @@ use std::rt::Files;
 use std::test::Fail;
 use std::{fs, io};
 
-/// How many calls are left up to the one that fails; 0: it lies behind. Where a device is gone, each call from that one on
-/// fails.
+/// How many calls are left up to the one that fails; 0: it lies behind. Where a device is gone,
+/// each call from that one on fails.
 #[derive(Drop)]
 struct Calls {
     left: Rc<Cell<u64>>,

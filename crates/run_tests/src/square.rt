@@ -59,8 +59,8 @@ fn push_doubles(file: &mut Vec<u8>, doubles: &[u64]) -> Result<(), AllocError> {
     Ok(())
 }
 
-/// The index file, of 100 bytes and 8 for each entry, with these entries: the record's place and its content's length, both
-/// in 16-bit words.
+/// The index file, of 100 bytes and 8 for each entry, with these entries: the record's place and
+/// its content's length, both in 16-bit words.
 pub fn index(alloc: Global, entries: &[(u32, u32)]) -> Result<Vec<u8>, AllocError> {
     let words = 50u32.wrapping_add(4u32.wrapping_mul(count_of(entries.len())));
     let mut file = header(alloc, words, [0, 0, HUNDRED.1, HUNDRED.1])?;

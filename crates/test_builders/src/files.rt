@@ -120,7 +120,8 @@ fn square_record(number: u32, x: u32) -> [u8; 136] {
     record
 }
 
-/// The main file and the index of so many squares: record k, from 1, holds the one from k to k + 100 centimetres on both axes.
+/// The main file and the index of so many squares: record k, from 1, holds the one from k to k +
+/// 100 centimetres on both axes.
 ///
 /// # Errors
 ///
@@ -141,8 +142,8 @@ pub fn squares_in_a_row<A: Allocator + Copy>(
     Ok((main, index))
 }
 
-/// The main file of one ring, from its corners counterclockwise: its points are clockwise, and the first stands once more at the
-/// end. Its boxes are empty.
+/// The main file of one ring, from its corners counterclockwise: its points are clockwise, and the
+/// first stands once more at the end. Its boxes are empty.
 ///
 /// # Errors
 ///

@@ -1,4 +1,5 @@
-//! What tests are built of: corners, rings, triangles, shapes, and the bytes of layer files. Only tests name this crate.
+//! What tests are built of: corners, rings, triangles, shapes, and the bytes of layer files. Only
+//! tests name this crate.
 //!
 //! A builder that is handed what it cannot build is a test's mistake, and fails the test.
 #![tactic(auto)]

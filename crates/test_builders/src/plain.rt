@@ -1,5 +1,5 @@
-//! The clipping with nothing remembered: at each step it looks for the first flat corner, and then for the first ear, from the
-//! start.
+//! The clipping with nothing remembered: at each step it looks for the first flat corner, and then
+//! for the first ear, from the start.
 ghost use Rattle.std.specs.Prelude.{◌<◌, IfSome, length};
 
 use geo_exact::{Corner, turn};

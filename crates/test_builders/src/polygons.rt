@@ -53,8 +53,9 @@ fn goes_on(way: &[Corner], to: Corner) -> bool {
     true
 }
 
-/// The ways over the grid that begin at their least corner and do not touch themselves, up to a number of corners: each longer one
-/// comes after the way that it goes on from. Every simple ring of the grid's places, begun at its least corner, is among them.
+/// The ways over the grid that begin at their least corner and do not touch themselves, up to a
+/// number of corners: each longer one comes after the way that it goes on from. Every simple ring
+/// of the grid's places, begun at its least corner, is among them.
 #[derive(Debug, Drop)]
 pub struct Ways<A: Allocator> {
     corners: Vec<Corner, A>,

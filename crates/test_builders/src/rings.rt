@@ -42,8 +42,8 @@ pub fn rectangle<A: Allocator>(alloc: A, x: (i64, i64), y: (i64, i64)) -> Result
     corners(alloc, &[(x.0, y.0), (x.1, y.0), (x.1, y.1), (x.0, y.1)])
 }
 
-/// A ring of so many corners, 5 or more: eastwards along the teeth of a saw, corner k at x = k with y 0 and 1 by turns, and back by two
-/// corners at y = 100.
+/// A ring of so many corners, 5 or more: eastwards along the teeth of a saw, corner k at x = k with
+/// y 0 and 1 by turns, and back by two corners at y = 100.
 ///
 /// # Errors
 ///
