@@ -14,7 +14,8 @@ use std::thread::Threads;
 /// What each clerk does.
 #[derive(Clone, Copy)]
 pub enum Task {
-    /// Clerk 1 puts so many corners into the city's south edge, from the west on, and another clerk into its north edge.
+    /// Clerk 1 puts so many corners into the city's south edge, from the west on, and another clerk
+    /// into its north edge.
     Side(i64),
     /// Merges the first two parcels.
     Merge,
@@ -102,7 +103,7 @@ pub type Outcome = (u64, u64, Option<Refusal>);
 fn clerks_of<'a, H: Allocator, J: Naming<H>, R: Wait + Copy>(
     rt: R,
     heap: &'a H,
-    mut cards: Cards<'a, H, J>,
+    cards: &mut Cards<'a, H, J>,
     task: Task,
 ) -> Result<Vec<Clerk<'a, H, J, R>, &'a H>, AllocError> {
     let mut clerks = Vec::new(heap);
@@ -121,18 +122,17 @@ fn clerks_of<'a, H: Allocator, J: Naming<H>, R: Wait + Copy>(
     Ok(clerks)
 }
 
-/// The cards of clerks.
-fn cards_of<'a, H: Allocator, J: Naming<H>, W: Wait + Drop>(
-    heap: &'a H,
+/// Puts the cards of clerks back.
+fn put_back<'a, H: Allocator, J: Naming<H>, W: Wait + Drop>(
+    cards: &mut Cards<'a, H, J>,
     mut clerks: Vec<Clerk<'a, H, J, W>, &'a H>,
-) -> Result<Cards<'a, H, J>, AllocError> {
-    let mut cards = Vec::new(heap);
+) -> Result<(), AllocError> {
     for _ in 0..clerks.len() {
         if let Some(clerk) = clerks.pop() {
             cards.push(clerk.into_card())?;
         }
     }
-    Ok(cards)
+    Ok(())
 }
 
 /// What became of the edits of clerks.
@@ -147,7 +147,7 @@ fn outcomes_of<'a, H: Allocator, J: Naming<H>, W: Wait + Drop>(
     Ok(outcomes)
 }
 
-/// Lets each clerk do the task in a thread of his own: the cards, and what became of the edits.
+/// Lets each clerk do the task in a thread of his own: what became of the edits.
 pub fn work_all<
     'a,
     H: Allocator + Send + Sync,
@@ -157,13 +157,14 @@ pub fn work_all<
     rt: R,
     heap: &'a H,
     office: &Office<'a, H, J, R>,
-    cards: Cards<'a, H, J>,
+    cards: &mut Cards<'a, H, J>,
     task: Task,
-) -> Result<(Cards<'a, H, J>, Vec<Outcome, &'a H>), Fail> {
+) -> Result<Vec<Outcome, &'a H>, Fail> {
     let clerks = clerks_of(rt, heap, cards, task)?;
     let Ok((clerks, None)) = do_all(&rt, office, clerks) else {
         return Err(Fail::new("a thread is refused"));
     };
-    let outcomes = outcomes_of(heap, clerks.as_slice())?;
-    Ok((cards_of(heap, clerks)?, outcomes))
+    let outcomes = outcomes_of(heap, clerks.as_slice());
+    put_back(cards, clerks)?;
+    Ok(outcomes?)
 }

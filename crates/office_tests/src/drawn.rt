@@ -94,8 +94,8 @@ fn merge_of<'a, H: Allocator>(
     Some(Edit::Merge { a: id, b })
 }
 
-/// An edit that may be lawful, of a parcel that is drawn. Short rings get corners and long ones are split, and of few parcels none
-/// is merged.
+/// An edit that may be lawful, of a parcel that is drawn. Short rings get corners and long ones are
+/// split, and of few parcels none is merged.
 pub fn drawn_edit<'a, H: Allocator>(
     heap: &'a H,
     sheet: &Sheet<'a, H>,

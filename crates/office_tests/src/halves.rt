@@ -53,6 +53,19 @@ pub fn cut<'a, H: Allocator, J: Naming<H>, R: Wait + Drop, W: Wait>(
     submitted(rt, heap, office, card, INTO_HALVES[2])
 }
 
+/// Makes the edits, of which a window learns the last receipt: whether that tells what it has to.
+fn learn_cut<'a, H: Allocator, J: Naming<H>, R: Wait + Drop, W: Wait>(
+    rt: &W,
+    heap: &'a H,
+    office: &Office<'a, H, J, R>,
+    card: &mut Card<'a, H, J>,
+    window: &mut Window<'a, H, J>,
+) -> Result<bool, Fail> {
+    let last = cut(rt, heap, office, card)?;
+    window.learn(&last);
+    Ok(tells(&last, 3, true))
+}
+
 /// A clerk's edits are told, and seen at a window that learns the last receipt, and then at each other.
 pub fn learn_halves<'a, H: Allocator, J: Naming<H>, R: Wait + Drop, W: Wait>(
     rt: &W,
@@ -64,9 +77,8 @@ pub fn learn_halves<'a, H: Allocator, J: Naming<H>, R: Wait + Drop, W: Wait>(
     if cards.is_empty() || windows.is_empty() || !all_answer(windows, 0, 1)? {
         return Err(Fail::new("another answer before the edits"));
     }
-    let last = cut(rt, heap, office, &mut cards[0])?;
-    windows[0].learn(&last);
-    if !tells(&last, 3, true) || !all_answer(windows, 3, 3)? || cards[0].count() != 3 {
+    let is_told = learn_cut(rt, heap, office, &mut cards[0], &mut windows[0])?;
+    if !is_told || !all_answer(windows, 3, 3)? || cards[0].count() != 3 {
         return Err(Fail::new("another answer after the edits"));
     }
     Ok(Told::Done)

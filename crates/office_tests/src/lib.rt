@@ -1,5 +1,5 @@
-//! Tests of the office: worked examples of edits and answers, clerks and readers in threads of their own, and each growth refused
-//! in turn.
+//! Tests of the office: worked examples of edits and answers, clerks and readers in threads of
+//! their own, and each growth refused in turn.
 #![tactic(auto)]
 
 #[cfg(test)]

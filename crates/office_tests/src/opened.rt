@@ -5,12 +5,12 @@ ghost use Rattle.geo_exact.specs.Layers.{corner_count, NumbersRise, rings_of};
 ghost use Rattle.geo_exact.specs.declared.limits.TheConstants.{LAYER_CORNERS, LAYER_RECORDS};
 
 use fabric_core::{City, Fabric, Layer};
-use geo_exact::{Corners, RawRing, Unit};
+use geo_exact::{Corner, Corners, RawRing, Unit};
 use refusing_alloc::Refusing;
 use shp_files::{a_layer_file_is_within_the_limits, read_layer};
 use std::alloc::Allocator;
 use std::test::Fail;
-use test_builders::{Place, corners, layer_file};
+use test_builders::{Place, corner, corners, layer_file};
 
 /// A heap that refuses one growth, as [`Refusing`] does.
 pub trait Refuses: Allocator {
@@ -55,12 +55,12 @@ fn lists<A: Allocator + Copy>(alloc: A, rings: &[&[Place]]) -> Result<Vec<Corner
     Ok(lists)
 }
 
-/// The rings that are read from the main file of the rings at these places, numbered from 1.
-fn records<'a, H: Allocator>(heap: &'a H, rings: &[&[Place]]) -> Result<Records<'a, H>, Fail>
+/// The rings that are read from the main file of these rings, numbered from 1.
+fn records<'a, H: Allocator>(heap: &'a H, rings: &[Corners<&'a H>]) -> Result<Records<'a, H>, Fail>
     ensures numbers { IfOk result (λ records. NumbersRise 0 LAYER_RECORDS (rings_of records.items)) }
     ensures corners { IfOk result (λ records. corner_count (rings_of records.items) ≤ LAYER_CORNERS) }
 {
-    let file = layer_file(heap, &lists(heap, rings)?)?;
+    let file = layer_file(heap, rings)?;
     a_layer_file_is_within_the_limits();
     match read_layer(heap, &file, None, Unit::Cm) {
         Ok(records) => Ok(records),
@@ -70,7 +70,8 @@ fn records<'a, H: Allocator>(heap: &'a H, rings: &[&[Place]]) -> Result<Records<
 
 /// The city with its ring at these places.
 fn city<'a, H: Allocator>(heap: &'a H, ring: &[Place]) -> Result<City<'a, H>, Fail> {
-    let Some(ring) = records(heap, &[ring])?.pop() else {
+    let lists = lists(heap, &[ring])?;
+    let Some(ring) = records(heap, &lists)?.pop() else {
         return Err(Fail::new("no ring"));
     };
     match City::new(heap, ring) {
@@ -79,24 +80,33 @@ fn city<'a, H: Allocator>(heap: &'a H, ring: &[Place]) -> Result<City<'a, H>, Fa
     }
 }
 
-/// The layer of the rings at these places, in the city.
-fn layer<'a, H: Allocator>(
+/// The layer of these rings, in a city.
+fn layer_in<'a, H: Allocator>(
     heap: &'a H,
-    ring: &[Place],
-    rings: &[&[Place]],
+    city: &City<'a, H>,
+    rings: &[Corners<&'a H>],
 ) -> Result<Layer<'a, H>, Fail> {
-    let city = city(heap, ring)?;
-    match Layer::load(heap, &city, records(heap, rings)?) {
+    match Layer::load(heap, city, records(heap, rings)?) {
         Ok(layer) => Ok(layer),
         Err(_) => Err(Fail::new("no tiling")),
     }
 }
 
-/// The fabric that is opened from that layer.
-pub fn fabric<'a, H: Allocator>(
+/// The layer of these rings, in the city with its ring at these places.
+fn layer<'a, H: Allocator>(
     heap: &'a H,
     ring: &[Place],
-    rings: &[&[Place]],
+    rings: &[Corners<&'a H>],
+) -> Result<Layer<'a, H>, Fail> {
+    let city = city(heap, ring)?;
+    layer_in(heap, &city, rings)
+}
+
+/// The fabric that is opened from that layer.
+fn opened<'a, H: Allocator>(
+    heap: &'a H,
+    ring: &[Place],
+    rings: &[Corners<&'a H>],
 ) -> Result<Fabric<'a, H>, Fail> {
     match Fabric::open(layer(heap, ring, rings)?) {
         Ok(fabric) => Ok(fabric),
@@ -104,23 +114,76 @@ pub fn fabric<'a, H: Allocator>(
     }
 }
 
+/// The fabric of the rings at these places, in the city.
+pub fn fabric<'a, H: Allocator>(
+    heap: &'a H,
+    ring: &[Place],
+    rings: &[&[Place]],
+) -> Result<Fabric<'a, H>, Fail> {
+    opened(heap, ring, &lists(heap, rings)?)
+}
+
 /// The fabric of the two parcels.
 pub fn town<'a, H: Allocator>(heap: &'a H) -> Result<Fabric<'a, H>, Fail> {
     fabric(heap, &SQUARE, &RINGS)
 }
 
-/// A square of 1,024 centimetres.
-const WIDE: [Place; 4] = [(0, 0), (1024, 0), (1024, 1024), (0, 1024)];
+/// How many parcels the large city has from west to east.
+const COLUMNS: i64 = 25;
 
-/// Its quarters.
-const QUARTERS: [&[Place]; 4] = [
-    &[(0, 0), (512, 0), (512, 512), (0, 512)],
-    &[(512, 0), (1024, 0), (1024, 512), (512, 512)],
-    &[(512, 512), (1024, 512), (1024, 1024), (512, 1024)],
-    &[(0, 512), (512, 512), (512, 1024), (0, 1024)],
+/// How many it has from south to north.
+const ROWS: i64 = 40;
+
+/// How long the sides of its parcels are.
+const SIDE: i64 = 60;
+
+/// How far along a side its corners lie, but for the last.
+const STEPS: [i64; 5] = [0, 12, 24, 36, 48];
+
+/// The large city's ring.
+const LARGE_CITY: [Place; 4] = [
+    (0, 0),
+    (COLUMNS * SIDE, 0),
+    (COLUMNS * SIDE, ROWS * SIDE),
+    (0, ROWS * SIDE),
 ];
 
-/// The fabric of the quarters.
-pub fn quarters<'a, H: Allocator>(heap: &'a H) -> Result<Fabric<'a, H>, Fail> {
-    fabric(heap, &WIDE, &QUARTERS)
+/// A place of the large city, from any two numbers.
+pub fn place_in_large_city(x: u32, y: u32) -> Option<Corner> {
+    Corner::new(
+        i64::from(x) % (COLUMNS * SIDE + 1),
+        i64::from(y) % (ROWS * SIDE + 1),
+    )
+}
+
+/// The square parcel whose low corner is here: 20 corners, five along each side.
+fn square<A: Allocator>(alloc: A, west: i64, south: i64) -> Result<Corners<A>, Fail> {
+    let east = west.wrapping_add(SIDE);
+    let north = south.wrapping_add(SIDE);
+    let mut ring = Corners::new(alloc);
+    for at in &STEPS {
+        ring.push(corner((west.wrapping_add(*at), south))?)?;
+    }
+    for at in &STEPS {
+        ring.push(corner((east, south.wrapping_add(*at)))?)?;
+    }
+    for at in &STEPS {
+        ring.push(corner((east.wrapping_sub(*at), north))?)?;
+    }
+    for at in &STEPS {
+        ring.push(corner((west, north.wrapping_sub(*at)))?)?;
+    }
+    Ok(ring)
+}
+
+/// The fabric of a city of a thousand parcels with 20 corners each.
+pub fn large_city<'a, H: Allocator>(heap: &'a H) -> Result<Fabric<'a, H>, Fail> {
+    let mut rings = Vec::new(heap);
+    for row in 0..ROWS {
+        for column in 0..COLUMNS {
+            let (west, south) = (column.wrapping_mul(SIDE), row.wrapping_mul(SIDE));
+            rings.push(square(heap, west, south)?)?;
+        }
+    }
+    opened(heap, &LARGE_CITY, &rings)
 }

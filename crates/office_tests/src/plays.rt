@@ -34,8 +34,8 @@ pub enum Play {
     Drawn,
     /// The last card is given up.
     GiveUp,
-    /// The first parcel is cut in halves, the growth of the first number being refused in the last submit, and that of the second in
-    /// the publishing, where it is not published at once.
+    /// The first parcel is cut in halves, the growth of the first number being refused in the last
+    /// submit, and that of the second in the publishing, where it is not published at once.
     Cut(u64, u64),
     /// A growth is refused for a sheet.
     Sheet(u64),
@@ -94,9 +94,9 @@ fn opened_as<
     requires office { J.office ≡ record { cards = name.cards; clerks = clerks; origin = origin_of fabric } }
 {
     match Office::<H, J, R>::open(heap, rt, name, fabric, clerks, windows) {
-        Ok((office, cards, windows)) => {
+        Ok((office, mut cards, mut windows)) => {
             let is_refused = was_refused(heap);
-            let (cards, told) = played(rt, heap, &office, cards, windows, play)?;
+            let told = played(rt, heap, &office, &mut cards, &mut windows, play)?;
             let told = if is_refused { Told::Refused } else { told };
             Ok((closed(&rt, heap, office, clerks, cards)?, told))
         }
@@ -107,7 +107,7 @@ fn opened_as<
     }
 }
 
-/// Plays at an office: the cards, and what came of it.
+/// Plays at an office, with its cards and windows: what came of it.
 fn played<
     'a,
     H: Refuses + Send + Sync,
@@ -117,10 +117,10 @@ fn played<
     rt: R,
     heap: &'a H,
     office: &Office<'a, H, J, R>,
-    mut cards: Cards<'a, H, J>,
-    mut windows: Windows<'a, H, J>,
+    cards: &mut Cards<'a, H, J>,
+    windows: &mut Windows<'a, H, J>,
     play: Play,
-) -> Result<(Cards<'a, H, J>, Told), Fail> {
+) -> Result<Told, Fail> {
     match play {
         Play::Sides => work_sides(rt, heap, office, cards),
         Play::Merges => work_merges(rt, heap, office, cards),
@@ -129,19 +129,16 @@ fn played<
             if let Some(card) = cards.pop() {
                 card.give_up();
             }
-            Ok((cards, Told::GivenUp))
+            Ok(Told::GivenUp)
         }
-        _ => {
-            let told = played_alone(
-                &rt,
-                heap,
-                office,
-                cards.as_mut_slice(),
-                windows.as_mut_slice(),
-                play,
-            )?;
-            Ok((cards, told))
-        }
+        _ => played_alone(
+            &rt,
+            heap,
+            office,
+            cards.as_mut_slice(),
+            windows.as_mut_slice(),
+            play,
+        ),
     }
 }
 
@@ -185,19 +182,19 @@ fn work_sides<
     rt: R,
     heap: &'a H,
     office: &Office<'a, H, J, R>,
-    cards: Cards<'a, H, J>,
-) -> Result<(Cards<'a, H, J>, Told), Fail> {
-    let (cards, outcomes) = work_all(rt, heap, office, cards, Task::Side(100))?;
+    cards: &mut Cards<'a, H, J>,
+) -> Result<Told, Fail> {
+    let outcomes = work_all(rt, heap, office, cards, Task::Side(100))?;
     for outcome in outcomes.as_slice() {
         if outcome.0 != 100 || outcome.2.is_some() {
             return Err(Fail::new("an edit of a side is refused"));
         }
     }
-    Ok((cards, Told::Done))
+    Ok(Told::Done)
 }
 
-/// Two clerks merge the same two parcels: the edit of one is accepted, under number 1, and that of the other refused, since the first
-/// parcel is gone.
+/// Two clerks merge the same two parcels: the edit of one is accepted, under number 1, and that of
+/// the other refused, since the first parcel is gone.
 fn work_merges<
     'a,
     H: Refuses + Send + Sync,
@@ -207,9 +204,9 @@ fn work_merges<
     rt: R,
     heap: &'a H,
     office: &Office<'a, H, J, R>,
-    cards: Cards<'a, H, J>,
-) -> Result<(Cards<'a, H, J>, Told), Fail> {
-    let (cards, outcomes) = work_all(rt, heap, office, cards, Task::Merge)?;
+    cards: &mut Cards<'a, H, J>,
+) -> Result<Told, Fail> {
+    let outcomes = work_all(rt, heap, office, cards, Task::Merge)?;
     let [one, other] = outcomes.as_slice() else {
         return Err(Fail::new("not two clerks"));
     };
@@ -221,10 +218,11 @@ fn work_merges<
     if *first != (1, 1, None) || *second != (0, 0, Some(Refusal::Retired { id: 1, by: 1 })) {
         return Err(Fail::new("not one merge alone"));
     }
-    Ok((cards, Told::Done))
+    Ok(Told::Done)
 }
 
-/// Closes an office of so many clerks, first with no card, which is refused, and then with these: its fabric, where they are all.
+/// Closes an office of so many clerks, first with no card, which is refused, and then with these:
+/// its fabric, where they are all.
 fn closed<'a, H: Refuses, J: Naming<H>, R: Wait + Drop, W: Wait>(
     rt: &W,
     heap: &'a H,

@@ -1,8 +1,9 @@
-//! Clerks who make edits that are drawn at random, and readers who ask meanwhile where corners lie, each in a thread of their own.
+//! Clerks who make edits that are drawn at random, and readers who ask meanwhile where corners lie,
+//! each in a thread of their own.
 
 use crate::answers::{Cards, Windows};
 use crate::drawn::drawn_edit;
-use crate::opened::quarters;
+use crate::opened::{large_city, place_in_large_city};
 use crate::plays::Told;
 use crate::scans::is_found;
 use desk_lock::{Card, Naming, Office, Window};
@@ -18,13 +19,19 @@ use std::thread;
 use std::thread::Threads;
 
 /// How many edits of each clerk are accepted.
-pub const EDITS: u64 = 50;
+pub const EDITS: u64 = 1000;
 
-/// So many edits a clerk tries for each that is to be accepted.
-const TRIES: u64 = 100;
+/// So many edits a clerk draws from one sheet.
+const DRAWN: u64 = 400;
+
+/// So many sheets a clerk draws from for each edit that is to be accepted.
+const TRIES: u64 = 10;
 
 /// So many answers a reader asks for at most.
-const TURNS: u64 = 2000;
+const TURNS: u64 = 400;
+
+/// So many times a reader lets others go first between two answers.
+const YIELDS: u64 = 1000;
 
 /// What a window answered: how many entries it had seen, and where the corner is.
 #[derive(Drop)]
@@ -36,20 +43,20 @@ struct Answer<'a, H: Allocator> {
     heap: &'a H,
 }
 
-/// Who works in a thread of his own: at a window, and with a card where it is a clerk.
+/// Who works in a thread of his own: a clerk with a card, or a reader at a window.
 #[derive(Drop)]
 struct Worker<'a, H: Allocator, J: Naming<H>, W: Wait + Drop> {
     rt: W,
     heap: &'a H,
     card: Option<Card<'a, H, J>>,
-    window: Window<'a, H, J>,
+    window: Option<Window<'a, H, J>>,
     words: Pcg32,
     // How many entries there are at last.
     entries: u64,
     answers: Vec<Answer<'a, H>, &'a H>,
 }
 
-/// Draws an edit from a sheet and submits it; whether that can go on.
+/// Draws edits from a sheet and submits them, as long as there are too few; whether that can go on.
 fn draw<'a, H: Allocator, J: Naming<H>, R: Wait + Drop, W: Wait>(
     rt: &W,
     heap: &'a H,
@@ -60,13 +67,45 @@ fn draw<'a, H: Allocator, J: Naming<H>, R: Wait + Drop, W: Wait>(
     let Ok(sheet) = office.sheet(rt, &mut []) else {
         return false;
     };
-    if let Some(edit) = drawn_edit(heap, &sheet, words) {
-        let _ = office.submit(rt, card, &edit);
+    for _ in 0..DRAWN {
+        if card.count() >= EDITS {
+            break;
+        }
+        if let Some(edit) = drawn_edit(heap, &sheet, words) {
+            let _ = office.submit(rt, card, &edit);
+        }
     }
     true
 }
 
+/// Lets others go first.
+fn rest() {
+    for _ in 0..YIELDS {
+        thread::yield_now();
+    }
+}
+
 impl<'a, H: Allocator, J: Naming<H>, W: Wait + Drop> Worker<'a, H, J, W> {
+    /// The worker of this number, who ends where there are so many entries.
+    fn new(
+        rt: W,
+        heap: &'a H,
+        number: u64,
+        entries: u64,
+        card: Option<Card<'a, H, J>>,
+        window: Option<Window<'a, H, J>>,
+    ) -> Worker<'a, H, J, W> {
+        Worker {
+            rt,
+            heap,
+            card,
+            window,
+            words: Pcg32::new(42, number),
+            entries,
+            answers: Vec::new(heap),
+        }
+    }
+
     /// Draws edits until enough of them are accepted, and submits them; nothing without a card.
     fn draw_all<R: Wait + Drop>(&mut self, office: &Office<'a, H, J, R>) {
         let Some(card) = &mut self.card else {
@@ -79,12 +118,11 @@ impl<'a, H: Allocator, J: Naming<H>, W: Wait + Drop> Worker<'a, H, J, W> {
         }
     }
 
-    /// Asks where a corner lies that is drawn; how many entries the answer rests on.
+    /// Asks where a corner lies that is drawn; how many entries the answer rests on. Nothing without a window.
     fn ask(&mut self) -> Option<u64> {
-        let x = i64::from(self.words.next_word() % 1025);
-        let y = i64::from(self.words.next_word() % 1025);
-        let place = Corner::new(x, y)?;
-        let (entries, at) = self.window.locate(place).ok()?;
+        let window = self.window.as_mut()?;
+        let place = place_in_large_city(self.words.next_word(), self.words.next_word())?;
+        let (entries, at) = window.locate(place).ok()?;
         let answer = Answer {
             entries,
             place,
@@ -99,7 +137,7 @@ impl<'a, H: Allocator, J: Naming<H>, W: Wait + Drop> Worker<'a, H, J, W> {
     fn ask_all(&mut self) {
         for _ in 0..TURNS {
             match self.ask() {
-                Some(entries) if entries < self.entries => thread::yield_now(),
+                Some(entries) if entries < self.entries => rest(),
                 _ => return,
             }
         }
@@ -133,46 +171,48 @@ impl<
     }
 }
 
-/// A worker for each window: the clerks first.
+/// A worker for each card, and then one for each window.
 fn workers_of<'a, H: Allocator, J: Naming<H>, R: Wait + Copy>(
     rt: R,
     heap: &'a H,
-    mut cards: Cards<'a, H, J>,
-    mut windows: Windows<'a, H, J>,
+    cards: &mut Cards<'a, H, J>,
+    windows: &mut Windows<'a, H, J>,
 ) -> Result<Vec<Worker<'a, H, J, R>, &'a H>, AllocError> {
-    let entries = EDITS.wrapping_mul(cards.len() as u64);
+    let clerks = cards.len() as u64;
+    let entries = EDITS.wrapping_mul(clerks);
     let mut workers = Vec::new(heap);
-    for place in 0..windows.len() {
-        if let Some(window) = windows.pop() {
-            workers.push(Worker {
-                rt,
-                heap,
-                card: cards.pop(),
-                window,
-                words: Pcg32::new(42, place as u64),
-                entries,
-                answers: Vec::new(heap),
-            })?;
-        }
+    for number in 0..clerks {
+        workers.push(Worker::new(rt, heap, number, entries, cards.pop(), None))?;
+    }
+    for number in 0..windows.len() as u64 {
+        let number = number.wrapping_add(clerks);
+        workers.push(Worker::new(rt, heap, number, entries, None, windows.pop()))?;
     }
     Ok(workers)
 }
 
-/// The cards of workers.
-fn cards_of<'a, H: Allocator, J: Naming<H>, W: Wait + Drop>(
-    heap: &'a H,
+/// Puts the card of a worker back, where he has one.
+fn put_card<'a, H: Allocator, J: Naming<H>, W: Wait + Drop>(
+    cards: &mut Cards<'a, H, J>,
+    worker: Worker<'a, H, J, W>,
+) -> Result<(), AllocError> {
+    if let Some(card) = worker.into_card() {
+        cards.push(card)?;
+    }
+    Ok(())
+}
+
+/// Puts the cards of workers back.
+fn put_back<'a, H: Allocator, J: Naming<H>, W: Wait + Drop>(
+    cards: &mut Cards<'a, H, J>,
     mut workers: Vec<Worker<'a, H, J, W>, &'a H>,
-) -> Result<Cards<'a, H, J>, AllocError> {
-    let mut cards = Vec::new(heap);
+) -> Result<(), AllocError> {
     for _ in 0..workers.len() {
-        let Some(worker) = workers.pop() else {
-            continue;
-        };
-        if let Some(card) = worker.into_card() {
-            cards.push(card)?;
+        if let Some(worker) = workers.pop() {
+            put_card(cards, worker)?;
         }
     }
-    Ok(cards)
+    Ok(())
 }
 
 /// Follows a journal up to so many entries.
@@ -207,6 +247,19 @@ fn check_answers<'a, H: Allocator>(
     Ok(())
 }
 
+/// Checks a reader's answers, of which there are some, against a journal.
+fn check_reader<'a, H: Allocator>(
+    heap: &'a H,
+    journal: &[Entry<&'a H>],
+    answers: &[Answer<'a, H>],
+) -> Result<(), Fail> {
+    if answers.is_empty() {
+        return Err(Fail::new("no answer"));
+    }
+    let mut copy = large_city(heap)?;
+    check_answers(&mut copy, journal, answers)
+}
+
 /// Checks all answers against a journal.
 fn check_all<'a, H: Allocator, J: Naming<H>, W: Wait + Drop>(
     heap: &'a H,
@@ -214,12 +267,22 @@ fn check_all<'a, H: Allocator, J: Naming<H>, W: Wait + Drop>(
     journal: &[Entry<&'a H>],
 ) -> Result<(), Fail> {
     for worker in workers {
-        if worker.answers.is_empty() {
-            return Err(Fail::new("no answer"));
+        if worker.window.is_some() {
+            check_reader(heap, journal, worker.answers.as_slice())?;
         }
-        check_answers(&mut quarters(heap)?, journal, worker.answers.as_slice())?;
     }
     Ok(())
+}
+
+/// Checks all answers against the journal of an office.
+fn check_at<'a, H: Allocator, J: Naming<H>, R: Wait + Drop, W: Wait, V: Wait + Drop>(
+    rt: &W,
+    heap: &'a H,
+    office: &Office<'a, H, J, R>,
+    workers: &[Worker<'a, H, J, V>],
+) -> Result<(), Fail> {
+    let sheet = office.sheet(rt, &mut [])?;
+    check_all(heap, workers, sheet.journal())
 }
 
 /// Lets clerks and readers work, each in a thread of his own.
@@ -232,16 +295,16 @@ pub fn read_meanwhile<
     rt: R,
     heap: &'a H,
     office: &Office<'a, H, J, R>,
-    cards: Cards<'a, H, J>,
-    windows: Windows<'a, H, J>,
-) -> Result<(Cards<'a, H, J>, Told), Fail> {
+    cards: &mut Cards<'a, H, J>,
+    windows: &mut Windows<'a, H, J>,
+) -> Result<Told, Fail> {
     let workers = workers_of(rt, heap, cards, windows)?;
     let Ok((workers, None)) = do_all(&rt, office, workers) else {
         return Err(Fail::new("a thread is refused"));
     };
-    let sheet = office.sheet(&rt, &mut [])?;
-    check_all(heap, workers.as_slice(), sheet.journal())?;
-    Ok((cards_of(heap, workers)?, Told::Done))
+    check_at(&rt, heap, office, workers.as_slice())?;
+    put_back(cards, workers)?;
+    Ok(Told::Done)
 }
 
 /// Whether two fabrics have the same parcels and the same refined ring.
@@ -257,9 +320,17 @@ fn are_alike<'a, H: Allocator>(one: &Fabric<'a, H>, other: &Fabric<'a, H>) -> bo
     one.ids().count() == other.ids().count() && one.refined() == other.refined()
 }
 
+/// Whether a copy of the opening that follows a fabric's journal is like it then.
+fn becomes_alike<'a, H: Allocator>(
+    copy: &mut Fabric<'a, H>,
+    fabric: &Fabric<'a, H>,
+) -> Result<bool, Fail> {
+    follow_to(copy, fabric.journal(), fabric.entries())?;
+    Ok(are_alike(copy, fabric))
+}
+
 /// Whether a fabric is what the replay of its journal leads to.
 pub fn is_replayed<'a, H: Allocator>(heap: &'a H, fabric: &Fabric<'a, H>) -> Result<bool, Fail> {
-    let mut copy = quarters(heap)?;
-    follow_to(&mut copy, fabric.journal(), fabric.entries())?;
-    Ok(are_alike(&copy, fabric))
+    let mut copy = large_city(heap)?;
+    becomes_alike(&mut copy, fabric)
 }

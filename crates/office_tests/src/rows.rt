@@ -1,7 +1,7 @@
 //! Worked examples of what clerks do and windows answer.
 
 use crate::changes::{Change, edit_of};
-use crate::opened::{Refuses, fabric, quarters, town};
+use crate::opened::{Refuses, fabric, large_city, town};
 use crate::plays::{NONE, Play, Told, at_office};
 use crate::readers::{EDITS, is_replayed};
 use desk_lock::OpenFault;
@@ -32,7 +32,8 @@ fn has_parcels<H: Allocator>(fabric: &Fabric<'_, H>, want: Parcels) -> bool {
         && fabric.ids().last() == Some(want.2)
 }
 
-/// A play at an office with the town, which ends with a fabric that has this, or with none where a card was given up: what came of it.
+/// A play at an office with the town, which ends with a fabric that has this, or with none where a
+/// card was given up: what came of it.
 pub fn told_of<H: Refuses + Send + Sync, R: Threads + Wait + Copy + Send + Sync>(
     rt: R,
     heap: &H,
@@ -114,11 +115,12 @@ fn has_corners<H: Allocator>(fabric: &Fabric<'_, H>) -> bool {
 /// A path from one side to the other.
 const ACROSS: [Place; 2] = [(1, 0), (1, 1000)];
 
-/// Whether the next parcels that come have the ids 2 and 3.
+/// Whether a fabric has the corners, and the next parcels that come have the ids 2 and 3.
 fn goes_on_at_two<'a, H: Allocator>(heap: &'a H, fabric: &mut Fabric<'a, H>) -> Result<bool, Fail> {
     let edit = edit_of(heap, Change::Split(1, &ACROSS))?;
+    let is_edited = has_corners(fabric);
     let is_split = fabric.edit(1, &edit).is_ok();
-    Ok(is_split && has_parcels(fabric, (201, 2, 3)))
+    Ok(is_edited && is_split && has_parcels(fabric, (201, 2, 3)))
 }
 
 /// Whether two clerks put corners into both sides of the square.
@@ -128,9 +130,7 @@ fn are_sides_edited<H: Refuses + Send + Sync, R: Threads + Wait + Copy + Send + 
 ) -> Result<bool, Fail> {
     let fabric = fabric(heap, &LARGE, &[&LARGE])?;
     match at_office(rt, heap, fabric, (2, 1), NONE, Play::Sides)? {
-        (Some(mut fabric), Told::Done) => {
-            Ok(has_corners(&fabric) && goes_on_at_two(heap, &mut fabric)?)
-        }
+        (Some(mut fabric), Told::Done) => goes_on_at_two(heap, &mut fabric),
         _ => Ok(false),
     }
 }
@@ -142,15 +142,18 @@ fn edits_both_sides(rt: HostRuntime) -> Result<(), Fail> {
     Ok(())
 }
 
-/// Whether two clerks edit while readers ask, and the replay of the journal leads to the fabric.
+/// Whether a fabric has the edits of eight clerks, and is what the replay of its journal leads to.
+fn has_all_edits<'a, H: Allocator>(heap: &'a H, fabric: &Fabric<'a, H>) -> Result<bool, Fail> {
+    Ok(fabric.entries() == 8 * EDITS && is_replayed(heap, fabric)?)
+}
+
+/// Whether eight clerks edit while four readers ask, and the replay of the journal leads to the fabric.
 fn is_read<H: Refuses + Send + Sync, R: Threads + Wait + Copy + Send + Sync>(
     rt: R,
     heap: &H,
 ) -> Result<bool, Fail> {
-    match at_office(rt, heap, quarters(heap)?, (2, 4), NONE, Play::Drawn)? {
-        (Some(fabric), Told::Done) => {
-            Ok(fabric.entries() == 2 * EDITS && is_replayed(heap, &fabric)?)
-        }
+    match at_office(rt, heap, large_city(heap)?, (8, 4), NONE, Play::Drawn)? {
+        (Some(fabric), Told::Done) => has_all_edits(heap, &fabric),
         _ => Ok(false),
     }
 }

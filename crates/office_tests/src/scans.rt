@@ -4,6 +4,11 @@ use fabric_core::{At, Fabric};
 use geo_exact::{Corner, on_segment, turn};
 use std::alloc::Allocator;
 
+/// Whether a corner is as high as some place of an edge.
+fn is_beside(from: Corner, to: Corner, place: Corner) -> bool {
+    from.y.min(to.y) <= place.y && place.y <= from.y.max(to.y)
+}
+
 /// Whether a corner lies on an edge of a ring.
 fn is_on_edge(ring: &[Corner], place: Corner) -> bool {
     let Some(last) = ring.last() else {
@@ -11,7 +16,7 @@ fn is_on_edge(ring: &[Corner], place: Corner) -> bool {
     };
     let mut from = *last;
     for to in ring {
-        if on_segment(from, *to, place) {
+        if is_beside(from, *to, place) && on_segment(from, *to, place) {
             return true;
         }
         from = *to;
@@ -19,7 +24,8 @@ fn is_on_edge(ring: &[Corner], place: Corner) -> bool {
     false
 }
 
-/// How many times a ring goes round a corner: the edges that pass it upward on its right, less those that pass it downward there.
+/// How many times a ring goes round a corner: the edges that pass it upward on its right, less
+/// those that pass it downward there.
 fn winding(ring: &[Corner], place: Corner) -> i64 {
     let Some(last) = ring.last() else {
         return 0;
@@ -27,11 +33,10 @@ fn winding(ring: &[Corner], place: Corner) -> i64 {
     let mut wound = 0i64;
     let mut from = *last;
     for to in ring {
-        let side = turn(from, *to, place);
-        if from.y <= place.y && place.y < to.y && side > 0 {
+        if from.y <= place.y && place.y < to.y && turn(from, *to, place) > 0 {
             wound = wound.saturating_add(1);
         }
-        if to.y <= place.y && place.y < from.y && side < 0 {
+        if to.y <= place.y && place.y < from.y && turn(from, *to, place) < 0 {
             wound = wound.saturating_sub(1);
         }
         from = *to;

@@ -87,8 +87,9 @@ fn answers_with_memory(rt: HostRuntime) -> Result<(), Fail> {
     Ok(())
 }
 
-/// Plays a cut with each growth refused in turn, until none is, and for some of those that are published later, with each growth refused
-/// in the publishing, too: how many were published later, and how many of these growths were refused.
+/// Plays a cut with each growth refused in turn, until none is, and for some of those that are
+/// published later, with each growth refused in the publishing, too: how many were published later,
+/// and how many of these growths were refused.
 fn count_unpublished<H: Refuses + Send + Sync, R: Threads + Wait + Copy + Send + Sync>(
     rt: R,
     heap: &H,
