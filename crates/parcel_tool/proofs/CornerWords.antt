@@ -1,5 +1,6 @@
 -- Words of a command line that are read as corners, two by two.
-use Rattle.std.proofs.Common.{◌≡◌, List, [], ◌∷◌, ◌++◌, ℕ, suc, ◌+◌, ◌*◌, ◌%◌, ◌<◌, length, map, Bor, drop, get_or, refl, ap, sym, ◌∙◌, subst, arith}
+use Rattle.std.proofs.Common.{◌≡◌, List, [], ◌∷◌, ◌++◌, ℕ, suc, ◌+◌, ◌*◌, ◌%◌, ◌<◌, length, map, Bor}
+use Rattle.std.proofs.Common.{drop, get_or, refl, ap, sym, ◌∙◌, subst, arith}
 use Rattle.std.proofs.Math.Seq.{drop-cons}
 use Rattle.std.proofs.lemmas.List.{length-map}
 use Rattle.geo_exact.specs.declared.corner.Corner.{Corner}
@@ -8,13 +9,15 @@ use Rattle.line_files.specs.own.EditWords.{TakesCorner}
 use Rattle.line_files.proofs.CornerWords.{IsReadTo, one_more_read, stuck}
 
 -- two words more
-pub more_corners : (all left : List (List ℕ)) (x y : List ℕ) (corners : List Corner) (corner : Corner) → IsReadTo all (x ∷ y ∷ left) corners
+pub more_corners : (all left : List (List ℕ)) (x y : List ℕ) (corners : List Corner) (corner : Corner)
+    → IsReadTo all (x ∷ y ∷ left) corners
     → IsCornerText x y corner → IsReadTo all left (corners ++ corner ∷ [])
 more_corners all left x y corners corner h k =
     one_more_read all (x ∷ y ∷ left) left corners corner h record { x = x; y = y; are_words = refl; is_corner = k }
 
 -- words that are no corners
-same_text : (left rest : List (List ℕ)) (x y : List ℕ) (corner : Corner) → TakesCorner (x ∷ y ∷ left) corner rest → IsCornerText x y corner
+same_text : (left rest : List (List ℕ)) (x y : List ℕ) (corner : Corner) → TakesCorner (x ∷ y ∷ left) corner rest
+    → IsCornerText x y corner
 same_text left rest x y corner t =
     let ex : t.x ≡ x = cc (t.are_words) in
     let ey : t.y ≡ y = cc (t.are_words) in
@@ -31,11 +34,13 @@ even_words : (all : List (List ℕ)) (corners : List Corner) → AreCornerWords 
 even_words all [] h = ap length h
 even_words all (corner ∷ corners) h = omega (arith, even_words h.2 corners h.5, ap length h.3)
 
-pub odd_words : {A : Type 0} (text : A → List ℕ) (words : List A) (corners : List Corner) → (length words % 2 ≡ 0 → ⊥) → ¬ AreCornerWords (map text words) corners
+pub odd_words : {A : Type 0} (text : A → List ℕ) (words : List A) (corners : List Corner) → (length words % 2 ≡ 0 → ⊥)
+    → ¬ AreCornerWords (map text words) corners
 odd_words text words corners odd h = absurd (odd (let e = even_words (map text words) corners h in omega (arith, e, length-map words text)))
 
 -- two words, and those behind them
-pub two_left : (words : List (Bor (List ℕ))) (d : Bor (List ℕ)) (i j k : ℕ) (x y : List ℕ) → x ≡ (get_or words i d).now → y ≡ (get_or words j d).now
+pub two_left : (words : List (Bor (List ℕ))) (d : Bor (List ℕ)) (i j k : ℕ) (x y : List ℕ)
+    → x ≡ (get_or words i d).now → y ≡ (get_or words j d).now
     → j ≡ i + 1 → k ≡ i + 2 → j < length words
     → map (λ word. word.now) (drop i words) ≡ x ∷ y ∷ map (λ word. word.now) (drop k words)
 two_left words d i j k x y hx hy ej ek l =

@@ -251,11 +251,16 @@ fn unit_of(given: &ArgMatches<'_>) -> Option<Unit>
     }
 }
 
+/// What stands below the help: what a run may end with, and where refusals are told in words.
+const STATUSES: &str =
+    "Status 0: all is done. Status 1: a refusal, one line `error: ..`, each of which docs/formats.md tells in words.\nStatus 2: a command line that is not understood.";
+
 fn tool_command<'a>(alloc: Global) -> Result<Command<'a>, AllocError> {
     Command::new(alloc, "parcel_tool")
         .bin_name("parcel_tool")?
         .version("0.1.0")
         .about("Exact answers about parcel layers in shapefiles, in whole centimetres")
+        .after_help(STATUSES)
         .subcommand_required(true)
         .arg_required_else_help(true)
         .subcommand(area_command(alloc)?)?
@@ -389,7 +394,7 @@ fn clerk<'a>(alloc: Global) -> Arg<'a> {
         .action(ArgAction::Append)
         .value_name("FILE")
         .help(
-            "A file of a clerk's edits, which are made first; up to 8, one clerk's after the other's",
+            "A file of a clerk's edits, which are made first; up to 8, all clerks at the same time",
         )
 }
 

@@ -159,8 +159,8 @@ struct Sources {
     clerks: Vec<Vec<u8>>,
 }
 
-/// Reads the files of a run about parcels: the city's, the parcels', and the clerks'. None is opened where there are more
-/// clerks' files than a run takes.
+/// Reads the files of a run about parcels: the city's, the parcels', and the clerks'. None is
+/// opened where there are more clerks' files than a run takes.
 fn read_inputs<'a, R: Files + AllocGlobal>(
     rt: &R,
     inputs: &Inputs<'a>,
