@@ -19,8 +19,8 @@ $ WORDS               the command line, in which \\xFF is a byte; further ones r
 [N]                   the last one's status, 0 where it is left out; the others' is 0
 = NAME: RECIPE        a file that has to stand in the folder then, with these bytes
 ~ NAME ..             all that stands in the folder then
-! HOW                 standard output is `closed` or `full`, standard error is `silent` (closed), there are `N MiB` of memory, or a file
-                      can have `N bytes` at most
+! HOW                 standard output is `closed` or `full`, standard error is `silent` (closed), there are `N MiB` of memory, a file
+                      can have `N bytes` at most, or there are `no threads`: the stack of each would take more memory than there is
 # ..                  a comment
 """
 
@@ -39,6 +39,7 @@ import layers  # noqa: E402
 HERE = os.path.dirname(os.path.abspath(__file__))
 BUILT = os.path.join(HERE, "..", "crates", "parcel_tool", "out", "parcel_tool")
 SECONDS = 60
+THREAD_STACK = 1 << 30
 
 
 class Row:
@@ -100,6 +101,11 @@ def begin(how):
         elif it.endswith(" MiB"):
             most = int(it.split()[0]) << 20
             resource.setrlimit(resource.RLIMIT_AS, (most, most))
+        elif it == "no threads":
+            hard = resource.getrlimit(resource.RLIMIT_STACK)[1]
+            stack = THREAD_STACK if hard == resource.RLIM_INFINITY else min(THREAD_STACK, hard)
+            resource.setrlimit(resource.RLIMIT_STACK, (stack, hard))
+            resource.setrlimit(resource.RLIMIT_AS, (stack // 2, stack // 2))
         elif it.endswith(" bytes"):
             most = int(it.split()[0])
             signal.signal(signal.SIGXFSZ, signal.SIG_IGN)
