@@ -180,8 +180,8 @@ impl<'a, H: Allocator> Hints<'a, H> {
         Ok(hints)
     }
 
-    /// The numbers of the cell that a place is in, of the one to the left or to the right of it, and of the one above or below it,
-    /// whichever are nearer.
+    /// The numbers of the cell that a place is in, of the one to the left or to the right of it, and
+    /// of the one above or below it, whichever are nearer.
     pub(crate) fn near(&self, place: Corner) -> [usize; 3] {
         let column = self.columns.near(place.x);
         let row = self.rows.near(place.y);
