@@ -48,6 +48,12 @@ def spiral(count, side):
     return path if path[0][1] < 0 else path[::-1]
 
 
+def arc(count, side):
+    """A path of count corners from the lower side to the upper one, which turns the same way at each: one part is convex."""
+    heights = [-side + 2 * side * k // (count - 1) for k in range(count)]
+    return [(side // 2 - y * y // (2 * side), y) for y in heights]
+
+
 def pairs(path_of, count, side):
     """122 squares in a row, each cut in two by a path: 244 rings of nearly 4,096 corners."""
     def make(folder):
@@ -90,7 +96,7 @@ CITIES = (("city S", nodes.city("S")), ("city M", nodes.city("M")), ("city L", n
 HOSTILE = (("strips", nodes.strips(0, False)), ("strips, shuffled", nodes.strips(0, True)),
            ("slanted strips", nodes.strips(5 * 10 ** 9, False)), ("strips, cut", nodes.cut(0)), ("slanted, cut", nodes.cut(5)),
            ("rows", nodes.rows), ("corner", nodes.corner), ("zigzags", pairs(zigzag, 4092, 10 ** 6)),
-           ("spirals", pairs(spiral, 4088, 10 ** 6)), ("crossed", nodes.crossed))
+           ("spirals", pairs(spiral, 4088, 10 ** 6)), ("arcs", pairs(arc, 4092, 4 * 10 ** 7)), ("crossed", nodes.crossed))
 
 
 def geos(folder):

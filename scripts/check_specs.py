@@ -2,8 +2,8 @@
 """Fails where a public contract cites a word of the code's own (crates/NAME/specs/own), and counts the lines of
 definitions: those that a reader has to believe, and the code's own.
 
-A contract is public where its function is `pub` and can be reached from the crate's `lib.rt`: it is named in a
-`pub use` there, or is a method of a type that is. A definition beside the own folder may cite nothing of it either.
+A contract is public where its function is `pub` and can be reached from the crate's `lib.rt`: it stands there or in a
+`pub mod` of it, is named in a `pub use` there, or is a method of a type that is. A definition beside the own folder may cite nothing of it either.
 """
 import re
 import sys
@@ -33,6 +33,9 @@ def public_names(crate):
     names = set()
     for tree in re.findall(r"pub use ([^;]*);", root.read_text()):
         names.update(re.findall(r"\w+", tree.split("::", 1)[-1]))
+    handed_out = [root, *(crate / f"src/{name}.rt" for name in re.findall(r"^pub mod (\w+);", root.read_text(), re.M))]
+    for file in handed_out:
+        names.update(re.findall(r"^pub (?:fn|struct|enum|trait|type) (\w+)", file.read_text(), re.M))
     return names
 
 
