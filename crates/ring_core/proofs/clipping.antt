@@ -3,6 +3,7 @@ pub mod Cuts
 pub mod Clipped
 pub mod ClipSteps
 pub mod ClipUnique
+pub mod TakenOnEitherSide
 pub mod TakenOut
 pub mod KindsKept
 pub mod KindsTell

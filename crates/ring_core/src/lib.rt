@@ -9,6 +9,7 @@ mod inner;
 mod kind;
 mod laws;
 mod leaning;
+mod left;
 mod marks;
 mod meeting;
 mod places;

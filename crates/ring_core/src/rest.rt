@@ -6,6 +6,7 @@ ghost use Rattle.geo_exact.specs.First.{HasNone, IsFirst};
 use crate::blocks::{BLOCK_CORNERS, Blocks, Span, blocks_of, close_gap};
 use crate::kind::{Kind, first_ear, first_flat, kinds_of, update_kinds};
 use crate::leaning::LeaningBox;
+use crate::left::Left;
 use crate::marks::{marks_of, numbers_of};
 use crate::seen::Seen;
 use geo_exact::Corner;
@@ -21,7 +22,7 @@ use std::marker::Model;
 /// with a box that held its corners when it was made and holds those that are left.
 #[derive(Debug, Drop)]
 pub struct Rest<A: Allocator> {
-    corners: Vec<Corner, A>,
+    corners: Left<A>,
     numbers: Vec<u16, A>,
     kinds: Vec<Kind, A>,
     marks: Vec<bool, A>,
@@ -38,10 +39,10 @@ impl<A: Allocator> Model for Rest<A> {
 
     ghost Value = { List Corner };
 
-    ghost view = { λ rest. rest.corners.items };
+    ghost view = { λ rest. rest.corners };
 
-    ghost invariant = { λ rest. AreKept rest.corners.items rest.numbers.items rest.kinds.items rest.marks.items rest.seen
-        × AreBlocksOrNone rest.corners.items rest.spans.items rest.boxes.items };
+    ghost invariant = { λ rest. AreKept rest.corners rest.numbers.items rest.kinds.items rest.marks.items rest.seen
+        × AreBlocksOrNone rest.corners rest.spans.items rest.boxes.items };
 }
 
 impl<A: Allocator + Copy> Rest<A> {
@@ -60,7 +61,7 @@ impl<A: Allocator + Copy> Rest<A> {
         let mut list = Vec::new(alloc);
         list.extend_from_slice(corners)?;
         Ok(Rest {
-            corners: list,
+            corners: Left::of(list),
             numbers,
             kinds,
             marks,

@@ -6,7 +6,7 @@ use Rattle.ring_core.proofs.rest.Rest.first_flat.Goals.{then-k-len, else-k-len}
 
 pub returns-clause-flat : goal.returns-clause-flat
 returns-clause-flat g c =
-    let rest = c.self.inside.corners.items in let numbers = c.self.inside.numbers.items in let kinds = c.self.inside.kinds.items in
+    let rest = c.self.inside.corners in let numbers = c.self.inside.numbers.items in let kinds = c.self.inside.kinds.items in
     let k = c.first_flat-k.result in let inv = c.self.invariant.0 in let are = inv.are in
     let has = rw c.as_slice.ensures.value at c.first_flat-k.ensures.flat in
     let none = rw c.as_slice.ensures.value at c.first_flat-k.ensures.none in

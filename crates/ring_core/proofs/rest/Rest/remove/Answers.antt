@@ -31,7 +31,7 @@ update_kinds-self-inside-requires-clause-seen g c =
 
 pub invariant_of-self : goal.invariant_of-self
 invariant_of-self g c =
-    let whole = c.self.inside.corners.items in let numbers = c.self.inside.numbers.items in let kinds = c.self.inside.kinds.items in
+    let whole = c.self.inside.corners in let numbers = c.self.inside.numbers.items in let kinds = c.self.inside.kinds.items in
     let rest = c.as_slice.result.now in let left = c.remove-gone.new.self.items in let gone = c.remove-gone.result in
     let k = c.args.k in let inv = c.self.invariant.0 in let updated = c.update_kinds-self-inside in
     let below : k < length whole = omega (arith, c.requires.below, ap length c.self.view_is) in
@@ -39,7 +39,7 @@ invariant_of-self g c =
     let taken : IsTakenOut whole numbers k gone rest left = record {
       below = below;
       as_many = inv.as_many;
-      is_rest = c.as_slice.ensures.value ∙ c.remove.ensures.items;
+      is_rest = c.as_slice.ensures ∙ c.remove.ensures;
       is_left = c.remove-gone.ensures.items;
       is_gone = get_or_read numbers k gone in_numbers c.remove-gone.ensures.value 0;
     } in
@@ -59,15 +59,15 @@ invariant_of-self g c =
           inv.as_many,
           ap length taken.is_left,
           length-remove numbers k in_numbers,
-          ap length c.remove.ensures.items,
+          ap length c.remove.ensures,
           length-remove whole k below,
         );
-        are = rw (all, ← c.as_slice.ensures.value) made;
+        are = rw (all, ← c.as_slice.ensures) made;
         marked = rw (all, ← c.as_slice-2.ensures.value) updated.ensures.marked;
         seen_so_far = rw all updated.ensures.seen;
       },
       rw (
         take_at spans (drop (length spans) c.self.inside.spans.items) c.self.inside.spans.len as_many,
-        ← c.as_slice.ensures.value,
+        ← c.as_slice.ensures,
       ) blocks,
     )
