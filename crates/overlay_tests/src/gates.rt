@@ -65,6 +65,18 @@ impl Gate for Late {
     }
 }
 
+/// Counts the passes, and holds nobody.
+#[derive(Drop)]
+struct Counting {
+    passes: AtomicU64,
+}
+
+impl Gate for Counting {
+    fn pass(&self, _hand: usize) {
+        self.passes.fetch_add(1, Ordering::SeqCst);
+    }
+}
+
 /// Holds nobody.
 pub struct Open;
 
@@ -102,6 +114,26 @@ fn is_run<H: Allocator + Send + Sync, G: Gate + Sync, R: Threads + Wait + Sync>(
     let sheet = sheet(heap, &SQUARE, rings.0)?;
     let zones = layer(heap, &SQUARE, rings.1)?;
     is_worked_off(rt, heap, &sheet, &zones, sharing, gate, want)
+}
+
+/// A hand passes before each step: before both parcels, and before it finds the end.
+#[test]
+fn passes_before_each_step(rt: HostRuntime) -> Result<(), Fail> {
+    let gate = Counting {
+        passes: AtomicU64::new(0),
+    };
+    assert!(rt;
+        is_run(
+            &rt,
+            &rt.alloc(),
+            (&PARCELS, &HALVES),
+            (1, &[(0, 1), (0, 2)]),
+            &gate,
+            &BOTH
+        )?
+    );
+    assert_eq!(rt; gate.passes.load(Ordering::SeqCst), 3);
+    Ok(())
 }
 
 #[test]

@@ -1,7 +1,7 @@
 //! The tables of rounds, for several sharings and hands.
 
 use crate::loaded::{HALVES, PARCELS, Rings, SQUARE, layer, sheet};
-use crate::steps::{Sharing, begun, do_all, is_closed, tests_of};
+use crate::steps::{Sharing, begun, do_and_count, is_closed};
 use fabric_core::{Layer, Sheet};
 use overlay_work::Step;
 use std::alloc::Allocator;
@@ -36,16 +36,15 @@ pub const STRIPS: [&[Place]; 4] = [
     &[(70, 0), (100, 0), (100, 100), (70, 100)],
 ];
 
-/// A round: its city, parcels, zones and sharing; the hands' steps in order and what each does; how many tests the
-/// hand at a place has
-/// then made; and the pairs of the table.
+/// A round: its city, parcels, zones and sharing; the hands' steps in order, what each does, and how many tests the
+/// hand that made it has made by then; and the pairs of the table.
 struct Row {
     ground: &'static [Place],
     parcels: Rings<'static>,
     zones: Rings<'static>,
     sharing: Sharing<'static>,
     turns: &'static [(usize, Step)],
-    tests: (usize, u64),
+    tests: &'static [u64],
     pairs: &'static [(u64, u64)],
 }
 
@@ -64,7 +63,7 @@ static ROWS: [Row; 9] = [
         zones: &HALVES,
         sharing: (2, &TWO),
         turns: &FIRST_ALONE,
-        tests: (0, 3),
+        tests: &[2, 3, 3],
         pairs: &BOTH,
     },
     Row {
@@ -73,7 +72,7 @@ static ROWS: [Row; 9] = [
         zones: &PARCELS,
         sharing: (2, &TWO),
         turns: &FIRST_ALONE,
-        tests: (0, 4),
+        tests: &[2, 4, 4],
         pairs: &[(1, 1), (2, 2)],
     },
     Row {
@@ -82,7 +81,7 @@ static ROWS: [Row; 9] = [
         zones: &KITES,
         sharing: (2, &TWO),
         turns: &FIRST_ALONE,
-        tests: (0, 4),
+        tests: &[2, 4, 4],
         pairs: &[(1, 1), (2, 1), (2, 2)],
     },
     Row {
@@ -91,7 +90,7 @@ static ROWS: [Row; 9] = [
         zones: &HALVES,
         sharing: (2, &[(0, 1), (0, 2)]),
         turns: &[(1, Step::Did(1)), (1, Step::Did(2)), (1, Step::Done)],
-        tests: (1, 3),
+        tests: &[2, 3, 3],
         pairs: &BOTH,
     },
     Row {
@@ -100,7 +99,7 @@ static ROWS: [Row; 9] = [
         zones: &HALVES,
         sharing: (2, &[(0, 2), (1, 1)]),
         turns: &[(1, Step::Did(1)), (0, Step::Did(2)), (0, Step::Done)],
-        tests: (1, 2),
+        tests: &[2, 1, 1],
         pairs: &BOTH,
     },
     Row {
@@ -109,7 +108,7 @@ static ROWS: [Row; 9] = [
         zones: &HALVES,
         sharing: (64, &[(7, 2), (40, 1)]),
         turns: &[(50, Step::Did(2)), (50, Step::Did(1)), (50, Step::Done)],
-        tests: (50, 3),
+        tests: &[1, 3, 3],
         pairs: &BOTH,
     },
     Row {
@@ -124,7 +123,7 @@ static ROWS: [Row; 9] = [
             (3, Step::Did(3)),
             (3, Step::Done),
         ],
-        tests: (3, 10),
+        tests: &[2, 4, 7, 10, 10],
         pairs: &[(1, 1), (2, 2), (3, 3), (4, 4)],
     },
     Row {
@@ -139,7 +138,7 @@ static ROWS: [Row; 9] = [
             (0, Step::Did(4)),
             (0, Step::Done),
         ],
-        tests: (0, 10),
+        tests: &[2, 5, 8, 10, 10],
         pairs: &[(1, 1), (2, 2), (3, 3), (4, 4)],
     },
     Row {
@@ -148,7 +147,7 @@ static ROWS: [Row; 9] = [
         zones: &RISING,
         sharing: (2, &[(0, 1), (0, 2)]),
         turns: &FIRST_ALONE,
-        tests: (0, 4),
+        tests: &[2, 4, 4],
         pairs: &[(1, 1), (1, 2), (2, 1), (2, 2)],
     },
 ];
@@ -161,10 +160,8 @@ fn is_done<'t, 'h, H: Allocator>(
     row: &Row,
 ) -> Result<bool, Fail> {
     let (round, mut hands) = begun(heap, sheet, zones, row.sharing)?;
-    let is_so = do_all(&round, &mut hands, row.turns);
-    let (at, tests) = row.tests;
-    let is_tested = tests_of(hands.as_slice(), at) == tests;
-    Ok(is_closed(round, hands, row.pairs) && is_so && is_tested)
+    let is_so = do_and_count(&round, &mut hands, row.turns, row.tests);
+    Ok(is_closed(round, hands, row.pairs) && is_so)
 }
 
 /// Whether the round of a row does what the row tells.

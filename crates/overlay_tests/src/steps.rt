@@ -104,6 +104,25 @@ pub fn do_all<'t, 'h, H: Allocator>(
     true
 }
 
+/// The same, and whether each hand has then made so many tests, which are told for each step.
+pub fn do_and_count<'t, 'h, H: Allocator>(
+    round: &Round<'t, 'h, H>,
+    hands: &mut Vec<Hand<'t, 'h, H>, &'h H>,
+    turns: &[(usize, Step)],
+    tests: &[u64],
+) -> bool
+    requires { AreHandsOf round.now hands.old.items }
+    ensures { AreHandsOf round.now hands.new.items }
+{
+    for (turn, count) in turns.iter().zip(tests) {
+        let (at, want) = *turn;
+        if step(round, hands, at) != Some(want) || tests_of(hands.as_slice(), at) != *count {
+            return false;
+        }
+    }
+    turns.len() == tests.len()
+}
+
 /// Whether the round is closed with a table of these pairs.
 pub fn is_closed<'t, 'h, H: Allocator>(
     round: Round<'t, 'h, H>,
