@@ -5,7 +5,7 @@ ghost use Rattle.geo_exact.specs.Point.{Point};
 ghost use Rattle.geo_exact.specs.Turn.{IsOnRing};
 ghost use Rattle.geo_exact.specs.Winding.{winding};
 ghost use Rattle.geo_exact.specs.Area.{area2};
-ghost use Rattle.geo_exact.specs.Order.{corner_cmp};
+ghost use Rattle.geo_exact.specs.own.Sorted.{corner_cmp};
 ghost use Rattle.edge_chains.specs.Noding.{IsNodedEdge, IsNoded, all_corners, AreFullyNoded};
 
 use crate::search::Search;

@@ -4,4 +4,5 @@ pub mod Kept
 pub mod Balanced
 pub mod Books
 pub mod Sides
+pub mod EntryRows
 pub mod Changes

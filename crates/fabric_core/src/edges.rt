@@ -4,7 +4,7 @@ ghost use Rattle.geo_exact.specs.Bounds.{HoldsCorner};
 ghost use Rattle.geo_exact.specs.Layers.{numbered};
 ghost use Rattle.ring_edits.specs.Edits.{with_corner};
 ghost use Rattle.fabric_core.specs.EditResults.{rows_with_edge};
-ghost use Rattle.fabric_core.specs.JournalRows.{rows_of_entry};
+ghost use Rattle.fabric_core.specs.own.EntryRows.{rows_of_entry};
 
 use crate::journal::Row;
 use crate::tiled::Tiled;

@@ -2,7 +2,8 @@
 ghost use Rattle.std.specs.Prelude.{◌≡◌, ◌≢◌, ◌⊎◌, ◌↔◌, IsTrue};
 ghost use Rattle.fabric_core.specs.declared.follow.FollowFault.TheVariants.{NotDue, NoMemory};
 ghost use Rattle.fabric_core.specs.declared.refusal.Refusal.TheVariants.{NoMemory as NoRoom};
-ghost use Rattle.fabric_core.specs.JournalRows.{row_of, rows_of_entry};
+ghost use Rattle.fabric_core.specs.JournalRows.{row_of};
+ghost use Rattle.fabric_core.specs.own.EntryRows.{rows_of_entry};
 
 use crate::journal::{Entry, Row};
 use crate::refusal::Refusal;

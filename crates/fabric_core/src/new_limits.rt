@@ -4,7 +4,7 @@ ghost use Rattle.geo_exact.specs.declared.limits.TheConstants.{LAYER_CORNERS};
 ghost use Rattle.geo_exact.specs.Layers.{corner_count};
 ghost use Rattle.fabric_core.specs.EditResults.{AreWithinLayerLimits};
 ghost use Rattle.fabric_core.specs.Journal.{with_rows, without_ids};
-ghost use Rattle.fabric_core.specs.JournalRows.{rows_of_entry};
+ghost use Rattle.fabric_core.specs.own.EntryRows.{rows_of_entry};
 ghost use Rattle.fabric_core.specs.Rows.{numbers};
 ghost use Rattle.fabric_core.specs.own.Changes.{AddWithin};
 

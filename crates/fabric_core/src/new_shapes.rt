@@ -2,7 +2,7 @@ ghost use Rattle.std.specs.Prelude.{◌≡◌, ◌⊎◌, ◌≤◌, length, IfO
 ghost use Rattle.std.specs.List.{AllByRecursion};
 ghost use Rattle.geo_exact.specs.declared.limits.TheConstants.{LAYER_RECORDS, RING_CORNERS};
 ghost use Rattle.fabric_core.specs.declared.refusal.Refusal.TheVariants.{NoMemory};
-ghost use Rattle.fabric_core.specs.JournalRows.{rows_of_entry};
+ghost use Rattle.fabric_core.specs.own.EntryRows.{rows_of_entry};
 ghost use Rattle.fabric_core.specs.Tiling.{corner_lists};
 ghost use Rattle.fabric_core.specs.own.Changes.{IsRingRefusal, rings_of_shapes};
 

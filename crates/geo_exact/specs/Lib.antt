@@ -14,3 +14,4 @@ pub mod Grid
 pub mod Doubles
 pub mod Bytes
 pub mod Layers
+pub mod own

@@ -1,7 +1,6 @@
 -- Corners as places, and their order by x, then by y (this product's own).
 use Rattle.std.specs.Prelude.{◌≡◌, ◌⊎◌, ◌<ℤ◌, int_lt, Bool, ◌&&◌, ◌||◌, not, List}
-use Rattle.std.specs.declared.cmp.Ordering.{Ordering}
-use Rattle.std.specs.Ordering.{int_eq, int_cmp, ordering_then}
+use Rattle.std.specs.Ordering.{int_eq}
 use Rattle.std.specs.Cmp.{IsEquivalence, and_equiv, on_equiv, int_eq_equiv}
 use Rattle.std.specs.List.{list_any}
 use Rattle.geo_exact.specs.declared.corner.Corner.{Corner}
@@ -21,10 +20,6 @@ is_before a b = int_lt a.x b.x || (int_eq a.x b.x && int_lt a.y b.y)
 -- a comes before b, as a proposition
 abbrev pub IsBefore : Corner → Corner → Type 0
 IsBefore a b = (a.x <ℤ b.x) ⊎ ((a.x ≡ b.x) × (a.y <ℤ b.y))
-
--- the same order, as std's sorting states it
-abbrev pub corner_cmp : Corner → Corner → Ordering
-corner_cmp a b = ordering_then (int_cmp a.x b.x) (int_cmp a.y b.y)
 
 -- none of the corners comes before c
 abbrev pub is_least : List Corner → Corner → Bool

@@ -3,7 +3,7 @@ use Rattle.std.proofs.Common.{List, [], ◌∷◌}
 use Rattle.std.specs.List.Sorted.{IsStrictlySortedBy}
 use Rattle.std.proofs.lemmas.Map.Keys.{sorted_head, sorted_tail}
 use Rattle.geo_exact.specs.declared.corner.Corner.{Corner}
-use Rattle.geo_exact.specs.Order.{corner_cmp}
+use Rattle.geo_exact.specs.own.Sorted.{corner_cmp}
 use Rattle.geo_exact.proofs.corners_and_turns.CornerOrder.{IsBefore, before_from_less}
 use Rattle.edge_chains.proofs.edges.Along.{Chain, IsChain}
 

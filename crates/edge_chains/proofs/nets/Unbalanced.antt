@@ -18,7 +18,8 @@ use Rattle.std.proofs.lemmas.Cmp.{int_cmp_total, on_total, then_total}
 use Rattle.std.specs.Cmp.{IsTotalOrder, IsEquivalence, and_equiv, on_equiv}
 use Rattle.std.specs.Option.{unwrap_or}
 use Rattle.geo_exact.specs.declared.corner.Corner.{Corner}
-use Rattle.geo_exact.specs.Order.{is_before, is_same_equivalence, corner_cmp}
+use Rattle.geo_exact.specs.Order.{is_before, is_same_equivalence}
+use Rattle.geo_exact.specs.own.Sorted.{corner_cmp}
 use Rattle.geo_exact.proofs.corners_and_turns.CornerOrder.{corner_cmp_total, corner_ties, same_from_test, before_from_less}
 use Rattle.edge_chains.specs.Counts.{Counts, is_edge_before, is_same_edge, number_at, net_at, AreCounts}
 use Rattle.edge_chains.specs.Unbalanced.{AreInEdgeOrder, AreUnbalanced}

@@ -15,7 +15,8 @@ use Rattle.geo_exact.proofs.rings.EdgeSums.{edge_of}
 use Rattle.edge_chains.specs.Noding.{AreAlong, IsNodedEdge, AreNodedEdges, IsNoded}
 use Rattle.geo_exact.specs.Segments.{IsStrictlyInside}
 use Rattle.edge_chains.specs.own.Steps.{AreInside}
-use Rattle.geo_exact.specs.Order.{corner_cmp, is_before}
+use Rattle.geo_exact.specs.Order.{is_before}
+use Rattle.geo_exact.specs.own.Sorted.{corner_cmp}
 use Rattle.geo_exact.proofs.corners_and_turns.CornerOrder.{IsBefore, cases_of, Decides-is_before, same_unless_before}
 use Rattle.edge_chains.proofs.edges.Along.{LeadsOn, IsChain, IsChain-weaker, IsChain-reverse, leads_on_up, leads_on_down, along}
 use Rattle.edge_chains.proofs.edges.Parts.{edge_has_length}

@@ -7,7 +7,7 @@ use Rattle.std.specs.declared.cmp.Ordering.{Ordering}
 use Rattle.std.specs.Ordering.{int_cmp, ordering_then, is_lt}
 use Rattle.std.specs.List.Sorted.{IsSorted}
 use Rattle.geo_exact.specs.declared.corner.Corner.{Corner}
-use Rattle.geo_exact.specs.Order.{corner_cmp}
+use Rattle.geo_exact.specs.own.Sorted.{corner_cmp}
 use Rattle.edge_chains.specs.declared.lines.Ranked.{Ranked}
 
 -- how far a corner lies across the direction, times the direction's length: corners on one line along it have one rank

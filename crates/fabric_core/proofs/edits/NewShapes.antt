@@ -9,7 +9,8 @@ use Rattle.ring_core.specs.declared.shape.Shape.{Shape}
 use Rattle.ring_core.specs.Simple.{IsSimpleRing}
 use Rattle.ring_core.specs.Faults.{IsRingFault}
 use Rattle.fabric_core.specs.declared.journal.Row.{Row}
-use Rattle.fabric_core.specs.JournalRows.{row_of, rows_of_entry}
+use Rattle.fabric_core.specs.JournalRows.{row_of}
+use Rattle.fabric_core.specs.own.EntryRows.{rows_of_entry}
 use Rattle.fabric_core.specs.Refusals.{IsFirstBadRing}
 use Rattle.fabric_core.specs.Tiling.{corner_lists}
 use Rattle.fabric_core.specs.own.Changes.{rings_of_shapes}

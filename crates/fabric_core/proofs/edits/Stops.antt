@@ -12,7 +12,7 @@ use Rattle.ring_edits.specs.declared.fault.EditFault.TheVariants.{SharedTwice as
 use Rattle.ring_edits.specs.Edits.{IsBorderFault, IsBadBorder}
 use Rattle.fabric_core.specs.declared.journal.Row.{Row}
 use Rattle.fabric_core.specs.declared.refusal.Refusal.{Refusal}
-use Rattle.fabric_core.specs.JournalRows.{rows_of_entry}
+use Rattle.fabric_core.specs.own.EntryRows.{rows_of_entry}
 use Rattle.fabric_core.specs.Rows.{numbers}
 use Rattle.fabric_core.specs.Refusals.{AreParcels}
 use Rattle.fabric_core.specs.own.Changes.{state_of, IsGone, IsStopped, IsBorderRefusal, IsMoveRefusal, refusal_of}

@@ -10,7 +10,8 @@ use Rattle.geo_exact.specs.declared.limits.TheConstants.{LAYER_CORNERS, RING_COR
 use Rattle.geo_exact.specs.Layers.{NumberedRing, numbered, corner_count}
 use Rattle.fabric_core.specs.own.Balanced.{Ascend}
 use Rattle.fabric_core.specs.declared.journal.Row.{Row}
-use Rattle.fabric_core.specs.JournalRows.{row_of, rows_of_entry}
+use Rattle.fabric_core.specs.JournalRows.{row_of}
+use Rattle.fabric_core.specs.own.EntryRows.{rows_of_entry}
 use Rattle.fabric_core.specs.EditResults.{AreWithinLayerLimits}
 use Rattle.fabric_core.specs.Journal.{without_ids, with_row, with_rows}
 use Rattle.fabric_core.specs.own.Changes.{AddWithin}

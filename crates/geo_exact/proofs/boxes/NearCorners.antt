@@ -44,7 +44,7 @@ module _ (k : ℤ) (h : pos 0 <ℤ (k +ℤ pos 2)) (a b c : Corner) where
 
 -- ---- so many parts that the place is beyond what the corner is beyond
 abbrev parts : ℤ
-parts = pos 50000000000
+parts = pos (5 * limit)
 
 low_beyond : (l u v z : ℤ) → IsWithin limit u → IsWithin limit v → IsWithin limit z → z <ℤ l
     → (parts *ℤ z +ℤ u +ℤ v) <ℤ (l *ℤ (parts +ℤ pos 2))

@@ -13,7 +13,8 @@ use Rattle.geo_exact.specs.declared.corner.Corner.{Corner}
 use Rattle.geo_exact.proofs.numbers.Orders.{Decides-int_lt}
 use Rattle.geo_exact.proofs.corners_and_turns.SameCorner.{corner_same}
 pub use Rattle.geo_exact.specs.Order.{IsBefore}
-use Rattle.geo_exact.specs.Order.{is_same, is_before, corner_cmp}
+use Rattle.geo_exact.specs.Order.{is_same, is_before}
+use Rattle.geo_exact.specs.own.Sorted.{corner_cmp}
 
 -- a test that decides a fact leaves two cases
 pub cases_of : {P : Type 0} (r : Bool) → Decides r P → P ⊎ (r ≡ false)

@@ -9,7 +9,8 @@ use Rattle.fabric_core.specs.declared.journal.TheConstants.{JOURNAL_ENTRIES}
 use Rattle.fabric_core.specs.declared.refusal.Refusal.TheVariants.{NoMemory}
 use Rattle.fabric_core.specs.EditResults.{AreWithinLayerLimits, IsChange}
 use Rattle.fabric_core.specs.Journal.{with_rows, without_ids}
-use Rattle.fabric_core.specs.JournalRows.{row_of, rows_of_entry}
+use Rattle.fabric_core.specs.JournalRows.{row_of}
+use Rattle.fabric_core.specs.own.EntryRows.{rows_of_entry}
 use Rattle.fabric_core.specs.Refusals.{IsChangeRefusal}
 use Rattle.fabric_core.specs.own.Changes.{IsDraftRefusal, IsRingRefusal, state_of}
 use Rattle.fabric_core.proofs.edits.Drafts.{out_here, out_apart, all_here, news_short, news_few, simple_news}

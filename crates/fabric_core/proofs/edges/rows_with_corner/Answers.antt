@@ -8,7 +8,8 @@ use Rattle.std.proofs.lemmas.List.Elements.{Contains-get_or}
 use Rattle.geo_exact.specs.Layers.{numbered}
 use Rattle.geo_exact.proofs.boxes.InBoxes.{Decides-holds_corner}
 use Rattle.ring_edits.specs.Edits.{has_edge_between, with_corner}
-use Rattle.fabric_core.specs.JournalRows.{row_of, rows_of_entry}
+use Rattle.fabric_core.specs.JournalRows.{row_of}
+use Rattle.fabric_core.specs.own.EntryRows.{rows_of_entry}
 use Rattle.fabric_core.proofs.rows.RowLists.{ascending}
 use Rattle.fabric_core.proofs.edits.WithEdge.{ArePut, none_put, put_one, put_none, all_put, above_before}
 use Rattle.fabric_core.proofs.edits.WithEdge.{edge_is_candidate, edge_off, edge_on, off_the_box}

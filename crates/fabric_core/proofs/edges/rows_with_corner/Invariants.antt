@@ -1,5 +1,5 @@
 use Rattle.std.proofs.Common.{take}
-use Rattle.fabric_core.specs.JournalRows.{rows_of_entry}
+use Rattle.fabric_core.specs.own.EntryRows.{rows_of_entry}
 use Rattle.fabric_core.proofs.edits.WithEdge.{ArePut}
 use Rattle.fabric_core.proofs.edges.rows_with_corner.Given as goal
 

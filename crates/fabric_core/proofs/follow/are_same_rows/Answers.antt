@@ -1,5 +1,6 @@
 use Rattle.std.proofs.Common.{◌≡◌, add-one}
-use Rattle.fabric_core.specs.JournalRows.{row_of, rows_of_entry}
+use Rattle.fabric_core.specs.JournalRows.{row_of}
+use Rattle.fabric_core.specs.own.EntryRows.{rows_of_entry}
 use Rattle.fabric_core.proofs.rows.SameRows.{same_step, same_at}
 use Rattle.fabric_core.proofs.follow.are_same_rows.Goals as goal
 

@@ -3,7 +3,8 @@ use Rattle.std.specs.List.{AllByRecursion}
 use Rattle.std.proofs.lemmas.Bool.{false≢true}
 use Rattle.geo_exact.specs.declared.limits.TheConstants.{RING_CORNERS}
 use Rattle.geo_exact.specs.Layers.{NumberedRing, corner_count}
-use Rattle.fabric_core.specs.JournalRows.{row_of, rows_of_entry}
+use Rattle.fabric_core.specs.JournalRows.{row_of}
+use Rattle.fabric_core.specs.own.EntryRows.{rows_of_entry}
 use Rattle.fabric_core.proofs.rows.Lists.{AllByRecursion-push, corner_count-append}
 use Rattle.fabric_core.proofs.rows.NewLimits.{entry_more, one_too_long, all_too_long}
 use Rattle.fabric_core.proofs.new_limits.add_within.Goals.{then-count-gt-RING_CORNERS-via-then-count-gt-RING_CORNERS}

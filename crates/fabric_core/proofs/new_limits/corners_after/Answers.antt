@@ -1,7 +1,7 @@
 use Rattle.std.proofs.Common.{ap, arith}
 use Rattle.geo_exact.specs.Layers.{corner_count}
 use Rattle.fabric_core.specs.Journal.{without_ids}
-use Rattle.fabric_core.specs.JournalRows.{rows_of_entry}
+use Rattle.fabric_core.specs.own.EntryRows.{rows_of_entry}
 use Rattle.fabric_core.proofs.rows.NewLimits.{with_rows_corners}
 use Rattle.fabric_core.proofs.new_limits.corners_after.Goals as goal
 

@@ -1,6 +1,7 @@
 use Rattle.std.proofs.Common.{ap, arith, take, ◌∷◌, []}
 use Rattle.geo_exact.specs.Layers.{corner_count}
-use Rattle.fabric_core.specs.JournalRows.{row_of, rows_of_entry}
+use Rattle.fabric_core.specs.JournalRows.{row_of}
+use Rattle.fabric_core.specs.own.EntryRows.{rows_of_entry}
 use Rattle.fabric_core.proofs.rows.Lists.{corner_count-append}
 use Rattle.fabric_core.proofs.rows.NewLimits.{entry_more, up_to}
 use Rattle.fabric_core.proofs.new_limits.count.Goals as goal

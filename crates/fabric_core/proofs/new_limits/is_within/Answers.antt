@@ -4,7 +4,7 @@ use Rattle.std.specs.List.{list_any}
 use Rattle.std.proofs.lemmas.List.{length-map}
 use Rattle.geo_exact.specs.Layers.{NumberedRing}
 use Rattle.fabric_core.specs.Journal.{without_ids}
-use Rattle.fabric_core.specs.JournalRows.{rows_of_entry}
+use Rattle.fabric_core.specs.own.EntryRows.{rows_of_entry}
 use Rattle.fabric_core.proofs.rows.NewLimits.{fewer_corners, changed_within}
 use Rattle.fabric_core.proofs.new_limits.is_within.Goals as goal
 
