@@ -1,5 +1,5 @@
 -- A counterclockwise triangle that goes round no place beyond a box lies in the box: near each of its corners are places inside it.
-use Rattle.std.proofs.Common.{◌≡◌, refl, arith, [], ◌∷◌, inl, inr}
+use Rattle.std.proofs.Common.{◌≡◌, ◌*◌, refl, arith, [], ◌∷◌, inl, inr}
 use Rattle.std.proofs.lemmas.Int.{ints, by_lt_z}
 use lib.IntN.{ℤ, pos, ◌+ℤ◌, ◌*ℤ◌}
 use lib.Signed.{◌<ℤ◌, ◌≤ℤ◌}
