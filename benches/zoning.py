@@ -59,8 +59,8 @@ def crosswise(folder):
 
 
 def stairs(folder):
-    """65,536 squares, and two zones with a border of 4,090 corners between them."""
-    side, steps = 256 * 16, 2045
+    """65,536 squares, and two zones of 4,096 corners with a border of 4,094 between them."""
+    side, steps = 256 * 16, 2047
     squares = [nodes.box(16 * i, 16 * j, 16 * (i + 1), 16 * (j + 1)) for j in range(256) for i in range(256)]
     border = [(x, y) for k in range(steps) for x, y in ((k + 1, k), (k + 1, k + 1))]
     low = [(0, 0)] + [(1, 0)] + border[1:]
