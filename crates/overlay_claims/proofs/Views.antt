@@ -9,7 +9,7 @@ use Rattle.std.proofs.lemmas.List.Sorted.{IsPermutation-append_comm}
 use mathlib.Core.Option.{some, some-ne-none, some-injective}
 use lib.ListN.{get_elem?}
 use Rattle.overlay_claims.specs.declared.view.View.{View}
-use Rattle.overlay_claims.specs.Claims.{places_of, notes_of, parts_of, times, IsFit}
+use Rattle.overlay_claims.specs.Claims.{places_of, notes_of, parts_of, times, IsFit, IsClaimed}
 
 module _ {X : Type 0} where
   -- two parts in front change places
@@ -119,3 +119,12 @@ whole_places lengths (x ∷ views) (suc i) v fit at whole =
     let mine = at_in (λ (view : View). view.parts) views i v at in
     let here : x.places ≡ [] = fit.0.spent (omega (arith, parts, mine, whole)) in
     ap (λ l. l ++ places_of views) here ∙ whole_places lengths views i v fit.1 at (omega (arith, parts, whole))
+
+-- a word is at most its list's length and the number of the hands
+pub word_is_bounded : (lengths words : List ℕ) (views : List View) (list : ℕ) → IsClaimed lengths words views
+    → slice_index words list ≤ slice_index lengths list + length lengths
+word_is_bounded lengths words views list claimed =
+    let bound = claimed.not_beyond list in
+    let few = few_notes_in_all lengths list views claimed.fit in
+    let whole = claimed.whole in
+    omega (arith, bound, few, whole)

@@ -4,11 +4,13 @@
 mod claimant;
 mod claims;
 mod gathering;
+mod laws;
 mod plays;
 mod view;
 
 pub use claimant::{Claimant, open};
 pub use claims::Claims;
 pub use gathering::Gathering;
+pub use laws::no_word_passes_its_list_by_more_than_the_hands;
 pub use plays::{Claim, Confirm, PartOff, Rule, Together};
 pub use view::View;
