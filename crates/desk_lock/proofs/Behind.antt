@@ -52,6 +52,14 @@ module _ {A : Type 0} where
       → book.journal ≡ origin.journal ++ behind origin book.journal
   journal_is origin book of = both_parts origin.journal book.journal of.begins
 
+  -- what is shown of what was handed on, behind the journal of the fabric that was handed in, begins the journal
+  pub shown_begins : (origin : Origin A) (book : Book A) (shown handed : List (JournalEntry A)) → IsOfOrigin origin book
+      → IsPrefix shown handed → IsPrefix handed (behind origin book.journal) → IsPrefix (origin.journal ++ shown) book.journal
+  shown_begins origin book shown handed of begins on =
+      subst (IsPrefix (origin.journal ++ shown)) (sym (journal_is origin book of))
+      (begins_behind origin.journal shown (behind origin book.journal)
+      (begins_whole shown handed (behind origin book.journal) begins on))
+
   -- the fabric that is handed in comes of itself
   pub of_itself : (origin : Origin A) (book : Book A) → origin_of book ≡ origin → IsOfOrigin origin book
   of_itself origin book is = record {

@@ -62,7 +62,7 @@ impl<'a, H: Allocator, J: Naming<H>, R: Wait + Drop> Model for Desk<'a, H, J, R>
 impl<'a, H: Allocator, J: Naming<H>, R: Wait + Drop> Desk<'a, H, J, R> {
     /// The desk's fabric tiles its city, its index and journal agree with its rows, and it comes of
     /// the fabric that was handed to the office, with entries of the office's clerks alone behind
-    /// those of that fabric.
+    /// those of that fabric. What is published begins its journal.
     pub fn tiles(&self)
         ensures tiling { IsTiling self.now.book.now.rows self.now.book.city }
         ensures simple { AreSimple self.now.book.now.rows }
@@ -73,8 +73,10 @@ impl<'a, H: Allocator, J: Naming<H>, R: Wait + Drop> Desk<'a, H, J, R> {
         ensures origin { IsOfOrigin J.office.origin self.now.book }
         ensures entries { self.now.book.journal ≡ J.office.origin.journal ++ self.now.entries }
         ensures of_clerks { All (λ entry. IsClerk J.office.clerks entry.clerk) self.now.entries }
+        ensures published { IsPrefix self.now.published self.now.book.journal }
     {
         self.fabric.tiles();
+        self.publisher.begins();
     }
 
     /// Makes an edit by the card's clerk, as [`Fabric::edit`] does; the card counts it.

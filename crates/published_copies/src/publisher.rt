@@ -1,4 +1,5 @@
 ghost use Rattle.std.specs.Prelude.{◌≡◌, ◌+◌, ◌<◌, ◌^◌, [], ◌∷◌, ◌++◌, length, None, IfOk, IfErr, IfSome, IfNone, OnOk, OnErr, MatchBool};
+ghost use mathlib.Core.List.{IsPrefix};
 ghost use Rattle.published_copies.specs.own.Keeping.{waiting_list};
 
 use crate::copies::Copies;
@@ -124,6 +125,13 @@ impl<F: Follows<E>, E: Drop, J: Naming, R: Wait + Drop, A: Allocator> Publisher<
             return None;
         };
         Some(self.front.again())
+    }
+
+    /// What the published copy has followed begins what was handed on.
+    pub fn begins(&self)
+        ensures { IsPrefix self.now.shown self.now.handed }
+    {
+        let _ = &self.copies;
     }
 
     /// Ends the publishing. Who reads then finds the copy that was published last, or none.
