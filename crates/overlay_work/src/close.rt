@@ -1,6 +1,7 @@
-ghost use Rattle.std.specs.Prelude.{◌≡◌, ◌⊎◌, IfOk, IfErr, IsErrAnd, OnOk, flat_map, IsPermutation};
+ghost use Rattle.std.specs.Prelude.{◌≡◌, ◌⊎◌, IfOk, IfErr, IsErrAnd, OnOk, map, length, flat_map, IsPermutation};
 ghost use Rattle.fabric_core.specs.Rows.{numbers};
 ghost use Rattle.zone_tables.specs.Overlap.{IsOverlapTable};
+ghost use Rattle.overlay_claims.specs.Claims.{all_places};
 ghost use Rattle.overlay_work.specs.declared.close.CloseFault.{CloseFault};
 ghost use Rattle.overlay_work.specs.declared.close.CloseFault.TheVariants.{NoMemory};
 ghost use Rattle.overlay_work.specs.Rounds.{AreHandsOf};
@@ -62,7 +63,9 @@ impl<'t, 'h, H: Allocator> Round<'t, 'h, H> {
         ensures rows { IfOk result (λ table. (table.rows ≡ self.entry.rows) × (table.zones ≡ self.entry.zones)) }
         ensures city { IfOk result (λ table. table.city ≡ self.entry.city) }
         ensures entries { IfOk result (λ table. table.entries ≡ self.entry.entries) }
-        // Each parcel stands once in what the hands did.
+        // Each place of the lists was claimed by one hand, once, and each parcel done by one, once.
+        ensures claimed { OnOk result (IsPermutation (flat_map (λ hand. hand.claimed) hands.entry.items)
+            (all_places 0 (map (λ list. length list) self.entry.lists))) }
         ensures once { OnOk result (IsPermutation (flat_map (λ hand. hand.did) hands.entry.items) (numbers self.entry.rows)) }
         ensures back { IfErr result (λ back. (back.round ≡ self.entry) × (back.hands.items ≡ hands.entry.items)) }
         // A fault that is answered is the round's, or memory is wanting; and a round with a fault is
@@ -101,6 +104,8 @@ impl<'t, 'h, H: Allocator> Round<'t, 'h, H> {
         ensures rows { (result.rows ≡ self.entry.rows) × (result.zones ≡ self.entry.zones) }
         ensures city { result.city ≡ self.entry.city }
         ensures entries { result.entries ≡ self.entry.entries }
+        ensures claimed { IsPermutation (flat_map (λ hand. hand.claimed) hands.entry.items)
+            (all_places 0 (map (λ list. length list) self.entry.lists)) }
         ensures once { IsPermutation (flat_map (λ hand. hand.did) hands.entry.items) (numbers self.entry.rows) }
     {
         let work = self.work();

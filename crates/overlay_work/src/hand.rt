@@ -189,6 +189,7 @@ impl<'t, 'h, H: Allocator> Hand<'t, 'h, H> {
     pub(crate) fn into_claimant(self) -> Claimant
         requires { self.holds ≡ None }
         ensures claims { result.lists ≡ self.entry.task.claims }
+        ensures claimed { result.places ≡ self.entry.claimed }
         ensures did { ids_at self.entry.task.lists result.places ≡ self.entry.did }
         ensures ended { result.ended ≡ self.entry.ended }
     {

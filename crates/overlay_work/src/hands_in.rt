@@ -1,8 +1,9 @@
 //! What hands that are handed in show, and what they did together.
 
-ghost use Rattle.std.specs.Prelude.{◌≡◌, ◌↔◌, List, [], ◌∷◌, ◌++◌, false, length, IsTrue, None, Some, IfOk, IfErr, OnOk, MatchOption, flat_map, IsPermutation};
+ghost use Rattle.std.specs.Prelude.{◌≡◌, ◌↔◌, List, [], ◌∷◌, ◌++◌, false, length, IsTrue, None, Some, IfOk, IfErr, OnOk, MatchOption, map, flat_map, IsPermutation};
 ghost use Rattle.std.specs.List.{AllByRecursion};
 ghost use Rattle.fabric_core.specs.Rows.{numbers};
+ghost use Rattle.overlay_claims.specs.Claims.{all_places};
 ghost use Rattle.overlay_work.specs.Rounds.{Progress, HasAllEnds, AreHandsOf};
 ghost use Rattle.overlay_work.specs.Faults.{IsCloseFault, IsLeastHolding, HoldNothing};
 ghost use Rattle.overlay_work.specs.own.Gathered.{AreDone, LeastIs, SomeHasAllEnds, ArePairsOfHands};
@@ -84,14 +85,16 @@ pub(crate) fn all_pairs<'t, 'h, H: Allocator>(
     Ok(pairs)
 }
 
-/// Puts together what the hands claimed: each parcel was claimed by one of them, once.
+/// Puts together what the hands claimed: each place was claimed by one of them, once, and each parcel done by one.
 pub(crate) fn confirm<'t, 'h, H: Allocator>(
     work: &Work<'t, 'h, H>,
     hands: Vec<Hand<'t, 'h, H>, &'h H>,
 )
     requires at_work { AreHandsOf work.now hands.items }
     requires done { AreDone work.now hands.items }
-    ensures { IsPermutation (flat_map (λ hand. hand.did) hands.entry.items) (numbers work.now.rows) }
+    ensures claimed { IsPermutation (flat_map (λ hand. hand.claimed) hands.entry.items)
+        (all_places 0 (map (λ list. length list) work.now.lists)) }
+    ensures did { IsPermutation (flat_map (λ hand. hand.did) hands.entry.items) (numbers work.now.rows) }
 {
     work.stands();
     let claims = work.claims();

@@ -3,10 +3,10 @@ use Rattle.std.proofs.Common.{append-nil}
 use Rattle.std.specs.Prelude.{IsPermutation}
 use Rattle.std.proofs.lemmas.List.{length-map}
 use Rattle.fabric_core.specs.Rows.{numbers}
-use Rattle.overlay_claims.specs.Claims.{times}
+use Rattle.overlay_claims.specs.Claims.{all_places, times}
 use Rattle.overlay_work.specs.Rounds.{Task}
 use Rattle.overlay_work.specs.own.Kept.{ids_at}
-use Rattle.overlay_work.specs.own.Gathered.{did_by, ended_by, AreReady}
+use Rattle.overlay_work.specs.own.Gathered.{claimed_by, did_by, ended_by, AreReady}
 use Rattle.overlay_work.proofs.ZonesFound.{member_of_all}
 use Rattle.overlay_work.proofs.Starts.{no_items}
 use Rattle.overlay_work.proofs.EachIdOnce.{are_ready, all_ended, all_claimed_once}
@@ -28,6 +28,8 @@ loop-hand-init g c =
     record {
       lists = ap (λ a. a.lists) all ∙ c.into_claimant.ensures.claims ∙ ap (λ (t : Task). t.claims) ready.0;
       count = (let one = ap (λ a. a.hands) all in let long = ap length whole in omega (arith, one, long));
+      claimed = ap (λ a. a.places ++ claimed_by rest) all ∙ ap (λ l. l ++ claimed_by rest) c.into_claimant.ensures.claimed
+          ∙ sym (ap claimed_by whole);
       did = ap (λ l. l ++ did_by rest) did ∙ sym (ap did_by whole);
       ended = ap (λ a. a.ended ++ ended_by rest) all ∙ ap (λ l. l ++ ended_by rest) c.into_claimant.ensures.ended
           ∙ sym (ap ended_by whole);
@@ -50,8 +52,22 @@ confirm-requires-clause-all_ends g c list less =
     subst (λ l. 0 < times list l) (sym ended) (all_ended task hands done.0 done.1
     (member_of_all (λ hand. hand.task ≡ task) hands done.0 c.requires.at_work done.1) done.2 list (omega (arith, less, many)))
 
-pub returns : goal.returns
-returns g c =
+pub returns-clause-claimed : goal.returns-clause-claimed
+returns-clause-claimed g c =
+    let task = c.args.work.now in
+    let hands = c.args.hands.items in
+    let rest = c.loop-hand.hand-iterator.rest in
+    let count : length rest.items ≡ 0 = search (rules, c.in-None.ensures.steps.0) in
+    let none : rest.items ≡ [] = no_items rest.items count in
+    let claimed : c.loop-hand.all.places ≡ claimed_by hands =
+    sym (append-nil c.loop-hand.all.places) ∙ ap (λ l. c.loop-hand.all.places ++ claimed_by l) (sym none) ∙ c.loop-hand.invariant.claimed in
+    let lengths : c.claims-claims.result.now.lengths ≡ map (λ (l : List ℕ). length l) task.lists =
+    ap (λ l. l.lengths) c.claims-claims.ensures ∙ c.stands.ensures.lengths in
+    subst (λ l. IsPermutation (claimed_by hands) (all_places 0 l)) lengths
+    (subst (λ l. IsPermutation l (all_places 0 c.claims-claims.result.now.lengths)) claimed c.confirm.ensures.all_once)
+
+pub returns-clause-did : goal.returns-clause-did
+returns-clause-did g c =
     let task = c.args.work.now in
     let hands = c.args.hands.items in
     let rest = c.loop-hand.hand-iterator.rest in

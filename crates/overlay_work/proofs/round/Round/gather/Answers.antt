@@ -17,7 +17,7 @@ gather-requires-clause-table g c =
     let zones : c.zones-zones.result.now.rows ≡ task.zones = c.zones-zones.ensures.zones ∙ ap (λ (t : Task). t.zones) same in
     let up : IsStrictlyIncreasing (numbers task.rows) = subst (λ l. IsStrictlyIncreasing (numbers l)) rows
     (subst IsStrictlyIncreasing c.ids.ensures.ids c.ids.ensures.ascending) in
-    let once = subst (λ (t : Task). IsPermutation (did_by hands) (numbers t.rows)) same c.confirm.ensures in
+    let once = subst (λ (t : Task). IsPermutation (did_by hands) (numbers t.rows)) same c.confirm.ensures.did in
     let pairs = c.requires.pairs in
     let table = is_table task hands pairs.kept c.args.pairs.items up c.requires.at_work pairs.are_pairs once pairs.moved pairs.ordered in
     subst (λ r. IsOverlapTable r c.zones-zones.result.now.rows c.args.pairs.items) (sym rows)
