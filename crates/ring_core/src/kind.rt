@@ -1,19 +1,21 @@
-ghost use Rattle.std.specs.Prelude.{◌≡◌, ◌≢◌, ◌⊎◌, ◌↔◌, ℕ, ◌<◌, ◌≤◌, Bool, IfOk, IsTrue, MatchOption};
+ghost use Rattle.std.specs.Prelude.{◌≡◌, ◌≢◌, ◌⊎◌, ◌↔◌, ℕ, ◌<◌, ◌≤◌, IfOk, IsTrue, MatchOption};
 ghost use Rattle.std.specs.Prelude.{List, length, slice_index_or};
+ghost use Rattle.std.specs.List.Sorted.{IsNonDecreasing};
 ghost use Rattle.geo_exact.specs.declared.corner.Corner.{Corner};
 ghost use Rattle.geo_exact.specs.First.{HasNone, IsFirst};
 ghost use Rattle.geo_exact.specs.Places.{before};
 ghost use Rattle.ring_core.specs.Boxes.{HoldsTriangle};
 ghost use Rattle.ring_core.specs.Clipping.{Blocks, IsEar, IsFlat, IsInTriangle, IsTriangleAt};
+ghost use Rattle.ring_core.specs.declared.marks.Reach.{Reach as ReachValue};
 ghost use Rattle.ring_core.specs.own.Blocks.{AreBlocksOrNone};
 ghost use Rattle.ring_core.specs.own.Kinds.{AreKinds, IsKind, IsTakenOut, TurnsLeft, WasBeside, number_before};
-ghost use Rattle.ring_core.specs.own.Kinds.{AreMarked, AreSeen, IsMarked, IsSameOrCandidate};
+ghost use Rattle.ring_core.specs.own.Kinds.{AreMarked, AreSeen, IsReleased};
 
 use crate::blocks::Span;
 use crate::boxes::bounds_of;
 use crate::ear::{corner_after, corner_before, is_flat, is_in_triangle, is_left, triangle_at};
 use crate::leaning::LeaningBox;
-use crate::marks::{is_marked, mark};
+use crate::marks::{Reach, first_place, mark, reach_of};
 use crate::places::{following, preceding};
 use crate::seen::Seen;
 use crate::triangle::Tri;
@@ -60,7 +62,7 @@ pub fn kind_at(corners: &[Corner], k: usize) -> Kind
 /// [`AllocError`] where an allocation is refused.
 pub fn kinds_of<A: Allocator>(alloc: A, corners: &[Corner]) -> Result<Vec<Kind, A>, AllocError>
     ensures are { IfOk result (λ kinds. (numbers : List ℕ) → AreKinds corners.now numbers kinds.items) }
-    ensures unblocked { IfOk result (λ kinds. (marks : List Bool) → AreMarked kinds.items marks) }
+    ensures unblocked { IfOk result (λ kinds. (numbers : List ℕ) (marks : List ReachValue) → AreMarked kinds.items numbers marks) }
 {
     let mut kinds = Vec::with_capacity(alloc, corners.len())?;
     for k in 0..corners.len() {
@@ -175,24 +177,24 @@ fn witness_of(corners: &[Corner], k: usize, spans: &[Span], boxes: &[LeaningBox]
 }
 
 /// The first ear, where no candidate is before number `start`: the first candidate that has no witness.
-/// Those before it are blocked by theirs, whose numbers are marked. The answer is the number of
+/// Those before it are blocked by theirs, whose marks tell of them. The answer is the number of
 /// corners where there is none.
 pub fn first_ear(
     corners: &[Corner],
     numbers: &[u16],
     kinds: &mut [Kind],
-    marks: &mut [bool],
+    marks: &mut [Reach],
     start: usize,
     spans: &[Span],
     boxes: &[LeaningBox],
 ) -> usize
     requires as_many { length numbers.now ≡ length corners.now }
     requires kinds { AreKinds corners.now numbers.now kinds.old }
-    requires marked { AreMarked kinds.old marks.old }
+    requires marked { AreMarked kinds.old numbers.now marks.old }
     requires seen { (j : ℕ) → j < start → j < length kinds.old → slice_index_or kinds.old j Kind.Flat ≢ Kind.Candidate }
     requires blocks { AreBlocksOrNone corners.now spans.now boxes.now }
     ensures kinds { AreKinds corners.now numbers.now kinds.new }
-    ensures marked { AreMarked kinds.new marks.new }
+    ensures marked { AreMarked kinds.new numbers.now marks.new }
     ensures others { (j : ℕ) → slice_index_or kinds.new j Kind.Flat ≡ Kind.Flat → slice_index_or kinds.old j Kind.Flat ≡ Kind.Flat }
     ensures seen { (j : ℕ) → j < result → j < length kinds.new → slice_index_or kinds.new j Kind.Flat ≢ Kind.Candidate }
     ensures within { result ≤ length corners.now }
@@ -204,50 +206,38 @@ pub fn first_ear(
             let Some(j) = witness_of(corners, k, spans, boxes) else {
                 return k;
             };
-            let number = numbers[j];
-            kinds[k] = Kind::Blocked(number);
-            mark(marks, number);
+            let witness = numbers[j];
+            kinds[k] = Kind::Blocked(witness);
+            mark(marks, witness, numbers[k]);
         }
     }
     kinds.len()
 }
 
-/// Makes those candidates again whose witness had the number `gone`, that of the corner that was taken
-/// out at `k`: the kinds away from the gap are then up to date.
-fn release_all(kinds: &mut [Kind], gone: u16)
-    ensures kept { (whole rest : List Corner) (numbers left : List ℕ) (k : ℕ)
-        → IsTakenOut whole numbers k gone rest left → length kinds.old ≡ length rest
-        → ((j : ℕ) → j < length rest → IsKind whole numbers (number_before k j) (slice_index_or kinds.old j Kind.Flat))
-        → (j : ℕ) → j < length rest → ¬ WasBeside (length rest) k j → IsKind rest left j (slice_index_or kinds.new j Kind.Flat) }
-    ensures others { (j : ℕ) → IsSameOrCandidate (slice_index_or kinds.old j Kind.Flat) (slice_index_or kinds.new j Kind.Flat) }
-{
-    for j in 0..kinds.len() {
-        if is_blocked_by(kinds[j], gone) {
-            kinds[j] = Kind::Candidate;
-        }
-    }
-}
-
-/// The same, but where the number is not marked nothing is done, since it is nobody's witness. Returns how
-/// far the kinds are then looked through.
-fn release(kinds: &mut [Kind], gone: u16, marks: &[bool], seen: Seen) -> Seen
-    requires marked { AreMarked kinds.old marks.now }
+/// Makes those candidates again whose witness had the number `gone`, that of a corner that was taken out.
+/// They are looked for where its mark tells. Returns how far the kinds are then looked through.
+fn release(numbers: &[u16], kinds: &mut [Kind], gone: u16, marks: &[Reach], seen: Seen) -> Seen
+    requires as_many { length numbers.now ≡ length kinds.old }
+    requires ascend { IsNonDecreasing numbers.now }
+    requires marked { AreMarked kinds.old numbers.now marks.now }
     requires seen { AreSeen kinds.old seen }
-    ensures kept { (whole rest : List Corner) (numbers left : List ℕ) (k : ℕ)
-        → IsTakenOut whole numbers k gone rest left → length kinds.old ≡ length rest
-        → ((j : ℕ) → j < length rest → IsKind whole numbers (number_before k j) (slice_index_or kinds.old j Kind.Flat))
-        → (j : ℕ) → j < length rest → ¬ WasBeside (length rest) k j → IsKind rest left j (slice_index_or kinds.new j Kind.Flat) }
-    ensures marked { AreMarked kinds.new marks.now }
+    ensures released { (j : ℕ) → j < length kinds.old
+        → IsReleased gone (slice_index_or kinds.old j Kind.Flat) (slice_index_or kinds.new j Kind.Flat) }
+    ensures marked { AreMarked kinds.new numbers.now marks.now }
     ensures seen { AreSeen kinds.new result }
 {
-    if !is_marked(marks, gone) {
-        return seen;
+    let reach = reach_of(marks, gone);
+    let mut after = seen;
+    for j in first_place(numbers, reach)..kinds.len() {
+        if numbers[j] > reach.last {
+            return after;
+        }
+        if is_blocked_by(kinds[j], gone) {
+            kinds[j] = Kind::Candidate;
+            after = after.with(j, Kind::Candidate);
+        }
     }
-    release_all(kinds, gone);
-    Seen {
-        flats: seen.flats,
-        candidates: 0,
-    }
+    after
 }
 
 /// Of `count` corners, the one that followed the corner that was taken out at `k`.
@@ -261,14 +251,13 @@ fn after_gap(count: usize, k: usize) -> usize
 }
 
 /// Looks anew at corner `k`. Returns how far the kinds are then looked through.
-fn look_at(corners: &[Corner], kinds: &mut [Kind], k: usize, marks: &[bool], seen: Seen) -> Seen
+fn look_at(corners: &[Corner], kinds: &mut [Kind], k: usize, seen: Seen) -> Seen
     requires in_rest { k < length corners.now }
     requires same_length { length kinds.old ≡ length corners.now }
-    requires marked { AreMarked kinds.old marks.now }
     requires seen { AreSeen kinds.old seen }
     ensures here { (numbers : List ℕ) → IsKind corners.now numbers k (slice_index_or kinds.new k Kind.Flat) }
     ensures others { (j : ℕ) → j ≢ k → slice_index_or kinds.new j Kind.Flat ≡ slice_index_or kinds.old j Kind.Flat }
-    ensures marked { AreMarked kinds.new marks.now }
+    ensures marked { (numbers : List ℕ) (marks : List ReachValue) → AreMarked kinds.old numbers marks → AreMarked kinds.new numbers marks }
     ensures seen { AreSeen kinds.new result }
 {
     let kind = kind_at(corners, k);
@@ -281,26 +270,29 @@ fn look_at(corners: &[Corner], kinds: &mut [Kind], k: usize, marks: &[bool], see
 /// kinds are then looked through.
 pub fn update_kinds(
     corners: &[Corner],
+    numbers: &[u16],
     kinds: &mut [Kind],
     k: usize,
     gone: u16,
-    marks: &[bool],
+    marks: &[Reach],
     seen: Seen,
 ) -> Seen
+    requires as_many { length numbers.now ≡ length corners.now }
     requires same_length { length kinds.old ≡ length corners.now }
     requires within { k ≤ length corners.now }
     requires some { 0 < length corners.now }
-    requires marked { AreMarked kinds.old marks.now }
+    requires ascend { IsNonDecreasing numbers.now }
+    requires marked { AreMarked kinds.old numbers.now marks.now }
     requires seen { AreSeen kinds.old seen }
-    ensures are { (whole : List Corner) (numbers left : List ℕ) → IsTakenOut whole numbers k gone corners.now left
-        → ((j : ℕ) → j < length corners.now → IsKind whole numbers (number_before k j) (slice_index_or kinds.old j Kind.Flat))
-        → AreKinds corners.now left kinds.new }
-    ensures marked { AreMarked kinds.new marks.now }
+    ensures are { (whole : List Corner) (before : List ℕ) → IsTakenOut whole before k gone corners.now numbers.now
+        → ((j : ℕ) → j < length corners.now → IsKind whole before (number_before k j) (slice_index_or kinds.old j Kind.Flat))
+        → AreKinds corners.now numbers.now kinds.new }
+    ensures marked { AreMarked kinds.new numbers.now marks.now }
     ensures seen { AreSeen kinds.new result }
 {
-    let released = release(kinds, gone, marks, seen);
+    let released = release(numbers, kinds, gone, marks, seen);
     let after = after_gap(corners.len(), k);
     let before = preceding(corners.len(), after);
-    let last = look_at(corners, kinds, after, marks, released);
-    look_at(corners, kinds, before, marks, last)
+    let last = look_at(corners, kinds, after, released);
+    look_at(corners, kinds, before, last)
 }

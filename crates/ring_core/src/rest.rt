@@ -7,7 +7,7 @@ use crate::blocks::{BLOCK_CORNERS, Blocks, Span, blocks_of, close_gap};
 use crate::kind::{Kind, first_ear, first_flat, kinds_of, update_kinds};
 use crate::leaning::LeaningBox;
 use crate::left::Left;
-use crate::marks::{marks_of, numbers_of};
+use crate::marks::{Reach, marks_of, numbers_of};
 use crate::seen::Seen;
 use geo_exact::Corner;
 use std::alloc::{AllocError, Allocator};
@@ -15,17 +15,18 @@ use std::marker::Model;
 
 /// What the clipping has left of a ring: a list of corners, which contracts see as that list.
 ///
-/// Beside each corner stand its kind, and a number that it keeps. A left turn is a candidate until another
-/// corner is found in its triangle, its witness, whose number is then marked; it is a candidate again when
-/// its witness is taken out. A corner that is taken out leaves its two neighbours to be looked at again, and
-/// no other but those whose witness it was. Of a large ring, corners that follow one another are blocks, each
-/// with a box that held its corners when it was made and holds those that are left.
+/// Beside each corner stand its kind, and a number that it keeps; the numbers ascend. A left turn is a
+/// candidate until another corner is found in its triangle, its witness, whose mark then tells where the
+/// left turn is; it is a candidate again when its witness is taken out. A corner that is taken out leaves
+/// its two neighbours to be looked at again, and no other but those whose witness it was. Of a large ring,
+/// corners that follow one another are blocks, each with a box that held its corners when it was made and
+/// holds those that are left.
 #[derive(Debug, Drop)]
 pub struct Rest<A: Allocator> {
     corners: Left<A>,
     numbers: Vec<u16, A>,
     kinds: Vec<Kind, A>,
-    marks: Vec<bool, A>,
+    marks: Vec<Reach, A>,
     seen: Seen,
     spans: Vec<Span, A>,
     boxes: Vec<LeaningBox, A>,
@@ -95,6 +96,7 @@ impl<A: Allocator> Rest<A> {
         close_gap(self.spans.as_mut_slice(), k);
         self.seen = update_kinds(
             self.corners.as_slice(),
+            self.numbers.as_slice(),
             self.kinds.as_mut_slice(),
             k,
             gone,

@@ -1,5 +1,5 @@
 -- The kind of a corner away from the one that was taken out.
-use Rattle.std.proofs.Common.{◌≡◌, ◌≢◌, ℕ, ◌+◌, ◌<◌, ◌∙◌, sym, ap, subst, arith, List, length, get_or}
+use Rattle.std.proofs.Common.{◌≡◌, ◌≢◌, inl, inr, ℕ, ◌+◌, ◌<◌, ◌∙◌, sym, ap, subst, arith, List, length, get_or}
 use Rattle.std.specs.List.{remove}
 use Rattle.std.proofs.lemmas.Bool.Decides.{nat_tests}
 use Rattle.geo_exact.specs.declared.corner.Corner.{Corner}
@@ -7,7 +7,7 @@ use Rattle.ring_core.specs.declared.kind.Kind.{Kind}
 use Rattle.ring_core.specs.declared.kind.Kind.TheVariants.{Flat, Bent, Candidate, Blocked}
 use Rattle.geo_exact.specs.Places.{corner_at, after, before}
 use Rattle.ring_core.specs.Clipping.{previous, next, Blocks}
-use Rattle.ring_core.specs.own.Kinds.{IsKind, IsTakenOut, IsWitness, TurnsLeft, WasBeside, number_before}
+use Rattle.ring_core.specs.own.Kinds.{IsKind, IsReleased, IsTakenOut, IsWitness, TurnsLeft, WasBeside, number_before}
 use Rattle.ring_core.proofs.clipping.ClipSteps.{one_less}
 use Rattle.ring_core.proofs.clipping.TakenOut.{before_kept, after_kept, corner_kept, item_kept, number_in}
 use Rattle.ring_core.proofs.ears.LeftSimple.{number_not}
@@ -69,12 +69,19 @@ module _ (whole rest : List Corner) (numbers left : List ℕ) (k j gone : ℕ) (
         subst (λ i. Blocks (remove whole k) i (number_left k w.0)) (left_before k j) blocks,
       )
 
-  pub kept : (kind : Kind) → kind ≢ Blocked gone → IsKind whole numbers (number_before k j) kind → IsKind rest left j kind
+  kept : (kind : Kind) → kind ≢ Blocked gone → IsKind whole numbers (number_before k j) kind → IsKind rest left j kind
   kept Flat other h = flat_kept h
   kept Bent other h = bent_kept h
   kept Candidate other h = left_kept h
   kept (Blocked number) other h = (left_kept h.0, witness_kept number (λ e. other (ap Blocked e)) h.1)
 
   -- the corner that is gone was the witness
-  pub released : (kind : Kind) → kind ≡ Blocked gone → IsKind whole numbers (number_before k j) kind → IsKind rest left j Candidate
+  released : (kind : Kind) → kind ≡ Blocked gone → IsKind whole numbers (number_before k j) kind → IsKind rest left j Candidate
   released kind e h = left_kept ((subst (IsKind whole numbers (number_before k j)) e h).0)
+
+  -- so the kind is up to date once it is released
+  pub up_to_date : (was is : Kind) → IsReleased gone was is → IsKind whole numbers (number_before k j) was → IsKind rest left j is
+  up_to_date was is r h = elim r [
+    | inl same ↦ rw same.0 (kept was same.1 h)
+    | inr free ↦ rw free.0 (released was free.1 h)
+  ]

@@ -1,8 +1,9 @@
 -- What the kind of a corner tells: whether it is flat, and that it is no ear.
-use Rattle.std.proofs.Common.{◌≡◌, ◌≢◌, ◌↔◌, inl, inr, ℕ, ◌+◌, ◌<◌, ◌≤◌, ◌∙◌, sym, ap, refl, arith}
-use Rattle.std.proofs.Common.{Bool, List, length, get_or, slice_set}
+use Rattle.std.proofs.Common.{◌≡◌, ◌≢◌, ◌↔◌, inl, inr, ℕ, ◌<◌, ◌≤◌, ◌∙◌, sym, ap, refl, arith}
+use Rattle.std.proofs.Common.{List, length, get_or, slice_set}
 use Rattle.std.proofs.lemmas.Int.{ints}
 use Rattle.std.specs.List.{remove}
+use Rattle.std.specs.List.Sorted.{IsNonDecreasing}
 use Rattle.std.proofs.lemmas.Bool.{cases_lt}
 use Rattle.std.proofs.lemmas.Bool.Decides.{nat_tests}
 use Rattle.std.proofs.lemmas.List.{get_or-set_same, get_or-set_other, length-set}
@@ -18,6 +19,7 @@ use Rattle.geo_exact.specs.Places.{corner_at}
 use Rattle.ring_core.specs.Clipping.{previous, next, IsFlat, IsEar}
 use Rattle.ring_core.specs.own.Kinds.{AreKinds, AreMarked, AreSeen, IsKind, IsMarked, TurnsLeft, number_before}
 use Rattle.ring_core.specs.own.Blocks.{number_less}
+use Rattle.ring_core.specs.declared.marks.Reach.{Reach}
 use Rattle.ring_core.specs.declared.seen.Seen.{Seen}
 use Rattle.ring_core.proofs.clipping.TakenOut.{item_kept, number_in}
 use Rattle.ring_core.proofs.ears.LeftSimple.{same_or}
@@ -82,10 +84,12 @@ kinds_set rest numbers kinds k kind b are h j c = elim (same_or j k) [
   | inr off ↦ rw (get_or-set_other kinds k j kind Flat off) (are.each j c)
 ]
 
-pub marked_set : (kinds : List Kind) (marks : List Bool) (k : ℕ) (kind : Kind) → k < length kinds → AreMarked kinds marks
-    → ((n : ℕ) → kind ≡ Blocked n → IsMarked marks n) → AreMarked (slice_set kinds k kind) marks
-marked_set kinds marks k kind b are h j n c e = elim (same_or j k) [
-  | inl x ↦ h n (sym (get_or-set_same kinds k kind Flat b) ∙ ap (λ i. get_or (slice_set kinds k kind) i Flat) (sym x) ∙ e)
+pub marked_set : (kinds : List Kind) (numbers : List ℕ) (marks : List Reach) (k : ℕ) (kind : Kind) → k < length kinds
+    → AreMarked kinds numbers marks → ((n : ℕ) → kind ≡ Blocked n → IsMarked marks n (get_or numbers k 0))
+    → AreMarked (slice_set kinds k kind) numbers marks
+marked_set kinds numbers marks k kind b are h j n c e = elim (same_or j k) [
+  | inl x ↦ rw x (h n (sym (get_or-set_same kinds k kind Flat b)
+      ∙ ap (λ i. get_or (slice_set kinds k kind) i Flat) (sym x) ∙ e))
   | inr off ↦ are j n (omega (arith, length-set kinds k kind, c)) (sym (get_or-set_other kinds k j kind Flat off) ∙ e)
 ]
 
@@ -112,11 +116,22 @@ seen_set kinds seen less k kind b are f c no_flat no_candidate = record {
 }
 
 -- one kind is taken out
-pub marked_without : (kinds : List Kind) (marks : List Bool) (k : ℕ) → k < length kinds → AreMarked kinds marks
-    → AreMarked (remove kinds k) marks
-marked_without kinds marks k b are j n c e =
-    are (number_before k j) n (number_in (length kinds) k j (omega (arith, length-remove kinds k b, c)))
-    (sym (item_kept kinds k j Flat b) ∙ e)
+pub marked_without : (kinds : List Kind) (numbers : List ℕ) (marks : List Reach) (k : ℕ) → k < length kinds → k < length numbers
+    → AreMarked kinds numbers marks → AreMarked (remove kinds k) (remove numbers k) marks
+marked_without kinds numbers marks k b in_numbers are j n c e =
+    rw (item_kept numbers k j 0 in_numbers)
+    (are (number_before k j) n (number_in (length kinds) k j (omega (arith, length-remove kinds k b, c)))
+    (sym (item_kept kinds k j Flat b) ∙ e))
+
+-- the numbers that are left still ascend
+number_no_less : (k i j : ℕ) → i ≤ j → number_before k i ≤ number_before k j
+number_no_less k i j h = grind (arith, nat_tests)
+
+pub ascend_without : (numbers : List ℕ) (k : ℕ) → k < length numbers → IsNonDecreasing numbers → IsNonDecreasing (remove numbers k)
+ascend_without numbers k b ascend i j d h in_left =
+    rw (item_kept numbers k i d b, item_kept numbers k j d b)
+    (ascend (number_before k i) (number_before k j) d (number_no_less k i j h)
+    (number_in (length numbers) k j (omega (arith, length-remove numbers k b, in_left))))
 
 number_seen : (k j n : ℕ) → j < number_less k n → number_before k j < n
 number_seen k j n h = grind (arith, nat_tests)

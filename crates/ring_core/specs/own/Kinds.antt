@@ -1,12 +1,14 @@
 -- What the code of the clipping remembers of each corner that is left: flat, bent (neither flat nor a left turn), or a left turn, and then
 -- the number of another corner in its closed triangle, once one was found there. Public contracts do not speak of it.
-use Rattle.std.specs.Prelude.{◌≡◌, ◌≢◌, ◌⊎◌, ℕ, ◌+◌, ◌<◌, Bool, true, false, pos, ◌<ℤ◌}
+use Rattle.std.specs.Prelude.{◌≡◌, ◌≢◌, ◌⊎◌, ℕ, ◌+◌, ◌<◌, ◌≤◌, pos, ◌<ℤ◌}
 use Rattle.std.specs.Prelude.{if◌then◌else◌, nat_lt, List, length}
 use Rattle.std.specs.Prelude.{slice_index_or}
 use Rattle.std.specs.List.{remove}
+use Rattle.std.specs.List.Sorted.{IsNonDecreasing}
 use Rattle.geo_exact.specs.declared.corner.Corner.{Corner}
 use Rattle.geo_exact.specs.Turn.{turn}
 use Rattle.ring_core.specs.declared.kind.Kind.{Kind}
+use Rattle.ring_core.specs.declared.marks.Reach.{Reach}
 use Rattle.ring_core.specs.declared.seen.Seen.{Seen}
 use Rattle.ring_core.specs.declared.kind.Kind.TheVariants.{Flat, Bent, Candidate, Blocked}
 use Rattle.geo_exact.specs.Places.{corner_at}
@@ -32,13 +34,23 @@ pub record AreKinds (rest : List Corner) (numbers : List ℕ) (kinds : List Kind
   pub same_length : length kinds ≡ length rest
   pub each : (k : ℕ) → k < length rest → IsKind rest numbers k (slice_index_or kinds k Flat)
 
--- the number is marked, or has no mark
-abbrev pub IsMarked : List Bool → ℕ → Type 0
-IsMarked marks number = number < length marks → slice_index_or marks number false ≡ true
+-- the number is in the reach
+pub record IsInReach (number : ℕ) (reach : Reach) : Type 0 where
+  pub from : reach.first ≤ number
+  pub to : number ≤ reach.last
 
--- the number of each witness is marked
-abbrev pub AreMarked : List Kind → List Bool → Type 0
-AreMarked kinds marks = (j number : ℕ) → j < length kinds → slice_index_or kinds j Flat ≡ Blocked number → IsMarked marks number
+-- the reach of all numbers
+abbrev pub everywhere : Reach
+everywhere = record { first = 0; last = 65535 }
+
+-- the witness's mark tells of the corner with the number; where it has no mark, that may be any corner
+abbrev pub IsMarked : List Reach → ℕ → ℕ → Type 0
+IsMarked marks witness number = IsInReach number (slice_index_or marks witness everywhere)
+
+-- the mark of each witness tells of the corners whose witness it is
+abbrev pub AreMarked : List Kind → List ℕ → List Reach → Type 0
+AreMarked kinds numbers marks = (j witness : ℕ) → j < length kinds → slice_index_or kinds j Flat ≡ Blocked witness
+    → IsMarked marks witness (slice_index_or numbers j 0)
 
 -- the kinds were looked through so far
 pub record AreSeen (kinds : List Kind) (seen : Seen) : Type 0 where
@@ -46,15 +58,16 @@ pub record AreSeen (kinds : List Kind) (seen : Seen) : Type 0 where
   pub candidates : (j : ℕ) → j < seen.candidates → j < length kinds → slice_index_or kinds j Flat ≢ Candidate
 
 -- what is kept beside the corners is right
-pub record AreKept (rest : List Corner) (numbers : List ℕ) (kinds : List Kind) (marks : List Bool) (seen : Seen) : Type 0 where
+pub record AreKept (rest : List Corner) (numbers : List ℕ) (kinds : List Kind) (marks : List Reach) (seen : Seen) : Type 0 where
   pub as_many : length numbers ≡ length rest
+  pub ascend : IsNonDecreasing numbers
   pub are : AreKinds rest numbers kinds
-  pub marked : AreMarked kinds marks
+  pub marked : AreMarked kinds numbers marks
   pub seen_so_far : AreSeen kinds seen
 
--- the second kind is the first, or a candidate's
-abbrev pub IsSameOrCandidate : Kind → Kind → Type 0
-IsSameOrCandidate was is = (is ≡ was) ⊎ (is ≡ Candidate)
+-- the second kind is what is left of the first once the corner with the number is nobody's witness
+abbrev pub IsReleased : ℕ → Kind → Kind → Type 0
+IsReleased gone was is = ((is ≡ was) × (was ≢ Blocked gone)) ⊎ ((is ≡ Candidate) × (was ≡ Blocked gone))
 
 -- the number that corner j had before corner k was taken out
 abbrev pub number_before : ℕ → ℕ → ℕ

@@ -1,4 +1,4 @@
-use Rattle.std.proofs.Common.{◌≡◌, ◌≢◌, ◌<◌, ◌∙◌, inl, inr, refl, ap, sym, subst, arith, below_more, length, get_or}
+use Rattle.std.proofs.Common.{◌≢◌, ◌<◌, ◌∙◌, inl, inr, refl, ap, sym, subst, arith, below_more, length, get_or}
 use Rattle.std.proofs.Common.{slice_set}
 use Rattle.std.proofs.lemmas.Bool.{false≢true}
 use Rattle.std.proofs.lemmas.List.{get_or-set_same, get_or-set_other, length-set}
@@ -54,23 +54,24 @@ loop-k-preserved c =
       | then-is_candidate+in-Some w ↦
           let left : TurnsLeft corners k =
           subst (IsKind corners numbers k) (c.is_candidate.ensures.0 w.if-is_candidate.true) (are.each k below) in
-          let found = w.in-Some.ensures in let number = get_or numbers w.in-Some.j 0 in let blocked = Blocked number in
+          let found = w.in-Some.ensures in let witness = get_or numbers w.in-Some.j 0 in let blocked = Blocked witness in
+          let number = get_or numbers k 0 in let marks = w.mark.new.marks in
           record {
             are = record {
               same_length = omega (arith, c.if-is_candidate.auto.kinds, are.same_length, c.loop-k.auto.kinds);
               each = rw w.kinds-is (kinds_set corners numbers kinds k blocked here are
                   (left, (w.in-Some.j, found.0, refl, found.1)));
             };
-            marked = rw (w.kinds-is, w.marks-is) (marked_set kinds w.mark.new.marks k blocked here
-                (λ j n b e. w.mark.ensures.kept n (inv.marked j n b e))
-                (λ n e. subst (IsMarked w.mark.new.marks) (blocked_number number n e) w.mark.ensures.marked));
+            marked = rw (w.kinds-is, w.marks-is) (marked_set kinds numbers marks k blocked here
+                (λ j n b e. w.mark.ensures.kept n (get_or numbers j 0) (inv.marked j n b e))
+                (λ n e. subst (λ n. IsMarked marks n number) (blocked_number witness n e) w.mark.ensures.marked));
             others = rw w.kinds-is (λ j e. elim (same_or j k) [
-              | inl x ↦ absurd (blocked_not_flat number
+              | inl x ↦ absurd (blocked_not_flat witness
                   (sym (get_or-set_same kinds k blocked Flat here) ∙ ap (λ i. get_or (slice_set kinds k blocked) i Flat) (sym x) ∙ e))
               | inr off ↦ inv.others j (sym (get_or-set_other kinds k j blocked Flat off) ∙ e)
             ]);
             seen = rw w.kinds-is (λ j b in_kinds e. elim (same_or j k) [
-              | inl x ↦ blocked_no_candidate number
+              | inl x ↦ blocked_no_candidate witness
                   (sym (get_or-set_same kinds k blocked Flat here) ∙ ap (λ i. get_or (slice_set kinds k blocked) i Flat) (sym x) ∙ e)
               | inr off ↦ inv.seen j (omega (arith, b, off)) (omega (arith, length-set kinds k blocked, in_kinds))
                   (sym (get_or-set_other kinds k j blocked Flat off) ∙ e)

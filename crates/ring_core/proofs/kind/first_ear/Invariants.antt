@@ -7,7 +7,7 @@ use Rattle.ring_core.proofs.kind.first_ear.Given as goal
 abbrev pub invariant-loop-k : goal.invariant-loop-k
 invariant-loop-k l = record {
   are : AreKinds l.corners l.numbers l.kinds;
-  marked : AreMarked l.kinds l.marks;
+  marked : AreMarked l.kinds l.numbers l.marks;
   others : (j : ℕ) → slice_index_or l.kinds j Flat ≡ Flat → slice_index_or l.initial.kinds j Flat ≡ Flat;
   seen : (j : ℕ) → j < l.k → j < length l.kinds → slice_index_or l.kinds j Flat ≢ Candidate;
   none_before : (j : ℕ) → j < l.k → j < length l.corners → ¬ IsEar l.corners j;

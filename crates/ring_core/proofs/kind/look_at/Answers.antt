@@ -1,4 +1,4 @@
-use Rattle.std.proofs.Common.{◌<◌, arith, length}
+use Rattle.std.proofs.Common.{arith}
 use Rattle.std.proofs.lemmas.List.{get_or-set_same, get_or-set_other}
 use Rattle.ring_core.specs.declared.kind.Kind.TheVariants.{Flat}
 use Rattle.ring_core.proofs.clipping.KindsTell.{marked_set, seen_set}
@@ -13,9 +13,9 @@ pub returns-clause-others : goal.returns-clause-others
 returns-clause-others c = λ j off. get_or-set_other c.args.kinds.now c.args.k j c.kind_at-kind.result Flat off
 
 pub returns-clause-marked : goal.returns-clause-marked
-returns-clause-marked c =
-    marked_set c.args.kinds.now c.args.marks.now c.args.k c.kind_at-kind.result
-    (omega (arith, c.requires.in_rest, c.requires.same_length)) c.requires.marked
+returns-clause-marked c = λ numbers marks marked.
+    marked_set c.args.kinds.now numbers marks c.args.k c.kind_at-kind.result
+    (omega (arith, c.requires.in_rest, c.requires.same_length)) marked
     (λ n e. absurd (c.kind_at-kind.ensures.unblocked n e))
 
 pub returns-clause-seen : goal.returns-clause-seen

@@ -1,27 +1,37 @@
-use Rattle.std.proofs.Common.{◌≡◌, ◌∙◌, inl, inr, sym, arith, length, get_or}
-use Rattle.std.proofs.lemmas.Bool.{false≢true}
-use Rattle.ring_core.specs.declared.kind.Kind.TheVariants.{Flat, Candidate}
-use Rattle.ring_core.proofs.clipping.KindsKept.{kept}
+use Rattle.std.proofs.Common.{◌≡◌, ◌<◌, ◌≤◌, ℕ, inl, inr, refl, ap, arith, get_or}
+use Rattle.std.proofs.lemmas.Bool.{cases_lt}
+use Rattle.ring_core.specs.declared.marks.Reach.{Reach}
+use Rattle.ring_core.specs.own.Kinds.{IsInReach}
 use Rattle.ring_core.proofs.kind.release.Goals as goal
 
-pub returns-then-not-is_marked-clause-kept : goal.returns-then-not-is_marked-clause-kept
-returns-then-not-is_marked-clause-kept c = λ whole rest numbers left k t long h j b off.
-    let kinds = c.args.kinds.now in
-    kept whole rest numbers left k j c.args.gone t b off (get_or kinds j Flat)
-    (λ e. false≢true (sym c.if-not-is_marked.true
-    ∙ c.is_marked.ensures (c.requires.marked j c.args.gone (omega (arith, long, b)) e))) (h j b)
+below_reach : (number : ℕ) (reach is : Reach) → reach ≡ is → number < reach.first → IsInReach number is → ⊥
+below_reach number reach is same below h = let first = ap (λ (r : Reach). r.first) same in omega (arith, first, below, h.from)
 
-pub returns-clause-marked : goal.returns-clause-marked
-returns-clause-marked c = λ j n b e. elim (c.release_all.ensures.others j) [
-  | inl same ↦ c.requires.marked j n (omega (arith, c.release_all.auto.kinds, b)) (sym same ∙ e)
-  | inr is ↦ cc
-]
+above_reach : (number here : ℕ) (reach is : Reach) → reach ≡ is → here ≤ number → reach.last < here → IsInReach number is → ⊥
+above_reach number here reach is same up above h = let last = ap (λ (r : Reach). r.last) same in omega (arith, last, up, above, h.to)
 
-pub returns-clause-seen : goal.returns-clause-seen
-returns-clause-seen c = record {
-  flats = λ j below b e. elim (c.release_all.ensures.others j) [
-    | inl same ↦ c.requires.seen.flats j below (omega (arith, c.release_all.auto.kinds, b)) (sym same ∙ e)
-    | inr is ↦ cc
-  ];
-  candidates = λ j below b e. absurd (omega (arith, below));
+pub loop-j-init : goal.loop-j-init
+loop-j-init c = record {
+  done = λ i b in_kinds. inl (
+    refl,
+    λ e. below_reach _ _ _ c.reach_of-reach.ensures (c.first_place-j.ensures.below i b)
+        (c.requires.marked i c.args.gone in_kinds e),
+  );
+  unread = λ i q. refl;
+  marked = c.requires.marked;
+  seen = c.requires.seen;
 }
+
+pub returns-then-numbers-j-clause-released : goal.returns-then-numbers-j-clause-released
+returns-then-numbers-j-clause-released c = λ i in_kinds.
+    let j = c.loop-j.j in
+    elim (cases_lt i j) [
+      | inl q ↦ c.loop-j.invariant.done i q (omega (arith, in_kinds, c.loop-j.auto.kinds))
+      | inr q ↦ inl (
+        c.loop-j.invariant.unread i q,
+        λ e.
+            above_reach _ (get_or c.args.numbers.now j 0) _ _ c.reach_of-reach.ensures
+            (c.requires.ascend j i 0 q (omega (arith, in_kinds, c.requires.as_many)))
+            c.if-numbers-j.true (c.requires.marked i c.args.gone in_kinds e),
+      )
+    ]

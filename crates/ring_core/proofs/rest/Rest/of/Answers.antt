@@ -7,9 +7,10 @@ invariant_of-result g c =
     let same : c.of.result ≡ corners =
     c.of.ensures ∙ c.in_ok-extend_from_slice.ensures.items ∙ ap (λ xs. xs ++ corners) c.new-list.ensures.items in (
       rw same (record {
-        as_many = c.in_ok-numbers.ensures;
+        as_many = c.in_ok-numbers.ensures.as_many;
+        ascend = c.in_ok-numbers.ensures.ascend;
         are = c.in_ok-kinds.ensures.are numbers;
-        marked = c.in_ok-kinds.ensures.unblocked marks;
+        marked = c.in_ok-kinds.ensures.unblocked numbers marks;
         seen_so_far = record { flats = λ j b. absurd (omega (arith, b)); candidates = λ j b. absurd (omega (arith, b)) };
       }),
       rw same c.in_ok-spans.ensures,
