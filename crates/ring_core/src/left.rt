@@ -1,57 +1,40 @@
-ghost use Rattle.std.specs.Prelude.{◌≡◌, ◌<◌, length};
+ghost use Rattle.std.specs.Prelude.{◌≡◌, ◌⊎◌, ◌+◌, ◌<◌, ◌≤◌, length, drop, slice_index_or};
 ghost use Rattle.std.specs.List.{remove};
 
-use geo_exact::Corner;
 use std::alloc::Allocator;
-use std::marker::Model;
 
-/// The corners that are left of a list, of which one after another is taken out, in order. What stands on
-/// the shorter side of it moves up. Contracts see the corners that are left.
-#[derive(Debug, Drop)]
-pub struct Left<A: Allocator> {
-    corners: Vec<Corner, A>,
-    // So many places at the beginning are free.
+/// Of a list of `len` places the first `start` are free. So many are once element `k` of the others went:
+/// one more where fewer stand before it than behind it.
+pub fn free_without(len: usize, start: usize, k: usize) -> usize
+    requires below { start + k < len }
+    ensures { (result ≡ start) ⊎ (result ≡ start + 1) }
+{
+    if k < len - start - k {
+        start + 1
+    } else {
+        start
+    }
+}
+
+/// Takes out element `k` of those behind the first `start` places, which are free, so that `free` places
+/// are: the elements before it move up, or those behind it move down. The others stay in order.
+pub fn take_out<T: Copy, A: Allocator>(
+    items: &mut Vec<T, A>,
     start: usize,
-}
-
-impl<A: Allocator> Model for Left<A> {
-    ghost use Rattle.geo_exact.specs.declared.corner.Corner.{Corner};
-    ghost use Rattle.std.specs.Prelude.{◌≤◌, List, length, drop};
-
-    ghost Value = { List Corner };
-
-    ghost view = { λ left. drop left.start left.corners.items };
-
-    ghost invariant = { λ left. left.start ≤ length left.corners.items };
-}
-
-impl<A: Allocator> Left<A> {
-    /// All of these corners.
-    pub fn of(corners: Vec<Corner, A>) -> Left<A>
-        ensures { result ≡ corners.items }
-    {
-        Left { corners, start: 0 }
+    k: usize,
+    free: usize,
+) -> T
+    requires below { start + k < length items.old.items }
+    requires free { (free ≡ start) ⊎ (free ≡ start + 1) }
+    ensures left { drop free items.new.items ≡ remove (drop start items.old.items) k }
+    ensures within { free ≤ length items.new.items }
+    ensures taken { result ≡ slice_index_or (drop start items.old.items) k result }
+{
+    let taken = items[start + k];
+    if free == start {
+        items.remove(start + k);
+    } else {
+        items.copy_within(start..start + k, free);
     }
-
-    /// The corners in order.
-    pub fn as_slice(&self) -> &[Corner]
-        ensures { result.now ≡ self.now }
-    {
-        &self.corners[self.start..]
-    }
-
-    /// Takes corner `k` out. It costs the corners before it or those behind it, whichever are fewer.
-    pub fn remove(&mut self, k: usize)
-        requires { k < length self.old }
-        ensures { self.new ≡ remove self.old k }
-    {
-        let start = self.start;
-        let count = self.corners.len() - start;
-        if k < count - k {
-            self.corners.copy_within(start..start + k, start + 1);
-            self.start = start + 1;
-        } else {
-            self.corners.remove(start + k);
-        }
-    }
+    taken
 }

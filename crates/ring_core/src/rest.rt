@@ -6,7 +6,7 @@ ghost use Rattle.geo_exact.specs.First.{HasNone, IsFirst};
 use crate::blocks::{BLOCK_CORNERS, Blocks, Span, blocks_of, close_gap};
 use crate::kind::{Kind, first_ear, first_flat, kinds_of, update_kinds};
 use crate::leaning::LeaningBox;
-use crate::left::Left;
+use crate::left::{free_without, take_out};
 use crate::marks::{Reach, marks_of, numbers_of};
 use crate::seen::Seen;
 use geo_exact::Corner;
@@ -23,7 +23,9 @@ use std::marker::Model;
 /// holds those that are left.
 #[derive(Debug, Drop)]
 pub struct Rest<A: Allocator> {
-    corners: Left<A>,
+    // Of the next three lists so many places at the beginning are free.
+    start: usize,
+    corners: Vec<Corner, A>,
     numbers: Vec<u16, A>,
     kinds: Vec<Kind, A>,
     marks: Vec<Reach, A>,
@@ -34,16 +36,18 @@ pub struct Rest<A: Allocator> {
 
 impl<A: Allocator> Model for Rest<A> {
     ghost use Rattle.geo_exact.specs.declared.corner.Corner.{Corner};
-    ghost use Rattle.std.specs.Prelude.{List};
+    ghost use Rattle.std.specs.Prelude.{List, drop};
     ghost use Rattle.ring_core.specs.own.Blocks.{AreBlocksOrNone};
-    ghost use Rattle.ring_core.specs.own.Kinds.{AreKept};
+    ghost use Rattle.ring_core.specs.own.Kinds.{AreKept, HaveFree};
 
     ghost Value = { List Corner };
 
-    ghost view = { λ rest. rest.corners };
+    ghost view = { λ rest. drop rest.start rest.corners.items };
 
-    ghost invariant = { λ rest. AreKept rest.corners rest.numbers.items rest.kinds.items rest.marks.items rest.seen
-        × AreBlocksOrNone rest.corners rest.spans.items rest.boxes.items };
+    ghost invariant = { λ rest. HaveFree rest.start rest.corners.items rest.numbers.items rest.kinds.items
+        × AreKept (drop rest.start rest.corners.items) (drop rest.start rest.numbers.items) (drop rest.start rest.kinds.items)
+        rest.marks.items rest.seen
+        × AreBlocksOrNone (drop rest.start rest.corners.items) rest.spans.items rest.boxes.items };
 }
 
 impl<A: Allocator + Copy> Rest<A> {
@@ -62,7 +66,8 @@ impl<A: Allocator + Copy> Rest<A> {
         let mut list = Vec::new(alloc);
         list.extend_from_slice(corners)?;
         Ok(Rest {
-            corners: Left::of(list),
+            start: 0,
+            corners: list,
             numbers,
             kinds,
             marks,
@@ -81,7 +86,7 @@ impl<A: Allocator> Rest<A> {
     pub fn as_slice(&self) -> &[Corner]
         ensures { result.now ≡ self.now }
     {
-        self.corners.as_slice()
+        &self.corners[self.start..]
     }
 
     /// Takes corner `k` out.
@@ -90,14 +95,17 @@ impl<A: Allocator> Rest<A> {
         requires more_than_two { 2 < length self.old }
         ensures { self.new ≡ remove self.old k }
     {
-        self.corners.remove(k);
-        let gone = self.numbers.remove(k);
-        self.kinds.remove(k);
+        let start = self.start;
+        let free = free_without(self.corners.len(), start, k);
+        take_out(&mut self.corners, start, k, free);
+        let gone = take_out(&mut self.numbers, start, k, free);
+        take_out(&mut self.kinds, start, k, free);
+        self.start = free;
         close_gap(self.spans.as_mut_slice(), k);
         self.seen = update_kinds(
-            self.corners.as_slice(),
-            self.numbers.as_slice(),
-            self.kinds.as_mut_slice(),
+            &self.corners[free..],
+            &self.numbers[free..],
+            &mut self.kinds[free..],
             k,
             gone,
             self.marks.as_slice(),
@@ -112,9 +120,11 @@ impl<A: Allocator> Rest<A> {
             (HasNone (IsFlat self.new) (length self.new))
             (λ k. IsFirst (IsFlat self.new) (length self.new) k) }
     {
-        let k = first_flat(self.kinds.as_slice(), self.seen.flats);
+        let kinds = &self.kinds[self.start..];
+        let count = kinds.len();
+        let k = first_flat(kinds, self.seen.flats);
         self.seen.flats = k;
-        if k < self.kinds.len() { Some(k) } else { None }
+        if k < count { Some(k) } else { None }
     }
 
     /// The first ear. The corners stay; what is found out about those before it is kept.
@@ -124,16 +134,18 @@ impl<A: Allocator> Rest<A> {
             (HasNone (IsEar self.new) (length self.new))
             (λ k. IsFirst (IsEar self.new) (length self.new) k) }
     {
+        let start = self.start;
+        let count = self.corners.len() - start;
         let k = first_ear(
-            self.corners.as_slice(),
-            self.numbers.as_slice(),
-            self.kinds.as_mut_slice(),
+            &self.corners[start..],
+            &self.numbers[start..],
+            &mut self.kinds[start..],
             self.marks.as_mut_slice(),
             self.seen.candidates,
             self.spans.as_slice(),
             self.boxes.as_slice(),
         );
         self.seen.candidates = k;
-        if k < self.kinds.len() { Some(k) } else { None }
+        if k < count { Some(k) } else { None }
     }
 }

@@ -1,12 +1,13 @@
 -- What stands behind some free places at a list's beginning, once an item is taken out and what stands on one side of it has moved.
-use Rattle.std.proofs.Common.{◌≡◌, ℕ, ◌<◌, ◌∙◌, ◌++◌, ◌+◌, ◌-◌, suc, List, sym, ap, ap₂, arith, length, take, drop}
+use Rattle.std.proofs.Common.{◌≡◌, ℕ, ◌<◌, ◌≤◌, ◌∙◌, ◌++◌, ◌+◌, ◌-◌, suc, List, sym, ap, ap₂, arith, length, take, drop}
 use Rattle.std.specs.List.{remove}
 use Rattle.std.proofs.Math.Seq.{paste, drop-append-add, drop-drop}
-use Rattle.std.proofs.Math.ListN.{length-take}
-use Rattle.std.proofs.lemmas.List.{append_assoc, take-append-drop}
+use Rattle.std.proofs.Math.ListN.{drop_of_length-le, length-append, length-drop, length-take}
+use Rattle.std.proofs.lemmas.List.{append_assoc, append-nil, take-append-drop, take_all, take_at}
+use borrow.Rule.Slice.PartMut.{put_mid}
 use Rattle.std.proofs.lemmas.List.Edits.{remove-append_right}
 
-behind : {X : Type 0} (front back : List X) (n : ℕ) → length front ≡ n → drop n (front ++ back) ≡ back
+pub behind : {X : Type 0} (front back : List X) (n : ℕ) → length front ≡ n → drop n (front ++ back) ≡ back
 behind front back n long =
     let at : n ≡ length front + 0 = omega (arith, long) in ap (λ k. drop k (front ++ back)) at ∙ drop-append-add front back 0
 
@@ -34,3 +35,18 @@ moved_down xs s k below =
     ∙ ap (drop s) (remove-append_right (take s xs) (drop s xs) s (s + k) long (omega arith))
     ∙ behind (take s xs) (remove (drop s xs) (s + k - s)) s long
     ∙ ap (remove (drop s xs)) as_many
+
+-- what a slice from a place on shows
+pub shown : {X : Type 0} (xs ys : List X) (s : ℕ) → xs ≡ ys → take (length xs - s) (drop s xs) ≡ drop s ys
+shown xs ys s e = take_all (length xs - s) (drop s xs) (omega (arith, length-drop s xs)) ∙ ap (drop s) e
+
+-- and what the list is once that slice was written: a vector of as many places has no more
+pub written : {X : Type 0} (xs new more : List X) (s n : ℕ) → s ≤ length xs → length new + s ≡ length xs → length xs ≡ n
+    → take n (put_mid s (length xs - s) xs new ++ more) ≡ take s xs ++ new
+written xs new more s n within long all =
+    let rest : put_mid s (length xs - s) xs new ≡ take s xs ++ new =
+    ap (λ l. take s xs ++ (new ++ l)) (drop_of_length-le (drop s xs) (omega (arith, length-drop s xs)))
+    ∙ ap (λ l. take s xs ++ l) (append-nil new) in
+    let a = length-take s xs in
+    let as_many : length (take s xs ++ new) ≡ n = omega (arith, length-append (take s xs) new, a, within, long, all) in
+    ap (λ l. take n (l ++ more)) rest ∙ take_at (take s xs ++ new) more n as_many

@@ -57,6 +57,12 @@ pub record AreSeen (kinds : List Kind) (seen : Seen) : Type 0 where
   pub flats : (j : ℕ) → j < seen.flats → j < length kinds → slice_index_or kinds j Flat ≢ Flat
   pub candidates : (j : ℕ) → j < seen.candidates → j < length kinds → slice_index_or kinds j Flat ≢ Candidate
 
+-- the first places of each of the lists are free
+pub record HaveFree (start : ℕ) (corners : List Corner) (numbers : List ℕ) (kinds : List Kind) : Type 0 where
+  pub in_corners : start ≤ length corners
+  pub in_numbers : start ≤ length numbers
+  pub in_kinds : start ≤ length kinds
+
 -- what is kept beside the corners is right
 pub record AreKept (rest : List Corner) (numbers : List ℕ) (kinds : List Kind) (marks : List Reach) (seen : Seen) : Type 0 where
   pub as_many : length numbers ≡ length rest
