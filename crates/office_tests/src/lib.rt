@@ -7,6 +7,8 @@ mod answers;
 #[cfg(test)]
 mod changes;
 #[cfg(test)]
+mod city_of_many;
+#[cfg(test)]
 mod clerks;
 #[cfg(test)]
 mod drawn;

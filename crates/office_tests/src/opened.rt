@@ -5,12 +5,12 @@ ghost use Rattle.geo_exact.specs.Layers.{corner_count, NumbersRise, rings_of};
 ghost use Rattle.geo_exact.specs.declared.limits.TheConstants.{LAYER_CORNERS, LAYER_RECORDS};
 
 use fabric_core::{City, Fabric, Layer};
-use geo_exact::{Corner, Corners, RawRing, Unit};
+use geo_exact::{Corners, RawRing, Unit};
 use refusing_alloc::Refusing;
 use shp_files::{a_layer_file_is_within_the_limits, read_layer};
 use std::alloc::Allocator;
 use std::test::Fail;
-use test_builders::{Place, corner, corners, layer_file};
+use test_builders::{Place, corners, layer_file};
 
 /// A heap that refuses one growth, as [`Refusing`] does.
 pub trait Refuses: Allocator {
@@ -103,7 +103,7 @@ fn layer<'a, H: Allocator>(
 }
 
 /// The fabric that is opened from that layer.
-fn opened<'a, H: Allocator>(
+pub fn opened<'a, H: Allocator>(
     heap: &'a H,
     ring: &[Place],
     rings: &[Corners<&'a H>],
@@ -126,64 +126,4 @@ pub fn fabric<'a, H: Allocator>(
 /// The fabric of the two parcels.
 pub fn town<'a, H: Allocator>(heap: &'a H) -> Result<Fabric<'a, H>, Fail> {
     fabric(heap, &SQUARE, &RINGS)
-}
-
-/// How many parcels the large city has from west to east.
-const COLUMNS: i64 = 25;
-
-/// How many it has from south to north.
-const ROWS: i64 = 40;
-
-/// How long the sides of its parcels are.
-const SIDE: i64 = 60;
-
-/// How far along a side its corners lie, but for the last.
-const STEPS: [i64; 5] = [0, 12, 24, 36, 48];
-
-/// The large city's ring.
-const LARGE_CITY: [Place; 4] = [
-    (0, 0),
-    (COLUMNS * SIDE, 0),
-    (COLUMNS * SIDE, ROWS * SIDE),
-    (0, ROWS * SIDE),
-];
-
-/// A place of the large city, from any two numbers.
-pub fn place_in_large_city(x: u32, y: u32) -> Option<Corner> {
-    Corner::new(
-        i64::from(x) % (COLUMNS * SIDE + 1),
-        i64::from(y) % (ROWS * SIDE + 1),
-    )
-}
-
-/// The square parcel whose low corner is here: 20 corners, five along each side.
-fn square<A: Allocator>(alloc: A, west: i64, south: i64) -> Result<Corners<A>, Fail> {
-    let east = west.wrapping_add(SIDE);
-    let north = south.wrapping_add(SIDE);
-    let mut ring = Corners::new(alloc);
-    for at in &STEPS {
-        ring.push(corner((west.wrapping_add(*at), south))?)?;
-    }
-    for at in &STEPS {
-        ring.push(corner((east, south.wrapping_add(*at)))?)?;
-    }
-    for at in &STEPS {
-        ring.push(corner((east.wrapping_sub(*at), north))?)?;
-    }
-    for at in &STEPS {
-        ring.push(corner((west, north.wrapping_sub(*at)))?)?;
-    }
-    Ok(ring)
-}
-
-/// The fabric of a city of a thousand parcels with 20 corners each.
-pub fn large_city<'a, H: Allocator>(heap: &'a H) -> Result<Fabric<'a, H>, Fail> {
-    let mut rings = Vec::new(heap);
-    for row in 0..ROWS {
-        for column in 0..COLUMNS {
-            let (west, south) = (column.wrapping_mul(SIDE), row.wrapping_mul(SIDE));
-            rings.push(square(heap, west, south)?)?;
-        }
-    }
-    opened(heap, &LARGE_CITY, &rings)
 }

@@ -2,8 +2,8 @@
 //! each in a thread of their own.
 
 use crate::answers::{Cards, Windows};
+use crate::city_of_many::{large_city, place_in_large_city};
 use crate::drawn::drawn_edit;
-use crate::opened::{large_city, place_in_large_city};
 use crate::plays::Told;
 use crate::scans::is_found;
 use desk_lock::{Card, Naming, Office, Window};

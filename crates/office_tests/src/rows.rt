@@ -1,7 +1,8 @@
 //! Worked examples of what clerks do and windows answer.
 
 use crate::changes::{Change, edit_of};
-use crate::opened::{Refuses, fabric, large_city, town};
+use crate::city_of_many::large_city;
+use crate::opened::{Refuses, fabric, town};
 use crate::plays::{NONE, Play, Told, at_office};
 use crate::readers::{EDITS, is_replayed};
 use desk_lock::OpenFault;
