@@ -1,5 +1,6 @@
 //! Edits that are drawn at random from the parcels of a sheet.
 
+use crate::borders::{corner_at, edge_at, has_edge, new_border};
 use fabric_core::Sheet;
 use geo_exact::{Corner, Corners};
 use rand_core::utils::NextWord;
@@ -13,32 +14,6 @@ fn drawn_place(words: &mut Pcg32, count: usize) -> usize {
         return 0;
     }
     words.next_word() as usize % count
-}
-
-/// The corner at a place of a ring, counted on round it.
-fn corner_at(ring: &[Corner], place: usize) -> Option<Corner> {
-    if ring.is_empty() {
-        return None;
-    }
-    ring.get(place % ring.len()).copied()
-}
-
-/// The edge at a place of a ring.
-fn edge_at(ring: &[Corner], place: usize) -> Option<(Corner, Corner)> {
-    Some((
-        corner_at(ring, place)?,
-        corner_at(ring, place.wrapping_add(1))?,
-    ))
-}
-
-/// Whether a ring has an edge.
-fn has_edge(ring: &[Corner], edge: (Corner, Corner)) -> bool {
-    for place in 0..ring.len() {
-        if edge_at(ring, place) == Some(edge) {
-            return true;
-        }
-    }
-    false
 }
 
 /// A corner put half way into the edge at a place, where that is whole.
@@ -81,6 +56,13 @@ fn first_with<H: Allocator>(
     None
 }
 
+/// The parcel beyond the edge at a place.
+fn beyond<H: Allocator>(sheet: &Sheet<'_, H>, ring: &[Corner], place: usize) -> Option<u64> {
+    let (from, to) = edge_at(ring, place)?;
+    let ids = sheet.candidates(from, from).ok()?;
+    first_with(sheet, ids.as_slice(), (to, from))
+}
+
 /// A merge with the parcel beyond the edge at a place.
 fn merge_of<'a, H: Allocator>(
     sheet: &Sheet<'a, H>,
@@ -88,14 +70,25 @@ fn merge_of<'a, H: Allocator>(
     ring: &[Corner],
     place: usize,
 ) -> Option<Edit<&'a H>> {
-    let (from, to) = edge_at(ring, place)?;
-    let ids = sheet.candidates(from, from).ok()?;
-    let b = first_with(sheet, ids.as_slice(), (to, from))?;
+    let b = beyond(sheet, ring, place)?;
     Some(Edit::Merge { a: id, b })
 }
 
-/// An edit that may be lawful, of a parcel that is drawn. Short rings get corners and long ones are
-/// split, and of few parcels none is merged.
+/// A move of the border with the parcel beyond the edge at a place.
+fn move_of<'a, H: Allocator>(
+    heap: &'a H,
+    sheet: &Sheet<'a, H>,
+    id: u64,
+    ring: &[Corner],
+    place: usize,
+) -> Option<Edit<&'a H>> {
+    let b = beyond(sheet, ring, place)?;
+    let path = new_border(heap, ring, place, sheet.ring(b)?.corners.as_slice())?;
+    Some(Edit::Move { a: id, b, path })
+}
+
+/// An edit that may be lawful, of a parcel that is drawn, and of a kind that is drawn, but that short
+/// rings get corners, long ones are not merged, and of few parcels none is.
 pub fn drawn_edit<'a, H: Allocator>(
     heap: &'a H,
     sheet: &Sheet<'a, H>,
@@ -105,10 +98,12 @@ pub fn drawn_edit<'a, H: Allocator>(
     let id = sheet.ids().nth(drawn_place(words, count))?;
     let ring = sheet.ring(id)?.corners.as_slice();
     let place = drawn_place(words, ring.len());
-    let kind = words.next_word() % 3;
+    let kind = words.next_word() % 4;
     if ring.len() < 8 || kind == 0 {
         insert_of(ring, place)
-    } else if ring.len() > 20 || count < 6 || kind == 1 && count < 30 {
+    } else if kind == 1 {
+        move_of(heap, sheet, id, ring, place)
+    } else if ring.len() > 24 || count < 30 || kind == 2 {
         split_of(heap, id, ring, place)
     } else {
         merge_of(sheet, id, ring, place)

@@ -5,6 +5,8 @@
 #[cfg(test)]
 mod answers;
 #[cfg(test)]
+mod borders;
+#[cfg(test)]
 mod changes;
 #[cfg(test)]
 mod city_of_many;

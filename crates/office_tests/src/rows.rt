@@ -6,8 +6,9 @@ use crate::opened::{Refuses, fabric, town};
 use crate::plays::{NONE, Play, Told, at_office};
 use crate::readers::{EDITS, is_replayed};
 use desk_lock::OpenFault;
-use fabric_core::Fabric;
+use fabric_core::{Entry, Fabric};
 use refusing_alloc::Refusing;
+use ring_edits::Edit;
 use std::alloc::Allocator;
 use std::sync::Wait;
 use std::test::Fail;
@@ -143,9 +144,47 @@ fn edits_both_sides(rt: HostRuntime) -> Result<(), Fail> {
     Ok(())
 }
 
-/// Whether a fabric has the edits of eight clerks, and is what the replay of its journal leads to.
+/// How many edits of each kind there are.
+#[derive(Clone, Copy, Debug, PartialEq, Eq)]
+struct Kinds {
+    splits: u64,
+    merges: u64,
+    moves: u64,
+    inserts: u64,
+}
+
+/// How many edits of each kind a journal has.
+fn kinds_of<A: Allocator>(journal: &[Entry<A>]) -> Kinds {
+    let mut kinds = Kinds {
+        splits: 0,
+        merges: 0,
+        moves: 0,
+        inserts: 0,
+    };
+    for entry in journal {
+        match entry.edit() {
+            Edit::Split { .. } => kinds.splits = kinds.splits.wrapping_add(1),
+            Edit::Merge { .. } => kinds.merges = kinds.merges.wrapping_add(1),
+            Edit::Move { .. } => kinds.moves = kinds.moves.wrapping_add(1),
+            Edit::Insert { .. } => kinds.inserts = kinds.inserts.wrapping_add(1),
+        }
+    }
+    kinds
+}
+
+/// Whether a journal has edits of each kind.
+fn has_each_kind<A: Allocator>(journal: &[Entry<A>]) -> bool {
+    let kinds = kinds_of(journal);
+    kinds.splits > 0 && kinds.merges > 0 && kinds.moves > 0 && kinds.inserts > 0
+}
+
+/// Whether a fabric has the edits of eight clerks, some of each kind, and is what the replay of its journal leads to.
 fn has_all_edits<'a, H: Allocator>(heap: &'a H, fabric: &Fabric<'a, H>) -> Result<bool, Fail> {
-    Ok(fabric.entries() == 8 * EDITS && is_replayed(heap, fabric)?)
+    Ok(
+        fabric.entries() == 8 * EDITS
+            && has_each_kind(fabric.journal())
+            && is_replayed(heap, fabric)?,
+    )
 }
 
 /// Whether eight clerks edit while four readers ask, and the replay of the journal leads to the fabric.
