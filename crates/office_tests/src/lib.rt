@@ -25,6 +25,8 @@ mod plays;
 #[cfg(test)]
 mod readers;
 #[cfg(test)]
+mod replays;
+#[cfg(test)]
 mod rows;
 #[cfg(test)]
 mod scans;

@@ -5,6 +5,7 @@ use crate::answers::{Cards, Windows};
 use crate::city_of_many::{large_city, place_in_large_city};
 use crate::drawn::drawn_edit;
 use crate::plays::Told;
+use crate::replays::follow_to;
 use crate::scans::is_found;
 use desk_lock::{Card, Naming, Office, Window};
 use fabric_core::{At, Entry, Fabric};
@@ -220,23 +221,6 @@ fn put_back<'a, H: Allocator, J: Naming<H>, W: Wait + Drop>(
     Ok(())
 }
 
-/// Follows a journal up to so many entries.
-fn follow_to<'a, H: Allocator>(
-    copy: &mut Fabric<'a, H>,
-    journal: &[Entry<&'a H>],
-    entries: u64,
-) -> Result<(), Fail> {
-    for entry in journal {
-        if entry.number() <= entries
-            && entry.number() > copy.entries()
-            && copy.follow(entry) != Ok(())
-        {
-            return Err(Fail::new("an entry of the journal is not followed"));
-        }
-    }
-    Ok(())
-}
-
 /// A reader's answers rest on more and more entries, and each is what a scan finds in the fabric after these.
 fn check_answers<'a, H: Allocator>(
     copy: &mut Fabric<'a, H>,
@@ -310,32 +294,4 @@ pub fn read_meanwhile<
     check_at(&rt, heap, office, workers.as_slice())?;
     put_back(cards, workers)?;
     Ok(Told::Done)
-}
-
-/// Whether two fabrics have the same parcels and the same refined ring.
-fn are_alike<'a, H: Allocator>(one: &Fabric<'a, H>, other: &Fabric<'a, H>) -> bool {
-    for (id, shape) in one.shapes() {
-        let Some(ring) = other.ring(id) else {
-            return false;
-        };
-        if shape.ring.corners != ring.corners {
-            return false;
-        }
-    }
-    one.ids().count() == other.ids().count() && one.refined() == other.refined()
-}
-
-/// Whether a copy of the opening that follows a fabric's journal is like it then.
-fn becomes_alike<'a, H: Allocator>(
-    copy: &mut Fabric<'a, H>,
-    fabric: &Fabric<'a, H>,
-) -> Result<bool, Fail> {
-    follow_to(copy, fabric.journal(), fabric.entries())?;
-    Ok(are_alike(copy, fabric))
-}
-
-/// Whether a fabric is what the replay of its journal leads to.
-pub fn is_replayed<'a, H: Allocator>(heap: &'a H, fabric: &Fabric<'a, H>) -> Result<bool, Fail> {
-    let mut copy = large_city(heap)?;
-    becomes_alike(&mut copy, fabric)
 }

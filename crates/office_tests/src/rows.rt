@@ -4,7 +4,8 @@ use crate::changes::{Change, edit_of};
 use crate::city_of_many::large_city;
 use crate::opened::{Refuses, fabric, town};
 use crate::plays::{NONE, Play, Told, at_office};
-use crate::readers::{EDITS, is_replayed};
+use crate::readers::EDITS;
+use crate::replays::is_replayed;
 use desk_lock::OpenFault;
 use fabric_core::{Entry, Fabric};
 use refusing_alloc::Refusing;
@@ -179,7 +180,7 @@ fn has_each_kind<A: Allocator>(journal: &[Entry<A>]) -> bool {
 }
 
 /// Whether a fabric has the edits of eight clerks, some of each kind, and is what the replay of its journal leads to.
-fn has_all_edits<'a, H: Allocator>(heap: &'a H, fabric: &Fabric<'a, H>) -> Result<bool, Fail> {
+fn has_all_edits<'a, H: Allocator>(heap: &'a H, fabric: &mut Fabric<'a, H>) -> Result<bool, Fail> {
     Ok(
         fabric.entries() == 8 * EDITS
             && has_each_kind(fabric.journal())
@@ -193,7 +194,7 @@ fn is_read<H: Refuses + Send + Sync, R: Threads + Wait + Copy + Send + Sync>(
     heap: &H,
 ) -> Result<bool, Fail> {
     match at_office(rt, heap, large_city(heap)?, (8, 4), NONE, Play::Drawn)? {
-        (Some(fabric), Told::Done) => has_all_edits(heap, &fabric),
+        (Some(mut fabric), Told::Done) => has_all_edits(heap, &mut fabric),
         _ => Ok(false),
     }
 }
