@@ -1,7 +1,7 @@
 //! What clerks and windows are told.
 
 use crate::changes::{Change, edit_of};
-use desk_lock::{Card, Naming, Office, Receipt, Window};
+use desk_lock::{Card, LocateFault, Naming, Office, Receipt, Window};
 use fabric_core::At;
 use std::alloc::Allocator;
 use std::sync::Wait;
@@ -41,6 +41,20 @@ pub fn all_answer<H: Allocator, J: Naming<H>>(
         }
     }
     Ok(true)
+}
+
+/// Whether a window answers after its office was closed, and not K4. An answer is that (10, 10) is
+/// inside this parcel after so many entries.
+pub fn answers_late<H: Allocator, J: Naming<H>>(
+    window: &mut Window<'_, H, J>,
+    entries: u64,
+    parcel: u64,
+) -> Result<bool, Fail> {
+    match window.locate(corner((10, 10))?) {
+        Err(LocateFault::NoVersion) => Ok(false),
+        Ok((count, At::Inside(id))) if count == entries && id == parcel => Ok(true),
+        _ => Err(Fail::new("another answer after the close")),
+    }
 }
 
 /// The receipt of an edit that is accepted.

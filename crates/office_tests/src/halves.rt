@@ -1,6 +1,6 @@
 //! One clerk who cuts the first parcel in halves.
 
-use crate::answers::{all_answer, submitted, tells};
+use crate::answers::{Windows, all_answer, answers_late, submitted, tells};
 use crate::changes::{Change, INTO_HALVES};
 use crate::plays::Told;
 use desk_lock::{Card, Naming, Office, Receipt, Window};
@@ -64,6 +64,34 @@ fn learn_cut<'a, H: Allocator, J: Naming<H>, R: Wait + Drop, W: Wait>(
     let last = cut(rt, heap, office, card)?;
     window.learn(&last);
     Ok(tells(&last, 3, true))
+}
+
+/// A clerk's edits are told, and a window learns the last receipt, but is not asked.
+pub fn learn_unasked<'a, H: Allocator, J: Naming<H>, R: Wait + Drop, W: Wait>(
+    rt: &W,
+    heap: &'a H,
+    office: &Office<'a, H, J, R>,
+    card: &mut Card<'a, H, J>,
+    window: &mut Window<'a, H, J>,
+) -> Result<Told, Fail> {
+    if !learn_cut(rt, heap, office, card, window)? {
+        return Err(Fail::new("another receipt"));
+    }
+    Ok(Told::Done)
+}
+
+/// What the last of some windows, which learnt a clerk's edits, tells once the office is closed.
+pub fn ask_late<'a, H: Allocator, J: Naming<H>>(
+    mut windows: Windows<'a, H, J>,
+) -> Result<Told, Fail> {
+    let Some(mut window) = windows.pop() else {
+        return Err(Fail::new("no window"));
+    };
+    if answers_late(&mut window, 3, 3)? {
+        Ok(Told::Done)
+    } else {
+        Ok(Told::NoVersion)
+    }
 }
 
 /// A clerk's edits are told, and seen at a window that learns the last receipt, and then at each other.

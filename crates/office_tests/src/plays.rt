@@ -6,7 +6,7 @@ ghost use Rattle.desk_lock.specs.Offices.{origin_of};
 use crate::answers::{Cards, Windows};
 use crate::clerks::{Task, work_all};
 use crate::growths::{cut_with_memory, locate_with_memory, sheet_with_memory, was_refused};
-use crate::halves::learn_halves;
+use crate::halves::{ask_late, learn_halves, learn_unasked};
 use crate::opened::Refuses;
 use crate::readers::read_meanwhile;
 use desk_lock::{Card, CloseFault, Name, Naming, Office, OpenFault, Window};
@@ -26,6 +26,8 @@ pub enum Play {
     Nothing,
     /// Clerk 1 cuts the first parcel in halves, and the first window learns the last receipt.
     Halves,
+    /// The same, but the window is asked only after the office is closed.
+    Late,
     /// Each clerk puts 100 corners into a side of the city.
     Sides,
     /// Two clerks merge the same two parcels.
@@ -54,6 +56,8 @@ pub enum Told {
     Unpublished(bool),
     /// A card was given up, so that the office could not be closed.
     GivenUp,
+    /// All was done at once, and the window answered K4 after the close.
+    NoVersion,
     /// All was done at once.
     Done,
 }
@@ -98,7 +102,11 @@ fn opened_as<
             let is_refused = was_refused(heap);
             let told = played(rt, heap, &office, &mut cards, &mut windows, play)?;
             let told = if is_refused { Told::Refused } else { told };
-            Ok((closed(&rt, heap, office, clerks, cards)?, told))
+            let fabric = closed(&rt, heap, office, clerks, cards)?;
+            if play == Play::Late {
+                return Ok((fabric, ask_late(windows)?));
+            }
+            Ok((fabric, told))
         }
         Err((fabric, fault)) => {
             heap.refuse(0);
@@ -156,6 +164,7 @@ fn played_alone<'a, H: Refuses, J: Naming<H>, R: Wait + Drop, W: Wait>(
     }
     match play {
         Play::Halves => learn_halves(rt, heap, office, cards, windows),
+        Play::Late => learn_unasked(rt, heap, office, &mut cards[0], &mut windows[0]),
         Play::Cut(number, later) => cut_with_memory(
             rt,
             heap,

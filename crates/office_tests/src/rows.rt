@@ -102,6 +102,17 @@ fn tells_what_was_published(rt: HostRuntime) -> Result<(), Fail> {
     Ok(())
 }
 
+/// A window that learnt the last receipt is asked once the office is closed. It may answer K4 then,
+/// since it is promised no version after the close; but where it answers, it has lost nothing of
+/// what it learnt. Now it answers K4.
+#[test]
+fn loses_nothing_at_the_close(rt: HostRuntime) -> Result<(), Fail> {
+    let heap = Refusing::new(rt.alloc(), 0);
+    let told = told_of(rt, &heap, (1, 1), NONE, Play::Late, HALVED)?;
+    assert!(rt; told == Told::NoVersion || told == Told::Done);
+    Ok(())
+}
+
 /// A square of a thousand centimetres.
 const LARGE: [Place; 4] = [(0, 0), (1000, 0), (1000, 1000), (0, 1000)];
 
