@@ -1,10 +1,10 @@
 //! Which parcels stand in the cells between two corners.
 
-use crate::loading::{EAST, SQUARE, WEST, tiling};
 use fabric_core::Layer;
 use std::alloc::{AllocError, Allocator};
 use std::test::Fail;
 use test_builders::{Place, corner};
+use test_cities::{EAST, SQUARE, WEST, layer};
 
 /// Two places, and the candidates between them.
 type Between = (Place, Place, &'static [u64]);
@@ -47,7 +47,7 @@ pub fn between<'a, H: Allocator>(
 
 /// How many candidates of a row are found as it says, from the first on.
 fn count_found<H: Allocator>(heap: &H, row: &Row) -> Result<usize, Fail> {
-    let layer = tiling(heap, &SQUARE, row.0)?;
+    let layer = layer(heap, &SQUARE, row.0)?;
     let mut count = 0usize;
     for (low, high, want) in row.1 {
         if between(&layer, *low, *high)??.as_slice() != *want {

@@ -1,16 +1,16 @@
 //! Rings that are cities, and rings that are none.
 
-use crate::loading::{SQUARE, city, sound_city};
 use fabric_core::CityFault;
 use ring_core::RingFault;
 use std::test::Fail;
 use test_builders::corners;
+use test_cities::{SQUARE, answer_city, city};
 
 #[test]
 fn begins_at_the_least_corner(rt: HostRuntime) -> Result<(), Fail> {
     let heap = &rt.alloc();
     let turned = [(100, 100), (0, 100), (0, 0), (100, 0)];
-    let city = sound_city(heap, &turned)?;
+    let city = city(heap, &turned)?;
     assert!(rt; city.ring.corners == corners(heap, &SQUARE)?);
     Ok(())
 }
@@ -19,13 +19,13 @@ fn begins_at_the_least_corner(rt: HostRuntime) -> Result<(), Fail> {
 fn refuses_rings_that_are_no_cities(rt: HostRuntime) -> Result<(), Fail> {
     let heap = &rt.alloc();
     let crossed = [(0, 0), (100, 100), (100, 0), (0, 100)];
-    let Err(fault) = city(heap, &crossed)? else {
+    let Err(fault) = answer_city(heap, &crossed)? else {
         return Err(Fail::new("a ring without an area"));
     };
     assert_eq!(rt; fault, CityFault::Ring(RingFault::ZeroArea));
     // it is read turned round: (0,0) (0,60) (100,0) (100,100)
     let meeting = [(0, 0), (100, 100), (100, 0), (0, 60)];
-    let Err(fault) = city(heap, &meeting)? else {
+    let Err(fault) = answer_city(heap, &meeting)? else {
         return Err(Fail::new("a ring whose edges meet"));
     };
     assert_eq!(rt; fault, CityFault::Ring(RingFault::EdgesMeet(1, 3)));

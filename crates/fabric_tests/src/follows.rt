@@ -1,13 +1,12 @@
 //! A fabric that follows the journal of another, entry by entry.
 
 use crate::changes::{Parcel, are, take};
-use crate::loading::SQUARE;
-use crate::opened::{RINGS, fabric};
 use crate::steps::{BACK_TO_ONE, HALVES, INTO_HALVES, ONE_CORNER, TWO, TWO_CORNERS};
 use fabric_core::{Entry, Fabric, FollowFault, Row};
 use refusing_alloc::Refusing;
 use std::alloc::{Allocator, Global};
 use std::test::Fail;
+use test_cities::{RINGS, SQUARE, fabric};
 
 /// No call here has so many growths.
 const MOST: u64 = 1000;

@@ -12,11 +12,7 @@ mod cities;
 #[cfg(test)]
 mod follows;
 #[cfg(test)]
-mod loading;
-#[cfg(test)]
 mod locating;
-#[cfg(test)]
-mod opened;
 #[cfg(test)]
 mod plain_scans;
 #[cfg(test)]

@@ -1,11 +1,11 @@
 //! Where corners lie among the parcels of a layer.
 
-use crate::loading::{EAST, SQUARE, WEST, tiling};
 use fabric_core::{At, Layer};
 use geo_exact::LIMIT;
 use std::alloc::Allocator;
 use std::test::Fail;
 use test_builders::{Place, corner};
+use test_cities::{EAST, SQUARE, WEST, layer};
 
 /// Where a place is: on the edges of these parcels; or inside the one; or, where there is none, outside.
 type Where = (&'static [u64], Option<u64>);
@@ -90,7 +90,7 @@ fn is_at<H: Allocator>(layer: &Layer<'_, H>, place: Place, want: Where) -> Resul
 
 /// How many places of a row are located where it says, from the first on.
 fn count_located<H: Allocator>(heap: &H, row: &Row) -> Result<usize, Fail> {
-    let layer = tiling(heap, row.0, row.1)?;
+    let layer = layer(heap, row.0, row.1)?;
     let mut count = 0usize;
     for (place, want) in row.2 {
         if !is_at(&layer, *place, *want)? {

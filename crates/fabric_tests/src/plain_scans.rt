@@ -1,7 +1,6 @@
 //! A layer's answers beside those of a scan over all its parcels, for tilings and corners that are
 //! drawn at random. The generator begins with the same words each time.
 
-use crate::loading::load_lists;
 use fabric_core::{At, Layer};
 use geo_exact::{Corner, Corners, on_segment, turn};
 use rand_core::utils::NextWord;
@@ -9,6 +8,7 @@ use rand_pcg::Pcg32;
 use std::alloc::{Allocator, Global};
 use std::test::Fail;
 use test_builders::{corner, corners, rectangle};
+use test_cities::answer_layer_of;
 
 /// The city's side; its cells are 2 wide and high.
 const SIDE: i64 = 100;
@@ -58,7 +58,7 @@ fn drawn<'a>(heap: &'a Global, words: &mut Pcg32) -> Result<Layer<'a, Global>, F
         }
     }
     let city = [(0, 0), (SIDE, 0), (SIDE, SIDE), (0, SIDE)];
-    match load_lists(heap, &city, &lists)? {
+    match answer_layer_of(heap, &city, &lists)? {
         Ok(layer) => Ok(layer),
         Err(_) => Err(Fail::new("no tiling")),
     }

@@ -1,7 +1,6 @@
 //! Each growth of a call refused in turn: its answer is want of memory, and with memory the same
 //! call gives the answer that it has to give.
 
-use crate::loading::{EAST, SQUARE, WEST, records, sound_city};
 use fabric_core::{AllFaults, City, CityFault, Layer, LoadFault};
 use geo_exact::Corner;
 use refusing_alloc::Refusing;
@@ -9,6 +8,7 @@ use ring_core::RingFault;
 use std::alloc::Global;
 use std::test::Fail;
 use test_builders::Place;
+use test_cities::{EAST, SQUARE, WEST, city, records};
 
 /// No call here has so many growths.
 const MOST: u64 = 1000;
@@ -205,7 +205,7 @@ fn is_telling_refused<'a>(
 
 /// The first growth that is not made any more.
 fn growths_of_loading(heap: &Heap, row: &Row) -> Result<u64, Fail> {
-    let city = sound_city(heap, &SQUARE)?;
+    let city = city(heap, &SQUARE)?;
     for number in 1..MOST {
         if !is_loading_refused(heap, &city, row, number)? {
             return Ok(number);
@@ -216,7 +216,7 @@ fn growths_of_loading(heap: &Heap, row: &Row) -> Result<u64, Fail> {
 
 /// The same, where all faults are told.
 fn growths_of_telling(heap: &Heap, row: &Row) -> Result<u64, Fail> {
-    let city = sound_city(heap, &SQUARE)?;
+    let city = city(heap, &SQUARE)?;
     for number in 1..MOST {
         if !is_telling_refused(heap, &city, row, number)? {
             return Ok(number);

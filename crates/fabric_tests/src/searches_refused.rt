@@ -2,12 +2,12 @@
 //! memory the same search finds what it has to find.
 
 use crate::candidates::between;
-use crate::loading::{EAST, SQUARE, WEST, tiling};
 use fabric_core::{At, Layer};
 use refusing_alloc::Refusing;
 use std::alloc::Global;
 use std::test::Fail;
 use test_builders::corner;
+use test_cities::{RINGS, SQUARE, layer};
 
 /// No call here has so many growths.
 const MOST: u64 = 100;
@@ -40,7 +40,7 @@ fn is_locating_refused(heap: &Heap, layer: &Layer<'_, Heap>, number: u64) -> Res
 #[test]
 fn locating(rt: HostRuntime) -> Result<(), Fail> {
     let heap = Refusing::new(rt.alloc(), 0);
-    let layer = tiling(&heap, &SQUARE, &[&WEST, &EAST])?;
+    let layer = layer(&heap, &SQUARE, &RINGS)?;
     for number in 1..MOST {
         if !is_locating_refused(&heap, &layer, number)? {
             assert!(rt; number > 1);
@@ -74,7 +74,7 @@ fn is_finding_refused(heap: &Heap, layer: &Layer<'_, Heap>, number: u64) -> Resu
 #[test]
 fn finding_candidates(rt: HostRuntime) -> Result<(), Fail> {
     let heap = Refusing::new(rt.alloc(), 0);
-    let layer = tiling(&heap, &SQUARE, &[&WEST, &EAST])?;
+    let layer = layer(&heap, &SQUARE, &RINGS)?;
     for number in 1..MOST {
         if !is_finding_refused(&heap, &layer, number)? {
             assert!(rt; number > 2);

@@ -1,11 +1,11 @@
 //! A layer of the greatest number of parcels, a ring of the greatest number of corners, and one more than that.
 
-use crate::loading::load_lists;
 use fabric_core::LoadFault;
 use geo_exact::{Corners, LAYER_RECORDS, RING_CORNERS};
 use std::alloc::Global;
 use std::test::Fail;
 use test_builders::{Place, corner, corners, rectangle};
+use test_cities::answer_layer_of;
 
 /// The city of the two parcels that share a long border.
 const WIDE: [Place; 4] = [(0, 0), (5000, 0), (5000, 100), (0, 100)];
@@ -34,7 +34,7 @@ fn first_of_two(heap: &Global, below: &[Place]) -> Result<Result<usize, LoadFaul
     let mut lists = Vec::new(heap);
     lists.push(corners(heap, below)?)?;
     lists.push(above(heap)?)?;
-    match load_lists(heap, &WIDE, &lists)? {
+    match answer_layer_of(heap, &WIDE, &lists)? {
         Ok(layer) => Ok(Ok(layer.ring(1).map_or(0, |ring| ring.corners.len()))),
         Err(fault) => Ok(Err(fault)),
     }
@@ -63,7 +63,7 @@ fn most_rectangles(heap: &Global) -> Result<Vec<Corners<&Global>, &Global>, Fail
 fn last_of<'a>(heap: &'a Global, lists: &[Corners<&'a Global>]) -> Result<(usize, bool), Fail> {
     let side = i64::from(LAYER_RECORDS);
     let city = [(0, 0), (side, 0), (side, 9), (0, 9)];
-    let Ok(layer) = load_lists(heap, &city, lists)? else {
+    let Ok(layer) = answer_layer_of(heap, &city, lists)? else {
         return Err(Fail::new("no tiling"));
     };
     let Some(last) = layer.ring(u64::from(LAYER_RECORDS)) else {

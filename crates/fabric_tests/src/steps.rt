@@ -1,13 +1,12 @@
 //! Worked examples of each edit and of each refusal, each group of steps in a fabric of its own.
 
 use crate::changes::{Change, Parcel, Step, are_at, is_inside, take};
-use crate::loading::{EAST, SQUARE, WEST};
-use crate::opened::{RINGS, fabric};
 use fabric_core::{Fabric, Refusal};
 use ring_core::RingFault;
 use std::alloc::Allocator;
 use std::test::Fail;
 use test_builders::Place;
+use test_cities::{EAST, RINGS, SQUARE, WEST, fabric};
 
 /// The two parcels, as most groups begin.
 pub const TWO: [Parcel; 2] = [(1, 12_000, &WEST), (2, 8_000, &EAST)];

@@ -1,12 +1,12 @@
 //! Layers that tile their city, and layers that do not.
 
-use crate::loading::{EAST, SQUARE, WEST, load};
 use fabric_core::{Layer, LoadFault};
 use geo_exact::{Corner, LIST_CORNERS, area2};
 use ring_core::RingFault;
 use std::alloc::Allocator;
 use std::test::Fail;
 use test_builders::Place;
+use test_cities::{EAST, SQUARE, WEST, answer_layer};
 
 /// A parcel's id, twice its area, and its ring.
 type Parcel = (u64, i128, &'static [Place]);
@@ -222,7 +222,7 @@ fn is_fault(fault: LoadFault, want: &Answer) -> bool {
 
 /// Whether the rings of a row are answered as it says.
 fn is_answered<H: Allocator>(heap: &H, row: &Row) -> Result<bool, Fail> {
-    let answer = load(heap, row.0, row.1)?;
+    let answer = answer_layer(heap, row.0, row.1)?;
     match (answer, &row.2) {
         (Ok(layer), Answer::Tiles(parcels, refined)) => Ok(
             are(&layer, parcels) && are_at(layer.city(), row.0) && are_at(layer.refined(), refined),

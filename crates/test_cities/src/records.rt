@@ -1,10 +1,9 @@
-//! Cities and layers as a run has them: of rings that were read from the bytes of a layer file.
+//! Rings that are read from the bytes of a layer file, and the places of those that most rows have.
 
 ghost use Rattle.std.specs.Prelude.{◌≤◌, IfOk};
 ghost use Rattle.geo_exact.specs.Layers.{corner_count, NumbersRise, rings_of};
 ghost use Rattle.geo_exact.specs.declared.limits.TheConstants.{LAYER_CORNERS, LAYER_RECORDS};
 
-use fabric_core::{City, CityFault, Layer, LoadFault};
 use geo_exact::{Corners, RawRing, Unit};
 use shp_files::{a_layer_file_is_within_the_limits, read_layer};
 use std::alloc::Allocator;
@@ -19,6 +18,12 @@ pub const WEST: [Place; 4] = [(0, 0), (60, 0), (60, 100), (0, 100)];
 
 /// The parcel from x = 60 to 100 of that city.
 pub const EAST: [Place; 4] = [(60, 0), (100, 0), (100, 100), (60, 100)];
+
+/// The rings of both.
+pub const RINGS: [&[Place]; 2] = [&WEST, &EAST];
+
+/// The rings of a layer, by their places.
+pub type Rings<'a> = &'a [&'a [Place]];
 
 /// A list of rings under their numbers, as a layer file gives them.
 pub type Records<'a, H> = Vec<RawRing<&'a H>, &'a H>;
@@ -37,7 +42,10 @@ pub fn read<'a, H: Allocator>(heap: &'a H, lists: &[Corners<&'a H>]) -> Result<R
 }
 
 /// The lists of corners at these places.
-fn lists<A: Allocator + Copy>(alloc: A, rings: &[&[Place]]) -> Result<Vec<Corners<A>, A>, Fail> {
+pub(crate) fn lists<A: Allocator + Copy>(
+    alloc: A,
+    rings: Rings<'_>,
+) -> Result<Vec<Corners<A>, A>, Fail> {
     let mut lists = Vec::new(alloc);
     for ring in rings {
         lists.push(corners(alloc, ring)?)?;
@@ -46,62 +54,10 @@ fn lists<A: Allocator + Copy>(alloc: A, rings: &[&[Place]]) -> Result<Vec<Corner
 }
 
 /// The same, of the rings at these places.
-pub fn records<'a, H: Allocator>(heap: &'a H, rings: &[&[Place]]) -> Result<Records<'a, H>, Fail>
+pub fn records<'a, H: Allocator>(heap: &'a H, rings: Rings<'_>) -> Result<Records<'a, H>, Fail>
     ensures numbers { IfOk result (λ records. NumbersRise 0 LAYER_RECORDS (rings_of records.items)) }
     ensures corners { IfOk result (λ records. corner_count (rings_of records.items) ≤ LAYER_CORNERS) }
 {
     let lists = lists(heap, rings)?;
     read(heap, &lists)
-}
-
-/// What the ring at these places is answered as a city.
-pub fn city<'a, H: Allocator>(
-    heap: &'a H,
-    ring: &[Place],
-) -> Result<Result<City<'a, H>, CityFault>, Fail> {
-    let Some(ring) = records(heap, &[ring])?.pop() else {
-        return Err(Fail::new("no ring"));
-    };
-    Ok(City::new(heap, ring))
-}
-
-/// The city at these places.
-pub fn sound_city<'a, H: Allocator>(heap: &'a H, ring: &[Place]) -> Result<City<'a, H>, Fail> {
-    match city(heap, ring)? {
-        Ok(city) => Ok(city),
-        Err(_) => Err(Fail::new("no city")),
-    }
-}
-
-/// What lists of corners are answered as a layer of the city.
-pub fn load_lists<'a, H: Allocator>(
-    heap: &'a H,
-    city: &[Place],
-    lists: &[Corners<&'a H>],
-) -> Result<Result<Layer<'a, H>, LoadFault>, Fail> {
-    let city = sound_city(heap, city)?;
-    let records = read(heap, lists)?;
-    Ok(Layer::load(heap, &city, records))
-}
-
-/// What the rings at these places are answered as a layer of the city.
-pub fn load<'a, H: Allocator>(
-    heap: &'a H,
-    city: &[Place],
-    rings: &[&[Place]],
-) -> Result<Result<Layer<'a, H>, LoadFault>, Fail> {
-    let lists = lists(heap, rings)?;
-    load_lists(heap, city, &lists)
-}
-
-/// The layer of the rings at these places, in the city.
-pub fn tiling<'a, H: Allocator>(
-    heap: &'a H,
-    city: &[Place],
-    rings: &[&[Place]],
-) -> Result<Layer<'a, H>, Fail> {
-    match load(heap, city, rings)? {
-        Ok(layer) => Ok(layer),
-        Err(_) => Err(Fail::new("no tiling")),
-    }
 }

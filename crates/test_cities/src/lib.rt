@@ -1,0 +1,14 @@
+//! Cities, layers, fabrics and sheets for tests, as a run has them: of rings that were read from the
+//! bytes of a layer file. Only tests name this crate.
+//!
+//! A builder that is handed what it cannot build is a test's mistake, and fails the test; those that
+//! are named for an answer hand on what is answered.
+#![tactic(auto)]
+
+mod fabrics;
+mod layers;
+mod records;
+
+pub use fabrics::{fabric, fabric_in, fabric_of, sheet, sheet_in};
+pub use layers::{answer_city, answer_layer, answer_layer_of, city, layer, layer_in};
+pub use records::{EAST, RINGS, Records, Rings, SQUARE, WEST, read, records};
