@@ -1,6 +1,5 @@
 //! A city of a thousand parcels with 20 corners each: a grid whose crossings and edges are drawn.
 
-use crate::opened::opened;
 use fabric_core::Fabric;
 use geo_exact::{Corner, Corners};
 use rand_core::utils::NextWord;
@@ -8,6 +7,7 @@ use rand_pcg::Pcg32;
 use std::alloc::Allocator;
 use std::test::Fail;
 use test_builders::{Place, corner};
+use test_cities::fabric_of;
 
 /// How many parcels the city has from west to east.
 const COLUMNS: u32 = 40;
@@ -146,7 +146,7 @@ pub fn large_city<'a, H: Allocator>(heap: &'a H) -> Result<Fabric<'a, H>, Fail> 
             rings.push(parcel(heap, column, row)?)?;
         }
     }
-    opened(heap, &CITY, &rings)
+    fabric_of(heap, &CITY, &rings)
 }
 
 /// A place of that city, from any two numbers: one in four times a crossing, where parcels meet

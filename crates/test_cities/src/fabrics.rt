@@ -3,7 +3,7 @@
 ghost use Rattle.std.specs.Prelude.{◌≡◌, IfOk};
 
 use crate::layers::{answer_layer_of, city, layer_in};
-use crate::records::Rings;
+use crate::rings::Rings;
 use fabric_core::{City, Fabric, Layer, Sheet};
 use geo_exact::Corners;
 use std::alloc::Allocator;

@@ -2,7 +2,7 @@
 
 ghost use Rattle.std.specs.Prelude.{◌≡◌, IfOk};
 
-use crate::records::{Rings, lists, read, records};
+use crate::rings::{Rings, lists, read, records};
 use fabric_core::{City, CityFault, Layer, LoadFault};
 use geo_exact::Corners;
 use std::alloc::Allocator;

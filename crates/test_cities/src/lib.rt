@@ -7,8 +7,8 @@
 
 mod fabrics;
 mod layers;
-mod records;
+mod rings;
 
 pub use fabrics::{fabric, fabric_in, fabric_of, sheet, sheet_in};
 pub use layers::{answer_city, answer_layer, answer_layer_of, city, layer, layer_in};
-pub use records::{EAST, RINGS, Records, Rings, SQUARE, WEST, read, records};
+pub use rings::{EAST, RINGS, Records, Rings, SQUARE, WEST, read, records};
