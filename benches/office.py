@@ -11,7 +11,8 @@ pairs    over cities S, M and L: one clerk submits COUNT edits that are accepted
          the milliseconds of the load and of the office's opening, with their ratio; and the peak memory
 locate   over city L: four windows, each in a thread of its own, locate POINTS corners each while a clerk submits: millions a second
          of each
-many     over city M: four clerks submit LONG edits together: microseconds an edit, and the peak memory
+many     over cities M and L: four clerks submit until LONG edits are accepted or draws run out: how many were accepted and refused,
+         microseconds a submit, and the peak memory. L has as many parcels as a layer may have, so splits are refused there
 random   over a city of 64 parcels: eight clerks with RANDOM edits each and four windows; the program compares each answer with a
          scan over the replayed parcels, and the fabric with the replay of its journal, and fails where one differs
 """
@@ -72,8 +73,8 @@ def show_locate(name, program, folder, given):
 def show_many(name, program, folder, given):
     answers = [answer(program, "many", folder, 4, given.long) for _ in range(given.runs)]
     accepted, refused, micros = min((lines[2] for lines, _ in answers), key=lambda row: row[2])
-    print("city %s, four clerks: %d edits, %d refused, %.1f us an edit, %d MiB" % (
-        name, accepted, refused, micros / accepted, answers[0][1] / 1024), flush=True)
+    print("city %s, four clerks: %d edits, %d refused, %.1f us a submit, %d MiB" % (
+        name, accepted, refused, micros / (accepted + refused), answers[0][1] / 1024), flush=True)
 
 
 def show_random(name, program, folder, given):
@@ -84,7 +85,7 @@ def show_random(name, program, folder, given):
 
 
 JOBS = (("pairs", "S", show_pairs), ("pairs", "M", show_pairs), ("pairs", "L", show_pairs), ("locate", "L", show_locate),
-        ("many", "M", show_many), ("random", "small", show_random))
+        ("many", "M", show_many), ("many", "L", show_many), ("random", "small", show_random))
 
 
 def main():
