@@ -1,8 +1,8 @@
 //! Hands that work at the same time, each in a thread of its own.
 
-use crate::loaded::{HALVES, PARCELS, Rings, SQUARE, layer, sheet};
 use crate::rounds::{BOTH, STRIPS, TWO};
 use crate::steps::{Sharing, begun};
+use crate::zones::HALVES;
 use fabric_core::{Layer, Sheet};
 use overlay_work::{Gate, run_round};
 use std::alloc::Allocator;
@@ -11,6 +11,7 @@ use std::sync::atomic::{AtomicU64, Ordering};
 use std::test::Fail;
 use std::thread;
 use std::thread::Threads;
+use test_cities::{RINGS, Rings, SQUARE, layer, sheet};
 
 /// So many turns a hand waits for another.
 const TURNS: u64 = 1_000_000;
@@ -126,7 +127,7 @@ fn passes_before_each_step(rt: HostRuntime) -> Result<(), Fail> {
         is_run(
             &rt,
             &rt.alloc(),
-            (&PARCELS, &HALVES),
+            (&RINGS, &HALVES),
             (1, &[(0, 1), (0, 2)]),
             &gate,
             &BOTH
@@ -143,16 +144,7 @@ fn two_hands_meet(rt: HostRuntime) -> Result<(), Fail> {
         second: AtomicU64::new(0),
         missed: AtomicU64::new(0),
     };
-    assert!(rt;
-        is_run(
-            &rt,
-            &rt.alloc(),
-            (&PARCELS, &HALVES),
-            (2, &TWO),
-            &gate,
-            &BOTH
-        )?
-    );
+    assert!(rt; is_run(&rt, &rt.alloc(), (&RINGS, &HALVES), (2, &TWO), &gate, &BOTH)?);
     assert_eq!(rt; gate.missed.load(Ordering::SeqCst), 0);
     Ok(())
 }

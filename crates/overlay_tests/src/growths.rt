@@ -2,10 +2,10 @@
 //! back as it was, and with memory the round goes on to its table.
 
 use crate::gates::Open;
-use crate::loaded::{HALVES, PARCELS, SQUARE, layer, sheet};
 use crate::refusals::closes_later;
 use crate::rounds::{BOTH, FIRST_ALONE, TWO};
 use crate::steps::{begun, do_all, is_closed, lists, step, tests_of};
+use crate::zones::HALVES;
 use fabric_core::{Layer, Sheet};
 use overlay_work::{CloseFault, Round, RoundBack, RoundFault, Step, Table, run_round};
 use refusing_alloc::Refusing;
@@ -13,6 +13,7 @@ use std::alloc::Global;
 use std::sync::Wait;
 use std::test::Fail;
 use std::thread::Threads;
+use test_cities::{RINGS, SQUARE, layer, sheet};
 
 /// No call here has so many growths.
 const MOST: u64 = 100;
@@ -189,7 +190,7 @@ fn first_unrefused_of_both<R: Threads + Wait + Sync>(
     heap: &Heap,
     call: Call,
 ) -> Result<u64, Fail> {
-    let sheet = sheet(heap, &SQUARE, &PARCELS)?;
+    let sheet = sheet(heap, &SQUARE, &RINGS)?;
     let zones = layer(heap, &SQUARE, &HALVES)?;
     first_unrefused(rt, heap, &sheet, &zones, call)
 }

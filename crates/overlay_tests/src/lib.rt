@@ -8,8 +8,6 @@ mod gates;
 #[cfg(test)]
 mod growths;
 #[cfg(test)]
-mod loaded;
-#[cfg(test)]
 mod pairs;
 #[cfg(test)]
 mod refusals;
@@ -21,3 +19,5 @@ mod rounds;
 mod steps;
 #[cfg(test)]
 mod tables;
+#[cfg(test)]
+mod zones;

@@ -2,14 +2,15 @@
 
 ghost use Rattle.overlay_work.specs.Rounds.{AreHandsOf};
 
-use crate::loaded::{HALVES, PARCELS, Rings, SQUARE, WEST, layer, sheet};
 use crate::rounds::{BOTH, TWO};
 use crate::steps::{Sharing, begin, begun, do_all, is_closed};
+use crate::zones::HALVES;
 use fabric_core::{Layer, Sheet};
 use overlay_work::{CloseFault, RoundBack, RoundFault, Step};
 use std::alloc::Allocator;
 use std::test::Fail;
 use test_builders::Place;
+use test_cities::{RINGS, Rings, SQUARE, WEST, layer, sheet};
 
 /// The zones' city, the zones, a sharing, and why no round is begun.
 type Unbegun = (
@@ -43,7 +44,7 @@ static UNBEGUN: [Unbegun; 6] = [
 /// Whether this is why no round is begun.
 fn is_unbegun<H: Allocator>(heap: &H, row: &Unbegun) -> Result<bool, Fail> {
     let (ground, rings, sharing, want) = *row;
-    let sheet = sheet(heap, &SQUARE, &PARCELS)?;
+    let sheet = sheet(heap, &SQUARE, &RINGS)?;
     let zones = layer(heap, ground, rings)?;
     match begin(heap, &sheet, &zones, sharing) {
         Ok(_) => Ok(false),
@@ -93,7 +94,7 @@ fn closes_when_done<'t, 'h, H: Allocator>(
 
 /// Whether a round of the two parcels is closed when a hand has found all ends, and not before.
 fn is_closed_when_done<H: Allocator>(heap: &H) -> Result<bool, Fail> {
-    let sheet = sheet(heap, &SQUARE, &PARCELS)?;
+    let sheet = sheet(heap, &SQUARE, &RINGS)?;
     let zones = layer(heap, &SQUARE, &HALVES)?;
     closes_when_done(heap, &sheet, &zones)
 }
@@ -122,7 +123,7 @@ fn fault_of_one_hand<'t, 'h, H: Allocator>(
 
 /// Why a round of the two parcels is not closed then.
 fn fault_of_two<H: Allocator>(heap: &H) -> Result<Option<CloseFault>, Fail> {
-    let sheet = sheet(heap, &SQUARE, &PARCELS)?;
+    let sheet = sheet(heap, &SQUARE, &RINGS)?;
     let zones = layer(heap, &SQUARE, &HALVES)?;
     fault_of_one_hand(heap, &sheet, &zones)
 }

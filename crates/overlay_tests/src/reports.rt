@@ -2,8 +2,8 @@
 
 ghost use Rattle.std.specs.Prelude.{◌≡◌, IfOk};
 
-use crate::loaded::{EAST, HALVES, SQUARE, WEST, city, fabric_in, layer_in, sheet_in};
 use crate::pairs::all_pairs;
+use crate::zones::HALVES;
 use fabric_core::{City, Fabric, Sheet};
 use geo_exact::{ByteOut, Counted, FailAt};
 use ring_edits::Edit;
@@ -12,6 +12,7 @@ use std::io;
 use std::io::Write;
 use std::test::Fail;
 use test_builders::{Place, corner, corners};
+use test_cities::{EAST, SQUARE, WEST, city, fabric_in, layer_in, sheet_in};
 use zone_tables::{Table, WriteFault, write_report};
 
 /// The report of a table.

@@ -1,12 +1,13 @@
 //! The tables of rounds, for several sharings and hands.
 
-use crate::loaded::{HALVES, PARCELS, Rings, SQUARE, layer, sheet};
 use crate::steps::{Sharing, begun, do_and_count, is_closed};
+use crate::zones::HALVES;
 use fabric_core::{Layer, Sheet};
 use overlay_work::Step;
 use std::alloc::Allocator;
 use std::test::Fail;
 use test_builders::Place;
+use test_cities::{RINGS, Rings, SQUARE, layer, sheet};
 
 /// The greatest coordinate.
 const M: i64 = 10_000_000_000;
@@ -59,7 +60,7 @@ pub const BOTH: [(u64, u64); 3] = [(1, 1), (1, 2), (2, 2)];
 static ROWS: [Row; 9] = [
     Row {
         ground: &SQUARE,
-        parcels: &PARCELS,
+        parcels: &RINGS,
         zones: &HALVES,
         sharing: (2, &TWO),
         turns: &FIRST_ALONE,
@@ -68,8 +69,8 @@ static ROWS: [Row; 9] = [
     },
     Row {
         ground: &SQUARE,
-        parcels: &PARCELS,
-        zones: &PARCELS,
+        parcels: &RINGS,
+        zones: &RINGS,
         sharing: (2, &TWO),
         turns: &FIRST_ALONE,
         tests: &[2, 4, 4],
@@ -86,7 +87,7 @@ static ROWS: [Row; 9] = [
     },
     Row {
         ground: &SQUARE,
-        parcels: &PARCELS,
+        parcels: &RINGS,
         zones: &HALVES,
         sharing: (2, &[(0, 1), (0, 2)]),
         turns: &[(1, Step::Did(1)), (1, Step::Did(2)), (1, Step::Done)],
@@ -95,7 +96,7 @@ static ROWS: [Row; 9] = [
     },
     Row {
         ground: &SQUARE,
-        parcels: &PARCELS,
+        parcels: &RINGS,
         zones: &HALVES,
         sharing: (2, &[(0, 2), (1, 1)]),
         turns: &[(1, Step::Did(1)), (0, Step::Did(2)), (0, Step::Done)],
@@ -104,7 +105,7 @@ static ROWS: [Row; 9] = [
     },
     Row {
         ground: &SQUARE,
-        parcels: &PARCELS,
+        parcels: &RINGS,
         zones: &HALVES,
         sharing: (64, &[(7, 2), (40, 1)]),
         turns: &[(50, Step::Did(2)), (50, Step::Did(1)), (50, Step::Done)],

@@ -1,12 +1,13 @@
 //! Tables of parcels and zones, and what they tell of each parcel.
 
-use crate::loaded::{EAST, HALVES, LEFT, RIGHT, SQUARE, WEST, city, layer_in, sheet_in};
 use crate::pairs::all_pairs;
 use crate::reports::report_of;
+use crate::zones::{HALVES, LEFT, RIGHT};
 use refusing_alloc::Refusing;
 use std::alloc::{Allocator, Global};
 use std::test::Fail;
 use test_builders::Place;
+use test_cities::{EAST, SQUARE, WEST, city, layer_in, sheet_in};
 use zone_tables::Table;
 
 const BELOW: [Place; 3] = [(0, 0), (100, 0), (100, 100)];
