@@ -6,10 +6,9 @@ ghost use Rattle.geo_exact.specs.First.{HasNone, IsFirst};
 ghost use Rattle.geo_exact.specs.Places.{before};
 ghost use Rattle.ring_core.specs.Boxes.{HoldsTriangle};
 ghost use Rattle.ring_core.specs.Clipping.{Blocks, IsEar, IsFlat, IsInTriangle, IsTriangleAt};
-ghost use Rattle.ring_core.specs.declared.marks.Reach.{Reach as ReachValue};
 ghost use Rattle.ring_core.specs.own.Blocks.{AreBlocksOrNone};
 ghost use Rattle.ring_core.specs.own.Kinds.{AreKinds, IsKind, IsTakenOut, TurnsLeft, WasBeside, number_before};
-ghost use Rattle.ring_core.specs.own.Kinds.{AreMarked, AreSeen, IsReleased};
+ghost use Rattle.ring_core.specs.own.Kinds.{AreMarked, AreSeen, IsReleased, KeepsMarks, NeedNoMark};
 
 use crate::blocks::Span;
 use crate::boxes::bounds_of;
@@ -62,7 +61,7 @@ pub fn kind_at(corners: &[Corner], k: usize) -> Kind
 /// [`AllocError`] where an allocation is refused.
 pub fn kinds_of<A: Allocator>(alloc: A, corners: &[Corner]) -> Result<Vec<Kind, A>, AllocError>
     ensures are { IfOk result (λ kinds. (numbers : List ℕ) → AreKinds corners.now numbers kinds.items) }
-    ensures unblocked { IfOk result (λ kinds. (numbers : List ℕ) (marks : List ReachValue) → AreMarked kinds.items numbers marks) }
+    ensures unblocked { IfOk result (λ kinds. NeedNoMark kinds.items) }
 {
     let mut kinds = Vec::with_capacity(alloc, corners.len())?;
     for k in 0..corners.len() {
@@ -257,7 +256,7 @@ fn look_at(corners: &[Corner], kinds: &mut [Kind], k: usize, seen: Seen) -> Seen
     requires seen { AreSeen kinds.old seen }
     ensures here { (numbers : List ℕ) → IsKind corners.now numbers k (slice_index_or kinds.new k Kind.Flat) }
     ensures others { (j : ℕ) → j ≢ k → slice_index_or kinds.new j Kind.Flat ≡ slice_index_or kinds.old j Kind.Flat }
-    ensures marked { (numbers : List ℕ) (marks : List ReachValue) → AreMarked kinds.old numbers marks → AreMarked kinds.new numbers marks }
+    ensures marked { KeepsMarks kinds.old kinds.new }
     ensures seen { AreSeen kinds.new result }
 {
     let kind = kind_at(corners, k);

@@ -52,6 +52,14 @@ abbrev pub AreMarked : List Kind → List ℕ → List Reach → Type 0
 AreMarked kinds numbers marks = (j witness : ℕ) → j < length kinds → slice_index_or kinds j Flat ≡ Blocked witness
     → IsMarked marks witness (slice_index_or numbers j 0)
 
+-- no corner has a witness, so any marks are right
+abbrev pub NeedNoMark : List Kind → Type 0
+NeedNoMark kinds = (numbers : List ℕ) (marks : List Reach) → AreMarked kinds numbers marks
+
+-- marks that were right are right still
+abbrev pub KeepsMarks : List Kind → List Kind → Type 0
+KeepsMarks old new = (numbers : List ℕ) (marks : List Reach) → AreMarked old numbers marks → AreMarked new numbers marks
+
 -- the kinds were looked through so far
 pub record AreSeen (kinds : List Kind) (seen : Seen) : Type 0 where
   pub flats : (j : ℕ) → j < seen.flats → j < length kinds → slice_index_or kinds j Flat ≢ Flat
