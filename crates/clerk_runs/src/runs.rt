@@ -115,8 +115,8 @@ fn edit_at_office<
     ensures fault { IfErr result (λ fault. (fault ≡ NoWindow 1) ⊎ (fault ≡ NoMemory)) }
 {
     let (office, cards, mut windows) = match Office::<H, J, &R>::open(
-        heap,
         rt,
+        heap,
         name,
         fabric,
         clerks.len(),

@@ -50,8 +50,8 @@ impl<'a, H: Allocator, J: Naming<H>, R: Wait + Drop> Office<'a, H, J, R> {
     /// none or more than 8 clerks, then windows; and [`OpenFault::NoWindow`] (K3) or
     /// [`OpenFault::NoMemory`].
     pub fn open(
-        heap: &'a H,
         rt: R,
+        heap: &'a H,
         name: Name<&'a H>,
         fabric: Fabric<'a, H>,
         clerks: usize,
@@ -68,7 +68,7 @@ impl<'a, H: Allocator, J: Naming<H>, R: Wait + Drop> Office<'a, H, J, R> {
         if let Err(fault) = check_places(clerks, windows) {
             return Err((fabric, fault));
         }
-        match parts_of(heap, rt, name, &fabric, clerks, windows) {
+        match parts_of(rt, heap, name, &fabric, clerks, windows) {
             Ok(parts) => Ok(assemble(fabric, parts, clerks)),
             Err(fault) => Err((fabric, fault)),
         }
@@ -115,8 +115,13 @@ impl<'a, H: Allocator, J: Naming<H>, R: Wait + Drop> Office<'a, H, J, R> {
     ///     window.learn_notice(&notice);
     /// }
     /// ```
-    pub fn publish<W: Wait>(&self, rt: &W) -> Option<Notice<'a, H, J>> {
+    pub fn publish<W: Wait>(&self, rt: &W) -> Option<Notice<'a, H, J>>
+        ensures lawful { IfSome result (IsLawful J.office.origin.opening) }
+        ensures begins { IfSome result (IsPrefix J.office.origin.journal) }
+        ensures of_clerks { IfSome result (λ told. All (λ entry. IsClerk J.office.clerks entry.clerk) (behind J.office.origin told)) }
+    {
         let mut desk = self.desk.lock(rt);
+        desk.tiles();
         let front = desk.publish()?;
         Some(Notice {
             number: desk.fabric.entries(),

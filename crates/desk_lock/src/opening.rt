@@ -93,8 +93,8 @@ pub(crate) fn deal<'a, H: Allocator, J: Naming<H>>(
 
 /// The writer of the versions, which are copies of the fabric.
 pub(crate) fn publisher_of<'a, H: Allocator, J: Naming<H>, R: Wait + Drop>(
-    heap: &'a H,
     rt: R,
+    heap: &'a H,
     opened: Opened<Entry<&'a H>>,
     fabric: &Fabric<'a, H>,
     windows: usize,
@@ -106,7 +106,7 @@ pub(crate) fn publisher_of<'a, H: Allocator, J: Naming<H>, R: Wait + Drop>(
 {
     let first = Copied::of(fabric.copy()?);
     let second = Copied::of(fabric.copy()?);
-    Publisher::open(heap, rt, opened, first, second, windows)
+    Publisher::open(rt, heap, opened, first, second, windows)
 }
 
 /// So many windows.
@@ -148,8 +148,8 @@ pub(crate) struct Parts<'a, H: Allocator, J: Naming<H>, R: Wait + Drop> {
 
 /// What an office has beside the fabric, newly made.
 pub(crate) fn parts_of<'a, H: Allocator, J: Naming<H>, R: Wait + Drop>(
-    heap: &'a H,
     rt: R,
+    heap: &'a H,
     name: Name<&'a H>,
     fabric: &Fabric<'a, H>,
     clerks: usize,
@@ -167,7 +167,7 @@ pub(crate) fn parts_of<'a, H: Allocator, J: Naming<H>, R: Wait + Drop>(
 {
     let Name { opened, mut keeper } = name;
     let cards = deal(heap, &mut keeper, clerks)?;
-    let publisher = publisher_of(heap, rt, opened, fabric, windows)?;
+    let publisher = publisher_of(rt, heap, opened, fabric, windows)?;
     match windows_of(heap, &publisher, windows) {
         Ok(windows) => Ok(Parts {
             keeper,

@@ -3,12 +3,14 @@
 
 ghost use Rattle.std.specs.Prelude.{◌≡◌, ◌⊎◌, ℕ, ◌+◌, ◌≤◌, [], Some, vec_len, vec_capacity, IfOk, IfErr, IfSome};
 ghost use Rattle.std.specs.List.{AllZip};
-ghost use Rattle.job_threads.specs.Jobs.{IsDoneBehind, HasRank};
+ghost use Rattle.job_threads.specs.Jobs.{HasRank};
+ghost use Rattle.job_threads.specs.own.Attempts.{WasTried, IsFinished, IsTriedBehind};
 
 use std::alloc::Allocator;
 use std::marker::PhantomData;
 use std::snapshot::Snapshot;
 use std::sync::Wait;
+use std::sync::atomic::{AtomicUsize, Ordering};
 use std::thread;
 use std::thread::{Promise, Scope, Threads};
 
@@ -29,19 +31,20 @@ pub trait Job<C>: Send + Drop {
         ensures { stays self result };
 }
 
+/// That a job is handed back done, or as it was.
 #[derive(Drop)]
-struct StaysAs<C, J: Job<C>> {
+struct Tries<C, J: Job<C>> {
     was: Snapshot<J>,
     with: PhantomData<C>,
 }
 
-impl<C, J: Job<C>> Promise<J> for StaysAs<C, J> {
-    ghost kept_by = { λ promise job. J.stays promise.was.value job };
+impl<C, J: Job<C>> Promise<Result<J, J>> for Tries<C, J> {
+    ghost kept_by = { λ promise tried. WasTried J.stays promise.was.value tried };
 }
 
 /// Does each job in a thread of its own, and hands all back in their order. Jobs for which the
-/// system refused a thread are done in this thread, each behind those in front of it; the least
-/// rank of these is told.
+/// system refused a thread are done in this thread, one after the other, once all others are
+/// joined; the least rank of these is told.
 ///
 /// # Errors
 ///
@@ -55,73 +58,129 @@ pub fn do_all<C: Sync, J: Job<C>, A: Allocator + Copy, R: Threads + Wait + Sync>
     ensures refused { IfOk result (λ done. IfSome done.1 (HasRank J.rank_of jobs.items)) }
     ensures back { IfErr result (λ back. back.items ≡ jobs.items) }
 {
-    let Ok(room) = Vec::with_capacity(*jobs.allocator(), jobs.len()) else {
+    let alloc = *jobs.allocator();
+    let Ok(room) = Vec::with_capacity(alloc, jobs.len()) else {
         return Err(jobs);
     };
-    Ok(in_scope(rt, with, jobs, room))
+    let Ok(back) = Vec::with_capacity(alloc, jobs.len()) else {
+        return Err(jobs);
+    };
+    let called_back = AtomicUsize::new(0);
+    let (tried, refused) = in_scope(rt, with, &called_back, jobs, room);
+    Ok((finish(with, tried, back), refused))
 }
 
-/// Does jobs in threads of a scope.
+/// Tries jobs in threads of a scope, which joins all that started.
 fn in_scope<C: Sync, J: Job<C>, A: Allocator + Copy, R: Threads + Wait + Sync>(
     rt: &R,
     with: &C,
+    called_back: &AtomicUsize,
     jobs: Vec<J, A>,
-    back: Vec<J, A>,
-) -> (Vec<J, A>, Option<usize>)
-    requires none { back.items ≡ [] }
-    requires room { vec_len back + vec_len jobs ≤ vec_capacity back }
-    ensures done { AllZip J.stays jobs.items result.0.items }
+    tried: Vec<Result<J, J>, A>,
+) -> (Vec<Result<J, J>, A>, Option<usize>)
+    requires none { tried.items ≡ [] }
+    requires room { vec_len tried + vec_len jobs ≤ vec_capacity tried }
+    ensures tried { AllZip (WasTried J.stays) jobs.items result.0.items }
     ensures refused { IfSome result.1 (HasRank J.rank_of jobs.items) }
+    ensures count { vec_len result.0 ≡ vec_len jobs }
 {
     thread::scope(
         thread::scope_env(),
         rt,
-        move |scope| -> (Vec<J, A>, Option<usize>)
-            requires { vec_len back + vec_len jobs ≤ vec_capacity back }
-            ensures done { IsDoneBehind J.stays jobs.items back.items result.0.items }
+        move |scope| -> (Vec<Result<J, J>, A>, Option<usize>)
+            requires { vec_len tried + vec_len jobs ≤ vec_capacity tried }
+            ensures tried { IsTriedBehind J.stays jobs.items tried.items result.0.items }
             ensures refused { IfSome result.1 (HasRank J.rank_of jobs.items) }
-        { spread(scope, rt, with, jobs, back) },
+            ensures count { vec_len result.0 ≡ vec_len tried + vec_len jobs }
+        { spread(scope, rt, with, called_back, jobs, tried) },
     )
 }
 
-/// Does the last job in a thread of its own, and then the others.
+/// Tries the last job in a thread of its own, and then the others. Where the system refuses it one,
+/// it lies in the closure that comes back: called with the job's number told, from 1, this hands the
+/// job back as it was.
 fn spread<'s, E, C: Sync + 's, J: Job<C> + 's, A: Allocator + Copy, R: Threads + Wait + Sync>(
     scope: &'s Scope<'s, E>,
     rt: &R,
     with: &'s C,
+    called_back: &'s AtomicUsize,
     mut jobs: Vec<J, A>,
-    back: Vec<J, A>,
-) -> (Vec<J, A>, Option<usize>)
-    requires room { vec_len back + vec_len jobs ≤ vec_capacity back }
-    ensures done { IsDoneBehind J.stays jobs.items back.items result.0.items }
+    tried: Vec<Result<J, J>, A>,
+) -> (Vec<Result<J, J>, A>, Option<usize>)
+    requires room { vec_len tried + vec_len jobs ≤ vec_capacity tried }
+    ensures tried { IsTriedBehind J.stays jobs.items tried.items result.0.items }
     ensures refused { IfSome result.1 (HasRank J.rank_of jobs.items) }
-    ensures count { vec_len result.0 ≡ vec_len back + vec_len jobs }
-    ensures capacity { vec_capacity result.0 ≡ vec_capacity back }
+    ensures count { vec_len result.0 ≡ vec_len tried + vec_len jobs }
+    ensures capacity { vec_capacity result.0 ≡ vec_capacity tried }
 {
+    let number = jobs.len();
     let Some(job) = jobs.pop() else {
-        return (back, None);
+        return (tried, None);
     };
-    let promise = StaysAs::<C, J> {
+    let promise = Tries::<C, J> {
         was: Snapshot::of(&job),
         with: PhantomData,
     };
     let rank = job.rank();
     match scope.spawn_with(
         promise,
-        move || -> J
-            ensures { J.stays job result }
-        { job.work(with) },
+        move || -> Result<J, J>
+            ensures { WasTried J.stays job result }
+        { attempt(job, number, with, called_back) },
     ) {
         Ok(handle) => {
-            let (mut back, refused) = spread(scope, rt, with, jobs, back);
-            back.push_reserved(handle.join(rt));
-            (back, refused)
+            let (mut tried, refused) = spread(scope, rt, with, called_back, jobs, tried);
+            tried.push_reserved(handle.join(rt));
+            (tried, refused)
         }
-        Err(job) => {
-            let (mut back, refused) = spread(scope, rt, with, jobs, back);
-            back.push_reserved((job.value)());
-            (back, Some(least(refused, rank)))
+        Err(closure) => {
+            let (mut tried, refused) = spread(scope, rt, with, called_back, jobs, tried);
+            called_back.store(number, Ordering::Relaxed);
+            tried.push_reserved((closure.value)());
+            (tried, Some(least(refused, rank)))
         }
+    }
+}
+
+/// Does a job, or hands it back as it is where its number is called back.
+fn attempt<C, J: Job<C>>(
+    job: J,
+    number: usize,
+    with: &C,
+    called_back: &AtomicUsize,
+) -> Result<J, J>
+    ensures { WasTried J.stays job result }
+{
+    if called_back.load(Ordering::Relaxed) == number {
+        Err(job)
+    } else {
+        Ok(job.work(with))
+    }
+}
+
+/// Does those jobs that were handed back as they were.
+fn finish<C, J: Job<C>, A: Allocator>(
+    with: &C,
+    tried: Vec<Result<J, J>, A>,
+    mut back: Vec<J, A>,
+) -> Vec<J, A>
+    requires none { back.items ≡ [] }
+    requires room { vec_len tried ≤ vec_capacity back }
+    ensures { AllZip (IsFinished J.stays) tried.items result.items }
+{
+    for job in tried {
+        back.push_reserved(finished(with, job));
+    }
+    back
+}
+
+/// A job that was done, or does it.
+fn finished<C, J: Job<C>>(with: &C, tried: Result<J, J>) -> J
+    ensures { IsFinished J.stays tried result }
+{
+    match tried {
+        Ok(done) => done,
+        Err(refused) => refused.work(with),
     }
 }
 

@@ -97,7 +97,7 @@ fn opened_as<
     requires book { name.book ≡ J.book }
     requires office { J.office ≡ record { cards = name.cards; clerks = clerks; origin = origin_of fabric } }
 {
-    match Office::<H, J, R>::open(heap, rt, name, fabric, clerks, windows) {
+    match Office::<H, J, R>::open(rt, heap, name, fabric, clerks, windows) {
         Ok((office, mut cards, mut windows)) => {
             let is_refused = was_refused(heap);
             let told = played(rt, heap, &office, &mut cards, &mut windows, play)?;

@@ -43,8 +43,8 @@ impl<F: Follows<E>, E: Drop, J: Naming, R: Wait + Drop, A: Allocator> Publisher<
     ///
     /// [`AllocError`] where an allocation is refused.
     pub fn open(
-        alloc: A,
         rt: R,
+        alloc: A,
         opened: Opened<E>,
         first: F,
         second: F,
