@@ -31,8 +31,8 @@ const TRIES: u64 = 10;
 /// So many answers a reader asks for at most.
 const TURNS: u64 = 1_000_000;
 
-/// So many answers a reader keeps, and the last.
-const KEPT: usize = 400;
+/// So many of a reader's answers, from the first, are looked for by a scan, too.
+const SCANNED: usize = 400;
 
 /// So many times a reader lets others go first between two answers.
 const YIELDS: u64 = 1000;
@@ -122,20 +122,19 @@ impl<'a, H: Allocator, J: Naming<H>, W: Wait + Drop> Worker<'a, H, J, W> {
         }
     }
 
-    /// Asks where a corner lies that is drawn; how many entries the answer rests on. Nothing without a window.
+    /// Asks where a corner lies that is drawn, and keeps the answer; how many entries it rests on. Nothing without a
+    /// window.
     fn ask(&mut self) -> Option<u64> {
         let window = self.window.as_mut()?;
         let place = place_in_large_city(self.words.next_word(), self.words.next_word())?;
         let (entries, at) = window.locate(place).ok()?;
-        if self.answers.len() < KEPT || entries == self.entries {
-            let answer = Answer {
-                entries,
-                place,
-                at,
-                heap: self.heap,
-            };
-            self.answers.push(answer).ok()?;
-        }
+        let answer = Answer {
+            entries,
+            place,
+            at,
+            heap: self.heap,
+        };
+        self.answers.push(answer).ok()?;
         Some(entries)
     }
 
@@ -221,15 +220,36 @@ fn put_back<'a, H: Allocator, J: Naming<H>, W: Wait + Drop>(
     Ok(())
 }
 
-/// A reader's answers rest on more and more entries, and each is what a scan finds in the fabric after these.
+/// Whether two answers say the same.
+fn are_same<A: Allocator>(one: &At<A>, other: &At<A>) -> bool {
+    match (one, other) {
+        (At::Inside(id), At::Inside(other)) => id == other,
+        (At::OnEdge(ids), At::OnEdge(others)) => ids.as_slice() == others.as_slice(),
+        (At::Outside, At::Outside) => true,
+        _ => false,
+    }
+}
+
+/// Whether an answer is that of a fabric with as many entries, and what a scan finds in it where that is asked for.
+fn is_right<H: Allocator>(
+    copy: &Fabric<'_, H>,
+    answer: &Answer<'_, H>,
+    is_scanned: bool,
+) -> Result<bool, Fail> {
+    let is_same = copy.entries() == answer.entries && are_same(&copy.locate(answer.place)?, &answer.at);
+    Ok(is_same && (!is_scanned || is_found(copy, answer.place, &answer.at)))
+}
+
+/// A reader's answers rest on more and more entries, and each is that of the fabric after these.
 fn check_answers<'a, H: Allocator>(
     copy: &mut Fabric<'a, H>,
     journal: &[Entry<&'a H>],
     answers: &[Answer<'a, H>],
 ) -> Result<(), Fail> {
-    for answer in answers {
+    for place in 0..answers.len() {
+        let answer = &answers[place];
         follow_to(copy, journal, answer.entries)?;
-        if copy.entries() != answer.entries || !is_found(copy, answer.place, &answer.at) {
+        if !is_right(copy, answer, place < SCANNED || place + 1 == answers.len())? {
             return Err(Fail::new("another answer"));
         }
     }

@@ -16,11 +16,11 @@ pub fn follow_to<'a, H: Allocator>(
     journal: &[Entry<&'a H>],
     entries: u64,
 ) -> Result<(), Fail> {
-    for entry in journal {
-        if entry.number() <= entries
-            && entry.number() > copy.entries()
-            && copy.follow(entry) != Ok(())
-        {
+    for place in copy.entries()..entries {
+        let Some(entry) = journal.get(place as usize) else {
+            return Err(Fail::new("the journal is too short"));
+        };
+        if copy.follow(entry) != Ok(()) {
             return Err(Fail::new("an entry of the journal is not followed"));
         }
     }
