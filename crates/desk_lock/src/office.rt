@@ -1,9 +1,12 @@
 //! An office.
-ghost use Rattle.std.specs.Prelude.{◌≡◌, ◌≢◌, ◌⊎◌, ℕ, [], length, replicate, true, IfOk, IfErr, IsErrAnd, OnErr, IsOk, ◌↔◌};
+ghost use Rattle.std.specs.Prelude.{◌≡◌, ◌≢◌, ◌⊎◌, ℕ, [], length, replicate, true, All, IfOk, IfErr, IfSome, IsErrAnd, OnErr, IsOk, ◌↔◌};
+ghost use mathlib.Core.List.{IsPrefix};
+ghost use Rattle.entry_cards.specs.Cards.{IsClerk};
+ghost use Rattle.fabric_core.specs.EditResults.{IsLawful};
 ghost use Rattle.fabric_core.specs.declared.refusal.Refusal.TheVariants.{NoMemory};
 ghost use Rattle.desk_lock.specs.declared.opening.OpenFault.TheVariants.{Places};
 ghost use Rattle.desk_lock.specs.declared.office.CloseFault.TheVariants.{CardsMissing};
-ghost use Rattle.desk_lock.specs.Offices.{origin_of, fresh_cards, window_of, with_made, IsRefusedSometime, EndsWith, IsSheetOf, IsTotal};
+ghost use Rattle.desk_lock.specs.Offices.{origin_of, behind, fresh_cards, window_of, with_made, IsRefusedSometime, EndsWith, IsSheetOf, IsTotal};
 ghost use Rattle.desk_lock.specs.Places.{IsWrong, IsOpenFault};
 ghost use Rattle.desk_lock.specs.declared.opening.TheConstants.{MOST_PLACES};
 
