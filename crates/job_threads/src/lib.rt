@@ -143,12 +143,7 @@ fn spread<'s, E, C: Sync + 's, J: Job<C> + 's, A: Allocator + Copy, R: Threads +
 }
 
 /// Does a job, or hands it back as it is where its number is called back.
-fn attempt<C, J: Job<C>>(
-    job: J,
-    number: usize,
-    with: &C,
-    called_back: &AtomicUsize,
-) -> Result<J, J>
+fn attempt<C, J: Job<C>>(job: J, number: usize, with: &C, called_back: &AtomicUsize) -> Result<J, J>
     ensures { WasTried J.stays job result }
 {
     if called_back.load(Ordering::Relaxed) == number {

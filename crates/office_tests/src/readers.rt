@@ -236,7 +236,8 @@ fn is_right<H: Allocator>(
     answer: &Answer<'_, H>,
     is_scanned: bool,
 ) -> Result<bool, Fail> {
-    let is_same = copy.entries() == answer.entries && are_same(&copy.locate(answer.place)?, &answer.at);
+    let is_same = copy.entries() == answer.entries
+        && are_same(&copy.locate(answer.place)?, &answer.at);
     Ok(is_same && (!is_scanned || is_found(copy, answer.place, &answer.at)))
 }
 
