@@ -231,13 +231,13 @@ fn are_same<A: Allocator>(one: &At<A>, other: &At<A>) -> bool {
 }
 
 /// Whether an answer is that of a fabric with as many entries, and what a scan finds in it where that is asked for.
-fn is_right<H: Allocator>(
-    copy: &Fabric<'_, H>,
-    answer: &Answer<'_, H>,
+fn is_right<'a, H: Allocator>(
+    copy: &Fabric<'a, H>,
+    answer: &Answer<'a, H>,
     is_scanned: bool,
 ) -> Result<bool, Fail> {
-    let is_same = copy.entries() == answer.entries
-        && are_same(&copy.locate(answer.place)?, &answer.at);
+    let at = copy.locate(answer.place)?;
+    let is_same = copy.entries() == answer.entries && are_same(&at, &answer.at);
     Ok(is_same && (!is_scanned || is_found(copy, answer.place, &answer.at)))
 }
 
