@@ -1,12 +1,11 @@
 -- The edits of several clerks, made on one fabric by all of them at the same time: what they lead to, and the lines that tell of each (this
 -- product's own).
-use Rattle.std.specs.Prelude.{◌≡◌, ◌⊎◌, ℕ, ◌+◌, List, [], ◌∷◌, ◌++◌, length, All}
+use Rattle.std.specs.Prelude.{◌≡◌, ◌⊎◌, ℕ, ◌+◌, List, [], ◌∷◌, ◌++◌, length}
 use Rattle.std.specs.List.{AllZip}
 use Rattle.geo_exact.specs.Point.{corner_point}
 use Rattle.geo_exact.specs.Layers.{NumberedRing}
 use Rattle.geo_exact.specs.declared.corner.Corner.{Corner}
 use Rattle.ring_edits.specs.declared.edit.Edit.{Edit}
-use Rattle.entry_cards.specs.Cards.{IsClerk}
 use Rattle.fabric_core.specs.declared.locate.At.{At}
 use Rattle.fabric_core.specs.declared.refusal.Refusal.{Refusal}
 use Rattle.fabric_core.specs.declared.refusal.Refusal.TheVariants.{NoMemory}
@@ -15,7 +14,7 @@ use Rattle.fabric_core.specs.Journal.{State, JournalEntry, Book, opening_state, 
 use Rattle.fabric_core.specs.EditResults.{IsLawful}
 use Rattle.fabric_core.specs.Refusals.{IsRefusal}
 use Rattle.fabric_core.specs.Locate.{IsLocatedAt}
-use Rattle.desk_lock.specs.Offices.{of_clerk}
+use Rattle.desk_lock.specs.Offices.{of_clerk, AreOfClerks}
 use Rattle.clerk_runs.specs.ClerkFiles.{AreClerkFiles}
 use Rattle.clerk_runs.specs.ClerkLines.{ok_line, refused_line}
 
@@ -41,7 +40,7 @@ module _ {A : Type 0} where
   -- a lawful list of entries, each of them by one of the run's clerks
   pub record IsJournal (run : Run) (journal : List (JournalEntry A)) : Type 0 where
     pub lawful : IsLawful run.opening journal
-    pub of_clerks : All (λ entry. IsClerk run.clerks entry.clerk) journal
+    pub of_clerks : AreOfClerks run.clerks journal
 
   -- the refusal is due after some such list, in which the clerk's entries are those that were accepted of him before;
   -- the others' may be any,

@@ -64,7 +64,8 @@ pub fn read_clerks<'h, H: Allocator, A: Allocator>(
 ) -> Result<Vec<ClerkEdits<&'h H>, &'h H>, FilesFault>
     requires { length files.now ≤ MOST_PLACES }
     ensures edits { IfOk result (λ clerks. AreClerkFiles (texts_of files.now) clerks.items) }
-    ensures fault { IfErr result (λ fault. (clerk line : ℕ) → fault ≡ BadLine clerk line → IsFirstBadOfAll (texts_of files.now) clerk line) }
+    ensures fault { IfErr result (λ fault. (clerk line : ℕ) → fault ≡ BadLine clerk line
+        → IsFirstBadOfAll (texts_of files.now) clerk line) }
     ensures refuses { (clerk line : ℕ) → IsFirstBadOfAll (texts_of files.now) clerk line
         → IsErrAnd result (λ fault. (fault ≡ BadLine clerk line) ⊎ (fault ≡ NoMemory)) }
 {
@@ -85,7 +86,8 @@ fn edits_of_clerk<'h, H: Allocator>(
     file: &[u8],
 ) -> Result<Vec<(u64, Edit<&'h H>), &'h H>, FilesFault>
     ensures edits { IfOk result (λ edits. IsClerkFile file.now edits.items) }
-    ensures fault { IfErr result (λ fault. ((line : ℕ) × IsFirstBadLine file.now line × (fault ≡ BadLine clerk line)) ⊎ (fault ≡ NoMemory)) }
+    ensures fault { IfErr result (λ fault. ((line : ℕ) × IsFirstBadLine file.now line × (fault ≡ BadLine clerk line))
+        ⊎ (fault ≡ NoMemory)) }
     ensures refuses { (line : ℕ) → IsFirstBadLine file.now line
         → IsErrAnd result (λ fault. (fault ≡ BadLine clerk line) ⊎ (fault ≡ NoMemory)) }
 {

@@ -61,6 +61,10 @@ module _ {A : Type 0} where
   abbrev pub behind : Origin A → List (JournalEntry A) → List (JournalEntry A)
   behind origin journal = drop (length origin.journal) journal
 
+  -- each entry is one of these clerks', who are numbered from 1
+  abbrev pub AreOfClerks : ℕ → List (JournalEntry A) → Type 0
+  AreOfClerks clerks entries = All (λ entry. IsClerk clerks entry.clerk) entries
+
   -- the entries of one clerk, in order
   abbrev pub of_clerk : ℕ → List (JournalEntry A) → List (JournalEntry A)
   of_clerk clerk entries = filter (λ entry. nat_eq entry.clerk clerk) entries
@@ -88,7 +92,7 @@ module _ {A : Type 0} where
   pub record IsSometime (office : OfficeId A) (card : CardState A) (journal : List (JournalEntry A)) : Type 0 where
     pub lawful : IsLawful office.origin.opening journal
     pub begins : IsPrefix office.origin.journal journal
-    pub of_clerks : All (λ entry. IsClerk office.clerks entry.clerk) (behind office.origin journal)
+    pub of_clerks : AreOfClerks office.clerks (behind office.origin journal)
     pub agrees : Agrees (behind office.origin journal) card
 
   -- the edit is refused for this reason after some such journal
@@ -119,7 +123,7 @@ module _ {A : Type 0} where
   -- what the card says
   pub record IsSheetOf (office : OfficeId A) (cards : List (CardState A)) (book : Book A) : Type 0 where
     pub of_origin : IsOfOrigin office.origin book
-    pub of_clerks : All (λ entry. IsClerk office.clerks entry.clerk) (behind office.origin book.journal)
+    pub of_clerks : AreOfClerks office.clerks (behind office.origin book.journal)
     pub agree : All (Agrees (behind office.origin book.journal)) cards
 
   -- and nothing else: the cards are all that were handed out, and together they have all entries

@@ -1,7 +1,8 @@
 //! What lies under the lock.
-ghost use Rattle.std.specs.Prelude.{◌≡◌, ◌⊎◌, ◌+◌, ◌≤◌, [], ◌∷◌, ◌++◌, map, length, drop, All, IfOk, IfErr, IfSome, IfNone, IsErrAnd, OnOk, OnErr, MatchBool};
+ghost use Rattle.std.specs.Prelude.{◌≡◌, ◌⊎◌, ◌+◌, ◌≤◌, [], ◌∷◌, ◌++◌, map, length, drop, All, IfOk, IfErr, IfSome};
+ghost use Rattle.std.specs.Prelude.{IfNone, IsErrAnd, OnOk, OnErr, MatchBool};
 ghost use mathlib.Core.List.{IsPrefix};
-ghost use Rattle.entry_cards.specs.Cards.{HasAll, IsClerk};
+ghost use Rattle.entry_cards.specs.Cards.{HasAll};
 ghost use Rattle.ring_edits.specs.Edits.{CoversAlike};
 ghost use Rattle.fabric_core.specs.declared.refusal.Refusal.{Refusal};
 ghost use Rattle.fabric_core.specs.declared.refusal.Refusal.TheVariants.{NoMemory};
@@ -11,7 +12,7 @@ ghost use Rattle.fabric_core.specs.GridIndex.{IsIndexed};
 ghost use Rattle.fabric_core.specs.Journal.{after_entry, replay};
 ghost use Rattle.fabric_core.specs.EditResults.{IsEntryOf, IsLawful};
 ghost use Rattle.fabric_core.specs.Refusals.{IsRefusal};
-ghost use Rattle.desk_lock.specs.Offices.{IsOfOrigin, Agrees, IsSometime, IsSheetOf, IsTotal, with_made, behind};
+ghost use Rattle.desk_lock.specs.Offices.{AreOfClerks, IsOfOrigin, Agrees, IsSometime, IsSheetOf, IsTotal, with_made, behind};
 
 use crate::card::Card;
 use crate::copied::Copied;
@@ -72,7 +73,7 @@ impl<'a, H: Allocator, J: Naming<H>, R: Wait + Drop> Desk<'a, H, J, R> {
         ensures replays { replay self.now.book.opening self.now.book.journal ≡ self.now.book.now }
         ensures origin { IsOfOrigin J.office.origin self.now.book }
         ensures entries { self.now.book.journal ≡ J.office.origin.journal ++ self.now.entries }
-        ensures of_clerks { All (λ entry. IsClerk J.office.clerks entry.clerk) self.now.entries }
+        ensures of_clerks { AreOfClerks J.office.clerks self.now.entries }
         ensures published { IsPrefix self.now.published self.now.book.journal }
     {
         self.fabric.tiles();

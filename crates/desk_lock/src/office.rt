@@ -1,12 +1,12 @@
 //! An office.
-ghost use Rattle.std.specs.Prelude.{◌≡◌, ◌≢◌, ◌⊎◌, ℕ, [], length, replicate, true, All, IfOk, IfErr, IfSome, IsErrAnd, OnErr, IsOk, ◌↔◌};
+ghost use Rattle.std.specs.Prelude.{◌≡◌, ◌≢◌, ◌⊎◌, ℕ, [], length, replicate, true, IfOk, IfErr, IfSome, IsErrAnd, OnErr, IsOk, ◌↔◌};
 ghost use mathlib.Core.List.{IsPrefix};
-ghost use Rattle.entry_cards.specs.Cards.{IsClerk};
 ghost use Rattle.fabric_core.specs.EditResults.{IsLawful};
 ghost use Rattle.fabric_core.specs.declared.refusal.Refusal.TheVariants.{NoMemory};
 ghost use Rattle.desk_lock.specs.declared.opening.OpenFault.TheVariants.{Places};
 ghost use Rattle.desk_lock.specs.declared.office.CloseFault.TheVariants.{CardsMissing};
-ghost use Rattle.desk_lock.specs.Offices.{origin_of, behind, fresh_cards, window_of, with_made, IsRefusedSometime, EndsWith, IsSheetOf, IsTotal};
+ghost use Rattle.desk_lock.specs.Offices.{origin_of, behind, fresh_cards, window_of, with_made, IsRefusedSometime};
+ghost use Rattle.desk_lock.specs.Offices.{AreOfClerks, EndsWith, IsSheetOf, IsTotal};
 ghost use Rattle.desk_lock.specs.Places.{IsWrong, IsOpenFault};
 ghost use Rattle.desk_lock.specs.declared.opening.TheConstants.{MOST_PLACES};
 
@@ -121,7 +121,7 @@ impl<'a, H: Allocator, J: Naming<H>, R: Wait + Drop> Office<'a, H, J, R> {
     pub fn publish<W: Wait>(&self, rt: &W) -> Option<Notice<'a, H, J>>
         ensures lawful { IfSome result (IsLawful J.office.origin.opening) }
         ensures begins { IfSome result (IsPrefix J.office.origin.journal) }
-        ensures of_clerks { IfSome result (λ told. All (λ entry. IsClerk J.office.clerks entry.clerk) (behind J.office.origin told)) }
+        ensures of_clerks { IfSome result (λ told. AreOfClerks J.office.clerks (behind J.office.origin told)) }
     {
         let mut desk = self.desk.lock(rt);
         desk.tiles();

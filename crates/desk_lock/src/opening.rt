@@ -159,7 +159,8 @@ pub(crate) fn parts_of<'a, H: Allocator, J: Naming<H>, R: Wait + Drop>(
     requires origin { origin_of fabric.now ≡ J.office.origin }
     requires clerks { clerks ≤ MOST_PLACES }
     requires windows { (0 < windows) × (windows < 2 ^ 32) }
-    ensures keeper { IfOk result (λ parts. parts.keeper ≡ record { name = J.office.cards; clerks = MOST_PLACES; dealt = clerks; all = [] }) }
+    ensures keeper { IfOk result (λ parts. parts.keeper
+        ≡ record { name = J.office.cards; clerks = MOST_PLACES; dealt = clerks; all = [] }) }
     ensures publisher { IfOk result (λ parts. parts.publisher ≡ record { handed = []; shown = [] }) }
     ensures cards { IfOk result (λ parts. parts.cards.items ≡ fresh_cards 0 clerks) }
     ensures windows { IfOk result (λ parts. parts.windows.items ≡ replicate windows (window_of J.office.origin)) }

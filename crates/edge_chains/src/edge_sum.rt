@@ -1,4 +1,5 @@
-ghost use Rattle.std.specs.Prelude.{◌≡◌, ℕ, ◌+◌, ◌≤◌, ◌<◌, ℤ, pos, ◌+ℤ◌, ◌-ℤ◌, IsTrue, if◌then◌else◌, cond, length, List, [], ◌∷◌, ◌++◌, ◌*◌};
+ghost use Rattle.std.specs.Prelude.{◌≡◌, ℕ, ◌+◌, ◌≤◌, ◌<◌, ℤ, pos, ◌+ℤ◌, ◌-ℤ◌, IsTrue, if◌then◌else◌, cond, length};
+ghost use Rattle.std.specs.Prelude.{List, [], ◌∷◌, ◌++◌, ◌*◌};
 ghost use Rattle.std.specs.Prelude.{OnOk, OnErr, IfOk, IfSome, IfNone};
 ghost use Rattle.std.specs.HashMap.{spare};
 ghost use Rattle.std.specs.Map.{lookup};

@@ -92,7 +92,8 @@ pub(crate) fn corners_after<'a, H: Allocator>(
     requires corners { corners ≡ corner_count tiled.now.rows }
     requires here { (id : ℕ) → Contains change.now.out.items id → Contains (numbers tiled.now.rows) id }
     requires apart { AllPairs (λ a b. a ≢ b) change.now.out.items }
-    requires within { AreWithinLayerLimits (with_rows (rows_of_entry change.now.rows.items) (without_ids change.now.out.items tiled.now.rows)) }
+    requires within { AreWithinLayerLimits (with_rows (rows_of_entry change.now.rows.items)
+        (without_ids change.now.out.items tiled.now.rows)) }
     ensures { result ≡ corner_count (with_rows (rows_of_entry change.now.rows.items) (without_ids change.now.out.items tiled.now.rows)) }
 {
     corners_left(tiled, &change.out, corners) + count(&change.rows)

@@ -1,4 +1,5 @@
-ghost use Rattle.std.specs.Prelude.{◌≡◌, ℕ, ◌+◌, ◌%◌, ◌^◌, ◌<◌, ◌≤◌, [], ◌++◌, length, slice_index, sum_by, IfOk, IfSome, IfNone, IsTrue, ◌↔◌};
+ghost use Rattle.std.specs.Prelude.{◌≡◌, ℕ, ◌+◌, ◌%◌, ◌^◌, ◌<◌, ◌≤◌, [], ◌++◌, length, slice_index, sum_by, IfOk};
+ghost use Rattle.std.specs.Prelude.{IfSome, IfNone, IsTrue, ◌↔◌};
 ghost use Rattle.std.specs.List.{AllByRecursion};
 ghost use Rattle.overlay_claims.specs.Claims.{view_of};
 ghost use Rattle.overlay_claims.specs.Claimants.{fresh, fresh_hands, HasAllEnds, ClaimsNext, EndsAll};
@@ -32,7 +33,8 @@ impl Model for Claimant {
     } };
 
     ghost invariant = { λ hand. (hand.mark.me.1 ≡ []) × (hand.mark.me.0.parts ≡ 1)
-        × (hand.count ≡ length hand.mark.me.0.lengths) × IsInOrder (length hand.mark.me.0.lengths) hand.number hand.ended hand.mark.me.0.notes };
+        × (hand.count ≡ length hand.mark.me.0.lengths)
+        × IsInOrder (length hand.mark.me.0.lengths) hand.number hand.ended hand.mark.me.0.notes };
 }
 
 impl Claimant {

@@ -12,7 +12,8 @@ use std::marker::Model;
 /// The token with which a hand claims places, and by which proofs follow what it knows. It has no bytes.
 pub(crate) type Mark = Seat<(), View>;
 
-/// How many words there are for each list, of which one is used: so no two that hands change lie in one line of a cache.
+/// How many words there are for each list, of which one is used: so no two that hands change lie in one line
+/// of a cache.
 const APART: usize = 16;
 
 /// The number of a list's word, which has eight words that nobody uses before it, and seven behind.

@@ -5,7 +5,8 @@ ghost use Rattle.parcel_runs.specs.declared.fault.ToolFault.{ToolFault as ToolFa
 ghost use Rattle.fabric_core.specs.declared.layer.LoadFault.{LoadFault as LoadFaultValue};
 ghost use Rattle.fabric_core.specs.Faults.{BeginsWith};
 ghost use Rattle.parcel_runs.specs.FaultLines.{AreLinesBefore, text_or_none, fault_lines as fault_lines_of};
-ghost use Rattle.parcel_runs.specs.TilingFiles.{Files, files_of, told_of_load as told_of_load_fault, IsCityOf, IsTiledBy, IsFaultOfLayer, AreTiles, IsTilesFault};
+ghost use Rattle.parcel_runs.specs.TilingFiles.{Files, files_of, told_of_load as told_of_load_fault, IsCityOf};
+ghost use Rattle.parcel_runs.specs.TilingFiles.{IsTiledBy, IsFaultOfLayer, AreTiles, IsTilesFault};
 ghost use Rattle.fabric_core.specs.Rows.{Tiles};
 ghost use Rattle.clerk_runs.specs.ClerkFiles.{texts_of, AreClerkFiles};
 ghost use Rattle.parcel_runs.specs.RunFaults.{IsRunFault};

@@ -5,7 +5,9 @@ ghost use Rattle.geo_exact.specs.declared.corner.Corner.{Corner};
 ghost use Rattle.fabric_core.specs.Rows.{Tiles};
 ghost use Rattle.parcel_runs.specs.declared.fault.ToolFault.{ToolFault as ToolFaultValue};
 ghost use Rattle.parcel_runs.specs.declared.fault.Role.TheVariants.{Parcels};
-ghost use Rattle.parcel_runs.specs.TilingFiles.{told_of_city as told_of_city_fault, told_of_load as told_of_load_fault, files_of, IsCityOf, IsFaultOfCity, IsTiledBy, IsFaultOfLayer, AreTiles, IsTilesFault};
+ghost use Rattle.parcel_runs.specs.TilingFiles.{told_of_city as told_of_city_fault, told_of_load as told_of_load_fault};
+ghost use Rattle.parcel_runs.specs.TilingFiles.{files_of, IsCityOf, IsFaultOfCity, IsTiledBy, IsFaultOfLayer, AreTiles};
+ghost use Rattle.parcel_runs.specs.TilingFiles.{IsTilesFault};
 ghost use Rattle.clerk_runs.specs.ClerkFiles.{texts_of, AreClerkFiles};
 ghost use Rattle.parcel_runs.specs.RunFaults.{IsRunFault};
 

@@ -253,7 +253,8 @@ fn unit_of(given: &ArgMatches<'_>) -> Option<Unit>
 
 /// What stands below the help: what a run may end with, and where refusals are told in words.
 const STATUSES: &str =
-    "Status 0: all is done. Status 1: a refusal, one line `error: ..`, each of which docs/formats.md tells in words.\nStatus 2: a command line that is not understood.";
+    "Status 0: all is done. Status 1: a refusal, one line `error: ..`, each of which docs/formats.md tells in words.\n\
+     Status 2: a command line that is not understood.";
 
 fn tool_command<'a>(alloc: Global) -> Result<Command<'a>, AllocError> {
     Command::new(alloc, "parcel_tool")

@@ -70,7 +70,8 @@ const ROWS: [Row; 12] = [
     (
         false,
         &[FIVE],
-        "clerk 1 line 1 ok 1\nclerk 1 line 2 ok 2\nclerk 1 line 3 ok 3\nclerk 1 line 4 refused E2 1 3\nclerk 1 line 5 ok 4\ntiling 2 20000\n",
+        "clerk 1 line 1 ok 1\nclerk 1 line 2 ok 2\nclerk 1 line 3 ok 3\n\
+         clerk 1 line 4 refused E2 1 3\nclerk 1 line 5 ok 4\ntiling 2 20000\n",
     ),
     (
         false,

@@ -5,7 +5,8 @@ ghost use Rattle.geo_exact.specs.declared.coord.Unit.{Unit as LengthUnit};
 ghost use Rattle.geo_exact.specs.declared.limits.TheConstants.{LAYER_RECORDS};
 ghost use Rattle.std.specs.Result.{result_err};
 ghost use Rattle.shp_files.specs.Checks.{first_failure, declared_end, record_end};
-ghost use Rattle.shp_files.specs.IndexChecks.{index_record_checks, index_end_checks, disagreement as disagreement_at, entry_place as place_of_entry};
+ghost use Rattle.shp_files.specs.IndexChecks.{index_record_checks, index_end_checks, disagreement as disagreement_at};
+ghost use Rattle.shp_files.specs.IndexChecks.{entry_place as place_of_entry};
 ghost use Rattle.shp_files.specs.FirstFault.{IsAccepted, IsIndexFault};
 ghost use Rattle.shp_files.specs.own.Reading.{Agrees};
 

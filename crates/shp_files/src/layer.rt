@@ -1,6 +1,7 @@
 //! The layer of a main file and its index.
 
-ghost use Rattle.std.specs.Prelude.{◌≡◌, ◌≤◌, ◌<◌, ◌^◌, ◌⊎◌, ℕ, length, List, Option, None, option_copied, IfOk, MatchResult, IsErrAnd, IsErrOf};
+ghost use Rattle.std.specs.Prelude.{◌≡◌, ◌≤◌, ◌<◌, ◌^◌, ◌⊎◌, ℕ, length, List, Option, None, option_copied, IfOk};
+ghost use Rattle.std.specs.Prelude.{MatchResult, IsErrAnd, IsErrOf};
 ghost use Rattle.geo_exact.specs.declared.coord.Unit.{Unit as LengthUnit};
 ghost use Rattle.shp_files.specs.declared.fault.FileFault.{FileFault};
 ghost use Rattle.shp_files.specs.LayerFile.{NumberedRing, rings_of, IsLayerFile};

@@ -57,7 +57,8 @@ fn add_numbers<W: ByteOut>(
     out: &mut W,
 ) -> Result<(), Failed>
     ensures ok { OnOk result (Passes (W.written out.old) (W.written out.new) pending.old (flat_map number_text numbers.now) pending.new) }
-    ensures err { OnErr result (AppendsBeginning (W.written out.old) (W.written out.new) (pending.old ++ flat_map number_text numbers.now)) }
+    ensures err { OnErr result (AppendsBeginning (W.written out.old) (W.written out.new)
+        (pending.old ++ flat_map number_text numbers.now)) }
     ensures failed { OnErr result (W.failure_count out.new ≡ raised (W.failure_count out.old)) }
     ensures no_failure { OnOk result (W.failure_count out.new ≡ W.failure_count out.old) }
 {

@@ -1,11 +1,11 @@
 -- What a desk keeps, and the names of what belongs to one office. Public contracts do not speak of it.
-use Rattle.std.specs.Prelude.{◌≡◌, ◌++◌, ℕ, List, [], map, length, All, Option, None, Some}
+use Rattle.std.specs.Prelude.{◌≡◌, ◌++◌, ℕ, List, [], map, length, Option, None, Some}
 use mathlib.Core.List.{IsPrefix}
 use Rattle.atomic_table.specs.Seated.{TableId}
 use Rattle.logbook.specs.Pages.{Book as Pages}
-use Rattle.entry_cards.specs.Cards.{Kept, IsClerk}
+use Rattle.entry_cards.specs.Cards.{Kept}
 use Rattle.fabric_core.specs.Journal.{JournalEntry, Book}
-use Rattle.desk_lock.specs.Offices.{Origin, OfficeId, IsOfOrigin, behind}
+use Rattle.desk_lock.specs.Offices.{Origin, OfficeId, IsOfOrigin, behind, AreOfClerks}
 
 -- the names that an office's cards and its list of entries have
 pub record NameId : Type 0 where
@@ -38,7 +38,7 @@ module _ {A : Type 0} where
       (handed : List (JournalEntry A)) (opened_with : ℕ) : Type 0 where
     pub counted : opened_with ≡ length office.origin.journal
     pub of_origin : IsOfOrigin office.origin book
-    pub of_clerks : All (λ entry. IsClerk office.clerks entry.clerk) (behind office.origin book.journal)
+    pub of_clerks : AreOfClerks office.clerks (behind office.origin book.journal)
     pub known : keeper.all ≡ by_clerk (behind office.origin book.journal)
     pub named : keeper.name ≡ office.cards
     pub dealt : keeper.dealt ≡ office.clerks

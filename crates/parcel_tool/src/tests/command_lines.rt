@@ -32,7 +32,8 @@ fn reads_requests(rt: HostRuntime) -> Result<(), Fail> {
         ),
         (
             "parcel_tool overlay a b c --unit cm --clerk d",
-            "Overlay { inputs: Inputs { city: \"a\", parcels: \"b\", unit: Cm, clerks: [\"d\"] }, zones: \"c\", workers: Workers { count: 4 } }",
+            "Overlay { inputs: Inputs { city: \"a\", parcels: \"b\", unit: Cm, clerks: [\"d\"] }, \
+             zones: \"c\", workers: Workers { count: 4 } }",
         ),
         (
             "parcel_tool overlay a --workers 64 b c --unit m",

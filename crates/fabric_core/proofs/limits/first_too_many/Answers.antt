@@ -7,7 +7,9 @@ use Rattle.fabric_core.specs.Limits.{AreWithinLimits, IsFirstTooMany}
 use Rattle.fabric_core.specs.own.Lists.{numbered_rows}
 use Rattle.fabric_core.proofs.rows.Lists.{rows_split_at, rows_more, corner_count-append, AllByRecursion-push}
 use Rattle.fabric_core.proofs.limits.first_too_many.Goals.{then-count-gt-RING_CORNERS-via-then-count-gt-RING_CORNERS}
-use Rattle.fabric_core.proofs.limits.first_too_many.Goals.{then-count-gt-RING_CORNERS-via-else-count-gt-RING_CORNERS+then-total-count-gt-LAYER_CORNERS}
+use Rattle.fabric_core.proofs.limits.first_too_many.Goals.{
+  then-count-gt-RING_CORNERS-via-else-count-gt-RING_CORNERS+then-total-count-gt-LAYER_CORNERS,
+}
 use Rattle.fabric_core.proofs.limits.first_too_many.Goals as goal
 
 -- the ring passes one of the limits

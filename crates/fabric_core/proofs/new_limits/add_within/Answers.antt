@@ -8,7 +8,9 @@ use Rattle.fabric_core.specs.own.EntryRows.{rows_of_entry}
 use Rattle.fabric_core.proofs.rows.Lists.{AllByRecursion-push, corner_count-append}
 use Rattle.fabric_core.proofs.rows.NewLimits.{entry_more, one_too_long, all_too_long}
 use Rattle.fabric_core.proofs.new_limits.add_within.Goals.{then-count-gt-RING_CORNERS-via-then-count-gt-RING_CORNERS}
-use Rattle.fabric_core.proofs.new_limits.add_within.Goals.{then-count-gt-RING_CORNERS-via-else-count-gt-RING_CORNERS+then-total-count-gt-LAYER_CORNERS}
+use Rattle.fabric_core.proofs.new_limits.add_within.Goals.{
+  then-count-gt-RING_CORNERS-via-else-count-gt-RING_CORNERS+then-total-count-gt-LAYER_CORNERS,
+}
 use Rattle.fabric_core.proofs.new_limits.add_within.Goals as goal
 
 pub returns-then-count-gt-RING_CORNERS : goal.returns-then-count-gt-RING_CORNERS

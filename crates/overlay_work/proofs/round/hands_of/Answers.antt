@@ -18,7 +18,8 @@ loop-claimant-init g c =
 
 pub of-requires : goal.of-requires
 of-requires g c =
-    let fresh_one = (subst (AreFresh (arc_value c.args.work.now).claims) c.in-Some.ensures.steps.0 c.loop-claimant.invariant.are_fresh).0 in (
+    let fresh_one =
+    (subst (AreFresh (arc_value c.args.work.now).claims) c.in-Some.ensures.steps.0 c.loop-claimant.invariant.are_fresh).0 in (
       c.in-Some.claimant.number,
       fresh_one ∙ ap (λ (t : Task). fresh_claimant t.claims c.in-Some.claimant.number)
           (sym c.in_ok-try_clone.ensures),
