@@ -1,5 +1,6 @@
 pub mod LeaningBoxes
 pub mod BlocksKept
 pub mod BlocksMade
+pub mod Sorted
 pub mod Sides
 pub mod Cores

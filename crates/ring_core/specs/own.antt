@@ -3,3 +3,4 @@ pub mod Kinds
 pub mod EdgePairs
 pub mod Leaning
 pub mod Blocks
+pub mod Sorted

@@ -9,8 +9,8 @@ use crate::places::less;
 use geo_exact::Corner;
 use std::alloc::{AllocError, Allocator};
 
-/// The most corners of a ring that is clipped without blocks.
-const FEW_CORNERS: usize = 64;
+/// The most corners of a ring that is clipped without blocks, and without lists along the axes.
+pub const FEW_CORNERS: usize = 64;
 
 /// How many corners a block has, as it is made.
 pub const BLOCK_CORNERS: usize = 16;
@@ -49,7 +49,7 @@ pub fn close_gap(spans: &mut [Span], k: usize)
 
 /// The blocks of a ring's corners.
 #[derive(Debug, Drop)]
-pub struct Blocks<A: Allocator> {
+pub struct BlockList<A: Allocator> {
     /// The numbers of the corners of each.
     pub spans: Vec<Span, A>,
     /// A box of each.
@@ -61,7 +61,10 @@ pub struct Blocks<A: Allocator> {
 /// # Errors
 ///
 /// [`AllocError`] where an allocation is refused.
-pub fn blocks_of<A: Allocator + Copy>(alloc: A, corners: &[Corner]) -> Result<Blocks<A>, AllocError>
+pub fn blocks_of<A: Allocator + Copy>(
+    alloc: A,
+    corners: &[Corner],
+) -> Result<BlockList<A>, AllocError>
     ensures { IfOk result (λ blocks. AreBlocksOrNone corners.now blocks.spans.items blocks.boxes.items) }
 {
     let mut spans = Vec::new(alloc);
@@ -76,5 +79,5 @@ pub fn blocks_of<A: Allocator + Copy>(alloc: A, corners: &[Corner]) -> Result<Bl
             }
         }
     }
-    Ok(Blocks { spans, boxes })
+    Ok(BlockList { spans, boxes })
 }

@@ -4,21 +4,21 @@ ghost use Rattle.std.specs.List.Sorted.{IsNonDecreasing};
 ghost use Rattle.geo_exact.specs.declared.corner.Corner.{Corner};
 ghost use Rattle.geo_exact.specs.First.{HasNone, IsFirst};
 ghost use Rattle.geo_exact.specs.Places.{before};
-ghost use Rattle.ring_core.specs.Boxes.{HoldsTriangle};
-ghost use Rattle.ring_core.specs.Clipping.{Blocks, IsEar, IsFlat, IsInTriangle, IsTriangleAt};
+ghost use Rattle.ring_core.specs.Clipping.{IsEar, IsFlat};
+ghost use Rattle.ring_core.specs.declared.sorted.Axis.TheVariants.{X, Y};
 ghost use Rattle.ring_core.specs.own.Blocks.{AreBlocksOrNone};
 ghost use Rattle.ring_core.specs.own.Kinds.{AreKinds, IsKind, IsTakenOut, TurnsLeft, WasBeside, number_before};
 ghost use Rattle.ring_core.specs.own.Kinds.{AreMarked, AreSeen, IsReleased, KeepsMarks, NeedNoMark};
+ghost use Rattle.ring_core.specs.own.Sorted.{AreListedOrNone};
 
-use crate::blocks::Span;
-use crate::boxes::bounds_of;
-use crate::ear::{corner_after, corner_before, is_flat, is_in_triangle, is_left, triangle_at};
-use crate::leaning::LeaningBox;
+use crate::blocks::BlockList;
+use crate::ear::{corner_after, corner_before, is_flat, is_left};
 use crate::marks::{Reach, first_place, mark, reach_of};
-use crate::places::{following, preceding};
+use crate::places::preceding;
 use crate::seen::Seen;
-use crate::triangle::Tri;
-use geo_exact::{Bounds, Corner};
+use crate::sorted::Sorted;
+use crate::witness::witness_of;
+use geo_exact::Corner;
 use std::alloc::{AllocError, Allocator};
 
 /// What the clipping knows of a corner of a ring.
@@ -108,90 +108,26 @@ pub fn first_flat(kinds: &[Kind], start: usize) -> usize
     kinds.len()
 }
 
-/// Whether `q` lies in the closed triangle, which the box holds: the box is looked at first.
-fn is_in_boxed(bounds: Bounds, triangle: Tri, q: Corner) -> bool
-    requires { HoldsTriangle bounds triangle }
-    ensures { IsTrue result ↔ IsInTriangle q triangle.a triangle.b triangle.c }
-{
-    if !bounds.holds(q) {
-        return false;
-    }
-    is_in_triangle(q, triangle.a, triangle.b, triangle.c)
-}
-
-/// A corner, from number `start` on and before `end`, that keeps corner `k` from being an ear.
-fn witness_between(
-    corners: &[Corner],
-    k: usize,
-    start: usize,
-    end: usize,
-    triangle: Tri,
-    bounds: Bounds,
-) -> Option<usize>
-    requires in_rest { k < length corners.now }
-    requires in_ring { end ≤ length corners.now }
-    requires is_triangle { IsTriangleAt corners.now k triangle }
-    requires held { HoldsTriangle bounds triangle }
-    ensures { MatchOption result
-        ((j : ℕ) → start ≤ j → j < end → ¬ Blocks corners.now k j)
-        (λ j. (j < length corners.now) × Blocks corners.now k j) }
-{
-    let before = preceding(corners.len(), k);
-    let after = following(corners.len(), k);
-    for j in start..end {
-        let corner = corners[j];
-        if is_in_boxed(bounds, triangle, corner) && j != before && j != k && j != after {
-            return Some(j);
-        }
-    }
-    None
-}
-
-/// A corner that keeps corner `k`, a left turn, from being an ear. Blocks whose boxes the triangle
-/// misses are passed over.
-fn witness_of(corners: &[Corner], k: usize, spans: &[Span], boxes: &[LeaningBox]) -> Option<usize>
-    requires in_rest { k < length corners.now }
-    requires turns_left { TurnsLeft corners.now k }
-    requires blocks { AreBlocksOrNone corners.now spans.now boxes.now }
-    ensures { MatchOption result
-        (HasNone (Blocks corners.now k) (length corners.now))
-        (λ j. (j < length corners.now) × Blocks corners.now k j) }
-{
-    let triangle = triangle_at(corners, k);
-    let bounds = bounds_of(&triangle);
-    if spans.is_empty() {
-        return witness_between(corners, k, 0, corners.len(), triangle, bounds);
-    }
-    for b in 0..spans.len() {
-        let start = spans[b].start;
-        let end = spans[b].end.min(corners.len());
-        if start >= end || boxes[b].misses_triangle(triangle, bounds) {
-            continue;
-        }
-        if let Some(j) = witness_between(corners, k, start, end, triangle, bounds) {
-            return Some(j);
-        }
-    }
-    None
-}
-
 /// The first ear, where no candidate is before number `start`: the first candidate that has no witness.
 /// Those before it are blocked by theirs, whose marks tell of them. The answer is the number of
 /// corners where there is none.
-pub fn first_ear(
+pub fn first_ear<A: Allocator>(
     corners: &[Corner],
     numbers: &[u16],
     kinds: &mut [Kind],
     marks: &mut [Reach],
     start: usize,
-    spans: &[Span],
-    boxes: &[LeaningBox],
+    blocks: &BlockList<A>,
+    sorted: &Sorted<A>,
 ) -> usize
     requires as_many { length numbers.now ≡ length corners.now }
+    requires ascend { IsNonDecreasing numbers.now }
     requires kinds { AreKinds corners.now numbers.now kinds.old }
     requires marked { AreMarked kinds.old numbers.now marks.old }
     requires seen { (j : ℕ) → j < start → j < length kinds.old → slice_index_or kinds.old j Kind.Flat ≢ Kind.Candidate }
-    requires blocks { AreBlocksOrNone corners.now spans.now boxes.now }
+    requires blocks { AreBlocksOrNone corners.now blocks.now.spans.items blocks.now.boxes.items }
+    requires by_x { AreListedOrNone X corners.now numbers.now sorted.now.by_x.items }
+    requires by_y { AreListedOrNone Y corners.now numbers.now sorted.now.by_y.items }
     ensures kinds { AreKinds corners.now numbers.now kinds.new }
     ensures marked { AreMarked kinds.new numbers.now marks.new }
     ensures others { (j : ℕ) → slice_index_or kinds.new j Kind.Flat ≡ Kind.Flat → slice_index_or kinds.old j Kind.Flat ≡ Kind.Flat }
@@ -202,7 +138,7 @@ pub fn first_ear(
 {
     for k in start..kinds.len() {
         if is_candidate(kinds[k]) {
-            let Some(j) = witness_of(corners, k, spans, boxes) else {
+            let Some(j) = witness_of(corners, numbers, k, blocks, sorted) else {
                 return k;
             };
             let witness = numbers[j];

@@ -18,7 +18,9 @@ mod ring;
 mod seen;
 mod shape;
 mod side;
+mod sorted;
 mod triangle;
+mod witness;
 
 pub use boxes::bounds_of;
 pub use laws::{

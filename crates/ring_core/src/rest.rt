@@ -3,12 +3,12 @@ ghost use Rattle.std.specs.List.{remove};
 ghost use Rattle.ring_core.specs.Clipping.{IsEar, IsFlat};
 ghost use Rattle.geo_exact.specs.First.{HasNone, IsFirst};
 
-use crate::blocks::{BLOCK_CORNERS, Blocks, Span, blocks_of, close_gap};
+use crate::blocks::{BLOCK_CORNERS, BlockList, blocks_of, close_gap};
 use crate::kind::{Kind, first_ear, first_flat, kinds_of, update_kinds};
-use crate::leaning::LeaningBox;
 use crate::left::{free_without, take_out};
 use crate::marks::{Reach, marks_of, numbers_of};
 use crate::seen::Seen;
+use crate::sorted::{Sorted, sorted_of};
 use geo_exact::Corner;
 use std::alloc::{AllocError, Allocator};
 use std::marker::Model;
@@ -20,7 +20,7 @@ use std::marker::Model;
 /// left turn is; it is a candidate again when its witness is taken out. A corner that is taken out leaves
 /// its two neighbours to be looked at again, and no other but those whose witness it was. Of a large ring,
 /// corners that follow one another are blocks, each with a box that held its corners when it was made and
-/// holds those that are left.
+/// holds those that are left; and the corners as they were are in order along each axis.
 #[derive(Debug, Drop)]
 pub struct Rest<A: Allocator> {
     // Of the next three lists so many places at the beginning are free.
@@ -30,15 +30,17 @@ pub struct Rest<A: Allocator> {
     kinds: Vec<Kind, A>,
     marks: Vec<Reach, A>,
     seen: Seen,
-    spans: Vec<Span, A>,
-    boxes: Vec<LeaningBox, A>,
+    blocks: BlockList<A>,
+    sorted: Sorted<A>,
 }
 
 impl<A: Allocator> Model for Rest<A> {
     ghost use Rattle.geo_exact.specs.declared.corner.Corner.{Corner};
     ghost use Rattle.std.specs.Prelude.{List, drop};
+    ghost use Rattle.ring_core.specs.declared.sorted.Axis.TheVariants.{X, Y};
     ghost use Rattle.ring_core.specs.own.Blocks.{AreBlocksOrNone};
     ghost use Rattle.ring_core.specs.own.Kinds.{AreKept, HaveFree};
+    ghost use Rattle.ring_core.specs.own.Sorted.{AreListedOrNone};
 
     ghost Value = { List Corner };
 
@@ -47,7 +49,9 @@ impl<A: Allocator> Model for Rest<A> {
     ghost invariant = { λ rest. HaveFree rest.start rest.corners.items rest.numbers.items rest.kinds.items
         × AreKept (drop rest.start rest.corners.items) (drop rest.start rest.numbers.items) (drop rest.start rest.kinds.items)
         rest.marks.items rest.seen
-        × AreBlocksOrNone (drop rest.start rest.corners.items) rest.spans.items rest.boxes.items };
+        × AreBlocksOrNone (drop rest.start rest.corners.items) rest.blocks.spans.items rest.blocks.boxes.items
+        × AreListedOrNone X (drop rest.start rest.corners.items) (drop rest.start rest.numbers.items) rest.sorted.by_x.items
+        × AreListedOrNone Y (drop rest.start rest.corners.items) (drop rest.start rest.numbers.items) rest.sorted.by_y.items };
 }
 
 impl<A: Allocator + Copy> Rest<A> {
@@ -61,8 +65,9 @@ impl<A: Allocator + Copy> Rest<A> {
     {
         let numbers = numbers_of(alloc, corners.len())?;
         let kinds = kinds_of(alloc, corners)?;
-        let Blocks { spans, boxes } = blocks_of(alloc, corners)?;
-        let marks = marks_of(alloc, spans.len() * BLOCK_CORNERS)?;
+        let blocks = blocks_of(alloc, corners)?;
+        let sorted = sorted_of(alloc, corners, numbers.as_slice())?;
+        let marks = marks_of(alloc, blocks.spans.len() * BLOCK_CORNERS)?;
         let mut list = Vec::new(alloc);
         list.extend_from_slice(corners)?;
         Ok(Rest {
@@ -75,8 +80,8 @@ impl<A: Allocator + Copy> Rest<A> {
                 flats: 0,
                 candidates: 0,
             },
-            spans,
-            boxes,
+            blocks,
+            sorted,
         })
     }
 }
@@ -101,7 +106,7 @@ impl<A: Allocator> Rest<A> {
         let gone = take_out(&mut self.numbers, start, k, free);
         take_out(&mut self.kinds, start, k, free);
         self.start = free;
-        close_gap(self.spans.as_mut_slice(), k);
+        close_gap(self.blocks.spans.as_mut_slice(), k);
         self.seen = update_kinds(
             &self.corners[free..],
             &self.numbers[free..],
@@ -142,8 +147,8 @@ impl<A: Allocator> Rest<A> {
             &mut self.kinds[start..],
             self.marks.as_mut_slice(),
             self.seen.candidates,
-            self.spans.as_slice(),
-            self.boxes.as_slice(),
+            &self.blocks,
+            &self.sorted,
         );
         self.seen.candidates = k;
         if k < count { Some(k) } else { None }

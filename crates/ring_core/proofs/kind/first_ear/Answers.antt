@@ -12,7 +12,7 @@ use Rattle.ring_core.proofs.kind.first_ear.Goals as goal
 use Rattle.ring_core.proofs.kind.first_ear.Goals.{then-is_candidate+in-Some, else-is_candidate}
 
 pub loop-k-init : goal.loop-k-init
-loop-k-init c =
+loop-k-init g c =
     let corners = c.args.corners.now in let numbers = c.args.numbers.now in let kinds = c.args.kinds.now in
     let are = c.requires.kinds in record {
       are = are;
@@ -25,14 +25,14 @@ loop-k-init c =
     }
 
 pub witness_of-requires-clause-turns_left : goal.witness_of-requires-clause-turns_left
-witness_of-requires-clause-turns_left c =
+witness_of-requires-clause-turns_left g c =
     let corners = c.args.corners.now in let numbers = c.args.numbers.now in let kinds = c.loop-k.kinds in let k = c.loop-k.k in
     let below : k < length corners = omega (arith, c.loop-k.invariant.are.same_length, c.loop-k.auto.kinds) in
     subst (IsKind corners numbers k) (c.is_candidate.ensures.0 c.if-is_candidate.true)
     (c.loop-k.invariant.are.each k below)
 
 pub returns-in_default-clause-ear : goal.returns-in_default-clause-ear
-returns-in_default-clause-ear c = λ below.
+returns-in_default-clause-ear g c = λ below.
     let corners = c.args.corners.now in let numbers = c.args.numbers.now in let kinds = c.loop-k.kinds in let k = c.loop-k.k in
     let left : TurnsLeft corners k =
     subst (IsKind corners numbers k) (c.is_candidate.ensures.0 c.if-is_candidate.true)
@@ -44,7 +44,7 @@ returns-in_default-clause-ear c = λ below.
     }
 
 pub loop-k-preserved : goal.loop-k-preserved
-loop-k-preserved c =
+loop-k-preserved g c =
     let corners = c.args.corners.now in let numbers = c.args.numbers.now in let kinds = c.loop-k.kinds in let k = c.loop-k.k in
     let inv = c.loop-k.invariant in
     let are = inv.are in
@@ -93,5 +93,5 @@ loop-k-preserved c =
     ]
 
 pub returns-clause-none : goal.returns-clause-none
-returns-clause-none c = λ e j b.
+returns-clause-none g c = λ e j b.
     c.loop-k.invariant.none_before j (omega (arith, b, c.loop-k.invariant.are.same_length, c.loop-k.auto.kinds)) b

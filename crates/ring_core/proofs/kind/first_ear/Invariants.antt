@@ -5,7 +5,7 @@ use Rattle.ring_core.specs.own.Kinds.{AreKinds, AreMarked}
 use Rattle.ring_core.proofs.kind.first_ear.Given as goal
 
 abbrev pub invariant-loop-k : goal.invariant-loop-k
-invariant-loop-k l = record {
+invariant-loop-k g l = record {
   are : AreKinds l.corners l.numbers l.kinds;
   marked : AreMarked l.kinds l.numbers l.marks;
   others : (j : ℕ) → slice_index_or l.kinds j Flat ≡ Flat → slice_index_or l.initial.kinds j Flat ≡ Flat;

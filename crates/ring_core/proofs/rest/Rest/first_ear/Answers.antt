@@ -38,4 +38,6 @@ invariant_of-self g c =
         });
       },
       c.self.invariant.2,
+      c.self.invariant.3,
+      c.self.invariant.4,
     )

@@ -13,6 +13,8 @@ use Rattle.ring_core.proofs.clipping.ClipSteps.{one_less}
 use Rattle.ring_core.proofs.clipping.KindsTell.{ascend_without, marked_without, seen_without}
 use Rattle.ring_core.proofs.clipping.TakenOnEitherSide.{behind, shown, written}
 use Rattle.ring_core.proofs.clipping.TakenOut.{item_kept, number_in}
+use Rattle.ring_core.proofs.searches.Sorted.{list_kept}
+use Rattle.ring_core.specs.declared.sorted.Axis.TheVariants.{X, Y}
 use Rattle.ring_core.proofs.rest.Rest.remove.Goals as goal
 
 kinds_before : (whole rest : List Corner) (numbers left : List ℕ) (kinds olds : List Kind) (k gone : ℕ)
@@ -102,8 +104,8 @@ invariant_of-self g c =
     let kinds_is = written all news (drop (length (put_mid free (length all - free) all news)) c.take_out-2.new.items.items)
     free c.take_out-2.new.items.len within long c.deref_mut.ensures.len in
     let kinds_are = ap (drop free) kinds_is ∙ behind (take free all) news free front in
-    let spans = c.close_gap.new.spans in let boxes = inside.boxes.items in
-    let as_many : length spans ≡ inside.spans.len = c.close_gap.auto.spans ∙ c.as_mut_slice.ensures.len in
+    let spans = c.close_gap.new.spans in let boxes = inside.blocks.boxes.items in
+    let as_many : length spans ≡ inside.blocks.spans.len = c.close_gap.auto.spans ∙ c.as_mut_slice.ensures.len in
     let were : AreBlocksOrNone whole c.as_mut_slice.result.now boxes = rw c.as_mut_slice.ensures.value c.self.invariant.2 in
     let blocks : AreBlocksOrNone rest spans boxes = c.close_gap.ensures whole rest boxes below taken.is_rest were in (
       record {
@@ -125,5 +127,7 @@ invariant_of-self g c =
         marked = rw (kinds_are, ← left_is, ← c.as_slice.ensures.value) updated.ensures.marked;
         seen_so_far = rw kinds_are updated.ensures.seen;
       },
-      rw (take_at spans (drop (length spans) inside.spans.items) inside.spans.len as_many) blocks,
+      rw (take_at spans (drop (length spans) inside.blocks.spans.items) inside.blocks.spans.len as_many) blocks,
+      rw (taken.is_rest, taken.is_left) (list_kept X whole numbers inside.sorted.by_x.items k below inv.as_many c.self.invariant.3),
+      rw (taken.is_rest, taken.is_left) (list_kept Y whole numbers inside.sorted.by_y.items k below inv.as_many c.self.invariant.4),
     )

@@ -4,8 +4,8 @@ use Rattle.std.proofs.lemmas.List.{get_or_read}
 use Rattle.geo_exact.specs.Places.{origin, corner_at}
 use Rattle.ring_core.specs.Clipping.{Blocks, IsInTriangle, next, previous}
 use Rattle.ring_core.proofs.ears.Renumbered.{inside_like}
-use Rattle.ring_core.proofs.kind.witness_between.Goals as goal
-use Rattle.ring_core.proofs.kind.witness_between.Goals.{
+use Rattle.ring_core.proofs.witness.witness_between.Goals as goal
+use Rattle.ring_core.proofs.witness.witness_between.Goals.{
   else-is_in_boxed-via-then-is_in_boxed+then-j-before+then-j-k+else-j-after,
   else-is_in_boxed-via-then-is_in_boxed+then-j-before+else-j-k,
   else-is_in_boxed-via-then-is_in_boxed+else-j-before,

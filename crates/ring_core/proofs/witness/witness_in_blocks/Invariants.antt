@@ -3,7 +3,7 @@ use Rattle.ring_core.specs.declared.blocks.Span.{Span}
 use Rattle.ring_core.specs.declared.leaning.LeaningBox.{LeaningBox}
 use Rattle.ring_core.specs.Clipping.{Blocks}
 use Rattle.ring_core.specs.own.Blocks.{HasCorner}
-use Rattle.ring_core.proofs.kind.witness_of.Given as goal
+use Rattle.ring_core.proofs.witness.witness_in_blocks.Given as goal
 
 abbrev pub invariant-loop-b : goal.invariant-loop-b
 invariant-loop-b l = (i : ℕ) → i < l.b → (j : ℕ) → j < length l.corners

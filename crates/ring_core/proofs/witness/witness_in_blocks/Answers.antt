@@ -1,5 +1,4 @@
-use Rattle.std.proofs.Common.{◌≡◌, ◌==◌, ℕ, ◌<◌, refl, sym, subst, arith, below_more, false, pos, length, get_or}
-use Rattle.std.proofs.lemmas.Bool.Decides.{nat_tests}
+use Rattle.std.proofs.Common.{ℕ, ◌<◌, refl, sym, subst, arith, below_more, pos, length, get_or}
 use Rattle.geo_exact.specs.Places.{corner_at}
 use Rattle.ring_core.specs.declared.blocks.Span.{Span}
 use Rattle.ring_core.specs.declared.leaning.LeaningBox.{LeaningBox}
@@ -7,30 +6,27 @@ use Rattle.ring_core.specs.Clipping.{Blocks, next, previous}
 use Rattle.ring_core.specs.own.Blocks.{HasCorner}
 use Rattle.ring_core.specs.own.Leaning.{IsHeld}
 use Rattle.ring_core.proofs.ears.Renumbered.{inside_like}
-use Rattle.ring_core.proofs.kind.witness_of.Goals as goal
-use Rattle.ring_core.proofs.kind.witness_of.Goals.{then-start-end-via-then-start-end}
-use Rattle.ring_core.proofs.kind.witness_of.Goals.{then-start-end-via-else-start-end+then-misses_triangle}
+use Rattle.ring_core.proofs.witness.witness_in_blocks.Goals as goal
+use Rattle.ring_core.proofs.witness.witness_in_blocks.Goals.{then-start-end-via-then-start-end}
+use Rattle.ring_core.proofs.witness.witness_in_blocks.Goals.{then-start-end-via-else-start-end+then-misses_triangle}
 
 abbrev no_span : Span
 no_span = record { start = 0; end = 0 }
-
-not_empty : (n : ℕ) → false ≡ (n == 0) → 0 < n
-not_empty n e = grind (arith, nat_tests)
 
 pub loop-b-preserved-then-start-end : goal.loop-b-preserved-then-start-end
 loop-b-preserved-then-start-end c =
     let corners = c.args.corners.now in let spans = c.args.spans.now in let boxes = c.args.boxes.now in let k =
     c.args.k in let b = c.loop-b.b in
-    let t = c.triangle_at-triangle in
+    let t = c.args.triangle in let at = c.requires.is_triangle in
     below_more (λ i. (j : ℕ) → j < length corners
     → ((span : Span) (box : LeaningBox) → HasCorner corners j (get_or spans i span) (get_or boxes i box))
     → ¬ Blocks corners k j) b c.loop-b.invariant
     (λ j in_ring h x. elim c.then-start-end.branch [
       | then-start-end-via-then-start-end w ↦
           let any : LeaningBox = record {
-            bounds = c.bounds_of-bounds.result;
-            from = t.result.a;
-            to = t.result.a;
+            bounds = c.args.bounds;
+            from = t.a;
+            to = t.a;
             low = pos 0;
             high = pos 0;
           } in
@@ -41,7 +37,7 @@ loop-b-preserved-then-start-end c =
           w.misses_triangle.ensures w.if-misses_triangle.true (corner_at corners j)
           (subst (λ v. IsHeld v (corner_at corners j)) (sym box.is) (h no_span box.result).held)
           (inside_like (corner_at corners j) (previous corners k) (corner_at corners k) (next corners k)
-          (corner_at corners j) t.result.a t.result.b t.result.c refl t.ensures.a t.ensures.b t.ensures.c x.is_inside)
+          (corner_at corners j) t.a t.b t.c refl at.a at.b at.c x.is_inside)
     ])
 
 pub loop-b-preserved : goal.loop-b-preserved
@@ -55,5 +51,5 @@ loop-b-preserved c =
 
 pub returns : goal.returns
 returns c = λ j b.
-    let found = (c.requires.blocks (not_empty (length c.args.spans.now) c.if-is_empty.ensures)).each j b in
+    let found = c.requires.blocks.each j b in
     c.loop-b.invariant found.0 (omega (arith, found.1)) j b found.2

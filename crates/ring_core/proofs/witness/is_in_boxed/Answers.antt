@@ -2,7 +2,7 @@ use Rattle.std.proofs.Common.{◌∙◌, sym}
 use Rattle.std.proofs.lemmas.Bool.{false≢true}
 use Rattle.geo_exact.proofs.boxes.InBoxes.{Decides-holds_corner}
 use Rattle.ring_core.proofs.clipping.HeldInside.{held_inside}
-use Rattle.ring_core.proofs.kind.is_in_boxed.Goals as goal
+use Rattle.ring_core.proofs.witness.is_in_boxed.Goals as goal
 
 pub returns-then-not-holds : goal.returns-then-not-holds
 returns-then-not-holds c =

@@ -1,0 +1,138 @@
+ghost use Rattle.std.specs.Prelude.{◌≡◌, ◌+ℤ◌, ◌^◌, ℕ, ◌<◌, ◌≤◌, pos, length, IfOk, IfSome, slice_index_or};
+ghost use Rattle.std.specs.List.Sorted.{IsNonDecreasingBy};
+ghost use Rattle.geo_exact.specs.declared.corner.Corner.{Corner as CornerValue};
+ghost use Rattle.geo_exact.specs.Bounds.{HoldsCorner};
+ghost use Rattle.ring_core.specs.declared.sorted.Listed.{Listed as ListedValue};
+ghost use Rattle.ring_core.specs.declared.sorted.Axis.TheVariants.{X, Y};
+ghost use Rattle.ring_core.specs.own.Blocks.{IsInSpan};
+ghost use Rattle.ring_core.specs.own.Sorted.{AreListed, AreListedOrNone, AreListedSoFar, along};
+
+use crate::blocks::{FEW_CORNERS, Span};
+use geo_exact::{Bounds, Corner};
+use std::alloc::{AllocError, Allocator};
+
+/// Along which axis corners are in order.
+#[derive(Clone, Copy, Debug)]
+pub enum Axis {
+    /// From west to east.
+    X,
+    /// From south to north.
+    Y,
+}
+
+impl Axis {
+    /// How far the corner is above the least coordinate that 64 bits have.
+    fn key(self, corner: Corner) -> u64
+        ensures { pos result ≡ along self corner +ℤ pos (2 ^ 63) }
+    {
+        match self {
+            Axis::X => corner.x.abs_diff(i64::MIN),
+            Axis::Y => corner.y.abs_diff(i64::MIN),
+        }
+    }
+}
+
+/// A corner of the ring as it was, beside its number and its key along an axis.
+#[derive(Clone, Copy, Debug)]
+pub struct Listed {
+    /// The corner's key.
+    pub key: u64,
+    /// The corner.
+    pub corner: Corner,
+    /// The number that it keeps.
+    pub number: u16,
+}
+
+/// The corners of a ring as it was, in order along each axis. Those that went are in it still.
+#[derive(Debug, Drop)]
+pub struct Sorted<A: Allocator> {
+    /// In order along the x axis.
+    pub by_x: Vec<Listed, A>,
+    /// In order along the y axis.
+    pub by_y: Vec<Listed, A>,
+}
+
+/// The corners in order along each axis; of a small ring there is none.
+///
+/// # Errors
+///
+/// [`AllocError`] where an allocation is refused.
+pub fn sorted_of<A: Allocator + Copy>(
+    alloc: A,
+    corners: &[Corner],
+    numbers: &[u16],
+) -> Result<Sorted<A>, AllocError>
+    requires as_many { length numbers.now ≡ length corners.now }
+    ensures by_x { IfOk result (λ sorted. AreListedOrNone X corners.now numbers.now sorted.by_x.items) }
+    ensures by_y { IfOk result (λ sorted. AreListedOrNone Y corners.now numbers.now sorted.by_y.items) }
+{
+    if corners.len() <= FEW_CORNERS {
+        return Ok(Sorted {
+            by_x: Vec::new(alloc),
+            by_y: Vec::new(alloc),
+        });
+    }
+    let by_x = sorted_along(alloc, corners, numbers, Axis::X)?;
+    let by_y = sorted_along(alloc, corners, numbers, Axis::Y)?;
+    Ok(Sorted { by_x, by_y })
+}
+
+/// The corners in order along an axis.
+fn sorted_along<A: Allocator>(
+    alloc: A,
+    corners: &[Corner],
+    numbers: &[u16],
+    axis: Axis,
+) -> Result<Vec<Listed, A>, AllocError>
+    requires as_many { length numbers.now ≡ length corners.now }
+    ensures { IfOk result (λ list. AreListed axis corners.now numbers.now list.items) }
+{
+    let mut list = list_of(alloc, corners, numbers, axis)?;
+    list.sort_unstable_by_key(|it| it.key);
+    Ok(list)
+}
+
+/// The corners beside their numbers and keys.
+fn list_of<A: Allocator>(
+    alloc: A,
+    corners: &[Corner],
+    numbers: &[u16],
+    axis: Axis,
+) -> Result<Vec<Listed, A>, AllocError>
+    requires as_many { length numbers.now ≡ length corners.now }
+    ensures { IfOk result (λ list. AreListedSoFar axis corners.now numbers.now (length corners.now) list.items) }
+{
+    let mut list = Vec::with_capacity(alloc, corners.len())?;
+    for j in 0..corners.len() {
+        let corner = corners[j];
+        list.push(Listed {
+            key: axis.key(corner),
+            corner,
+            number: numbers[j],
+        })?;
+    }
+    Ok(list)
+}
+
+/// Where in a list stand the corners that the box holds, and others that lie as far along the axis, where
+/// these are fewer than `most`. Of an empty list nothing is said.
+pub fn few_between(list: &[Listed], axis: Axis, bounds: Bounds, most: usize) -> Option<Span>
+    requires sorted { IsNonDecreasingBy (λ it. it.key) list.now }
+    ensures some { IfSome result (λ span. 0 < length list.now) }
+    ensures within { IfSome result (λ span. span.end ≤ length list.now) }
+    ensures has { IfSome result (λ span. (corner : CornerValue) (i : ℕ) (d : ListedValue) → i < length list.now
+        → pos (slice_index_or list.now i d).key ≡ along axis corner +ℤ pos (2 ^ 63) → HoldsCorner bounds corner → IsInSpan i span) }
+{
+    if list.is_empty() {
+        return None;
+    }
+    let low = axis.key(bounds.low);
+    let high = axis.key(bounds.high);
+    let start = list.partition_point(|it| it.key < low);
+    let end = list.partition_point(|it| it.key <= high);
+    if end.saturating_sub(start) < most {
+        Some(Span { start, end })
+    } else {
+        None
+    }
+}
