@@ -9,8 +9,8 @@ use crate::places::less;
 use geo_exact::Corner;
 use std::alloc::{AllocError, Allocator};
 
-/// The most corners of a ring that is clipped without blocks, and without lists along the axes.
-pub const FEW_CORNERS: usize = 64;
+/// The most corners of a ring that is clipped without blocks.
+const FEW_CORNERS: usize = 64;
 
 /// How many corners a block has, as it is made.
 pub const BLOCK_CORNERS: usize = 16;

@@ -7,9 +7,12 @@ ghost use Rattle.ring_core.specs.declared.sorted.Axis.TheVariants.{X, Y};
 ghost use Rattle.ring_core.specs.own.Blocks.{IsInSpan};
 ghost use Rattle.ring_core.specs.own.Sorted.{AreListed, AreListedOrNone, AreListedSoFar, along};
 
-use crate::blocks::{FEW_CORNERS, Span};
+use crate::blocks::Span;
 use geo_exact::{Bounds, Corner};
 use std::alloc::{AllocError, Allocator};
+
+/// The most corners of a ring that are not put in order: to sort fewer takes longer than it spares.
+const FEW_TO_SORT: usize = 1_024;
 
 /// Along which axis corners are in order.
 #[derive(Clone, Copy, Debug)]
@@ -66,7 +69,7 @@ pub fn sorted_of<A: Allocator + Copy>(
     ensures by_x { IfOk result (λ sorted. AreListedOrNone X corners.now numbers.now sorted.by_x.items) }
     ensures by_y { IfOk result (λ sorted. AreListedOrNone Y corners.now numbers.now sorted.by_y.items) }
 {
-    if corners.len() <= FEW_CORNERS {
+    if corners.len() <= FEW_TO_SORT {
         return Ok(Sorted {
             by_x: Vec::new(alloc),
             by_y: Vec::new(alloc),
@@ -115,7 +118,7 @@ fn list_of<A: Allocator>(
 }
 
 /// Where in a list stand the corners that the box holds, and others that lie as far along the axis, where
-/// these are fewer than `most`. Of an empty list nothing is said.
+/// these are no more than `most`. Of an empty list nothing is said.
 pub fn few_between(list: &[Listed], axis: Axis, bounds: Bounds, most: usize) -> Option<Span>
     requires sorted { IsNonDecreasingBy (λ it. it.key) list.now }
     ensures some { IfSome result (λ span. 0 < length list.now) }
@@ -129,10 +132,14 @@ pub fn few_between(list: &[Listed], axis: Axis, bounds: Bounds, most: usize) -> 
     let low = axis.key(bounds.low);
     let high = axis.key(bounds.high);
     let start = list.partition_point(|it| it.key < low);
-    let end = list.partition_point(|it| it.key <= high);
-    if end.saturating_sub(start) < most {
-        Some(Span { start, end })
-    } else {
-        None
+    if is_at_most(list, start.saturating_add(most), high) {
+        return None;
     }
+    let end = list.partition_point(|it| it.key <= high);
+    Some(Span { start, end })
+}
+
+/// Whether something is listed at the place, under no greater key than this one.
+fn is_at_most(list: &[Listed], place: usize, key: u64) -> bool {
+    place < list.len() && list[place].key <= key
 }

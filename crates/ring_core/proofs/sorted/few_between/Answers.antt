@@ -23,8 +23,8 @@ within Y bounds corner h = (h.south, h.north)
 keys_rise : (x y : ℤ) (k m : ℕ) → pos k ≡ x +ℤ pos (2 ^ 63) → pos m ≡ y +ℤ pos (2 ^ 63) → x ≤ℤ y → k ≤ m
 keys_rise x y k m a b h = omega (arith, ints, a, b, h)
 
-pub returns-then-saturating_sub-most-clause-has : goal.returns-then-saturating_sub-most-clause-has
-returns-then-saturating_sub-most-clause-has c = λ corner i d below key holds.
+pub returns-clause-has : goal.returns-clause-has
+returns-clause-has c = λ corner i d below key holds.
     let list = c.args.list.now in let low = c.key-low.result in let high = c.key-high.result in
     let key_of = λ (it : Listed). it.key in
     let ends = within c.args.axis c.args.bounds corner holds in
