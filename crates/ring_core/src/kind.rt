@@ -5,11 +5,10 @@ ghost use Rattle.geo_exact.specs.declared.corner.Corner.{Corner};
 ghost use Rattle.geo_exact.specs.First.{HasNone, IsFirst};
 ghost use Rattle.geo_exact.specs.Places.{before};
 ghost use Rattle.ring_core.specs.Clipping.{IsEar, IsFlat};
-ghost use Rattle.ring_core.specs.declared.sorted.Axis.TheVariants.{X, Y};
 ghost use Rattle.ring_core.specs.own.Blocks.{AreBlocksOrNone};
 ghost use Rattle.ring_core.specs.own.Kinds.{AreKinds, IsKind, IsTakenOut, TurnsLeft, WasBeside, number_before};
 ghost use Rattle.ring_core.specs.own.Kinds.{AreMarked, AreSeen, IsReleased, KeepsMarks, NeedNoMark};
-ghost use Rattle.ring_core.specs.own.Sorted.{AreListedOrNone};
+ghost use Rattle.ring_core.specs.own.Sorted.{AreSortedOrNone};
 
 use crate::blocks::BlockList;
 use crate::ear::{corner_after, corner_before, is_flat, is_left};
@@ -126,8 +125,7 @@ pub fn first_ear<A: Allocator>(
     requires marked { AreMarked kinds.old numbers.now marks.old }
     requires seen { (j : ℕ) → j < start → j < length kinds.old → slice_index_or kinds.old j Kind.Flat ≢ Kind.Candidate }
     requires blocks { AreBlocksOrNone corners.now blocks.now.spans.items blocks.now.boxes.items }
-    requires by_x { AreListedOrNone X corners.now numbers.now sorted.now.by_x.items }
-    requires by_y { AreListedOrNone Y corners.now numbers.now sorted.now.by_y.items }
+    requires sorted { AreSortedOrNone corners.now numbers.now sorted.now.by_x.items sorted.now.by_y.items }
     ensures kinds { AreKinds corners.now numbers.now kinds.new }
     ensures marked { AreMarked kinds.new numbers.now marks.new }
     ensures others { (j : ℕ) → slice_index_or kinds.new j Kind.Flat ≡ Kind.Flat → slice_index_or kinds.old j Kind.Flat ≡ Kind.Flat }

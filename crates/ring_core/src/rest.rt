@@ -37,10 +37,9 @@ pub struct Rest<A: Allocator> {
 impl<A: Allocator> Model for Rest<A> {
     ghost use Rattle.geo_exact.specs.declared.corner.Corner.{Corner};
     ghost use Rattle.std.specs.Prelude.{List, drop};
-    ghost use Rattle.ring_core.specs.declared.sorted.Axis.TheVariants.{X, Y};
     ghost use Rattle.ring_core.specs.own.Blocks.{AreBlocksOrNone};
     ghost use Rattle.ring_core.specs.own.Kinds.{AreKept, HaveFree};
-    ghost use Rattle.ring_core.specs.own.Sorted.{AreListedOrNone};
+    ghost use Rattle.ring_core.specs.own.Sorted.{AreSortedOrNone};
 
     ghost Value = { List Corner };
 
@@ -50,8 +49,8 @@ impl<A: Allocator> Model for Rest<A> {
         × AreKept (drop rest.start rest.corners.items) (drop rest.start rest.numbers.items) (drop rest.start rest.kinds.items)
         rest.marks.items rest.seen
         × AreBlocksOrNone (drop rest.start rest.corners.items) rest.blocks.spans.items rest.blocks.boxes.items
-        × AreListedOrNone X (drop rest.start rest.corners.items) (drop rest.start rest.numbers.items) rest.sorted.by_x.items
-        × AreListedOrNone Y (drop rest.start rest.corners.items) (drop rest.start rest.numbers.items) rest.sorted.by_y.items };
+        × AreSortedOrNone (drop rest.start rest.corners.items) (drop rest.start rest.numbers.items)
+        rest.sorted.by_x.items rest.sorted.by_y.items };
 }
 
 impl<A: Allocator + Copy> Rest<A> {

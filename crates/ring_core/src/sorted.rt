@@ -1,11 +1,6 @@
-ghost use Rattle.std.specs.Prelude.{◌≡◌, ◌+ℤ◌, ◌^◌, ℕ, ◌<◌, ◌≤◌, pos, length, IfOk, IfSome, slice_index_or};
+ghost use Rattle.std.specs.Prelude.{◌≡◌, ◌<◌, ◌≤◌, length, IfOk, IfSome};
 ghost use Rattle.std.specs.List.Sorted.{IsNonDecreasingBy};
-ghost use Rattle.geo_exact.specs.declared.corner.Corner.{Corner as CornerValue};
-ghost use Rattle.geo_exact.specs.Bounds.{HoldsCorner};
-ghost use Rattle.ring_core.specs.declared.sorted.Listed.{Listed as ListedValue};
-ghost use Rattle.ring_core.specs.declared.sorted.Axis.TheVariants.{X, Y};
-ghost use Rattle.ring_core.specs.own.Blocks.{IsInSpan};
-ghost use Rattle.ring_core.specs.own.Sorted.{AreListed, AreListedOrNone, AreListedSoFar, along};
+ghost use Rattle.ring_core.specs.own.Sorted.{AreListed, AreListedSoFar, AreSortedOrNone, HasHeld, IsKey};
 
 use crate::blocks::Span;
 use geo_exact::{Bounds, Corner};
@@ -26,7 +21,7 @@ pub enum Axis {
 impl Axis {
     /// How far the corner is above the least coordinate that 64 bits have.
     fn key(self, corner: Corner) -> u64
-        ensures { pos result ≡ along self corner +ℤ pos (2 ^ 63) }
+        ensures { IsKey self corner result }
     {
         match self {
             Axis::X => corner.x.abs_diff(i64::MIN),
@@ -66,8 +61,7 @@ pub fn sorted_of<A: Allocator + Copy>(
     numbers: &[u16],
 ) -> Result<Sorted<A>, AllocError>
     requires as_many { length numbers.now ≡ length corners.now }
-    ensures by_x { IfOk result (λ sorted. AreListedOrNone X corners.now numbers.now sorted.by_x.items) }
-    ensures by_y { IfOk result (λ sorted. AreListedOrNone Y corners.now numbers.now sorted.by_y.items) }
+    ensures { IfOk result (λ sorted. AreSortedOrNone corners.now numbers.now sorted.by_x.items sorted.by_y.items) }
 {
     if corners.len() <= FEW_TO_SORT {
         return Ok(Sorted {
@@ -123,8 +117,7 @@ pub fn few_between(list: &[Listed], axis: Axis, bounds: Bounds, most: usize) -> 
     requires sorted { IsNonDecreasingBy (λ it. it.key) list.now }
     ensures some { IfSome result (λ span. 0 < length list.now) }
     ensures within { IfSome result (λ span. span.end ≤ length list.now) }
-    ensures has { IfSome result (λ span. (corner : CornerValue) (i : ℕ) (d : ListedValue) → i < length list.now
-        → pos (slice_index_or list.now i d).key ≡ along axis corner +ℤ pos (2 ^ 63) → HoldsCorner bounds corner → IsInSpan i span) }
+    ensures has { IfSome result (HasHeld axis bounds list.now) }
 {
     if list.is_empty() {
         return None;

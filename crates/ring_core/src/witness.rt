@@ -4,11 +4,9 @@ ghost use Rattle.geo_exact.specs.First.{HasNone};
 ghost use Rattle.ring_core.specs.Boxes.{HoldsTriangle};
 ghost use Rattle.ring_core.specs.Clipping.{Blocks, IsInTriangle, IsTriangleAt};
 ghost use Rattle.ring_core.specs.declared.sorted.Axis.{Axis as AxisValue};
-ghost use Rattle.ring_core.specs.declared.sorted.Axis.TheVariants.{X, Y};
-ghost use Rattle.ring_core.specs.declared.sorted.Listed.{Listed as ListedValue};
 ghost use Rattle.ring_core.specs.own.Blocks.{AreBlocks, AreBlocksOrNone, IsInSpan};
 ghost use Rattle.ring_core.specs.own.Kinds.{TurnsLeft};
-ghost use Rattle.ring_core.specs.own.Sorted.{AreListedOrNone, IsListed};
+ghost use Rattle.ring_core.specs.own.Sorted.{AreSortedOrNone, IsListedAt};
 
 use crate::blocks::{BlockList, Span};
 use crate::boxes::bounds_of;
@@ -89,8 +87,7 @@ fn witness_listed(
     requires held { HoldsTriangle bounds triangle }
     ensures some { IfSome result (λ j. (j < length corners.now) × Blocks corners.now k j) }
     ensures none { IfNone result ((i j : ℕ) (axis : AxisValue) → IsInSpan i span → j < length corners.now
-        → ((d : ListedValue) → IsListed axis corners.now numbers.now j (slice_index_or list.now i d))
-        → ¬ Blocks corners.now k j) }
+        → IsListedAt axis corners.now numbers.now j list.now i → ¬ Blocks corners.now k j) }
 {
     for i in span.start..span.end {
         let it = list[i];
@@ -155,8 +152,7 @@ pub fn witness_of<A: Allocator>(
     requires in_rest { k < length corners.now }
     requires turns_left { TurnsLeft corners.now k }
     requires blocks { AreBlocksOrNone corners.now blocks.now.spans.items blocks.now.boxes.items }
-    requires by_x { AreListedOrNone X corners.now numbers.now sorted.now.by_x.items }
-    requires by_y { AreListedOrNone Y corners.now numbers.now sorted.now.by_y.items }
+    requires sorted { AreSortedOrNone corners.now numbers.now sorted.now.by_x.items sorted.now.by_y.items }
     ensures { MatchOption result
         (HasNone (Blocks corners.now k) (length corners.now))
         (λ j. (j < length corners.now) × Blocks corners.now k j) }

@@ -1,24 +1,24 @@
 -- Lists of corners in order along an axis: what a search through one finds, and what is left of one.
-use Rattle.std.proofs.Common.{◌≡◌, ◌∙◌, ◌+ℤ◌, ◌^◌, ◌<◌, ℕ, pos, sym, subst, refl, arith}
-use Rattle.std.proofs.Common.{List, length, get_or, Option, None, Some, MatchOption}
+use Rattle.std.proofs.Common.{◌≡◌, ◌∙◌, ◌<◌, ℕ, sym, subst, refl, arith}
+use Rattle.std.proofs.Common.{List, length, Option, None, Some, MatchOption}
 use Rattle.std.specs.List.{remove}
 use Rattle.std.specs.List.Sorted.{IsNonDecreasingBy}
 use Rattle.std.specs.Prelude.{IfSome, IfNone}
 use Rattle.std.proofs.lemmas.List.{get_or_default}
 use Rattle.geo_exact.specs.declared.bounds.Bounds.{Bounds}
 use Rattle.geo_exact.specs.declared.corner.Corner.{Corner}
-use Rattle.geo_exact.specs.Bounds.{HoldsCorner}
 use Rattle.geo_exact.specs.First.{HasNone}
 use Rattle.geo_exact.specs.Places.{corner_at}
 use Rattle.ring_core.specs.declared.blocks.Span.{Span}
 use Rattle.ring_core.specs.declared.sorted.Axis.{Axis}
+use Rattle.ring_core.specs.declared.sorted.Axis.TheVariants.{X, Y}
 use Rattle.ring_core.specs.declared.sorted.Listed.{Listed}
 use Rattle.ring_core.specs.declared.triangle.Tri.{Tri}
 use Rattle.ring_core.specs.Boxes.{HoldsTriangle}
 use Rattle.ring_core.specs.Clipping.{Blocks, IsTriangleAt, next, previous}
 use Rattle.ring_core.specs.own.Blocks.{IsInSpan}
 use Rattle.ring_core.specs.own.Kinds.{number_before}
-use Rattle.ring_core.specs.own.Sorted.{AreListedOrNone, IsListed, along}
+use Rattle.ring_core.specs.own.Sorted.{AreListedOrNone, AreSortedOrNone, HasHeld, IsListed, IsListedAt}
 use Rattle.ring_core.proofs.clipping.ClipSteps.{one_less}
 use Rattle.ring_core.proofs.clipping.HeldInside.{held_inside}
 use Rattle.ring_core.proofs.clipping.TakenOut.{corner_kept, item_kept, number_in}
@@ -31,16 +31,15 @@ module _ (axis : Axis) (corners : List Corner) (numbers : List ℕ) (list : List
   -- a search through all that the box may hold finds a corner in the triangle, where there is one
   pub found_in_list : (k : ℕ) (t : Tri) (box : Bounds) (span : Span) (result : Option ℕ)
       → AreListedOrNone axis corners numbers list → 0 < length list → IsTriangleAt corners k t → HoldsTriangle box t
-      → ((corner : Corner) (i : ℕ) (d : Listed) → i < length list → pos (get_or list i d).key ≡ along axis corner +ℤ pos (2 ^ 63)
-      → HoldsCorner box corner → IsInSpan i span)
+      → HasHeld axis box list span
       → IfSome result (λ j. (j < length corners) × Blocks corners k j)
       → IfNone result ((i j : ℕ) (axis : Axis) → IsInSpan i span → j < length corners
-      → ((d : Listed) → IsListed axis corners numbers j (get_or list i d)) → ¬ Blocks corners k j)
+      → IsListedAt axis corners numbers j list i → ¬ Blocks corners k j)
       → MatchOption result (HasNone (Blocks corners k) (length corners)) (λ j. (j < length corners) × Blocks corners k j)
   found_in_list k t box span (Some j) are some at held has is none = is
   found_in_list k t box span None are some at held has is none = λ j below x.
       let found = (are some).each j below in let it = found.0 in let i = found.1.0 in
-      let here : (d : Listed) → IsListed axis corners numbers j (get_or list i d) =
+      let here : IsListedAt axis corners numbers j list i =
       λ d. subst (IsListed axis corners numbers j) (sym (get_or_default list i d it found.1.1 ∙ found.1.2)) found.2 in
       let inside = inside_like (corner_at corners j) (previous corners k) (corner_at corners k) (next corners k)
       (corner_at corners j) t.a t.b t.c refl at.a at.b at.c x.is_inside in
@@ -65,3 +64,12 @@ module _ (axis : Axis) (corners : List Corner) (numbers : List ℕ) (list : List
               },
             );
       }
+
+-- and so along both axes
+pub sorted_kept : (corners : List Corner) (numbers : List ℕ) (by_x by_y : List Listed) (k : ℕ)
+    → k < length corners → length numbers ≡ length corners → AreSortedOrNone corners numbers by_x by_y
+    → AreSortedOrNone (remove corners k) (remove numbers k) by_x by_y
+sorted_kept corners numbers by_x by_y k below as_many are = record {
+  by_x = list_kept X corners numbers by_x k below as_many are.by_x;
+  by_y = list_kept Y corners numbers by_y k below as_many are.by_y;
+}

@@ -39,5 +39,4 @@ invariant_of-self g c =
       },
       c.self.invariant.2,
       c.self.invariant.3,
-      c.self.invariant.4,
     )

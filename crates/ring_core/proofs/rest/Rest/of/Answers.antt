@@ -15,6 +15,5 @@ invariant_of-result g c =
         seen_so_far = record { flats = λ j b. absurd (omega (arith, b)); candidates = λ j b. absurd (omega (arith, b)) };
       }),
       rw same c.in_ok-blocks.ensures,
-      rw (same, ← c.as_slice.ensures.value) c.in_ok-sorted.ensures.by_x,
-      rw (same, ← c.as_slice.ensures.value) c.in_ok-sorted.ensures.by_y,
+      rw (same, ← c.as_slice.ensures.value) c.in_ok-sorted.ensures,
     )

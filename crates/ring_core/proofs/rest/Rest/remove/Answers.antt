@@ -13,8 +13,7 @@ use Rattle.ring_core.proofs.clipping.ClipSteps.{one_less}
 use Rattle.ring_core.proofs.clipping.KindsTell.{ascend_without, marked_without, seen_without}
 use Rattle.ring_core.proofs.clipping.TakenOnEitherSide.{behind, shown, written}
 use Rattle.ring_core.proofs.clipping.TakenOut.{item_kept, number_in}
-use Rattle.ring_core.proofs.searches.Sorted.{list_kept}
-use Rattle.ring_core.specs.declared.sorted.Axis.TheVariants.{X, Y}
+use Rattle.ring_core.proofs.searches.Sorted.{sorted_kept}
 use Rattle.ring_core.proofs.rest.Rest.remove.Goals as goal
 
 kinds_before : (whole rest : List Corner) (numbers left : List ℕ) (kinds olds : List Kind) (k gone : ℕ)
@@ -128,6 +127,6 @@ invariant_of-self g c =
         seen_so_far = rw kinds_are updated.ensures.seen;
       },
       rw (take_at spans (drop (length spans) inside.blocks.spans.items) inside.blocks.spans.len as_many) blocks,
-      rw (taken.is_rest, taken.is_left) (list_kept X whole numbers inside.sorted.by_x.items k below inv.as_many c.self.invariant.3),
-      rw (taken.is_rest, taken.is_left) (list_kept Y whole numbers inside.sorted.by_y.items k below inv.as_many c.self.invariant.4),
+      rw (taken.is_rest, taken.is_left)
+          (sorted_kept whole numbers inside.sorted.by_x.items inside.sorted.by_y.items k below inv.as_many c.self.invariant.3),
     )
