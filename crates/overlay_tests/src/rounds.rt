@@ -57,7 +57,7 @@ pub const FIRST_ALONE: [(usize, Step); 3] = [(0, Step::Did(1)), (0, Step::Did(2)
 
 pub const BOTH: [(u64, u64); 3] = [(1, 1), (1, 2), (2, 2)];
 
-static ROWS: [Row; 9] = [
+static ROWS: [Row; 12] = [
     Row {
         ground: &SQUARE,
         parcels: &RINGS,
@@ -140,6 +140,46 @@ static ROWS: [Row; 9] = [
             (0, Step::Done),
         ],
         tests: &[2, 5, 8, 10, 10],
+        pairs: &[(1, 1), (2, 2), (3, 3), (4, 4)],
+    },
+    Row {
+        ground: &SQUARE,
+        parcels: &STRIPS,
+        zones: &STRIPS,
+        sharing: (2, &[(0, 1), (1, 2), (0, 3), (1, 4)]),
+        turns: &[
+            (0, Step::Did(1)),
+            (1, Step::Did(2)),
+            (0, Step::Did(3)),
+            (1, Step::Did(4)),
+            (0, Step::Done),
+        ],
+        tests: &[2, 3, 5, 5, 5],
+        pairs: &[(1, 1), (2, 2), (3, 3), (4, 4)],
+    },
+    // Lists whose ids do not rise.
+    Row {
+        ground: &SQUARE,
+        parcels: &RINGS,
+        zones: &HALVES,
+        sharing: (2, &[(0, 2), (0, 1)]),
+        turns: &[(0, Step::Did(2)), (0, Step::Did(1)), (0, Step::Done)],
+        tests: &[1, 3, 3],
+        pairs: &BOTH,
+    },
+    Row {
+        ground: &SQUARE,
+        parcels: &STRIPS,
+        zones: &STRIPS,
+        sharing: (2, &[(0, 4), (0, 2), (1, 3), (1, 1)]),
+        turns: &[
+            (0, Step::Did(4)),
+            (1, Step::Did(3)),
+            (1, Step::Did(1)),
+            (0, Step::Did(2)),
+            (1, Step::Done),
+        ],
+        tests: &[2, 3, 5, 5, 5],
         pairs: &[(1, 1), (2, 2), (3, 3), (4, 4)],
     },
     Row {

@@ -11,3 +11,4 @@ pub mod EachIdOnce
 pub mod Tables
 pub mod SortedPairs
 pub mod Faults
+pub mod Taken

@@ -5,7 +5,7 @@ use Rattle.std.specs.List.{Contains}
 use Rattle.overlay_work.specs.declared.round.TheConstants.{MOST_HANDS}
 
 -- all lists, one behind the other
-abbrev pub joined : List (List ℕ) → List ℕ
+abbrev pub joined : {X : Type 0} → List (List X) → List X
 joined lists = flat_map (λ list. list) lists
 
 -- how often the id stands in the lists

@@ -9,9 +9,10 @@ ghost use Rattle.overlay_work.specs.Faults.{IsCloseFault};
 ghost use Rattle.overlay_work.specs.own.Gathered.{AreDone, AreSortedPairsOf};
 
 use crate::hand::Hand;
-use crate::hands_in::{all_pairs, check_hands, confirm};
+use crate::hands_in::{check_hands, confirm};
+use crate::pairs::sorted_pairs;
 use crate::round::Round;
-use std::alloc::{AllocError, Allocator};
+use std::alloc::Allocator;
 use zone_tables::Table;
 
 /// Why a round is not closed: the first that applies, in this order.
@@ -114,16 +115,4 @@ impl<'t, 'h, H: Allocator> Round<'t, 'h, H> {
         confirm(work, hands);
         Table::gather(sheet, zones, pairs)
     }
-}
-
-/// The pairs that hands kept, in order. Those of a hand rise, list by list, and the sort keeps such runs.
-fn sorted_pairs<'t, 'h, H: Allocator>(
-    heap: &'h H,
-    hands: &[Hand<'t, 'h, H>],
-) -> Result<Vec<(u64, u64), &'h H>, AllocError>
-    ensures { IfOk result (λ pairs. AreSortedPairsOf hands.now pairs.items) }
-{
-    let mut pairs = all_pairs(heap, hands)?;
-    pairs.sort()?;
-    Ok(pairs)
 }

@@ -7,13 +7,13 @@ ghost use Rattle.fabric_core.specs.Rows.{numbers};
 ghost use Rattle.overlay_claims.specs.Claims.{all_places};
 ghost use Rattle.overlay_work.specs.Rounds.{Progress, HasAllEnds, AreHandsOf};
 ghost use Rattle.overlay_work.specs.Faults.{IsCloseFault, IsLeastHolding, HoldNothing};
-ghost use Rattle.overlay_work.specs.own.Gathered.{AreDone, LeastIs, SomeHasAllEnds, ArePairsOfHands};
+ghost use Rattle.overlay_work.specs.own.Gathered.{AreDone, LeastIs, SomeHasAllEnds};
 
 use crate::close::CloseFault;
 use crate::hand::Hand;
 use crate::work::Work;
 use overlay_claims::Gathering;
-use std::alloc::{AllocError, Allocator};
+use std::alloc::Allocator;
 
 /// Whether a round can be closed with these hands, or why not.
 pub(crate) fn check_hands<'t, 'h, H: Allocator>(
@@ -70,20 +70,6 @@ fn some_is_done<'t, 'h, H: Allocator>(hands: &[Hand<'t, 'h, H>]) -> bool
         }
     }
     false
-}
-
-/// All pairs that hands kept.
-pub(crate) fn all_pairs<'t, 'h, H: Allocator>(
-    heap: &'h H,
-    hands: &[Hand<'t, 'h, H>],
-) -> Result<Vec<(u64, u64), &'h H>, AllocError>
-    ensures { IfOk result (λ pairs. ArePairsOfHands hands.now pairs.items) }
-{
-    let mut pairs = Vec::new(heap);
-    for hand in hands {
-        pairs.extend_from_slice(hand.kept())?;
-    }
-    Ok(pairs)
 }
 
 /// Puts together what the hands claimed: each place was claimed by one of them, once, and each parcel done by one.

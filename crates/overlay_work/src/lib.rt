@@ -6,6 +6,8 @@ mod close;
 mod gate;
 mod hand;
 mod hands_in;
+mod pairs;
+mod queues;
 mod round;
 mod run;
 mod sharing;

@@ -16,8 +16,8 @@ returns g c =
     let moved : IsPermutation (joined lists) dealt =
     subst (λ l. IsPermutation l dealt) c.in_ok-dealt.ensures c.in_ok-sort.ensures.permutation in
     let up : IsNonDecreasing dealt = IsNonDecreasingBy-from_sort (λ (x : ℕ). x) dealt c.in_ok-sort.ensures.sorted in
-    let rise : IsStrictlyIncreasing ids = subst IsStrictlyIncreasing c.ids.ensures.ids c.ids.ensures.ascending in
+    let rise : IsStrictlyIncreasing ids = subst IsStrictlyIncreasing c.ids-2.ensures.ids c.ids-2.ensures.ascending in
     told c.first_difference.result lists dealt ids moved up rise
-    (subst (λ l. MatchOption c.first_difference.result (dealt ≡ l) (IsFirstDifference dealt l)) c.ids.ensures.ids
-    (subst (λ l. MatchOption c.first_difference.result (l ≡ c.ids.result) (IsFirstDifference l c.ids.result))
+    (subst (λ l. MatchOption c.first_difference.result (dealt ≡ l) (IsFirstDifference dealt l)) c.ids-2.ensures.ids
+    (subst (λ l. MatchOption c.first_difference.result (l ≡ c.ids-2.result) (IsFirstDifference l c.ids-2.result))
     c.as_slice.ensures.value c.first_difference.ensures))

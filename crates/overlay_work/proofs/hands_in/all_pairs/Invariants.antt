@@ -1,6 +1,0 @@
-use Rattle.std.proofs.Common.{take}
-use Rattle.overlay_work.specs.own.Gathered.{ArePairsOfHands}
-use Rattle.overlay_work.proofs.hands_in.all_pairs.Given as goal
-
-abbrev pub invariant-loop-hand : goal.invariant-loop-hand
-invariant-loop-hand g l = ArePairsOfHands (take l.hand-index l.hands) l.pairs.items
