@@ -1,15 +1,18 @@
-ghost use Rattle.std.specs.Prelude.{◌≡◌, ◌↔◌, ℕ, ◌<◌, ◌≤◌, List, length, map, slice_index, slice_index_or, IfOk, IfSome};
+ghost use Rattle.std.specs.Prelude.{◌≡◌, ◌↔◌, ℕ, ◌+◌, ◌*◌, ◌<◌, ◌≤◌, List, length, map, slice_index, slice_index_or, IfOk, IfSome};
 ghost use Rattle.std.specs.List.{filter, Contains};
 ghost use Rattle.edge_chains.specs.own.Inside.{is_strictly_inside};
 ghost use Rattle.geo_exact.specs.Bounds.{holds_corner, HoldsCorner};
-ghost use Rattle.edge_chains.specs.own.Blocks.{AreEnds, HasOwn, HasBlock, AreBlocks};
+ghost use Rattle.edge_chains.specs.own.Blocks.{AreEnds, HasBlock, AreBlocks};
 
-use crate::edge_tests::{are_disjoint, is_strictly_inside, misses};
+use crate::edge_tests::{are_disjoint, is_in, is_strictly_inside, misses};
 use geo_exact::{Bounds, Corner, LIMIT};
 use std::alloc::{AllocError, Allocator};
 use std::marker::Model;
 
-/// Corners for many searches, as a list in some order: at each place a block of corners begins, with its box.
+/// How many neighbours in the list are a group, for which one box is kept.
+pub(crate) const GROUP: usize = 4;
+
+/// Corners for many searches, as a list in some order: at each group a block of corners begins, with its box.
 #[derive(Drop)]
 pub(crate) struct Blocks<A: Allocator> {
     corners: Vec<Corner, A>,
@@ -57,7 +60,7 @@ impl<A: Allocator + Copy> Blocks<A> {
     }
 
     /// Those of the corners that lie strictly inside the edge from a to b, in the order of the list;
-    /// `None` where more than `most` places are looked at.
+    /// `None` where more than `most` boxes are looked at.
     pub fn inside(
         &self,
         a: Corner,
@@ -155,9 +158,9 @@ fn apart(number: u64) -> u64 {
 }
 
 /// Those of the corners that lie strictly inside an edge, in the order of the list; `None` where
-/// more than `most` places are looked at.
+/// more than `most` boxes are looked at.
 ///
-/// At each place a block begins that goes up to `ends`, with its box; a block whose box the edge misses is passed over.
+/// At each group a block begins that goes up to `ends`, with its box; a block whose box the edge misses is passed over.
 fn collect<A: Allocator + Copy>(
     alloc: A,
     corners: &[Corner],
@@ -175,12 +178,15 @@ fn collect<A: Allocator + Copy>(
     let mut at = 0;
     let mut left = most;
     while at < corners.len() {
-        if left == 0 {
-            return Ok(None);
+        if at % GROUP == 0 {
+            if left == 0 {
+                return Ok(None);
+            }
+            left -= 1;
         }
-        left -= 1;
-        if misses(boxes[at], a, b) {
-            at = ends[at];
+        let group = at / GROUP;
+        if at % GROUP == 0 && misses(boxes[group], a, b) {
+            at = ends[group];
         } else {
             let corner = corners[at];
             if is_strictly_inside(corner, a, b) {
@@ -210,11 +216,12 @@ fn collect_few<A: Allocator + Copy>(
     let mut found = Vec::with_capacity(alloc, most)?;
     let mut at = 0;
     while at < corners.len() {
-        if are_disjoint(boxes[at], *bounds) {
-            at = ends[at];
+        let group = at / GROUP;
+        if at % GROUP == 0 && are_disjoint(boxes[group], *bounds) {
+            at = ends[group];
         } else {
             let corner = corners[at];
-            if bounds.holds(corner) {
+            if is_in(*bounds, corner) {
                 if found.len() == most {
                     return Ok(None);
                 }
@@ -226,19 +233,21 @@ fn collect_few<A: Allocator + Copy>(
     Ok(Some(found))
 }
 
-/// Where the block at each of n places ends: those of a tree in which a block is its first place
-/// and two halves of the rest.
+/// Where the block at each group of n corners ends: those of a tree in which a block is its first
+/// group and two halves of the rest.
 fn block_ends<A: Allocator + Copy>(alloc: A, n: usize) -> Result<Vec<usize, A>, AllocError>
     ensures { IfOk result (λ ends. AreEnds n ends.items) }
 {
-    let mut ends = vec![in alloc; n; n]?;
-    for at in 0..n {
-        let next = at + 1;
-        let end = ends[at];
-        if next < end {
-            let middle = end - (end - next) / 2;
-            ends[next] = middle;
-            if middle < end {
+    let full = n / GROUP;
+    let mut ends = vec![in alloc; n; full + 1]?;
+    for group in 0..full {
+        let next = group + 1;
+        let end = ends[group];
+        let last = end / GROUP;
+        if next < last {
+            let middle = last - (last - next) / 2;
+            ends[next] = middle * GROUP;
+            if middle < last {
                 ends[middle] = end;
             }
         }
@@ -246,21 +255,37 @@ fn block_ends<A: Allocator + Copy>(alloc: A, n: usize) -> Result<Vec<usize, A>, 
     Ok(ends)
 }
 
-/// The box of the block at a place, where those of the later blocks are known.
-fn block_box(corners: &[Corner], ends: &[usize], boxes: &[Bounds], at: usize) -> Bounds
-    requires place { at < length corners.now }
+/// The box of the block at a group, where those of the later blocks are known.
+fn block_box(corners: &[Corner], ends: &[usize], boxes: &[Bounds], group: usize) -> Bounds
+    requires place { group * 4 < length corners.now }
     requires ends { AreEnds (length corners.now) ends.now }
-    requires as_many { length boxes.now ≡ length corners.now }
-    requires own { HasOwn corners.now boxes.now at }
-    requires later { (i : ℕ) → at < i → i < length corners.now → HasBlock corners.now ends.now boxes.now i }
-    ensures { (k : ℕ) (c : Corner) → at ≤ k → k < slice_index ends.now at
+    requires as_many { length boxes.now ≡ length ends.now }
+    requires later { (i : ℕ) → group < i → i * 4 < length corners.now → HasBlock corners.now ends.now boxes.now i }
+    ensures { (k : ℕ) (c : Corner) → group * 4 ≤ k → k < slice_index ends.now group
         → HoldsCorner result (slice_index_or corners.now k c) }
 {
-    let mut bounds = boxes[at];
-    let mut next = at + 1;
-    while next < ends[at] {
-        bounds = bounds.around(boxes[next]);
-        next = ends[next];
+    let mut bounds = group_box(corners, group);
+    let mut at = group * GROUP + GROUP;
+    let end = corners.len().min(ends[group]);
+    while at < end {
+        bounds = bounds.around(boxes[at / GROUP]);
+        at = ends[at / GROUP];
+    }
+    bounds
+}
+
+/// The box of the corners of a group.
+fn group_box(corners: &[Corner], group: usize) -> Bounds
+    requires { group * 4 < length corners.now }
+    ensures { (k : ℕ) (c : Corner) → group * 4 ≤ k → k < group * 4 + 4 → k < length corners.now
+        → HoldsCorner result (slice_index_or corners.now k c) }
+{
+    let mut at = group * GROUP;
+    let end = corners.len().min(at + GROUP);
+    let mut bounds = Bounds::of_corner(corners[at]);
+    while at < end {
+        bounds = bounds.around(Bounds::of_corner(corners[at]));
+        at += 1;
     }
     bounds
 }
@@ -274,11 +299,8 @@ fn block_boxes<A: Allocator + Copy>(
     requires { AreEnds (length corners.now) ends.now }
     ensures { IfOk result (λ boxes. AreBlocks corners.now ends.now boxes.items) }
 {
-    let mut boxes = Vec::new(alloc);
-    for corner in corners {
-        boxes.push(Bounds::of_corner(*corner))?;
-    }
-    let mut at = corners.len();
+    let mut boxes = vec![in alloc; Bounds::nowhere(); ends.len()]?;
+    let mut at = corners.len().div_ceil(GROUP);
     while at > 0 {
         at -= 1;
         let bounds = block_box(corners, ends, &boxes, at);

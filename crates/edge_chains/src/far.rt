@@ -5,7 +5,7 @@ ghost use Rattle.geo_exact.specs.Bounds.{holds_corner};
 ghost use Rattle.geo_exact.specs.Order.{is_before};
 ghost use Rattle.edge_chains.specs.own.Steps.{AreInside, AreSteps};
 
-use crate::blocks::{Blocks, inside_of};
+use crate::blocks::{Blocks, GROUP, inside_of};
 use crate::directions::Directions;
 use crate::lines::Lines;
 use crate::points::Points;
@@ -20,7 +20,7 @@ const FEW_STEPS: u64 = 64;
 /// How many steps an edge has at most whose places are looked up where the tree of boxes is slow.
 const MANY_STEPS: u64 = 4096;
 
-/// How many places of the tree are looked at before an edge is slow, and what part of all corners
+/// How many boxes of the tree are looked at before an edge is slow, and what part of all corners
 /// besides where it has more steps.
 const QUICK: usize = 256;
 
@@ -138,7 +138,7 @@ impl<A: Allocator + Copy> Far<A> {
         Ok(found)
     }
 
-    /// How many places of the tree are looked at before an edge is slow.
+    /// How many boxes of the tree are looked at before an edge is slow.
     fn quick(&self, few: bool) -> usize {
         if few {
             QUICK
@@ -147,13 +147,12 @@ impl<A: Allocator + Copy> Far<A> {
         }
     }
 
-    /// The same, through the tree of boxes; where that looks at half as many places as there are
-    /// corners, each corner is tried.
+    /// The same, through the tree of boxes; where that looks at half of them, each corner is tried.
     fn in_boxes(&self, a: Corner, b: Corner) -> Result<Vec<Corner, A>, AllocError>
         ensures { IfOk result (λ found. AreInside self.now a b found.items) }
     {
         let corners = self.blocks.corners();
-        match self.blocks.inside(a, b, corners.len() / 2)? {
+        match self.blocks.inside(a, b, corners.len() / (2 * GROUP))? {
             Some(found) => Ok(found),
             None => inside_of(self.blocks.alloc(), corners, a, b),
         }

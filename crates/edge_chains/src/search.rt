@@ -16,15 +16,21 @@ const AHEAD: usize = 16;
 /// How many corners a box that is kept has at most.
 const MOST: usize = 64;
 
+/// After how many edges at most a box is tried again where the last ones had too many corners.
+const MOST_REST: usize = 16;
+
 /// Corners for many searches, as a list in some order.
 ///
 /// Edges that follow each other are close to each other. So the corners of a box round the next edges are kept, where
-/// they are few, and an edge in that box is searched among them alone.
+/// they are few, and an edge in that box is searched among them alone. Where box after box has too many corners, some
+/// edges go by, more each time, before the next is tried.
 #[derive(Drop)]
 pub(crate) struct Search<A: Allocator> {
     far: Far<A>,
     bounds: Bounds,
     near: Vec<Corner, A>,
+    rest: usize,
+    left: usize,
 }
 
 impl<A: Allocator> Model for Search<A> {
@@ -49,6 +55,8 @@ impl<A: Allocator + Copy> Search<A> {
             far: Far::new(alloc, corners)?,
             bounds: Bounds::nowhere(),
             near: Vec::new(alloc),
+            rest: 0,
+            left: 0,
         })
     }
 
@@ -78,9 +86,17 @@ impl<A: Allocator + Copy> Search<A> {
     fn move_to(&mut self, bounds: Bounds) -> Result<(), AllocError>
         ensures { self.new ≡ self.old }
     {
+        if self.left > 0 {
+            self.left -= 1;
+            return Ok(());
+        }
         if let Some(near) = self.far.within(&bounds, MOST)? {
             self.bounds = bounds;
             self.near = near;
+            self.rest = 0;
+        } else {
+            self.rest = longer(self.rest);
+            self.left = self.rest;
         }
         Ok(())
     }
@@ -93,4 +109,9 @@ fn bounds_of(from: Corner, to: Corner, ahead: &[Corner]) -> Bounds {
         bounds = bounds.around(Bounds::of_corner(*corner));
     }
     bounds
+}
+
+/// How many edges go by before the next box, where so many went by before this one.
+fn longer(rest: usize) -> usize {
+    if rest < MOST_REST { rest * 2 + 1 } else { rest }
 }

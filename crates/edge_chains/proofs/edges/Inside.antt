@@ -182,16 +182,10 @@ none_beside_of bounds a b c bottom top left right e f g h k l =
 
 -- ---- two boxes
 -- boxes that hold one corner meet
-pub none_off : (r : Bool) (one other : Bounds) → (EdgeBoxesMeet one.low one.high other.low other.high → r ≡ true)
+pub none_off : (r : Bool) (one other : Bounds) → ((c : Corner) → HoldsCorner one c → HoldsCorner other c → r ≡ true)
     → not r ≡ true → (c : Corner)
     → HoldsCorner one c → holds_corner other c ≡ false
-none_off r one other h t c k = false_where (holds_corner other c) (Decides-holds_corner other c) (λ i. not_both r (h (both_hold k i)) t)
-  where
-    both_hold : HoldsCorner one c → HoldsCorner other c → EdgeBoxesMeet one.low one.high other.low other.high
-    both_hold k i = (
-      (omega (arith, ints, clamps, k.west, i.east), omega (arith, ints, clamps, k.east, i.west)),
-      (omega (arith, ints, clamps, k.south, i.north), omega (arith, ints, clamps, k.north, i.south)),
-    )
+none_off r one other h t c k = false_where (holds_corner other c) (Decides-holds_corner other c) (λ i. not_both r (h c k i) t)
 
 -- a box with both ends of an edge has what lies inside the edge
 pub covered : (bounds : Bounds) (a b : Corner) → holds_corner bounds a ≡ true → holds_corner bounds b ≡ true

@@ -1,13 +1,14 @@
-use Rattle.std.proofs.Common.{ℕ, ◌-◌, ◌<◌, ◌≤◌, length, slice_index_or}
+use Rattle.std.proofs.Common.{ℕ, ◌-◌, ◌*◌, ◌+◌, ◌<◌, ◌≤◌, length, slice_index_or}
 use Rattle.geo_exact.specs.declared.corner.Corner.{Corner}
 use Rattle.geo_exact.specs.Bounds.{HoldsCorner}
 use Rattle.edge_chains.proofs.blocks.block_box.Given as goal
 
-abbrev pub invariant-loop-next : goal.invariant-loop-next
-invariant-loop-next l = record {
-  behind : l.at < l.next;
-  so_far : (k : ℕ) (c : Corner) → l.at ≤ k → k < l.next → HoldsCorner l.bounds (slice_index_or l.corners k c);
+abbrev pub invariant-loop-at : goal.invariant-loop-at
+invariant-loop-at l = record {
+  behind : l.group * 4 + 4 ≤ l.at;
+  so_far : (k : ℕ) (c : Corner) → l.group * 4 ≤ k → k < l.at → k < length l.corners
+      → HoldsCorner l.bounds (slice_index_or l.corners k c);
 }
 
-abbrev pub decreases-loop-next : goal.decreases-loop-next
-decreases-loop-next l = length l.corners - l.next
+abbrev pub decreases-loop-at : goal.decreases-loop-at
+decreases-loop-at l = length l.corners - l.at

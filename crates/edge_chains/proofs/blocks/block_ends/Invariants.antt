@@ -1,5 +1,5 @@
 use Rattle.edge_chains.specs.own.Blocks.{AreEnds}
 use Rattle.edge_chains.proofs.blocks.block_ends.Given as goal
 
-abbrev pub invariant-loop-at : goal.invariant-loop-at
-invariant-loop-at g l = AreEnds l.n l.ends.items
+abbrev pub invariant-loop-group : goal.invariant-loop-group
+invariant-loop-group g l = AreEnds l.n l.ends.items
