@@ -20,3 +20,5 @@ mod refusals;
 mod size;
 #[cfg(test)]
 mod unbalanced_refused;
+#[cfg(test)]
+mod winding_rings;

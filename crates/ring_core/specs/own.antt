@@ -3,4 +3,5 @@ pub mod Kinds
 pub mod EdgePairs
 pub mod Leaning
 pub mod Blocks
+pub mod ByPlace
 pub mod Sorted

@@ -1,4 +1,4 @@
-ghost use Rattle.std.specs.Prelude.{◌<◌, IsTrue, length};
+ghost use Rattle.std.specs.Prelude.{◌⊎◌, ◌<◌, IsTrue, length};
 ghost use Rattle.geo_exact.specs.declared.corner.Corner.{Corner as CornerValue};
 ghost use Rattle.geo_exact.specs.Bounds.{HoldsCorner, IsBeyondBox, IsLeastBox};
 ghost use Rattle.geo_exact.specs.Point.{Point};
@@ -46,7 +46,7 @@ pub fn is_beside(from: Corner, to: Corner, bounds: Bounds) -> bool
 
 /// Whether a box lies wholly left of another, right of it, below it or above it.
 pub fn are_apart(one: Bounds, other: Bounds) -> bool
-    ensures { IsTrue result → (corner : CornerValue) → HoldsCorner one corner → ¬ HoldsCorner other corner }
+    ensures { IsTrue result → (p : Point) → IsBeyondBox p one ⊎ IsBeyondBox p other }
 {
     if one.high.x < other.low.x {
         return true;

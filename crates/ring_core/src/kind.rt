@@ -6,7 +6,7 @@ ghost use Rattle.geo_exact.specs.First.{HasNone, IsFirst};
 ghost use Rattle.geo_exact.specs.Places.{before};
 ghost use Rattle.ring_core.specs.Clipping.{IsEar, IsFlat};
 ghost use Rattle.ring_core.specs.own.Blocks.{AreBlocksOrNone};
-ghost use Rattle.ring_core.specs.own.Kinds.{AreKinds, IsKind, IsTakenOut, TurnsLeft, WasBeside, number_before};
+ghost use Rattle.ring_core.specs.own.Kinds.{AreKinds, AreKindsOnceOut, IsKind, TurnsLeft, WasBeside};
 ghost use Rattle.ring_core.specs.own.Kinds.{AreMarked, AreSeen, IsReleased, KeepsMarks, NeedNoMark};
 ghost use Rattle.ring_core.specs.own.Sorted.{AreSortedOrNone};
 
@@ -217,9 +217,7 @@ pub fn update_kinds(
     requires ascend { IsNonDecreasing numbers.now }
     requires marked { AreMarked kinds.old numbers.now marks.now }
     requires seen { AreSeen kinds.old seen }
-    ensures are { (whole : List Corner) (before : List ℕ) → IsTakenOut whole before k gone corners.now numbers.now
-        → ((j : ℕ) → j < length corners.now → IsKind whole before (number_before k j) (slice_index_or kinds.old j Kind.Flat))
-        → AreKinds corners.now numbers.now kinds.new }
+    ensures are { AreKindsOnceOut k gone corners.now numbers.now kinds.old kinds.new }
     ensures marked { AreMarked kinds.new numbers.now marks.now }
     ensures seen { AreSeen kinds.new result }
 {

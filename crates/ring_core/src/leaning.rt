@@ -43,7 +43,7 @@ fn are_above(high: i128, s: i128, t: i128, u: i128) -> bool
 }
 
 /// How far an edge goes, in x or in y.
-fn reach(a: Corner, b: Corner) -> u64 {
+pub fn reach(a: Corner, b: Corner) -> u64 {
     a.x.abs_diff(b.x).max(a.y.abs_diff(b.y))
 }
 
@@ -65,9 +65,17 @@ fn longest_edge(ring: &[Corner], start: usize, end: usize) -> usize
     longest
 }
 
+impl Default for LeaningBox {
+    /// The box of the origin alone.
+    fn default() -> LeaningBox {
+        let origin = Corner { x: 0, y: 0 };
+        LeaningBox::of_corner(origin, origin, origin)
+    }
+}
+
 impl LeaningBox {
     /// The leaning box of one corner, along the line through two.
-    fn of_corner(from: Corner, to: Corner, corner: Corner) -> LeaningBox
+    pub fn of_corner(from: Corner, to: Corner, corner: Corner) -> LeaningBox
         ensures { IsHeld result corner }
     {
         let level = turn(from, to, corner);
@@ -81,7 +89,7 @@ impl LeaningBox {
     }
 
     /// The same, as wide as it must be to hold one more corner.
-    fn around(self, corner: Corner) -> LeaningBox
+    pub fn around(self, corner: Corner) -> LeaningBox
         ensures holds { IsHeld result corner }
         ensures keeps { (other : CornerValue) → IsHeld self other → IsHeld result other }
     {

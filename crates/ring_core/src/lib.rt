@@ -4,6 +4,7 @@
 
 mod blocks;
 mod boxes;
+mod by_place;
 mod ear;
 mod inner;
 mod kind;

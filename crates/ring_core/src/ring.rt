@@ -6,6 +6,7 @@ ghost use Rattle.geo_exact.specs.declared.limits.TheConstants.{LIST_CORNERS};
 ghost use Rattle.ring_core.specs.Simple.{IsSimpleRing, MeetOtherwise};
 ghost use Rattle.ring_core.specs.Faults.{IsFirstMeeting, IsRingFault};
 
+use crate::by_place::is_clear_by_place;
 use crate::leaning::LeaningBox;
 use crate::meeting::{box_meets, doubles_back, edge_box, have_common_point};
 use crate::places::following;
@@ -65,6 +66,22 @@ fn meet_otherwise(ring: &[Corner], i: usize, j: usize) -> bool
     have_common_point(a, b, c, d)
 }
 
+/// Whether edge `i` and the later edge `j` meet otherwise than as neighbours in their shared corner: their boxes
+/// first.
+pub fn meets(ring: &[Corner], i: usize, j: usize) -> bool
+    requires long { 3 ≤ length ring.now }
+    requires ordered { i < j }
+    requires in_ring { j < length ring.now }
+    ensures { result ≡ false → ¬ MeetOtherwise ring.now i j }
+{
+    edge_boxes_meet(
+        ring[i],
+        ring[i + 1],
+        ring[j],
+        ring[following(ring.len(), j)],
+    ) && meet_otherwise(ring, i, j)
+}
+
 /// The first edge after edge `i` that meets it otherwise than as its neighbour.
 fn first_meeting_with(ring: &[Corner], i: usize) -> Option<usize>
     requires long { 3 ≤ length ring.now }
@@ -93,12 +110,8 @@ fn meets_one(ring: &[Corner], start: usize, end: usize, j: usize) -> bool
     requires in_ring { j < length ring.now }
     ensures { result ≡ false → (i : ℕ) → start ≤ i → i < end → ¬ MeetOtherwise ring.now i j }
 {
-    let from = ring[j];
-    let to = ring[following(ring.len(), j)];
     for i in start..end {
-        if edge_boxes_meet(ring[i], ring[following(ring.len(), i)], from, to)
-            && meet_otherwise(ring, i, j)
-        {
+        if meets(ring, i, j) {
             return true;
         }
     }
@@ -146,6 +159,9 @@ fn first_meeting(ring: &[Corner]) -> Option<(usize, usize)>
         ((i j : ℕ) → i < j → j < length ring.now → ¬ MeetOtherwise ring.now i j)
         (λ pair. IsFirstMeeting ring.now pair.0 pair.1) }
 {
+    if is_clear_by_place(ring) {
+        return None;
+    }
     let mut clear = 0;
     for i in 0..ring.len() {
         if clear <= i {
@@ -176,8 +192,8 @@ impl<A: Allocator> Ring<A> {
     /// The ring of these corners, at most 10,000,000. It takes no memory; the corners are dropped on a
     /// fault.
     ///
-    /// The time grows with the square of the number of corners; of a large ring, eight edges are looked at
-    /// together.
+    /// The time grows with the square of the number of corners; of more than 64 edges, eight that follow one
+    /// another are looked at together, or eight that lie near each other.
     ///
     /// # Errors
     ///

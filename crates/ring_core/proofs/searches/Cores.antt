@@ -3,7 +3,9 @@ use Rattle.std.proofs.Common.{◌≡◌, inl, inr, ⊎_elim, subst, arith, List,
 use Rattle.std.specs.Int.{int_min, int_max}
 use Rattle.std.proofs.lemmas.Int.{ints, clamps}
 use lib.IntN.{ℤ, pos, ◌*ℤ◌, ◌-ℤ◌}
-use lib.Signed.{◌≤ℤ◌, ◌<ℤ◌}
+use lib.Signed.{◌≤ℤ◌, ◌<ℤ◌, lt_z}
+use Rattle.geo_exact.proofs.numbers.Orders.{Decides-int_lt}
+use Rattle.geo_exact.proofs.corners_and_turns.CornerOrder.{cases_of}
 use Rattle.geo_exact.specs.declared.bounds.Bounds.{Bounds}
 use Rattle.geo_exact.specs.declared.corner.Corner.{Corner}
 use Rattle.geo_exact.specs.Bounds.{HoldsCorner, IsBeyondBox}
@@ -30,6 +32,13 @@ above : (u v l d z : ℤ) → pos 0 <ℤ d → l <ℤ u → l <ℤ v → (int_mi
 above u v l d z h i j k =
     let m : l <ℤ int_min u v = omega (arith, ints, clamps, i, j) in
     omega (arith, ints, k, less_scaled l (int_min u v) d h m)
+
+-- of two ranges of which one ends before the other begins, a number is beyond one
+pub beyond_one : (h l d z : ℤ) → pos 0 <ℤ d → h <ℤ l → (z <ℤ (l *ℤ d)) ⊎ ((h *ℤ d) <ℤ z)
+beyond_one h l d z p k = let m = less_scaled h l d p k in elim (cases_of (lt_z z (l *ℤ d)) (Decides-int_lt z (l *ℤ d))) [
+  | inl q ↦ inl q
+  | inr q ↦ inr (omega (arith, ints, q, m))
+]
 
 module _ (box : Bounds) (a b : Corner) (p : Point) (on : IsOnEdge p a b) where
   pub left_of : a.x <ℤ box.low.x → b.x <ℤ box.low.x → IsBeyondBox p box
@@ -72,7 +81,7 @@ module _ (box : Bounds) (a b : Corner) (ha : HoldsCorner box a) (hb : HoldsCorne
   not_beyond (inr (inr (inr h))) = omega (arith, ints, h, to_north)
 
 -- a corner in the box is not beyond it
-held_is_not_beyond : (box : Bounds) (c : Corner) → HoldsCorner box c → IsBeyondBox (corner_point c) box → ⊥
+pub held_is_not_beyond : (box : Bounds) (c : Corner) → HoldsCorner box c → IsBeyondBox (corner_point c) box → ⊥
 held_is_not_beyond box c h (inl k) = omega (arith, ints, times_one box.low.x, h.west, k)
 held_is_not_beyond box c h (inr (inl k)) = omega (arith, ints, times_one box.high.x, h.east, k)
 held_is_not_beyond box c h (inr (inr (inl k))) = omega (arith, ints, times_one box.low.y, h.south, k)

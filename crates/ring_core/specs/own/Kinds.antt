@@ -98,3 +98,8 @@ pub record IsTakenOut (whole : List Corner) (numbers : List ℕ) (k gone : ℕ) 
   pub is_rest : rest ≡ remove whole k
   pub is_left : left ≡ remove numbers k
   pub is_gone : gone ≡ slice_index_or numbers k 0
+
+-- where corner k was taken out of any ring, and the kinds of the others were right in it, the new kinds are right in the rest
+abbrev pub AreKindsOnceOut : ℕ → ℕ → List Corner → List ℕ → List Kind → List Kind → Type 0
+AreKindsOnceOut k gone rest left old new = (whole : List Corner) (numbers : List ℕ) → IsTakenOut whole numbers k gone rest left
+    → ((j : ℕ) → j < length rest → IsKind whole numbers (number_before k j) (slice_index_or old j Flat)) → AreKinds rest left new

@@ -1,4 +1,6 @@
-use Rattle.std.proofs.Common.{FitsSigned, rules}
+use Rattle.std.proofs.Common.{FitsSigned, rules, inl, inr}
+use Rattle.geo_exact.specs.Point.{corner_point}
+use Rattle.ring_core.proofs.searches.Cores.{held_is_not_beyond}
 use Rattle.std.specs.Int.{w128}
 use lib.IntN.{pos, ◌+ℤ◌, ◌-ℤ◌}
 use Rattle.ring_core.proofs.clipping.HeldInside.{held_inside}
@@ -7,7 +9,10 @@ use Rattle.ring_core.proofs.leaning.LeaningBox.misses_triangle.Goals as goal
 
 pub returns-then-are_apart : goal.returns-then-are_apart
 returns-then-are_apart c = λ _ q h inside.
-    c.are_apart.ensures c.if-are_apart.true q (held_inside c.args.bounds c.args.triangle q c.requires inside) h.inside
+    elim (c.are_apart.ensures c.if-are_apart.true (corner_point q)) [
+      | inl o ↦ held_is_not_beyond c.args.bounds q (held_inside c.args.bounds c.args.triangle q c.requires inside) o
+      | inr o ↦ held_is_not_beyond c.args.self.bounds q h.inside o
+    ]
 
 pub returns-then-are_below : goal.returns-then-are_below
 returns-then-are_below c = λ _ q h inside.
