@@ -29,14 +29,15 @@ pub record AreAllOnEdge (rows : List NumberedRing) (p : Point) (ids : List ℕ) 
   pub ascend : IsStrictlyIncreasing ids
   pub exactly : (id : ℕ) → Contains ids id ↔ IsOnEdgeOf rows p id
 
--- p lies inside exactly one parcel, and on no edge of one
+-- p lies inside exactly one parcel, and on no parcel's edge: what the law says of a point of the city off all edges
 pub record IsInsideOneOnly (rows : List NumberedRing) (p : Point) : Type 0 where
   pub id : ℕ
   pub is_inside : IsInsideOf rows p id
   pub no_other : (other : ℕ) → IsInsideOf rows p other → other ≡ id
   pub no_edge : (other : ℕ) → ¬ IsOnEdgeOf rows p other
 
--- on edges, where p lies on any: of all parcels that have it there; else inside the one that has it inside; else outside
+-- on edges, where p lies on any: of all parcels that have it there; else inside one that has it inside (in a tiling there is no other);
+-- else outside
 abbrev pub IsLocatedAt : {A : Type 0} → List NumberedRing → Point → At A → Type 0
 IsLocatedAt rows p (OnEdge ids) = AreAllOnEdge rows p ids.items × (ids.items ≢ [])
 IsLocatedAt rows p (Inside id) = AreAllOnEdge rows p [] × IsInsideOf rows p id

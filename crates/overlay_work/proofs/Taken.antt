@@ -27,11 +27,6 @@ module _ {X : Type 0} where
       subst (λ l. l ++ joined lists ≡ []) (sym (empty zero (omega arith)))
       (none_of_empty lists (λ at below. empty (suc at) (omega (arith, below))))
 
-  -- a list more
-  pub one_list_more : (lists : List (List X)) (list : List X) → joined (lists ++ list ∷ []) ≡ joined lists ++ list
-  one_list_more [] list = append-nil list
-  one_list_more (first ∷ lists) list = ap (λ l. first ++ l) (one_list_more lists list) ∙ sym (append_assoc first (joined lists) list)
-
   -- an item more is put behind others, and is taken from what is left
   pub one_moved : (all front old new : List X) (item : X) → IsPermutation all (front ++ old) → IsPermutation old (item ∷ new)
       → IsPermutation all ((front ++ item ∷ []) ++ new)

@@ -21,8 +21,8 @@ use Rattle.parcel_runs.specs.RunFaults.{IsRunFault}
 abbrev pub id_text : ℕ → List ℕ
 id_text id = codes " " ++ decimal id
 
--- `edge ID ID ..` with all parcels on whose edges p lies, ascending, where there is one; else `inside ID` with the
--- one that it is inside of; else `outside`
+-- `edge ID ID ..` with all parcels on whose edges p lies, ascending, where there is one; else `inside ID` with
+-- one that it is inside of (in a tiling there is no other); else `outside`
 abbrev pub IsPlaceText : List NumberedRing → Point → List ℕ → Type 0
 IsPlaceText rows p text = ((ids : List ℕ) × AreAllOnEdge rows p ids × (ids ≢ []) × (text ≡ codes "edge" ++ flat_map id_text ids))
     ⊎ ((id : ℕ) × AreAllOnEdge rows p [] × IsInsideOf rows p id × (text ≡ codes "inside" ++ id_text id))
