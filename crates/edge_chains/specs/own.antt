@@ -4,3 +4,4 @@ pub mod Inside
 pub mod Lines
 pub mod Sides
 pub mod Steps
+pub mod Tree

@@ -235,7 +235,10 @@ fn collect_few<A: Allocator + Copy>(
 
 /// Where the block at each group of n corners ends: those of a tree in which a block is its first
 /// group and two halves of the rest.
-fn block_ends<A: Allocator + Copy>(alloc: A, n: usize) -> Result<Vec<usize, A>, AllocError>
+pub(crate) fn block_ends<A: Allocator + Copy>(
+    alloc: A,
+    n: usize,
+) -> Result<Vec<usize, A>, AllocError>
     ensures { IfOk result (λ ends. AreEnds n ends.items) }
 {
     let full = n / GROUP;

@@ -10,6 +10,7 @@ use crate::directions::Directions;
 use crate::lines::Lines;
 use crate::points::Points;
 use crate::steps::{Steps, steps_of};
+use crate::tree::Tree;
 use geo_exact::{Bounds, Corner, comes_before};
 use std::alloc::{AllocError, Allocator};
 use std::marker::Model;
@@ -19,6 +20,12 @@ const FEW_STEPS: u64 = 64;
 
 /// How many steps an edge has at most whose places are looked up where the tree of boxes is slow.
 const MANY_STEPS: u64 = 4096;
+
+/// How many steps an edge has at most whose places are looked up once the leaning boxes are there.
+const SOME_STEPS: u64 = 512;
+
+/// How many edges are slow before the leaning boxes are made.
+const MANY_SLOW: usize = 256;
 
 /// How many boxes of the tree are looked at before an edge is slow, and what part of all corners
 /// besides where it has more steps.
@@ -30,12 +37,14 @@ const QUICK: usize = 256;
 /// edge goes through a tree of boxes, for a while: where that is slow, the places of its steps are
 /// looked up, if they are not too many; and where many edges in one direction are slow, all corners
 /// are put in order across it, once, and each further edge in that direction is looked up among
-/// those on its line.
+/// those on its line. Where many other edges are slow, a second tree is made, whose boxes lean with what they hold.
 #[derive(Drop)]
 pub(crate) struct Far<A: Allocator> {
     blocks: Blocks<A>,
     points: Option<Points<A>>,
     directions: Directions<A>,
+    tree: Option<Tree<A>>,
+    slow: usize,
 }
 
 impl<A: Allocator> Model for Far<A> {
@@ -47,7 +56,7 @@ impl<A: Allocator> Model for Far<A> {
 
     ghost view = { λ far. far.blocks };
 
-    ghost invariant = { λ far. HaveAll far.blocks far.points far.directions };
+    ghost invariant = { λ far. HaveAll far.blocks far.points far.directions far.tree };
 }
 
 impl<A: Allocator + Copy> Far<A> {
@@ -59,6 +68,8 @@ impl<A: Allocator + Copy> Far<A> {
             blocks: Blocks::new(alloc, corners)?,
             points: None,
             directions: Directions::new(alloc),
+            tree: None,
+            slow: 0,
         })
     }
 
@@ -122,19 +133,44 @@ impl<A: Allocator + Copy> Far<A> {
         if let Some(lines) = self.directions.find(steps) {
             return lines.inside(alloc, a, b);
         }
-        let few = steps.count <= MANY_STEPS;
-        if let Some(found) = self.blocks.inside(a, b, self.quick(few))? {
-            return Ok(found);
+        if steps.count <= SOME_STEPS || self.tree.is_none() {
+            let most = self.quick(steps.count <= MANY_STEPS);
+            if let Some(found) = self.blocks.inside(a, b, most)? {
+                return Ok(found);
+            }
         }
-        if few {
+        if steps.count <= SOME_STEPS {
             return self.on_steps(a, b, steps);
         }
         if !self.directions.count(steps)? {
-            return self.in_boxes(a, b);
+            return self.slowly(a, b, steps);
         }
         let lines = Lines::new(alloc, self.blocks.corners(), steps)?;
         let found = lines.inside(alloc, a, b)?;
         self.directions.keep(lines)?;
+        Ok(found)
+    }
+
+    /// The same, for a slow edge: with the leaning boxes, once there were many.
+    fn slowly(&mut self, a: Corner, b: Corner, steps: Steps) -> Result<Vec<Corner, A>, AllocError>
+        requires { AreSteps a b steps.across steps.up steps.count }
+        ensures same { self.new ≡ self.old }
+        ensures found { IfOk result (λ found. AreInside self.old a b found.items) }
+    {
+        let alloc = self.blocks.alloc();
+        if let Some(tree) = &self.tree {
+            return tree.inside(alloc, a, b);
+        }
+        if self.slow < MANY_SLOW {
+            self.slow += 1;
+            if steps.count <= MANY_STEPS {
+                return self.on_steps(a, b, steps);
+            }
+            return self.in_boxes(a, b);
+        }
+        let tree = Tree::new(alloc, self.blocks.corners())?;
+        let found = tree.inside(alloc, a, b)?;
+        self.tree = Some(tree);
         Ok(found)
     }
 

@@ -14,6 +14,7 @@ mod order;
 mod points;
 mod search;
 mod steps;
+mod tree;
 
 pub use edge_sum::EdgeSum;
 pub use laws::{an_unbalanced_edge_is_a_jump, equal_nets_cover_alike, noding_changes_no_ground};

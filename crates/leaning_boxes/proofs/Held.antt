@@ -26,4 +26,3 @@ least_kept m l v t f g e h = let i : m ≡ int_min l v = simp to_z-of_z at e in 
 pub greatest_kept : (m l v t : ℤ) → FitsSigned w128 m → FitsSigned w128 l → m ≡ int_max (to_z w128 (of_z w128 l)) v → t ≤ℤ l
     → t ≤ℤ to_z w128 (of_z w128 m)
 greatest_kept m l v t f g e h = let i : m ≡ int_max l v = simp to_z-of_z at e in rw to_z-of_z (omega (arith, ints, clamps))
-

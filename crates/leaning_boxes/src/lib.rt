@@ -1,6 +1,10 @@
 //! Boxes that may lean: what is looked at first, before the edges and corners of a part of a ring or of a layer.
 #![tactic(auto)]
 
+mod edge;
+mod holding;
 mod leaning;
 
-pub use leaning::{LeaningBox, reach};
+pub use edge::ranges_are_apart;
+pub use holding::reach;
+pub use leaning::LeaningBox;

@@ -201,3 +201,7 @@ covered bounds a b h k c t =
       south = omega (arith, ints, clamps, p.south, q.south, i.0.1.0);
       north = omega (arith, ints, clamps, p.north, q.north, i.0.1.1);
     })
+
+-- a corner that does not lie on the edge does not lie inside it
+pub none_on : (c a b : Corner) → ¬ IsOnEdge (corner_point c) a b → is_strictly_inside c a b ≡ false
+none_on c a b h = false_where (is_strictly_inside c a b) (Decides-is_strictly_inside c a b) (λ i. h i.on_edge)

@@ -43,7 +43,9 @@ pub record Ranks : Type 0 where
   pub up : ℤ
   pub corners : List Corner
 
--- what is kept beside the corners has exactly them: the set, where it is made, and each direction's list
-pub record HaveAll (corners : List Corner) (points : Option (List Corner)) (directions : List Ranks) : Type 0 where
+-- what is kept beside the corners has exactly them: the set and the tree, where they are made, and each direction's list
+pub record HaveAll (corners : List Corner) (points : Option (List Corner)) (directions : List Ranks)
+    (tree : Option (List Corner)) : Type 0 where
   pub points_have : IfSome points (λ kept. (c : Corner) → Contains kept c ↔ Contains corners c)
+  pub tree_has : IfSome tree (λ kept. (c : Corner) → Contains kept c ↔ Contains corners c)
   pub directions_have : All (λ ranks. (c : Corner) → Contains ranks.corners c ↔ Contains corners c) directions

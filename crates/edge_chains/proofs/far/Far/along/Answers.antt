@@ -32,14 +32,15 @@ returns-in-Some-2-clause-found g c =
 
 pub returns-then-not-branch-clause-found : goal.returns-then-not-branch-clause-found
 returns-then-not-branch-clause-found g c =
-    IfOk-weaker c.in_boxes.result _ _ (λ found h. subst (λ xs. AreInside xs c.args.a c.args.b found.items)
-    c.self.view_is h) c.in_boxes.ensures
+    IfOk-weaker c.slowly.result _ _ (λ found h. subst (λ xs. AreInside xs c.args.a c.args.b found.items)
+    c.self.view_is h) c.slowly.ensures.found
 
 pub invariant_of-self-2 : goal.invariant_of-self-2
 invariant_of-self-2 g c =
     let lines = c.in_ok-lines.lines in
     record {
       points_have = c.self.invariant.points_have;
+      tree_has = c.self.invariant.tree_has;
       directions_have = subst (All (λ (ranks : Ranks). (x : Corner) → Contains ranks.corners x ↔ Contains c.self.inside.blocks x))
           (sym (c.in_ok-keep.ensures.kept ∙ ap (λ ds. ds ++ lines ∷ []) c.in_ok-count.ensures))
           (All-push (λ (ranks : Ranks). (x : Corner) → Contains ranks.corners x ↔ Contains c.self.inside.blocks x)

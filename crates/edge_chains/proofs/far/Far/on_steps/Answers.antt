@@ -19,6 +19,7 @@ pub invariant_of-self : goal.invariant_of-self
 invariant_of-self g c = record {
   points_have = λ x. subst (λ xs. Contains c.in_ok-points.points x ↔ Contains xs x) c.corners.ensures (c.in_ok-points.ensures x);
   directions_have = c.self.invariant.directions_have;
+  tree_has = c.self.invariant.tree_has;
 }
 
 pub returns-clause-found : goal.returns-clause-found
