@@ -3,4 +3,4 @@
 
 mod leaning;
 
-pub use leaning::{LeaningBox, reach};
+pub use leaning::{LeaningBox, is_beside, reach};
