@@ -14,7 +14,12 @@ loop-b-preserved g c =
           let span : Span = record { start = 16 * b; end = w.min-end.result } in
           rw (w.spans-is, w.boxes-is, w.in_ok-push.ensures.items, w.in_ok-push-2.ensures.items) (record {
             same_length =
-                omega (arith, length_push c.loop-b.spans.items span, length_push c.loop-b.boxes.items w.box_of_edges.result, inv.same_length);
+                omega (
+                  arith,
+                  length_push c.loop-b.spans.items span,
+                  length_push c.loop-b.boxes.items w.box_of_edges.result,
+                  inv.same_length,
+                );
             below = blocks_more corners (16 * b) (16 * (b + 1)) c.loop-b.spans.items c.loop-b.boxes.items span
                 w.box_of_edges.result inv.same_length inv.below
                 (λ j q r in_ring. record {
