@@ -1,2 +1,4 @@
 pub mod Held
-pub mod Beside
+pub mod Besides
+pub mod Parallels
+pub mod Rows

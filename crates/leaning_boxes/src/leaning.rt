@@ -3,8 +3,9 @@ ghost use Rattle.geo_exact.specs.Limit.{IsWithin, limit};
 
 use geo_exact::{Bounds, Corner};
 
-/// A box that may lean: of a box along the axes, the part between two parallels of a line. Boxes along the axes
-/// alone say nothing of what leans.
+/// A box that may lean: of a box along the axes, the part between two parallels of a line. An edge
+/// beyond one of its sides has no point in common with an edge whose ends it holds, and boxes along the
+/// axes alone say nothing of edges that lean.
 #[derive(Clone, Copy, Debug)]
 pub struct LeaningBox {
     /// The box along the axes.

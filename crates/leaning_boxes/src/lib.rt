@@ -6,5 +6,5 @@ mod holding;
 mod leaning;
 
 pub use edge::ranges_are_apart;
-pub use holding::reach;
+pub use holding::{is_beside, reach};
 pub use leaning::LeaningBox;

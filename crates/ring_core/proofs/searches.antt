@@ -1,4 +1,5 @@
 pub mod LeaningBoxes
+pub mod RightOfEdges
 pub mod PlacedEdges
 pub mod BlocksKept
 pub mod BlocksMade

@@ -1,12 +1,13 @@
 ghost use Rattle.std.specs.Prelude.{◌≡◌, ℕ, ◌<◌, List, length, IfOk, slice_index_or};
 ghost use Rattle.std.specs.List.{remove};
 ghost use Rattle.geo_exact.specs.declared.corner.Corner.{Corner as CornerValue};
-ghost use Rattle.ring_core.specs.declared.leaning.LeaningBox.{LeaningBox as BoxValue};
+ghost use Rattle.leaning_boxes.specs.declared.leaning.LeaningBox.{LeaningBox as BoxValue};
 ghost use Rattle.ring_core.specs.own.Blocks.{AreBlocksOrNone, number_less};
 
-use crate::leaning::LeaningBox;
+use crate::leaning::box_of_edges;
 use crate::places::less;
 use geo_exact::Corner;
+use leaning_boxes::LeaningBox;
 use std::alloc::{AllocError, Allocator};
 
 /// The most corners of a ring that is clipped without blocks.
@@ -75,7 +76,7 @@ pub fn blocks_of<A: Allocator + Copy>(
             if start < corners.len() {
                 let end = corners.len().min(start + BLOCK_CORNERS);
                 spans.push(Span { start, end })?;
-                boxes.push(LeaningBox::of_edges(corners, start, end))?;
+                boxes.push(box_of_edges(corners, start, end))?;
             }
         }
     }

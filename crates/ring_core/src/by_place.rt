@@ -1,22 +1,23 @@
 ghost use Rattle.std.specs.Prelude.{◌≡◌, ℕ, ◌+◌, ◌<◌, ◌≤◌, ◌*◌, false, length, IsTrue};
 ghost use Rattle.geo_exact.specs.declared.limits.TheConstants.{RING_CORNERS};
 ghost use Rattle.ring_core.specs.Simple.{MeetOnlyAsNeighbours};
-ghost use Rattle.ring_core.specs.own.ByPlace.{AreBoxed, AreClear, AreEdgesOf, AreInRing, HoldsEdge, edge_at};
+ghost use Rattle.ring_core.specs.own.ByPlace.{AreBoxed, AreClear, AreEdgesOf, AreInRing, HoldsEdge, IsBlockClear, edge_at};
 ghost use Rattle.ring_core.specs.own.Blocks.{IsInSpan};
 
 use crate::blocks::Span;
 use crate::boxes::are_apart;
-use crate::leaning::{LeaningBox, reach};
+use crate::leaning::{BLOCK_EDGES, box_of_edges};
 use crate::places::following;
 use crate::ring::meets;
 use arrayvec::ArrayVec;
 use geo_exact::{Corner, LIMIT, RING_CORNERS};
+use leaning_boxes::{LeaningBox, reach};
 
 /// The most edges of a ring that are not put in order: to do so for fewer takes longer than it spares.
 const FEW_PLACED: usize = 1_024;
 
-/// How many edges that lie near each other are looked at together.
-const BLOCK_EDGES: usize = 8;
+/// The part of the edges behind, one of so many, that a wound ring has near a few of its edges at least.
+const WOUND_PART: usize = 8;
 
 /// The most blocks of edges.
 const MOST_BLOCKS: usize = RING_CORNERS / BLOCK_EDGES;
@@ -199,8 +200,7 @@ fn is_clear_from(ring: &[Corner], edges: &[Placed], boxes: &[LeaningBox], b: usi
     requires in_ring { AreInRing (length ring.now) edges.now }
     requires boxed { AreBoxed ring.now edges.now boxes.now }
     requires block { b < length boxes.now }
-    ensures { IsTrue result → (p q : ℕ) → BLOCK_EDGES * b ≤ p → p < BLOCK_EDGES * b + BLOCK_EDGES → p < length edges.now
-        → BLOCK_EDGES * b ≤ q → q < length edges.now → AreClear ring.now (edge_at edges.now p) (edge_at edges.now q) }
+    ensures { IsTrue result → IsBlockClear ring.now edges.now b }
 {
     let held = boxes[b];
     let one = span_of(edges.len(), b);
@@ -229,23 +229,24 @@ fn are_all_clear(ring: &[Corner], edges: &[Placed], boxes: &[LeaningBox]) -> boo
     true
 }
 
-/// Whether more than an eighth of the edges from number `start` on come near a leaning box of the first of these.
+/// Whether more than an eighth of the edges from number `start` on come near a leaning box of the first eight of
+/// them.
 fn is_wound_at(ring: &[Corner], start: usize) -> bool
     requires behind { start < length ring.now }
     requires few { length ring.now ≤ RING_CORNERS }
 {
-    let held = LeaningBox::of_edges(ring, start, ring.len().min(start + BLOCK_EDGES));
+    let held = box_of_edges(ring, start, ring.len().min(start + BLOCK_EDGES));
     let mut near = 0;
     for j in start..ring.len() {
         if !held.misses(ring[j], ring[following(ring.len(), j)]) {
             near += 1;
         }
     }
-    8 * near > ring.len() - start
+    WOUND_PART * near > ring.len() - start
 }
 
-/// Whether boxes of edges that follow one another would lie one in the other, as in a spiral, by three of them. Only
-/// the speed rests on it.
+/// Whether edges that follow one another are near many others, as in a spiral: tried at a quarter, a half and three
+/// quarters of the ring. Only the speed rests on it.
 fn is_wound(ring: &[Corner]) -> bool
     requires some { 0 < length ring.now }
     requires few { length ring.now ≤ RING_CORNERS }
@@ -254,9 +255,22 @@ fn is_wound(ring: &[Corner]) -> bool
     is_wound_at(ring, quarter) || is_wound_at(ring, 2 * quarter) || is_wound_at(ring, 3 * quarter)
 }
 
+/// Whether the edges of a ring, put in the order of their places, meet only as neighbours, in their shared corner.
+/// The lists are large: they stand in a frame of their own, which other checks do without.
+#[inline(never)]
+fn is_clear_in_order(ring: &[Corner]) -> bool
+    requires long { 3 ≤ length ring.now }
+    requires few { length ring.now ≤ RING_CORNERS }
+    ensures { IsTrue result → MeetOnlyAsNeighbours ring.now }
+{
+    let edges = edges_by_place(ring);
+    let boxes = boxes_of(ring, &edges);
+    are_all_clear(ring, &edges, &boxes)
+}
+
 /// Whether the edges of a ring meet only as neighbours, in their shared corner, as far as it can be told by
 /// their places; a ring of so few edges or so many that they are not put in order is not told of, nor one whose
-/// edges are as well looked at in their own order.
+/// edges are as well looked at in their own order. False says nothing.
 pub fn is_clear_by_place(ring: &[Corner]) -> bool
     requires { 3 ≤ length ring.now }
     ensures { IsTrue result → MeetOnlyAsNeighbours ring.now }
@@ -264,7 +278,5 @@ pub fn is_clear_by_place(ring: &[Corner]) -> bool
     if ring.len() <= FEW_PLACED || ring.len() > RING_CORNERS || !is_wound(ring) {
         return false;
     }
-    let edges = edges_by_place(ring);
-    let boxes = boxes_of(ring, &edges);
-    are_all_clear(ring, &edges, &boxes)
+    is_clear_in_order(ring)
 }

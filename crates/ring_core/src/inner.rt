@@ -5,10 +5,10 @@ ghost use Rattle.geo_exact.specs.Point.{Point, corner_point};
 ghost use Rattle.geo_exact.specs.Turn.{IsOnEdge, IsOnRing};
 ghost use Rattle.geo_exact.specs.Winding.{IsInterior};
 
-use crate::boxes::is_beside;
 use crate::meeting::{box_meets, edge_box};
 use crate::side::{Side, side_of};
 use geo_exact::{Bounds, Corner, RING_CORNERS};
+use leaning_boxes::is_beside;
 
 /// Whether each edge of a ring lies beside a box, so that the ring does not come into it.
 fn misses(ring: &[Corner], bounds: Bounds) -> bool

@@ -7,7 +7,7 @@ ghost use Rattle.ring_core.specs.Simple.{IsSimpleRing, MeetOtherwise};
 ghost use Rattle.ring_core.specs.Faults.{IsFirstMeeting, IsRingFault};
 
 use crate::by_place::is_clear_by_place;
-use crate::leaning::LeaningBox;
+use crate::leaning::{BLOCK_EDGES, box_of_edges};
 use crate::meeting::{box_meets, doubles_back, edge_box, have_common_point};
 use crate::places::following;
 use geo_exact::{Corner, Corners, area2, edge_boxes_meet};
@@ -15,9 +15,6 @@ use std::alloc::{AllocError, Allocator};
 
 /// The most edges of a ring whose pairs are tried one by one.
 const FEW_EDGES: usize = 64;
-
-/// How many edges are looked at together.
-const BLOCK_EDGES: usize = 8;
 
 /// A simple ring: counterclockwise, of positive area, and its edges meet only as neighbours, in their
 /// shared corner alone (OGC 06-103r4, 6.1.7, LinearRing). Edge `i` joins corner `i` to the next, and the
@@ -126,7 +123,7 @@ fn is_clear(ring: &[Corner], start: usize, end: usize) -> bool
     requires in_ring { end ≤ length ring.now }
     ensures { IsTrue result → (i j : ℕ) → start ≤ i → i < end → i < j → j < length ring.now → ¬ MeetOtherwise ring.now i j }
 {
-    let held = LeaningBox::of_edges(ring, start, end);
+    let held = box_of_edges(ring, start, end);
     for j in start..ring.len() {
         if !held.misses(ring[j], ring[following(ring.len(), j)])
             && meets_one(ring, start, end.min(j), j)
@@ -189,11 +186,11 @@ impl<A: Allocator + Copy> Clone for Ring<A> {
 }
 
 impl<A: Allocator> Ring<A> {
-    /// The ring of these corners, at most 10,000,000. It takes no memory; the corners are dropped on a
+    /// The ring of these corners, at most 10,000,000. It allocates nothing; the corners are dropped on a
     /// fault.
     ///
-    /// The time grows with the square of the number of corners; of more than 64 edges, eight that follow one
-    /// another are looked at together, or eight that lie near each other.
+    /// The time grows with the square of the number of corners. Of more than 64 edges, eight that follow one
+    /// another are looked at together; of 1,025 to 4,096 that wind, first eight that lie near each other.
     ///
     /// # Errors
     ///

@@ -11,11 +11,12 @@ ghost use Rattle.ring_core.specs.own.Sorted.{AreSortedOrNone, IsListedAt};
 use crate::blocks::{BlockList, Span};
 use crate::boxes::bounds_of;
 use crate::ear::{is_in_triangle, triangle_at};
-use crate::leaning::LeaningBox;
+use crate::leaning::misses_triangle;
 use crate::places::{following, preceding};
 use crate::sorted::{Axis, Listed, Sorted, few_between};
 use crate::triangle::Tri;
 use geo_exact::{Bounds, Corner};
+use leaning_boxes::LeaningBox;
 use std::alloc::Allocator;
 
 /// Whether `q` lies in the closed triangle, which the box holds: the box is looked at first.
@@ -108,6 +109,9 @@ fn witness_listed(
     None
 }
 
+/// The most blocks whose boxes are not looked at closely: to do so takes longer than it spares.
+const FEW_BLOCKS: usize = 65;
+
 /// A corner that keeps corner `k` from being an ear. Blocks whose boxes the triangle misses are passed over.
 fn witness_in_blocks(
     corners: &[Corner],
@@ -125,10 +129,11 @@ fn witness_in_blocks(
         (HasNone (Blocks corners.now k) (length corners.now))
         (λ j. (j < length corners.now) × Blocks corners.now k j) }
 {
+    let closely = spans.len() > FEW_BLOCKS;
     for b in 0..spans.len() {
         let start = spans[b].start;
         let end = spans[b].end.min(corners.len());
-        if start >= end || boxes[b].misses_triangle(triangle, bounds) {
+        if start >= end || misses_triangle(boxes[b], triangle, bounds, closely) {
             continue;
         }
         if let Some(j) = witness_between(corners, k, start, end, triangle, bounds) {

@@ -5,10 +5,10 @@ use Rattle.std.proofs.lemmas.Bool.Decides.{nat_tests}
 use Rattle.geo_exact.specs.declared.corner.Corner.{Corner}
 use Rattle.geo_exact.specs.Places.{corner_at}
 use Rattle.ring_core.specs.declared.blocks.Span.{Span}
-use Rattle.ring_core.specs.declared.leaning.LeaningBox.{LeaningBox}
+use Rattle.leaning_boxes.specs.declared.leaning.LeaningBox.{LeaningBox}
 use Rattle.ring_core.specs.own.Blocks.{AreBlocksOrNone, HasCorner, number_less}
 use Rattle.ring_core.specs.own.Kinds.{number_before}
-use Rattle.ring_core.specs.own.Leaning.{IsHeld}
+use Rattle.leaning_boxes.specs.Leaning.{IsHeld}
 use Rattle.ring_core.proofs.clipping.ClipSteps.{one_less}
 use Rattle.ring_core.proofs.clipping.TakenOut.{corner_kept, number_in}
 

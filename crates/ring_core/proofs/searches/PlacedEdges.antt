@@ -7,11 +7,11 @@ use Rattle.geo_exact.specs.declared.corner.Corner.{Corner}
 use Rattle.geo_exact.specs.Bounds.{IsBeyondBox}
 use Rattle.geo_exact.specs.Places.{after, corner_at}
 use Rattle.geo_exact.specs.Point.{Point}
-use Rattle.ring_core.specs.declared.leaning.LeaningBox.{LeaningBox}
+use Rattle.leaning_boxes.specs.declared.leaning.LeaningBox.{LeaningBox}
 use Rattle.std.proofs.lemmas.Bool.{cases_lt}
 use Rattle.ring_core.specs.Simple.{MeetOnlyAsNeighbours}
 use Rattle.ring_core.specs.own.EdgePairs.{HaveCommonPoint}
-use Rattle.ring_core.proofs.searches.LeaningBoxes.{not_beyond}
+use Rattle.leaning_boxes.proofs.Besides.{not_beyond}
 use Rattle.std.proofs.lemmas.List.{get_or_read}
 use Rattle.std.proofs.lemmas.List.Elements.{Contains-get_or}
 use Rattle.std.proofs.lemmas.List.Sorted.{Contains-permutation, IsPermutation-sym}
@@ -52,8 +52,8 @@ module _ (ring : List Corner) (i j : ℕ) where
   pub clear_in_boxes_apart : (box other : LeaningBox) → HoldsEdge box ring i → HoldsEdge other ring j
       → ((p : Point) → IsBeyondBox p box.bounds ⊎ IsBeyondBox p other.bounds) → AreClear ring i j
   clear_in_boxes_apart box other hi hj apart = clear_without_point (λ m. elim (apart m.0) [
-    | inl o ↦ not_beyond box.bounds _ _ m.0 hi.0.inside hi.1.inside m.1 o
-    | inr o ↦ not_beyond other.bounds _ _ m.0 hj.0.inside hj.1.inside m.2 o
+    | inl o ↦ not_beyond box.bounds _ _ hi.0.inside hi.1.inside m.0 m.1 o
+    | inr o ↦ not_beyond other.bounds _ _ hj.0.inside hj.1.inside m.0 m.2 o
   ])
 
 -- where edges at any two places are clear, so are all

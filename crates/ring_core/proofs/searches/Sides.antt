@@ -118,10 +118,3 @@ not_at_most u v s t h =
     let x : FitsSigned w64 u = omega (arith, ints) in
     let y : FitsSigned w64 v = omega (arith, ints) in
     let e = simp to_z-of_z at h in grind (arith, ints)
-
-pub is_less : (u v : ℤ) → IsWithin limit u → IsWithin limit v → lt_z (to_z w64 (of_z w64 u)) (to_z w64 (of_z w64 v))
-    ≡ true → u <ℤ v
-is_less u v s t h =
-    let x : FitsSigned w64 u = omega (arith, ints) in
-    let y : FitsSigned w64 v = omega (arith, ints) in
-    let e = simp to_z-of_z at h in grind (arith, ints)

@@ -3,8 +3,8 @@ use Rattle.std.specs.Prelude.{◌≡◌, ℕ, ◌-◌, ◌<◌, ◌≤◌, if◌
 use Rattle.geo_exact.specs.declared.corner.Corner.{Corner}
 use Rattle.geo_exact.specs.Places.{corner_at}
 use Rattle.ring_core.specs.declared.blocks.Span.{Span}
-use Rattle.ring_core.specs.declared.leaning.LeaningBox.{LeaningBox}
-use Rattle.ring_core.specs.own.Leaning.{IsHeld}
+use Rattle.leaning_boxes.specs.declared.leaning.LeaningBox.{LeaningBox}
+use Rattle.leaning_boxes.specs.Leaning.{IsHeld}
 
 -- the span has the number
 pub record IsInSpan (j : ℕ) (span : Span) : Type 0 where

@@ -4,10 +4,10 @@ use Rattle.std.specs.Prelude.{◌≡◌, ℕ, ◌+◌, ◌*◌, ◌<◌, ◌≤�
 use Rattle.geo_exact.specs.declared.corner.Corner.{Corner}
 use Rattle.geo_exact.specs.Places.{after, corner_at}
 use Rattle.ring_core.specs.declared.by_place.Placed.{Placed}
-use Rattle.ring_core.specs.declared.by_place.TheConstants.{BLOCK_EDGES}
-use Rattle.ring_core.specs.declared.leaning.LeaningBox.{LeaningBox}
+use Rattle.ring_core.specs.declared.leaning.TheConstants.{BLOCK_EDGES}
+use Rattle.leaning_boxes.specs.declared.leaning.LeaningBox.{LeaningBox}
 use Rattle.ring_core.specs.Simple.{MeetOtherwise}
-use Rattle.ring_core.specs.own.Leaning.{IsHeld}
+use Rattle.leaning_boxes.specs.Leaning.{IsHeld}
 
 -- the number of the edge listed at place p
 abbrev pub edge_at : List Placed → ℕ → ℕ
@@ -37,3 +37,9 @@ pub record AreBoxed (ring : List Corner) (list : List Placed) (boxes : List Lean
 -- edges i and j meet only as neighbours, whichever is the first
 abbrev pub AreClear : List Corner → ℕ → ℕ → Type 0
 AreClear ring i j = (i < j → ¬ MeetOtherwise ring i j) × (j < i → ¬ MeetOtherwise ring j i)
+
+-- an edge of block b and one of its own or of a later block meet only as neighbours
+abbrev pub IsBlockClear : List Corner → List Placed → ℕ → Type 0
+IsBlockClear ring list b =
+    (p q : ℕ) → BLOCK_EDGES * b ≤ p → p < BLOCK_EDGES * b + BLOCK_EDGES → p < length list
+    → BLOCK_EDGES * b ≤ q → q < length list → AreClear ring (edge_at list p) (edge_at list q)

@@ -1,7 +1,7 @@
 use Rattle.std.proofs.Common.{◌≡◌, arith, FitsSigned, w64, ◌-ℤ◌, ◌*ℤ◌, ◌∙◌, ap}
 use Rattle.std.specs.Int.{w128}
 use Rattle.std.proofs.lemmas.Int.{ints, to_z-of_z}
-use Rattle.leaning_boxes.proofs.Beside.{apart_from_test, not_on_row}
+use Rattle.leaning_boxes.proofs.Rows.{apart_from_test, not_on_row}
 use Rattle.leaning_boxes.proofs.edge.passes_by.Goals as goal
 
 pub returns : goal.returns

@@ -14,12 +14,17 @@ loop-b-preserved g c =
           let span : Span = record { start = 16 * b; end = w.min-end.result } in
           rw (w.spans-is, w.boxes-is, w.in_ok-push.ensures.items, w.in_ok-push-2.ensures.items) (record {
             same_length =
-                omega (arith, length_push c.loop-b.spans.items span, length_push c.loop-b.boxes.items w.of_edges.result, inv.same_length);
+                omega (
+                  arith,
+                  length_push c.loop-b.spans.items span,
+                  length_push c.loop-b.boxes.items w.box_of_edges.result,
+                  inv.same_length,
+                );
             below = blocks_more corners (16 * b) (16 * (b + 1)) c.loop-b.spans.items c.loop-b.boxes.items span
-                w.of_edges.result inv.same_length inv.below
+                w.box_of_edges.result inv.same_length inv.below
                 (λ j q r in_ring. record {
                   in_span = record { from = q; to = omega (arith, w.min-end.ensures) };
-                  held = (w.of_edges.ensures j q (omega (arith, w.min-end.ensures))).0;
+                  held = (w.box_of_edges.ensures j q (omega (arith, w.min-end.ensures))).0;
                 });
           })
       | else-start-corners w ↦ rw (w.spans-is, w.boxes-is) (record {

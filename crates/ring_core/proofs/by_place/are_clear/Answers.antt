@@ -24,7 +24,7 @@ loop-q-preserved c = λ p k inside o b.
           clear_without_point ring i j (missed (corner_at ring i) (corner_at ring (after n i)) _ _ (corner_at ring j)
           (corner_at ring (after n j)) (corner_read ring j _ in_ring c.index-ring-j.is)
           (corner_after_read ring j _ _ in_ring c.following.ensures c.index-ring-following.is)
-          (c.misses.ensures w.if-not-misses.false (corner_at ring i) (corner_at ring (after n i)) held.0 held.1))
+          (λ m. c.misses.ensures w.if-not-misses.false (corner_at ring i) (corner_at ring (after n i)) m.0 held.0 held.1 m.1 m.2))
     ]) k b o
 
 pub returns : goal.returns

@@ -1,6 +1,6 @@
 use Rattle.std.proofs.Common.{◌≤◌, length, arith, below_more, subst}
 use Rattle.ring_core.specs.own.ByPlace.{HoldsEdge, edge_at}
-use Rattle.ring_core.specs.own.Leaning.{IsHeld}
+use Rattle.leaning_boxes.specs.Leaning.{IsHeld}
 use Rattle.ring_core.proofs.edges.CornersRead.{corner_read, corner_after_read}
 use Rattle.ring_core.proofs.by_place.box_of.Goals as goal
 

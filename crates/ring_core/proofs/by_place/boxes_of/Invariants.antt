@@ -1,6 +1,6 @@
 use Rattle.std.proofs.Common.{◌≡◌, ℕ, ◌<◌, ◌≤◌, ◌*◌, ◌+◌, length}
 use Rattle.std.specs.Prelude.{slice_index_or}
-use Rattle.ring_core.specs.declared.leaning.LeaningBox.{LeaningBox}
+use Rattle.leaning_boxes.specs.declared.leaning.LeaningBox.{LeaningBox}
 use Rattle.ring_core.specs.own.ByPlace.{HoldsEdge, edge_at}
 use Rattle.ring_core.proofs.by_place.boxes_of.Given as goal
 

@@ -3,14 +3,14 @@ use Rattle.geo_exact.specs.declared.corner.Corner.{Corner}
 use Rattle.geo_exact.specs.Places.{after, corner_at}
 use Rattle.geo_exact.specs.Point.{Point}
 use Rattle.geo_exact.specs.Turn.{IsOnEdge}
-use Rattle.ring_core.specs.own.EdgePairs.{HaveCommonPoint}
 use Rattle.ring_core.specs.Simple.{MeetOtherwise}
 use Rattle.ring_core.proofs.edges.CornersRead.{corner_read, corner_after_read}
 use Rattle.ring_core.proofs.ring.is_clear.Goals as goal
 use Rattle.ring_core.proofs.ring.is_clear.Goals.{else-not-misses-via-then-not-misses+else-meets_one, else-not-misses-via-else-not-misses}
 
-common : (a b c d c' d' : Corner) (p : Point) → c ≡ c' → d ≡ d' → IsOnEdge p a b → IsOnEdge p c' d' → HaveCommonPoint a b c d
-common a b c d c' d' p e f h k = (p, h, rw (e, f) k)
+missed : (a b c d c' d' : Corner) (p : Point) → c ≡ c' → d ≡ d' → (IsOnEdge p a b → IsOnEdge p c d → ⊥)
+    → IsOnEdge p a b → IsOnEdge p c' d' → ⊥
+missed a b c d c' d' p e f h on other = h on (rw (e, f) other)
 
 pub loop-j-preserved : goal.loop-j-preserved
 loop-j-preserved c = λ k m o b q r.
@@ -21,11 +21,11 @@ loop-j-preserved c = λ k m o b q r.
       | else-not-misses-via-then-not-misses+else-meets_one w ↦
           w.meets_one.ensures w.if-meets_one.false k o (omega (arith, w.min.ensures)) x
       | else-not-misses-via-else-not-misses w ↦
-          let held = c.of_edges-held.ensures k o b in
-          c.misses.ensures w.if-not-misses.false (corner_at ring k) (corner_at ring (after n k)) held.0 held.1
-          (common (corner_at ring k) (corner_at ring (after n k)) _ _ (corner_at ring j) (corner_at ring (after n j)) x.0
+          let held = c.box_of_edges-held.ensures k o b in
+          missed (corner_at ring k) (corner_at ring (after n k)) _ _ (corner_at ring j) (corner_at ring (after n j)) x.0
           (corner_read ring j _ in_ring c.index-ring-j.is)
-          (corner_after_read ring j _ _ in_ring c.following.ensures c.index-ring-following.is) x.1 x.2)
+          (corner_after_read ring j _ _ in_ring c.following.ensures c.index-ring-following.is)
+          (c.misses.ensures w.if-not-misses.false (corner_at ring k) (corner_at ring (after n k)) x.0 held.0 held.1) x.1 x.2
     ]) m r q
 
 pub returns : goal.returns

@@ -1,4 +1,5 @@
-use Rattle.ring_core.proofs.searches.Sides.{is_less, passed_below, passed_above}
+use Rattle.leaning_boxes.proofs.Besides.{is_less}
+use Rattle.ring_core.proofs.searches.Sides.{passed_below, passed_above}
 use Rattle.ring_core.proofs.side.is_passed.Goals as goal
 
 pub returns-then-from-place : goal.returns-then-from-place

@@ -1,10 +1,10 @@
 use Rattle.std.proofs.Common.{ℕ, ◌<◌, refl, sym, subst, arith, below_more, pos, length, get_or}
 use Rattle.geo_exact.specs.Places.{corner_at}
 use Rattle.ring_core.specs.declared.blocks.Span.{Span}
-use Rattle.ring_core.specs.declared.leaning.LeaningBox.{LeaningBox}
+use Rattle.leaning_boxes.specs.declared.leaning.LeaningBox.{LeaningBox}
 use Rattle.ring_core.specs.Clipping.{Blocks, next, previous}
 use Rattle.ring_core.specs.own.Blocks.{HasCorner}
-use Rattle.ring_core.specs.own.Leaning.{IsHeld}
+use Rattle.leaning_boxes.specs.Leaning.{IsHeld}
 use Rattle.ring_core.proofs.ears.Renumbered.{inside_like}
 use Rattle.ring_core.proofs.witness.witness_in_blocks.Goals as goal
 use Rattle.ring_core.proofs.witness.witness_in_blocks.Goals.{then-start-end-via-then-start-end}

@@ -1,6 +1,6 @@
 use Rattle.std.proofs.Common.{ℕ, ◌<◌, length, slice_index_or}
 use Rattle.ring_core.specs.declared.blocks.Span.{Span}
-use Rattle.ring_core.specs.declared.leaning.LeaningBox.{LeaningBox}
+use Rattle.leaning_boxes.specs.declared.leaning.LeaningBox.{LeaningBox}
 use Rattle.ring_core.specs.Clipping.{Blocks}
 use Rattle.ring_core.specs.own.Blocks.{HasCorner}
 use Rattle.ring_core.proofs.witness.witness_in_blocks.Given as goal

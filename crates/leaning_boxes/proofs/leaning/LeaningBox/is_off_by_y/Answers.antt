@@ -3,7 +3,7 @@ use Rattle.std.specs.Int.{w128}
 use Rattle.std.proofs.lemmas.Int.{ints, to_z-of_z}
 use Rattle.geo_exact.specs.Turn.{turn}
 use Rattle.geo_exact.proofs.corners_and_turns.TurnLaws.{turn_at_corner}
-use Rattle.leaning_boxes.proofs.Beside.{rises_up}
+use Rattle.leaning_boxes.proofs.Rows.{rises_up}
 use Rattle.leaning_boxes.proofs.leaning.LeaningBox.is_off_by_y.Goals as goal
 
 pub returns : goal.returns

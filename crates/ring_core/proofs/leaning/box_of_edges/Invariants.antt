@@ -1,7 +1,7 @@
 use Rattle.std.proofs.Common.{ℕ, ◌<◌, ◌≤◌, length}
 use Rattle.geo_exact.specs.Places.{after, corner_at}
-use Rattle.ring_core.specs.own.Leaning.{IsHeld}
-use Rattle.ring_core.proofs.leaning.LeaningBox.of_edges.Given as goal
+use Rattle.leaning_boxes.specs.Leaning.{IsHeld}
+use Rattle.ring_core.proofs.leaning.box_of_edges.Given as goal
 
 abbrev pub invariant-loop-i : goal.invariant-loop-i
 invariant-loop-i l = record {

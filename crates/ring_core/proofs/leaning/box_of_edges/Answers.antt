@@ -1,10 +1,10 @@
 use Rattle.std.proofs.Common.{◌≡◌, ◌-◌, ◌≤◌, ◌∙◌, inl, inr, arith, below_more, length, subst, sym}
 use Rattle.geo_exact.specs.Places.{after, corner_at}
-use Rattle.ring_core.specs.own.Leaning.{IsHeld}
+use Rattle.leaning_boxes.specs.Leaning.{IsHeld}
 use Rattle.ring_core.proofs.edges.CornersRead.{corner_read, corner_after_read}
 use Rattle.ring_core.proofs.ears.LeftSimple.{same_or}
 use Rattle.ring_core.proofs.edges.RoundNumbers.{after_inner}
-use Rattle.ring_core.proofs.leaning.LeaningBox.of_edges.Goals as goal
+use Rattle.ring_core.proofs.leaning.box_of_edges.Goals as goal
 
 pub loop-i-init : goal.loop-i-init
 loop-i-init c = record {

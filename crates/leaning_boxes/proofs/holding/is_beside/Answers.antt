@@ -1,6 +1,5 @@
-use Rattle.ring_core.proofs.searches.Sides.{is_less}
-use Rattle.ring_core.proofs.searches.Cores.{left_of, right_of, under, over}
-use Rattle.ring_core.proofs.boxes.is_beside.Goals as goal
+use Rattle.leaning_boxes.proofs.Besides.{is_less, left_of, right_of, under, over}
+use Rattle.leaning_boxes.proofs.holding.is_beside.Goals as goal
 
 pub returns-then-to-bounds : goal.returns-then-to-bounds
 returns-then-to-bounds c = λ _ p on.
