@@ -96,12 +96,12 @@ impl<A: Allocator + Copy> Blocks<A> {
     }
 }
 
-/// A corner beside its place in Morton's order (Z-order), which neighbours in the plane mostly have
-/// near each other. Only the speed rests on it.
+/// The place of a corner in Morton's order (Z-order), which neighbours in the plane mostly have
+/// near each other, and where the corner is listed. Only the speed rests on the place.
 #[derive(Clone, Copy)]
 struct Placed {
     place: u64,
-    corner: Corner,
+    index: usize,
 }
 
 /// The corners, so ordered that neighbours in the list are close to each other in the plane.
@@ -110,34 +110,51 @@ fn spread<A: Allocator + Copy>(alloc: A, corners: &[Corner]) -> Result<Vec<Corne
 {
     let mut placed = with_places(alloc, corners)?;
     placed.sort_unstable_by_key(|it| it.place);
-    let mut spread = corners_of(alloc, &placed)?;
+    let mut spread = corners_of(alloc, corners, &placed, Corner { x: 0, y: 0 })?;
     spread.dedup();
     Ok(spread)
 }
 
-/// Corners beside their places.
+/// Where corners are listed, beside their places.
 fn with_places<A: Allocator>(alloc: A, corners: &[Corner]) -> Result<Vec<Placed, A>, AllocError>
-    ensures { IfOk result (λ placed. map (λ it. it.corner) placed.items ≡ corners.now) }
+    ensures { IfOk result (λ placed. (none : Corner) →
+        map (λ it. slice_index_or corners.now it.index none) placed.items ≡ corners.now) }
 {
     let mut placed = Vec::with_capacity(alloc, corners.len())?;
-    for corner in corners {
+    for (index, corner) in corners.iter().enumerate() {
         placed.push(Placed {
             place: place_of(*corner),
-            corner: *corner,
+            index,
         })?;
     }
     Ok(placed)
 }
 
-/// Corners without their places.
-fn corners_of<A: Allocator>(alloc: A, placed: &[Placed]) -> Result<Vec<Corner, A>, AllocError>
-    ensures { IfOk result (λ corners. corners.items ≡ map (λ it. it.corner) placed.now) }
+/// The corners that are listed there, in the order of their places; `none` for one that is listed nowhere.
+fn corners_of<A: Allocator>(
+    alloc: A,
+    corners: &[Corner],
+    placed: &[Placed],
+    none: Corner,
+) -> Result<Vec<Corner, A>, AllocError>
+    ensures { IfOk result (λ found. found.items ≡ map (λ it. slice_index_or corners.now it.index none) placed.now) }
 {
-    let mut corners = Vec::with_capacity(alloc, placed.len())?;
+    let mut found = Vec::with_capacity(alloc, placed.len())?;
     for it in placed {
-        corners.push(it.corner)?;
+        found.push(corner_at(corners, it.index, none))?;
     }
-    Ok(corners)
+    Ok(found)
+}
+
+/// The corner that is listed there; `none` past the end.
+fn corner_at(corners: &[Corner], index: usize, none: Corner) -> Corner
+    ensures { result ≡ slice_index_or corners.now index none }
+{
+    if index < corners.len() {
+        corners[index]
+    } else {
+        none
+    }
 }
 
 /// The place of a corner's square of 8 by 8 centimetres: the bits of its two coordinates in turn.

@@ -1,12 +1,14 @@
 //! Which corners a box shows to lie strictly inside an edge, or not to.
-ghost use Rattle.std.specs.Prelude.{◌≡◌, ℤ, ◌-ℤ◌, int_le, int_lt, ◌&&◌, ◌||◌, IsTrue, false, not};
+ghost use Rattle.std.specs.Prelude.{◌≡◌, ℤ, pos, ◌-ℤ◌, int_le, int_lt, ◌&&◌, ◌||◌, IsTrue, false, not};
 ghost use Rattle.std.specs.Int.{int_min, int_max};
+ghost use Rattle.std.specs.Ordering.{int_eq};
 ghost use Rattle.geo_exact.specs.Limit.{IsWithin, limit};
 ghost use Rattle.geo_exact.specs.Bounds.{HoldsCorner, holds_corner, is_from_to as from_to};
 ghost use Rattle.geo_exact.specs.Order.{is_same};
+ghost use Rattle.geo_exact.specs.Turn.{turn as turn_of};
 ghost use Rattle.edge_chains.specs.own.Inside.{is_between, is_strictly_inside as strictly_inside};
 
-use geo_exact::{Bounds, Corner, edge_boxes_meet, on_segment, wide_product};
+use geo_exact::{Bounds, Corner, edge_boxes_meet, turn, wide_product};
 
 /// Whether the box has both ends of an edge, and so what lies strictly inside it.
 pub(crate) fn covers(bounds: Bounds, a: Corner, b: Corner) -> bool
@@ -64,14 +66,14 @@ fn is_beside(bounds: Bounds, a: Corner, b: Corner) -> bool
 pub(crate) fn is_strictly_inside(corner: Corner, a: Corner, b: Corner) -> bool
     ensures { result ≡ strictly_inside corner a b }
 {
-    is_in_box(corner, a, b) && is_on_edge(corner, a, b)
+    is_in_box(corner, a, b) && is_no_end(corner, a, b) && is_on_line(corner, a, b)
 }
 
-/// The same, in more time.
-fn is_on_edge(corner: Corner, a: Corner, b: Corner) -> bool
-    ensures { result ≡ strictly_inside corner a b }
+/// Whether a corner lies on the line through a and b.
+fn is_on_line(corner: Corner, a: Corner, b: Corner) -> bool
+    ensures { result ≡ int_eq (turn_of a b corner) (pos 0) }
 {
-    on_segment(a, b, corner) && is_no_end(corner, a, b)
+    turn(a, b, corner) == 0
 }
 
 /// Whether a corner is in the box of the edge from a to b. No branch is taken: which corners are is hard to foresee.

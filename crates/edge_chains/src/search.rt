@@ -17,7 +17,7 @@ const AHEAD: usize = 16;
 const MOST: usize = 64;
 
 /// After how many edges at most a box is tried again where the last ones had too many corners.
-const MOST_REST: usize = 16;
+const MOST_REST: usize = 31;
 
 /// Corners for many searches, as a list in some order.
 ///
@@ -113,5 +113,5 @@ fn bounds_of(from: Corner, to: Corner, ahead: &[Corner]) -> Bounds {
 
 /// How many edges go by before the next box, where so many went by before this one.
 fn longer(rest: usize) -> usize {
-    if rest < MOST_REST { rest * 2 + 1 } else { rest }
+    rest.min(MOST_REST / 2) * 2 + 1
 }

@@ -1,7 +1,7 @@
 use Rattle.std.proofs.lemmas.List.Filters.{dedup_is}
 use Rattle.std.proofs.lemmas.List.Kept.{Contains-dedup, Contains-from_dedup}
 use Rattle.std.proofs.lemmas.List.Sorted.{Contains-permutation, IsPermutation-sym, IsPermutation-map}
-use Rattle.std.proofs.Common.{◌≡◌, map, subst, sym}
+use Rattle.std.proofs.Common.{map, subst, sym}
 use Rattle.std.specs.List.Sorted.{IsPermutation}
 use Rattle.geo_exact.proofs.corners_and_turns.CornerOrder.{same_from_test}
 use Rattle.geo_exact.specs.Order.{is_same_equivalence}
@@ -10,12 +10,10 @@ use Rattle.edge_chains.proofs.blocks.spread.Goals as goal
 pub returns : goal.returns
 returns g c =
     let is = dedup_is _ _ _ c.dedup.ensures.filtered in
-    let listed = c.in_ok-spread.ensures in
-    let began : map (λ it. it.corner) c.in_ok-placed.placed.items ≡ c.args.corners.now = c.in_ok-placed.ensures in
     let moved : IsPermutation c.args.corners.now c.in_ok-spread.spread.items =
-    subst (λ xs. IsPermutation xs c.in_ok-spread.spread.items) began
-    (subst (IsPermutation (map (λ it. it.corner) c.in_ok-placed.placed.items)) (sym listed)
-    (IsPermutation-map (λ it. it.corner) c.in_ok-placed.placed.items c.deref.result.now
+    subst (λ xs. IsPermutation xs c.in_ok-spread.spread.items) (c.in_ok-placed.ensures _)
+    (subst (IsPermutation (map _ c.in_ok-placed.placed.items)) (sym c.in_ok-spread.ensures)
+    (IsPermutation-map _ c.in_ok-placed.placed.items c.deref.result.now
     (subst (IsPermutation c.in_ok-placed.placed.items) (sym c.deref.ensures.value) c.sort_unstable_by_key.ensures.permutation))) in
     λ x. (
       λ h. Contains-permutation _ _ x (IsPermutation-sym c.args.corners.now c.in_ok-spread.spread.items moved)
