@@ -6,6 +6,9 @@ use Rattle.ring_core.proofs.by_place.is_clear_from.Goals as goal
 use Rattle.ring_core.proofs.by_place.is_clear_from.Goals.{else-not-are_apart-via-then-not-are_apart+else-not-are_clear}
 use Rattle.ring_core.proofs.by_place.is_clear_from.Goals.{else-not-are_apart-via-else-not-are_apart}
 
+pub span_of-requires : goal.span_of-requires
+span_of-requires c = c.requires.boxed.some c.loop-c.c (omega arith)
+
 pub are_clear-requires-clause-held : goal.are_clear-requires-clause-held
 are_clear-requires-clause-held c = λ p h.
     let ring = c.args.ring.now in let edges = c.args.edges.now in let one = c.span_of-one.ensures in

@@ -1,4 +1,5 @@
 use Rattle.std.proofs.Common.{ℕ, ◌<◌, refl, sym, subst, arith, below_more, pos, length, get_or}
+use Rattle.std.proofs.lemmas.Int.{ints}
 use Rattle.geo_exact.specs.Places.{corner_at}
 use Rattle.ring_core.specs.declared.blocks.Span.{Span}
 use Rattle.leaning_boxes.specs.declared.leaning.LeaningBox.{LeaningBox}
@@ -29,6 +30,8 @@ loop-b-preserved-then-start-end c =
             to = t.a;
             low = pos 0;
             high = pos 0;
+            low_in_range = record { low = omega (arith, ints); high = omega (arith, ints) };
+            high_in_range = record { low = omega (arith, ints); high = omega (arith, ints) };
           } in
           let there = (h no_span any).in_span in
           omega (arith, there.from, there.to, c.min-end.ensures, w.if-start-end.true)
