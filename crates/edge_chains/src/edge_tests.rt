@@ -1,5 +1,5 @@
 //! Which corners a box shows to lie strictly inside an edge, or not to.
-ghost use Rattle.std.specs.Prelude.{◌≡◌, ℤ, pos, ◌-ℤ◌, int_le, int_lt, ◌&&◌, ◌||◌, IsTrue, false, not};
+ghost use Rattle.std.specs.Prelude.{◌≡◌, ℤ, pos, ◌-ℤ◌, int_le, ◌&&◌, IsTrue, false, not};
 ghost use Rattle.std.specs.Int.{int_min, int_max};
 ghost use Rattle.std.specs.Ordering.{int_eq};
 ghost use Rattle.geo_exact.specs.Limit.{IsWithin, limit};
@@ -9,6 +9,7 @@ ghost use Rattle.geo_exact.specs.Turn.{turn as turn_of};
 ghost use Rattle.edge_chains.specs.own.Inside.{is_between, is_strictly_inside as strictly_inside};
 
 use geo_exact::{Bounds, Corner, edge_boxes_meet, turn, wide_product};
+use leaning_boxes::ranges_are_apart;
 
 /// Whether the box has both ends of an edge, and so what lies strictly inside it.
 pub(crate) fn covers(bounds: Bounds, a: Corner, b: Corner) -> bool
@@ -59,7 +60,7 @@ fn is_beside(bounds: Bounds, a: Corner, b: Corner) -> bool
     let top = wide_product(dx, difference(bounds.high.y, a.y));
     let left = wide_product(dy, difference(bounds.low.x, a.x));
     let right = wide_product(dy, difference(bounds.high.x, a.x));
-    are_apart(bottom, top, left, right)
+    ranges_are_apart(bottom, top, left, right)
 }
 
 /// Whether a corner lies strictly inside the edge from a to b.
@@ -131,20 +132,6 @@ fn differs(a: Corner, b: Corner) -> bool
     ensures { result ≡ not (is_same a b) }
 {
     a != b
-}
-
-/// Whether no number is between u and v and also between w and z.
-fn are_apart(u: i128, v: i128, w: i128, z: i128) -> bool
-    ensures { result ≡ (int_lt (int_max u v) (int_min w z) || int_lt (int_max w z) (int_min u v)) }
-{
-    are_below(u, v, w, z) || are_below(w, z, u, v)
-}
-
-/// Whether u and v are below w and z.
-fn are_below(u: i128, v: i128, w: i128, z: i128) -> bool
-    ensures { result ≡ int_lt (int_max u v) (int_min w z) }
-{
-    u.max(v) < w.min(z)
 }
 
 /// u - v, for coordinates.

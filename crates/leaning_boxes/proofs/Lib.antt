@@ -2,3 +2,4 @@ pub mod Held
 pub mod Besides
 pub mod Parallels
 pub mod Rows
+pub mod Refilled

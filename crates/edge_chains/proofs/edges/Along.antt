@@ -14,7 +14,8 @@ use Rattle.geo_exact.proofs.corners_and_turns.TurnLaws.{turn_expr}
 use Rattle.edge_chains.specs.Noding.{AreAlong}
 use Rattle.geo_exact.specs.Segments.{IsStrictlyInside}
 use Rattle.geo_exact.proofs.corners_and_turns.CornerOrder.{IsBefore}
-use Rattle.edge_chains.proofs.edges.Inside.{IsBetween, inside_from_strictly, strictly_from_inside}
+use Rattle.leaning_boxes.proofs.Rows.{IsBetween}
+use Rattle.edge_chains.proofs.edges.Inside.{inside_from_strictly, strictly_from_inside}
 
 -- ---- two directions (u, v) and (e, f) on one line: u f - v e is 0
 pub along_u : (u v e f : ℤ) → u *ℤ (u *ℤ e +ℤ v *ℤ f) ≡ (u *ℤ u +ℤ v *ℤ v) *ℤ e +ℤ v *ℤ (u *ℤ f -ℤ v *ℤ e)

@@ -3,8 +3,7 @@ use Rattle.std.proofs.Common.{◌≡◌, ◌⊎◌, inl, inr, ⊎_elim, sym, ◌
 use Rattle.std.proofs.Common.{ℕ, zero, suc, ◌*◌, ◌<◌, ◌≤◌, List, [], ◌∷◌, ◌++◌, append-nil, length, get_or, set, take}
 use Rattle.std.proofs.Common.{add-one, length-set, slice_index, ◌/◌}
 use Rattle.std.specs.List.{filter}
-use Rattle.std.proofs.Common.{drop}
-use Rattle.std.proofs.lemmas.List.{drop_all, get_or-set_same, get_or-set_other, take_all}
+use Rattle.std.proofs.lemmas.List.{get_or-set_same, get_or-set_other}
 use Rattle.std.proofs.lemmas.List.Elements.{filter_more}
 use Rattle.std.proofs.lemmas.Bool.{cases_eq, false≢true}
 use Rattle.geo_exact.specs.declared.corner.Corner.{Corner}
@@ -79,10 +78,3 @@ AreEnds-set n ends i e h l f = record {
       (λ other. subst (λ v. (k < v) × (v ≤ n)) (sym (get_or-set_other ends i (k / 4) e 0 other)) (h.go_on k m))
       (cases_eq (k / 4) i);
 }
-
--- a list that is filled up from one as long
-pub refilled : {X : Type 0} → (n : ℕ) (old new : List X) → n ≡ length old → length new ≡ length old
-    → take n (new ++ drop (length new) old) ≡ new
-refilled n old new h e =
-    ap (λ l. take n (new ++ l)) (drop_all (length new) old (omega (arith, e))) ∙ ap (take n) (append-nil new)
-    ∙ take_all n new (omega (arith, h, e))

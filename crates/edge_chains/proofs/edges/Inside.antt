@@ -1,32 +1,28 @@
 -- What the test of lying strictly inside an edge tells, and where a box shows that it fails.
-use Rattle.std.proofs.Common.{◌≡◌, ◌≢◌, ◌⊎◌, inl, inr, sym, ◌∙◌, subst, arith, Bool, true, false, not, ◌&&◌}
-use Rattle.std.proofs.Common.{◌||◌, ℤ, pos, ◌-ℤ◌, ◌*ℤ◌, neg_ℤ}
+use Rattle.std.proofs.Common.{◌≡◌, ◌≢◌, sym, ◌∙◌, subst, arith, Bool, true, false, not, ◌&&◌}
+use Rattle.std.proofs.Common.{ℤ, pos, ◌-ℤ◌, ◌*ℤ◌}
 use Rattle.std.specs.Bool.{Decides}
 use Rattle.std.specs.Ordering.{int_eq}
 use Rattle.std.specs.Int.{int_min, int_max}
-use Rattle.std.proofs.lemmas.Int.{ints, clamps, by_lt_z}
+use Rattle.std.proofs.lemmas.Int.{ints, clamps}
 use Rattle.std.proofs.lemmas.Bool.{false≢true}
-use Rattle.std.proofs.lemmas.Bool.Decides.{Decides-int_eq, Decides-and, Decides-or, Decides-not, Decides-like, same_from_decides}
-use lib.Signed.{◌<ℤ◌, ◌≤ℤ◌, lt_z, le_z}
+use Rattle.std.proofs.lemmas.Bool.Decides.{Decides-int_eq, Decides-and, Decides-not, Decides-like, same_from_decides}
+use lib.Signed.{le_z}
 use Rattle.geo_exact.specs.declared.corner.Corner.{Corner}
 use Rattle.geo_exact.specs.Point.{corner_point}
 use Rattle.geo_exact.specs.Turn.{turn, IsOnEdge}
-use Rattle.geo_exact.proofs.numbers.Signs.{mul_not_neg}
 use Rattle.geo_exact.proofs.corners_and_turns.TurnLaws.{turn_at_corner}
-use Rattle.geo_exact.proofs.numbers.Differences.{expand}
-use Rattle.geo_exact.proofs.numbers.Orders.{Decides-int_lt, Decides-int_le}
+use Rattle.geo_exact.proofs.numbers.Orders.{Decides-int_le}
 use Rattle.geo_exact.specs.declared.bounds.Bounds.{Bounds}
 use Rattle.geo_exact.specs.Order.{is_same}
 use Rattle.geo_exact.specs.Segments.{IsStrictlyInside}
+use Rattle.leaning_boxes.proofs.Rows.{IsBetween, RangesAreApart, not_same, product_between}
 use Rattle.edge_chains.specs.own.Inside.{is_between, is_strictly_inside}
 use Rattle.geo_exact.proofs.boxes.InBoxes.{Decides-holds_corner}
 use Rattle.geo_exact.specs.Bounds.{EdgeBoxesMeet, holds_corner, HoldsCorner}
 use Rattle.geo_exact.proofs.corners_and_turns.CornerOrder.{false_where, Decides-is_same}
 
 -- ---- the test
-abbrev pub IsBetween : ℤ → ℤ → ℤ → Type 0
-IsBetween u v z = (int_min u v ≤ℤ z) × (z ≤ℤ int_max u v)
-
 Decides-is_between : (u v z : ℤ) → Decides (is_between u v z) (IsBetween u v z)
 Decides-is_between u v z = Decides-and (le_z (int_min u v) z) (le_z z (int_max u v)) (Decides-int_le (int_min u v) z)
     (Decides-int_le z (int_max u v))
@@ -93,40 +89,17 @@ inside_off_edge c a b t k e = e ∙ sym (false_where (is_strictly_inside c a b) 
     (λ h. false≢true (sym e ∙ k h.on_edge)))
 
 -- ---- boxes
--- a product is between those at the ends
-pub product_between : (k l h z : ℤ) → l ≤ℤ z → z ≤ℤ h → IsBetween (k *ℤ l) (k *ℤ h) (k *ℤ z)
-product_between k l h z p q = by_lt_z k (pos 0) down up
-  where
-    up : pos 0 ≤ℤ k → IsBetween (k *ℤ l) (k *ℤ h) (k *ℤ z)
-    up n =
-        let u : pos 0 ≤ℤ (k *ℤ (z -ℤ l)) = mul_not_neg k (z -ℤ l) n (omega (arith, ints)) in
-        let v : pos 0 ≤ℤ (k *ℤ (h -ℤ z)) = mul_not_neg k (h -ℤ z) n (omega (arith, ints)) in
-        (omega (arith, ints, clamps, simp expand at u, simp expand at v), omega (arith, ints, clamps, simp expand at u, simp expand at v))
-
-    down : k <ℤ pos 0 → IsBetween (k *ℤ l) (k *ℤ h) (k *ℤ z)
-    down n =
-        let u : pos 0 ≤ℤ (neg_ℤ k *ℤ (z -ℤ l)) = mul_not_neg (neg_ℤ k) (z -ℤ l) (omega (arith, ints)) (omega (arith, ints)) in
-        let v : pos 0 ≤ℤ (neg_ℤ k *ℤ (h -ℤ z)) = mul_not_neg (neg_ℤ k) (h -ℤ z) (omega (arith, ints)) (omega (arith, ints)) in
-        (omega (arith, ints, clamps, simp expand at u, simp expand at v), omega (arith, ints, clamps, simp expand at u, simp expand at v))
+same_products : (p q : ℤ) → p -ℤ q ≡ pos 0 → p ≡ q
+same_products p q e = omega (arith, ints, e)
 
 -- a corner of the box is not inside the edge, where the products of one kind are all below those of the other
-apart : (p q : ℤ) (bottom top left right : ℤ) → IsBetween bottom top p → IsBetween left right q
-    → (int_max bottom top <ℤ int_min left right)
-    ⊎ (int_max left right <ℤ int_min bottom top) → p -ℤ q ≡ pos 0 → ⊥
-apart p q bottom top left right h k (inl l) e = omega (arith, ints, h.1, k.0)
-apart p q bottom top left right h k (inr l) e = omega (arith, ints, h.0, k.1)
-
 pub none_beside : (bounds : Bounds) (a b c : Corner)
-    → (int_max ((b.x -ℤ a.x) *ℤ (bounds.low.y -ℤ a.y)) ((b.x -ℤ a.x) *ℤ (bounds.high.y -ℤ a.y))
-    <ℤ int_min ((b.y -ℤ a.y) *ℤ (bounds.low.x -ℤ a.x))
-    ((b.y -ℤ a.y) *ℤ (bounds.high.x -ℤ a.x)))
-    ⊎ (int_max ((b.y -ℤ a.y) *ℤ (bounds.low.x -ℤ a.x)) ((b.y -ℤ a.y) *ℤ (bounds.high.x -ℤ a.x))
-    <ℤ int_min ((b.x -ℤ a.x) *ℤ (bounds.low.y -ℤ a.y))
-    ((b.x -ℤ a.x) *ℤ (bounds.high.y -ℤ a.y)))
+    → RangesAreApart ((b.x -ℤ a.x) *ℤ (bounds.low.y -ℤ a.y)) ((b.x -ℤ a.x) *ℤ (bounds.high.y -ℤ a.y))
+    ((b.y -ℤ a.y) *ℤ (bounds.low.x -ℤ a.x)) ((b.y -ℤ a.y) *ℤ (bounds.high.x -ℤ a.x))
     → HoldsCorner bounds c → is_strictly_inside c a b ≡ false
 none_beside bounds a b c h k =
     false_where (is_strictly_inside c a b) (Decides-parts c a b)
-    (λ i. apart ((b.x -ℤ a.x) *ℤ (c.y -ℤ a.y)) ((b.y -ℤ a.y) *ℤ (c.x -ℤ a.x))
+    (λ i. not_same ((b.x -ℤ a.x) *ℤ (c.y -ℤ a.y)) ((b.y -ℤ a.y) *ℤ (c.x -ℤ a.x))
     ((b.x -ℤ a.x) *ℤ (bounds.low.y -ℤ a.y)) ((b.x -ℤ a.x) *ℤ (bounds.high.y -ℤ a.y))
     ((b.y -ℤ a.y) *ℤ (bounds.low.x -ℤ a.x))
     ((b.y -ℤ a.y) *ℤ (bounds.high.x -ℤ a.x))
@@ -134,15 +107,11 @@ none_beside bounds a b c h k =
     (omega (arith, ints, k.south)) (omega (arith, ints, k.north)))
     (product_between (b.y -ℤ a.y) (bounds.low.x -ℤ a.x) (bounds.high.x -ℤ a.x) (c.x -ℤ a.x)
     (omega (arith, ints, k.west)) (omega (arith, ints, k.east)))
-    h i.1.0)
+    h (same_products ((b.x -ℤ a.x) *ℤ (c.y -ℤ a.y)) ((b.y -ℤ a.y) *ℤ (c.x -ℤ a.x)) i.1.0))
 
 not_both : (r : Bool) → r ≡ true → not r ≡ true → ⊥
 not_both true e t = false≢true t
 not_both false e t = false≢true e
-
--- two ranges that nothing is in
-abbrev pub RangesAreApart : ℤ → ℤ → ℤ → ℤ → Type 0
-RangesAreApart u v w z = (int_max u v <ℤ int_min w z) ⊎ (int_max w z <ℤ int_min u v)
 
 -- a corner in a box and inside an edge is in the boxes of both
 boxes_meet : (bounds : Bounds) (a b c : Corner) → HoldsCorner bounds c → Inside c a b → EdgeBoxesMeet bounds.low bounds.high a b
@@ -156,16 +125,6 @@ pub none_past : (r : Bool) (bounds : Bounds) (a b : Corner) → (EdgeBoxesMeet b
     → HoldsCorner bounds c → is_strictly_inside c a b ≡ false
 none_past r bounds a b h t c k = false_where (is_strictly_inside c a b) (Decides-parts c a b)
     (λ i. not_both r (h (boxes_meet bounds a b c k i)) t)
-
-Decides-apart : (u v w z : ℤ) → Decides (lt_z (int_max u v) (int_min w z) || lt_z (int_max w z) (int_min u v)) (RangesAreApart u v w z)
-Decides-apart u v w z = Decides-or (lt_z (int_max u v) (int_min w z)) (lt_z (int_max w z) (int_min u v))
-    (Decides-int_lt (int_max u v) (int_min w z))
-    (Decides-int_lt (int_max w z) (int_min u v))
-
--- what a test that is true tells
-pub apart_from_test : (t : Bool) (u v w z : ℤ)
-    → t ≡ (lt_z (int_max u v) (int_min w z) || lt_z (int_max w z) (int_min u v)) → t ≡ true → RangesAreApart u v w z
-apart_from_test t u v w z e h = (Decides-apart u v w z).0 (sym e ∙ h)
 
 pub none_beside_of : (bounds : Bounds) (a b c : Corner) (bottom top left right : ℤ)
     → bottom ≡ (b.x -ℤ a.x) *ℤ (bounds.low.y -ℤ a.y) → top ≡ (b.x -ℤ a.x) *ℤ (bounds.high.y -ℤ a.y)

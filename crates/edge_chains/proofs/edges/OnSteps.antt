@@ -26,8 +26,8 @@ use Rattle.edge_chains.proofs.edges.Parts.{strictly_back}
 use Rattle.edge_chains.proofs.nodings.NodedEdges.{none_in_nil, Contains-here, Contains-there, Contains-cases}
 use Rattle.edge_chains.proofs.nodings.NodedEdges.{Contains-filter, Contains-from_filter}
 use Rattle.edge_chains.specs.own.Inside.{is_strictly_inside}
-use Rattle.edge_chains.proofs.edges.Inside.{Decides-is_strictly_inside, IsBetween, inside_from_strictly}
-use Rattle.edge_chains.proofs.edges.Inside.{strictly_from_inside, product_between}
+use Rattle.leaning_boxes.proofs.Rows.{IsBetween, product_between}
+use Rattle.edge_chains.proofs.edges.Inside.{Decides-is_strictly_inside, inside_from_strictly, strictly_from_inside}
 
 -- ---- numbers
 -- a part of the way is between its ends

@@ -14,7 +14,8 @@ use Rattle.geo_exact.proofs.corners_and_turns.SameCorner.{corner_same}
 use Rattle.geo_exact.proofs.corners_and_turns.TurnLaws.{turn_expr, turn_at_expr}
 use Rattle.geo_exact.proofs.corners_and_turns.OnEdge.{on_edge_back}
 use Rattle.geo_exact.specs.Segments.{IsStrictlyInside}
-use Rattle.edge_chains.proofs.edges.Inside.{IsBetween, inside_from_strictly}
+use Rattle.leaning_boxes.proofs.Rows.{IsBetween}
+use Rattle.edge_chains.proofs.edges.Inside.{inside_from_strictly}
 use Rattle.edge_chains.proofs.edges.Along.{zero_cases, both_zero, along_u, along_v, drop_zero, drop_zero', squares}
 
 -- ---- three directions, two of them on one line with the third, which is not 0

@@ -1,8 +1,6 @@
 -- Edges of a ring that are listed by their places.
-use Rattle.std.proofs.Common.{◌≡◌, ◌∙◌, ℕ, ◌<◌, ◌≤◌, ◌⊎◌, List, ◌++◌, length, get_or, take, ap, sym, subst, append-nil, arith, inl, inr}
+use Rattle.std.proofs.Common.{◌≡◌, ◌∙◌, ℕ, ◌<◌, ◌≤◌, ◌⊎◌, List, length, get_or, ap, sym, subst, arith, inl, inr}
 use Rattle.std.specs.Prelude.{IsPermutation}
-use Rattle.std.specs.List.{refill}
-use Rattle.std.proofs.lemmas.List.{drop_all, take_all}
 use Rattle.geo_exact.specs.declared.corner.Corner.{Corner}
 use Rattle.geo_exact.specs.Bounds.{IsBeyondBox}
 use Rattle.geo_exact.specs.Places.{after, corner_at}
@@ -35,12 +33,6 @@ edges_permuted n old new same long are = record {
       let h = Contains-permutation old new it same (Contains-get_or old w.0 none w.1) in
       (h.0, h.1, ap (λ (x : Placed). x.edge) (sym (get_or_read new h.0 it h.1 (sym h.2) none)) ∙ w.2);
 }
-
--- what fills a list anew is the list
-pub refilled : {X : Type 0} → (old new : List X) → length new ≡ length old → refill (length old) old new ≡ new
-refilled old new e =
-    ap (λ l. take (length old) (new ++ l)) (drop_all (length new) old (omega (arith, e)))
-    ∙ ap (λ l. take (length old) l) (append-nil new) ∙ take_all (length old) new (omega (arith, e))
 
 module _ (ring : List Corner) (i j : ℕ) where
   -- edges without a common point meet nowhere

@@ -1,7 +1,8 @@
 use Rattle.std.proofs.Common.{◌≡◌, ap, ◌∙◌, arith, FitsSigned, w64, ◌-ℤ◌, ◌*ℤ◌}
 use Rattle.std.specs.Int.{w128}
 use Rattle.std.proofs.lemmas.Int.{ints, to_z-of_z}
-use Rattle.edge_chains.proofs.edges.Inside.{apart_from_test, none_beside_of}
+use Rattle.leaning_boxes.proofs.Rows.{apart_from_test}
+use Rattle.edge_chains.proofs.edges.Inside.{none_beside_of}
 use Rattle.edge_chains.proofs.edge_tests.is_beside.Goals as goal
 
 pub returns : goal.returns
@@ -39,8 +40,8 @@ returns c =
     let h2 : FitsSigned w128 c.wide_product-top.result = omega (arith, ints) in
     let h3 : FitsSigned w128 c.wide_product-left.result = omega (arith, ints) in
     let h4 : FitsSigned w128 c.wide_product-right.result = omega (arith, ints) in
-    let e = simp to_z-of_z at c.are_apart.ensures in
+    let e = simp to_z-of_z at c.ranges_are_apart.ensures in
     λ t corner k. none_beside_of s a b corner c.wide_product-bottom.result c.wide_product-top.result
     c.wide_product-left.result c.wide_product-right.result p1 p2 p3 p4
-    (apart_from_test c.are_apart.result c.wide_product-bottom.result c.wide_product-top.result
+    (apart_from_test c.ranges_are_apart.result c.wide_product-bottom.result c.wide_product-top.result
     c.wide_product-left.result c.wide_product-right.result e t) k

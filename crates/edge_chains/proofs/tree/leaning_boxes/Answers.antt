@@ -2,7 +2,6 @@ use Rattle.std.proofs.Common.{◌≡◌, ◌*◌, ◌<◌, ◌+◌, ◌++◌, �
 use Rattle.std.proofs.lemmas.List.{get_or_append_left, get_or_push, length_push}
 use Rattle.edge_chains.specs.declared.blocks.TheConstants.{GROUP}
 use Rattle.leaning_boxes.specs.Leaning.{IsHeld}
-use Rattle.edge_chains.specs.own.Tree.{HasLeaning}
 use Rattle.edge_chains.proofs.edges.Boxes.{first_inside}
 use Rattle.edge_chains.proofs.tree.leaning_boxes.Goals as goal
 
