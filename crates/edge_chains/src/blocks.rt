@@ -277,11 +277,11 @@ pub(crate) fn block_ends<A: Allocator + Copy>(
 
 /// The box of the block at a group, where those of the later blocks are known.
 fn block_box(corners: &[Corner], ends: &[usize], boxes: &[Bounds], group: usize) -> Bounds
-    requires place { group * 4 < length corners.now }
+    requires place { group * GROUP < length corners.now }
     requires ends { AreEnds (length corners.now) ends.now }
     requires as_many { length boxes.now ≡ length ends.now }
-    requires later { (i : ℕ) → group < i → i * 4 < length corners.now → HasBlock corners.now ends.now boxes.now i }
-    ensures { (k : ℕ) (c : Corner) → group * 4 ≤ k → k < slice_index ends.now group
+    requires later { (i : ℕ) → group < i → i * GROUP < length corners.now → HasBlock corners.now ends.now boxes.now i }
+    ensures { (k : ℕ) (c : Corner) → group * GROUP ≤ k → k < slice_index ends.now group
         → HoldsCorner result (slice_index_or corners.now k c) }
 {
     let mut bounds = group_box(corners, group);
@@ -296,8 +296,8 @@ fn block_box(corners: &[Corner], ends: &[usize], boxes: &[Bounds], group: usize)
 
 /// The box of the corners of a group.
 fn group_box(corners: &[Corner], group: usize) -> Bounds
-    requires { group * 4 < length corners.now }
-    ensures { (k : ℕ) (c : Corner) → group * 4 ≤ k → k < group * 4 + 4 → k < length corners.now
+    requires { group * GROUP < length corners.now }
+    ensures { (k : ℕ) (c : Corner) → group * GROUP ≤ k → k < group * GROUP + GROUP → k < length corners.now
         → HoldsCorner result (slice_index_or corners.now k c) }
 {
     let mut at = group * GROUP;

@@ -6,7 +6,7 @@ use Rattle.std.specs.Ordering.{int_eq}
 use Rattle.std.specs.Int.{int_min, int_max}
 use Rattle.std.proofs.lemmas.Int.{ints, clamps}
 use Rattle.std.proofs.lemmas.Bool.{false≢true}
-use Rattle.std.proofs.lemmas.Bool.Decides.{Decides-int_eq, Decides-and, Decides-not, Decides-like, same_from_decides}
+use Rattle.std.proofs.lemmas.Bool.Decides.{Decides-int_eq, Decides-and, Decides-not, Decides-like}
 use lib.Signed.{le_z}
 use Rattle.geo_exact.specs.declared.corner.Corner.{Corner}
 use Rattle.geo_exact.specs.Point.{corner_point}
@@ -68,25 +68,6 @@ strictly_from_inside c a b h = record {
 pub Decides-is_strictly_inside : (c a b : Corner) → Decides (is_strictly_inside c a b) (IsStrictlyInside c a b)
 Decides-is_strictly_inside c a b = Decides-like (is_strictly_inside c a b) (strictly_from_inside c a b)
     (inside_from_strictly c a b) (Decides-parts c a b)
-
--- the test for a corner on the edge, and for one off it
-pub inside_on_edge : (c a b : Corner) (t : Bool) → t ≡ (not (is_same c a) && not (is_same c b))
-    → IsOnEdge (corner_point c) a b → t ≡ is_strictly_inside c a b
-inside_on_edge c a b t e o =
-    e ∙ same_from_decides (not (is_same c a) && not (is_same c b)) (is_strictly_inside c a b)
-    (Decides-like (not (is_same c a) && not (is_same c b)) (λ h. record {
-      on_edge = o;
-      not_start = h.0;
-      not_end =
-          h.1;
-    }) (λ h. (h.not_start, h.not_end))
-    (Decides-no_end c a b))
-    (Decides-is_strictly_inside c a b)
-
-pub inside_off_edge : (c a b : Corner) (t : Bool) → (IsOnEdge (corner_point c) a b → t ≡ true) → t ≡ false
-    → t ≡ is_strictly_inside c a b
-inside_off_edge c a b t k e = e ∙ sym (false_where (is_strictly_inside c a b) (Decides-is_strictly_inside c a b)
-    (λ h. false≢true (sym e ∙ k h.on_edge)))
 
 -- ---- boxes
 same_products : (p q : ℤ) → p -ℤ q ≡ pos 0 → p ≡ q
