@@ -71,6 +71,7 @@ fn places_of(numbers: &[u16], number: u16) -> Span
 }
 
 /// A corner that keeps corner `k` from being an ear, of those that stand in a list in the span.
+#[inline(never)]
 fn witness_listed(
     corners: &[Corner],
     numbers: &[u16],
@@ -113,6 +114,7 @@ fn witness_listed(
 const FEW_BLOCKS: usize = 65;
 
 /// A corner that keeps corner `k` from being an ear. Blocks whose boxes the triangle misses are passed over.
+#[inline(never)]
 fn witness_in_blocks(
     corners: &[Corner],
     k: usize,
