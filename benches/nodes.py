@@ -137,6 +137,22 @@ def band(count):
     return make
 
 
+def lattices(count, thin):
+    """Rings of 4,095 corners at random places of a lattice that is fifty metres wide, each ring's elsewhere, in a square of ten
+    kilometres or in a slanted band that is two kilometres wide: edges of thousands of steps, each in a direction of its own."""
+    def make(folder):
+        pick, wide, rings = random.Random(1), 5003, []
+        along, across = (20000, 40) if thin else (200, 200)
+        for _ in range(count):
+            x, y, ring = pick.randrange(wide), pick.randrange(wide), []
+            for _ in range(4095):
+                i, j = pick.randrange(along), pick.randrange(across)
+                ring.append((x + wide * i, y + wide * (j + (5 * i if thin else 0))))
+            rings.append(ring)
+        layers(folder, box(0, 0, wide, wide), rings)
+    return make
+
+
 JOBS = (("city S", city("S")), ("city M", city("M")), ("city L", city("L")),
         ("city S, T", city("S", "--tjunction", "0.3")), ("city M, T", city("M", "--tjunction", "0.3")),
         ("city L, T", city("L", "--tjunction", "0.04")), ("city L, shuffled", shuffled),

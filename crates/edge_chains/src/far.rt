@@ -24,8 +24,11 @@ const MANY_STEPS: u64 = 4096;
 /// How many steps an edge has at most whose places are looked up once the leaning boxes are there.
 const SOME_STEPS: u64 = 512;
 
-/// How many edges are slow before the leaning boxes are made.
-const MANY_SLOW: usize = 256;
+/// How many places are looked up in all, for each corner, before the leaning boxes are made.
+const WORTH: usize = 32;
+
+/// The part of all corners, one of so many, to which an edge that is searched otherwise comes.
+const DEAR: usize = 8;
 
 /// How many boxes of the tree are looked at before an edge is slow, and what part of all corners
 /// besides where it has more steps.
@@ -44,7 +47,7 @@ pub(crate) struct Far<A: Allocator> {
     points: Option<Points<A>>,
     directions: Directions<A>,
     tree: Option<Tree<A>>,
-    slow: usize,
+    looked_up: usize,
 }
 
 impl<A: Allocator> Model for Far<A> {
@@ -69,7 +72,7 @@ impl<A: Allocator + Copy> Far<A> {
             points: None,
             directions: Directions::new(alloc),
             tree: None,
-            slow: 0,
+            looked_up: 0,
         })
     }
 
@@ -161,12 +164,20 @@ impl<A: Allocator + Copy> Far<A> {
         if let Some(tree) = &self.tree {
             return tree.inside(alloc, a, b);
         }
-        if self.slow < MANY_SLOW {
-            self.slow += 1;
-            if steps.count <= MANY_STEPS {
-                return self.on_steps(a, b, steps);
-            }
-            return self.in_boxes(a, b);
+        let count = self.blocks.corners().len();
+        if self.looked_up / WORTH < count {
+            let few = steps.count <= MANY_STEPS;
+            let more = if few {
+                steps.count as usize
+            } else {
+                count / DEAR
+            };
+            self.looked_up = self.looked_up.saturating_add(more);
+            return if few {
+                self.on_steps(a, b, steps)
+            } else {
+                self.in_boxes(a, b)
+            };
         }
         let tree = Tree::new(alloc, self.blocks.corners())?;
         let found = tree.inside(alloc, a, b)?;

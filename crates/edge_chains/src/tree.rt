@@ -15,6 +15,9 @@ use leaning_boxes::{LeaningBox, reach};
 use std::alloc::{AllocError, Allocator};
 use std::marker::Model;
 
+/// How many corners a block has at most whose box is not looked at: each corner is tried.
+const LEAF: usize = 16;
+
 /// Corners for many searches, as a list in some order: at each group of four a block of corners begins, with a box
 /// that leans with them. A block is its first group and two halves of the rest, parted in turn along its longest
 /// way and across it.
@@ -123,10 +126,10 @@ fn far_ends(corners: &[Corner]) -> (Corner, Corner)
 fn part(corners: &mut [Corner], split: Split)
     ensures { IsPermutation corners.old corners.new }
 {
-    let groups = corners.len() / GROUP;
-    if groups < 2 {
+    if corners.len() <= LEAF {
         return;
     }
+    let groups = corners.len() / GROUP;
     let (from, to) = far_ends(corners);
     let (_, rest) = corners.split_at_mut(GROUP);
     rest.sort_unstable_by_key(|it| split.key(from, to, *it));
@@ -198,7 +201,7 @@ fn gather<A: Allocator>(
     let mut at = 0;
     while at < corners.len() {
         let group = at / GROUP;
-        if at % GROUP == 0 && boxes[group].is_off(a, b) {
+        if at % GROUP == 0 && are_many(at, ends[group]) && boxes[group].is_off(a, b) {
             at = ends[group];
         } else {
             let corner = corners[at];
@@ -209,4 +212,9 @@ fn gather<A: Allocator>(
         }
     }
     Ok(found)
+}
+
+/// Whether so many corners stand from one place on and before another that their box is worth a look.
+fn are_many(start: usize, end: usize) -> bool {
+    end.saturating_sub(start) > LEAF
 }

@@ -16,13 +16,13 @@ returns-in-Some-clause-found g c =
     c.args.a c.args.b found.items (inside_from_filter tree found.items c.args.a c.args.b h))
     c.inside.ensures
 
-pub returns-then-steps-le-MANY_STEPS-clause-found : goal.returns-then-steps-le-MANY_STEPS-clause-found
-returns-then-steps-le-MANY_STEPS-clause-found g c =
+pub returns-then-few-2-clause-found : goal.returns-then-few-2-clause-found
+returns-then-few-2-clause-found g c =
     IfOk-weaker c.on_steps.result _ _ (λ found h. subst (λ xs. AreInside xs c.args.a c.args.b found.items)
     c.self.view_is h) c.on_steps.ensures.found
 
-pub returns-then-self-lt-MANY_SLOW-clause-found : goal.returns-then-self-lt-MANY_SLOW-clause-found
-returns-then-self-lt-MANY_SLOW-clause-found g c =
+pub returns-else-few-2-clause-found : goal.returns-else-few-2-clause-found
+returns-else-few-2-clause-found g c =
     IfOk-weaker c.in_boxes.result _ _ (λ found h. subst (λ xs. AreInside xs c.args.a c.args.b found.items)
     c.self.view_is h) c.in_boxes.ensures
 
