@@ -1,0 +1,138 @@
+//! Boxes that lean: what they hold, and which edges are seen to lie off them.
+
+use geo_exact::{Bounds, LIMIT};
+use leaning_boxes::{LeaningBox, is_beside, ranges_are_apart, reach};
+use std::test::Fail;
+use test_builders::{Place, corner};
+
+/// The box along the line from the origin to a place, around the origin and two places.
+fn box_along(to: Place, first: Place, second: Place) -> Result<LeaningBox, Fail> {
+    let origin = corner((0, 0))?;
+    let held = LeaningBox::of_corner(origin, corner(to)?, origin);
+    Ok(held.around(corner(first)?).around(corner(second)?))
+}
+
+/// What the box that leans by 45 degrees holds: turns from 0 at its line up to 2,000 at (10, 30).
+fn diagonal() -> Result<LeaningBox, Fail> {
+    box_along((100, 100), (100, 100), (10, 30))
+}
+
+/// Whether a box misses the edge between two places, and whether it is seen to lie off it.
+fn seen(held: LeaningBox, c: Place, d: Place) -> Result<(bool, bool), Fail> {
+    let (c, d) = (corner(c)?, corner(d)?);
+    Ok((held.misses(c, d), held.is_off(c, d)))
+}
+
+#[test]
+fn grows_around_corners(rt: HostRuntime) -> Result<(), Fail> {
+    let origin = corner((0, 0))?;
+    let far = corner((100, 100))?;
+    let one = LeaningBox::of_corner(origin, far, corner((60, 20))?);
+    assert_eq!(rt; (one.from, one.to), (origin, far));
+    assert_eq!(rt; one.bounds, Bounds::of_corner(corner((60, 20))?));
+    assert_eq!(rt; (one.low, one.high), (-4000, -4000));
+    let held = diagonal()?;
+    assert_eq!(rt; (held.from, held.to), (origin, far));
+    assert_eq!(rt; (held.bounds.low, held.bounds.high), (origin, far));
+    assert_eq!(rt; (held.low, held.high), (0, 2000));
+    let none = LeaningBox::default();
+    assert_eq!(rt; (none.from, none.to), (origin, origin));
+    assert_eq!(rt; none.bounds, Bounds::of_corner(origin));
+    assert_eq!(rt; (none.low, none.high), (0, 0));
+    Ok(())
+}
+
+/// Turns from the line are, of (x, y), 100 y - 100 x.
+#[test]
+fn tells_edges_off_a_diagonal_box(rt: HostRuntime) -> Result<(), Fail> {
+    let held = diagonal()?;
+    for (c, d, want) in [
+        // turns -4,000 and -5,000: right of it
+        ((60, 20), (90, 40), (true, true)),
+        // turns 3,000 and 3,000: left of it
+        ((10, 40), (60, 90), (true, true)),
+        // turns -100 and 1,000, but beside the box along the axes
+        ((101, 100), (110, 120), (true, true)),
+        // turns -1,000 and -100: right of it, but the edge's line comes to it at (63, 67)
+        ((60, 50), (62, 61), (true, false)),
+        // turns 1,000 and -7,000: leaves the box along the axes at (100, 70), right of the line
+        ((120, 130), (80, 10), (false, true)),
+        // turns 2,000 and -2,000: through it
+        ((0, 20), (40, 20), (false, false)),
+        // turns 2,000 and 2,000: along its side
+        ((10, 30), (30, 50), (false, false)),
+        // turns -4,000 and 10,000: across it
+        ((60, 20), (0, 100), (false, false)),
+    ] {
+        assert_eq!(rt; seen(held, c, d)?, want, "at {} {}", c.0, c.1);
+    }
+    Ok(())
+}
+
+/// Turns from the line are, of (x, y), 10 y - 100 x.
+#[test]
+fn tells_edges_off_a_steep_box(rt: HostRuntime) -> Result<(), Fail> {
+    let held = box_along((10, 100), (10, 100), (5, 50))?;
+    for (c, d, want) in [
+        // turns -200 and -200
+        ((4, 20), (8, 60), (true, true)),
+        // turns 200 and -200
+        ((4, 60), (8, 60), (false, false)),
+    ] {
+        assert_eq!(rt; seen(held, c, d)?, want, "at {} {}", c.0, c.1);
+    }
+    Ok(())
+}
+
+#[test]
+fn tells_ranges_apart(rt: HostRuntime) {
+    for (u, v, w, z, want) in [
+        (1, 3, 4, 6, true),
+        (3, 1, 6, 4, true),
+        (6, 4, 1, 3, true),
+        (1, 4, 4, 6, false),
+        (1, 9, 6, 4, false),
+    ] {
+        assert_eq!(rt; ranges_are_apart(u, v, w, z), want, "at {u} {v} {w} {z}");
+    }
+}
+
+/// Whether an edge is beside the box from (0, 0) to (100, 50).
+fn seen_beside(from: Place, to: Place) -> Result<bool, Fail> {
+    let bounds = Bounds {
+        low: corner((0, 0))?,
+        high: corner((100, 50))?,
+    };
+    Ok(is_beside(corner(from)?, corner(to)?, bounds))
+}
+
+#[test]
+fn tells_edges_beside_a_box(rt: HostRuntime) -> Result<(), Fail> {
+    for (from, to, want) in [
+        ((-2, 90), (-1, -90), true),
+        ((101, -90), (102, 90), true),
+        ((-90, -1), (190, -2), true),
+        ((190, 51), (-90, 52), true),
+        // off the box, but on no side of it
+        ((-10, 5), (5, -10), false),
+        // along a side
+        ((0, -90), (0, 90), false),
+        ((-90, 50), (190, 50), false),
+    ] {
+        assert_eq!(rt; seen_beside(from, to)?, want, "at {} {}", from.0, from.1);
+    }
+    Ok(())
+}
+
+#[test]
+fn measures_reaches(rt: HostRuntime) -> Result<(), Fail> {
+    for (a, b, want) in [
+        ((0, 0), (3, -7), 7),
+        ((10, 2), (-5, 3), 15),
+        ((4, 4), (4, 4), 0),
+        ((-LIMIT, -LIMIT), (LIMIT, 0), 20_000_000_000),
+    ] {
+        assert_eq!(rt; reach(corner(a)?, corner(b)?), want, "at {} {}", a.0, a.1);
+    }
+    Ok(())
+}
