@@ -21,7 +21,8 @@ const FEW_STEPS: u64 = 64;
 /// How many steps an edge has at most whose places are looked up where the tree of boxes is slow.
 const MANY_STEPS: u64 = 4096;
 
-/// How many steps an edge has at most whose places are looked up once the leaning boxes are there.
+/// How many steps an edge has at most whose places are looked up where the tree is slow, once the leaning boxes are
+/// there.
 const SOME_STEPS: u64 = 512;
 
 /// How many places are looked up in all, for each corner, before the leaning boxes are made.
@@ -136,14 +137,15 @@ impl<A: Allocator + Copy> Far<A> {
         if let Some(lines) = self.directions.find(steps) {
             return lines.inside(alloc, a, b);
         }
-        if steps.count <= SOME_STEPS || self.tree.is_none() {
-            let most = self.quick(steps.count <= MANY_STEPS);
-            if let Some(found) = self.blocks.inside(a, b, most)? {
-                return Ok(found);
-            }
+        let most = self.quick(steps.count <= MANY_STEPS);
+        if let Some(found) = self.blocks.inside(a, b, most)? {
+            return Ok(found);
         }
         if steps.count <= SOME_STEPS {
             return self.on_steps(a, b, steps);
+        }
+        if self.tree.is_some() {
+            return self.slowly(a, b, steps);
         }
         if !self.directions.count(steps)? {
             return self.slowly(a, b, steps);
