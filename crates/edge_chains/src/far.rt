@@ -26,7 +26,7 @@ const MANY_STEPS: u64 = 4096;
 const SOME_STEPS: u64 = 512;
 
 /// How many places are looked up in all, for each corner, before the leaning boxes are made.
-const WORTH: usize = 32;
+const WORTH: usize = 64;
 
 /// The part of all corners, one of so many, to which an edge that is searched otherwise comes.
 const DEAR: usize = 8;
