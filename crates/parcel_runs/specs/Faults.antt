@@ -2,10 +2,17 @@
 use Rattle.std.specs.Prelude.{◌≡◌, ℕ, List, Option}
 use Rattle.geo_exact.specs.declared.coord.Unit.{Unit as LengthUnit}
 use Rattle.shp_files.specs.FirstFault.{IsFirstFault}
+use Rattle.shp_files.specs.declared.fault.LayerFault.{LayerFault}
+use Rattle.shp_files.specs.declared.fault.LayerFault.TheVariants as LayerFault
 use Rattle.parcel_runs.specs.declared.fault.Role.{Role}
 use Rattle.parcel_runs.specs.declared.fault.ToolFault.{ToolFault}
 use Rattle.parcel_runs.specs.declared.fault.ToolFault.TheVariants.{Unreadable, UnreadableIndex, Output, File, CityCount, CityRing, NoTiling}
 use Rattle.parcel_runs.specs.declared.fault.ToolFault.TheVariants.{ClerkCount, ClerkLine, PointLine, NoThread, NoWindow, NoMemory}
+
+-- what is told of a layer with this role that was not read
+abbrev pub layer_fault : Role → LayerFault → ToolFault
+layer_fault role (LayerFault.File fault) = File role fault
+layer_fault role LayerFault.NoMemory = NoMemory
 
 -- why the files of the layer with this role gave no rings: its first fault, or want of memory
 abbrev pub IsLayerFault : Role → List ℕ → Option (List ℕ) → LengthUnit → ToolFault → Type 0

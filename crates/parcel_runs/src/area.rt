@@ -8,8 +8,7 @@ ghost use Rattle.parcel_runs.specs.AreaReport.{WritesReport, WritesBeginning};
 ghost use Rattle.parcel_runs.specs.Sources.{index_of};
 ghost use Rattle.parcel_runs.specs.declared.fault.Role.{Role as RoleName};
 
-use crate::fault::{Role, ToolFault};
-use crate::layers::read_rings;
+use crate::fault::ToolFault;
 use crate::report::area_text;
 use crate::sources::Source;
 use geo_exact::{ByteOut, Unit};
@@ -52,14 +51,7 @@ pub fn area<A: Allocator + Copy, W: ByteOut>(
     ensures failed { IsErrOf result ToolFault.Output → W.failure_count out.new ≡ raised (W.failure_count out.old) }
     ensures no_failure { OnOk result (W.failure_count out.new ≡ W.failure_count out.old) }
 {
-    let rings = read_rings(
-        alloc,
-        Role::File,
-        source.main.as_slice(),
-        source.index_bytes(),
-        unit,
-    )?;
-    let text = area_text(alloc, rings.as_slice())?;
+    let text = area_text(alloc, source.main.as_slice(), source.index_bytes(), unit)?;
     put_all(text.as_slice(), out)?;
     Ok(())
 }

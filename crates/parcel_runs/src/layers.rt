@@ -3,7 +3,7 @@ ghost use Rattle.std.specs.Option.{option_copied};
 ghost use Rattle.shp_files.specs.LayerFile.{IsLayerFile, NumberedRing, rings_of};
 ghost use Rattle.shp_files.specs.FirstFault.{IsFirstFault};
 ghost use Rattle.shp_files.specs.declared.fault.FileFault.{FileFault};
-ghost use Rattle.parcel_runs.specs.Faults.{IsLayerFault};
+ghost use Rattle.parcel_runs.specs.Faults.{IsLayerFault, layer_fault};
 
 use crate::fault::{Role, ToolFault};
 use geo_exact::{RawRing, Unit};
@@ -29,7 +29,16 @@ pub fn read_rings<A: Allocator + Copy>(
 {
     match read_layer(alloc, main, index, unit) {
         Ok(rings) => Ok(rings),
-        Err(LayerFault::File(fault)) => Err(ToolFault::File(role, fault)),
-        Err(LayerFault::NoMemory) => Err(ToolFault::NoMemory),
+        Err(fault) => Err(told(role, fault)),
+    }
+}
+
+/// What is told of a layer with this role that was not read.
+pub fn told(role: Role, fault: LayerFault) -> ToolFault<'static>
+    ensures { result ≡ layer_fault role fault }
+{
+    match fault {
+        LayerFault::File(fault) => ToolFault::File(role, fault),
+        LayerFault::NoMemory => ToolFault::NoMemory,
     }
 }

@@ -5,5 +5,6 @@ pub mod Limits
 pub mod Checks
 pub mod IndexChecks
 pub mod FirstFault
+pub mod Taken
 pub mod Written
 pub mod own

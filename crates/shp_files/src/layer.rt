@@ -1,6 +1,6 @@
 //! The layer of a main file and its index.
 
-ghost use Rattle.std.specs.Prelude.{◌≡◌, ◌≤◌, ◌<◌, ◌^◌, ◌⊎◌, ℕ, length, List, Option, None, option_copied, IfOk};
+ghost use Rattle.std.specs.Prelude.{◌≡◌, ◌≤◌, ◌<◌, ◌^◌, ◌⊎◌, ℕ, [], length, List, Option, None, option_copied, IfOk, OnOk};
 ghost use Rattle.std.specs.Prelude.{MatchResult, IsErrAnd, IsErrOf};
 ghost use Rattle.geo_exact.specs.declared.coord.Unit.{Unit as LengthUnit};
 ghost use Rattle.shp_files.specs.declared.fault.FileFault.{FileFault};
@@ -8,11 +8,13 @@ ghost use Rattle.shp_files.specs.LayerFile.{NumberedRing, rings_of, IsLayerFile}
 ghost use Rattle.shp_files.specs.declared.fault.FileName.TheVariants.{Main};
 ghost use Rattle.shp_files.specs.Checks.{first_failure, header_checks, declared_end};
 ghost use Rattle.shp_files.specs.FirstFault.{IsMainFault, IsFirstFault};
+ghost use Rattle.shp_files.specs.Taken.{HoldsLayer, HoldsRings};
 
 use crate::fault::{FileName, LayerFault};
 use crate::header::{HEADER, read_header};
 use crate::index::check_index;
 use crate::record::{RecordHead, read_record};
+use crate::taking::{RingList, TakeEach};
 use geo_exact::{RawRing, Unit};
 use std::alloc::Allocator;
 
@@ -51,46 +53,84 @@ pub fn read_layer<A: Allocator + Copy>(
     ensures refuses { (fault : FileFault) → IsFirstFault main.now (option_copied index.entry) unit fault →
         IsErrAnd result (λ e. (e ≡ LayerFault.File fault) ⊎ (e ≡ LayerFault.NoMemory)) }
 {
-    read_checked(alloc, main, index, unit)
+    let mut list = RingList {
+        rings: Vec::new(alloc),
+    };
+    read_rings(alloc, main, index, unit, &mut list)?;
+    Ok(list.rings)
 }
 
-/// Reads the main file, and then checks the index against it.
-fn read_checked<A: Allocator + Copy>(
+/// Reads the rings of a layer as [`read_layer`] does, and hands each on as soon as it is read: nothing else of the
+/// layer is kept. Rings that were handed on before a fault was found are those of no layer.
+///
+/// # Errors
+///
+/// Those of [`read_layer`]; a ring that was not taken is [`LayerFault::NoMemory`].
+///
+/// ```
+/// let mut report = AreaText::new(alloc);
+/// read_rings(alloc, main.as_slice(), Some(index.as_slice()), Unit::Cm, &mut report)?;
+/// ```
+pub fn read_rings<A: Allocator + Copy, T: TakeEach<RawRing<A>>>(
     alloc: A,
     main: &[u8],
     index: Option<&[u8]>,
     unit: Unit,
-) -> Result<Vec<RawRing<A>, A>, LayerFault>
-    ensures layer { IfOk result
-        (λ rings. IsLayerFile main.now (option_copied index.entry) unit (rings_of rings.items)) }
+    rings: &mut T,
+) -> Result<(), LayerFault>
+    requires none_yet { T.holds rings.old [] }
+    // What is taken are the rings of the files' layer, or their first fault is answered.
+    ensures layer { OnOk result (HoldsLayer main.now (option_copied index.entry) unit (T.holds rings.new)) }
+    ensures fault { (fault : FileFault) → IsErrOf result (LayerFault.File fault)
+        → IsFirstFault main.now (option_copied index.entry) unit fault }
+    // A layer is taken, unless memory runs out.
+    ensures reads { (found : List NumberedRing) → IsLayerFile main.now (option_copied index.entry) unit found →
+        MatchResult result (λ _. HoldsRings found (T.holds rings.new)) (λ e. e ≡ LayerFault.NoMemory) }
+    // The first fault is answered, unless memory runs out.
+    ensures refuses { (fault : FileFault) → IsFirstFault main.now (option_copied index.entry) unit fault →
+        IsErrAnd result (λ e. (e ≡ LayerFault.File fault) ⊎ (e ≡ LayerFault.NoMemory)) }
+{
+    read_checked(alloc, main, index, unit, rings)
+}
+
+/// Reads the main file, and then checks the index against it.
+fn read_checked<A: Allocator + Copy, T: TakeEach<RawRing<A>>>(
+    alloc: A,
+    main: &[u8],
+    index: Option<&[u8]>,
+    unit: Unit,
+    rings: &mut T,
+) -> Result<(), LayerFault>
+    requires none_yet { T.holds rings.old [] }
+    ensures layer { OnOk result (HoldsLayer main.now (option_copied index.entry) unit (T.holds rings.new)) }
     ensures fault { (fault : FileFault) → IsErrOf result (LayerFault.File fault)
         → IsFirstFault main.now (option_copied index.entry) unit fault }
 {
     let end = read_header(FileName::Main, main)?;
-    let rings = read_records(alloc, main, end, unit)?;
+    read_records(alloc, main, end, unit, rings)?;
     if let Some(index) = index {
         check_index(main, end, index)?;
     }
-    Ok(rings)
+    Ok(())
 }
 
 /// Reads the records of a main file whose header passes its checks, up to its declared end.
-fn read_records<A: Allocator + Copy>(
+fn read_records<A: Allocator + Copy, T: TakeEach<RawRing<A>>>(
     alloc: A,
     main: &[u8],
     end: usize,
     unit: Unit,
-) -> Result<Vec<RawRing<A>, A>, LayerFault>
+    rings: &mut T,
+) -> Result<(), LayerFault>
     requires header { first_failure (header_checks Main main.now) ≡ None }
     requires end { end ≡ declared_end main.now }
     requires bound { end < 2 ^ 32 }
     requires room { 100 ≤ end }
     requires within { end ≤ length main.now }
-    ensures layer { IfOk result
-        (λ rings. IsLayerFile main.now None unit (rings_of rings.items)) }
+    requires none_yet { T.holds rings.old [] }
+    ensures layer { OnOk result (HoldsLayer main.now None unit (T.holds rings.new)) }
     ensures fault { (fault : FileFault) → IsErrOf result (LayerFault.File fault) → IsMainFault main.now unit fault }
 {
-    let mut rings = Vec::new(alloc);
     let mut head = RecordHead {
         position: 1,
         start: HEADER,
@@ -104,11 +144,11 @@ fn read_records<A: Allocator + Copy>(
             start: found.end,
         };
         if let Some(ring) = found.ring {
-            rings.push(ring)?;
+            rings.take(ring)?;
         }
         head = next;
     }
-    Ok(rings)
+    Ok(())
 }
 
 /// A text is a layer's main file, with its index where there is one, of one list of rings at most.

@@ -14,14 +14,16 @@ mod normal;
 mod put;
 mod record;
 mod source;
+mod taking;
 mod write;
 
 pub use decided::a_text_is_a_layer_or_has_a_fault;
 pub use fault::{FaultKind, FileFault, FileName, LayerFault};
 pub use layer::{
     a_layer_file_has_no_fault, a_layer_file_has_one_list_of_rings, a_text_has_one_first_fault,
-    read_layer,
+    read_layer, read_rings,
 };
 pub use limits::a_layer_file_is_within_the_limits;
 pub use source::{ReadFault, read_all};
+pub use taking::TakeEach;
 pub use write::{a_written_file_is_a_layer_file, a_written_ring_is_turned_back, write_layer};

@@ -1,14 +1,15 @@
-use Rattle.std.specs.Prelude.{option_copied}
+use Rattle.std.proofs.Common.{◌∙◌, ap}
+use Rattle.std.proofs.lemmas.Result.{err_from_is_err_and}
 use Rattle.shp_files.specs.LayerFile.{rings_of}
-use Rattle.shp_files.proofs.lines.Answered.{layer_is_answered, fault_is_answered}
 use Rattle.shp_files.proofs.layer.read_layer.Goals as goal
+
+pub returns-in_err-read_rings-clause-reads : goal.returns-in_err-read_rings-clause-reads
+returns-in_err-read_rings-clause-reads g c = λ rings file.
+    let p = err_from_is_err_and c.from_residual.result c.from_residual.ensures.1 in
+    let e = c.in_err-read_rings.ensures.reads rings file in
+    rw p.1 (let q = p.2 in cc)
 
 pub returns-clause-reads : goal.returns-clause-reads
 returns-clause-reads g c = λ rings file.
-    layer_is_answered (λ v. rings_of v.items) c.args.main.now (option_copied c.args.index) c.args.unit c.read_checked.result rings
-    c.read_checked.ensures.layer c.read_checked.ensures.fault file
-
-pub returns-clause-refuses : goal.returns-clause-refuses
-returns-clause-refuses g c = λ fault is.
-    fault_is_answered (λ v. rings_of v.items) c.args.main.now (option_copied c.args.index) c.args.unit c.read_checked.result fault
-    c.read_checked.ensures.layer c.read_checked.ensures.fault is
+    let reads = c.in_ok-read_rings.ensures.reads rings file in
+    ap (λ items. rings_of items) reads.holds_them ∙ reads.are
