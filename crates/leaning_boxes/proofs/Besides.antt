@@ -2,7 +2,7 @@
 use Rattle.std.proofs.Common.{◌≡◌, inl, inr, arith, true, FitsSigned, to_z, of_z}
 use Rattle.std.specs.Int.{w64, int_min, int_max}
 use Rattle.std.proofs.lemmas.Int.{ints, clamps, to_z-of_z}
-use lib.IntN.{ℤ, pos, ◌*ℤ◌, ◌-ℤ◌}
+use lib.IntN.{ℤ, pos, ◌*ℤ◌}
 use lib.Signed.{◌≤ℤ◌, ◌<ℤ◌, lt_z}
 use Rattle.geo_exact.specs.declared.bounds.Bounds.{Bounds}
 use Rattle.geo_exact.specs.declared.corner.Corner.{Corner}
@@ -10,8 +10,7 @@ use Rattle.geo_exact.specs.Bounds.{HoldsCorner, IsBeyondBox}
 use Rattle.geo_exact.specs.Limit.{IsWithin, limit}
 use Rattle.geo_exact.specs.Point.{Point}
 use Rattle.geo_exact.specs.Turn.{IsOnEdge}
-use Rattle.geo_exact.proofs.numbers.Differences.{expand}
-use Rattle.geo_exact.proofs.numbers.Signs.{mul_le, mul_pos}
+use Rattle.geo_exact.proofs.numbers.Signs.{mul_le, mul_lt}
 
 -- what a test of the machine's bits says of two coordinates
 pub is_less : (u v : ℤ) → IsWithin limit u → IsWithin limit v → lt_z (to_z w64 (of_z w64 u)) (to_z w64 (of_z w64 v))
@@ -22,19 +21,16 @@ is_less u v s t h =
     let e = simp to_z-of_z at h in grind (arith, ints)
 
 -- ---- numbers of an edge's ends, and of a place between them
-pub less_scaled : (u v d : ℤ) → pos 0 <ℤ d → u <ℤ v → (u *ℤ d) <ℤ (v *ℤ d)
-less_scaled u v d h k = let e = mul_pos (v -ℤ u) d (omega (arith, ints, k)) h in omega (arith, ints, simp expand at e)
-
 -- what is at most the greater of two numbers is below what both are below
 below : (u v l d z : ℤ) → pos 0 <ℤ d → u <ℤ l → v <ℤ l → z ≤ℤ (int_max u v *ℤ d) → z <ℤ (l *ℤ d)
 below u v l d z h i j k =
     let m : int_max u v <ℤ l = omega (arith, ints, clamps, i, j) in
-    omega (arith, ints, k, less_scaled (int_max u v) l d h m)
+    omega (arith, ints, k, mul_lt (int_max u v) l d h m)
 
 above : (u v l d z : ℤ) → pos 0 <ℤ d → l <ℤ u → l <ℤ v → (int_min u v *ℤ d) ≤ℤ z → (l *ℤ d) <ℤ z
 above u v l d z h i j k =
     let m : l <ℤ int_min u v = omega (arith, ints, clamps, i, j) in
-    omega (arith, ints, k, less_scaled l (int_min u v) d h m)
+    omega (arith, ints, k, mul_lt l (int_min u v) d h m)
 
 module _ (box : Bounds) (a b : Corner) (p : Point) (on : IsOnEdge p a b) where
   pub left_of : a.x <ℤ box.low.x → b.x <ℤ box.low.x → IsBeyondBox p box

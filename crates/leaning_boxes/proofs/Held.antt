@@ -1,24 +1,11 @@
--- What a leaning box holds once it is wider, and numbers beyond its range.
+-- The range of a leaning box once it is wider, and numbers beyond it.
 use Rattle.std.proofs.Common.{◌≡◌, arith, FitsSigned, to_z, of_z}
 use Rattle.std.specs.Int.{w128, int_min, int_max}
 use Rattle.std.proofs.lemmas.Int.{ints, clamps, to_z-of_z}
 use lib.IntN.{ℤ, pos, ◌-ℤ◌}
 use lib.Signed.{◌<ℤ◌, ◌≤ℤ◌}
-use Rattle.geo_exact.specs.declared.bounds.Bounds.{Bounds}
-use Rattle.geo_exact.specs.declared.corner.Corner.{Corner}
-use Rattle.geo_exact.specs.Bounds.{HoldsCorner, IsWider}
 
-pub held_wider : (box wider : Bounds) (corner : Corner) → IsWider box wider → HoldsCorner box corner → HoldsCorner wider corner
-held_wider box wider corner w h =
-    let x = w.0 in let y = w.1 in
-    let a = h.west in let b = h.east in let c = h.south in let d = h.north in record {
-      west = omega (arith, ints, x.0);
-      east = omega (arith, ints, x.1);
-      south = omega (arith, ints, y.0);
-      north = omega (arith, ints, y.1);
-    }
-
--- ---- numbers of 128 bits, as the code passes them
+-- numbers of 128 bits, as the code passes them
 pub least_kept : (m l v t : ℤ) → FitsSigned w128 m → FitsSigned w128 l → m ≡ int_min (to_z w128 (of_z w128 l)) v → l ≤ℤ t
     → to_z w128 (of_z w128 m) ≤ℤ t
 least_kept m l v t f g e h = let i : m ≡ int_min l v = simp to_z-of_z at e in rw to_z-of_z (omega (arith, ints, clamps))

@@ -2,4 +2,3 @@ pub mod Held
 pub mod Besides
 pub mod Parallels
 pub mod Rows
-pub mod Refilled

@@ -11,6 +11,7 @@ use Rattle.geo_exact.proofs.numbers.Differences.{neg-mul}
 use Rattle.geo_exact.proofs.numbers.Signs.{mul_pos, pos_of_mul, convex, mul_lt}
 use Rattle.geo_exact.proofs.numbers.Polynomials.{var, add, mul, neg, same_by}
 use Rattle.geo_exact.proofs.corners_and_turns.TurnLaws.{turn_at_expr, turn_expr, turn_at_corner}
+use Rattle.geo_exact.proofs.corners_and_turns.Means.{same_place}
 use Rattle.geo_exact.proofs.corners_and_turns.SamePlace.{turn_at_place}
 use Rattle.geo_exact.proofs.numbers.Orders.{le_of_lt}
 use Rattle.geo_exact.proofs.corners_and_turns.OnEdge.{min_left, max_right, on_edge_back}
@@ -77,14 +78,6 @@ turn_at_its_place a b c p h k =
     let once : turn_at a b p ≡ pos 1 *ℤ turn_at a b p = omega (arith, ints) in
     once ∙ same ∙ ap (λ t. p.d *ℤ t) (turn_at_corner a b c)
 
-same_ends : (u v d w : ℤ) → v ≤ℤ u → u ≤ℤ v → (int_min u v *ℤ d) ≤ℤ w → w ≤ℤ (int_max u v *ℤ d)
-    → w ≡ u *ℤ d
-same_ends u v d w o q h k =
-    let e : v ≡ u = omega (arith, ints) in
-    let low : (u *ℤ d) ≤ℤ w = (range u v d w q h k).0 in
-    let high : w ≤ℤ (u *ℤ d) = rw e at (range u v d w q h k).1 in
-    omega (arith, ints)
-
 beyond_place : (s k d t : ℤ) → s *ℤ (d *ℤ t) -ℤ k *ℤ d ≡ d *ℤ (s *ℤ t -ℤ k)
 beyond_place s k d t =
     same_by (s ∷ k ∷ d ∷ t ∷ [])
@@ -112,7 +105,7 @@ module _ (s k : ℤ) (a b : Corner) (p : Point) where
       by_lt_z c.x d.x (λ o. rising c d h u v o) (λ o. by_lt_z d.x c.x (λ q. rising d c (on_edge_back c d p h) v u q)
       (λ q. by_lt_z c.y d.y (λ r. upward c d h u v r) (λ r. by_lt_z d.y c.y (λ w. upward d c (on_edge_back c d p h) v u w)
       (λ w. let e : turn_at a b p ≡ p.d *ℤ turn a b c =
-      turn_at_its_place a b c p (same_ends c.x d.x p.d p.x o q h.from_x h.to_x) (same_ends c.y d.y p.d p.y r w h.from_y h.to_y) in
+      turn_at_its_place a b c p (same_place c.x d.x p.d p.x o q h.from_x h.to_x) (same_place c.y d.y p.d p.y r w h.from_y h.to_y) in
       rw (e, beyond_place s k p.d (turn a b c)) (mul_pos p.d (excess c) p.d_positive u)))))
 
 -- a point of an edge whose ends are left of a line is left of it

@@ -1,13 +1,16 @@
 -- A row of places in a line, seen along an axis and by its distance from another line: what it passes by.
-use Rattle.std.proofs.Common.{◌≡◌, ◌≢◌, ◌⊎◌, inl, inr, refl, sym, ◌∙◌, ap, subst, arith, Bool, true, ◌||◌, [], ◌∷◌}
+use Rattle.std.proofs.Common.{◌≡◌, ◌≢◌, ◌⊎◌, ◌↔◌, inl, inr, refl, sym, ◌∙◌, ap, subst, arith, Bool, true, false, ◌||◌, [], ◌∷◌}
 use Rattle.std.specs.Bool.{Decides}
 use Rattle.std.specs.Int.{int_min, int_max}
 use Rattle.std.proofs.lemmas.Int.{ints, clamps, by_lt_z}
+use Rattle.std.proofs.lemmas.Bool.{false≢true}
 use Rattle.std.proofs.lemmas.Bool.Decides.{Decides-or}
-use lib.IntN.{ℤ, pos, ◌+ℤ◌, ◌-ℤ◌, ◌*ℤ◌, neg_ℤ}
+use lib.IntN.{ℤ, pos, ◌+ℤ◌, ◌-ℤ◌, ◌*ℤ◌, neg_ℤ, *ℤ_comm}
 use lib.Signed.{◌<ℤ◌, ◌≤ℤ◌, lt_z}
 use Rattle.geo_exact.specs.declared.corner.Corner.{Corner}
+use Rattle.geo_exact.specs.Bounds.{RangesMeet}
 use Rattle.geo_exact.specs.Turn.{turn}
+use Rattle.geo_exact.proofs.corners_and_turns.CornerOrder.{false_where}
 use Rattle.geo_exact.proofs.corners_and_turns.TurnLaws.{turn_expr}
 use Rattle.geo_exact.proofs.numbers.Differences.{expand}
 use Rattle.geo_exact.proofs.numbers.Orders.{Decides-int_lt}
@@ -43,10 +46,26 @@ Decides-apart u v w z = Decides-or (lt_z (int_max u v) (int_min w z)) (lt_z (int
     (Decides-int_lt (int_max u v) (int_min w z))
     (Decides-int_lt (int_max w z) (int_min u v))
 
+-- what the test computes
+pub apart_or_meeting : (t : Bool) (u v w z : ℤ) → t ≡ (lt_z (int_max u v) (int_min w z) || lt_z (int_max w z) (int_min u v))
+    → t ≡ false ↔ RangesMeet u v w z
+apart_or_meeting t u v w z e = (meeting, λ m. e ∙ false_where _ (Decides-apart u v w z) (λ apart. not_apart m apart))
+  where
+    not_apart : RangesMeet u v w z → RangesAreApart u v w z → ⊥
+    not_apart m (inl l) = omega (arith, ints, m.1, l)
+    not_apart m (inr l) = omega (arith, ints, m.0, l)
+
+    meeting : t ≡ false → RangesMeet u v w z
+    meeting f =
+        let none : RangesAreApart u v w z → ⊥ = λ apart. false≢true (sym f ∙ e ∙ (Decides-apart u v w z).1 apart) in
+        by_lt_z (int_max u v) (int_min w z) (λ l. absurd (none (inl l)))
+        (λ n. by_lt_z (int_max w z) (int_min u v) (λ l. absurd (none (inr l))) (λ m. (omega (arith, ints, m), omega (arith, ints, n))))
+
 -- what a test that is true tells
-pub apart_from_test : (t : Bool) (u v w z : ℤ)
-    → t ≡ (lt_z (int_max u v) (int_min w z) || lt_z (int_max w z) (int_min u v)) → t ≡ true → RangesAreApart u v w z
-apart_from_test t u v w z e h = (Decides-apart u v w z).0 (sym e ∙ h)
+pub apart_from_test : (t : Bool) (u v w z : ℤ) → (t ≡ false ↔ RangesMeet u v w z) → t ≡ true → RangesAreApart u v w z
+apart_from_test t u v w z e h =
+    by_lt_z (int_max u v) (int_min w z) inl (λ n. by_lt_z (int_max w z) (int_min u v) inr
+    (λ m. absurd (false≢true (sym (e.1 (omega (arith, ints, m), omega (arith, ints, n))) ∙ h))))
 
 -- numbers of two ranges that are apart are not the same
 pub not_same : (p q : ℤ) (bottom top left right : ℤ) → IsBetween bottom top p → IsBetween left right q
@@ -54,16 +73,13 @@ pub not_same : (p q : ℤ) (bottom top left right : ℤ) → IsBetween bottom to
 not_same p q bottom top left right h k (inl l) e = omega (arith, ints, h.1, k.0, e)
 not_same p q bottom top left right h k (inr l) e = omega (arith, ints, h.0, k.1, e)
 
-times_swap : (a b : ℤ) → a *ℤ b ≡ b *ℤ a
-times_swap a b = same_by (a ∷ b ∷ []) (mul (var 0) (var 1)) (mul (var 1) (var 0)) refl
-
 -- so much way and rise lead to no place so far along and so high
 pub not_on_row : (way rise l h f t w z : ℤ) (low high first last : ℤ) → l ≤ℤ w → w ≤ℤ h → f ≤ℤ z → z ≤ℤ t
     → low ≡ way *ℤ l → high ≡ way *ℤ h → first ≡ f *ℤ rise → last ≡ t *ℤ rise
     → RangesAreApart low high first last → way *ℤ w ≢ rise *ℤ z
 not_on_row way rise l h f t w z low high first last a b c d e g i j apart =
-    let i' = i ∙ times_swap f rise in
-    let j' = j ∙ times_swap t rise in
+    let i' = i ∙ *ℤ_comm f rise in
+    let j' = j ∙ *ℤ_comm t rise in
     not_same (way *ℤ w) (rise *ℤ z) (way *ℤ l) (way *ℤ h) (rise *ℤ f) (rise *ℤ t)
     (product_between way l h w a b) (product_between rise f t z c d)
     (subst (λ x. RangesAreApart (way *ℤ l) (way *ℤ h) (rise *ℤ f) x) j'

@@ -1,5 +1,6 @@
-ghost use Rattle.std.specs.Prelude.{◌≡◌, ◌≢◌, ◌-ℤ◌, ◌*ℤ◌, ◌≤ℤ◌, ◌*◌, ◌||◌, ℤ, int_lt, IsTrue};
+ghost use Rattle.std.specs.Prelude.{◌≡◌, ◌≢◌, ◌↔◌, ◌-ℤ◌, ◌*ℤ◌, ◌≤ℤ◌, ◌*◌, ℤ, int_lt, false, IsTrue};
 ghost use Rattle.std.specs.Int.{int_max, int_min};
+ghost use Rattle.geo_exact.specs.Bounds.{RangesMeet};
 ghost use Rattle.geo_exact.specs.declared.corner.Corner.{Corner as CornerValue};
 ghost use Rattle.geo_exact.specs.Limit.{IsWithin, limit};
 ghost use Rattle.geo_exact.specs.Point.{corner_point};
@@ -53,13 +54,13 @@ fn rise_product(way: i128, rise: i128) -> i128
 
 /// Whether no number is between u and v and also between w and z.
 pub fn ranges_are_apart(u: i128, v: i128, w: i128, z: i128) -> bool
-    ensures { result ≡ (int_lt (int_max u v) (int_min w z) || int_lt (int_max w z) (int_min u v)) }
+    ensures { result ≡ false ↔ RangesMeet u v w z }
 {
-    are_below(u, v, w, z) || are_below(w, z, u, v)
+    lie_below(u, v, w, z) || lie_below(w, z, u, v)
 }
 
 /// Whether u and v are below w and z.
-fn are_below(u: i128, v: i128, w: i128, z: i128) -> bool
+fn lie_below(u: i128, v: i128, w: i128, z: i128) -> bool
     ensures { result ≡ int_lt (int_max u v) (int_min w z) }
 {
     u.max(v) < w.min(z)

@@ -53,7 +53,7 @@ fn tells_edges_off_a_diagonal_box(rt: HostRuntime) -> Result<(), Fail> {
         ((10, 40), (60, 90), (true, true)),
         // turns -100 and 1,000, but beside the box along the axes
         ((101, 100), (110, 120), (true, true)),
-        // turns -1,000 and -100: right of it, but the edge's line comes to it at (63, 67)
+        // turns -1,000 and -100: right of it, but the edge's line comes into it behind (62, 61)
         ((60, 50), (62, 61), (true, false)),
         // turns 1,000 and -7,000: leaves the box along the axes at (100, 70), right of the line
         ((120, 130), (80, 10), (false, true)),

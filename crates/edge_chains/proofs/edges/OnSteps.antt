@@ -12,7 +12,7 @@ use Rattle.std.proofs.lemmas.List.{take_more}
 use Rattle.std.proofs.lemmas.List.Sorted.{Contains-permutation, IsPermutation-sym}
 use Rattle.std.proofs.lemmas.Int.{ints, clamps, by_lt_z}
 use lib.Signed.{◌<ℤ◌, ◌≤ℤ◌}
-use lib.IntN.{negsuc}
+use lib.IntN.{negsuc, *ℤ_comm}
 use Rattle.geo_exact.specs.declared.corner.Corner.{Corner}
 use Rattle.geo_exact.specs.Limit.{IsWithin, limit}
 use Rattle.geo_exact.specs.Segments.{IsStrictlyInside}
@@ -82,7 +82,7 @@ part_of : (u g t : ℤ) → u ≢ pos 0 → IsBetween (pos 0) (g *ℤ u) (t *ℤ
 part_of u g t n h l = by_lt_z (pos 0) u
     (λ p.
     let m = scaled g u p l in
-    (not_neg_of_mul u t p (omega (arith, ints, clamps, h.0, m, turned u t)), at_most u p (omega (arith, ints, clamps, h.1, m))))
+    (not_neg_of_mul u t p (omega (arith, ints, clamps, h.0, m, *ℤ_comm u t)), at_most u p (omega (arith, ints, clamps, h.1, m))))
     (λ p. ⊎_elim (λ e. absurd (n e)) (λ _.
     let d : pos 0 <ℤ neg_ℤ u = below p in
     let m = scaled g (neg_ℤ u) d l in
@@ -96,9 +96,6 @@ part_of u g t n h l = by_lt_z (pos 0) u
   where
     below : u ≤ℤ pos 0 → pos 0 <ℤ neg_ℤ u
     below p = by_lt_z u (pos 0) (λ q. omega (arith, ints)) (λ q. absurd (n (omega (arith, ints))))
-
-    turned : (u t : ℤ) → u *ℤ t ≡ t *ℤ u
-    turned u t = same_by (u ∷ t ∷ []) (mul (var 0) (var 1)) (mul (var 1) (var 0)) refl
 
     scaled : (g d : ℤ) → pos 0 <ℤ d → pos 0 ≤ℤ g → pos 0 ≤ℤ (g *ℤ d)
     scaled g d p l = mul_not_neg g d l (omega (arith, ints))

@@ -194,7 +194,8 @@ place_on_segment u w q h i = record {
     all_of : (d : ℤ) → pos 1 *ℤ d ≡ d *ℤ pos 1 +ℤ pos 0 *ℤ pos 1
     all_of d = omega (arith, ints)
 
-same_place : (u v d w : ℤ) → v ≤ℤ u → u ≤ℤ v → (int_min u v *ℤ d) ≤ℤ w → w ≤ℤ (int_max u v *ℤ d)
+-- what lies between two equal numbers is each of them
+pub same_place : (u v d w : ℤ) → v ≤ℤ u → u ≤ℤ v → (int_min u v *ℤ d) ≤ℤ w → w ≤ℤ (int_max u v *ℤ d)
     → w ≡ u *ℤ d
 same_place u v d w o i h k = both (rw (min_left u v i) at h) (rw (max_left u v o) at k)
   where

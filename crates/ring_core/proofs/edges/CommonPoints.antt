@@ -2,7 +2,7 @@
 use Rattle.std.proofs.Common.{◌≡◌, ◌⊎◌, ◌∙◌, sym, ap, arith, inl, inr, [], ◌∷◌, refl}
 use Rattle.std.proofs.lemmas.Int.{ints, by_lt_z, clamps}
 use Rattle.std.specs.Int.{int_min, int_max}
-use lib.IntN.{ℤ, pos, ◌-ℤ◌, ◌*ℤ◌, neg_ℤ}
+use lib.IntN.{ℤ, pos, ◌-ℤ◌, ◌*ℤ◌, neg_ℤ, *ℤ_comm}
 use lib.Signed.{◌<ℤ◌, ◌≤ℤ◌}
 use Rattle.geo_exact.specs.declared.corner.Corner.{Corner}
 use Rattle.geo_exact.specs.Point.{Point, corner_point}
@@ -126,14 +126,11 @@ crossed a b c d h s t u v =
 times-sub : (k m n : ℤ) → k *ℤ (m -ℤ n) ≡ k *ℤ m -ℤ k *ℤ n
 times-sub k m n = simp expand
 
-times_swap : (k m : ℤ) → k *ℤ m ≡ m *ℤ k
-times_swap k m = omega (arith, ints)
-
 -- n is to m as l is to k
 share : (k l m n : ℤ) → pos 0 <ℤ k → pos 0 ≤ℤ l → l ≤ℤ k → k *ℤ n ≡ m *ℤ l → ((pos 0 ≤ℤ n) × (n ≤ℤ m))
     ⊎ ((m ≤ℤ n) × (n ≤ℤ pos 0))
 share k l m n h p q e =
-    let whole : m *ℤ (k -ℤ l) ≡ k *ℤ (m -ℤ n) = omega (arith, ints, e, times-sub m k l, times-sub k m n, times_swap k m) in
+    let whole : m *ℤ (k -ℤ l) ≡ k *ℤ (m -ℤ n) = omega (arith, ints, e, times-sub m k l, times-sub k m n, *ℤ_comm k m) in
     by_lt_z m (pos 0)
     (λ o. let m_low : m ≤ℤ pos 0 = le_of_lt m (pos 0) o in
     let rest : (m *ℤ (k -ℤ l)) ≤ℤ pos 0 = mul_sinking m (k -ℤ l) m_low (omega (arith, ints)) in

@@ -13,13 +13,14 @@ use Rattle.geo_exact.specs.Rings.{Edge}
 use Rattle.geo_exact.specs.Turn.{IsOnEdge, IsOnSome, IsOnRing}
 use Rattle.geo_exact.specs.Winding.{IsInterior}
 use Rattle.geo_exact.proofs.numbers.Differences.{times_one}
+use Rattle.geo_exact.proofs.numbers.Signs.{mul_lt}
 use Rattle.geo_exact.proofs.corners_and_turns.Means.{edge_of_segment}
 use Rattle.geo_exact.proofs.rings.Ways.{winding_along}
-use Rattle.leaning_boxes.proofs.Besides.{less_scaled, not_beyond}
+use Rattle.leaning_boxes.proofs.Besides.{not_beyond}
 
 -- of two ranges of which one ends before the other begins, a number is beyond one
 beyond_one : (h l d z : ℤ) → pos 0 <ℤ d → h <ℤ l → (z <ℤ (l *ℤ d)) ⊎ ((h *ℤ d) <ℤ z)
-beyond_one h l d z p k = let m = less_scaled h l d p k in elim (cases_of (lt_z z (l *ℤ d)) (Decides-int_lt z (l *ℤ d))) [
+beyond_one h l d z p k = let m = mul_lt h l d p k in elim (cases_of (lt_z z (l *ℤ d)) (Decides-int_lt z (l *ℤ d))) [
   | inl q ↦ inl q
   | inr q ↦ inr (omega (arith, ints, q, m))
 ]

@@ -51,11 +51,11 @@ module _ (a b q : Corner) (x y : ℤ) where
       less_taken _ _ _ _ (falls (b.x -ℤ a.x) y q.y a.y (backward a.x b.x h) u) (falls (b.y -ℤ a.y) q.x x a.x (backward a.y b.y k) v)
 
 -- ---- coordinates, as the code passes them
-pub passed_below : (u v : ℤ) → IsWithin limit u → u ≤ℤ v → to_z w64 (of_z w64 u) ≤ℤ v
-passed_below u v w h = let f : FitsSigned w64 u = omega (arith, ints) in rw to_z-of_z h
+pub low_as_passed : (u v : ℤ) → IsWithin limit u → u ≤ℤ v → to_z w64 (of_z w64 u) ≤ℤ v
+low_as_passed u v w h = let f : FitsSigned w64 u = omega (arith, ints) in rw to_z-of_z h
 
-pub passed_above : (u v : ℤ) → IsWithin limit v → u ≤ℤ v → u ≤ℤ to_z w64 (of_z w64 v)
-passed_above u v w h = let f : FitsSigned w64 v = omega (arith, ints) in rw to_z-of_z h
+pub high_as_passed : (u v : ℤ) → IsWithin limit v → u ≤ℤ v → u ≤ℤ to_z w64 (of_z w64 v)
+high_as_passed u v w h = let f : FitsSigned w64 v = omega (arith, ints) in rw to_z-of_z h
 
 pub right_by : (u v z : ℤ) → u ≤ℤ v → z ≡ v → z <ℤ pos 0 → u <ℤ pos 0
 right_by u v z h e k = omega (arith, ints)

@@ -26,5 +26,6 @@ returns g c =
     let inv = c.loop-group.invariant in record {
       in_place = c.requires;
       as_many = omega (arith, inv.as_many);
-      have_blocks = λ i inside. inv.so_far i (omega (arith, first_inside (length c.args.corners.now) c.args.ends.now c.requires i inside)) inside;
+      have_blocks = λ i inside.
+          inv.so_far i (omega (arith, first_inside (length c.args.corners.now) c.args.ends.now c.requires i inside)) inside;
     }

@@ -1,7 +1,7 @@
 use Rattle.std.proofs.Common.{◌∙◌, ap, length, refl, subst, sym}
 use Rattle.std.specs.Prelude.{IsPermutation}
 use Rattle.ring_core.specs.own.ByPlace.{AreEdgesOf}
-use Rattle.leaning_boxes.proofs.Refilled.{refilled}
+use Rattle.geo_exact.proofs.numbers.Dropped.{refilled}
 use Rattle.ring_core.proofs.searches.PlacedEdges.{edges_permuted}
 use Rattle.ring_core.proofs.by_place.edges_by_place.Goals as goal
 

@@ -2,7 +2,7 @@ use Rattle.std.proofs.Common.{◌≡◌, ◌∙◌, ap, arith, length, subst, sy
 use Rattle.std.specs.List.{Contains}
 use Rattle.std.specs.List.Sorted.{IsPermutation}
 use Rattle.std.proofs.lemmas.List.Sorted.{Contains-permutation, IsPermutation-sym, length_permutation}
-use Rattle.leaning_boxes.proofs.Refilled.{refilled}
+use Rattle.geo_exact.proofs.numbers.Dropped.{refilled}
 use Rattle.edge_chains.proofs.tree.Tree.new.Goals as goal
 
 pub returns : goal.returns

@@ -2,7 +2,8 @@ use Rattle.std.proofs.Common.{◌≡◌, arith, FitsSigned}
 use Rattle.std.specs.Int.{w128, int_min, int_max}
 use Rattle.std.proofs.lemmas.Int.{ints, to_z-of_z}
 use Rattle.geo_exact.proofs.numbers.Within.{max_within, min_within}
-use Rattle.leaning_boxes.proofs.Held.{held_wider, least_kept, greatest_kept}
+use Rattle.geo_exact.proofs.boxes.InBoxes.{holds_wider}
+use Rattle.leaning_boxes.proofs.Held.{least_kept, greatest_kept}
 use Rattle.leaning_boxes.proofs.leaning.LeaningBox.around.Goals as goal
 
 pub invariant_of-result : goal.invariant_of-result
@@ -24,7 +25,7 @@ returns-clause-keeps c = λ other h.
     let box = c.args.self in
     let low : FitsSigned w128 box.low = omega (arith, ints, box.low_in_range.low, box.low_in_range.high) in
     let high : FitsSigned w128 box.high = omega (arith, ints, box.high_in_range.low, box.high_in_range.high) in record {
-      inside = held_wider box.bounds c.around.result other c.around.ensures.first h.inside;
+      inside = holds_wider box.bounds c.around.result c.around.ensures.first other h.inside;
       not_below = least_kept c.min.result box.low _ _ (record { sfits = c.min.type_inv }) low c.min.ensures.value h.not_below;
       not_above = greatest_kept c.max.result box.high _ _ (record { sfits = c.max.type_inv }) high c.max.ensures.value h.not_above;
     }
