@@ -18,4 +18,6 @@ mod refused_growths;
 #[cfg(test)]
 mod size;
 #[cfg(test)]
+mod taking;
+#[cfg(test)]
 mod write_rows;
