@@ -188,7 +188,7 @@ few_done task hand (Some id) kept tests stands is =
 -- so few tests are made that their number fits
 pub tests_fit : (task : Task) (hand : Standing) (kept new : List (ℕ × ℕ)) (tests more : ℕ) (id : ℕ) → IsTask task
     → IsHand task hand (Some id) kept tests
-    → KeepsPairs task id kept new more → tests + more ≤ 1000000000000
+    → KeepsPairs task id kept new more → tests + more ≤ LAYER_CORNERS * LAYER_CORNERS
 tests_fit task hand kept new tests more id stands is keeps =
     let after = hand_does task hand kept new tests more id stands is keeps in
     let long = few_claimed task hand (Some id) kept tests stands is in
