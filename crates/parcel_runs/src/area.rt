@@ -6,7 +6,7 @@ ghost use Rattle.shp_files.specs.LayerFile.{IsLayerFile, NumberedRing};
 ghost use Rattle.shp_files.specs.declared.fault.FileFault.{FileFault};
 ghost use Rattle.parcel_runs.specs.AreaReport.{WritesReport, WritesBeginning};
 ghost use Rattle.parcel_runs.specs.Sources.{index_of};
-ghost use Rattle.parcel_runs.specs.declared.fault.Role.{Role as RoleName};
+ghost use Rattle.parcel_runs.specs.declared.fault.Role.{Role};
 
 use crate::fault::ToolFault;
 use crate::report::area_text;
@@ -32,7 +32,7 @@ pub fn area<A: Allocator + Copy, W: ByteOut>(
         (WritesReport source.now.main.items (index_of source.now) unit (W.written out.old) (W.written out.new)) }
 
     // Files that are no layer are refused by their first fault, and nothing is written.
-    ensures file { (role : RoleName) (fault : FileFault) → IsErrOf result (ToolFault.File role fault)
+    ensures file { (role : Role) (fault : FileFault) → IsErrOf result (ToolFault.File role fault)
         → (role ≡ Role.File) × IsFirstFault source.now.main.items (index_of source.now) unit fault × (out.new ≡ out.old) }
     ensures refuses { (fault : FileFault) → IsFirstFault source.now.main.items (index_of source.now) unit fault
         → IsErrAnd result (λ told. (told ≡ ToolFault.File Role.File fault) ⊎ (told ≡ ToolFault.NoMemory)) }
