@@ -15,10 +15,16 @@ const MOST_DIRECTIONS: usize = 16;
 /// How many slow edges in one direction are worth putting all corners in order across it.
 const MANY: u64 = 256;
 
+/// In how many directions slow edges are counted at most.
+///
+/// The counts then begin anew, so that they need little memory where each edge has a direction of its own. Between two
+/// beginnings at least as many edges are slow: so a direction that one in 64 of them has comes to [`MANY`] before.
+const MOST_COUNTED: usize = 16_384;
+
 /// How many edges were slow, by the way of their steps across and up, in centimetres.
 type Counts<A> = HashMap<(i64, i64), u64, BuildHasherDefault<FoldHasher>, A>;
 
-/// The directions so far across which all corners are in order, and how many edges were slow in the others.
+/// The directions so far across which all corners are in order, and how many edges were slow in others of late.
 #[derive(Drop)]
 pub(crate) struct Directions<A: Allocator> {
     lines: Vec<Lines<A>, A>,
@@ -64,6 +70,9 @@ impl<A: Allocator + Copy> Directions<A> {
     {
         if self.lines.len() >= MOST_DIRECTIONS {
             return Ok(false);
+        }
+        if self.counts.len() >= MOST_COUNTED {
+            self.counts.clear();
         }
         let count = self.counts.entry((steps.across, steps.up))?.or_insert(0);
         *count = count.wrapping_add(1);

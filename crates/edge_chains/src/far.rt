@@ -144,9 +144,6 @@ impl<A: Allocator + Copy> Far<A> {
         if steps.count <= SOME_STEPS {
             return self.on_steps(a, b, steps);
         }
-        if self.tree.is_some() {
-            return self.slowly(a, b, steps);
-        }
         if !self.directions.count(steps)? {
             return self.slowly(a, b, steps);
         }

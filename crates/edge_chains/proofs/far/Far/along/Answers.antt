@@ -32,8 +32,8 @@ returns-in-Some-2-clause-found g c =
 
 pub returns-then-not-branch-clause-found : goal.returns-then-not-branch-clause-found
 returns-then-not-branch-clause-found g c =
-    IfOk-weaker c.slowly-then-not-branch.result _ _ (λ found h. subst (λ xs. AreInside xs c.args.a c.args.b found.items)
-    c.self.view_is h) c.slowly-then-not-branch.ensures.found
+    IfOk-weaker c.slowly.result _ _ (λ found h. subst (λ xs. AreInside xs c.args.a c.args.b found.items)
+    c.self.view_is h) c.slowly.ensures.found
 
 pub invariant_of-self-2 : goal.invariant_of-self-2
 invariant_of-self-2 g c =
