@@ -139,7 +139,8 @@ def band(count):
 
 def lattices(count, thin):
     """Rings of 4,095 corners at random places of a lattice that is fifty metres wide, each ring's elsewhere, in a square of ten
-    kilometres or in a slanted band that is two kilometres wide: edges of thousands of steps, each in a direction of its own."""
+    kilometres or in a slanted band that is two kilometres high at each x, so 392 metres across: edges of thousands of steps,
+    each in a direction of its own."""
     def make(folder):
         pick, wide, rings = random.Random(1), 5003, []
         along, across = (20000, 40) if thin else (200, 200)
@@ -153,6 +154,22 @@ def lattices(count, thin):
     return make
 
 
+def directions(count):
+    """Rings of 4,094 corners whose every other edge goes up a slanted fan in one of sixteen directions by 500,000 to a million
+    steps: the fan is so thin that boxes along the axes tell little."""
+    def make(folder):
+        pick, far, rings = random.Random(1), 500000, []
+        for _ in range(count):
+            ring = []
+            for _ in range(2047):
+                aside, up, low = 7 * pick.randrange(20000), 1281 + 2 * pick.randrange(16), pick.randrange(far)
+                for at in (low, low + far + pick.randrange(far)):
+                    ring.append((aside + 256 * at, up * at))
+            rings.append(ring)
+        layers(folder, box(0, 0, far, far), rings)
+    return make
+
+
 JOBS = (("city S", city("S")), ("city M", city("M")), ("city L", city("L")),
         ("city S, T", city("S", "--tjunction", "0.3")), ("city M, T", city("M", "--tjunction", "0.3")),
         ("city L, T", city("L", "--tjunction", "0.04")), ("city L, shuffled", shuffled),
@@ -160,7 +177,11 @@ JOBS = (("city S", city("S")), ("city M", city("M")), ("city L", city("L")),
         ("slanted strips", strips(5 * 10 ** 9, False)), ("slanted, shuffled", strips(5 * 10 ** 9, True)),
         ("strips, cut", cut(0)), ("slanted, cut", cut(5)),
         ("rows", rows), ("corner", corner), ("crossed", crossed), ("scattered", scattered),
-        ("band, 12 rings", band(12)), ("band, 24 rings", band(24)), ("band, 244 rings", band(244)))
+        ("band, 12 rings", band(12)), ("band, 24 rings", band(24)), ("band, 244 rings", band(244)),
+        ("lattices, band, 12", lattices(12, True)), ("lattices, band, 24", lattices(24, True)),
+        ("lattices, band, 49", lattices(49, True)), ("lattices, band, 244", lattices(244, True)),
+        ("lattices, 24", lattices(24, False)), ("lattices, 244", lattices(244, False)),
+        ("directions, 24", directions(24)), ("directions, 244", directions(244)))
 
 
 def apart(make, folder):

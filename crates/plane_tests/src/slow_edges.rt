@@ -28,11 +28,11 @@ fn banded(state: u64, is_flat: bool) -> Result<Corner, Fail> {
     }
 }
 
-/// A ring of 2,048 corners of the band, to and fro.
+/// A ring of 4,096 corners of the band, to and fro.
 fn tangled(alloc: Global, is_flat: bool) -> Result<Corners<Global>, Fail> {
     let mut list = Corners::new(alloc);
     let mut state = 1;
-    for _ in 0..2048 {
+    for _ in 0..4096 {
         state = drawn(state);
         list.push(banded(state, is_flat)?)?;
     }
@@ -47,9 +47,10 @@ fn plainly_inside(
     a: Corner,
     b: Corner,
 ) -> Result<Vec<Corner, Global>, AllocError> {
+    let (low, high) = if b < a { (b, a) } else { (a, b) };
     let mut inner = Vec::new(alloc);
     for corner in sorted {
-        if *corner != a && *corner != b && on_segment(a, b, *corner) {
+        if low < *corner && *corner < high && on_segment(a, b, *corner) {
             inner.push(*corner)?;
         }
     }
@@ -78,21 +79,53 @@ fn plainly_noded(alloc: Global, ring: &[Corner]) -> Result<Corners<Global>, Allo
     Ok(Corners::from_vec(noded))
 }
 
-/// The boxes along the axes tell little of such edges: after some 250 that are slow the leaning boxes are made, and
-/// a thousand more go through them.
+/// How many corners a ring has once its corners are inserted in its own edges; `None` where they are others than those
+/// that are found when each is tried.
+fn noded_count(alloc: Global, ring: Corners<Global>) -> Result<Option<usize>, AllocError> {
+    let want = plainly_noded(alloc, ring.as_slice())?;
+    let corners = Vec::from_slice(alloc, ring.as_slice())?;
+    let mut rings = Vec::new(alloc);
+    rings.push(ring)?;
+    let noded = node(alloc, &rings, &corners)?;
+    if noded.len() == 1 && noded[0] == want {
+        Ok(Some(want.len()))
+    } else {
+        Ok(None)
+    }
+}
+
+/// The boxes along the axes tell little of such edges: after 513 that are slow the leaning boxes are made, and 1,835
+/// edges go through them.
 #[test]
 fn nodes_a_tangled_band(rt: HostRuntime) -> Result<(), Fail> {
-    let alloc = rt.alloc();
     for is_flat in [false, true] {
-        let ring = tangled(alloc, is_flat)?;
-        let want = plainly_noded(alloc, ring.as_slice())?;
-        assert_eq!(rt; want.len(), 3391);
-        let corners = Vec::from_slice(alloc, ring.as_slice())?;
-        let mut rings = Vec::new(alloc);
-        rings.push(ring)?;
-        let noded = node(alloc, &rings, &corners)?;
-        assert_eq!(rt; noded.len(), 1);
-        assert!(rt; noded[0] == want);
+        let ring = tangled(rt.alloc(), is_flat)?;
+        assert_eq!(rt; noded_count(rt.alloc(), ring)?, Some(9791));
     }
+    Ok(())
+}
+
+/// A ring whose every other edge goes up a thin band in one of five directions, by 4,097 to 8,192 steps.
+fn slanted(alloc: Global) -> Result<Corners<Global>, Fail> {
+    let mut list = Corners::new(alloc);
+    let mut state = 1;
+    for place in 0..1500 {
+        state = drawn(state);
+        let [first, second, third, fourth, fifth, ..] = state.to_be_bytes();
+        let low = i64::from(u16::from_be_bytes([first & 15, second]));
+        let high = low + 4097 + i64::from(u16::from_be_bytes([third & 15, fourth]));
+        let (aside, up) = (7 * i64::from(fifth & 31), 1281 + 2 * (place % 5));
+        list.push(corner((aside + 256 * low, up * low))?)?;
+        list.push(corner((aside + 256 * high, up * high))?)?;
+    }
+    Ok(list)
+}
+
+/// The leaning boxes are made after 504 slow edges. Slow edges are counted by their directions nevertheless: after 256 in
+/// one, all corners are put in order across it. That comes about in each of the five, and 93 more edges are looked up so.
+#[test]
+fn nodes_edges_in_five_directions(rt: HostRuntime) -> Result<(), Fail> {
+    let ring = slanted(rt.alloc())?;
+    assert_eq!(rt; noded_count(rt.alloc(), ring)?, Some(16_759));
     Ok(())
 }
