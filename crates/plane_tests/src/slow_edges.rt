@@ -109,14 +109,14 @@ fn nodes_a_tangled_band(rt: HostRuntime) -> Result<(), Fail> {
 fn slanted(alloc: Global) -> Result<Corners<Global>, Fail> {
     let mut list = Corners::new(alloc);
     let mut state = 1;
-    for place in 0..1500 {
+    for place in 0..1500i64 {
         state = drawn(state);
         let [first, second, third, fourth, fifth, ..] = state.to_be_bytes();
         let low = i64::from(u16::from_be_bytes([first & 15, second]));
         let high = low + 4097 + i64::from(u16::from_be_bytes([third & 15, fourth]));
         let (aside, up) = (7 * i64::from(fifth & 31), 1281 + 2 * (place % 5));
-        list.push(corner((aside + 256 * low, up * low))?)?;
-        list.push(corner((aside + 256 * high, up * high))?)?;
+        list.push(corner((aside + 256 * low, up.wrapping_mul(low)))?)?;
+        list.push(corner((aside + 256 * high, up.wrapping_mul(high)))?)?;
     }
     Ok(list)
 }
