@@ -80,8 +80,14 @@ impl<A: Allocator + Copy> Blocks<A> {
         )
     }
 
-    /// Those of the corners that are in a box, in the order of the list; `None` where they are more than `most`.
-    pub fn within(&self, bounds: &Bounds, most: usize) -> Result<Option<Vec<Corner, A>>, AllocError>
+    /// Those of the corners that are in a box, in the order of the list; `None` where they are more than `most`, or
+    /// more than `most_off` blocks lie off it.
+    pub fn within(
+        &self,
+        bounds: &Bounds,
+        most: usize,
+        most_off: usize,
+    ) -> Result<Option<Vec<Corner, A>>, AllocError>
         ensures { IfOk result (λ few. IfSome few (λ found.
             found.items ≡ filter (λ c. holds_corner bounds.now c) self.now)) }
     {
@@ -91,7 +97,7 @@ impl<A: Allocator + Copy> Blocks<A> {
             &self.ends,
             &self.boxes,
             bounds,
-            most,
+            (most, most_off),
         )
     }
 }
@@ -215,26 +221,32 @@ fn collect<A: Allocator + Copy>(
     Ok(Some(found))
 }
 
-/// Those of the corners that are in a box, in the order of the list; `None` where they are more than `most`.
+/// Those of the corners that are in a box, in the order of the list; `None` where they are more than the first of
+/// `most`.
 ///
-/// A block whose own box is off this one is passed over.
+/// A block whose own box is off this one is passed over; `None` where they are more than the second of `most`.
 fn collect_few<A: Allocator + Copy>(
     alloc: A,
     corners: &[Corner],
     ends: &[usize],
     boxes: &[Bounds],
     bounds: &Bounds,
-    most: usize,
+    most: (usize, usize),
 ) -> Result<Option<Vec<Corner, A>>, AllocError>
     requires { AreBlocks corners.now ends.now boxes.now }
     ensures { IfOk result (λ few. IfSome few (λ found.
         found.items ≡ filter (λ c. holds_corner bounds.now c) corners.now)) }
 {
+    let (most, mut left) = most;
     let mut found = Vec::with_capacity(alloc, most)?;
     let mut at = 0;
     while at < corners.len() {
         let group = at / GROUP;
         if at % GROUP == 0 && are_disjoint(boxes[group], *bounds) {
+            if left == 0 {
+                return Ok(None);
+            }
+            left -= 1;
             at = ends[group];
         } else {
             let corner = corners[at];

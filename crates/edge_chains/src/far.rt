@@ -77,12 +77,18 @@ impl<A: Allocator + Copy> Far<A> {
         })
     }
 
-    /// Those of the corners that are in a box, in the order of the list; `None` where they are more than `most`.
-    pub fn within(&self, bounds: &Bounds, most: usize) -> Result<Option<Vec<Corner, A>>, AllocError>
+    /// Those of the corners that are in a box, in the order of the list; `None` where they are more than `most`, or
+    /// more than `most_off` blocks lie off it.
+    pub fn within(
+        &self,
+        bounds: &Bounds,
+        most: usize,
+        most_off: usize,
+    ) -> Result<Option<Vec<Corner, A>>, AllocError>
         ensures { IfOk result (λ few. IfSome few (λ found.
             found.items ≡ filter (λ c. holds_corner bounds.now c) self.now)) }
     {
-        self.blocks.within(bounds, most)
+        self.blocks.within(bounds, most, most_off)
     }
 
     /// Those of the corners that lie strictly inside the edge from a to b, in any order.

@@ -13,6 +13,11 @@ use std::marker::Model;
 /// How many of the corners ahead a box is put round.
 const AHEAD: usize = 16;
 
+/// How many blocks off the box are passed over at most, for each edge that it may serve, while its corners are looked
+/// up: some ten times as many as in a city. A box as tall as all the corners lies beside many more, and where its ring
+/// has few corners, each edge is searched by itself in less time.
+const BLOCKS_AN_EDGE: usize = 256;
+
 /// How many corners a box that is kept has at most.
 const MOST: usize = 64;
 
@@ -73,7 +78,7 @@ impl<A: Allocator + Copy> Search<A> {
         ensures found { IfOk result (λ found. AreInside self.old from to found.items) }
     {
         if !covers(self.bounds, from, to) {
-            self.move_to(bounds_of(from, to, ahead))?;
+            self.move_to(from, to, ahead)?;
         }
         if covers(self.bounds, from, to) {
             inside_of(*self.near.allocator(), &self.near, from, to)
@@ -82,15 +87,17 @@ impl<A: Allocator + Copy> Search<A> {
         }
     }
 
-    /// Keeps the corners of another box, where they are few.
-    fn move_to(&mut self, bounds: Bounds) -> Result<(), AllocError>
+    /// Keeps the corners of a box round the edge and the corners ahead, where they are few.
+    fn move_to(&mut self, from: Corner, to: Corner, ahead: &[Corner]) -> Result<(), AllocError>
         ensures { self.new ≡ self.old }
     {
         if self.left > 0 {
             self.left -= 1;
             return Ok(());
         }
-        if let Some(near) = self.far.within(&bounds, MOST)? {
+        let bounds = bounds_of(from, to, ahead);
+        let most_off = BLOCKS_AN_EDGE * (1 + ahead.len().min(AHEAD));
+        if let Some(near) = self.far.within(&bounds, MOST, most_off)? {
             self.bounds = bounds;
             self.near = near;
             self.rest = 0;

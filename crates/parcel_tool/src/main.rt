@@ -1,11 +1,6 @@
 //! `parcel_tool`: exact answers about the parcel layers of a land registry.
 #![tactic(auto)]
 
-mod arguments;
-#[cfg(test)]
-mod tests;
-
-use arguments::{Inputs, Points, Request, Workers};
 use clap::Error;
 use clap::error::ErrorKind;
 use geo_exact::{ByteOut, Counted};
@@ -25,6 +20,7 @@ use std::rt::{Env, Files};
 use std::sync::Wait;
 use std::thread::Threads;
 use std::{env, io};
+use tool_arguments::{Inputs, Points, Request, Workers};
 
 /// The status of a run that a fault ended.
 const FAULT: u8 = 1;
@@ -37,7 +33,7 @@ fn main(rt: HostRuntime) -> ExitCode {
         Ok(words) => words,
         Err(error) => return end_unread(&rt, &error),
     };
-    match arguments::parse(rt.alloc(), words.as_slice()) {
+    match tool_arguments::parse(rt.alloc(), words.as_slice()) {
         Ok(request) => match answer(&rt, request) {
             Ok(()) => ExitCode::SUCCESS,
             Err(fault) => end_by_fault(&rt, &fault),

@@ -3,14 +3,14 @@ ghost use Rattle.clap.specs.Words.{first_value, found_of};
 ghost use Rattle.geo_exact.specs.declared.corner.Corner.{Corner};
 ghost use Rattle.overlay_work.specs.declared.round.TheConstants.{MOST_HANDS};
 ghost use Rattle.line_files.specs.TextNumbers.{AreCornerWords};
-ghost use Rattle.parcel_tool.specs.Arguments.{unit_word};
+ghost use Rattle.tool_arguments.specs.Arguments.{unit_word};
 ghost use Rattle.geo_exact.specs.declared.coord.Unit.{Unit as LengthUnit};
 
 use clap::error::ErrorKind;
 use clap::{Arg, ArgAction, ArgGroup, ArgMatches, Command, Error, value_parser};
 use geo_exact::{Corners, Unit};
+use line_files::read_corner;
 use overlay_work::MOST_HANDS;
-use parcel_runs::read_corner;
 use std::alloc::{AllocError, Global};
 use std::convert::AsStr;
 

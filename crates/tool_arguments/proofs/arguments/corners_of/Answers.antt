@@ -1,8 +1,8 @@
 use Rattle.std.proofs.Common.{◌≡◌, [], drop, ◌+◌, ◌*◌, refl, arith}
 use Rattle.std.proofs.lemmas.List.{drop_all}
 use Rattle.line_files.proofs.CornerWords.{all_read}
-use Rattle.parcel_tool.proofs.CornerWords.{odd_words, two_left, more_corners, no_corner}
-use Rattle.parcel_tool.proofs.arguments.corners_of.Goals as goal
+use Rattle.tool_arguments.proofs.CornerWords.{odd_words, two_left, more_corners, no_corner}
+use Rattle.tool_arguments.proofs.arguments.corners_of.Goals as goal
 
 pub returns-then-words-ne0-clause-none : goal.returns-then-words-ne0-clause-none
 returns-then-words-ne0-clause-none c = λ list h. odd_words (λ word. word.now) c.args.words.now list c.if-words-ne0.true h

@@ -1,7 +1,7 @@
-use crate::arguments::{Points, Request, parse};
 use clap::error::ErrorKind;
 use geo_exact::{Corner, LIMIT, Unit};
 use std::test::Fail;
+use tool_arguments::{Points, Request, parse};
 
 #[test]
 fn reads_requests(rt: HostRuntime) -> Result<(), Fail> {

@@ -1,3 +1,0 @@
-//! How command lines are read and refused.
-
-mod command_lines;

@@ -1,0 +1,6 @@
+//! The command line of `parcel_tool`: what its words ask for.
+#![tactic(auto)]
+
+mod arguments;
+
+pub use arguments::{Inputs, Points, Request, Workers, parse};
