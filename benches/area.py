@@ -9,7 +9,7 @@ calls without the command line, so that the crates above need no proof for it. `
 Inputs, made in a temporary folder with a fixed seed: city L (65,536 records, 917,504 corners, 19.4 MB), and the same
 layer padded to 64 MiB with bytes behind its declared end, which every reader ignores. Each job is one process, run N
 times in turn with the others (so that all see the same noise); the best time and the largest memory are printed.
-Plain C is areas.c, by gcc: once with no ring kept, and once with all rings kept, as ours are. What it prints must be
+Plain C is areas.c, by gcc: once with no ring kept, as ours does, and once with all rings kept. What it prints must be
 what ours prints. GDAL is `ogr2ogr` of Debian's package gdal-bin; without it that row is left out, and without gcc C's.
 """
 import argparse, hashlib, os, shutil, subprocess, sys, tempfile, time

@@ -1,8 +1,8 @@
 // areas.c - the areas of a layer in plain C: reads a main file and its index file beside it, in centimetres, and prints for
 // each polygon its record's number and twice its area without sign, as parcel_tool does.
 //
-//   areas sums MAIN        sums the areas as it reads, and keeps no ring
-//   areas rings MAIN       keeps all rings first, as parcel_tool does
+//   areas sums MAIN        sums the areas as it reads, and keeps no ring, as parcel_tool does
+//   areas rings MAIN       keeps all rings first
 //
 // The files are read whole by `read`, a coordinate is a double that must be a whole number, and areas are 128-bit sums. It
 // tests no more than that a record lies in the file, so it is what the reading has to do at least, and no program to trust.

@@ -3,11 +3,12 @@
 ghost use Rattle.std.specs.Prelude.{⊤};
 
 use geo_exact::{RawRing, Unit, area2};
-use shp_files::{FaultKind, FileFault, FileName, LayerFault, TakeEach, read_rings};
+use shp_files::{FaultKind, FileFault, FileName, LayerFault, TakeEach, read_each};
 use std::alloc::{AllocError, Global};
 use test_builders::{behind_a_null_shape, index_of};
 
 /// How many rings there were, and the number and twice the area of the last.
+#[derive(Drop)]
 struct Seen {
     count: u32,
     last: (u32, i128),
@@ -29,7 +30,7 @@ fn seen_with(alloc: Global, index: &[u8]) -> (Result<(), LayerFault>, Seen) {
         count: 0,
         last: (0, 0),
     };
-    let answer = read_rings(
+    let answer = read_each(
         alloc,
         &behind_a_null_shape(),
         Some(index),

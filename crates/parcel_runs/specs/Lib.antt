@@ -1,5 +1,4 @@
 pub mod AreaReport
-pub mod Faults
 pub mod Sources
 pub mod TilingFiles
 pub mod CheckReport

@@ -3,7 +3,7 @@ ghost use Rattle.std.specs.Option.{option_copied};
 ghost use Rattle.shp_files.specs.LayerFile.{IsLayerFile, NumberedRing, rings_of};
 ghost use Rattle.shp_files.specs.FirstFault.{IsFirstFault};
 ghost use Rattle.shp_files.specs.declared.fault.FileFault.{FileFault};
-ghost use Rattle.parcel_runs.specs.Faults.{IsLayerFault, layer_fault};
+ghost use Rattle.parcel_runs.specs.own.LayerFaults.{IsLayerFault, layer_fault};
 
 use crate::fault::{Role, ToolFault};
 use geo_exact::{RawRing, Unit};

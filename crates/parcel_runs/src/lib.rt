@@ -27,7 +27,6 @@ mod zoned;
 
 pub use clerks::{CLERKS, refuse_many_clerks};
 pub use fault::{Role, ToolFault};
-pub use line_files::{PointsFault, read_corner, read_points};
 pub use replace::replace_layer;
 pub use sources::{Disk, Folder, PathFault, Source, StandardInput, read_source, read_text};
 pub use text_puts::put_all;

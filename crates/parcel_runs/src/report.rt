@@ -1,16 +1,17 @@
-ghost use Rattle.std.specs.Prelude.{◌≡◌, ◌⊎◌, ◌++◌, [], ℕ, List, OnOk, IfOk, IfErr, IsErrAnd};
+ghost use Rattle.std.specs.Prelude.{◌≡◌, ◌⊎◌, ◌++◌, [], List, OnOk, IfOk, IfErr, IsErrAnd};
 ghost use Rattle.std.specs.Option.{option_copied};
 ghost use Rattle.shp_files.specs.FirstFault.{IsFirstFault};
 ghost use Rattle.shp_files.specs.LayerFile.{IsLayerFile, NumberedRing, numbered, rings_of};
 ghost use Rattle.shp_files.specs.declared.fault.FileFault.{FileFault};
-ghost use Rattle.parcel_runs.specs.AreaReport.{IsReport, area_line, area_report};
-ghost use Rattle.parcel_runs.specs.Faults.{IsLayerFault};
+ghost use Rattle.parcel_runs.specs.AreaReport.{area_line, area_report};
+ghost use Rattle.parcel_runs.specs.own.AreaTexts.{IsAreaReport};
+ghost use Rattle.parcel_runs.specs.own.LayerFaults.{IsLayerFault};
 
 use crate::fault::{Role, ToolFault};
 use crate::layers::told;
 use geo_exact::{RawRing, Unit, area2};
 use itoa::Buffer;
-use shp_files::{TakeEach, read_rings};
+use shp_files::{TakeEach, read_each};
 use std::alloc::{AllocError, Allocator};
 
 /// The report of an area run: a line for each ring that it has taken, in order. The rings are not kept.
@@ -44,7 +45,7 @@ pub fn area_text<A: Allocator + Copy>(
     index: Option<&[u8]>,
     unit: Unit,
 ) -> Result<Vec<u8, A>, ToolFault<'static>>
-    ensures ok { IfOk result (λ text. IsReport main.now (option_copied index.entry) unit text.items) }
+    ensures ok { IfOk result (λ text. IsAreaReport main.now (option_copied index.entry) unit text.items) }
     ensures err { IfErr result (IsLayerFault Role.File main.now (option_copied index.entry) unit) }
     // A layer is reported, unless memory runs out.
     ensures reads { (rings : List NumberedRing) → IsLayerFile main.now (option_copied index.entry) unit rings
@@ -54,7 +55,7 @@ pub fn area_text<A: Allocator + Copy>(
         → IsErrAnd result (λ told. (told ≡ ToolFault.File Role.File fault) ⊎ (told ≡ ToolFault.NoMemory)) }
 {
     let mut report = AreaText::new(alloc);
-    match read_rings(alloc, main, index, unit, &mut report) {
+    match read_each(alloc, main, index, unit, &mut report) {
         Ok(()) => Ok(report.text),
         Err(fault) => Err(told(Role::File, fault)),
     }

@@ -1,4 +1,4 @@
--- What takes a layer's rings, one after the other, while its files are read.
+-- What takes a layer's rings, one after the other, while its files are read (this product's own).
 use Rattle.std.specs.Prelude.{◌≡◌, ℕ, List, Option}
 use Rattle.geo_exact.specs.declared.coord.Unit.{Unit as LengthUnit}
 use Rattle.geo_exact.specs.declared.raw_ring.RawRing.{RawRing}

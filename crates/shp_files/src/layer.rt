@@ -56,12 +56,12 @@ pub fn read_layer<A: Allocator + Copy>(
     let mut list = RingList {
         rings: Vec::new(alloc),
     };
-    read_rings(alloc, main, index, unit, &mut list)?;
+    read_each(alloc, main, index, unit, &mut list)?;
     Ok(list.rings)
 }
 
 /// Reads the rings of a layer as [`read_layer`] does, and hands each on as soon as it is read: nothing else of the
-/// layer is kept. Rings that were handed on before a fault was found are those of no layer.
+/// layer is kept. `rings` has taken none yet. Those that it took before a fault was found are the rings of no layer.
 ///
 /// # Errors
 ///
@@ -69,9 +69,9 @@ pub fn read_layer<A: Allocator + Copy>(
 ///
 /// ```
 /// let mut report = AreaText::new(alloc);
-/// read_rings(alloc, main.as_slice(), Some(index.as_slice()), Unit::Cm, &mut report)?;
+/// read_each(alloc, main.as_slice(), Some(index.as_slice()), Unit::Cm, &mut report)?;
 /// ```
-pub fn read_rings<A: Allocator + Copy, T: TakeEach<RawRing<A>>>(
+pub fn read_each<A: Allocator + Copy, T: TakeEach<RawRing<A>>>(
     alloc: A,
     main: &[u8],
     index: Option<&[u8]>,

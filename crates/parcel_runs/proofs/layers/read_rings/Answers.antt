@@ -1,5 +1,5 @@
 use Rattle.std.proofs.Common.{◌∙◌, ap}
-use Rattle.parcel_runs.specs.Faults.{layer_fault}
+use Rattle.parcel_runs.specs.own.LayerFaults.{layer_fault}
 use Rattle.parcel_runs.proofs.layers.read_rings.Goals as goal
 
 pub returns-in-Err-clause-reads : goal.returns-in-Err-clause-reads

@@ -1,5 +1,5 @@
 use Rattle.std.proofs.Common.{◌∙◌, ap}
-use Rattle.parcel_runs.specs.Faults.{layer_fault}
+use Rattle.parcel_runs.specs.own.LayerFaults.{layer_fault}
 use Rattle.parcel_runs.specs.declared.fault.Role.TheVariants.{File}
 use Rattle.parcel_runs.proofs.report.area_text.Goals as goal
 

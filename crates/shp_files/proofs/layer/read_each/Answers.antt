@@ -1,6 +1,6 @@
 use Rattle.std.specs.Prelude.{option_copied}
 use Rattle.shp_files.proofs.lines.Answered.{layer_is_answered, fault_is_answered}
-use Rattle.shp_files.proofs.layer.read_rings.Goals as goal
+use Rattle.shp_files.proofs.layer.read_each.Goals as goal
 
 pub returns-clause-reads : goal.returns-clause-reads
 returns-clause-reads g c = λ rings file.

@@ -1,4 +1,4 @@
--- The faults that end a run (this product's own).
+-- Why the files of a layer were not read, as the code's own functions hand it on: no public contract speaks of it.
 use Rattle.std.specs.Prelude.{◌≡◌, ℕ, List, Option}
 use Rattle.geo_exact.specs.declared.coord.Unit.{Unit as LengthUnit}
 use Rattle.shp_files.specs.FirstFault.{IsFirstFault}
