@@ -21,7 +21,7 @@ pub use decided::a_text_is_a_layer_or_has_a_fault;
 pub use fault::{FaultKind, FileFault, FileName, LayerFault};
 pub use layer::{
     a_layer_file_has_no_fault, a_layer_file_has_one_list_of_rings, a_text_has_one_first_fault,
-    read_layer, read_each,
+    read_each, read_layer,
 };
 pub use limits::a_layer_file_is_within_the_limits;
 pub use source::{ReadFault, read_all};
