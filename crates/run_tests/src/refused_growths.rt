@@ -157,7 +157,7 @@ fn tells_each_refused_growth(rt: HostRuntime) -> Result<(), Fail> {
             }
             growths = number;
         }
-        assert!(rt; growths > 2 && growths < MOST - 1);
+        assert!(rt; growths > 1 && growths < MOST - 1);
     }
     Ok(())
 }
