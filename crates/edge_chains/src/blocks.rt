@@ -37,7 +37,7 @@ impl<A: Allocator + Copy> Blocks<A> {
     pub fn new(alloc: A, corners: &[Corner]) -> Result<Blocks<A>, AllocError>
         ensures { IfOk result (λ blocks. (c : Corner) → Contains blocks c ↔ Contains corners.now c) }
     {
-        let corners = spread(alloc, corners)?;
+        let corners = by_place(alloc, corners)?;
         let ends = block_ends(alloc, corners.len())?;
         let boxes = block_boxes(alloc, &corners, &ends)?;
         Ok(Blocks {
@@ -81,7 +81,7 @@ impl<A: Allocator + Copy> Blocks<A> {
     }
 
     /// Those of the corners that are in a box, in the order of the list; `None` where they are more than `most`, or
-    /// more than `most_off` blocks lie off it.
+    /// more than `most_off` blocks that lie off it are passed over before all are found.
     pub fn within(
         &self,
         bounds: &Bounds,
@@ -111,14 +111,14 @@ struct Placed {
 }
 
 /// The corners, so ordered that neighbours in the list are close to each other in the plane.
-fn spread<A: Allocator + Copy>(alloc: A, corners: &[Corner]) -> Result<Vec<Corner, A>, AllocError>
-    ensures { IfOk result (λ spread. (c : Corner) → Contains spread.items c ↔ Contains corners.now c) }
+fn by_place<A: Allocator + Copy>(alloc: A, corners: &[Corner]) -> Result<Vec<Corner, A>, AllocError>
+    ensures { IfOk result (λ ordered. (c : Corner) → Contains ordered.items c ↔ Contains corners.now c) }
 {
     let mut placed = with_places(alloc, corners)?;
     placed.sort_unstable_by_key(|it| it.place);
-    let mut spread = corners_of(alloc, corners, &placed, Corner { x: 0, y: 0 })?;
-    spread.dedup();
-    Ok(spread)
+    let mut ordered = corners_of(alloc, corners, &placed, Corner { x: 0, y: 0 })?;
+    ordered.dedup();
+    Ok(ordered)
 }
 
 /// Where corners are listed, beside their places.
@@ -167,11 +167,11 @@ fn corner_at(corners: &[Corner], index: usize, none: Corner) -> Corner
 fn place_of(corner: Corner) -> u64 {
     let across = (corner.x + LIMIT) as u64 >> 3;
     let up = (corner.y + LIMIT) as u64 >> 3;
-    apart(across) | apart(up) << 1
+    spread(across) | spread(up) << 1
 }
 
 /// The low 32 bits of a number, each with an empty one before it.
-fn apart(number: u64) -> u64 {
+fn spread(number: u64) -> u64 {
     let mut bits = number & 0xffff_ffff;
     bits = (bits | bits << 16) & 0x0000_ffff_0000_ffff;
     bits = (bits | bits << 8) & 0x00ff_00ff_00ff_00ff;
@@ -224,7 +224,7 @@ fn collect<A: Allocator + Copy>(
 /// Those of the corners that are in a box, in the order of the list; `None` where they are more than the first of
 /// `most`.
 ///
-/// A block whose own box is off this one is passed over; `None` where they are more than the second of `most`.
+/// A block whose own box is off this one is passed over; `None` where more than the second of `most` are.
 fn collect_few<A: Allocator + Copy>(
     alloc: A,
     corners: &[Corner],

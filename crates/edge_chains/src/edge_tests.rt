@@ -1,5 +1,5 @@
 //! Which corners a box shows to lie strictly inside an edge, or not to.
-ghost use Rattle.std.specs.Prelude.{◌≡◌, ℤ, pos, ◌-ℤ◌, int_le, ◌&&◌, IsTrue, false, not};
+ghost use Rattle.std.specs.Prelude.{◌≡◌, pos, ◌-ℤ◌, int_le, ◌&&◌, IsTrue, false, not};
 ghost use Rattle.std.specs.Ordering.{int_eq};
 ghost use Rattle.geo_exact.specs.Limit.{IsWithin, limit};
 ghost use Rattle.geo_exact.specs.Bounds.{HoldsCorner, holds_corner, is_from_to as from_to};

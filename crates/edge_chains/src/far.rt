@@ -25,10 +25,11 @@ const MANY_STEPS: u64 = 4096;
 /// there.
 const SOME_STEPS: u64 = 512;
 
-/// How many places are looked up in all, for each corner, before the leaning boxes are made.
+/// How much slow edges cost in all, for each corner, before the leaning boxes are made: about what making them does.
 const WORTH: usize = 64;
 
-/// The part of all corners, one of so many, to which an edge that is searched otherwise comes.
+/// Of all corners one in so many is what an edge is reckoned to cost that is not looked up step by step; one that is
+/// costs as much as it has steps.
 const DEAR: usize = 8;
 
 /// How many boxes of the tree are looked at before an edge is slow, and what part of all corners
@@ -48,7 +49,7 @@ pub(crate) struct Far<A: Allocator> {
     points: Option<Points<A>>,
     directions: Directions<A>,
     tree: Option<Tree<A>>,
-    looked_up: usize,
+    cost: usize,
 }
 
 impl<A: Allocator> Model for Far<A> {
@@ -73,12 +74,12 @@ impl<A: Allocator + Copy> Far<A> {
             points: None,
             directions: Directions::new(alloc),
             tree: None,
-            looked_up: 0,
+            cost: 0,
         })
     }
 
     /// Those of the corners that are in a box, in the order of the list; `None` where they are more than `most`, or
-    /// more than `most_off` blocks lie off it.
+    /// more than `most_off` blocks that lie off it are passed over before all are found.
     pub fn within(
         &self,
         bounds: &Bounds,
@@ -170,14 +171,14 @@ impl<A: Allocator + Copy> Far<A> {
             return tree.inside(alloc, a, b);
         }
         let count = self.blocks.corners().len();
-        if self.looked_up / WORTH < count {
+        if self.cost / WORTH < count {
             let few = steps.count <= MANY_STEPS;
             let more = if few {
                 steps.count as usize
             } else {
                 count / DEAR
             };
-            self.looked_up = self.looked_up.saturating_add(more);
+            self.cost = self.cost.saturating_add(more);
             return if few {
                 self.on_steps(a, b, steps)
             } else {

@@ -21,14 +21,15 @@ const BLOCKS_AN_EDGE: usize = 256;
 /// How many corners a box that is kept has at most.
 const MOST: usize = 64;
 
-/// After how many edges at most a box is tried again where the last ones had too many corners.
+/// After how many edges at most a box is tried again where the last ones had too many corners, or too many blocks
+/// beside them.
 const MOST_REST: usize = 31;
 
 /// Corners for many searches, as a list in some order.
 ///
 /// Edges that follow each other are close to each other. So the corners of a box round the next edges are kept, where
-/// they are few, and an edge in that box is searched among them alone. Where box after box has too many corners, some
-/// edges go by, more each time, before the next is tried.
+/// they are few, and an edge in that box is searched among them alone. Where box after box has too many corners, or too
+/// many blocks lie beside it, some edges go by, more each time, before the next is tried.
 #[derive(Drop)]
 pub(crate) struct Search<A: Allocator> {
     far: Far<A>,
@@ -87,7 +88,7 @@ impl<A: Allocator + Copy> Search<A> {
         }
     }
 
-    /// Keeps the corners of a box round the edge and the corners ahead, where they are few.
+    /// Keeps the corners of a box round the edge and the corners ahead, where they are few and found soon.
     fn move_to(&mut self, from: Corner, to: Corner, ahead: &[Corner]) -> Result<(), AllocError>
         ensures { self.new ≡ self.old }
     {
