@@ -1,45 +1,48 @@
 use clap::error::ErrorKind;
-use geo_exact::{Corner, LIMIT, Unit};
+use geo_exact::{Corner, LIMIT};
 use std::test::Fail;
 use tool_arguments::{Points, Request, parse};
 
+/// Command lines, and what each asks for.
+const REQUESTS: [(&str, &str); 8] = [
+    (
+        "parcel_tool area city.shp --unit cm",
+        "Area { main: \"city.shp\", unit: Cm }",
+    ),
+    (
+        "parcel_tool area --unit=m -- --unit",
+        "Area { main: \"--unit\", unit: M }",
+    ),
+    (
+        "parcel_tool check --unit m a.shp b.shp",
+        "Check { inputs: Inputs { city: \"a.shp\", parcels: \"b.shp\", unit: M, clerks: [] }, all: false }",
+    ),
+    (
+        "parcel_tool check a --clerk d --all b --unit cm --clerk c",
+        "Check { inputs: Inputs { city: \"a\", parcels: \"b\", unit: Cm, clerks: [\"d\", \"c\"] }, all: true }",
+    ),
+    (
+        "parcel_tool export a b --unit cm --out new/town --clerk c",
+        "Export { inputs: Inputs { city: \"a\", parcels: \"b\", unit: Cm, clerks: [\"c\"] }, base: \"new/town\" }",
+    ),
+    (
+        "parcel_tool locate --points - a b --unit m --clerk c --clerk c",
+        "Locate { inputs: Inputs { city: \"a\", parcels: \"b\", unit: M, clerks: [\"c\", \"c\"] }, points: File(\"-\") }",
+    ),
+    (
+        "parcel_tool overlay a b c --unit cm --clerk d",
+        "Overlay { inputs: Inputs { city: \"a\", parcels: \"b\", unit: Cm, clerks: [\"d\"] }, \
+         zones: \"c\", workers: Workers { count: 4 } }",
+    ),
+    (
+        "parcel_tool overlay a --workers 64 b c --unit m",
+        "Overlay { inputs: Inputs { city: \"a\", parcels: \"b\", unit: M, clerks: [] }, zones: \"c\", workers: Workers { count: 64 } }",
+    ),
+];
+
 #[test]
 fn reads_requests(rt: HostRuntime) -> Result<(), Fail> {
-    for (line, want) in [
-        (
-            "parcel_tool area city.shp --unit cm",
-            "Area { main: \"city.shp\", unit: Cm }",
-        ),
-        (
-            "parcel_tool area --unit=m -- --unit",
-            "Area { main: \"--unit\", unit: M }",
-        ),
-        (
-            "parcel_tool check --unit m a.shp b.shp",
-            "Check { inputs: Inputs { city: \"a.shp\", parcels: \"b.shp\", unit: M, clerks: [] }, all: false }",
-        ),
-        (
-            "parcel_tool check a --clerk d --all b --unit cm --clerk c",
-            "Check { inputs: Inputs { city: \"a\", parcels: \"b\", unit: Cm, clerks: [\"d\", \"c\"] }, all: true }",
-        ),
-        (
-            "parcel_tool export a b --unit cm --out new/town --clerk c",
-            "Export { inputs: Inputs { city: \"a\", parcels: \"b\", unit: Cm, clerks: [\"c\"] }, base: \"new/town\" }",
-        ),
-        (
-            "parcel_tool locate --points - a b --unit m --clerk c --clerk c",
-            "Locate { inputs: Inputs { city: \"a\", parcels: \"b\", unit: M, clerks: [\"c\", \"c\"] }, points: File(\"-\") }",
-        ),
-        (
-            "parcel_tool overlay a b c --unit cm --clerk d",
-            "Overlay { inputs: Inputs { city: \"a\", parcels: \"b\", unit: Cm, clerks: [\"d\"] }, \
-             zones: \"c\", workers: Workers { count: 4 } }",
-        ),
-        (
-            "parcel_tool overlay a --workers 64 b c --unit m",
-            "Overlay { inputs: Inputs { city: \"a\", parcels: \"b\", unit: M, clerks: [] }, zones: \"c\", workers: Workers { count: 64 } }",
-        ),
-    ] {
+    for (line, want) in REQUESTS {
         let words: Vec<&str> = line.split(' ').collect(rt.alloc())?;
         match parse(rt.alloc(), words.as_slice()) {
             Ok(request) => {
@@ -72,70 +75,73 @@ fn reads_points(rt: HostRuntime) -> Result<(), Fail> {
     }
 }
 
+/// Command lines that are refused: the kind of error, and what its text says.
+const REFUSED: [(&str, ErrorKind, &str); 12] = [
+    (
+        "parcel_tool",
+        ErrorKind::DisplayHelpOnMissingArgumentOrSubcommand,
+        "Usage: parcel_tool <COMMAND>",
+    ),
+    (
+        "parcel_tool measure",
+        ErrorKind::InvalidSubcommand,
+        "'measure'",
+    ),
+    (
+        "parcel_tool area a.shp",
+        ErrorKind::MissingRequiredArgument,
+        "--unit <UNIT>",
+    ),
+    (
+        "parcel_tool area --unit cm",
+        ErrorKind::MissingRequiredArgument,
+        "<MAIN>",
+    ),
+    (
+        "parcel_tool area a.shp --unit mm",
+        ErrorKind::InvalidValue,
+        "[possible values: cm, m]",
+    ),
+    (
+        "parcel_tool export a.shp b.shp --unit cm",
+        ErrorKind::MissingRequiredArgument,
+        "--out <BASE>",
+    ),
+    (
+        "parcel_tool locate a.shp b.shp --unit cm",
+        ErrorKind::MissingRequiredArgument,
+        "--points <FILE>",
+    ),
+    (
+        "parcel_tool locate a.shp b.shp --unit cm --points c --at 0 0",
+        ErrorKind::ArgumentConflict,
+        "cannot be used with",
+    ),
+    (
+        "parcel_tool locate a.shp b.shp --unit cm --at 0 10000000001",
+        ErrorKind::ValueValidation,
+        "at most 10000000000",
+    ),
+    (
+        "parcel_tool area a.shp b.shp --unit cm",
+        ErrorKind::UnknownArgument,
+        "'b.shp'",
+    ),
+    (
+        "parcel_tool area a.shp --unit cm --fast",
+        ErrorKind::UnknownArgument,
+        "'--fast'",
+    ),
+    (
+        "parcel_tool area a.shp --unit cm --unit cm",
+        ErrorKind::ArgumentConflict,
+        "cannot be used multiple times",
+    ),
+];
+
 #[test]
 fn refuses_command_lines(rt: HostRuntime) -> Result<(), Fail> {
-    for (line, kind, help) in [
-        (
-            "parcel_tool",
-            ErrorKind::DisplayHelpOnMissingArgumentOrSubcommand,
-            "Usage: parcel_tool <COMMAND>",
-        ),
-        (
-            "parcel_tool measure",
-            ErrorKind::InvalidSubcommand,
-            "'measure'",
-        ),
-        (
-            "parcel_tool area a.shp",
-            ErrorKind::MissingRequiredArgument,
-            "--unit <UNIT>",
-        ),
-        (
-            "parcel_tool area --unit cm",
-            ErrorKind::MissingRequiredArgument,
-            "<MAIN>",
-        ),
-        (
-            "parcel_tool area a.shp --unit mm",
-            ErrorKind::InvalidValue,
-            "[possible values: cm, m]",
-        ),
-        (
-            "parcel_tool export a.shp b.shp --unit cm",
-            ErrorKind::MissingRequiredArgument,
-            "--out <BASE>",
-        ),
-        (
-            "parcel_tool locate a.shp b.shp --unit cm",
-            ErrorKind::MissingRequiredArgument,
-            "--points <FILE>",
-        ),
-        (
-            "parcel_tool locate a.shp b.shp --unit cm --points c --at 0 0",
-            ErrorKind::ArgumentConflict,
-            "cannot be used with",
-        ),
-        (
-            "parcel_tool locate a.shp b.shp --unit cm --at 0 10000000001",
-            ErrorKind::ValueValidation,
-            "at most 10000000000",
-        ),
-        (
-            "parcel_tool area a.shp b.shp --unit cm",
-            ErrorKind::UnknownArgument,
-            "'b.shp'",
-        ),
-        (
-            "parcel_tool area a.shp --unit cm --fast",
-            ErrorKind::UnknownArgument,
-            "'--fast'",
-        ),
-        (
-            "parcel_tool area a.shp --unit cm --unit cm",
-            ErrorKind::ArgumentConflict,
-            "cannot be used multiple times",
-        ),
-    ] {
+    for (line, kind, help) in REFUSED {
         let words: Vec<&str> = line.split(' ').collect(rt.alloc())?;
         let Err(error) = parse(rt.alloc(), words.as_slice()) else {
             return Err(Fail::new(line));

@@ -1,4 +1,3 @@
-pub mod PassedOn
 pub mod ClerksRead
 pub mod Submitted
 pub mod EachTold

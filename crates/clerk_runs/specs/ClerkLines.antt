@@ -3,7 +3,7 @@ use Rattle.std.specs.Prelude.{ℕ, List, ◌++◌, codes, decimal}
 use Rattle.fabric_core.specs.declared.refusal.Refusal.{Refusal}
 use Rattle.fabric_core.specs.declared.refusal.Refusal.TheVariants.{Unknown, Retired, BadPath, NotNeighbours, SharedTwice, Ring}
 use Rattle.fabric_core.specs.declared.refusal.Refusal.TheVariants.{NoSuchEdge, NotOnEdge, JournalFull, TooMany, NoMemory}
-use Rattle.clerk_runs.specs.RingFaultText.{ring_fault_text}
+use Rattle.text_pieces.specs.RingFaultText.{ring_fault_text}
 
 -- `clerk K line L `
 abbrev pub whose_text : ℕ → ℕ → List ℕ

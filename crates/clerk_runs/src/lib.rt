@@ -12,5 +12,4 @@ mod runs;
 
 pub use files::{ClerkEdits, FilesFault, read_clerks};
 pub use laws::{with_one_clerk_a_refusal_is_due_after_his_entries, without_clerks_nothing_changes};
-pub use lines::push_ring_fault;
 pub use runs::{Edited, RunFault, edit_by_clerks};

@@ -1,13 +1,12 @@
 //! The lines that tell of clerks' edits.
 
 ghost use Rattle.std.specs.Prelude.{◌≡◌, ◌++◌, OnOk};
-ghost use Rattle.clerk_runs.specs.RingFaultText.{ring_fault_text};
 ghost use Rattle.clerk_runs.specs.ClerkLines.{whose_text, ok_line, refusal_text, refused_line};
 
 use fabric_core::Refusal;
 use itoa::Buffer;
-use ring_core::RingFault;
 use std::alloc::{AllocError, Allocator};
+use text_pieces::push_ring_fault;
 
 /// Adds the line of an edit that is accepted, under the number of its entry.
 pub(crate) fn push_ok_line<A: Allocator>(
@@ -85,27 +84,6 @@ fn push_refusal<A: Allocator>(text: &mut Vec<u8, A>, refusal: Refusal) -> Result
         Refusal::JournalFull => text.extend_from_slice(b"E9")?,
         Refusal::TooMany => text.extend_from_slice(b"E10")?,
         Refusal::NoMemory => text.extend_from_slice(b"no memory")?,
-    }
-    Ok(())
-}
-
-/// Adds the text of a ring's fault: `G1`, `G3`, or `G2 I J`.
-pub fn push_ring_fault<A: Allocator>(
-    text: &mut Vec<u8, A>,
-    fault: RingFault,
-) -> Result<(), AllocError>
-    ensures { OnOk result (text.new.items ≡ text.old.items ++ ring_fault_text fault) }
-{
-    let mut digits = Buffer::new();
-    match fault {
-        RingFault::ZeroArea => text.extend_from_slice(b"G1")?,
-        RingFault::Clockwise => text.extend_from_slice(b"G3")?,
-        RingFault::EdgesMeet(i, j) => {
-            text.extend_from_slice(b"G2 ")?;
-            text.extend_from_slice(digits.format(i).as_bytes())?;
-            text.push(b' ')?;
-            text.extend_from_slice(digits.format(j).as_bytes())?;
-        }
     }
     Ok(())
 }

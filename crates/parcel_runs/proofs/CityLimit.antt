@@ -6,7 +6,7 @@ use Rattle.geo_exact.specs.declared.coord.Unit.{Unit as LengthUnit}
 use Rattle.geo_exact.specs.Rings.{begun_at, begun_at_least}
 use Rattle.geo_exact.specs.declared.limits.TheConstants.{LAYER_CORNERS, LIST_CORNERS}
 use Rattle.shp_files.specs.LayerFile.{corner_count}
-use Rattle.parcel_runs.specs.TilingFiles.{Files, IsCityOf}
+use Rattle.city_layers.specs.TilingFiles.{Files, IsCityOf}
 
 -- a list that is begun elsewhere is as long
 begun_length : {X : Type 0} (k : ℕ) (xs : List X) → length (begun_at k xs) ≡ length xs

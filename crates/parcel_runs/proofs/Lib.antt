@@ -1,12 +1,10 @@
-pub mod PassedOn
-pub mod TilingFaults
 pub mod CityLimit
 pub mod SimpleRings
 pub mod RowLimits
-pub mod AllTiles
 pub mod Places
 pub mod EditedRuns
 pub mod RunFaults
-pub mod ZonedFaults
+pub mod OverlayFaults
+pub mod LinesWritten
 pub mod DealtLists
 pub mod OverlayTexts

@@ -4,11 +4,12 @@ use Rattle.std.specs.Result.{OnOk, OnErr, IfErr, IsErrOf}
 use Rattle.geo_exact.specs.declared.coord.Unit.{Unit as LengthUnit}
 use Rattle.fabric_core.specs.Rows.{Tiles}
 use Rattle.zone_tables.specs.Overlap.{Overlay}
-use Rattle.parcel_runs.specs.declared.fault.ToolFault.{ToolFault}
-use Rattle.parcel_runs.specs.declared.fault.ToolFault.TheVariants.{NoMemory, Output}
-use Rattle.parcel_runs.specs.TilingFiles.{Files}
+use Rattle.city_layers.specs.declared.fault.ToolFault.{ToolFault}
+use Rattle.city_layers.specs.declared.fault.ToolFault.TheVariants.{NoMemory, Output}
+use Rattle.city_layers.specs.TilingFiles.{Files}
 use Rattle.clerk_runs.specs.ClerkRuns.{Register, IsEdited}
-use Rattle.parcel_runs.specs.OverlayReport.{AreZoned, IsTableOf, WritesOverlay, BeginsOverlay, IsLayersFault, IsOverlayFault, IsOverlayWant}
+use Rattle.parcel_runs.specs.OverlayReport.{IsTableOf, WritesOverlay, BeginsOverlay, IsOverlayFault, IsOverlayWant}
+use Rattle.city_layers.specs.ZonedFiles.{AreZoned, IsLayersFault}
 use Rattle.parcel_runs.specs.own.LinesAndReports.{WritesBoth, BeginsBoth}
 use Rattle.parcel_runs.proofs.RunFaults.{clerks_no_output, layers_no_output, want_no_output}
 

@@ -14,7 +14,7 @@ use Rattle.shp_files.specs.Written.{corner_lists as lists_of_rings}
 use Rattle.fabric_core.specs.Tiling.{corner_lists}
 use Rattle.fabric_core.specs.Rows.{Tiles, IsRowOf, corners_of_layer}
 use Rattle.fabric_core.specs.Limits.{AreWithinLimits}
-use Rattle.parcel_runs.specs.TilingFiles.{Files, IsTiledBy}
+use Rattle.city_layers.specs.TilingFiles.{Files, IsTiledBy}
 
 -- the items of two lists that are equal, one by one
 abbrev first : {X : Type 0} → X → List X → X

@@ -4,11 +4,11 @@ use Rattle.std.proofs.lemmas.List.{length-map}
 use Rattle.geo_exact.specs.declared.coord.Unit.{Unit as LengthUnit}
 use Rattle.fabric_core.specs.Rows.{Tiles}
 use Rattle.parcel_runs.specs.declared.clerks.TheConstants.{CLERKS}
-use Rattle.parcel_runs.specs.declared.fault.ToolFault.{ToolFault}
-use Rattle.parcel_runs.specs.declared.fault.ToolFault.TheVariants.{NoMemory, Output}
-use Rattle.parcel_runs.specs.TilingFiles.{Files, AreTiles, IsTilesFault}
+use Rattle.city_layers.specs.declared.fault.ToolFault.{ToolFault}
+use Rattle.city_layers.specs.declared.fault.ToolFault.TheVariants.{NoMemory, Output}
+use Rattle.city_layers.specs.TilingFiles.{Files, AreTiles, IsTilesFault}
 use Rattle.clerk_runs.specs.ClerkFiles.{texts_of}
-use Rattle.parcel_runs.specs.FaultLines.{AreLinesBefore}
+use Rattle.city_layers.specs.FaultLines.{AreLinesBefore}
 use Rattle.parcel_runs.specs.RunFaults.{IsClerkFault, IsRunFault, IsWant}
 
 -- there are as many texts as files

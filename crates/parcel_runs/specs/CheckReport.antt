@@ -6,7 +6,7 @@ use Rattle.geo_exact.specs.declared.coord.Unit.{Unit as LengthUnit}
 use Rattle.geo_exact.specs.declared.corner.Corner.{Corner}
 use Rattle.geo_exact.specs.Layers.{NumberedRing}
 use Rattle.fabric_core.specs.Rows.{Tiles}
-use Rattle.parcel_runs.specs.TilingFiles.{Files, AreTiles}
+use Rattle.city_layers.specs.TilingFiles.{Files, AreTiles}
 use Rattle.clerk_runs.specs.ClerkRuns.{Register, IsEdited}
 
 -- `tiling N AREA2`

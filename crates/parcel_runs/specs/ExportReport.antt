@@ -5,7 +5,7 @@ use Rattle.geo_exact.specs.Layers.{NumberedRing}
 use Rattle.shp_files.specs.Written.{written_main, written_index}
 use Rattle.fabric_core.specs.Tiling.{corner_lists}
 use Rattle.fabric_core.specs.Rows.{Tiles}
-use Rattle.parcel_runs.specs.TilingFiles.{Files, AreTiles}
+use Rattle.city_layers.specs.TilingFiles.{Files, AreTiles}
 use Rattle.clerk_runs.specs.ClerkRuns.{Register, IsEdited}
 
 -- `exported N`, the number of parcels

@@ -9,11 +9,11 @@ use Rattle.geo_exact.specs.declared.coord.Unit.{Unit as LengthUnit}
 use Rattle.geo_exact.specs.declared.corner.Corner.{Corner}
 use Rattle.fabric_core.specs.Locate.{AreAllOnEdge, IsInsideOf}
 use Rattle.fabric_core.specs.Rows.{Tiles}
-use Rattle.parcel_runs.specs.declared.fault.ToolFault.{ToolFault}
-use Rattle.parcel_runs.specs.declared.fault.ToolFault.TheVariants.{PointLine}
-use Rattle.parcel_runs.specs.FaultLines.{corner_text}
+use Rattle.city_layers.specs.declared.fault.ToolFault.{ToolFault}
+use Rattle.city_layers.specs.declared.fault.ToolFault.TheVariants.{PointLine}
+use Rattle.text_pieces.specs.CornerText.{corner_text}
 use Rattle.line_files.specs.PointLines.{ArePoints, IsFirstBadPoint}
-use Rattle.parcel_runs.specs.TilingFiles.{Files, AreTiles}
+use Rattle.city_layers.specs.TilingFiles.{Files, AreTiles}
 use Rattle.clerk_runs.specs.ClerkRuns.{Register, IsEdited}
 use Rattle.parcel_runs.specs.RunFaults.{IsRunFault}
 

@@ -7,17 +7,12 @@ use Rattle.text_puts.specs.Beginnings.{AppendsBeginning}
 use Rattle.zone_tables.specs.Overlap.{Overlay, IsOverlapTable}
 use Rattle.zone_tables.specs.Report.{IsReport}
 use Rattle.parcel_runs.specs.declared.clerks.TheConstants.{CLERKS}
-use Rattle.parcel_runs.specs.declared.fault.Role.TheVariants.{Zones}
-use Rattle.parcel_runs.specs.declared.fault.ToolFault.{ToolFault}
-use Rattle.parcel_runs.specs.declared.fault.ToolFault.TheVariants.{NoThread}
-use Rattle.parcel_runs.specs.TilingFiles.{Files, AreTiles, IsTiledBy, IsTilesFault, IsFaultOfLayer}
+use Rattle.city_layers.specs.declared.fault.ToolFault.{ToolFault}
+use Rattle.city_layers.specs.declared.fault.ToolFault.TheVariants.{NoThread}
+use Rattle.city_layers.specs.TilingFiles.{Files}
+use Rattle.city_layers.specs.ZonedFiles.{AreZoned, IsLayersFault}
 use Rattle.clerk_runs.specs.ClerkRuns.{Register, IsEdited}
 use Rattle.parcel_runs.specs.RunFaults.{IsCrowded, IsClerkFault, IsWant}
-
--- the parcels' files and the zones' files both tile the city of the city's files
-pub record AreZoned (city parcels zones : Files) (unit : LengthUnit) (tiles regions : Tiles) : Type 0 where
-  pub are_tiles : AreTiles city parcels unit tiles
-  pub are_regions : IsTiledBy zones unit tiles.city regions
 
 -- the table is all pairs of a parcel of the register and a zone whose interiors meet; it names how many entries led to these parcels
 pub record IsTableOf {A : Type 0} (after : Register A) (regions : Tiles) (table : Overlay) : Type 0 where
@@ -58,16 +53,6 @@ pub record BeginsOverlay (A : Type 0) (city parcels zones : Files) (unit : Lengt
   pub text : List ℕ
   pub is_overlay : IsOverlayText A city parcels zones unit clerks text
   pub is_begun : AppendsBeginning old new text
-
--- the parcels' files tile the city, and the fault is the first of the zones' files in it
-pub record IsZonesFault (city parcels zones : Files) (unit : LengthUnit) (fault : ToolFault) : Type 0 where
-  pub tiles : Tiles
-  pub are_tiles : AreTiles city parcels unit tiles
-  pub is_fault : IsFaultOfLayer Zones zones unit tiles.city fault
-
--- the fault is the first of the three layers: the city's before the parcels', and these before the zones'
-abbrev pub IsLayersFault : Files → Files → Files → LengthUnit → ToolFault → Type 0
-IsLayersFault city parcels zones unit fault = IsTilesFault city parcels unit fault ⊎ IsZonesFault city parcels zones unit fault
 
 -- parcels and zones tile the city, and the fault is the first of the clerks' files
 pub record IsClerkFaultBehindZones (city parcels zones : Files) (unit : LengthUnit) (clerks : List (List ℕ)) (fault : ToolFault)

@@ -4,9 +4,9 @@ use Rattle.geo_exact.specs.declared.coord.Unit.{Unit as LengthUnit}
 use Rattle.fabric_core.specs.Rows.{Tiles}
 use Rattle.clerk_runs.specs.ClerkFiles.{IsFirstBadOfAll}
 use Rattle.parcel_runs.specs.declared.clerks.TheConstants.{CLERKS}
-use Rattle.parcel_runs.specs.declared.fault.ToolFault.{ToolFault}
-use Rattle.parcel_runs.specs.declared.fault.ToolFault.TheVariants.{ClerkCount, ClerkLine, NoWindow, NoMemory}
-use Rattle.parcel_runs.specs.TilingFiles.{Files, AreTiles, IsTilesFault}
+use Rattle.city_layers.specs.declared.fault.ToolFault.{ToolFault}
+use Rattle.city_layers.specs.declared.fault.ToolFault.TheVariants.{ClerkCount, ClerkLine, NoWindow, NoMemory}
+use Rattle.city_layers.specs.TilingFiles.{Files, AreTiles, IsTilesFault}
 
 -- there are more clerks' files than a run takes
 pub record IsCrowded (clerks : List (List ℕ)) (fault : ToolFault) : Type 0 where

@@ -1,7 +1,5 @@
 -- Words of the code's own bookkeeping: no public contract speaks of them, and a reader need not believe them.
-pub mod AreaTexts
 pub mod Dealing
-pub mod LayerFaults
 pub mod LinesAndReports
 pub mod PlaceTexts
 pub mod Registers

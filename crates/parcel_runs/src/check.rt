@@ -4,21 +4,19 @@ ghost use Rattle.std.specs.Prelude.{◌≡◌, ◌⊎◌, ◌≤◌, ◌++◌, �
 ghost use Rattle.std.specs.Borrow.{Bor};
 ghost use Rattle.geo_exact.specs.Bytes.{raised};
 ghost use Rattle.geo_exact.specs.declared.limits.TheConstants.{LIST_CORNERS};
-ghost use Rattle.parcel_runs.specs.declared.fault.ToolFault.{ToolFault as ToolFaultValue};
+ghost use Rattle.city_layers.specs.declared.fault.ToolFault.{ToolFault as ToolFaultValue};
 ghost use Rattle.parcel_runs.specs.CheckReport.{tiling_line, WritesTiling};
-ghost use Rattle.parcel_runs.specs.FaultLines.{WritesLinesBefore};
-ghost use Rattle.parcel_runs.specs.TilingFiles.{files_of};
+ghost use Rattle.city_layers.specs.FaultLines.{WritesLinesBefore};
+ghost use Rattle.city_layers.specs.TilingFiles.{files_of};
 ghost use Rattle.clerk_runs.specs.ClerkFiles.{texts_of};
 ghost use Rattle.clerk_runs.specs.ClerkRuns.{Register, AreMade};
 ghost use Rattle.parcel_runs.specs.RunFaults.{IsRunFault, IsWant};
 ghost use Rattle.parcel_runs.specs.own.Registers.{register_of_parcels, city_of_parcels};
 
-use crate::all_tiles::load_unedited_or_lines;
 use crate::clerks::CLERKS;
 use crate::edited::{Edited, Parcels, Unedited, edit_layer};
-use crate::fault::ToolFault;
-use crate::sources::Source;
-use crate::tiles::load_unedited;
+use crate::unedited::{load_unedited, load_unedited_or_lines};
+use city_layers::{Source, ToolFault};
 use geo_exact::{ByteOut, Unit, area2};
 use itoa::Buffer;
 use shp_files::a_layer_file_is_within_the_limits;

@@ -2,10 +2,10 @@
 
 ghost use Rattle.std.specs.Prelude.{◌≡◌, ◌⊎◌, ◌↔◌, ◌≤◌, length, IfOk, IfErr, IsErrAnd, IsOk};
 ghost use Rattle.clerk_runs.specs.ClerkFiles.{texts_of, AreClerkFiles};
-ghost use Rattle.parcel_runs.specs.declared.fault.ToolFault.{ToolFault as ToolFaultValue};
+ghost use Rattle.city_layers.specs.declared.fault.ToolFault.{ToolFault as ToolFaultValue};
 ghost use Rattle.parcel_runs.specs.RunFaults.{IsClerkFault};
 
-use crate::fault::ToolFault;
+use city_layers::ToolFault;
 use clerk_runs::{ClerkEdits, FilesFault, read_clerks};
 use std::alloc::Allocator;
 

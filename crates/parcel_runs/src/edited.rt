@@ -8,7 +8,7 @@ ghost use Rattle.parcel_runs.specs.RunFaults.{IsWant};
 ghost use Rattle.parcel_runs.specs.own.Registers.{register_of_parcels, city_of_parcels};
 
 use crate::clerks::CLERKS;
-use crate::fault::ToolFault;
+use city_layers::ToolFault;
 use clerk_runs::{ClerkEdits, RunFault, edit_by_clerks};
 use fabric_core::{At, Fabric, Layer, Shapes, Sheet};
 use geo_exact::Corner;

@@ -5,11 +5,11 @@ ghost use Rattle.std.specs.List.{flat_map};
 ghost use Rattle.std.specs.Borrow.{Bor};
 ghost use Rattle.geo_exact.specs.Bytes.{raised};
 ghost use Rattle.geo_exact.specs.declared.corner.Corner.{Corner as CornerValue};
-ghost use Rattle.parcel_runs.specs.declared.fault.ToolFault.{ToolFault as ToolFaultValue};
-ghost use Rattle.parcel_runs.specs.FaultLines.{corner_text};
+ghost use Rattle.city_layers.specs.declared.fault.ToolFault.{ToolFault as ToolFaultValue};
+ghost use Rattle.text_pieces.specs.CornerText.{corner_text};
 ghost use Rattle.parcel_runs.specs.LocateReport.{id_text, ArePlaceLines, WritesPlaces, WritesPlacesOfText, IsLocateFault};
 ghost use Rattle.line_files.specs.PointLines.{ArePoints, IsFirstBadPoint};
-ghost use Rattle.parcel_runs.specs.TilingFiles.{files_of};
+ghost use Rattle.city_layers.specs.TilingFiles.{files_of};
 ghost use Rattle.clerk_runs.specs.ClerkFiles.{texts_of};
 ghost use Rattle.clerk_runs.specs.ClerkRuns.{Register, AreMade};
 ghost use Rattle.parcel_runs.specs.RunFaults.{IsRunFault, IsWant};
@@ -17,10 +17,8 @@ ghost use Rattle.parcel_runs.specs.own.PlaceTexts.{place_text, places_text};
 
 use crate::clerks::CLERKS;
 use crate::edited::{Edited, Unedited, edit_layer};
-use crate::fault::ToolFault;
-use crate::numbers::push_corner;
-use crate::sources::Source;
-use crate::tiles::load_unedited;
+use crate::unedited::load_unedited;
+use city_layers::{Source, ToolFault};
 use fabric_core::At;
 use geo_exact::{ByteOut, Corner, Unit};
 use itoa::Buffer;
@@ -28,6 +26,7 @@ use line_files::{PointsFault, read_points};
 use std::alloc::{AllocError, Allocator};
 use std::sync::Wait;
 use std::thread::Threads;
+use text_pieces::push_corner;
 use text_puts::put_all;
 
 /// Writes for each point in order, where the parcels tile their city, `X Y inside ID`, `X Y edge ID

@@ -9,7 +9,7 @@ ghost use Rattle.zone_tables.specs.Overlap.{IsOverlapTable};
 ghost use Rattle.parcel_runs.specs.OverlayReport.{IsOverlayWant};
 
 use crate::dealing::deal;
-use crate::fault::ToolFault;
+use city_layers::ToolFault;
 use fabric_core::{Layer, Sheet};
 use overlay_work::{CloseFault, Gate, Hand, MOST_HANDS, Round, RoundFault, Table, run_round};
 use std::alloc::Allocator;

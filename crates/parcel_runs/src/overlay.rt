@@ -4,9 +4,9 @@ ghost use Rattle.std.specs.Prelude.{◌≡◌, ◌⊎◌, ◌<◌, ◌≤◌, �
 ghost use Rattle.std.specs.Borrow.{Bor};
 ghost use Rattle.geo_exact.specs.Bytes.{raised};
 ghost use Rattle.overlay_work.specs.declared.round.TheConstants.{MOST_HANDS};
-ghost use Rattle.parcel_runs.specs.declared.fault.ToolFault.{ToolFault as ToolFaultValue};
+ghost use Rattle.city_layers.specs.declared.fault.ToolFault.{ToolFault as ToolFaultValue};
 ghost use Rattle.parcel_runs.specs.OverlayReport.{WritesOverlay, BeginsOverlay, IsOverlayFault, IsOverlayWant};
-ghost use Rattle.parcel_runs.specs.TilingFiles.{files_of};
+ghost use Rattle.city_layers.specs.TilingFiles.{files_of};
 ghost use Rattle.clerk_runs.specs.ClerkFiles.{texts_of};
 ghost use Rattle.clerk_runs.specs.ClerkRuns.{AreMade, register_of};
 ghost use Rattle.parcel_runs.specs.RunFaults.{IsWant};
@@ -14,10 +14,9 @@ ghost use Rattle.parcel_runs.specs.own.LinesAndReports.{WritesBoth, BeginsBoth};
 
 use crate::clerks::CLERKS;
 use crate::edited::{Edited, Unedited, edit_layer};
-use crate::fault::ToolFault;
 use crate::overlaps::overlaps;
-use crate::sources::Source;
 use crate::zoned::{Zoned, load_zoned};
+use city_layers::{Source, ToolFault};
 use fabric_core::Sheet;
 use geo_exact::{ByteOut, Unit};
 use overlay_work::{MOST_HANDS, Table, write_report};
@@ -106,6 +105,8 @@ fn write_both<'t, 'h, H: Allocator, A: Allocator, W: ByteOut>(
 {
     table.stands();
     put_all(lines, out)?;
-    write_report(table, out)?;
-    Ok(())
+    match write_report(table, out) {
+        Ok(()) => Ok(()),
+        Err(_) => Err(ToolFault::Output),
+    }
 }

@@ -1,18 +1,18 @@
 //! `parcel_tool`: exact answers about the parcel layers of a land registry.
 #![tactic(auto)]
 
+use city_layers::area::area;
+use city_layers::{
+    Disk, Source, StandardInput, ToolFault, put_all, read_source, read_text, replace_layer,
+};
 use clap::Error;
 use clap::error::ErrorKind;
 use geo_exact::{ByteOut, Counted};
-use parcel_runs::area::area;
 use parcel_runs::check::{check, check_all};
 use parcel_runs::export::export;
 use parcel_runs::locate::{locate, locate_text};
 use parcel_runs::overlay::overlay;
-use parcel_runs::{
-    Disk, Source, StandardInput, ToolFault, put_all, read_source, read_text, refuse_many_clerks,
-    replace_layer,
-};
+use parcel_runs::refuse_many_clerks;
 use std::alloc::Global;
 use std::io::Input;
 use std::process::ExitCode;

@@ -1,7 +1,7 @@
 use crate::square::{FARTHEST, HUNDRED, header, square};
+use city_layers::area::area;
+use city_layers::{Source, ToolFault};
 use geo_exact::{Counted, FailAt, Unit};
-use parcel_runs::area::area;
-use parcel_runs::{Source, ToolFault};
 use std::alloc::{AllocError, Global};
 use std::io;
 use std::io::Write;

@@ -1,11 +1,12 @@
 //! What the edits of clerks' files lead to, and what is told of them.
 
 use crate::export_runs::{BAY, BEYOND, CITY, EAST, Place, WEST, alone, layer};
+use city_layers::Source;
 use geo_exact::{Corner, Counted, RawRing, Unit};
 use parcel_runs::check::{check, check_all};
 use parcel_runs::export::export;
 use parcel_runs::locate::{locate, locate_text};
-use parcel_runs::{Source, refuse_many_clerks};
+use parcel_runs::refuse_many_clerks;
 use shp_files::read_layer;
 use std::alloc::{AllocError, Global};
 use std::sync::Wait;
@@ -252,6 +253,15 @@ fn locates_in_what_edits_lead_to(rt: HostRuntime) -> Result<(), Fail> {
         };
         assert_eq!(rt; printed.as_str(), want);
     }
+    Ok(())
+}
+
+#[test]
+fn locates_a_corner_in_what_edits_lead_to(rt: HostRuntime) -> Result<(), Fail> {
+    let alloc = rt.alloc();
+    let city = alone(layer(alloc, &[&CITY])?);
+    let parcels = parcels(alloc, false)?;
+    let clerks = files(alloc, &["merge 1 2"])?;
     let mut out = Counted::new(Vec::new(alloc));
     let points = [Corner { x: 60, y: 50 }];
     let answer = locate(

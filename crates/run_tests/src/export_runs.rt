@@ -1,7 +1,7 @@
 use crate::area_runs::run;
 use crate::square::{header, push_record};
+use city_layers::Source;
 use geo_exact::{Unit, write_coord};
-use parcel_runs::Source;
 use parcel_runs::export::export;
 use std::alloc::{AllocError, Global};
 use std::sync::Wait;

@@ -1,6 +1,6 @@
+use city_layers::{Role, ToolFault};
 use fabric_core::{CityFault, LoadFault};
 use geo_exact::{CoordFault, Corner};
-use parcel_runs::{Role, ToolFault};
 use ring_core::RingFault;
 use shp_files::{FaultKind, FileFault, FileName};
 use std::test::Fail;
@@ -63,88 +63,91 @@ fn tells_faults_of_tilings(rt: HostRuntime) -> Result<(), Fail> {
     Ok(())
 }
 
+/// Faults of files, and what is told of each at record 3, byte 108.
+const FILE_FAULTS: [(Role, FileName, FaultKind, &str); 13] = [
+    (
+        Role::File,
+        FileName::Main,
+        FaultKind::Short,
+        "file: F1 main record 3 at 108",
+    ),
+    (
+        Role::City,
+        FileName::Index,
+        FaultKind::FileCode,
+        "city: F2 index record 3 at 108",
+    ),
+    (
+        Role::Parcels,
+        FileName::Main,
+        FaultKind::Version,
+        "parcels: F3 main record 3 at 108",
+    ),
+    (
+        Role::Zones,
+        FileName::Main,
+        FaultKind::ShapeType,
+        "zones: F4 main record 3 at 108",
+    ),
+    (
+        Role::File,
+        FileName::Main,
+        FaultKind::Content,
+        "file: F5 main record 3 at 108",
+    ),
+    (
+        Role::File,
+        FileName::Main,
+        FaultKind::Parts,
+        "file: F6 main record 3 at 108",
+    ),
+    (
+        Role::File,
+        FileName::Main,
+        FaultKind::NotClosed,
+        "file: F7 main record 3 at 108",
+    ),
+    (
+        Role::File,
+        FileName::Main,
+        FaultKind::FewPoints,
+        "file: F8 main record 3 at 108",
+    ),
+    (
+        Role::File,
+        FileName::Main,
+        FaultKind::Coord(CoordFault::NotNumber),
+        "file: F9 C1 main record 3 at 108",
+    ),
+    (
+        Role::File,
+        FileName::Main,
+        FaultKind::Coord(CoordFault::OffGrid),
+        "file: F9 C2 main record 3 at 108",
+    ),
+    (
+        Role::File,
+        FileName::Main,
+        FaultKind::Coord(CoordFault::TooFar),
+        "file: F9 C3 main record 3 at 108",
+    ),
+    (
+        Role::File,
+        FileName::Index,
+        FaultKind::IndexDisagrees,
+        "file: F10 index record 3 at 108",
+    ),
+    (
+        Role::File,
+        FileName::Main,
+        FaultKind::TooMany,
+        "file: F11 main record 3 at 108",
+    ),
+];
+
 #[test]
 fn tells_file_faults(rt: HostRuntime) -> Result<(), Fail> {
-    for (role, file, kind, want) in [
-        (
-            Role::File,
-            FileName::Main,
-            FaultKind::Short,
-            "file: F1 main record 3 at 108",
-        ),
-        (
-            Role::City,
-            FileName::Index,
-            FaultKind::FileCode,
-            "city: F2 index record 3 at 108",
-        ),
-        (
-            Role::Parcels,
-            FileName::Main,
-            FaultKind::Version,
-            "parcels: F3 main record 3 at 108",
-        ),
-        (
-            Role::Zones,
-            FileName::Main,
-            FaultKind::ShapeType,
-            "zones: F4 main record 3 at 108",
-        ),
-        (
-            Role::File,
-            FileName::Main,
-            FaultKind::Content,
-            "file: F5 main record 3 at 108",
-        ),
-        (
-            Role::File,
-            FileName::Main,
-            FaultKind::Parts,
-            "file: F6 main record 3 at 108",
-        ),
-        (
-            Role::File,
-            FileName::Main,
-            FaultKind::NotClosed,
-            "file: F7 main record 3 at 108",
-        ),
-        (
-            Role::File,
-            FileName::Main,
-            FaultKind::FewPoints,
-            "file: F8 main record 3 at 108",
-        ),
-        (
-            Role::File,
-            FileName::Main,
-            FaultKind::Coord(CoordFault::NotNumber),
-            "file: F9 C1 main record 3 at 108",
-        ),
-        (
-            Role::File,
-            FileName::Main,
-            FaultKind::Coord(CoordFault::OffGrid),
-            "file: F9 C2 main record 3 at 108",
-        ),
-        (
-            Role::File,
-            FileName::Main,
-            FaultKind::Coord(CoordFault::TooFar),
-            "file: F9 C3 main record 3 at 108",
-        ),
-        (
-            Role::File,
-            FileName::Index,
-            FaultKind::IndexDisagrees,
-            "file: F10 index record 3 at 108",
-        ),
-        (
-            Role::File,
-            FileName::Main,
-            FaultKind::TooMany,
-            "file: F11 main record 3 at 108",
-        ),
-    ] {
+    for (role, file, kind, want) in FILE_FAULTS {
         let fault = FileFault {
             file,
             position: 3,

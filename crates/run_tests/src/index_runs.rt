@@ -1,7 +1,7 @@
 use crate::area_runs::{changed, run};
 use crate::square::{HUNDRED, POINTS, header, index, null_and_polygon, polygon, square, squares};
+use city_layers::Source;
 use geo_exact::Unit;
-use parcel_runs::Source;
 use std::alloc::{AllocError, Global};
 use std::test::Fail;
 

@@ -27,3 +27,5 @@ mod replacing;
 mod source_files;
 #[cfg(test)]
 mod square;
+#[cfg(test)]
+mod text_pieces_told;

@@ -3,8 +3,8 @@
 use crate::area_runs::ByteByByte;
 use crate::export_runs::{BAY, BEYOND, CITY, EAST, Place, WEST, alone, layer};
 use crate::square::{FARTHEST, square};
+use city_layers::ToolFault;
 use geo_exact::{Corner, Counted, FailAt, LIMIT, Unit};
-use parcel_runs::ToolFault;
 use parcel_runs::locate::{locate, locate_text};
 use std::alloc::{AllocError, Global};
 use std::sync::Wait;
@@ -129,12 +129,26 @@ fn tells_places_at_the_limits(rt: HostRuntime) -> Result<(), Fail> {
     Ok(())
 }
 
+/// What is told of these corners among the two rectangles, in this unit.
+fn told_of_corners<R: Threads + Wait + Sync>(
+    rt: &R,
+    alloc: Global,
+    unit: Unit,
+    corners: &[Corner],
+) -> Result<String, AllocError> {
+    let city = alone(layer(alloc, &[&CITY])?);
+    let parcels = alone(layer(alloc, &[&WEST, &EAST])?);
+    let mut out = Counted::new(Vec::new(alloc));
+    match locate(rt, &alloc, &city, &parcels, unit, corners, &[], &mut out) {
+        Ok(()) => String::from_utf8_lossy(alloc, out.into_inner().as_slice()),
+        Err(fault) => format!(in alloc; "error: {fault}"),
+    }
+}
+
 #[test]
 fn tells_where_corners_lie(rt: HostRuntime) -> Result<(), Fail> {
     let alloc = rt.alloc();
-    let city = alone(layer(alloc, &[&CITY])?);
-    let parcels = alone(layer(alloc, &[&WEST, &EAST])?);
-    let points = [
+    let corners = [
         Corner { x: 60, y: 0 },
         Corner { x: 1, y: 1 },
         Corner {
@@ -142,43 +156,14 @@ fn tells_where_corners_lie(rt: HostRuntime) -> Result<(), Fail> {
             y: LIMIT,
         },
     ];
-    let mut out = Counted::new(Vec::new(alloc));
+    let lines = told_of_corners(&rt, alloc, Unit::Cm, &corners)?;
     assert_eq!(rt;
-        locate(
-            &rt,
-            &alloc,
-            &city,
-            &parcels,
-            Unit::Cm,
-            &points,
-            &[],
-            &mut out
-        ),
-        Ok(())
-    );
-    assert_eq!(rt;
-        out.into_inner().as_slice(),
-        b"60 0 edge 1 2\n1 1 inside 1\n-10000000000 10000000000 outside\n".as_slice()
+        lines.as_str(),
+        "60 0 edge 1 2\n1 1 inside 1\n-10000000000 10000000000 outside\n"
     );
     // In metres the same numbers of the files are a hundred times as far apart.
-    let mut out = Counted::new(Vec::new(alloc));
-    assert_eq!(rt;
-        locate(
-            &rt,
-            &alloc,
-            &city,
-            &parcels,
-            Unit::M,
-            &points[..2],
-            &[],
-            &mut out
-        ),
-        Ok(())
-    );
-    assert_eq!(rt;
-        out.into_inner().as_slice(),
-        b"60 0 edge 1\n1 1 inside 1\n".as_slice()
-    );
+    let lines = told_of_corners(&rt, alloc, Unit::M, &corners[..2])?;
+    assert_eq!(rt; lines.as_str(), "60 0 edge 1\n1 1 inside 1\n");
     Ok(())
 }
 

@@ -1,4 +1,4 @@
-use parcel_runs::{ToolFault, replace_layer};
+use city_layers::{ToolFault, replace_layer};
 use std::alloc::Allocator;
 use std::cell::Cell;
 use std::fs::{Metadata, OpenFile, OpenOptions};

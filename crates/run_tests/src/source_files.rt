@@ -1,5 +1,5 @@
 use crate::square::{HUNDRED, index, square};
-use parcel_runs::{Disk, ToolFault, read_source, read_text};
+use city_layers::{Disk, ToolFault, read_source, read_text};
 use std::fs;
 use std::test::Fail;
 

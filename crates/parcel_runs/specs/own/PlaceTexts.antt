@@ -4,7 +4,7 @@ use Rattle.std.specs.List.{flat_map}
 use Rattle.geo_exact.specs.declared.corner.Corner.{Corner}
 use Rattle.fabric_core.specs.declared.locate.At.{At}
 use Rattle.fabric_core.specs.declared.locate.At.TheVariants.{Inside, OnEdge, Outside}
-use Rattle.parcel_runs.specs.FaultLines.{corner_text}
+use Rattle.text_pieces.specs.CornerText.{corner_text}
 use Rattle.parcel_runs.specs.LocateReport.{id_text}
 
 abbrev pub place_text : {A : Type 0} → At A → List ℕ

@@ -1,14 +1,14 @@
 use Rattle.std.proofs.Common.{rules, ◌≤◌, length, ◌≡◌, ◌⊎◌, inl, inr, refl, ◌∙◌, subst}
 use Rattle.std.specs.Io.KnownBytes.{Appends}
 use Rattle.geo_exact.specs.declared.limits.TheConstants.{LIST_CORNERS}
-use Rattle.parcel_runs.specs.TilingFiles.{files_of}
+use Rattle.city_layers.specs.TilingFiles.{files_of}
 use Rattle.clerk_runs.specs.ClerkFiles.{texts_of}
 use Rattle.parcel_runs.specs.RunFaults.{IsRunFault}
-use Rattle.parcel_runs.specs.FaultLines.{text_or_none}
-use Rattle.parcel_runs.specs.declared.fault.ToolFault.TheVariants.{NoMemory}
-use Rattle.parcel_runs.proofs.AllTiles.{lines_written, none_written}
+use Rattle.city_layers.specs.FaultLines.{text_or_none}
+use Rattle.city_layers.specs.declared.fault.ToolFault.TheVariants.{NoMemory}
+use Rattle.parcel_runs.proofs.LinesWritten.{lines_written, none_written}
 use Rattle.parcel_runs.proofs.CityLimit.{city_short}
-use Rattle.parcel_runs.proofs.PassedOn.{passed_if, passed_is}
+use Rattle.text_pieces.proofs.PassedOn.{passed_if, passed_is}
 use Rattle.parcel_runs.proofs.RunFaults.{no_output, want_no_output}
 use Rattle.parcel_runs.proofs.check.check_all.Goals as goal
 

@@ -2,10 +2,10 @@ use Rattle.std.proofs.Common.{inl, inr, refl, subst}
 use Rattle.std.specs.Result.{OnOk, OnErr}
 use Rattle.clerk_runs.specs.ClerkFiles.{texts_of}
 use Rattle.clerk_runs.specs.ClerkRuns.{register_of, IsEdited}
-use Rattle.parcel_runs.specs.TilingFiles.{files_of}
+use Rattle.city_layers.specs.TilingFiles.{files_of}
 use Rattle.parcel_runs.specs.OverlayReport.{IsTableOf}
 use Rattle.parcel_runs.specs.own.LinesAndReports.{WritesBoth, BeginsBoth}
-use Rattle.parcel_runs.proofs.PassedOn.{passed_on, passed_if, passed_is}
+use Rattle.text_pieces.proofs.PassedOn.{passed_on, passed_if, passed_is}
 use Rattle.parcel_runs.proofs.RunFaults.{want_no_output}
 use Rattle.parcel_runs.proofs.OverlayTexts.{no_output, overlay_want_no_output, all_written, some_written, on_output, output_alone, on_ok}
 use Rattle.parcel_runs.proofs.overlay.overlay.Goals as goal

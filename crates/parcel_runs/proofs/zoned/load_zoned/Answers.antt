@@ -1,9 +1,9 @@
 use Rattle.std.proofs.Common.{rules, ◌≡◌, ◌⊎◌, inr, ◌≤◌, length}
 use Rattle.parcel_runs.specs.declared.clerks.TheConstants.{CLERKS}
-use Rattle.parcel_runs.specs.declared.fault.ToolFault.TheVariants.{NoMemory}
-use Rattle.parcel_runs.specs.TilingFiles.{files_of}
-use Rattle.parcel_runs.proofs.PassedOn.{passed_on, passed_if}
-use Rattle.parcel_runs.proofs.ZonedFaults.{few_overlay_fault, behind_zones}
+use Rattle.city_layers.specs.declared.fault.ToolFault.TheVariants.{NoMemory}
+use Rattle.city_layers.specs.TilingFiles.{files_of}
+use Rattle.text_pieces.proofs.PassedOn.{passed_on, passed_if}
+use Rattle.parcel_runs.proofs.OverlayFaults.{few_overlay_fault, behind_zones}
 use Rattle.parcel_runs.proofs.zoned.load_zoned.Goals as goal
 
 pub returns-in_err-parcels-clause-refuses : goal.returns-in_err-parcels-clause-refuses

@@ -1,0 +1,3 @@
+pub mod TilingFaults
+pub mod AllTiles
+pub mod ZonedFaults

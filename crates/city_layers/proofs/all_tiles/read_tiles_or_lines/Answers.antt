@@ -1,0 +1,68 @@
+use Rattle.std.proofs.Common.{◌≡◌, ◌⊎◌, ◌∙◌, sym, subst}
+use Rattle.geo_exact.specs.Layers.{rings_of}
+use Rattle.fabric_core.proofs.edits.Refusals.{IsErrAnd-weaker}
+use Rattle.city_layers.specs.declared.fault.ToolFault.TheVariants.{NoMemory}
+use Rattle.city_layers.specs.FaultLines.{text_or_none}
+use Rattle.city_layers.specs.TilingFiles.{files_of}
+use Rattle.text_pieces.proofs.PassedOn.{passed_as}
+use Rattle.city_layers.proofs.TilingFaults.{layer_unread, layer_has_none}
+use Rattle.city_layers.proofs.AllTiles.{begins_some, told_or_no_memory, due_told, all_loaded}
+use Rattle.city_layers.proofs.all_tiles.read_tiles_or_lines.Goals as goal
+
+pub returns-in_err-records-clause-refuses : goal.returns-in_err-records-clause-refuses
+returns-in_err-records-clause-refuses g c = λ fault h.
+    IsErrAnd-weaker c.from_residual.result _ (λ refusal. (refusal.fault ≡ fault) ⊎ (refusal.fault ≡ NoMemory))
+    (λ refusal k. subst (λ x. (x ≡ fault) ⊎ (x ≡ NoMemory)) (sym k.0) (layer_unread _ _ _ _ _
+    (λ rings l. c.in_err-records.ensures.reads rings (rw (c.as_slice.ensures.value, c.index_bytes.ensures.bytes) l))
+    (λ first l. c.in_err-records.ensures.refuses first (rw (c.as_slice.ensures.value, c.index_bytes.ensures.bytes) l))
+    fault h)) c.from_residual.ensures.1
+
+pub refusal_of-requires : goal.refusal_of-requires
+refusal_of-requires g c = begins_some _ _ c.in-Err.all c.in-Err.ensures.faults
+
+pub returns-in-Ok-clause-refuses : goal.returns-in-Ok-clause-refuses
+returns-in-Ok-clause-refuses g c = λ fault h.
+    layer_has_none _ _ _ _ _
+    (λ rings k. c.in_ok-records.ensures.reads rings (rw (c.as_slice.ensures.value, c.index_bytes.ensures.bytes) k))
+    (λ first k. c.in_ok-records.ensures.refuses first (rw (c.as_slice.ensures.value, c.index_bytes.ensures.bytes) k))
+    c.in-Ok.ensures.refuses fault h
+
+pub returns-in-Err-clause-fault : goal.returns-in-Err-clause-fault
+returns-in-Err-clause-fault g c =
+    told_or_no_memory c.args.role (files_of c.args.files.now) c.args.unit c.args.city.now.ring.corners
+    (rings_of c.in_ok-records.records.items) c.in-Err.all
+    c.refusal_of.result.fault (text_or_none c.refusal_of.result.lines)
+    (rw (← c.as_slice.ensures.value, ← c.index_bytes.ensures.bytes) c.in_ok-records.ensures.ok)
+    c.in-Err.ensures.faults c.refusal_of.ensures
+
+pub returns-in-Err-clause-refuses : goal.returns-in-Err-clause-refuses
+returns-in-Err-clause-refuses g c = λ fault h.
+    due_told c.args.role (files_of c.args.files.now) c.args.unit c.args.city.now.ring.corners
+    (rings_of c.in_ok-records.records.items) c.in-Err.all
+    c.refusal_of.result.fault (text_or_none c.refusal_of.result.lines)
+    (λ rings k. c.in_ok-records.ensures.reads rings (rw (c.as_slice.ensures.value, c.index_bytes.ensures.bytes) k))
+    (λ first k. c.in_ok-records.ensures.refuses first (rw (c.as_slice.ensures.value, c.index_bytes.ensures.bytes) k))
+    c.in-Err.ensures.refuses c.refusal_of.ensures fault h
+
+pub returns-in-Ok-clause-layer : goal.returns-in-Ok-clause-layer
+returns-in-Ok-clause-layer g c = record {
+  records = rings_of c.in_ok-records.records.items;
+  are_records = rw (c.as_slice.ensures.value, c.index_bytes.ensures.bytes) at c.in_ok-records.ensures.ok;
+  are_refined = c.in-Ok.ensures.rows;
+  same_city = c.in-Ok.ensures.city;
+  has_no_fault = c.in-Ok.ensures.refuses;
+  is_tiling = c.in-Ok.ensures.tiling;
+}
+
+pub returns-in_err-records-clause-loads : goal.returns-in_err-records-clause-loads
+returns-in_err-records-clause-loads g c = λ tiles h.
+    passed_as c.from_residual.result _ (λ refusal. refusal.fault ≡ NoMemory) c.from_residual.ensures.1 (λ refusal told.
+    told.0 ∙ c.in_err-records.ensures.reads h.records (rw (c.as_slice.ensures.value, c.index_bytes.ensures.bytes) h.are_records))
+
+pub returns-in-Err-clause-loads : goal.returns-in-Err-clause-loads
+returns-in-Err-clause-loads g c = λ tiles h.
+    all_loaded c.args.role (files_of c.args.files.now) c.args.unit c.args.city.now.ring.corners tiles
+    (rings_of c.in_ok-records.records.items) c.in-Err.all
+    c.refusal_of.result.fault (text_or_none c.refusal_of.result.lines) h
+    (c.in_ok-records.ensures.reads h.records (rw (c.as_slice.ensures.value, c.index_bytes.ensures.bytes) h.are_records))
+    c.in-Err.ensures.faults c.refusal_of.ensures

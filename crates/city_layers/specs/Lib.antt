@@ -1,0 +1,9 @@
+pub mod AreaReport
+pub mod Sources
+pub mod TilingFiles
+pub mod ZonedFiles
+pub mod FaultLines
+pub mod own
+pub use Rattle.text_pieces.specs.CornerText
+pub use Rattle.text_pieces.specs.RingFaultText
+pub use Rattle.text_puts.specs.Beginnings

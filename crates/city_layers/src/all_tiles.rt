@@ -1,0 +1,116 @@
+//! The layer of parcels that tiles its city, or all faults of those that do not.
+
+ghost use Rattle.std.specs.Prelude.{◌≡◌, ◌⊎◌, [], IfOk, IfErr, IsErrAnd, None};
+ghost use Rattle.city_layers.specs.declared.fault.ToolFault.{ToolFault as ToolFaultValue};
+ghost use Rattle.fabric_core.specs.declared.layer.LoadFault.{LoadFault as LoadFaultValue};
+ghost use Rattle.fabric_core.specs.Faults.{BeginsWith};
+ghost use Rattle.city_layers.specs.FaultLines.{AreLinesBefore, text_or_none, fault_lines as fault_lines_of};
+ghost use Rattle.city_layers.specs.TilingFiles.{Files, files_of, told_of_load as told_of_load_fault, IsCityOf};
+ghost use Rattle.city_layers.specs.TilingFiles.{IsTiledBy, IsFaultOfLayer, AreTiles, IsTilesFault};
+ghost use Rattle.fabric_core.specs.Rows.{Tiles};
+
+use crate::fault::{Role, ToolFault};
+use crate::fault_lines::fault_lines;
+use crate::layers::layer_rings;
+use crate::sources::Source;
+use crate::tiles::{read_city, told_of_load};
+use fabric_core::{AllFaults, City, Layer};
+use geo_exact::Unit;
+use shp_files::a_layer_file_is_within_the_limits;
+use std::alloc::Allocator;
+
+/// A fault that ends a run, and the lines of all faults of its kind that come before it, where there may be some.
+#[derive(Debug, Drop)]
+pub struct Refusal<A: Allocator> {
+    pub fault: ToolFault<'static>,
+    pub lines: Option<Vec<u8, A>>,
+}
+
+impl<A: Allocator> From<ToolFault<'static>> for Refusal<A> {
+    ghost from_gives = { λ fault refusal. (refusal.fault ≡ fault) × (refusal.lines ≡ None) };
+
+    fn from(fault: ToolFault<'static>) -> Refusal<A> {
+        Refusal { fault, lines: None }
+    }
+}
+
+impl<A: Allocator> Refusal<A> {
+    /// The lines; none where there is no text.
+    pub fn lines(&self) -> &[u8]
+        ensures { result.now ≡ text_or_none self.now.lines }
+    {
+        match &self.lines {
+            Some(lines) => lines.as_slice(),
+            None => &[],
+        }
+    }
+}
+
+/// The layer of these files in the city, or all its faults of the first's kind; the layer has this role in the run.
+fn read_tiles_or_lines<'h, H: Allocator, A: Allocator>(
+    heap: &'h H,
+    city: &City<'h, H>,
+    role: Role,
+    files: &Source<A>,
+    unit: Unit,
+) -> Result<Layer<'h, H>, Refusal<&'h H>>
+    ensures layer { IfOk result (λ layer. IsTiledBy (files_of files.now) unit city.now.ring.corners layer) }
+    ensures fault { IfErr result (λ refusal. (IsFaultOfLayer role (files_of files.now) unit city.now.ring.corners refusal.fault
+        × ((of_city : Files) → IsCityOf of_city unit city.now.ring.corners
+        → AreLinesBefore of_city (files_of files.now) unit refusal.fault (text_or_none refusal.lines)))
+        ⊎ ((refusal.fault ≡ ToolFault.NoMemory) × (text_or_none refusal.lines ≡ []))) }
+    // Files whose rings tile the city are loaded, unless memory runs out.
+    ensures loads { (tiles : Tiles) → IsTiledBy (files_of files.now) unit city.now.ring.corners tiles
+        → IfErr result (λ refusal. refusal.fault ≡ ToolFault.NoMemory) }
+    ensures refuses { (fault : ToolFaultValue) → IsFaultOfLayer role (files_of files.now) unit city.now.ring.corners fault
+        → IsErrAnd result (λ refusal. (refusal.fault ≡ fault) ⊎ (refusal.fault ≡ ToolFault.NoMemory)) }
+{
+    let records = layer_rings(heap, role, files.main.as_slice(), files.index_bytes(), unit)?;
+    a_layer_file_is_within_the_limits();
+    match Layer::load_or_all(heap, city, records) {
+        Ok(layer) => Ok(layer),
+        Err(all) => Err(refusal_of(heap, role, &all)),
+    }
+}
+
+/// What the faults of a layer's rings are to the user; the layer has this role in the run.
+fn refusal_of<A: Allocator, B: Allocator>(alloc: A, role: Role, all: &AllFaults<B>) -> Refusal<A>
+    requires { (first : LoadFaultValue) × BeginsWith all.now first }
+    ensures { ((first : LoadFaultValue) × BeginsWith all.now first × (result.fault ≡ told_of_load_fault role first)
+        × (text_or_none result.lines ≡ fault_lines_of all.now))
+        ⊎ ((result.fault ≡ ToolFault.NoMemory) × (text_or_none result.lines ≡ [])) }
+{
+    match fault_lines(alloc, all) {
+        Ok(lines) => Refusal {
+            fault: told_of_load(role, all.first()),
+            lines: Some(lines),
+        },
+        Err(_) => Refusal::from(ToolFault::NoMemory),
+    }
+}
+
+/// The layer of the parcels' files, which tiles the city of the city's files, or all faults of the
+/// parcels of the first's kind.
+///
+/// # Errors
+///
+/// Those of [`load_tiles`](crate::load_tiles), each with the lines that come before it.
+pub fn load_tiles_or_lines<'h, H: Allocator, A: Allocator>(
+    heap: &'h H,
+    city: &Source<A>,
+    parcels: &Source<A>,
+    unit: Unit,
+) -> Result<Layer<'h, H>, Refusal<&'h H>>
+    ensures tiles { IfOk result (AreTiles (files_of city.now) (files_of parcels.now) unit) }
+    ensures fault { IfErr result (λ refusal. (IsTilesFault (files_of city.now) (files_of parcels.now) unit refusal.fault
+        × AreLinesBefore (files_of city.now) (files_of parcels.now) unit refusal.fault (text_or_none refusal.lines))
+        ⊎ ((refusal.fault ≡ ToolFault.NoMemory) × (text_or_none refusal.lines ≡ []))) }
+    // Files that tile their city are loaded, unless memory runs out.
+    ensures loads { (tiles : Tiles) → AreTiles (files_of city.now) (files_of parcels.now) unit tiles
+        → IfErr result (λ refusal. refusal.fault ≡ ToolFault.NoMemory) }
+    ensures refuses { (fault : ToolFaultValue) → IsTilesFault (files_of city.now) (files_of parcels.now) unit fault
+        → IsErrAnd result (λ refusal. (refusal.fault ≡ fault) ⊎ (refusal.fault ≡ ToolFault.NoMemory)) }
+{
+    let city = read_city(heap, city, unit)?;
+    read_tiles_or_lines(heap, &city, Role::Parcels, parcels, unit)
+}

@@ -1,0 +1,123 @@
+//! The layer of parcels that tiles its city, from the files of both.
+
+ghost use Rattle.std.specs.Prelude.{◌≡◌, ◌⊎◌, List, IfOk, IfErr, IsErrAnd, MatchResult};
+ghost use Rattle.geo_exact.specs.declared.corner.Corner.{Corner};
+ghost use Rattle.fabric_core.specs.Rows.{Tiles};
+ghost use Rattle.city_layers.specs.declared.fault.ToolFault.{ToolFault as ToolFaultValue};
+ghost use Rattle.city_layers.specs.declared.fault.Role.TheVariants.{Parcels};
+ghost use Rattle.city_layers.specs.TilingFiles.{told_of_city as told_of_city_fault, told_of_load as told_of_load_fault};
+ghost use Rattle.city_layers.specs.TilingFiles.{files_of, IsCityOf, IsFaultOfCity, IsTiledBy, IsFaultOfLayer, AreTiles};
+ghost use Rattle.city_layers.specs.TilingFiles.{IsTilesFault};
+
+use crate::fault::{Role, ToolFault};
+use crate::layers::layer_rings;
+use crate::sources::Source;
+use fabric_core::{City, CityFault, Layer, LoadFault};
+use geo_exact::Unit;
+use shp_files::a_layer_file_is_within_the_limits;
+use std::alloc::Allocator;
+
+/// The city of a city's files: their one ring.
+pub fn read_city<'h, H: Allocator, A: Allocator>(
+    heap: &'h H,
+    files: &Source<A>,
+    unit: Unit,
+) -> Result<City<'h, H>, ToolFault<'static>>
+    ensures city { IfOk result (λ city. IsCityOf (files_of files.now) unit city.ring.corners) }
+    ensures fault { IfErr result (λ fault. IsFaultOfCity (files_of files.now) unit fault ⊎ (fault ≡ ToolFault.NoMemory)) }
+    ensures reads { (corners : List Corner) → IsCityOf (files_of files.now) unit corners
+        → MatchResult result (λ city. city.ring.corners ≡ corners) (λ fault. fault ≡ ToolFault.NoMemory) }
+    ensures refuses { (fault : ToolFaultValue) → IsFaultOfCity (files_of files.now) unit fault
+        → IsErrAnd result (λ told. (told ≡ fault) ⊎ (told ≡ ToolFault.NoMemory)) }
+{
+    let mut rings = layer_rings(
+        heap,
+        Role::City,
+        files.main.as_slice(),
+        files.index_bytes(),
+        unit,
+    )?;
+    let count = rings.len();
+    if count != 1 {
+        return Err(ToolFault::CityCount(count));
+    }
+    let Some(ring) = rings.pop() else {
+        unreachable!()
+    };
+    match City::new(heap, ring) {
+        Ok(city) => Ok(city),
+        Err(fault) => Err(told_of_city(fault)),
+    }
+}
+
+/// What the fault of a city's ring is to the user.
+fn told_of_city(fault: CityFault) -> ToolFault<'static>
+    ensures { result ≡ told_of_city_fault fault }
+{
+    match fault {
+        CityFault::NoMemory => ToolFault::NoMemory,
+        CityFault::Ring(_) | CityFault::Folded(_, _) => ToolFault::CityRing(fault),
+    }
+}
+
+/// What the fault of a layer's rings is to the user; the layer has this role in the run.
+pub fn told_of_load(role: Role, fault: LoadFault) -> ToolFault<'static>
+    ensures { result ≡ told_of_load_fault role fault }
+{
+    match fault {
+        LoadFault::NoMemory => ToolFault::NoMemory,
+        LoadFault::TooMany(_) | LoadFault::Ring(_, _) | LoadFault::Gap(_, _, _) => {
+            ToolFault::NoTiling(role, fault)
+        }
+    }
+}
+
+/// The layer of these files in the city; the layer has this role in the run.
+pub fn read_tiles<'h, H: Allocator, A: Allocator>(
+    heap: &'h H,
+    city: &City<'h, H>,
+    role: Role,
+    files: &Source<A>,
+    unit: Unit,
+) -> Result<Layer<'h, H>, ToolFault<'static>>
+    ensures layer { IfOk result (λ layer. IsTiledBy (files_of files.now) unit city.now.ring.corners layer) }
+    ensures fault { IfErr result (λ fault. IsFaultOfLayer role (files_of files.now) unit city.now.ring.corners fault
+        ⊎ (fault ≡ ToolFault.NoMemory)) }
+    // Files whose rings tile the city are loaded, unless memory runs out.
+    ensures loads { (tiles : Tiles) → IsTiledBy (files_of files.now) unit city.now.ring.corners tiles
+        → IfErr result (λ fault. fault ≡ ToolFault.NoMemory) }
+    ensures refuses { (fault : ToolFaultValue) → IsFaultOfLayer role (files_of files.now) unit city.now.ring.corners fault
+        → IsErrAnd result (λ told. (told ≡ fault) ⊎ (told ≡ ToolFault.NoMemory)) }
+{
+    let records = layer_rings(heap, role, files.main.as_slice(), files.index_bytes(), unit)?;
+    a_layer_file_is_within_the_limits();
+    match Layer::load(heap, city, records) {
+        Ok(layer) => Ok(layer),
+        Err(fault) => Err(told_of_load(role, fault)),
+    }
+}
+
+/// The layer of the parcels' files, which tiles the city of the city's files.
+///
+/// # Errors
+///
+/// The first fault of the city's files, the number of their rings, or the ring's fault; then the
+/// first fault of the parcels' files, or of their rings as a layer; and [`ToolFault::NoMemory`].
+pub fn load_tiles<'h, H: Allocator, A: Allocator>(
+    heap: &'h H,
+    city: &Source<A>,
+    parcels: &Source<A>,
+    unit: Unit,
+) -> Result<Layer<'h, H>, ToolFault<'static>>
+    ensures tiles { IfOk result (AreTiles (files_of city.now) (files_of parcels.now) unit) }
+    ensures fault { IfErr result (λ fault. IsTilesFault (files_of city.now) (files_of parcels.now) unit fault
+        ⊎ (fault ≡ ToolFault.NoMemory)) }
+    // Files that tile their city are loaded, unless memory runs out.
+    ensures loads { (tiles : Tiles) → AreTiles (files_of city.now) (files_of parcels.now) unit tiles
+        → IfErr result (λ fault. fault ≡ ToolFault.NoMemory) }
+    ensures refuses { (fault : ToolFaultValue) → IsTilesFault (files_of city.now) (files_of parcels.now) unit fault
+        → IsErrAnd result (λ told. (told ≡ fault) ⊎ (told ≡ ToolFault.NoMemory)) }
+{
+    let city = read_city(heap, city, unit)?;
+    read_tiles(heap, &city, Role::Parcels, parcels, unit)
+}

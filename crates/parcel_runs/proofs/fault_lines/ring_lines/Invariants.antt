@@ -1,6 +1,0 @@
-use Rattle.std.proofs.Common.{◌≡◌, take, flat_map}
-use Rattle.parcel_runs.specs.FaultLines.{ring_line}
-use Rattle.parcel_runs.proofs.fault_lines.ring_lines.Given as goal
-
-abbrev pub invariant-loop-told : goal.invariant-loop-told
-invariant-loop-told g l = l.text.items ≡ flat_map ring_line (take l.told-index l.faults)

@@ -1,6 +1,0 @@
-use Rattle.std.proofs.Common.{◌∙◌, ap}
-use Rattle.parcel_runs.specs.own.LayerFaults.{layer_fault}
-use Rattle.parcel_runs.proofs.layers.read_rings.Goals as goal
-
-pub returns-in-Err-clause-reads : goal.returns-in-Err-clause-reads
-returns-in-Err-clause-reads g c = λ rings h. c.told.ensures ∙ ap (layer_fault c.args.role) (c.in-Err.ensures.reads rings h)

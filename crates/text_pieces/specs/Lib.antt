@@ -1,0 +1,2 @@
+pub mod CornerText
+pub mod RingFaultText
