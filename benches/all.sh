@@ -1,16 +1,17 @@
 #!/usr/bin/env bash
-# all.sh PARCEL_TOOL PROGRAMS FOLDER: runs every benchmark that docs/performance.md tells of, one behind the other, with the built
-# parcel_tool and the programs of programs/ in the folder PROGRAMS, where build.sh made them, and writes what each prints to a file of
-# FOLDER. Nothing else should run meanwhile; it takes some half an hour.
+# all.sh PARCEL_TOOL PROGRAMS FOLDER: runs every benchmark that docs/performance.md tells of, one behind the other, with
+# the built parcel_tool and the programs of programs/ in the folder PROGRAMS, where build.sh made them, and writes what
+# each prints to a file of FOLDER. Nothing else should run meanwhile.
 set -eu
 here=$(cd "$(dirname "$0")" && pwd)
 tool=$1 programs=$2 to=$3
 mkdir -p "$to"
+failed=0
 measure() {
     local name=$1
     shift
     echo "$name"
-    "$@" > "$to/$name" 2>&1 || echo "$name ended with $?"
+    "$@" > "$to/$name" 2>&1 || { echo "$name ended with $?"; failed=1; }
 }
 measure areas python3 "$here/area.py" "$programs/bench_areas" --runs 20
 measure area python3 "$here/area.py" "$tool" --runs 7
@@ -24,3 +25,4 @@ measure zoning python3 "$here/zoning.py" "$tool" --pairs "$programs/bench_overla
 measure office python3 "$here/office.py" --ours "$programs/bench_office" --runs 3
 measure overlap python3 "$here/overlap.py" --ours "$programs/bench_overlap"
 measure nodes python3 "$here/nodes.py" --ours "$programs/bench_nodes" --runs 2 --limit 400
+exit "$failed"

@@ -5,7 +5,7 @@
 
 The programs are programs/bench_nodes and programs/bench_layer_rings, built by build.sh unless they are given. The layers are made in
 a temporary folder with a fixed seed: city L, squares that paths cut into halves of some 4,096 corners (tiling.py), and 244 rings of
-4,096 corners of one kind (rings.py), 2 * 10^7 wide. The least of N processes is printed for each step, in milliseconds. Noding is told
+4,096 corners of one kind (rings.py), at most 5 * 10^8 wide, in rows of sixteen. The least of N processes is printed for each step, in milliseconds. Noding is told
 of layers that tile alone.
 """
 import argparse, os, shutil, subprocess, sys, tempfile
@@ -16,15 +16,16 @@ import nodes
 import rings
 import tiling
 
-SMALL = 500
+SMALL = 20
 
 
 def many(kind):
-    """244 rings of this kind, side by side."""
+    """244 rings of this kind, in rows of sixteen."""
     def make(folder):
         ring = [(x // SMALL, y // SMALL) for x, y in kind(4096)]
-        wide = 3 * rings.R // SMALL
-        nodes.layers(folder, nodes.box(0, 0, wide, wide), [[(x + wide * k, y) for x, y in ring] for k in range(244)])
+        wide = 2 * rings.R // SMALL + 1000
+        apart = [[(x + wide * (k % 16), y + wide * (k // 16)) for x, y in ring] for k in range(244)]
+        nodes.layers(folder, nodes.box(0, 0, wide, wide), apart)
     return make
 
 

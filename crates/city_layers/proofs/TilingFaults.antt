@@ -128,19 +128,7 @@ city_refused files unit found ring P one only sound refuses (NoWindow window) h 
 city_refused files unit found ring P one only sound refuses Output h = absurd h
 city_refused files unit found ring P one only sound refuses NoMemory h = absurd h
 
--- the fault of a ring that is told is that ring's
-pub told_city_fault : (corners : List Corner) (F : ToolFault → Type 0) (fault : CityFault)
-    → ((f : CityFault) → IsCityFault corners f → F (CityRing f))
-    → IsCityFault corners fault ⊎ (fault ≡ CityMemory) → F (told_of_city fault) ⊎ (told_of_city fault ≡ NoMemory)
-told_city_fault corners F (CityFaultRing f) gives h = elim h [
-  | inl k ↦ inl (gives (CityFaultRing f) k)
-  | inr e ↦
-      inr (ap told_of_city e)
-]
-told_city_fault corners F (Folded i j) gives h = elim h [ inl k ↦ inl (gives (Folded i j) k) | inr e ↦ inr (ap told_of_city e) ]
-told_city_fault corners F CityMemory gives h = inr refl
-
--- and a ring's first fault is told
+-- a ring's first fault is told
 pub told_city_first : (corners : List Corner) (answer fault : CityFault) → IsCityFault corners fault
     → (answer ≡ fault) ⊎ (answer ≡ CityMemory) → Tells (told_of_city answer) (CityRing fault)
 told_city_first corners answer (CityFaultRing f) h k = elim k [ inl e ↦ inl (ap told_of_city e) | inr e ↦ inr (ap told_of_city e) ]
@@ -153,19 +141,6 @@ pub told_city_memory : (corners : List Corner) (answer : CityFault)
     → told_of_city answer ≡ NoMemory
 told_city_memory corners answer none h = elim h [ inl k ↦ absurd (none answer k) | inr e ↦ ap told_of_city e ]
 
--- the fault of a layer that is told is that layer's
-pub told_load_fault : (role : Role) (files : Files) (unit : LengthUnit) (city : List Corner)
-    (records : List NumberedRing) (fault : LoadFault) → IsLayerFile files.main files.index unit records
-    → IsLoadFault records city fault ⊎ (fault ≡ LayerMemory)
-    → IsFaultOfLayer role files unit city (told_of_load role fault) ⊎ (told_of_load role fault ≡ NoMemory)
-told_load_fault role files unit city records (TooMany n) is h =
-    elim h [ inl k ↦ inl (refl, record { records = records; are_records = is; is_fault = k }) | inr e ↦ inr (ap (told_of_load role) e) ]
-told_load_fault role files unit city records (LayerFaultRing n f) is h =
-    elim h [ inl k ↦ inl (refl, record { records = records; are_records = is; is_fault = k }) | inr e ↦ inr (ap (told_of_load role) e) ]
-told_load_fault role files unit city records (Gap a b net) is h =
-    elim h [ inl k ↦ inl (refl, record { records = records; are_records = is; is_fault = k }) | inr e ↦ inr (ap (told_of_load role) e) ]
-told_load_fault role files unit city records LayerMemory is h = inr refl
-
 -- a layer that tiles the city is refused for want of memory alone
 pub layer_loaded : (role : Role) (files : Files) (unit : LengthUnit) (city : List Corner) (tiles : Tiles) (answer : LoadFault)
     → (h : IsTiledBy files unit city tiles) → {found : List NumberedRing} → found ≡ h.records
@@ -175,7 +150,7 @@ layer_loaded role files unit city tiles answer h same k = elim k [
   | inr e ↦ ap (told_of_load role) e
 ]
 
--- and a layer's first fault is told
+-- a layer's first fault is told
 told_load_first : (role told : Role) (records : List NumberedRing) (city : List Corner) (answer fault : LoadFault)
     → told ≡ role → IsLoadFault records city fault
     → (answer ≡ fault) ⊎ (answer ≡ LayerMemory) → Tells (told_of_load role answer) (NoTiling told fault)

@@ -21,20 +21,22 @@ use std::alloc::Allocator;
 
 /// A fault that ends a run, and the lines of all faults of its kind that come before it, where there may be some.
 #[derive(Debug, Drop)]
-pub struct Refusal<A: Allocator> {
+pub struct LayerRefusal<A: Allocator> {
+    /// The fault: the first of its kind.
     pub fault: ToolFault<'static>,
+    /// The lines of all faults of that kind; none where the fault is not of a layer's rings.
     pub lines: Option<Vec<u8, A>>,
 }
 
-impl<A: Allocator> From<ToolFault<'static>> for Refusal<A> {
+impl<A: Allocator> From<ToolFault<'static>> for LayerRefusal<A> {
     ghost from_gives = { λ fault refusal. (refusal.fault ≡ fault) × (refusal.lines ≡ None) };
 
-    fn from(fault: ToolFault<'static>) -> Refusal<A> {
-        Refusal { fault, lines: None }
+    fn from(fault: ToolFault<'static>) -> LayerRefusal<A> {
+        LayerRefusal { fault, lines: None }
     }
 }
 
-impl<A: Allocator> Refusal<A> {
+impl<A: Allocator> LayerRefusal<A> {
     /// The lines; none where there is no text.
     pub fn lines(&self) -> &[u8]
         ensures { result.now ≡ text_or_none self.now.lines }
@@ -53,7 +55,7 @@ fn read_tiles_or_lines<'h, H: Allocator, A: Allocator>(
     role: Role,
     files: &Source<A>,
     unit: Unit,
-) -> Result<Layer<'h, H>, Refusal<&'h H>>
+) -> Result<Layer<'h, H>, LayerRefusal<&'h H>>
     ensures layer { IfOk result (λ layer. IsTiledBy (files_of files.now) unit city.now.ring.corners layer) }
     ensures fault { IfErr result (λ refusal. (IsFaultOfLayer role (files_of files.now) unit city.now.ring.corners refusal.fault
         × ((of_city : Files) → IsCityOf of_city unit city.now.ring.corners
@@ -74,18 +76,22 @@ fn read_tiles_or_lines<'h, H: Allocator, A: Allocator>(
 }
 
 /// What the faults of a layer's rings are to the user; the layer has this role in the run.
-fn refusal_of<A: Allocator, B: Allocator>(alloc: A, role: Role, all: &AllFaults<B>) -> Refusal<A>
+fn refusal_of<A: Allocator, B: Allocator>(
+    alloc: A,
+    role: Role,
+    all: &AllFaults<B>,
+) -> LayerRefusal<A>
     requires { (first : LoadFaultValue) × BeginsWith all.now first }
     ensures { ((first : LoadFaultValue) × BeginsWith all.now first × (result.fault ≡ told_of_load_fault role first)
         × (text_or_none result.lines ≡ fault_lines_of all.now))
         ⊎ ((result.fault ≡ ToolFault.NoMemory) × (text_or_none result.lines ≡ [])) }
 {
     match fault_lines(alloc, all) {
-        Ok(lines) => Refusal {
+        Ok(lines) => LayerRefusal {
             fault: told_of_load(role, all.first()),
             lines: Some(lines),
         },
-        Err(_) => Refusal::from(ToolFault::NoMemory),
+        Err(_) => LayerRefusal::from(ToolFault::NoMemory),
     }
 }
 
@@ -100,7 +106,7 @@ pub fn load_tiles_or_lines<'h, H: Allocator, A: Allocator>(
     city: &Source<A>,
     parcels: &Source<A>,
     unit: Unit,
-) -> Result<Layer<'h, H>, Refusal<&'h H>>
+) -> Result<Layer<'h, H>, LayerRefusal<&'h H>>
     ensures tiles { IfOk result (AreTiles (files_of city.now) (files_of parcels.now) unit) }
     ensures fault { IfErr result (λ refusal. (IsTilesFault (files_of city.now) (files_of parcels.now) unit refusal.fault
         × AreLinesBefore (files_of city.now) (files_of parcels.now) unit refusal.fault (text_or_none refusal.lines))

@@ -1,6 +1,7 @@
-//! Layers from their files: their areas told, and the parcels and the zones that tile one city.
+//! Layers and their files: read from a folder and replaced in it, their areas told, and the parcels and zones that tile
+//! one city.
 //!
-//! Each call answers from the bytes of the files, and says to which layer a fault belongs.
+//! What is read of a layer follows from the bytes of its files; a fault says whose it is.
 #![tactic(auto)]
 
 mod all_tiles;
@@ -14,10 +15,9 @@ mod sources;
 mod tiles;
 mod zones;
 
-pub use all_tiles::{Refusal, load_tiles_or_lines};
+pub use all_tiles::{LayerRefusal, load_tiles_or_lines};
 pub use fault::{Role, ToolFault};
 pub use replace::replace_layer;
 pub use sources::{Disk, Folder, PathFault, Source, StandardInput, read_source, read_text};
-pub use text_puts::put_all;
 pub use tiles::load_tiles;
 pub use zones::{Layers, load_layers};

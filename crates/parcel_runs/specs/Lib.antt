@@ -5,6 +5,7 @@ pub mod LocateReport
 pub mod OverlayReport
 pub mod own
 pub use Rattle.text_pieces.specs.CornerText
+pub use Rattle.text_pieces.specs.RingFaultText
 pub use Rattle.city_layers.specs.AreaReport
 pub use Rattle.city_layers.specs.Sources
 pub use Rattle.city_layers.specs.TilingFiles

@@ -14,7 +14,7 @@ ghost use Rattle.parcel_runs.specs.RunFaults.{IsRunFault, IsWant};
 ghost use Rattle.parcel_runs.specs.own.Registers.{register_of_parcels, city_of_parcels};
 
 use crate::clerks::CLERKS;
-use crate::edited::{Edited, Parcels, Unedited, edit_layer};
+use crate::edited::{Parcels, Unedited, edit_layer};
 use crate::unedited::{load_unedited, load_unedited_or_lines};
 use city_layers::{Source, ToolFault};
 use geo_exact::{ByteOut, Unit, area2};
@@ -129,10 +129,10 @@ fn checked_text<'h, R: Threads + Wait + Sync, H: Allocator + Send + Sync>(
         × (text.items ≡ told ++ tiling_line after.now.rows unedited.entry.layer.city)) }
     ensures fault { IfErr result IsWant }
 {
-    let Edited { parcels, lines, .. } = edit_layer(rt, heap, unedited, &[])?;
-    let mut text = lines;
-    push_tiling(&mut text, &parcels)?;
-    Ok(text)
+    let edited = edit_layer(rt, heap, unedited, &[])?;
+    let (parcels, mut lines) = edited.into_parcels();
+    push_tiling(&mut lines, &parcels)?;
+    Ok(lines)
 }
 
 /// Adds the line of a tiling.

@@ -1,6 +1,6 @@
 //! How parcels are dealt to those who overlay them.
 
-ghost use Rattle.std.specs.Prelude.{◌≡◌, ◌<◌, ◌++◌, [], ◌∷◌, length, map, IfOk, OnOk, IsPermutation};
+ghost use Rattle.std.specs.Prelude.{◌≡◌, ◌<◌, [], length, IfOk, IsPermutation};
 ghost use Rattle.overlay_work.specs.Sharing.{joined};
 ghost use Rattle.parcel_runs.specs.own.Dealing.{dealt};
 

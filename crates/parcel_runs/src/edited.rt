@@ -45,6 +45,26 @@ pub struct Edited<'h, H: Allocator> {
     pub places: Vec<At<&'h H>, &'h H>,
 }
 
+impl<'h, H: Allocator> Edited<'h, H> {
+    /// The parcels and the lines; that where corners lie is let go.
+    pub fn into_parcels(self) -> (Parcels<'h, H>, Vec<u8, &'h H>)
+        ensures parcels { result.0 ≡ self.entry.parcels }
+        ensures lines { result.1 ≡ self.entry.lines }
+    {
+        let Edited { parcels, lines, .. } = self;
+        (parcels, lines)
+    }
+
+    /// The lines, and where each corner lies; the parcels are let go.
+    pub fn into_places(self) -> (Vec<u8, &'h H>, Vec<At<&'h H>, &'h H>)
+        ensures lines { result.0 ≡ self.entry.lines }
+        ensures places { result.1 ≡ self.entry.places }
+    {
+        let Edited { lines, places, .. } = self;
+        (lines, places)
+    }
+}
+
 impl<'h, H: Allocator> Parcels<'h, H> {
     /// How many parcels there are.
     pub fn count(&self) -> usize

@@ -4,7 +4,8 @@ ghost use Rattle.std.specs.Prelude.{◌≡◌, ◌⊎◌, ◌≤◌, ◌++◌, m
 ghost use Rattle.std.specs.Borrow.{Bor};
 ghost use Rattle.std.specs.List.{AllByRecursion};
 ghost use Rattle.geo_exact.specs.declared.limits.TheConstants.{LAYER_RECORDS, RING_CORNERS};
-ghost use Rattle.shp_files.specs.Written.{corner_lists as lists_of_rings};
+ghost use Rattle.shp_files.specs.Written.{corner_lists as lists_of_rings, written_main, written_index};
+ghost use Rattle.fabric_core.specs.Tiling.{corner_lists};
 ghost use Rattle.city_layers.specs.declared.fault.ToolFault.{ToolFault as ToolFaultValue};
 ghost use Rattle.parcel_runs.specs.ExportReport.{exported_line, IsExport};
 ghost use Rattle.city_layers.specs.TilingFiles.{files_of};
@@ -12,7 +13,7 @@ ghost use Rattle.clerk_runs.specs.ClerkFiles.{texts_of};
 ghost use Rattle.parcel_runs.specs.RunFaults.{IsRunFault, IsWant};
 ghost use Rattle.parcel_runs.specs.own.Registers.{register_of_parcels};
 
-use crate::edited::{Edited, Parcels, edit_layer};
+use crate::edited::{Parcels, edit_layer};
 use crate::unedited::load_unedited;
 use city_layers::{Source, ToolFault};
 use fabric_core::Shapes;
@@ -65,13 +66,25 @@ pub fn export<'h, R: Threads + Wait + Sync, H: Allocator + Send + Sync, A: Alloc
 {
     let unedited = load_unedited(heap, city, parcels, unit, clerks)?;
     a_layer_file_is_within_the_limits();
-    let Edited { parcels, lines, .. } = edit_layer(rt, heap, unedited, &[])?;
+    let edited = edit_layer(rt, heap, unedited, &[])?;
+    let (parcels, mut lines) = edited.into_parcels();
+    push_exported(&mut lines, &parcels)?;
+    let (main, index) = written(heap, &parcels)?;
+    Ok(Exported { main, index, lines })
+}
+
+/// The main file and the index of the parcels, each numbered as the record that it is written as.
+fn written<'h, H: Allocator>(
+    heap: &'h H,
+    parcels: &Parcels<'h, H>,
+) -> Result<(Vec<u8, &'h H>, Vec<u8, &'h H>), AllocError>
+    requires { length (register_of_parcels parcels.now).now.rows ≤ LAYER_RECORDS }
+    ensures main { IfOk result (λ files. files.0.items ≡ written_main (corner_lists (register_of_parcels parcels.now).now.rows)) }
+    ensures index { IfOk result (λ files. files.1.items ≡ written_index (corner_lists (register_of_parcels parcels.now).now.rows)) }
+{
     parcels.are_within();
     let rings = rings_to_write(heap, parcels.shapes())?;
-    let (main, index) = write_layer(heap, &rings)?;
-    let mut lines = lines;
-    push_exported(&mut lines, &parcels)?;
-    Ok(Exported { main, index, lines })
+    write_layer(heap, &rings)
 }
 
 /// The rings of shapes, each numbered as the record that it is written as.

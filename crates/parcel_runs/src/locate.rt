@@ -1,10 +1,9 @@
 //! Where points lie among parcels.
 
-ghost use Rattle.std.specs.Prelude.{◌≡◌, ◌⊎◌, ◌≤◌, ◌++◌, ℕ, List, length, IfOk, IfErr, IsErrAnd, IsErrOf, OnOk, MatchResult, codes};
+ghost use Rattle.std.specs.Prelude.{◌≡◌, ◌⊎◌, ◌≤◌, ◌++◌, ℕ, List, length, IfOk, IfErr, IsErrAnd, IsErrOf, OnOk, codes};
 ghost use Rattle.std.specs.List.{flat_map};
 ghost use Rattle.std.specs.Borrow.{Bor};
 ghost use Rattle.geo_exact.specs.Bytes.{raised};
-ghost use Rattle.geo_exact.specs.declared.corner.Corner.{Corner as CornerValue};
 ghost use Rattle.city_layers.specs.declared.fault.ToolFault.{ToolFault as ToolFaultValue};
 ghost use Rattle.text_pieces.specs.CornerText.{corner_text};
 ghost use Rattle.parcel_runs.specs.LocateReport.{id_text, ArePlaceLines, WritesPlaces, WritesPlacesOfText, IsLocateFault};
@@ -16,7 +15,7 @@ ghost use Rattle.parcel_runs.specs.RunFaults.{IsRunFault, IsWant};
 ghost use Rattle.parcel_runs.specs.own.PlaceTexts.{place_text, places_text};
 
 use crate::clerks::CLERKS;
-use crate::edited::{Edited, Unedited, edit_layer};
+use crate::edited::{Unedited, edit_layer};
 use crate::unedited::load_unedited;
 use city_layers::{Source, ToolFault};
 use fabric_core::At;
@@ -138,10 +137,10 @@ fn located_text<'h, R: Threads + Wait + Sync, H: Allocator + Send + Sync>(
         × ArePlaceLines after.now.rows points.now lines × (text.items ≡ told ++ lines)) }
     ensures fault { IfErr result IsWant }
 {
-    let Edited { lines, places, .. } = edit_layer(rt, heap, unedited, points)?;
-    let mut text = lines;
-    push_place_lines(&mut text, points, places.as_slice())?;
-    Ok(text)
+    let edited = edit_layer(rt, heap, unedited, points)?;
+    let (mut lines, places) = edited.into_places();
+    push_place_lines(&mut lines, points, &places)?;
+    Ok(lines)
 }
 
 /// Adds the lines of points, of which it is known where each lies.

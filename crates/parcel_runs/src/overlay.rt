@@ -1,6 +1,6 @@
 //! Which parcels and which zones overlap.
 
-ghost use Rattle.std.specs.Prelude.{◌≡◌, ◌⊎◌, ◌<◌, ◌≤◌, ℕ, List, length, IfOk, IfErr, IsErrAnd, IsErrOf, OnOk, OnErr};
+ghost use Rattle.std.specs.Prelude.{◌≡◌, ◌⊎◌, ◌<◌, ◌≤◌, length, IfOk, IfErr, IsErrAnd, IsErrOf, OnOk, OnErr};
 ghost use Rattle.std.specs.Borrow.{Bor};
 ghost use Rattle.geo_exact.specs.Bytes.{raised};
 ghost use Rattle.overlay_work.specs.declared.round.TheConstants.{MOST_HANDS};
@@ -13,7 +13,7 @@ ghost use Rattle.parcel_runs.specs.RunFaults.{IsWant};
 ghost use Rattle.parcel_runs.specs.own.LinesAndReports.{WritesBoth, BeginsBoth};
 
 use crate::clerks::CLERKS;
-use crate::edited::{Edited, Unedited, edit_layer};
+use crate::edited::{Unedited, edit_layer};
 use crate::overlaps::overlaps;
 use crate::zoned::{Zoned, load_zoned};
 use city_layers::{Source, ToolFault};
@@ -86,7 +86,8 @@ fn edited_sheet<'h, R: Threads + Wait + Sync, H: Allocator + Send + Sync>(
     ensures city { IfOk result (λ made. made.0.city ≡ unedited.entry.layer.city) }
     ensures fault { IfErr result IsWant }
 {
-    let Edited { parcels, lines, .. } = edit_layer(rt, heap, unedited, &[])?;
+    let edited = edit_layer(rt, heap, unedited, &[])?;
+    let (parcels, lines) = edited.into_parcels();
     let sheet = parcels.into_sheet()?;
     Ok((sheet, lines))
 }

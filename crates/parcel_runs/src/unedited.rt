@@ -9,7 +9,7 @@ ghost use Rattle.parcel_runs.specs.RunFaults.{IsRunFault};
 
 use crate::clerks::{CLERKS, read_clerk_files, refuse_many_clerks};
 use crate::edited::Unedited;
-use city_layers::{Refusal, Source, ToolFault, load_tiles, load_tiles_or_lines};
+use city_layers::{LayerRefusal, Source, ToolFault, load_tiles, load_tiles_or_lines};
 use geo_exact::Unit;
 use std::alloc::Allocator;
 
@@ -59,7 +59,7 @@ pub fn load_unedited_or_lines<'h, H: Allocator, A: Allocator>(
     parcels: &Source<A>,
     unit: Unit,
     clerks: &[Vec<u8, A>],
-) -> Result<Unedited<'h, H>, Refusal<&'h H>>
+) -> Result<Unedited<'h, H>, LayerRefusal<&'h H>>
     ensures tiles { IfOk result (λ unedited. AreTiles (files_of city.now) (files_of parcels.now) unit unedited.layer) }
     ensures edits { IfOk result (λ unedited. AreClerkFiles (texts_of clerks.now) unedited.clerks.items) }
     ensures few { IfOk result (λ unedited. length unedited.clerks.items ≤ CLERKS) }

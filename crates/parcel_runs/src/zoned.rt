@@ -1,4 +1,4 @@
-//! The layers of parcels and of zones that tile one city, from the files of all three.
+//! The parcels and zones of an overlay before its clerks' edits, from the files of all.
 
 ghost use Rattle.std.specs.Prelude.{◌≡◌, ◌⊎◌, ◌≤◌, length, IfOk, IfErr, IsErrAnd};
 ghost use Rattle.city_layers.specs.declared.fault.ToolFault.{ToolFault as ToolFaultValue};

@@ -2,9 +2,7 @@
 #![tactic(auto)]
 
 use city_layers::area::area;
-use city_layers::{
-    Disk, Source, StandardInput, ToolFault, put_all, read_source, read_text, replace_layer,
-};
+use city_layers::{Disk, Source, StandardInput, ToolFault, read_source, read_text, replace_layer};
 use clap::Error;
 use clap::error::ErrorKind;
 use geo_exact::{ByteOut, Counted};
@@ -20,6 +18,7 @@ use std::rt::{Env, Files};
 use std::sync::Wait;
 use std::thread::Threads;
 use std::{env, io};
+use text_puts::put_all;
 use tool_arguments::{Inputs, Points, Request, Workers};
 
 /// The status of a run that a fault ended.

@@ -1,5 +1,5 @@
-//! Tests of runs: what they print and write, what clerks' edits lead to, which zones overlap, the
-//! texts of faults, which files are read and how files are replaced, and what a run answers whose
+//! Tests of runs: what they print and write, what clerks' edits lead to, which zones overlap, which layers tile their
+//! city, the texts of faults and their pieces, which files are read and how files are replaced, and what a run answers whose
 //! growths are refused.
 #![tactic(auto)]
 
@@ -13,6 +13,8 @@ mod export_runs;
 mod fault_texts;
 #[cfg(test)]
 mod index_runs;
+#[cfg(test)]
+mod layers_loaded;
 #[cfg(test)]
 mod locate_runs;
 #[cfg(test)]

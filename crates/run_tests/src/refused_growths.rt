@@ -6,7 +6,7 @@ use crate::export_runs::{BEYOND, CITY, EAST, WEST, alone, layer};
 use crate::overlay_runs::HALVES;
 use crate::square::{HUNDRED, square};
 use city_layers::area::area;
-use city_layers::{Source, ToolFault, put_all};
+use city_layers::{Source, ToolFault};
 use geo_exact::{Counted, Unit};
 use parcel_runs::check::{check, check_all};
 use parcel_runs::export::{Exported, export};
@@ -17,6 +17,7 @@ use std::alloc::{AllocError, Allocator, Global};
 use std::sync::Wait;
 use std::test::Fail;
 use std::thread::Threads;
+use text_puts::put_all;
 
 /// No run here has so many growths.
 const MOST: u64 = 1000;

@@ -6,9 +6,9 @@ use Rattle.parcel_runs.proofs.overlay.edited_sheet.Goals as goal
 
 pub returns-clause-made : goal.returns-clause-made
 returns-clause-made g c =
-    let edited = c.in_ok-parcels.field-0 in
+    let parts = c.into_parcels-parcels.result in
     let layer = c.args.unedited.layer in
     let clerks = c.args.unedited.clerks.items in
-    subst (λ after. AreMade layer clerks after edited.lines.items)
-    (same_register (register_of_parcels edited.parcels) c.in_ok-sheet.sheet c.in_ok-sheet.ensures.now c.in_ok-sheet.ensures.journal)
-    c.in_ok-parcels.ensures.made
+    subst (λ after. AreMade layer clerks after parts.1.items)
+    (same_register (register_of_parcels parts.0) c.in_ok-sheet.sheet c.in_ok-sheet.ensures.now c.in_ok-sheet.ensures.journal)
+    (rw (c.into_parcels-parcels.ensures.parcels) (rw (c.into_parcels-parcels.ensures.lines) c.in_ok-edited.ensures.made))
