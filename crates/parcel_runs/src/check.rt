@@ -1,6 +1,6 @@
 //! Whether parcels tile their city.
 
-ghost use Rattle.std.specs.Prelude.{◌≡◌, ◌⊎◌, ◌≤◌, ◌++◌, ℕ, List, length, IfOk, IfErr, IsErrAnd, IsErrOf, OnOk};
+ghost use Rattle.std.specs.Prelude.{◌≡◌, ◌⊎◌, ◌≤◌, ◌++◌, ℕ, List, length, IfOk, IfErr, IsErrAnd, IsErrOf, OnOk, codes, decimal};
 ghost use Rattle.std.specs.Borrow.{Bor};
 ghost use Rattle.geo_exact.specs.Bytes.{raised};
 ghost use Rattle.geo_exact.specs.declared.limits.TheConstants.{LIST_CORNERS};
@@ -11,13 +11,12 @@ ghost use Rattle.city_layers.specs.TilingFiles.{files_of};
 ghost use Rattle.clerk_runs.specs.ClerkFiles.{texts_of};
 ghost use Rattle.clerk_runs.specs.ClerkRuns.{Register, AreMade};
 ghost use Rattle.parcel_runs.specs.RunFaults.{IsRunFault, IsWant};
-ghost use Rattle.parcel_runs.specs.own.Registers.{register_of_parcels, city_of_parcels};
 
 use crate::clerks::CLERKS;
-use crate::edited::{Parcels, Unedited, edit_layer};
+use crate::edited::{Unedited, edit_layer};
 use crate::unedited::{load_unedited, load_unedited_or_lines};
 use city_layers::{Source, ToolFault};
-use geo_exact::{ByteOut, Unit, area2};
+use geo_exact::{ByteOut, Unit};
 use itoa::Buffer;
 use shp_files::a_layer_file_is_within_the_limits;
 use std::alloc::{AllocError, Allocator};
@@ -130,29 +129,27 @@ fn checked_text<'h, R: Threads + Wait + Sync, H: Allocator + Send + Sync>(
     ensures fault { IfErr result IsWant }
 {
     let edited = edit_layer(rt, heap, unedited, &[])?;
-    let (parcels, mut lines) = edited.into_parcels();
-    push_tiling(&mut lines, &parcels)?;
+    let count = edited.parcels.count();
+    let area2 = edited.parcels.city_area2();
+    let mut lines = edited.into_lines();
+    push_tiling(&mut lines, count, area2)?;
     Ok(lines)
 }
 
-/// Adds the line of a tiling.
-fn push_tiling<'h, H: Allocator, A: Allocator>(
+/// Adds the line of a tiling: the number of parcels, and twice the city's area.
+fn push_tiling<A: Allocator>(
     text: &mut Vec<u8, A>,
-    parcels: &Parcels<'h, H>,
+    count: usize,
+    area2: u128,
 ) -> Result<(), AllocError>
-    requires { length (city_of_parcels parcels.now) ≤ LIST_CORNERS }
     ensures { OnOk result (text.new.items ≡ text.old.items
-        ++ tiling_line (register_of_parcels parcels.now).now.rows (city_of_parcels parcels.now)) }
+        ++ (codes "tiling " ++ decimal count ++ codes " " ++ decimal area2 ++ codes "\n")) }
 {
     let mut digits = Buffer::new();
     text.extend_from_slice(b"tiling ")?;
-    text.extend_from_slice(digits.format(parcels.count()).as_bytes())?;
+    text.extend_from_slice(digits.format(count).as_bytes())?;
     text.push(b' ')?;
-    text.extend_from_slice(
-        digits
-            .format(area2(parcels.city()).unsigned_abs())
-            .as_bytes(),
-    )?;
+    text.extend_from_slice(digits.format(area2).as_bytes())?;
     text.push(b'\n')?;
     Ok(())
 }

@@ -1,7 +1,9 @@
 //! The parcels of a run, before and after the edits of its clerks.
 
-ghost use Rattle.std.specs.Prelude.{◌≡◌, ◌≤◌, [], length, map, IfOk, IfErr};
+ghost use Rattle.std.specs.Prelude.{◌≡◌, ◌≤◌, [], length, map, IfOk, IfErr, unsigned_abs};
+ghost use Rattle.geo_exact.specs.Area.{area2};
 ghost use Rattle.geo_exact.specs.Layers.{numbered};
+ghost use Rattle.geo_exact.specs.declared.limits.TheConstants.{LIST_CORNERS};
 ghost use Rattle.fabric_core.specs.Limits.{AreWithinLimits};
 ghost use Rattle.clerk_runs.specs.ClerkRuns.{AreMade, AreLocated};
 ghost use Rattle.parcel_runs.specs.RunFaults.{IsWant};
@@ -11,7 +13,7 @@ use crate::clerks::CLERKS;
 use city_layers::ToolFault;
 use clerk_runs::{ClerkEdits, RunFault, edit_by_clerks};
 use fabric_core::{At, Fabric, Layer, Shapes, Sheet};
-use geo_exact::Corner;
+use geo_exact::{Corner, area2};
 use std::alloc::{AllocError, Allocator};
 use std::sync::Wait;
 use std::thread::Threads;
@@ -53,6 +55,14 @@ impl<'h, H: Allocator> Edited<'h, H> {
     {
         let Edited { parcels, lines, .. } = self;
         (parcels, lines)
+    }
+
+    /// The lines alone; all else is let go.
+    pub fn into_lines(self) -> Vec<u8, &'h H>
+        ensures { result ≡ self.entry.lines }
+    {
+        let Edited { lines, .. } = self;
+        lines
     }
 
     /// The lines, and where each corner lies; the parcels are let go.
@@ -104,6 +114,14 @@ impl<'h, H: Allocator> Parcels<'h, H> {
             Parcels::Read(layer) => layer.city(),
             Parcels::Changed(sheet) => sheet.city(),
         }
+    }
+
+    /// Twice the city's area, in square centimetres.
+    pub fn city_area2(&self) -> u128
+        requires { length (city_of_parcels self.now) ≤ LIST_CORNERS }
+        ensures { result ≡ unsigned_abs (area2 (city_of_parcels self.now)) }
+    {
+        area2(self.city()).unsigned_abs()
     }
 
     /// A sheet of the parcels, with the journal of the edits that led there.

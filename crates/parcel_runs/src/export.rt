@@ -1,13 +1,13 @@
 //! The files that hold a layer anew.
 
-ghost use Rattle.std.specs.Prelude.{◌≡◌, ◌⊎◌, ◌≤◌, ◌++◌, map, length, IfOk, IfErr, IsErrAnd, OnOk};
+ghost use Rattle.std.specs.Prelude.{◌≡◌, ◌⊎◌, ◌≤◌, ◌++◌, map, length, IfOk, IfErr, IsErrAnd, OnOk, codes, decimal};
 ghost use Rattle.std.specs.Borrow.{Bor};
 ghost use Rattle.std.specs.List.{AllByRecursion};
 ghost use Rattle.geo_exact.specs.declared.limits.TheConstants.{LAYER_RECORDS, RING_CORNERS};
 ghost use Rattle.shp_files.specs.Written.{corner_lists as lists_of_rings, written_main, written_index};
 ghost use Rattle.fabric_core.specs.Tiling.{corner_lists};
 ghost use Rattle.city_layers.specs.declared.fault.ToolFault.{ToolFault as ToolFaultValue};
-ghost use Rattle.parcel_runs.specs.ExportReport.{exported_line, IsExport};
+ghost use Rattle.parcel_runs.specs.ExportReport.{IsExport};
 ghost use Rattle.city_layers.specs.TilingFiles.{files_of};
 ghost use Rattle.clerk_runs.specs.ClerkFiles.{texts_of};
 ghost use Rattle.parcel_runs.specs.RunFaults.{IsRunFault, IsWant};
@@ -67,9 +67,11 @@ pub fn export<'h, R: Threads + Wait + Sync, H: Allocator + Send + Sync, A: Alloc
     let unedited = load_unedited(heap, city, parcels, unit, clerks)?;
     a_layer_file_is_within_the_limits();
     let edited = edit_layer(rt, heap, unedited, &[])?;
-    let (parcels, mut lines) = edited.into_parcels();
-    push_exported(&mut lines, &parcels)?;
-    let (main, index) = written(heap, &parcels)?;
+    let count = edited.parcels.count();
+    let files = written(heap, &edited.parcels);
+    let mut lines = edited.into_lines();
+    push_exported(&mut lines, count)?;
+    let (main, index) = files?;
     Ok(Exported { main, index, lines })
 }
 
@@ -114,17 +116,13 @@ fn ring_to_write<A: Allocator + Copy>(number: u32, ring: &Ring<A>) -> Result<Raw
     Ok(RawRing { number, corners })
 }
 
-/// Adds the line of an export.
-fn push_exported<'h, H: Allocator, A: Allocator>(
-    text: &mut Vec<u8, A>,
-    parcels: &Parcels<'h, H>,
-) -> Result<(), AllocError>
-    ensures { OnOk result
-        (text.new.items ≡ text.old.items ++ exported_line (register_of_parcels parcels.now).now.rows) }
+/// Adds the line of an export, which tells the number of parcels.
+fn push_exported<A: Allocator>(text: &mut Vec<u8, A>, count: usize) -> Result<(), AllocError>
+    ensures { OnOk result (text.new.items ≡ text.old.items ++ (codes "exported " ++ decimal count ++ codes "\n")) }
 {
     let mut digits = Buffer::new();
     text.extend_from_slice(b"exported ")?;
-    text.extend_from_slice(digits.format(parcels.count()).as_bytes())?;
+    text.extend_from_slice(digits.format(count).as_bytes())?;
     text.push(b'\n')?;
     Ok(())
 }

@@ -1,15 +1,20 @@
-use Rattle.std.proofs.Common.{◌∙◌, ◌++◌, ap}
-use Rattle.parcel_runs.specs.CheckReport.{tiling_line}
-use Rattle.parcel_runs.specs.own.Registers.{register_of_parcels, city_of_parcels}
+use Rattle.std.proofs.Common.{◌≡◌, ◌≤◌, ◌∙◌, ap, sym, subst, length}
+use Rattle.std.specs.Prelude.{unsigned_abs}
+use Rattle.geo_exact.specs.Area.{area2}
+use Rattle.geo_exact.specs.declared.limits.TheConstants.{LIST_CORNERS}
+use Rattle.parcel_runs.specs.own.Registers.{register_of_parcels}
 use Rattle.parcel_runs.proofs.check.checked_text.Goals as goal
+
+pub city_area2-area2-requires : goal.city_area2-area2-requires
+city_area2-area2-requires g c = subst (λ n. n ≤ LIST_CORNERS) (sym (ap length c.in_ok-edited.ensures.city)) c.requires.short
 
 pub returns-clause-text : goal.returns-clause-text
 returns-clause-text g c =
-    let parts = c.into_parcels-parcels.result in
-    let after = register_of_parcels parts.0 in (
-      after,
-      parts.1.items,
-      rw (c.into_parcels-parcels.ensures.parcels) (rw (c.into_parcels-parcels.ensures.lines) c.in_ok-edited.ensures.made),
-      c.in_ok-push_tiling.ensures ∙ ap (λ city. parts.1.items ++ tiling_line after.now.rows city)
-          (ap city_of_parcels c.into_parcels-parcels.ensures.parcels ∙ c.in_ok-edited.ensures.city),
+    let edited = c.in_ok-edited.edited in
+    let area : c.city_area2-area2.result ≡ unsigned_abs (area2 c.args.unedited.layer.city) =
+    c.city_area2-area2.ensures ∙ ap (λ city. unsigned_abs (area2 city)) c.in_ok-edited.ensures.city in (
+      register_of_parcels edited.parcels,
+      edited.lines.items,
+      c.in_ok-edited.ensures.made,
+      rw (← c.into_lines-lines.ensures) (rw (← c.count-count.ensures) (rw (← area) c.in_ok-push_tiling.ensures)),
     )

@@ -3,12 +3,10 @@ use Rattle.parcel_runs.proofs.EditedRuns.{made_few}
 use Rattle.parcel_runs.proofs.RowLimits.{few_rows}
 use Rattle.parcel_runs.proofs.export.export.Goals as goal
 
-pub written-requires : goal.written-requires
-written-requires g c =
-    rw (c.into_parcels-parcels.ensures.parcels)
-    (made_few _ _ c.in_ok-edited.ensures.made.is_journal c.in_ok-edited.ensures.made.leads
+pub written-files-requires : goal.written-files-requires
+written-files-requires g c = made_few _ _ c.in_ok-edited.ensures.made.is_journal c.in_ok-edited.ensures.made.leads
     (few_rows _ _ _ _ c.in_ok-unedited.ensures.tiles.is_tiled (λ records h.
-    c.a_layer_file_is_within_the_limits.ensures.rings _ _ _ records h)))
+    c.a_layer_file_is_within_the_limits.ensures.rings _ _ _ records h))
 
 pub returns-in_err-edited-clause-refuses : goal.returns-in_err-edited-clause-refuses
 returns-in_err-edited-clause-refuses g c = λ fault h. absurd (c.in_ok-unedited.ensures.refuses fault h)
@@ -17,16 +15,16 @@ pub returns-clause-ok : goal.returns-clause-ok
 returns-clause-ok g c = record {
   tiles = c.in_ok-unedited.unedited.layer;
   are_tiles = c.in_ok-unedited.ensures.tiles;
-  after = register_of_parcels c.into_parcels-parcels.result.0;
-  told = c.into_parcels-parcels.result.1.items;
+  after = register_of_parcels c.in_ok-edited.edited.parcels;
+  told = c.in_ok-edited.edited.lines.items;
   is_edited = record {
     clerks = c.in_ok-unedited.unedited.clerks.items;
     are_files = c.in_ok-unedited.ensures.edits;
-    are_made = rw (c.into_parcels-parcels.ensures.parcels) (rw (c.into_parcels-parcels.ensures.lines) c.in_ok-edited.ensures.made);
+    are_made = c.in_ok-edited.ensures.made;
   };
   is_main = c.in_ok-main.ensures.main;
   is_index = c.in_ok-main.ensures.index;
-  is_told = c.in_ok-push_exported.ensures;
+  is_told = rw (← c.into_lines-lines.ensures) (rw (← c.count-count.ensures) c.in_ok-push_exported.ensures);
 }
 
 pub returns-clause-refuses : goal.returns-clause-refuses
