@@ -46,13 +46,24 @@ use std::marker::Model;
 /// Contracts see the city's ring as it was read, the state in which the fabric was opened and the
 /// state now (the rows by ascending id, the city's refined ring, the next id), the index, and the
 /// journal. Corners are in whole centimetres.
-#[derive(Drop)]
 pub struct Fabric<'a, H: Allocator> {
     tiled: Tiled<'a, H>,
     opening: Opening<&'a H>,
     journal: Vec<Entry<&'a H>, &'a H>,
     // How many corners the parcels' rings have together.
     corners: usize,
+}
+
+// As that of `Tiled`: who lets go of a fabric or a sheet does it by one call.
+impl<'a, H: Allocator> Drop for Fabric<'a, H> {
+    fn drop(self) {
+        let Fabric {
+            tiled: _,
+            opening: _,
+            journal: _,
+            corners: _,
+        } = self;
+    }
 }
 
 impl<'a, H: Allocator> Model for Fabric<'a, H> {

@@ -39,7 +39,6 @@ use std::alloc::{AllocError, Allocator};
 use std::marker::Model;
 
 /// Parcels that tile a city, with the grid index of their boxes: what a layer is, and what a fabric changes.
-#[derive(Drop)]
 pub(crate) struct Tiled<'a, H: Allocator> {
     city: Corners<&'a H>,
     refined: Corners<&'a H>,
@@ -47,6 +46,19 @@ pub(crate) struct Tiled<'a, H: Allocator> {
     index: CellIndex<'a, H>,
     // Which parcel to look at first for a place. No part of what contracts see.
     hints: Hints<'a, H>,
+}
+
+// Written out, so that who lets go of a layer or a fabric does it by one call, which is proved once.
+impl<'a, H: Allocator> Drop for Tiled<'a, H> {
+    fn drop(self) {
+        let Tiled {
+            city: _,
+            refined: _,
+            parcels: _,
+            index: _,
+            hints: _,
+        } = self;
+    }
 }
 
 impl<'a, H: Allocator> Model for Tiled<'a, H> {
