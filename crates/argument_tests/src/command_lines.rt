@@ -36,7 +36,8 @@ const REQUESTS: [(&str, &str); 8] = [
     ),
     (
         "parcel_tool overlay a --workers 64 b c --unit m",
-        "Overlay { inputs: Inputs { city: \"a\", parcels: \"b\", unit: M, clerks: [] }, zones: \"c\", workers: Workers { count: 64 } }",
+        "Overlay { inputs: Inputs { city: \"a\", parcels: \"b\", unit: M, clerks: [] }, \
+         zones: \"c\", workers: Workers { count: 64 } }",
     ),
 ];
 
