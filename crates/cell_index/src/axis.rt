@@ -1,5 +1,4 @@
 ghost use Rattle.std.specs.Prelude.{◌≡◌, ◌+◌, ◌-◌, ◌<◌, ◌≤◌, ◌↔◌, ℕ, min};
-ghost use Rattle.std.specs.Int.{int_min, int_max};
 ghost use Rattle.cell_index.specs.declared.axis.TheConstants.{ACROSS};
 ghost use Rattle.cell_index.specs.Cells.{distance as distance_of, cell_side as side_of, cell_of as cell_along, cells_along, brought_into};
 

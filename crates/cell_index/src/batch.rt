@@ -1,4 +1,4 @@
-ghost use Rattle.std.specs.Prelude.{◌≡◌, ◌≤◌, ◌++◌, length, ℕ, List, OnOk};
+ghost use Rattle.std.specs.Prelude.{◌≡◌, ◌++◌, length, ℕ, List, OnOk};
 ghost use Rattle.cell_index.specs.declared.entry.Entry.{Entry};
 ghost use Rattle.cell_index.specs.Cells.{without};
 ghost use Rattle.cell_index.specs.own.Ranges.{contents, HaveRoomForAll, Keeps};

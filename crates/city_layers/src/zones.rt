@@ -38,7 +38,8 @@ pub fn load_layers<'h, H: Allocator, A: Allocator>(
     ensures layers { IfOk result (λ layers.
         AreZoned (files_of city.now) (files_of parcels.now) (files_of zones.now) unit layers.parcels layers.zones) }
     ensures fault { IfErr result (λ fault.
-        IsLayersFault (files_of city.now) (files_of parcels.now) (files_of zones.now) unit fault ⊎ (fault ≡ ToolFault.NoMemory)) }
+        IsLayersFault (files_of city.now) (files_of parcels.now) (files_of zones.now) unit fault
+        ⊎ (fault ≡ ToolFault.NoMemory)) }
     // Files that tile their city are loaded, unless memory runs out.
     ensures loads { (tiles regions : Tiles)
         → AreZoned (files_of city.now) (files_of parcels.now) (files_of zones.now) unit tiles regions

@@ -2,7 +2,6 @@
 
 ghost use Rattle.std.specs.Prelude.{◌≡◌, false, true, length, map, All, IfOk};
 ghost use Rattle.std.specs.List.{flat_map};
-ghost use mathlib.Core.List.{IsPrefix};
 ghost use Rattle.clerk_runs.specs.own.Windows.{IsLearnt};
 
 use crate::files::ClerkEdits;

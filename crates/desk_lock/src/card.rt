@@ -11,7 +11,6 @@ use std::marker::{Model, PhantomData};
 /// [`Office::close`](crate::Office::close) or by [`Card::give_up`], after which the office cannot be closed.
 ///
 /// Contracts see the clerk's number and the entries that were accepted with the card, in order.
-#[derive(Drop)]
 pub struct Card<'a, H: Allocator, J: Naming<H>> {
     pub(crate) stub: Stub<Entry<&'a H>>,
     pub(crate) clerk: u32,
@@ -19,6 +18,19 @@ pub struct Card<'a, H: Allocator, J: Naming<H>> {
     // Where the office's entries lie.
     pub(crate) heap: &'a H,
     pub(crate) of: PhantomData<J>,
+}
+
+// Written out, so that who lets go of it does it by one call, which is proved once.
+impl<'a, H: Allocator, J: Naming<H>> Drop for Card<'a, H, J> {
+    fn drop(self) {
+        let Card {
+            stub: _,
+            clerk: _,
+            count: _,
+            heap: _,
+            of: _,
+        } = self;
+    }
 }
 
 impl<'a, H: Allocator, J: Naming<H>> Model for Card<'a, H, J> {
@@ -55,6 +67,13 @@ impl<'a, H: Allocator, J: Naming<H>> Card<'a, H, J> {
     pub(crate) fn into_stub(self) -> Stub<Entry<&'a H>>
         ensures { result ≡ record { name = J.office.cards; clerk = self.entry.clerk; made = self.entry.made } }
     {
-        self.stub
+        let Card {
+            stub,
+            clerk: _,
+            count: _,
+            heap: _,
+            of: _,
+        } = self;
+        stub
     }
 }

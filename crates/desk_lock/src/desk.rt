@@ -1,6 +1,6 @@
 //! What lies under the lock.
 ghost use Rattle.std.specs.Prelude.{◌≡◌, ◌⊎◌, ◌+◌, ◌≤◌, [], ◌∷◌, ◌++◌, map, length, drop, All, IfOk, IfErr, IfSome};
-ghost use Rattle.std.specs.Prelude.{IfNone, IsErrAnd, OnOk, OnErr, MatchBool};
+ghost use Rattle.std.specs.Prelude.{IfNone, IsErrAnd, OnErr, MatchBool};
 ghost use mathlib.Core.List.{IsPrefix};
 ghost use Rattle.entry_cards.specs.Cards.{HasAll};
 ghost use Rattle.ring_edits.specs.Edits.{CoversAlike};
@@ -12,7 +12,7 @@ ghost use Rattle.fabric_core.specs.GridIndex.{IsIndexed};
 ghost use Rattle.fabric_core.specs.Journal.{after_entry, replay};
 ghost use Rattle.fabric_core.specs.EditResults.{IsEntryOf, IsLawful};
 ghost use Rattle.fabric_core.specs.Refusals.{IsRefusal};
-ghost use Rattle.desk_lock.specs.Offices.{AreOfClerks, IsOfOrigin, Agrees, IsSometime, IsSheetOf, IsTotal, with_made, behind};
+ghost use Rattle.desk_lock.specs.Offices.{AreOfClerks, IsOfOrigin, Agrees, IsSometime, IsTotal, with_made, behind};
 
 use crate::card::Card;
 use crate::copied::Copied;
@@ -34,13 +34,24 @@ pub(crate) type Copies<'a, H, J, R> = Publisher<Copied<'a, H, J>, Entry<&'a H>, 
 ///
 /// Contracts see the fabric, the entries that were accepted at the desk, and the journal of the
 /// version that windows take.
-#[derive(Drop)]
 pub struct Desk<'a, H: Allocator, J: Naming<H>, R: Wait + Drop> {
     pub(crate) fabric: Fabric<'a, H>,
     pub(crate) keeper: Keeper<Entry<&'a H>, &'a H>,
     pub(crate) publisher: Copies<'a, H, J, R>,
     // How many entries the fabric had that was handed in.
     pub(crate) opened_with: usize,
+}
+
+// Written out, so that who lets go of it does it by one call, which is proved once.
+impl<'a, H: Allocator, J: Naming<H>, R: Wait + Drop> Drop for Desk<'a, H, J, R> {
+    fn drop(self) {
+        let Desk {
+            fabric: _,
+            keeper: _,
+            publisher: _,
+            opened_with: _,
+        } = self;
+    }
 }
 
 impl<'a, H: Allocator, J: Naming<H>, R: Wait + Drop> Model for Desk<'a, H, J, R> {

@@ -48,12 +48,22 @@ impl<'a, H: Allocator, J: Naming<H>> Published<'a, H, J> {
 ///
 /// Contracts see the entry, whether it was published, and the journal that it tells: the entries up
 /// to its own where it was, else none.
-#[derive(Drop)]
 pub struct Receipt<'a, H: Allocator, J: Naming<H>> {
     pub(crate) entry: Entry<&'a H>,
     pub(crate) front: Option<Published<'a, H, J>>,
     // Where the entry lies.
     pub(crate) heap: &'a H,
+}
+
+// Written out, so that who lets go of it does it by one call, which is proved once.
+impl<'a, H: Allocator, J: Naming<H>> Drop for Receipt<'a, H, J> {
+    fn drop(self) {
+        let Receipt {
+            entry: _,
+            front: _,
+            heap: _,
+        } = self;
+    }
 }
 
 impl<'a, H: Allocator, J: Naming<H>> Model for Receipt<'a, H, J> {
@@ -95,10 +105,19 @@ impl<'a, H: Allocator, J: Naming<H>> Receipt<'a, H, J> {
 }
 
 /// A notice that all entries up to a number were published. Contracts see these entries.
-#[derive(Drop)]
 pub struct Notice<'a, H: Allocator, J: Naming<H>> {
     pub(crate) number: u64,
     pub(crate) front: Front<Entry<&'a H>, J>,
+}
+
+// Written out, so that who lets go of it does it by one call, which is proved once.
+impl<'a, H: Allocator, J: Naming<H>> Drop for Notice<'a, H, J> {
+    fn drop(self) {
+        let Notice {
+            number: _,
+            front: _,
+        } = self;
+    }
 }
 
 impl<'a, H: Allocator, J: Naming<H>> Model for Notice<'a, H, J> {

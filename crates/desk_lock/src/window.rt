@@ -1,5 +1,5 @@
 //! Windows, at which it is asked where a place lies.
-ghost use Rattle.std.specs.Prelude.{◌≡◌, length, IfOk, IfErr, OnErr};
+ghost use Rattle.std.specs.Prelude.{◌≡◌, length, IfOk, IfErr};
 ghost use mathlib.Core.List.{IsPrefix};
 ghost use Rattle.geo_exact.specs.Point.{corner_point};
 ghost use Rattle.fabric_core.specs.Locate.{IsLocatedAt};
@@ -45,12 +45,22 @@ impl From<AllocError> for LocateFault {
 ///
 /// Contracts see the state in which the office's fabric was opened, and the entries that the
 /// versions which the window entered and the receipts which it learnt rest on.
-#[derive(Drop)]
 pub struct Window<'a, H: Allocator, J: Naming<H>> {
     pub(crate) reader: ReadHandle<Version<Copied<'a, H, J>, Entry<&'a H>, J>, &'a H>,
     pub(crate) front: Front<Entry<&'a H>, J>,
     // Where the versions lie.
     pub(crate) heap: &'a H,
+}
+
+// Written out, so that who lets go of it does it by one call, which is proved once.
+impl<'a, H: Allocator, J: Naming<H>> Drop for Window<'a, H, J> {
+    fn drop(self) {
+        let Window {
+            reader: _,
+            front: _,
+            heap: _,
+        } = self;
+    }
 }
 
 impl<'a, H: Allocator, J: Naming<H>> Model for Window<'a, H, J> {

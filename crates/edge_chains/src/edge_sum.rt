@@ -1,13 +1,12 @@
-ghost use Rattle.std.specs.Prelude.{◌≡◌, ℕ, ◌+◌, ◌≤◌, ◌<◌, ℤ, pos, ◌+ℤ◌, ◌-ℤ◌, IsTrue, if◌then◌else◌, cond, length};
+ghost use Rattle.std.specs.Prelude.{◌≡◌, ℕ, ◌+◌, ◌≤◌, ◌<◌, ℤ, pos, ◌+ℤ◌, ◌-ℤ◌, if◌then◌else◌, cond, length};
 ghost use Rattle.std.specs.Prelude.{List, [], ◌∷◌, ◌++◌, ◌*◌};
 ghost use Rattle.std.specs.Prelude.{OnOk, OnErr, IfOk, IfSome, IfNone};
 ghost use Rattle.std.specs.HashMap.{spare};
 ghost use Rattle.std.specs.Map.{lookup};
 ghost use Rattle.geo_exact.specs.Limit.{IsWithin};
 ghost use Rattle.geo_exact.specs.Point.{Point};
-ghost use Rattle.geo_exact.specs.Rings.{edges, path};
+ghost use Rattle.geo_exact.specs.Rings.{edges};
 ghost use Rattle.geo_exact.specs.declared.limits.TheConstants.{COUNTED_EDGES};
-ghost use Rattle.geo_exact.specs.Order.{is_before};
 ghost use Rattle.edge_chains.specs.Counts.{is_same_edge, number_at, net_at, AreCounts, AreNetOf, is_edge_before};
 ghost use Rattle.edge_chains.specs.Counts.{IsFirstUnbalanced};
 ghost use Rattle.edge_chains.specs.Unbalanced.{AreUnbalanced};

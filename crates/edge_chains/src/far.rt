@@ -79,7 +79,7 @@ impl<A: Allocator + Copy> Far<A> {
     }
 
     /// Those of the corners that are in a box, in the order of the list; `None` where they are more than `most`, or
-    /// more than `most_off` blocks that lie off it are passed over before all are found.
+    /// more than `most_off` blocks that lie off it are passed over on the way through the list.
     pub fn within(
         &self,
         bounds: &Bounds,

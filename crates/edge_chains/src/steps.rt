@@ -1,6 +1,5 @@
 //! An edge as a row of equal steps between whole places.
-ghost use Rattle.std.specs.Prelude.{◌≡◌, ℤ, pos, ◌+ℤ◌, ◌-ℤ◌, ◌*ℤ◌, IsTrue, IfSome};
-ghost use Rattle.geo_exact.specs.Limit.{IsWithin, limit};
+ghost use Rattle.std.specs.Prelude.{◌≡◌, ℤ, pos, ◌+ℤ◌, ◌*ℤ◌, IsTrue, IfSome};
 ghost use Rattle.edge_chains.specs.own.Steps.{AreSteps};
 
 use crate::edge_tests::difference;

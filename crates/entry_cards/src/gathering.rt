@@ -1,5 +1,5 @@
-ghost use Rattle.std.specs.Prelude.{◌≡◌, [], ◌∷◌, length, sum_by, All};
-ghost use Rattle.entry_cards.specs.Cards.{IsClerk, AccountFor};
+ghost use Rattle.std.specs.Prelude.{◌≡◌, [], ◌∷◌, length};
+ghost use Rattle.entry_cards.specs.Cards.{AccountFor};
 ghost use Rattle.entry_cards.specs.own.Rule.{Keeps};
 
 use crate::cards::{Cards, Mark};

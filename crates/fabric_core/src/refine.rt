@@ -1,4 +1,4 @@
-ghost use Rattle.std.specs.Prelude.{◌≡◌, List, map, IfOk};
+ghost use Rattle.std.specs.Prelude.{◌≡◌, map, IfOk};
 ghost use Rattle.geo_exact.specs.Rings.{begun_at_least};
 ghost use Rattle.geo_exact.specs.Layers.{rings_of};
 ghost use Rattle.edge_chains.specs.Noding.{all_corners};

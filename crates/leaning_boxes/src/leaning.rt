@@ -1,4 +1,3 @@
-ghost use Rattle.std.specs.Prelude.{◌*◌};
 ghost use Rattle.geo_exact.specs.Limit.{IsWithin, limit};
 
 use geo_exact::{Bounds, Corner};

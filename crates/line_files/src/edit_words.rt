@@ -1,6 +1,6 @@
 //! The words of a line, as an edit.
 
-ghost use Rattle.std.specs.Prelude.{◌≡◌, ◌∷◌, ℕ, List, IfSome, IfNone, IfOk, MatchOption, codes};
+ghost use Rattle.std.specs.Prelude.{◌∷◌, ℕ, List, IfSome, IfNone, IfOk, MatchOption, codes};
 ghost use Rattle.geo_exact.specs.declared.corner.Corner.{Corner as CornerValue};
 ghost use Rattle.line_files.specs.ClerkFile.{words_of, ArePath};
 ghost use Rattle.line_files.specs.own.EditWords.{TakesNumber, TakesCorner, IsEditOf};

@@ -1,9 +1,8 @@
 //! The points of a text of lines.
 
-ghost use Rattle.std.specs.Prelude.{◌≡◌, ◌⊎◌, ℕ, List, IfOk, IfSome, IfNone, IsErrAnd, IsErrOf, MatchResult, MatchOption};
+ghost use Rattle.std.specs.Prelude.{◌≡◌, ◌⊎◌, ℕ, List, IfOk, IfSome, IfNone, IsErrAnd, IsErrOf, MatchResult};
 ghost use Rattle.geo_exact.specs.declared.corner.Corner.{Corner as CornerValue};
-ghost use Rattle.line_files.specs.TextLines.{IsSkipped, IsBad};
-ghost use Rattle.line_files.specs.PointLines.{IsPointLine, IsNumberedPointLine, ArePoints, IsFirstBadPoint};
+ghost use Rattle.line_files.specs.PointLines.{IsPointLine, ArePoints, IsFirstBadPoint};
 ghost use Rattle.line_files.specs.own.ReadLines.{IsLine};
 ghost use Rattle.line_files.specs.declared.points.PointsFault.TheVariants.{BadLine, NoMemory};
 

@@ -1,8 +1,8 @@
-ghost use Rattle.std.specs.Prelude.{◌≡◌, ℕ, ◌+◌, ◌%◌, ◌^◌, ◌<◌, ◌≤◌, [], ◌++◌, length, slice_index, sum_by, IfOk};
+ghost use Rattle.std.specs.Prelude.{◌≡◌, ◌+◌, ◌%◌, ◌^◌, ◌<◌, ◌≤◌, [], length, sum_by, IfOk};
 ghost use Rattle.std.specs.Prelude.{IfSome, IfNone, IsTrue, ◌↔◌};
 ghost use Rattle.std.specs.List.{AllByRecursion};
 ghost use Rattle.overlay_claims.specs.Claims.{view_of};
-ghost use Rattle.overlay_claims.specs.Claimants.{fresh, fresh_hands, HasAllEnds, ClaimsNext, EndsAll};
+ghost use Rattle.overlay_claims.specs.Claimants.{fresh_hands, HasAllEnds, ClaimsNext, EndsAll};
 
 use crate::claims::{Claims, Mark};
 use std::alloc::{AllocError, Allocator};

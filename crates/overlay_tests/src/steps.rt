@@ -1,6 +1,6 @@
 //! Rounds that are begun, stepped hand by hand, and closed.
 
-ghost use Rattle.std.specs.Prelude.{◌≡◌, IfOk};
+ghost use Rattle.std.specs.Prelude.{IfOk};
 ghost use Rattle.overlay_work.specs.Rounds.{AreHandsOf};
 
 use fabric_core::{Layer, Sheet};

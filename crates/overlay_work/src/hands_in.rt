@@ -1,6 +1,6 @@
 //! What hands that are handed in show, and what they did together.
 
-ghost use Rattle.std.specs.Prelude.{◌≡◌, ◌↔◌, List, [], ◌∷◌, ◌++◌, false, length, IsTrue, None, Some, IfOk, IfErr};
+ghost use Rattle.std.specs.Prelude.{◌≡◌, List, [], ◌∷◌, ◌++◌, false, length, IsTrue, None, Some, IfErr};
 ghost use Rattle.std.specs.Prelude.{OnOk, MatchOption, map, flat_map, IsPermutation};
 ghost use Rattle.std.specs.List.{AllByRecursion};
 ghost use Rattle.fabric_core.specs.Rows.{numbers};

@@ -1,10 +1,9 @@
 //! Which zones a parcel overlaps.
 
-ghost use Rattle.std.specs.Prelude.{◌≡◌, ℕ, ◌+◌, ◌++◌, length, vec_len, vec_capacity, ◌≤◌, IfOk, OnErr};
+ghost use Rattle.std.specs.Prelude.{◌≡◌, ◌+◌, length, vec_len, vec_capacity, ◌≤◌, IfOk, OnErr};
 ghost use Rattle.std.specs.List.{All, Contains};
 ghost use Rattle.std.specs.List.Sorted.{IsStrictlyIncreasing};
 ghost use Rattle.fabric_core.specs.Rows.{numbers};
-ghost use Rattle.overlay_work.specs.Rounds.{AreCandidatesFor, ArePairsOf};
 ghost use Rattle.overlay_work.specs.own.Kept.{KeepsFound, KeepsPairs};
 
 use crate::work::Work;

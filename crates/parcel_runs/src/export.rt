@@ -5,13 +5,12 @@ ghost use Rattle.std.specs.Borrow.{Bor};
 ghost use Rattle.std.specs.List.{AllByRecursion};
 ghost use Rattle.geo_exact.specs.declared.limits.TheConstants.{LAYER_RECORDS, RING_CORNERS};
 ghost use Rattle.shp_files.specs.Written.{corner_lists as lists_of_rings, written_main, written_index};
-ghost use Rattle.fabric_core.specs.Tiling.{corner_lists};
 ghost use Rattle.city_layers.specs.declared.fault.ToolFault.{ToolFault as ToolFaultValue};
 ghost use Rattle.parcel_runs.specs.ExportReport.{IsExport};
 ghost use Rattle.city_layers.specs.TilingFiles.{files_of};
 ghost use Rattle.clerk_runs.specs.ClerkFiles.{texts_of};
 ghost use Rattle.parcel_runs.specs.RunFaults.{IsRunFault, IsWant};
-ghost use Rattle.parcel_runs.specs.own.Registers.{register_of_parcels};
+ghost use Rattle.parcel_runs.specs.own.Registers.{lists_of_parcels, register_of_parcels};
 
 use crate::edited::{Parcels, edit_layer};
 use crate::unedited::load_unedited;
@@ -81,8 +80,8 @@ fn written<'h, H: Allocator>(
     parcels: &Parcels<'h, H>,
 ) -> Result<(Vec<u8, &'h H>, Vec<u8, &'h H>), AllocError>
     requires { length (register_of_parcels parcels.now).now.rows ≤ LAYER_RECORDS }
-    ensures main { IfOk result (λ files. files.0.items ≡ written_main (corner_lists (register_of_parcels parcels.now).now.rows)) }
-    ensures index { IfOk result (λ files. files.1.items ≡ written_index (corner_lists (register_of_parcels parcels.now).now.rows)) }
+    ensures main { IfOk result (λ files. files.0.items ≡ written_main (lists_of_parcels parcels.now)) }
+    ensures index { IfOk result (λ files. files.1.items ≡ written_index (lists_of_parcels parcels.now)) }
 {
     parcels.are_within();
     let rings = rings_to_write(heap, parcels.shapes())?;

@@ -3,7 +3,6 @@ ghost use Rattle.std.specs.Prelude.{MatchOption, slice_set};
 ghost use Rattle.std.specs.List.{Contains};
 ghost use Rattle.std.specs.List.Sorted.{IsStrictlyIncreasing};
 ghost use Rattle.cell_index.specs.Cells.{HaveOwnKeys};
-ghost use Rattle.ring_core.specs.declared.shape.Shape.{Shape as ShapeValue};
 ghost use Rattle.parcel_table.specs.declared.parcels.Parcel.{Parcel as ParcelValue};
 ghost use Rattle.parcel_table.specs.Table.{HasId, IsFateOf, IsKeyOf, entries_of, ids_of, retired_by, shapes_of, with_shape, without_id};
 

@@ -1,8 +1,8 @@
-ghost use Rattle.std.specs.Prelude.{◌≡◌, ◌↔◌, IsTrue};
+ghost use Rattle.std.specs.Prelude.{IsTrue};
 ghost use Rattle.geo_exact.specs.declared.corner.Corner.{Corner as CornerValue};
 ghost use Rattle.geo_exact.specs.Bounds.{HoldsCorner, IsBeyondBox};
 ghost use Rattle.geo_exact.specs.Point.{Point, corner_point};
-ghost use Rattle.geo_exact.specs.Turn.{IsOnEdge, IsOnRing};
+ghost use Rattle.geo_exact.specs.Turn.{IsOnRing};
 ghost use Rattle.geo_exact.specs.Winding.{IsInterior};
 
 use crate::meeting::{box_meets, edge_box};

@@ -1,12 +1,12 @@
-ghost use Rattle.std.specs.Prelude.{◌≡◌, ◌≢◌, ◌⊎◌, ◌↔◌, ℕ, ◌<◌, ◌≤◌, IfOk, IsTrue, MatchOption};
+ghost use Rattle.std.specs.Prelude.{◌≡◌, ◌≢◌, ◌⊎◌, ◌↔◌, ℕ, ◌<◌, ◌≤◌, IfOk, IsTrue};
 ghost use Rattle.std.specs.Prelude.{List, length, slice_index_or};
 ghost use Rattle.std.specs.List.Sorted.{IsNonDecreasing};
 ghost use Rattle.geo_exact.specs.declared.corner.Corner.{Corner};
 ghost use Rattle.geo_exact.specs.First.{HasNone, IsFirst};
 ghost use Rattle.geo_exact.specs.Places.{before};
-ghost use Rattle.ring_core.specs.Clipping.{IsEar, IsFlat};
+ghost use Rattle.ring_core.specs.Clipping.{IsEar};
 ghost use Rattle.ring_core.specs.own.Blocks.{AreBlocksOrNone};
-ghost use Rattle.ring_core.specs.own.Kinds.{AreKinds, AreKindsOnceOut, IsKind, TurnsLeft, WasBeside};
+ghost use Rattle.ring_core.specs.own.Kinds.{AreKinds, AreKindsOnceOut, IsKind, WasBeside};
 ghost use Rattle.ring_core.specs.own.Kinds.{AreMarked, AreSeen, IsReleased, KeepsMarks, NeedNoMark};
 ghost use Rattle.ring_core.specs.own.Sorted.{AreSortedOrNone};
 

@@ -1,5 +1,4 @@
-ghost use Rattle.std.specs.Prelude.{◌≡◌, ◌⊎◌, ◌↔◌, ℕ, ◌<◌, ◌≤◌, pos, ◌<ℤ◌, false, length, IsTrue, IsOk, IfOk, IfErr, MatchOption};
-ghost use Rattle.geo_exact.specs.Area.{area2 as area2_of};
+ghost use Rattle.std.specs.Prelude.{◌≡◌, ◌↔◌, ℕ, ◌<◌, ◌≤◌, false, length, IsTrue, IsOk, IfOk, IfErr, MatchOption};
 ghost use Rattle.geo_exact.specs.Bounds.{EdgeBoxesMeet};
 ghost use Rattle.geo_exact.specs.Places.{after, corner_at};
 ghost use Rattle.geo_exact.specs.declared.limits.TheConstants.{LIST_CORNERS};

@@ -3,7 +3,7 @@
 ghost use Rattle.std.specs.Prelude.{◌≡◌, ◌≤◌, ◌<◌, ◌≤ℤ◌, pos, ◌^◌, ◌+◌, length, ◌∷◌, []};
 ghost use Rattle.std.specs.Result.{result_err};
 ghost use Rattle.shp_files.specs.Layout as layout;
-ghost use Rattle.shp_files.specs.Checks.{check, first_failure, is_not};
+ghost use Rattle.shp_files.specs.Checks.{check, first_failure};
 
 use crate::fault::FileFault;
 use byteorder::{BigEndian, ByteOrder, LittleEndian};

@@ -1,16 +1,15 @@
 //! The records of a main file, in the order of their checks.
 
-ghost use Rattle.std.specs.Prelude.{◌≡◌, ◌≤◌, ◌<◌, ◌^◌, ◌+◌, ◌-◌, ◌*◌, ◌≤ℤ◌, pos, Ok, length, IfOk, IfSome, IfNone};
-ghost use Rattle.std.specs.Prelude.{IsSome, true, false, ◌++◌, ◌||◌};
+ghost use Rattle.std.specs.Prelude.{◌≡◌, ◌≤◌, ◌<◌, ◌^◌, ◌+◌, ◌-◌, ◌*◌, Ok, length, IfOk, IfSome, IfNone};
+ghost use Rattle.std.specs.Prelude.{IsSome, true, false, ◌||◌};
 ghost use Rattle.std.specs.Result.{result_err};
 ghost use Rattle.shp_files.specs.Layout as layout;
-ghost use Rattle.shp_files.specs.Layout.{content_words};
 ghost use Rattle.geo_exact.specs.Grid.{coordinate};
 ghost use Rattle.geo_exact.specs.Limit.{IsWithin, limit};
 ghost use Rattle.geo_exact.specs.declared.limits.TheConstants.{LAYER_CORNERS, LAYER_RECORDS, RING_CORNERS};
 ghost use Rattle.shp_files.specs.Checks.{first_failure, frame_checks, shape_checks, count_checks, coordinate_checks};
 ghost use Rattle.shp_files.specs.Checks.{ring_checks, polygon_checks, record_checks, is_null, declared_end, record_end};
-ghost use Rattle.shp_files.specs.Checks.{points_of, fault, is_not};
+ghost use Rattle.shp_files.specs.Checks.{points_of, fault};
 ghost use Rattle.shp_files.specs.LayerFile.{closed};
 ghost use Rattle.shp_files.specs.own.Reading.{Finds, IsReadAs, AreReadAs, IsDrawnAs};
 

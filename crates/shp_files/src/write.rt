@@ -1,6 +1,6 @@
 //! Writing a layer's two files.
 
-ghost use Rattle.std.specs.Prelude.{◌≡◌, ◌≤◌, ◌+◌, ◌*◌, ◌++◌, map, length, flat_map, reverse, All, IfOk, OnOk, List};
+ghost use Rattle.std.specs.Prelude.{◌≡◌, ◌≤◌, ◌+◌, ◌*◌, ◌++◌, length, flat_map, reverse, All, IfOk, OnOk, List};
 ghost use Rattle.std.specs.Prelude.{None, Some, pos, ◌≤ℤ◌, int_lt, if◌then◌else◌};
 ghost use Rattle.geo_exact.specs.declared.coord.Unit.TheVariants.{Cm};
 ghost use Rattle.geo_exact.specs.declared.corner.Corner.{Corner as CornerValue};

@@ -1,15 +1,10 @@
 -- What follows from a refusal.
-use Rattle.std.proofs.Common.{◌≡◌, sym, subst, Result, Ok, Err}
-use Rattle.std.specs.Result.{IsErrAnd, IfErr, IfOk}
+use Rattle.std.proofs.Common.{Result, Ok, Err}
+use Rattle.std.specs.Result.{IsErrAnd, IfOk}
 
 pub IsErrAnd-weaker : {T E : Type 0} (r : Result T E) (P Q : E → Type 0) → ((e : E) → P e → Q e) → IsErrAnd r P → IsErrAnd r Q
 IsErrAnd-weaker (Ok x) P Q w h = absurd h
 IsErrAnd-weaker (Err e) P Q w h = w e h
-
--- a refusal that passes one on
-pub IfErr-passed_on : {T E : Type 0} (r : Result T E) (e : E) (P : E → Type 0) → IsErrAnd r (λ f. f ≡ e) → P e → IfErr r P
-IfErr-passed_on (Ok x) e P h p = absurd h
-IfErr-passed_on (Err f) e P h p = subst P (sym h) p
 
 -- two facts of one answer
 pub IfOk-both : {T E : Type 0} (r : Result T E) (P Q S : T → Type 0) → ((x : T) → P x → Q x → S x) → IfOk r P

@@ -3,7 +3,7 @@ use Rattle.fabric_core.proofs.edits.Refusals.{IsErrAnd-weaker}
 use Rattle.city_layers.specs.declared.fault.Role.TheVariants.{Parcels}
 use Rattle.city_layers.specs.declared.fault.ToolFault.TheVariants.{NoMemory}
 use Rattle.city_layers.specs.TilingFiles.{files_of, IsFaultOfLayer, IsTiledBy}
-use Rattle.text_pieces.proofs.PassedOn.{passed_as}
+use Rattle.geo_exact.proofs.PassedOn.{passed_as}
 use Rattle.city_layers.proofs.all_tiles.load_tiles_or_lines.Goals as goal
 
 pub returns-in_err-city-clause-refuses : goal.returns-in_err-city-clause-refuses

@@ -4,7 +4,7 @@ use Rattle.fabric_core.proofs.edits.Refusals.{IsErrAnd-weaker}
 use Rattle.city_layers.specs.declared.fault.ToolFault.TheVariants.{NoMemory}
 use Rattle.city_layers.specs.FaultLines.{text_or_none}
 use Rattle.city_layers.specs.TilingFiles.{files_of}
-use Rattle.text_pieces.proofs.PassedOn.{passed_as}
+use Rattle.geo_exact.proofs.PassedOn.{passed_as}
 use Rattle.city_layers.proofs.TilingFaults.{layer_unread, layer_has_none}
 use Rattle.city_layers.proofs.AllTiles.{begins_some, told_or_no_memory, due_told, all_loaded}
 use Rattle.city_layers.proofs.all_tiles.read_tiles_or_lines.Goals as goal

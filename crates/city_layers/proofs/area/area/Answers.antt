@@ -1,5 +1,5 @@
 use Rattle.std.proofs.Common.{inl}
-use Rattle.text_pieces.proofs.PassedOn.{passed_on, passed_if}
+use Rattle.geo_exact.proofs.PassedOn.{passed_on, passed_if}
 use Rattle.city_layers.proofs.area.area.Goals as goal
 
 pub returns-in_err-text-clause-refuses : goal.returns-in_err-text-clause-refuses

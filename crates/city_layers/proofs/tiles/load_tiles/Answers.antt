@@ -1,5 +1,5 @@
 use Rattle.std.proofs.Common.{inl, inr, sym, subst}
-use Rattle.text_pieces.proofs.PassedOn.{passed_on, passed_if}
+use Rattle.geo_exact.proofs.PassedOn.{passed_on, passed_if}
 use Rattle.city_layers.proofs.tiles.load_tiles.Goals as goal
 use Rattle.city_layers.specs.TilingFiles.{files_of, IsFaultOfLayer, IsTiledBy}
 use Rattle.city_layers.specs.declared.fault.Role.TheVariants.{Parcels}

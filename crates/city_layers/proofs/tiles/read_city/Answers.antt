@@ -3,7 +3,7 @@ use Rattle.std.proofs.lemmas.List.{length-map}
 use Rattle.geo_exact.specs.Rings.{begun_at_least}
 use Rattle.shp_files.specs.LayerFile.{rings_of, numbered}
 use Rattle.city_layers.specs.TilingFiles.{told_of_city}
-use Rattle.text_pieces.proofs.PassedOn.{passed_on, passed_match}
+use Rattle.geo_exact.proofs.PassedOn.{passed_on, passed_match}
 use Rattle.city_layers.proofs.TilingFaults.{city_unread, city_counted, no_city, same_city, city_refused}
 use Rattle.city_layers.proofs.TilingFaults.{told_city_first, told_city_memory, Tells}
 use Rattle.city_layers.proofs.tiles.read_city.Goals as goal

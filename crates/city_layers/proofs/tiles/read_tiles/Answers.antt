@@ -1,5 +1,5 @@
 use Rattle.geo_exact.specs.Layers.{rings_of}
-use Rattle.text_pieces.proofs.PassedOn.{passed_on, passed_if}
+use Rattle.geo_exact.proofs.PassedOn.{passed_on, passed_if}
 use Rattle.city_layers.proofs.TilingFaults.{layer_unread, layer_refused, layer_has_none, layer_loaded}
 use Rattle.city_layers.proofs.tiles.read_tiles.Goals as goal
 

@@ -1,7 +1,7 @@
 use Rattle.std.proofs.Common.{◌≡◌, ◌⊎◌, inl, inr}
 use Rattle.city_layers.specs.declared.fault.ToolFault.TheVariants.{NoMemory}
 use Rattle.city_layers.specs.TilingFiles.{files_of}
-use Rattle.text_pieces.proofs.PassedOn.{passed_on, passed_if}
+use Rattle.geo_exact.proofs.PassedOn.{passed_on, passed_if}
 use Rattle.city_layers.proofs.ZonedFaults.{by_layer, tiled_in, of_zones}
 use Rattle.city_layers.proofs.zones.load_layers.Goals as goal
 

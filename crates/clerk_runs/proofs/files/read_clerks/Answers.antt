@@ -2,7 +2,7 @@ use Rattle.std.proofs.Common.{◌≡◌, ◌∷◌, ◌+◌, suc, refl, sym, ap,
 use Rattle.std.proofs.Math.Seq.{drop-cons}
 use Rattle.std.proofs.lemmas.List.{drop_all}
 use Rattle.clerk_runs.specs.ClerkFiles.{texts_of}
-use Rattle.text_pieces.proofs.PassedOn.{passed_on, passed_if}
+use Rattle.geo_exact.proofs.PassedOn.{passed_on, passed_if}
 use Rattle.clerk_runs.proofs.ClerksRead.{none_read, more_read, is_told, due_is_told, all_read, none_bad}
 use Rattle.clerk_runs.proofs.files.read_clerks.Goals as goal
 

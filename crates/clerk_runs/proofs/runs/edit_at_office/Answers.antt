@@ -1,6 +1,6 @@
 use Rattle.std.proofs.Common.{◌≡◌, inr, ◌∙◌, ap, arith, map, length, Bor}
 use Rattle.desk_lock.specs.Offices.{OfficeId, fresh_cards, origin_of}
-use Rattle.text_pieces.proofs.PassedOn.{passed_as}
+use Rattle.geo_exact.proofs.PassedOn.{passed_as}
 use Rattle.clerk_runs.proofs.EachTold.{length_fresh, made_known, origin_empty}
 use Rattle.clerk_runs.proofs.Windows.{journal_seen}
 use Rattle.clerk_runs.proofs.runs.edit_at_office.Goals as goal

@@ -11,7 +11,7 @@ use Rattle.fabric_core.specs.own.Lists.{numbered_rows, corners_of_rings, most_re
 use Rattle.fabric_core.proofs.rows.Lists.{numbers_of_rows, lists_of_rows}
 use Rattle.fabric_core.proofs.rows.RowGaps.{short_rings, few_corners}
 use Rattle.fabric_core.proofs.loads.RingChecks.{simple_rows}
-use Rattle.fabric_core.proofs.edits.Refusals.{IfErr-passed_on}
+use Rattle.geo_exact.proofs.PassedOn.{passed_if}
 use Rattle.fabric_core.proofs.loads.Loaded.{checked_from}
 use Rattle.fabric_core.proofs.loads.ToldGaps.{tells_rings, tells_gaps}
 use Rattle.fabric_core.proofs.all_faults.load_refined_or_all.Goals as goal
@@ -46,7 +46,7 @@ returns-in_err-rings-clause-faults g c =
     (subst (λ xs. AreWithinLimits (numbered_rows c.deref.result.now xs)) c.deref-2.ensures.value c.in_default.ensures) in
     let rise : IsStrictlyIncreasing (numbers (numbered_rows ids rings)) =
     subst IsStrictlyIncreasing (sym (numbers_of_rows ids rings c.requires.numbered)) c.requires.rising in
-    IfErr-passed_on c.from_residual.result c.in_err-rings.field-0.0
+    passed_if c.from_residual.result c.in_err-rings.field-0.0
     (λ all. AreTold (numbered_rows ids rings) refined all ⊎ (all ≡ NoMemory)) c.from_residual.ensures.1
     (elim c.in_err-rings.ensures.err [
       | inl h ↦ inl (tells_rings (numbered_rows ids rings) refined c.in_err-rings.field-0.0 within rise
@@ -65,7 +65,7 @@ returns-in_err-all_gaps-clause-faults g c =
     ∙ c.in_ok-rings.ensures.ok in
     let simple : AreSimple (numbered_rows ids rings) = subst (λ xs. AreSimple (numbered_rows ids xs)) c.in_ok-rings.ensures.ok
     (simple_rows ids c.in_ok-rings.rings.items) in
-    IfErr-passed_on c.from_residual-in_err-all_gaps.result c.in_err-all_gaps.field-0.0
+    passed_if c.from_residual-in_err-all_gaps.result c.in_err-all_gaps.field-0.0
     (λ all. AreTold (numbered_rows ids rings) refined all ⊎ (all ≡ NoMemory)) c.from_residual-in_err-all_gaps.ensures.1
     (elim c.in_err-all_gaps.ensures.err [
       | inl h ↦ inl (tells_gaps (numbered_rows ids rings) refined c.in_err-all_gaps.field-0.0 within simple

@@ -2,21 +2,21 @@ use Rattle.std.proofs.Common.{◌∷◌, [], sym, subst}
 use Rattle.std.specs.List.{Contains}
 use Rattle.geo_exact.specs.Layers.{numbered}
 use Rattle.fabric_core.specs.own.Changes.{state_of, IsStopped, IsBorderRefusal, refusal_of}
-use Rattle.fabric_core.proofs.edits.Refusals.{IfErr-passed_on}
+use Rattle.geo_exact.proofs.PassedOn.{passed_if}
 use Rattle.fabric_core.proofs.edits.Stops.{first_gone, second_gone, no_border}
 use Rattle.fabric_core.proofs.change.merge_change.Goals as goal
 
 pub returns-in_err-first-clause-err : goal.returns-in_err-first-clause-err
 returns-in_err-first-clause-err g c =
     let kept = c.args.tiled.now in let a = c.args.a in let b = c.args.b in let told = c.in_err-first.field-0.0 in
-    IfErr-passed_on c.from_residual.result told
+    passed_if c.from_residual.result told
     (λ refusal. IsStopped kept (a ∷ b ∷ []) (IsBorderRefusal (state_of kept) a b refusal) refusal) c.from_residual.ensures.1
     (first_gone kept a b (IsBorderRefusal (state_of kept) a b told) told c.in_err-first.ensures.err)
 
 pub returns-in_err-second-clause-err : goal.returns-in_err-second-clause-err
 returns-in_err-second-clause-err g c =
     let kept = c.args.tiled.now in let a = c.args.a in let b = c.args.b in let told = c.in_err-second.field-0.0 in
-    IfErr-passed_on c.from_residual-in_err-second.result told
+    passed_if c.from_residual-in_err-second.result told
     (λ refusal. IsStopped kept (a ∷ b ∷ []) (IsBorderRefusal (state_of kept) a b refusal) refusal)
     c.from_residual-in_err-second.ensures.1
     (second_gone kept a b (IsBorderRefusal (state_of kept) a b told) told c.in_ok-first.first.now.ring.corners c.in_ok-first.ensures.ok
@@ -27,7 +27,7 @@ returns-in_err-ring-clause-err g c =
     let kept = c.args.tiled.now in let a = c.args.a in let b = c.args.b in let fault = c.in_err-ring.field-0.0 in
     let here_a = subst (λ ring. Contains kept.rows (numbered a ring)) (sym c.as_slice.ensures) c.in_ok-first.ensures.ok in
     let here_b = subst (λ ring. Contains kept.rows (numbered b ring)) (sym c.as_slice-2.ensures) c.in_ok-second.ensures.ok in
-    IfErr-passed_on c.from_residual-in_err-ring.result (refusal_of fault)
+    passed_if c.from_residual-in_err-ring.result (refusal_of fault)
     (λ refusal. IsStopped kept (a ∷ b ∷ []) (IsBorderRefusal (state_of kept) a b refusal) refusal)
     c.from_residual-in_err-ring.ensures.1
     (no_border kept a b c.as_slice.result.now c.as_slice-2.result.now here_a here_b fault c.in_err-ring.ensures.err)

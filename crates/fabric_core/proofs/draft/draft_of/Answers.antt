@@ -14,7 +14,7 @@ use Rattle.fabric_core.specs.own.EntryRows.{rows_of_entry}
 use Rattle.fabric_core.specs.Refusals.{IsChangeRefusal}
 use Rattle.fabric_core.specs.own.Changes.{IsDraftRefusal, IsRingRefusal, state_of}
 use Rattle.fabric_core.proofs.edits.Drafts.{out_here, out_apart, all_here, news_short, news_few, simple_news}
-use Rattle.fabric_core.proofs.edits.Refusals.{IfErr-passed_on}
+use Rattle.geo_exact.proofs.PassedOn.{passed_if}
 use Rattle.fabric_core.proofs.draft.draft_of.Goals as goal
 
 pub is_within-requires-clause-here : goal.is_within-requires-clause-here
@@ -73,7 +73,7 @@ returns-in_err-shapes-clause-err g c =
     let r = c.in_err-shapes.field-0.0 in let state = state_of c.args.tiled.now in
     let why : IsRingRefusal rows r ⊎ (r ≡ NoMemory) =
     subst (λ entries. IsRingRefusal (rows_of_entry entries) r ⊎ (r ≡ NoMemory)) c.deref.ensures.value c.in_err-shapes.ensures.err in
-    IfErr-passed_on c.from_residual-in_err-shapes.result r (λ refusal.
+    passed_if c.from_residual-in_err-shapes.result r (λ refusal.
     IsDraftRefusal c.args.tiled.now c.args.edit.now refusal ⊎ (refusal ≡ NoMemory))
     c.from_residual-in_err-shapes.ensures.1
     (⊎_elim

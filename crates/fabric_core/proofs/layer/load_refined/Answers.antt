@@ -7,7 +7,7 @@ use Rattle.fabric_core.specs.own.Checks.{IsNetsFault}
 use Rattle.fabric_core.specs.own.Lists.{numbered_rows, corners_of_rings, most_refined}
 use Rattle.fabric_core.proofs.rows.RowGaps.{short_rings, few_corners, fault_of_nets}
 use Rattle.fabric_core.proofs.loads.RingChecks.{simple_rows}
-use Rattle.fabric_core.proofs.edits.Refusals.{IfErr-passed_on}
+use Rattle.geo_exact.proofs.PassedOn.{passed_if}
 use Rattle.fabric_core.proofs.loads.Loaded.{checked_from}
 use Rattle.fabric_core.proofs.layer.load_refined.Goals as goal
 use Rattle.geo_exact.specs.declared.limits.TheConstants.{LAYER_CORNERS}
@@ -49,7 +49,7 @@ returns-in_err-check_nets-clause-fault g c =
     (subst (λ xs. IsNetsFault (corners_of_rings c.deref-4.result.now) xs c.in_err-check_nets.field-0.0
     ⊎ (c.in_err-check_nets.field-0.0 ≡ NoMemory)) c.as_slice.ensures
     c.in_err-check_nets.ensures.err) in
-    IfErr-passed_on c.from_residual-in_err-check_nets.result c.in_err-check_nets.field-0.0
+    passed_if c.from_residual-in_err-check_nets.result c.in_err-check_nets.field-0.0
     (λ fault. IsFirstFault (numbered_rows ids rings) refined fault ⊎ (fault ≡ NoMemory)) c.from_residual-in_err-check_nets.ensures.1
     (elim nets [
       | inl h ↦ inl (fault_of_nets ids rings refined c.in_err-check_nets.field-0.0 c.requires.numbered within simple h)

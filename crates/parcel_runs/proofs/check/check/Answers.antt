@@ -2,7 +2,7 @@ use Rattle.std.proofs.Common.{rules, ◌≤◌, length, inl, inr, refl, ◌∙�
 use Rattle.std.specs.Io.KnownBytes.{Appends}
 use Rattle.geo_exact.specs.declared.limits.TheConstants.{LIST_CORNERS}
 use Rattle.parcel_runs.proofs.CityLimit.{city_short}
-use Rattle.text_pieces.proofs.PassedOn.{passed_if, passed_is}
+use Rattle.geo_exact.proofs.PassedOn.{passed_if, passed_is}
 use Rattle.parcel_runs.proofs.RunFaults.{no_output, want_no_output}
 use Rattle.parcel_runs.proofs.check.check.Goals as goal
 

@@ -8,7 +8,7 @@ use Rattle.city_layers.specs.FaultLines.{text_or_none}
 use Rattle.city_layers.specs.declared.fault.ToolFault.TheVariants.{NoMemory}
 use Rattle.parcel_runs.proofs.LinesWritten.{lines_written, none_written}
 use Rattle.parcel_runs.proofs.CityLimit.{city_short}
-use Rattle.text_pieces.proofs.PassedOn.{passed_if, passed_is}
+use Rattle.geo_exact.proofs.PassedOn.{passed_if, passed_is}
 use Rattle.parcel_runs.proofs.RunFaults.{no_output, want_no_output}
 use Rattle.parcel_runs.proofs.check.check_all.Goals as goal
 

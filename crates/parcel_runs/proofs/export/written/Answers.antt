@@ -2,7 +2,7 @@ use Rattle.std.proofs.Common.{◌≡◌, ◌≤◌, sym, ◌∙◌, ap, subst}
 use Rattle.geo_exact.specs.declared.limits.TheConstants.{LAYER_RECORDS}
 use Rattle.shp_files.specs.Written.{corner_lists as lists_of_rings, written_main, written_index}
 use Rattle.fabric_core.specs.Tiling.{corner_lists}
-use Rattle.text_pieces.proofs.PassedOn.{ok_more}
+use Rattle.geo_exact.proofs.PassedOn.{ok_more}
 use Rattle.parcel_runs.specs.own.Registers.{register_of_parcels}
 use Rattle.parcel_runs.proofs.RowLimits.{as_many, lists_of_shapes, each_short, few_corners}
 use Rattle.parcel_runs.proofs.export.written.Goals as goal

@@ -1,6 +1,6 @@
 use Rattle.std.proofs.Common.{inl, inr, refl, ◌∙◌, subst}
 use Rattle.std.specs.Io.KnownBytes.{Appends}
-use Rattle.text_pieces.proofs.PassedOn.{passed_if, passed_is}
+use Rattle.geo_exact.proofs.PassedOn.{passed_if, passed_is}
 use Rattle.parcel_runs.proofs.RunFaults.{no_output, want_no_output}
 use Rattle.parcel_runs.proofs.locate.locate.Goals as goal
 

@@ -2,7 +2,7 @@ use Rattle.std.proofs.Common.{inl, inr, refl, ◌∙◌, subst}
 use Rattle.std.specs.Io.KnownBytes.{Appends}
 use Rattle.parcel_runs.specs.LocateReport.{ArePlaceLines}
 use Rattle.parcel_runs.proofs.RunFaults.{no_output, want_no_output}
-use Rattle.text_pieces.proofs.PassedOn.{passed_on, passed_if, passed_is}
+use Rattle.geo_exact.proofs.PassedOn.{passed_on, passed_if, passed_is}
 use Rattle.parcel_runs.proofs.locate.locate_text.Goals as goal
 
 pub returns-in_err-unedited-clause-refuses : goal.returns-in_err-unedited-clause-refuses

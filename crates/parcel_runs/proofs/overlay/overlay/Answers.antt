@@ -5,7 +5,7 @@ use Rattle.clerk_runs.specs.ClerkRuns.{register_of, IsEdited}
 use Rattle.city_layers.specs.TilingFiles.{files_of}
 use Rattle.parcel_runs.specs.OverlayReport.{IsTableOf}
 use Rattle.parcel_runs.specs.own.LinesAndReports.{WritesBoth, BeginsBoth}
-use Rattle.text_pieces.proofs.PassedOn.{passed_on, passed_if, passed_is}
+use Rattle.geo_exact.proofs.PassedOn.{passed_on, passed_if, passed_is}
 use Rattle.parcel_runs.proofs.RunFaults.{want_no_output}
 use Rattle.parcel_runs.proofs.OverlayTexts.{no_output, overlay_want_no_output, all_written, some_written, on_output, output_alone, on_ok}
 use Rattle.parcel_runs.proofs.overlay.overlay.Goals as goal

@@ -6,7 +6,7 @@ use Rattle.city_layers.specs.FaultLines.{AreLinesBefore, text_or_none}
 use Rattle.city_layers.specs.TilingFiles.{files_of}
 use Rattle.clerk_runs.specs.ClerkFiles.{texts_of}
 use Rattle.parcel_runs.specs.RunFaults.{IsRunFault}
-use Rattle.text_pieces.proofs.PassedOn.{passed_as}
+use Rattle.geo_exact.proofs.PassedOn.{passed_as}
 use Rattle.parcel_runs.proofs.RunFaults.{few_fault, told_behind}
 use Rattle.parcel_runs.proofs.unedited.load_unedited_or_lines.Goals as goal
 

@@ -6,13 +6,14 @@ use Rattle.fabric_core.specs.Refusals.{IsRefusal, AreParcels, named_ids}
 use Rattle.fabric_core.specs.own.Books.{IsBook}
 use Rattle.fabric_core.specs.own.Changes.{state_of}
 use Rattle.fabric_core.proofs.edits.Booked.{drafted, for_that_alone, for_nothing, one_more}
-use Rattle.fabric_core.proofs.edits.Refusals.{IfErr-passed_on, IsErrAnd-weaker}
+use Rattle.fabric_core.proofs.edits.Refusals.{IsErrAnd-weaker}
+use Rattle.geo_exact.proofs.PassedOn.{passed_if}
 use Rattle.fabric_core.proofs.fabric.Fabric.edit.Goals as goal
 
 pub returns-in_err-draft-clause-refusal : goal.returns-in_err-draft-clause-refusal
 returns-in_err-draft-clause-refusal g c =
     let room : length c.self.inside.journal.items < JOURNAL_ENTRIES = omega (arith, c.len.ensures, c.if-len-ge-JOURNAL_ENTRIES.false) in
-    IfErr-passed_on c.from_residual.result c.in_err-draft.field-0.0
+    passed_if c.from_residual.result c.in_err-draft.field-0.0
     (λ refusal. IsRefusal c.args.self.now.now c.args.self.now.journal c.args.edit.now refusal
     ⊎ (refusal ≡ NoMemory)) c.from_residual.ensures.1
     (⊎_elim
