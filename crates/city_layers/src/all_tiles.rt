@@ -20,12 +20,19 @@ use shp_files::a_layer_file_is_within_the_limits;
 use std::alloc::Allocator;
 
 /// A fault that ends a run, and the lines of all faults of its kind that come before it, where there may be some.
-#[derive(Debug, Drop)]
+#[derive(Debug)]
 pub struct LayerRefusal<A: Allocator> {
     /// The fault: the first of its kind.
     pub fault: ToolFault<'static>,
     /// The lines of all faults of that kind; none where the fault is not of a layer's rings.
     pub lines: Option<Vec<u8, A>>,
+}
+
+// Written out, so that who lets go of it does it by one call, which is proved once.
+impl<A: Allocator> Drop for LayerRefusal<A> {
+    fn drop(self) {
+        let LayerRefusal { fault: _, lines: _ } = self;
+    }
 }
 
 impl<A: Allocator> From<ToolFault<'static>> for LayerRefusal<A> {

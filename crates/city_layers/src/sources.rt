@@ -12,12 +12,19 @@ use std::io::{Input, Read};
 use std::rt::Files;
 
 /// The bytes of a layer's files.
-#[derive(Debug, Drop)]
+#[derive(Debug)]
 pub struct Source<A: Allocator> {
     /// The main file.
     pub main: Vec<u8, A>,
     /// The index file, where there is one.
     pub index: Option<Vec<u8, A>>,
+}
+
+// Written out, so that who lets go of it does it by one call, which is proved once.
+impl<A: Allocator> Drop for Source<A> {
+    fn drop(self) {
+        let Source { main: _, index: _ } = self;
+    }
 }
 
 impl<A: Allocator> Source<A> {

@@ -34,13 +34,26 @@ impl<A: Allocator + Copy> Clone for Row<A> {
 
 /// An edit that was accepted: an entry of the journal. It says all that the edit changed, so that
 /// the journal can be replayed.
-#[derive(Debug, Drop)]
+#[derive(Debug)]
 pub struct Entry<A: Allocator> {
     number: u64,
     clerk: u32,
     edit: Edit<A>,
     out: Vec<u64, A>,
     rows: Vec<Row<A>, A>,
+}
+
+// Written out, so that who lets go of it does it by one call, which is proved once.
+impl<A: Allocator> Drop for Entry<A> {
+    fn drop(self) {
+        let Entry {
+            number: _,
+            clerk: _,
+            edit: _,
+            out: _,
+            rows: _,
+        } = self;
+    }
 }
 
 impl<A: Allocator> Model for Entry<A> {
