@@ -1,4 +1,4 @@
-ghost use Rattle.std.specs.Prelude.{◌≡◌, ◌<◌, ◌↔◌, ℕ, IsTrue};
+ghost use Rattle.std.specs.Prelude.{◌≡◌, ◌+◌, ◌<◌, ◌↔◌, ℕ, IsTrue};
 ghost use Rattle.cell_index.specs.Cells.{cell_of as cell_along, box_cells, stands_in, IsCellBetween};
 ghost use Rattle.cell_index.specs.own.Ranges.{HasCell, cell_count, column_at, row_at, number_at};
 ghost use Rattle.cell_index.specs.own.Ranges.{is_first_at, is_first_common as first_common, common_along, has_some_of};

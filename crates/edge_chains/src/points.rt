@@ -1,5 +1,5 @@
 //! Corners that are found by their places.
-ghost use Rattle.std.specs.Prelude.{◌≡◌, ◌↔◌, ◌+ℤ◌, List, IfOk};
+ghost use Rattle.std.specs.Prelude.{◌≡◌, ◌↔◌, ◌<◌, ◌+ℤ◌, List, IfOk};
 ghost use Rattle.std.specs.List.{Contains};
 ghost use Rattle.geo_exact.specs.Limit.{IsWithin, limit};
 ghost use Rattle.edge_chains.specs.own.Steps.{AreInside, AreSteps};

@@ -1,4 +1,4 @@
-ghost use Rattle.std.specs.Prelude.{◌≡◌, ◌↔◌, ℕ, ◌*◌, ◌^◌, ◌<◌, ◌≤◌, max, ℤ, Ok, Err, IfOk, IfErr, IfSome};
+ghost use Rattle.std.specs.Prelude.{◌≡◌, ◌↔◌, ℕ, ◌+◌, ◌*◌, ◌^◌, ◌<◌, ◌≤◌, max, ℤ, Ok, Err, IfOk, IfErr, IfSome};
 ghost use Rattle.geo_exact.specs.Grid.{IsOnGrid, IsCoordFault, coordinate, size_of};
 ghost use Rattle.geo_exact.specs.Grid.{centimetres as centimetres_of, exponent_field, magnitude};
 ghost use Rattle.geo_exact.specs.Limit.{IsWithin, limit};

@@ -1,3 +1,4 @@
+ghost use Rattle.std.specs.Prelude.{◌*◌};
 ghost use Rattle.geo_exact.specs.Limit.{IsWithin, limit};
 
 use geo_exact::{Bounds, Corner};

@@ -1,5 +1,5 @@
 //! The rule of the words, and what each step on them tells.
-ghost use Rattle.std.specs.Prelude.{◌≡◌, ℕ, length};
+ghost use Rattle.std.specs.Prelude.{◌≡◌, ◌<◌, ℕ, length};
 ghost use Rattle.overlay_claims.specs.own.Spread.{word_of, IsClaimedApart};
 ghost use Rattle.overlay_claims.specs.Claims.{view_of, with_fewer_parts, joined, spent_view, Claims, KnowsAll};
 
