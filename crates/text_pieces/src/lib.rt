@@ -1,6 +1,7 @@
 //! Pieces of the texts that users read: numbers, corners, and why a ring is refused.
 //!
-//! Each call adds its piece to the end of a text, byte for byte as stated, or answers that a growth was refused.
+//! Each call adds its piece to the end of a text, byte for byte as stated, or answers that a growth was refused; a
+//! beginning of the piece may stand at the end of the text then.
 #![tactic(auto)]
 
 mod numbers;

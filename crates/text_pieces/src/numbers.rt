@@ -9,6 +9,10 @@ use itoa::Buffer;
 use std::alloc::{AllocError, Allocator};
 
 /// Adds a corner's two coordinates, in centimetres: `X Y`.
+///
+/// # Errors
+///
+/// [`AllocError`] where an allocation is refused; a beginning of it may have been added then.
 pub fn push_corner<A: Allocator>(text: &mut Vec<u8, A>, corner: Corner) -> Result<(), AllocError>
     ensures { OnOk result (text.new.items ≡ text.old.items ++ corner_text corner) }
 {
@@ -19,6 +23,10 @@ pub fn push_corner<A: Allocator>(text: &mut Vec<u8, A>, corner: Corner) -> Resul
 }
 
 /// Adds a number in decimal, with a minus sign where it is below 0.
+///
+/// # Errors
+///
+/// [`AllocError`] where an allocation is refused; nothing is added then.
 pub fn push_number<A: Allocator>(text: &mut Vec<u8, A>, number: i64) -> Result<(), AllocError>
     ensures { OnOk result (text.new.items ≡ text.old.items ++ signed_decimal number) }
 {

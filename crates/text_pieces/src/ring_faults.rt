@@ -8,6 +8,10 @@ use ring_core::RingFault;
 use std::alloc::{AllocError, Allocator};
 
 /// Adds the text of a ring's fault: `G1`, `G3`, or `G2 I J`.
+///
+/// # Errors
+///
+/// [`AllocError`] where an allocation is refused; a beginning of it may have been added then.
 pub fn push_ring_fault<A: Allocator>(
     text: &mut Vec<u8, A>,
     fault: RingFault,
