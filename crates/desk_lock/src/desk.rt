@@ -34,24 +34,13 @@ pub(crate) type Copies<'a, H, J, R> = Publisher<Copied<'a, H, J>, Entry<&'a H>, 
 ///
 /// Contracts see the fabric, the entries that were accepted at the desk, and the journal of the
 /// version that windows take.
+#[derive(Drop)]
 pub struct Desk<'a, H: Allocator, J: Naming<H>, R: Wait + Drop> {
     pub(crate) fabric: Fabric<'a, H>,
     pub(crate) keeper: Keeper<Entry<&'a H>, &'a H>,
     pub(crate) publisher: Copies<'a, H, J, R>,
     // How many entries the fabric had that was handed in.
     pub(crate) opened_with: usize,
-}
-
-// Written out, so that who lets go of it does it by one call, which is proved once.
-impl<'a, H: Allocator, J: Naming<H>, R: Wait + Drop> Drop for Desk<'a, H, J, R> {
-    fn drop(self) {
-        let Desk {
-            fabric: _,
-            keeper: _,
-            publisher: _,
-            opened_with: _,
-        } = self;
-    }
 }
 
 impl<'a, H: Allocator, J: Naming<H>, R: Wait + Drop> Model for Desk<'a, H, J, R> {

@@ -12,7 +12,7 @@ use std::alloc::{AllocError, Allocator};
 ///
 /// # Errors
 ///
-/// [`AllocError`] where an allocation is refused; a beginning of it may have been added then.
+/// [`AllocError`] where an allocation is refused; a beginning of the piece may stand at the end of the text then.
 pub fn push_corner<A: Allocator>(text: &mut Vec<u8, A>, corner: Corner) -> Result<(), AllocError>
     ensures { OnOk result (text.new.items ≡ text.old.items ++ corner_text corner) }
 {

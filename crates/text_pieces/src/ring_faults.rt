@@ -11,7 +11,7 @@ use std::alloc::{AllocError, Allocator};
 ///
 /// # Errors
 ///
-/// [`AllocError`] where an allocation is refused; a beginning of it may have been added then.
+/// [`AllocError`] where an allocation is refused; a beginning of the piece may stand at the end of the text then.
 pub fn push_ring_fault<A: Allocator>(
     text: &mut Vec<u8, A>,
     fault: RingFault,
