@@ -29,25 +29,13 @@ pub enum Step {
 /// work at the same time, in threads of their own; none waits for another.
 ///
 /// Contracts see a `Progress`.
+#[derive(Drop)]
 pub struct Hand<'t, 'h, H: Allocator> {
     work: Arc<Work<'t, 'h, H>, &'h H>,
     claimant: Claimant,
     holds: Option<u64>,
     kept: Vec<(u64, u64), &'h H>,
     tests: u64,
-}
-
-// Written out, so that who lets go of it does it by one call, which is proved once.
-impl<'t, 'h, H: Allocator> Drop for Hand<'t, 'h, H> {
-    fn drop(self) {
-        let Hand {
-            work: _,
-            claimant: _,
-            holds: _,
-            kept: _,
-            tests: _,
-        } = self;
-    }
 }
 
 impl<'t, 'h, H: Allocator> Model for Hand<'t, 'h, H> {

@@ -49,15 +49,9 @@ impl From<AllocError> for RoundFault {
 ///
 /// Contracts see its task: the lists, the parcels' rows and the zones', the city and the count of
 /// the sheet's journal entries.
+#[derive(Drop)]
 pub struct Round<'t, 'h, H: Allocator> {
     work: Arc<Work<'t, 'h, H>, &'h H>,
-}
-
-// Written out, so that who lets go of it does it by one call, which is proved once.
-impl<'t, 'h, H: Allocator> Drop for Round<'t, 'h, H> {
-    fn drop(self) {
-        let Round { work: _ } = self;
-    }
 }
 
 impl<'t, 'h, H: Allocator> Model for Round<'t, 'h, H> {

@@ -12,23 +12,12 @@ use std::alloc::Allocator;
 use std::marker::Model;
 
 /// What the hands of a round share: the lists of the sharing with the claims of their places, the sheet and the zones.
+#[derive(Drop)]
 pub(crate) struct Work<'t, 'h, H: Allocator> {
     claims: Claims<&'h H>,
     lists: Vec<Vec<u64, &'h H>, &'h H>,
     sheet: &'t Sheet<'h, H>,
     zones: &'t Layer<'h, H>,
-}
-
-// Written out, so that who lets go of it does it by one call, which is proved once.
-impl<'t, 'h, H: Allocator> Drop for Work<'t, 'h, H> {
-    fn drop(self) {
-        let Work {
-            claims: _,
-            lists: _,
-            sheet: _,
-            zones: _,
-        } = self;
-    }
 }
 
 impl<'t, 'h, H: Allocator> Model for Work<'t, 'h, H> {

@@ -62,7 +62,6 @@ const RUNS: [(Which, &str); 6] = [
 ];
 
 /// The files of the runs.
-#[derive(Drop)]
 struct Inputs<'h> {
     heap: &'h Heap,
     square: Source<&'h Heap>,
@@ -70,6 +69,20 @@ struct Inputs<'h> {
     parcels: Source<Global>,
     gap: Source<Global>,
     zones: Source<Global>,
+}
+
+// Written out, so that who lets go of it does it by one call, which is proved once.
+impl<'h> Drop for Inputs<'h> {
+    fn drop(self) {
+        let Inputs {
+            heap: _,
+            square: _,
+            city: _,
+            parcels: _,
+            gap: _,
+            zones: _,
+        } = self;
+    }
 }
 
 fn inputs_in<'h>(heap: &'h Heap, alloc: Global) -> Result<Inputs<'h>, AllocError> {
