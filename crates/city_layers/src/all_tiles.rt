@@ -28,7 +28,7 @@ pub struct LayerRefusal<A: Allocator> {
     pub lines: Option<Vec<u8, A>>,
 }
 
-// Written out, so that who lets go of it does it by one call, which is proved once.
+// Not derived: whoever drops it makes one call, and what that does is proved once, here.
 impl<A: Allocator> Drop for LayerRefusal<A> {
     fn drop(self) {
         let LayerRefusal { fault: _, lines: _ } = self;

@@ -20,7 +20,7 @@ pub struct Source<A: Allocator> {
     pub index: Option<Vec<u8, A>>,
 }
 
-// Written out, so that who lets go of it does it by one call, which is proved once.
+// Not derived: whoever drops it makes one call, and what that does is proved once, here.
 impl<A: Allocator> Drop for Source<A> {
     fn drop(self) {
         let Source { main: _, index: _ } = self;

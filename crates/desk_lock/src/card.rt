@@ -20,7 +20,7 @@ pub struct Card<'a, H: Allocator, J: Naming<H>> {
     pub(crate) of: PhantomData<J>,
 }
 
-// Written out, so that who lets go of it does it by one call, which is proved once.
+// Not derived: whoever drops it makes one call, and what that does is proved once, here.
 impl<'a, H: Allocator, J: Naming<H>> Drop for Card<'a, H, J> {
     fn drop(self) {
         let Card {

@@ -35,7 +35,7 @@ pub struct Office<'a, H: Allocator, J: Naming<H>, R: Wait + Drop> {
     ghost clerks_are: { clerks ≡ J.office.clerks },
 }
 
-// Written out, so that who lets go of it does it by one call, which is proved once.
+// Not derived: whoever drops it makes one call, and what that does is proved once, here.
 impl<'a, H: Allocator, J: Naming<H>, R: Wait + Drop> Drop for Office<'a, H, J, R> {
     fn drop(self) {
         let Office { desk: _, clerks: _ } = self;

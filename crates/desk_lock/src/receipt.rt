@@ -55,7 +55,7 @@ pub struct Receipt<'a, H: Allocator, J: Naming<H>> {
     pub(crate) heap: &'a H,
 }
 
-// Written out, so that who lets go of it does it by one call, which is proved once.
+// Not derived: whoever drops it makes one call, and what that does is proved once, here.
 impl<'a, H: Allocator, J: Naming<H>> Drop for Receipt<'a, H, J> {
     fn drop(self) {
         let Receipt {
@@ -110,7 +110,7 @@ pub struct Notice<'a, H: Allocator, J: Naming<H>> {
     pub(crate) front: Front<Entry<&'a H>, J>,
 }
 
-// Written out, so that who lets go of it does it by one call, which is proved once.
+// Not derived: whoever drops it makes one call, and what that does is proved once, here.
 impl<'a, H: Allocator, J: Naming<H>> Drop for Notice<'a, H, J> {
     fn drop(self) {
         let Notice {

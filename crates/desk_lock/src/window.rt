@@ -52,7 +52,7 @@ pub struct Window<'a, H: Allocator, J: Naming<H>> {
     pub(crate) heap: &'a H,
 }
 
-// Written out, so that who lets go of it does it by one call, which is proved once.
+// Not derived: whoever drops it makes one call, and what that does is proved once, here.
 impl<'a, H: Allocator, J: Naming<H>> Drop for Window<'a, H, J> {
     fn drop(self) {
         let Window {

@@ -43,7 +43,7 @@ pub struct Entry<A: Allocator> {
     rows: Vec<Row<A>, A>,
 }
 
-// Written out, so that who lets go of it does it by one call, which is proved once.
+// Not derived: whoever drops it makes one call, and what that does is proved once, here.
 impl<A: Allocator> Drop for Entry<A> {
     fn drop(self) {
         let Entry {

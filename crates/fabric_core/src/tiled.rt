@@ -48,7 +48,7 @@ pub(crate) struct Tiled<'a, H: Allocator> {
     hints: Hints<'a, H>,
 }
 
-// Written out, so that who lets go of a layer or a fabric does it by one call, which is proved once.
+// Not derived: whoever drops a layer or a fabric makes one call, and what that does is proved once, here.
 impl<'a, H: Allocator> Drop for Tiled<'a, H> {
     fn drop(self) {
         let Tiled {

@@ -41,7 +41,7 @@ pub enum Edit<A: Allocator> {
     },
 }
 
-// Written out, so that who lets go of it does it by one call, which is proved once.
+// Not derived: whoever drops it makes one call, and what that does is proved once, here.
 impl<A: Allocator> Drop for Edit<A> {
     fn drop(self) {
         match self {

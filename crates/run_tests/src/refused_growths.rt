@@ -71,7 +71,7 @@ struct Inputs<'h> {
     zones: Source<Global>,
 }
 
-// Written out, so that who lets go of it does it by one call, which is proved once.
+// Not derived: whoever drops it makes one call, and what that does is proved once, here.
 impl<'h> Drop for Inputs<'h> {
     fn drop(self) {
         let Inputs {

@@ -1,6 +1,6 @@
 //! The header of a file.
 
-ghost use Rattle.std.specs.Prelude.{◌≡◌, ◌≤◌, ◌<◌, ◌^◌, ◌+◌, length, IfOk};
+ghost use Rattle.std.specs.Prelude.{◌≡◌, ◌≤◌, ◌<◌, ◌^◌, length, IfOk};
 ghost use Rattle.std.specs.Result.{result_err};
 ghost use Rattle.shp_files.specs.Checks.{first_failure, header_checks, declared_end, fault_in};
 

@@ -49,7 +49,11 @@ fn widened(bounds: Bounds, window: Bounds, triangle: &Tri) -> Bounds
     ensures kept { (p : Point) → IsInsideBox p bounds → IsInsideBox p result }
     ensures added { (p : Point) → IsInterior p (triangle_ring triangle.now) → IsInsideBox p window → IsInsideBox p result }
 {
-    let part = window.common(bounds_of(triangle));
+    let own = bounds_of(triangle);
+    if window.is_wider(own) {
+        return bounds.around(own);
+    }
+    let part = window.common(own);
     if part.is_empty() || bounds.is_wider(part) || misses(triangle, part) {
         return bounds;
     }

@@ -1,8 +1,6 @@
 -- Boxes with sides along the axes: what the code tests before it looks at edges (OGC 06-103r4, 6.1.2.2, Envelope, is
--- the least such box; here any box
--- that holds what it is of). Public contracts do not speak of it.
-use Rattle.std.specs.Prelude.{◌⊎◌, ℤ, pos, ◌*ℤ◌, ◌<ℤ◌, ◌≤ℤ◌, List, [], ◌∷◌}
-use Rattle.std.specs.List.{All}
+-- the least such box; here any box that holds what it is of). Public contracts do not speak of it.
+use Rattle.std.specs.Prelude.{◌⊎◌, pos, ◌≤ℤ◌, List, [], ◌∷◌}
 use Rattle.geo_exact.specs.declared.corner.Corner.{Corner}
 use Rattle.geo_exact.specs.Point.{Point}
 use Rattle.geo_exact.specs.Turn.{turn_at}

@@ -1,4 +1,3 @@
-use Rattle.std.proofs.Common.{sym}
 use Rattle.std.proofs.lemmas.Bool.{false≢true}
 use Rattle.tri_overlap.proofs.Halves.{inside_all, apart_lists}
 use Rattle.tri_overlap.proofs.RingPairs.{pair_of_rings, rings_of_pair}
