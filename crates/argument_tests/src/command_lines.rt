@@ -6,7 +6,7 @@ use tool_arguments::{Points, Request, parse};
 /// Command lines, and what each asks for.
 const REQUESTS: [(&str, &str); 8] = [
     (
-        "parcel_tool area city.shp --unit cm",
+        "parcel_tool area city.shp --unit mm",
         "Area { main: \"city.shp\", unit: Cm }",
     ),
     (
@@ -18,11 +18,11 @@ const REQUESTS: [(&str, &str); 8] = [
         "Check { inputs: Inputs { city: \"a.shp\", parcels: \"b.shp\", unit: M, clerks: [] }, all: false }",
     ),
     (
-        "parcel_tool check a --clerk d --all b --unit cm --clerk c",
+        "parcel_tool check a --clerk d --all b --unit mm --clerk c",
         "Check { inputs: Inputs { city: \"a\", parcels: \"b\", unit: Cm, clerks: [\"d\", \"c\"] }, all: true }",
     ),
     (
-        "parcel_tool export a b --unit cm --out new/town --clerk c",
+        "parcel_tool export a b --unit mm --out new/town --clerk c",
         "Export { inputs: Inputs { city: \"a\", parcels: \"b\", unit: Cm, clerks: [\"c\"] }, base: \"new/town\" }",
     ),
     (
@@ -30,7 +30,7 @@ const REQUESTS: [(&str, &str); 8] = [
         "Locate { inputs: Inputs { city: \"a\", parcels: \"b\", unit: M, clerks: [\"c\", \"c\"] }, points: File(\"-\") }",
     ),
     (
-        "parcel_tool overlay a b c --unit cm --clerk d",
+        "parcel_tool overlay a b c --unit mm --clerk d",
         "Overlay { inputs: Inputs { city: \"a\", parcels: \"b\", unit: Cm, clerks: [\"d\"] }, \
          zones: \"c\", workers: Workers { count: 4 } }",
     ),
@@ -58,7 +58,7 @@ fn reads_requests(rt: HostRuntime) -> Result<(), Fail> {
 
 #[test]
 fn reads_points(rt: HostRuntime) -> Result<(), Fail> {
-    let line = "parcel_tool locate a.shp --at -5 0010 b.shp --unit cm --at 10000000000 -0";
+    let line = "parcel_tool locate a.shp --at -5 0010 b.shp --unit mm --at 100000000000 -0";
     let words: Vec<&str> = line.split(' ').collect(rt.alloc())?;
     match parse(rt.alloc(), words.as_slice()) {
         Ok(Request::Locate { inputs, points }) => {
@@ -94,47 +94,47 @@ const REFUSED: [(&str, ErrorKind, &str); 12] = [
         "--unit <UNIT>",
     ),
     (
-        "parcel_tool area --unit cm",
+        "parcel_tool area --unit mm",
         ErrorKind::MissingRequiredArgument,
         "<MAIN>",
     ),
     (
         "parcel_tool area a.shp --unit mm",
         ErrorKind::InvalidValue,
-        "[possible values: cm, m]",
+        "[possible values: mm, cm, m]",
     ),
     (
-        "parcel_tool export a.shp b.shp --unit cm",
+        "parcel_tool export a.shp b.shp --unit mm",
         ErrorKind::MissingRequiredArgument,
         "--out <BASE>",
     ),
     (
-        "parcel_tool locate a.shp b.shp --unit cm",
+        "parcel_tool locate a.shp b.shp --unit mm",
         ErrorKind::MissingRequiredArgument,
         "--points <FILE>",
     ),
     (
-        "parcel_tool locate a.shp b.shp --unit cm --points c --at 0 0",
+        "parcel_tool locate a.shp b.shp --unit mm --points c --at 0 0",
         ErrorKind::ArgumentConflict,
         "cannot be used with",
     ),
     (
-        "parcel_tool locate a.shp b.shp --unit cm --at 0 10000000001",
+        "parcel_tool locate a.shp b.shp --unit mm --at 0 100000000001",
         ErrorKind::ValueValidation,
-        "at most 10000000000",
+        "at most 100000000000",
     ),
     (
-        "parcel_tool area a.shp b.shp --unit cm",
+        "parcel_tool area a.shp b.shp --unit mm",
         ErrorKind::UnknownArgument,
         "'b.shp'",
     ),
     (
-        "parcel_tool area a.shp --unit cm --fast",
+        "parcel_tool area a.shp --unit mm --fast",
         ErrorKind::UnknownArgument,
         "'--fast'",
     ),
     (
-        "parcel_tool area a.shp --unit cm --unit cm",
+        "parcel_tool area a.shp --unit mm --unit mm",
         ErrorKind::ArgumentConflict,
         "cannot be used multiple times",
     ),

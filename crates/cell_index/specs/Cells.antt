@@ -14,7 +14,7 @@ use Rattle.cell_index.specs.declared.axis.TheConstants.{ACROSS, MOST_CELLS}
 abbrev pub distance : ℤ → ℤ → ℕ
 distance from to = if int_lt from to then unsigned_abs (to -ℤ from) else 0
 
--- the side of a cell along an axis on which the area goes from low to high, in centimetres
+-- the side of a cell along an axis on which the area goes from low to high, in millimetres
 abbrev pub cell_side : ℤ → ℤ → ℕ
 cell_side low high = distance low high / ACROSS + 1
 

@@ -9,14 +9,14 @@ pub(crate) const ACROSS: usize = 64;
 /// across the area stands in no more.
 pub(crate) const MOST_CELLS: usize = 128;
 
-/// How far `to` is above `from`, in centimetres; 0 where it is not.
+/// How far `to` is above `from`, in millimetres; 0 where it is not.
 fn distance(from: i64, to: i64) -> u64
     ensures { result ≡ distance_of from to }
 {
     if from < to { to.abs_diff(from) } else { 0 }
 }
 
-/// The side of a cell along an axis on which the area goes from `low` to `high`, in centimetres.
+/// The side of a cell along an axis on which the area goes from `low` to `high`, in millimetres.
 fn cell_side(low: i64, high: i64) -> u64
     ensures { result ≡ side_of low high }
 {

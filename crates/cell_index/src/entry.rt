@@ -3,7 +3,7 @@ ghost use Rattle.cell_index.specs.Cells.{is_same_entry};
 
 use geo_exact::Bounds;
 
-/// A key with its box beside it. Coordinates are in whole centimetres.
+/// A key with its box beside it. Coordinates are in whole millimetres.
 #[derive(Clone, Copy, Debug, PartialEq, Eq)]
 pub struct Entry {
     /// What the entry stands for, as its owner numbers it.

@@ -19,7 +19,7 @@ use std::marker::Model;
 /// Which boxes stand in which cells of a grid of 64 by 64 cells over an area. Contracts see the
 /// area and what stands in each cell.
 ///
-/// A cell is `(high - low) / 64 + 1` centimetres wide, whole division, and likewise high. A box
+/// A cell is `(high - low) / 64 + 1` millimetres wide, whole division, and likewise high. A box
 /// stands in the cells between those of its two corners, these included. An entry is kept in each
 /// cell where its box stands, its key and its box side by side; but where these are more than 128
 /// cells, the box is wide, and its entry is kept once, beside the cells. So a search reads one cell

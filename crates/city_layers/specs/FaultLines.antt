@@ -1,5 +1,5 @@
 -- The lines of a check that tells all faults (this product's own). Numbers are in decimal, with a minus sign where
--- they are below 0; corners in centimetres.
+-- they are below 0; corners in millimetres.
 use Rattle.std.specs.Prelude.{◌≡◌, ℕ, ℤ, List, [], ◌++◌, codes, decimal, Option, None, Some, Vec}
 use Rattle.std.specs.Fmt.{signed_decimal}
 use Rattle.std.specs.List.{flat_map}

@@ -16,7 +16,7 @@ use std::alloc::Allocator;
 use text_puts::put_all;
 
 /// Writes, for each polygon of a layer in order, a line with its record's number and twice its area without sign, in
-/// square centimetres. The files are checked whole before the first byte is written.
+/// square millimetres. The files are checked whole before the first byte is written.
 ///
 /// # Errors
 ///

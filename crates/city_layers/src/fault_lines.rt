@@ -12,7 +12,7 @@ use std::alloc::{AllocError, Allocator};
 use text_pieces::{push_corner, push_number, push_ring_fault};
 
 /// The lines of all faults: `ring R FAULT` for each ring, or `edge AX AY BX BY net N` for each
-/// edge, corners in centimetres.
+/// edge, corners in millimetres.
 pub fn fault_lines<A: Allocator, B: Allocator>(
     alloc: A,
     all: &AllFaults<B>,

@@ -163,10 +163,10 @@ fn corner_at(corners: &[Corner], index: usize, none: Corner) -> Corner
     }
 }
 
-/// The place of a corner's square of 8 by 8 centimetres: the bits of its two coordinates in turn.
+/// The place of a corner's square of 64 by 64 millimetres: the bits of its two coordinates in turn.
 fn place_of(corner: Corner) -> u64 {
-    let across = (corner.x + LIMIT) as u64 >> 3;
-    let up = (corner.y + LIMIT) as u64 >> 3;
+    let across = (corner.x + LIMIT) as u64 >> 6;
+    let up = (corner.y + LIMIT) as u64 >> 6;
     spread(across) | spread(up) << 1
 }
 

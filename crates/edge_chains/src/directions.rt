@@ -21,7 +21,7 @@ const MANY: u64 = 256;
 /// beginnings at least as many edges are slow: so a direction that one in 64 of them has comes to [`MANY`] before.
 const MOST_COUNTED: usize = 16_384;
 
-/// How many edges were slow, by the way of their steps across and up, in centimetres.
+/// How many edges were slow, by the way of their steps across and up, in millimetres.
 type Counts<A> = HashMap<(i64, i64), u64, BuildHasherDefault<FoldHasher>, A>;
 
 /// The directions so far across which all corners are in order, and how many edges were slow in others of late.

@@ -19,7 +19,7 @@ struct Ranked {
     corner: Corner,
 }
 
-/// Corners in order across a direction, `across` and `up` in centimetres, and then along it.
+/// Corners in order across a direction, `across` and `up` in millimetres, and then along it.
 #[derive(Drop)]
 pub(crate) struct Lines<A: Allocator> {
     across: i64,

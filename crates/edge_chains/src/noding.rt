@@ -72,7 +72,7 @@ fn node_ring<A: Allocator + Copy>(
 /// Each ring with exactly those of the corners inserted that lie strictly inside an edge, in order along it, each once.
 ///
 /// Where all corners of the rings are among them, no corner lies strictly inside an edge
-/// afterwards. Corners are in whole centimetres.
+/// afterwards. Corners are in whole millimetres.
 ///
 /// # Errors
 ///

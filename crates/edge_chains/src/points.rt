@@ -64,7 +64,7 @@ impl<A: Allocator + Copy> Points<A> {
     }
 }
 
-/// The place so far across and up from a corner, in centimetres.
+/// The place so far across and up from a corner, in millimetres.
 fn moved(corner: Corner, across: i64, up: i64) -> Corner
     requires in_x { IsWithin limit (corner.x +ℤ across) }
     requires in_y { IsWithin limit (corner.y +ℤ up) }

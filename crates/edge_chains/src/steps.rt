@@ -8,7 +8,7 @@ use geo_exact::{Corner, wide_product};
 /// How many steps an edge may have, which is more than any has.
 const MOST: u64 = 1 << 40;
 
-/// Equal steps from one end of an edge to the other: how far each goes, in centimetres, and how many there are.
+/// Equal steps from one end of an edge to the other: how far each goes, in millimetres, and how many there are.
 ///
 /// Between two steps there is no whole place on the edge.
 #[derive(Clone, Copy)]

@@ -15,7 +15,7 @@ use tri_overlap::folded;
 
 /// A city: a simple ring, begun at its least corner, that goes round each place once or not at all.
 ///
-/// Corners are in whole centimetres; the memory is that of the heap that was lent.
+/// Corners are in whole millimetres; the memory is that of the heap that was lent.
 #[derive(Debug, Drop)]
 pub struct City<'a, H: Allocator> {
     /// Its ring, counterclockwise, with the corners that were read.

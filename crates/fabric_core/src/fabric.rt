@@ -45,7 +45,7 @@ use std::marker::Model;
 ///
 /// Contracts see the city's ring as it was read, the state in which the fabric was opened and the
 /// state now (the rows by ascending id, the city's refined ring, the next id), the index, and the
-/// journal. Corners are in whole centimetres.
+/// journal. Corners are in whole millimetres.
 pub struct Fabric<'a, H: Allocator> {
     tiled: Tiled<'a, H>,
     opening: Opening<&'a H>,

@@ -9,7 +9,7 @@ use std::marker::Model;
 /// The most entries of a journal.
 pub const JOURNAL_ENTRIES: usize = 1_048_576;
 
-/// A parcel as a journal has it: its ring under its id. Corners are in whole centimetres.
+/// A parcel as a journal has it: its ring under its id. Corners are in whole millimetres.
 #[derive(Debug, Drop)]
 pub struct Row<A: Allocator> {
     /// The parcel's id.

@@ -71,7 +71,7 @@ impl<T: Drop> From<AllocFailed<T>> for LoadFault {
 ///
 /// Every corner of the layer and the city that lies inside an edge of a parcel or of the city is a
 /// corner of that ring, so that neighbours have whole edges in common. Each ring begins at its
-/// least corner. Corners are in whole centimetres; the memory is that of the heap that was lent.
+/// least corner. Corners are in whole millimetres; the memory is that of the heap that was lent.
 #[derive(Drop)]
 pub struct Layer<'a, H: Allocator> {
     tiled: Tiled<'a, H>,

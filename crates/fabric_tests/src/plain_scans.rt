@@ -64,7 +64,7 @@ fn drawn<'a>(heap: &'a Global, words: &mut Pcg32) -> Result<Layer<'a, Global>, F
     }
 }
 
-/// A corner in the city, or up to 10 centimetres beyond it.
+/// A corner in the city, or up to 10 millimetres beyond it.
 fn drawn_corner(words: &mut Pcg32) -> Result<Corner, Fail> {
     let x = i64::from(words.next_word() % 121);
     let y = i64::from(words.next_word() % 121);

@@ -16,7 +16,7 @@ const BELOW: [Place; 4] = [(0, 0), (5000, 0), (5000, 50), (0, 50)];
 /// The same with one corner more.
 const MORE: [Place; 5] = [(0, 0), (1, 0), (5000, 0), (5000, 50), (0, 50)];
 
-/// The parcel above the border: 4,093 corners along it, one centimetre apart, and three more.
+/// The parcel above the border: 4,093 corners along it, one millimetre apart, and three more.
 fn above(heap: &Global) -> Result<Corners<&Global>, Fail> {
     let mut list = Corners::new(heap);
     for x in 0..4093i64 {
@@ -50,7 +50,7 @@ fn nodes_a_border_of_the_most_corners(rt: HostRuntime) -> Result<(), Fail> {
     Ok(())
 }
 
-/// The rectangles of one centimetre side by side, as many as a layer may have.
+/// The rectangles of one millimetre side by side, as many as a layer may have.
 fn most_rectangles(heap: &Global) -> Result<Vec<Corners<&Global>, &Global>, Fail> {
     let mut lists = Vec::new(heap);
     for x in 0..i64::from(LAYER_RECORDS) {

@@ -25,10 +25,10 @@ enum Answer {
 type Row = (&'static [Place], &'static [&'static [Place]], Answer);
 
 /// The greatest coordinate.
-const M: i64 = 10_000_000_000;
+const M: i64 = 100_000_000_000;
 
 /// Twice the area of half the plane's square.
-const HALF: i128 = 400_000_000_000_000_000_000;
+const HALF: i128 = 40_000_000_000_000_000_000_000;
 
 const TWO: [Parcel; 2] = [(1, 12_000, &WEST), (2, 8_000, &EAST)];
 
@@ -118,7 +118,7 @@ const LEFT: [Place; 3] = [(-M, -M), (M, M), (-M, M)];
 
 const HALVES: [Parcel; 2] = [(1, HALF, &RIGHT), (2, HALF, &LEFT)];
 
-/// A centimetre is missing beside the parcel in the west.
+/// A millimetre is missing beside the parcel in the west.
 const NARROW: [Place; 4] = [(61, 0), (100, 0), (100, 100), (61, 100)];
 
 const OVERLAPPING: [&[Place]; 3] = [

@@ -24,12 +24,12 @@ fn index_fault(position: u32, place: u64, kind: FaultKind) -> Option<LayerFault>
 }
 
 fn fault_with(alloc: Global, main: &[u8], index: &[u8]) -> Option<LayerFault> {
-    read_layer(alloc, main, Some(index), Unit::Cm).err()
+    read_layer(alloc, main, Some(index), Unit::Mm).err()
 }
 
 /// The files are those of the square alone, in a record of this number.
 fn reads_square(alloc: Global, main: &[u8], index: &[u8], number: u32) -> bool {
-    match read_layer(alloc, main, Some(index), Unit::Cm) {
+    match read_layer(alloc, main, Some(index), Unit::Mm) {
         Ok(rings) => match rings.as_slice() {
             [ring] => ring.number == number && ring.corners.as_slice() == SQUARE.as_slice(),
             _ => false,

@@ -12,9 +12,17 @@ use test_builders::{
     HUNDRED, ONE, SQUARE, ZERO, behind_a_null_shape, empty_file, put, put_point, square_file,
 };
 
-const FAR: [u8; 8] = [0, 0, 0, 0x20, 0x5f, 0xa0, 0x02, 0x42];
+const FAR: [u8; 8] = [0, 0, 0, 0xe8, 0x76, 0x48, 0x37, 0x42];
 
-const MINUS_FAR: [u8; 8] = [0, 0, 0, 0x20, 0x5f, 0xa0, 0x02, 0xc2];
+const MINUS_FAR: [u8; 8] = [0, 0, 0, 0xe8, 0x76, 0x48, 0x37, 0xc2];
+
+/// The square of a thousand millimetres, which a metre and a hundred centimetres are.
+const THOUSAND_WIDE: [Corner; 4] = [
+    Corner { x: 0, y: 0 },
+    Corner { x: 1000, y: 0 },
+    Corner { x: 1000, y: 1000 },
+    Corner { x: 0, y: 1000 },
+];
 
 /// A fault of the main file.
 pub fn main_fault(position: u32, place: u64, kind: FaultKind) -> Option<LayerFault> {
@@ -27,7 +35,7 @@ pub fn main_fault(position: u32, place: u64, kind: FaultKind) -> Option<LayerFau
 }
 
 fn fault_of(alloc: Global, file: &[u8]) -> Option<LayerFault> {
-    read_layer(alloc, file, None, Unit::Cm).err()
+    read_layer(alloc, file, None, Unit::Mm).err()
 }
 
 /// There is one ring, of this number and these corners.
@@ -49,10 +57,12 @@ fn reads_as(alloc: Global, file: &[u8], unit: Unit, number: u32, want: &[Corner]
 #[test]
 fn reads_a_square(rt: HostRuntime) {
     let file = square_file(&ZERO, &HUNDRED);
-    assert!(rt; reads_as(rt.alloc(), &file, Unit::Cm, 1, &SQUARE));
+    assert!(rt; reads_as(rt.alloc(), &file, Unit::Mm, 1, &SQUARE));
     assert_eq!(rt; area2(&SQUARE), 20000);
+    assert!(rt; reads_as(rt.alloc(), &file, Unit::Cm, 1, &THOUSAND_WIDE));
     let metre = square_file(&ZERO, &ONE);
-    assert!(rt; reads_as(rt.alloc(), &metre, Unit::M, 1, &SQUARE));
+    assert!(rt; reads_as(rt.alloc(), &metre, Unit::M, 1, &THOUSAND_WIDE));
+    assert_eq!(rt; area2(&THOUSAND_WIDE), 2_000_000);
 }
 
 #[test]
@@ -76,23 +86,23 @@ fn reads_the_greatest_square(rt: HostRuntime) {
         reads_as(
             rt.alloc(),
             &square_file(&MINUS_FAR, &FAR),
-            Unit::Cm,
+            Unit::Mm,
             1,
             &want
         )
     );
-    assert_eq!(rt; area2(&want), 800_000_000_000_000_000_000);
+    assert_eq!(rt; area2(&want), 80_000_000_000_000_000_000_000);
 }
 
 #[test]
 fn reads_past_what_is_not_compared(rt: HostRuntime) {
     let mut longer = [0xff; 243];
     put(&mut longer, 0, &square_file(&ZERO, &HUNDRED));
-    assert!(rt; reads_as(rt.alloc(), &longer, Unit::Cm, 1, &SQUARE));
+    assert!(rt; reads_as(rt.alloc(), &longer, Unit::Mm, 1, &SQUARE));
     let mut other = square_file(&ZERO, &HUNDRED);
     put(&mut other, 36, &[0; 32]);
     put(&mut other, 100, &[0, 0, 0, 9]);
-    assert!(rt; reads_as(rt.alloc(), &other, Unit::Cm, 1, &SQUARE));
+    assert!(rt; reads_as(rt.alloc(), &other, Unit::Mm, 1, &SQUARE));
 }
 
 /// A counterclockwise square with its second corner written twice in a row.
@@ -112,7 +122,7 @@ fn twice() -> [u8; 252] {
 
 #[test]
 fn keeps_equal_neighbours_once(rt: HostRuntime) {
-    assert!(rt; reads_as(rt.alloc(), &twice(), Unit::Cm, 1, &SQUARE));
+    assert!(rt; reads_as(rt.alloc(), &twice(), Unit::Mm, 1, &SQUARE));
     let mut few = square_file(&ZERO, &HUNDRED);
     put_point(&mut few, 188, &ZERO, &ZERO);
     put_point(&mut few, 204, &ZERO, &ZERO);
@@ -125,7 +135,7 @@ fn keeps_equal_neighbours_once(rt: HostRuntime) {
 #[test]
 fn counts_null_shapes(rt: HostRuntime) {
     let mut file = behind_a_null_shape();
-    assert!(rt; reads_as(rt.alloc(), &file, Unit::Cm, 2, &SQUARE));
+    assert!(rt; reads_as(rt.alloc(), &file, Unit::Mm, 2, &SQUARE));
     put(&mut file, 104, &[0, 0, 0, 3]);
     assert_eq!(rt;
         fault_of(rt.alloc(), &file),
@@ -187,7 +197,7 @@ fn refuses_patches(rt: HostRuntime) {
 
 #[test]
 fn reads_a_header_alone(rt: HostRuntime) -> Result<(), Fail> {
-    let rings = read_layer(rt.alloc(), &empty_file(), None, Unit::Cm)
+    let rings = read_layer(rt.alloc(), &empty_file(), None, Unit::Mm)
         .ok()
         .ok_or("the file is a layer")?;
     assert_eq!(rt; rings.len(), 0);

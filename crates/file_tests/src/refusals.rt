@@ -20,7 +20,7 @@ type Heap = Refusing<Global>;
 /// The square is read, or growth `number` is refused, and then it is read with memory; whether it was refused.
 fn is_reading_refused(heap: &Heap, number: u64, index: Option<&[u8]>) -> Result<bool, Fail> {
     heap.refuse(number);
-    let read = read_layer(heap, &MAIN, index, Unit::Cm);
+    let read = read_layer(heap, &MAIN, index, Unit::Mm);
     let is_refused = heap.is_spent();
     heap.refuse(0);
     if is_refused != matches!(read, Err(LayerFault::NoMemory)) {
@@ -28,7 +28,7 @@ fn is_reading_refused(heap: &Heap, number: u64, index: Option<&[u8]>) -> Result<
     }
     let rings = match read {
         Ok(rings) => rings,
-        Err(_) => read_layer(heap, &MAIN, index, Unit::Cm)?,
+        Err(_) => read_layer(heap, &MAIN, index, Unit::Mm)?,
     };
     if rings.len() != 1 || rings[0].number != 1 || rings[0].corners.as_slice() != &SQUARE[..] {
         return Err(Fail::new("not the square"));
@@ -54,7 +54,7 @@ fn reading_a_layer(rt: HostRuntime) -> Result<(), Fail> {
 
 /// The square is written, or growth `number` is refused, and then it is written with memory; whether it was refused.
 fn is_writing_refused(heap: &Heap, number: u64) -> Result<bool, Fail> {
-    let Some(ring) = read_layer(heap, &MAIN, None, Unit::Cm)?.pop() else {
+    let Some(ring) = read_layer(heap, &MAIN, None, Unit::Mm)?.pop() else {
         return Err(Fail::new("no ring"));
     };
     let rings = [ring];

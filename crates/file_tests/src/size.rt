@@ -9,7 +9,7 @@ use test_builders::{ring_file, saw, squares_in_a_row};
 fn reads_the_most_records(rt: HostRuntime) -> Result<(), Fail> {
     let alloc = rt.alloc();
     let (main, index) = squares_in_a_row(alloc, 65_536)?;
-    let rings = read_layer(alloc, &main, Some(index.as_slice()), Unit::Cm)?;
+    let rings = read_layer(alloc, &main, Some(index.as_slice()), Unit::Mm)?;
     assert_eq!(rt; rings.len(), LAYER_RECORDS as usize);
     let mut number = 0u32;
     for ring in rings.iter() {
@@ -41,12 +41,12 @@ fn writes_and_reads_the_longest_ring(rt: HostRuntime) -> Result<(), Fail> {
         return Err(Fail::new("not the longest ring"));
     }
     let file = ring_file(alloc, longest.as_slice())?;
-    let Some(ring) = read_layer(alloc, &file, None, Unit::Cm)?.pop() else {
+    let Some(ring) = read_layer(alloc, &file, None, Unit::Mm)?.pop() else {
         return Err(Fail::new("no ring"));
     };
     assert!(rt; ring.corners == longest);
     let (main, index) = write_layer(alloc, &[ring])?;
-    let Some(again) = read_layer(alloc, &main, Some(index.as_slice()), Unit::Cm)?.pop() else {
+    let Some(again) = read_layer(alloc, &main, Some(index.as_slice()), Unit::Mm)?.pop() else {
         return Err(Fail::new("no ring again"));
     };
     assert!(rt; again.corners == longest);

@@ -34,7 +34,7 @@ fn seen_with(alloc: Global, index: &[u8]) -> (Result<(), LayerFault>, Seen) {
         alloc,
         &behind_a_null_shape(),
         Some(index),
-        Unit::Cm,
+        Unit::Mm,
         &mut seen,
     );
     (answer, seen)

@@ -1,17 +1,18 @@
--- The centimetre grid of a double (Technical Description, July 1998, "Numeric Types"; IEEE 754, binary64: its fields and its value).
+-- The millimetre grid of a double (Technical Description, July 1998, "Numeric Types"; IEEE 754, binary64: its fields and its value).
 use Rattle.std.specs.Prelude.{◌≡◌, ℕ, ◌+◌, ◌*◌, ◌/◌, ◌%◌, ◌^◌, ◌<◌, ℤ, pos, neg_ℤ, ◌-ℤ◌}
 use Rattle.std.specs.Prelude.{◌*ℤ◌, ◌==◌, Bool, nat_lt, nat_le, if◌then◌else◌, Result, Ok, Err}
 use Rattle.std.specs.Int.{abs_diff}
 use Rattle.geo_exact.specs.declared.coord.Unit.{Unit}
-use Rattle.geo_exact.specs.declared.coord.Unit.TheVariants.{Cm, M}
+use Rattle.geo_exact.specs.declared.coord.Unit.TheVariants.{Mm, Cm, M}
 use Rattle.geo_exact.specs.declared.coord.CoordFault.{CoordFault}
 use Rattle.geo_exact.specs.declared.coord.CoordFault.TheVariants.{NotNumber, OffGrid, TooFar}
 use Rattle.geo_exact.specs.Limit.{IsWithin, limit}
 
--- how many centimetres the unit has
-abbrev pub centimetres : Unit → ℕ
-centimetres Cm = 1
-centimetres M = 100
+-- how many millimetres the unit has
+abbrev pub millimetres : Unit → ℕ
+millimetres Mm = 1
+millimetres Cm = 10
+millimetres M = 1000
 
 -- the 1 sign bit, the 11 exponent bits and the 52 fraction bits
 abbrev pub sign_bit : ℕ → ℕ
@@ -35,11 +36,11 @@ magnitude bits =
 abbrev pub scaled_value : ℕ → ℤ
 scaled_value bits = if sign_bit bits == 0 then pos (magnitude bits) else neg_ℤ (pos (magnitude bits))
 
--- The double is a number, and within 1/1024 of k centimetres: with v its value and s the unit's centimetres, |s v - k| * 1024 <= 1.
+-- The double is a number, and within 1/1024 of k millimetres: with v its value and s the unit's millimetres, |s v - k| * 1024 <= 1.
 -- Both sides stand here times 2 ^ 1075.
 pub record IsOnGrid (bits : ℕ) (unit : Unit) (k : ℤ) : Type 0 where
   pub is_number : exponent_field bits < 2047
-  pub is_near : IsWithin (2 ^ 1075) ((pos (centimetres unit) *ℤ scaled_value bits -ℤ k *ℤ pos (2 ^ 1075)) *ℤ pos 1024)
+  pub is_near : IsWithin (2 ^ 1075) ((pos (millimetres unit) *ℤ scaled_value bits -ℤ k *ℤ pos (2 ^ 1075)) *ℤ pos 1024)
 
 -- why the double is no coordinate
 abbrev pub IsCoordFault : ℕ → Unit → CoordFault → Type 0
@@ -76,4 +77,4 @@ unfoldable pub coordinate : ℕ → Unit → Result ℤ CoordFault
 coordinate bits unit =
     if exponent_field bits == 2047
     then Err NotNumber
-    else with_sign (sign_bit bits) (size_of (centimetres unit * magnitude bits) (2 ^ 1075))
+    else with_sign (sign_bit bits) (size_of (millimetres unit * magnitude bits) (2 ^ 1075))

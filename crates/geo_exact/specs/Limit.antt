@@ -9,6 +9,6 @@ pub record IsWithin (n : ℕ) (z : ℤ) : Type 0 where
   pub low : neg_ℤ (pos n) ≤ℤ z
   pub high : z ≤ℤ pos n
 
--- 100,000 kilometres, in whole centimetres
+-- 100,000 kilometres, in whole millimetres
 abbrev pub limit : ℕ
 limit = unsigned_abs LIMIT

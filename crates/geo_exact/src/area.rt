@@ -25,7 +25,7 @@ fn edge_area2(from: Corner, to: Corner) -> i128
     coordinate_product(from.x, to.y) - coordinate_product(to.x, from.y)
 }
 
-/// Twice the signed area that a ring of corners goes round, in square centimetres: positive for a
+/// Twice the signed area that a ring of corners goes round, in square millimetres: positive for a
 /// counterclockwise ring, 0 for no corner. A ring here has at most [`LIST_CORNERS`](crate::LIST_CORNERS) corners.
 ///
 /// ```

@@ -9,7 +9,7 @@ ghost use Rattle.geo_exact.specs.Bounds.{LiesBetween, RangesMeet, holds_corner, 
 use crate::corner::Corner;
 use crate::limits::LIMIT;
 
-/// A box with sides along the axes, from its least coordinates to its greatest, in centimetres.
+/// A box with sides along the axes, from its least coordinates to its greatest, in millimetres.
 ///
 /// Where a greatest coordinate is below its least one, the box holds no place.
 #[derive(Clone, Copy, Debug, PartialEq, Eq)]

@@ -1,6 +1,6 @@
 ghost use Rattle.std.specs.Prelude.{◌≡◌, ◌↔◌, ℕ, ◌+◌, ◌*◌, ◌^◌, ◌<◌, ◌≤◌, max, ℤ, Ok, Err, IfOk, IfErr, IfSome};
 ghost use Rattle.geo_exact.specs.Grid.{IsOnGrid, IsCoordFault, coordinate, size_of};
-ghost use Rattle.geo_exact.specs.Grid.{centimetres as centimetres_of, exponent_field, magnitude};
+ghost use Rattle.geo_exact.specs.Grid.{millimetres as millimetres_of, exponent_field, magnitude};
 ghost use Rattle.geo_exact.specs.Limit.{IsWithin, limit};
 
 use crate::limits::LIMIT;
@@ -8,6 +8,8 @@ use crate::limits::LIMIT;
 /// The unit in which a file's coordinates are meant.
 #[derive(Clone, Copy, Debug, PartialEq, Eq)]
 pub enum Unit {
+    /// Millimetres.
+    Mm,
     /// Centimetres.
     Cm,
     /// Metres.
@@ -19,18 +21,19 @@ pub enum Unit {
 pub enum CoordFault {
     /// C1: an infinity or a not-a-number.
     NotNumber,
-    /// C2: no whole centimetre is within 1/1024 cm.
+    /// C2: no whole millimetre is within 1/1024 mm.
     OffGrid,
     /// C3: beyond [`LIMIT`](crate::LIMIT).
     TooFar,
 }
 
-fn centimetres(unit: Unit) -> u64
-    ensures { result ≡ centimetres_of unit }
+fn millimetres(unit: Unit) -> u64
+    ensures { result ≡ millimetres_of unit }
 {
     match unit {
-        Unit::Cm => 1,
-        Unit::M => 100,
+        Unit::Mm => 1,
+        Unit::Cm => 10,
+        Unit::M => 1_000,
     }
 }
 
@@ -79,11 +82,11 @@ fn whole_quotient(numerator: u64, shift: u64) -> Option<u64>
 
 /// The whole number within 1/1024 of `numerator / 2 ^ shift`.
 fn near_size(numerator: u64, shift: u64) -> Result<u64, CoordFault>
-    requires small { numerator < 2 ^ 60 }
+    requires small { numerator < 2 ^ 63 }
     ensures value { result ≡ size_of numerator (2 ^ shift) }
     ensures bound { IfOk result (λ size. size ≤ limit) }
 {
-    if shift >= 70 {
+    if shift >= 74 {
         return Ok(0);
     }
     let numerator = u128::from(numerator);
@@ -99,7 +102,7 @@ fn near_size(numerator: u64, shift: u64) -> Result<u64, CoordFault>
 }
 
 /// The coordinate of a double of a size from 1 to `2 ^ 52` where it is a whole number of
-/// centimetres within the limit: of those of a file nearly all are.
+/// millimetres within the limit: of those of a file nearly all are.
 fn whole_coordinate(bits: u64, unit: Unit) -> Option<i64>
     ensures { IfSome result (λ k. coordinate bits unit ≡ Ok k) }
 {
@@ -107,7 +110,7 @@ fn whole_coordinate(bits: u64, unit: Unit) -> Option<i64>
     if !(1023..1075).contains(&exponent) {
         return None;
     }
-    let numerator = centimetres(unit) * normal_significand(bits);
+    let numerator = millimetres(unit) * normal_significand(bits);
     let whole = whole_quotient(numerator, 1075 - exponent)?;
     if whole > LIMIT as u64 {
         return None;
@@ -129,7 +132,7 @@ fn signed_coordinate(bits: u64, unit: Unit) -> Result<i64, CoordFault>
     if exponent >= 1075 {
         return Err(CoordFault::TooFar);
     }
-    let numerator = centimetres(unit) * significand(bits);
+    let numerator = millimetres(unit) * significand(bits);
     let size = near_size(numerator, 1075 - exponent.max(1))? as i64;
     Ok(if bits >> 63 == 0 { size } else { -size })
 }
@@ -144,9 +147,9 @@ fn any_coordinate(bits: u64, unit: Unit) -> Result<i64, CoordFault>
     }
 }
 
-/// The whole centimetre that the double with these bits is meant for.
+/// The whole millimetre that the double with these bits is meant for.
 ///
-/// With `s` the centimetres of the unit, a value `v` is read as `k` where `s * v` is within 1/1024 of it
+/// With `s` the millimetres of the unit, a value `v` is read as `k` where `s * v` is within 1/1024 of it
 /// (IEEE 754, binary64: 1 sign bit, 11 exponent bits, 52 fraction bits). Subnormals and minus zero are 0.
 ///
 /// # Errors
@@ -155,8 +158,8 @@ fn any_coordinate(bits: u64, unit: Unit) -> Result<i64, CoordFault>
 /// `k`, [`CoordFault::TooFar`] where it is beyond [`LIMIT`](crate::LIMIT).
 ///
 /// ```
-/// assert_eq!(read_coord(0x4028AE147AE147AE, Unit::M), Ok(1234)); // 12.34 m
-/// assert_eq!(read_coord(0x4028B0A3D70A3D71, Unit::M), Err(CoordFault::OffGrid)); // 12.345 m
+/// assert_eq!(read_coord(0x4028AE147AE147AE, Unit::M), Ok(12340)); // 12.34 m
+/// assert_eq!(read_coord(0x3F40000000000000, Unit::M), Err(CoordFault::OffGrid)); // 1/2048 m
 /// ```
 pub fn read_coord(bits: u64, unit: Unit) -> Result<i64, CoordFault>
     ensures exact { result ≡ coordinate bits unit }
@@ -169,9 +172,9 @@ pub fn read_coord(bits: u64, unit: Unit) -> Result<i64, CoordFault>
     any_coordinate(bits, unit)
 }
 
-/// A double is on the grid at one whole centimetre at most.
+/// A double is on the grid at one whole millimetre at most.
 #[tactic(auto, using(crate::proofs::doubles::Coordinates::one_fits))]
-pub fn one_centimetre_fits()
+pub fn one_millimetre_fits()
     ensures { (bits : ℕ) (unit : Unit) (k l : ℤ) → IsOnGrid bits unit k → IsOnGrid bits unit l → k ≡ l }
 {}
 

@@ -3,7 +3,7 @@ ghost use Rattle.geo_exact.specs.Limit.{IsWithin, limit};
 
 use crate::limits::LIMIT;
 
-/// A corner of a ring: a place in whole centimetres, each coordinate at most [`LIMIT`] away from 0.
+/// A corner of a ring: a place in whole millimetres, each coordinate at most [`LIMIT`] away from 0.
 ///
 /// Corners are ordered by `x`, then `y`.
 #[derive(Clone, Copy, Debug, PartialEq, Eq, PartialOrd, Ord, Hash)]

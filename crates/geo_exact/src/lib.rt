@@ -1,4 +1,4 @@
-//! Exact plane geometry over whole centimetres: coordinates, orientation, twice-area, and byte
+//! Exact plane geometry over whole millimetres: coordinates, orientation, twice-area, and byte
 //! streams that count their failures. No floating-point number occurs.
 #![tactic(auto)]
 
@@ -24,7 +24,7 @@ pub use bytes::fail_at::FailAt;
 pub use bytes::{ByteIn, ByteOut, Failed};
 pub use coord::{
     CoordFault, Unit, coordinate_faults_are_exact, coordinates_are_on_the_grid,
-    one_centimetre_fits, read_coord,
+    one_millimetre_fits, read_coord,
 };
 pub use corner::Corner;
 pub use corners::Corners;

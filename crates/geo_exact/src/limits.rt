@@ -1,8 +1,8 @@
 //! The product's limits, each in one place: code, contracts and definitions name these constants,
 //! and what follows from one is written as an expression of it.
 
-/// The greatest distance of a coordinate from 0, in centimetres: 100,000 kilometres.
-pub const LIMIT: i64 = 10_000_000_000;
+/// The greatest distance of a coordinate from 0, in millimetres: 100,000 kilometres.
+pub const LIMIT: i64 = 100_000_000_000;
 
 /// The most corners that a ring of a layer has.
 pub const RING_CORNERS: usize = 4_096;

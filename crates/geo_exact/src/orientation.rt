@@ -5,7 +5,7 @@ ghost use Rattle.geo_exact.specs.Turn.{turn as turn_of};
 use crate::corner::Corner;
 use crate::products::wide_product;
 
-/// The way from one corner to another, in centimetres.
+/// The way from one corner to another, in millimetres.
 #[derive(Clone, Copy)]
 struct Way {
     x: i64,
@@ -44,7 +44,7 @@ fn spanned(u: Way, v: Way) -> i128
 }
 
 /// The orientation of three corners: twice the signed area of the triangle `a`, `b`, `c`, in square
-/// centimetres, positive where `c` is left of the way from `a` to `b`.
+/// millimetres, positive where `c` is left of the way from `a` to `b`.
 ///
 /// ```
 /// // From (0, 0) to (10, 0), (0, 5) is on the left:

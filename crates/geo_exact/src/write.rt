@@ -1,5 +1,5 @@
 ghost use Rattle.std.specs.Prelude.{◌≡◌, ◌*◌, ◌^◌, ◌+◌, ◌-◌, ◌<◌, ◌≤◌, ◌*ℤ◌, pos, Ok};
-ghost use Rattle.geo_exact.specs.declared.coord.Unit.TheVariants.{Cm};
+ghost use Rattle.geo_exact.specs.declared.coord.Unit.TheVariants.{Mm};
 ghost use Rattle.geo_exact.specs.Doubles.{bits_of, highest_bit as highest_bit_of, whole_bits as whole_bits_of};
 ghost use Rattle.geo_exact.specs.Grid.{IsOnGrid, coordinate, scaled_value};
 ghost use Rattle.geo_exact.specs.Limit.{IsWithin, limit};
@@ -53,10 +53,10 @@ fn coordinate_bits(k: i64) -> u64
     }
 }
 
-/// The bits of the double that is exactly a coordinate `k` in centimetres (IEEE 754, binary64). 0 is written with
+/// The bits of the double that is exactly a coordinate `k` in millimetres (IEEE 754, binary64). 0 is written with
 /// sign bit 0.
 ///
-/// [`read_coord`](crate::read_coord) in [`Unit::Cm`](crate::Unit::Cm) reads `k` back.
+/// [`read_coord`](crate::read_coord) in [`Unit::Mm`](crate::Unit::Mm) reads `k` back.
 ///
 /// ```
 /// assert_eq!(write_coord(100), 0x4059000000000000);
@@ -66,8 +66,8 @@ pub fn write_coord(k: i64) -> u64
     ensures value { result ≡ bits_of k }
     ensures exact { scaled_value result ≡ k *ℤ pos (2 ^ 1075) }
     ensures zero { k ≡ pos 0 → result ≡ 0 }
-    ensures on_grid { IsOnGrid result Cm k }
-    ensures read_back { coordinate result Cm ≡ Ok k }
+    ensures on_grid { IsOnGrid result Mm k }
+    ensures read_back { coordinate result Mm ≡ Ok k }
 {
     coordinate_bits(k)
 }

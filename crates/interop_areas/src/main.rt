@@ -1,6 +1,6 @@
 //! Reads the layers of `examples/interop`, which other programs wrote, each with its index file,
 //! and prints a line for each ring: the layer's name, the record's number, and twice its area in
-//! square centimetres. What it must print stands in its file `stdout`; it comes from the areas that
+//! square millimetres. What it must print stands in its file `stdout`; it comes from the areas that
 //! GDAL reports for them.
 #![tactic(auto)]
 

@@ -15,7 +15,7 @@ abbrev pub IsSigned : List ℕ → ℤ → Type 0
 IsSigned text z = ((n : ℕ) × (z ≡ pos n) × IsNumber text n)
     ⊎ ((digits : List ℕ) × (n : ℕ) × (text ≡ codes "-" ++ digits) × (z ≡ neg_ℤ (pos n)) × IsNumber digits n)
 
--- the two texts are a corner's coordinates, in whole centimetres; a corner is within the limits by its type
+-- the two texts are a corner's coordinates, in whole millimetres; a corner is within the limits by its type
 pub record IsCornerText (x y : List ℕ) (corner : Corner) : Type 0 where
   pub is_x : IsSigned x corner.x
   pub is_y : IsSigned y corner.y

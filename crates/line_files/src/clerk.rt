@@ -43,7 +43,7 @@ impl<T: Drop> From<AllocFailed<T>> for ClerkFault {
 /// - `move ID ID X Y X Y ..`, with one corner or more,
 /// - `insert X Y X Y X Y`, the two ends of an edge and the new corner on it,
 ///
-/// with one space between words. Coordinates are in whole centimetres. Whether an edit can be
+/// with one space between words. Coordinates are in whole millimetres. Whether an edit can be
 /// carried out is not looked at.
 ///
 /// # Errors

@@ -28,7 +28,7 @@ impl<T: Drop> From<AllocFailed<T>> for PointsFault {
     }
 }
 
-/// The points of a text, in order: each line is a point `X Y`, in whole centimetres, unless it is skipped.
+/// The points of a text, in order: each line is a point `X Y`, in whole millimetres, unless it is skipped.
 ///
 /// # Errors
 ///

@@ -12,7 +12,7 @@ use geo_exact::{Corner, LIMIT};
 /// The most digits of a number in a text.
 pub const MOST_DIGITS: usize = 19;
 
-/// The corner with these two coordinates, in whole centimetres; `None` where one is no number or beyond the limit.
+/// The corner with these two coordinates, in whole millimetres; `None` where one is no number or beyond the limit.
 pub fn read_corner(x: &[u8], y: &[u8]) -> Option<Corner>
     ensures found { IfSome result (IsCornerText x.now y.now) }
     ensures none { IfNone result ((corner : CornerValue) → ¬ IsCornerText x.now y.now corner) }

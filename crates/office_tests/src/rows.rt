@@ -114,7 +114,7 @@ fn loses_nothing_at_the_close(rt: HostRuntime) -> Result<(), Fail> {
     Ok(())
 }
 
-/// A square of a thousand centimetres.
+/// A square of a thousand millimetres.
 const LARGE: [Place; 4] = [(0, 0), (1000, 0), (1000, 1000), (0, 1000)];
 
 /// Whether a fabric has 200 entries, and its parcel and its refined ring have 204 corners.

@@ -10,7 +10,7 @@ use test_builders::Place;
 use test_cities::{RINGS, Rings, SQUARE, layer, sheet};
 
 /// The greatest coordinate.
-const M: i64 = 10_000_000_000;
+const M: i64 = 100_000_000_000;
 
 /// The square of all places.
 const GROUND: [Place; 4] = [(-M, -M), (M, -M), (M, M), (-M, M)];

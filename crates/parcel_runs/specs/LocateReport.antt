@@ -1,5 +1,5 @@
 -- The lines that tell where points lie (this product's own). Numbers are in decimal, with a minus sign where they are
--- below 0; points in centimetres.
+-- below 0; points in millimetres.
 use Rattle.std.specs.Prelude.{◌≡◌, ◌≢◌, ◌⊎◌, ℕ, List, [], ◌∷◌, ◌++◌, codes, decimal, Option}
 use Rattle.std.specs.List.{flat_map}
 use Rattle.std.specs.Io.KnownBytes.{Appends}

@@ -25,7 +25,7 @@ use std::thread::Threads;
 use text_puts::put_all;
 
 /// Writes `tiling N AREA2` where the parcels tile their city exactly: how many they are, and twice
-/// the city's area in square centimetres. Before that the edits of clerks' files are made at one
+/// the city's area in square millimetres. Before that the edits of clerks' files are made at one
 /// office, each file's by a thread of its own, line by line, and a line for each is written, by
 /// clerk and line; clerk K is that of file K, from 1. All files are checked whole before the first
 /// edit is made.

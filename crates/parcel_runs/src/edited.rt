@@ -116,7 +116,7 @@ impl<'h, H: Allocator> Parcels<'h, H> {
         }
     }
 
-    /// Twice the city's area, in square centimetres.
+    /// Twice the city's area, in square millimetres.
     pub fn city_area2(&self) -> u128
         requires { length (city_of_parcels self.now) ≤ LIST_CORNERS }
         ensures { result ≡ unsigned_abs (area2 (city_of_parcels self.now)) }

@@ -37,7 +37,7 @@ pub struct Exported<A: Allocator> {
 
 /// The two files of the parcels' layer, where the parcels tile their city exactly: its rings, each
 /// with all corners of the layer and the city that lie inside its edges, by ascending id and
-/// numbered anew from 1. Coordinates are in centimetres, whatever the unit that was read. Before
+/// numbered anew from 1. Coordinates are in millimetres, whatever the unit that was read. Before
 /// that the edits of clerks' files are made at one office, each file's by a thread of its own, line
 /// by line; clerk K is that of file K, from 1. An edit that is refused changes nothing, and its
 /// line says why.

@@ -67,7 +67,7 @@ pub fn locate<'h, R: Threads + Wait + Sync, H: Allocator + Send + Sync, A: Alloc
     Ok(())
 }
 
-/// As [`locate`], of the points of a text: each line is a point `X Y`, in whole centimetres, unless
+/// As [`locate`], of the points of a text: each line is a point `X Y`, in whole millimetres, unless
 /// it is empty or begins with `#`.
 ///
 /// # Errors

@@ -1,4 +1,4 @@
-//! Three boxes in an area of 100 by 100 centimetres, whose cells are 2 wide and high: two that lie
+//! Three boxes in an area of 100 by 100 millimetres, whose cells are 2 wide and high: two that lie
 //! along its south side, and one that stands in too many cells to be kept in them.
 
 use cell_index::{CellIndex, Entry};

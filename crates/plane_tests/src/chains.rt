@@ -84,7 +84,7 @@ type NodeRow = (
     &'static [&'static [Place]],
 );
 
-const FAR: i64 = 10_000_000_000;
+const FAR: i64 = 100_000_000_000;
 
 static NODED: [NodeRow; 3] = [
     (

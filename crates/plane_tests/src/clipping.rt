@@ -8,8 +8,8 @@ use test_builders::{
     Place, clipped_as_plainly, corner, corners, shape, shape_of, simple_ring, triangle,
 };
 
-/// The limit of the coordinates, in centimetres.
-const FAR: i64 = 10_000_000_000;
+/// The limit of the coordinates, in millimetres.
+const FAR: i64 = 100_000_000_000;
 
 const WITH_FLAT_CORNER: [Place; 5] = [(0, 0), (50, 0), (100, 0), (100, 100), (0, 100)];
 
@@ -83,24 +83,24 @@ const FLAT_SIDE: [Place; 7] = [
     (0, 10),
 ];
 
-/// A bay that ends half a square centimetre left of the first edge, whose way is (F(50), F(49)) in
-/// Fibonacci numbers: it ends at (F(48), F(47)) from the start, and F(50) F(47) is F(49) F(48) + 1. In
-/// doubles these products, above 2^65, are equal.
+/// A bay that ends half a square millimetre left of the first edge, whose way is (F(54), F(53)) in
+/// Fibonacci numbers: it ends at (F(52), F(51)) from the start, and F(54) F(51) is F(53) F(52) + 1. In
+/// doubles these products, above 2^70, are equal.
 const SHORT_BAY: [Place; 5] = [
     (-FAR, -FAR),
-    (2_586_269_025, -2_221_257_951),
+    (-13_732_428_728, -46_683_708_827),
     (FAR, FAR),
-    (-5_192_473_024, -7_028_784_927),
+    (-67_048_719_901, -79_634_988_926),
     (-FAR, FAR),
 ];
 
-/// A bay that ends half a square centimetre right of the first edge, at (F(49), F(48)) from the start:
-/// F(50) F(48) is F(49) F(49) - 1.
+/// A bay that ends half a square millimetre right of the first edge, at (F(53), F(52)) from the start:
+/// F(54) F(52) is F(53) F(53) - 1.
 const LONG_BAY: [Place; 5] = [
     (-FAR, -FAR),
-    (2_586_269_025, -2_221_257_951),
+    (-13_732_428_728, -46_683_708_827),
     (FAR, FAR),
-    (-2_221_257_951, -5_192_473_024),
+    (-46_683_708_827, -67_048_719_901),
     (-FAR, FAR),
 ];
 
@@ -193,9 +193,9 @@ fn a_ring_keeps_its_corners(rt: HostRuntime) -> Result<(), Fail> {
 /// A ring, and the triangles that it is clipped to, in order.
 type TriangleRow = (&'static [Place], &'static [(Place, Place, Place)]);
 
-const BAY: Place = (-5_192_473_024, -7_028_784_927);
+const BAY: Place = (-67_048_719_901, -79_634_988_926);
 
-const BEND: Place = (2_586_269_025, -2_221_257_951);
+const BEND: Place = (-13_732_428_728, -46_683_708_827);
 
 static TRIANGLES: [TriangleRow; 4] = [
     (
@@ -269,8 +269,8 @@ fn clips_rings(rt: HostRuntime) -> Result<(), Fail> {
         (&SPIRAL, 4600, 12),
         (&STAR, 4000, 6),
         (&FLAT_SIDE, 800, 2),
-        (&WIDEST, 800_000_000_000_000_000_000, 2),
-        (&SHORT_BAY, 155_574_840_980_000_000_000, 3),
+        (&WIDEST, 80_000_000_000_000_000_000_000, 2),
+        (&SHORT_BAY, 10_663_258_234_600_000_000_000, 3),
     ];
     for (places, area, count) in rows {
         assert_eq!(rt; clipped(&rt, places)?, (area, count));

@@ -114,18 +114,18 @@ fn triangles_that_cross_or_touch(rt: HostRuntime) -> Result<(), Fail> {
     Ok(())
 }
 
-/// Slivers along the way of (12586269025, 7778742049), two Fibonacci numbers F(50) and F(49), from the
+/// Slivers along the way of (86267571272, 53316291173), two Fibonacci numbers F(54) and F(53), from the
 /// south-western end of the coordinates. Of three in a row the square of the middle one and the product
-/// of the others differ by 1, and so do F(50) F(47) and F(49) F(48): so the place (F(49), F(48)) from
-/// there lies right of the way by half a square centimetre, and (F(48), F(47)) left of it by as much.
-/// In doubles these products, above 2^65, are multiples of 8192: each difference is 0.
+/// of the others differ by 1, and so do F(54) F(51) and F(53) F(52): so the place (F(53), F(52)) from
+/// there lies right of the way by half a square millimetre, and (F(52), F(51)) left of it by as much.
+/// In doubles these products, above 2^70, are multiples of 262144: each difference is 0.
 #[test]
 fn slivers_at_the_limits(rt: HostRuntime) -> Result<(), Fail> {
-    let far = 10_000_000_000;
+    let far = 100_000_000_000;
     let start = (-far, -far);
-    let end = (2_586_269_025, -2_221_257_951);
-    let on_the_right = (-2_221_257_951, -5_192_473_024);
-    let on_the_left = (-5_192_473_024, -7_028_784_927);
+    let end = (-13_732_428_728, -46_683_708_827);
+    let on_the_right = (-46_683_708_827, -67_048_719_901);
+    let on_the_left = (-67_048_719_901, -79_634_988_926);
     let sliver = triangle(start, on_the_right, end)?;
     let left_side = triangle(start, end, (-far, far))?;
     let right_side = triangle(start, (far, -far), end)?;
@@ -201,7 +201,7 @@ const EAST_PART: [Place; 4] = [(70, 20), (100, 20), (100, 80), (70, 80)];
 
 const OVER_THE_EDGE: [Place; 4] = [(39, 30), (100, 30), (100, 70), (39, 70)];
 
-/// What lies in the bay, whole and in two parts, and what lies a centimetre over its edge.
+/// What lies in the bay, whole and in two parts, and what lies a millimetre over its edge.
 #[test]
 fn shapes_with_a_bay(rt: HostRuntime) -> Result<(), Fail> {
     let rows: [(&[Place], &[Place], bool); 5] = [

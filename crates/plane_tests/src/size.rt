@@ -10,8 +10,8 @@ use std::test::Fail;
 use test_builders::{ring_of, saw, shape_of};
 use tri_overlap::{folded, shapes_overlap};
 
-/// Twice the area of a saw of 4,096 corners: 4,093 steps of one centimetre each, 100 high but for
-/// half a centimetre on average.
+/// Twice the area of a saw of 4,096 corners: 4,093 steps of one millimetre each, 100 high but for
+/// half a millimetre on average.
 const AREA2: i128 = 4093 * 199;
 
 fn longest(alloc: Global) -> Result<Corners<Global>, Fail>

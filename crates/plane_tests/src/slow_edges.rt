@@ -15,7 +15,7 @@ fn drawn(state: u64) -> u64 {
 
 /// A corner of a thin band that rises five times as far as it goes across, or the other way round.
 ///
-/// It stands on a lattice of 5,003 by 5,003 centimetres, so each edge between two such has thousands of steps.
+/// It stands on a lattice of 5,003 by 5,003 millimetres, so each edge between two such has thousands of steps.
 fn banded(state: u64, is_flat: bool) -> Result<Corner, Fail> {
     let [first, second, third, ..] = state.to_be_bytes();
     let along = i64::from(u16::from_be_bytes([first & 63, second]));

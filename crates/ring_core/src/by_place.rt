@@ -42,11 +42,11 @@ fn spread(number: u64) -> u64 {
     (bits | bits << 1) & 0x5555_5555_5555_5555
 }
 
-/// The place of the middle of an edge, in squares of 8 by 8 centimetres: the bits of its two coordinates in
+/// The place of the middle of an edge, in squares of 64 by 64 millimetres: the bits of its two coordinates in
 /// turn.
 fn place_of(a: Corner, b: Corner) -> u64 {
-    let across = a.x.abs_diff(-LIMIT).saturating_add(b.x.abs_diff(-LIMIT)) >> 4;
-    let up = a.y.abs_diff(-LIMIT).saturating_add(b.y.abs_diff(-LIMIT)) >> 4;
+    let across = a.x.abs_diff(-LIMIT).saturating_add(b.x.abs_diff(-LIMIT)) >> 7;
+    let up = a.y.abs_diff(-LIMIT).saturating_add(b.y.abs_diff(-LIMIT)) >> 7;
     spread(across) | spread(up) << 1
 }
 

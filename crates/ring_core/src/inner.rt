@@ -28,7 +28,7 @@ fn misses(ring: &[Corner], bounds: Bounds) -> bool
     is_beside(from, first, bounds)
 }
 
-/// The middle of a box, in whole centimetres.
+/// The middle of a box, in whole millimetres.
 fn middle(bounds: Bounds) -> Option<Corner> {
     Corner::new(
         (bounds.low.x + bounds.high.x) / 2,

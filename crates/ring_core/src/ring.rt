@@ -17,7 +17,7 @@ const FEW_EDGES: usize = 64;
 
 /// A simple ring: counterclockwise, of positive area, and its edges meet only as neighbours, in their
 /// shared corner alone (OGC 06-103r4, 6.1.7, LinearRing). Edge `i` joins corner `i` to the next, and the
-/// last corner to the first; corners are in whole centimetres. A corner may lie on the edge between its
+/// last corner to the first; corners are in whole millimetres. A corner may lie on the edge between its
 /// neighbours.
 #[derive(Debug, Drop, PartialEq, Eq)]
 pub struct Ring<A: Allocator> {

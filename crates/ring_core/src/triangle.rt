@@ -6,7 +6,7 @@ use std::alloc::{AllocError, Allocator};
 use std::marker::Model;
 
 /// A triangle of positive area: `c` is left of the way from `a` to `b` (OGC 06-103r4, 6.1.11,
-/// Triangle). Corners are in whole centimetres.
+/// Triangle). Corners are in whole millimetres.
 #[derive(Clone, Copy, Debug, PartialEq, Eq)]
 pub struct Tri {
     /// The first corner.

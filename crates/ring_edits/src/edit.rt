@@ -3,7 +3,7 @@ ghost use Rattle.std.specs.Prelude.{◌≡◌};
 use geo_exact::{Corner, Corners};
 use std::alloc::{AllocError, Allocator};
 
-/// What a clerk changes in a fabric of parcels. Corners are in whole centimetres; the numbers are those of parcels.
+/// What a clerk changes in a fabric of parcels. Corners are in whole millimetres; the numbers are those of parcels.
 #[derive(Debug)]
 #[derive_where(PartialEq)]
 pub enum Edit<A: Allocator> {

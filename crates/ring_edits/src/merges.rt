@@ -13,7 +13,7 @@ use geo_exact::{Corner, Corners};
 use std::alloc::{AllocError, Allocator};
 
 /// The ring of two neighbours without the border between them, begun at its least corner. The ends of the border
-/// stay, the corners between them go. Corners are in whole centimetres.
+/// stay, the corners between them go. Corners are in whole millimetres.
 ///
 /// It need not be simple, and has at most as many corners as the two rings together.
 ///

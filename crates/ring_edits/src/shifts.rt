@@ -13,7 +13,7 @@ use std::alloc::{AllocError, Allocator};
 
 /// The rings of two neighbours with the border between them exchanged for a path: first that of `a`, then that of
 /// `b`, each begun at its least corner. The path goes from where the border begins, in the direction of `a`, to where
-/// it ends. Corners are in whole centimetres.
+/// it ends. Corners are in whole millimetres.
 ///
 /// The rings need not be simple, and may have as many corners as the old one and the path together.
 ///

@@ -52,7 +52,7 @@ fn run_and_back<A: Allocator + Copy>(
 }
 
 /// The two rings that a path from a corner of the ring to another cuts it into: first the one left of the path, then
-/// the one right of it, each begun at its least corner. Corners are in whole centimetres.
+/// the one right of it, each begun at its least corner. Corners are in whole millimetres.
 ///
 /// They need not be simple, and may have as many corners as the ring and the path together.
 ///

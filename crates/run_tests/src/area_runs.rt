@@ -9,7 +9,7 @@ use std::test::Fail;
 
 /// What a run over these bytes of a main file prints, on whichever stream.
 fn printed(alloc: Global, main: Vec<u8>) -> Result<String, AllocError> {
-    run(alloc, Source { main, index: None }, Unit::Cm)
+    run(alloc, Source { main, index: None }, Unit::Mm)
 }
 
 /// What a run over these files prints, on whichever stream.
@@ -44,7 +44,7 @@ fn prints_areas(rt: HostRuntime) -> Result<(), Fail> {
         "1 20000\n"
     );
     let farthest = printed(alloc, square(alloc, FARTHEST)?)?;
-    assert_eq!(rt; farthest.as_str(), "1 800000000000000000000\n");
+    assert_eq!(rt; farthest.as_str(), "1 80000000000000000000000\n");
     let empty = printed(alloc, header(alloc, 50, [0; 4])?)?;
     assert_eq!(rt; empty.as_str(), "");
     Ok(())
@@ -108,7 +108,7 @@ fn tells_each_failed_write(rt: HostRuntime) -> Result<(), Fail> {
         };
         let writer = Counted::new(ByteByByte(Vec::new(alloc)));
         let mut out = FailAt::new(writer, call);
-        let answer = area(alloc, &source, Unit::Cm, &mut out);
+        let answer = area(alloc, &source, Unit::Mm, &mut out);
         let held = out.into_inner().into_inner().0;
         let want = if call < 9 {
             Err(ToolFault::Output)

@@ -54,7 +54,7 @@ fn told<R: Threads + Wait + Sync>(
         &alloc,
         &city,
         &parcels(alloc, bay)?,
-        Unit::Cm,
+        Unit::Mm,
         &clerks,
         &mut out,
     ) {
@@ -116,7 +116,7 @@ const ROWS: [Row; 12] = [
     ),
     (
         false,
-        &["merge 1 2", "split 1 10000000001 0", "x"],
+        &["merge 1 2", "split 1 100000000001 0", "x"],
         "error: clerk 2: L1 1",
     ),
     (
@@ -207,7 +207,7 @@ fn exports_what_edits_lead_to(rt: HostRuntime) -> Result<(), Fail> {
         &alloc,
         &city,
         &parcels(alloc, false)?,
-        Unit::Cm,
+        Unit::Mm,
         &clerks,
     ) else {
         return Err(Fail::new("no export"));
@@ -215,7 +215,7 @@ fn exports_what_edits_lead_to(rt: HostRuntime) -> Result<(), Fail> {
     let want = format!(in alloc; "{FIVE_TOLD}exported 2\n")?;
     assert_eq!(rt; exported.lines.as_slice(), want.as_bytes());
     let index = Some(exported.index.as_slice());
-    let Ok(rings) = read_layer(alloc, &exported.main, index, Unit::Cm) else {
+    let Ok(rings) = read_layer(alloc, &exported.main, index, Unit::Mm) else {
         return Err(Fail::new("no layer"));
     };
     let merged: [Place; 6] = [(0, 0), (30, 0), (60, 0), (60, 100), (30, 100), (0, 100)];
@@ -242,7 +242,7 @@ fn locates_in_what_edits_lead_to(rt: HostRuntime) -> Result<(), Fail> {
             &alloc,
             &city,
             &parcels,
-            Unit::Cm,
+            Unit::Mm,
             text.as_bytes(),
             &clerks,
             &mut out,
@@ -269,7 +269,7 @@ fn locates_a_corner_in_what_edits_lead_to(rt: HostRuntime) -> Result<(), Fail> {
         &alloc,
         &city,
         &parcels,
-        Unit::Cm,
+        Unit::Mm,
         &points,
         &clerks,
         &mut out,
@@ -300,7 +300,7 @@ fn checks_all_before_the_clerks(rt: HostRuntime) -> Result<(), Fail> {
     ] {
         let clerks = files(alloc, &[text])?;
         let mut out = Counted::new(Vec::new(alloc));
-        let told = match check_all(&rt, &alloc, &city, parcels, Unit::Cm, &clerks, &mut out) {
+        let told = match check_all(&rt, &alloc, &city, parcels, Unit::Mm, &clerks, &mut out) {
             Ok(()) => String::new(alloc),
             Err(fault) => format!(in alloc; "{fault}")?,
         };

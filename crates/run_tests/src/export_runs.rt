@@ -8,7 +8,7 @@ use std::sync::Wait;
 use std::test::Fail;
 use std::thread::Threads;
 
-/// A place, in centimetres.
+/// A place, in millimetres.
 pub type Place = (u16, u16);
 
 /// The city of most rows.
@@ -98,14 +98,14 @@ fn told<R: Threads + Wait + Sync>(
     parcels: Vec<u8>,
 ) -> Result<String, AllocError> {
     let (city, parcels) = (alone(city), alone(parcels));
-    match export(rt, &alloc, &city, &parcels, Unit::Cm, &[]) {
+    match export(rt, &alloc, &city, &parcels, Unit::Mm, &[]) {
         Ok(exported) => {
             let again = Source {
                 main: Vec::from_slice(alloc, &exported.main)?,
                 index: Some(Vec::from_slice(alloc, &exported.index)?),
             };
             let lines = String::from_utf8_lossy(alloc, &exported.lines)?;
-            let areas = run(alloc, again, Unit::Cm)?;
+            let areas = run(alloc, again, Unit::Mm)?;
             format!(in alloc; "{lines}{areas}")
         }
         Err(fault) => format!(in alloc; "error: {fault}"),
@@ -176,7 +176,7 @@ fn writes_rings_with_the_corners_of_their_neighbours(rt: HostRuntime) -> Result<
     let alloc = rt.alloc();
     let city = alone(layer(alloc, &[&CITY])?);
     let parcels = alone(layer(alloc, &[&WEST, &LOWER, &UPPER])?);
-    match export(&rt, &alloc, &city, &parcels, Unit::Cm, &[]) {
+    match export(&rt, &alloc, &city, &parcels, Unit::Mm, &[]) {
         Ok(exported) => {
             // Clockwise, from the least corner.
             let ring: [Place; 5] = [(0, 0), (0, 100), (60, 100), (60, 50), (60, 0)];

@@ -12,13 +12,13 @@ const ONE: u64 = 0x3FF0_0000_0000_0000;
 
 const FAR: u64 = HUNDRED.1;
 
-/// What a run over a main file and an index prints, in centimetres.
+/// What a run over a main file and an index prints, in millimetres.
 fn printed(alloc: Global, main: Vec<u8>, index: Vec<u8>) -> Result<String, AllocError> {
     let source = Source {
         main,
         index: Some(index),
     };
-    run(alloc, source, Unit::Cm)
+    run(alloc, source, Unit::Mm)
 }
 
 #[test]
@@ -36,7 +36,11 @@ fn reports_the_most_rings(rt: HostRuntime) -> Result<(), Fail> {
 #[test]
 fn reads_each_direction_and_repeated_points(rt: HostRuntime) -> Result<(), Fail> {
     let alloc = rt.alloc();
-    for (far, unit) in [(FAR, Unit::Cm), (ONE, Unit::M)] {
+    for (far, unit, want) in [
+        (FAR, Unit::Mm, "1 20000\n"),
+        (FAR, Unit::Cm, "1 2000000\n"),
+        (ONE, Unit::M, "1 2000000\n"),
+    ] {
         let points = [
             (ZERO, ZERO),
             (far, ZERO),
@@ -47,7 +51,7 @@ fn reads_each_direction_and_repeated_points(rt: HostRuntime) -> Result<(), Fail>
         ];
         let main = polygon(alloc, points.as_slice())?;
         let text = run(alloc, Source { main, index: None }, unit)?;
-        assert_eq!(rt; text.as_str(), "1 20000\n");
+        assert_eq!(rt; text.as_str(), want);
     }
     Ok(())
 }

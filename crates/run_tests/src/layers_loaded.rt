@@ -16,7 +16,7 @@ const HIGH: [Place; 4] = [(0, 50), (100, 50), (100, 100), (0, 100)];
 fn told(alloc: Global, rings: &[&[Place]]) -> Result<String, AllocError> {
     let city = alone(layer(alloc, &[&CITY])?);
     let parcels = alone(layer(alloc, rings)?);
-    match load_tiles(&alloc, &city, &parcels, Unit::Cm) {
+    match load_tiles(&alloc, &city, &parcels, Unit::Mm) {
         Ok(tiles) => format!(in alloc; "{} parcels", tiles.ids().len()),
         Err(fault) => format!(in alloc; "{fault}"),
     }
@@ -35,7 +35,7 @@ fn loads_what_tiles_its_city(rt: HostRuntime) -> Result<(), Fail> {
 fn told_in_full(alloc: Global, rings: &[&[Place]]) -> Result<String, AllocError> {
     let city = alone(layer(alloc, &[&CITY])?);
     let parcels = alone(layer(alloc, rings)?);
-    match load_tiles_or_lines(&alloc, &city, &parcels, Unit::Cm) {
+    match load_tiles_or_lines(&alloc, &city, &parcels, Unit::Mm) {
         Ok(tiles) => format!(in alloc; "{} parcels", tiles.ids().len()),
         Err(refusal) => {
             let lines = String::from_utf8_lossy(alloc, refusal.lines())?;
@@ -62,7 +62,7 @@ fn told_of_both(alloc: Global, zones: &[&[Place]]) -> Result<String, AllocError>
     let city = alone(layer(alloc, &[&CITY])?);
     let parcels = alone(layer(alloc, &[&WEST, &EAST])?);
     let zones = alone(layer(alloc, zones)?);
-    match load_layers(&alloc, &city, &parcels, &zones, Unit::Cm) {
+    match load_layers(&alloc, &city, &parcels, &zones, Unit::Mm) {
         Ok(Layers { parcels, zones }) => {
             format!(in alloc;
                 "{} parcels, {} zones",

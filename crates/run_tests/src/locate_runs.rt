@@ -21,7 +21,7 @@ pub fn told<R: Threads + Wait + Sync>(
 ) -> Result<String, AllocError> {
     let (city, parcels) = (alone(city), alone(parcels));
     let mut out = Counted::new(Vec::new(alloc));
-    let unit = Unit::Cm;
+    let unit = Unit::Mm;
     match locate_text(rt, &alloc, &city, &parcels, unit, points, &[], &mut out) {
         Ok(()) => String::from_utf8_lossy(alloc, out.into_inner().as_slice()),
         Err(fault) => {
@@ -120,11 +120,11 @@ fn tells_places_at_the_limits(rt: HostRuntime) -> Result<(), Fail> {
         alloc,
         square(alloc, FARTHEST)?,
         square(alloc, FARTHEST)?,
-        b"-10000000000 10000000000\n-0 0\n9999999999 -9999999999",
+        b"-100000000000 100000000000\n-0 0\n99999999999 -99999999999",
     )?;
     assert_eq!(rt;
         farthest.as_str(),
-        "-10000000000 10000000000 edge 1\n0 0 inside 1\n9999999999 -9999999999 inside 1\n"
+        "-100000000000 100000000000 edge 1\n0 0 inside 1\n99999999999 -99999999999 inside 1\n"
     );
     Ok(())
 }
@@ -156,10 +156,10 @@ fn tells_where_corners_lie(rt: HostRuntime) -> Result<(), Fail> {
             y: LIMIT,
         },
     ];
-    let lines = told_of_corners(&rt, alloc, Unit::Cm, &corners)?;
+    let lines = told_of_corners(&rt, alloc, Unit::Mm, &corners)?;
     assert_eq!(rt;
         lines.as_str(),
-        "60 0 edge 1 2\n1 1 inside 1\n-10000000000 10000000000 outside\n"
+        "60 0 edge 1 2\n1 1 inside 1\n-100000000000 100000000000 outside\n"
     );
     // In metres the same numbers of the files are a hundred times as far apart.
     let lines = told_of_corners(&rt, alloc, Unit::M, &corners[..2])?;
@@ -182,7 +182,7 @@ fn tells_each_failed_write_of_lines(rt: HostRuntime) -> Result<(), Fail> {
             &alloc,
             &city,
             &parcels,
-            Unit::Cm,
+            Unit::Mm,
             b"61 50\n0 0",
             &[],
             &mut out,

@@ -34,7 +34,7 @@ fn told<R: Threads + Wait + Sync>(
         &city,
         &parcels,
         &zones,
-        Unit::Cm,
+        Unit::Mm,
         &clerks,
         4,
         &mut out,

@@ -18,11 +18,11 @@ fn reads_lines(rt: HostRuntime) -> Result<(), Fail> {
         ),
         (b"-0 000".as_slice(), "0 0 edge 1\n"),
         (b"0000000000000000005 -5".as_slice(), "5 -5 outside\n"),
-        (b"10000000000 0".as_slice(), "10000000000 0 outside\n"),
-        (b"0 -10000000000".as_slice(), "0 -10000000000 outside\n"),
+        (b"100000000000 0".as_slice(), "100000000000 0 outside\n"),
+        (b"0 -100000000000".as_slice(), "0 -100000000000 outside\n"),
         (
-            b"-0000000010000000000 1".as_slice(),
-            "-10000000000 1 outside\n",
+            b"-0000000100000000000 1".as_slice(),
+            "-100000000000 1 outside\n",
         ),
     ] {
         assert_eq!(rt; told_of_two(&rt, rt.alloc(), text)?.as_str(), want);
@@ -57,8 +57,8 @@ fn names_the_first_bad_line(rt: HostRuntime) -> Result<(), Fail> {
         (b"00000000000000000000 0".as_slice(), 1),
         (b"0 -00000000000000000005".as_slice(), 1),
         (b"9999999999999999999 0".as_slice(), 1),
-        (b"10000000001 0".as_slice(), 1),
-        (b"0 -10000000001".as_slice(), 1),
+        (b"100000000001 0".as_slice(), 1),
+        (b"0 -100000000001".as_slice(), 1),
         (b"1 1\n\n# x\nx\ny\n".as_slice(), 4),
     ] {
         let want = format!(in rt.alloc(); "error: points: L1 {line}")?;

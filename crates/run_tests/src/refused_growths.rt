@@ -106,7 +106,7 @@ fn answer<'h, R: Threads + Wait + Sync>(
     inputs: &Inputs<'h>,
     out: &mut Counted<Vec<u8>>,
 ) -> Result<(), ToolFault<'static>> {
-    let (heap, unit) = (inputs.heap, Unit::Cm);
+    let (heap, unit) = (inputs.heap, Unit::Mm);
     let (city, parcels) = (&inputs.city, &inputs.parcels);
     match which {
         Which::Areas => area(heap, &inputs.square, unit, out),
@@ -208,7 +208,7 @@ fn an_export_with_an_edit(rt: HostRuntime) -> Result<(), Fail> {
     let (city, parcels) = (&inputs.city, &inputs.parcels);
     for number in 1..MOST {
         heap.refuse(number);
-        let answer = export(&rt, heap, city, parcels, Unit::Cm, &clerks);
+        let answer = export(&rt, heap, city, parcels, Unit::Mm, &clerks);
         let is_refused = was_refused(heap);
         assert!(rt; is_edited(&answer, is_refused), "at growth {number}");
         if !is_refused {

@@ -4,7 +4,7 @@ use std::alloc::{AllocError, Global};
 pub const HUNDRED: (u64, u64) = (0, 0x4059_0000_0000_0000);
 
 /// The bits of -10,000,000,000 and of 10,000,000,000.
-pub const FARTHEST: (u64, u64) = (0xC202_A05F_2000_0000, 0x4202_A05F_2000_0000);
+pub const FARTHEST: (u64, u64) = (0xC237_4876_E800_0000, 0x4237_4876_E800_0000);
 
 /// The points of a square with sides of 100, clockwise from its least corner, and the first once more.
 pub const POINTS: [(u64, u64); 5] = [

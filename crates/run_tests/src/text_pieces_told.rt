@@ -13,7 +13,7 @@ fn tells_numbers_and_corners(rt: HostRuntime) -> Result<(), Fail> {
     push_number(&mut text, 0)?;
     text.push(b',')?;
     push_corner(&mut text, Corner { x: -LIMIT, y: 60 })?;
-    assert_eq!(rt; text.as_slice(), b"x-17,0,-10000000000 60".as_slice());
+    assert_eq!(rt; text.as_slice(), b"x-17,0,-100000000000 60".as_slice());
     Ok(())
 }
 

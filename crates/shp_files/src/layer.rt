@@ -22,7 +22,7 @@ use std::alloc::Allocator;
 /// index (`.shx`) where one is given.
 ///
 /// The rings are those of the file's polygons, in the file's order; a null shape gives none. Their
-/// corners are in centimetres, without the closing repeat, in normal form ([`RawRing`]):
+/// corners are in millimetres, without the closing repeat, in normal form ([`RawRing`]):
 /// counterclockwise, with equal neighbours kept once. Bytes behind a file's declared length are
 /// ignored.
 ///
@@ -32,7 +32,7 @@ use std::alloc::Allocator;
 /// [`LayerFault::NoMemory`] only where a growth was refused.
 ///
 /// ```
-/// let rings = read_layer(alloc, main.as_slice(), Some(index.as_slice()), Unit::Cm)?;
+/// let rings = read_layer(alloc, main.as_slice(), Some(index.as_slice()), Unit::Mm)?;
 /// let area = area2(rings[0].corners.as_slice());
 /// ```
 pub fn read_layer<A: Allocator + Copy>(
@@ -69,7 +69,7 @@ pub fn read_layer<A: Allocator + Copy>(
 ///
 /// ```
 /// let mut report = AreaText::new(alloc);
-/// read_each(alloc, main.as_slice(), Some(index.as_slice()), Unit::Cm, &mut report)?;
+/// read_each(alloc, main.as_slice(), Some(index.as_slice()), Unit::Mm, &mut report)?;
 /// ```
 pub fn read_each<A: Allocator + Copy, T: TakeEach<RawRing<A>>>(
     alloc: A,

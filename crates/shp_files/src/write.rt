@@ -2,7 +2,7 @@
 
 ghost use Rattle.std.specs.Prelude.{◌≡◌, ◌≤◌, ◌+◌, ◌*◌, ◌++◌, length, flat_map, reverse, All, IfOk, OnOk, List};
 ghost use Rattle.std.specs.Prelude.{None, Some, pos, ◌≤ℤ◌, int_lt, if◌then◌else◌};
-ghost use Rattle.geo_exact.specs.declared.coord.Unit.TheVariants.{Cm};
+ghost use Rattle.geo_exact.specs.declared.coord.Unit.TheVariants.{Mm};
 ghost use Rattle.geo_exact.specs.declared.corner.Corner.{Corner as CornerValue};
 ghost use Rattle.geo_exact.specs.Area.{area2 as area2_of};
 ghost use Rattle.geo_exact.specs.Rings.{turned_round};
@@ -212,7 +212,7 @@ fn write_index<A: Allocator + Copy>(
     Ok(out)
 }
 
-/// A layer's main file and its index file, in centimetres.
+/// A layer's main file and its index file, in millimetres.
 ///
 /// Each ring is a record, numbered from 1 in the order of the list. A ring of positive twice-area
 /// is written clockwise, its first corner first, as the Technical Description asks; any other in
@@ -236,7 +236,7 @@ pub fn write_layer<A: Allocator + Copy>(
     ensures index { IfOk result (λ files. files.1.items ≡ written_index (corner_lists rings.now)) }
     // Reading the two back gives the same corner lists, numbered from 1.
     ensures read_back { IfOk result (λ files.
-        IsLayerFile files.0.items (Some files.1.items) Cm (numbered_from 1 (corner_lists rings.now))) }
+        IsLayerFile files.0.items (Some files.1.items) Mm (numbered_from 1 (corner_lists rings.now))) }
 {
     let bounds = layer_bounds(rings);
     let main = write_main(alloc, rings, bounds)?;
@@ -245,16 +245,16 @@ pub fn write_layer<A: Allocator + Copy>(
 }
 
 /// The main file that is written, alone or with the index that is written, is a layer's in
-/// centimetres, of the same rings, numbered from 1: reading it back gives the same corner lists.
+/// millimetres, of the same rings, numbered from 1: reading it back gives the same corner lists.
 /// The rings are in normal form, as a [`RawRing`] is by its type.
 #[tactic(auto, using(crate::proofs::written::WrittenLayer::written_layer, crate::proofs::written::WrittenLayer::written_with_index))]
 pub fn a_written_file_is_a_layer_file()
     ensures alone { (rings : List (List CornerValue))
         → All IsNormal rings → length rings ≤ LAYER_RECORDS → length (all_corners rings) ≤ LAYER_CORNERS
-        → IsLayerFile (written_main rings) None Cm (numbered_from 1 rings) }
+        → IsLayerFile (written_main rings) None Mm (numbered_from 1 rings) }
     ensures with_index { (rings : List (List CornerValue))
         → All IsNormal rings → length rings ≤ LAYER_RECORDS → length (all_corners rings) ≤ LAYER_CORNERS
-        → IsLayerFile (written_main rings) (Some (written_index rings)) Cm (numbered_from 1 rings) }
+        → IsLayerFile (written_main rings) (Some (written_index rings)) Mm (numbered_from 1 rings) }
 {}
 
 /// A ring whose twice-area is not negative is written so that turning it round again, where its twice-area has become

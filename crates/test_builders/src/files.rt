@@ -15,7 +15,7 @@ pub const ONE: [u8; 8] = [0, 0, 0, 0, 0, 0, 0xf0, 0x3f];
 /// The double 100.
 pub const HUNDRED: [u8; 8] = [0, 0, 0, 0, 0, 0, 0x59, 0x40];
 
-/// The ring of [`square_file`] from [`ZERO`] to [`HUNDRED`], in centimetres.
+/// The ring of [`square_file`] from [`ZERO`] to [`HUNDRED`], in millimetres.
 pub const SQUARE: [Corner; 4] = [
     Corner { x: 0, y: 0 },
     Corner { x: 100, y: 0 },
@@ -109,7 +109,7 @@ fn header<A: Allocator + Copy>(alloc: A, words: u32) -> Result<Vec<u8, A>, Alloc
     Vec::from_slice(alloc, &file)
 }
 
-/// The record of this number, with a square from x to x + 100 centimetres on both axes.
+/// The record of this number, with a square from x to x + 100 millimetres on both axes.
 fn square_record(number: u32, x: u32) -> [u8; 136] {
     let low = write_coord(i64::from(x)).to_le_bytes();
     let high = write_coord(i64::from(x) + 100).to_le_bytes();
@@ -121,7 +121,7 @@ fn square_record(number: u32, x: u32) -> [u8; 136] {
 }
 
 /// The main file and the index of so many squares: record k, from 1, holds the one from k to k +
-/// 100 centimetres on both axes.
+/// 100 millimetres on both axes.
 ///
 /// # Errors
 ///

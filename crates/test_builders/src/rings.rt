@@ -5,7 +5,7 @@ use ring_core::{Ring, Shape, Tri};
 use std::alloc::Allocator;
 use std::test::Fail;
 
-/// A place in whole centimetres: x, then y.
+/// A place in whole millimetres: x, then y.
 pub type Place = (i64, i64);
 
 /// The corner at a place.

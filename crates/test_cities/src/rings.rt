@@ -10,7 +10,7 @@ use std::alloc::Allocator;
 use std::test::Fail;
 use test_builders::{Place, corners, layer_file};
 
-/// The city of most rows: a square of a hundred centimetres.
+/// The city of most rows: a square of a hundred millimetres.
 pub const SQUARE: [Place; 4] = [(0, 0), (100, 0), (100, 100), (0, 100)];
 
 /// The parcel from x = 0 to 60 of that city.
@@ -35,7 +35,7 @@ pub fn read<'a, H: Allocator>(heap: &'a H, lists: &[Corners<&'a H>]) -> Result<R
 {
     let file = layer_file(heap, lists)?;
     a_layer_file_is_within_the_limits();
-    match read_layer(heap, &file, None, Unit::Cm) {
+    match read_layer(heap, &file, None, Unit::Mm) {
         Ok(records) => Ok(records),
         Err(_) => Err(Fail::new("no layer file")),
     }

@@ -1,4 +1,4 @@
--- How a corner is told (this product's own): its coordinates in centimetres, in decimal, with a minus sign where they
+-- How a corner is told (this product's own): its coordinates in millimetres, in decimal, with a minus sign where they
 -- are below 0.
 use Rattle.std.specs.Prelude.{ℕ, List, ◌++◌, codes}
 use Rattle.std.specs.Fmt.{signed_decimal}

@@ -8,7 +8,7 @@ use geo_exact::Corner;
 use itoa::Buffer;
 use std::alloc::{AllocError, Allocator};
 
-/// Adds a corner's two coordinates, in centimetres: `X Y`.
+/// Adds a corner's two coordinates, in millimetres: `X Y`.
 ///
 /// # Errors
 ///

@@ -89,7 +89,7 @@ pub enum Points<'a> {
 
 /// What the words of `--at` have to be.
 const AT_HELP: &str =
-    "--at takes the coordinates X Y of a point, whole centimetres at most 10000000000 away from 0";
+    "--at takes the coordinates X Y of a point, whole millimetres at most 100000000000 away from 0";
 
 /// Reads a command line, the program's own name first. A refused one is an error whose text helps; `--help` and
 /// `--version` are answered as errors too, with the status 0.
@@ -245,6 +245,7 @@ fn unit_of(given: &ArgMatches<'_>) -> Option<Unit>
         ((unit : LengthUnit) → first_value (found_of given.now) (codes "unit") ≢ Some (unit_word unit)) }
 {
     match given.get_str("unit") {
+        Some("mm") => Some(Unit::Mm),
         Some("cm") => Some(Unit::Cm),
         Some("m") => Some(Unit::M),
         _ => None,
@@ -260,7 +261,7 @@ fn tool_command<'a>(alloc: Global) -> Result<Command<'a>, AllocError> {
     Command::new(alloc, "parcel_tool")
         .bin_name("parcel_tool")?
         .version("0.1.0")
-        .about("Exact answers about parcel layers in shapefiles, in whole centimetres")
+        .about("Exact answers about parcel layers in shapefiles, in whole millimetres")
         .after_help(STATUSES)
         .subcommand_required(true)
         .arg_required_else_help(true)
@@ -274,7 +275,7 @@ fn tool_command<'a>(alloc: Global) -> Result<Command<'a>, AllocError> {
 fn area_command<'a>(alloc: Global) -> Result<Command<'a>, AllocError> {
     Command::new(alloc, "area")
         .about(
-            "Prints for each polygon its record's number and twice its area, in square centimetres",
+            "Prints for each polygon its record's number and twice its area, in square millimetres",
         )
         .arg(file(alloc, "MAIN", "The layer's main file, .shp"))?
         .arg(unit(alloc, "The unit of the file's coordinates"))
@@ -305,7 +306,7 @@ fn all<'a>(alloc: Global) -> Arg<'a> {
 fn export_command<'a>(alloc: Global) -> Result<Command<'a>, AllocError> {
     Command::new(alloc, "export")
         .about(
-            "Writes, where parcels tile their city, their layer anew, in centimetres, and prints their number",
+            "Writes, where parcels tile their city, their layer anew, in millimetres, and prints their number",
         )
         .arg(file(alloc, "CITY", "The main file of the city's layer, .shp"))?
         .arg(file(
@@ -376,7 +377,7 @@ fn at<'a>(alloc: Global) -> Arg<'a> {
         .num_args(2)
         .value_names(&["X", "Y"])
         .allow_negative_numbers(true)
-        .help("A point, in whole centimetres")
+        .help("A point, in whole millimetres")
 }
 
 /// The file of points.
@@ -385,7 +386,7 @@ fn points_file<'a>(alloc: Global) -> Arg<'a> {
         .long("points")
         .action(ArgAction::Set)
         .value_name("FILE")
-        .help("A file with a line X Y for each point, in whole centimetres; - reads standard input")
+        .help("A file with a line X Y for each point, in whole millimetres; - reads standard input")
 }
 
 /// The files of clerks' edits. How many they may be is asked before the first is opened, and not here.
@@ -424,6 +425,6 @@ fn unit<'a>(alloc: Global, help: &'a str) -> Arg<'a> {
         .required(true)
         .action(ArgAction::Set)
         .value_name("UNIT")
-        .value_parser(["cm", "m"].as_slice())
+        .value_parser(["mm", "cm", "m"].as_slice())
         .help(help)
 }

@@ -7,10 +7,10 @@ use Rattle.std.proofs.lemmas.Nat.{pow_pos, pow-add, mod_below}
 use lib.IntN.{ℤ, pos, ◌*ℤ◌, neg_ℤ}
 use Rattle.std.proofs.Math.IntN.{neg_ℤ-neg_ℤ}
 use Rattle.geo_exact.specs.declared.coord.Unit.{Unit}
-use Rattle.geo_exact.specs.declared.coord.Unit.TheVariants.{Cm, M}
+use Rattle.geo_exact.specs.declared.coord.Unit.TheVariants.{Mm, Cm, M}
 use Rattle.geo_exact.specs.declared.coord.CoordFault.{CoordFault}
 use Rattle.geo_exact.specs.declared.coord.CoordFault.TheVariants.{NotNumber, OffGrid, TooFar}
-use Rattle.geo_exact.specs.Grid.{centimetres, sign_bit, exponent_field, fraction_field, magnitude, IsOnGrid, IsCoordFault}
+use Rattle.geo_exact.specs.Grid.{millimetres, sign_bit, exponent_field, fraction_field, magnitude, IsOnGrid, IsCoordFault}
 use Rattle.geo_exact.specs.Grid.{nearest, is_near, size_of, with_sign, coordinate}
 use Rattle.geo_exact.specs.Limit.{IsWithin, limit}
 use Rattle.geo_exact.proofs.numbers.Differences.{mul-neg}
@@ -70,9 +70,9 @@ answered sign m d = go (is_near m d (nearest m d)) (nat_lt limit (nearest m d)) 
 abbrev plus : ℕ → Bool
 plus bits = nat_eq (sign_bit bits) 0
 
--- the absolute value in centimetres, times 2 ^ 1075
+-- the absolute value in millimetres, times 2 ^ 1075
 abbrev size : ℕ → Unit → ℕ
-size bits unit = centimetres unit * magnitude bits
+size bits unit = millimetres unit * magnitude bits
 
 -- how a double is answered
 data Outcome (bits : ℕ) (unit : Unit) : Type 0 where
@@ -97,14 +97,14 @@ outcome bits unit = go (nat_eq (exponent_field bits) 2047) refl
 near_of : (bits : ℕ) (unit : Unit) (k : ℤ) → IsOnGrid bits unit k → IsNear (signed (plus bits) (size bits unit)) (2 ^ 1075) k
 near_of bits unit k h =
     let P : ℤ → Type 0 = λ s. IsNear s (2 ^ 1075) k in
-    subst P (times_signed (plus bits) (centimetres unit) (magnitude bits)) h.is_near
+    subst P (times_signed (plus bits) (millimetres unit) (magnitude bits)) h.is_near
 
 -- and back
 grid_of : (bits : ℕ) (unit : Unit) (k : ℤ) → exponent_field bits < 2047
     → IsNear (signed (plus bits) (size bits unit)) (2 ^ 1075) k → IsOnGrid bits unit k
 grid_of bits unit k h near =
     let P : ℤ → Type 0 = λ s. IsNear s (2 ^ 1075) k in
-    record { is_number = h; is_near = subst P (sym (times_signed (plus bits) (centimetres unit) (magnitude bits))) near }
+    record { is_number = h; is_near = subst P (sym (times_signed (plus bits) (millimetres unit) (magnitude bits))) near }
 
 -- ---- both ways
 pub accepted_is : (bits : ℕ) (unit : Unit) (k : ℤ) → coordinate bits unit ≡ Ok k → IsOnGrid bits unit k × IsWithin limit k
@@ -226,13 +226,14 @@ pub coordinate_far : (bits : ℕ) (unit : Unit) → 1075 ≤ exponent_field bits
 coordinate_far bits unit h k =
     let large : nat_eq (exponent_field bits) 0 ≡ false = ne_eqb (exponent_field bits) 0 (λ same. omega (arith, same, h)) in
     let worth : magnitude bits ≡ (2 ^ 52 + fraction_field bits) * 2 ^ exponent_field bits = rw large refl in
-    let parts : size bits unit ≡ centimetres unit * (2 ^ 52 + fraction_field bits) * 2 ^ exponent_field bits =
-    ap (λ m. centimetres unit * m) worth ∙ omega arith in
+    let parts : size bits unit ≡ millimetres unit * (2 ^ 52 + fraction_field bits) * 2 ^ exponent_field bits =
+    ap (λ m. millimetres unit * m) worth ∙ omega arith in
     coordinate_is bits unit k ∙ ap (with_sign (sign_bit bits))
     (ap (λ m. size_of m (2 ^ 1075)) parts
-    ∙ far_size (centimetres unit * (2 ^ 52 + fraction_field bits)) (exponent_field bits) 1075 (enough unit (fraction_field bits)) h)
+    ∙ far_size (millimetres unit * (2 ^ 52 + fraction_field bits)) (exponent_field bits) 1075 (enough unit (fraction_field bits)) h)
   where
-    enough : (u : Unit) (f : ℕ) → 2 ^ 52 ≤ centimetres u * (2 ^ 52 + f)
+    enough : (u : Unit) (f : ℕ) → 2 ^ 52 ≤ millimetres u * (2 ^ 52 + f)
+    enough Mm f = omega arith
     enough Cm f = omega arith
     enough M f = omega arith
 
@@ -256,7 +257,7 @@ accepted_iff bits unit k = (accepted_is bits unit k, λ h. accepted_when bits un
 pub refused_iff : (bits : ℕ) (unit : Unit) (f : CoordFault) → (coordinate bits unit ≡ Err f) ↔ IsCoordFault bits unit f
 refused_iff bits unit f = (refused_is bits unit f, refused_when bits unit f)
 
--- two whole centimetres that fit are one
+-- two whole millimetres that fit are one
 pub one_fits : (bits : ℕ) (unit : Unit) (k l : ℤ) → IsOnGrid bits unit k → IsOnGrid bits unit l → k ≡ l
 one_fits bits unit k l h i =
     (near_signed (plus bits) (size bits unit) (2 ^ 1075) k (pow_pos 1075) (near_of bits unit k h)).0

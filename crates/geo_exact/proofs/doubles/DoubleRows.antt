@@ -19,10 +19,10 @@ hundred : bits_of (pos 100) ≡ 0x4059000000000000
 unfolding bits_of whole_bits count_leading_zeros
 hundred = refl
 
-at_the_limit : bits_of (pos 10000000000) ≡ 0x4202A05F20000000
+at_the_limit : bits_of (pos 100000000000) ≡ 0x42374876E8000000
 unfolding bits_of whole_bits count_leading_zeros
 at_the_limit = refl
 
-at_the_lower_limit : bits_of (negsuc 9999999999) ≡ 0xC202A05F20000000
+at_the_lower_limit : bits_of (negsuc 99999999999) ≡ 0xC2374876E8000000
 unfolding bits_of whole_bits count_leading_zeros
 at_the_lower_limit = refl

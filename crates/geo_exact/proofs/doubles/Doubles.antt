@@ -8,7 +8,7 @@ use Rattle.std.proofs.lemmas.Bool.{ne_eqb, cases_lt, le-ltb}
 use Rattle.std.proofs.Math.Nat.{pow-le-pow_right, mul-le-mul_right, mul-lt-mul_of_pos_right}
 use Rattle.std.proofs.lemmas.Int.{ints}
 use Rattle.std.proofs.lemmas.Nat.{leading_top, pow-add, pow_pos}
-use Rattle.geo_exact.specs.declared.coord.Unit.TheVariants.{Cm}
+use Rattle.geo_exact.specs.declared.coord.Unit.TheVariants.{Mm}
 use Rattle.geo_exact.specs.Doubles.{highest_bit, whole_exponent, whole_fraction, whole_bits, bits_of}
 use Rattle.geo_exact.specs.Grid.{sign_bit, exponent_field, fraction_field, magnitude, scaled_value, IsOnGrid, coordinate}
 use Rattle.geo_exact.specs.Limit.{IsWithin, limit}
@@ -154,15 +154,15 @@ bits_exact (negsuc m) within =
 same_near : (s z : ℤ) (d : ℕ) → s ≡ z → IsWithin d ((pos 1 *ℤ s -ℤ z) *ℤ pos 1024)
 same_near s z d e = rw e (record { low = omega (arith, ints); high = omega (arith, ints) })
 
-pub on_grid_at : (k : ℤ) (bits : ℕ) → IsExactly k bits → IsOnGrid bits Cm k
+pub on_grid_at : (k : ℤ) (bits : ℕ) → IsExactly k bits → IsOnGrid bits Mm k
 on_grid_at k bits is = record { is_number = is.number; is_near = same_near (scaled_value bits) (k *ℤ pos (2 ^ 1075)) (2 ^ 1075) is.value }
 
-pub bits_on_grid : (k : ℤ) → IsWithin limit k → IsOnGrid (bits_of k) Cm k
+pub bits_on_grid : (k : ℤ) → IsWithin limit k → IsOnGrid (bits_of k) Mm k
 bits_on_grid k within = on_grid_at k (bits_of k) (bits_exact k within)
 
 -- they are read back
-pub bits_read : (k : ℤ) → IsWithin limit k → coordinate (bits_of k) Cm ≡ Ok k
-bits_read k within = accepted_when (bits_of k) Cm k (bits_on_grid k within) within
+pub bits_read : (k : ℤ) → IsWithin limit k → coordinate (bits_of k) Mm ≡ Ok k
+bits_read k within = accepted_when (bits_of k) Mm k (bits_on_grid k within) within
 
 -- ---- they are 64 bits
 whole_bits_fit : (n : ℕ) → n < 2 ^ 53 → whole_bits n < 2 ^ 63

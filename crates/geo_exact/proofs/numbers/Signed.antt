@@ -8,16 +8,16 @@ use Rattle.std.proofs.lemmas.Nat.{pow_pos}
 use Rattle.geo_exact.specs.Limit.{limit}
 use Rattle.geo_exact.specs.declared.coord.Unit.{Unit}
 use Rattle.geo_exact.specs.declared.coord.CoordFault.{CoordFault}
-use Rattle.geo_exact.specs.Grid.{coordinate, size_of, with_sign, sign_bit, exponent_field, magnitude, centimetres}
+use Rattle.geo_exact.specs.Grid.{coordinate, size_of, with_sign, sign_bit, exponent_field, magnitude, millimetres}
 use Rattle.geo_exact.proofs.doubles.Coordinates.{coordinate_cancelled}
 use Rattle.geo_exact.proofs.numbers.Nearest.{size_scaled, size_same}
 
 -- what the code computes, step by step
 pub computed : (bits : ℕ) (unit : Unit) (e s m p : ℕ) (r : Result ℕ CoordFault) → e ≡ exponent_field bits → e < 1075
-    → s ≡ centimetres unit → m * 2 ^ max 1 (exponent_field bits) ≡ magnitude bits → p ≡ max e 1
+    → s ≡ millimetres unit → m * 2 ^ max 1 (exponent_field bits) ≡ magnitude bits → p ≡ max e 1
     → r ≡ size_of (s * m) (2 ^ (1075 - p)) → coordinate bits unit ≡ with_sign (sign_bit bits) r
 computed bits unit e s m p r he small hs hm hp hr =
-    let parts : centimetres unit * magnitude bits ≡ s * m * 2 ^ max 1 (exponent_field bits) =
+    let parts : millimetres unit * magnitude bits ≡ s * m * 2 ^ max 1 (exponent_field bits) =
     rw (← hm, ← hs) (grouped s m (2 ^ max 1 (exponent_field bits))) in
     coordinate_cancelled bits unit (s * m) (1075 - p) (max 1 (exponent_field bits)) (omega (arith, he, small)) parts
     (omega (arith, he, hp, small)) ∙ ap (with_sign (sign_bit bits)) (sym hr)

@@ -7,7 +7,7 @@ use Rattle.std.specs.Prelude.{if◌then◌else◌}
 use lib.Signed.{lt_z_no}
 use Rattle.geo_exact.specs.declared.corner.Corner.{Corner}
 use Rattle.geo_exact.specs.declared.coord.Unit.{Unit}
-use Rattle.geo_exact.specs.declared.coord.Unit.TheVariants.{Cm, M}
+use Rattle.geo_exact.specs.declared.coord.Unit.TheVariants.{Mm, Cm, M}
 use Rattle.geo_exact.specs.declared.coord.CoordFault.TheVariants.{NotNumber, OffGrid, TooFar}
 use Rattle.geo_exact.specs.Limit.{IsWithin, limit}
 use Rattle.geo_exact.specs.Point.{Point}
@@ -16,7 +16,7 @@ use Rattle.geo_exact.specs.Turn.{turn, turn_at, IsOnEdge, IsOnSome, IsOnRing}
 use Rattle.geo_exact.specs.Winding.{crossing, winding, IsInterior}
 use Rattle.geo_exact.specs.Area.{area2}
 use Rattle.geo_exact.specs.Interiors.{InteriorsMeet}
-use Rattle.geo_exact.specs.Grid.{centimetres, exponent_field, scaled_value, IsOnGrid, IsCoordFault}
+use Rattle.geo_exact.specs.Grid.{millimetres, exponent_field, scaled_value, IsOnGrid, IsCoordFault}
 
 -- ---- corners, points and rings
 
@@ -94,7 +94,7 @@ east_area = refl
 clockwise_area : area2 clockwise ≡ neg_ℤ (pos 1000)
 clockwise_area = refl
 
-greatest_area : area2 greatest ≡ pos 800000000000000000000
+greatest_area : area2 greatest ≡ pos 80000000000000000000000
 greatest_area = refl
 
 around_area : area2 around ≡ pos 12800
@@ -307,7 +307,7 @@ touching (p, in_west, in_east) =
 
 -- how far the double lies beyond k, in 1024ths, times 2 ^ 1075
 abbrev distance : ℕ → Unit → ℤ → ℤ
-distance bits unit k = (pos (centimetres unit) *ℤ scaled_value bits -ℤ k *ℤ pos (2 ^ 1075)) *ℤ pos 1024
+distance bits unit k = (pos (millimetres unit) *ℤ scaled_value bits -ℤ k *ℤ pos (2 ^ 1075)) *ℤ pos 1024
 
 abbrev on_grid : (bits : ℕ) (unit : Unit) (k : ℤ) → T (ltb (exponent_field bits) 2047)
     → T (int_le (neg_ℤ (pos (2 ^ 1075))) (distance bits unit k)) → T (int_le (distance bits unit k) (pos (2 ^ 1075)))
@@ -315,8 +315,12 @@ abbrev on_grid : (bits : ℕ) (unit : Unit) (k : ℤ) → T (ltb (exponent_field
 on_grid bits unit k number low high = record { is_number = lit< number; is_near = within (2 ^ 1075) (distance bits unit k) low high }
 
 -- 12.34 metres
-twelve : IsOnGrid 0x4028AE147AE147AE M (pos 1234)
-twelve = on_grid 0x4028AE147AE147AE M (pos 1234) tt tt tt
+twelve : IsOnGrid 0x4028AE147AE147AE M (pos 12340)
+twelve = on_grid 0x4028AE147AE147AE M (pos 12340) tt tt tt
+
+-- 12.345 metres
+twelve_and_more : IsOnGrid 0x4028B0A3D70A3D71 M (pos 12345)
+twelve_and_more = on_grid 0x4028B0A3D70A3D71 M (pos 12345) tt tt tt
 
 minus_zero : IsOnGrid 0x8000000000000000 M (pos 0)
 minus_zero = on_grid 0x8000000000000000 M (pos 0) tt tt tt
@@ -326,30 +330,39 @@ subnormal : IsOnGrid 0x000FFFFFFFFFFFFF Cm (pos 0)
 subnormal = on_grid 0x000FFFFFFFFFFFFF Cm (pos 0) tt tt tt
 
 -- 5 + 1/1024
-edge_of_five : IsOnGrid 0x4014010000000000 Cm (pos 5)
-edge_of_five = on_grid 0x4014010000000000 Cm (pos 5) tt tt tt
+edge_of_five : IsOnGrid 0x4014010000000000 Mm (pos 5)
+edge_of_five = on_grid 0x4014010000000000 Mm (pos 5) tt tt tt
 
 -- -(5 + 1/1024)
-edge_of_minus_five : IsOnGrid 0xC014010000000000 Cm (neg_ℤ (pos 5))
-edge_of_minus_five = on_grid 0xC014010000000000 Cm (neg_ℤ (pos 5)) tt tt tt
+edge_of_minus_five : IsOnGrid 0xC014010000000000 Mm (neg_ℤ (pos 5))
+edge_of_minus_five = on_grid 0xC014010000000000 Mm (neg_ℤ (pos 5)) tt tt tt
 
 -- the limit
-at_limit : IsOnGrid 0x4202A05F20000000 Cm (pos limit)
-at_limit = on_grid 0x4202A05F20000000 Cm (pos limit) tt tt tt
+at_limit : IsOnGrid 0x42374876E8000000 Mm (pos limit)
+at_limit = on_grid 0x42374876E8000000 Mm (pos limit) tt tt tt
+
+-- the limit in centimetres
+at_limit_in_centimetres : IsOnGrid 0x4202A05F20000000 Cm (pos limit)
+at_limit_in_centimetres = on_grid 0x4202A05F20000000 Cm (pos limit) tt tt tt
 
 -- 5 and a little more than 1/1024
-past_five : IsCoordFault 0x4014010000000001 Cm OffGrid
+past_five : IsCoordFault 0x4014010000000001 Mm OffGrid
 past_five = (lit< tt, λ k near. omega (arith, ints, near.is_near.low, near.is_near.high))
 
--- 12.345 metres
-half_way : IsCoordFault 0x4028B0A3D70A3D71 M OffGrid
+-- 5 + 1/1024 centimetres
+hundredth : IsCoordFault 0x4014010000000000 Cm OffGrid
+hundredth = (lit< tt, λ k near. omega (arith, ints, near.is_near.low, near.is_near.high))
+
+-- 1/2048 metres
+half_way : IsCoordFault 0x3F40000000000000 M OffGrid
 half_way = (lit< tt, λ k near. omega (arith, ints, near.is_near.low, near.is_near.high))
 
 infinite : IsCoordFault 0x7FF0000000000000 Cm NotNumber
 infinite = refl
 
+-- a centimetre past the limit
 past_limit : IsCoordFault 0x4202A05F20080000 Cm TooFar
-past_limit = (pos 10000000001, on_grid 0x4202A05F20080000 Cm (pos 10000000001) tt tt tt, λ h. h.high.le)
+past_limit = (pos 100000000010, on_grid 0x4202A05F20080000 Cm (pos 100000000010) tt tt tt, λ h. h.high.le)
 
 -- the value of 1, times 2 ^ 1075
 one : scaled_value 0x3FF0000000000000 ≡ pos (2 ^ 1075)

@@ -1,6 +1,6 @@
 -- The tables on the main file and the index of a square with corners at 0 and 100, worked out by hand.
 use Rattle.std.proofs.Common.{◌≡◌, ℕ, List, [], ◌∷◌, ◌++◌, Some, None, take, set, replicate, refl}
-use Rattle.geo_exact.specs.declared.coord.Unit.TheVariants.{Cm}
+use Rattle.geo_exact.specs.declared.coord.Unit.TheVariants.{Mm}
 use Rattle.geo_exact.specs.declared.coord.CoordFault.TheVariants.{NotNumber}
 use Rattle.geo_exact.specs.Grid.{coordinate, size_of}
 use Rattle.shp_files.specs.declared.fault.FileName.TheVariants.{Main, Index}
@@ -30,7 +30,7 @@ header_fine : first_failure (header_checks Main square) ≡ None
 unfolding first_failure header_checks declared_end big_at little_at natural
 header_fine = refl
 
-record_fine : first_failure (record_checks square Cm 1 100 0) ≡ None
+record_fine : first_failure (record_checks square Mm 1 100 0) ≡ None
 unfolding first_failure record_checks frame_checks shape_checks count_checks polygon_checks corner_checks
     distinct_points coordinate_checks closing_checks ring_checks declared_end big_at little_at double_at natural coordinate size_of
 record_fine = refl
@@ -47,19 +47,19 @@ torn_header : first_failure (header_checks Main (take 57 square)) ≡ Some (faul
 unfolding first_failure header_checks declared_end big_at little_at natural
 torn_header = refl
 
-two_parts : first_failure (record_checks (set square 144 2) Cm 1 100 0) ≡ Some (fault 1 144 Parts)
+two_parts : first_failure (record_checks (set square 144 2) Mm 1 100 0) ≡ Some (fault 1 144 Parts)
 unfolding first_failure record_checks frame_checks shape_checks count_checks polygon_checks corner_checks
     distinct_points coordinate_checks closing_checks ring_checks declared_end big_at little_at double_at natural coordinate size_of
 two_parts = refl
 
 -- the last point is (0, 1)
-open_ring : first_failure (record_checks (set (set square 234 0xf0) 235 0x3f) Cm 1 100 0) ≡ Some (fault 1 220 NotClosed)
+open_ring : first_failure (record_checks (set (set square 234 0xf0) 235 0x3f) Mm 1 100 0) ≡ Some (fault 1 220 NotClosed)
 unfolding first_failure record_checks frame_checks shape_checks count_checks polygon_checks corner_checks
     distinct_points coordinate_checks closing_checks ring_checks declared_end big_at little_at double_at natural coordinate size_of
 open_ring = refl
 
 -- the first x is infinite
-infinite : first_failure (record_checks (set (set square 162 0xf0) 163 0x7f) Cm 1 100 0) ≡ Some (fault 1 156 (Coord NotNumber))
+infinite : first_failure (record_checks (set (set square 162 0xf0) 163 0x7f) Mm 1 100 0) ≡ Some (fault 1 156 (Coord NotNumber))
 unfolding first_failure record_checks frame_checks shape_checks count_checks polygon_checks corner_checks
     distinct_points coordinate_checks closing_checks ring_checks declared_end big_at little_at double_at natural coordinate size_of
 infinite = refl

@@ -7,7 +7,7 @@ use Rattle.std.proofs.Math.Seq.{drop-append_seam}
 use Rattle.byteorder.specs.Endian.{big_number, little_number, twos_complement}
 use Rattle.byteorder.specs.Numbers.{big_number-reads_back, little_number-reads_back}
 use Rattle.geo_exact.specs.declared.corner.Corner.{Corner}
-use Rattle.geo_exact.specs.declared.coord.Unit.TheVariants.{Cm}
+use Rattle.geo_exact.specs.declared.coord.Unit.TheVariants.{Mm}
 use Rattle.geo_exact.specs.Doubles.{bits_of}
 use Rattle.geo_exact.specs.Grid.{IsOnGrid}
 use Rattle.geo_exact.specs.Limit.{IsWithin, limit}
@@ -89,7 +89,7 @@ point_is corner front rest = simp append_assoc
 -- points are read where they stand
 pub are_points : (front bytes : List ℕ) (at : ℕ) (corners : List Corner) → bytes ≡ front ++ flat_map point corners
     → length front ≡ at
-    → ArePoints Cm bytes at corners
+    → ArePoints Mm bytes at corners
 are_points front bytes at [] is long = tt
 are_points front bytes at (corner ∷ rest) is long =
     let split : bytes ≡ front ++ (double corner.x ++ (double corner.y ++ flat_map point rest)) =
@@ -100,7 +100,7 @@ are_points front bytes at (corner ∷ rest) is long =
     double_read corner.y bytes _ (at + 8) corner.y_in_range
     (there (front ++ double corner.x) _ bytes (at + 8) (split ∙ sym (append_assoc front (double corner.x) _))
     (simp length-append (omega (arith, long, length-double corner.x)))) in
-    let P : ℤ → ℕ → Type 0 = λ k. λ bits. IsOnGrid bits Cm k in (
+    let P : ℤ → ℕ → Type 0 = λ k. λ bits. IsOnGrid bits Mm k in (
       subst (P corner.x) (sym x_is) (bits_on_grid corner.x corner.x_in_range),
       subst (P corner.y) (sym y_is) (bits_on_grid corner.y corner.y_in_range),
       are_points (front ++ point corner) bytes (at + 16) rest (is ∙ sym (append_assoc front (point corner) (flat_map point rest)))
@@ -147,7 +147,7 @@ length-before_points number ring = refl
 
 pub record_is : (number : ℕ) (ring : List Corner) → 3 ≤ length ring → length ring ≤ RING_CORNERS
     → length (as_written ring) ≡ length ring
-    → kept_once (as_written ring) ≡ as_written ring → IsPolygon Cm (record_bytes number ring) (as_written ring)
+    → kept_once (as_written ring) ≡ as_written ring → IsPolygon Mm (record_bytes number ring) (as_written ring)
 record_is number ring enough few same whole =
     let count = points_few ring in
     let size = length-record number ring in

@@ -7,7 +7,7 @@ use Rattle.std.proofs.lemmas.List.{append-nil, length-reverse, reverse-reverse}
 use Rattle.std.proofs.lemmas.Bool.{le-ltb}
 use Rattle.geo_exact.proofs.rings.Windings.{area2_turned_round}
 use Rattle.geo_exact.specs.declared.corner.Corner.{Corner}
-use Rattle.geo_exact.specs.declared.coord.Unit.TheVariants.{Cm}
+use Rattle.geo_exact.specs.declared.coord.Unit.TheVariants.{Mm}
 use Rattle.geo_exact.specs.Area.{area2}
 use Rattle.geo_exact.specs.Rings.{turned_round, HasNoRepeats}
 use Rattle.geo_exact.specs.declared.limits.TheConstants.{LAYER_CORNERS, LAYER_RECORDS}
@@ -37,7 +37,7 @@ written_whole : (ring : List Corner) → HasNoRepeats ring → kept_once (as_wri
 written_whole ring h = kept_whole (as_written ring) (apart_where (int_lt (pos 0) (area2 ring)) ring h)
 
 are_records : (number : ℕ) (rings : List (List Corner)) → All IsNormal rings
-    → AreRecords Cm number (records number rings) (numbered_from number (map as_written rings))
+    → AreRecords Mm number (records number rings) (numbered_from number (map as_written rings))
 are_records number [] each = tt
 are_records number (ring ∷ rings) each =
     let fits : IsNormal ring = each 0 ring (omega arith) in
@@ -118,7 +118,7 @@ rings_again number (ring ∷ rings) each =
 -- the main file that is written, with an index of its records or with none
 layer_with : (index : Option (List ℕ)) (rings : List (List Corner)) → All IsNormal rings
     → length rings ≤ LAYER_RECORDS → length (all_corners rings) ≤ LAYER_CORNERS
-    → IfSome index (λ bytes. IsIndexFile bytes (records 1 rings)) → IsLayerFile (written_main rings) index Cm (numbered_from 1 rings)
+    → IfSome index (λ bytes. IsIndexFile bytes (records 1 rings)) → IsLayerFile (written_main rings) index Mm (numbered_from 1 rings)
 unfolding written_main
 layer_with index rings each few total is_index =
     let n : ℕ = 50 + words (joined (records 1 rings)) in
@@ -139,10 +139,10 @@ layer_with index rings each few total is_index =
 
 pub written_layer : (rings : List (List Corner)) → All IsNormal rings → length rings ≤ LAYER_RECORDS
     → length (all_corners rings) ≤ LAYER_CORNERS
-    → IsLayerFile (written_main rings) None Cm (numbered_from 1 rings)
+    → IsLayerFile (written_main rings) None Mm (numbered_from 1 rings)
 written_layer rings each few total = layer_with None rings each few total tt
 
 pub written_with_index : (rings : List (List Corner)) → All IsNormal rings → length rings ≤ LAYER_RECORDS
     → length (all_corners rings) ≤ LAYER_CORNERS
-    → IsLayerFile (written_main rings) (Some (written_index rings)) Cm (numbered_from 1 rings)
+    → IsLayerFile (written_main rings) (Some (written_index rings)) Mm (numbered_from 1 rings)
 written_with_index rings each few total = layer_with (Some (written_index rings)) rings each few total (index_is rings few total)

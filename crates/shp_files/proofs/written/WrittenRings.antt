@@ -1,7 +1,7 @@
 -- The rings of a layer that is written: they are in normal form by their type, and their corners are counted in one way.
 use Rattle.std.proofs.Common.{◌≡◌, ◌+◌, ◌≤◌, List, [], ◌∷◌, length, Some, All, refl, arith, length-append}
 use Rattle.std.proofs.lemmas.List.Elements.{All-nil, All-cons}
-use Rattle.geo_exact.specs.declared.coord.Unit.TheVariants.{Cm}
+use Rattle.geo_exact.specs.declared.coord.Unit.TheVariants.{Mm}
 use Rattle.geo_exact.specs.declared.raw_ring.RawRing.{RawRing}
 use Rattle.geo_exact.specs.declared.limits.TheConstants.{LAYER_CORNERS, LAYER_RECORDS}
 use Rattle.shp_files.specs.LayerFile.{rings_of, corner_count, IsLayerFile}
@@ -25,7 +25,7 @@ all_normal (ring ∷ rings) = All-cons IsNormal ring.corners (corner_lists rings
 -- the two files that are written are those of the same rings, numbered from 1
 pub read_back : {A : Type 0} (rings : List (RawRing A)) → length rings ≤ LAYER_RECORDS
     → corner_count (rings_of rings) ≤ LAYER_CORNERS
-    → IsLayerFile (written_main (corner_lists rings)) (Some (written_index (corner_lists rings))) Cm
+    → IsLayerFile (written_main (corner_lists rings)) (Some (written_index (corner_lists rings))) Mm
     (numbered_from 1 (corner_lists rings))
 read_back rings few together =
     written_with_index (corner_lists rings) (all_normal rings) (omega (arith, few, as_many rings))

@@ -20,20 +20,20 @@ returns-then-exponent-ge1075 c =
 pub returns-in_err-size : goal.returns-in_err-size
 returns-in_err-size c =
     let h = computed c.args.bits c.args.unit _ _ _ _ _ c.exponent-exponent.ensures c.if-exponent-ge1075.false
-    c.centimetres.ensures c.significand.ensures.value c.max.ensures c.near_size.ensures.value in
+    c.millimetres.ensures c.significand.ensures.value c.max.ensures c.near_size.ensures.value in
     let e = c.in_err-size.was in
     grind (arith, common_steps)
 
 pub returns-then-bits-eq0 : goal.returns-then-bits-eq0
 returns-then-bits-eq0 c =
     let h = computed c.args.bits c.args.unit _ _ _ _ _ c.exponent-exponent.ensures c.if-exponent-ge1075.false
-    c.centimetres.ensures c.significand.ensures.value c.max.ensures c.near_size.ensures.value in
+    c.millimetres.ensures c.significand.ensures.value c.max.ensures c.near_size.ensures.value in
     sym (h ∙ ap (with_sign (sign_bit c.args.bits)) c.in_ok-size.was
     ∙ positive (sign_bit c.args.bits) _ c.if-bits-eq0.true c.in_ok-size.ensures.bound)
 
 pub returns-else-bits-eq0 : goal.returns-else-bits-eq0
 returns-else-bits-eq0 c =
     let h = computed c.args.bits c.args.unit _ _ _ _ _ c.exponent-exponent.ensures c.if-exponent-ge1075.false
-    c.centimetres.ensures c.significand.ensures.value c.max.ensures c.near_size.ensures.value in
+    c.millimetres.ensures c.significand.ensures.value c.max.ensures c.near_size.ensures.value in
     sym (h ∙ ap (with_sign (sign_bit c.args.bits)) c.in_ok-size.was
     ∙ negative (sign_bit c.args.bits) _ c.if-bits-eq0.false c.in_ok-size.ensures.bound)

@@ -1,7 +1,7 @@
 use Rattle.std.proofs.Common.{◌≡◌, ◌^◌, ◌*ℤ◌, pos, Ok, ℕ, ℤ, sym, subst, arith, FitsSigned}
 use Rattle.std.specs.Int.{w64}
 use Rattle.std.proofs.lemmas.Int.{ints, to_z-of_z}
-use Rattle.geo_exact.specs.declared.coord.Unit.TheVariants.{Cm}
+use Rattle.geo_exact.specs.declared.coord.Unit.TheVariants.{Mm}
 use Rattle.geo_exact.specs.Grid.{IsOnGrid, coordinate, scaled_value}
 use Rattle.geo_exact.specs.Limit.{IsWithin, limit}
 use Rattle.geo_exact.specs.Doubles.{bits_of}
@@ -13,8 +13,8 @@ record IsWritten (k : ℤ) (bits : ℕ) : Type 0 where
   value : bits ≡ bits_of k
   exact : scaled_value bits ≡ k *ℤ pos (2 ^ 1075)
   zero : k ≡ pos 0 → bits ≡ 0
-  on_grid : IsOnGrid bits Cm k
-  read_back : coordinate bits Cm ≡ Ok k
+  on_grid : IsOnGrid bits Mm k
+  read_back : coordinate bits Mm ≡ Ok k
 
 written : (k : ℤ) (bits : ℕ) → IsWithin limit k → bits ≡ bits_of k → IsWritten k bits
 written k bits within same =
