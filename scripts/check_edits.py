@@ -1,11 +1,13 @@
 #!/usr/bin/env python3
-"""Fails where a wrong body (crates/NAME/must-fail/*.edit) cannot be applied: each `old:` line has to stand in its file
-exactly once, and each `new:` line has to change it. The gate tells of such an edit and passes all the same.
+"""Fails where a mutant (crates/NAME/must-fail/*.edit, crates/NAME/more-wrong-bodies/*.edit) cannot be applied: each `old:`
+line has to stand in its file exactly once, and each `new:` line has to change it. The gate tells of such an edit and passes
+all the same, and does not look at the second folder. It fails too where both folders have a mutant of one name.
 """
 import sys
 from pathlib import Path
 
 ROOT = Path(__file__).resolve().parent.parent
+TIERS = ("must-fail", "more-wrong-bodies")
 
 
 def faults_of(edit):
@@ -36,9 +38,13 @@ def faults_of(edit):
 
 
 def main():
-    edits = sorted(ROOT.glob("crates/*/must-fail/*.edit"))
-    faults = [f"{edit.relative_to(ROOT)}: {fault}" for edit in edits for fault in faults_of(edit)]
-    print("\n".join(faults) if faults else f"wrong bodies: {len(edits)}, each can be applied")
+    first, second = (sorted(ROOT.glob(f"crates/*/{tier}/*.edit")) for tier in TIERS)
+    faults = [f"{edit.relative_to(ROOT)}: {fault}" for edit in first + second for fault in faults_of(edit)]
+    names = {(edit.parent.parent, edit.name) for edit in first}
+    faults += [f"{edit.relative_to(ROOT)}: {TIERS[0]} has one of this name" for edit in second
+               if (edit.parent.parent, edit.name) in names]
+    counts = f"{len(first)} in {TIERS[0]}, {len(second)} in {TIERS[1]}"
+    print("\n".join(faults) if faults else f"mutants: {counts}, each can be applied")
     return 1 if faults else 0
 
 

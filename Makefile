@@ -1,0 +1,23 @@
+# The doors of this repository. `make` alone lists them.
+.POSIX:
+
+help:
+	@echo 'make demo     the overlay of the town in examples/town, built without proofs: a minute or three'
+	@echo 'make quick    the tests without proofs: some 10 to 20 minutes; not the gate'
+	@echo 'make test     the gate: every proof, mutant, test and run (.ci/run)'
+	@echo 'make bench    measures speed and memory (benches/all.sh)'
+
+demo:
+	@town="$$PWD/examples/town"; cd crates/parcel_tool && \
+	rt try -- overlay "$$town/city.shp" "$$town/parcels.shp" "$$town/zones.shp" --unit cm
+
+quick:
+	@python3 scripts/quick
+
+test:
+	@.ci/run
+
+bench:
+	@benches/all.sh
+
+.PHONY: help demo quick test bench
