@@ -1,6 +1,5 @@
 //! What the edits of clerks' files lead to, and what is told of them.
 
-use crate::export_runs::{BAY, BEYOND, CITY, EAST, Place, WEST, alone, layer};
 use city_layers::Source;
 use geo_exact::{Corner, Counted, RawRing, Unit};
 use parcel_runs::check::{check, check_all};
@@ -12,6 +11,7 @@ use std::alloc::{AllocError, Global};
 use std::sync::Wait;
 use std::test::Fail;
 use std::thread::Threads;
+use test_layers::{BAY, BEYOND, CITY, EAST, Place, WEST, alone, layer};
 
 /// Five edits of the two rectangles, the fourth of a parcel that is gone.
 pub const FIVE: &str =

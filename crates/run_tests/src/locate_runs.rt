@@ -1,8 +1,5 @@
 //! Where points lie among parcels, as a run tells it.
 
-use crate::area_runs::ByteByByte;
-use crate::export_runs::{BAY, BEYOND, CITY, EAST, Place, WEST, alone, layer};
-use crate::square::{FARTHEST, square};
 use city_layers::ToolFault;
 use geo_exact::{Corner, Counted, FailAt, LIMIT, Unit};
 use parcel_runs::locate::{locate, locate_text};
@@ -10,6 +7,9 @@ use std::alloc::{AllocError, Global};
 use std::sync::Wait;
 use std::test::Fail;
 use std::thread::Threads;
+use test_layers::{
+    BAY, BEYOND, ByteByByte, CITY, EAST, FARTHEST, Place, WEST, alone, layer, square,
+};
 
 /// What a run over these main files and this text of points prints, on whichever stream.
 pub fn told<R: Threads + Wait + Sync>(

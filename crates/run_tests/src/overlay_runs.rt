@@ -1,13 +1,13 @@
 //! What overlays of the two rectangles with zones print.
 
 use crate::edit_runs::{FIVE, FIVE_TOLD, files};
-use crate::export_runs::{CITY, EAST, Place, WEST, alone, layer};
 use geo_exact::{Counted, Unit};
 use parcel_runs::overlay::overlay;
 use std::alloc::{AllocError, Global};
 use std::sync::Wait;
 use std::test::Fail;
 use std::thread::Threads;
+use test_layers::{CITY, EAST, Place, WEST, alone, layer};
 
 /// The halves of the city.
 pub const HALVES: [&[Place]; 2] = [

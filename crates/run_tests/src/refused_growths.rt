@@ -2,9 +2,7 @@
 //! with memory the same run prints what it has to print.
 
 use crate::edit_runs::files;
-use crate::export_runs::{BEYOND, CITY, EAST, WEST, alone, layer};
 use crate::overlay_runs::HALVES;
-use crate::square::{HUNDRED, square};
 use city_layers::area::area;
 use city_layers::{Source, ToolFault};
 use geo_exact::{Counted, Unit};
@@ -17,6 +15,7 @@ use std::alloc::{AllocError, Allocator, Global};
 use std::sync::Wait;
 use std::test::Fail;
 use std::thread::Threads;
+use test_layers::{BEYOND, CITY, EAST, HUNDRED, WEST, alone, layer, square};
 use text_puts::put_all;
 
 /// No run here has so many growths.

@@ -1,7 +1,7 @@
-use crate::square::{HUNDRED, index, square};
 use city_layers::{Disk, ToolFault, read_source, read_text};
 use std::fs;
 use std::test::Fail;
+use test_layers::{HUNDRED, index, square};
 
 #[test]
 fn reads_the_index_beside_the_main_file(rt: HostRuntime) -> Result<(), Fail> {

@@ -1,9 +1,10 @@
-use crate::area_runs::{changed, run};
-use crate::square::{HUNDRED, POINTS, header, index, null_and_polygon, polygon, square, squares};
 use city_layers::Source;
 use geo_exact::Unit;
 use std::alloc::{AllocError, Global};
 use std::test::Fail;
+use test_layers::{
+    HUNDRED, POINTS, changed, header, index, null_and_polygon, polygon, run, square, squares,
+};
 
 /// The bits of 0, of 1 and of 100.
 const ZERO: u64 = HUNDRED.0;

@@ -1,10 +1,10 @@
 //! Layers that are loaded from files without a run: of parcels, and of parcels and zones, and why they are not.
 
-use crate::export_runs::{BEYOND, CITY, EAST, Place, WEST, alone, layer};
 use city_layers::{Layers, load_layers, load_tiles, load_tiles_or_lines};
 use geo_exact::Unit;
 use std::alloc::{AllocError, Global};
 use std::test::Fail;
+use test_layers::{BEYOND, CITY, EAST, Place, WEST, alone, layer};
 
 /// The lower half of the city.
 const LOW: [Place; 4] = [(0, 0), (100, 0), (100, 50), (0, 50)];

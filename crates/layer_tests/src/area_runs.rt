@@ -1,4 +1,3 @@
-use crate::square::{FARTHEST, HUNDRED, header, square};
 use city_layers::area::area;
 use city_layers::{Source, ToolFault};
 use geo_exact::{Counted, FailAt, Unit};
@@ -6,34 +5,11 @@ use std::alloc::{AllocError, Global};
 use std::io;
 use std::io::Write;
 use std::test::Fail;
+use test_layers::{ByteByByte, FARTHEST, HUNDRED, changed, header, index, run, square};
 
 /// What a run over these bytes of a main file prints, on whichever stream.
 fn printed(alloc: Global, main: Vec<u8>) -> Result<String, AllocError> {
     run(alloc, Source { main, index: None }, Unit::Mm)
-}
-
-/// What a run over these files prints, on whichever stream.
-pub fn run(alloc: Global, source: Source<Global>, unit: Unit) -> Result<String, AllocError> {
-    let mut out = Counted::new(Vec::new(alloc));
-    match area(alloc, &source, unit, &mut out) {
-        Ok(()) => String::from_utf8_lossy(alloc, out.into_inner().as_slice()),
-        Err(fault) => format!(in alloc; "error: {fault}"),
-    }
-}
-
-/// A file with the bytes from a place on exchanged.
-pub fn changed(
-    alloc: Global,
-    file: &[u8],
-    place: usize,
-    bytes: &[u8],
-) -> Result<Vec<u8>, AllocError> {
-    let mut out = Vec::new(alloc);
-    for (i, byte) in file.iter().enumerate() {
-        let new = i.checked_sub(place).and_then(|k| bytes.get(k)).copied();
-        out.push(new.unwrap_or(*byte))?;
-    }
-    Ok(out)
 }
 
 #[test]
@@ -75,26 +51,6 @@ fn refuses_each_torn_file(rt: HostRuntime) -> Result<(), Fail> {
         assert_eq!(rt; printed(alloc, file)?.as_str(), want.as_str());
     }
     Ok(())
-}
-
-/// A writer that takes one byte a call.
-#[derive(Drop)]
-pub struct ByteByByte(pub Vec<u8>);
-
-impl Write for ByteByByte {
-    fn write(&mut self, bytes: &[u8]) -> io::Result<usize> {
-        match bytes.first() {
-            Some(byte) => {
-                self.0.push(*byte)?;
-                Ok(1)
-            }
-            None => Ok(0),
-        }
-    }
-
-    fn flush(&mut self) -> io::Result<()> {
-        Ok(())
-    }
 }
 
 #[test]
