@@ -11,6 +11,7 @@ With no word it takes the programs that `rt ci` leaves, one by each compiler. A 
     > 1 20000
 
 + NAME: RECIPE        a file in the row's empty folder; layers.py has the recipes
++* FIRST LAST NAME: RECIPE   a file for each number, which stands for {} in its name
 $ WORDS               the command line, in which \\xFF is a byte; further ones run behind it in the same folder, and what they write comes
                       one after the other
 < TEXT                a line of standard input, of which there is none else
@@ -62,6 +63,10 @@ def rows_of(path):
                 rows.append(Row(text))
             elif mark == "+":
                 rows[-1].files.append(text.split(": ", 1))
+            elif mark == "+*":
+                first, last, each = text.split(" ", 2)
+                name, recipe = each.split(": ", 1)
+                rows[-1].files += [[name.replace("{}", str(it)), recipe] for it in range(int(first), int(last) + 1)]
             elif mark == "$":
                 rows[-1].lines.append([plain(word) for word in shlex.split(text.replace("\\", "\\\\"))])
             elif mark == "!":

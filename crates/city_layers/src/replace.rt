@@ -10,8 +10,9 @@ use std::io;
 use std::io::{ErrorKind, Write};
 use std::rt::Files;
 
-/// How many names are tried for a file that is written aside.
-const NAMES: u32 = 100;
+/// How many names are tried for a file that is written aside: more than a folder holds, so that what killed runs left
+/// there is never in the way of another.
+const NAMES: u32 = u32::MAX;
 
 /// Replaces the layer BASE.shp and BASE.shx, or makes it, by one of these bytes.
 ///

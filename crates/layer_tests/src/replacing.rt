@@ -262,6 +262,21 @@ fn takes_a_name_that_is_free(rt: HostRuntime) -> Result<(), Fail> {
 }
 
 #[test]
+fn takes_a_name_behind_many(rt: HostRuntime) -> Result<(), Fail> {
+    for number in 0..200u32 {
+        let left_over = format!(in rt.alloc(); "killed.shp.{number}.new")?;
+        fs::write(&rt, left_over.as_str(), "a beginning")?;
+    }
+    let answer = replace_layer(&rt, rt.alloc(), "killed", b"new main", b"new index");
+    assert_eq!(rt; answer, Ok(()));
+    assert_eq!(rt; stands(&rt, "killed.shp")?.as_str(), "new main");
+    assert_eq!(rt; stands(&rt, "killed.shx")?.as_str(), "new index");
+    assert_eq!(rt; stands(&rt, "killed.shp.199.new")?.as_str(), "a beginning");
+    assert_eq!(rt; stands(&rt, "killed.shp.200.new")?.as_str(), "nothing");
+    Ok(())
+}
+
+#[test]
 fn writes_nothing_where_a_folder_stands_or_none(rt: HostRuntime) -> Result<(), Fail> {
     fs::create_dir(&rt, "main_folder.shp")?;
     fs::create_dir(&rt, "index_folder.shx")?;

@@ -1,5 +1,5 @@
 //! Each growth of a run refused in turn: its answer is want of memory, nothing was printed, and
-//! with memory the same run prints what it has to print.
+//! the same run with memory prints what it has to print.
 
 use crate::edit_runs::files;
 use crate::overlay_runs::HALVES;
@@ -7,11 +7,11 @@ use city_layers::area::area;
 use city_layers::{Source, ToolFault};
 use geo_exact::{Counted, Unit};
 use parcel_runs::check::{check, check_all};
-use parcel_runs::export::{Exported, export};
+use parcel_runs::export::export;
 use parcel_runs::locate::locate_text;
 use parcel_runs::overlay::overlay;
 use refusing_alloc::Refusing;
-use std::alloc::{AllocError, Allocator, Global};
+use std::alloc::{AllocError, Global};
 use std::sync::Wait;
 use std::test::Fail;
 use std::thread::Threads;
@@ -24,7 +24,7 @@ const MOST: u64 = 1000;
 /// The heap of the runs here.
 type Heap = Refusing<Global>;
 
-/// A run without clerks.
+/// A run.
 #[derive(Clone, Copy)]
 enum Which {
     /// Of the areas of a square.
@@ -33,6 +33,8 @@ enum Which {
     Check,
     /// Of two rectangles with a gap between them.
     AllFaults,
+    /// Of the two rectangles, with all faults asked for.
+    NoFaults,
     /// Of the two rectangles.
     Export,
     /// Of five points in the two rectangles.
@@ -41,23 +43,75 @@ enum Which {
     Overlay,
 }
 
-/// Each run, and what it prints with memory.
-const RUNS: [(Which, &str); 6] = [
-    (Which::Areas, "1 20000\n"),
-    (Which::Check, "tiling 2 20000\n"),
-    (
-        Which::AllFaults,
-        "edge 60 0 60 100 net 1\nedge 60 0 61 0 net -1\nedge 60 100 61 100 net 1\nedge 61 0 61 100 net -1\n",
-    ),
-    (Which::Export, "exported 2\n"),
-    (
-        Which::Places,
-        "0 0 edge 1\n1 1 inside 1\n1 0 edge 1\n-1 0 outside\n62 2 inside 2\n",
-    ),
-    (
-        Which::Overlay,
-        "entries 0\npair 1 1\npair 1 2\npair 2 2\nsplit 1\nwithin 2 2\n",
-    ),
+/// A run, and what it prints with memory.
+struct Row {
+    which: Which,
+    want: &'static str,
+    /// With a clerk's file that merges the two rectangles: what is printed where this edit alone is refused.
+    unedited: Option<&'static str>,
+}
+
+/// The runs.
+const RUNS: [Row; 11] = [
+    Row {
+        which: Which::Areas,
+        want: "1 20000\n",
+        unedited: None,
+    },
+    Row {
+        which: Which::Check,
+        want: "tiling 2 20000\n",
+        unedited: None,
+    },
+    Row {
+        which: Which::AllFaults,
+        want: "edge 60 0 60 100 net 1\nedge 60 0 61 0 net -1\nedge 60 100 61 100 net 1\nedge 61 0 61 100 net -1\n",
+        unedited: None,
+    },
+    Row {
+        which: Which::Export,
+        want: "exported 2\n",
+        unedited: None,
+    },
+    Row {
+        which: Which::Places,
+        want: "0 0 edge 1\n1 1 inside 1\n1 0 edge 1\n-1 0 outside\n62 2 inside 2\n",
+        unedited: None,
+    },
+    Row {
+        which: Which::Overlay,
+        want: "entries 0\npair 1 1\npair 1 2\npair 2 2\nsplit 1\nwithin 2 2\n",
+        unedited: None,
+    },
+    Row {
+        which: Which::Check,
+        want: "clerk 1 line 1 ok 1\ntiling 1 20000\n",
+        unedited: Some("clerk 1 line 1 refused no memory\ntiling 2 20000\n"),
+    },
+    Row {
+        which: Which::NoFaults,
+        want: "clerk 1 line 1 ok 1\ntiling 1 20000\n",
+        unedited: Some("clerk 1 line 1 refused no memory\ntiling 2 20000\n"),
+    },
+    Row {
+        which: Which::Export,
+        want: "clerk 1 line 1 ok 1\nexported 1\n",
+        unedited: Some("clerk 1 line 1 refused no memory\nexported 2\n"),
+    },
+    Row {
+        which: Which::Places,
+        want: "clerk 1 line 1 ok 1\n0 0 edge 3\n1 1 inside 3\n1 0 edge 3\n-1 0 outside\n62 2 inside 3\n",
+        unedited: Some(
+            "clerk 1 line 1 refused no memory\n0 0 edge 1\n1 1 inside 1\n1 0 edge 1\n-1 0 outside\n62 2 inside 2\n",
+        ),
+    },
+    Row {
+        which: Which::Overlay,
+        want: "clerk 1 line 1 ok 1\nentries 1\npair 3 1\npair 3 2\nsplit 3\n",
+        unedited: Some(
+            "clerk 1 line 1 refused no memory\nentries 0\npair 1 1\npair 1 2\npair 2 2\nsplit 1\nwithin 2 2\n",
+        ),
+    },
 ];
 
 /// The files of the runs.
@@ -103,24 +157,26 @@ fn answer<'h, R: Threads + Wait + Sync>(
     rt: &R,
     which: Which,
     inputs: &Inputs<'h>,
+    clerks: &[Vec<u8>],
     out: &mut Counted<Vec<u8>>,
 ) -> Result<(), ToolFault<'static>> {
     let (heap, unit) = (inputs.heap, Unit::Mm);
     let (city, parcels) = (&inputs.city, &inputs.parcels);
     match which {
         Which::Areas => area(heap, &inputs.square, unit, out),
-        Which::Check => check(rt, heap, city, parcels, unit, &[], out),
-        Which::AllFaults => check_all(rt, heap, city, &inputs.gap, unit, &[], out),
+        Which::Check => check(rt, heap, city, parcels, unit, clerks, out),
+        Which::AllFaults => check_all(rt, heap, city, &inputs.gap, unit, clerks, out),
+        Which::NoFaults => check_all(rt, heap, city, parcels, unit, clerks, out),
         Which::Export => {
-            let exported = export(rt, heap, city, parcels, unit, &[])?;
+            let exported = export(rt, heap, city, parcels, unit, clerks)?;
             put_all(exported.lines.as_slice(), out)?;
             Ok(())
         }
         Which::Places => {
             let points = b"0 0\n1 1\n1 0\n-1 0\n62 2";
-            locate_text(rt, heap, city, parcels, unit, points, &[], out)
+            locate_text(rt, heap, city, parcels, unit, points, clerks, out)
         }
-        Which::Overlay => overlay(rt, heap, city, parcels, &inputs.zones, unit, &[], 2, out),
+        Which::Overlay => overlay(rt, heap, city, parcels, &inputs.zones, unit, clerks, 2, out),
     }
 }
 
@@ -131,40 +187,68 @@ fn was_refused(heap: &Heap) -> bool {
     is_refused
 }
 
-/// Whether a run with this growth refused told of it and printed nothing; where there was no such
-/// growth, `None`, once it printed what it has to print.
+/// Whether a run printed all that it prints with memory.
+fn is_whole(row: &Row, answer: &Result<(), ToolFault<'static>>, printed: &[u8]) -> bool {
+    matches!(answer, Ok(()) | Err(ToolFault::NoTiling(_, _))) && printed == row.want.as_bytes()
+}
+
+/// Whether a run may answer this where a growth was refused: want of memory, with nothing printed. With a clerk's file
+/// the office may lack its window, the edit alone may be refused, and some growths could be done without.
+fn is_wanting(row: &Row, answer: &Result<(), ToolFault<'static>>, printed: &[u8]) -> bool {
+    match row.unedited {
+        None => *answer == Err(ToolFault::NoMemory) && printed.is_empty(),
+        Some(unedited) => match answer {
+            Ok(()) => printed == unedited.as_bytes() || printed == row.want.as_bytes(),
+            Err(fault) => {
+                matches!(fault, ToolFault::NoMemory | ToolFault::NoWindow(1)) && printed.is_empty()
+            }
+        },
+    }
+}
+
+/// Whether a run with this growth refused answers as it may, and the same run with memory then prints all; where there
+/// was no such growth, `None`, once it printed all.
 fn is_told<'h, R: Threads + Wait + Sync>(
     rt: &R,
     alloc: Global,
-    which: Which,
+    row: &Row,
     inputs: &Inputs<'h>,
+    clerks: &[Vec<u8>],
     number: u64,
-    want: &str,
 ) -> Option<bool> {
     let mut out = Counted::new(Vec::new(alloc));
     inputs.heap.refuse(number);
-    let told = answer(rt, which, inputs, &mut out);
+    let told = answer(rt, row.which, inputs, clerks, &mut out);
     let is_refused = was_refused(inputs.heap);
     let printed = out.into_inner();
-    if is_refused {
-        return Some(told == Err(ToolFault::NoMemory) && printed.is_empty());
+    if !is_refused {
+        return if is_whole(row, &told, printed.as_slice()) {
+            None
+        } else {
+            Some(false)
+        };
     }
-    let is_whole = matches!(told, Ok(()) | Err(ToolFault::NoTiling(_, _)));
-    if is_whole && printed.as_slice() == want.as_bytes() {
-        None
-    } else {
-        Some(false)
-    }
+    let mut again = Counted::new(Vec::new(alloc));
+    let whole = answer(rt, row.which, inputs, clerks, &mut again);
+    let behind = again.into_inner();
+    Some(is_wanting(row, &told, printed.as_slice()) && is_whole(row, &whole, behind.as_slice()))
 }
 
 #[test]
 fn tells_each_refused_growth(rt: HostRuntime) -> Result<(), Fail> {
     let heap = &Refusing::new(rt.alloc(), 0);
     let inputs = inputs_in(heap, rt.alloc())?;
-    for (which, want) in &RUNS {
+    let merge = files(rt.alloc(), &["merge 1 2"])?;
+    let none: Vec<Vec<u8>> = Vec::new(rt.alloc());
+    for row in &RUNS {
+        let clerks = if row.unedited.is_some() {
+            merge.as_slice()
+        } else {
+            none.as_slice()
+        };
         let mut growths = 0u64;
         for number in 1..MOST {
-            match is_told(&rt, rt.alloc(), *which, &inputs, number, want) {
+            match is_told(&rt, rt.alloc(), row, &inputs, clerks, number) {
                 Some(is_so) => assert!(rt; is_so, "at growth {number}"),
                 None => break,
             }
@@ -173,47 +257,4 @@ fn tells_each_refused_growth(rt: HostRuntime) -> Result<(), Fail> {
         assert!(rt; growths > 1 && growths < MOST - 1);
     }
     Ok(())
-}
-
-/// What an export prints in which the only edit, a merge of the two rectangles, was refused for want of memory.
-const WANT_TOLD: &str = "clerk 1 line 1 refused no memory\nexported 2\n";
-
-/// What it prints with memory.
-const MERGE_TOLD: &str = "clerk 1 line 1 ok 1\nexported 1\n";
-
-/// Whether that is what an export with the merge may answer: where a growth could be done without,
-/// the lines are those of a run with memory.
-fn is_edited<A: Allocator>(
-    answer: &Result<Exported<A>, ToolFault<'static>>,
-    is_refused: bool,
-) -> bool {
-    match answer {
-        Ok(exported) => match str::from_utf8(exported.lines.as_slice()) {
-            Ok(lines) => lines == MERGE_TOLD || is_refused && lines == WANT_TOLD,
-            Err(_) => false,
-        },
-        Err(fault) => {
-            is_refused && matches!(fault, ToolFault::NoMemory | ToolFault::NoWindow(1))
-        }
-    }
-}
-
-#[test]
-fn an_export_with_an_edit(rt: HostRuntime) -> Result<(), Fail> {
-    let alloc = rt.alloc();
-    let heap = &Refusing::new(alloc, 0);
-    let inputs = inputs_in(heap, alloc)?;
-    let clerks = files(alloc, &["merge 1 2"])?;
-    let (city, parcels) = (&inputs.city, &inputs.parcels);
-    for number in 1..MOST {
-        heap.refuse(number);
-        let answer = export(&rt, heap, city, parcels, Unit::Mm, &clerks);
-        let is_refused = was_refused(heap);
-        assert!(rt; is_edited(&answer, is_refused), "at growth {number}");
-        if !is_refused {
-            assert!(rt; number > 20);
-            return Ok(());
-        }
-    }
-    Err(Fail::new("each growth was refused"))
 }
