@@ -1,13 +1,19 @@
 #!/usr/bin/env python3
 """Fails where a mutant (crates/NAME/must-fail/*.edit, crates/NAME/more-wrong-bodies/*.edit) cannot be applied: each `old:`
 line has to stand in its file exactly once, and each `new:` line has to change it. The gate tells of such an edit and passes
-all the same, and does not look at the second folder. It fails too where both folders have a mutant of one name.
+all the same, and does not look at the second folder. It fails too where both folders have a mutant of one name, and where
+docs/promises.md marks one by `†` that is not in the second folder, or leaves the mark out.
+
+    scripts/check_edits.py [--mark]     with --mark it first puts the marks right
 """
+import re
 import sys
 from pathlib import Path
 
 ROOT = Path(__file__).resolve().parent.parent
 TIERS = ("must-fail", "more-wrong-bodies")
+PROMISES = ROOT / "docs/promises.md"
+MARK = "†"
 
 
 def faults_of(edit):
@@ -37,12 +43,46 @@ def faults_of(edit):
         yield "no old text"
 
 
+def marked(text, tiers):
+    """The table of promises, with the mark behind each mutant of the second tier and no other.
+
+    `tiers` has, for the names of a crate and a mutant, the folder. A mutant is its section's crate's, or else of the one crate
+    that has a mutant of this name.
+    """
+    crates, lines = [], []
+    elsewhere = {name: tier for (_, name), tier in tiers.items()}
+    for line in text.split("\n"):
+        if line.startswith("## "):
+            crates = re.findall(r"`(\w+)`", line)
+        cells = line.split("|")
+        if len(cells) > 4 and crates:
+            def word(found):
+                tier = next((tiers[crate, found[1]] for crate in crates if (crate, found[1]) in tiers), elsewhere.get(found[1]))
+                return f"`{found[1]}`{MARK if tier == TIERS[1] else ''}"
+            cells[3:] = [re.sub(rf"`(\w+)`{MARK}?", word, cell) for cell in cells[3:]]
+        lines.append("|".join(cells))
+    return "\n".join(lines)
+
+
+def mark_faults(mutants, mark):
+    """Where the table of promises has wrong marks; with `mark` they are put right, and there is no fault."""
+    text = PROMISES.read_text()
+    right = marked(text, {(edit.parent.parent.name, edit.stem): edit.parent.name for edit in mutants})
+    if mark and right != text:
+        PROMISES.write_text(right)
+        return []
+    both = enumerate(zip(text.split("\n"), right.split("\n")), 1)
+    return [f"docs/promises.md:{number}: marks of the second tier: scripts/check_edits.py --mark puts them right"
+            for number, (is_so, wanted) in both if is_so != wanted]
+
+
 def main():
     first, second = (sorted(ROOT.glob(f"crates/*/{tier}/*.edit")) for tier in TIERS)
     faults = [f"{edit.relative_to(ROOT)}: {fault}" for edit in first + second for fault in faults_of(edit)]
     names = {(edit.parent.parent, edit.name) for edit in first}
     faults += [f"{edit.relative_to(ROOT)}: {TIERS[0]} has one of this name" for edit in second
                if (edit.parent.parent, edit.name) in names]
+    faults += mark_faults(first + second, sys.argv[1:] == ["--mark"])
     counts = f"{len(first)} in {TIERS[0]}, {len(second)} in {TIERS[1]}"
     print("\n".join(faults) if faults else f"mutants: {counts}, each can be applied")
     return 1 if faults else 0
