@@ -32,7 +32,7 @@ fn are_same_rows<A: Allocator>(rows: &[Row<A>], others: &[Row<A>]) -> bool {
 }
 
 /// Whether the entries are alike in all that they tell.
-fn is_same_entry<A: Allocator>(entry: &Entry<A>, other: &Entry<A>) -> bool {
+pub fn is_same_entry<A: Allocator>(entry: &Entry<A>, other: &Entry<A>) -> bool {
     entry.number() == other.number()
         && entry.clerk() == other.clerk()
         && entry.edit() == other.edit()

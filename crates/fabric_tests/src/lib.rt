@@ -18,6 +18,10 @@ mod plain_scans;
 #[cfg(test)]
 mod refusals;
 #[cfg(test)]
+mod refused_copies;
+#[cfg(test)]
+mod refused_edits;
+#[cfg(test)]
 mod searches_refused;
 #[cfg(test)]
 mod size;

@@ -1,13 +1,15 @@
 //! Each growth of a call refused in turn: its answer is want of memory, and with memory the same
 //! call gives the answer that it has to give.
 
-use fabric_core::{AllFaults, City, CityFault, Layer, LoadFault};
+use crate::candidates::between;
+use crate::changes::are_at;
+use fabric_core::{AllFaults, At, City, CityFault, Layer, LoadFault};
 use geo_exact::Corner;
 use refusing_alloc::Refusing;
 use ring_core::RingFault;
 use std::alloc::Global;
 use std::test::Fail;
-use test_builders::Place;
+use test_builders::{Place, corner};
 use test_cities::{EAST, SQUARE, WEST, city, records};
 
 /// No call here has so many growths.
@@ -98,8 +100,8 @@ fn refused(is_refused: bool, told: Told) -> Result<bool, Fail> {
     }
 }
 
-/// Makes a city with growth `number` refused; whether it was.
-fn is_city_refused(heap: &Heap, number: u64) -> Result<bool, Fail> {
+/// What the square is answered as a city.
+fn city_of(heap: &Heap, number: u64) -> Result<(Result<City<'_, Heap>, CityFault>, bool), Fail> {
     let Some(ring) = records(heap, &[&SQUARE])?.pop() else {
         return Err(Fail::new("no ring"));
     };
@@ -107,10 +109,23 @@ fn is_city_refused(heap: &Heap, number: u64) -> Result<bool, Fail> {
     let city = City::new(heap, ring);
     let is_refused = heap.is_spent();
     heap.refuse(0);
-    match city {
-        Ok(_) => refused(is_refused, Told::Wanted),
-        Err(CityFault::NoMemory) => refused(is_refused, Told::NoMemory),
-        Err(_) => refused(is_refused, Told::Another),
+    Ok((city, is_refused))
+}
+
+/// Makes a city with growth `number` refused, and where it was, once more; whether it was.
+fn is_city_refused(heap: &Heap, number: u64) -> Result<bool, Fail> {
+    let (city, is_refused) = city_of(heap, number)?;
+    let told = match &city {
+        Ok(city) => Told::of(are_at(city.ring.corners.as_slice(), &SQUARE)),
+        Err(CityFault::NoMemory) => Told::NoMemory,
+        Err(_) => Told::Another,
+    };
+    if !refused(is_refused, told)? {
+        return Ok(false);
+    }
+    match city_of(heap, 0)?.0 {
+        Ok(city) if are_at(city.ring.corners.as_slice(), &SQUARE) => Ok(true),
+        _ => Err(Fail::new("another answer with memory")),
     }
 }
 
@@ -126,12 +141,46 @@ fn a_city(rt: HostRuntime) -> Result<(), Fail> {
     Err(Fail::new("each growth was refused"))
 }
 
-/// Whether these are the layer's parcels.
-fn has_ids(layer: &Layer<'_, Heap>, want: &Answer) -> bool {
+/// The city's ring with the corners of both parcels.
+static REFINED: [Place; 6] = [(0, 0), (60, 0), (100, 0), (100, 100), (60, 100), (0, 100)];
+
+/// Whether a place is inside this parcel.
+fn is_inside(layer: &Layer<'_, Heap>, place: Place, parcel: u64) -> Result<bool, Fail> {
+    match layer.locate(corner(place)?)? {
+        At::Inside(id) => Ok(id == parcel),
+        At::OnEdge(_) | At::Outside => Ok(false),
+    }
+}
+
+/// Whether a layer shows both parcels whole: their rings, the city's, and what its index finds.
+fn is_whole(layer: &Layer<'_, Heap>) -> Result<bool, Fail> {
+    let rings = [&WEST, &EAST];
+    let are_rings = layer.shapes().count() == 2
+        && layer.shapes().zip(&rings).all(|((_, shape), ring)| are_at(
+            shape.ring.corners.as_slice(),
+            *ring,
+        ));
+    let are_found = between(layer, (60, 0), (60, 0))??.as_slice() == [1u64, 2].as_slice()
+        && between(layer, (0, 0), (59, 100))??.as_slice() == [1u64].as_slice()
+        && between(layer, (62, 0), (100, 100))??.as_slice() == [2u64].as_slice();
+    Ok(
+        are_rings
+            && are_found
+            && are_at(layer.city(), &SQUARE)
+            && are_at(layer.refined(), &REFINED)
+            && is_inside(layer, (10, 10), 1)?
+            && is_inside(layer, (61, 50), 2)?,
+    )
+}
+
+/// Whether these are the layer's parcels, which are the two rectangles, and it shows them whole.
+fn has_ids(layer: &Layer<'_, Heap>, want: &Answer) -> Result<bool, Fail> {
     let Answer::Ids(ids) = want else {
-        return false;
+        return Ok(false);
     };
-    layer.ids().count() == ids.len() && layer.ids().zip(*ids).all(|(id, want)| id == *want)
+    let are_ids = layer.ids().count() == ids.len()
+        && layer.ids().zip(*ids).all(|(id, want)| id == *want);
+    Ok(are_ids && is_whole(layer)?)
 }
 
 /// Whether this is the edge that is wanted.
@@ -156,23 +205,41 @@ fn are_edges(edges: &[(Corner, Corner, i64)], want: &[Edge]) -> bool {
             .all(|(edge, want)| is_edge(*edge, *want))
 }
 
-/// Loads a layer with growth `number` refused; whether it was.
+/// What loading a layer with growth `number` refused is answered, and whether that was refused.
+fn loading<'a>(
+    heap: &'a Heap,
+    city: &City<'a, Heap>,
+    row: &Row,
+    number: u64,
+) -> Result<(Told, bool), Fail> {
+    let rings = records(heap, row.0)?;
+    heap.refuse(number);
+    let layer = Layer::load(heap, city, rings);
+    let is_refused = heap.is_spent();
+    heap.refuse(0);
+    let told = match layer {
+        Ok(layer) => Told::of(has_ids(&layer, &row.1)?),
+        Err(LoadFault::NoMemory) => Told::NoMemory,
+        Err(fault) => Told::of(is_first(fault, &row.1)),
+    };
+    Ok((told, is_refused))
+}
+
+/// Whether a growth was refused, and the call was answered as is wanted once it was made again.
+fn answered_again(first: (Told, bool), again: Told) -> Result<bool, Fail> {
+    refused(false, again)?;
+    refused(first.1, first.0)
+}
+
+/// Loads a layer with growth `number` refused, and once more with memory; whether it was refused.
 fn is_loading_refused<'a>(
     heap: &'a Heap,
     city: &City<'a, Heap>,
     row: &Row,
     number: u64,
 ) -> Result<bool, Fail> {
-    let rings = records(heap, row.0)?;
-    heap.refuse(number);
-    let layer = Layer::load(heap, city, rings);
-    let is_refused = heap.is_spent();
-    heap.refuse(0);
-    match layer {
-        Ok(layer) => refused(is_refused, Told::of(has_ids(&layer, &row.1))),
-        Err(LoadFault::NoMemory) => refused(is_refused, Told::NoMemory),
-        Err(fault) => refused(is_refused, Told::of(is_first(fault, &row.1))),
-    }
+    let first = loading(heap, city, row, number)?;
+    answered_again(first, loading(heap, city, row, 0)?.0)
 }
 
 /// Whether these are all faults.
@@ -184,23 +251,35 @@ fn are_all(faults: &AllFaults<&Heap>, want: &Answer) -> bool {
     }
 }
 
-/// Loads a layer, or tells all faults, with growth `number` refused; whether it was.
+/// What loading a layer, or telling all faults, with growth `number` refused is answered, and whether that was refused.
+fn telling<'a>(
+    heap: &'a Heap,
+    city: &City<'a, Heap>,
+    row: &Row,
+    number: u64,
+) -> Result<(Told, bool), Fail> {
+    let rings = records(heap, row.0)?;
+    heap.refuse(number);
+    let layer = Layer::load_or_all(heap, city, rings);
+    let is_refused = heap.is_spent();
+    heap.refuse(0);
+    let told = match layer {
+        Ok(layer) => Told::of(has_ids(&layer, &row.1)?),
+        Err(AllFaults::NoMemory) => Told::NoMemory,
+        Err(faults) => Told::of(are_all(&faults, &row.1)),
+    };
+    Ok((told, is_refused))
+}
+
+/// Loads a layer, or tells all faults, with growth `number` refused, and once more with memory; whether it was refused.
 fn is_telling_refused<'a>(
     heap: &'a Heap,
     city: &City<'a, Heap>,
     row: &Row,
     number: u64,
 ) -> Result<bool, Fail> {
-    let rings = records(heap, row.0)?;
-    heap.refuse(number);
-    let layer = Layer::load_or_all(heap, city, rings);
-    let is_refused = heap.is_spent();
-    heap.refuse(0);
-    match layer {
-        Ok(layer) => refused(is_refused, Told::of(has_ids(&layer, &row.1))),
-        Err(AllFaults::NoMemory) => refused(is_refused, Told::NoMemory),
-        Err(faults) => refused(is_refused, Told::of(are_all(&faults, &row.1))),
-    }
+    let first = telling(heap, city, row, number)?;
+    answered_again(first, telling(heap, city, row, 0)?.0)
 }
 
 /// The first growth that is not made any more.

@@ -113,7 +113,7 @@ fn cuts_in_halves_and_merges_them(rt: HostRuntime) -> Result<(), Fail> {
 const BEYOND: [Place; 3] = [(60, 0), (50, 50), (60, 100)];
 
 /// A border that goes into the first parcel, and the same from its other end.
-const WESTWARD: [Place; 3] = [(60, 0), (40, 50), (60, 100)];
+pub const WESTWARD: [Place; 3] = [(60, 0), (40, 50), (60, 100)];
 
 const REVERSED: [Place; 3] = [(60, 100), (40, 50), (60, 0)];
 
@@ -127,7 +127,7 @@ const MOVED: [Parcel; 2] = [
 ];
 
 /// Edits of the two parcels that are refused, and at last one that is not.
-const OF_TWO: [Step; 10] = [
+pub const OF_TWO: [Step; 10] = [
     (
         Change::Split(2, &BEYOND),
         Err(Refusal::Ring {

@@ -8,6 +8,8 @@ mod bad_lines;
 #[cfg(test)]
 mod clerk_files;
 #[cfg(test)]
+mod grids;
+#[cfg(test)]
 mod index_rows;
 #[cfg(test)]
 mod reading;

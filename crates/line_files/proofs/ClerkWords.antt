@@ -7,6 +7,7 @@ use Rattle.ring_edits.specs.declared.edit.Edit.TheVariants.{Split, Merge, Move, 
 use Rattle.line_files.specs.TextNumbers.{IsNumber, AreCornerWords}
 use Rattle.line_files.specs.ClerkFile.{ArePath, IsSplitLine, IsMergeLine, IsMoveLine, IsInsertLine, SayEdit, SaysEdit, words_of}
 use Rattle.line_files.specs.TextLines.{IsSkipped, IsBad, IsFirstBad}
+use Rattle.line_files.specs.declared.grids.Grid.{Grid}
 use Rattle.line_files.specs.own.EditWords.{TakesNumber, TakesCorner}
 use Rattle.line_files.proofs.CornerWords.{ahead, behind, same_corners, IsReadTo, stuck, all_read}
 use Rattle.line_files.proofs.Numerals.{one_number}
@@ -14,20 +15,20 @@ use Rattle.line_files.proofs.Said.{IsGrammar}
 
 -- ---- a path
 -- where no corner follows, but words do, all are no path
-pub no_path : (all words : List (List ℕ)) (path : List Corner) → IsReadTo all words path → words ≢ []
-    → ((corner : Corner) → (left : List (List ℕ)) → ¬ TakesCorner words corner left) → (whole : List Corner)
-    → ¬ ArePath all whole
+pub no_path : {grid : Grid} (all words : List (List ℕ)) (path : List Corner) → IsReadTo grid all words path → words ≢ []
+    → ((corner : Corner) → (left : List (List ℕ)) → ¬ TakesCorner grid words corner left) → (whole : List Corner)
+    → ¬ ArePath grid all whole
 no_path all words path h some none whole w = let o = h.only whole w.are_corners in stuck words some none o.0 o.1
 
 -- where no word is left, all words are the path
-pub whole_path : (all words : List (List ℕ)) (path : List Corner) → IsReadTo all words path → words ≡ [] → path ≢ []
-    → ArePath all path
+pub whole_path : {grid : Grid} (all words : List (List ℕ)) (path : List Corner) → IsReadTo grid all words path → words ≡ [] → path ≢ []
+    → ArePath grid all path
 whole_path all words path h e some = record { are_corners = all_read all words path h e; has_one = some }
 
-pub no_corners : (all words : List (List ℕ)) (path : List Corner) → IsReadTo all words path → words ≡ [] → path ≡ []
-    → (whole : List Corner) → ¬ ArePath all whole
-no_corners all words path h e none whole w =
-    w.has_one (same_corners all whole path w.are_corners (all_read all words path h e) ∙ none)
+pub no_corners : {grid : Grid} (all words : List (List ℕ)) (path : List Corner) → IsReadTo grid all words path → words ≡ [] → path ≡ []
+    → (whole : List Corner) → ¬ ArePath grid all whole
+no_corners {grid} all words path h e none whole w =
+    w.has_one (same_corners grid all whole path w.are_corners (all_read all words path h e) ∙ none)
 
 -- ---- which edits words can say, by the first of them
 same_byte : (a b : ℕ) (xs ys : List ℕ) (v w : List (List ℕ)) → (a ∷ xs) ∷ v ≡ (b ∷ ys) ∷ w → a ≡ b
@@ -36,31 +37,31 @@ same_byte a b xs ys v w e = cc
 split_or_merge : {v w : List (List ℕ)} → codes "split" ∷ v ≡ codes "merge" ∷ w → ⊥
 split_or_merge {v} {w} e = absurd (let k : 115 ≡ 109 = same_byte _ _ _ _ v w e in omega (arith, k))
 
-module _ {A : Type 0} (words : List (List ℕ)) where
-  pub only_split : (edit : Edit A) → SayEdit (codes "split" ∷ words) edit
-      → (id : ℕ) × (path : List Corner) × (edit ≡ Split id path) × IsSplitLine (codes "split" ∷ words) id path
+module _ {A : Type 0} (grid : Grid) (words : List (List ℕ)) where
+  pub only_split : (edit : Edit A) → SayEdit grid (codes "split" ∷ words) edit
+      → (id : ℕ) × (path : List Corner) × (edit ≡ Split id path) × IsSplitLine grid (codes "split" ∷ words) id path
   only_split (Split id path) h = (id, path, refl, h)
   only_split (Merge a b) h = absurd (split_or_merge h.are_words)
   only_split (Move a b path) h = let e : codes "split" ≡ codes "move" = cc in absurd (cc)
   only_split (Insert from to at) h = let e : codes "split" ≡ codes "insert" = cc in absurd (cc)
 
-  pub only_merge : (edit : Edit A) → SayEdit (codes "merge" ∷ words) edit
+  pub only_merge : (edit : Edit A) → SayEdit grid (codes "merge" ∷ words) edit
       → (a : ℕ) × (b : ℕ) × (edit ≡ Merge a b) × IsMergeLine (codes "merge" ∷ words) a b
   only_merge (Split id path) h = absurd (split_or_merge (sym h.are_words))
   only_merge (Merge a b) h = (a, b, refl, h)
   only_merge (Move a b path) h = let e : codes "merge" ≡ codes "move" = cc in absurd (cc)
   only_merge (Insert from to at) h = let e : codes "merge" ≡ codes "insert" = cc in absurd (cc)
 
-  pub only_move : (edit : Edit A) → SayEdit (codes "move" ∷ words) edit
-      → (a : ℕ) × (b : ℕ) × (path : List Corner) × (edit ≡ Move a b path) × IsMoveLine (codes "move" ∷ words) a b path
+  pub only_move : (edit : Edit A) → SayEdit grid (codes "move" ∷ words) edit
+      → (a : ℕ) × (b : ℕ) × (path : List Corner) × (edit ≡ Move a b path) × IsMoveLine grid (codes "move" ∷ words) a b path
   only_move (Split id path) h = let e : codes "move" ≡ codes "split" = cc in absurd (cc)
   only_move (Merge a b) h = let e : codes "move" ≡ codes "merge" = cc in absurd (cc)
   only_move (Move a b path) h = (a, b, path, refl, h)
   only_move (Insert from to at) h = let e : codes "move" ≡ codes "insert" = cc in absurd (cc)
 
-  pub only_insert : (edit : Edit A) → SayEdit (codes "insert" ∷ words) edit
+  pub only_insert : (edit : Edit A) → SayEdit grid (codes "insert" ∷ words) edit
       → (from : Corner) × (to : Corner) × (at : Corner) × (edit ≡ Insert from to at)
-      × IsInsertLine (codes "insert" ∷ words) from to at
+      × IsInsertLine grid (codes "insert" ∷ words) from to at
   only_insert (Split id path) h = let e : codes "insert" ≡ codes "split" = cc in absurd (cc)
   only_insert (Merge a b) h = let e : codes "insert" ≡ codes "merge" = cc in absurd (cc)
   only_insert (Move a b path) h = let e : codes "insert" ≡ codes "move" = cc in absurd (cc)
@@ -70,26 +71,26 @@ module _ {A : Type 0} (words : List (List ℕ)) where
 same_number : (n m : ℕ) (xs ys : List ℕ) → xs ≡ ys → IsNumber xs n → IsNumber ys m → n ≡ m
 same_number n m xs ys e h k = one_number ys n m (subst (λ t. IsNumber t n) e h) k
 
-same_path : (xs ys : List (List ℕ)) (p q : List Corner) → xs ≡ ys → ArePath xs p → ArePath ys q → p ≡ q
-same_path xs ys p q e h k = same_corners ys p q (subst (λ t. AreCornerWords t p) e h.are_corners) k.are_corners
+same_path : {grid : Grid} (xs ys : List (List ℕ)) (p q : List Corner) → xs ≡ ys → ArePath grid xs p → ArePath grid ys q → p ≡ q
+same_path {grid} xs ys p q e h k = same_corners grid ys p q (subst (λ t. AreCornerWords grid t p) e h.are_corners) k.are_corners
 
-pub one_edit : {A : Type 0} (words : List (List ℕ)) (x y : Edit A) → SayEdit words x → SayEdit words y → x ≡ y
-one_edit words (Split id path) y h k =
-    let o = only_split (h.parcel ∷ h.places) y (subst (λ w. SayEdit w y) h.are_words k) in
+pub one_edit : {A : Type 0} (grid : Grid) (words : List (List ℕ)) (x y : Edit A) → SayEdit grid words x → SayEdit grid words y → x ≡ y
+one_edit grid words (Split id path) y h k =
+    let o = only_split grid (h.parcel ∷ h.places) y (subst (λ w. SayEdit grid w y) h.are_words k) in
     let parcels : h.parcel ≡ o.3.parcel = cc (o.3.are_words) in
     let places : h.places ≡ o.3.places = cc (o.3.are_words) in
     let ids : id ≡ o.0 = same_number _ _ _ _ parcels h.is_parcel o.3.is_parcel in
     let paths : path ≡ o.1 = same_path _ _ _ _ places h.are_places o.3.are_places in
     cc (o.2)
-one_edit words (Merge a b) y h k =
-    let o = only_merge (h.first ∷ h.second ∷ []) y (subst (λ w. SayEdit w y) h.are_words k) in
+one_edit grid words (Merge a b) y h k =
+    let o = only_merge grid (h.first ∷ h.second ∷ []) y (subst (λ w. SayEdit grid w y) h.are_words k) in
     let firsts : h.first ≡ o.3.first = cc (o.3.are_words) in
     let seconds : h.second ≡ o.3.second = cc (o.3.are_words) in
     let ids : a ≡ o.0 = same_number _ _ _ _ firsts h.is_first o.3.is_first in
     let others : b ≡ o.1 = same_number _ _ _ _ seconds h.is_second o.3.is_second in
     cc (o.2)
-one_edit words (Move a b path) y h k =
-    let o = only_move (h.first ∷ h.second ∷ h.places) y (subst (λ w. SayEdit w y) h.are_words k) in
+one_edit grid words (Move a b path) y h k =
+    let o = only_move grid (h.first ∷ h.second ∷ h.places) y (subst (λ w. SayEdit grid w y) h.are_words k) in
     let firsts : h.first ≡ o.4.first = cc (o.4.are_words) in
     let seconds : h.second ≡ o.4.second = cc (o.4.are_words) in
     let places : h.places ≡ o.4.places = cc (o.4.are_words) in
@@ -97,70 +98,70 @@ one_edit words (Move a b path) y h k =
     let others : b ≡ o.1 = same_number _ _ _ _ seconds h.is_second o.4.is_second in
     let paths : path ≡ o.2 = same_path _ _ _ _ places h.are_places o.4.are_places in
     cc (o.3)
-one_edit words (Insert from to at) y h k =
-    let o = only_insert h.places y (subst (λ w. SayEdit w y) h.are_words k) in
+one_edit grid words (Insert from to at) y h k =
+    let o = only_insert grid h.places y (subst (λ w. SayEdit grid w y) h.are_words k) in
     let places : h.places ≡ o.4.places = cc (o.4.are_words) in
     let lists : from ∷ to ∷ at ∷ [] ≡ o.0 ∷ o.1 ∷ o.2 ∷ [] =
-    same_corners o.4.places _ _ (subst (λ w. AreCornerWords w (from ∷ to ∷ at ∷ [])) places h.are_places) o.4.are_places in
+    same_corners grid o.4.places _ _ (subst (λ w. AreCornerWords grid w (from ∷ to ∷ at ∷ [])) places h.are_places) o.4.are_places in
     cc (o.3)
 
 -- ---- why they say nothing
-module _ {A : Type 0} (words : List (List ℕ)) where
+module _ {A : Type 0} (grid : Grid) (words : List (List ℕ)) where
   pub no_split_number : ((n : ℕ) → (left : List (List ℕ)) → ¬ TakesNumber words n left) → (edit : Edit A)
-      → ¬ SayEdit (codes "split" ∷ words) edit
+      → ¬ SayEdit grid (codes "split" ∷ words) edit
   no_split_number none edit h =
-      let o = only_split words edit h in
+      let o = only_split grid words edit h in
       none o.0 o.3.places record { word = o.3.parcel; are_words = cc (o.3.are_words); is_number = o.3.is_parcel }
 
   pub no_merge_first : ((n : ℕ) → (left : List (List ℕ)) → ¬ TakesNumber words n left) → (edit : Edit A)
-      → ¬ SayEdit (codes "merge" ∷ words) edit
+      → ¬ SayEdit grid (codes "merge" ∷ words) edit
   no_merge_first none edit h =
-      let o = only_merge words edit h in
+      let o = only_merge grid words edit h in
       none o.0 (o.3.second ∷ []) record { word = o.3.first; are_words = cc (o.3.are_words); is_number = o.3.is_first }
 
   pub no_merge_second : (a : ℕ) (more : List (List ℕ)) → TakesNumber words a more
       → ((n : ℕ) → (left : List (List ℕ)) → ¬ TakesNumber more n left)
-      → (edit : Edit A) → ¬ SayEdit (codes "merge" ∷ words) edit
+      → (edit : Edit A) → ¬ SayEdit grid (codes "merge" ∷ words) edit
   no_merge_second a more t none edit h =
-      let o = only_merge words edit h in
+      let o = only_merge grid words edit h in
       none o.1 [] record { word = o.3.second; are_words = cc (o.3.are_words); is_number = o.3.is_second }
 
   pub no_move_first : ((n : ℕ) → (left : List (List ℕ)) → ¬ TakesNumber words n left) → (edit : Edit A)
-      → ¬ SayEdit (codes "move" ∷ words) edit
+      → ¬ SayEdit grid (codes "move" ∷ words) edit
   no_move_first none edit h =
-      let o = only_move words edit h in
+      let o = only_move grid words edit h in
       none o.0 (o.4.second ∷ o.4.places) record { word = o.4.first; are_words = cc (o.4.are_words); is_number = o.4.is_first }
 
   pub no_move_second : (a : ℕ) (more : List (List ℕ)) → TakesNumber words a more
       → ((n : ℕ) → (left : List (List ℕ)) → ¬ TakesNumber more n left)
-      → (edit : Edit A) → ¬ SayEdit (codes "move" ∷ words) edit
+      → (edit : Edit A) → ¬ SayEdit grid (codes "move" ∷ words) edit
   no_move_second a more t none edit h =
-      let o = only_move words edit h in
+      let o = only_move grid words edit h in
       none o.1 o.4.places record { word = o.4.second; are_words = cc (o.4.are_words); is_number = o.4.is_second }
 
   -- the places of an edit that puts in a corner
-  insert_places : (edit : Edit A) → SayEdit (codes "insert" ∷ words) edit
-      → (from : Corner) × (to : Corner) × (at : Corner) × AreCornerWords words (from ∷ to ∷ at ∷ [])
+  insert_places : (edit : Edit A) → SayEdit grid (codes "insert" ∷ words) edit
+      → (from : Corner) × (to : Corner) × (at : Corner) × AreCornerWords grid words (from ∷ to ∷ at ∷ [])
   insert_places edit h =
-      let o = only_insert words edit h in
+      let o = only_insert grid words edit h in
       let same : o.4.places ≡ words = cc (o.4.are_words) in
-      (o.0, o.1, o.2, subst (λ w. AreCornerWords w (o.0 ∷ o.1 ∷ o.2 ∷ [])) same o.4.are_places)
+      (o.0, o.1, o.2, subst (λ w. AreCornerWords grid w (o.0 ∷ o.1 ∷ o.2 ∷ [])) same o.4.are_places)
 
-  pub no_insert_from : ((corner : Corner) → (left : List (List ℕ)) → ¬ TakesCorner words corner left) → (edit : Edit A)
-      → ¬ SayEdit (codes "insert" ∷ words) edit
+  pub no_insert_from : ((corner : Corner) → (left : List (List ℕ)) → ¬ TakesCorner grid words corner left) → (edit : Edit A)
+      → ¬ SayEdit grid (codes "insert" ∷ words) edit
   no_insert_from none edit h = let p = insert_places edit h in none p.0 p.3.2 (ahead words p.0 (p.1 ∷ p.2 ∷ []) p.3)
 
-  pub no_insert_to : (from : Corner) (one : List (List ℕ)) → TakesCorner words from one
-      → ((corner : Corner) → (left : List (List ℕ)) → ¬ TakesCorner one corner left)
-      → (edit : Edit A) → ¬ SayEdit (codes "insert" ∷ words) edit
+  pub no_insert_to : (from : Corner) (one : List (List ℕ)) → TakesCorner grid words from one
+      → ((corner : Corner) → (left : List (List ℕ)) → ¬ TakesCorner grid one corner left)
+      → (edit : Edit A) → ¬ SayEdit grid (codes "insert" ∷ words) edit
   no_insert_to from one t none edit h =
       let p = insert_places edit h in
       let q = behind words one from p.0 (p.1 ∷ p.2 ∷ []) t p.3 in
       none p.1 q.2 (ahead one p.1 (p.2 ∷ []) q)
 
-  pub no_insert_at : (from to : Corner) (one two : List (List ℕ)) → TakesCorner words from one → TakesCorner one to two
-      → ((corner : Corner) → (left : List (List ℕ)) → ¬ TakesCorner two corner left) → (edit : Edit A)
-      → ¬ SayEdit (codes "insert" ∷ words) edit
+  pub no_insert_at : (from to : Corner) (one two : List (List ℕ)) → TakesCorner grid words from one → TakesCorner grid one to two
+      → ((corner : Corner) → (left : List (List ℕ)) → ¬ TakesCorner grid two corner left) → (edit : Edit A)
+      → ¬ SayEdit grid (codes "insert" ∷ words) edit
   no_insert_at from to one two t u none edit h =
       let p = insert_places edit h in
       let q = behind words one from p.0 (p.1 ∷ p.2 ∷ []) t p.3 in
@@ -171,14 +172,15 @@ module _ {A : Type 0} (words : List (List ℕ)) where
 pair_same : {X Y : Type 0} (x y : X × Y) → x.0 ≡ y.0 → x.1 ≡ y.1 → x ≡ y
 pair_same (a, b) (c, d) p q = cc
 
-pub edits_are_grammar : {A : Type 0} → IsGrammar (SaysEdit {A = A})
-edits_are_grammar {A} = record {
-  unique = λ number line x y h k. pair_same x y (h.is_number ∙ sym k.is_number) (one_edit (words_of line) x.1 y.1 h.is_edit k.is_edit);
+pub edits_are_grammar : {A : Type 0} (grid : Grid) → IsGrammar (SaysEdit {A = A} grid)
+edits_are_grammar {A} grid = record {
+  unique = λ number line x y h k. pair_same x y (h.is_number ∙ sym k.is_number) (one_edit grid (words_of line) x.1 y.1 h.is_edit k.is_edit);
 }
 
-pub bad_line : {A : Type 0} (number : ℕ) (line : List ℕ) → ¬ IsSkipped line → ((edit : Edit A) → ¬ SayEdit (words_of line) edit)
-    → IsBad (SaysEdit {A = A}) number line
-bad_line number line apart none = record { is_not_skipped = apart; says_nothing = λ x k. none x.1 k.is_edit }
+pub bad_line : {A : Type 0} (grid : Grid) (number : ℕ) (line : List ℕ) → ¬ IsSkipped line
+    → ((edit : Edit A) → ¬ SayEdit grid (words_of line) edit)
+    → IsBad (SaysEdit {A = A} grid) number line
+bad_line grid number line apart none = record { is_not_skipped = apart; says_nothing = λ x k. none x.1 k.is_edit }
 
 -- ---- what an edit's corners are allocated by does not matter
 abbrev retyped : {A : Type 0} (B : Type 0) → Edit A → Edit B
@@ -187,27 +189,29 @@ retyped B (Merge a b) = Merge a b
 retyped B (Move a b path) = Move a b path
 retyped B (Insert from to at) = Insert from to at
 
-say_retyped : {A : Type 0} (B : Type 0) (words : List (List ℕ)) (edit : Edit A) → SayEdit words edit → SayEdit words (retyped B edit)
-say_retyped B words (Split id path) h = h
-say_retyped B words (Merge a b) h = h
-say_retyped B words (Move a b path) h = h
-say_retyped B words (Insert from to at) h = h
+say_retyped : {A : Type 0} (B : Type 0) (grid : Grid) (words : List (List ℕ)) (edit : Edit A) → SayEdit grid words edit
+    → SayEdit grid words (retyped B edit)
+say_retyped B grid words (Split id path) h = h
+say_retyped B grid words (Merge a b) h = h
+say_retyped B grid words (Move a b path) h = h
+say_retyped B grid words (Insert from to at) h = h
 
-bad_retyped : (A B : Type 0) (number : ℕ) (line : List ℕ) → IsBad (SaysEdit {A = A}) number line
-    → IsBad (SaysEdit {A = B}) number line
-bad_retyped A B number line h = record {
+bad_retyped : (A B : Type 0) (grid : Grid) (number : ℕ) (line : List ℕ) → IsBad (SaysEdit {A = A} grid) number line
+    → IsBad (SaysEdit {A = B} grid) number line
+bad_retyped A B grid number line h = record {
   is_not_skipped = h.is_not_skipped;
   says_nothing = λ x k. h.says_nothing (x.0, retyped A x.1) record {
     is_number = k.is_number;
     is_edit =
-        say_retyped A (words_of line) x.1 k.is_edit;
+        say_retyped A grid (words_of line) x.1 k.is_edit;
   };
 }
 
-pub first_bad_retyped : (A B : Type 0) (number : ℕ) (lines : List (List ℕ)) (n : ℕ) → IsFirstBad (SaysEdit {A = A}) number lines n
-    → IsFirstBad (SaysEdit {A = B}) number lines n
-first_bad_retyped A B number [] n h = h
-first_bad_retyped A B number (line ∷ lines) n h = elim h [
-  | inl k ↦ inl (bad_retyped A B number line k.0, k.1)
-  | inr k ↦ inr (λ b. k.0 (bad_retyped B A number line b), first_bad_retyped A B (number + 1) lines n k.1)
+pub first_bad_retyped : (A B : Type 0) (grid : Grid) (number : ℕ) (lines : List (List ℕ)) (n : ℕ)
+    → IsFirstBad (SaysEdit {A = A} grid) number lines n
+    → IsFirstBad (SaysEdit {A = B} grid) number lines n
+first_bad_retyped A B grid number [] n h = h
+first_bad_retyped A B grid number (line ∷ lines) n h = elim h [
+  | inl k ↦ inl (bad_retyped A B grid number line k.0, k.1)
+  | inr k ↦ inr (λ b. k.0 (bad_retyped B A grid number line b), first_bad_retyped A B grid (number + 1) lines n k.1)
 ]

@@ -1,5 +1,6 @@
 pub mod Splits
 pub mod Said
+pub mod GridLines
 pub mod Numerals
 pub mod WordLists
 pub mod CornerWords

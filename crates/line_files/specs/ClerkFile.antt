@@ -5,24 +5,26 @@ use Rattle.geo_exact.specs.declared.corner.Corner.{Corner}
 use Rattle.ring_edits.specs.declared.edit.Edit.{Edit}
 use Rattle.ring_edits.specs.declared.edit.Edit.TheVariants.{Split, Merge, Move, Insert}
 use Rattle.line_files.specs.TextLines.{lines_of, AreSaid, IsFirstBad}
+use Rattle.line_files.specs.Grids.{grid_of, behind_grid}
 use Rattle.line_files.specs.TextNumbers.{IsNumber, AreCornerWords}
+use Rattle.line_files.specs.declared.grids.Grid.{Grid}
 
 -- the words of a line, which is cut at each space (32); where two stand side by side, or one at an end of the line, there is an empty word
 abbrev pub words_of : List ℕ → List (List ℕ)
 words_of line = slice_split (λ b. b == 32) line
 
 -- `X Y X Y ..`, the coordinates of one or more corners
-pub record ArePath (words : List (List ℕ)) (path : List Corner) : Type 0 where
-  pub are_corners : AreCornerWords words path
+pub record ArePath (grid : Grid) (words : List (List ℕ)) (path : List Corner) : Type 0 where
+  pub are_corners : AreCornerWords grid words path
   pub has_one : path ≢ []
 
 -- `split ID X Y X Y ..`
-pub record IsSplitLine (words : List (List ℕ)) (id : ℕ) (path : List Corner) : Type 0 where
+pub record IsSplitLine (grid : Grid) (words : List (List ℕ)) (id : ℕ) (path : List Corner) : Type 0 where
   pub parcel : List ℕ
   pub places : List (List ℕ)
   pub are_words : words ≡ codes "split" ∷ parcel ∷ places
   pub is_parcel : IsNumber parcel id
-  pub are_places : ArePath places path
+  pub are_places : ArePath grid places path
 
 -- `merge ID ID`
 pub record IsMergeLine (words : List (List ℕ)) (a b : ℕ) : Type 0 where
@@ -33,37 +35,39 @@ pub record IsMergeLine (words : List (List ℕ)) (a b : ℕ) : Type 0 where
   pub is_second : IsNumber second b
 
 -- `move ID ID X Y X Y ..`
-pub record IsMoveLine (words : List (List ℕ)) (a b : ℕ) (path : List Corner) : Type 0 where
+pub record IsMoveLine (grid : Grid) (words : List (List ℕ)) (a b : ℕ) (path : List Corner) : Type 0 where
   pub first : List ℕ
   pub second : List ℕ
   pub places : List (List ℕ)
   pub are_words : words ≡ codes "move" ∷ first ∷ second ∷ places
   pub is_first : IsNumber first a
   pub is_second : IsNumber second b
-  pub are_places : ArePath places path
+  pub are_places : ArePath grid places path
 
 -- `insert X Y X Y X Y`: the one end of the edge, the other, and the new corner
-pub record IsInsertLine (words : List (List ℕ)) (from to at : Corner) : Type 0 where
+pub record IsInsertLine (grid : Grid) (words : List (List ℕ)) (from to at : Corner) : Type 0 where
   pub places : List (List ℕ)
   pub are_words : words ≡ codes "insert" ∷ places
-  pub are_places : AreCornerWords places (from ∷ to ∷ at ∷ [])
+  pub are_places : AreCornerWords grid places (from ∷ to ∷ at ∷ [])
 
 -- the words say this edit
-abbrev pub SayEdit : {A : Type 0} → List (List ℕ) → Edit A → Type 0
-SayEdit words (Split id path) = IsSplitLine words id path
-SayEdit words (Merge a b) = IsMergeLine words a b
-SayEdit words (Move a b path) = IsMoveLine words a b path
-SayEdit words (Insert from to at) = IsInsertLine words from to at
+abbrev pub SayEdit : {A : Type 0} → Grid → List (List ℕ) → Edit A → Type 0
+SayEdit grid words (Split id path) = IsSplitLine grid words id path
+SayEdit grid words (Merge a b) = IsMergeLine words a b
+SayEdit grid words (Move a b path) = IsMoveLine grid words a b path
+SayEdit grid words (Insert from to at) = IsInsertLine grid words from to at
 
 -- the line has this number and says this edit
-pub record SaysEdit {A : Type 0} (number : ℕ) (line : List ℕ) (entry : ℕ × Edit A) : Type 0 where
+pub record SaysEdit {A : Type 0} (grid : Grid) (number : ℕ) (line : List ℕ) (entry : ℕ × Edit A) : Type 0 where
   pub is_number : entry.0 ≡ number
-  pub is_edit : SayEdit (words_of line) entry.1
+  pub is_edit : SayEdit grid (words_of line) entry.1
 
--- each line is skipped or says an edit, and the list has, in order, the number, from 1, and the edit of each that is not skipped
+-- each line but a first `grid cm` is skipped or says an edit, on the grid that this line names; and the list has, in order, the
+-- number, from 1, and the edit of each that is not skipped
 abbrev pub IsClerkFile : {A : Type 0} → List ℕ → List (ℕ × Edit A) → Type 0
-IsClerkFile bytes list = AreSaid SaysEdit 1 (lines_of bytes) list
+IsClerkFile bytes list = AreSaid (SaysEdit (grid_of (lines_of bytes))) 1 (behind_grid (lines_of bytes)) list
 
--- the number, from 1, of the first line that is not skipped and says no edit (of edits in whatever memory, here none)
+-- the number, from 1, of the first line but a first `grid cm` that is not skipped and says no edit (of edits in whatever memory, here
+-- none)
 abbrev pub IsFirstBadLine : List ℕ → ℕ → Type 0
-IsFirstBadLine bytes n = IsFirstBad (SaysEdit {A = ⊤}) 1 (lines_of bytes) n
+IsFirstBadLine bytes n = IsFirstBad (SaysEdit {A = ⊤} (grid_of (lines_of bytes))) 1 (behind_grid (lines_of bytes)) n

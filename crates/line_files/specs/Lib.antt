@@ -1,4 +1,5 @@
 pub mod TextLines
+pub mod Grids
 pub mod TextNumbers
 pub mod PointLines
 pub mod ClerkFile

@@ -2,3 +2,4 @@
 pub mod Splitting
 pub mod ReadLines
 pub mod EditWords
+pub mod BehindGrid

@@ -6,6 +6,7 @@ ghost use Rattle.line_files.specs.ClerkFile.{IsClerkFile, IsFirstBadLine};
 ghost use Rattle.line_files.specs.declared.clerk.ClerkFault.TheVariants.{Line, NoMemory};
 
 use crate::edit_words::read_edit;
+use crate::grids::split_grid;
 use crate::text_lines::{is_skipped, split_line};
 use ring_edits::Edit;
 use std::alloc::{AllocError, AllocFailed, Allocator};
@@ -43,8 +44,9 @@ impl<T: Drop> From<AllocFailed<T>> for ClerkFault {
 /// - `move ID ID X Y X Y ..`, with one corner or more,
 /// - `insert X Y X Y X Y`, the two ends of an edge and the new corner on it,
 ///
-/// with one space between words. Coordinates are in whole millimetres. Whether an edit can be
-/// carried out is not looked at.
+/// with one space between words. Coordinates are in whole millimetres, or in whole centimetres where
+/// the file's first line is `grid cm`. That line is counted, and is no edit; anywhere else it is a
+/// bad one. Whether an edit can be carried out is not looked at.
 ///
 /// # Errors
 ///
@@ -68,8 +70,8 @@ pub fn read_clerk<A: Allocator + Copy>(
         → IsErrAnd result (λ fault. (fault ≡ Line number) ⊎ (fault ≡ NoMemory)) }
 {
     let mut list = Vec::new(alloc);
-    let mut rest = bytes;
-    let mut number = 0;
+    let (grid, mut rest) = split_grid(bytes);
+    let mut number = u64::from(grid.is_named());
     while !rest.is_empty() {
         let (line, behind) = split_line(rest);
         rest = behind;
@@ -77,7 +79,7 @@ pub fn read_clerk<A: Allocator + Copy>(
         if is_skipped(line) {
             continue;
         }
-        match read_edit(alloc, line)? {
+        match read_edit(alloc, grid, line)? {
             Some(edit) => list.push((number, edit))?,
             None => return Err(ClerkFault::Line(number)),
         }

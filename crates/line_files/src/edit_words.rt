@@ -3,30 +3,36 @@
 ghost use Rattle.std.specs.Prelude.{◌∷◌, ℕ, List, IfSome, IfNone, IfOk, MatchOption, codes};
 ghost use Rattle.geo_exact.specs.declared.corner.Corner.{Corner as CornerValue};
 ghost use Rattle.line_files.specs.ClerkFile.{words_of, ArePath};
+ghost use Rattle.line_files.specs.declared.grids.Grid.{Grid as GridValue};
 ghost use Rattle.line_files.specs.own.EditWords.{TakesNumber, TakesCorner, IsEditOf};
 
-use crate::text_numbers::{read_corner, read_number};
+use crate::grids::Grid;
+use crate::text_numbers::{read_corner_on, read_number};
 use crate::words::Words;
 use geo_exact::{Corner, Corners};
 use ring_edits::Edit;
 use std::alloc::{AllocError, Allocator};
 
-/// The edit that a line says; `None` where it says none.
-pub fn read_edit<A: Allocator + Copy>(alloc: A, line: &[u8]) -> Result<Option<Edit<A>>, AllocError>
-    ensures { IfOk result (IsEditOf (words_of line.now)) }
+/// The edit that a line says, its corners on this grid; `None` where it says none.
+pub fn read_edit<A: Allocator + Copy>(
+    alloc: A,
+    grid: Grid,
+    line: &[u8],
+) -> Result<Option<Edit<A>>, AllocError>
+    ensures { IfOk result (IsEditOf grid (words_of line.now)) }
 {
     let mut words = Words::of(line);
     let Some(name) = words.next() else {
         return Ok(None);
     };
     if name == b"split".as_slice() {
-        read_split(alloc, words)
+        read_split(alloc, grid, words)
     } else if name == b"merge".as_slice() {
         Ok(read_merge(words))
     } else if name == b"move".as_slice() {
-        read_move(alloc, words)
+        read_move(alloc, grid, words)
     } else if name == b"insert".as_slice() {
-        Ok(read_insert(words))
+        Ok(read_insert(grid, words))
     } else {
         Ok(None)
     }
@@ -35,14 +41,15 @@ pub fn read_edit<A: Allocator + Copy>(alloc: A, line: &[u8]) -> Result<Option<Ed
 /// What stands behind the word `split`.
 fn read_split<A: Allocator + Copy>(
     alloc: A,
+    grid: Grid,
     mut words: Words<'_>,
 ) -> Result<Option<Edit<A>>, AllocError>
-    ensures { IfOk result (IsEditOf (codes "split" ∷ words.entry)) }
+    ensures { IfOk result (IsEditOf grid (codes "split" ∷ words.entry)) }
 {
     let Some(id) = take_number(&mut words) else {
         return Ok(None);
     };
-    match read_path(alloc, words)? {
+    match read_path(alloc, grid, words)? {
         Some(path) => Ok(Some(Edit::Split { id, path })),
         None => Ok(None),
     }
@@ -50,7 +57,7 @@ fn read_split<A: Allocator + Copy>(
 
 /// What stands behind the word `merge`.
 fn read_merge<A: Allocator>(mut words: Words<'_>) -> Option<Edit<A>>
-    ensures { IsEditOf (codes "merge" ∷ words.entry) result }
+    ensures { (grid : GridValue) → IsEditOf grid (codes "merge" ∷ words.entry) result }
 {
     let a = take_number(&mut words)?;
     let b = take_number(&mut words)?;
@@ -64,9 +71,10 @@ fn read_merge<A: Allocator>(mut words: Words<'_>) -> Option<Edit<A>>
 /// What stands behind the word `move`.
 fn read_move<A: Allocator + Copy>(
     alloc: A,
+    grid: Grid,
     mut words: Words<'_>,
 ) -> Result<Option<Edit<A>>, AllocError>
-    ensures { IfOk result (IsEditOf (codes "move" ∷ words.entry)) }
+    ensures { IfOk result (IsEditOf grid (codes "move" ∷ words.entry)) }
 {
     let Some(a) = take_number(&mut words) else {
         return Ok(None);
@@ -74,19 +82,19 @@ fn read_move<A: Allocator + Copy>(
     let Some(b) = take_number(&mut words) else {
         return Ok(None);
     };
-    match read_path(alloc, words)? {
+    match read_path(alloc, grid, words)? {
         Some(path) => Ok(Some(Edit::Move { a, b, path })),
         None => Ok(None),
     }
 }
 
 /// What stands behind the word `insert`.
-fn read_insert<A: Allocator>(mut words: Words<'_>) -> Option<Edit<A>>
-    ensures { IsEditOf (codes "insert" ∷ words.entry) result }
+fn read_insert<A: Allocator>(grid: Grid, mut words: Words<'_>) -> Option<Edit<A>>
+    ensures { IsEditOf grid (codes "insert" ∷ words.entry) result }
 {
-    let from = take_corner(&mut words)?;
-    let to = take_corner(&mut words)?;
-    let at = take_corner(&mut words)?;
+    let from = take_corner(grid, &mut words)?;
+    let to = take_corner(grid, &mut words)?;
+    let at = take_corner(grid, &mut words)?;
     if words.is_empty() {
         Some(Edit::Insert { from, to, at })
     } else {
@@ -97,14 +105,15 @@ fn read_insert<A: Allocator>(mut words: Words<'_>) -> Option<Edit<A>>
 /// The corners that all words are; `None` where they are no path.
 fn read_path<A: Allocator + Copy>(
     alloc: A,
+    grid: Grid,
     mut words: Words<'_>,
 ) -> Result<Option<Corners<A>>, AllocError>
-    ensures { IfOk result (λ found. MatchOption found ((path : List CornerValue) → ¬ ArePath words.entry path)
-        (ArePath words.entry)) }
+    ensures { IfOk result (λ found. MatchOption found ((path : List CornerValue) → ¬ ArePath grid words.entry path)
+        (ArePath grid words.entry)) }
 {
     let mut path = Corners::new(alloc);
     while !words.is_empty() {
-        let Some(corner) = take_corner(&mut words) else {
+        let Some(corner) = take_corner(grid, &mut words) else {
             return Ok(None);
         };
         path.push(corner)?;
@@ -126,11 +135,11 @@ fn take_number(words: &mut Words<'_>) -> Option<u64>
 }
 
 /// The corner whose coordinates the next two words are; `None` where they are none.
-fn take_corner(words: &mut Words<'_>) -> Option<Corner>
-    ensures found { IfSome result (λ corner. TakesCorner words.old corner words.new) }
-    ensures none { IfNone result ((corner : CornerValue) → (left : List (List ℕ)) → ¬ TakesCorner words.old corner left) }
+fn take_corner(grid: Grid, words: &mut Words<'_>) -> Option<Corner>
+    ensures found { IfSome result (λ corner. TakesCorner grid words.old corner words.new) }
+    ensures none { IfNone result ((corner : CornerValue) → (left : List (List ℕ)) → ¬ TakesCorner grid words.old corner left) }
 {
     let x = words.next()?;
     let y = words.next()?;
-    read_corner(x, y)
+    read_corner_on(grid, x, y)
 }

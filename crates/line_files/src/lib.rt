@@ -3,11 +3,13 @@
 
 mod clerk;
 mod edit_words;
+mod grids;
 mod points;
 mod text_lines;
 mod text_numbers;
 mod words;
 
 pub use clerk::{ClerkFault, read_clerk};
+pub use grids::Grid;
 pub use points::{PointsFault, read_points};
 pub use text_numbers::{MOST_DIGITS, read_corner};

@@ -6,8 +6,9 @@ ghost use Rattle.line_files.specs.PointLines.{IsPointLine, ArePoints, IsFirstBad
 ghost use Rattle.line_files.specs.own.ReadLines.{IsLine};
 ghost use Rattle.line_files.specs.declared.points.PointsFault.TheVariants.{BadLine, NoMemory};
 
+use crate::grids::{Grid, split_grid};
 use crate::text_lines::{is_skipped, split_at_byte, split_line};
-use crate::text_numbers::read_corner;
+use crate::text_numbers::read_corner_on;
 use geo_exact::Corner;
 use std::alloc::{AllocFailed, Allocator};
 
@@ -28,7 +29,9 @@ impl<T: Drop> From<AllocFailed<T>> for PointsFault {
     }
 }
 
-/// The points of a text, in order: each line is a point `X Y`, in whole millimetres, unless it is skipped.
+/// The points of a text, in order: each line is a point `X Y`, unless it is skipped. Coordinates are in
+/// whole millimetres, or in whole centimetres where the text's first line is `grid cm`. That line is
+/// counted, and is no point; anywhere else it is a bad one.
 ///
 /// # Errors
 ///
@@ -49,13 +52,13 @@ pub fn read_points<A: Allocator>(alloc: A, text: &[u8]) -> Result<Vec<Corner, A>
         → IsErrAnd result (λ fault. (fault ≡ BadLine number) ⊎ (fault ≡ NoMemory)) }
 {
     let mut points = Vec::new(alloc);
-    let mut rest = text;
-    let mut number = 0;
+    let (grid, mut rest) = split_grid(text);
+    let mut number = usize::from(grid.is_named());
     while !rest.is_empty() {
         let (line, behind) = split_line(rest);
         rest = behind;
         number += 1;
-        match read_line(line) {
+        match read_line(grid, line) {
             Line::Skipped => {}
             Line::Point(point) => points.push(point)?,
             Line::Bad => return Err(PointsFault::BadLine(number)),
@@ -71,24 +74,24 @@ enum Line {
     Bad,
 }
 
-/// What a line is.
-fn read_line(line: &[u8]) -> Line
-    ensures { IsLine line.now result }
+/// What a line is, on this grid.
+fn read_line(grid: Grid, line: &[u8]) -> Line
+    ensures { IsLine grid line.now result }
 {
     if is_skipped(line) {
         return Line::Skipped;
     }
-    match read_point(line) {
+    match read_point(grid, line) {
         Some(point) => Line::Point(point),
         None => Line::Bad,
     }
 }
 
-/// The point that a line is; `None` where it is none.
-fn read_point(line: &[u8]) -> Option<Corner>
-    ensures found { IfSome result (IsPointLine line.now) }
-    ensures none { IfNone result ((corner : CornerValue) → ¬ IsPointLine line.now corner) }
+/// The point that a line is, on this grid; `None` where it is none.
+fn read_point(grid: Grid, line: &[u8]) -> Option<Corner>
+    ensures found { IfSome result (IsPointLine grid line.now) }
+    ensures none { IfNone result ((corner : CornerValue) → ¬ IsPointLine grid line.now corner) }
 {
     let (x, y) = split_at_byte(line, b' ')?;
-    read_corner(x, y)
+    read_corner_on(grid, x, y)
 }

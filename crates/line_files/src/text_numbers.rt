@@ -1,12 +1,15 @@
 //! Numbers in texts.
 
-ghost use Rattle.std.specs.Prelude.{◌≡◌, ℕ, ℤ, pos, ◌≤◌, length, IfSome, IfNone};
+ghost use Rattle.std.specs.Prelude.{◌≡◌, ℕ, ℤ, pos, ◌*◌, ◌≤◌, length, IfSome, IfNone};
 ghost use Rattle.std.specs.Str.Parse.{AllDigits, digits_value};
 ghost use Rattle.geo_exact.specs.declared.corner.Corner.{Corner as CornerValue};
 ghost use Rattle.geo_exact.specs.Limit.{IsWithin, limit};
-ghost use Rattle.line_files.specs.TextNumbers.{IsNumber, IsSigned, IsCornerText};
+ghost use Rattle.line_files.specs.Grids.{step};
+ghost use Rattle.line_files.specs.TextNumbers.{IsNumber, IsCoordinate, IsCornerText};
+ghost use Rattle.line_files.specs.declared.grids.Grid.TheVariants.{Millimetres};
 ghost use Rattle.line_files.specs.declared.text_numbers.TheConstants.{MOST_DIGITS};
 
+use crate::grids::Grid;
 use geo_exact::{Corner, LIMIT};
 
 /// The most digits of a number in a text.
@@ -14,35 +17,44 @@ pub const MOST_DIGITS: usize = 19;
 
 /// The corner with these two coordinates, in whole millimetres; `None` where one is no number or beyond the limit.
 pub fn read_corner(x: &[u8], y: &[u8]) -> Option<Corner>
-    ensures found { IfSome result (IsCornerText x.now y.now) }
-    ensures none { IfNone result ((corner : CornerValue) → ¬ IsCornerText x.now y.now corner) }
+    ensures found { IfSome result (IsCornerText Millimetres x.now y.now) }
+    ensures none { IfNone result ((corner : CornerValue) → ¬ IsCornerText Millimetres x.now y.now corner) }
 {
-    let x = read_coordinate(x)?;
-    let y = read_coordinate(y)?;
+    read_corner_on(Grid::Millimetres, x, y)
+}
+
+/// The corner with these two coordinates, on this grid; `None` where one is no number or beyond the limit.
+pub fn read_corner_on(grid: Grid, x: &[u8], y: &[u8]) -> Option<Corner>
+    ensures found { IfSome result (IsCornerText grid x.now y.now) }
+    ensures none { IfNone result ((corner : CornerValue) → ¬ IsCornerText grid x.now y.now corner) }
+{
+    let x = read_coordinate(grid, x)?;
+    let y = read_coordinate(grid, y)?;
     Some(Corner { x, y })
 }
 
-/// The coordinate that a text is; `None` where it is no number, or one beyond the limit.
-fn read_coordinate(text: &[u8]) -> Option<i64>
-    ensures found { IfSome result (λ z. IsSigned text.now z × IsWithin limit z) }
-    ensures none { IfNone result ((z : ℤ) → IsWithin limit z → ¬ IsSigned text.now z) }
+/// The coordinate that a text is, on this grid; `None` where it is no number, or one beyond the limit.
+fn read_coordinate(grid: Grid, text: &[u8]) -> Option<i64>
+    ensures found { IfSome result (λ z. IsCoordinate grid text.now z × IsWithin limit z) }
+    ensures none { IfNone result ((z : ℤ) → IsWithin limit z → ¬ IsCoordinate grid text.now z) }
 {
     let (first, digits) = text.split_first()?;
     if *first == b'-' {
-        Some(-read_distance(digits)?)
+        Some(-read_distance(grid, digits)?)
     } else {
-        read_distance(text)
+        read_distance(grid, text)
     }
 }
 
-/// The distance from 0 that digits are; `None` where they are none, or beyond the limit.
-fn read_distance(digits: &[u8]) -> Option<i64>
-    ensures found { IfSome result (λ z. (n : ℕ) × (z ≡ pos n) × IsNumber digits.now n × IsWithin limit z) }
-    ensures none { IfNone result ((n : ℕ) → IsWithin limit (pos n) → ¬ IsNumber digits.now n) }
+/// The distance from 0 that digits are, in millimetres; `None` where they are none, or beyond the limit.
+fn read_distance(grid: Grid, digits: &[u8]) -> Option<i64>
+    ensures found { IfSome result (λ z. (n : ℕ) × (z ≡ pos (step grid * n)) × IsNumber digits.now n × IsWithin limit z) }
+    ensures none { IfNone result ((n : ℕ) → IsWithin limit (pos (step grid * n)) → ¬ IsNumber digits.now n) }
 {
     let number = read_number(digits)?;
-    if number <= LIMIT.unsigned_abs() {
-        Some(number as i64)
+    let step = grid.step();
+    if number <= LIMIT.unsigned_abs() / step {
+        Some((step * number) as i64)
     } else {
         None
     }

@@ -58,6 +58,27 @@ pub fn told_of<H: Refuses + Send + Sync, R: Threads + Wait + Copy + Send + Sync>
     }
 }
 
+/// What comes of opening an office with the town where a growth is refused. Where it is not opened, the town comes back
+/// as it was, and is opened again with memory, where its first parcel is cut in halves.
+pub fn told_of_opening<H: Refuses + Send + Sync, R: Threads + Wait + Copy + Send + Sync>(
+    rt: R,
+    heap: &H,
+    refused: u64,
+) -> Result<Told, Fail> {
+    match at_office(rt, heap, town(heap)?, (1, 1), refused, Play::Nothing)? {
+        (Some(fabric), Told::Unopened(fault)) if has_parcels(&fabric, WHOLE) => {
+            match at_office(rt, heap, fabric, (1, 1), NONE, Play::Halves)? {
+                (Some(fabric), Told::Done) if has_parcels(&fabric, HALVED) => {
+                    Ok(Told::Unopened(fault))
+                }
+                _ => Err(Fail::new("another office with memory")),
+            }
+        }
+        (Some(fabric), told) if has_parcels(&fabric, WHOLE) => Ok(told),
+        _ => Err(Fail::new("another fabric")),
+    }
+}
+
 /// Places for clerks and windows, a play there, what comes of it, and what the fabric has then.
 type Row = ((usize, usize), Play, Told, Parcels);
 

@@ -2,7 +2,7 @@
 
 use crate::opened::Refuses;
 use crate::plays::{NONE, Play, Told};
-use crate::rows::{HALVED, WHOLE, told_of};
+use crate::rows::{HALVED, told_of, told_of_opening};
 use desk_lock::{Name, OpenFault};
 use refusing_alloc::Refusing;
 use std::sync::Wait;
@@ -20,14 +20,15 @@ fn is_unnamed<H: Refuses>(heap: &H, number: u64) -> bool {
     is_unnamed
 }
 
-/// Opens an office with each growth refused in turn, until none is: how many were.
+/// Opens an office with each growth refused in turn, until none is: how many were. Memory is wanting for each, a reader's
+/// own among them: K3 is told of none.
 fn count_unopened<H: Refuses + Send + Sync, R: Threads + Wait + Copy + Send + Sync>(
     rt: R,
     heap: &H,
 ) -> Result<u64, Fail> {
     for number in 1..MOST {
-        match told_of(rt, heap, (1, 1), number, Play::Nothing, WHOLE)? {
-            Told::Unopened(OpenFault::NoMemory | OpenFault::NoWindow(1)) | Told::Refused => {}
+        match told_of_opening(rt, heap, number)? {
+            Told::Unopened(OpenFault::NoMemory) | Told::Refused => {}
             Told::Done => return Ok(number - 1),
             _ => return Err(Fail::new("another answer")),
         }

@@ -40,7 +40,22 @@ fn told(is_refused: bool, is_wanting: bool, is_so: bool) -> Result<bool, Fail> {
     }
 }
 
-/// Begins a round of both parcels with growth `number` refused; whether it was.
+/// Whether a round of both parcels is begun with memory, and worked off to its table.
+fn is_begun<'t, 'h>(
+    heap: &'h Heap,
+    sheet: &'t Sheet<'h, Heap>,
+    zones: &'t Layer<'h, Heap>,
+) -> Result<bool, Fail> {
+    match Round::new(heap, sheet, zones, lists(heap, (2, &TWO))?) {
+        Ok((round, mut hands)) => {
+            let is_so = do_all(&round, &mut hands, &FIRST_ALONE);
+            Ok(is_closed(round, hands, &BOTH) && is_so)
+        }
+        Err(_) => Ok(false),
+    }
+}
+
+/// Begins a round of both parcels with growth `number` refused, and where it was, once more with memory; whether it was.
 fn is_begin_refused<'t, 'h>(
     heap: &'h Heap,
     sheet: &'t Sheet<'h, Heap>,
@@ -56,7 +71,10 @@ fn is_begin_refused<'t, 'h>(
             let is_so = do_all(&round, &mut hands, &FIRST_ALONE);
             told(is_refused, false, is_closed(round, hands, &BOTH) && is_so)
         }
-        Err(fault) => told(is_refused, fault == RoundFault::NoMemory, true),
+        Err(fault) => {
+            let is_again = is_begun(heap, sheet, zones)?;
+            told(is_refused, fault == RoundFault::NoMemory, is_again)
+        }
     }
 }
 

@@ -5,38 +5,41 @@ use Rattle.std.proofs.Math.Seq.{drop-cons}
 use Rattle.std.proofs.lemmas.List.{length-map}
 use Rattle.geo_exact.specs.declared.corner.Corner.{Corner}
 use Rattle.line_files.specs.TextNumbers.{IsCornerText, AreCornerWords}
+use Rattle.line_files.specs.declared.grids.Grid.{Grid}
 use Rattle.line_files.specs.own.EditWords.{TakesCorner}
 use Rattle.line_files.proofs.CornerWords.{IsReadTo, one_more_read, stuck}
 
 -- two words more
-pub more_corners : (all left : List (List ℕ)) (x y : List ℕ) (corners : List Corner) (corner : Corner)
-    → IsReadTo all (x ∷ y ∷ left) corners
-    → IsCornerText x y corner → IsReadTo all left (corners ++ corner ∷ [])
-more_corners all left x y corners corner h k =
+pub more_corners : (grid : Grid) (all left : List (List ℕ)) (x y : List ℕ) (corners : List Corner) (corner : Corner)
+    → IsReadTo grid all (x ∷ y ∷ left) corners
+    → IsCornerText grid x y corner → IsReadTo grid all left (corners ++ corner ∷ [])
+more_corners grid all left x y corners corner h k =
     one_more_read all (x ∷ y ∷ left) left corners corner h record { x = x; y = y; are_words = refl; is_corner = k }
 
 -- words that are no corners
-same_text : (left rest : List (List ℕ)) (x y : List ℕ) (corner : Corner) → TakesCorner (x ∷ y ∷ left) corner rest
-    → IsCornerText x y corner
-same_text left rest x y corner t =
+same_text : (grid : Grid) (left rest : List (List ℕ)) (x y : List ℕ) (corner : Corner) → TakesCorner grid (x ∷ y ∷ left) corner rest
+    → IsCornerText grid x y corner
+same_text grid left rest x y corner t =
     let ex : t.x ≡ x = cc (t.are_words) in
     let ey : t.y ≡ y = cc (t.are_words) in
-    subst (λ x. IsCornerText x y corner) ex (subst (λ y. IsCornerText t.x y corner) ey t.is_corner)
+    subst (λ x. IsCornerText grid x y corner) ex (subst (λ y. IsCornerText grid t.x y corner) ey t.is_corner)
 
-pub no_corner : (all left : List (List ℕ)) (x y : List ℕ) (corners whole : List Corner) → IsReadTo all (x ∷ y ∷ left) corners
-    → ((corner : Corner) → ¬ IsCornerText x y corner) → ¬ AreCornerWords all whole
-no_corner all left x y corners whole h none w =
+pub no_corner : (grid : Grid) (all left : List (List ℕ)) (x y : List ℕ) (corners whole : List Corner)
+    → IsReadTo grid all (x ∷ y ∷ left) corners
+    → ((corner : Corner) → ¬ IsCornerText grid x y corner) → ¬ AreCornerWords grid all whole
+no_corner grid all left x y corners whole h none w =
     let o = h.only whole w in
-    stuck (x ∷ y ∷ left) (λ e. absurd (cc)) (λ corner rest t. none corner (same_text left rest x y corner t)) o.0 o.1
+    stuck (x ∷ y ∷ left) (λ e. absurd (cc)) (λ corner rest t. none corner (same_text grid left rest x y corner t)) o.0 o.1
 
 -- words that are corners' coordinates are even in number
-even_words : (all : List (List ℕ)) (corners : List Corner) → AreCornerWords all corners → length all ≡ 2 * length corners
-even_words all [] h = ap length h
-even_words all (corner ∷ corners) h = omega (arith, even_words h.2 corners h.5, ap length h.3)
+even_words : (grid : Grid) (all : List (List ℕ)) (corners : List Corner) → AreCornerWords grid all corners → length all ≡ 2 * length corners
+even_words grid all [] h = ap length h
+even_words grid all (corner ∷ corners) h = omega (arith, even_words grid h.2 corners h.5, ap length h.3)
 
-pub odd_words : {A : Type 0} (text : A → List ℕ) (words : List A) (corners : List Corner) → (length words % 2 ≡ 0 → ⊥)
-    → ¬ AreCornerWords (map text words) corners
-odd_words text words corners odd h = absurd (odd (let e = even_words (map text words) corners h in omega (arith, e, length-map words text)))
+pub odd_words : {A : Type 0} (grid : Grid) (text : A → List ℕ) (words : List A) (corners : List Corner) → (length words % 2 ≡ 0 → ⊥)
+    → ¬ AreCornerWords grid (map text words) corners
+odd_words grid text words corners odd h =
+    absurd (odd (let e = even_words grid (map text words) corners h in omega (arith, e, length-map words text)))
 
 -- two words, and those behind them
 pub two_left : (words : List (Bor (List ℕ))) (d : Bor (List ℕ)) (i j k : ℕ) (x y : List ℕ)

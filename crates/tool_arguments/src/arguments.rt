@@ -3,6 +3,7 @@ ghost use Rattle.clap.specs.Words.{first_value, found_of};
 ghost use Rattle.geo_exact.specs.declared.corner.Corner.{Corner};
 ghost use Rattle.overlay_work.specs.declared.round.TheConstants.{MOST_HANDS};
 ghost use Rattle.line_files.specs.TextNumbers.{AreCornerWords};
+ghost use Rattle.line_files.specs.declared.grids.Grid.TheVariants.{Millimetres};
 ghost use Rattle.tool_arguments.specs.Arguments.{unit_word};
 ghost use Rattle.geo_exact.specs.declared.coord.Unit.{Unit as LengthUnit};
 
@@ -219,9 +220,9 @@ fn points_of<'a>(alloc: Global, given: &ArgMatches<'a>) -> Result<Option<Points<
 
 /// The corners whose coordinates the words are, two and two; `None` where they are none.
 fn corners_of(alloc: Global, words: &[&str]) -> Result<Option<Corners<Global>>, AllocError>
-    ensures found { IfOk result (λ corners. IfSome corners (AreCornerWords (map (λ word. word.now) words.now))) }
+    ensures found { IfOk result (λ corners. IfSome corners (AreCornerWords Millimetres (map (λ word. word.now) words.now))) }
     ensures none { IfOk result (λ corners. IfNone corners
-        ((list : List Corner) → ¬ AreCornerWords (map (λ word. word.now) words.now) list)) }
+        ((list : List Corner) → ¬ AreCornerWords Millimetres (map (λ word. word.now) words.now) list)) }
 {
     if words.len() % 2 != 0 {
         return Ok(None);

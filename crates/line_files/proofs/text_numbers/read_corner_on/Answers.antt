@@ -1,4 +1,4 @@
-use Rattle.line_files.proofs.text_numbers.read_corner.Goals as goal
+use Rattle.line_files.proofs.text_numbers.read_corner_on.Goals as goal
 
 pub returns-in_err-y-clause-none : goal.returns-in_err-y-clause-none
 returns-in_err-y-clause-none c =

@@ -1,0 +1,205 @@
+//! Each growth of opening a fabric, of copying it and of taking a sheet refused in turn; and what a fabric and a sheet answer
+//! to a search, beside a scan of all parcels.
+
+use crate::changes::take;
+use crate::refused_edits::{Heap, are_alike, was_refused};
+use crate::steps::INTO_HALVES;
+use fabric_core::{At, Fabric, Sheet};
+use geo_exact::{Corner, RING_CORNERS};
+use refusing_alloc::Refusing;
+use ring_core::{Side, side_of};
+use std::alloc::{AllocError, Allocator};
+use std::test::Fail;
+use test_builders::corner;
+use test_cities::{RINGS, SQUARE, fabric, layer};
+
+/// No call here has so many growths.
+const MOST: u64 = 1000;
+
+/// Opens a fabric with growth `number` refused, and where the layer then comes back, opens that; whether it was refused.
+fn is_opening_refused<'a>(
+    heap: &'a Heap,
+    want: &Fabric<'a, Heap>,
+    number: u64,
+) -> Result<bool, Fail> {
+    let layer = layer(heap, &SQUARE, &RINGS)?;
+    heap.refuse(number);
+    let opened = Fabric::open(layer);
+    let is_refused = was_refused(heap);
+    if opened.is_err() != is_refused {
+        return Err(Fail::new("a refusal is told, and nothing else is"));
+    }
+    let opened = match opened {
+        Ok(fabric) => Ok(fabric),
+        Err(layer) => Fabric::open(layer),
+    };
+    match opened {
+        Ok(fabric) if are_alike(&fabric, want)? => Ok(is_refused),
+        _ => Err(Fail::new("another fabric")),
+    }
+}
+
+#[test]
+fn opens_again(rt: HostRuntime) -> Result<(), Fail> {
+    let heap = Refusing::new(rt.alloc(), 0);
+    let want = fabric(&heap, &SQUARE, &RINGS)?;
+    for number in 1..MOST {
+        if !is_opening_refused(&heap, &want, number)? {
+            assert!(rt; number > 1);
+            return Ok(());
+        }
+    }
+    Err(Fail::new("each growth was refused"))
+}
+
+/// Copies a fabric with growth `number` refused, and where it was, once more; whether it was.
+fn is_copying_refused(heap: &Heap, fabric: &Fabric<'_, Heap>, number: u64) -> Result<bool, Fail> {
+    heap.refuse(number);
+    let copy = fabric.copy();
+    let is_refused = was_refused(heap);
+    if copy.is_err() != is_refused {
+        return Err(Fail::new("a refusal is told, and nothing else is"));
+    }
+    let copy = match copy {
+        Ok(copy) => copy,
+        Err(_) => fabric.copy()?,
+    };
+    if !are_alike(&copy, fabric)? {
+        return Err(Fail::new("another fabric"));
+    }
+    Ok(is_refused)
+}
+
+/// Whether a place is located, by this answer, where the rings of all parcels of a fabric say that it is.
+fn is_scanned<H: Allocator>(
+    heap: &H,
+    fabric: &Fabric<'_, H>,
+    place: Corner,
+    answer: &At<&H>,
+) -> Result<bool, Fail> {
+    let mut on_edge = Vec::new(heap);
+    let mut inside = None;
+    for (id, shape) in fabric.shapes() {
+        let ring = shape.ring.corners.as_slice();
+        if ring.len() > RING_CORNERS {
+            return Err(Fail::new("a ring that no layer has"));
+        }
+        match side_of(ring, place) {
+            Side::Inside => inside = Some(id),
+            Side::OnEdge => on_edge.push(id)?,
+            Side::Outside => {}
+        }
+    }
+    Ok(match answer {
+        At::OnEdge(ids) => !ids.is_empty() && ids.as_slice() == on_edge.as_slice(),
+        At::Inside(id) => on_edge.is_empty() && inside == Some(*id),
+        At::Outside => on_edge.is_empty() && inside.is_none(),
+    })
+}
+
+/// The candidates between two corners: of a sheet, and of its fabric.
+fn between<'a, H: Allocator>(
+    fabric: &Fabric<'a, H>,
+    sheet: &Sheet<'a, H>,
+    low: Corner,
+    high: Corner,
+) -> Result<Result<(Vec<u64, &'a H>, Vec<u64, &'a H>), AllocError>, Fail> {
+    if low.x > high.x || low.y > high.y {
+        return Err(Fail::new("no box"));
+    }
+    let of_sheet = sheet.candidates(low, high)?;
+    Ok(Ok((of_sheet, fabric.candidates(low, high)?)))
+}
+
+/// Boxes among the three parcels behind the cut, and the candidates between their corners: cells are two wide.
+static BOXES: [((i64, i64), (i64, i64), &[u64]); 4] = [
+    ((0, 0), (10, 10), &[3]),
+    ((30, 0), (30, 100), &[3, 4]),
+    ((62, 0), (100, 100), &[2]),
+    ((0, 0), (100, 100), &[2, 3, 4]),
+];
+
+/// Whether a sheet shows what its fabric shows, and both answer searches as they have to.
+fn is_sheet_of<'a>(
+    heap: &'a Heap,
+    fabric: &Fabric<'a, Heap>,
+    sheet: &Sheet<'a, Heap>,
+) -> Result<bool, Fail> {
+    if !sheet.ids().eq(fabric.ids()) || sheet.entries() != fabric.entries() {
+        return Ok(false);
+    }
+    if sheet.city() != fabric.city() || sheet.refined() != fabric.refined() {
+        return Ok(false);
+    }
+    for ((_, shape), (_, it)) in sheet.shapes().zip(fabric.shapes()) {
+        if shape.ring.corners != it.ring.corners {
+            return Ok(false);
+        }
+    }
+    for (low, high, want) in &BOXES {
+        let (of_sheet, of_fabric) = between(fabric, sheet, corner(*low)?, corner(*high)?)??;
+        if of_sheet.as_slice() != *want || of_fabric.as_slice() != *want {
+            return Ok(false);
+        }
+    }
+    for place in &[(10, 10), (30, 50), (60, 50), (80, 1), (60, 0), (101, 5)] {
+        let place = corner(*place)?;
+        let is_so = is_scanned(heap, fabric, place, &sheet.locate(place)?)?
+            && is_scanned(heap, fabric, place, &fabric.locate(place)?)?;
+        if !is_so {
+            return Ok(false);
+        }
+    }
+    Ok(true)
+}
+
+/// Takes a sheet with growth `number` refused, and where it was, once more; whether it was.
+fn is_sheet_refused<'a>(
+    heap: &'a Heap,
+    fabric: &Fabric<'a, Heap>,
+    number: u64,
+) -> Result<bool, Fail> {
+    heap.refuse(number);
+    let sheet = fabric.sheet();
+    let is_refused = was_refused(heap);
+    if sheet.is_err() != is_refused {
+        return Err(Fail::new("a refusal is told, and nothing else is"));
+    }
+    let sheet = match sheet {
+        Ok(sheet) => sheet,
+        Err(_) => fabric.sheet()?,
+    };
+    if !is_sheet_of(heap, fabric, &sheet)? {
+        return Err(Fail::new("another sheet"));
+    }
+    Ok(is_refused)
+}
+
+/// The first growth of a copy, or of a sheet, that is not made any more.
+fn first_unrefused<'a>(
+    heap: &'a Heap,
+    fabric: &Fabric<'a, Heap>,
+    is_of_sheet: bool,
+) -> Result<u64, Fail> {
+    for number in 1..MOST {
+        let is_refused = if is_of_sheet {
+            is_sheet_refused(heap, fabric, number)?
+        } else {
+            is_copying_refused(heap, fabric, number)?
+        };
+        if !is_refused {
+            return Ok(number);
+        }
+    }
+    Err(Fail::new("each growth was refused"))
+}
+
+#[test]
+fn copies_again(rt: HostRuntime) -> Result<(), Fail> {
+    let heap = Refusing::new(rt.alloc(), 0);
+    let mut fabric = fabric(&heap, &SQUARE, &RINGS)?;
+    take(&heap, &mut fabric, &INTO_HALVES)?;
+    assert!(rt; first_unrefused(&heap, &fabric, false)? > 10);
+    assert!(rt; first_unrefused(&heap, &fabric, true)? > 10);
+    Ok(())
+}

@@ -1,0 +1,238 @@
+//! Each growth of an edit refused in turn: the answer is want of memory, nothing has changed, and the
+//! same edit with memory is answered as its row says and leads to the same fabric.
+
+use crate::changes::{CLERK, Change, Step, edit_of, take};
+use crate::follows::is_same_entry;
+use crate::steps::{BACK_TO_ONE, INTO_HALVES, OF_TWO, WESTWARD};
+use fabric_core::{Fabric, Refusal};
+use geo_exact::Corner;
+use refusing_alloc::Refusing;
+use ring_edits::Edit;
+use std::alloc::{Allocator, Global};
+use std::test::Fail;
+use test_builders::corner;
+use test_cities::{RINGS, SQUARE, fabric};
+
+/// No edit here has so many growths.
+const MOST: u64 = 1000;
+
+/// The heap of the tests here.
+pub type Heap = Refusing<Global>;
+
+/// Where the boxes begin between which candidates are compared, on both axes; each is 25 wide and high.
+static BEGINNINGS: [i64; 5] = [-20, 0, 25, 50, 75];
+
+/// Ends the refusing of growths; whether one was refused.
+pub fn was_refused(heap: &Heap) -> bool {
+    let is_refused = heap.is_spent();
+    heap.refuse(0);
+    is_refused
+}
+
+/// Whether both have the same candidates between two corners.
+fn are_alike_between<H: Allocator>(
+    fabric: &Fabric<'_, H>,
+    other: &Fabric<'_, H>,
+    low: Corner,
+    high: Corner,
+) -> Result<bool, Fail> {
+    if low.x > high.x || low.y > high.y {
+        return Err(Fail::new("no box"));
+    }
+    let found = fabric.candidates(low, high)?;
+    Ok(found.as_slice() == other.candidates(low, high)?.as_slice())
+}
+
+/// Whether the indexes of both say the same of every box.
+fn are_indexed_alike<H: Allocator>(
+    fabric: &Fabric<'_, H>,
+    other: &Fabric<'_, H>,
+) -> Result<bool, Fail> {
+    for x in &BEGINNINGS {
+        for y in &BEGINNINGS {
+            let low = corner((*x, *y))?;
+            let high = corner((x.saturating_add(25), y.saturating_add(25)))?;
+            if !are_alike_between(fabric, other, low, high)? {
+                return Ok(false);
+            }
+        }
+    }
+    Ok(true)
+}
+
+/// Whether both have the same journal.
+fn have_same_journal<H: Allocator>(fabric: &Fabric<'_, H>, other: &Fabric<'_, H>) -> bool {
+    let entries = fabric.journal();
+    let others = other.journal();
+    entries.len() == others.len()
+        && entries
+            .iter()
+            .zip(others)
+            .all(|(entry, it)| is_same_entry(entry, it))
+}
+
+/// Whether both show the same rows, rings of the city, journal and index.
+pub fn are_alike<H: Allocator>(
+    fabric: &Fabric<'_, H>,
+    other: &Fabric<'_, H>,
+) -> Result<bool, Fail> {
+    if fabric.ids().count() != other.ids().count() {
+        return Ok(false);
+    }
+    for ((id, shape), (number, it)) in fabric.shapes().zip(other.shapes()) {
+        if id != number || shape.ring.corners != it.ring.corners {
+            return Ok(false);
+        }
+    }
+    let are_same = fabric.city() == other.city()
+        && fabric.refined() == other.refined()
+        && fabric.entries() == other.entries()
+        && have_same_journal(fabric, other);
+    Ok(are_same && are_indexed_alike(fabric, other)?)
+}
+
+/// The answer to an edit: the number of its entry, or why it is refused.
+fn answer<'a, H: Allocator>(
+    fabric: &mut Fabric<'a, H>,
+    edit: &Edit<&'a H>,
+) -> Result<u64, Refusal> {
+    let entry = fabric.edit(CLERK, edit)?;
+    Ok(entry.number())
+}
+
+/// An edit of a fabric, its answer, an edit behind it that is accepted, and the fabric after both.
+#[derive(Drop)]
+struct Trial<'f, 'a> {
+    heap: &'a Heap,
+    before: &'f Fabric<'a, Heap>,
+    edit: Edit<&'a Heap>,
+    want: Result<u64, Refusal>,
+    probe: Edit<&'a Heap>,
+    behind: Fabric<'a, Heap>,
+}
+
+/// Whether the edit behind that of a trial leads to the same fabric, so that the next id is the same too.
+fn ends_alike<'a>(trial: &Trial<'_, 'a>, fabric: &mut Fabric<'a, Heap>) -> Result<bool, Fail> {
+    Ok(answer(fabric, &trial.probe).is_ok() && are_alike(fabric, &trial.behind)?)
+}
+
+/// Makes the edit of a copy with growth `number` refused, and where memory is then wanting, which changes nothing, once
+/// more; whether it was refused. A growth that is only made ahead may be refused and not be wanting.
+fn is_edit_refused<'a>(trial: &Trial<'_, 'a>, number: u64) -> Result<bool, Fail> {
+    let mut fabric = trial.before.copy()?;
+    trial.heap.refuse(number);
+    let mut told = answer(&mut fabric, &trial.edit);
+    let is_refused = was_refused(trial.heap);
+    if is_refused && told == Err(Refusal::NoMemory) {
+        if !are_alike(&fabric, trial.before)? {
+            return Err(Fail::new("a refused edit changed something"));
+        }
+        told = answer(&mut fabric, &trial.edit);
+    }
+    if told != trial.want {
+        return Err(Fail::new("another answer"));
+    }
+    if !ends_alike(trial, &mut fabric)? {
+        return Err(Fail::new("another fabric"));
+    }
+    Ok(is_refused)
+}
+
+/// The trial of a step.
+fn trial_of<'f, 'a>(
+    heap: &'a Heap,
+    before: &'f Fabric<'a, Heap>,
+    step: &Step,
+    probe: Change,
+) -> Result<Trial<'f, 'a>, Fail> {
+    let edit = edit_of(heap, step.0)?;
+    let probe = edit_of(heap, probe)?;
+    let mut behind = before.copy()?;
+    if answer(&mut behind, &edit) != step.1 || answer(&mut behind, &probe).is_err() {
+        return Err(Fail::new("another answer"));
+    }
+    Ok(Trial {
+        heap,
+        before,
+        edit,
+        want: step.1,
+        probe,
+        behind,
+    })
+}
+
+/// How many growths of a step's edit are refused in turn, before there is none of that number.
+fn growths_of<'a>(
+    heap: &'a Heap,
+    before: &Fabric<'a, Heap>,
+    step: &Step,
+    probe: Change,
+) -> Result<u64, Fail> {
+    let trial = trial_of(heap, before, step, probe)?;
+    for number in 1..MOST {
+        if !is_edit_refused(&trial, number)? {
+            return Ok(number - 1);
+        }
+    }
+    Err(Fail::new("each growth was refused"))
+}
+
+/// Refuses each growth of each step in turn, and then makes the step: how many growths each accepted edit has at least.
+fn take_refused<'a>(
+    heap: &'a Heap,
+    fabric: &mut Fabric<'a, Heap>,
+    steps: &[Step],
+    probes: &[Change],
+) -> Result<u64, Fail> {
+    let mut least = MOST;
+    for (at, step) in steps.iter().enumerate() {
+        let Some(probe) = probes.get(at) else {
+            return Err(Fail::new("no edit behind"));
+        };
+        let growths = growths_of(heap, fabric, step, *probe)?;
+        if step.1.is_ok() {
+            least = least.min(growths);
+        }
+        take(heap, fabric, &steps[at..at + 1])?;
+    }
+    Ok(least)
+}
+
+/// What is done behind each step into halves: both parcels are merged, or the halves.
+static BEHIND_HALVES: [Change; 4] = [
+    Change::Merge(1, 2),
+    Change::Merge(1, 2),
+    Change::Merge(3, 4),
+    Change::Merge(3, 4),
+];
+
+/// What is done behind each step back to one parcel.
+static BEHIND_ONE: [Change; 2] = [Change::Merge(2, 5), Change::Merge(2, 5)];
+
+#[test]
+fn cuts_and_merges(rt: HostRuntime) -> Result<(), Fail> {
+    let heap = Refusing::new(rt.alloc(), 0);
+    let mut fabric = fabric(&heap, &SQUARE, &RINGS)?;
+    assert!(rt; take_refused(&heap, &mut fabric, &INTO_HALVES, &BEHIND_HALVES)? > 3);
+    assert!(rt; take_refused(&heap, &mut fabric, &BACK_TO_ONE, &BEHIND_ONE)? > 3);
+    Ok(())
+}
+
+#[test]
+fn edits_of_two(rt: HostRuntime) -> Result<(), Fail> {
+    let heap = Refusing::new(rt.alloc(), 0);
+    let fabric = fabric(&heap, &SQUARE, &RINGS)?;
+    for step in &OF_TWO {
+        let is_moved = step.1 == Ok(1);
+        let probe = if is_moved {
+            Change::Merge(3, 4)
+        } else {
+            Change::Move(1, 2, &WESTWARD)
+        };
+        growths_of(&heap, &fabric, step, probe)?;
+        if is_moved {
+            return Ok(());
+        }
+    }
+    Err(Fail::new("no border was moved"))
+}

@@ -1,0 +1,15 @@
+"""From a GIS to the proved verdict and back: `prepare`, `check`, `area`, `locate`, `overlay`, `apply`, `report`, `back`.
+
+What is exact comes from the proved program `parcel_tool`; what is measured in floating point is said to be so.
+"""
+from .api import apply, area, check, locate, overlay
+from .back import back
+from .edits import Insert, Merge, Move, Split
+from .errors import Refused
+from .prepare import prepare
+from .prepared import Prepared, load
+from .report import Report, report
+
+__all__ = ["Insert", "Merge", "Move", "Prepared", "Refused", "Report", "Split", "apply", "area", "back", "check", "load",
+           "locate", "overlay", "prepare", "report"]
+__version__ = "0.1.0"

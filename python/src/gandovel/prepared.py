@@ -1,0 +1,206 @@
+"""What `prepare` makes: layers in whole millimetres, whose rows know the parcels that they came from; kept in a folder."""
+from __future__ import annotations
+
+import csv
+import json
+import os
+import shutil
+from dataclasses import dataclass, field
+from pathlib import Path
+from typing import Any, Dict, List, Optional, Sequence, Tuple, Union
+
+import geopandas as gpd
+import numpy as np
+from shapely.geometry import Point, Polygon
+
+from .errors import Refused
+from .gpkg import write_layers
+from .layer_files import read_rings, write_rings
+
+OUT = "OUT"
+OUT_ROW = -1
+
+
+@dataclass
+class Rows:
+    """The rows of a layer: record i + 1 is `rings[i]`, (k, 2) int64 in mm; row `source[i]` of the layer, its part `part[i]`.
+
+    A row of -1 is the area outside (`OUT`), which `frame` adds.
+    """
+
+    rings: List[np.ndarray] = field(default_factory=list)
+    source: List[int] = field(default_factory=list)
+    part: List[int] = field(default_factory=list)
+
+
+@dataclass
+class Island:
+    """A connected part of the register: the city's ring, and the rows of parcels and zones in it."""
+
+    city: np.ndarray
+    parcels: Rows
+    zones: Optional[Rows] = None
+
+
+@dataclass
+class Prepared:
+    """A register on the grid. `scale` is millimetres per unit of `parcels.crs`; areas and coordinates of rows are exact.
+
+    `parcels` and `zones` are the layers as they were given; `numbers` and `zone_names` their own numbers, row by row.
+    `moved` has arrays x, y (as they were, in the layer's unit), to (n, 2) int64 mm, move (mm, measured), layer and row.
+    """
+
+    parcels: gpd.GeoDataFrame
+    numbers: List[str]
+    number: str
+    scale: float
+    islands: List[Island]
+    zones: Optional[gpd.GeoDataFrame] = None
+    zone_names: List[str] = field(default_factory=list)
+    zone: str = ""
+    moved: Dict[str, np.ndarray] = field(default_factory=dict)
+    told: Dict[str, Any] = field(default_factory=dict)
+
+    @property
+    def crs(self) -> Any:
+        """The layer's projection."""
+        return self.parcels.crs
+
+    def number_of(self, row: int) -> str:
+        """The number of a row of the parcels; `OUT` for the area outside."""
+        return OUT if row < 0 else self.numbers[row]
+
+    def zone_of(self, row: int) -> str:
+        """The name of a row of the zones; `OUT` for the area outside."""
+        return OUT if row < 0 else self.zone_names[row]
+
+    def polygon(self, ring: Sequence[Any], holes: Sequence[Any] = ()) -> Polygon:
+        """A ring in mm, with holes, as a polygon in the layer's projection."""
+        return Polygon(self.in_units(ring), [self.in_units(hole) for hole in holes])
+
+    def in_units(self, corners: Sequence[Any]) -> np.ndarray:
+        """Corners in mm (k, 2), whole or fractions, in the layer's unit."""
+        return np.asarray(corners, dtype=float) / self.scale
+
+    def frame(self, role: str = "parcels") -> gpd.GeoDataFrame:
+        """The rows of all islands in the layer's projection: island, record, number, FID, part, geometry."""
+        table: Dict[str, List[Any]] = {name: [] for name in ("island", "record", "number", "FID", "part", "geometry")}
+        for at, island in enumerate(self.islands, 1):
+            rows = getattr(island, role) or Rows()
+            for record, (ring, source, part) in enumerate(zip(rows.rings, rows.source, rows.part), 1):
+                number = self.number_of(source) if role == "parcels" else self.zone_of(source)
+                for name, value in zip(table, (at, record, number, source, part, self.polygon(ring))):
+                    table[name].append(value)
+        return gpd.GeoDataFrame(table, geometry="geometry", crs=self.crs)
+
+    def summary(self) -> str:
+        """One line: how many parcels gave how many rings, corners put in, the largest move, zones."""
+        rings = sum(row != OUT_ROW for island in self.islands for row in island.parcels.source)
+        count = len(self.numbers)
+        more = f" ({rings - count} more for holes and parts)" if rings != count else ""
+        text = f"{count} parcels -> {rings} rings{more}; {self.told['put_in']} corners put in; "
+        text += f"largest move {self.told['largest_move']:.2f} mm"
+        if self.zones is not None:
+            zone_rings = sum(len(island.zones.rings) for island in self.islands)
+            text += f"; zones: {len(self.zone_names)} -> {zone_rings} rings"
+        if len(self.islands) > 1:
+            text += f"; {len(self.islands)} islands"
+        return text
+
+    def folders(self, work: Path) -> List[Path]:
+        """The folders of the islands: the work folder itself where there is one island."""
+        return [work] if len(self.islands) == 1 else [work / f"island_{i}" for i in range(1, len(self.islands) + 1)]
+
+    def save(self, work: Union[str, Path]) -> None:
+        """Writes the folder whole or not at all. One that was there is replaced where `prepare` made it, else P14."""
+        work = Path(work)
+        if work.exists() and (not work.is_dir() or (any(work.iterdir()) and not (work / "prepared.json").is_file())):
+            raise Refused("P14", f"{work} is there and no folder that prepare made")
+        aside = work.with_name(f".{os.getpid()}.{work.name}")
+        try:
+            aside.mkdir(parents=True)
+            self._write(aside)
+            _put_in_place(aside, work)
+        except OSError as fault:
+            raise Refused("P14", f"{work} can't be written: {fault}") from fault
+        finally:
+            shutil.rmtree(aside, ignore_errors=True)
+
+    def _write(self, folder: Path) -> None:
+        for island, place in zip(self.islands, self.folders(folder)):
+            place.mkdir(exist_ok=True)
+            write_rings(place / "city.shp", [island.city])
+            write_rings(place / "parcels.shp", island.parcels.rings)
+            self._write_rows(place / "rows.csv", island.parcels, self.number, self.number_of)
+            if island.zones is not None:
+                write_rings(place / "zones.shp", island.zones.rings)
+                self._write_rows(place / "zone_rows.csv", island.zones, self.zone or "zone", self.zone_of)
+        write_layers(folder / "moved.gpkg", [("moved", self.moved_frame())], {})
+        layers = [("parcels", self.parcels)] + ([("zones", self.zones)] if self.zones is not None else [])
+        write_layers(folder / "register.gpkg", layers, {})
+        facts = {"number": self.number, "zone": self.zone, "scale": self.scale, "islands": len(self.islands),
+                 "zones": self.zones is not None, "crs": self.crs.to_wkt() if self.crs is not None else None,
+                 "numbers": self.numbers, "zone_names": self.zone_names, "told": self.told}
+        (folder / "prepared.json").write_text(json.dumps(facts))
+
+    @staticmethod
+    def _write_rows(path: Path, rows: Rows, number: str, named: Any) -> None:
+        with open(path, "w", newline="", encoding="utf-8") as file:
+            writer = csv.writer(file)
+            writer.writerow(["record", number, "FID", "part"])
+            writer.writerows((record, named(source), source, part)
+                             for record, (source, part) in enumerate(zip(rows.source, rows.part), 1))
+
+    def moved_frame(self) -> gpd.GeoDataFrame:
+        """Each corner that moved, where it was: layer, number, move_mm (measured), x_mm and y_mm (where it is now)."""
+        moved = self.moved
+        if not moved:
+            return gpd.GeoDataFrame({"layer": [], "number": [], "move_mm": [], "x_mm": [], "y_mm": []}, geometry=[], crs=self.crs)
+        names = (self.numbers, self.zone_names)
+        owners = [names[layer][row] if layer < 2 and row >= 0 else None
+                  for layer, row in zip(moved["layer"].tolist(), moved["row"].tolist())]
+        roles = [("parcels", "zones", "city")[layer] for layer in moved["layer"].tolist()]
+        table = {"layer": roles, "number": owners, "move_mm": moved["move"], "x_mm": moved["to"][:, 0],
+                 "y_mm": moved["to"][:, 1]}
+        return gpd.GeoDataFrame(table, geometry=gpd.points_from_xy(moved["x"], moved["y"]), crs=self.crs)
+
+
+def _put_in_place(aside: Path, work: Path) -> None:
+    former = work.with_name(f".{os.getpid()}.former.{work.name}")
+    if work.exists():
+        os.replace(work, former)
+    os.replace(aside, work)
+    shutil.rmtree(former, ignore_errors=True)
+
+
+def load(work: Union[str, Path]) -> Prepared:
+    """What `Prepared.save` wrote. Refused P1 where the folder is no such one, or is torn."""
+    work = Path(work)
+    try:
+        facts = json.loads((work / "prepared.json").read_text())
+        register = str(work / "register.gpkg")
+        parcels = gpd.read_file(register, layer="parcels")
+        zones = gpd.read_file(register, layer="zones") if facts["zones"] else None
+        prepared = Prepared(parcels, facts["numbers"], facts["number"], facts["scale"], [None] * facts["islands"], zones,
+                            facts["zone_names"], facts["zone"], told=facts["told"])
+        prepared.islands = [_island(folder, facts["zones"]) for folder in prepared.folders(work)]
+        return prepared
+    except Refused:
+        raise
+    except Exception as fault:
+        raise Refused("P1", f"{work} is no folder that prepare made, or is torn: {fault}") from fault
+
+
+def _island(folder: Path, zones: bool) -> Island:
+    city = read_rings(folder / "city.shp")
+    return Island(city[0], _rows(folder, "parcels.shp", "rows.csv"),
+                  _rows(folder, "zones.shp", "zone_rows.csv") if zones else None)
+
+
+def _rows(folder: Path, main: str, table: str) -> Rows:
+    rings = read_rings(folder / main)
+    with open(folder / table, newline="", encoding="utf-8") as file:
+        lines = list(csv.reader(file))[1:]
+    if len(lines) != len(rings):
+        raise Refused("P1", f"{folder / table} has {len(lines)} rows, and {main} {len(rings)} records")
+    return Rows(rings, [int(line[2]) for line in lines], [int(line[3]) for line in lines])

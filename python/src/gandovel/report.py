@@ -1,0 +1,267 @@
+"""The report on a prepared register: its gaps and overlaps, and the parcels that zones split, as a GeoPackage."""
+from __future__ import annotations
+
+import csv
+import io
+import os
+import tempfile
+from collections import defaultdict
+from dataclasses import dataclass, field
+from fractions import Fraction
+from pathlib import Path
+from typing import Any, Dict, List, Optional, Tuple, Union
+
+import geopandas as gpd
+import numpy as np
+import pandas as pd
+from shapely.geometry import MultiPolygon, Polygon
+from shapely.ops import unary_union
+
+from .errors import Refused
+from .gpkg import write_layers
+from .prepared import OUT_ROW, Island, Prepared
+from .progress import Progress
+from .styles import STYLES
+from .verdicts import LayerFaults, checked, island_pairs, layer_faults, numbers_at, write_island
+
+SQUARE_METRE = 1_000_000
+SHOWN = 8
+
+
+@dataclass
+class Report:
+    """What the program says of a register. Areas of `gaps` and `overlaps` are exact; those of `parts` are measured.
+
+    Frames in the register's projection: `gaps`, `overlaps` (layer, area2_mm2, area_m2, numbers, depth), `split` (number,
+    zones, zone_count, sliver), `parts` (number, zone, area_m2, share, sliver), `parcels` (number, records, status), `zones`.
+    """
+
+    gaps: gpd.GeoDataFrame
+    overlaps: gpd.GeoDataFrame
+    split: gpd.GeoDataFrame
+    parts: gpd.GeoDataFrame
+    parcels: gpd.GeoDataFrame
+    zones: Optional[gpd.GeoDataFrame]
+    min_area: float
+    beyond: List[str] = field(default_factory=list)
+
+    def summary(self) -> str:
+        """One line: gaps and overlaps with their areas, and how many parcels are split."""
+        texts = [_told(self, "parcels")]
+        if self.zones is not None:
+            if (self.gaps["layer"] == "zones").any() or (self.overlaps["layer"] == "zones").any():
+                texts.append(f"zones: {_told(self, 'zones')}")
+            slivers = int(self.split["sliver"].sum())
+            few = f", {slivers} of them by less than {self.min_area:g} m2 (measured)" if slivers else ""
+            texts.append(f"{_count(len(self.split), 'parcel')} split{few}")
+        if self.beyond:
+            texts.append(f"{_count(len(self.beyond), 'parcel')} beyond the city, whose zones are not known")
+        return "; ".join(texts)
+
+    def save(self, path: Union[str, Path]) -> None:
+        """Writes the GeoPackage and `split.csv` beside it, each under another name first."""
+        path = Path(path)
+        layers = [("parcels", self.parcels), ("gaps", self.gaps), ("overlaps", self.overlaps), ("split", self.split),
+                  ("split_parts", self.parts)]
+        if self.zones is not None:
+            layers.insert(1, ("zones", self.zones))
+        write_layers(path, layers, STYLES)
+        if self.zones is not None:
+            _write_text(path.with_name("split.csv"), self.table())
+
+    def table(self) -> str:
+        """`split.csv`: one line for each part of a split parcel."""
+        text = io.StringIO()
+        writer = csv.writer(text, lineterminator="\n")
+        writer.writerow(["parcel_no", "zone", "area_m2", "share", "sliver", "areas"])
+        for number, zone, area, share, sliver in zip(*(self.parts[name] for name in ("number", "zone", "area_m2", "share", "sliver"))):
+            writer.writerow([number, zone, f"{area:.6f}", f"{share:.6f}", sliver, "measured"])
+        return text.getvalue()
+
+
+def _write_text(path: Path, text: str) -> None:
+    aside = path.with_name(f".{os.getpid()}.{path.name}")
+    try:
+        aside.write_text(text, encoding="utf-8")
+        os.replace(aside, path)
+    except OSError as fault:
+        raise Refused("P14", f"{path} can't be written: {fault}") from fault
+    finally:
+        if aside.exists():
+            aside.unlink()
+
+
+def _count(number: int, noun: str) -> str:
+    return f"{number or 'no'} {noun}{'' if number == 1 else 's'}"
+
+
+def _told(report: Report, layer: str) -> str:
+    texts = []
+    for noun, frame in (("gap", report.gaps), ("overlap", report.overlaps)):
+        areas = [Fraction(text) / 2 for text in frame.loc[frame["layer"] == layer, "area2_mm2"]]
+        shown = ", ".join(map(area_text, areas[:SHOWN])) + (", .." if len(areas) > SHOWN else "")
+        texts.append(_count(len(areas), noun) + (f" ({shown})" if areas else ""))
+    return ", ".join(texts)
+
+
+def area_text(area: Fraction) -> str:
+    """An area of square millimetres, in m2 with two decimals; a small one in mm2."""
+    if area >= SQUARE_METRE // 100:
+        return f"{float(area) / SQUARE_METRE:.2f} m2"
+    return f"{int(area)} mm2" if area == int(area) else f"{float(area):.3g} mm2"
+
+
+def report(prepared: Prepared, min_area: float = 1.0, progress: Optional[Progress] = None) -> Report:
+    """Asks the program of every island of a register. `min_area` (m2): parts of less are slivers.
+
+    Refused as the program refuses, by number; a layer that does not tile is no refusal, but what is told.
+    """
+    progress = progress or Progress()
+    faults: Dict[str, List[Dict[str, Any]]] = {"gaps": [], "overlaps": []}
+    pairs: Dict[Tuple[int, int], List[Tuple[Island, int, int]]] = defaultdict(list)
+    at_fault: Dict[int, str] = {}
+    beyond: Dict[str, None] = {}
+    for at, island in enumerate(prepared.islands, 1):
+        with tempfile.TemporaryDirectory() as folder:
+            progress.step("checking the parcels")
+            write_island(Path(folder), island)
+            found = {role: LayerFaults() for role in ("parcels", "zones")}
+            for role in ("parcels", "zones") if island.zones is not None else ("parcels",):
+                rows = getattr(island, role)
+                found[role] = layer_faults(checked(prepared, Path(folder), island, role), island.city, rows)
+                _tell(prepared, at, island, role, found[role], faults, at_fault)
+            beyond.update(dict.fromkeys(numbers_at(prepared, island.parcels, sorted(found["parcels"].beyond), "parcels")))
+            if island.zones is not None:
+                progress.step("asking which parcels lie in which zones")
+                for parcel, zone in island_pairs(Path(folder), island, found["parcels"], found["zones"]).tolist():
+                    if island.parcels.source[parcel] != OUT_ROW:
+                        pairs[island.parcels.source[parcel], _zone_key(prepared, island, zone)].append((island, parcel, zone))
+    progress.step("measuring the parts of split parcels")
+    return _put_together(prepared, faults, pairs, at_fault, min_area, list(beyond))
+
+
+def _zone_key(prepared: Prepared, island: Island, zone: int) -> str:
+    return prepared.zone_of(island.zones.source[zone])
+
+
+def _tell(prepared, at, island, role, found: LayerFaults, faults, at_fault) -> None:
+    rows = getattr(island, role)
+    for fault, concerned in zip(found.faults, found.rows):
+        kind = "gaps" if fault.depth < 0 else "overlaps"
+        numbers = numbers_at(prepared, rows, concerned, role)
+        faults[kind].append({
+            "layer": role, "island": at, "area2_mm2": str(fault.area2), "area_m2": float(fault.area2) / 2 / SQUARE_METRE,
+            "area_how": "exact" if isinstance(fault.area2, int) else "exact fraction", "depth": fault.depth,
+            "numbers": ",".join(numbers), "geometry": prepared.polygon(fault.outer, fault.holes)})
+        if role == "parcels":
+            for row in concerned:
+                if kind == "overlaps" or rows.source[row] not in at_fault:
+                    at_fault[rows.source[row]] = "overlap" if kind == "overlaps" else "gap"
+
+
+FAULT_COLUMNS = ["layer", "island", "area2_mm2", "area_m2", "area_how", "depth", "numbers", "geometry"]
+
+
+def _put_together(prepared, faults, pairs, at_fault, min_area, beyond) -> Report:
+    zones_of: Dict[int, List[str]] = defaultdict(list)
+    for row, zone in pairs:
+        zones_of[row].append(zone)
+    split_rows = sorted(row for row, zones in zones_of.items() if len(zones) > 1)
+    parts = _parts(prepared, {key: rows for key, rows in pairs.items() if len(zones_of[key[0]]) > 1}, min_area)
+    split = _split(prepared, split_rows, zones_of, parts)
+    frames = {kind: gpd.GeoDataFrame(rows, columns=FAULT_COLUMNS, geometry="geometry", crs=prepared.crs)
+              for kind, rows in faults.items()}
+    for row in split_rows:
+        at_fault.setdefault(row, "split")
+    return Report(frames["gaps"], frames["overlaps"], split, parts, _parcels(prepared, at_fault), _zones(prepared),
+                  min_area, beyond)
+
+
+def _parts(prepared: Prepared, pairs, min_area: float) -> gpd.GeoDataFrame:
+    """The parts of split parcels in zones, measured by GEOS on the grid, near the origin."""
+    zone_rows = {name: row for row, name in reversed(list(enumerate(prepared.zone_names)))}
+    table: List[Dict[str, Any]] = []
+    polygons: Dict[Tuple[int, str, int], Polygon] = {}
+
+    def polygon(island: Island, role: str, row: int) -> Polygon:
+        key = (id(island), role, row)
+        if key not in polygons:
+            polygons[key] = Polygon(getattr(island, role).rings[row] - island.city[0])
+        return polygons[key]
+
+    for (row, zone), members in sorted(pairs.items(), key=lambda item: item[0]):
+        pieces, area = [], 0.0
+        for island, parcel, zone_row in members:
+            cut = polygon(island, "parcels", parcel).intersection(polygon(island, "zones", zone_row))
+            area += cut.area
+            for piece in getattr(cut, "geoms", [cut]):
+                if piece.geom_type == "Polygon" and not piece.is_empty:
+                    shift = island.city[0]
+                    pieces.append(prepared.polygon(np.asarray(piece.exterior.coords) + shift,
+                                                   [np.asarray(ring.coords) + shift for ring in piece.interiors]))
+        table.append({"row": row, "number": prepared.number_of(row), "zone": zone, "area_m2": area / SQUARE_METRE,
+                      "area_how": "measured", "sliver": int(area / SQUARE_METRE < min_area),
+                      "zone_row": zone_rows.get(zone, -1), "geometry": MultiPolygon(pieces)})
+    columns = ["row", "number", "zone", "area_m2", "area_how", "share", "sliver", "zone_row", "geometry"]
+    frame = gpd.GeoDataFrame(table, columns=columns, geometry="geometry", crs=prepared.crs)
+    frame["share"] = frame["area_m2"] / frame.groupby("row")["area_m2"].transform("sum") if len(frame) else []
+    frame = _with_attributes(frame, prepared.parcels, frame["row"], prepared.number, "")
+    return _with_attributes(frame, prepared.zones, frame["zone_row"], prepared.zone, "zone_").drop(columns=["row", "zone_row"])
+
+
+def _with_attributes(frame, source, rows, number: str, prefix: str) -> gpd.GeoDataFrame:
+    """The frame with the attributes of rows of a layer behind its own columns, each once."""
+    if source is None:
+        return frame
+    attributes = pd.DataFrame(source.drop(columns=source.geometry.name)).drop(columns=[number], errors="ignore")
+    rows = np.asarray(rows, dtype=np.int64)
+    taken = attributes.take(np.where(rows < 0, 0, rows)) if len(attributes) else attributes
+    used = {str(column).lower() for column in frame.columns} | {"fid", "geom", "ogc_fid"}
+    result = frame.copy()
+    for column in taken.columns:
+        name = f"{prefix}{column}"
+        while name.lower() in used:
+            name += "_"
+        used.add(name.lower())
+        values = taken[column].reset_index(drop=True)
+        result[name] = values.where(pd.Series(rows >= 0), None).values if (rows < 0).any() else values.values
+    return gpd.GeoDataFrame(result, geometry="geometry", crs=frame.crs)
+
+
+def _split(prepared: Prepared, rows: List[int], zones_of, parts) -> gpd.GeoDataFrame:
+    slivers: Dict[str, bool] = {}
+    for number, group in parts.groupby("number") if len(parts) else ():
+        slivers[number] = bool(int(group["sliver"].sum()) >= len(group) - 1)
+    numbers = [prepared.number_of(row) for row in rows]
+    table = {"number": numbers, "zones": [",".join(zones_of[row]) for row in rows],
+             "zone_count": [len(zones_of[row]) for row in rows], "sliver": [int(slivers[number]) for number in numbers],
+             "geometry": list(prepared.parcels.geometry.iloc[rows])}
+    frame = gpd.GeoDataFrame(table, geometry="geometry", crs=prepared.crs)
+    return _with_attributes(frame, prepared.parcels, rows, prepared.number, "")
+
+
+def _parcels(prepared: Prepared, at_fault: Dict[int, str]) -> gpd.GeoDataFrame:
+    records: Dict[int, List[str]] = defaultdict(list)
+    several = len(prepared.islands) > 1
+    for at, island in enumerate(prepared.islands, 1):
+        for record, row in enumerate(island.parcels.source, 1):
+            records[row].append(f"{at}:{record}" if several else str(record))
+    count = len(prepared.numbers)
+    table = {"number": prepared.numbers, "records": [",".join(records[row]) for row in range(count)],
+             "status": [at_fault.get(row, "ok") for row in range(count)], "geometry": list(prepared.parcels.geometry)}
+    frame = gpd.GeoDataFrame(table, geometry="geometry", crs=prepared.crs)
+    return _with_attributes(frame, prepared.parcels, range(count), prepared.number, "")
+
+
+def _zones(prepared: Prepared) -> Optional[gpd.GeoDataFrame]:
+    if prepared.zones is None:
+        return None
+    shapes: Dict[int, List[Polygon]] = defaultdict(list)
+    for island in prepared.islands:
+        for ring, row in zip(island.zones.rings, island.zones.source):
+            shapes[row].append(prepared.polygon(ring))
+    rows = [row for row in range(len(prepared.zone_names)) if shapes[row]]
+    joined = [shapes[row][0] if len(shapes[row]) == 1 else unary_union([it.buffer(0) for it in shapes[row]]) for row in rows]
+    frame = gpd.GeoDataFrame({"number": [prepared.zone_of(row) for row in rows], "geometry": joined}, geometry="geometry",
+                             crs=prepared.crs)
+    return _with_attributes(frame, prepared.zones, rows, prepared.zone, "")

@@ -1,0 +1,92 @@
+"""Overlays of layers that do not tile: each row's verdict is still the proved program's.
+
+The program answers for layers that tile. So rows that do not overlap one another are taken together, what they leave of
+the city is filled with rows of no one, along the corners that are there, and the program is asked; then again with the
+rows that had to stay away. A row that stands out of the city takes part in no round, and nothing is said of it.
+"""
+from __future__ import annotations
+
+from pathlib import Path
+from typing import Dict, Iterable, List, Sequence, Set, Tuple
+
+import numpy as np
+
+from .faults import contains, point_inside, simple_loops, twice_area
+from .grid import edges_left
+from .holes import cut_holes, traced
+from .layer_files import write_rings
+from .noding import points_of
+from .tool import overlay_pairs
+
+
+def rounds_of(count: int, conflicts: Iterable[Set[int]], beyond: Set[int]) -> List[List[int]]:
+    """Rows 0 .. count - 1 in rounds in which no two conflict; each row but those `beyond` is in one or more."""
+    against: Dict[int, Set[int]] = {}
+    for group in conflicts:
+        for row in group:
+            against.setdefault(row, set()).update(group - {row})
+    waiting = [row for row in sorted(against, key=lambda row: len(against[row])) if row not in beyond]
+    free = [row for row in range(count) if row not in against and row not in beyond]
+    rounds = []
+    while waiting or not rounds:
+        taken: Set[int] = set()
+        for row in [*waiting, *(row for row in against if row not in beyond)]:
+            if not against[row] & taken:
+                taken.add(row)
+        rounds.append(sorted({*free, *taken}))
+        waiting = [row for row in waiting if row not in taken]
+    return rounds
+
+
+def filled(city: np.ndarray, rings: Sequence[np.ndarray]) -> List[np.ndarray]:
+    """Rings, which do not overlap and lie in the city, with simple rings behind them that fill what they leave of it."""
+    fillers = []
+    for outer, holes in area_polygons([city, *(ring[::-1] for ring in rings)]):
+        fillers += cut_holes(outer, holes) or []
+    return [*rings, *fillers]
+
+
+def area_polygons(loops: Sequence[np.ndarray]) -> List[Tuple[np.ndarray, List[np.ndarray]]]:
+    """The area on the left of loops (k, 2) int64, whose opposite edges cancel, as polygons: outer ring and holes.
+
+    No ring meets itself. Where the loops cover a place twice, or cross, the answer means nothing.
+    """
+    sizes = np.array([len(loop) for loop in loops])
+    points, index = points_of(np.concatenate(loops).astype(float))
+    stops = np.cumsum(sizes)
+    after = np.arange(1, len(index) + 1)
+    after[stops - 1] = stops - sizes
+    low, high, net = edges_left(index, index[after])
+    whole = [tuple(corner) for corner in points.astype(np.int64).tolist()]
+    edges = [(whole[a], whole[b]) if n > 0 else (whole[b], whole[a]) for a, b, n in zip(low, high, net)]
+    walks = traced(edges) or []
+    return _nested([loop for walk in walks for loop in simple_loops(walk)])
+
+
+def _nested(loops: List[List[Tuple[int, int]]]) -> List[Tuple[np.ndarray, List[np.ndarray]]]:
+    outers = sorted((loop for loop in loops if twice_area(loop) > 0), key=twice_area)
+    inner: List[List[np.ndarray]] = [[] for _ in outers]
+    for hole in (loop for loop in loops if twice_area(loop) < 0):
+        within = point_inside(hole[::-1], [])
+        for outer, holes in zip(outers, inner):
+            if contains(outer, within):
+                holes.append(np.array(hole, dtype=np.int64))
+                break
+    return [(np.array(outer, dtype=np.int64), holes) for outer, holes in zip(outers, inner)]
+
+
+def overlaid(folder: Path, city: np.ndarray, parcels: Sequence[np.ndarray], zones: Sequence[np.ndarray],
+             parcel_rounds: List[List[int]], zone_rounds: List[List[int]]) -> np.ndarray:
+    """All pairs (parcel, zone), from 0, that overlap, by the program; its files are written to `folder`."""
+    write_rings(folder / "city.shp", [city])
+    for name, rings, rounds in (("parcels", parcels, parcel_rounds), ("zones", zones, zone_rounds)):
+        for at, rows in enumerate(rounds):
+            write_rings(folder / f"{name}_{at}.shp", filled(city, [rings[row] for row in rows]))
+    found: Set[Tuple[int, int]] = set()
+    for i, some in enumerate(parcel_rounds):
+        for j, others in enumerate(zone_rounds):
+            pairs = overlay_pairs(folder / "city.shp", folder / f"parcels_{i}.shp", folder / f"zones_{j}.shp") - 1
+            for parcel, zone in pairs.tolist():
+                if parcel < len(some) and zone < len(others):
+                    found.add((some[parcel], others[zone]))
+    return np.array(sorted(found), dtype=np.int64).reshape(-1, 2)
