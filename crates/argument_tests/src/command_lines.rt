@@ -173,7 +173,10 @@ fn shows_help_and_version(rt: HostRuntime) -> Result<(), Fail> {
             "parcel_tool locate --help",
             "Usage: parcel_tool locate [OPTIONS] --unit <UNIT> <--at <X> <Y>|--points <FILE>> <CITY> <PARCELS>",
         ),
-        ("parcel_tool --version", "parcel_tool 1.0.0 (rattle-kit-13f)"),
+        (
+            "parcel_tool --version",
+            "parcel_tool 1.0.0 (rattle-kit-13f)",
+        ),
     ] {
         let words: Vec<&str> = line.split(' ').collect(rt.alloc())?;
         let Err(error) = parse(rt.alloc(), words.as_slice()) else {
