@@ -63,7 +63,8 @@ def link() -> None:
 def as_the_kit_links(to: Path) -> None:
     """Links the object file as `rt ci` does, so that it can be compared with the program that the gate tried."""
     words = [str(kit() / "bin/rattle-link"), "--target", "x86_64-unknown-linux-gnu", "--toolchain", str(kit() / "toolchain")]
-    subprocess.run([*words, "-o", str(to), str(OBJECT), *map(str, archives())], check=True, stdin=subprocess.DEVNULL)
+    subprocess.run([*words, "-o", str(to), str(OBJECT), *map(str, archives())], check=True,
+                   stdin=subprocess.DEVNULL, capture_output=True)
 
 
 def is_of(program: bytes) -> bool:
