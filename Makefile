@@ -5,6 +5,7 @@ help:
 	@echo 'make demo     the overlay of the town in examples/town, built without proofs: a minute or three'
 	@echo 'make quick    the tests without proofs: some 10 to 20 minutes; not the gate'
 	@echo 'make test     the gate: every proof, mutant, test and run (.ci/run)'
+	@echo 'make release  the program to hand out, in dist/: static, .tar.gz, wheel and .deb, of a commit that passed the gate here'
 	@echo 'make bench    measures speed and memory (benches/all.sh)'
 
 demo:
@@ -17,7 +18,10 @@ quick:
 test:
 	@.ci/run
 
+release:
+	@scripts/release
+
 bench:
 	@benches/all.sh
 
-.PHONY: help demo quick test bench
+.PHONY: help demo quick test release bench

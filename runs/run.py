@@ -3,7 +3,8 @@
 
     runs/run.py [PROGRAM ..]
 
-With no word it takes the programs that `rt ci` leaves, one by each compiler. A table has rows such as
+With no word it takes the programs that `rt ci` leaves, one by each compiler, and the static one (scripts/static_program) where
+it is there. A program whose name ends in `.static` runs with no environment and no /proc. A table has rows such as
 
     == A layer without an index
     + square.shp: square.shp
@@ -25,6 +26,7 @@ $ WORDS               the command line, in which \\xFF is a byte; further ones r
 # ..                  a comment
 """
 
+import ctypes
 import os
 import re
 import resource
@@ -39,8 +41,11 @@ import layers  # noqa: E402
 
 HERE = os.path.dirname(os.path.abspath(__file__))
 BUILT = os.path.join(HERE, "..", "crates", "parcel_tool", "out", "parcel_tool")
+STATIC = ".static"
 SECONDS = 60
 THREAD_STACK = 1 << 30
+NEW_MOUNTS, NEW_USERS = 0x00020000, 0x10000000  # of unshare
+PRIVATE_BELOW = 0x44000  # of mount: recursively private
 
 
 class Row:
@@ -117,6 +122,46 @@ def begin(how):
             resource.setrlimit(resource.RLIMIT_FSIZE, (most, most))
 
 
+def hide_proc():
+    """Puts an empty folder over /proc, for this process and those it starts. OSError where it may not."""
+    c_library = ctypes.CDLL(None, use_errno=True)
+    alone = NEW_MOUNTS | (0 if os.geteuid() == 0 else NEW_USERS)
+    if (c_library.unshare(alone) or c_library.mount(b"none", b"/", None, PRIVATE_BELOW, None)
+            or c_library.mount(b"none", b"/proc", b"tmpfs", 0, None)):
+        raise OSError(ctypes.get_errno(), "/proc cannot be hidden")
+
+
+def may_hide_proc():
+    """Whether a process here may have /proc hidden."""
+    child = os.fork()
+    if child == 0:
+        try:
+            hide_proc()
+            os._exit(1 if os.path.exists("/proc/self") else 0)
+        except OSError:
+            os._exit(1)
+    return os.waitpid(child, 0)[1] == 0
+
+
+class Program:
+    """A program, and how it is run: `alone` is with no environment, `hides` with no /proc."""
+
+    def __init__(self, path):
+        self.path, self.alone = path, path.endswith(STATIC)
+        self.hides = self.alone and may_hide_proc()
+
+    def name(self):
+        """What it is called at the end, with how it was run."""
+        how = " (no environment, no /proc)" if self.hides else " (no environment; /proc cannot be hidden here)"
+        return os.path.basename(self.path) + (how if self.alone else "")
+
+    def begin(self, how):
+        """What the new process does before it becomes the program."""
+        if self.hides:
+            hide_proc()
+        begin(how)
+
+
 def text_of(lines):
     return "".join(line + "\n" for line in lines).encode()
 
@@ -125,8 +170,9 @@ def run_line(program, row, room, words):
     """What a command line writes, on both streams, and its status; nothing where it does not end."""
     full = open("/dev/full", "wb") if "full" in row.how else None
     try:
-        ran = subprocess.run([program.encode(), *words], cwd=room, input=text_of(row.stdin), timeout=SECONDS,
-                             stdout=full or subprocess.PIPE, stderr=subprocess.PIPE, preexec_fn=lambda: begin(row.how))
+        ran = subprocess.run([program.path.encode(), *words], cwd=room, input=text_of(row.stdin), timeout=SECONDS,
+                             env={} if program.alone else None, stdout=full or subprocess.PIPE, stderr=subprocess.PIPE,
+                             preexec_fn=lambda: program.begin(row.how))
     except subprocess.TimeoutExpired:
         return None
     finally:
@@ -180,15 +226,15 @@ def run(program, row):
 
 
 def main():
-    built = [it for it in (BUILT, BUILT + ".by-rattle") if os.path.isfile(it)]
-    programs = [os.path.abspath(it) for it in sys.argv[1:]] or built
+    built = [it for it in (BUILT, BUILT + ".by-rattle", BUILT + STATIC) if os.path.isfile(it)]
+    programs = [Program(os.path.abspath(it)) for it in sys.argv[1:] or built]
     if not programs:
         sys.exit("no program is built: rt ci builds it, or rt run in crates/parcel_tool")
     tables = sorted(it for it in os.listdir(HERE) if it.endswith(".table"))
     rows = [(table, row) for table in tables for row in rows_of(os.path.join(HERE, table))]
     any_failed = not rows
     for program in programs:
-        name, failed = os.path.basename(program), 0
+        name, failed = program.name(), 0
         for table, row in rows:
             wrong = run(program, row)
             failed += bool(wrong)

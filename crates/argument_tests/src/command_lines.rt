@@ -7,7 +7,7 @@ use tool_arguments::{Points, Request, parse};
 const REQUESTS: [(&str, &str); 8] = [
     (
         "parcel_tool area city.shp --unit mm",
-        "Area { main: \"city.shp\", unit: Cm }",
+        "Area { main: \"city.shp\", unit: Mm }",
     ),
     (
         "parcel_tool area --unit=m -- --unit",
@@ -18,19 +18,19 @@ const REQUESTS: [(&str, &str); 8] = [
         "Check { inputs: Inputs { city: \"a.shp\", parcels: \"b.shp\", unit: M, clerks: [] }, all: false }",
     ),
     (
-        "parcel_tool check a --clerk d --all b --unit mm --clerk c",
+        "parcel_tool check a --clerk d --all b --unit cm --clerk c",
         "Check { inputs: Inputs { city: \"a\", parcels: \"b\", unit: Cm, clerks: [\"d\", \"c\"] }, all: true }",
     ),
     (
         "parcel_tool export a b --unit mm --out new/town --clerk c",
-        "Export { inputs: Inputs { city: \"a\", parcels: \"b\", unit: Cm, clerks: [\"c\"] }, base: \"new/town\" }",
+        "Export { inputs: Inputs { city: \"a\", parcels: \"b\", unit: Mm, clerks: [\"c\"] }, base: \"new/town\" }",
     ),
     (
         "parcel_tool locate --points - a b --unit m --clerk c --clerk c",
         "Locate { inputs: Inputs { city: \"a\", parcels: \"b\", unit: M, clerks: [\"c\", \"c\"] }, points: File(\"-\") }",
     ),
     (
-        "parcel_tool overlay a b c --unit mm --clerk d",
+        "parcel_tool overlay a b c --unit cm --clerk d",
         "Overlay { inputs: Inputs { city: \"a\", parcels: \"b\", unit: Cm, clerks: [\"d\"] }, \
          zones: \"c\", workers: Workers { count: 4 } }",
     ),
@@ -99,7 +99,7 @@ const REFUSED: [(&str, ErrorKind, &str); 12] = [
         "<MAIN>",
     ),
     (
-        "parcel_tool area a.shp --unit mm",
+        "parcel_tool area a.shp --unit km",
         ErrorKind::InvalidValue,
         "[possible values: mm, cm, m]",
     ),

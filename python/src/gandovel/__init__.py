@@ -12,4 +12,4 @@ from .report import Report, report
 
 __all__ = ["Insert", "Merge", "Move", "Prepared", "Refused", "Report", "Split", "apply", "area", "back", "check", "load",
            "locate", "overlay", "prepare", "report"]
-__version__ = "0.1.0"
+__version__ = "1.0.0"

@@ -149,6 +149,15 @@ def without_spikes(index: List[int]) -> List[int]:
     return []
 
 
+def without_straight(ring: np.ndarray) -> np.ndarray:
+    """A ring (k, 2) int64 without the corners that lie straight between their neighbours: exact."""
+    before, after = ring - np.roll(ring, 1, axis=0), np.roll(ring, -1, axis=0) - ring
+    if np.abs(before).max() >= 2**30:
+        before, after = before.astype(object), after.astype(object)
+    turns = before[:, 0] * after[:, 1] != before[:, 1] * after[:, 0]
+    return ring[turns.astype(bool)]
+
+
 def twice_area(ring: np.ndarray) -> int:
     """Twice the signed area of a ring (k, 2) int64 in mm: exact."""
     near = ring - ring[0]

@@ -15,6 +15,7 @@ from shapely.prepared import prep
 
 from . import grid, sources
 from .errors import Refused, place
+from .holes import cut_holes
 from .noding import noise_of, points_of, put_in, values_gathered
 from .prepared import OUT, OUT_ROW, Island, Prepared, Rows
 from .progress import Progress
@@ -243,7 +244,7 @@ def _islands(work: _Work, outlines: List[Polygon], of_zones: dict, frame: bool, 
         if fails and layer != ZONES or any(why == "holes" for _, why in fails):
             _refuse_ring(layer, fails[0], labels)
         rings[layer] = made, tags
-    cities = rings[CITY][0]
+    cities = [grid.without_straight(ring) for ring in rings[CITY][0]]
     islands = [Island(city, Rows(), Rows() if labels[1] else None) for city in cities]
     parcel_islands = _where(rings[PARCELS][0], outlines, islands)
     for island, ring, (row, part) in zip(parcel_islands, *rings[PARCELS]):
@@ -293,7 +294,7 @@ def _add_outside(work: _Work, island: Island) -> None:
         parts = grid.outlines(work.loops.take(work.loops.layer == layer), work.points)
         holes = [np.floor(np.asarray(part.exterior.coords)[:-1] + 0.5).astype(np.int64) for part in parts]
         holes = [hole if grid.twice_area(hole) < 0 else hole[::-1] for hole in holes]
-        pieces = grid.cut_holes(island.city, holes)
+        pieces = cut_holes(island.city, holes)
         if pieces is None:
             raise Refused("P12", "no cut is found for the area outside", role=ROLES[layer], number=OUT)
         for piece in pieces:
@@ -314,4 +315,5 @@ def _test_limits(island: Island, labels: Sequence[List[str]], scale: float) -> N
         if corners > MOST_IN_ALL:
             raise Refused("P10", f"{corners} corners, and {MOST_IN_ALL} are the most", role=role)
     if len(island.city) > MOST_CORNERS:
-        raise Refused("P10", f"the outline has {len(island.city)} corners, and {MOST_CORNERS} are the most", role="city")
+        raise Refused("P10", f"the outline has {len(island.city)} corners, and {MOST_CORNERS} are the most: a frame has "
+                      "fewer (--frame)", role="city")

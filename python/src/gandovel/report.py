@@ -164,15 +164,15 @@ FAULT_COLUMNS = ["layer", "island", "area2_mm2", "area_m2", "area_how", "depth",
 
 def _put_together(prepared, faults, pairs, at_fault, min_area, beyond) -> Report:
     zones_of: Dict[int, List[str]] = defaultdict(list)
-    for row, zone in pairs:
+    order = {name: at for at, name in enumerate(dict.fromkeys(prepared.zone_names))}
+    for row, zone in sorted(pairs, key=lambda pair: (pair[0], order.get(pair[1], len(order)))):
         zones_of[row].append(zone)
     split_rows = sorted(row for row, zones in zones_of.items() if len(zones) > 1)
     parts = _parts(prepared, {key: rows for key, rows in pairs.items() if len(zones_of[key[0]]) > 1}, min_area)
     split = _split(prepared, split_rows, zones_of, parts)
     frames = {kind: gpd.GeoDataFrame(rows, columns=FAULT_COLUMNS, geometry="geometry", crs=prepared.crs)
               for kind, rows in faults.items()}
-    for row in split_rows:
-        at_fault.setdefault(row, "split")
+    at_fault.update((row, "split") for row in split_rows if row not in at_fault)
     return Report(frames["gaps"], frames["overlaps"], split, parts, _parcels(prepared, at_fault), _zones(prepared),
                   min_area, beyond)
 
@@ -189,7 +189,7 @@ def _parts(prepared: Prepared, pairs, min_area: float) -> gpd.GeoDataFrame:
             polygons[key] = Polygon(getattr(island, role).rings[row] - island.city[0])
         return polygons[key]
 
-    for (row, zone), members in sorted(pairs.items(), key=lambda item: item[0]):
+    for (row, zone), members in sorted(pairs.items(), key=lambda item: (item[0][0], zone_rows.get(item[0][1], -1))):
         pieces, area = [], 0.0
         for island, parcel, zone_row in members:
             cut = polygon(island, "parcels", parcel).intersection(polygon(island, "zones", zone_row))

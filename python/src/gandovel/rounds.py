@@ -15,7 +15,7 @@ from .faults import contains, point_inside, simple_loops, twice_area
 from .grid import edges_left
 from .holes import cut_holes, traced
 from .layer_files import write_rings
-from .noding import points_of
+from .noding import points_of, touches
 from .tool import overlay_pairs
 
 
@@ -41,9 +41,17 @@ def rounds_of(count: int, conflicts: Iterable[Set[int]], beyond: Set[int]) -> Li
 def filled(city: np.ndarray, rings: Sequence[np.ndarray]) -> List[np.ndarray]:
     """Rings, which do not overlap and lie in the city, with simple rings behind them that fill what they leave of it."""
     fillers = []
-    for outer, holes in area_polygons([city, *(ring[::-1] for ring in rings)]):
+    for outer, holes in area_polygons([_with_corners(city, rings), *(ring[::-1] for ring in rings)]):
         fillers += cut_holes(outer, holes) or []
     return [*rings, *fillers]
+
+
+def _with_corners(city: np.ndarray, rings: Sequence[np.ndarray]) -> np.ndarray:
+    """The city's ring with the rings' corners that lie on its sides."""
+    points, index = points_of(np.concatenate([city, *rings]).astype(float))
+    ring = index[:len(city)]
+    found = touches(points, ring, np.roll(ring, -1), np.unique(index), 0.0)
+    return points[np.insert(ring, found[:, 0] + 1, found[:, 1])].astype(np.int64)
 
 
 def area_polygons(loops: Sequence[np.ndarray]) -> List[Tuple[np.ndarray, List[np.ndarray]]]:

@@ -1,0 +1,30 @@
+# Made by scripts/help_pages from what parcel_tool --help prints.
+_parcel_tool() {
+  local word="${COMP_WORDS[COMP_CWORD]}" before="${COMP_WORDS[COMP_CWORD-1]}" options=
+  COMPREPLY=()
+  if [ "$COMP_CWORD" -eq 1 ]; then
+    COMPREPLY=($(compgen -W 'area check export locate overlay help -h --help -V --version' -- "$word"))
+    return
+  fi
+  case "$before" in
+    --at) COMPREPLY=(); return ;;
+    --clerk) COMPREPLY=($(compgen -f -- "$word")); return ;;
+    --out) COMPREPLY=($(compgen -f -- "$word")); return ;;
+    --points) COMPREPLY=($(compgen -f -- "$word")); return ;;
+    --unit) COMPREPLY=($(compgen -W 'mm cm m' -- "$word")); return ;;
+    --workers) COMPREPLY=(); return ;;
+  esac
+  case "${COMP_WORDS[1]}" in
+    help) COMPREPLY=($(compgen -W 'area check export locate overlay' -- "$word")); return ;;
+    area) options='--unit -h --help' ;;
+    check) options='--unit --all --clerk -h --help' ;;
+    export) options='--unit --out --clerk -h --help' ;;
+    locate) options='--unit --at --points --clerk -h --help' ;;
+    overlay) options='--unit --clerk --workers -h --help' ;;
+  esac
+  case "$word" in
+    -*) COMPREPLY=($(compgen -W "$options" -- "$word")) ;;
+    *) COMPREPLY=($(compgen -f -X '!*.[sS][hH][pP]' -- "$word") $(compgen -d -- "$word")) ;;
+  esac
+}
+complete -o filenames -F _parcel_tool parcel_tool

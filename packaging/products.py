@@ -1,0 +1,106 @@
+"""What is handed out: the `.tar.gz`, the wheel and the `.deb` around one static program, as bytes."""
+import base64
+import hashlib
+import re
+import subprocess
+import tomllib
+from pathlib import Path
+from typing import Dict, List
+
+from archives import Files, ar, packed, tar_gz, zip_file
+
+PLATFORM = "manylinux2014_x86_64.musllinux_1_1_x86_64"
+"""Where a static program runs: with any C library."""
+
+
+def read_tree(folder: Path, to: str) -> Files:
+    """The files below a folder that git has, under another name."""
+    listed = subprocess.run(["git", "ls-files", "-z", "."], cwd=folder, check=True, stdout=subprocess.PIPE).stdout
+    names = [name.decode() for name in listed.split(b"\0") if name]
+    return {f"{to}/{name}": ((folder / name).read_bytes(), False) for name in sorted(names)}
+
+
+def plain(root: Path, program: bytes, proof: str) -> Files:
+    """What each of the packages has: by its role, the file's bytes."""
+    folder = root / "packaging"
+    return {"program": (program, True), "man": ((folder / "parcel_tool.1").read_bytes(), False),
+            "completion": ((folder / "parcel_tool.bash").read_bytes(), False), "proof": (proof.encode(), False),
+            "licence": ((folder / "LICENCE-STATE.txt").read_bytes(), False)}
+
+
+def tarball(root: Path, parts: Files, relink: Files, name: str, seconds: int) -> bytes:
+    """The `.tar.gz`: all lies in one folder of its name."""
+    files = {"bin/parcel_tool": parts["program"], "man/parcel_tool.1": parts["man"],
+             "completion/parcel_tool.bash": parts["completion"], "PROOF.txt": parts["proof"],
+             "LICENCE-STATE.txt": parts["licence"], **read_tree(root / "examples/town", "examples/town"),
+             **{f"relink/{path}": it for path, it in relink.items()}}
+    return tar_gz(files, seconds, f"{name}/")
+
+
+def deb(root: Path, parts: Files, version: str, maintainer: str, seconds: int) -> bytes:
+    """The `.deb`, which installs the program with its man page, completion, example, proof and licence state."""
+    share, doc = "./usr/share", "./usr/share/doc/parcel-tool"
+    files = {"./usr/bin/parcel_tool": parts["program"],
+             f"{share}/man/man1/parcel_tool.1.gz": (packed(parts["man"][0]), False),
+             f"{share}/bash-completion/completions/parcel_tool": parts["completion"],
+             f"{doc}/copyright": parts["licence"], f"{doc}/PROOF.txt": parts["proof"],
+             f"{doc}/changelog.gz": (packed((root / "CHANGELOG.md").read_bytes()), False),
+             **read_tree(root / "examples/town", f"{doc}/examples/town")}
+    size = sum(len(data) + 1023 for data, _ in files.values()) // 1024
+    control = (f"Package: parcel-tool\nVersion: {version}\nArchitecture: amd64\nMaintainer: {maintainer}\n"
+               f"Installed-Size: {size}\nSection: science\nPriority: optional\n"
+               "Description: exact answers about parcel layers in shapefiles\n"
+               " Whether parcels tile their city, which parcels and zones overlap, who has a point, and exact areas.\n"
+               " The program needs no library, and a processor of level x86-64-v2.\n")
+    sums = "".join(f"{hashlib.md5(data).hexdigest()}  {path[2:]}\n" for path, (data, _) in sorted(files.items()))
+    about: Files = {"./control": (control.encode(), False), "./md5sums": (sums.encode(), False)}
+    return ar([("debian-binary", b"2.0\n"), ("control.tar.gz", tar_gz(about, seconds)),
+               ("data.tar.gz", tar_gz(files, seconds))], seconds)
+
+
+def metadata(project: Dict, readme: str) -> str:
+    """A wheel's METADATA of what `pyproject.toml` says."""
+    lines = ["Metadata-Version: 2.1", f"Name: {project['name']}", f"Version: {project['version']}",
+             f"Summary: {project.get('description', '')}", f"Requires-Python: {project['requires-python']}",
+             *(f"Requires-Dist: {it}" for it in project.get("dependencies", []))]
+    for extra, wanted in project.get("optional-dependencies", {}).items():
+        lines += [f"Provides-Extra: {extra}", *(f'Requires-Dist: {it}; extra == "{extra}"' for it in wanted)]
+    return "\n".join([*lines, "Description-Content-Type: text/markdown", "", readme])
+
+
+def project_of(root: Path) -> Dict:
+    """The table `project` of `python/pyproject.toml`."""
+    return tomllib.loads((root / "python/pyproject.toml").read_text(encoding="utf-8"))["project"]
+
+
+def record(files: Files, at: str) -> bytes:
+    """A wheel's RECORD: each file's sum and length."""
+    lines = []
+    for path, (data, _) in files.items():
+        digest = base64.urlsafe_b64encode(hashlib.sha256(data).digest()).rstrip(b"=").decode()
+        lines.append(f"{path},sha256={digest},{len(data)}\n")
+    return "".join([*lines, f"{at},,\n"]).encode()
+
+
+def wheel_name(project: Dict) -> str:
+    """The wheel's file name."""
+    plain_name = re.sub(r"[-_.]+", "_", project["name"]).lower()
+    return f"{plain_name}-{project['version']}-py3-none-{PLATFORM}.whl"
+
+
+def wheel(root: Path, parts: Files, seconds: int) -> bytes:
+    """The wheel of `python/`, which carries the program as `bin/parcel_tool` of the package."""
+    project = project_of(root)
+    readme = root / "python" / project["readme"] if "readme" in project else None
+    text = readme.read_text(encoding="utf-8") if readme and readme.is_file() else ""
+    package = wheel_name(project).split("-")[0]
+    info = f"{package}-{project['version']}.dist-info"
+    tags: List[str] = [f"Tag: py3-none-{it}\n" for it in PLATFORM.split(".")]
+    about = "Wheel-Version: 1.0\nGenerator: scripts/release\nRoot-Is-Purelib: false\n" + "".join(tags)
+    commands = "".join(f"{name} = {it}\n" for name, it in project.get("scripts", {}).items())
+    files = {**read_tree(root / "python/src" / package, package), f"{package}/bin/parcel_tool": parts["program"],
+             f"{info}/METADATA": (metadata(project, text).encode(), False), f"{info}/WHEEL": (about.encode(), False),
+             f"{info}/entry_points.txt": (f"[console_scripts]\n{commands}".encode(), False),
+             f"{info}/PROOF.txt": parts["proof"], f"{info}/LICENCE-STATE.txt": parts["licence"]}
+    files[f"{info}/RECORD"] = (record(files, f"{info}/RECORD"), False)
+    return zip_file(files, seconds)
