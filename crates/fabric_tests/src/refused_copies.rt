@@ -4,7 +4,7 @@
 use crate::changes::take;
 use crate::refused_edits::{Heap, are_alike, was_refused};
 use crate::steps::INTO_HALVES;
-use fabric_core::{At, Fabric, Sheet};
+use fabric_core::{At, Fabric, Layer, Sheet};
 use geo_exact::{Corner, RING_CORNERS};
 use refusing_alloc::Refusing;
 use ring_core::{Side, side_of};
@@ -15,6 +15,14 @@ use test_cities::{RINGS, SQUARE, fabric, layer};
 
 /// No call here has so many growths.
 const MOST: u64 = 1000;
+
+/// The fabric of a layer that came back, with memory.
+fn opened_again<'a>(layer: Layer<'a, Heap>) -> Result<Fabric<'a, Heap>, Fail> {
+    match Fabric::open(layer) {
+        Ok(fabric) => Ok(fabric),
+        Err(_) => Err(Fail::new("it is not opened with memory")),
+    }
+}
 
 /// Opens a fabric with growth `number` refused, and where the layer then comes back, opens that; whether it was refused.
 fn is_opening_refused<'a>(
@@ -29,14 +37,14 @@ fn is_opening_refused<'a>(
     if opened.is_err() != is_refused {
         return Err(Fail::new("a refusal is told, and nothing else is"));
     }
-    let opened = match opened {
-        Ok(fabric) => Ok(fabric),
-        Err(layer) => Fabric::open(layer),
+    let fabric = match opened {
+        Ok(fabric) => fabric,
+        Err(layer) => opened_again(layer)?,
     };
-    match opened {
-        Ok(fabric) if are_alike(&fabric, want)? => Ok(is_refused),
-        _ => Err(Fail::new("another fabric")),
+    if !are_alike(&fabric, want)? {
+        return Err(Fail::new("another fabric"));
     }
+    Ok(is_refused)
 }
 
 #[test]

@@ -30,9 +30,9 @@ pub fn was_refused(heap: &Heap) -> bool {
 }
 
 /// Whether both have the same candidates between two corners.
-fn are_alike_between<H: Allocator>(
-    fabric: &Fabric<'_, H>,
-    other: &Fabric<'_, H>,
+fn are_alike_between<'a, H: Allocator>(
+    fabric: &Fabric<'a, H>,
+    other: &Fabric<'a, H>,
     low: Corner,
     high: Corner,
 ) -> Result<bool, Fail> {
@@ -44,9 +44,9 @@ fn are_alike_between<H: Allocator>(
 }
 
 /// Whether the indexes of both say the same of every box.
-fn are_indexed_alike<H: Allocator>(
-    fabric: &Fabric<'_, H>,
-    other: &Fabric<'_, H>,
+fn are_indexed_alike<'a, H: Allocator>(
+    fabric: &Fabric<'a, H>,
+    other: &Fabric<'a, H>,
 ) -> Result<bool, Fail> {
     for x in &BEGINNINGS {
         for y in &BEGINNINGS {
@@ -61,20 +61,24 @@ fn are_indexed_alike<H: Allocator>(
 }
 
 /// Whether both have the same journal.
-fn have_same_journal<H: Allocator>(fabric: &Fabric<'_, H>, other: &Fabric<'_, H>) -> bool {
+fn have_same_journal<'a, H: Allocator>(fabric: &Fabric<'a, H>, other: &Fabric<'a, H>) -> bool {
     let entries = fabric.journal();
     let others = other.journal();
-    entries.len() == others.len()
-        && entries
-            .iter()
-            .zip(others)
-            .all(|(entry, it)| is_same_entry(entry, it))
+    if entries.len() != others.len() {
+        return false;
+    }
+    for place in 0..entries.len() {
+        if !is_same_entry(&entries[place], &others[place]) {
+            return false;
+        }
+    }
+    true
 }
 
 /// Whether both show the same rows, rings of the city, journal and index.
-pub fn are_alike<H: Allocator>(
-    fabric: &Fabric<'_, H>,
-    other: &Fabric<'_, H>,
+pub fn are_alike<'a, H: Allocator>(
+    fabric: &Fabric<'a, H>,
+    other: &Fabric<'a, H>,
 ) -> Result<bool, Fail> {
     if fabric.ids().count() != other.ids().count() {
         return Ok(false);
