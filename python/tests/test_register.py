@@ -1,0 +1,159 @@
+"""The register of 202 parcels: two commands, no line of code, exactly the three planted faults."""
+from __future__ import annotations
+
+import csv
+import subprocess
+import sys
+from pathlib import Path
+
+import geopandas as gpd
+import numpy as np
+import pytest
+import shapefile
+from shapely.geometry import Point
+
+import gandovel as gv
+from registers import GAP, LARGE_OVERLAP, SMALL_OVERLAP, register
+
+RUN = [sys.executable, "-m", "gandovel"]
+SOURCES = Path(__file__).resolve().parents[1] / "src"
+
+
+def command(*words, cwd):
+    """Runs `gandovel` in a folder; what it printed and its status."""
+    import os
+
+    path = os.pathsep.join([str(SOURCES), os.environ.get("PYTHONPATH", "")])
+    return subprocess.run([*RUN, *map(str, words)], cwd=cwd, stdout=subprocess.PIPE, stderr=subprocess.PIPE, text=True,
+                          env={**os.environ, "PYTHONPATH": path})
+
+
+@pytest.fixture(scope="module")
+def folder(tmp_path_factory):
+    """A folder with the layers, prepared and reported by the two commands."""
+    place = tmp_path_factory.mktemp("register")
+    for name, frame in zip(("parcels", "zones"), register()):
+        frame.to_file(place / f"{name}.gpkg", driver="GPKG")
+    one = command("prepare", "parcels.gpkg", "--zones", "zones.gpkg", "--number", "parcel_no", "--out", "work", cwd=place)
+    assert one.returncode == 0, one.stderr
+    assert one.stdout.startswith("202 parcels -> 226 rings (24 more for holes and parts); ")
+    two = command("report", "work", "--out", "report.gpkg", cwd=place)
+    assert two.returncode == 0, two.stderr
+    (place / "said.txt").write_text(two.stdout)
+    return place
+
+
+def test_exactly_the_three_faults(folder):
+    assert (folder / "said.txt").read_text().startswith("1 gap (7.09 m2), 2 overlaps (762.27 m2, 0.46 m2); ")
+    gaps, overlaps = (gpd.read_file(folder / "report.gpkg", layer=name) for name in ("gaps", "overlaps"))
+    assert abs(gaps.area_m2.iloc[0] - GAP) < 0.01
+    assert np.allclose(sorted(overlaps.area_m2), [SMALL_OVERLAP, LARGE_OVERLAP], atol=0.01)
+    assert "3/3" in gaps.numbers.iloc[0].split(",")
+    assert "4/10,4/11" in list(overlaps.numbers)
+    for frame in (gaps, overlaps):
+        assert np.allclose(frame.area, frame.area2_mm2.astype(float) / 2e6, atol=1e-5)
+
+
+def test_rows_say_what_each_record_is(folder):
+    rows = list(csv.DictReader(open(folder / "work/rows.csv", newline="")))
+    assert list(rows[0]) == ["record", "parcel_no", "FID", "part"]
+    assert len(rows) == len(shapefile.Reader(str(folder / "work/parcels.shp")).shapes()) == 226
+    road = register()[0].parcel_no.iloc[-1]
+    assert sum(row["parcel_no"] == road for row in rows) == 21
+    assert len({row["parcel_no"] for row in rows}) == 202
+
+
+def test_the_areas_of_parts_make_up_their_parcels(folder):
+    lines = list(csv.DictReader(open(folder / "split.csv", newline="")))
+    assert lines and all(line["areas"] == "measured" for line in lines)
+    split = gpd.read_file(folder / "report.gpkg", layer="split").set_index("number")
+    for number in split.index:
+        parts = [line for line in lines if line["parcel_no"] == number]
+        assert [line["zone"] for line in parts] == split.zones[number].split(",")
+        assert abs(sum(float(line["share"]) for line in parts) - 1) < 1e-5
+        assert abs(sum(float(line["area_m2"]) for line in parts) - split.geometry[number].area) < 0.3
+
+
+def test_split_parcels_are_those_that_shapely_finds(folder):
+    parcels, zones = register()
+    split = set(gpd.read_file(folder / "report.gpkg", layer="split").number)
+    for number, shape in zip(parcels.parcel_no, parcels.geometry):
+        areas = [shape.intersection(zone).area for zone in zones.geometry]
+        if min(area for area in areas if area > 0) > 0.05 or sum(area > 0 for area in areas) == 1:
+            assert (number in split) == (sum(area > 0 for area in areas) > 1), number
+
+
+def test_the_report_has_what_a_gis_wants(folder):
+    parcels = gpd.read_file(folder / "report.gpkg", layer="parcels")
+    assert list(parcels.columns) == ["number", "records", "status", "use", "geometry"]
+    assert parcels.crs.to_epsg() == 25832 and parcels.number.is_unique and len(parcels) == 202
+    assert set(parcels.status) == {"ok", "split", "gap", "overlap"}
+    zones = gpd.read_file(folder / "report.gpkg", layer="zones")
+    assert list(zones.height) == [9.5, 12.0, 20.0]
+    styles = gpd.read_file(folder / "report.gpkg", layer="layer_styles")
+    assert {"gaps", "overlaps", "split", "parcels"} <= set(styles.f_table_name)
+    assert all("renderer-v2" in style for style in styles.styleQML)
+
+
+def test_moves_are_told(folder):
+    moved = gpd.read_file(folder / "work/moved.gpkg")
+    assert 0.5 < moved.move_mm.max() <= 0.7072
+    there = np.column_stack([moved.geometry.x, moved.geometry.y]) * 1000
+    assert np.allclose(np.hypot(*(there - moved[["x_mm", "y_mm"]].values).T), moved.move_mm, atol=1e-4)
+
+
+def test_the_layers_themselves_are_reported_at_once(folder):
+    told = command("report", "parcels.gpkg", "--zones", "zones.gpkg", "--frame", "--out", "framed.gpkg", cwd=folder)
+    assert told.stdout.startswith("1 gap (7.09 m2), 2 overlaps (762.27 m2, 0.46 m2); "), told.stderr
+    assert "OUT" not in set(gpd.read_file(folder / "framed.gpkg", layer="parcels").number)
+
+
+def test_without_faults_all_tiles(whole):
+    assert len(gv.check(whole)) == 0
+    assert gv.report(whole).summary().startswith("no gaps, no overlaps; ")
+
+
+def test_what_comes_back_has_each_attribute_once(whole):
+    parcels = register(faults=False)[0]
+    frame = gv.back(whole, whole.islands[0].parcels.rings)
+    assert list(frame.columns) == ["parcel_no", "use", "came_from", "edited", "geometry"]
+    assert list(frame.parcel_no) == list(parcels.parcel_no) and not frame.edited.any()
+    assert (frame.geom_type == parcels.geom_type).all()
+    assert [len(shape.interiors) for shape in frame.geometry if shape.geom_type == "Polygon"].count(20) == 1
+    assert frame.geometry.is_valid.all() and frame.geometry.symmetric_difference(parcels.geometry).area.max() < 2
+
+
+def test_edits_carry_the_numbers_of_those_they_came_from(whole):
+    frame = gv.apply(whole, [gv.Merge("1/1", "1/2"), gv.Merge("1/1", "1/3")])
+    assert [answer.split()[0] for answer in frame.attrs["answers"]] == ["ok", "refused"]
+    edited = frame[frame.edited == 1]
+    assert list(edited.came_from) == ["1/1,1/2"] and len(frame) == 201
+
+
+def test_back_from_an_export(whole, tmp_path):
+    whole.save(tmp_path / "work")
+    (tmp_path / "edits.txt").write_text("merge 1 2\n")
+    from gandovel.tool import export
+
+    export(tmp_path / "work/city.shp", tmp_path / "work/parcels.shp", tmp_path / "new", [tmp_path / "edits.txt"])
+    told = command("back", "new.shp", "--rows", "work/rows.csv", "--out", "new.gpkg", cwd=tmp_path)
+    assert told.stdout == "201 parcels, 1 of them from edits\n", told.stderr
+    assert len(gpd.read_file(tmp_path / "new.gpkg")) == 201
+
+
+def test_locate_and_area(whole):
+    parcels = register(faults=False)[0]
+    corner = Point(parcels.geometry.iloc[0].exterior.coords[0])
+    points = gpd.GeoDataFrame(geometry=[parcels.geometry.iloc[9].centroid, Point(0, 0), corner], crs=parcels.crs)
+    found = gv.locate(whole, points)
+    assert list(found["where"]) == ["inside", "outside", "edge"]
+    assert found.numbers.iloc[0] == parcels.parcel_no.iloc[9] and parcels.parcel_no.iloc[0] in found.numbers.iloc[2].split(",")
+    exact = gv.area(whole)
+    assert np.allclose(exact.area_m2, parcels.area, atol=0.1)
+    assert all(isinstance(value, int) for value in exact.area2_mm2)
+
+
+def test_a_pair_for_each_parcel_and_zone(whole):
+    pairs = gv.overlay(whole)
+    assert set(pairs.number) == set(register()[0].parcel_no)
+    assert set(pairs[pairs.number == register()[0].parcel_no.iloc[-1]].zone) == {"R1", "R2", "C"}
