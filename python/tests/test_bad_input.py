@@ -1,0 +1,108 @@
+"""What is refused: one line that says what and where, status 1, and nothing left under the final name."""
+from __future__ import annotations
+
+import os
+import resource
+import subprocess
+import sys
+
+import geopandas as gpd
+import numpy as np
+import pytest
+from shapely.geometry import LineString, Polygon, box
+
+import gandovel as gv
+from gandovel.prepared import Island, Rows
+from test_register import SOURCES, command
+
+CRS = 25832
+
+
+def layer(shapes, numbers=None, crs=CRS):
+    """Parcels of shapes, numbered p0, p1 .. or as told."""
+    return gpd.GeoDataFrame({"parcel_no": numbers or [f"p{at}" for at in range(len(shapes))]}, geometry=shapes, crs=crs)
+
+
+BOWTIE = Polygon([(0, 0), (2, 2), (2, 0), (0, 2)])
+ONE = box(0, 0, 10, 10)
+
+BAD = {
+    "invalid": (layer([box(5, 0, 9, 9), BOWTIE]), {}, "P6", "p1", "(1.000, 1.000)"),
+    "empty": (layer([ONE, Polygon()]), {}, "P4", "p1", "no geometry"),
+    "line": (layer([LineString([(0, 0), (1, 1)])]), {}, "P5", "p0", "LineString"),
+    "twice": (layer([ONE, box(10, 0, 20, 10)], ["a", "a"]), {}, "P3", "a", "same parcel_no"),
+    "column": (layer([ONE]), {"number": "nr"}, "P2", None, "parcel_no"),
+    "degrees": (layer([ONE], crs=4326), {}, "P7", None, "degrees"),
+    "mixed": (layer([ONE]), {"zones": layer([ONE], crs=25833)}, "P7", None, "UTM zone 33N"),
+    "apart": (layer([ONE]), {"zones": layer([box(50, 50, 60, 60)])}, "P11", None, "(50.000, 50.000)"),
+    "move": (layer([box(0.0004, 0, 10, 10)]), {"max_move": 0.1}, "P8", "p0", "0.40 mm"),
+    "thin": (layer([ONE, box(10, 0, 10.0001, 10)]), {}, "P9", "p1", "nothing is left"),
+}
+
+
+@pytest.mark.parametrize("name", sorted(BAD))
+def test_refused_by_name_and_place(name):
+    frame, options, code, number, words = BAD[name]
+    with pytest.raises(gv.Refused) as refused:
+        gv.prepare(frame, **options)
+    assert (refused.value.code, refused.value.number) == (code, number)
+    assert words in str(refused.value) and "\n" not in str(refused.value)
+
+
+def test_a_ring_past_4096_corners():
+    angles = np.linspace(0, 2 * np.pi, 4098)[:-1]
+    round_one = Polygon(np.column_stack([np.cos(angles), np.sin(angles)]) * 10_000)
+    with pytest.raises(gv.Refused) as refused:
+        gv.prepare(layer([round_one]))
+    assert refused.value.code == "P10" and refused.value.number == "p0" and "4097 corners" in str(refused.value)
+
+
+def test_65537_rings():
+    from gandovel.prepare import _test_limits
+
+    ring = np.array([[0, 0], [1, 0], [0, 1]])
+    island = Island(ring, Rows([ring] * 65_537, [0] * 65_537, [1] * 65_537))
+    with pytest.raises(gv.Refused, match="P10 65537 rings"):
+        _test_limits(island, (["a"], []), 1000.0)
+    _test_limits(Island(ring, Rows([ring] * 65_536, [0] * 65_536, [1] * 65_536)), (["a"], []), 1000.0)
+
+
+def test_a_file_that_is_torn_or_not_there(tmp_path):
+    layer([ONE]).to_file(tmp_path / "parcels.gpkg", driver="GPKG")
+    whole = (tmp_path / "parcels.gpkg").read_bytes()
+    (tmp_path / "torn.gpkg").write_bytes(whole[:3000])
+    for name in ("torn.gpkg", "none.gpkg"):
+        ended = command("prepare", name, "--out", "work", cwd=tmp_path)
+        assert ended.returncode == 1 and ended.stdout == ""
+        assert ended.stderr.strip().splitlines()[-1].startswith("error: parcels: P1 ") and name in ended.stderr
+        assert not (tmp_path / "work").exists()
+
+
+def test_a_program_that_is_not_there(tmp_path, monkeypatch):
+    monkeypatch.setenv("GANDOVEL_TOOL", str(tmp_path / "none"))
+    with pytest.raises(gv.Refused, match="T1 the program parcel_tool is not there"):
+        gv.check(gv.prepare(layer([ONE])))
+
+
+def test_a_full_disk_leaves_nothing_half_written(tmp_path):
+    cells = [box(x, y, x + 1, y + 1) for x in range(40) for y in range(40)]
+    layer(cells).to_file(tmp_path / "parcels.gpkg", driver="GPKG")
+    ended = subprocess.run(
+        [sys.executable, "-m", "gandovel", "prepare", "parcels.gpkg", "--out", "work"], cwd=tmp_path, text=True,
+        stdout=subprocess.PIPE, stderr=subprocess.PIPE, env={**os.environ, "PYTHONPATH": str(SOURCES)},
+        preexec_fn=lambda: resource.setrlimit(resource.RLIMIT_FSIZE, (100_000, 100_000)))
+    assert ended.returncode == 1 and ended.stderr.strip().splitlines()[-1].startswith("error: P14 ")
+    assert sorted(path.name for path in tmp_path.iterdir()) == ["parcels.gpkg"]
+
+
+def test_a_folder_of_someone_else_is_left(tmp_path):
+    (tmp_path / "work").mkdir()
+    (tmp_path / "work/mine.txt").write_text("mine")
+    with pytest.raises(gv.Refused, match="P14"):
+        gv.prepare(layer([ONE])).save(tmp_path / "work")
+    assert (tmp_path / "work/mine.txt").read_text() == "mine"
+
+
+def test_edits_of_a_parcel_of_several_records(whole):
+    with pytest.raises(gv.Refused, match="P13"):
+        gv.apply(whole, [gv.Merge("11/2", "1/1")])

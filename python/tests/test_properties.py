@@ -1,0 +1,110 @@
+"""Properties: what tiles is accepted and what does not is not, whatever the floats; preparing twice changes nothing."""
+from __future__ import annotations
+
+from fractions import Fraction
+
+import geopandas as gpd
+import numpy as np
+from hypothesis import HealthCheck, given, settings, strategies as st
+from shapely.geometry import Polygon
+
+import gandovel as gv
+from gandovel.faults import faults_of, twice_area
+from gandovel.grid import twice_area as ring_area
+from gandovel.holes import cut_holes
+
+FEW = settings(max_examples=12, deadline=None, suppress_health_check=list(HealthCheck))
+MANY = settings(max_examples=60, deadline=None, suppress_health_check=list(HealthCheck))
+STEPS = st.lists(st.integers(2, 40), min_size=2, max_size=4)
+
+
+def tiling(columns, rows, slant, third):
+    """Strips of rational cells, each row's cuts moved by a part of its height: T junctions on slanting rows.
+
+    Cells are lists of corners (metres, Fractions): rows of height rows[j] whose lines rise by `slant` a metre.
+    """
+    width, cells, low = sum(columns), [], Fraction(0)
+    for at, height in enumerate(rows):
+        cuts, x = [Fraction(0)], Fraction(0)
+        for step in columns[:-1]:
+            x += step
+            cuts.append(x + Fraction(at, third))
+        cuts.append(Fraction(width))
+        for left, right in zip(cuts, cuts[1:]):
+            cells.append([(left, low + left * slant), (right, low + right * slant),
+                          (right, low + height + right * slant), (left, low + height + left * slant)])
+        low += height
+    return cells
+
+
+def layer(cells):
+    """Cells as parcels, coordinates as the nearest floats, far from the origin."""
+    shapes = [Polygon([(float(x + 561234), float(y + 5934567)) for x, y in cell]) for cell in cells]
+    return gpd.GeoDataFrame({"parcel_no": [str(at) for at in range(len(cells))]}, geometry=shapes, crs=25832)
+
+
+SLANTS = st.fractions(Fraction(-1, 2), Fraction(1, 2), max_denominator=97)
+
+
+@FEW
+@given(STEPS, STEPS, SLANTS, st.integers(3, 7))
+def test_a_rational_tiling_is_accepted(columns, rows, slant, third):
+    prepared = gv.prepare(layer(tiling(columns, rows, slant, third)))
+    assert len(gv.check(prepared)) == 0
+
+
+@FEW
+@given(STEPS, STEPS, st.integers(3, 7), st.integers(0, 99), st.sampled_from([-1, 1]))
+def test_a_square_millimetre_is_found_and_nothing_else(columns, rows, third, which, way):
+    cells = tiling(columns, rows, Fraction(0), 1)
+    inner = [at for at in range(len(cells)) if (at + 1) % len(columns)]
+    cell = cells[inner[which % len(inner)]]
+    (x1, y1), (x2, y2) = cell[1], cell[2]
+    middle = [(x1, y1 + Fraction(1, 1)), (x1 + way * Fraction(1, 1000), y1 + Fraction(1001, 1000)), (x1, y1 + Fraction(1002, 1000))]
+    cells[cells.index(cell)] = [cell[0], cell[1], *middle, cell[2], cell[3]]
+    found = gv.check(gv.prepare(layer(cells)))
+    assert [(kind, area2) for kind, area2 in zip(found.kind, found.area2_mm2)] == [("gap" if way < 0 else "overlap", "2")]
+
+
+@FEW
+@given(STEPS, STEPS, SLANTS, st.integers(3, 7))
+def test_preparing_what_is_prepared_changes_nothing(columns, rows, slant, third):
+    once = gv.prepare(layer(tiling(columns, rows, slant, third)))
+    again = gv.prepare(once.frame()[["number", "geometry"]], number="number")
+    assert again.told["put_in"] == 0 and again.told["moved"] == 0
+    for one, other in zip(once.islands[0].parcels.rings, again.islands[0].parcels.rings):
+        assert {tuple(corner) for corner in one} == {tuple(corner) for corner in other} and len(one) == len(other)
+
+
+HOLES = st.sets(st.tuples(st.integers(0, 5), st.integers(0, 5)), min_size=1, max_size=18)
+
+
+@MANY
+@given(HOLES, st.integers(1, 10))
+def test_holes_are_cut_into_simple_rings_of_the_same_area(places, size):
+    outer = np.array([(-1, -3), (70, 0), (66, 71), (2, 63)])
+    holes = [np.array([(10 * x + 3, 10 * y + 3), (10 * x + 3, 10 * y + 3 + size), (10 * x + 4 + size // 2, 10 * y + 2 + size)])
+             for x, y in places]
+    holes = [hole if ring_area(hole) < 0 else hole[::-1] for hole in holes if ring_area(hole) != 0]
+    pieces = cut_holes(outer, holes)
+    assert pieces is not None
+    assert all(Polygon(piece).is_valid and Polygon(piece).exterior.is_simple for piece in pieces)
+    assert sum(map(ring_area, pieces)) == ring_area(outer) + sum(map(ring_area, holes))
+    corners = {tuple(corner) for ring in (outer, *holes) for corner in ring.tolist()}
+    assert all(tuple(corner) in corners for piece in pieces for corner in piece.tolist())
+
+
+def test_holes_that_touch_the_border_and_one_another():
+    outer = np.array([(0, 0), (10, 0), (10, 10), (0, 10)])
+    holes = [np.array([(0, 0), (2, 4), (4, 2)]), np.array([(4, 2), (4, 6), (8, 4)]), np.array([(8, 4), (8, 8), (10, 10)])]
+    pieces = cut_holes(outer, [hole if ring_area(hole) < 0 else hole[::-1] for hole in holes])
+    assert all(Polygon(piece).exterior.is_simple for piece in pieces)
+    assert sum(map(ring_area, pieces)) == 200 - sum(abs(ring_area(hole)) for hole in holes)
+
+
+def test_crossing_edges_give_exact_fractions():
+    one, other = [(0, 0), (3, 0), (3, 3), (0, 3)], [(1, -1), (5, 1), (2, 5)]
+    edges = np.array([(*a, *b, 1) for ring in (one, other) for a, b in zip(ring, ring[1:] + ring[:1])])
+    faults = faults_of(edges)
+    assert sum(fault.area2 * fault.depth for fault in faults) == twice_area(one) + twice_area(other)
+    assert sorted(fault.depth for fault in faults) == [1, 1, 1, 2] or max(fault.depth for fault in faults) == 2
