@@ -59,9 +59,12 @@ def _prepared(source: str, options: argparse.Namespace, progress: Progress) -> P
 
 def _prepare(options: argparse.Namespace) -> None:
     progress = Progress(6, shown=True)
-    prepared = _prepared(options.parcels, options, progress)
-    progress.step("writing")
-    prepared.save(options.out)
+    try:
+        prepared = _prepared(options.parcels, options, progress)
+        progress.step("writing")
+        prepared.save(options.out)
+    finally:
+        progress.close()
     print(prepared.summary())
     print(progress.end(), file=sys.stderr)
 
@@ -69,12 +72,15 @@ def _prepare(options: argparse.Namespace) -> None:
 def _report(options: argparse.Namespace) -> None:
     from .report import report
 
-    progress = Progress(4, shown=True)
+    progress = Progress(shown=True)
     folder = os.path.isfile(os.path.join(options.source, "prepared.json"))
-    prepared = load(options.source) if folder else _prepared(options.source, options, progress)
-    answer = report(prepared, options.min_area, progress)
-    progress.step("writing")
-    answer.save(options.out)
+    try:
+        prepared = load(options.source) if folder else _prepared(options.source, options, progress)
+        answer = report(prepared, options.min_area, progress)
+        progress.step("writing")
+        answer.save(options.out)
+    finally:
+        progress.close()
     print(answer.summary())
     print(progress.end(), file=sys.stderr)
 

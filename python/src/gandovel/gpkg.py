@@ -38,7 +38,7 @@ def write_layers(path: Union[str, Path], layers: Sequence[Tuple[str, gpd.GeoData
                 _put_styles(connection, styles)
             connection.commit()
         os.replace(aside, path)
-    except (OSError, sqlite3.Error, fiona.errors.FionaError, RuntimeError) as fault:
+    except Exception as fault:  # GDAL, Fiona and SQLite each have their own
         raise Refused("P14", f"{path} can't be written: {fault}") from fault
     finally:
         for left in (aside, Path(f"{aside}-journal"), Path(f"{aside}-wal"), Path(f"{aside}-shm")):
