@@ -14,6 +14,7 @@ from typing import Any, Dict, Iterable, List, Sequence, Tuple, Union
 import fiona
 import geopandas as gpd
 import numpy as np
+from fiona._err import CPLE_BaseError
 from geopandas.io.file import infer_schema
 from shapely.geometry import MultiPolygon
 
@@ -38,7 +39,7 @@ def write_layers(path: Union[str, Path], layers: Sequence[Tuple[str, gpd.GeoData
                 _put_styles(connection, styles)
             connection.commit()
         os.replace(aside, path)
-    except Exception as fault:  # GDAL, Fiona and SQLite each have their own
+    except (OSError, sqlite3.Error, fiona.errors.FionaError, CPLE_BaseError, RuntimeError) as fault:
         raise Refused("P14", f"{path} can't be written: {fault}") from fault
     finally:
         for left in (aside, Path(f"{aside}-journal"), Path(f"{aside}-wal"), Path(f"{aside}-shm")):

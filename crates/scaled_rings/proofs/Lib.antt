@@ -1,0 +1,7 @@
+pub mod Scaling
+pub mod Lists
+pub mod Points
+pub mod Simple
+pub mod Nets
+pub mod TenEdits
+pub mod Farthest

@@ -1,0 +1,16 @@
+use Rattle.std.proofs.Common.{refl, sym, subst}
+use Rattle.ring_edits.specs.declared.edit.Edit.TheVariants.{Insert}
+use Rattle.scaled_rings.specs.TenfoldEdits.{IsTenfoldEdit}
+use Rattle.scaled_rings.proofs.edits.tenfold_edit.Goals as goal
+
+pub returns-in-Insert : goal.returns-in-Insert
+returns-in-Insert g c =
+    subst (λ e. IsTenfoldEdit e (Insert c.tenfold.result c.tenfold-in-Insert.result c.tenfold-in-Insert-2.result)) (sym c.in-Insert.is) (
+      c.tenfold.result,
+      c.tenfold-in-Insert.result,
+      c.tenfold-in-Insert-2.result,
+      refl,
+      c.tenfold.ensures,
+      c.tenfold-in-Insert.ensures,
+      c.tenfold-in-Insert-2.ensures,
+    )

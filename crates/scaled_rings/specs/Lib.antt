@@ -1,0 +1,2 @@
+pub mod Tenfold
+pub mod TenfoldEdits

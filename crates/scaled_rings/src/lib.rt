@@ -1,0 +1,14 @@
+//! Rings and edits, each coordinate times ten: what is so of them is so of those ten times as large.
+#![tactic(auto)]
+
+mod boxes;
+mod corners;
+mod edits;
+mod limits;
+mod rings;
+
+pub use boxes::least_box;
+pub use corners::{least_far, tenfold, tenfold_all};
+pub use edits::{least_far_of_edit, tenfold_edit};
+pub use limits::NEAR_LIMIT;
+pub use rings::tenfold_ring;
