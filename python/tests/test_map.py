@@ -15,6 +15,7 @@ from selenium.webdriver.support.ui import WebDriverWait
 from shapely.geometry import Polygon, box
 
 from gandovel.errors import Refused
+from gandovel.gpkg import write_layers
 from gandovel.map import write_map
 
 CRS = "EPSG:25832"
@@ -43,18 +44,18 @@ def report(path: Path, side: int = 3, first: str = "101", zones: bool = True, fa
     rows = [{"number": first if at == 0 else str(101 + at), "records": str(at + 1), "status": "split" if at == 1 and zones else "ok",
              "geometry": box(east + 10 * (at % side), north + 10 * (at // side), east + 10 * (at % side) + 10, north + 10 * (at // side) + 10)}
             for at in range(side * side)]
-    frame(rows).to_file(path, layer="parcels", driver="GPKG")
+    layers = [("parcels", frame(rows))]
     if zones:
         halves = [{"number": "W", "geometry": box(east, north, east + 15, north + 10 * side)},
                   {"number": "E", "geometry": box(east + 15, north, east + 10 * side, north + 10 * side)}]
-        frame(halves).to_file(path, layer="zones", driver="GPKG")
-        frame([{"number": "102", "zones": "W,E", "zone_count": 2, "sliver": 0, "geometry": rows[1]["geometry"]}]).to_file(
-            path, layer="split", driver="GPKG")
+        split = {"number": "102", "zones": "W,E", "zone_count": 2, "sliver": 0, "geometry": rows[1]["geometry"]}
+        layers += [("zones", frame(halves)), ("split", frame([split]))]
     if faults:
         gap = Polygon([(east + 30, north), (east + 30.002, north), (east + 30.002, north + 10)])
-        frame([{"area2_mm2": "20000", "area_m2": 0.01, "numbers": "103", "geometry": gap}]).to_file(path, layer="gaps", driver="GPKG")
-        frame([{"area2_mm2": "8000000", "area_m2": 4.0, "numbers": "104,105", "geometry": box(east + 9, north + 12, east + 11, north + 14)}]
-              ).to_file(path, layer="overlaps", driver="GPKG")
+        overlap = box(east + 9, north + 12, east + 11, north + 14)
+        layers += [("gaps", frame([{"area2_mm2": "20000", "area_m2": 0.01, "numbers": "103", "geometry": gap}])),
+                   ("overlaps", frame([{"area2_mm2": "8000000", "area_m2": 4.0, "numbers": "104,105", "geometry": overlap}]))]
+    write_layers(path, layers, {})
     return path
 
 
