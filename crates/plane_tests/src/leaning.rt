@@ -130,7 +130,7 @@ fn measures_reaches(rt: HostRuntime) -> Result<(), Fail> {
         ((0, 0), (3, -7), 7),
         ((10, 2), (-5, 3), 15),
         ((4, 4), (4, 4), 0),
-        ((-LIMIT, -LIMIT), (LIMIT, 0), 20_000_000_000),
+        ((-LIMIT, -LIMIT), (LIMIT, 0), 200_000_000_000),
     ] {
         assert_eq!(rt; reach(corner(a)?, corner(b)?), want, "at {} {}", a.0, a.1);
     }
