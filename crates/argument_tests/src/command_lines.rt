@@ -1,3 +1,5 @@
+//! Command lines, and what each asks for or is refused for.
+
 use clap::error::ErrorKind;
 use geo_exact::{Corner, LIMIT};
 use std::test::Fail;

@@ -1,3 +1,5 @@
+//! The cells along one axis: how long they are, and which one a coordinate lies in.
+
 ghost use Rattle.std.specs.Prelude.{◌≡◌, ◌+◌, ◌-◌, ◌<◌, ◌≤◌, ◌↔◌, ℕ, min};
 ghost use Rattle.cell_index.specs.declared.axis.TheConstants.{ACROSS};
 ghost use Rattle.cell_index.specs.Cells.{distance as distance_of, cell_side as side_of, cell_of as cell_along, cells_along, brought_into};

@@ -1,3 +1,5 @@
+//! Entries of many cells at once: room for them, taking them out, and adding them.
+
 ghost use Rattle.std.specs.Prelude.{◌≡◌, ◌++◌, length, ℕ, List, OnOk};
 ghost use Rattle.cell_index.specs.declared.entry.Entry.{Entry};
 ghost use Rattle.cell_index.specs.Cells.{without};

@@ -1,3 +1,5 @@
+//! One cell's list of entries, and room for more in each of some cells.
+
 ghost use Rattle.std.specs.Prelude.{◌≡◌, length, not, OnOk};
 ghost use Rattle.std.specs.List.{filter};
 ghost use Rattle.cell_index.specs.Cells.{is_same_entry};

@@ -1,3 +1,5 @@
+//! A key with its box, as a cell keeps it.
+
 ghost use Rattle.std.specs.Prelude.{◌≡◌};
 ghost use Rattle.cell_index.specs.Cells.{is_same_entry};
 

@@ -1,3 +1,5 @@
+//! The index: which boxes stand in which cells of a grid over an area.
+
 ghost use Rattle.std.specs.Prelude.{◌≡◌, ◌≢◌, ◌↔◌, ℕ, List, [], ◌∷◌, ◌++◌, map, IfOk, OnOk, OnErr};
 ghost use Rattle.std.specs.List.{filter, Contains, AllPairs};
 ghost use Rattle.geo_exact.specs.Bounds.{HoldsCorner};

@@ -1,3 +1,5 @@
+//! Laws: what stands in a cell, and that a search of a few cells misses nothing.
+
 ghost use Rattle.std.specs.Prelude.{◌≡◌, ◌<◌, ℕ, Bool, List, IsTrue};
 ghost use Rattle.std.specs.List.{All, filter, count_by};
 ghost use Rattle.geo_exact.specs.declared.bounds.Bounds.{Bounds};

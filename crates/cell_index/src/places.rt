@@ -1,3 +1,5 @@
+//! Where an entry is kept: in each cell of its box, or beside the cells where its box is wide.
+
 ghost use Rattle.std.specs.Prelude.{◌≡◌, ◌<◌, ◌≤◌, ◌↔◌, ℕ, IsTrue};
 ghost use Rattle.cell_index.specs.own.Ranges.{is_kept_in, place_count, place_at, HasPlace};
 

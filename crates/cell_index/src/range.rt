@@ -1,3 +1,5 @@
+//! The cells of a box, as a range of columns and a range of rows.
+
 ghost use Rattle.std.specs.Prelude.{◌≡◌, ◌+◌, ◌<◌, ◌↔◌, ℕ, IsTrue};
 ghost use Rattle.cell_index.specs.Cells.{cell_of as cell_along, box_cells, stands_in, IsCellBetween};
 ghost use Rattle.cell_index.specs.own.Ranges.{HasCell, cell_count, column_at, row_at, number_at};

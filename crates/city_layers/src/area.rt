@@ -1,3 +1,5 @@
+//! The area run: a line for each polygon of a layer.
+
 ghost use Rattle.std.specs.Prelude.{◌≡◌, ◌⊎◌, ℕ, List, IfErr, IsErrAnd, IsErrOf, OnOk};
 ghost use Rattle.std.specs.Borrow.{Bor};
 ghost use Rattle.geo_exact.specs.Bytes.{raised};

@@ -1,3 +1,5 @@
+//! Why a run ends early, and the text that the user sees.
+
 ghost use Rattle.std.specs.Prelude.{◌≡◌};
 ghost use Rattle.city_layers.specs.declared.fault.ToolFault.TheVariants.{NoMemory, Output};
 

@@ -1,3 +1,5 @@
+//! The rings of a layer, read from its files.
+
 ghost use Rattle.std.specs.Prelude.{◌≡◌, ◌⊎◌, List, IfOk, IfErr, IsErrAnd, MatchResult};
 ghost use Rattle.std.specs.Option.{option_copied};
 ghost use Rattle.shp_files.specs.LayerFile.{IsLayerFile, NumberedRing, rings_of};

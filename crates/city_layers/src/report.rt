@@ -1,3 +1,5 @@
+//! The text of an area run, made as the rings are read.
+
 ghost use Rattle.std.specs.Prelude.{◌≡◌, ◌⊎◌, ◌++◌, [], List, OnOk, IfOk, IfErr, IsErrAnd};
 ghost use Rattle.std.specs.Option.{option_copied};
 ghost use Rattle.shp_files.specs.FirstFault.{IsFirstFault};

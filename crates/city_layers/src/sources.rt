@@ -1,3 +1,5 @@
+//! The bytes of a layer's files.
+
 ghost use Rattle.std.specs.Prelude.{◌≡◌, ⊤, ℕ, List, Result, IfOk, IfSome, IsErrOf};
 ghost use Rattle.std.specs.Option.{option_copied};
 ghost use Rattle.city_layers.specs.Sources.{index_of, bytes_of, IsTextBy, IsSourceBy};

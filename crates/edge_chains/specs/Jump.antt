@@ -1,8 +1,7 @@
 -- Points on the two sides of an edge, and how winding numbers differ there: the jump is this product's own. That a
--- polygon's interior is on one side of
--- a ring's edges, to the right of one who walks along the ring in vertex order, is the ESRI Shapefile Technical
--- Description's, July 1998, "Polygon";
--- here rings may run in either direction, and overlap.
+-- polygon's interior is on one side of a ring's edges, to the right of one who walks along the ring in vertex order,
+-- is the ESRI Shapefile Technical Description's, July 1998, "Polygon"; here rings may run in either direction, and
+-- overlap.
 use Rattle.std.specs.Prelude.{◌≡◌, ◌⊎◌, ℤ, pos, ◌-ℤ◌, ◌<ℤ◌, List, ◌++◌}
 use Rattle.std.specs.List.{Contains}
 use Rattle.geo_exact.specs.declared.corner.Corner.{Corner}
@@ -36,8 +35,7 @@ abbrev pub net_difference : List (List Corner) → List (List Corner) → Corner
 net_difference added taken a b = net_count added a b -ℤ net_count taken a b
 
 -- Two points beside the edge from a to b, off all edges and with no other edge between them: the difference of the
--- winding numbers left of the edge,
--- less the one right of it, is the edge's net count, added less taken.
+-- winding numbers left of the edge, less the one right of it, is the edge's net count, added less taken.
 pub record IsJump (added taken : List (List Corner)) (a b : Corner) (left right : Point) : Type 0 where
   pub beside : AreBeside left right a b
   pub left_is_off : ¬ IsOnSome left (all_edges (added ++ taken))

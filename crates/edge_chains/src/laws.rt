@@ -1,3 +1,5 @@
+//! Laws: equal net numbers cover alike, and noding changes no ground.
+
 ghost use Rattle.std.specs.Prelude.{◌≡◌, ◌≢◌, ◌↔◌, pos, List, ◌++◌};
 ghost use Rattle.std.specs.List.{AllZip, Contains};
 ghost use Rattle.geo_exact.specs.declared.corner.Corner.{Corner};

@@ -1,3 +1,5 @@
+//! The order of edges: by their first corners, then by their second.
+
 ghost use Rattle.std.specs.Prelude.{◌≡◌};
 ghost use Rattle.edge_chains.specs.Counts.{is_edge_before};
 

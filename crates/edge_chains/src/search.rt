@@ -1,3 +1,5 @@
+//! Which of many corners lie strictly inside an edge.
+
 ghost use Rattle.std.specs.Prelude.{◌≡◌, ◌↔◌, List, IfOk};
 ghost use Rattle.std.specs.List.{filter, Contains};
 ghost use Rattle.edge_chains.specs.own.Steps.{AreInside};

@@ -1,3 +1,5 @@
+//! The table that ties clerks' cards to one list of entries.
+
 ghost use Rattle.std.specs.Prelude.{◌≡◌, ◌<◌, true, [], length, IfOk};
 ghost use mathlib.Core.Option.{some};
 ghost use Rattle.entry_cards.specs.own.Rule.{keeper_view, blank_cards, joined, without_first, first_of, with_more, AreKnown};

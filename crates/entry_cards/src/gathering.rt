@@ -1,3 +1,5 @@
+//! A keeper that takes stubs in, to compare them all at once.
+
 ghost use Rattle.std.specs.Prelude.{◌≡◌, [], ◌∷◌, length};
 ghost use Rattle.entry_cards.specs.Cards.{AccountFor};
 ghost use Rattle.entry_cards.specs.own.Rule.{Keeps};

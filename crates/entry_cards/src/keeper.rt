@@ -1,3 +1,5 @@
+//! The keeper of the list of all entries, who deals stubs.
+
 ghost use Rattle.std.specs.Prelude.{◌≡◌, ◌+◌, ◌<◌, [], ◌∷◌, ◌++◌, IfOk};
 ghost use Rattle.entry_cards.specs.Cards.{IsClerk, of_clerk};
 

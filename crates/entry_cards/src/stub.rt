@@ -1,3 +1,5 @@
+//! A clerk's stub: which entries were made with it.
+
 use crate::view::View;
 use atomic_table::Badge;
 use std::marker::Model;

@@ -1,3 +1,5 @@
+//! What a seat of the table knows, in proofs alone.
+
 use std::collections::LinkedList;
 
 /// What a seat of the table knows. No value of it is made: it exists in proofs alone.

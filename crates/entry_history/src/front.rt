@@ -1,3 +1,5 @@
+//! A beginning of a list that only grows.
+
 ghost use Rattle.std.specs.Prelude.{◌≡◌, ◌⊎◌, ◌+◌, ◌<◌, ◌^◌, [], ◌∷◌, ◌++◌, length, MatchBool};
 ghost use mathlib.Core.List.{IsPrefix};
 

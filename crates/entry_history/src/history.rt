@@ -1,3 +1,5 @@
+//! A list that only grows, and who may add to it.
+
 ghost use Rattle.std.specs.Prelude.{◌≡◌, []};
 
 use crate::front::Front;

@@ -92,8 +92,7 @@ pub record IsLoadFault (records : List NumberedRing) (city : List Corner) (fault
   pub is_first : IsFirstFault rows refined fault
 
 -- these are all faults of the rows and the refined ring that are of the first fault's kind: limits before rings, and
--- rings before gaps; of limits, the
--- first row that passes one
+-- rings before gaps; of limits, the first row that passes one
 abbrev pub AreAllFaults : {A : Type 0} → List NumberedRing → List Corner → AllFaults A → Type 0
 AreAllFaults rows refined (AllTooMany number) = IsFirstTooMany rows number
 AreAllFaults rows refined (Rings faults) = AreWithinLimits rows × AreRingFaults rows faults.items

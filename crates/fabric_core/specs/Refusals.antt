@@ -1,6 +1,6 @@
 -- Why an edit is refused: the first reason that applies, in this order (this product's own): the journal is full; an
--- id that it names is no parcel's; what the
--- edit itself asks of paths, borders and edges; the limits of a layer; a new ring that is not simple.
+-- id that it names is no parcel's; what the edit itself asks of paths, borders and edges; the limits of a layer; a
+-- new ring that is not simple.
 use Rattle.std.specs.Prelude.{◌≡◌, ◌⊎◌, ⊤, ℕ, ◌+◌, ◌<◌, ◌≤◌, List, [], ◌∷◌, ◌++◌, length}
 use Rattle.std.specs.List.{Contains}
 use Rattle.geo_exact.specs.declared.corner.Corner.{Corner}
@@ -114,8 +114,7 @@ IsIdRefusal state journal edit (Retired id by) = IsFirstAbsent state.rows (named
 IsIdRefusal state journal edit other = ⊥
 
 -- the edit is refused for this reason, in the state that the journal has led to (the two go together: a state with
--- another's journal is none that a fabric
--- has); want of memory is none of these
+-- another's journal is none that a fabric has); want of memory is none of these
 abbrev pub IsRefusal : {A : Type 0} → State → List (JournalEntry A) → Edit A → Refusal → Type 0
 IsRefusal {A} state journal edit refusal =
     ((refusal ≡ JournalFull) × (JOURNAL_ENTRIES ≤ length journal))

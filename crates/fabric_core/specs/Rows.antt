@@ -40,8 +40,7 @@ pub record Tiles : Type 0 where
   pub index : Grid
 
 -- Of two points beside the edge from a to b, off all edges and with no other edge of the rows and the refined city
--- between them, there is one that the
--- rows go round another number of times, all together, than the city.
+-- between them, there is one that the rows go round another number of times, all together, than the city.
 pub record IsUntiledBeside (rows : List NumberedRing) (city refined : List Corner) (a b : Corner) : Type 0 where
   pub left : Point
   pub right : Point

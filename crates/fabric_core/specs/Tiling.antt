@@ -1,7 +1,6 @@
 -- A tiling: rows that cover a city and nothing else, without a gap, an overlap or a tolerance (this product's own;
--- interiors and winding numbers are those
--- of OGC 06-103r4, 6.1.11, Polygon). It is said of all rational points that lie on no edge; a row is a parcel's ring
--- under the parcel's number.
+-- interiors and winding numbers are those of OGC 06-103r4, 6.1.11, Polygon). It is said of all rational points that
+-- lie on no edge; a row is a parcel's ring under the parcel's number.
 use Rattle.std.specs.Prelude.{◌≡◌, pos, ◌≤ℤ◌, List, ◌∷◌, ◌++◌, map}
 use Rattle.std.specs.List.{AllByRecursion}
 use Rattle.geo_exact.specs.declared.corner.Corner.{Corner}
@@ -36,8 +35,7 @@ pub record IsInOne (p : Point) (rows : List NumberedRing) : Type 0 where
   pub none_behind : IsInNone p behind
 
 -- Off all edges, a point inside the city is in exactly one row, and the city goes round it once; a point that is not
--- inside is in none, and the city does
--- not go round it. And the rows' twice-areas sum to the city's.
+-- inside is in none, and the city does not go round it. And the rows' twice-areas sum to the city's.
 pub record IsTiling (rows : List NumberedRing) (city : List Corner) : Type 0 where
   pub inside : (p : Point) → IsOffEdges p rows city → IsInterior p city → (winding p city ≡ pos 1) × IsInOne p rows
   pub outside : (p : Point) → IsOffEdges p rows city → ¬ IsInterior p city → (winding p city ≡ pos 0) × IsInNone p rows

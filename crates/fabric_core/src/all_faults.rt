@@ -1,3 +1,5 @@
+//! All faults of one kind, where rings are no layer of a city.
+
 ghost use Rattle.std.specs.Prelude.{◌≡◌, ◌⊎◌, ◌≤◌, length, List, IfOk, IfErr, OnOk, IsErrAnd};
 ghost use Rattle.std.specs.List.{AllByRecursion};
 ghost use Rattle.std.specs.List.Sorted.{IsStrictlyIncreasing};

@@ -1,3 +1,5 @@
+//! Laws: rows lie in their city's box, and candidates by boxes miss no parcel.
+
 ghost use Rattle.std.specs.Prelude.{◌≡◌, List, ◌∷◌, []};
 ghost use Rattle.std.specs.List.{All, AllByRecursion, Contains};
 ghost use Rattle.geo_exact.specs.declared.bounds.Bounds.{Bounds};

@@ -1,3 +1,5 @@
+//! The parcels that a search of the index finds, in order and each once.
+
 ghost use Rattle.std.specs.Prelude.{◌↔◌, ℕ, IfOk};
 ghost use Rattle.std.specs.List.{AllZip, Contains};
 ghost use Rattle.std.specs.List.Sorted.{IsStrictlyIncreasing};

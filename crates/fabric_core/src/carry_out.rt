@@ -1,3 +1,5 @@
+//! An accepted edit, carried out.
+
 ghost use Rattle.std.specs.Prelude.{◌≡◌, ◌∷◌, ◌++◌, [], IfOk, OnOk, OnErr};
 ghost use Rattle.fabric_core.specs.EditResults.{IsEntryOf};
 ghost use Rattle.fabric_core.specs.Tiling.{corner_lists};

@@ -1,3 +1,5 @@
+//! What an edit takes out of a fabric and what it brings, or why it is refused.
+
 ghost use Rattle.std.specs.Prelude.{◌≡◌, ◌+◌, ◌^◌, ◌<◌, ◌∷◌, [], map, IfOk, IfErr};
 ghost use Rattle.std.specs.List.{All, AllByRecursion, Contains};
 ghost use Rattle.geo_exact.specs.Bounds.{HoldsCorner};

@@ -1,3 +1,5 @@
+//! The city: the ring that parcels tile.
+
 ghost use Rattle.std.specs.Prelude.{◌≡◌, ◌⊎◌, ◌≤◌, length, IfOk, IfErr, IsErrAnd};
 ghost use Rattle.geo_exact.specs.Bounds.{IsLeastBox};
 ghost use Rattle.geo_exact.specs.Point.{Point};

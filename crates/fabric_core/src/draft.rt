@@ -1,3 +1,5 @@
+//! The draft of an edit: all that it needs, before anything is changed.
+
 ghost use Rattle.std.specs.Prelude.{◌≡◌, ◌⊎◌, ◌+◌, ◌<◌, ◌≤◌, ◌^◌, IfOk, IfErr};
 ghost use Rattle.geo_exact.specs.Layers.{corner_count};
 ghost use Rattle.fabric_core.specs.declared.journal.TheConstants.{JOURNAL_ENTRIES};

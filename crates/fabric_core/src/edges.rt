@@ -1,3 +1,5 @@
+//! The parcels that have an edge into which a corner is put.
+
 ghost use Rattle.std.specs.Prelude.{◌≡◌, ◌≢◌, map, IfOk};
 ghost use Rattle.std.specs.List.{All, AllByRecursion};
 ghost use Rattle.geo_exact.specs.Bounds.{HoldsCorner};

@@ -1,3 +1,5 @@
+//! The fabric: a layer that clerks edit, with its journal.
+
 ghost use Rattle.std.specs.Prelude.{◌≡◌, ◌≢◌, ◌⊎◌, ◌↔◌, ◌+◌, ◌≤ℤ◌, ℕ, List, [], ◌∷◌, ◌++◌, length, map, IfOk, IfErr};
 ghost use Rattle.std.specs.Prelude.{IsErrAnd, OnOk, OnErr, MatchOption};
 ghost use Rattle.std.specs.List.{All, Contains};

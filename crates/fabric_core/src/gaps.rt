@@ -1,3 +1,5 @@
+//! Net numbers of edges that rings and their city do not have alike: gaps and overlaps.
+
 ghost use Rattle.std.specs.Prelude.{◌≡◌, ◌+◌, ◌⊎◌, IfOk, IfErr, OnOk, ◌∷◌, []};
 ghost use Rattle.geo_exact.specs.declared.corner.Corner.{Corner};
 ghost use Rattle.edge_chains.specs.Counts.{AreNetOf};

@@ -1,3 +1,5 @@
+//! Hints: cells that lie wholly inside one parcel, so that a point in one is located at once.
+
 ghost use Rattle.std.specs.Prelude.{◌≡◌, ◌<◌, ◌≤◌, ◌^◌};
 ghost use Rattle.fabric_core.specs.declared.hints.TheConstants.{MOST};
 

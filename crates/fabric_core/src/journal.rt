@@ -1,3 +1,5 @@
+//! The journal's rows and entries.
+
 ghost use Rattle.std.specs.Prelude.{◌≡◌, map};
 ghost use Rattle.fabric_core.specs.JournalRows.{row_of};
 

@@ -1,3 +1,5 @@
+//! Laws: which rows tile a city.
+
 ghost use Rattle.std.specs.Prelude.{◌≡◌, ◌≢◌, ◌↔◌, ℕ, pos, List, ◌∷◌, [], ◌++◌};
 ghost use Rattle.std.specs.List.{AllByRecursion};
 ghost use Rattle.geo_exact.specs.declared.corner.Corner.{Corner};

@@ -1,3 +1,5 @@
+//! The layer: parcels that tile a city.
+
 ghost use Rattle.std.specs.Prelude.{◌≡◌, ◌≢◌, ◌⊎◌, ◌↔◌, ◌≤◌, ◌≤ℤ◌, ℕ, ℤ, length, map, List, IfOk, IfErr, IsErrOf};
 ghost use Rattle.std.specs.Prelude.{IsErrAnd, MatchResult, MatchOption};
 ghost use Rattle.std.specs.List.{All, Contains};

@@ -1,3 +1,5 @@
+//! The limits of a layer.
+
 ghost use Rattle.std.specs.Prelude.{◌≡◌, length, MatchOption};
 ghost use Rattle.fabric_core.specs.Limits.{AreWithinLimits, IsFirstTooMany};
 ghost use Rattle.fabric_core.specs.own.Lists.{numbered_rows};

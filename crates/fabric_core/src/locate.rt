@@ -1,3 +1,5 @@
+//! Where a place lies among the parcels.
+
 ghost use Rattle.std.specs.Prelude.{◌≡◌, ◌≤◌, ◌++◌, ℕ, List, length, IfOk, MatchOption};
 ghost use Rattle.std.specs.List.{Contains};
 ghost use Rattle.geo_exact.specs.declared.limits.TheConstants.{RING_CORNERS};

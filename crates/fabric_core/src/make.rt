@@ -1,3 +1,5 @@
+//! A layer made of noded rings, or the first reason why they are none.
+
 ghost use Rattle.std.specs.Prelude.{◌≡◌, ◌∷◌, [], length, OnOk, OnErr};
 ghost use Rattle.ring_edits.specs.declared.edit.Edit.TheVariants.{Merge, Insert};
 ghost use Rattle.fabric_core.specs.EditResults.{IsEntryOf};

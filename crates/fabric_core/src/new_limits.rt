@@ -1,3 +1,5 @@
+//! The limits of a layer, looked at for an edit's new rings.
+
 ghost use Rattle.std.specs.Prelude.{◌≡◌, ◌≢◌, ◌↔◌, ◌+◌, ◌≤◌, ℕ, length, IsTrue};
 ghost use Rattle.std.specs.List.{AllPairs, Contains};
 ghost use Rattle.geo_exact.specs.declared.limits.TheConstants.{LAYER_CORNERS};

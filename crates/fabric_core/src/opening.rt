@@ -1,3 +1,5 @@
+//! The state that a fabric was opened in.
+
 ghost use Rattle.std.specs.Prelude.{◌≡◌, ◌≤◌, map, IfOk};
 ghost use Rattle.geo_exact.specs.declared.limits.TheConstants.{LAYER_CORNERS};
 ghost use Rattle.geo_exact.specs.Layers.{corner_count};

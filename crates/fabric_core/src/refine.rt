@@ -1,3 +1,5 @@
+//! The city's ring with a corner put into its edges.
+
 ghost use Rattle.std.specs.Prelude.{◌≡◌, map, IfOk};
 ghost use Rattle.geo_exact.specs.Rings.{begun_at_least};
 ghost use Rattle.geo_exact.specs.Layers.{rings_of};

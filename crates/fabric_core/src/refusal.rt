@@ -1,3 +1,5 @@
+//! Why an edit is refused.
+
 use ring_core::RingFault;
 use std::alloc::{AllocError, AllocFailed};
 

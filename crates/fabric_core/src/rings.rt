@@ -1,3 +1,5 @@
+//! The rows of a layer: its rings, noded and begun at their least corners.
+
 ghost use Rattle.std.specs.Prelude.{◌≡◌, ◌⊎◌, ◌≤◌, length, IfOk, IfErr};
 ghost use Rattle.std.specs.List.{AllByRecursion};
 ghost use Rattle.fabric_core.specs.declared.layer.LoadFault.TheVariants.{NoMemory};

@@ -1,3 +1,5 @@
+//! Parcels that tile a city, with their index, as layers, fabrics and sheets have them.
+
 ghost use Rattle.std.specs.Prelude.{◌≡◌, ◌≢◌, ◌↔◌, ◌+◌, ◌≤◌, ◌≤ℤ◌, ℕ, List, [], ◌∷◌, ◌++◌, length, map, IfOk, IfSome};
 ghost use Rattle.std.specs.Prelude.{OnOk, OnErr, MatchOption};
 ghost use Rattle.std.specs.List.{All, AllByRecursion, Contains};

@@ -1,3 +1,5 @@
+//! Boxes with sides along the axes.
+
 ghost use Rattle.std.specs.Prelude.{◌≡◌, ◌↔◌, ◌≤ℤ◌, IsTrue, false};
 ghost use Rattle.std.specs.Int.{int_max, int_min};
 ghost use Rattle.geo_exact.specs.declared.bounds.Bounds.{Bounds};

@@ -1,3 +1,5 @@
+//! Streams of bytes that are read and written one by one.
+
 ghost use Rattle.std.specs.Prelude.{◌≡◌, ℕ, ◌<◌, ◌≤◌, ⊤, List, length, None, Option, Result, IfOk};
 ghost use Rattle.geo_exact.specs.Bytes.{Pulls, Puts, counted};
 

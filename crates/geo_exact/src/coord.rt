@@ -1,3 +1,5 @@
+//! Coordinates: a double and a unit as whole millimetres, or why it is none.
+
 ghost use Rattle.std.specs.Prelude.{◌≡◌, ◌↔◌, ℕ, ◌+◌, ◌*◌, ◌^◌, ◌<◌, ◌≤◌, max, ℤ, Ok, Err, IfOk, IfErr, IfSome};
 ghost use Rattle.geo_exact.specs.Grid.{IsOnGrid, IsCoordFault, coordinate, size_of};
 ghost use Rattle.geo_exact.specs.Grid.{millimetres as millimetres_of, exponent_field, magnitude};

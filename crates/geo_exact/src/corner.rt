@@ -1,3 +1,5 @@
+//! A corner: a place in whole millimetres.
+
 ghost use Rattle.std.specs.Prelude.{◌≡◌, ◌↔◌, IsSome, IfSome};
 ghost use Rattle.geo_exact.specs.Limit.{IsWithin, limit};
 
@@ -8,9 +10,9 @@ use crate::limits::LIMIT;
 /// Corners are ordered by `x`, then `y`.
 #[derive(Clone, Copy, Debug, PartialEq, Eq, PartialOrd, Ord, Hash)]
 pub struct Corner {
-    /// Centimetres to the east of the origin.
+    /// Millimetres to the east of the origin.
     pub x: i64,
-    /// Centimetres to the north of the origin.
+    /// Millimetres to the north of the origin.
     pub y: i64,
     pub ghost x_in_range: { IsWithin limit x },
     pub ghost y_in_range: { IsWithin limit y },
@@ -20,7 +22,7 @@ impl Corner {
     /// The corner at a place, or `None` where a coordinate is beyond the limit.
     ///
     /// ```
-    /// let corner = Corner::new(60, 100); // Some; Corner::new(10_000_000_001, 0) is None
+    /// let corner = Corner::new(60, 100); // Some; Corner::new(100_000_000_001, 0) is None
     /// ```
     pub fn new(x: i64, y: i64) -> Option<Corner>
         ensures valid { IsSome result ↔ (IsWithin limit x × IsWithin limit y) }

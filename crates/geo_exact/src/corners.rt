@@ -1,3 +1,5 @@
+//! A list of corners, as a ring has it.
+
 ghost use Rattle.std.specs.Prelude.{◌≡◌, ◌↔◌, ◌≤◌, ◌==◌, OnOk, OnErr, IfOk, IsTrue, length, ◌++◌, ◌∷◌, []};
 ghost use Rattle.std.specs.List.{position_or_len};
 ghost use Rattle.std.specs.Cmp.Lexicographic.{pointwise, lists_equiv};

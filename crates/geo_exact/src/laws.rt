@@ -1,3 +1,5 @@
+//! Laws of areas, boxes and the order of corners.
+
 ghost use Rattle.std.specs.List.{All, AllByRecursion};
 ghost use Rattle.std.specs.Prelude.{◌≡◌, ◌⊎◌, ◌↔◌, ℕ, ◌≤◌, pos, neg_ℤ, ◌<ℤ◌, List, [], ◌∷◌, ◌++◌, length};
 ghost use Rattle.geo_exact.specs.declared.bounds.Bounds.{Bounds};

@@ -1,3 +1,5 @@
+//! The order of corners: by `x`, then by `y`.
+
 ghost use Rattle.std.specs.Prelude.{◌≡◌};
 ghost use Rattle.geo_exact.specs.Order.{is_before};
 

@@ -1,3 +1,5 @@
+//! On which side of a line a corner lies.
+
 ghost use Rattle.std.specs.Prelude.{◌≡◌, ◌-ℤ◌, ◌*ℤ◌, ◌*◌};
 ghost use Rattle.geo_exact.specs.Limit.{IsWithin, limit};
 ghost use Rattle.geo_exact.specs.Turn.{turn as turn_of};

@@ -1,3 +1,5 @@
+//! Exact products of differences of coordinates.
+
 ghost use Rattle.std.specs.Prelude.{◌≡◌, ◌*ℤ◌};
 
 /// The exact product.

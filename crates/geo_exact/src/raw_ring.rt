@@ -1,3 +1,5 @@
+//! Rings of layer files in their normal form.
+
 ghost use Rattle.std.specs.Prelude.{◌≤◌, ◌≤ℤ◌, pos, length};
 ghost use Rattle.geo_exact.specs.Rings.{HasNoRepeats};
 ghost use Rattle.geo_exact.specs.Area.{area2};

@@ -1,3 +1,5 @@
+//! Whether a corner lies on an edge.
+
 ghost use Rattle.std.specs.Prelude.{◌↔◌, ◌≤ℤ◌, IsTrue};
 ghost use Rattle.std.specs.Int.{int_max, int_min};
 ghost use Rattle.geo_exact.specs.Point.{corner_point};

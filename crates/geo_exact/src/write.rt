@@ -1,3 +1,5 @@
+//! Coordinates in whole millimetres as doubles.
+
 ghost use Rattle.std.specs.Prelude.{◌≡◌, ◌*◌, ◌^◌, ◌+◌, ◌-◌, ◌<◌, ◌≤◌, ◌*ℤ◌, pos, Ok};
 ghost use Rattle.geo_exact.specs.declared.coord.Unit.TheVariants.{Mm};
 ghost use Rattle.geo_exact.specs.Doubles.{bits_of, highest_bit as highest_bit_of, whole_bits as whole_bits_of};

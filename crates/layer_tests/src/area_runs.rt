@@ -1,3 +1,5 @@
+//! Runs of `area`: their texts, refusals and failing writers.
+
 use city_layers::area::area;
 use city_layers::{Source, ToolFault};
 use geo_exact::{Counted, FailAt, Unit};

@@ -1,3 +1,5 @@
+//! The text of each refusal of a layer.
+
 use city_layers::{Role, ToolFault};
 use fabric_core::{CityFault, LoadFault};
 use geo_exact::{CoordFault, Corner};

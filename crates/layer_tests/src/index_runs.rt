@@ -1,3 +1,5 @@
+//! Layers with an index beside them, whole and torn.
+
 use city_layers::Source;
 use geo_exact::Unit;
 use std::alloc::{AllocError, Global};

@@ -1,3 +1,5 @@
+//! Layers that replace earlier ones, and what a failure leaves behind.
+
 use city_layers::{ToolFault, replace_layer};
 use std::alloc::Allocator;
 use std::cell::Cell;

@@ -1,3 +1,5 @@
+//! Files as they are read, and paths that cannot be.
+
 use city_layers::{Disk, ToolFault, read_source, read_text};
 use std::fs;
 use std::test::Fail;

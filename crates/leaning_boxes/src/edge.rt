@@ -1,3 +1,5 @@
+//! Whether an edge and a corner are apart along a leaning line.
+
 ghost use Rattle.std.specs.Prelude.{◌≡◌, ◌≢◌, ◌↔◌, ◌-ℤ◌, ◌*ℤ◌, ◌≤ℤ◌, ◌*◌, ℤ, int_lt, false, IsTrue};
 ghost use Rattle.std.specs.Int.{int_max, int_min};
 ghost use Rattle.geo_exact.specs.Bounds.{RangesMeet};

@@ -1,3 +1,5 @@
+//! Whether a leaning box holds a corner.
+
 ghost use Rattle.std.specs.Prelude.{◌<ℤ◌, IsTrue};
 ghost use Rattle.geo_exact.specs.declared.corner.Corner.{Corner as CornerValue};
 ghost use Rattle.geo_exact.specs.Bounds.{IsBeyondBox};

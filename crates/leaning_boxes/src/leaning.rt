@@ -1,3 +1,5 @@
+//! Boxes with two leaning sides beside the four along the axes.
+
 ghost use Rattle.std.specs.Prelude.{◌*◌};
 ghost use Rattle.geo_exact.specs.Limit.{IsWithin, limit};
 

@@ -1,8 +1,6 @@
 -- Places of lists that hands claim by counting words (this product's own): one word a list, 0 at first, to which a
--- hand adds one. Where it finds the word
--- below the list's length, the place with that number is its own; else it has found the list at its end. The rule of
--- the words says that each place is claimed
--- by one hand.
+-- hand adds one. Where it finds the word below the list's length, the place with that number is its own; else it has
+-- found the list at its end. The rule of the words says that each place is claimed by one hand.
 use Rattle.std.specs.Prelude.{◌≡◌, ℕ, zero, suc, ◌+◌, ◌-◌, ◌^◌, ◌<◌, ◌≤◌, ◌⊎◌, min, nat_eq, List, []}
 use Rattle.std.specs.Prelude.{◌∷◌, ◌++◌, length, slice_index, flat_map, sum_by, count_by, IsPermutation}
 use Rattle.std.specs.List.{AllByRecursion}
@@ -39,8 +37,8 @@ abbrev pub parts_of : List View → ℕ
 parts_of views = sum_by (λ view. view.parts) views
 
 -- A hand's view has one part of the right to know the whole, or the parts of all hands that were joined to it. It
--- knows the lists' lengths, and has at most
--- as many notes of a list as parts. A view that was joined to another has no part, no place and no note.
+-- knows the lists' lengths, and has at most as many notes of a list as parts. A view that was joined to another has
+-- no part, no place and no note.
 pub record IsFit (lengths : List ℕ) (view : View) : Type 0 where
   pub knows : 0 < view.parts → view.lengths ≡ lengths
   pub few_notes : (list : ℕ) → times list view.notes ≤ view.parts
@@ -80,9 +78,8 @@ abbrev pub joined : View → View → View
 joined v w = record { lengths = v.lengths; parts = v.parts + w.parts; places = v.places ++ w.places; notes = v.notes ++ w.notes }
 
 -- The two kinds of step that there are, each an addition of one to a list's word by a hand: the word is found below
--- the list's length, and the hand claims
--- the place with that number; or it is found at the length or above, and the hand notes the end. A view has no more
--- places than the lists together.
+-- the list's length, and the hand claims the place with that number; or it is found at the length or above, and the
+-- hand notes the end. A view has no more places than the lists together.
 abbrev pub Claims : View → ℕ → ℕ → View → Type 0
 Claims v list found w =
     ((found < slice_index v.lengths list) × (w ≡ with_place v list found) × (length w.places ≤ sum_by (λ n. n) v.lengths))

@@ -1,3 +1,5 @@
+//! Claims: each place of the lists is claimed by one hand at most.
+
 ghost use Rattle.std.specs.Prelude.{◌≡◌, ℕ, ◌+◌, ◌^◌, ◌<◌, ◌≤◌, [], length, slice_index, sum_by, IfOk, IfSome, IfNone, IsPermutation};
 ghost use Rattle.std.specs.List.{AllByRecursion};
 ghost use Rattle.overlay_claims.specs.own.Spread.{word_of};

@@ -1,3 +1,5 @@
+//! Hands that are taken back, to see that all places were claimed.
+
 ghost use Rattle.std.specs.Prelude.{◌≡◌, ◌+◌, ◌++◌, length, IsPermutation};
 ghost use Rattle.overlay_claims.specs.Claims.{all_places};
 ghost use Rattle.overlay_claims.specs.Claimants.{AreAllEnded};

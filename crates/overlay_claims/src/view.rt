@@ -1,3 +1,5 @@
+//! What a seat of the claims knows, in proofs alone.
+
 use std::collections::LinkedList;
 
 /// What a hand knows: the lengths of the lists, its parts of the right to know the whole, the

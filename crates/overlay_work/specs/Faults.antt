@@ -10,8 +10,7 @@ use Rattle.overlay_work.specs.Sharing.{HasHands, IsLeastOutOfPlace}
 use Rattle.overlay_work.specs.Rounds.{Task, Progress, HasAllEnds, IsAtEnd}
 
 -- A round of a sheet with these ids and this city, and zones of that city, is refused: there is no list, or more than
--- 64 (O3); the zones' city is
--- another (O2); an id is out of place (O1).
+-- 64 (O3); the zones' city is another (O2); an id is out of place (O1).
 abbrev pub IsRoundFault : (ids : List ℕ) → (city zones_city : List Corner) → (lists : List (List ℕ)) → RoundFault → Type 0
 IsRoundFault ids city zones_city lists (HandCount count) = (HasHands lists → ⊥) × (count ≡ length lists)
 IsRoundFault ids city zones_city lists OtherCity = HasHands lists × (zones_city ≢ city)

@@ -1,6 +1,5 @@
 -- A round of an overlay: the parcels of a sheet are dealt to hands in lists, and each hand finds the zones that its
--- parcels overlap (this product's own;
--- which overlap is zone_tables').
+-- parcels overlap (this product's own; which overlap is zone_tables').
 use Rattle.std.specs.Prelude.{◌≡◌, ◌⊎◌, ◌↔◌, ℕ, zero, suc, ◌+◌, ◌<◌, List, [], ◌∷◌, ◌++◌, length}
 use Rattle.std.specs.Prelude.{slice_index, slice_index_or}
 use Rattle.std.specs.Prelude.{Option, Some, None, IsSome}
@@ -16,8 +15,8 @@ use Rattle.overlay_claims.specs.Claimants.{Lists, Standing, ClaimsNext}
 use Rattle.zone_tables.specs.Overlap.{Overlaps, AreInPairOrder}
 
 -- What is to be done in a round: the lists whose places hands claim, which no other round has, and the ids that stand
--- at these places; the parcels'
--- rows and the zones', the city that both tile, and how many entries the parcels' journal has.
+-- at these places; the parcels' rows and the zones', the city that both tile, and how many entries the parcels'
+-- journal has.
 pub record Task : Type 0 where
   pub claims : Lists
   pub lists : List (List ℕ)

@@ -1,3 +1,5 @@
+//! The end of a round: the hands taken back, and what they found put together.
+
 ghost use Rattle.std.specs.Prelude.{◌≡◌, ◌⊎◌, IfOk, IfErr, IsErrAnd, OnOk, map, length, flat_map, IsPermutation};
 ghost use Rattle.fabric_core.specs.Rows.{numbers};
 ghost use Rattle.zone_tables.specs.Overlap.{IsOverlapTable};

@@ -1,3 +1,5 @@
+//! A hand: one worker's part of a round.
+
 ghost use Rattle.std.specs.Prelude.{◌≡◌, ◌≤◌, ℕ, length, Some, IfSome, IfNone, OnOk, OnErr, None, IsTrue, IsSome, ◌↔◌};
 ghost use Rattle.std.specs.Arc.{arc_value};
 ghost use Rattle.geo_exact.specs.declared.limits.TheConstants.{LAYER_CORNERS};

@@ -1,3 +1,5 @@
+//! A round: the parcels of a sheet dealt to hands, to be laid over zones.
+
 ghost use Rattle.std.specs.Prelude.{◌≡◌, ◌⊎◌, ◌↔◌, ℕ, map, length, IsTrue, IfOk, IfErr, OnOk, IsErrAnd};
 ghost use Rattle.fabric_core.specs.Rows.{numbers};
 ghost use Rattle.overlay_work.specs.declared.round.RoundFault.{RoundFault};

@@ -46,7 +46,7 @@ impl<'t, 'h, H: Allocator + Send + Sync, G: Gate + Sync> Job<G> for Hand<'t, 'h,
 /// came.
 ///
 /// ```
-/// let (round, hands) = Round::new(&sheet, &zones, sharing)?;
+/// let (round, hands) = Round::new(heap, &sheet, &zones, sharing)?;
 /// let table = run_round(rt, round, hands, &gate)?;
 /// ```
 pub fn run_round<'t, 'h, H: Allocator + Send + Sync, G: Gate + Sync, R: Threads + Wait + Sync>(

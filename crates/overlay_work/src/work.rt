@@ -1,3 +1,5 @@
+//! A round worked off by threads.
+
 ghost use Rattle.std.specs.Prelude.{◌≡◌, length, map};
 ghost use Rattle.std.specs.List.{Contains};
 ghost use Rattle.fabric_core.specs.Rows.{numbers};

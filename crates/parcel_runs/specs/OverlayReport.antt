@@ -22,8 +22,7 @@ pub record IsTableOf {A : Type 0} (after : Register A) (regions : Tiles) (table 
   pub is_table : IsOverlapTable table.rows table.zones table.pairs
 
 -- The text of an overlay: the lines of the clerks' edits, and then the report of the parcels that these lead to and
--- the zones, both as the files
--- have them. Edits are in a memory A.
+-- the zones, both as the files have them. Edits are in a memory A.
 pub record IsOverlayText (A : Type 0) (city parcels zones : Files) (unit : LengthUnit) (clerks : List (List ℕ))
     (text : List ℕ) : Type 0 where
   pub tiles : Tiles

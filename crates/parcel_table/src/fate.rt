@@ -1,3 +1,5 @@
+//! What becomes of a table's parcels in an edit: which go, and which come.
+
 /// What has become of an id.
 #[derive(Clone, Copy, Debug, PartialEq, Eq)]
 pub enum Fate {

@@ -1,3 +1,5 @@
+//! The parcels of a table, one by one.
+
 ghost use Rattle.std.specs.Prelude.{◌≡◌, length, map};
 ghost use Rattle.slab.specs.Slab.{slab_len};
 ghost use Rattle.std.specs.Iterator.{YieldsFirst, YieldsFirstBy, item_count};

@@ -1,3 +1,5 @@
+//! The table of parcels: ids, shapes, and the keys of the index.
+
 ghost use Rattle.std.specs.Prelude.{◌≡◌, ◌≢◌, ◌+◌, ◌<◌, ◌≤◌, ℕ, [], ◌∷◌, ◌++◌, length, Some, None, IfOk, OnOk, OnErr};
 ghost use Rattle.std.specs.Prelude.{MatchOption, slice_set};
 ghost use Rattle.std.specs.List.{Contains};

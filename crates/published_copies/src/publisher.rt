@@ -1,3 +1,5 @@
+//! Copies that readers look at while the next one is made.
+
 ghost use Rattle.std.specs.Prelude.{◌≡◌, ◌+◌, ◌<◌, ◌^◌, [], ◌∷◌, ◌++◌, length, None, IfOk, IfErr, IfSome, IfNone, OnOk, OnErr, MatchBool};
 ghost use mathlib.Core.List.{IsPrefix};
 ghost use Rattle.published_copies.specs.own.Keeping.{waiting_list};

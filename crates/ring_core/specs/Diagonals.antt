@@ -1,6 +1,5 @@
 -- Diagonals of rings (G. H. Meisters, Polygons have ears, 1975), where less is said than there: a segment between two
--- corners that meets the ring in
--- no other point may run outside of it.
+-- corners that meets the ring in no other point may run outside of it.
 use Rattle.std.specs.Prelude.{◌⊎◌, ℕ, ◌<◌, List, length}
 use Rattle.geo_exact.specs.declared.corner.Corner.{Corner}
 use Rattle.geo_exact.specs.Point.{Point, IsPlaceOf, corner_point}

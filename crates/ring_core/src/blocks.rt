@@ -1,3 +1,5 @@
+//! A ring's corners in blocks, each with a box, for the search of witnesses.
+
 ghost use Rattle.std.specs.Prelude.{◌≡◌, ◌<◌, List, length, IfOk};
 ghost use Rattle.std.specs.List.{remove};
 ghost use Rattle.geo_exact.specs.declared.corner.Corner.{Corner as CornerValue};

@@ -1,3 +1,5 @@
+//! Boxes round runs of a ring's edges.
+
 ghost use Rattle.std.specs.Prelude.{◌⊎◌, ◌<◌, pos, ◌<ℤ◌, ◌≤ℤ◌, IsTrue, length};
 ghost use Rattle.geo_exact.specs.declared.corner.Corner.{Corner as CornerValue};
 ghost use Rattle.geo_exact.specs.Bounds.{HoldsCorner, IsBeyondBox, IsLeastBox};

@@ -1,3 +1,5 @@
+//! How a place lies to a ring, with most edges passed over by their boxes.
+
 ghost use Rattle.std.specs.Prelude.{◌≡◌, ℕ, ◌+◌, ◌<◌, ◌≤◌, ◌*◌, false, length, IsTrue};
 ghost use Rattle.geo_exact.specs.declared.limits.TheConstants.{RING_CORNERS};
 ghost use Rattle.ring_core.specs.Simple.{MeetOnlyAsNeighbours};

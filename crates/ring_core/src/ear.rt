@@ -1,3 +1,5 @@
+//! Whether a corner is an ear.
+
 ghost use Rattle.std.specs.Prelude.{◌≡◌, ◌↔◌, ◌<◌, pos, ◌<ℤ◌, ◌≤ℤ◌, IsTrue, length};
 ghost use Rattle.geo_exact.specs.Turn.{turn as turn_of};
 ghost use Rattle.geo_exact.specs.Places.{corner_at};

@@ -1,3 +1,5 @@
+//! A point inside a triangle and off all edges.
+
 ghost use Rattle.std.specs.Prelude.{IsTrue};
 ghost use Rattle.geo_exact.specs.declared.corner.Corner.{Corner as CornerValue};
 ghost use Rattle.geo_exact.specs.Bounds.{HoldsCorner, IsBeyondBox};

@@ -1,3 +1,5 @@
+//! The kind of a corner: flat, a left turn or a right turn.
+
 ghost use Rattle.std.specs.Prelude.{◌≡◌, ◌≢◌, ◌⊎◌, ◌↔◌, ℕ, ◌<◌, ◌≤◌, IfOk, IsTrue};
 ghost use Rattle.std.specs.Prelude.{List, length, slice_index_or};
 ghost use Rattle.std.specs.List.Sorted.{IsNonDecreasing};

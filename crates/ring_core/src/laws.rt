@@ -1,3 +1,5 @@
+//! Laws: a ring, its numbers and its two ears.
+
 ghost use Rattle.std.specs.Prelude.{◌≡◌, ◌⊎◌, ◌↔◌, ℕ, ◌<◌, pos, ◌<ℤ◌, ◌+◌, List, ◌∷◌, take, drop, Some, length, slice_get};
 ghost use Rattle.geo_exact.specs.declared.corner.Corner.{Corner};
 ghost use Rattle.geo_exact.specs.Point.{Point};

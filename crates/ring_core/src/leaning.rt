@@ -1,3 +1,5 @@
+//! Leaning boxes round blocks of a ring's edges.
+
 ghost use Rattle.std.specs.Prelude.{ℕ, ◌<◌, ◌≤◌, ◌<ℤ◌, IsTrue, length};
 ghost use Rattle.geo_exact.specs.declared.corner.Corner.{Corner as CornerValue};
 ghost use Rattle.geo_exact.specs.Places.{after, corner_at};

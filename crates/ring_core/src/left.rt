@@ -1,3 +1,5 @@
+//! Lists with free places in front, from which elements are taken out.
+
 ghost use Rattle.std.specs.Prelude.{◌≡◌, ◌⊎◌, ◌+◌, ◌<◌, ◌≤◌, length, drop, slice_index_or};
 ghost use Rattle.std.specs.List.{remove};
 

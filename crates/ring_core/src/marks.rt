@@ -1,3 +1,5 @@
+//! The numbers that a ring's corners keep while it is clipped.
+
 ghost use Rattle.std.specs.Prelude.{◌≡◌, ℕ, ◌<◌, ◌≤◌, IfOk, length, slice_index_or};
 ghost use Rattle.std.specs.List.Sorted.{IsNonDecreasing};
 ghost use Rattle.ring_core.specs.own.Kinds.{IsInReach, IsMarked, everywhere};

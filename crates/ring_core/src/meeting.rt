@@ -1,3 +1,5 @@
+//! Whether two edges meet.
+
 ghost use Rattle.std.specs.Prelude.{◌≡◌, ◌↔◌, ◌⊎◌, ◌<ℤ◌, pos, int_le, ◌&&◌, IsTrue};
 ghost use Rattle.std.specs.Int.{int_max, int_min};
 ghost use Rattle.geo_exact.specs.Bounds.{EdgeBoxesMeet};

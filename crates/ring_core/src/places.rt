@@ -1,3 +1,5 @@
+//! Numbers round a ring: the following and the preceding one.
+
 ghost use Rattle.std.specs.Prelude.{◌≡◌, ◌<◌};
 ghost use Rattle.geo_exact.specs.Places.{after, before};
 ghost use Rattle.ring_core.specs.own.Blocks.{number_less};

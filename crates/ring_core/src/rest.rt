@@ -1,3 +1,5 @@
+//! What clipping has left of a ring.
+
 ghost use Rattle.std.specs.Prelude.{◌≡◌, ◌<◌, length, IfOk, MatchOption};
 ghost use Rattle.std.specs.List.{remove};
 ghost use Rattle.ring_core.specs.Clipping.{IsEar, IsFlat};

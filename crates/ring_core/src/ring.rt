@@ -1,3 +1,5 @@
+//! A simple ring, or why corners are none.
+
 ghost use Rattle.std.specs.Prelude.{◌≡◌, ◌↔◌, ℕ, ◌<◌, ◌≤◌, false, length, IsTrue, IsOk, IfOk, IfErr, MatchOption};
 ghost use Rattle.geo_exact.specs.Bounds.{EdgeBoxesMeet};
 ghost use Rattle.geo_exact.specs.Places.{after, corner_at};

@@ -1,3 +1,5 @@
+//! How far the kinds of the corners that are left were looked through.
+
 ghost use Rattle.std.specs.Prelude.{◌≡◌, ◌≤◌};
 ghost use Rattle.ring_core.specs.own.Blocks.{number_less};
 

@@ -1,3 +1,5 @@
+//! A simple ring with the triangles that make it up.
+
 ghost use Rattle.std.specs.Prelude.{◌≡◌, IfOk};
 ghost use Rattle.ring_core.specs.Clipping.{IsClippedTo};
 ghost use Rattle.std.specs.List.{All};

@@ -1,3 +1,5 @@
+//! How a place lies to a ring, by its winding number.
+
 ghost use Rattle.std.specs.Prelude.{◌≡◌, ◌≤◌, length, pos, IsTrue};
 ghost use Rattle.geo_exact.specs.Limit.{IsWithin};
 ghost use Rattle.geo_exact.specs.Point.{corner_point};

@@ -1,3 +1,5 @@
+//! A ring's corners in order along an axis.
+
 ghost use Rattle.std.specs.Prelude.{◌≡◌, ◌<◌, ◌≤◌, length, IfOk, IfSome};
 ghost use Rattle.std.specs.List.Sorted.{IsNonDecreasingBy};
 ghost use Rattle.ring_core.specs.own.Sorted.{AreListed, AreListedSoFar, AreSortedOrNone, HasHeld, IsKey};

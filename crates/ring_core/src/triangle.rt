@@ -1,3 +1,5 @@
+//! Triangles of positive area, and lists of them.
+
 ghost use Rattle.std.specs.Prelude.{◌≡◌, ◌↔◌, pos, ◌<ℤ◌, IsSome, IfSome, IfOk, OnOk, OnErr, ◌++◌, ◌∷◌, [], length, IsTrue};
 ghost use Rattle.geo_exact.specs.Turn.{turn as turn_of};
 

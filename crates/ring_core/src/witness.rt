@@ -1,3 +1,5 @@
+//! Corners that keep a left turn from being an ear.
+
 ghost use Rattle.std.specs.Prelude.{◌≡◌, ◌↔◌, ℕ, ◌<◌, ◌≤◌, IfNone, IfSome, IsTrue, MatchOption, length, slice_index_or};
 ghost use Rattle.std.specs.List.Sorted.{IsNonDecreasing};
 ghost use Rattle.geo_exact.specs.First.{HasNone};

@@ -1,3 +1,5 @@
+//! The border that two neighbours share.
+
 ghost use Rattle.std.specs.Prelude.{◌↔◌, ◌<◌, ◌≤◌, length, IfOk, IfErr, IsTrue};
 ghost use Rattle.ring_core.specs.Simple.{IsSimpleRing};
 ghost use Rattle.ring_edits.specs.Edits.{IsBorderFault, IsSharedAt, IsSharedRun};

@@ -1,3 +1,5 @@
+//! An edit: what a clerk changes.
+
 ghost use Rattle.std.specs.Prelude.{◌≡◌};
 
 use geo_exact::{Corner, Corners};

@@ -1,3 +1,5 @@
+//! Why an edit makes no rings.
+
 use std::alloc::AllocError;
 
 /// Why an edit makes no rings.

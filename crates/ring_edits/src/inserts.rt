@@ -1,3 +1,5 @@
+//! A corner put into a ring's edge.
+
 ghost use Rattle.std.specs.Prelude.{◌≡◌, ◌⊎◌, ◌↔◌, ◌<◌, length, IfOk, IfSome, IsNone, IsTrue};
 ghost use Rattle.geo_exact.specs.Segments.{IsStrictlyInside};
 ghost use Rattle.ring_edits.specs.Edits.{joins, has_edge_between, put_between, with_corner};

@@ -1,3 +1,5 @@
+//! Laws: an edit's new rings have the net edges of the old.
+
 ghost use Rattle.std.specs.Prelude.{◌≡◌, ◌≢◌, ◌+◌, ◌≤◌, IsTrue, List, [], ◌∷◌, length, map};
 ghost use Rattle.geo_exact.specs.declared.bounds.Bounds.{Bounds};
 ghost use Rattle.geo_exact.specs.declared.corner.Corner.{Corner};

@@ -1,3 +1,5 @@
+//! Two neighbours' rings made one.
+
 ghost use Rattle.std.specs.Prelude.{◌≡◌, ◌≢◌, ◌⊎◌, ◌<◌, ◌++◌, ◌∷◌, length, IfOk, IfErr};
 ghost use Rattle.geo_exact.specs.Places.{corner_at};
 ghost use Rattle.geo_exact.specs.Rings.{begun_at_least};

@@ -1,3 +1,5 @@
+//! Numbers of corners and edges round a ring, and runs of them.
+
 ghost use Rattle.std.specs.Prelude.{◌≡◌, ◌≢◌, ◌↔◌, ◌<◌, ◌++◌, length, IfOk, IsTrue, MatchOption, OnOk};
 ghost use Rattle.std.specs.List.{Contains};
 ghost use Rattle.geo_exact.specs.Places.{corner_at, after};

@@ -1,3 +1,5 @@
+//! The border of two neighbours exchanged for a path.
+
 ghost use Rattle.std.specs.Prelude.{◌≡◌, ◌≢◌, ◌⊎◌, ◌↔◌, ◌<◌, List, length, reverse, IfOk, IfErr, IsTrue};
 ghost use Rattle.geo_exact.specs.declared.corner.Corner.{Corner};
 ghost use Rattle.geo_exact.specs.Places.{corner_at};

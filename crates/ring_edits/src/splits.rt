@@ -1,3 +1,5 @@
+//! A ring cut in two along a path.
+
 ghost use Rattle.std.specs.Prelude.{◌≡◌, ◌≢◌, ◌↔◌, ◌<◌, ◌++◌, ◌∷◌, length, reverse, IfOk, IsErrOf, MatchOption};
 ghost use Rattle.geo_exact.specs.Places.{corner_at};
 ghost use Rattle.geo_exact.specs.Rings.{begun_at_least};

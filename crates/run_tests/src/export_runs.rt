@@ -1,3 +1,5 @@
+//! Runs of `export`, with edits and failing writers.
+
 use city_layers::Source;
 use geo_exact::{Unit, write_coord};
 use parcel_runs::export::export;

@@ -1,3 +1,5 @@
+//! The least box of corners.
+
 ghost use Rattle.geo_exact.specs.Bounds.{IsLeastBox};
 
 use geo_exact::{Bounds, Corner};

@@ -1,3 +1,5 @@
+//! Corners with each coordinate ten times.
+
 ghost use Rattle.std.specs.Prelude.{◌≡◌, ◌↔◌, ◌∷◌, [], ◌++◌, if◌then◌else◌, List, IfOk, IsTrue};
 ghost use Rattle.geo_exact.specs.Order.{is_before};
 ghost use Rattle.std.specs.List.{AllByRecursion};

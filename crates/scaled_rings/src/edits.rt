@@ -1,3 +1,5 @@
+//! Edits with each coordinate ten times.
+
 ghost use Rattle.std.specs.Prelude.{◌++◌, List, IfOk};
 ghost use Rattle.std.specs.List.{AllByRecursion};
 ghost use Rattle.geo_exact.specs.declared.corner.Corner.{Corner as CornerValue};

@@ -1,3 +1,5 @@
+//! Simple rings with each coordinate ten times.
+
 ghost use Rattle.std.specs.Prelude.{IfOk};
 ghost use Rattle.std.specs.List.{AllByRecursion};
 ghost use Rattle.scaled_rings.specs.Tenfold.{IsNear, AreTenTimes};

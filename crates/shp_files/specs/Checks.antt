@@ -83,8 +83,7 @@ shape_checks main position start =
     ∷ []
 
 -- The checks of a polygon's counts, where the polygons before it have so many corners together. (The third never
--- fails behind the first: it stands here
--- so that the table reads by itself.)
+-- fails behind the first: it stands here so that the table reads by itself.)
 unfoldable pub count_checks : List ℕ → ℕ → ℕ → ℕ → List Check
 count_checks main position start corners_before =
     check (int_lt (content_words main start) (pos 22)) (fault position (start + 4) kinds.Content)

@@ -9,8 +9,7 @@ use Rattle.shp_files.specs.IndexChecks.{entry_checks}
 use Rattle.shp_files.specs.LayerFile.{NumberedRing, IsLayerFile}
 
 -- The record at this position begins at this byte, and the polygons before it have so many corners together: the
--- header and all records before it
--- pass their checks.
+-- header and all records before it pass their checks.
 pub data Reaches (main : List ℕ) (unit : LengthUnit) : ℕ → ℕ → ℕ → Type 0 where
   first : first_failure (header_checks Main main) ≡ None → Reaches main unit 1 100 0
   next : (position start corners : ℕ) → Reaches main unit position start corners → start ≢ declared_end main
@@ -37,8 +36,7 @@ pub record IsAccepted (main : List ℕ) (unit : LengthUnit) : Type 0 where
   pub is_reached : Reaches main unit position (declared_end main) corners
 
 -- The index stops at a record, or behind the last: the header of the index passes its checks, and so do the index
--- records before; the first check
--- that fails here answers this fault.
+-- records before; the first check that fails here answers this fault.
 pub record IndexStopsAt (main index : List ℕ) (unit : LengthUnit) (fault : FileFault) : Type 0 where
   pub position : ℕ
   pub record_at : ℕ

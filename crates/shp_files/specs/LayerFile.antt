@@ -1,11 +1,9 @@
 -- A layer's main file as a whole text: a header, records of null shapes and polygons, and bytes that are ignored
--- (Technical Description, July 1998,
--- "Organization of the Main File", "The Main File Header", "Record Headers", "Null Shapes", "Polygon"); and, where it
--- is given, its index file: a header,
--- an index record for each record, and bytes that are ignored ("Organization of the Index File", "Index Records").
--- The bytes behind the declared length, which are ignored, and the limits on records and corners are this product's
--- own. Boxes, ranges, unused bytes and
--- stored record numbers are not compared.
+-- (Technical Description, July 1998, "Organization of the Main File", "The Main File Header", "Record Headers", "Null
+-- Shapes", "Polygon"); and, where it is given, its index file: a header, an index record for each record, and bytes
+-- that are ignored ("Organization of the Index File", "Index Records"). The bytes behind the declared length, which
+-- are ignored, and the limits on records and corners are this product's own. Boxes, ranges, unused bytes and stored
+-- record numbers are not compared.
 use Rattle.std.specs.Prelude.{◌≡◌, ◌⊎◌, ℕ, ◌+◌, ◌*◌, ◌≤◌, pos, ◌+ℤ◌, ◌*ℤ◌, List, [], ◌∷◌}
 use Rattle.std.specs.Prelude.{◌++◌, length, map, Option, IfSome}
 use Rattle.geo_exact.specs.declared.corner.Corner.{Corner}

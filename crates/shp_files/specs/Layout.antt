@@ -1,6 +1,5 @@
 -- Where the numbers of a shapefile stand (Technical Description, July 1998, "Numeric Types", "Byte Order", "The Main
--- File Header", "Record Headers",
--- "Polygon", "Index Records").
+-- File Header", "Record Headers", "Polygon", "Index Records").
 use Rattle.std.specs.Prelude.{ℕ, ◌+◌, ℤ, pos, negsuc, List, drop}
 use Rattle.byteorder.specs.Endian.{big_number, little_number, twos_complement}
 
@@ -31,8 +30,7 @@ abbrev pub header_shape_type : List ℕ → ℤ
 header_shape_type file = little_at file 32
 
 -- A record that begins at a byte: its header has 8 bytes, and then comes its content. (The Description counts from
--- the content, so its places are 8 less.)
--- The content's length in 16-bit words.
+-- the content, so its places are 8 less.) The content's length in 16-bit words.
 abbrev pub content_words : List ℕ → ℕ → ℤ
 content_words file start = big_at file (start + 4)
 
@@ -40,8 +38,7 @@ abbrev pub shape_type : List ℕ → ℕ → ℤ
 shape_type file start = little_at file (start + 8)
 
 -- A polygon: after its type and its box the number of its parts (NumParts), the number of its points (NumPoints), the
--- index of each part's first point
--- among the points (Parts), and the points.
+-- index of each part's first point among the points (Parts), and the points.
 abbrev pub part_count : List ℕ → ℕ → ℤ
 part_count file start = little_at file (start + 44)
 
@@ -52,8 +49,7 @@ abbrev pub first_part : List ℕ → ℕ → ℤ
 first_part file start = little_at file (start + 52)
 
 -- An index record that begins at a byte: the place of its record in the main file, in 16-bit words, and then that
--- record's content length, at the
--- same byte as a record header has it (`content_words`).
+-- record's content length, at the same byte as a record header has it (`content_words`).
 abbrev pub offset_words : List ℕ → ℕ → ℤ
 offset_words index start = big_at index start
 

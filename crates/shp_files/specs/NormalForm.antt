@@ -1,6 +1,5 @@
 -- The form in which a ring is kept: no corner twice in a row, and counterclockwise (this product's own; Technical
--- Description, July 1998, "Polygon",
--- draws outer rings clockwise).
+-- Description, July 1998, "Polygon", draws outer rings clockwise).
 use Rattle.std.specs.Prelude.{◌≤◌, pos, ◌≤ℤ◌, int_lt, Bool, ◌&&◌, if◌then◌else◌, List, [], ◌∷◌, length}
 use Rattle.std.specs.Ordering.{int_eq}
 use Rattle.geo_exact.specs.declared.corner.Corner.{Corner}
@@ -18,8 +17,7 @@ starts [] = []
 starts (edge ∷ rest) = if is_nowhere edge then starts rest else edge.from ∷ starts rest
 
 -- Of neighbours that are equal, round the ring, one is kept, and none where all are equal. The list begins with the
--- first corner drawn: where the ring
--- ends with that corner once more, the copies at its end go.
+-- first corner drawn: where the ring ends with that corner once more, the copies at its end go.
 abbrev pub kept_once : List Corner → List Corner
 kept_once ring = starts (edges ring)
 

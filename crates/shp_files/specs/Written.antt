@@ -1,7 +1,6 @@
 -- The two files of a layer, as they are written (Technical Description, July 1998: "Organization of the Main File",
--- "The Main File Header", "Record
--- Headers", "Polygon", "Organization of the Index File"). The box of no ring, all 0, and the order of a ring of area
--- 0 are this product's own.
+-- "The Main File Header", "Record Headers", "Polygon", "Organization of the Index File"). The box of no ring, all 0,
+-- and the order of a ring of area 0 are this product's own.
 use Rattle.std.specs.Prelude.{ℕ, ◌+◌, ◌*◌, ◌/◌, ℤ, pos, int_lt, if◌then◌else◌, List, [], ◌∷◌, ◌++◌, length}
 use Rattle.std.specs.Prelude.{map, replicate, fold, flat_map}
 use Rattle.std.specs.Int.{int_min, int_max}
@@ -78,8 +77,7 @@ records number [] = []
 records number (ring ∷ rings) = record_bytes number ring ∷ records (number + 1) rings
 
 -- "Main File Header": the file code, unused bytes, the file's length, the version, the shape type, the box of all
--- corners, and the ranges of Z
--- and M, which polygons do not have
+-- corners, and the ranges of Z and M, which polygons do not have
 unfoldable pub header : ℕ → List Corner → List ℕ
 header file_words corners = big 9994 ++ zeros 20 ++ big file_words ++ little 1000 ++ little 5 ++ box corners ++ zeros 32
 
@@ -92,8 +90,7 @@ unfoldable pub written_main : List (List Corner) → List ℕ
 written_main rings = header (50 + words (joined (records 1 rings))) (all_corners rings) ++ joined (records 1 rings)
 
 -- "Index Records": for each record the place in the main file at which it begins, and its content's length, both in
--- words. A record's header has
--- 4 words. The first of these rings' records begins at this place.
+-- words. A record's header has 4 words. The first of these rings' records begins at this place.
 abbrev pub index_records : ℕ → List (List Corner) → List ℕ
 index_records place [] = []
 index_records place (ring ∷ rings) = big place ++ big (words (content ring)) ++ index_records (place + 4 + words (content ring)) rings

@@ -1,3 +1,5 @@
+//! The first fault of a layer's files.
+
 ghost use Rattle.std.specs.Prelude.{◌≡◌};
 ghost use Rattle.shp_files.specs.declared.fault.LayerFault.TheVariants.{File, NoMemory};
 

@@ -1,3 +1,5 @@
+//! Runs of `area` for tests, with what they print.
+
 use city_layers::Source;
 use city_layers::area::area;
 use geo_exact::{Counted, Unit};

@@ -1,3 +1,5 @@
+//! The bytes of main files and indexes for tests.
+
 use std::alloc::{AllocError, Global};
 
 /// The bits of 0 and of 100.

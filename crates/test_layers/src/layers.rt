@@ -1,3 +1,5 @@
+//! Layers of a few polygons for tests.
+
 use crate::file_bytes::{header, push_record};
 use city_layers::Source;
 use geo_exact::write_coord;

@@ -1,3 +1,5 @@
+//! A text's end that is gathered before it is put.
+
 ghost use Rattle.std.specs.Prelude.{◌≡◌, ◌++◌, [], OnErr, OnOk};
 ghost use Rattle.std.specs.Io.KnownBytes.{Appends};
 ghost use Rattle.geo_exact.specs.Bytes.{raised};

@@ -1,3 +1,5 @@
+//! A whole text put into a writer.
+
 ghost use Rattle.std.specs.Prelude.{◌≡◌, OnErr, OnOk};
 ghost use Rattle.std.specs.Io.KnownBytes.{Appends};
 ghost use Rattle.geo_exact.specs.Bytes.{raised};

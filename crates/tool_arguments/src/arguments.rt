@@ -1,3 +1,5 @@
+//! The command line: what it asks for, and its help.
+
 ghost use Rattle.std.specs.Prelude.{◌≡◌, ◌≢◌, ◌<◌, ◌≤◌, List, map, Some, IfOk, IfSome, IfNone, codes};
 ghost use Rattle.clap.specs.Words.{first_value, found_of};
 ghost use Rattle.geo_exact.specs.declared.corner.Corner.{Corner};
@@ -255,7 +257,7 @@ fn unit_of(given: &ArgMatches<'_>) -> Option<Unit>
 
 /// What stands below the help: what a run may end with, and where refusals are told in words.
 const STATUSES: &str =
-    "Status 0: all is done. Status 1: a refusal, one line `error: ..`, each of which docs/formats.md tells in words.\n\
+    "Status 0: all is done. Status 1: a refusal, one line `error: ..`, each of which docs/cli.md tells in words.\n\
      Status 2: a command line that is not understood.";
 
 fn tool_command<'a>(alloc: Global) -> Result<Command<'a>, AllocError> {

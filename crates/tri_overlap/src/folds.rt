@@ -1,3 +1,5 @@
+//! Whether a ring is folded over itself, by its triangles.
+
 ghost use Rattle.std.specs.Prelude.{◌<◌, ℕ, length, MatchOption};
 ghost use Rattle.tri_overlap.specs.Folding.{HasNoOverlap, IsFirstOverlap, OverlapAt};
 

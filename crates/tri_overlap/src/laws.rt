@@ -1,3 +1,5 @@
+//! Laws of triangles that overlap.
+
 ghost use Rattle.std.specs.Prelude.{◌≡◌, ◌↔◌, ◌⊎◌, pos, List};
 ghost use Rattle.geo_exact.specs.declared.corner.Corner.{Corner};
 ghost use Rattle.geo_exact.specs.Interiors.{InteriorsMeet};

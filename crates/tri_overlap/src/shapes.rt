@@ -1,3 +1,5 @@
+//! Whether the interiors of two shapes have a common point.
+
 ghost use Rattle.std.specs.Prelude.{◌↔◌, IsTrue};
 ghost use Rattle.geo_exact.specs.Interiors.{InteriorsMeet};
 ghost use Rattle.tri_overlap.specs.own.Bounding.{HoldsCommon, HoldsMeetings};

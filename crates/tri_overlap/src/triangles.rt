@@ -1,3 +1,5 @@
+//! Whether the interiors of two triangles have a common point.
+
 ghost use Rattle.std.specs.Prelude.{◌↔◌, pos, ◌<ℤ◌, IsTrue};
 ghost use Rattle.geo_exact.specs.Turn.{turn as turn_of};
 ghost use Rattle.geo_exact.specs.Interiors.{InteriorsMeet};

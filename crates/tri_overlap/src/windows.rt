@@ -1,3 +1,5 @@
+//! Windows: boxes in which alone two shapes can meet.
+
 ghost use Rattle.std.specs.Prelude.{◌≡◌, ◌*ℤ◌, ◌<ℤ◌, ◌≤ℤ◌, IsTrue};
 ghost use Rattle.geo_exact.specs.Point.{Point};
 ghost use Rattle.geo_exact.specs.Turn.{turn as turn_of, turn_at};

@@ -1,6 +1,5 @@
 -- The text of an overlay's report (this product's own): how many entries the journal had, the pairs, the split-zoned
--- parcels, and the zone of each other
--- parcel. Numbers are in decimal.
+-- parcels, and the zone of each other parcel. Numbers are in decimal.
 use Rattle.std.specs.Prelude.{◌≡◌, ◌⊎◌, ◌↔◌, ℕ, List, [], ◌∷◌, ◌++◌, map, codes, decimal, Option}
 use Rattle.std.specs.List.{Contains, flat_map}
 use Rattle.std.specs.List.Sorted.{IsStrictlyIncreasing}
@@ -41,8 +40,7 @@ pub record AreWithinZones (rows zones : List NumberedRing) (pairs : List (ℕ ×
   pub exactly : (id zone : ℕ) → Contains pairs (id, zone) ↔ IsWithinZone rows zones id zone
 
 -- The text tells the table of its parcels and zones: the pairs, which are all that overlap, the split-zoned parcels,
--- and each other parcel with the
--- zone that it is within.
+-- and each other parcel with the zone that it is within.
 pub record IsReport (table : Overlay) (text : List ℕ) : Type 0 where
   pub is_table : IsOverlapTable table.rows table.zones table.pairs
   pub splits : List ℕ

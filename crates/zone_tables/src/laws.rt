@@ -1,3 +1,5 @@
+//! Laws: what the overlay's pairs tell of parcels and zones.
+
 ghost use Rattle.std.specs.Prelude.{◌↔◌, ℕ, List};
 ghost use Rattle.std.specs.List.{Contains};
 ghost use Rattle.std.specs.List.Sorted.{IsStrictlyIncreasing};

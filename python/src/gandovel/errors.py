@@ -7,7 +7,7 @@ from typing import Any, Optional
 class Refused(Exception):
     """A layer, a command or a file that is refused.
 
-    ``code`` is the proved program's (H2, F6 ..; `docs/formats.md`) or this package's (P1 ..; `docs/python.md`).
+    ``code`` is the proved program's (H2, F6 ..; `docs/cli.md`) or this package's (P1 ..; `docs/python.md`).
     ``role`` is ``parcels``, ``zones``, ``city`` or ``""``; ``record`` the record of the program, counted from 1;
     ``number`` the parcel's (or zone's) own number; ``geometry`` the place in the layer's projection, where there is one.
     """

@@ -229,9 +229,8 @@ def _with_attributes(frame, source, rows, number: str, prefix: str) -> gpd.GeoDa
 
 
 def _split(prepared: Prepared, rows: List[int], zones_of, parts) -> gpd.GeoDataFrame:
-    slivers: Dict[str, bool] = {}
-    for number, group in parts.groupby("number") if len(parts) else ():
-        slivers[number] = bool(int(group["sliver"].sum()) >= len(group) - 1)
+    counts = pd.DataFrame(parts[["number", "sliver"]]).groupby("number")["sliver"].agg(["sum", "size"])
+    slivers: Dict[str, bool] = dict(zip(counts.index, counts["sum"] >= counts["size"] - 1))
     numbers = [prepared.number_of(row) for row in rows]
     table = {"number": numbers, "zones": [",".join(zones_of[row]) for row in rows],
              "zone_count": [len(zones_of[row]) for row in rows], "sliver": [int(slivers[number]) for number in numbers],

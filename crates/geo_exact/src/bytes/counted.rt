@@ -1,3 +1,5 @@
+//! A stream that counts what it hands on.
+
 ghost use Rattle.std.specs.Prelude.{◌≡◌};
 ghost use Rattle.geo_exact.specs.Bytes.{raised};
 

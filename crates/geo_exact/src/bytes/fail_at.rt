@@ -1,3 +1,5 @@
+//! A stream that fails at a chosen call.
+
 ghost use Rattle.std.specs.Prelude.{◌≡◌, ◌≢◌, ◌↔◌, ◌-◌, ◌≤◌, ◌<◌, length, IfOk, IsTrue, if◌then◌else◌};
 ghost use Rattle.geo_exact.specs.Bytes.{Pulls, Puts, FailsOrPassesOn, counted, raised, together};
 

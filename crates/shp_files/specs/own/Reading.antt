@@ -1,6 +1,5 @@
 -- What the reader's own functions answer: the faults that they find, memory aside, and the points as `coordinate`
--- reads them. These words are the
--- code's own: no public contract speaks of them.
+-- reads them. These words are the code's own: no public contract speaks of them.
 use Rattle.std.specs.Prelude.{◌≡◌, ℕ, ◌+◌, List, [], ◌∷◌, length, Option, Some, None, Result, Ok, Err}
 use Rattle.geo_exact.specs.declared.corner.Corner.{Corner}
 use Rattle.geo_exact.specs.declared.coord.Unit.{Unit as LengthUnit}
