@@ -2,10 +2,9 @@
 from __future__ import annotations
 
 import os
-import struct
 from dataclasses import dataclass
 from pathlib import Path
-from typing import Any, Iterator, List, Optional, Tuple, Union
+from typing import Any, List, Optional, Tuple, Union
 
 import geopandas as gpd
 import numpy as np
@@ -14,6 +13,7 @@ from shapely.geometry import Point
 from shapely.validation import explain_validity
 
 from .errors import Refused, place
+from .shapes import rings_of, wkb_of
 
 PARCELS, ZONES, CITY = 0, 1, 2
 ROLES = ("parcels", "zones", "city")
@@ -151,8 +151,8 @@ def joined(several: List[Loops]) -> Loops:
 def loops_of(geometries: Any, scale: float, layer: int) -> Loops:
     """The loops of polygons and multipolygons, scaled to millimetres and turned so that the polygon is on the left."""
     arrays, tags = [], []
-    for row, geometry in enumerate(geometries):
-        for part, rings in enumerate(_rings(geometry.wkb)):
+    for row, blob in enumerate(wkb_of(geometries)):
+        for part, rings in enumerate(rings_of(blob)):
             for position, ring in enumerate(rings):
                 arrays.append(ring[:-1])
                 tags.append((row, part, position > 0))
@@ -188,28 +188,3 @@ def _turned(loops: Loops) -> Loops:
     order = np.where(np.repeat(wrong, sizes), first + last - here, here)
     loops.corners = loops.corners[order]
     return loops
-
-
-def _rings(blob: bytes) -> Iterator[List[np.ndarray]]:
-    """The polygons of a WKB, each the list of its closed rings (k, 2); heights are dropped."""
-    kind, at = struct.unpack_from("<I", blob, 1)[0], 5
-    count = 1
-    if (kind & 0xFF) % 1000 == 6 or kind % 1000 == 6:
-        count, at = struct.unpack_from("<I", blob, 5)[0], 9
-    for _ in range(count):
-        if at > 5:
-            kind, at = struct.unpack_from("<I", blob, at + 1)[0], at + 5
-        width = 3 if kind & 0x80000000 or 1000 <= (kind & 0xFFFF) < 2000 else 2
-        rings, at = _polygon(blob, at, width)
-        yield rings
-
-
-def _polygon(blob: bytes, at: int, width: int) -> Tuple[List[np.ndarray], int]:
-    count, at = struct.unpack_from("<I", blob, at)[0], at + 4
-    rings = []
-    for _ in range(count):
-        size, at = struct.unpack_from("<I", blob, at)[0], at + 4
-        values = np.frombuffer(blob, "<f8", size * width, at).reshape(-1, width)
-        rings.append(values[:, :2])
-        at += 8 * size * width
-    return rings, at
