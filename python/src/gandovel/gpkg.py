@@ -9,16 +9,20 @@ import sqlite3
 import struct
 from contextlib import closing
 from pathlib import Path
-from typing import Any, Dict, Iterable, List, Sequence, Tuple, Union
+from typing import Any, Dict, List, Optional, Sequence, Set, Tuple, Union
 
 import fiona
 import geopandas as gpd
 import numpy as np
 from fiona._err import CPLE_BaseError
 from geopandas.io.file import infer_schema
-from shapely.geometry import MultiPolygon
 
 from .errors import Refused
+from .shapes import POLYGON, bounds_of, kind_of, multipolygon_wkb, shapes_of, wkb_of
+
+
+HEAD = 8
+"""The bytes in front of a shape's WKB, as they are written here: no box."""
 
 
 def write_layers(path: Union[str, Path], layers: Sequence[Tuple[str, gpd.GeoDataFrame]], styles: Dict[str, str]) -> None:
@@ -29,12 +33,15 @@ def write_layers(path: Union[str, Path], layers: Sequence[Tuple[str, gpd.GeoData
     path = Path(path)
     aside = path.with_name(f".{os.getpid()}.{path.name}")
     try:
-        for name, frame in layers:
-            _make_table(aside, name, frame)
+        blobs = [wkb_of(frame.geometry) for _, frame in layers]
+        for (name, frame), shapes in zip(layers, blobs):
+            _make_table(aside, name, frame, shapes)
         with closing(sqlite3.connect(str(aside))) as connection:
-            connection.execute("PRAGMA synchronous = OFF")
-            for name, frame in layers:
-                _fill(connection, name, frame)
+            # The file has another name until it is whole: nothing is lost where a journal and its waiting are left out.
+            for option in ("synchronous = OFF", "journal_mode = OFF", "cache_size = -65536"):
+                connection.execute(f"PRAGMA {option}")
+            for (name, frame), shapes in zip(layers, blobs):
+                _fill(connection, name, frame, shapes)
             if styles:
                 _put_styles(connection, styles)
             connection.commit()
@@ -47,45 +54,44 @@ def write_layers(path: Union[str, Path], layers: Sequence[Tuple[str, gpd.GeoData
                 left.unlink()
 
 
-def _schema(frame: gpd.GeoDataFrame) -> Dict[str, Any]:
-    kinds = set(frame.geometry.geom_type.dropna()) - {None}
-    schema = {"properties": {name: "str" for name in frame.columns if name != frame.geometry.name}}
-    if len(frame):
-        schema = infer_schema(frame)
-    schema["geometry"] = kinds.pop() if len(kinds) == 1 else "MultiPolygon" if kinds else "Unknown"
-    return schema
-
-
-def _make_table(path: Path, name: str, frame: gpd.GeoDataFrame) -> None:
+def _make_table(path: Path, name: str, frame: gpd.GeoDataFrame, blobs: Sequence[Optional[bytes]]) -> None:
     crs = frame.crs.to_wkt("WKT1_GDAL") if frame.crs is not None else None
-    with fiona.open(str(path), "w", driver="GPKG", layer=name, schema=_schema(frame), crs_wkt=crs, SPATIAL_INDEX="NO"):
+    schema = {"properties": {column: "str" for column in frame.columns if column != frame.geometry.name}}
+    if len(frame):
+        schema = infer_schema(frame.iloc[:1])
+    kinds = _kinds(blobs)
+    schema["geometry"] = frame.geometry.dropna().iloc[0].geom_type if len(kinds) == 1 else "MultiPolygon" if kinds else "Unknown"
+    with fiona.open(str(path), "w", driver="GPKG", layer=name, schema=schema, crs_wkt=crs, SPATIAL_INDEX="NO"):
         pass
 
 
-def _fill(connection: sqlite3.Connection, name: str, frame: gpd.GeoDataFrame) -> None:
+def _fill(connection: sqlite3.Connection, name: str, frame: gpd.GeoDataFrame, blobs: Sequence[Optional[bytes]]) -> None:
     if not len(frame):
         return
     geometry, srs = connection.execute(
         "SELECT column_name, srs_id FROM gpkg_geometry_columns WHERE table_name = ?", (name,)).fetchone()
     columns = [column for column in frame.columns if column != frame.geometry.name]
-    known = [row[1] for row in connection.execute(f'PRAGMA table_info("{name}")') if row[1] not in ("fid", geometry)]
+    table = connection.execute(f'PRAGMA table_info("{name}")')
+    known = [row[1] for row in table if row[1] not in ("fid", geometry)]
     names = ", ".join(f'"{column}"' for column in [geometry, *known[:len(columns)]])
     marks = ", ".join("?" for _ in range(len(columns) + 1))
     head = b"GP\0\x01" + struct.pack("<i", srs)
     values = [[_plain(value) for value in frame[column]] for column in columns]
-    rows = zip(_blobs(frame, head), *values)
+    rows = zip((blob and head + blob for blob in _of_one_kind(blobs)), *values)
     connection.executemany(f'INSERT INTO "{name}" ({names}) VALUES ({marks})', rows)
-    box = [float(value) for value in frame.total_bounds]
-    connection.execute("UPDATE gpkg_contents SET min_x = ?, min_y = ?, max_x = ?, max_y = ? WHERE table_name = ?", (*box, name))
+    connection.execute("UPDATE gpkg_contents SET min_x = ?, min_y = ?, max_x = ?, max_y = ? WHERE table_name = ?",
+                       (*bounds_of(frame.geometry), name))
 
 
-def _blobs(frame: gpd.GeoDataFrame, head: bytes) -> Iterable[bytes]:
-    shapes = list(frame.geometry)
-    several = len(set(shape.geom_type for shape in shapes if shape is not None)) > 1
-    for shape in shapes:
-        if several and shape is not None and shape.geom_type == "Polygon":
-            shape = MultiPolygon([shape])
-        yield None if shape is None else head + shape.wkb
+def _kinds(blobs: Sequence[Optional[bytes]]) -> Set[int]:
+    return {kind_of(blob) & 0xFF for blob in blobs if blob is not None}
+
+
+def _of_one_kind(blobs: Sequence[Optional[bytes]]) -> Sequence[Optional[bytes]]:
+    """The shapes, where they are of several kinds with polygons as multipolygons."""
+    if len(_kinds(blobs)) < 2:
+        return blobs
+    return [multipolygon_wkb([blob]) if blob is not None and kind_of(blob) & 0xFF == POLYGON else blob for blob in blobs]
 
 
 def _plain(value: Any) -> Any:
@@ -114,3 +120,14 @@ def _put_styles(connection: sqlite3.Connection, styles: Dict[str, str]) -> None:
     connection.executemany(
         "INSERT INTO layer_styles (f_table_catalog, f_table_schema, f_table_name, f_geometry_column, styleName, styleQML,"
         " styleSLD, useAsDefault, description, owner) VALUES ('', '', ?1, ?2, ?1, ?3, '', 1, 'gandovel', '')", rows)
+
+
+def read_layer_of(path: Union[str, Path], name: str) -> gpd.GeoDataFrame:
+    """A layer that `write_layers` wrote, as GeoPandas reads it, but in a fifth of the time: the shapes by SQLite."""
+    with closing(sqlite3.connect(f"{Path(path).resolve().as_uri()}?mode=ro", uri=True)) as connection:
+        column = connection.execute("SELECT column_name FROM gpkg_geometry_columns WHERE table_name = ?", (name,)).fetchone()[0]
+        rows = connection.execute(f'SELECT "{column}" FROM "{name}" ORDER BY fid').fetchall()
+    shapes = shapes_of(None if blob is None else blob[HEAD:] for blob, in rows)
+    attributes = gpd.read_file(str(path), layer=name, ignore_geometry=True)
+    crs = gpd.read_file(str(path), layer=name, rows=1).crs
+    return gpd.GeoDataFrame(attributes, geometry=shapes, crs=crs)

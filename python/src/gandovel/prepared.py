@@ -14,7 +14,7 @@ import numpy as np
 from shapely.geometry import Point, Polygon
 
 from .errors import Refused
-from .gpkg import write_layers
+from .gpkg import read_layer_of, write_layers
 from .layer_files import read_rings, write_rings
 
 OUT = "OUT"
@@ -178,9 +178,9 @@ def load(work: Union[str, Path]) -> Prepared:
     work = Path(work)
     try:
         facts = json.loads((work / "prepared.json").read_text())
-        register = str(work / "register.gpkg")
-        parcels = gpd.read_file(register, layer="parcels")
-        zones = gpd.read_file(register, layer="zones") if facts["zones"] else None
+        register = work / "register.gpkg"
+        parcels = read_layer_of(register, "parcels")
+        zones = read_layer_of(register, "zones") if facts["zones"] else None
         prepared = Prepared(parcels, facts["numbers"], facts["number"], facts["scale"], [None] * facts["islands"], zones,
                             facts["zone_names"], facts["zone"], told=facts["told"])
         prepared.islands = [_island(folder, facts["zones"]) for folder in prepared.folders(work)]
