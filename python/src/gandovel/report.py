@@ -14,18 +14,21 @@ from typing import Any, Dict, List, Optional, Tuple, Union
 import geopandas as gpd
 import numpy as np
 import pandas as pd
-from shapely.geometry import MultiPolygon, Polygon
+from shapely.geometry import Polygon
 from shapely.ops import unary_union
 
 from .errors import Refused
 from .gpkg import write_layers
-from .prepared import OUT_ROW, Island, Prepared
+from .prepared import OUT_ROW, Prepared
 from .progress import Progress
+from .shapes import multipolygon_wkb, polygon_wkb, polygons_of, rings_of, shapes_of, wkb_of
 from .styles import STYLES
 from .verdicts import LayerFaults, checked, island_pairs, layer_faults, numbers_at, write_island
 
 SQUARE_METRE = 1_000_000
 SHOWN = 8
+Pair = Tuple[int, int, int]
+"""An island, from 0, and the rows of a parcel and a zone in it."""
 
 
 @dataclass
@@ -118,7 +121,7 @@ def report(prepared: Prepared, min_area: float = 1.0, progress: Optional[Progres
     """
     progress = progress or Progress()
     faults: Dict[str, List[Dict[str, Any]]] = {"gaps": [], "overlaps": []}
-    pairs: Dict[Tuple[int, int], List[Tuple[Island, int, int]]] = defaultdict(list)
+    pairs: Dict[Tuple[int, str], List[Pair]] = defaultdict(list)
     at_fault: Dict[int, str] = {}
     beyond: Dict[str, None] = {}
     for at, island in enumerate(prepared.islands, 1):
@@ -135,13 +138,10 @@ def report(prepared: Prepared, min_area: float = 1.0, progress: Optional[Progres
                 progress.step("asking which parcels lie in which zones")
                 for parcel, zone in island_pairs(Path(folder), island, found["parcels"], found["zones"]).tolist():
                     if island.parcels.source[parcel] != OUT_ROW:
-                        pairs[island.parcels.source[parcel], _zone_key(prepared, island, zone)].append((island, parcel, zone))
+                        key = island.parcels.source[parcel], prepared.zone_of(island.zones.source[zone])
+                        pairs[key].append((at - 1, parcel, zone))
     progress.step("measuring the parts of split parcels")
     return _put_together(prepared, faults, pairs, at_fault, min_area, list(beyond))
-
-
-def _zone_key(prepared: Prepared, island: Island, zone: int) -> str:
-    return prepared.zone_of(island.zones.source[zone])
 
 
 def _tell(prepared, at, island, role, found: LayerFaults, faults, at_fault) -> None:
@@ -177,36 +177,46 @@ def _put_together(prepared, faults, pairs, at_fault, min_area, beyond) -> Report
                   min_area, beyond)
 
 
-def _parts(prepared: Prepared, pairs, min_area: float) -> gpd.GeoDataFrame:
+def _parts(prepared: Prepared, pairs: Dict[Tuple[int, str], List[Pair]], min_area: float) -> gpd.GeoDataFrame:
     """The parts of split parcels in zones, measured by GEOS on the grid, near the origin."""
     zone_rows = {name: row for row, name in reversed(list(enumerate(prepared.zone_names)))}
-    table: List[Dict[str, Any]] = []
-    polygons: Dict[Tuple[int, str, int], Polygon] = {}
-
-    def polygon(island: Island, role: str, row: int) -> Polygon:
-        key = (id(island), role, row)
-        if key not in polygons:
-            polygons[key] = Polygon(getattr(island, role).rings[row] - island.city[0])
-        return polygons[key]
-
-    for (row, zone), members in sorted(pairs.items(), key=lambda item: (item[0][0], zone_rows.get(item[0][1], -1))):
-        pieces, area = [], 0.0
-        for island, parcel, zone_row in members:
-            cut = polygon(island, "parcels", parcel).intersection(polygon(island, "zones", zone_row))
-            area += cut.area
-            for piece in getattr(cut, "geoms", [cut]):
-                if piece.geom_type == "Polygon" and not piece.is_empty:
-                    shift = island.city[0]
-                    pieces.append(prepared.polygon(np.asarray(piece.exterior.coords) + shift,
-                                                   [np.asarray(ring.coords) + shift for ring in piece.interiors]))
-        table.append({"row": row, "number": prepared.number_of(row), "zone": zone, "area_m2": area / SQUARE_METRE,
-                      "area_how": "measured", "sliver": int(area / SQUARE_METRE < min_area),
-                      "zone_row": zone_rows.get(zone, -1), "geometry": MultiPolygon(pieces)})
-    columns = ["row", "number", "zone", "area_m2", "area_how", "share", "sliver", "zone_row", "geometry"]
-    frame = gpd.GeoDataFrame(table, columns=columns, geometry="geometry", crs=prepared.crs)
-    frame["share"] = frame["area_m2"] / frame.groupby("row")["area_m2"].transform("sum") if len(frame) else []
+    keys = sorted(pairs, key=lambda key: (key[0], zone_rows.get(key[1], -1)))
+    owner = np.repeat(np.arange(len(keys)), [len(pairs[key]) for key in keys])
+    members = [pair for key in keys for pair in pairs[key]]
+    cuts = _cuts(prepared, members)
+    areas = np.bincount(owner, weights=cuts.area, minlength=len(keys)) / SQUARE_METRE
+    pieces: List[List[bytes]] = [[] for _ in keys]
+    for at, (island, _, _), cut, blob in zip(owner.tolist(), members, cuts, wkb_of(cuts)):
+        pieces[at] += _in_place(prepared, island, cut, blob)
+    table = {"row": [row for row, _ in keys], "number": [prepared.number_of(row) for row, _ in keys],
+             "zone": [zone for _, zone in keys], "area_m2": areas, "area_how": "measured",
+             "share": areas / pd.Series(areas).groupby([row for row, _ in keys]).transform("sum").values if keys else areas,
+             "sliver": (areas < min_area).astype(np.int64), "zone_row": [zone_rows.get(zone, -1) for _, zone in keys]}
+    shapes = shapes_of(map(multipolygon_wkb, pieces))
+    frame = gpd.GeoDataFrame(pd.DataFrame(table), geometry=shapes, crs=prepared.crs)
     frame = _with_attributes(frame, prepared.parcels, frame["row"], prepared.number, "")
-    return _with_attributes(frame, prepared.zones, frame["zone_row"], prepared.zone, "zone_").drop(columns=["row", "zone_row"])
+    frame = _with_attributes(frame, prepared.zones, frame["zone_row"], prepared.zone, "zone_")
+    return frame.drop(columns=["row", "zone_row"])
+
+
+def _cuts(prepared: Prepared, members: List[Pair]) -> gpd.GeoSeries:
+    """What each parcel and zone have in common, measured by GEOS, from a corner of their island's city."""
+    sides = []
+    for role, column in (("parcels", 1), ("zones", 2)):
+        rows = list(dict.fromkeys((pair[0], pair[column]) for pair in members))
+        rings = (getattr(prepared.islands[island], role).rings[row] - prepared.islands[island].city[0] for island, row in rows)
+        shapes = dict(zip(rows, polygons_of(rings)))
+        sides.append(gpd.GeoSeries([shapes[pair[0], pair[column]] for pair in members]))
+    return sides[0].intersection(sides[1], align=False)
+
+
+def _in_place(prepared: Prepared, island: int, cut: Any, blob: bytes) -> List[bytes]:
+    """The polygons of a common part, in the layer's projection, as WKB; lines and points of it are left out."""
+    if cut.geom_type not in ("Polygon", "MultiPolygon"):
+        parts = [part for part in getattr(cut, "geoms", []) if part.geom_type == "Polygon" and not part.is_empty]
+        blob = multipolygon_wkb([part for part in wkb_of(parts) if part is not None])
+    shift = prepared.islands[island].city[0]
+    return [polygon_wkb([prepared.in_units(ring + shift) for ring in rings]) for rings in rings_of(blob) if rings]
 
 
 def _with_attributes(frame, source, rows, number: str, prefix: str) -> gpd.GeoDataFrame:
