@@ -4,7 +4,7 @@ from __future__ import annotations
 import os
 import struct
 from pathlib import Path
-from typing import List, Sequence, Union
+from typing import List, Sequence, Tuple, Union
 
 import numpy as np
 
@@ -16,27 +16,43 @@ def _header(words: int, low: Sequence[float], high: Sequence[float]) -> bytes:
             + struct.pack("<4d", *low, *high) + bytes(32))
 
 
+RECORD = np.dtype([("position", ">i4"), ("words", ">i4"), ("kind", "<i4"), ("box", "<f8", 4), ("parts", "<i4"),
+                   ("points", "<i4"), ("first", "<i4")])
+"""What stands in front of a polygon's corners."""
+
+
 def write_rings(main: Union[str, Path], rings: Sequence[np.ndarray]) -> None:
     """Writes counterclockwise rings, each (k, 2) int64 in mm without the first corner again, as `main` and its `.shx`.
 
     Both files are written under other names, then renamed. OSError where the disk does not take them.
     """
-    records, index, at = [], [], 50
-    low, high = np.array([np.inf, np.inf]), np.array([-np.inf, -np.inf])
-    for position, ring in enumerate(rings, 1):
-        closed = np.concatenate([ring[:1], ring[::-1]]).astype("<f8")
-        least, most = closed.min(axis=0), closed.max(axis=0)
-        low, high = np.minimum(low, least), np.maximum(high, most)
-        words = 24 + 8 * len(closed)
-        records.append(struct.pack(">2i", position, words) + struct.pack("<i4d3i", 5, *least, *most, 1, len(closed), 0))
-        records.append(closed.tobytes())
-        index.append(struct.pack(">2i", at, words))
-        at += words + 4
+    counts = np.array([len(ring) + 1 for ring in rings], dtype=np.int64)
+    heads = np.zeros(len(rings), dtype=RECORD)
+    corners, begins = _closed(rings, counts)
+    if len(rings):
+        heads["box"] = np.hstack([ends.reduceat(corners, begins, axis=0) for ends in (np.minimum, np.maximum)])
+    heads["position"], heads["words"] = np.arange(1, len(rings) + 1), 24 + 8 * counts
+    heads["kind"], heads["parts"], heads["points"] = 5, 1, counts
+    at = 50 + np.concatenate([[0], np.cumsum(heads["words"].astype(np.int64) + 4)])
+    low, high = heads["box"][:, :2].min(axis=0, initial=np.inf), heads["box"][:, 2:].max(axis=0, initial=-np.inf)
     if not len(rings):
         low = high = np.zeros(2)
+    front, back = heads.tobytes(), corners.tobytes()
+    records = [piece for i, (begin, count) in enumerate(zip(begins.tolist(), counts.tolist()))
+               for piece in (front[RECORD.itemsize * i:RECORD.itemsize * (i + 1)], back[16 * begin:16 * (begin + count)])]
     main = Path(main)
-    _replace(main, _header(at, low, high) + b"".join(records))
-    _replace(main.with_suffix(".shx"), _header(50 + 4 * len(rings), low, high) + b"".join(index))
+    _replace(main, _header(int(at[-1]), low, high) + b"".join(records))
+    index = np.column_stack([at[:-1], heads["words"]]).astype(">i4").tobytes()
+    _replace(main.with_suffix(".shx"), _header(50 + 4 * len(rings), low, high) + index)
+
+
+def _closed(rings: Sequence[np.ndarray], counts: np.ndarray) -> Tuple[np.ndarray, np.ndarray]:
+    """The corners of all rings, each clockwise and with its first corner again, and where each ring begins."""
+    begins = np.cumsum(counts) - counts
+    step = np.arange(int(counts.sum())) - np.repeat(begins, counts)
+    from_first = np.where(step == 0, 0, np.repeat(counts - 1, counts) - step)
+    corners = np.concatenate([*rings, np.zeros((0, 2), dtype=np.int64)])
+    return corners[np.repeat(begins - np.arange(len(counts)), counts) + from_first].astype("<f8"), begins
 
 
 def _replace(path: Path, content: bytes) -> None:

@@ -65,8 +65,9 @@ def area_polygons(loops: Sequence[np.ndarray]) -> List[Tuple[np.ndarray, List[np
     after = np.arange(1, len(index) + 1)
     after[stops - 1] = stops - sizes
     low, high, net = edges_left(index, index[after])
-    whole = [tuple(corner) for corner in points.astype(np.int64).tolist()]
-    edges = [(whole[a], whole[b]) if n > 0 else (whole[b], whole[a]) for a, b, n in zip(low, high, net)]
+    used = np.unique(np.concatenate([low, high]))
+    whole = dict(zip(used.tolist(), map(tuple, points[used].astype(np.int64).tolist())))
+    edges = [(whole[a], whole[b]) if n > 0 else (whole[b], whole[a]) for a, b, n in zip(low.tolist(), high.tolist(), net.tolist())]
     walks = traced(edges) or []
     return _nested([loop for walk in walks for loop in simple_loops(walk)])
 
