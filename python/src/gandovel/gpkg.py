@@ -20,7 +20,6 @@ from geopandas.io.file import infer_schema
 from .errors import Refused
 from .shapes import POLYGON, bounds_of, kind_of, multipolygon_wkb, shapes_of, wkb_of
 
-
 HEAD = 8
 """The bytes in front of a shape's WKB, as they are written here: no box."""
 
@@ -33,7 +32,7 @@ def write_layers(path: Union[str, Path], layers: Sequence[Tuple[str, gpd.GeoData
     path = Path(path)
     aside = path.with_name(f".{os.getpid()}.{path.name}")
     try:
-        blobs = [wkb_of(frame.geometry) for _, frame in layers]
+        blobs = [wkb_of(frame.geometry.to_numpy()) for _, frame in layers]
         for (name, frame), shapes in zip(layers, blobs):
             _make_table(aside, name, frame, shapes)
         with closing(sqlite3.connect(str(aside))) as connection:
@@ -80,7 +79,7 @@ def _fill(connection: sqlite3.Connection, name: str, frame: gpd.GeoDataFrame, bl
     rows = zip((blob and head + blob for blob in _of_one_kind(blobs)), *values)
     connection.executemany(f'INSERT INTO "{name}" ({names}) VALUES ({marks})', rows)
     connection.execute("UPDATE gpkg_contents SET min_x = ?, min_y = ?, max_x = ?, max_y = ? WHERE table_name = ?",
-                       (*bounds_of(frame.geometry), name))
+                       (*bounds_of(frame.geometry.to_numpy()), name))
 
 
 def _kinds(blobs: Sequence[Optional[bytes]]) -> Set[int]:

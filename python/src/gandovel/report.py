@@ -184,7 +184,7 @@ def _parts(prepared: Prepared, pairs: Dict[Tuple[int, str], List[Pair]], min_are
     owner = np.repeat(np.arange(len(keys)), [len(pairs[key]) for key in keys])
     members = [pair for key in keys for pair in pairs[key]]
     cuts = _cuts(prepared, members)
-    areas = np.bincount(owner, weights=cuts.area, minlength=len(keys)) / SQUARE_METRE
+    areas = np.bincount(owner, weights=[cut.area for cut in cuts], minlength=len(keys)) / SQUARE_METRE
     pieces: List[List[bytes]] = [[] for _ in keys]
     for at, (island, _, _), cut, blob in zip(owner.tolist(), members, cuts, wkb_of(cuts)):
         pieces[at] += _in_place(prepared, island, cut, blob)
@@ -199,7 +199,7 @@ def _parts(prepared: Prepared, pairs: Dict[Tuple[int, str], List[Pair]], min_are
     return frame.drop(columns=["row", "zone_row"])
 
 
-def _cuts(prepared: Prepared, members: List[Pair]) -> gpd.GeoSeries:
+def _cuts(prepared: Prepared, members: List[Pair]) -> np.ndarray:
     """What each parcel and zone have in common, measured by GEOS, from a corner of their island's city."""
     sides = []
     for role, column in (("parcels", 1), ("zones", 2)):
@@ -207,7 +207,7 @@ def _cuts(prepared: Prepared, members: List[Pair]) -> gpd.GeoSeries:
         rings = (getattr(prepared.islands[island], role).rings[row] - prepared.islands[island].city[0] for island, row in rows)
         shapes = dict(zip(rows, polygons_of(rings)))
         sides.append(gpd.GeoSeries([shapes[pair[0], pair[column]] for pair in members]))
-    return sides[0].intersection(sides[1], align=False)
+    return sides[0].intersection(sides[1], align=False).to_numpy()
 
 
 def _in_place(prepared: Prepared, island: int, cut: Any, blob: bytes) -> List[bytes]:
