@@ -1,4 +1,4 @@
-"""The map page in a headless browser: its list, a click, a search, hovering, the keyboard, odd texts, and a large layer."""
+"""The map page in a headless browser: its list, a click, a search, hovering, the keyboard, odd texts, a large layer."""
 from __future__ import annotations
 
 from pathlib import Path
@@ -26,8 +26,8 @@ def browser() -> Iterator[WebDriver]:
     """Chromium without a window."""
     options = webdriver.ChromeOptions()
     options.binary_location = "/usr/bin/chromium"
-    for word in ("--headless=new", "--no-sandbox", "--disable-dev-shm-usage", "--disable-gpu", "--window-size=1000,700"):
-        options.add_argument(word)
+    for word in ("headless=new", "no-sandbox", "disable-dev-shm-usage", "disable-gpu", "window-size=1000,700"):
+        options.add_argument(f"--{word}")
     options.set_capability("goog:loggingPrefs", {"browser": "ALL"})
     driver = webdriver.Chrome(service=webdriver.chrome.service.Service("/usr/bin/chromedriver"), options=options)
     yield driver
@@ -41,9 +41,10 @@ def frame(rows: List[dict]) -> gpd.GeoDataFrame:
 def report(path: Path, side: int = 3, first: str = "101", zones: bool = True, faults: bool = True) -> Path:
     """A report on a square of `side` times `side` parcels, 10 m wide, at a place as registers have them."""
     east, north = 600_000.0, 5_500_000.0
-    rows = [{"number": first if at == 0 else str(101 + at), "records": str(at + 1), "status": "split" if at == 1 and zones else "ok",
-             "geometry": box(east + 10 * (at % side), north + 10 * (at // side), east + 10 * (at % side) + 10, north + 10 * (at // side) + 10)}
-            for at in range(side * side)]
+    lower = [(east + 10 * (at % side), north + 10 * (at // side)) for at in range(side * side)]
+    rows = [{"number": first if at == 0 else str(101 + at), "records": str(at + 1),
+             "status": "split" if at == 1 and zones else "ok", "geometry": box(x, y, x + 10, y + 10)}
+            for at, (x, y) in enumerate(lower)]
     layers = [("parcels", frame(rows))]
     if zones:
         halves = [{"number": "W", "geometry": box(east, north, east + 15, north + 10 * side)},
@@ -53,8 +54,9 @@ def report(path: Path, side: int = 3, first: str = "101", zones: bool = True, fa
     if faults:
         gap = Polygon([(east + 30, north), (east + 30.002, north), (east + 30.002, north + 10)])
         overlap = box(east + 9, north + 12, east + 11, north + 14)
-        layers += [("gaps", frame([{"area2_mm2": "20000", "area_m2": 0.01, "numbers": "103", "geometry": gap}])),
-                   ("overlaps", frame([{"area2_mm2": "8000000", "area_m2": 4.0, "numbers": "104,105", "geometry": overlap}]))]
+        gaps = [{"area2_mm2": "20000", "area_m2": 0.01, "numbers": "103", "geometry": gap}]
+        overlaps = [{"area2_mm2": "8000000", "area_m2": 4.0, "numbers": "104,105", "geometry": overlap}]
+        layers += [("gaps", frame(gaps)), ("overlaps", frame(overlaps))]
     write_layers(path, layers, {})
     return path
 
@@ -77,7 +79,11 @@ def test_lists_findings_and_zooms_there(browser: WebDriver, tmp_path: Path) -> N
     opened(browser, tmp_path, report(tmp_path / "town.gpkg"))
     buttons = browser.find_elements(By.CSS_SELECTOR, "#list button")
     assert [it.text.split("\n")[0] for it in buttons] == ["Gap between 103", "Overlap between 104,105", "Parcel 102"]
-    assert "20000 mm² (exact)" in buttons[0].text and "100 m² (measured)" in buttons[2].text and "zones W,E" in buttons[2].text
+    assert buttons[0].text.endswith("twice its area: 20000 mm² (exact)")
+    assert buttons[1].text.endswith("twice its area: 8000000 mm² (exact); between which parcels: measured")
+    assert buttons[2].text.endswith("100 m² (measured); zones W,E")
+    legend = browser.find_element(By.ID, "legend").text
+    assert "measured: areas of parcels, and which of them overlap" in legend and "exact: gaps and overlaps" in legend
     before = view(browser)
     buttons[0].click()
     after = view(browser)
@@ -128,8 +134,10 @@ def test_fits_a_small_screen(browser: WebDriver, tmp_path: Path) -> None:
         opened(browser, tmp_path, report(tmp_path / "town.gpkg"))
         wide = browser.execute_script("return [document.documentElement.scrollWidth, innerWidth]")
         assert wide[0] <= wide[1]
-        lower = [browser.find_element(By.TAG_NAME, name).rect["y"] for name in ("nav", "canvas")]
-        assert lower[0] > lower[1]
+        names = ("#map", "#legend", "nav")
+        canvas, legend, findings = (browser.find_element(By.CSS_SELECTOR, name).rect for name in names)
+        assert canvas["y"] + canvas["height"] <= legend["y"] and legend["y"] + legend["height"] <= findings["y"]
+        assert canvas["height"] > 200
     finally:
         browser.set_window_size(1000, 700)
 

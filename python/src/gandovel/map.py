@@ -21,10 +21,11 @@ Corner = Tuple[float, float]
 def write_map(report: Union[str, Path], out: Union[str, Path]) -> None:
     """Writes the map of a report.
 
-    `report` is a GeoPackage that `gandovel report` wrote: its layers `parcels`, `gaps`, `overlaps`, `split` and, where there
-    are zones, `zones`, in metres. `out` is the page, written under another name and then renamed. Coordinates are rounded to
-    millimetres for the drawing. Areas of gaps and overlaps are the report's exact ones; those of parcels are measured by the
-    page. Refused P1 where the report is no such file, P14 where the page can't be written.
+    `report` is a GeoPackage that `gandovel report` wrote: its layers `parcels`, `gaps`, `overlaps`, `split` and, where
+    there are zones, `zones`, in metres. `out` is the page, written under another name and then renamed. Coordinates are
+    rounded to millimetres for the drawing. Areas of gaps and overlaps are the report's exact ones; those of parcels are
+    measured by the page, and which parcels overlap by GEOS, which the page says. Refused P1 where the report is no such
+    file, P14 where the page can't be written.
     """
     out = Path(out)
     aside = out.with_name(f".{os.getpid()}.{out.name}")
@@ -56,10 +57,12 @@ def _data_of(report: Path) -> Dict[str, Any]:
         raise Refused("P1", f"{report} has no layer parcels: it is no report")
     bounds = [frame.total_bounds for frame in frames.values() if frame is not None and len(frame)]
     low = tuple(np.min([it[:2] for it in bounds], axis=0)) if bounds else (0.0, 0.0)
-    split = frames["split"]
-    zones_of = dict(zip(split["number"].astype(str), split["zones"].astype(str))) if split is not None and len(split) else {}
+    split, zones_of = frames["split"], {}
+    if split is not None and len(split):
+        zones_of = dict(zip(split["number"].astype(str), split["zones"].astype(str)))
     return {
-        "parcels": [_with(shape, zones=zones_of.get(shape["number"])) for shape in _shapes(frames["parcels"], low, ["number", "status"])],
+        "parcels": [_with(shape, zones=zones_of.get(shape["number"]))
+                    for shape in _shapes(frames["parcels"], low, ["number", "status"])],
         "zones": _shapes(frames["zones"], low, ["number"]),
         "gaps": _shapes(frames["gaps"], low, ["area2_mm2", "numbers"]),
         "overlaps": _shapes(frames["overlaps"], low, ["area2_mm2", "numbers"]),

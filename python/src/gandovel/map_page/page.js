@@ -27,7 +27,8 @@
   const byNumber = new Map();
   for (const parcel of parcels) if (!byNumber.has(parcel.number)) byNumber.set(parcel.number, parcel);
   const all = [0, 0, 1, 1];
-  for (const shape of [...parcels, ...faults]) { all[2] = Math.max(all[2], shape.box[2]); all[3] = Math.max(all[3], shape.box[3]); }
+  for (const shape of [...parcels, ...faults])
+    for (const side of [2, 3]) all[side] = Math.max(all[side], shape.box[side]);
 
   // ---- an index of parcels by cells
   const cells = Array.from({ length: CELLS * CELLS }, () => []);
@@ -91,7 +92,8 @@
     pen.setTransform(dots, 0, 0, dots, 0, 0);
     pen.fillStyle = colour("page"); pen.fillRect(0, 0, wide, high);
     const seen = [left, top_ - high / scale, left + wide / scale, top_];
-    const visible = (it) => it.box[0] <= seen[2] && it.box[2] >= seen[0] && it.box[1] <= seen[3] && it.box[3] >= seen[1];
+    const visible = (it) => it.box[0] <= seen[2] && it.box[2] >= seen[0] &&
+      it.box[1] <= seen[3] && it.box[3] >= seen[1];
     for (const isSplit of [false, true]) {
       pen.beginPath();
       for (const it of parcels) {
@@ -104,10 +106,11 @@
       pen.strokeStyle = colour("edge"); pen.lineWidth = 0.7; pen.stroke();
     }
     pen.beginPath(); zones.filter(visible).forEach(trace);
-    pen.strokeStyle = colour("zone"); pen.lineWidth = 2; pen.setLineDash([8, 4]); pen.stroke(); pen.setLineDash([]);
+    pen.strokeStyle = colour("zone"); pen.lineWidth = 2.5; pen.stroke();
     for (const kind of ["gap", "overlap"]) {
       pen.beginPath(); faults.filter((it) => it.kind === kind && visible(it)).forEach(trace);
-      pen.fillStyle = pen.strokeStyle = colour(kind); pen.fill("evenodd"); pen.lineWidth = kind === "gap" ? 3 : 1.5; pen.stroke();
+      pen.fillStyle = pen.strokeStyle = colour(kind); pen.fill("evenodd");
+      pen.lineWidth = kind === "gap" ? 3 : 1.5; pen.stroke();
     }
     if (picked && visible(picked)) {
       pen.beginPath(); trace(picked); pen.strokeStyle = colour("mark"); pen.lineWidth = 3; pen.stroke();
@@ -118,11 +121,16 @@
   // ---- texts
   const plain = (number) => number.toLocaleString("en", { maximumFractionDigits: 2 });
   function lines(shape) {
-    if (shape.area2_mm2 !== undefined)
-      return [`${NAMES[shape.kind]} between ${shape.numbers || "no parcel"}`, `twice its area: ${shape.area2_mm2} mm² (exact)`];
+    if (shape.area2_mm2 !== undefined) {
+      const texts = [`${NAMES[shape.kind]} between ${shape.numbers || "no parcel"}`,
+                     `twice its area: ${shape.area2_mm2} mm² (exact)`];
+      if (shape.kind === "overlap") texts.push("between which parcels: measured");
+      return texts;
+    }
     const texts = [`Parcel ${shape.number}`, `${plain(measured(shape))} m² (measured)`];
     if (shape.zones) texts.push(`zones ${shape.zones}`);
-    if (shape.status === "gap" || shape.status === "overlap") texts.push(`beside ${shape.status === "gap" ? "a gap" : "an overlap"}`);
+    if (shape.status === "gap") texts.push("beside a gap");
+    if (shape.status === "overlap") texts.push("at an overlap (measured)");
     return texts;
   }
   function pick(shape, button) {
@@ -135,24 +143,32 @@
   const findings = [...faults, ...parcels.filter((it) => it.zones)];
   const list = document.getElementById("list");
   findings.slice(0, LISTED).forEach((shape) => {
-    const item = document.createElement("li"), button = document.createElement("button"), title = document.createElement("b");
-    const small = document.createElement("small"), texts = lines(shape);
+    const item = document.createElement("li"), button = document.createElement("button");
+    const title = document.createElement("b"), small = document.createElement("small"), texts = lines(shape);
     button.type = "button";
     title.textContent = texts[0]; small.textContent = texts.slice(1).join("; ");
     button.append(title, small); item.append(button); list.append(item);
     button.addEventListener("click", () => pick(shape, button));
   });
-  const count = (kind) => kind === "split" ? parcels.filter((it) => it.zones).length : faults.filter((it) => it.kind === kind).length;
+  const count = (kind) => (kind === "split" ? parcels.filter((it) => it.zones)
+    : faults.filter((it) => it.kind === kind)).length;
   document.getElementById("summary").textContent =
     `${parcels.length} parcels; ` + KINDS.map((kind) => `${NAMES[kind].toLowerCase()}s: ${count(kind)}`).join(", ");
-  document.getElementById("more").textContent = findings.length > LISTED ? `and ${findings.length - LISTED} more: search by number` :
+  document.getElementById("more").textContent =
+    findings.length > LISTED ? `and ${findings.length - LISTED} more: search by number` :
     findings.length ? "" : "Nothing to show: no gap, no overlap, no split parcel.";
   const legend = document.getElementById("legend");
-  for (const [name, text] of [["ok", "parcel"], ["split", "split between zones"], ["gap", "gap"], ["overlap", "overlap"], ["zone", "zone's border"]]) {
+  for (const [name, text] of [["ok", "parcel"], ["split", "split between zones"], ["gap", "gap"],
+                              ["overlap", "overlap"], ["zone", "zone's border"]]) {
     const item = document.createElement("li"), swatch = document.createElement("i");
     swatch.style.background = name === "zone" ? "transparent" : `var(--${name})`;
-    if (name === "zone") swatch.style.border = "2px dashed var(--zone)";
+    if (name === "zone") swatch.style.border = "2.5px solid var(--zone)";
     item.append(swatch, text); legend.append(item);
+  }
+  for (const text of ["exact: gaps and overlaps, their areas, and what is split",
+                      "measured: areas of parcels, and which of them overlap"]) {
+    const item = document.createElement("li");
+    item.className = "how"; item.textContent = text; legend.append(item);
   }
 
   // ---- search, pointer, keyboard
@@ -164,8 +180,12 @@
     if (shape) pick(shape);
   });
   const pointers = new Map();
-  canvas.addEventListener("pointerdown", (event) => { canvas.setPointerCapture(event.pointerId); pointers.set(event.pointerId, [event.offsetX, event.offsetY]); });
-  for (const name of ["pointerup", "pointercancel"]) canvas.addEventListener(name, (event) => pointers.delete(event.pointerId));
+  canvas.addEventListener("pointerdown", (event) => {
+    canvas.setPointerCapture(event.pointerId);
+    pointers.set(event.pointerId, [event.offsetX, event.offsetY]);
+  });
+  for (const name of ["pointerup", "pointercancel"])
+    canvas.addEventListener(name, (event) => pointers.delete(event.pointerId));
   canvas.addEventListener("pointermove", (event) => {
     const old = pointers.get(event.pointerId), now = [event.offsetX, event.offsetY];
     if (!old) return hover(now);
@@ -177,7 +197,10 @@
     pointers.set(event.pointerId, now);
   });
   canvas.addEventListener("pointerleave", () => { tip.hidden = true; });
-  canvas.addEventListener("wheel", (event) => { event.preventDefault(); zoom(Math.exp(-event.deltaY / 400), event.offsetX, event.offsetY); }, { passive: false });
+  canvas.addEventListener("wheel", (event) => {
+    event.preventDefault();
+    zoom(Math.exp(-event.deltaY / 400), event.offsetX, event.offsetY);
+  }, { passive: false });
   function hover([px, py]) {
     const shape = shapeAt(left + px / scale, top_ - py / scale);
     tip.hidden = !shape;
@@ -193,9 +216,15 @@
   }));
   document.addEventListener("keydown", (event) => {
     const typing = event.target instanceof HTMLInputElement, [wide, high] = size();
-    if (event.key === "Escape") { picked = null; tip.hidden = true; document.getElementById("number").value = ""; found.textContent = ""; canvas.focus(); plan(); return; }
+    if (event.key === "Escape") {
+      picked = null; tip.hidden = true;
+      document.getElementById("number").value = ""; found.textContent = "";
+      canvas.focus(); plan();
+      return;
+    }
     if (typing || event.ctrlKey || event.metaKey || event.altKey) return;
-    const step = 80 / scale, moves = { ArrowLeft: [-step, 0], ArrowRight: [step, 0], ArrowUp: [0, step], ArrowDown: [0, -step] };
+    const step = 80 / scale;
+    const moves = { ArrowLeft: [-step, 0], ArrowRight: [step, 0], ArrowUp: [0, step], ArrowDown: [0, -step] };
     if (event.key === "/") document.getElementById("number").focus();
     else if (event.key === "+" || event.key === "=") zoom(2, wide / 2, high / 2);
     else if (event.key === "-") zoom(0.5, wide / 2, high / 2);
