@@ -1,8 +1,8 @@
-"""Made registers. Run as a program, it writes one of 202 parcels: `registers.py FOLDER` makes parcels.gpkg and zones.gpkg.
+"""Made registers. Run as a program it writes one of 202 parcels: `registers.py FOLDER` makes parcels.gpkg, zones.gpkg.
 
 The register: a road with 20 blocks as its holes, 10 or 11 plots a block, two plots with an enclave, two parcels of two
-parts, all turned by 17 degrees and far from the origin, in metres, as floats; three zones, wider than the register. Plots
-have corners where their neighbours have none. Three faults are planted, of known areas.
+parts, all turned by 17 degrees and far from the origin, in metres, as floats; three zones, wider than the register.
+Plots have corners where their neighbours have none. Three faults are planted, of known areas.
 """
 from __future__ import annotations
 
@@ -83,7 +83,8 @@ def zones() -> gpd.GeoDataFrame:
     e, f, g = (340.0, -30.0), (340.0, 160.7), (340.0, 320.0)
     cut = (95.3 + (131.9 - 95.3) * 175.0 / 350.0, 145.0)
     shapes = [Polygon([a, b, cut, c, d]), Polygon([b, e, f, cut]), Polygon([cut, f, g, c])]
-    return gpd.GeoDataFrame({"zone": ["R1", "R2", "C"], "height": [9.5, 12.0, 20.0]}, geometry=[turned(it) for it in shapes], crs=CRS)
+    columns = {"zone": ["R1", "R2", "C"], "height": [9.5, 12.0, 20.0]}
+    return gpd.GeoDataFrame(columns, geometry=[turned(it) for it in shapes], crs=CRS)
 
 
 def main() -> None:

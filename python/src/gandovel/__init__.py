@@ -1,6 +1,7 @@
-"""From a GIS to the proved verdict and back: `prepare`, `check`, `area`, `locate`, `overlay`, `apply`, `report`, `back`.
+"""From a GIS to the proved verdict and back.
 
-What is exact comes from the proved program `parcel_tool`; what is measured in floating point is said to be so.
+The functions are `prepare`, `check`, `area`, `locate`, `overlay`, `apply`, `report` and `back`. What is exact comes
+from the proved program `parcel_tool`; what is measured in floating point is said to be so.
 """
 from .api import apply, area, check, locate, overlay
 from .back import back
@@ -10,6 +11,6 @@ from .prepare import prepare
 from .prepared import Prepared, load
 from .report import Report, report
 
-__all__ = ["Insert", "Merge", "Move", "Prepared", "Refused", "Report", "Split", "apply", "area", "back", "check", "load",
-           "locate", "overlay", "prepare", "report"]
+__all__ = ["Insert", "Merge", "Move", "Prepared", "Refused", "Report", "Split", "apply", "area", "back", "check",
+           "load", "locate", "overlay", "prepare", "report"]
 __version__ = "1.0.0"

@@ -9,7 +9,8 @@ class Refused(Exception):
 
     ``code`` is the proved program's (H2, F6 ..; `docs/cli.md`) or this package's (P1 ..; `docs/python.md`).
     ``role`` is ``parcels``, ``zones``, ``city`` or ``""``; ``record`` the record of the program, counted from 1;
-    ``number`` the parcel's (or zone's) own number; ``geometry`` the place in the layer's projection, where there is one.
+    ``number`` the parcel's (or zone's) own number; ``geometry`` the place in the layer's projection, where there is
+    one.
     """
 
     def __init__(

@@ -15,7 +15,7 @@ Row = Tuple[int, int]
 
 
 def edges_left(start: np.ndarray, end: np.ndarray) -> Tuple[np.ndarray, np.ndarray, np.ndarray]:
-    """Directed edges (indices of points) that do not cancel with opposite ones: (low, high, net), net from low to high."""
+    """Directed edges (indices of points) that do not cancel with opposite ones: (low, high, net from low to high)."""
     low, high = np.minimum(start, end), np.maximum(start, end)
     sign = np.where(start < end, 1, -1)
     order = np.lexsort((high, low))
@@ -52,7 +52,8 @@ def clipped(zones: Loops, points: np.ndarray, city: Sequence[Polygon]) -> Tuple[
                 pieces = [shape]
             elif fast.intersects(shape):
                 cut = shape.intersection(part)
-                pieces = [piece for piece in getattr(cut, "geoms", [cut]) if piece.geom_type == "Polygon" and piece.area > 0]
+                pieces = [piece for piece in getattr(cut, "geoms", [cut])
+                          if piece.geom_type == "Polygon" and piece.area > 0]
             else:
                 continue
             for piece in pieces:

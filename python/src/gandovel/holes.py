@@ -105,7 +105,8 @@ def _between(first: np.ndarray, last: np.ndarray, it: np.ndarray) -> np.ndarray:
 
 
 def _traced(rings: List[np.ndarray], cuts: List[Tuple[np.ndarray, np.ndarray]]) -> Optional[List[np.ndarray]]:
-    edges = [(tuple(map(int, a)), tuple(map(int, b))) for ring in rings for a, b in zip(ring, np.roll(ring, -1, axis=0))]
+    edges = [(tuple(map(int, a)), tuple(map(int, b)))
+             for ring in rings for a, b in zip(ring, np.roll(ring, -1, axis=0))]
     for a, b in cuts:
         a, b = tuple(map(int, a)), tuple(map(int, b))
         edges += [(a, b), (b, a)]

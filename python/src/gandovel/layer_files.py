@@ -38,8 +38,9 @@ def write_rings(main: Union[str, Path], rings: Sequence[np.ndarray]) -> None:
     if not len(rings):
         low = high = np.zeros(2)
     front, back = heads.tobytes(), corners.tobytes()
+    size = RECORD.itemsize
     records = [piece for i, (begin, count) in enumerate(zip(begins.tolist(), counts.tolist()))
-               for piece in (front[RECORD.itemsize * i:RECORD.itemsize * (i + 1)], back[16 * begin:16 * (begin + count)])]
+               for piece in (front[size * i:size * (i + 1)], back[16 * begin:16 * (begin + count)])]
     main = Path(main)
     _replace(main, _header(int(at[-1]), low, high) + b"".join(records))
     index = np.column_stack([at[:-1], heads["words"]]).astype(">i4").tobytes()

@@ -39,7 +39,7 @@ def rounds_of(count: int, conflicts: Iterable[Set[int]], beyond: Set[int]) -> Li
 
 
 def filled(city: np.ndarray, rings: Sequence[np.ndarray]) -> List[np.ndarray]:
-    """Rings, which do not overlap and lie in the city, with simple rings behind them that fill what they leave of it."""
+    """Rings, which do not overlap and lie in the city, with simple rings behind them that fill what they leave."""
     fillers = []
     for outer, holes in area_polygons([_with_corners(city, rings), *(ring[::-1] for ring in rings)]):
         fillers += cut_holes(outer, holes) or []
@@ -67,7 +67,8 @@ def area_polygons(loops: Sequence[np.ndarray]) -> List[Tuple[np.ndarray, List[np
     low, high, net = edges_left(index, index[after])
     used = np.unique(np.concatenate([low, high]))
     whole = dict(zip(used.tolist(), map(tuple, points[used].astype(np.int64).tolist())))
-    edges = [(whole[a], whole[b]) if n > 0 else (whole[b], whole[a]) for a, b, n in zip(low.tolist(), high.tolist(), net.tolist())]
+    edges = [(whole[a], whole[b]) if n > 0 else (whole[b], whole[a])
+             for a, b, n in zip(low.tolist(), high.tolist(), net.tolist())]
     walks = traced(edges) or []
     return _nested([loop for walk in walks for loop in simple_loops(walk)])
 

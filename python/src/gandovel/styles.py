@@ -8,15 +8,18 @@ GREY, BLUE, ORANGE, PINK = "200,205,210,255", "0,114,178,255", "230,159,0,255", 
 
 def _symbol(name: str, fill: str, line: str, width: float, filled: bool) -> str:
     style = "solid" if filled else "no"
-    options = (("color", fill), ("outline_color", line), ("outline_width", str(width)), ("outline_style", "solid"), ("style", style))
-    text = "".join(f'<Option type="QString" name="{key}" value="{value}"/><prop k="{key}" v="{value}"/>' for key, value in options)
-    return (f'<symbol type="fill" name="{name}" alpha="1" clip_to_extent="1"><layer class="SimpleFill" enabled="1" pass="0">'
-            f'{text}</layer></symbol>')
+    options = (("color", fill), ("outline_color", line), ("outline_width", str(width)), ("outline_style", "solid"),
+               ("style", style))
+    text = "".join(f'<Option type="QString" name="{key}" value="{value}"/><prop k="{key}" v="{value}"/>'
+                   for key, value in options)
+    return (f'<symbol type="fill" name="{name}" alpha="1" clip_to_extent="1">'
+            f'<layer class="SimpleFill" enabled="1" pass="0">{text}</layer></symbol>')
 
 
 def _single(fill: str, line: str, width: float, filled: bool = True) -> str:
     return (f'<!DOCTYPE qgis PUBLIC "http://mrcc.com/qgis.dtd" "SYSTEM"><qgis styleCategories="Symbology">'
-            f'<renderer-v2 type="singleSymbol"><symbols>{_symbol("0", fill, line, width, filled)}</symbols></renderer-v2></qgis>')
+            f'<renderer-v2 type="singleSymbol"><symbols>{_symbol("0", fill, line, width, filled)}</symbols>'
+            '</renderer-v2></qgis>')
 
 
 def _by_status(classes: Sequence[Tuple[str, str]]) -> str:

@@ -1,4 +1,4 @@
-"""Finding and running the proved program, `parcel_tool`, and reading what it prints. Coordinates are whole millimetres."""
+"""Finding and running the proved program, `parcel_tool`, and reading what it prints, in whole millimetres."""
 from __future__ import annotations
 
 import os
@@ -17,7 +17,7 @@ PathLike = Union[str, "os.PathLike[str]"]
 
 
 def find_tool() -> str:
-    """The program's path: `GANDOVEL_TOOL`, else the wheel's own, else the first on `PATH`. Refused (T1) if there is none."""
+    """The program's path: `GANDOVEL_TOOL`, else the wheel's own, else the first on `PATH`. Refused T1 without any."""
     named = os.environ.get("GANDOVEL_TOOL")
     packed = Path(__file__).with_name("bin") / "parcel_tool"
     found = named or (str(packed) if packed.is_file() else shutil.which("parcel_tool"))
