@@ -59,11 +59,12 @@ def test_a_square_millimetre_is_found_and_nothing_else(columns, rows, third, whi
     cells = tiling(columns, rows, Fraction(0), 1)
     inner = [at for at in range(len(cells)) if (at + 1) % len(columns)]
     cell = cells[inner[which % len(inner)]]
-    (x1, y1), (x2, y2) = cell[1], cell[2]
-    middle = [(x1, y1 + Fraction(1, 1)), (x1 + way * Fraction(1, 1000), y1 + Fraction(1001, 1000)), (x1, y1 + Fraction(1002, 1000))]
+    x1, y1 = cell[1]
+    middle = [(x1, y1 + Fraction(1, 1)), (x1 + way * Fraction(1, 1000), y1 + Fraction(1001, 1000)),
+              (x1, y1 + Fraction(1002, 1000))]
     cells[cells.index(cell)] = [cell[0], cell[1], *middle, cell[2], cell[3]]
     found = gv.check(gv.prepare(layer(cells)))
-    assert [(kind, area2) for kind, area2 in zip(found.kind, found.area2_mm2)] == [("gap" if way < 0 else "overlap", "2")]
+    assert list(zip(found.kind, found.area2_mm2)) == [("gap" if way < 0 else "overlap", "2")]
 
 
 @FEW
@@ -72,6 +73,8 @@ def test_preparing_what_is_prepared_changes_nothing(columns, rows, slant, third)
     once = gv.prepare(layer(tiling(columns, rows, slant, third)))
     again = gv.prepare(once.frame()[["number", "geometry"]], number="number")
     assert again.told["put_in"] == 0 and again.told["moved"] == 0
+    assert len(once.islands) == len(again.islands) == 1
+    assert len(once.islands[0].parcels.rings) == len(again.islands[0].parcels.rings) == len(columns) * len(rows)
     for one, other in zip(once.islands[0].parcels.rings, again.islands[0].parcels.rings):
         assert {tuple(corner) for corner in one} == {tuple(corner) for corner in other} and len(one) == len(other)
 
@@ -83,8 +86,8 @@ HOLES = st.sets(st.tuples(st.integers(0, 5), st.integers(0, 5)), min_size=1, max
 @given(HOLES, st.integers(1, 10))
 def test_holes_are_cut_into_simple_rings_of_the_same_area(places, size):
     outer = np.array([(-1, -3), (70, 0), (66, 71), (2, 63)])
-    holes = [np.array([(10 * x + 3, 10 * y + 3), (10 * x + 3, 10 * y + 3 + size), (10 * x + 4 + size // 2, 10 * y + 2 + size)])
-             for x, y in places]
+    corners = [(0, 0), (0, size), (1 + size // 2, size - 1)]
+    holes = [np.array([(10 * x + 3 + dx, 10 * y + 3 + dy) for dx, dy in corners]) for x, y in places]
     holes = [hole if ring_area(hole) < 0 else hole[::-1] for hole in holes if ring_area(hole) != 0]
     pieces = cut_holes(outer, holes)
     assert pieces is not None
@@ -96,15 +99,31 @@ def test_holes_are_cut_into_simple_rings_of_the_same_area(places, size):
 
 def test_holes_that_touch_the_border_and_one_another():
     outer = np.array([(0, 0), (10, 0), (10, 10), (0, 10)])
-    holes = [np.array([(0, 0), (2, 4), (4, 2)]), np.array([(4, 2), (4, 6), (8, 4)]), np.array([(8, 4), (8, 8), (10, 10)])]
+    triangles = [(0, 0), (2, 4), (4, 2)], [(4, 2), (4, 6), (8, 4)], [(8, 4), (8, 8), (10, 10)]
+    holes = [np.array(triangle) for triangle in triangles]
     pieces = cut_holes(outer, [hole if ring_area(hole) < 0 else hole[::-1] for hole in holes])
     assert all(Polygon(piece).exterior.is_simple for piece in pieces)
     assert sum(map(ring_area, pieces)) == 200 - sum(abs(ring_area(hole)) for hole in holes)
 
 
+HALF_LEFT = [(0, 0), (Fraction(7, 6), 0), (Fraction(5, 3), 3), (0, 3)]
+COMMON = [(Fraction(7, 6), 0), (3, 0), (3, 3), (Fraction(5, 3), 3)]
+BELOW = [(Fraction(7, 6), 0), (1, -1), (3, 0)]
+BEYOND = [(3, 0), (5, 1), (2, 5), (Fraction(5, 3), 3), (3, 3)]
+
+
 def test_crossing_edges_give_exact_fractions():
-    one, other = [(0, 0), (3, 0), (3, 3), (0, 3)], [(1, -1), (5, 1), (2, 5)]
-    edges = np.array([(*a, *b, 1) for ring in (one, other) for a, b in zip(ring, ring[1:] + ring[:1])])
-    faults = faults_of(edges)
-    assert sum(fault.area2 * fault.depth for fault in faults) == twice_area(one) + twice_area(other)
-    assert sorted(fault.depth for fault in faults) == [1, 1, 1, 2] or max(fault.depth for fault in faults) == 2
+    """A square and a triangle, whose lower side goes through the square's corner (3, 0), as the program's edges do."""
+    square, triangle = [(0, 0), (3, 0), (3, 3), (0, 3)], [(1, -1), (3, 0), (5, 1), (2, 5)]
+    edges = np.array([(*a, *b, 1) for ring in (square, triangle) for a, b in zip(ring, ring[1:] + ring[:1])])
+    faults = [(fault.depth, fault.area2, from_least(fault.outer), fault.holes) for fault in faults_of(edges)]
+    expected = [(1, Fraction(17, 2), HALF_LEFT), (1, Fraction(11, 6), BELOW), (2, Fraction(19, 2), COMMON),
+                (1, Fraction(32, 3), BEYOND)]
+    assert faults == [(depth, area2, from_least(outer), []) for depth, area2, outer in expected]
+    assert sum(fault[0] * fault[1] for fault in faults) == twice_area(square) + twice_area(triangle) == 18 + 22
+
+
+def from_least(ring):
+    """The ring from its least corner on."""
+    at = ring.index(min(ring))
+    return ring[at:] + ring[:at]
