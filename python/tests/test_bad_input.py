@@ -27,7 +27,7 @@ BOWTIE = Polygon([(0, 0), (2, 2), (2, 0), (0, 2)])
 ONE = box(0, 0, 10, 10)
 
 BAD = {
-    "invalid": (layer([box(5, 0, 9, 9), BOWTIE]), {}, "P6", "p1", "(1.000, 1.000)"),
+    "invalid": (layer([box(5, 0, 9, 9), BOWTIE]), {}, "P6", "p1", "(1.000, 1.000) (measured)"),
     "empty": (layer([ONE, Polygon()]), {}, "P4", "p1", "no geometry"),
     "line": (layer([LineString([(0, 0), (1, 1)])]), {}, "P5", "p0", "LineString"),
     "twice": (layer([ONE, box(10, 0, 20, 10)], ["a", "a"]), {}, "P3", "a", "same parcel_no"),
@@ -35,7 +35,7 @@ BAD = {
     "degrees": (layer([ONE], crs=4326), {}, "P7", None, "degrees"),
     "mixed": (layer([ONE]), {"zones": layer([ONE], crs=25833)}, "P7", None, "UTM zone 33N"),
     "apart": (layer([ONE]), {"zones": layer([box(50, 50, 60, 60)])}, "P11", None, "(50.000, 50.000)"),
-    "move": (layer([box(0.0004, 0, 10, 10)]), {"max_move": 0.1}, "P8", "p0", "0.40 mm"),
+    "move": (layer([box(0.0004, 0, 10, 10)]), {"max_move": 0.1}, "P8", "p0", "0.40 mm (measured)"),
     "thin": (layer([ONE, box(10, 0, 10.0001, 10)]), {}, "P9", "p1", "nothing is left"),
 }
 

@@ -2,15 +2,18 @@
 from __future__ import annotations
 
 import csv
+import os
+import sqlite3
 import subprocess
 import sys
+from contextlib import closing
 from pathlib import Path
 
 import geopandas as gpd
 import numpy as np
 import pytest
 import shapefile
-from shapely.geometry import Point
+from shapely.geometry import Point, Polygon
 
 import gandovel as gv
 from registers import GAP, LARGE_OVERLAP, SMALL_OVERLAP, register
@@ -21,8 +24,6 @@ SOURCES = Path(__file__).resolve().parents[1] / "src"
 
 def command(*words, cwd):
     """Runs `gandovel` in a folder; what it printed and its status."""
-    import os
-
     path = os.pathsep.join([str(SOURCES), os.environ.get("PYTHONPATH", "")])
     return subprocess.run([*RUN, *map(str, words)], cwd=cwd, stdout=subprocess.PIPE, stderr=subprocess.PIPE, text=True,
                           env={**os.environ, "PYTHONPATH": path})
@@ -34,11 +35,13 @@ def folder(tmp_path_factory):
     place = tmp_path_factory.mktemp("register")
     for name, frame in zip(("parcels", "zones"), register()):
         frame.to_file(place / f"{name}.gpkg", driver="GPKG")
-    one = command("prepare", "parcels.gpkg", "--zones", "zones.gpkg", "--number", "parcel_no", "--out", "work", cwd=place)
+    layers = ("parcels.gpkg", "--zones", "zones.gpkg", "--number", "parcel_no")
+    one = command("prepare", *layers, "--out", "work", cwd=place)
     assert one.returncode == 0, one.stderr
     assert one.stdout.startswith("202 parcels -> 226 rings (24 more for holes and parts); ")
     two = command("report", "work", "--out", "report.gpkg", cwd=place)
     assert two.returncode == 0, two.stderr
+    (place / "prepared.txt").write_text(one.stdout)
     (place / "said.txt").write_text(two.stdout)
     return place
 
@@ -77,10 +80,13 @@ def test_the_areas_of_parts_make_up_their_parcels(folder):
 def test_split_parcels_are_those_that_shapely_finds(folder):
     parcels, zones = register()
     split = set(gpd.read_file(folder / "report.gpkg", layer="split").number)
+    clear = {}
     for number, shape in zip(parcels.parcel_no, parcels.geometry):
-        areas = [shape.intersection(zone).area for zone in zones.geometry]
-        if min(area for area in areas if area > 0) > 0.05 or sum(area > 0 for area in areas) == 1:
-            assert (number in split) == (sum(area > 0 for area in areas) > 1), number
+        areas = [area for area in (shape.intersection(zone).area for zone in zones.geometry) if area > 0]
+        if min(areas) > 0.05 or len(areas) == 1:
+            clear[number] = len(areas) > 1
+    assert len(clear) > 195
+    assert {number for number in clear if number in split} == {number for number in clear if clear[number]}
 
 
 def test_the_report_has_what_a_gis_wants(folder):
@@ -95,16 +101,73 @@ def test_the_report_has_what_a_gis_wants(folder):
     assert all("renderer-v2" in style for style in styles.styleQML)
 
 
-def test_moves_are_told(folder):
-    moved = gpd.read_file(folder / "work/moved.gpkg")
-    assert 0.5 < moved.move_mm.max() <= 0.7072
+def test_changes_are_told(folder):
+    changes = gpd.read_file(folder / "work/changes.gpkg")
+    assert set(changes.change) == {"moved", "put in"} and set(changes.distance_how) == {"measured"}
+    moved, put_in = (changes[changes.change == change] for change in ("moved", "put in"))
+    assert 0.5 < moved.distance_mm.max() <= 0.7072 and 0 < put_in.distance_mm.max() < 1e-5
     there = np.column_stack([moved.geometry.x, moved.geometry.y]) * 1000
-    assert np.allclose(np.hypot(*(there - moved[["x_mm", "y_mm"]].values).T), moved.move_mm, atol=1e-4)
+    assert np.allclose(np.hypot(*(there - moved[["x_mm", "y_mm"]].values).T), moved.distance_mm, atol=1e-4)
+    said = (folder / "prepared.txt").read_text()
+    assert f"; {len(put_in)} corners put in, at most {put_in.distance_mm.max():.0e} mm off (measured); " in said
+    assert f"; {len(moved)} corners moved, at most {moved.distance_mm.max():.2f} mm (measured); " in said
+
+
+def test_a_corner_that_a_touch_puts_in_is_told():
+    left = Polygon([(0, 0), (10, 0), (10, 10), (0, 10)])
+    right = Polygon([(10, 0), (20, 0), (20, 10), (10, 10), (10.0004, 5)])
+    layer = gpd.GeoDataFrame({"parcel_no": ["left", "right"]}, geometry=[left, right], crs=25832)
+    apart, touched = gv.prepare(layer), gv.prepare(layer, touch=0.5)
+    assert apart.told["put_in"] == 1 and apart.told["largest_off"] == 0
+    assert (touched.told["put_in"], touched.told["moved"]) == (1, 1)
+    assert abs(touched.told["largest_off"] - 0.4) < 1e-6 and abs(touched.told["largest_move"] - 0.4) < 1e-6
+    assert "; 1 corner put in, at most 0.40 mm off (measured); " in touched.summary()
+    assert touched.summary().endswith("; 1 corner moved, at most 0.40 mm (measured)")
+    rows = touched.changes_frame()
+    assert list(zip(rows.change, rows.number)) == [("put in", "left"), ("moved", "left")]
+    assert np.allclose(rows.distance_mm, 0.4) and set(rows.distance_how) == {"measured"}
+    assert list(zip(rows.x_mm, rows.y_mm)) == [(10_000, 5_000)] * 2
+
+
+def test_a_corner_that_differs_by_noise_is_told():
+    east = 561234.5
+    left = Polygon([(0, 0), (east, 0), (east, 10), (0, 10)])
+    after = np.nextafter(east, np.inf)
+    right = Polygon([(east, 0), (east + 10, 0), (east + 10, 10), (after, 10)])
+    layer = gpd.GeoDataFrame({"parcel_no": ["left", "right"]}, geometry=[left, right], crs=25832)
+    prepared = gv.prepare(layer)
+    assert prepared.told["gathered"] == 1 and 0 < prepared.told["largest_gathered"] < 1e-6
+    assert "; 1 corner made one with others, at most 1e-07 mm off (measured)" in prepared.summary()
+    rows = prepared.changes_frame()
+    assert list(zip(rows.change, rows.number)) == [("gathered", "right")]
+
+
+MEASURED = {"overlaps": "numbers", "split": "sliver", "split_parts": "area_m2, share, sliver", "changes": "distance_mm"}
+
+
+def test_layers_say_what_is_measured(folder):
+    told = command("report", "parcels.gpkg", "--zones", "zones.gpkg", "--out", "at_once.gpkg", cwd=folder)
+    assert told.stdout == (folder / "prepared.txt").read_text() + (folder / "said.txt").read_text()
+    with closing(sqlite3.connect(folder / "at_once.gpkg")) as connection:
+        notes = dict(connection.execute("SELECT table_name, description FROM gpkg_contents"))
+    assert {"parcels", "zones", "gaps", *MEASURED} <= set(notes)
+    for name, columns in MEASURED.items():
+        _, measured, rest = notes[name].partition("easured")
+        assert measured and columns in rest, name
+    assert "easured" not in notes["gaps"] and "Exact" in notes["gaps"]
+    layers = {name: gpd.read_file(folder / "at_once.gpkg", layer=name) for name in notes if name != "layer_styles"}
+    assert set(layers["gaps"].numbers_how) == {"exact"} and set(layers["overlaps"].numbers_how) == {"measured"}
+    assert set(layers["gaps"].area_how) == set(layers["overlaps"].area_how) - {"exact fraction"} == {"exact"}
+    assert set(layers["split"].sliver_how) == set(layers["split_parts"].area_how) == {"measured"}
+    assert len(layers["changes"]) == len(gpd.read_file(folder / "work/changes.gpkg"))
 
 
 def test_the_layers_themselves_are_reported_at_once(folder):
     told = command("report", "parcels.gpkg", "--zones", "zones.gpkg", "--frame", "--out", "framed.gpkg", cwd=folder)
-    assert told.stdout.startswith("1 gap (7.09 m2), 2 overlaps (762.27 m2, 0.46 m2); "), told.stderr
+    assert told.returncode == 0, told.stderr
+    prepared, found = told.stdout.splitlines()
+    assert prepared.startswith("202 parcels -> 226 rings ")
+    assert found.startswith("1 gap (7.09 m2), 2 overlaps (762.27 m2, 0.46 m2); ")
     assert "OUT" not in set(gpd.read_file(folder / "framed.gpkg", layer="parcels").number)
 
 
@@ -147,7 +210,9 @@ def test_locate_and_area(whole):
     points = gpd.GeoDataFrame(geometry=[parcels.geometry.iloc[9].centroid, Point(0, 0), corner], crs=parcels.crs)
     found = gv.locate(whole, points)
     assert list(found["where"]) == ["inside", "outside", "edge"]
-    assert found.numbers.iloc[0] == parcels.parcel_no.iloc[9] and parcels.parcel_no.iloc[0] in found.numbers.iloc[2].split(",")
+    assert (found.moved_mm <= 0.7072).all() and set(found.moved_how) == {"measured"}
+    assert found.numbers.iloc[0] == parcels.parcel_no.iloc[9]
+    assert parcels.parcel_no.iloc[0] in found.numbers.iloc[2].split(",")
     exact = gv.area(whole)
     assert np.allclose(exact.area_m2, parcels.area, atol=0.1)
     assert all(isinstance(value, int) for value in exact.area2_mm2)

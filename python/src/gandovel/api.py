@@ -18,7 +18,7 @@ from .errors import Refused
 from .layer_files import read_rings
 from .prepare import prepare
 from .prepared import OUT_ROW, Island, Prepared
-from .report import report
+from .report import FAULT_COLUMNS, report
 from .verdicts import named, numbers_at, write_island
 
 Register = Union[Prepared, gpd.GeoDataFrame]
@@ -43,19 +43,18 @@ def _islands(prepared: Prepared) -> Iterator[List[Tuple[Path, Island]]]:
 def check(parcels: Register, **options: Any) -> gpd.GeoDataFrame:
     """The gaps and overlaps of a register, and of its zones where it has some; no row where all tiles.
 
-    Columns: kind (`gap` | `overlap`), layer, island, area2_mm2 (text: twice the exact area in mm2), area_m2, depth (how
-    often too much is covered), numbers (of a gap those that border it, of an overlap those that cover it), geometry.
-    Refused H1, H3, F.., P...
+    Columns: kind (`gap` | `overlap`), layer, island, area2_mm2 (text: twice the exact area in mm2), area_m2, area_how,
+    depth (how often too much is covered), numbers (of a gap those that border it, exact; of an overlap those that cover
+    it, measured by GEOS), numbers_how (`exact` | `measured`), geometry. Refused H1, H3, F.., P...
     """
     answer = report(_prepared(parcels, options))
     frames = [frame.assign(kind=kind) for kind, frame in (("gap", answer.gaps), ("overlap", answer.overlaps))]
     both = pd.concat(frames, ignore_index=True)
-    columns = ["kind", "layer", "island", "area2_mm2", "area_m2", "depth", "numbers", "geometry"]
-    return gpd.GeoDataFrame(both[columns], geometry="geometry", crs=answer.parcels.crs)
+    return gpd.GeoDataFrame(both[["kind", *FAULT_COLUMNS]], geometry="geometry", crs=answer.parcels.crs)
 
 
 def area(parcels: Register, **options: Any) -> gpd.GeoDataFrame:
-    """The parcels with area2_mm2 (whole number: twice the area in mm2 on the grid, exact) and area_m2 (rounded from it)."""
+    """The parcels with area2_mm2 (whole number: twice the area in mm2 on the grid, exact) and area_m2 (rounded)."""
     prepared = _prepared(parcels, options)
     doubled: Dict[int, int] = defaultdict(int)
     with _islands(prepared) as folders:
@@ -70,7 +69,7 @@ def area(parcels: Register, **options: Any) -> gpd.GeoDataFrame:
 def overlay(parcels: Register, zones: gpd.GeoDataFrame = None, **options: Any) -> gpd.GeoDataFrame:
     """The pairs of a parcel and a zone whose interiors have a common point, by number and then by zone.
 
-    Columns: number, zone, split (whether the parcel lies in two zones or more), geometry (the parcel's, as it was given).
+    Columns: number, zone, split (whether the parcel lies in two zones or more), geometry (the parcel's, as given).
     Refused H2 where parcels or zones do not tile the city (`report` answers there, too), H1, H3, F.., P...
     """
     prepared = _prepared(parcels, {**options, "zones": zones} if zones is not None else options)
@@ -100,10 +99,10 @@ def _pairs(prepared: Prepared, folder: Path, island: Island) -> np.ndarray:
 
 
 def locate(parcels: Register, points: gpd.GeoDataFrame, **options: Any) -> gpd.GeoDataFrame:
-    """The points with `where` (`inside` | `edge` | `outside`), `numbers` (text, comma separated) and `moved_mm`.
+    """The points with `where` (`inside` | `edge` | `outside`), `numbers` (text, comma separated), `moved_mm`.
 
-    A point is asked for at the whole millimetre nearest to it, `moved_mm` away (measured). Refused H2 where the parcels
-    do not tile the city, P7 where the points have another projection.
+    A point is asked for at the whole millimetre nearest to it, `moved_mm` away (`moved_how`: measured). Refused H2
+    where the parcels do not tile the city, P7 where the points have another projection.
     """
     prepared = _prepared(parcels, options)
     if points.crs is not None and prepared.crs is not None and points.crs != prepared.crs:
@@ -118,7 +117,7 @@ def locate(parcels: Register, points: gpd.GeoDataFrame, **options: Any) -> gpd.G
                     where[at] = kind
                     known = numbers_at(prepared, island.parcels, [record - 1 for record in records], "parcels")
                     numbers[at] = ",".join([*filter(None, [numbers[at]]), *known])
-    return points.assign(where=where, numbers=numbers, moved_mm=np.hypot(*(whole - places).T))
+    return points.assign(where=where, numbers=numbers, moved_mm=np.hypot(*(whole - places).T), moved_how="measured")
 
 
 def _located(prepared: Prepared, folder: Path, island: Island, whole: np.ndarray) -> List[Tuple[str, List[int]]]:
@@ -131,9 +130,10 @@ def _located(prepared: Prepared, folder: Path, island: Island, whole: np.ndarray
 def apply(parcels: Register, edits: Sequence[Any], island: int = 1, **options: Any) -> gpd.GeoDataFrame:
     """The parcels of an island after edits (`Split`, `Merge`, `Move`, `Insert`, or lines of a clerk's file in mm).
 
-    As `back` returns them: with their attributes, `came_from` and `edited`. `.attrs["answers"]` has the program's answer
-    to each edit, in order: `ok` and the entry's number, or `refused` and why; a refused edit changes nothing. Refused H2
-    where the parcels do not tile the city, P13 for a number that is not there, L1 for a line that is no edit.
+    As `back` returns them: with their attributes, `came_from` and `edited`. `.attrs["answers"]` has the program's
+    answer to each edit, in order: `ok` and the entry's number, or `refused` and why; a refused edit changes nothing.
+    Refused H2 where the parcels do not tile the city, P13 for a number that is not there, L1 for a line that is no
+    edit.
     """
     prepared = _prepared(parcels, options)
     lines = lines_of(prepared, edits, island - 1)

@@ -11,6 +11,7 @@ import numpy as np
 import pandas as pd
 from shapely.geometry import MultiPolygon, Polygon
 
+from . import notes
 from .errors import Refused
 from .gpkg import write_layers
 from .layer_files import read_rings, write_rings
@@ -30,7 +31,7 @@ def back_from_files(export: Union[str, Path], rows: Union[str, Path], out: Union
     prepared = load(work)
     at = [place.resolve() for place in prepared.folders(work)].index(folder)
     frame = back(prepared, read_rings(export), at)
-    write_layers(out, [("parcels", frame)], {})
+    write_layers(out, [("parcels", frame)], notes=notes.BACK)
     return frame
 
 
@@ -58,7 +59,7 @@ def back(prepared: Prepared, rings: Sequence[np.ndarray], at: int = 0) -> gpd.Ge
 
 
 def _origins(island: Island, rings: Sequence[np.ndarray]) -> Tuple[List[List[int]], List[bool]]:
-    """For each new row the old ones that it overlaps, by the program, and whether it covers just what one of them did."""
+    """For each new row the old ones that it overlaps, by the program, and whether it covers just what one did."""
     with tempfile.TemporaryDirectory() as name:
         folder = Path(name)
         for layer, content in (("city", [island.city]), ("new", rings), ("old", island.parcels.rings)):
@@ -83,10 +84,12 @@ def _most(island: Island, ring: np.ndarray, olds: List[int]) -> int:
     return max(area, key=lambda row: area[row])
 
 
-def _frame(prepared: Prepared, rings: Sequence[np.ndarray], rows: List[Tuple[int, List[int], List[str], int]]) -> gpd.GeoDataFrame:
+def _frame(prepared: Prepared, rings: Sequence[np.ndarray],
+           rows: List[Tuple[int, List[int], List[str], int]]) -> gpd.GeoDataFrame:
     shapes = [_united(prepared, [rings[new] for new in news]) for _, news, _, _ in rows]
     sources = [row[0] for row in rows]
-    attributes = pd.DataFrame(prepared.parcels.drop(columns=prepared.parcels.geometry.name)).take(sources).reset_index(drop=True)
+    attributes = pd.DataFrame(prepared.parcels.drop(columns=prepared.parcels.geometry.name))
+    attributes = attributes.take(sources).reset_index(drop=True)
     for name, values in (("came_from", [",".join(row[2]) for row in rows]), ("edited", [row[3] for row in rows])):
         attributes[name] = values
     return gpd.GeoDataFrame(attributes, geometry=shapes, crs=prepared.crs)

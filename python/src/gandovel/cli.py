@@ -18,18 +18,22 @@ from .sources import read_layer
 def _preparing(command: argparse.ArgumentParser) -> None:
     command.add_argument("--zones", metavar="LAYER", help="the zones, in the parcels' projection")
     command.add_argument("--number", metavar="COLUMN", default="parcel_no", help="the parcels' own numbers (parcel_no)")
-    command.add_argument("--zone", metavar="COLUMN", help="the zones' names (zone, else the column of --number, else the row)")
+    command.add_argument("--zone", metavar="COLUMN",
+                         help="the zones' names (zone, else the column of --number, else the row)")
     command.add_argument("--city", metavar="LAYER", help="the city's outline; without it, what the parcels cover")
-    command.add_argument("--frame", action="store_true", help="a frame as the city, with a parcel and a zone OUT; zones uncut")
-    command.add_argument("--max-move", metavar="MM", type=float, default=1.0, help="refuse to move a corner farther (1)")
-    command.add_argument("--touch", metavar="MM", type=float,
-                         help="a corner this near to a border touches it (the noise of floating point, or the last decimal)")
+    command.add_argument("--frame", action="store_true",
+                         help="a frame as the city, with a parcel and a zone OUT; zones uncut")
+    command.add_argument("--max-move", metavar="MM", type=float, default=1.0,
+                         help="refuse to move a corner farther (1)")
+    command.add_argument("--touch", metavar="MM", type=float, help="a corner this near to a border touches it "
+                         "(the noise of floating point, or the last decimal)")
 
 
 def parser() -> argparse.ArgumentParser:
     """The command line."""
-    top = argparse.ArgumentParser(prog="gandovel", description="Parcel layers of a GIS to the proved verdict and back.",
-                                  epilog="Status: 0 done, 1 refused (one line `error: ..`), 2 a command line not understood.")
+    top = argparse.ArgumentParser(
+        prog="gandovel", description="Parcel layers of a GIS to the proved verdict and back.",
+        epilog="Status: 0 done, 1 refused (one line `error: ..`), 2 a command line not understood.")
     top.add_argument("--version", action="version", version=f"gandovel {__version__}")
     commands = top.add_subparsers(dest="command", required=True)
     one = commands.add_parser("prepare", help="layers of a GIS to whole millimetres; nothing is mended")
@@ -40,20 +44,23 @@ def parser() -> argparse.ArgumentParser:
     two.add_argument("source", metavar="FOLDER|PARCELS", help="what prepare wrote, or the parcels' layer")
     _preparing(two)
     two.add_argument("--out", required=True, metavar="REPORT.gpkg", help="the GeoPackage to write; split.csv beside it")
-    two.add_argument("--min-area", metavar="M2", type=float, default=1.0, help="parts of less are slivers (1)")
+    two.add_argument("--min-area", metavar="M2", type=float, default=1.0,
+                     help="parts of less, as measured, are slivers (1)")
     three = commands.add_parser("map", help="a report as one page to look at")
     three.add_argument("report", metavar="REPORT.gpkg")
     three.add_argument("--out", required=True, metavar="MAP.html")
     four = commands.add_parser("back", help="an export after edits, with projection, numbers and attributes")
     four.add_argument("export", metavar="NEW.shp", help="what parcel_tool export wrote")
-    four.add_argument("--rows", required=True, metavar="FOLDER/rows.csv", help="the rows that prepare wrote for these parcels")
+    four.add_argument("--rows", required=True, metavar="FOLDER/rows.csv",
+                      help="the rows that prepare wrote for these parcels")
     four.add_argument("--out", required=True, metavar="NEW.gpkg", help="the GeoPackage to write")
     return top
 
 
 def _prepared(source: str, options: argparse.Namespace, progress: Progress) -> Prepared:
-    layers = {role: read_layer(path, role) if path else None for role, path in (("zones", options.zones), ("city", options.city))}
-    return prepare(read_layer(source, "parcels"), layers["zones"], options.number, options.zone, layers["city"], options.frame,
+    zones, city = (read_layer(path, role) if path else None
+                   for role, path in (("zones", options.zones), ("city", options.city)))
+    return prepare(read_layer(source, "parcels"), zones, options.number, options.zone, city, options.frame,
                    options.max_move, options.touch, progress)
 
 
@@ -81,6 +88,8 @@ def _report(options: argparse.Namespace) -> None:
         answer.save(options.out)
     finally:
         progress.close()
+    if not folder:
+        print(prepared.summary())
     print(answer.summary())
     print(progress.end(), file=sys.stderr)
 

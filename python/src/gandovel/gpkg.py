@@ -22,12 +22,14 @@ from .shapes import POLYGON, bounds_of, kind_of, multipolygon_wkb, shapes_of, wk
 
 HEAD = 8
 """The bytes in front of a shape's WKB, as they are written here: no box."""
+COLUMN = "SELECT column_name FROM gpkg_geometry_columns WHERE table_name = ?"
 
 
-def write_layers(path: Union[str, Path], layers: Sequence[Tuple[str, gpd.GeoDataFrame]], styles: Dict[str, str]) -> None:
-    """Writes layers, in order, and QGIS styles by layer, as one GeoPackage: under another name, then renamed.
+def write_layers(path: Union[str, Path], layers: Sequence[Tuple[str, gpd.GeoDataFrame]],
+                 styles: Optional[Dict[str, str]] = None, notes: Optional[Dict[str, str]] = None) -> None:
+    """Writes layers, in order, as one GeoPackage: under another name, then renamed.
 
-    Refused P14 where the disk does not take it.
+    `styles` are QGIS styles, and `notes` descriptions, by layer. Refused P14 where the disk does not take it.
     """
     path = Path(path)
     aside = path.with_name(f".{os.getpid()}.{path.name}")
@@ -41,6 +43,8 @@ def write_layers(path: Union[str, Path], layers: Sequence[Tuple[str, gpd.GeoData
                 connection.execute(f"PRAGMA {option}")
             for (name, frame), shapes in zip(layers, blobs):
                 _fill(connection, name, frame, shapes)
+            connection.executemany("UPDATE gpkg_contents SET description = ? WHERE table_name = ?",
+                                   [(text, name) for name, text in (notes or {}).items()])
             if styles:
                 _put_styles(connection, styles)
             connection.commit()
@@ -59,7 +63,9 @@ def _make_table(path: Path, name: str, frame: gpd.GeoDataFrame, blobs: Sequence[
     if len(frame):
         schema = infer_schema(frame.iloc[:1])
     kinds = _kinds(blobs)
-    schema["geometry"] = frame.geometry.dropna().iloc[0].geom_type if len(kinds) == 1 else "MultiPolygon" if kinds else "Unknown"
+    schema["geometry"] = "MultiPolygon" if kinds else "Unknown"
+    if len(kinds) == 1:
+        schema["geometry"] = frame.geometry.dropna().iloc[0].geom_type
     with fiona.open(str(path), "w", driver="GPKG", layer=name, schema=schema, crs_wkt=crs, SPATIAL_INDEX="NO"):
         pass
 
@@ -90,7 +96,8 @@ def _of_one_kind(blobs: Sequence[Optional[bytes]]) -> Sequence[Optional[bytes]]:
     """The shapes, where they are of several kinds with polygons as multipolygons."""
     if len(_kinds(blobs)) < 2:
         return blobs
-    return [multipolygon_wkb([blob]) if blob is not None and kind_of(blob) & 0xFF == POLYGON else blob for blob in blobs]
+    return [multipolygon_wkb([blob]) if blob is not None and kind_of(blob) & 0xFF == POLYGON else blob
+            for blob in blobs]
 
 
 def _plain(value: Any) -> Any:
@@ -106,25 +113,27 @@ def _plain(value: Any) -> Any:
 def _put_styles(connection: sqlite3.Connection, styles: Dict[str, str]) -> None:
     """The table `layer_styles` in which QGIS looks for a layer's style."""
     connection.execute(
-        "CREATE TABLE layer_styles (id INTEGER PRIMARY KEY AUTOINCREMENT, f_table_catalog TEXT(256), f_table_schema TEXT(256),"
-        " f_table_name TEXT(256), f_geometry_column TEXT(256), styleName TEXT(30), styleQML TEXT, styleSLD TEXT,"
-        " useAsDefault BOOLEAN, description TEXT, owner TEXT(30), ui TEXT(30), update_time DATETIME DEFAULT CURRENT_TIMESTAMP)")
+        "CREATE TABLE layer_styles (id INTEGER PRIMARY KEY AUTOINCREMENT, f_table_catalog TEXT(256),"
+        " f_table_schema TEXT(256), f_table_name TEXT(256), f_geometry_column TEXT(256), styleName TEXT(30),"
+        " styleQML TEXT, styleSLD TEXT, useAsDefault BOOLEAN, description TEXT, owner TEXT(30), ui TEXT(30),"
+        " update_time DATETIME DEFAULT CURRENT_TIMESTAMP)")
     connection.execute("INSERT INTO gpkg_contents (table_name, data_type, identifier, srs_id) VALUES"
                        " ('layer_styles', 'attributes', 'layer_styles', 0)")
     rows: List[Tuple[str, str, str]] = []
     for name, style in styles.items():
-        found = connection.execute("SELECT column_name FROM gpkg_geometry_columns WHERE table_name = ?", (name,)).fetchone()
+        found = connection.execute(COLUMN, (name,)).fetchone()
         if found:
             rows.append((name, found[0], style))
     connection.executemany(
-        "INSERT INTO layer_styles (f_table_catalog, f_table_schema, f_table_name, f_geometry_column, styleName, styleQML,"
-        " styleSLD, useAsDefault, description, owner) VALUES ('', '', ?1, ?2, ?1, ?3, '', 1, 'gandovel', '')", rows)
+        "INSERT INTO layer_styles (f_table_catalog, f_table_schema, f_table_name, f_geometry_column, styleName,"
+        " styleQML, styleSLD, useAsDefault, description, owner)"
+        " VALUES ('', '', ?1, ?2, ?1, ?3, '', 1, 'gandovel', '')", rows)
 
 
 def read_layer_of(path: Union[str, Path], name: str) -> gpd.GeoDataFrame:
     """A layer that `write_layers` wrote, as GeoPandas reads it, but in a fifth of the time: the shapes by SQLite."""
     with closing(sqlite3.connect(f"{Path(path).resolve().as_uri()}?mode=ro", uri=True)) as connection:
-        column = connection.execute("SELECT column_name FROM gpkg_geometry_columns WHERE table_name = ?", (name,)).fetchone()[0]
+        column = connection.execute(COLUMN, (name,)).fetchone()[0]
         rows = connection.execute(f'SELECT "{column}" FROM "{name}" ORDER BY fid').fetchall()
     shapes = shapes_of(None if blob is None else blob[HEAD:] for blob, in rows)
     attributes = gpd.read_file(str(path), layer=name, ignore_geometry=True)

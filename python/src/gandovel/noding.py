@@ -22,17 +22,22 @@ def noise_of(coordinates: np.ndarray) -> float:
     return 8.0 * float(np.spacing(np.abs(coordinates).max())) if coordinates.size else 0.0
 
 
-def values_gathered(values: np.ndarray, noise: float) -> np.ndarray:
-    """Values with those that differ by noise made one; one that is on the grid but for noise is put there."""
+def values_gathered(values: np.ndarray, noise: float) -> Tuple[np.ndarray, np.ndarray]:
+    """Values with those that differ by noise made one, and put on the grid where they are off it by noise alone.
+
+    The second answer says of each value whether it was made one with another that differs from it.
+    """
     order = np.argsort(values, kind="stable")
     ordered = values[order]
     fresh = np.concatenate([[True], np.diff(ordered) > noise])
+    group = np.cumsum(fresh) - 1
     chosen = ordered[fresh]
+    several = chosen != np.concatenate([ordered[:-1][fresh[1:]], ordered[-1:]])
     whole = np.rint(chosen)
     chosen = np.where(np.abs(chosen - whole) <= noise, whole, chosen)
-    gathered = np.empty_like(values)
-    gathered[order] = chosen[np.cumsum(fresh) - 1]
-    return gathered
+    gathered, made_one = np.empty_like(values), np.empty(len(values), dtype=bool)
+    gathered[order], made_one[order] = chosen[group], several[group]
+    return gathered, made_one
 
 
 def points_of(corners: np.ndarray) -> Tuple[np.ndarray, np.ndarray]:
@@ -152,17 +157,28 @@ def _in_order(rows: np.ndarray) -> np.ndarray:
     return pairs[fresh]
 
 
-def put_in(loops: Loops, points: np.ndarray, wanted: np.ndarray, tolerance: float) -> Tuple[Loops, int, float]:
-    """Loops (of point indices) with each wanted point put into the sides that it touches; how many; the farthest off."""
+def put_in(loops: Loops, points: np.ndarray, wanted: np.ndarray, tolerance: float) -> Tuple[Loops, "PutIn"]:
+    """Loops (of point indices) with each wanted point put into the sides that it touches, and which these are."""
     ends = loops.corners[loops.nexts()]
     found = touches(points, loops.corners, ends, wanted, tolerance)
-    off = _farthest_off(points, loops.corners[found[:, 0]], ends[found[:, 0]], found[:, 1])
-    corners = np.insert(loops.corners, found[:, 0] + 1, found[:, 1])
-    before = np.concatenate([[0], np.cumsum(np.bincount(found[:, 0], minlength=len(loops.corners)))])
+    side, point = found[:, 0], found[:, 1]
+    loop = np.searchsorted(loops.starts, side, side="right") - 1
+    told = PutIn(point, loop, _off(points, loops.corners[side], ends[side], point))
+    corners = np.insert(loops.corners, side + 1, point)
+    before = np.concatenate([[0], np.cumsum(np.bincount(side, minlength=len(loops.corners)))])
     starts = loops.starts + before[loops.starts]
-    return Loops(corners, starts, loops.layer, loops.row, loops.part, loops.hole), len(found), off
+    return Loops(corners, starts, loops.layer, loops.row, loops.part, loops.hole), told
 
 
-def _farthest_off(points: np.ndarray, start: np.ndarray, end: np.ndarray, point: np.ndarray) -> float:
+@dataclass
+class PutIn:
+    """Corners put into loops: the point, the loop, and how far off the loop's side it was (mm, measured)."""
+
+    point: np.ndarray
+    loop: np.ndarray
+    off: np.ndarray
+
+
+def _off(points: np.ndarray, start: np.ndarray, end: np.ndarray, point: np.ndarray) -> np.ndarray:
     d, v = points[end] - points[start], points[point] - points[start]
-    return float((np.abs(d[:, 0] * v[:, 1] - d[:, 1] * v[:, 0]) / np.hypot(d[:, 0], d[:, 1])).max(initial=0.0))
+    return np.abs(d[:, 0] * v[:, 1] - d[:, 1] * v[:, 0]) / np.hypot(d[:, 0], d[:, 1])

@@ -5,8 +5,8 @@ borders that they touch, corners moved to the grid, holes and parts made rings o
 """
 from __future__ import annotations
 
-from dataclasses import dataclass
-from typing import Any, List, Optional, Sequence, Tuple
+from dataclasses import dataclass, field
+from typing import Any, Dict, List, Optional, Sequence, Tuple
 
 import geopandas as gpd
 import numpy as np
@@ -17,7 +17,7 @@ from . import grid, sources
 from .errors import Refused, place
 from .holes import cut_holes
 from .noding import noise_of, points_of, put_in, values_gathered
-from .prepared import OUT, OUT_ROW, Island, Prepared, Rows
+from .prepared import GATHERED, MOVED, OUT, OUT_ROW, PUT_IN, Changes, Island, Prepared, Rows
 from .progress import Progress
 from .sources import CITY, PARCELS, ROLES, ZONES, Loops
 
@@ -28,14 +28,29 @@ FARTHEST = 100_000_000_000
 
 @dataclass
 class _Work:
-    """The register on its way: loops of point indices, the points in mm, and what is told."""
+    """The register on its way: loops of point indices, the points in mm, and what was changed so far."""
 
     loops: Loops
     points: np.ndarray
     noise: float
     tolerance: float
-    put_in: int = 0
-    off: float = 0.0
+    scale: float
+    changes: List[Changes] = field(default_factory=list)
+
+    def tell(self, change: int, corners: np.ndarray, distance: np.ndarray, loop: np.ndarray) -> Changes:
+        """Notes corners (n, 2) in mm that are changed, how far each, and the loops that have them."""
+        to = np.floor(corners + 0.5).astype(np.int64)
+        told = Changes(np.full(len(corners), change), corners / self.scale, to, distance, self.loops.layer[loop],
+                       self.loops.row[loop])
+        self.changes.append(told)
+        return told
+
+    def put_in(self, wanted: np.ndarray, tolerance: float) -> int:
+        """Puts wanted points (indices) into the sides that they touch, and notes them; how many."""
+        loops, found = put_in(self.loops, self.points, wanted, tolerance)
+        self.tell(PUT_IN, self.points[found.point], found.off, found.loop)
+        self.loops = loops
+        return len(found.point)
 
 
 def prepare(
@@ -55,8 +70,8 @@ def prepare(
     column of the parcels' own numbers, no two the same; `zone` that of the zones' names (by default `zone`, else
     `number`, else the row), which may stand for several rows. Without `city` it is what the parcels cover, its holes
     filled, one for each connected part. Zones are cut to the city, or with `frame` a rectangle around all is the city,
-    and a parcel and a zone `OUT` are added. `max_move` and `touch` are in mm: how far a corner may be moved, and how far
-    off a border one is said to touch it (by default the noise of floating point, or the last decimal of the layer).
+    and a parcel and a zone `OUT` are added. `max_move` and `touch` are in mm: how far a corner may be moved, and how
+    far off a border one is said to touch it (by default the noise of floating point, or the layer's last decimal).
 
     Refused P1 .. P14, by number and place.
     """
@@ -74,15 +89,15 @@ def prepare(
     outlines, islands_of_zones = _outlines_and_zones(work, frame, zones is not None, city is not None)
     progress.step("moving corners to the grid")
     labels = (names, zone_names)
-    moved = _moved(work, scale, max_move, labels)
+    _tell_moves(work, max_move, labels)
     _to_grid(work)
     progress.step("cutting holes")
     islands = _islands(work, outlines, islands_of_zones, frame, labels)
     for island in islands:
         _test_limits(island, labels, scale)
-    told = {"put_in": work.put_in, "largest_move": float(max(work.off, moved["move"].max(initial=0.0))),
-            "touch": work.tolerance, "moved": len(moved["move"])}
-    return Prepared(parcels, names, number, scale, islands, zones, zone_names, zone, moved, told)
+    changes = Changes.joined(work.changes)
+    told = {"touch": work.tolerance, "noise": work.noise, **changes.told()}
+    return Prepared(parcels, names, number, scale, islands, zones, zone_names, zone, changes, told)
 
 
 def _zone_names(zones: Optional[gpd.GeoDataFrame], zone: Optional[str], number: str) -> Tuple[str, List[str]]:
@@ -103,11 +118,13 @@ def _test_layers(parcels, zones, city, names: List[str], zone_names: List[str]) 
             continue
         sources.millimetres_per_unit(layer.crs, role)
         if not sources.same_projection(parcels.crs, layer.crs):
-            raise Refused("P7", f"its projection is not that of the parcels: {_name(layer.crs)}, {_name(parcels.crs)}", role=role)
+            names = f"{_name(layer.crs)}, {_name(parcels.crs)}"
+            raise Refused("P7", f"its projection is not that of the parcels: {names}", role=role)
         sources.test_geometries(layer, labels or [str(row) for row in range(len(layer))], role)
         here, there = parcels.total_bounds, layer.total_bounds
         if (here[:2] > there[2:]).any() or (there[:2] > here[2:]).any():
-            raise Refused("P11", f"it lies elsewhere than the parcels: {place(*there[:2])}, they {place(*here[:2])}", role=role)
+            places = f"{place(*there[:2])}, they {place(*here[:2])}"
+            raise Refused("P11", f"it lies elsewhere than the parcels: {places}", role=role)
     return scale
 
 
@@ -124,9 +141,13 @@ def _taken_apart(parcels, zones, city, scale: float, touch: Optional[float]) -> 
         raise Refused("P9", "the layer lies more than 100,000 km from the origin", role="parcels")
     noise = noise_of(corners)
     tolerance = max(noise, _last_decimal(corners / scale, scale, noise / scale) if touch is None else touch)
-    corners = np.column_stack([values_gathered(corners[:, axis], noise) for axis in (0, 1)])
-    points, loops.corners = points_of(corners)
-    return _Work(loops, points, noise, tolerance)
+    (xs, x_made_one), (ys, y_made_one) = (values_gathered(corners[:, axis], noise) for axis in (0, 1))
+    points, loops.corners = points_of(np.column_stack([xs, ys]))
+    work = _Work(loops, points, noise, tolerance, scale)
+    distance = np.hypot(xs - corners[:, 0], ys - corners[:, 1])
+    at = np.flatnonzero((x_made_one | y_made_one) & (distance > 0))
+    work.tell(GATHERED, corners[at], distance[at], np.searchsorted(loops.starts, at, side="right") - 1)
+    return work
 
 
 def _last_decimal(coordinates: np.ndarray, scale: float, noise: float) -> float:
@@ -146,15 +167,12 @@ def _last_decimal(coordinates: np.ndarray, scale: float, noise: float) -> float:
 
 def _put_all_in(work: _Work, wanted: np.ndarray) -> None:
     for _ in range(8):
-        work.loops, count, off = put_in(work.loops, work.points, wanted, work.tolerance)
-        work.put_in += count
-        work.off = max(work.off, off)
-        if not count or work.tolerance <= work.noise:
+        if not work.put_in(wanted, work.tolerance) or work.tolerance <= work.noise:
             return
 
 
 def _outlines_and_zones(work: _Work, frame: bool, zones: bool, city: bool) -> Tuple[List[Polygon], dict]:
-    """The city's parts, put among the loops; and where zones were cut to them, in which part each part of a zone lies."""
+    """The city's parts, put among the loops; and where zones were cut to them, in which of them a zone's part lies."""
     layers = work.loops.layer
     parts = grid.outlines(work.loops.take(layers == (CITY if city else PARCELS)), work.points)
     if frame:
@@ -192,7 +210,7 @@ def _near_known(values: np.ndarray, known: np.ndarray, noise: float) -> np.ndarr
     close = np.abs(values - nearest) <= noise
     result = np.where(close, nearest, values)
     if not close.all():
-        result[~close] = values_gathered(values[~close], noise)
+        result[~close], _ = values_gathered(values[~close], noise)
     return result
 
 
@@ -202,22 +220,19 @@ def _among(points: np.ndarray, known: np.ndarray) -> np.ndarray:
     return np.isin(index[len(known):], index[:len(known)])
 
 
-def _moved(work: _Work, scale: float, max_move: float, labels: Sequence[List[str]]) -> dict:
-    """Each point that goes to the grid from more than noise off it: where it was, is, how far, and whose it is."""
+def _tell_moves(work: _Work, max_move: float, labels: Sequence[List[str]]) -> None:
+    """Notes each point that goes to the grid from more than noise off it. Refused P8 where one goes too far."""
     used, position = np.unique(work.loops.corners, return_index=True)
     points = work.points[used]
-    whole = np.floor(points + 0.5)
-    move = np.hypot(*(whole - points).T)
-    far = move > work.noise
+    distance = np.hypot(*(np.floor(points + 0.5) - points).T)
+    far = distance > work.noise
     loop = np.searchsorted(work.loops.starts, position[far], side="right") - 1
-    moved = {"x": points[far, 0] / scale, "y": points[far, 1] / scale, "to": whole[far].astype(np.int64), "move": move[far],
-             "layer": work.loops.layer[loop], "row": work.loops.row[loop]}
-    if len(move[far]) and move[far].max() > max_move:
-        at = int(move[far].argmax())
-        layer, row, x, y = (moved[name][at] for name in ("layer", "row", "x", "y"))
-        text = f"a corner would move {move[far][at]:.2f} mm, more than {max_move} mm, {place(x, y)}"
+    moved = work.tell(MOVED, points[far], distance[far], loop)
+    if moved.distance.max(initial=0.0) > max_move:
+        at = int(moved.distance.argmax())
+        (x, y), layer, row = moved.places[at], moved.layer[at], moved.row[at]
+        text = f"a corner would move {moved.distance[at]:.2f} mm (measured), more than {max_move} mm, {place(x, y)}"
         raise Refused("P8", text, role=ROLES[layer], number=_label(labels, layer, row), geometry=Point(x, y))
-    return moved
 
 
 def _label(labels: Sequence[List[str]], layer: int, row: int) -> Optional[str]:
@@ -231,11 +246,11 @@ def _to_grid(work: _Work) -> None:
     work.points, index = points_of(whole)
     work.loops.corners = index[work.loops.corners]
     if not as_they_were:
-        work.loops, count, _ = put_in(work.loops, work.points, np.unique(work.loops.corners), 0.0)
-        work.put_in += count
+        work.put_in(np.unique(work.loops.corners), 0.0)
 
 
-def _islands(work: _Work, outlines: List[Polygon], of_zones: dict, frame: bool, labels: Sequence[List[str]]) -> List[Island]:
+def _islands(work: _Work, outlines: List[Polygon], of_zones: Dict[int, int], frame: bool,
+             labels: Sequence[List[str]]) -> List[Island]:
     points = work.points.astype(np.int64)
     rings = {}
     for layer in (PARCELS, ZONES, CITY):
@@ -266,9 +281,10 @@ def _add(rows: Rows, ring: np.ndarray, row: int, part: int) -> None:
 def _refuse_ring(layer: int, fail: Tuple[Tuple[int, int], str], labels: Sequence[List[str]]) -> None:
     (row, part), why = fail
     if why == "holes":
-        raise Refused("P12", f"no cut is found for the holes of its part {part + 1}", ROLES[layer], None, _label(labels, layer, row))
-    raise Refused("P9", f"nothing is left of its part {part + 1} on the grid of millimetres", ROLES[layer], None,
-                  _label(labels, layer, row))
+        raise Refused("P12", f"no cut is found for the holes of its part {part + 1}", ROLES[layer],
+                      number=_label(labels, layer, row))
+    raise Refused("P9", f"nothing is left of its part {part + 1} on the grid of millimetres", ROLES[layer],
+                  number=_label(labels, layer, row))
 
 
 def _where(rings: List[np.ndarray], outlines: List[Polygon], islands: List[Island]) -> List[int]:
@@ -310,10 +326,11 @@ def _test_limits(island: Island, labels: Sequence[List[str]], scale: float) -> N
         for ring, row in zip(rows.rings, rows.source):
             if len(ring) > MOST_CORNERS:
                 x, y = ring[0] / scale
-                raise Refused("P10", f"a ring with {len(ring)} corners {place(x, y)}, and {MOST_CORNERS} are the most", role=role,
-                              number=OUT if row < 0 else _label(labels, layer, row), geometry=Point(x, y))
+                text = f"a ring with {len(ring)} corners {place(x, y)}, and {MOST_CORNERS} are the most"
+                number = OUT if row < 0 else _label(labels, layer, row)
+                raise Refused("P10", text, role, number=number, geometry=Point(x, y))
         if corners > MOST_IN_ALL:
             raise Refused("P10", f"{corners} corners, and {MOST_IN_ALL} are the most", role=role)
     if len(island.city) > MOST_CORNERS:
-        raise Refused("P10", f"the outline has {len(island.city)} corners, and {MOST_CORNERS} are the most: a frame has "
-                      "fewer (--frame)", role="city")
+        raise Refused("P10", f"the outline has {len(island.city)} corners, and {MOST_CORNERS} are the most: a frame "
+                      "has fewer (--frame)", role="city")

@@ -1,4 +1,4 @@
-"""What `prepare` makes: layers in whole millimetres, whose rows know the parcels that they came from; kept in a folder."""
+"""What `prepare` makes: layers in whole millimetres, whose rows know their parcels; kept in a folder."""
 from __future__ import annotations
 
 import csv
@@ -7,23 +7,27 @@ import os
 import shutil
 from dataclasses import dataclass, field
 from pathlib import Path
-from typing import Any, Dict, List, Optional, Sequence, Tuple, Union
+from typing import Any, Dict, List, Optional, Sequence, Union
 
 import geopandas as gpd
 import numpy as np
-from shapely.geometry import Point, Polygon
+from shapely.geometry import Polygon
 
+from . import notes
 from .errors import Refused
 from .gpkg import read_layer_of, write_layers
 from .layer_files import read_rings, write_rings
+from .sources import ROLES
 
 OUT = "OUT"
 OUT_ROW = -1
+MOVED, PUT_IN, GATHERED = range(3)
+CHANGES = ("moved", "put in", "gathered")
 
 
 @dataclass
 class Rows:
-    """The rows of a layer: record i + 1 is `rings[i]`, (k, 2) int64 in mm; row `source[i]` of the layer, its part `part[i]`.
+    """The rows of a layer: record i + 1 is `rings[i]`, (k, 2) int64 in mm, of row `source[i]` and its part `part[i]`.
 
     A row of -1 is the area outside (`OUT`), which `frame` adds.
     """
@@ -42,12 +46,48 @@ class Island:
     zones: Optional[Rows] = None
 
 
+def _none(kind: type, *columns: int) -> Any:
+    """A field that is an array with no row."""
+    return field(default_factory=lambda: np.zeros((0, *columns), dtype=kind))
+
+
+@dataclass
+class Changes:
+    """Corners that `prepare` changed: one row of each array for each.
+
+    `change` is MOVED (to the grid), PUT_IN (into a neighbour's border) or GATHERED (made one with another corner, from
+    which it differed by the noise of floating point). `places` (n, 2) is where it was, in the layer's unit, and `to`
+    (n, 2) int64 the whole millimetre where it is. `distance` in mm, measured, is how far it moved, or how far off the
+    side it was that it was put into. `layer` and `row` are those of a ring that has it.
+    """
+
+    change: np.ndarray = _none(int)
+    places: np.ndarray = _none(float, 2)
+    to: np.ndarray = _none(int, 2)
+    distance: np.ndarray = _none(float)
+    layer: np.ndarray = _none(int)
+    row: np.ndarray = _none(int)
+
+    @classmethod
+    def joined(cls, several: Sequence["Changes"]) -> "Changes":
+        """Changes, one behind the other."""
+        return cls(*(np.concatenate([getattr(one, name) for one in several]) for name in cls.__dataclass_fields__))
+
+    def told(self) -> Dict[str, Any]:
+        """For each kind of change how many corners, and the greatest distance, in mm."""
+        kinds = [self.distance[self.change == kind] for kind in range(len(CHANGES))]
+        counts = dict(zip(("moved", "put_in", "gathered"), map(len, kinds)))
+        farthest = (float(distances.max(initial=0.0)) for distances in kinds)
+        return {**counts, **dict(zip(("largest_move", "largest_off", "largest_gathered"), farthest)),
+                "measured": ["largest_move", "largest_off", "largest_gathered"]}
+
+
 @dataclass
 class Prepared:
-    """A register on the grid. `scale` is millimetres per unit of `parcels.crs`; areas and coordinates of rows are exact.
+    """A register on the grid. `scale` is millimetres per unit of `parcels.crs`; areas and places of rows are exact.
 
     `parcels` and `zones` are the layers as they were given; `numbers` and `zone_names` their own numbers, row by row.
-    `moved` has arrays x, y (as they were, in the layer's unit), to (n, 2) int64 mm, move (mm, measured), layer and row.
+    `changes` are the corners that were moved or put in, of which `told` has counts and distances; none once loaded.
     """
 
     parcels: gpd.GeoDataFrame
@@ -58,7 +98,7 @@ class Prepared:
     zones: Optional[gpd.GeoDataFrame] = None
     zone_names: List[str] = field(default_factory=list)
     zone: str = ""
-    moved: Dict[str, np.ndarray] = field(default_factory=dict)
+    changes: Changes = field(default_factory=Changes)
     told: Dict[str, Any] = field(default_factory=dict)
 
     @property
@@ -94,18 +134,26 @@ class Prepared:
         return gpd.GeoDataFrame(table, geometry="geometry", crs=self.crs)
 
     def summary(self) -> str:
-        """One line: how many parcels gave how many rings, corners put in, the largest move, zones."""
+        """One line: how many parcels gave how many rings, what was changed and how far, zones."""
         rings = sum(row != OUT_ROW for island in self.islands for row in island.parcels.source)
         count = len(self.numbers)
         more = f" ({rings - count} more for holes and parts)" if rings != count else ""
-        text = f"{count} parcels -> {rings} rings{more}; {self.told['put_in']} corners put in; "
-        text += f"largest move {self.told['largest_move']:.2f} mm"
+        texts = [f"{count} parcels -> {rings} rings{more}", *self._changes_told()]
         if self.zones is not None:
             zone_rings = sum(len(island.zones.rings) for island in self.islands)
-            text += f"; zones: {len(self.zone_names)} -> {zone_rings} rings"
+            texts.append(f"zones: {len(self.zone_names)} -> {zone_rings} rings")
         if len(self.islands) > 1:
-            text += f"; {len(self.islands)} islands"
-        return text
+            texts.append(f"{len(self.islands)} islands")
+        return "; ".join(texts)
+
+    def _changes_told(self) -> List[str]:
+        told = self.told
+        texts = [f"{_corners(told['put_in'])} put in" + _at_most(told["put_in"], told["largest_off"], " off"),
+                 f"{_corners(told['moved'])} moved" + _at_most(told["moved"], told["largest_move"])]
+        if told["gathered"]:
+            texts.append(f"{_corners(told['gathered'])} made one with others" +
+                         _at_most(told["gathered"], told["largest_gathered"], " off"))
+        return texts
 
     def folders(self, work: Path) -> List[Path]:
         """The folders of the islands: the work folder itself where there is one island."""
@@ -135,9 +183,9 @@ class Prepared:
             if island.zones is not None:
                 write_rings(place / "zones.shp", island.zones.rings)
                 self._write_rows(place / "zone_rows.csv", island.zones, self.zone or "zone", self.zone_of)
-        write_layers(folder / "moved.gpkg", [("moved", self.moved_frame())], {})
+        write_layers(folder / "changes.gpkg", [("changes", self.changes_frame())], notes=notes.CHANGES)
         layers = [("parcels", self.parcels)] + ([("zones", self.zones)] if self.zones is not None else [])
-        write_layers(folder / "register.gpkg", layers, {})
+        write_layers(folder / "register.gpkg", layers)
         facts = {"number": self.number, "zone": self.zone, "scale": self.scale, "islands": len(self.islands),
                  "zones": self.zones is not None, "crs": self.crs.to_wkt() if self.crs is not None else None,
                  "numbers": self.numbers, "zone_names": self.zone_names, "told": self.told}
@@ -151,18 +199,29 @@ class Prepared:
             writer.writerows((record, named(source), source, part)
                              for record, (source, part) in enumerate(zip(rows.source, rows.part), 1))
 
-    def moved_frame(self) -> gpd.GeoDataFrame:
-        """Each corner that moved, where it was: layer, number, move_mm (measured), x_mm and y_mm (where it is now)."""
-        moved = self.moved
-        if not moved:
-            return gpd.GeoDataFrame({"layer": [], "number": [], "move_mm": [], "x_mm": [], "y_mm": []}, geometry=[], crs=self.crs)
-        names = (self.numbers, self.zone_names)
-        owners = [names[layer][row] if layer < 2 and row >= 0 else None
-                  for layer, row in zip(moved["layer"].tolist(), moved["row"].tolist())]
-        roles = [("parcels", "zones", "city")[layer] for layer in moved["layer"].tolist()]
-        table = {"layer": roles, "number": owners, "move_mm": moved["move"], "x_mm": moved["to"][:, 0],
-                 "y_mm": moved["to"][:, 1]}
-        return gpd.GeoDataFrame(table, geometry=gpd.points_from_xy(moved["x"], moved["y"]), crs=self.crs)
+    def changes_frame(self) -> gpd.GeoDataFrame:
+        """Each corner that was moved or put in, where it was: change, layer, number, distance_mm, x_mm and y_mm.
+
+        `distance_mm` is how far it moved, or how far it was off the side that it was put into (`distance_how`:
+        measured); `x_mm` and `y_mm` are where it is now. Empty once loaded.
+        """
+        it, names = self.changes, (self.numbers, self.zone_names)
+        layers, rows = it.layer.tolist(), it.row.tolist()
+        owners = [names[layer][row] if layer < len(names) and row >= 0 else None for layer, row in zip(layers, rows)]
+        table = {"change": [CHANGES[kind] for kind in it.change.tolist()], "layer": [ROLES[layer] for layer in layers],
+                 "number": owners, "distance_mm": it.distance, "distance_how": "measured", "x_mm": it.to[:, 0],
+                 "y_mm": it.to[:, 1]}
+        return gpd.GeoDataFrame(table, geometry=gpd.points_from_xy(*it.places.T), crs=self.crs)
+
+
+def _corners(count: int) -> str:
+    return f"{count or 'no'} corner{'' if count == 1 else 's'}"
+
+
+def _at_most(count: int, distance: float, what: str = "") -> str:
+    """How far corners are from where they were, as it is printed: with two decimals, or as a power of ten."""
+    text = f"{distance:.2f}" if distance >= 0.01 else f"{distance:.0e}" if distance else "0"
+    return f", at most {text} mm{what} (measured)" if count else ""
 
 
 def _put_in_place(aside: Path, work: Path) -> None:
@@ -181,8 +240,8 @@ def load(work: Union[str, Path]) -> Prepared:
         register = work / "register.gpkg"
         parcels = read_layer_of(register, "parcels")
         zones = read_layer_of(register, "zones") if facts["zones"] else None
-        prepared = Prepared(parcels, facts["numbers"], facts["number"], facts["scale"], [None] * facts["islands"], zones,
-                            facts["zone_names"], facts["zone"], told=facts["told"])
+        prepared = Prepared(parcels, facts["numbers"], facts["number"], facts["scale"], [None] * facts["islands"],
+                            zones, facts["zone_names"], facts["zone"], told=facts["told"])
         prepared.islands = [_island(folder, facts["zones"]) for folder in prepared.folders(work)]
         return prepared
     except Refused:

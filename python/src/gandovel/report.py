@@ -17,6 +17,7 @@ import pandas as pd
 from shapely.geometry import Polygon
 from shapely.ops import unary_union
 
+from . import notes
 from .errors import Refused
 from .gpkg import write_layers
 from .prepared import OUT_ROW, Prepared
@@ -33,10 +34,13 @@ Pair = Tuple[int, int, int]
 
 @dataclass
 class Report:
-    """What the program says of a register. Areas of `gaps` and `overlaps` are exact; those of `parts` are measured.
+    """What the program says of a register.
 
-    Frames in the register's projection: `gaps`, `overlaps` (layer, area2_mm2, area_m2, numbers, depth), `split` (number,
-    zones, zone_count, sliver), `parts` (number, zone, area_m2, share, sliver), `parcels` (number, records, status), `zones`.
+    Frames in the register's projection. `gaps`, `overlaps` (layer, area2_mm2, area_m2, area_how, depth, numbers,
+    numbers_how): exact, but for the numbers of overlaps, which GEOS measures. `split` (number, zones, zone_count,
+    sliver, sliver_how): exact, but for sliver. `parts` (number, zone, area_m2, area_how, share, sliver): measured, but
+    for which parts there are. `parcels` (number, records, status), `zones`, and `changes` where the register was
+    prepared just now.
     """
 
     gaps: gpd.GeoDataFrame
@@ -47,6 +51,7 @@ class Report:
     zones: Optional[gpd.GeoDataFrame]
     min_area: float
     beyond: List[str] = field(default_factory=list)
+    changes: Optional[gpd.GeoDataFrame] = None
 
     def summary(self) -> str:
         """One line: gaps and overlaps with their areas, and how many parcels are split."""
@@ -58,7 +63,7 @@ class Report:
             few = f", {slivers} of them by less than {self.min_area:g} m2 (measured)" if slivers else ""
             texts.append(f"{_count(len(self.split), 'parcel')} split{few}")
         if self.beyond:
-            texts.append(f"{_count(len(self.beyond), 'parcel')} beyond the city, whose zones are not known")
+            texts.append(f"{_count(len(self.beyond), 'parcel')} beyond the city (measured), whose zones are not known")
         return "; ".join(texts)
 
     def save(self, path: Union[str, Path]) -> None:
@@ -68,7 +73,9 @@ class Report:
                   ("split_parts", self.parts)]
         if self.zones is not None:
             layers.insert(1, ("zones", self.zones))
-        write_layers(path, layers, STYLES)
+        if self.changes is not None:
+            layers.append(("changes", self.changes))
+        write_layers(path, layers, STYLES, {**notes.REPORT, **notes.CHANGES})
         if self.zones is not None:
             _write_text(path.with_name("split.csv"), self.table())
 
@@ -77,7 +84,8 @@ class Report:
         text = io.StringIO()
         writer = csv.writer(text, lineterminator="\n")
         writer.writerow(["parcel_no", "zone", "area_m2", "share", "sliver", "areas"])
-        for number, zone, area, share, sliver in zip(*(self.parts[name] for name in ("number", "zone", "area_m2", "share", "sliver"))):
+        columns = (self.parts[name] for name in ("number", "zone", "area_m2", "share", "sliver"))
+        for number, zone, area, share, sliver in zip(*columns):
             writer.writerow([number, zone, f"{area:.6f}", f"{share:.6f}", sliver, "measured"])
         return text.getvalue()
 
@@ -133,7 +141,8 @@ def report(prepared: Prepared, min_area: float = 1.0, progress: Optional[Progres
                 rows = getattr(island, role)
                 found[role] = layer_faults(checked(prepared, Path(folder), island, role), island.city, rows)
                 _tell(prepared, at, island, role, found[role], faults, at_fault)
-            beyond.update(dict.fromkeys(numbers_at(prepared, island.parcels, sorted(found["parcels"].beyond), "parcels")))
+            standing_out = sorted(found["parcels"].beyond)
+            beyond.update(dict.fromkeys(numbers_at(prepared, island.parcels, standing_out, "parcels")))
             if island.zones is not None:
                 progress.step("asking which parcels lie in which zones")
                 for parcel, zone in island_pairs(Path(folder), island, found["parcels"], found["zones"]).tolist():
@@ -150,16 +159,18 @@ def _tell(prepared, at, island, role, found: LayerFaults, faults, at_fault) -> N
         kind = "gaps" if fault.depth < 0 else "overlaps"
         numbers = numbers_at(prepared, rows, concerned, role)
         faults[kind].append({
-            "layer": role, "island": at, "area2_mm2": str(fault.area2), "area_m2": float(fault.area2) / 2 / SQUARE_METRE,
+            "layer": role, "island": at, "area2_mm2": str(fault.area2),
+            "area_m2": float(fault.area2) / 2 / SQUARE_METRE,
             "area_how": "exact" if isinstance(fault.area2, int) else "exact fraction", "depth": fault.depth,
-            "numbers": ",".join(numbers), "geometry": prepared.polygon(fault.outer, fault.holes)})
+            "numbers": ",".join(numbers), "numbers_how": "exact" if kind == "gaps" else "measured",
+            "geometry": prepared.polygon(fault.outer, fault.holes)})
         if role == "parcels":
             for row in concerned:
                 if kind == "overlaps" or rows.source[row] not in at_fault:
                     at_fault[rows.source[row]] = "overlap" if kind == "overlaps" else "gap"
 
 
-FAULT_COLUMNS = ["layer", "island", "area2_mm2", "area_m2", "area_how", "depth", "numbers", "geometry"]
+FAULT_COLUMNS = ["layer", "island", "area2_mm2", "area_m2", "area_how", "depth", "numbers", "numbers_how", "geometry"]
 
 
 def _put_together(prepared, faults, pairs, at_fault, min_area, beyond) -> Report:
@@ -173,8 +184,9 @@ def _put_together(prepared, faults, pairs, at_fault, min_area, beyond) -> Report
     frames = {kind: gpd.GeoDataFrame(rows, columns=FAULT_COLUMNS, geometry="geometry", crs=prepared.crs)
               for kind, rows in faults.items()}
     at_fault.update((row, "split") for row in split_rows if row not in at_fault)
+    changes = prepared.changes_frame() if len(prepared.changes.change) else None
     return Report(frames["gaps"], frames["overlaps"], split, parts, _parcels(prepared, at_fault), _zones(prepared),
-                  min_area, beyond)
+                  min_area, beyond, changes)
 
 
 def _parts(prepared: Prepared, pairs: Dict[Tuple[int, str], List[Pair]], min_area: float) -> gpd.GeoDataFrame:
@@ -188,10 +200,11 @@ def _parts(prepared: Prepared, pairs: Dict[Tuple[int, str], List[Pair]], min_are
     pieces: List[List[bytes]] = [[] for _ in keys]
     for at, (island, _, _), cut, blob in zip(owner.tolist(), members, cuts, wkb_of(cuts)):
         pieces[at] += _in_place(prepared, island, cut, blob)
-    table = {"row": [row for row, _ in keys], "number": [prepared.number_of(row) for row, _ in keys],
-             "zone": [zone for _, zone in keys], "area_m2": areas, "area_how": "measured",
-             "share": areas / pd.Series(areas).groupby([row for row, _ in keys]).transform("sum").values if keys else areas,
-             "sliver": (areas < min_area).astype(np.int64), "zone_row": [zone_rows.get(zone, -1) for _, zone in keys]}
+    rows = [row for row, _ in keys]
+    share = areas / pd.Series(areas).groupby(rows).transform("sum").values if keys else areas
+    table = {"row": rows, "number": [prepared.number_of(row) for row in rows], "zone": [zone for _, zone in keys],
+             "area_m2": areas, "area_how": "measured", "share": share, "sliver": (areas < min_area).astype(np.int64),
+             "zone_row": [zone_rows.get(zone, -1) for _, zone in keys]}
     shapes = shapes_of(map(multipolygon_wkb, pieces))
     frame = gpd.GeoDataFrame(pd.DataFrame(table), geometry=shapes, crs=prepared.crs)
     frame = _with_attributes(frame, prepared.parcels, frame["row"], prepared.number, "")
@@ -204,7 +217,8 @@ def _cuts(prepared: Prepared, members: List[Pair]) -> np.ndarray:
     sides = []
     for role, column in (("parcels", 1), ("zones", 2)):
         rows = list(dict.fromkeys((pair[0], pair[column]) for pair in members))
-        rings = (getattr(prepared.islands[island], role).rings[row] - prepared.islands[island].city[0] for island, row in rows)
+        islands = (prepared.islands[island] for island, _ in rows)
+        rings = (getattr(island, role).rings[row] - island.city[0] for island, (_, row) in zip(islands, rows))
         shapes = dict(zip(rows, polygons_of(rings)))
         sides.append(gpd.GeoSeries([shapes[pair[0], pair[column]] for pair in members]))
     return sides[0].intersection(sides[1], align=False).to_numpy()
@@ -244,7 +258,7 @@ def _split(prepared: Prepared, rows: List[int], zones_of, parts) -> gpd.GeoDataF
     numbers = [prepared.number_of(row) for row in rows]
     table = {"number": numbers, "zones": [",".join(zones_of[row]) for row in rows],
              "zone_count": [len(zones_of[row]) for row in rows], "sliver": [int(slivers[number]) for number in numbers],
-             "geometry": list(prepared.parcels.geometry.iloc[rows])}
+             "sliver_how": "measured", "geometry": list(prepared.parcels.geometry.iloc[rows])}
     frame = gpd.GeoDataFrame(table, geometry="geometry", crs=prepared.crs)
     return _with_attributes(frame, prepared.parcels, rows, prepared.number, "")
 
@@ -270,7 +284,7 @@ def _zones(prepared: Prepared) -> Optional[gpd.GeoDataFrame]:
         for ring, row in zip(island.zones.rings, island.zones.source):
             shapes[row].append(prepared.polygon(ring))
     rows = [row for row in range(len(prepared.zone_names)) if shapes[row]]
-    joined = [shapes[row][0] if len(shapes[row]) == 1 else unary_union([it.buffer(0) for it in shapes[row]]) for row in rows]
-    frame = gpd.GeoDataFrame({"number": [prepared.zone_of(row) for row in rows], "geometry": joined}, geometry="geometry",
-                             crs=prepared.crs)
+    joined = [shapes[row][0] if len(shapes[row]) == 1 else unary_union([it.buffer(0) for it in shapes[row]])
+              for row in rows]
+    frame = gpd.GeoDataFrame({"number": [prepared.zone_of(row) for row in rows]}, geometry=joined, crs=prepared.crs)
     return _with_attributes(frame, prepared.zones, rows, prepared.zone, "")

@@ -3,7 +3,6 @@ from __future__ import annotations
 
 import os
 from dataclasses import dataclass
-from pathlib import Path
 from typing import Any, List, Optional, Tuple, Union
 
 import geopandas as gpd
@@ -33,7 +32,7 @@ def read_layer(source: Union[str, "os.PathLike[str]"], role: str) -> gpd.GeoData
 
 
 def millimetres_per_unit(crs: Any, role: str) -> float:
-    """How many millimetres a coordinate's unit is: 1000 for metres, and where no projection is named. Degrees are P7."""
+    """How many millimetres a coordinate's unit is: 1000 for metres, and where none is named. Degrees are P7."""
     if crs is None:
         return 1000.0
     system = CRS.from_user_input(crs)
@@ -80,7 +79,7 @@ def _where(frame: gpd.GeoDataFrame, row: int) -> str:
     if geometry is None or geometry.is_empty:
         return ""
     point = geometry.representative_point()
-    return " " + place(point.x, point.y)
+    return f" {place(point.x, point.y)} (measured)"
 
 
 def test_geometries(frame: gpd.GeoDataFrame, numbers: List[str], role: str) -> None:
@@ -102,7 +101,7 @@ def _refuse_invalid(geometry: Any, number: str, role: str) -> None:
     point = None
     try:
         x, y = (float(word) for word in rest.rstrip("]").split()[:2])
-        point, reason = Point(x, y), f"{text} {place(x, y)}"
+        point, reason = Point(x, y), f"{text} {place(x, y)} (measured)"
     except ValueError:
         pass
     raise Refused("P6", f"its geometry is invalid: {reason}", role=role, number=number, geometry=point)

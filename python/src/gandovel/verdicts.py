@@ -1,4 +1,4 @@
-"""The program's verdicts on a prepared register: faults of its layers, with the rows at them, and the pairs of an overlay."""
+"""The program's verdicts on a prepared register: faults of its layers, with their rows, and an overlay's pairs."""
 from __future__ import annotations
 
 import tempfile
@@ -23,8 +23,9 @@ from .tool import CheckAnswer, check_all, overlay_pairs
 class LayerFaults:
     """What is wrong with a layer of an island: the faults, and for each the rows (from 0) that it concerns.
 
-    Of an overlap these are the rows that cover a part of it, of a gap those that border it. `conflicts` are the pairs of
-    rows that overlap, and `beyond` the rows that stand out of the city.
+    Of an overlap these are the rows that cover a part of it, of a gap those that border it. `conflicts` are the pairs
+    of rows that overlap, and `beyond` the rows that stand out of the city. Gaps are told by the program's edges; which
+    rows cover what, overlap, or stand out is measured by GEOS.
     """
 
     faults: List[Fault] = field(default_factory=list)
@@ -66,8 +67,11 @@ def named(prepared: Prepared, island: Island, refused: Refused, role: str) -> Re
     number = prepared.number_of(source) if role == "parcels" else prepared.zone_of(source)
     reason, _, rest = explain_validity(Polygon(ring)).partition("[")
     x, y = prepared.in_units([float(word) for word in rest.rstrip("]").split()] if rest else ring[0])
-    what = f"its ring is not simple on the grid ({reason.strip().lower()})" if refused.code == "H1" else "its ring is too long"
-    return Refused(refused.code, f"{what} {place(x, y)}: record {refused.text}", role, refused.record, number, Point(x, y))
+    what = "its ring is too long"
+    if refused.code == "H1":
+        what = f"its ring is not simple on the grid ({reason.strip().lower()})"
+    text = f"{what} {place(x, y)}{' (measured)' if rest else ''}: record {refused.text}"
+    return Refused(refused.code, text, role, refused.record, number, Point(x, y))
 
 
 def layer_faults(answer: CheckAnswer, city: np.ndarray, rows: Rows) -> LayerFaults:
