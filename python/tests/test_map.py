@@ -134,9 +134,10 @@ def test_fits_a_small_screen(browser: WebDriver, tmp_path: Path) -> None:
         opened(browser, tmp_path, report(tmp_path / "town.gpkg"))
         wide = browser.execute_script("return [document.documentElement.scrollWidth, innerWidth]")
         assert wide[0] <= wide[1]
-        names = ("#map", "#legend", "nav")
-        canvas, legend, findings = (browser.find_element(By.CSS_SELECTOR, name).rect for name in names)
-        assert canvas["y"] + canvas["height"] <= legend["y"] and legend["y"] + legend["height"] <= findings["y"]
+        canvas, legend, findings = (browser.execute_script(
+            f"return document.querySelector('{name}').getBoundingClientRect().toJSON()")
+            for name in ("#map", "#legend", "nav"))
+        assert canvas["bottom"] <= legend["top"] and legend["bottom"] <= findings["top"]
         assert canvas["height"] > 200
     finally:
         browser.set_window_size(1000, 700)
