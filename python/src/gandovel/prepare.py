@@ -145,7 +145,7 @@ def _taken_apart(parcels, zones, city, scale: float, touch: Optional[float]) -> 
     points, loops.corners = points_of(np.column_stack([xs, ys]))
     work = _Work(loops, points, noise, tolerance, scale)
     distance = np.hypot(xs - corners[:, 0], ys - corners[:, 1])
-    at = np.flatnonzero((x_made_one | y_made_one) & (distance > 0))
+    at = np.flatnonzero((x_made_one & (xs != corners[:, 0])) | (y_made_one & (ys != corners[:, 1])))
     work.tell(GATHERED, corners[at], distance[at], np.searchsorted(loops.starts, at, side="right") - 1)
     return work
 
