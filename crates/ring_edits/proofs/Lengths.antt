@@ -1,13 +1,15 @@
 -- How many corners the new rings have.
 use Rattle.std.proofs.Common.{◌≡◌, sym, ◌∙◌, ap, arith, ℕ, ◌+◌, ◌≤◌, List, [], ◌∷◌, ◌++◌, length, take}
-use Rattle.std.proofs.Common.{drop, reverse}
+use Rattle.std.proofs.Common.{drop, reverse, Bool, true, false, not}
+use Rattle.std.specs.Prelude.{cond}
 use Rattle.std.proofs.lemmas.List.{length-append, length-take-le, length-drop, length-reverse}
 use Rattle.geo_exact.specs.declared.corner.Corner.{Corner}
+use Rattle.geo_exact.specs.Order.{is_same}
 use Rattle.geo_exact.specs.Rings.{begun_at, begun_at_least}
 use Rattle.geo_exact.proofs.rings.Begun.{least_within}
 use Rattle.ring_core.proofs.ears.BegunElsewhere.{begun_length}
 use Rattle.ring_edits.specs.Round.{GoesRound}
-use Rattle.ring_edits.specs.Edits.{IsPath, IsSplit, IsMerge, IsMove}
+use Rattle.ring_edits.specs.Edits.{IsPath, IsSplit, IsMerge, IsMove, without_corner, straightened}
 
 turned_length : (k : ℕ) (ring : List Corner) → k ≤ length ring → length (begun_at k ring) ≡ length ring
 turned_length k ring h = omega (arith, length-append (drop k ring) (take k ring), length-drop k ring, length-take-le k ring h)
@@ -72,3 +74,15 @@ move_bound a b corners out_a out_b h =
         length-reverse h.between,
       ),
     )
+
+pub without_length : (at : Corner) (ring : List Corner) → length (without_corner at ring) ≤ length ring
+without_length at [] = omega arith
+without_length at (c ∷ cs) = step (is_same at c) (without_length at cs)
+  where
+    step : (b : Bool) → length (without_corner at cs) ≤ length cs
+        → length (cond (not b) (c ∷ without_corner at cs) (without_corner at cs)) ≤ length (c ∷ cs)
+    step true h = omega (arith, h)
+    step false h = omega (arith, h)
+
+pub straightened_length : (at : Corner) (ring : List Corner) → length (straightened at ring) ≤ length ring
+straightened_length at ring = omega (arith, least_length (without_corner at ring), without_length at ring)

@@ -10,6 +10,7 @@ pub mod PutEdges
 pub mod PutNets
 pub mod PutLoops
 pub mod PutGround
+pub mod Straight
 pub mod OneEdge
 pub mod OneResult
 pub mod Lengths

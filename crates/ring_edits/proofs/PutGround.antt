@@ -43,7 +43,7 @@ put_covers u v at ring h = record {
   signed_area = sum_over-put edge_area2 u v at ring (λ a b i. edge_area2_cut a b at i.on_edge) h;
 }
 
-begun_covers : (ring other : List Corner) → CoversAlike ring other → CoversAlike ring (begun_at_least other)
+pub begun_covers : (ring other : List Corner) → CoversAlike ring other → CoversAlike ring (begun_at_least other)
 begun_covers ring other h = let w = least_within other in record {
   winding_number = λ p. ap (winding p) w.2 ∙ sum_over-begun (λ edge. crossing p edge.from edge.to) w.0 other w.1 ∙ h.winding_number p;
   boundary = λ p. let same = on_ring_begun w.0 p other w.1 in (
@@ -106,13 +106,13 @@ all_left P u v at (first ∷ rest) h =
     (left_along P u v at first first rest (recursion_from_All P (put_along u v at (path first rest first)) h))
 
 -- and begun elsewhere a ring has the same corners
-begun_all : (P : Corner → Type 0) (ring : List Corner) → All P ring → All P (begun_at_least ring)
+pub begun_all : (P : Corner → Type 0) (ring : List Corner) → All P ring → All P (begun_at_least ring)
 begun_all P ring h =
     let w = least_within ring in
     All-same P (begun_at_least ring) (begun_at w.0 ring) w.2
     (All-append P (drop w.0 ring) (take w.0 ring) (All-drop P w.0 ring h) (All-take P w.0 ring h))
 
-all_begun : (P : Corner → Type 0) (ring : List Corner) → All P (begun_at_least ring) → All P ring
+pub all_begun : (P : Corner → Type 0) (ring : List Corner) → All P (begun_at_least ring) → All P ring
 all_begun P ring h =
     let w = least_within ring in let front = drop w.0 ring in let back = take w.0 ring in
     let k : All P (front ++ back) = All-same P (front ++ back) (begun_at_least ring) (sym w.2) h in
@@ -124,7 +124,7 @@ all_begun P ring h =
     (All-take P (length front) (front ++ back) k)))
 
 -- ---- the least box
-held_between : (box : Bounds) (u v at : Corner) → IsStrictlyInside at u v → HoldsCorner box u → HoldsCorner box v
+pub held_between : (box : Bounds) (u v at : Corner) → IsStrictlyInside at u v → HoldsCorner box u → HoldsCorner box v
     → HoldsCorner box at
 held_between box u v at h k l =
     let i = inside_from_strictly at u v h in record {
@@ -150,7 +150,7 @@ with_corner_box box u v at ring h k =
     }
 
 -- ---- the least corner
-abbrev NotBefore : Corner → Corner → Type 0
+abbrev pub NotBefore : Corner → Corner → Type 0
 NotBefore c o = is_before o c ≡ false
 
 -- strictly between two numbers of one line, of which one is the corner's own
@@ -166,7 +166,7 @@ beside ux uy vx vy ax ay e h k =
     dropped p q z h k = omega (arith, ints, rw h at k)
 
 -- a corner strictly between two that do not come before c does not either
-not_before_between : (c u v at : Corner) → IsStrictlyInside at u v → NotBefore c u → NotBefore c v → NotBefore c at
+pub not_before_between : (c u v at : Corner) → IsStrictlyInside at u v → NotBefore c u → NotBefore c v → NotBefore c at
 not_before_between c u v at h k l = false_where (is_before at c) (Decides-is_before at c) never
   where
     not_u : IsBefore u c → ⊥
@@ -206,7 +206,7 @@ not_before_between c u v at h k l = false_where (is_before at c) (Decides-is_bef
         too_low k e = omega (arith, ints, k, e, m.1)
 
 -- the first corner of a ring that is begun at its least
-first_least : (first : Corner) (rest : List Corner) → begun_at_least (first ∷ rest) ≡ first ∷ rest
+pub first_least : (first : Corner) (rest : List Corner) → begun_at_least (first ∷ rest) ≡ first ∷ rest
     → All (NotBefore first) (first ∷ rest)
 first_least first rest h =
     let ring = first ∷ rest in
@@ -217,7 +217,7 @@ first_least first rest h =
     let head : corner_at ring w.0 ≡ first = ap (λ xs. corner_at xs 0) same in
     All-from_get_or (NotBefore first) ring origin (λ i b. subst (λ c. NotBefore c (corner_at ring i)) head (w.1.1 i origin b))
 
-begins_least : (first : Corner) (rest : List Corner) → All (NotBefore first) (first ∷ rest)
+pub begins_least : (first : Corner) (rest : List Corner) → All (NotBefore first) (first ∷ rest)
     → begun_at_least (first ∷ rest) ≡ first ∷ rest
 begins_least first rest h =
     let ring = first ∷ rest in

@@ -1,14 +1,16 @@
 -- What each edit makes of rings (this product's own). Each new ring is given by its corners as they are joined, and begun at its least;
 -- `put_between` alone is not begun anew.
-use Rattle.std.specs.Prelude.{◌≡◌, ◌≢◌, ◌↔◌, ℕ, ◌<◌, ◌≤◌, Bool, ◌||◌, if◌then◌else◌, List, []}
+use Rattle.std.specs.Prelude.{◌≡◌, ◌≢◌, ◌↔◌, ℕ, ◌<◌, ◌≤◌, Bool, ◌||◌, not, if◌then◌else◌, List, []}
 use Rattle.std.specs.Prelude.{◌∷◌, ◌++◌, reverse, length}
-use Rattle.std.specs.List.{Contains, AllByRecursion, list_any}
+use Rattle.std.specs.List.{Contains, AllByRecursion, list_any, filter}
 use Rattle.geo_exact.specs.declared.corner.Corner.{Corner}
 use Rattle.geo_exact.specs.declared.limits.TheConstants.{RING_CORNERS}
 use Rattle.geo_exact.specs.Area.{area2}
-use Rattle.geo_exact.specs.Places.{corner_at, after}
+use Rattle.geo_exact.specs.Order.{is_same}
+use Rattle.geo_exact.specs.Places.{corner_at, after, before}
 use Rattle.geo_exact.specs.Point.{Point}
 use Rattle.geo_exact.specs.Rings.{Edge, path, edges, begun_at_least}
+use Rattle.geo_exact.specs.Segments.{IsStrictlyInside}
 use Rattle.geo_exact.specs.Turn.{IsOnRing}
 use Rattle.geo_exact.specs.Winding.{winding}
 use Rattle.edge_chains.specs.Net.{runs_from_to}
@@ -138,3 +140,23 @@ pub record IsMove (a b corners out_a out_b : List Corner) : Type 0 where
   pub is_path : IsPath corners u between v
   pub out_a_is : out_a ≡ begun_at_least (u ∷ between ++ v ∷ of_a)
   pub out_b_is : out_b ≡ begun_at_least (v ∷ reverse between ++ u ∷ of_b)
+
+-- the ring has the corner
+abbrev pub has_corner : Corner → List Corner → Bool
+has_corner at ring = list_any (is_same at) ring
+
+-- the ring without the corner: the others, in their order
+abbrev pub without_corner : Corner → List Corner → List Corner
+without_corner at ring = filter (λ corner. not (is_same at corner)) ring
+
+-- the same, begun at its least corner
+abbrev pub straightened : Corner → List Corner → List Corner
+straightened at ring = begun_at_least (without_corner at ring)
+
+-- the ring bends at the corner: somewhere it has the corner, and there it does not lie strictly inside the edge between
+-- its two neighbours. (In a simple ring, where no two corners are one place, a corner is flat or the ring bends there.)
+pub record BendsAt (at : Corner) (ring : List Corner) : Type 0 where
+  pub place : ℕ
+  pub in_ring : place < length ring
+  pub is_there : corner_at ring place ≡ at
+  pub is_not_flat : ¬ IsStrictlyInside at (corner_at ring (before (length ring) place)) (corner_at ring (after (length ring) place))

@@ -41,6 +41,11 @@ pub enum Edit<A: Allocator> {
         /// The new corner, on the edge between them.
         at: Corner,
     },
+    /// A corner is taken out of all rings that have it, each of which is straight there.
+    Straighten {
+        /// The corner.
+        at: Corner,
+    },
 }
 
 // Not derived: whoever drops it makes one call, and what that does is proved once, here.
@@ -59,6 +64,7 @@ impl<A: Allocator> Drop for Edit<A> {
                 to: _,
                 at: _,
             } => {}
+            Edit::Straighten { at: _ } => {}
         }
     }
 }
@@ -84,6 +90,7 @@ impl<A: Allocator + Copy> Clone for Edit<A> {
                 to: *to,
                 at: *at,
             }),
+            Edit::Straighten { at } => Ok(Edit::Straighten { at: *at }),
         }
     }
 }

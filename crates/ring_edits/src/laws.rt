@@ -1,14 +1,17 @@
 //! Laws: an edit's new rings have the net edges of the old.
 
-ghost use Rattle.std.specs.Prelude.{◌≡◌, ◌≢◌, ◌+◌, ◌≤◌, IsTrue, List, [], ◌∷◌, length, map};
+ghost use Rattle.std.specs.Prelude.{◌≡◌, ◌≢◌, ◌↔◌, ℕ, ◌+◌, ◌<◌, ◌≤◌, IsTrue, List, [], ◌∷◌, length, map};
 ghost use Rattle.geo_exact.specs.declared.bounds.Bounds.{Bounds};
 ghost use Rattle.geo_exact.specs.declared.corner.Corner.{Corner};
 ghost use Rattle.geo_exact.specs.Bounds.{IsLeastBox};
+ghost use Rattle.geo_exact.specs.Places.{corner_at};
 ghost use Rattle.geo_exact.specs.Rings.{begun_at_least};
 ghost use Rattle.geo_exact.specs.Segments.{IsStrictlyInside};
+ghost use Rattle.ring_core.specs.Clipping.{IsFlat};
 ghost use Rattle.ring_core.specs.Simple.{IsSimpleRing};
 ghost use Rattle.edge_chains.specs.Net.{net_count};
 ghost use Rattle.ring_edits.specs.Edits.{IsSplit, IsMerge, IsMove, CoversAlike, has_edge_between, put_between, with_corner};
+ghost use Rattle.ring_edits.specs.Edits.{BendsAt, has_corner, straightened, without_corner};
 ghost use Rattle.ring_edits.specs.Round.{HasApartCorners};
 
 /// The rings that an edit makes have, for every two corners, the net number of directed edges from the one to the
@@ -65,6 +68,33 @@ pub fn inserting_keeps_where_a_ring_begins()
     ensures begins { (ring : List Corner) → begun_at_least (begun_at_least ring) ≡ begun_at_least ring }
 {}
 
+/// A corner taken out of a ring changes nothing that the ring covers where it is straight at each place that has the
+/// corner: neither a winding number, nor the boundary, nor the area; whatever ring it is.
+pub fn straightening_covers_alike()
+    ensures taken { (at : Corner) (ring : List Corner) → ¬ BendsAt at ring → CoversAlike ring (without_corner at ring) }
+    ensures begun { (at : Corner) (ring : List Corner) → ¬ BendsAt at ring → CoversAlike ring (straightened at ring) }
+{}
+
+/// Nor does it change the least box that holds the ring.
+pub fn straightening_keeps_the_least_box()
+    ensures taken { (bounds : Bounds) (at : Corner) (ring : List Corner) → ¬ BendsAt at ring
+        → IsLeastBox bounds ring → IsLeastBox bounds (without_corner at ring) }
+    ensures begun { (bounds : Bounds) (at : Corner) (ring : List Corner) → ¬ BendsAt at ring
+        → IsLeastBox bounds ring → IsLeastBox bounds (straightened at ring) }
+{}
+
+/// A ring that does not have a corner is the same without it.
+#[tactic(auto, using(crate::proofs::Straight::lacking_stays))]
+pub fn a_ring_that_lacks_a_corner_stays()
+    ensures { (at : Corner) (ring : List Corner) → ¬ IsTrue (has_corner at ring) → without_corner at ring ≡ ring }
+{}
+
+/// A simple ring bends at each of its corners but the flat ones, which clipping takes out first.
+pub fn a_simple_ring_bends_where_a_corner_is_not_flat()
+    ensures { (ring : List Corner) → IsSimpleRing ring → (k : ℕ) → k < length ring
+        → BendsAt (corner_at ring k) ring ↔ (¬ IsFlat ring k) }
+{}
+
 /// A simple ring has three corners and more, at different places.
 #[tactic(auto, using(crate::proofs::Apart::has_apart_corners))]
 pub fn a_simple_ring_has_its_corners_apart()
@@ -84,7 +114,8 @@ pub fn each_edit_has_one_result()
 
 /// How many corners new rings have: of a cut, together as many as the ring and twice the path, but for two; and each
 /// at most as many as the lists that it is made of, but for two. A corner that is put in is one more, where the ring
-/// has its corners apart and so the edge once; in any ring there are not fewer.
+/// has its corners apart and so the edge once; in any ring there are not fewer. With a corner taken out there are not
+/// more.
 pub fn new_rings_have_so_many_corners()
     ensures split_both { (ring path left right : List Corner) → IsSplit ring path left right
         → length left + length right + 2 ≡ length ring + (length path + length path) }
@@ -95,6 +126,7 @@ pub fn new_rings_have_so_many_corners()
     ensures not_fewer { (ring : List Corner) (from to at : Corner) → length ring ≤ length (put_between from to at ring) }
     ensures begun { (ring : List Corner) (from to at : Corner)
         → length (with_corner from to at ring) ≡ length (put_between from to at ring) }
+    ensures straightened { (at : Corner) (ring : List Corner) → length (straightened at ring) ≤ length ring }
     ensures merged { (a b out : List Corner) → IsMerge a b out → length out + 2 ≤ length a + length b }
     ensures moved { (a b path out_a out_b : List Corner) → IsMove a b path out_a out_b
         → (length out_a + 2 ≤ length a + length path) × (length out_b + 2 ≤ length b + length path) }

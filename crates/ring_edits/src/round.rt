@@ -2,7 +2,7 @@
 
 ghost use Rattle.std.specs.Prelude.{◌≡◌, ◌≢◌, ◌↔◌, ◌<◌, ◌++◌, length, IfOk, IsTrue, MatchOption, OnOk};
 ghost use Rattle.std.specs.List.{Contains};
-ghost use Rattle.geo_exact.specs.Places.{corner_at, after};
+ghost use Rattle.geo_exact.specs.Places.{corner_at, after, before};
 ghost use Rattle.ring_edits.specs.Round.{HasEdge, HasEdgeAt};
 ghost use Rattle.geo_exact.specs.Rings.{begun_at_least};
 ghost use Rattle.ring_edits.specs.own.Between.{between};
@@ -56,6 +56,14 @@ pub(crate) fn following(count: usize, i: usize) -> usize
     ensures { result ≡ after count i }
 {
     if i + 1 == count { 0 } else { i + 1 }
+}
+
+/// The number that `i` follows round a ring of `count` corners.
+pub(crate) fn preceding(count: usize, i: usize) -> usize
+    requires { i < count }
+    ensures { result ≡ before count i }
+{
+    if i == 0 { count - 1 } else { i - 1 }
 }
 
 /// Appends the corners behind number `i` and before number `j`, round the ring.

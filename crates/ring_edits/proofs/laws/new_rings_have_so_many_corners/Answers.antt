@@ -1,4 +1,4 @@
-use Rattle.ring_edits.proofs.Lengths.{split_lengths, split_bound, least_length, merge_bound, move_bound}
+use Rattle.ring_edits.proofs.Lengths.{split_lengths, split_bound, least_length, merge_bound, move_bound, straightened_length}
 use Rattle.ring_edits.proofs.OneEdge.{put_length, put_not_shorter}
 use Rattle.ring_edits.specs.Edits.{put_between}
 use Rattle.ring_edits.proofs.laws.new_rings_have_so_many_corners.Goals as goal
@@ -17,6 +17,9 @@ returns-clause-not_fewer c = put_not_shorter
 
 pub returns-clause-begun : goal.returns-clause-begun
 returns-clause-begun c = λ ring from to at. least_length (put_between from to at ring)
+
+pub returns-clause-straightened : goal.returns-clause-straightened
+returns-clause-straightened c = straightened_length
 
 pub returns-clause-merged : goal.returns-clause-merged
 returns-clause-merged c = merge_bound
