@@ -4,7 +4,7 @@ use crate::clerk_files::told;
 use std::test::Fail;
 
 /// Lines that say nothing, and are not skipped.
-static BAD: [&str; 55] = [
+static BAD: [&str; 70] = [
     " ",
     "   ",
     "\r",
@@ -60,6 +60,21 @@ static BAD: [&str; 55] = [
     "insert 0 0 60 0 30",
     "insert 0 0 60 0 30 0 1",
     "insert 0 0 60 0 30 0 1 1",
+    "straighten",
+    "straighten ",
+    "straighten 30",
+    "straighten 30 ",
+    "straighten 30  0",
+    "straighten  30 0",
+    "straighten 30 0 ",
+    "straighten 30 0 1",
+    "straighten 30 0 1 1",
+    "straighten 30 x",
+    "straighten 100000000001 0",
+    "straighten 0 -100000000001",
+    "Straighten 30 0",
+    "straighten30 0",
+    "straight 30 0",
 ];
 
 #[test]

@@ -33,6 +33,7 @@ fn line_of(alloc: Global, edit: &Edit<Global>) -> Result<String, AllocError> {
             push_corners(alloc, &mut line, &[*from, *to, *at])?;
             Ok(line)
         }
+        Edit::Straighten { at } => format!(in alloc; "straighten {} {}", at.x, at.y),
     }
 }
 
@@ -53,7 +54,7 @@ pub fn told(alloc: Global, text: &[u8]) -> Result<String, AllocError> {
 }
 
 /// Texts, and their edits.
-static EDITS: [(&[u8], &str); 14] = [
+static EDITS: [(&[u8], &str); 18] = [
     (b"merge 1 2", "1: merge 1 2\n"),
     (b"split 1 30 0 30 100", "1: split 1 30 0 30 100\n"),
     (
@@ -61,6 +62,11 @@ static EDITS: [(&[u8], &str); 14] = [
         "1: move 3 4 60 0 50 50 60 100\n",
     ),
     (b"insert 0 0 60 0 30 0\n", "1: insert 0 0 60 0 30 0\n"),
+    (b"straighten 30 0\n", "1: straighten 30 0\n"),
+    (
+        b"merge 3 4\nstraighten 30 0\nstraighten 30 0",
+        "1: merge 3 4\n2: straighten 30 0\n3: straighten 30 0\n",
+    ),
     (
         b"insert 0 0 60 0 30 0\ninsert 0 100 60 100 30 100\nsplit 1 30 0 30 100\nsplit 1 30 0 30 100\nmerge 3 4\n",
         "1: insert 0 0 60 0 30 0\n2: insert 0 100 60 100 30 100\n3: split 1 30 0 30 100\n4: split 1 30 0 30 100\n5: merge 3 4\n",
@@ -81,6 +87,11 @@ static EDITS: [(&[u8], &str); 14] = [
         "1: split 1 -100000000000 100000000000\n",
     ),
     (b"split 1 -0 -007", "1: split 1 0 -7\n"),
+    (b"straighten -0 -007", "1: straighten 0 -7\n"),
+    (
+        b"straighten -100000000000 100000000000",
+        "1: straighten -100000000000 100000000000\n",
+    ),
     (
         b"split 1 0000000100000000000 -0000000100000000000",
         "1: split 1 100000000000 -100000000000\n",

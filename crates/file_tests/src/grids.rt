@@ -6,7 +6,7 @@ use std::alloc::{AllocError, Global};
 use std::test::Fail;
 
 /// Clerks' files, and their edits, which are in whole millimetres.
-static EDITS: [(&[u8], &str); 15] = [
+static EDITS: [(&[u8], &str); 17] = [
     (b"grid cm", ""),
     (b"grid cm\n", ""),
     (b"grid cm\r\n", ""),
@@ -23,6 +23,7 @@ static EDITS: [(&[u8], &str); 15] = [
         b"grid cm\n\n# a\ninsert 0 0 60 0 30 0\n",
         "4: insert 0 0 600 0 300 0\n",
     ),
+    (b"grid cm\nstraighten 30 -7\n", "2: straighten 300 -70\n"),
     // the numbers of parcels stay
     (
         b"grid cm\nmerge 12 34\nsplit 5 6 7",
@@ -40,6 +41,10 @@ static EDITS: [(&[u8], &str); 15] = [
     (
         b"grid cm\nsplit 1 9999999999 -9999999999",
         "2: split 1 99999999990 -99999999990\n",
+    ),
+    (
+        b"grid cm\nstraighten -10000000000 10000000000",
+        "2: straighten -100000000000 100000000000\n",
     ),
     (b"grid cm\nsplit 1 -0 -007", "2: split 1 0 -70\n"),
     // a comment names no grid
@@ -171,11 +176,14 @@ fn elsewhere_it_is_bad(rt: HostRuntime) -> Result<(), Fail> {
 }
 
 /// Clerks' files with one bad line behind another.
-static BAD_EDITS: [(&[u8], &str); 6] = [
+static BAD_EDITS: [(&[u8], &str); 9] = [
     (b"merge 1 2\ngrid cm\n", "L1 2"),
     (b"grid cm\nsplit 1 10000000001 0", "L1 2"),
     (b"grid cm\nsplit 1 0 0\nsplit 1 0 -10000000001", "L1 3"),
     (b"grid cm\ninsert 0 0 60 0 100000000000 0", "L1 2"),
+    (b"grid cm\nstraighten 10000000001 0", "L1 2"),
+    (b"grid cm\nstraighten 0 -100000000000", "L1 2"),
+    (b"grid cm\nstraighten 30", "L1 2"),
     (b"grid cm\nsplit 1 1844674407370955162 0", "L1 2"),
     (b"grid cm\nsplit 1 9999999999999999999 0", "L1 2"),
 ];

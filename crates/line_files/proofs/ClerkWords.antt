@@ -3,9 +3,10 @@ use Rattle.std.proofs.Common.{◌≡◌, ◌≢◌, inl, inr, ℕ, ◌+◌, List
 use Rattle.std.proofs.Common.{arith}
 use Rattle.geo_exact.specs.declared.corner.Corner.{Corner}
 use Rattle.ring_edits.specs.declared.edit.Edit.{Edit}
-use Rattle.ring_edits.specs.declared.edit.Edit.TheVariants.{Split, Merge, Move, Insert}
+use Rattle.ring_edits.specs.declared.edit.Edit.TheVariants.{Split, Merge, Move, Insert, Straighten}
 use Rattle.line_files.specs.TextNumbers.{IsNumber, AreCornerWords}
-use Rattle.line_files.specs.ClerkFile.{ArePath, IsSplitLine, IsMergeLine, IsMoveLine, IsInsertLine, SayEdit, SaysEdit, words_of}
+use Rattle.line_files.specs.ClerkFile.{ArePath, IsSplitLine, IsMergeLine, IsMoveLine, IsInsertLine, IsStraightenLine}
+use Rattle.line_files.specs.ClerkFile.{SayEdit, SaysEdit, words_of}
 use Rattle.line_files.specs.TextLines.{IsSkipped, IsBad, IsFirstBad}
 use Rattle.line_files.specs.declared.grids.Grid.{Grid}
 use Rattle.line_files.specs.own.EditWords.{TakesNumber, TakesCorner}
@@ -37,6 +38,12 @@ same_byte a b xs ys v w e = cc
 split_or_merge : {v w : List (List ℕ)} → codes "split" ∷ v ≡ codes "merge" ∷ w → ⊥
 split_or_merge {v} {w} e = absurd (let k : 115 ≡ 109 = same_byte _ _ _ _ v w e in omega (arith, k))
 
+same_second_byte : (a b c : ℕ) (xs ys : List ℕ) (v w : List (List ℕ)) → (a ∷ b ∷ xs) ∷ v ≡ (a ∷ c ∷ ys) ∷ w → b ≡ c
+same_second_byte a b c xs ys v w e = cc
+
+split_or_straighten : {v w : List (List ℕ)} → codes "split" ∷ v ≡ codes "straighten" ∷ w → ⊥
+split_or_straighten {v} {w} e = absurd (let k : 112 ≡ 116 = same_second_byte _ _ _ _ _ v w e in omega (arith, k))
+
 module _ {A : Type 0} (grid : Grid) (words : List (List ℕ)) where
   pub only_split : (edit : Edit A) → SayEdit grid (codes "split" ∷ words) edit
       → (id : ℕ) × (path : List Corner) × (edit ≡ Split id path) × IsSplitLine grid (codes "split" ∷ words) id path
@@ -44,6 +51,7 @@ module _ {A : Type 0} (grid : Grid) (words : List (List ℕ)) where
   only_split (Merge a b) h = absurd (split_or_merge h.are_words)
   only_split (Move a b path) h = let e : codes "split" ≡ codes "move" = cc in absurd (cc)
   only_split (Insert from to at) h = let e : codes "split" ≡ codes "insert" = cc in absurd (cc)
+  only_split (Straighten at) h = absurd (split_or_straighten h.are_words)
 
   pub only_merge : (edit : Edit A) → SayEdit grid (codes "merge" ∷ words) edit
       → (a : ℕ) × (b : ℕ) × (edit ≡ Merge a b) × IsMergeLine (codes "merge" ∷ words) a b
@@ -51,6 +59,7 @@ module _ {A : Type 0} (grid : Grid) (words : List (List ℕ)) where
   only_merge (Merge a b) h = (a, b, refl, h)
   only_merge (Move a b path) h = let e : codes "merge" ≡ codes "move" = cc in absurd (cc)
   only_merge (Insert from to at) h = let e : codes "merge" ≡ codes "insert" = cc in absurd (cc)
+  only_merge (Straighten at) h = let e : codes "merge" ≡ codes "straighten" = cc in absurd (cc)
 
   pub only_move : (edit : Edit A) → SayEdit grid (codes "move" ∷ words) edit
       → (a : ℕ) × (b : ℕ) × (path : List Corner) × (edit ≡ Move a b path) × IsMoveLine grid (codes "move" ∷ words) a b path
@@ -58,6 +67,7 @@ module _ {A : Type 0} (grid : Grid) (words : List (List ℕ)) where
   only_move (Merge a b) h = let e : codes "move" ≡ codes "merge" = cc in absurd (cc)
   only_move (Move a b path) h = (a, b, path, refl, h)
   only_move (Insert from to at) h = let e : codes "move" ≡ codes "insert" = cc in absurd (cc)
+  only_move (Straighten at) h = let e : codes "move" ≡ codes "straighten" = cc in absurd (cc)
 
   pub only_insert : (edit : Edit A) → SayEdit grid (codes "insert" ∷ words) edit
       → (from : Corner) × (to : Corner) × (at : Corner) × (edit ≡ Insert from to at)
@@ -66,6 +76,15 @@ module _ {A : Type 0} (grid : Grid) (words : List (List ℕ)) where
   only_insert (Merge a b) h = let e : codes "insert" ≡ codes "merge" = cc in absurd (cc)
   only_insert (Move a b path) h = let e : codes "insert" ≡ codes "move" = cc in absurd (cc)
   only_insert (Insert from to at) h = (from, to, at, refl, h)
+  only_insert (Straighten at) h = let e : codes "insert" ≡ codes "straighten" = cc in absurd (cc)
+
+  pub only_straighten : (edit : Edit A) → SayEdit grid (codes "straighten" ∷ words) edit
+      → (at : Corner) × (edit ≡ Straighten at) × IsStraightenLine grid (codes "straighten" ∷ words) at
+  only_straighten (Split id path) h = absurd (split_or_straighten (sym h.are_words))
+  only_straighten (Merge a b) h = let e : codes "straighten" ≡ codes "merge" = cc in absurd (cc)
+  only_straighten (Move a b path) h = let e : codes "straighten" ≡ codes "move" = cc in absurd (cc)
+  only_straighten (Insert from to at) h = let e : codes "straighten" ≡ codes "insert" = cc in absurd (cc)
+  only_straighten (Straighten at) h = (at, refl, h)
 
 -- ---- words say one edit
 same_number : (n m : ℕ) (xs ys : List ℕ) → xs ≡ ys → IsNumber xs n → IsNumber ys m → n ≡ m
@@ -104,6 +123,12 @@ one_edit grid words (Insert from to at) y h k =
     let lists : from ∷ to ∷ at ∷ [] ≡ o.0 ∷ o.1 ∷ o.2 ∷ [] =
     same_corners grid o.4.places _ _ (subst (λ w. AreCornerWords grid w (from ∷ to ∷ at ∷ [])) places h.are_places) o.4.are_places in
     cc (o.3)
+one_edit grid words (Straighten at) y h k =
+    let o = only_straighten grid h.places y (subst (λ w. SayEdit grid w y) h.are_words k) in
+    let places : h.places ≡ o.2.places = cc (o.2.are_words) in
+    let lists : at ∷ [] ≡ o.0 ∷ [] =
+    same_corners grid o.2.places _ _ (subst (λ w. AreCornerWords grid w (at ∷ [])) places h.are_places) o.2.are_places in
+    cc (o.1)
 
 -- ---- why they say nothing
 module _ {A : Type 0} (grid : Grid) (words : List (List ℕ)) where
@@ -168,6 +193,17 @@ module _ {A : Type 0} (grid : Grid) (words : List (List ℕ)) where
       let r = behind one two to p.1 (p.2 ∷ []) u q in
       none p.2 r.2 (ahead two p.2 [] r)
 
+  -- the place of an edit that takes out a corner
+  straighten_place : (edit : Edit A) → SayEdit grid (codes "straighten" ∷ words) edit → (at : Corner) × AreCornerWords grid words (at ∷ [])
+  straighten_place edit h =
+      let o = only_straighten grid words edit h in
+      let same : o.2.places ≡ words = cc (o.2.are_words) in
+      (o.0, subst (λ w. AreCornerWords grid w (o.0 ∷ [])) same o.2.are_places)
+
+  pub no_straighten_at : ((corner : Corner) → (left : List (List ℕ)) → ¬ TakesCorner grid words corner left) → (edit : Edit A)
+      → ¬ SayEdit grid (codes "straighten" ∷ words) edit
+  no_straighten_at none edit h = let p = straighten_place edit h in none p.0 p.1.2 (ahead words p.0 [] p.1)
+
 -- ---- a line says one edit
 pair_same : {X Y : Type 0} (x y : X × Y) → x.0 ≡ y.0 → x.1 ≡ y.1 → x ≡ y
 pair_same (a, b) (c, d) p q = cc
@@ -188,6 +224,7 @@ retyped B (Split id path) = Split id path
 retyped B (Merge a b) = Merge a b
 retyped B (Move a b path) = Move a b path
 retyped B (Insert from to at) = Insert from to at
+retyped B (Straighten at) = Straighten at
 
 say_retyped : {A : Type 0} (B : Type 0) (grid : Grid) (words : List (List ℕ)) (edit : Edit A) → SayEdit grid words edit
     → SayEdit grid words (retyped B edit)
@@ -195,6 +232,7 @@ say_retyped B grid words (Split id path) h = h
 say_retyped B grid words (Merge a b) h = h
 say_retyped B grid words (Move a b path) h = h
 say_retyped B grid words (Insert from to at) h = h
+say_retyped B grid words (Straighten at) h = h
 
 bad_retyped : (A B : Type 0) (grid : Grid) (number : ℕ) (line : List ℕ) → IsBad (SaysEdit {A = A} grid) number line
     → IsBad (SaysEdit {A = B} grid) number line

@@ -3,7 +3,7 @@ use Rattle.std.specs.Prelude.{◌≡◌, ◌≢◌, ⊤, ℕ, ◌==◌, List, []
 use Rattle.std.specs.List.{slice_split}
 use Rattle.geo_exact.specs.declared.corner.Corner.{Corner}
 use Rattle.ring_edits.specs.declared.edit.Edit.{Edit}
-use Rattle.ring_edits.specs.declared.edit.Edit.TheVariants.{Split, Merge, Move, Insert}
+use Rattle.ring_edits.specs.declared.edit.Edit.TheVariants.{Split, Merge, Move, Insert, Straighten}
 use Rattle.line_files.specs.TextLines.{lines_of, AreSaid, IsFirstBad}
 use Rattle.line_files.specs.Grids.{grid_of, behind_grid}
 use Rattle.line_files.specs.TextNumbers.{IsNumber, AreCornerWords}
@@ -50,12 +50,19 @@ pub record IsInsertLine (grid : Grid) (words : List (List ℕ)) (from to at : Co
   pub are_words : words ≡ codes "insert" ∷ places
   pub are_places : AreCornerWords grid places (from ∷ to ∷ at ∷ [])
 
+-- `straighten X Y`: the corner that is taken out
+pub record IsStraightenLine (grid : Grid) (words : List (List ℕ)) (at : Corner) : Type 0 where
+  pub places : List (List ℕ)
+  pub are_words : words ≡ codes "straighten" ∷ places
+  pub are_places : AreCornerWords grid places (at ∷ [])
+
 -- the words say this edit
 abbrev pub SayEdit : {A : Type 0} → Grid → List (List ℕ) → Edit A → Type 0
 SayEdit grid words (Split id path) = IsSplitLine grid words id path
 SayEdit grid words (Merge a b) = IsMergeLine words a b
 SayEdit grid words (Move a b path) = IsMoveLine grid words a b path
 SayEdit grid words (Insert from to at) = IsInsertLine grid words from to at
+SayEdit grid words (Straighten at) = IsStraightenLine grid words at
 
 -- the line has this number and says this edit
 pub record SaysEdit {A : Type 0} (grid : Grid) (number : ℕ) (line : List ℕ) (entry : ℕ × Edit A) : Type 0 where

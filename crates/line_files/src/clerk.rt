@@ -43,6 +43,7 @@ impl<T: Drop> From<AllocFailed<T>> for ClerkFault {
 /// - `merge ID ID`,
 /// - `move ID ID X Y X Y ..`, with one corner or more,
 /// - `insert X Y X Y X Y`, the two ends of an edge and the new corner on it,
+/// - `straighten X Y`, the corner that is taken out,
 ///
 /// with one space between words. Coordinates are in whole millimetres, or in whole centimetres where
 /// the file's first line is `grid cm`. That line is counted, and is no edit; anywhere else it is a

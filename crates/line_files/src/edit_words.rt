@@ -33,6 +33,8 @@ pub fn read_edit<A: Allocator + Copy>(
         read_move(alloc, grid, words)
     } else if name == b"insert".as_slice() {
         Ok(read_insert(grid, words))
+    } else if name == b"straighten".as_slice() {
+        Ok(read_straighten(grid, words))
     } else {
         Ok(None)
     }
@@ -97,6 +99,18 @@ fn read_insert<A: Allocator>(grid: Grid, mut words: Words<'_>) -> Option<Edit<A>
     let at = take_corner(grid, &mut words)?;
     if words.is_empty() {
         Some(Edit::Insert { from, to, at })
+    } else {
+        None
+    }
+}
+
+/// What stands behind the word `straighten`.
+fn read_straighten<A: Allocator>(grid: Grid, mut words: Words<'_>) -> Option<Edit<A>>
+    ensures { IsEditOf grid (codes "straighten" ∷ words.entry) result }
+{
+    let at = take_corner(grid, &mut words)?;
+    if words.is_empty() {
+        Some(Edit::Straighten { at })
     } else {
         None
     }

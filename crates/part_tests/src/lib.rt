@@ -14,3 +14,5 @@ mod inserts;
 mod refusals;
 #[cfg(test)]
 mod splits;
+#[cfg(test)]
+mod straightens;

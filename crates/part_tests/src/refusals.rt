@@ -1,7 +1,7 @@
 //! Each growth of an edit refused in turn: its answer is want of memory, and with memory the same call gives its rings.
 
 use refusing_alloc::Refusing;
-use ring_edits::{Edit, EditFault, insert, merge, put_into, shift, split};
+use ring_edits::{Edit, EditFault, insert, merge, put_into, shift, split, straighten, take_out};
 use std::alloc::{Allocator, Global};
 use std::test::Fail;
 use test_builders::{Place, corner, corners, simple_ring};
@@ -10,6 +10,8 @@ use test_builders::{Place, corner, corners, simple_ring};
 const MOST: u64 = 100;
 
 const WEST: [Place; 4] = [(0, 0), (60, 0), (60, 100), (0, 100)];
+
+const SOUTH: [Place; 5] = [(0, 0), (30, 0), (60, 0), (60, 100), (0, 100)];
 
 const EAST: [Place; 4] = [(60, 0), (100, 0), (100, 100), (60, 100)];
 
@@ -35,6 +37,8 @@ enum Call {
     Shift,
     Insert,
     PutInto,
+    Straighten,
+    TakeOut,
 }
 
 fn splits(heap: &Heap, number: u64) -> Result<bool, Fail> {
@@ -99,6 +103,23 @@ fn inserts(heap: &Heap, number: u64, is_put: bool) -> Result<bool, Fail> {
     }
 }
 
+fn straightens(heap: &Heap, number: u64, is_taken: bool) -> Result<bool, Fail> {
+    let ring = corners(heap, &SOUTH)?;
+    let at = corner((30, 0))?;
+    heap.refuse(number);
+    let answer = if is_taken {
+        take_out(heap, ring.as_slice(), at)
+    } else {
+        straighten(heap, ring.as_slice(), at)
+    };
+    let is_refused = heap.is_spent();
+    heap.refuse(0);
+    match answer {
+        Ok(_) => told(is_refused, None),
+        Err(_) => told(is_refused, Some(EditFault::NoMemory)),
+    }
+}
+
 fn is_refused(heap: &Heap, call: Call, number: u64) -> Result<bool, Fail> {
     match call {
         Call::Split => splits(heap, number),
@@ -106,6 +127,8 @@ fn is_refused(heap: &Heap, call: Call, number: u64) -> Result<bool, Fail> {
         Call::Shift => shifts(heap, number),
         Call::Insert => inserts(heap, number, false),
         Call::PutInto => inserts(heap, number, true),
+        Call::Straighten => straightens(heap, number, false),
+        Call::TakeOut => straightens(heap, number, true),
     }
 }
 
@@ -128,10 +151,12 @@ fn each_growth(rt: HostRuntime) -> Result<(), Fail> {
     assert!(rt; growths(&heap, Call::Insert)? >= 1);
     // room for the whole ring is made at once
     assert_eq!(rt; growths(&heap, Call::PutInto)?, 1);
+    assert!(rt; growths(&heap, Call::Straighten)? >= 1);
+    assert_eq!(rt; growths(&heap, Call::TakeOut)?, 1);
     Ok(())
 }
 
-/// A ring without the edge wants no memory.
+/// A ring without the edge, or without the corner, wants no memory.
 #[test]
 fn no_growth(rt: HostRuntime) -> Result<(), Fail> {
     let heap = Refusing::new(rt.alloc(), 0);
@@ -139,6 +164,7 @@ fn no_growth(rt: HostRuntime) -> Result<(), Fail> {
     let (from, off, at) = (corner((0, 0))?, corner((60, 100))?, corner((30, 0))?);
     heap.refuse(1);
     assert!(rt; put_into(&heap, ring.as_slice(), from, off, at)?.is_none());
+    assert!(rt; take_out(&heap, ring.as_slice(), at)?.is_none());
     assert!(rt; !heap.is_spent());
     Ok(())
 }

@@ -1,20 +1,23 @@
--- What edits make of rings, each corner ten times: split, merge, move, and a corner put into an edge.
-use Rattle.std.proofs.Common.{◌≡◌, ◌≢◌, refl, sym, ◌∙◌, ap, subst, arith, Bool, true, false, ◌||◌, if◌then◌else◌}
+-- What edits make of rings, each corner ten times: split, merge, move, a corner put into an edge, and one taken out.
+use Rattle.std.proofs.Common.{◌≡◌, ◌≢◌, refl, sym, ◌∙◌, ap, subst, arith, Bool, true, false, not, ◌||◌, cond, if◌then◌else◌}
 use Rattle.std.proofs.Common.{ℕ, ◌<◌, ◌≤◌, List, [], ◌∷◌, ◌++◌, map, length, reverse}
-use Rattle.std.specs.List.{AllByRecursion, list_any}
+use Rattle.std.specs.List.{AllByRecursion, filter, list_any}
 use Rattle.std.proofs.lemmas.List.{map-append, length-map, reverse-append}
 use Rattle.geo_exact.specs.declared.corner.Corner.{Corner}
 use Rattle.geo_exact.specs.declared.limits.TheConstants.{RING_CORNERS}
-use Rattle.geo_exact.specs.Places.{corner_at, after}
+use Rattle.geo_exact.specs.Order.{is_same}
+use Rattle.geo_exact.specs.Places.{corner_at, after, before}
 use Rattle.geo_exact.specs.Rings.{Edge, path, edges, begun_at, begun_at_least}
+use Rattle.geo_exact.specs.Segments.{IsStrictlyInside}
 use Rattle.ring_edits.specs.Round.{GoesRound, HasEdge, HasEdgeAt}
 use Rattle.ring_edits.specs.Edits.{IsPath, IsSplit, joins, has_edge_between, put_along, put_between, with_corner}
-use Rattle.ring_edits.specs.Edits.{IsSharedWith, IsShared, IsMerge, IsMove}
+use Rattle.ring_edits.specs.Edits.{IsSharedWith, IsShared, IsMerge, IsMove, has_corner, without_corner, straightened, BendsAt}
 use Rattle.scaled_rings.specs.Tenfold.{IsNear}
-use Rattle.scaled_rings.proofs.Scaling.{ten, ten_apart, AreNear}
+use Rattle.scaled_rings.proofs.Scaling.{ten, ten_apart, ten_same, AreNear}
 use Rattle.scaled_rings.proofs.Lists.{ten_edge, IsNearEdge, AreNearEdges, edges_ten, paths_ten, near_edges, near_path}
 use Rattle.scaled_rings.proofs.Lists.{at_ten, near_at, near_left, near_right, near_append, near_begun, begun_ten, begun_least_ten, reverse_ten}
 use Rattle.scaled_rings.proofs.Nets.{runs_ten}
+use Rattle.scaled_rings.proofs.Points.{strictly_ten}
 
 -- ---- two corners with others behind each
 abbrev parted : Corner → List Corner → Corner → List Corner → List Corner
@@ -226,3 +229,53 @@ pub with_corner_ten : (from to at : Corner) (ring : List Corner) → IsNear from
     → with_corner (ten from) (ten to) (ten at) (map ten ring) ≡ map ten (with_corner from to at ring)
 with_corner_ten from to at ring h k l n =
     ap begun_at_least (put_between_ten from to at ring h k n) ∙ begun_least_ten (put_between from to at ring) (near_put from to at ring l n)
+
+-- ---- a corner taken out
+pub has_corner_ten : (at : Corner) (ring : List Corner) → IsNear at → AreNear ring → has_corner (ten at) (map ten ring) ≡ has_corner at ring
+has_corner_ten at [] h n = refl
+has_corner_ten at (x ∷ xs) h n = let p = ten_same at x h n.0 in let q = has_corner_ten at xs h n.1 in cc
+
+pub without_corner_ten : (at : Corner) (ring : List Corner) → IsNear at → AreNear ring
+    → without_corner (ten at) (map ten ring) ≡ map ten (without_corner at ring)
+without_corner_ten at [] h n = refl
+without_corner_ten at (x ∷ xs) h n =
+    either (is_same (ten at) (ten x)) (is_same at x) (without_corner (ten at) (map ten xs)) (without_corner at xs)
+    (ten_same at x h n.0) (without_corner_ten at xs h n.1)
+  where
+    either : (p q : Bool) (ys zs : List Corner) → p ≡ q → ys ≡ map ten zs → cond (not p) (ten x ∷ ys) ys ≡ map ten (cond (not q) (x ∷ zs) zs)
+    either true true ys zs e f = f
+    either true false ys zs e f = cc
+    either false true ys zs e f = cc
+    either false false ys zs e f = ap (λ ws. ten x ∷ ws) f
+
+near_without : (at : Corner) (ring : List Corner) → AreNear ring → AreNear (without_corner at ring)
+near_without at [] n = tt
+near_without at (x ∷ xs) n = either (is_same at x) (without_corner at xs) (near_without at xs n.1)
+  where
+    either : (p : Bool) (ys : List Corner) → AreNear ys → AreNear (cond (not p) (x ∷ ys) ys)
+    either true ys k = k
+    either false ys k = (n.0, k)
+
+pub straightened_ten : (at : Corner) (ring : List Corner) → IsNear at → AreNear ring
+    → straightened (ten at) (map ten ring) ≡ map ten (straightened at ring)
+straightened_ten at ring h n =
+    ap begun_at_least (without_corner_ten at ring h n) ∙ begun_least_ten (without_corner at ring) (near_without at ring n)
+
+-- where ten times the ring bends, the ring does
+pub bends_of_ten : (at : Corner) (ring : List Corner) → IsNear at → AreNear ring → BendsAt (ten at) (map ten ring) → BendsAt at ring
+bends_of_ten at ring h n b = record {
+  place = b.place;
+  in_ring = subst (λ m. b.place < m) (length-map ring ten) b.in_ring;
+  is_there = ten_apart (corner_at ring b.place) at (near_at ring b.place n) h (sym (at_ten ring b.place) ∙ b.is_there);
+  is_not_flat = λ s. b.is_not_flat (
+      subst (λ c. IsStrictlyInside (ten at) c (corner_at (map ten ring) (after (length (map ten ring)) b.place))) (sym start)
+      (subst (λ c. IsStrictlyInside (ten at) (ten (corner_at ring (before (length ring) b.place))) c) (sym end)
+      (strictly_ten at (corner_at ring (before (length ring) b.place)) (corner_at ring (after (length ring) b.place)) h
+      (near_at ring (before (length ring) b.place) n) (near_at ring (after (length ring) b.place) n) s)));
+}
+  where
+    start : corner_at (map ten ring) (before (length (map ten ring)) b.place) ≡ ten (corner_at ring (before (length ring) b.place))
+    start = ap (λ m. corner_at (map ten ring) (before m b.place)) (length-map ring ten) ∙ at_ten ring (before (length ring) b.place)
+
+    end : corner_at (map ten ring) (after (length (map ten ring)) b.place) ≡ ten (corner_at ring (after (length ring) b.place))
+    end = ap (λ m. corner_at (map ten ring) (after m b.place)) (length-map ring ten) ∙ at_ten ring (after (length ring) b.place)

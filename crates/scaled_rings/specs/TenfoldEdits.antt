@@ -2,7 +2,7 @@
 use Rattle.std.specs.Prelude.{◌≡◌, List, [], ◌∷◌}
 use Rattle.geo_exact.specs.declared.corner.Corner.{Corner}
 use Rattle.ring_edits.specs.declared.edit.Edit.{Edit}
-use Rattle.ring_edits.specs.declared.edit.Edit.TheVariants.{Split, Merge, Move, Insert}
+use Rattle.ring_edits.specs.declared.edit.Edit.TheVariants.{Split, Merge, Move, Insert, Straighten}
 use Rattle.scaled_rings.specs.Tenfold.{IsTenTimes, AreTenTimes}
 
 -- the other edit names the same parcels, and this one's corners, each ten times
@@ -13,6 +13,7 @@ IsTenfoldEdit (Move a b path) other = (way : List Corner) × (other ≡ Move a b
 IsTenfoldEdit (Insert from to at) other =
     (start : Corner) × (end : Corner) × (between : Corner) × (other ≡ Insert start end between)
     × IsTenTimes from start × IsTenTimes to end × IsTenTimes at between
+IsTenfoldEdit (Straighten at) other = (corner : Corner) × (other ≡ Straighten corner) × IsTenTimes at corner
 
 -- the corners that an edit names
 abbrev pub corners_of_edit : {A : Type 0} → Edit A → List Corner
@@ -20,3 +21,4 @@ corners_of_edit (Split id path) = path
 corners_of_edit (Merge a b) = []
 corners_of_edit (Move a b path) = path
 corners_of_edit (Insert from to at) = from ∷ to ∷ at ∷ []
+corners_of_edit (Straighten at) = at ∷ []

@@ -35,6 +35,7 @@ pub fn tenfold_edit<A: Allocator>(alloc: A, edit: &Edit<A>) -> Result<Edit<A>, A
             to: tenfold(*to),
             at: tenfold(*at),
         }),
+        Edit::Straighten { at } => Ok(Edit::Straighten { at: tenfold(*at) }),
     }
 }
 
@@ -47,5 +48,6 @@ pub fn least_far_of_edit<A: Allocator>(edit: &Edit<A>, found: Option<Corner>) ->
         Edit::Merge { .. } => found,
         Edit::Move { path, .. } => least_far(path.as_slice(), found),
         Edit::Insert { from, to, at } => least_far(&[*from, *to, *at], found),
+        Edit::Straighten { at } => least_far(&[*at], found),
     }
 }

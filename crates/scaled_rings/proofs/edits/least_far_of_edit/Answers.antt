@@ -17,3 +17,8 @@ pub returns-in-Insert : goal.returns-in-Insert
 returns-in-Insert g c = λ before h.
     subst (λ e. IsLeastFarOf (before ++ corners_of_edit e) c.least_far-in-Insert.result) (sym c.in-Insert.is)
     (c.least_far-in-Insert.ensures before h)
+
+pub returns-in-Straighten : goal.returns-in-Straighten
+returns-in-Straighten g c = λ before h.
+    subst (λ e. IsLeastFarOf (before ++ corners_of_edit e) c.least_far-in-Straighten.result) (sym c.in-Straighten.is)
+    (c.least_far-in-Straighten.ensures before h)

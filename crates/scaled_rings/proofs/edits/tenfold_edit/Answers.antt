@@ -1,5 +1,5 @@
 use Rattle.std.proofs.Common.{refl, sym, subst}
-use Rattle.ring_edits.specs.declared.edit.Edit.TheVariants.{Insert}
+use Rattle.ring_edits.specs.declared.edit.Edit.TheVariants.{Insert, Straighten}
 use Rattle.scaled_rings.specs.TenfoldEdits.{IsTenfoldEdit}
 use Rattle.scaled_rings.proofs.edits.tenfold_edit.Goals as goal
 
@@ -14,3 +14,8 @@ returns-in-Insert g c =
       c.tenfold-in-Insert.ensures,
       c.tenfold-in-Insert-2.ensures,
     )
+
+pub returns-in-Straighten : goal.returns-in-Straighten
+returns-in-Straighten g c =
+    subst (λ e. IsTenfoldEdit e (Straighten c.tenfold-in-Straighten.result)) (sym c.in-Straighten.is)
+    (c.tenfold-in-Straighten.result, refl, c.tenfold-in-Straighten.ensures)
