@@ -2,7 +2,8 @@
 use Rattle.std.specs.Prelude.{ℕ, List, ◌++◌, codes, decimal}
 use Rattle.fabric_core.specs.declared.refusal.Refusal.{Refusal}
 use Rattle.fabric_core.specs.declared.refusal.Refusal.TheVariants.{Unknown, Retired, BadPath, NotNeighbours, SharedTwice, Ring}
-use Rattle.fabric_core.specs.declared.refusal.Refusal.TheVariants.{NoSuchEdge, NotOnEdge, JournalFull, TooMany, NoMemory}
+use Rattle.fabric_core.specs.declared.refusal.Refusal.TheVariants.{NoSuchEdge, NotOnEdge, JournalFull, TooMany, NoSuchCorner}
+use Rattle.fabric_core.specs.declared.refusal.Refusal.TheVariants.{NotFlat, NoMemory}
 use Rattle.text_pieces.specs.RingFaultText.{ring_fault_text}
 
 -- `clerk K line L `
@@ -25,6 +26,8 @@ refusal_text NoSuchEdge = codes "E7"
 refusal_text NotOnEdge = codes "E8"
 refusal_text JournalFull = codes "E9"
 refusal_text TooMany = codes "E10"
+refusal_text NoSuchCorner = codes "E11"
+refusal_text (NotFlat id) = codes "E12 " ++ decimal id
 refusal_text NoMemory = codes "no memory"
 
 -- `clerk K line L refused TEXT`

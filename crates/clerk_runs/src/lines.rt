@@ -83,6 +83,11 @@ fn push_refusal<A: Allocator>(text: &mut Vec<u8, A>, refusal: Refusal) -> Result
         Refusal::NotOnEdge => text.extend_from_slice(b"E8")?,
         Refusal::JournalFull => text.extend_from_slice(b"E9")?,
         Refusal::TooMany => text.extend_from_slice(b"E10")?,
+        Refusal::NoSuchCorner => text.extend_from_slice(b"E11")?,
+        Refusal::NotFlat(id) => {
+            text.extend_from_slice(b"E12 ")?;
+            text.extend_from_slice(digits.format(id).as_bytes())?;
+        }
         Refusal::NoMemory => text.extend_from_slice(b"no memory")?,
     }
     Ok(())

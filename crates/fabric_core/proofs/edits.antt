@@ -7,11 +7,13 @@ pub mod Replays
 pub mod Retirements
 pub mod Neighbours
 pub mod OneRefusal
-pub mod EntryNets
-pub mod PutIn
-pub mod WithEdge
+pub mod EntryMeasures
+pub mod ChangedParcels
+pub mod RingChanges
+pub mod Renewed
 pub mod LawfulJournals
 pub mod Made
 pub mod Booked
 pub mod Drafts
 pub mod Copied
+pub mod Bends

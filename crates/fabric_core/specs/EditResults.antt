@@ -1,13 +1,14 @@
 -- What an accepted edit makes of a fabric, and which journals are lawful (this product's own; what it makes of rings is ring_edits').
 use Rattle.std.specs.Prelude.{◌≡◌, ◌≢◌, ⊤, ℕ, ◌+◌, ◌≤◌, List, [], ◌∷◌, map, length}
-use Rattle.std.specs.List.{Contains, filter}
+use Rattle.std.specs.List.{AllByRecursion, Contains, filter}
 use Rattle.geo_exact.specs.declared.corner.Corner.{Corner}
 use Rattle.geo_exact.specs.declared.limits.TheConstants.{LAYER_RECORDS}
 use Rattle.geo_exact.specs.Layers.{NumberedRing, numbered}
 use Rattle.geo_exact.specs.Segments.{IsStrictlyInside}
 use Rattle.ring_edits.specs.declared.edit.Edit.{Edit}
-use Rattle.ring_edits.specs.declared.edit.Edit.TheVariants.{Split, Merge, Move, Insert}
+use Rattle.ring_edits.specs.declared.edit.Edit.TheVariants.{Split, Merge, Move, Insert, Straighten}
 use Rattle.ring_edits.specs.Edits.{IsSplit, IsMerge, IsMove, has_edge_between, with_corner}
+use Rattle.ring_edits.specs.Edits.{has_corner, straightened, BendsAt}
 use Rattle.fabric_core.specs.declared.journal.TheConstants.{JOURNAL_ENTRIES}
 use Rattle.fabric_core.specs.Rows.{numbers}
 use Rattle.fabric_core.specs.Limits.{AreWithinLimits}
@@ -59,12 +60,26 @@ pub record IsInsertOf (state : State) (from to at : Corner) (out : List ℕ) (ro
   pub rows_are : rows ≡ map (λ row. numbered row.number (with_corner from to at row.corners)) (rows_with_edge from to state.rows)
   pub out_are : out ≡ numbers rows
 
--- what an edit takes out and brings, by its four cases
+-- the rows whose rings have the corner
+abbrev pub rows_at_corner : Corner → List NumberedRing → List NumberedRing
+rows_at_corner at rows = filter (λ row. has_corner at row.corners) rows
+
+-- a corner is taken out of each parcel's ring that has it; no parcel's ring bends there, nor does the city's refined ring;
+-- each parcel keeps its id
+pub record IsStraightenOf (state : State) (at : Corner) (out : List ℕ) (rows : List NumberedRing) : Type 0 where
+  pub some : rows_at_corner at state.rows ≢ []
+  pub straight : AllByRecursion (λ row. ¬ BendsAt at row.corners) state.rows
+  pub city_straight : ¬ BendsAt at state.refined
+  pub rows_are : rows ≡ map (λ row. numbered row.number (straightened at row.corners)) (rows_at_corner at state.rows)
+  pub out_are : out ≡ numbers rows
+
+-- what an edit takes out and brings, by its five cases
 abbrev pub IsChange : {A : Type 0} → State → Edit A → List ℕ → List NumberedRing → Type 0
 IsChange state (Split id path) out rows = IsSplitOf state id path out rows
 IsChange state (Merge a b) out rows = IsMergeOf state a b out rows
 IsChange state (Move a b path) out rows = IsMoveOf state a b path out rows
 IsChange state (Insert from to at) out rows = IsInsertOf state from to at out rows
+IsChange state (Straighten at) out rows = IsStraightenOf state at out rows
 
 -- rows within the limits of a layer, also in their number
 pub record AreWithinLayerLimits (rows : List NumberedRing) : Type 0 where

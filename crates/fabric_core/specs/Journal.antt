@@ -5,8 +5,8 @@ use Rattle.geo_exact.specs.declared.corner.Corner.{Corner}
 use Rattle.geo_exact.specs.Layers.{NumberedRing}
 use Rattle.cell_index.specs.Cells.{Grid}
 use Rattle.ring_edits.specs.declared.edit.Edit.{Edit}
-use Rattle.ring_edits.specs.declared.edit.Edit.TheVariants.{Split, Merge, Move, Insert}
-use Rattle.ring_edits.specs.Edits.{put_between}
+use Rattle.ring_edits.specs.declared.edit.Edit.TheVariants.{Split, Merge, Move, Insert, Straighten}
+use Rattle.ring_edits.specs.Edits.{put_between, without_corner}
 
 -- what a fabric is at a moment: its rows by ascending id, the city's refined ring, and the next id, above all that were given out
 pub record State : Type 0 where
@@ -44,12 +44,14 @@ abbrev pub with_rows : List NumberedRing → List NumberedRing → List Numbered
 with_rows [] rows = rows
 with_rows (row ∷ more) rows = with_rows more (with_row row rows)
 
--- the city's refined ring after an edit: a corner that is inserted is put into it too, where it has the edge
+-- the city's refined ring after an edit: a corner that is inserted is put into it too, where it has the edge, and one that is
+-- taken out goes from it too, where it has it
 abbrev pub refined_by : {A : Type 0} → Edit A → List Corner → List Corner
 refined_by (Split id path) ring = ring
 refined_by (Merge a b) ring = ring
 refined_by (Move a b path) ring = ring
 refined_by (Insert from to at) ring = put_between from to at ring
+refined_by (Straighten at) ring = without_corner at ring
 
 -- the state after an entry: it takes out the rows whose ids it names and adds the rows that it brings
 abbrev pub after_entry : {A : Type 0} → State → JournalEntry A → State

@@ -1,27 +1,27 @@
 -- Why an edit is refused: the first reason that applies, in this order (this product's own): the journal is full; an
--- id that it names is no parcel's; what the edit itself asks of paths, borders and edges; the limits of a layer; a
+-- id that it names is no parcel's; what the edit itself asks of paths, borders, edges and corners; the limits of a layer; a
 -- new ring that is not simple.
-use Rattle.std.specs.Prelude.{◌≡◌, ◌⊎◌, ⊤, ℕ, ◌+◌, ◌<◌, ◌≤◌, List, [], ◌∷◌, ◌++◌, length}
-use Rattle.std.specs.List.{Contains}
+use Rattle.std.specs.Prelude.{◌≡◌, ◌≢◌, ◌⊎◌, ⊤, ℕ, ◌+◌, ◌<◌, ◌≤◌, List, [], ◌∷◌, ◌++◌, length}
+use Rattle.std.specs.List.{AllByRecursion, Contains}
 use Rattle.geo_exact.specs.declared.corner.Corner.{Corner}
 use Rattle.geo_exact.specs.Layers.{NumberedRing, numbered}
 use Rattle.geo_exact.specs.Segments.{IsStrictlyInside}
 use Rattle.ring_core.specs.declared.ring.RingFault.{RingFault}
 use Rattle.ring_core.specs.Faults.{IsRingFault}
 use Rattle.ring_edits.specs.declared.edit.Edit.{Edit}
-use Rattle.ring_edits.specs.declared.edit.Edit.TheVariants.{Split, Merge, Move, Insert}
+use Rattle.ring_edits.specs.declared.edit.Edit.TheVariants.{Split, Merge, Move, Insert, Straighten}
 use Rattle.ring_edits.specs.declared.fault.EditFault.{EditFault}
 use Rattle.ring_edits.specs.declared.fault.EditFault.TheVariants.{NotNeighbours as NoBorder, SharedTwice as TwoBorders}
-use Rattle.ring_edits.specs.Edits.{IsPathAcross, IsBorderFault, IsBadBorder}
+use Rattle.ring_edits.specs.Edits.{IsPathAcross, IsBorderFault, IsBadBorder, BendsAt}
 use Rattle.fabric_core.specs.declared.journal.TheConstants.{JOURNAL_ENTRIES}
 use Rattle.fabric_core.specs.declared.refusal.Refusal.{Refusal}
 use Rattle.fabric_core.specs.declared.refusal.Refusal.TheVariants.{Unknown, Retired, BadPath, NotNeighbours}
 use Rattle.fabric_core.specs.declared.refusal.Refusal.TheVariants.{SharedTwice, Ring, NoSuchEdge, NotOnEdge}
-use Rattle.fabric_core.specs.declared.refusal.Refusal.TheVariants.{JournalFull, TooMany}
+use Rattle.fabric_core.specs.declared.refusal.Refusal.TheVariants.{JournalFull, TooMany, NoSuchCorner, NotFlat}
 use Rattle.fabric_core.specs.Rows.{numbers}
 use Rattle.fabric_core.specs.Faults.{AreSimple}
 use Rattle.fabric_core.specs.Journal.{State, JournalEntry, with_rows, without_ids}
-use Rattle.fabric_core.specs.EditResults.{IsChange, AreWithinLayerLimits, rows_with_edge}
+use Rattle.fabric_core.specs.EditResults.{IsChange, AreWithinLayerLimits, rows_with_edge, rows_at_corner}
 
 -- the entry takes the id out for good
 pub record Retires {A : Type 0} (entry : JournalEntry A) (id : ℕ) : Type 0 where
@@ -41,6 +41,7 @@ named_ids (Split id path) = id ∷ []
 named_ids (Merge a b) = a ∷ b ∷ []
 named_ids (Move a b path) = a ∷ b ∷ []
 named_ids (Insert from to at) = []
+named_ids (Straighten at) = []
 
 -- all ids are those of parcels
 abbrev pub AreParcels : List NumberedRing → List ℕ → Type 0
@@ -75,7 +76,27 @@ IsBadMovePath state a b path =
 abbrev pub HasNoEdge : State → Corner → Corner → Type 0
 HasNoEdge state from to = (from ≡ to) ⊎ (rows_with_edge from to state.rows ≡ [])
 
--- what the edit asks for itself, of paths, borders and edges, is not so; it is looked at only where all ids that the
+-- the first of the rows that bends at the corner, and so the one with the least id, has this id
+pub record IsFirstBent (rows : List NumberedRing) (at : Corner) (id : ℕ) : Type 0 where
+  pub before : List NumberedRing
+  pub row : NumberedRing
+  pub behind : List NumberedRing
+  pub are_all : rows ≡ before ++ row ∷ behind
+  pub has_id : row.number ≡ id
+  pub bends : BendsAt at row.corners
+  pub straight_before : AllByRecursion (λ other. ¬ BendsAt at other.corners) before
+
+-- no parcel's ring bends at the corner, but the city's refined ring does
+abbrev pub IsCityBent : State → Corner → Type 0
+IsCityBent state at = AllByRecursion (λ row. ¬ BendsAt at row.corners) state.rows × BendsAt at state.refined
+
+-- a ring bends at the corner: the least parcel's, by its id, or the city's alone, which is told by 0
+abbrev pub IsBent : State → Corner → Refusal → Type 0
+IsBent state at refusal =
+    ((id : ℕ) × (refusal ≡ NotFlat id) × IsFirstBent state.rows at id)
+    ⊎ ((refusal ≡ NotFlat 0) × IsCityBent state at)
+
+-- what the edit asks for itself, of paths, borders, edges and corners, is not so; it is looked at only where all ids that the
 -- edit names are parcels'
 abbrev pub IsOwnRefusal : {A : Type 0} → State → Edit A → Refusal → Type 0
 IsOwnRefusal state (Split id path) refusal = (refusal ≡ BadPath) × IsBadCutPath state id path
@@ -89,6 +110,9 @@ IsOwnRefusal state (Move a b path) refusal =
 IsOwnRefusal state (Insert from to at) refusal =
     ((refusal ≡ NoSuchEdge) × HasNoEdge state from to)
     ⊎ ((refusal ≡ NotOnEdge) × (¬ HasNoEdge state from to) × (¬ IsStrictlyInside at from to))
+IsOwnRefusal state (Straighten at) refusal =
+    ((refusal ≡ NoSuchCorner) × (rows_at_corner at state.rows ≡ []))
+    ⊎ ((rows_at_corner at state.rows ≢ []) × IsBent state at refusal)
 
 -- the first of the new rings that is not simple is this one, counted from 1, and has this fault
 pub record IsFirstBadRing (rows : List NumberedRing) (which : ℕ) (fault : RingFault) : Type 0 where

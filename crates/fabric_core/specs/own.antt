@@ -6,3 +6,5 @@ pub mod Books
 pub mod Sides
 pub mod EntryRows
 pub mod Changes
+pub mod Alike
+pub mod RingChanges

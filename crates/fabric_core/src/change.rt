@@ -1,22 +1,27 @@
 //! What an edit takes out of a fabric and what it brings, or why it is refused.
 
-ghost use Rattle.std.specs.Prelude.{◌≡◌, ◌+◌, ◌^◌, ◌<◌, ◌∷◌, [], map, IfOk, IfErr};
+ghost use Rattle.std.specs.Prelude.{◌≡◌, ◌+◌, ◌^◌, ◌<◌, ◌∷◌, [], map, IfOk, IfErr, IfSome, IfNone};
 ghost use Rattle.std.specs.List.{All, AllByRecursion, Contains};
 ghost use Rattle.geo_exact.specs.Bounds.{HoldsCorner};
 ghost use Rattle.geo_exact.specs.Layers.{numbered};
 ghost use Rattle.fabric_core.specs.declared.refusal.Refusal.TheVariants.{BadPath};
-ghost use Rattle.fabric_core.specs.EditResults.{IsChange, IsSplitOf, IsMergeOf, IsMoveOf, IsInsertOf};
+ghost use Rattle.fabric_core.specs.EditResults.{IsChange, IsSplitOf, IsMergeOf, IsMoveOf, IsInsertOf, IsStraightenOf};
+ghost use Rattle.fabric_core.specs.EditResults.{rows_at_corner};
 ghost use Rattle.fabric_core.specs.own.EntryRows.{rows_of_entry};
-ghost use Rattle.fabric_core.specs.Refusals.{named_ids, IsBadCutPath, IsOwnRefusal};
+ghost use Rattle.fabric_core.specs.Refusals.{named_ids, IsBadCutPath, IsFirstBent, IsOwnRefusal};
+ghost use Rattle.fabric_core.specs.Rows.{numbers};
+ghost use Rattle.ring_edits.specs.Edits.{BendsAt};
 ghost use Rattle.fabric_core.specs.own.Changes.{state_of, IsGone, IsTold, IsStopped, IsBorderRefusal, IsMoveRefusal, IsInsertRefusal};
+ghost use Rattle.fabric_core.specs.own.Changes.{IsStraightenRefusal};
 
-use crate::edges::rows_with_corner;
+use crate::edges::renewed_rows;
 use crate::journal::Row;
 use crate::refusal::Refusal;
+use crate::ring_change::RingChange;
 use crate::tiled::Tiled;
 use geo_exact::{Corner, Corners};
 use ring_core::Shape;
-use ring_edits::{Edit, EditFault, is_between, merge, shift, split};
+use ring_edits::{Edit, EditFault, is_bent, is_between, merge, shift, split};
 use std::alloc::{AllocError, Allocator};
 
 /// What an edit takes out of a fabric, and what it brings.
@@ -208,7 +213,7 @@ fn insert_change<'a, H: Allocator>(
     if from == to {
         return Err(Refusal::NoSuchEdge);
     }
-    let rows = rows_with_corner(alloc, tiled, from, to, at)?;
+    let rows = renewed_rows(alloc, tiled, RingChange::PutIn { from, to, at })?;
     if rows.is_empty() {
         return Err(Refusal::NoSuchEdge);
     }
@@ -219,9 +224,53 @@ fn insert_change<'a, H: Allocator>(
     Ok(Change { out, rows })
 }
 
+/// The least of these ids whose parcel's ring bends at the corner; the ids are those of the parcels that have it.
+fn first_bent<'a, H: Allocator>(tiled: &Tiled<'a, H>, ids: &[u64], at: Corner) -> Option<u64>
+    requires { ids.now ≡ numbers (rows_at_corner at tiled.now.rows) }
+    ensures bent { IfSome result (λ id. IsFirstBent tiled.now.rows at id) }
+    ensures straight { IfNone result (AllByRecursion (λ row. ¬ BendsAt at row.corners) tiled.now.rows) }
+{
+    tiled.tiles();
+    for id in ids {
+        let Some(shape) = tiled.shape(*id) else {
+            unreachable!()
+        };
+        if is_bent(shape.ring.corners.as_slice(), at) {
+            return Some(*id);
+        }
+    }
+    None
+}
+
+/// A corner taken out of the parcels that have it, where no ring bends there.
+fn straighten_change<'a, H: Allocator>(
+    alloc: &'a H,
+    tiled: &Tiled<'a, H>,
+    at: Corner,
+) -> Result<Change<&'a H>, Refusal>
+    requires in_area { AllByRecursion (λ row. All (HoldsCorner tiled.now.index.area) row.corners) tiled.now.rows }
+    ensures change { IfOk result (λ change.
+        IsStraightenOf (state_of tiled.now) at change.out.items (rows_of_entry change.rows.items)) }
+    ensures err { IfErr result (λ refusal.
+        IsStopped tiled.now [] (IsStraightenRefusal (state_of tiled.now) at refusal) refusal) }
+{
+    let rows = renewed_rows(alloc, tiled, RingChange::TakeOut { at })?;
+    if rows.is_empty() {
+        return Err(Refusal::NoSuchCorner);
+    }
+    let out = ids_of(alloc, &rows)?;
+    if let Some(id) = first_bent(tiled, &out, at) {
+        return Err(Refusal::NotFlat(id));
+    }
+    if is_bent(tiled.refined(), at) {
+        return Err(Refusal::NotFlat(0));
+    }
+    Ok(Change { out, rows })
+}
+
 /// What an edit takes out and brings; new parcels have the next ids. Why there is nothing, else:
 /// the ids that the edit names are looked up first, in its order, and then comes what it asks of
-/// paths, borders and edges.
+/// paths, borders, edges and corners.
 pub(crate) fn change_of<'a, H: Allocator>(
     alloc: &'a H,
     tiled: &Tiled<'a, H>,
@@ -241,5 +290,6 @@ pub(crate) fn change_of<'a, H: Allocator>(
         Edit::Merge { a, b } => merge_change(alloc, tiled, next, *a, *b),
         Edit::Move { a, b, path } => move_change(alloc, tiled, next, *a, *b, path.as_slice()),
         Edit::Insert { from, to, at } => insert_change(alloc, tiled, *from, *to, *at),
+        Edit::Straighten { at } => straighten_change(alloc, tiled, *at),
     }
 }

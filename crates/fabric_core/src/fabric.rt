@@ -31,7 +31,6 @@ use crate::layer::Layer;
 use crate::locate::At;
 use crate::opening::{Opening, count_corners, opening_of};
 use crate::refusal::Refusal;
-use crate::sheet::Sheet;
 use crate::tiled::Tiled;
 use geo_exact::Corner;
 use parcel_table::{Ids, Shapes};
@@ -56,7 +55,11 @@ pub struct Fabric<'a, H: Allocator> {
     corners: usize,
 }
 
-// As that of `Tiled`: who lets go of a fabric or a sheet does it by one call.
+/// A fabric as it was at a moment: a copy of one's own, which stays as it is while the fabric goes on. A map is drawn from
+/// it, and parcels are laid over zones. How many entries its journal has names the moment.
+pub type Sheet<'a, H> = Fabric<'a, H>;
+
+// As that of `Tiled`: whoever drops a fabric does it by one call.
 impl<'a, H: Allocator> Drop for Fabric<'a, H> {
     fn drop(self) {
         let Fabric {
@@ -141,7 +144,7 @@ impl<'a, H: Allocator> Fabric<'a, H> {
         })
     }
 
-    /// A sheet: a copy that names how many entries its journal has.
+    /// A sheet: a copy of one's own, which stays as it is while the fabric goes on.
     ///
     /// # Errors
     ///
@@ -153,7 +156,7 @@ impl<'a, H: Allocator> Fabric<'a, H> {
     pub fn sheet(&self) -> Result<Sheet<'a, H>, AllocError>
         ensures { IfOk result (λ sheet. sheet ≡ self.now) }
     {
-        Ok(Sheet::of(self.copy()?))
+        self.copy()
     }
 
     /// The parcels are simple rings that tile the city, and are within the limits of a layer; in the
@@ -275,7 +278,8 @@ impl<'a, H: Allocator> Fabric<'a, H> {
     /// (E2); what the edit asks for itself: for a split [`Refusal::BadPath`] (E3), for a merge and a
     /// move [`Refusal::NotNeighbours`] (E4) and [`Refusal::SharedTwice`] (E5), for a move then
     /// [`Refusal::BadPath`] (E3), for an insert [`Refusal::NoSuchEdge`] (E7) and
-    /// [`Refusal::NotOnEdge`] (E8); [`Refusal::TooMany`] (E10); [`Refusal::Ring`] (E6). And
+    /// [`Refusal::NotOnEdge`] (E8), for a straightening [`Refusal::NoSuchCorner`] (E11) and
+    /// [`Refusal::NotFlat`] (E12); [`Refusal::TooMany`] (E10); [`Refusal::Ring`] (E6). And
     /// [`Refusal::NoMemory`] where an allocation is refused.
     ///
     /// ```

@@ -25,14 +25,14 @@ mod new_shapes;
 mod opening;
 mod refine;
 mod refusal;
+mod ring_change;
 mod rings;
-mod sheet;
 mod tiled;
 
 pub use all_faults::AllFaults;
 pub use box_laws::{a_parcel_that_meets_a_ring_is_a_candidate, rows_lie_in_the_box_of_their_city};
 pub use city::{City, CityFault};
-pub use fabric::Fabric;
+pub use fabric::{Fabric, Sheet};
 pub use follow::FollowFault;
 pub use journal::{Entry, JOURNAL_ENTRIES, Row};
 pub use laws::{
@@ -44,4 +44,3 @@ pub use layer::{Layer, LoadFault};
 pub use locate::At;
 pub use parcel_table::{Ids, Shapes};
 pub use refusal::Refusal;
-pub use sheet::Sheet;

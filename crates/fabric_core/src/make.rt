@@ -1,14 +1,15 @@
-//! A layer made of noded rings, or the first reason why they are none.
+//! Edits made: parcels exchanged for others, or their rings changed.
 
 ghost use Rattle.std.specs.Prelude.{◌≡◌, ◌∷◌, [], length, OnOk, OnErr};
-ghost use Rattle.ring_edits.specs.declared.edit.Edit.TheVariants.{Merge, Insert};
+ghost use Rattle.ring_edits.specs.declared.edit.Edit.TheVariants.{Merge};
 ghost use Rattle.fabric_core.specs.EditResults.{IsEntryOf};
 ghost use Rattle.fabric_core.specs.Tiling.{corner_lists};
 ghost use Rattle.fabric_core.specs.own.Changes.{IsMade, IsMoveEdit, IsSplitEdit, rings_of_shapes, state_of};
+ghost use Rattle.fabric_core.specs.own.RingChanges.{edit_of};
 
 use crate::journal::Entry;
+use crate::ring_change::RingChange;
 use crate::tiled::Tiled;
-use geo_exact::Corner;
 use ring_core::Shape;
 use ring_edits::Edit;
 use std::alloc::{AllocError, Allocator};
@@ -93,22 +94,21 @@ fn make_move<'a, H: Allocator>(
     tiled.renew(a, b, entry.number(), of_a, of_b)
 }
 
-/// Makes an insert: a corner is put into an edge.
-fn make_insert<'a, H: Allocator>(
+/// Makes an insert or a straightening: a corner is put into rings, or taken out of them.
+fn make_change<'a, H: Allocator>(
     tiled: &mut Tiled<'a, H>,
     entry: &Entry<&'a H>,
-    edge: (Corner, Corner),
-    at: Corner,
+    change: RingChange,
     shapes: Vec<Shape<&'a H>, &'a H>,
 ) -> Result<(), AllocError>
-    requires is_insert { entry.now.edit ≡ Insert edge.0 edge.1 at }
+    requires is_change { entry.now.edit ≡ edit_of change }
     requires is_entry { IsEntryOf (state_of tiled.old) entry.now }
     requires shapes { rings_of_shapes shapes.items ≡ corner_lists entry.now.rows }
     ensures made { OnOk result (IsMade tiled.old tiled.new entry.now) }
     ensures unchanged { OnErr result (tiled.new ≡ tiled.old) }
 {
     tiled.tiles();
-    tiled.put_in(edge, at, entry.out(), shapes)
+    tiled.change_rings(change, entry.out(), shapes)
 }
 
 /// Makes an edit whose entry is drafted, of which these are the shapes. Where an allocation is
@@ -127,6 +127,12 @@ pub(crate) fn make<'a, H: Allocator>(
         Edit::Split { id, .. } => make_split(tiled, entry, *id, shapes),
         Edit::Merge { a, b } => make_merge(tiled, entry, *a, *b, shapes),
         Edit::Move { a, b, .. } => make_move(tiled, entry, *a, *b, shapes),
-        Edit::Insert { from, to, at } => make_insert(tiled, entry, (*from, *to), *at, shapes),
+        Edit::Insert { from, to, at } => {
+            let (from, to, at) = (*from, *to, *at);
+            make_change(tiled, entry, RingChange::PutIn { from, to, at }, shapes)
+        }
+        Edit::Straighten { at } => {
+            make_change(tiled, entry, RingChange::TakeOut { at: *at }, shapes)
+        }
     }
 }

@@ -38,6 +38,11 @@ pub enum Refusal {
     /// E10: a new ring would have more than 4,096 corners, all rings together more than 1,000,000, or
     /// there would be more than 65,536 parcels.
     TooMany,
+    /// E11: no parcel has the corner.
+    NoSuchCorner,
+    /// E12: the ring of the parcel with this id bends at the corner; the least such id, or 0 where the city's refined
+    /// ring alone bends there.
+    NotFlat(u64),
     /// An allocation was refused.
     NoMemory,
 }

@@ -10,7 +10,7 @@ ghost use Rattle.geo_exact.specs.Bounds.{HoldsCorner, IsLeastBox};
 ghost use Rattle.geo_exact.specs.Interiors.{InteriorsMeet};
 ghost use Rattle.geo_exact.specs.Layers.{NumberedRing, numbered};
 ghost use Rattle.fabric_core.specs.Tiling.{IsTiling};
-ghost use Rattle.ring_edits.specs.Edits.{CoversAlike, put_between};
+ghost use Rattle.ring_edits.specs.Edits.{CoversAlike};
 ghost use Rattle.fabric_core.specs.Rows.{numbers};
 ghost use Rattle.fabric_core.specs.Limits.{AreWithinLimits};
 ghost use Rattle.fabric_core.specs.GridIndex.{IsIndexed, IsCandidate};
@@ -19,9 +19,8 @@ ghost use Rattle.fabric_core.specs.own.Checks.{HaveNoFault, IsChecked};
 ghost use Rattle.fabric_core.specs.Journal.{without_ids};
 ghost use Rattle.fabric_core.specs.own.Balanced.{IsBalanced};
 ghost use Rattle.fabric_core.specs.own.Changes.{state_of};
-ghost use Rattle.fabric_core.specs.own.Kept.{AreShapesWith, gone_by, IsExchanged, IsFresh, MayBeKept, put_in_row};
-ghost use Rattle.fabric_core.specs.EditResults.{rows_with_edge};
-ghost use Rattle.geo_exact.specs.Segments.{IsStrictlyInside};
+ghost use Rattle.fabric_core.specs.own.Kept.{gone_by, IsExchanged, IsFresh, MayBeKept};
+ghost use Rattle.fabric_core.specs.own.RingChanges.{AreShapesOf, HasTwoEnds, KeepsGround, changed_city, changed_row, rows_changed};
 ghost use Rattle.fabric_core.specs.own.Lists.{numbered_rows, corners_of_rings, IsEntryAt, replaced};
 ghost use Rattle.parcel_table.specs.Table.{HasId};
 
@@ -29,14 +28,11 @@ use crate::candidates::{ids_under, sort_once};
 use crate::grid_index::clip_all;
 use crate::hints::Hints;
 use crate::locate::{At, on_edge_or_outside, search};
+use crate::ring_change::RingChange;
 use cell_index::{CellIndex, Entry};
 use geo_exact::{Bounds, Corner, Corners};
 use parcel_table::{Fate, Ids, Parcels, Shapes};
 use ring_core::{Ring, Shape, Side, side_of};
-use ring_edits::{
-    inserting_covers_alike, inserting_keeps_the_least_box, inserting_keeps_where_a_ring_begins,
-    put_into,
-};
 use std::alloc::{AllocError, Allocator};
 use std::marker::Model;
 
@@ -441,37 +437,32 @@ impl<'a, H: Allocator> Tiled<'a, H> {
         Ok(())
     }
 
-    /// A corner is put into an edge of parcels, which keep their ids and get these shapes, and of the
-    /// city's refined ring, where that has the edge. Where an allocation is refused, nothing has
-    /// changed.
-    pub(crate) fn put_in(
+    /// A corner is put into the rings of parcels or taken out of them; they keep their ids and get these shapes. The
+    /// city's refined ring is changed, too. Where an allocation is refused, nothing has changed.
+    pub(crate) fn change_rings(
         &mut self,
-        edge: (Corner, Corner),
-        at: Corner,
+        change: RingChange,
         ids: &[u64],
         shapes: Vec<Shape<&'a H>, &'a H>,
     ) -> Result<(), AllocError>
-        requires two_ends { edge.0 ≢ edge.1 }
-        requires ids { ids.now ≡ numbers (rows_with_edge edge.0 edge.1 self.old.rows) }
-        requires shapes { AreShapesWith edge.0 edge.1 at self.old.rows shapes.items }
-        requires between { IsStrictlyInside at edge.0 edge.1 }
-        requires kept { MayBeKept (map (put_in_row edge.0 edge.1 at) self.old.rows) (put_between edge.0 edge.1 at self.old.refined) }
+        requires two_ends { HasTwoEnds change }
+        requires ids { ids.now ≡ numbers (rows_changed change self.old.rows) }
+        requires shapes { AreShapesOf change self.old.rows shapes.items }
+        requires ground { AllByRecursion (λ row. KeepsGround change row.corners) self.old.rows }
+        requires city_ground { KeepsGround change self.old.refined }
+        requires kept { MayBeKept (map (changed_row change) self.old.rows) (changed_city change self.old.refined) }
         ensures ok { OnOk result (self.new ≡ record self.old {
-          rows = map (put_in_row edge.0 edge.1 at) self.old.rows;
-          refined = put_between edge.0 edge.1 at self.old.refined;
+          rows = map (changed_row change) self.old.rows;
+          refined = changed_city change self.old.refined;
         }) }
         ensures err { OnErr result (self.new ≡ self.old) }
     {
-        let (from, to) = edge;
         self.parcels.stand_apart();
-        inserting_covers_alike();
-        inserting_keeps_the_least_box();
-        inserting_keeps_where_a_ring_begins();
         let ring = &self.refined;
-        let with_it = put_into(self.parcels.allocator(), ring.as_slice(), from, to, at)?;
+        let refined = change.of_city(self.parcels.allocator(), ring.as_slice())?;
         self.hints.tell_all(&self.parcels, ids, shapes.as_slice());
         replace_all(&mut self.parcels, ids, shapes);
-        change_ring(&mut self.refined, with_it);
+        change_ring(&mut self.refined, refined);
         self.parcels.stand_apart();
         Ok(())
     }

@@ -22,6 +22,8 @@ pub enum Change {
     Move(u64, u64, &'static [Place]),
     /// The last corner is put into the edge between the first two.
     Insert(Place, Place, Place),
+    /// A corner is taken out of all rings that have it.
+    Straighten(Place),
 }
 
 /// A parcel's id, twice its area, and its ring.
@@ -48,6 +50,7 @@ pub fn edit_of<A: Allocator>(alloc: A, change: Change) -> Result<Edit<A>, Fail> 
             to: corner(to)?,
             at: corner(at)?,
         }),
+        Change::Straighten(at) => Ok(Edit::Straighten { at: corner(at)? }),
     }
 }
 

@@ -28,4 +28,6 @@ mod size;
 #[cfg(test)]
 mod steps;
 #[cfg(test)]
+mod straightens;
+#[cfg(test)]
 mod tilings;

@@ -48,7 +48,7 @@ fn add_column<'a>(
 }
 
 /// A layer of columns and blocks, cut at random.
-fn drawn<'a>(heap: &'a Global, words: &mut Pcg32) -> Result<Layer<'a, Global>, Fail> {
+pub fn drawn<'a>(heap: &'a Global, words: &mut Pcg32) -> Result<Layer<'a, Global>, Fail> {
     let mut lists = Vec::new(*heap);
     let mut west = 0;
     for east in 1..=SIDE {

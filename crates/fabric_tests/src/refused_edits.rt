@@ -4,6 +4,7 @@
 use crate::changes::{CLERK, Change, Step, edit_of, take};
 use crate::follows::is_same_entry;
 use crate::steps::{BACK_TO_ONE, INTO_HALVES, OF_TWO, WESTWARD};
+use crate::straightens::{BOTH_CORNERS_OUT, OF_THREE, THREE_RINGS};
 use fabric_core::{Fabric, Refusal};
 use geo_exact::Corner;
 use refusing_alloc::Refusing;
@@ -75,8 +76,8 @@ fn have_same_journal<'a, H: Allocator>(fabric: &Fabric<'a, H>, other: &Fabric<'a
     true
 }
 
-/// Whether both show the same rows, rings of the city, journal and index.
-pub fn are_alike<'a, H: Allocator>(
+/// Whether both show the same rows, rings of the city and index.
+pub fn show_alike<'a, H: Allocator>(
     fabric: &Fabric<'a, H>,
     other: &Fabric<'a, H>,
 ) -> Result<bool, Fail> {
@@ -88,11 +89,17 @@ pub fn are_alike<'a, H: Allocator>(
             return Ok(false);
         }
     }
-    let are_same = fabric.city() == other.city()
-        && fabric.refined() == other.refined()
-        && fabric.entries() == other.entries()
-        && have_same_journal(fabric, other);
+    let are_same = fabric.city() == other.city() && fabric.refined() == other.refined();
     Ok(are_same && are_indexed_alike(fabric, other)?)
+}
+
+/// Whether both show the same rows, rings of the city, journal and index.
+pub fn are_alike<'a, H: Allocator>(
+    fabric: &Fabric<'a, H>,
+    other: &Fabric<'a, H>,
+) -> Result<bool, Fail> {
+    let are_same = fabric.entries() == other.entries() && have_same_journal(fabric, other);
+    Ok(are_same && show_alike(fabric, other)?)
 }
 
 /// The answer to an edit: the number of its entry, or why it is refused.
@@ -213,12 +220,37 @@ static BEHIND_HALVES: [Change; 4] = [
 /// What is done behind each step back to one parcel.
 static BEHIND_ONE: [Change; 2] = [Change::Merge(2, 5), Change::Merge(2, 5)];
 
+/// What is done behind each step of taking corners out.
+static BEHIND_STRAIGHT: [Change; 6] = [Change::Merge(2, 5); 6];
+
 #[test]
 fn cuts_and_merges(rt: HostRuntime) -> Result<(), Fail> {
     let heap = Refusing::new(rt.alloc(), 0);
     let mut fabric = fabric(&heap, &SQUARE, &RINGS)?;
     assert!(rt; take_refused(&heap, &mut fabric, &INTO_HALVES, &BEHIND_HALVES)? > 3);
     assert!(rt; take_refused(&heap, &mut fabric, &BACK_TO_ONE, &BEHIND_ONE)? > 3);
+    assert!(rt; take_refused(&heap, &mut fabric, &BOTH_CORNERS_OUT, &BEHIND_STRAIGHT)? > 3);
+    Ok(())
+}
+
+/// What is done behind each step in the fabric of three parcels.
+static BEHIND_THREE: [Change; 9] = [
+    Change::Merge(2, 3),
+    Change::Merge(2, 3),
+    Change::Merge(2, 3),
+    Change::Merge(2, 3),
+    Change::Merge(1, 4),
+    Change::Merge(1, 4),
+    Change::Merge(1, 4),
+    Change::Merge(1, 4),
+    Change::Merge(1, 4),
+];
+
+#[test]
+fn takes_out_of_three(rt: HostRuntime) -> Result<(), Fail> {
+    let heap = Refusing::new(rt.alloc(), 0);
+    let mut fabric = fabric(&heap, &SQUARE, &THREE_RINGS)?;
+    assert!(rt; take_refused(&heap, &mut fabric, &OF_THREE, &BEHIND_THREE)? > 3);
     Ok(())
 }
 

@@ -14,6 +14,8 @@ pub enum Change {
     Merge(u64, u64),
     /// The last corner is put into the edge between the first two.
     Insert(Place, Place, Place),
+    /// A corner is taken out of all rings that have it.
+    Straighten(Place),
 }
 
 /// The path that cuts the first parcel in two halves.
@@ -39,5 +41,6 @@ pub fn edit_of<A: Allocator>(alloc: A, change: Change) -> Result<Edit<A>, Fail> 
             to: corner(to)?,
             at: corner(at)?,
         }),
+        Change::Straighten(at) => Ok(Edit::Straighten { at: corner(at)? }),
     }
 }

@@ -2,7 +2,7 @@
 
 use crate::borders::{corner_at, edge_at, has_edge, new_border};
 use fabric_core::Sheet;
-use geo_exact::{Corner, Corners};
+use geo_exact::{Corner, Corners, turn};
 use rand_core::utils::NextWord;
 use rand_pcg::Pcg32;
 use ring_edits::Edit;
@@ -26,6 +26,20 @@ fn insert_of<A: Allocator>(ring: &[Corner], place: usize) -> Option<Edit<A>> {
     }
     let at = Corner::new(x / 2, y / 2)?;
     Some(Edit::Insert { from, to, at })
+}
+
+/// The first corner from a place on that lies in line with its neighbours, taken out.
+fn straighten_of<A: Allocator>(ring: &[Corner], place: usize) -> Option<Edit<A>> {
+    for step in 0..ring.len() {
+        let before = place.wrapping_add(step);
+        let from = corner_at(ring, before)?;
+        let at = corner_at(ring, before.wrapping_add(1))?;
+        let to = corner_at(ring, before.wrapping_add(2))?;
+        if turn(from, at, to) == 0 {
+            return Some(Edit::Straighten { at });
+        }
+    }
+    None
 }
 
 /// A split from the corner at a place to the one across.
@@ -98,12 +112,14 @@ pub fn drawn_edit<'a, H: Allocator>(
     let id = sheet.ids().nth(drawn_place(words, count))?;
     let ring = sheet.ring(id)?.corners.as_slice();
     let place = drawn_place(words, ring.len());
-    let kind = words.next_word() % 4;
+    let kind = words.next_word() % 5;
     if ring.len() < 8 || kind == 0 {
         insert_of(ring, place)
     } else if kind == 1 {
+        straighten_of(ring, place)
+    } else if kind == 2 {
         move_of(heap, sheet, id, ring, place)
-    } else if ring.len() > 24 || count < 30 || kind == 2 {
+    } else if ring.len() > 24 || count < 30 || kind == 3 {
         split_of(heap, id, ring, place)
     } else {
         merge_of(sheet, id, ring, place)

@@ -31,4 +31,6 @@ mod rows;
 #[cfg(test)]
 mod scans;
 #[cfg(test)]
+mod straightens;
+#[cfg(test)]
 mod wanting;

@@ -9,6 +9,7 @@ use crate::growths::{cut_with_memory, locate_with_memory, sheet_with_memory, was
 use crate::halves::{ask_late, learn_halves, learn_unasked};
 use crate::opened::Refuses;
 use crate::readers::read_meanwhile;
+use crate::straightens::learn_straight;
 use desk_lock::{Card, CloseFault, Name, Naming, Office, OpenFault, Window};
 use fabric_core::{Fabric, Refusal};
 use std::marker::Brand;
@@ -28,6 +29,8 @@ pub enum Play {
     Halves,
     /// The same, but the window is asked only after the office is closed.
     Late,
+    /// Clerk 1 puts a corner into an edge and takes it out, and the first window learns the last receipt.
+    Straight,
     /// Each clerk puts 100 corners into a side of the city.
     Sides,
     /// Two clerks merge the same two parcels.
@@ -165,6 +168,7 @@ fn played_alone<'a, H: Refuses, J: Naming<H>, R: Wait + Drop, W: Wait>(
     match play {
         Play::Halves => learn_halves(rt, heap, office, cards, windows),
         Play::Late => learn_unasked(rt, heap, office, &mut cards[0], &mut windows[0]),
+        Play::Straight => learn_straight(rt, heap, office, &mut cards[0], windows),
         Play::Cut(number, later) => cut_with_memory(
             rt,
             heap,

@@ -26,6 +26,9 @@ pub const WHOLE: Parcels = (0, 2, 2);
 /// The town with its first parcel cut in halves.
 pub const HALVED: Parcels = (3, 3, 4);
 
+/// The town, into which a corner was put that is taken out.
+const STRAIGHT: Parcels = (2, 2, 2);
+
 /// The town with its parcels merged.
 const MERGED: Parcels = (1, 1, 3);
 
@@ -82,9 +85,11 @@ pub fn told_of_opening<H: Refuses + Send + Sync, R: Threads + Wait + Copy + Send
 /// Places for clerks and windows, a play there, what comes of it, and what the fabric has then.
 type Row = ((usize, usize), Play, Told, Parcels);
 
-static ROWS: [Row; 10] = [
+static ROWS: [Row; 12] = [
     ((1, 1), Play::Halves, Told::Done, HALVED),
     ((1, 2), Play::Halves, Told::Done, HALVED),
+    ((1, 1), Play::Straight, Told::Done, STRAIGHT),
+    ((2, 2), Play::Straight, Told::Done, STRAIGHT),
     ((2, 1), Play::Merges, Told::Done, MERGED),
     ((1, 8), Play::Nothing, Told::Done, WHOLE),
     ((8, 1), Play::Nothing, Told::Done, WHOLE),
@@ -185,6 +190,7 @@ struct Kinds {
     merges: u64,
     moves: u64,
     inserts: u64,
+    straightens: u64,
 }
 
 /// How many edits of each kind a journal has.
@@ -194,6 +200,7 @@ fn kinds_of<A: Allocator>(journal: &[Entry<A>]) -> Kinds {
         merges: 0,
         moves: 0,
         inserts: 0,
+        straightens: 0,
     };
     for entry in journal {
         match entry.edit() {
@@ -201,6 +208,7 @@ fn kinds_of<A: Allocator>(journal: &[Entry<A>]) -> Kinds {
             Edit::Merge { .. } => kinds.merges = kinds.merges.wrapping_add(1),
             Edit::Move { .. } => kinds.moves = kinds.moves.wrapping_add(1),
             Edit::Insert { .. } => kinds.inserts = kinds.inserts.wrapping_add(1),
+            Edit::Straighten { .. } => kinds.straightens = kinds.straightens.wrapping_add(1),
         }
     }
     kinds
@@ -209,7 +217,11 @@ fn kinds_of<A: Allocator>(journal: &[Entry<A>]) -> Kinds {
 /// Whether a journal has edits of each kind.
 fn has_each_kind<A: Allocator>(journal: &[Entry<A>]) -> bool {
     let kinds = kinds_of(journal);
-    kinds.splits > 0 && kinds.merges > 0 && kinds.moves > 0 && kinds.inserts > 0
+    kinds.splits > 0
+        && kinds.merges > 0
+        && kinds.moves > 0
+        && kinds.inserts > 0
+        && kinds.straightens > 0
 }
 
 /// Whether a fabric has the edits of eight clerks, some of each kind, and is what the replay of its journal leads to.

@@ -12,7 +12,7 @@ use Rattle.std.proofs.lemmas.List.{take_more}
 use Rattle.geo_exact.specs.Interiors.{InteriorsMeet}
 use Rattle.fabric_core.specs.Rows.{numbers}
 use Rattle.fabric_core.proofs.rows.RowLists.{ascending, same_row}
-use Rattle.fabric_core.proofs.edits.WithEdge.{above_before}
+use Rattle.fabric_core.proofs.edits.Renewed.{above_before}
 
 -- the only element
 pub only : {X : Type 0} (x y : X) → Contains (x ∷ []) y → x ≡ y

@@ -124,7 +124,7 @@ impl<'h, H: Allocator> Parcels<'h, H> {
         area2(self.city()).unsigned_abs()
     }
 
-    /// A sheet of the parcels, with the journal of the edits that led there.
+    /// A sheet of the parcels, with the journal of the edits that led there. Nothing is copied.
     pub fn into_sheet(self) -> Result<Sheet<'h, H>, AllocError>
         ensures now { IfOk result (λ sheet. sheet.now ≡ (register_of_parcels self.entry).now) }
         ensures journal { IfOk result (λ sheet. sheet.journal ≡ (register_of_parcels self.entry).journal) }
@@ -132,7 +132,7 @@ impl<'h, H: Allocator> Parcels<'h, H> {
     {
         match self {
             Parcels::Read(layer) => match Fabric::open(layer) {
-                Ok(fabric) => fabric.sheet(),
+                Ok(fabric) => Ok(fabric),
                 Err(_) => Err(AllocError),
             },
             Parcels::Changed(sheet) => Ok(sheet),

@@ -67,7 +67,7 @@ fn told<R: Threads + Wait + Sync>(
 type Row = (bool, &'static [&'static str], &'static str);
 
 /// Each refusal that a small layer reaches, and how files are told one after the other.
-const ROWS: [Row; 12] = [
+const ROWS: [Row; 14] = [
     (
         false,
         &[FIVE],
@@ -102,6 +102,20 @@ const ROWS: [Row; 12] = [
         false,
         &["insert 0 0 100 0 30 0\r\ninsert 0 0 60 0 60 0\r\n"],
         "clerk 1 line 1 refused E7\nclerk 1 line 2 refused E8\ntiling 2 20000\n",
+    ),
+    (
+        false,
+        &[
+            "straighten 30 0\nstraighten 60 0\nstraighten 100 0",
+            "straighten 50 50",
+        ],
+        "clerk 1 line 1 refused E11\nclerk 1 line 2 refused E12 1\nclerk 1 line 3 refused E12 2\n\
+         clerk 2 line 1 refused E11\ntiling 2 20000\n",
+    ),
+    (
+        false,
+        &["insert 0 0 60 0 30 0\nstraighten 30 0\nstraighten 30 0"],
+        "clerk 1 line 1 ok 1\nclerk 1 line 2 ok 2\nclerk 1 line 3 refused E11\ntiling 2 20000\n",
     ),
     (
         true,

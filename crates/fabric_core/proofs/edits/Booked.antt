@@ -4,7 +4,7 @@ use Rattle.std.proofs.Common.{[], ◌∷◌, ◌++◌, length, Option, Some, Non
 use Rattle.std.proofs.lemmas.List.{length-append}
 use Rattle.geo_exact.specs.Layers.{NumberedRing, corner_count}
 use Rattle.ring_edits.specs.declared.edit.Edit.{Edit}
-use Rattle.ring_edits.specs.declared.edit.Edit.TheVariants.{Split, Merge, Move, Insert}
+use Rattle.ring_edits.specs.declared.edit.Edit.TheVariants.{Split, Merge, Move, Insert, Straighten}
 use Rattle.fabric_core.specs.declared.journal.TheConstants.{JOURNAL_ENTRIES}
 use Rattle.fabric_core.specs.declared.refusal.Refusal.{Refusal}
 use Rattle.fabric_core.specs.declared.refusal.Refusal.TheVariants.{Unknown, Retired}
@@ -18,7 +18,9 @@ use Rattle.fabric_core.specs.own.Kept.{Kept, gone_by}
 use Rattle.fabric_core.proofs.edits.LawfulJournals.{balanced_now, one_reason, no_reason}
 use Rattle.fabric_core.proofs.edits.OneRefusal.{one_change}
 use Rattle.fabric_core.proofs.edits.Drafts.{all_here}
-use Rattle.fabric_core.proofs.edits.Replays.{lawful_push, replay_push, next_after_insert}
+use Rattle.fabric_core.proofs.edits.Replays.{lawful_push, replay_push, next_after_renewal}
+use Rattle.fabric_core.proofs.edits.RingChanges.{renewal_of}
+use Rattle.fabric_core.specs.declared.ring_change.RingChange.TheVariants.{PutIn, TakeOut}
 use Rattle.fabric_core.proofs.edits.Retirements.{retired_push}
 
 -- a change gives out two ids at most
@@ -28,7 +30,10 @@ next_grows : {A : Type 0} (state : State) (edit : Edit A) (out : List ℕ) (rows
 next_grows state (Split id path) out rows ids h = subst (λ xs. next_after xs state.next ≤ state.next + 2) (sym h.rows_are) (omega arith)
 next_grows state (Merge a b) out rows ids h = subst (λ xs. next_after xs state.next ≤ state.next + 2) (sym h.rows_are) (omega arith)
 next_grows state (Move a b path) out rows ids h = subst (λ xs. next_after xs state.next ≤ state.next + 2) (sym h.rows_are) (omega arith)
-next_grows state (Insert from to at) out rows ids h = omega (arith, next_after_insert state from to at out rows ids h)
+next_grows {A} state (Insert from to at) out rows ids h =
+    omega (arith, next_after_renewal state (PutIn from to at) out rows ids (renewal_of A state (PutIn from to at) out rows h))
+next_grows {A} state (Straighten at) out rows ids h =
+    omega (arith, next_after_renewal state (TakeOut at) out rows ids (renewal_of A state (TakeOut at) out rows h))
 
 module _ {A : Type 0} (opening : State) (journal : List (JournalEntry A)) (kept : Kept) (corners : ℕ)
     (book : IsBook opening journal kept corners) where

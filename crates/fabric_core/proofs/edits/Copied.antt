@@ -10,7 +10,7 @@ use Rattle.parcel_table.specs.Table.{rows_of_keyed, entries_of}
 use Rattle.fabric_core.specs.Limits.{AreWithinLimits}
 use Rattle.fabric_core.specs.Rows.{numbers}
 use Rattle.fabric_core.specs.Tiling.{corner_lists}
-use Rattle.fabric_core.specs.own.Checks.{HaveEqualNets}
+use Rattle.fabric_core.specs.own.Alike.{GoAlike}
 use Rattle.fabric_core.specs.own.Kept.{IsKept}
 
 pub copied : {A : Type 0} (parcels copies : List (ℕ × Parcel A)) (city refined : List Corner) (index : Grid)
@@ -19,7 +19,7 @@ pub copied : {A : Type 0} (parcels copies : List (ℕ × Parcel A)) (city refine
 copied parcels copies city refined index rows entries h = record {
   ids_rise = subst (λ rows. IsStrictlyIncreasing (numbers rows)) (sym rows) h.ids_rise;
   within = subst AreWithinLimits (sym rows) h.within;
-  nets = subst (λ rows. HaveEqualNets (corner_lists rows) refined) (sym rows) h.nets;
+  alike = subst (λ rows. GoAlike (corner_lists rows) refined) (sym rows) h.alike;
   wound_once = h.wound_once;
   ground = h.ground;
   area = h.area;

@@ -1,6 +1,6 @@
 -- What an edit takes out and brings: its ids are parcels', apart from one another; its rows are short, few and simple.
-use Rattle.std.proofs.Common.{◌≡◌, ◌≢◌, refl, sym, ◌∙◌, ap, subst, arith, Bool, ℕ, zero, suc, ◌≤◌, List, []}
-use Rattle.std.proofs.Common.{◌∷◌, length, map}
+use Rattle.std.proofs.Common.{◌≡◌, ◌≢◌, sym, ap, subst, arith, Bool, ℕ, zero, suc, ◌≤◌, List, []}
+use Rattle.std.proofs.Common.{◌∷◌, length}
 use Rattle.std.specs.List.{AllByRecursion, AllPairs, Contains, filter}
 use Rattle.std.proofs.lemmas.List.Kept.{AllPairs-from_increasing}
 use Rattle.geo_exact.specs.declared.corner.Corner.{Corner}
@@ -9,26 +9,24 @@ use Rattle.geo_exact.specs.Layers.{NumberedRing, numbered}
 use Rattle.ring_core.specs.declared.shape.Shape.{Shape}
 use Rattle.ring_core.specs.Simple.{IsSimpleRing}
 use Rattle.ring_edits.specs.declared.edit.Edit.{Edit}
-use Rattle.ring_edits.specs.declared.edit.Edit.TheVariants.{Split, Merge, Move, Insert}
-use Rattle.ring_edits.specs.Edits.{has_edge_between, with_corner}
+use Rattle.ring_edits.specs.declared.edit.Edit.TheVariants.{Split, Merge, Move, Insert, Straighten}
+use Rattle.fabric_core.specs.declared.ring_change.RingChange.{RingChange}
+use Rattle.fabric_core.specs.declared.ring_change.RingChange.TheVariants.{PutIn, TakeOut}
 use Rattle.fabric_core.specs.Rows.{numbers}
 use Rattle.fabric_core.specs.Tiling.{corner_lists}
 use Rattle.fabric_core.specs.Faults.{AreSimple}
 use Rattle.fabric_core.specs.Journal.{State, with_rows}
-use Rattle.fabric_core.specs.EditResults.{IsChange, IsInsertOf, AreWithinLayerLimits, rows_with_edge}
+use Rattle.fabric_core.specs.EditResults.{IsChange, AreWithinLayerLimits}
+use Rattle.fabric_core.specs.own.RingChanges.{IsRenewalOf, is_changed}
 use Rattle.fabric_core.specs.Refusals.{AreParcels, named_ids}
 use Rattle.fabric_core.specs.own.Balanced.{IsBalanced}
 use Rattle.fabric_core.specs.own.Changes.{rings_of_shapes}
 use Rattle.fabric_core.proofs.edits.Neighbours.{two_parcels, run_has_edge, merged_run, moved_run}
 use Rattle.fabric_core.proofs.rows.NewLimits.{with_rows_length, with_rows_news}
+use Rattle.fabric_core.proofs.edits.Replays.{renewed_ids}
 use Rattle.fabric_core.proofs.edits.Retirements.{out_is_there}
+use Rattle.fabric_core.proofs.edits.RingChanges.{renewal_of}
 use Rattle.fabric_core.proofs.rows.RowLists.{Ascend-filter, Contains-from_kept, Contains-from_mapped, has_number, rising}
-
--- rows that get other rings keep their numbers
-same_numbers : (ring : NumberedRing → List Corner) (rows : List NumberedRing)
-    → numbers (map (λ row. numbered row.number (ring row)) rows) ≡ numbers rows
-same_numbers ring [] = refl
-same_numbers ring (row ∷ rows) = ap (λ ns. row.number ∷ ns) (same_numbers ring rows)
 
 filtered_here : (keep : NumberedRing → Bool) (rows : List NumberedRing) (id : ℕ)
     → Contains (numbers (filter keep rows)) id → Contains (numbers rows) id
@@ -55,11 +53,19 @@ rising_apart keep state h i j d l m e =
     (rising (filter keep state.rows) (Ascend-filter keep state.rows h.ids.up)) i j d l m in
     absurd (omega (arith, less, e))
 
--- the ids of parcels that get a corner
-inserted_ids : (state : State) (from to at : Corner) (out : List ℕ) (rows : List NumberedRing) → IsInsertOf state from to at out rows
-    → out ≡ numbers (rows_with_edge from to state.rows)
-inserted_ids state from to at out rows h =
-    h.out_are ∙ ap numbers h.rows_are ∙ same_numbers (λ row. with_corner from to at row.corners) (rows_with_edge from to state.rows)
+module _ (state : State) (balanced : IsBalanced state) where
+  -- the ids of parcels whose rings are changed
+  renewed_here : (change : RingChange) (out : List ℕ) (rows : List NumberedRing) → IsRenewalOf state change out rows → (id : ℕ)
+      → Contains out id → Contains (numbers state.rows) id
+  renewed_here change out rows h id there =
+      filtered_here (λ row. is_changed change row.corners) state.rows id
+      (subst (λ xs. Contains xs id) (renewed_ids state change out rows h) there)
+
+  renewed_apart : (change : RingChange) (out : List ℕ) (rows : List NumberedRing) → IsRenewalOf state change out rows
+      → AllPairs (λ a b. a ≢ b) out
+  renewed_apart change out rows h =
+      subst (AllPairs (λ a b. a ≢ b)) (sym (renewed_ids state change out rows h))
+      (rising_apart (λ row. is_changed change row.corners) state balanced)
 
 module _ {A : Type 0} (state : State) (balanced : IsBalanced state) where
   -- the ids that go are parcels'
@@ -69,9 +75,10 @@ module _ {A : Type 0} (state : State) (balanced : IsBalanced state) where
   out_here (Split id path) out rows h = out_is_there {A = A} state (Split id path) out rows tt h
   out_here (Merge a b) out rows h = out_is_there {A = A} state (Merge a b) out rows tt h
   out_here (Move a b path) out rows h = out_is_there {A = A} state (Move a b path) out rows tt h
-  out_here (Insert from to at) out rows h = λ id there.
-      filtered_here (λ row. has_edge_between from to row.corners) state.rows id
-      (subst (λ xs. Contains xs id) (inserted_ids state from to at out rows h) there)
+  out_here (Insert from to at) out rows h =
+      renewed_here state balanced (PutIn from to at) out rows (renewal_of A state (PutIn from to at) out rows h)
+  out_here (Straighten at) out rows h =
+      renewed_here state balanced (TakeOut at) out rows (renewal_of A state (TakeOut at) out rows h)
 
   -- and apart
   pub out_apart : (edit : Edit A) (out : List ℕ) (rows : List NumberedRing) → IsChange state edit out rows
@@ -84,8 +91,9 @@ module _ {A : Type 0} (state : State) (balanced : IsBalanced state) where
       (pair_apart a b (two_parcels state.rows a b h.ring_a h.ring_b balanced.simple balanced.ids.up h.has_a h.has_b
       (run_has_edge h.ring_a h.ring_b (moved_run h.ring_a h.ring_b path h.new_a h.new_b h.is_move))))
   out_apart (Insert from to at) out rows h =
-      subst (AllPairs (λ a b. a ≢ b)) (sym (inserted_ids state from to at out rows h))
-      (rising_apart (λ row. has_edge_between from to row.corners) state balanced)
+      renewed_apart state balanced (PutIn from to at) out rows (renewal_of A state (PutIn from to at) out rows h)
+  out_apart (Straighten at) out rows h =
+      renewed_apart state balanced (TakeOut at) out rows (renewal_of A state (TakeOut at) out rows h)
 
   -- so are the ids that the edit names
   pub all_here : (edit : Edit A) (out : List ℕ) (rows : List NumberedRing) → IsChange state edit out rows
@@ -96,6 +104,7 @@ module _ {A : Type 0} (state : State) (balanced : IsBalanced state) where
   all_here (Move a b path) out rows h =
       (has_number state.rows (numbered a h.ring_a) h.has_a, (has_number state.rows (numbered b h.ring_b) h.has_b, tt))
   all_here (Insert from to at) out rows h = tt
+  all_here (Straighten at) out rows h = tt
 
 -- new rows within the limits of a layer
 pub news_short : (news rest : List NumberedRing) → AreWithinLayerLimits (with_rows news rest)

@@ -20,7 +20,7 @@ use Rattle.fabric_core.specs.Limits.{AreWithinLimits}
 use Rattle.fabric_core.specs.Faults.{AreSimple}
 use Rattle.fabric_core.specs.Journal.{without_ids}
 use Rattle.fabric_core.specs.Tiling.{corner_lists}
-use Rattle.fabric_core.specs.own.Checks.{HaveEqualNets}
+use Rattle.fabric_core.specs.own.Alike.{GoAlike}
 use Rattle.fabric_core.specs.own.Kept.{IsKept}
 use Rattle.fabric_core.proofs.tilings.InTheCity.{rows_in_box}
 
@@ -153,18 +153,18 @@ module _ {A : Type 0} where
       → IsKept parcels city refined index
       → IsStrictlyIncreasing (ids_of parcels) → HaveOwnKeys (entries_of parcels) → AllByRecursion (Contains parcels) heres
       → after ≡ without_all (map id_of heres) parcels ++ news → IsStrictlyIncreasing (ids_of after)
-      → HaveEqualNets (corner_lists (rows_of_keyed after)) refined → AreWithinLimits (rows_of_keyed after)
+      → GoAlike (corner_lists (rows_of_keyed after)) refined → AreWithinLimits (rows_of_keyed after)
       → changed.area ≡ index.area
       → ((entries : List Entry) → Indexes index entries → Indexes changed (without (map entry_of heres) entries ++ entries_of news))
       → IsKept after city refined changed
-  exchanged parcels heres news after city refined index changed kept rise own all is rises nets within same indexed = record {
+  exchanged parcels heres news after city refined index changed kept rise own all is rises alike within same indexed = record {
     ids_rise = subst IsStrictlyIncreasing (sym (ids_of_rows after)) rises;
     within = within;
-    nets = nets;
+    alike = alike;
     wound_once = kept.wound_once;
     ground = kept.ground;
     area = subst (λ box. IsLeastBox box city) (sym same) kept.area;
-    in_area = rows_in_box (rows_of_keyed after) city refined changed.area (simple_keyed after) kept.ground nets
+    in_area = rows_in_box (rows_of_keyed after) city refined changed.area (simple_keyed after) kept.ground alike
         (subst (λ box. All (HoldsCorner box) city) (sym same) kept.area.holds);
     indexed = subst (Indexes changed)
         (ap (λ entries. entries ++ entries_of news) (entries_without parcels rise own heres all)

@@ -20,7 +20,7 @@ use Rattle.fabric_core.specs.Limits.{AreWithinLimits}
 use Rattle.fabric_core.specs.Rows.{numbers}
 use Rattle.fabric_core.specs.Tiling.{corner_lists}
 use Rattle.fabric_core.specs.Journal.{without_ids}
-use Rattle.fabric_core.specs.own.Checks.{HaveEqualNets}
+use Rattle.fabric_core.specs.own.Alike.{GoAlike}
 use Rattle.fabric_core.specs.own.Kept.{Kept, IsKept, MayBeKept}
 use Rattle.fabric_core.specs.own.Lists.{IsEntryAt}
 use Rattle.fabric_core.proofs.edits.Exchanged.{entry_of, id_of, without_all, rows_without, filter_twice, exchanged}
@@ -200,7 +200,7 @@ module _ {A : Type 0} where
       let rows = rows_after parcels news after ids is in
       exchanged parcels heres news after city refined index changed kept rise own all
       (is ∙ ap (λ ns. without_all ns parcels ++ news) (sym named)) rises
-      (subst (λ rows. HaveEqualNets (corner_lists rows) refined) (sym rows) may.nets)
+      (subst (λ rows. GoAlike (corner_lists rows) refined) (sym rows) may.alike)
       (subst AreWithinLimits (sym rows) may.within) same
       (λ entries h. subst (λ xs. Indexes changed (without (map entry_of heres) entries ++ xs)) comes
       (subst (λ xs. Indexes changed (without xs entries ++ come)) goes (indexed entries h)))

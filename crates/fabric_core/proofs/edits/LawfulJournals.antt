@@ -1,33 +1,17 @@
 -- A lawful journal on the opening of a fabric: the state that it leads to, and that an edit is refused there for one reason.
 use Rattle.std.proofs.Common.{◌≡◌, ℕ, ◌<◌, List, length}
-use Rattle.std.specs.List.Sorted.{IsStrictlyIncreasing}
-use Rattle.geo_exact.specs.declared.corner.Corner.{Corner}
 use Rattle.geo_exact.specs.Layers.{NumberedRing}
 use Rattle.ring_edits.specs.declared.edit.Edit.{Edit}
 use Rattle.fabric_core.specs.own.Balanced.{IsBalanced}
 use Rattle.fabric_core.specs.declared.journal.TheConstants.{JOURNAL_ENTRIES}
 use Rattle.fabric_core.specs.declared.refusal.Refusal.{Refusal}
-use Rattle.fabric_core.specs.Tiling.{corner_lists}
-use Rattle.fabric_core.specs.Rows.{numbers}
 use Rattle.fabric_core.specs.Faults.{AreSimple}
-use Rattle.fabric_core.specs.Journal.{State, JournalEntry, opening_state, replay, with_rows, without_ids}
+use Rattle.fabric_core.specs.Journal.{State, JournalEntry, replay, with_rows, without_ids}
 use Rattle.fabric_core.specs.EditResults.{IsChange, IsLawful, AreWithinLayerLimits}
 use Rattle.fabric_core.specs.Refusals.{IsRefusal, AreParcels, named_ids}
-use Rattle.fabric_core.specs.own.Checks.{HaveEqualNets}
-use Rattle.fabric_core.proofs.rows.RowLists.{ascending}
-use Rattle.fabric_core.proofs.edits.Replays.{rising_opening}
 use Rattle.fabric_core.proofs.edits.Retirements.{retired_once}
 use Rattle.fabric_core.proofs.edits.OneRefusal.{one_refusal, not_refused}
-use Rattle.fabric_core.proofs.edits.EntryNets.{balanced_replayed}
-
--- an opening of simple rings under rising ids, with the net edges of the city, is balanced
-pub balanced_opening : (rows : List NumberedRing) (refined : List Corner) → IsStrictlyIncreasing (numbers rows) → AreSimple rows
-    → HaveEqualNets (corner_lists rows) refined → IsBalanced (opening_state rows refined)
-balanced_opening rows refined up simple nets = record {
-  ids = rising_opening rows refined (ascending rows up);
-  simple = simple;
-  nets = nets;
-}
+use Rattle.fabric_core.proofs.edits.EntryMeasures.{balanced_replayed}
 
 module _ {A : Type 0} (opening : State) (journal : List (JournalEntry A)) (balanced : IsBalanced opening)
     (lawful : IsLawful opening journal) where

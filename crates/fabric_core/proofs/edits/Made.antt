@@ -9,20 +9,21 @@ use Rattle.std.proofs.lemmas.List.{length-map}
 use Rattle.ring_core.specs.declared.shape.Shape.{Shape}
 use Rattle.geo_exact.specs.Layers.{NumberedRing, numbered}
 use Rattle.ring_edits.specs.declared.edit.Edit.{Edit}
-use Rattle.ring_edits.specs.declared.edit.Edit.TheVariants.{Insert}
-use Rattle.ring_edits.specs.Edits.{put_between, with_corner}
+use Rattle.fabric_core.specs.declared.ring_change.RingChange.{RingChange}
+use Rattle.fabric_core.specs.declared.ring_change.RingChange.TheVariants.{PutIn, TakeOut}
 use Rattle.fabric_core.specs.Tiling.{corner_lists}
 use Rattle.fabric_core.specs.Rows.{numbers}
 use Rattle.fabric_core.specs.Journal.{State, JournalEntry, after_entry, next_after, refined_by, without_ids}
-use Rattle.fabric_core.specs.EditResults.{IsChange, IsEntryOf, IsInsertOf, rows_with_edge}
+use Rattle.fabric_core.specs.EditResults.{IsChange, IsEntryOf}
+use Rattle.fabric_core.specs.own.RingChanges.{IsRenewalOf, changed_city, changed_ring, changed_row, edit_of, renewed, rows_changed}
 use Rattle.fabric_core.specs.Refusals.{Retires}
 use Rattle.fabric_core.specs.own.Balanced.{IsBalanced}
 use Rattle.fabric_core.specs.own.Changes.{IsMade, rings_of_shapes, state_of}
-use Rattle.fabric_core.specs.own.Kept.{Kept, IsExchanged, MayBeKept, gone_by, put_in_row}
-use Rattle.fabric_core.proofs.edits.EntryNets.{balanced_after}
-use Rattle.fabric_core.proofs.edits.Replays.{BringsNew, new_ids, next_after_insert, rows_after_insert, rows_after_new}
-use Rattle.fabric_core.proofs.edits.Replays.{same_numbers, with_corner_in}
-use Rattle.fabric_core.proofs.edits.Retirements.{insert_retires_none, out_is_there, retires_out}
+use Rattle.fabric_core.specs.own.Kept.{Kept, IsExchanged, MayBeKept, gone_by}
+use Rattle.fabric_core.proofs.edits.EntryMeasures.{balanced_after}
+use Rattle.fabric_core.proofs.edits.Replays.{BringsNew, new_ids, next_after_renewal, renewed_ids, rows_after_new, rows_after_renewal}
+use Rattle.fabric_core.proofs.edits.Retirements.{renewal_retires_none, out_is_there, retires_out}
+use Rattle.fabric_core.proofs.edits.RingChanges.{renewal_of}
 use Rattle.fabric_core.proofs.rows.RowLists.{AreNumberedFrom, Decides-named, next_of_new}
 
 -- how many shapes there are of rows
@@ -62,13 +63,18 @@ test_fates true by n old none = (
     not_some e = subst (λ (fate : Option ℕ). MatchOption fate (Unit {0}) (λ m. ⊥)) e tt
 test_fates false by n old none = (λ e. inl e, λ h. ⊎_elim (λ e. e) (λ k. absurd (false≢true k.0)) h)
 
+-- the city's refined ring after the edit of a change
+refined_by_change : (A : Type 0) (change : RingChange) (ring : List Corner) → refined_by (edit_of {A = A} change) ring ≡ changed_city change ring
+refined_by_change A (PutIn from to at) ring = refl
+refined_by_change A (TakeOut at) ring = refl
+
 module _ {A : Type 0} (kept : Kept) (entry : JournalEntry A) (balanced : IsBalanced (state_of kept))
     (is : IsEntryOf (state_of kept) entry) where
   -- the rows behind an entry may be kept
   pub may_be_kept : MayBeKept (after_entry (state_of kept) entry).rows (refined_by entry.edit kept.refined)
   may_be_kept = record {
     within = is.within.corners;
-    nets = (balanced_after (state_of kept) entry balanced is).nets;
+    alike = (balanced_after (state_of kept) entry balanced is).alike;
   }
 
   -- where it brings rows under new ids, these come behind those that stay
@@ -122,42 +128,42 @@ module _ {A : Type 0} (kept : Kept) (entry : JournalEntry A) (balanced : IsBalan
               (h.fates id ∙ ap (λ ids. cond (list_any (nat_eq id) ids) (Some entry.number) (gone_by kept id)) (sym gone));
         }
 
-  -- a corner that is put in
-  module _ (from to at : Corner) (is_insert : entry.edit ≡ Insert from to at) where
-    pub inserts : IsInsertOf (state_of kept) from to at entry.out entry.rows
-    inserts = subst (λ (e : Edit A). IsChange (state_of kept) e entry.out entry.rows) is_insert is.is_change
+  -- a change of rings
+  module _ (change : RingChange) (makes : entry.edit ≡ edit_of change) where
+    pub renewal : IsRenewalOf (state_of kept) change entry.out entry.rows
+    renewal = renewal_of A (state_of kept) change entry.out entry.rows
+        (subst (λ (e : Edit A). IsChange (state_of kept) e entry.out entry.rows) makes is.is_change)
 
-    pub ids_put : entry.out ≡ numbers (rows_with_edge from to kept.rows)
-    ids_put = inserts.out_are ∙ ap numbers inserts.rows_are
-        ∙ same_numbers (with_corner_in from to at) (λ row. refl) (rows_with_edge from to kept.rows)
+    pub ids_changed : entry.out ≡ numbers (rows_changed change kept.rows)
+    ids_changed = renewed_ids (state_of kept) change entry.out entry.rows renewal
 
-    rings_put : (rows : List NumberedRing)
-        → corner_lists (map (with_corner_in from to at) rows) ≡ map (λ row. with_corner from to at row.corners) rows
-    rings_put [] = refl
-    rings_put (row ∷ rows) = ap (λ rings. with_corner from to at row.corners ∷ rings) (rings_put rows)
+    rings_changed : (rows : List NumberedRing)
+        → corner_lists (map (renewed change) rows) ≡ map (λ row. changed_ring change row.corners) rows
+    rings_changed [] = refl
+    rings_changed (row ∷ rows) = ap (λ rings. changed_ring change row.corners ∷ rings) (rings_changed rows)
 
-    pub shapes_put : corner_lists entry.rows ≡ map (λ row. with_corner from to at row.corners) (rows_with_edge from to kept.rows)
-    shapes_put = ap corner_lists inserts.rows_are ∙ rings_put (rows_with_edge from to kept.rows)
+    pub shapes_changed : corner_lists entry.rows ≡ map (λ row. changed_ring change row.corners) (rows_changed change kept.rows)
+    shapes_changed = ap corner_lists renewal.rows_are ∙ rings_changed (rows_changed change kept.rows)
 
-    rows_put : (after_entry (state_of kept) entry).rows ≡ map (put_in_row from to at) kept.rows
-    rows_put = rows_after_insert (state_of kept) from to at entry.out entry.rows balanced.ids inserts
+    rows_are_changed : (after_entry (state_of kept) entry).rows ≡ map (changed_row change) kept.rows
+    rows_are_changed = rows_after_renewal (state_of kept) change entry.out entry.rows balanced.ids renewal
 
-    refined_put : refined_by entry.edit kept.refined ≡ put_between from to at kept.refined
-    refined_put = ap (λ (e : Edit A). refined_by e kept.refined) is_insert
+    refined_changed : refined_by entry.edit kept.refined ≡ changed_city change kept.refined
+    refined_changed = ap (λ (e : Edit A). refined_by e kept.refined) makes ∙ refined_by_change A change kept.refined
 
-    pub may_be_put : MayBeKept (map (put_in_row from to at) kept.rows) (put_between from to at kept.refined)
-    may_be_put = subst (λ rows. MayBeKept rows (put_between from to at kept.refined)) rows_put
-        (subst (λ ring. MayBeKept (after_entry (state_of kept) entry).rows ring) refined_put may_be_kept)
+    pub may_be_changed : MayBeKept (map (changed_row change) kept.rows) (changed_city change kept.refined)
+    may_be_changed = subst (λ rows. MayBeKept rows (changed_city change kept.refined)) rows_are_changed
+        (subst (λ ring. MayBeKept (after_entry (state_of kept) entry).rows ring) refined_changed may_be_kept)
 
-    pub made_put : (after : Kept)
-        → after ≡ record kept { rows = map (put_in_row from to at) kept.rows; refined = put_between from to at kept.refined }
+    pub made_changed : (after : Kept)
+        → after ≡ record kept { rows = map (changed_row change) kept.rows; refined = changed_city change kept.refined }
         → IsMade kept after entry
-    made_put after h = subst (λ (t : Kept). IsMade kept t entry) (sym h) (record {
-      state = same_state _ (after_entry (state_of kept) entry) (sym rows_put) (sym refined_put)
-          (sym (next_after_insert (state_of kept) from to at entry.out entry.rows balanced.ids inserts));
+    made_changed after h = subst (λ (t : Kept). IsMade kept t entry) (sym h) (record {
+      state = same_state _ (after_entry (state_of kept) entry) (sym rows_are_changed) (sym refined_changed)
+          (sym (next_after_renewal (state_of kept) change entry.out entry.rows balanced.ids renewal));
       city = refl;
       gone = λ id by. (
         λ e. inl e,
-        λ k. ⊎_elim (λ e. e) (λ r. absurd (insert_retires_none (state_of kept) entry from to at inserts id r.0)) k,
+        λ k. ⊎_elim (λ e. e) (λ r. absurd (renewal_retires_none (state_of kept) entry change renewal id r.0)) k,
       );
     })

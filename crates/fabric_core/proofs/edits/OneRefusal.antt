@@ -2,7 +2,7 @@
 use Rattle.std.proofs.Common.{◌≡◌, ◌⊎◌, inl, inr, ⊎_elim, refl, sym, ◌∙◌, ap, subst, arith, ℕ, ◌+◌, ◌<◌, List}
 use Rattle.std.proofs.Common.{[], ◌∷◌, ◌++◌, length}
 use Rattle.std.proofs.Common.{take, drop}
-use Rattle.std.specs.List.{Contains}
+use Rattle.std.specs.List.{AllByRecursion, Contains}
 use Rattle.std.proofs.lemmas.List.{take-append-drop}
 use Rattle.std.proofs.lemmas.List.Elements.{Contains-append_left, Contains-append_right, Contains-append_cases}
 use Rattle.geo_exact.specs.declared.corner.Corner.{Corner}
@@ -13,23 +13,23 @@ use Rattle.ring_core.specs.Faults.{IsRingFault}
 use Rattle.ring_core.specs.declared.ring.RingFault.{RingFault}
 use Rattle.edge_chains.proofs.nodings.NodedEdges.{Contains-here, Contains-there}
 use Rattle.ring_edits.specs.declared.edit.Edit.{Edit}
-use Rattle.ring_edits.specs.declared.edit.Edit.TheVariants.{Split, Merge, Move, Insert}
+use Rattle.ring_edits.specs.declared.edit.Edit.TheVariants.{Split, Merge, Move, Insert, Straighten}
 use Rattle.ring_edits.specs.declared.fault.EditFault.TheVariants.{NotNeighbours as NoBorder, SharedTwice as TwoBorders}
-use Rattle.ring_edits.specs.Edits.{IsPath, IsPathAcross, IsSplit, IsMerge, IsMove, ShareOneRun, AreNeighbours, IsBadBorder}
+use Rattle.ring_edits.specs.Edits.{IsPath, IsPathAcross, IsSplit, IsMerge, IsMove, ShareOneRun, AreNeighbours, IsBadBorder, BendsAt}
 use Rattle.ring_edits.proofs.Apart.{has_apart_corners}
 use Rattle.ring_edits.proofs.OneResult.{one_split, one_merge, one_move, same_shared}
 use Rattle.fabric_core.specs.own.Balanced.{Ascend}
 use Rattle.fabric_core.specs.declared.journal.TheConstants.{JOURNAL_ENTRIES}
 use Rattle.fabric_core.specs.declared.refusal.Refusal.{Refusal}
 use Rattle.fabric_core.specs.declared.refusal.Refusal.TheVariants.{Unknown, Retired, BadPath, NotNeighbours, SharedTwice, Ring}
-use Rattle.fabric_core.specs.declared.refusal.Refusal.TheVariants.{NoSuchEdge, NotOnEdge}
+use Rattle.fabric_core.specs.declared.refusal.Refusal.TheVariants.{NoSuchEdge, NotOnEdge, NoSuchCorner, NotFlat}
 use Rattle.fabric_core.specs.declared.refusal.Refusal.TheVariants.{JournalFull, TooMany, NoMemory}
 use Rattle.fabric_core.specs.Rows.{numbers}
 use Rattle.fabric_core.specs.Faults.{AreSimple}
 use Rattle.fabric_core.specs.Journal.{State, JournalEntry, with_rows, without_ids}
-use Rattle.fabric_core.specs.EditResults.{IsChange, IsSplitOf, IsMergeOf, IsMoveOf, IsInsertOf, AreWithinLayerLimits}
+use Rattle.fabric_core.specs.EditResults.{IsChange, IsSplitOf, IsMergeOf, IsMoveOf, IsInsertOf, IsStraightenOf, AreWithinLayerLimits}
 use Rattle.fabric_core.specs.Refusals.{IsRetiredBy, named_ids, AreParcels, IsFirstAbsent, HaveBorderFault, IsBadMovePath, IsOwnRefusal}
-use Rattle.fabric_core.specs.Refusals.{IsFirstBadRing, IsChangeRefusal, IsIdRefusal, IsRefusal}
+use Rattle.fabric_core.specs.Refusals.{IsBent, IsFirstBadRing, IsFirstBent, IsChangeRefusal, IsIdRefusal, IsRefusal}
 use Rattle.fabric_core.proofs.rows.RowLists.{one_ring}
 use Rattle.fabric_core.proofs.loads.OneFault.{one_ring_fault, simple_has_no_fault}
 use Rattle.fabric_core.proofs.loads.OneLoadFault.{head_of}
@@ -57,6 +57,41 @@ across ring path left right h = record {
       (Contains-there h.from (h.onward ++ h.to ∷ h.back) h.to
       (Contains-append_right h.onward (h.to ∷ h.back) h.to (Contains-here h.to h.back))));
 }
+
+-- ---- the first ring that bends
+bent_at : (at : Corner) (before : List NumberedRing) (row : NumberedRing) (behind : List NumberedRing)
+    → AllByRecursion (λ other. ¬ BendsAt at other.corners) (before ++ row ∷ behind) → BendsAt at row.corners → ⊥
+bent_at at [] row behind h b = h.0 b
+bent_at at (x ∷ before) row behind h b = bent_at at before row behind h.1 b
+
+bent_or_straight : (rows : List NumberedRing) (at : Corner) (id : ℕ) → IsFirstBent rows at id
+    → AllByRecursion (λ row. ¬ BendsAt at row.corners) rows → ⊥
+bent_or_straight rows at id h k =
+    bent_at at h.before h.row h.behind (subst (AllByRecursion (λ row. ¬ BendsAt at row.corners)) h.are_all k) h.bends
+
+first_bent : (at : Corner) (before before' behind behind' : List NumberedRing) (row row' : NumberedRing)
+    → AllByRecursion (λ other. ¬ BendsAt at other.corners) before → AllByRecursion (λ other. ¬ BendsAt at other.corners) before'
+    → BendsAt at row.corners → BendsAt at row'.corners
+    → before ++ row ∷ behind ≡ before' ++ row' ∷ behind' → row ≡ row'
+first_bent at [] [] behind behind' row row' h k b c e = head_of row row' behind behind' e
+first_bent at [] (x ∷ before') behind behind' row row' h k b c e =
+    let same : row ≡ x = head_of row x behind (before' ++ row' ∷ behind') e in
+    absurd (k.0 (subst (λ (r : NumberedRing). BendsAt at r.corners) same b))
+first_bent at (x ∷ before) [] behind behind' row row' h k b c e =
+    let same : x ≡ row' = head_of x row' (before ++ row ∷ behind) behind' e in
+    absurd (h.0 (subst (λ (r : NumberedRing). BendsAt at r.corners) (sym same) c))
+first_bent at (x ∷ before) (y ∷ before') behind behind' row row' h k b c e =
+    let rest : before ++ row ∷ behind ≡ before' ++ row' ∷ behind' = cc in
+    first_bent at before before' behind behind' row row' h.1 k.1 b c rest
+
+one_first_bent : (rows : List NumberedRing) (at : Corner) (id other : ℕ) → IsFirstBent rows at id → IsFirstBent rows at other
+    → id ≡ other
+one_first_bent rows at id other h k =
+    sym h.has_id
+    ∙ ap (λ (r : NumberedRing). r.number)
+    (first_bent at h.before k.before h.behind k.behind h.row k.row h.straight_before k.straight_before h.bends k.bends
+    (sym h.are_all ∙ k.are_all))
+    ∙ k.has_id
 
 -- ---- one change
 two_rows : (next : ℕ) (left right other_left other_right : List Corner) (rows others : List NumberedRing)
@@ -107,6 +142,11 @@ module _ (state : State) (simple : AreSimple state.rows) (up : Ascend state.rows
   one_insert from to at out other_out rows others h k =
       let e : rows ≡ others = h.rows_are ∙ sym k.rows_are in (h.out_are ∙ ap numbers e ∙ sym k.out_are, e)
 
+  one_straightening : (at : Corner) (out other_out : List ℕ) (rows others : List NumberedRing) → IsStraightenOf state at out rows
+      → IsStraightenOf state at other_out others → (out ≡ other_out) × (rows ≡ others)
+  one_straightening at out other_out rows others h k =
+      let e : rows ≡ others = h.rows_are ∙ sym k.rows_are in (h.out_are ∙ ap numbers e ∙ sym k.out_are, e)
+
   -- what an edit takes out and brings is determined
   pub one_change : {A : Type 0} (edit : Edit A) (out other_out : List ℕ) (rows others : List NumberedRing)
       → IsChange state edit out rows
@@ -115,6 +155,7 @@ module _ (state : State) (simple : AreSimple state.rows) (up : Ascend state.rows
   one_change (Merge a b) out other_out rows others h k = one_union a b out other_out rows others h k
   one_change (Move a b path) out other_out rows others h k = one_shift a b path out other_out rows others h k
   one_change (Insert from to at) out other_out rows others h k = one_insert from to at out other_out rows others h k
+  one_change (Straighten at) out other_out rows others h k = one_straightening at out other_out rows others h k
 
   -- ---- the refusals of each edit
   -- where there is no border for one reason, there is none for the other, and no result
@@ -135,6 +176,13 @@ module _ (state : State) (simple : AreSimple state.rows) (up : Ascend state.rows
 
   bad_move_run : (a b : ℕ) (path : List Corner) (k : IsBadMovePath state a b path) → ShareOneRun k.0 k.1
   bad_move_run a b path k = let bad = k.4 in (bad.0, bad.1, bad.2)
+
+  -- where a ring bends for one reason, it does not for the other
+  one_bent : (at : Corner) (r s : Refusal) → IsBent state at r → IsBent state at s → r ≡ s
+  one_bent at r s (inl h) (inl k) = h.1 ∙ ap NotFlat (one_first_bent state.rows at h.0 k.0 h.2 k.2) ∙ sym k.1
+  one_bent at r s (inl h) (inr k) = absurd (bent_or_straight state.rows at h.0 h.2 k.1.0)
+  one_bent at r s (inr h) (inl k) = absurd (bent_or_straight state.rows at k.0 k.2 h.1.0)
+  one_bent at r s (inr h) (inr k) = h.0 ∙ sym k.0
 
   pub one_own : {A : Type 0} (edit : Edit A) (r s : Refusal) → IsOwnRefusal state edit r → IsOwnRefusal state edit s → r ≡ s
   one_own (Split id path) r s h k = h.0 ∙ sym k.0
@@ -159,6 +207,10 @@ module _ (state : State) (simple : AreSimple state.rows) (up : Ascend state.rows
   one_own (Insert from to at) r s (inl h) (inr k) = absurd (k.1 h.1)
   one_own (Insert from to at) r s (inr h) (inl k) = absurd (h.1 k.1)
   one_own (Insert from to at) r s (inr h) (inr k) = h.0 ∙ sym k.0
+  one_own (Straighten at) r s (inl h) (inl k) = h.0 ∙ sym k.0
+  one_own (Straighten at) r s (inl h) (inr k) = absurd (k.0 h.1)
+  one_own (Straighten at) r s (inr h) (inl k) = absurd (h.0 k.1)
+  one_own (Straighten at) r s (inr h) (inr k) = one_bent at r s h.1 k.1
 
   -- and what an edit itself asks for is so where it has a result
   bad_move_or_shift : (a b : ℕ) (path : List Corner) (out : List ℕ) (rows : List NumberedRing) → IsMoveOf state a b path out rows
@@ -185,6 +237,9 @@ module _ (state : State) (simple : AreSimple state.rows) (up : Ascend state.rows
   own_or_change (Move a b path) r out rows (inr (inr h)) k = bad_move_or_shift a b path out rows k h.1
   own_or_change (Insert from to at) r out rows (inl h) k = ⊎_elim (λ e. k.two_ends e) (λ e. k.some e) h.1
   own_or_change (Insert from to at) r out rows (inr h) k = h.2 k.is_between
+  own_or_change (Straighten at) r out rows (inl h) k = k.some h.1
+  own_or_change (Straighten at) r out rows (inr h) k =
+      ⊎_elim (λ w. bent_or_straight state.rows at w.0 w.2 k.straight) (λ w. k.city_straight w.1.1) h.1
 
 -- ---- ids that are named
 first_is_one : (rows : List NumberedRing) (before before' behind behind' : List ℕ) (id id' : ℕ) → AreParcels rows before
@@ -262,6 +317,8 @@ for_ids state journal edit NoSuchEdge h = absurd h
 for_ids state journal edit NotOnEdge h = absurd h
 for_ids state journal edit JournalFull h = absurd h
 for_ids state journal edit TooMany h = absurd h
+for_ids state journal edit NoSuchCorner h = absurd h
+for_ids state journal edit (NotFlat id) h = absurd h
 for_ids state journal edit NoMemory h = absurd h
 
 abbrev IsForChange : State → List ℕ → List NumberedRing → Refusal → Type 0
@@ -283,6 +340,8 @@ for_change state out rows SharedTwice h = absurd h
 for_change state out rows NoSuchEdge h = absurd h
 for_change state out rows NotOnEdge h = absurd h
 for_change state out rows JournalFull h = absurd h
+for_change state out rows NoSuchCorner h = absurd h
+for_change state out rows (NotFlat id) h = absurd h
 for_change state out rows NoMemory h = absurd h
 
 one_for_change : (state : State) (out : List ℕ) (rows : List NumberedRing) (r s : Refusal) → IsForChange state out rows r

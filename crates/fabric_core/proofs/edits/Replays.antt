@@ -2,19 +2,22 @@
 use Rattle.std.proofs.Common.{Bool, ◌≡◌, ⊎_elim, refl, sym, ◌∙◌, ap, subst, arith, ℕ, zero, suc, ◌+◌, ◌<◌}
 use Rattle.std.proofs.Common.{◌≤◌, List, [], ◌∷◌}
 use Rattle.std.proofs.Common.{◌++◌, length, get_or, take, map}
-use Rattle.std.specs.List.{AllByRecursion, Contains, filter}
+use Rattle.std.specs.List.{AllByRecursion, Contains}
 use Rattle.std.proofs.lemmas.List.{take-append-drop}
 use Rattle.std.specs.Prelude.{drop}
 use Rattle.geo_exact.specs.declared.corner.Corner.{Corner}
-use Rattle.geo_exact.specs.Layers.{NumberedRing, numbered}
+use Rattle.geo_exact.specs.Layers.{NumberedRing}
 use Rattle.edge_chains.proofs.nodings.NodedEdges.{none_in_nil, Contains-cases}
 use Rattle.ring_edits.specs.declared.edit.Edit.{Edit}
-use Rattle.ring_edits.specs.declared.edit.Edit.TheVariants.{Split, Merge, Move, Insert}
-use Rattle.ring_edits.specs.Edits.{has_edge_between, with_corner}
+use Rattle.ring_edits.specs.declared.edit.Edit.TheVariants.{Split, Merge, Move, Insert, Straighten}
+use Rattle.fabric_core.specs.declared.ring_change.RingChange.{RingChange}
+use Rattle.fabric_core.specs.declared.ring_change.RingChange.TheVariants.{PutIn, TakeOut}
 use Rattle.fabric_core.specs.own.Balanced.{AreBelow, Ascend, HasRisingIds}
 use Rattle.fabric_core.specs.Rows.{numbers}
 use Rattle.fabric_core.specs.Journal.{State, JournalEntry, after_entry, opening_state, replay, next_after, with_rows, without_ids}
-use Rattle.fabric_core.specs.EditResults.{IsChange, IsEntryOf, IsInsertOf, AreLawfulFrom, IsLawful}
+use Rattle.fabric_core.specs.EditResults.{IsChange, IsEntryOf, AreLawfulFrom, IsLawful}
+use Rattle.fabric_core.specs.own.RingChanges.{IsRenewalOf, edit_of, is_changed, renewed, rows_changed}
+use Rattle.fabric_core.proofs.edits.RingChanges.{renewal_of}
 use Rattle.fabric_core.proofs.rows.RowLists.{all_changed, AllByRecursion-append, AllByRecursion-filter}
 use Rattle.fabric_core.proofs.rows.RowLists.{AreNumberedFrom, Ascend-filter, put_behind, ascend_behind, next_above}
 use Rattle.fabric_core.proofs.rows.RowLists.{all_below_next, changed, put_back, put_back_next, ascend_changed}
@@ -102,6 +105,7 @@ BringsNew (Split id path) = Unit {0}
 BringsNew (Merge a b) = Unit {0}
 BringsNew (Move a b path) = Unit {0}
 BringsNew (Insert from to at) = ⊥
+BringsNew (Straighten at) = ⊥
 
 module _ {A : Type 0} where
   -- they are numbered on from the next id
@@ -112,6 +116,7 @@ module _ {A : Type 0} where
   new_ids state (Merge a b) out rows new h = subst (AreNumberedFrom state.next) (sym h.rows_are) (refl, tt)
   new_ids state (Move a b path) out rows new h = subst (AreNumberedFrom state.next) (sym h.rows_are) (refl, (refl, tt))
   new_ids state (Insert from to at) out rows new h = absurd new
+  new_ids state (Straighten at) out rows new h = absurd new
 
   -- so the rows of the new state are those that stay and behind them the new ones
   pub rows_after_new : (state : State) (edit : Edit A) (out : List ℕ) (rows : List NumberedRing) → HasRisingIds state → BringsNew edit
@@ -121,19 +126,15 @@ module _ {A : Type 0} where
       (AllByRecursion-filter (λ row. row.number < state.next) _ state.rows ids.below)
       (new_ids state edit out rows new h)
 
--- a row with a corner put in, where it has the edge
-abbrev pub with_corner_in : (from to at : Corner) → NumberedRing → NumberedRing
-with_corner_in from to at row = numbered row.number (with_corner from to at row.corners)
+-- after a change of rings, the rows are the old ones with those changed that it changes
+abbrev changes : RingChange → NumberedRing → Bool
+changes change row = is_changed change row.corners
 
-abbrev pub has_edge : (from to : Corner) → NumberedRing → Bool
-has_edge from to row = has_edge_between from to row.corners
+abbrev pub rows_after : RingChange → List NumberedRing → List NumberedRing
+rows_after change rows = changed (changes change) (renewed change) (λ row. refl) rows
 
--- after a corner was put in, the rows are the old ones with it where they have the edge
-abbrev pub rows_with_corner : (from to at : Corner) → List NumberedRing → List NumberedRing
-rows_with_corner from to at rows = changed (has_edge from to) (with_corner_in from to at) (λ row. refl) rows
-
-pub numbers_with_corner : (from to at : Corner) (rows : List NumberedRing) → numbers (rows_with_corner from to at rows) ≡ numbers rows
-numbers_with_corner from to at rows = numbers_changed (has_edge from to) (with_corner_in from to at) (λ row. refl) rows
+pub numbers_after : (change : RingChange) (rows : List NumberedRing) → numbers (rows_after change rows) ≡ numbers rows
+numbers_after change rows = numbers_changed (changes change) (renewed change) (λ row. refl) rows
 
 pub same_numbers : (f : NumberedRing → NumberedRing) → ((row : NumberedRing) → (f row).number ≡ row.number)
     → (rows : List NumberedRing)
@@ -142,22 +143,27 @@ same_numbers f same [] = refl
 same_numbers f same (row ∷ rows) = ap (λ n. n ∷ numbers (map f rows)) (same row)
     ∙ ap (λ ns. row.number ∷ ns) (same_numbers f same rows)
 
-pub rows_after_insert : (state : State) (from to at : Corner) (out : List ℕ) (rows : List NumberedRing) → HasRisingIds state
-    → IsInsertOf state from to at out rows → with_rows rows (without_ids out state.rows) ≡ rows_with_corner from to at state.rows
-rows_after_insert state from to at out rows ids h =
+-- the ids that go are those of the rows that are changed
+pub renewed_ids : (state : State) (change : RingChange) (out : List ℕ) (rows : List NumberedRing)
+    → IsRenewalOf state change out rows → out ≡ numbers (rows_changed change state.rows)
+renewed_ids state change out rows h =
+    h.out_are ∙ ap numbers h.rows_are ∙ same_numbers (renewed change) (λ row. refl) (rows_changed change state.rows)
+
+pub rows_after_renewal : (state : State) (change : RingChange) (out : List ℕ) (rows : List NumberedRing) → HasRisingIds state
+    → IsRenewalOf state change out rows → with_rows rows (without_ids out state.rows) ≡ rows_after change state.rows
+rows_after_renewal state change out rows ids h =
     ap (λ xs. with_rows xs (without_ids out state.rows)) h.rows_are
-    ∙ ap (λ ns. with_rows news (without_ids ns state.rows))
-    (h.out_are ∙ ap numbers h.rows_are ∙ same_numbers (with_corner_in from to at) (λ row. refl) (filter (has_edge from to) state.rows))
-    ∙ put_back (has_edge from to) (with_corner_in from to at) (λ row. refl) state.rows ids.up
+    ∙ ap (λ ns. with_rows news (without_ids ns state.rows)) (renewed_ids state change out rows h)
+    ∙ put_back (changes change) (renewed change) (λ row. refl) state.rows ids.up
   where
     news : List NumberedRing
-    news = map (with_corner_in from to at) (filter (has_edge from to) state.rows)
+    news = map (renewed change) (rows_changed change state.rows)
 
-pub next_after_insert : (state : State) (from to at : Corner) (out : List ℕ) (rows : List NumberedRing) → HasRisingIds state
-    → IsInsertOf state from to at out rows → next_after rows state.next ≡ state.next
-next_after_insert state from to at out rows ids h =
+pub next_after_renewal : (state : State) (change : RingChange) (out : List ℕ) (rows : List NumberedRing) → HasRisingIds state
+    → IsRenewalOf state change out rows → next_after rows state.next ≡ state.next
+next_after_renewal state change out rows ids h =
     ap (λ xs. next_after xs state.next) h.rows_are
-    ∙ put_back_next (has_edge from to) (with_corner_in from to at) (λ row. refl) state.next state.rows ids.below
+    ∙ put_back_next (changes change) (renewed change) (λ row. refl) state.next state.rows ids.below
 
 -- ---- what holds of the rows and of the new ones holds of all behind it
 pub all_after : {A : Type 0} (P : NumberedRing → Type 0) (state : State) (edit : Edit A) (out : List ℕ) (rows : List NumberedRing)
@@ -170,13 +176,20 @@ all_after {A} P state edit out rows ids h olds news = by_edit edit h
     by_new edit new h = subst (AllByRecursion P) (sym (rows_after_new state edit out rows ids new h))
         (AllByRecursion-append P (without_ids out state.rows) rows (AllByRecursion-filter P _ state.rows olds) news)
 
+    by_change : (change : RingChange) → IsChange state (edit_of {A = A} change) out rows
+        → AllByRecursion P (with_rows rows (without_ids out state.rows))
+    by_change change h =
+        let renewal = renewal_of A state change out rows h in
+        subst (AllByRecursion P) (sym (rows_after_renewal state change out rows ids renewal))
+        (all_changed (changes change) (renewed change) (λ row. refl) P state.rows olds
+        (subst (AllByRecursion P) renewal.rows_are news))
+
     by_edit : (edit : Edit A) → IsChange state edit out rows → AllByRecursion P (with_rows rows (without_ids out state.rows))
     by_edit (Split id path) h = by_new (Split id path) tt h
     by_edit (Merge a b) h = by_new (Merge a b) tt h
     by_edit (Move a b path) h = by_new (Move a b path) tt h
-    by_edit (Insert from to at) h = subst (AllByRecursion P) (sym (rows_after_insert state from to at out rows ids h))
-        (all_changed (has_edge from to) (with_corner_in from to at) (λ row. refl) P state.rows olds
-        (subst (AllByRecursion P) h.rows_are news))
+    by_edit (Insert from to at) h = by_change (PutIn from to at) h
+    by_edit (Straighten at) h = by_change (TakeOut at) h
 
 -- ---- they stay so
 rising_after_new : {A : Type 0} (state : State) (entry : JournalEntry A) → HasRisingIds state → BringsNew entry.edit
@@ -192,15 +205,15 @@ rising_after_new state entry ids new h =
           (all_below_next (without_ids entry.out state.rows) entry.rows state.next stay);
     }
 
-rising_after_insert : {A : Type 0} (state : State) (entry : JournalEntry A) (from to at : Corner) → HasRisingIds state
-    → IsInsertOf state from to at entry.out entry.rows → HasRisingIds (after_entry state entry)
-rising_after_insert state entry from to at ids h =
-    let is = rows_after_insert state from to at entry.out entry.rows ids h in record {
-      up = subst Ascend (sym is) (ascend_changed (has_edge from to) (with_corner_in from to at) (λ row. refl) state.rows ids.up);
+rising_after_renewal : {A : Type 0} (state : State) (entry : JournalEntry A) (change : RingChange) → HasRisingIds state
+    → IsRenewalOf state change entry.out entry.rows → HasRisingIds (after_entry state entry)
+rising_after_renewal state entry change ids h =
+    let is = rows_after_renewal state change entry.out entry.rows ids h in record {
+      up = subst Ascend (sym is) (ascend_changed (changes change) (renewed change) (λ row. refl) state.rows ids.up);
       below = subst (λ n. AreBelow n (with_rows entry.rows (without_ids entry.out state.rows)))
-          (sym (next_after_insert state from to at entry.out entry.rows ids h))
+          (sym (next_after_renewal state change entry.out entry.rows ids h))
           (subst (AreBelow state.next) (sym is)
-          (below_changed (has_edge from to) (with_corner_in from to at) (λ row. refl) state.next state.rows ids.below));
+          (below_changed (changes change) (renewed change) (λ row. refl) state.next state.rows ids.below));
     }
 
 pub rising_after : {A : Type 0} (state : State) (entry : JournalEntry A) → HasRisingIds state
@@ -208,12 +221,16 @@ pub rising_after : {A : Type 0} (state : State) (entry : JournalEntry A) → Has
     → HasRisingIds (after_entry state entry)
 rising_after {A} state entry ids h = by_edit entry.edit refl
   where
+    by_change : (change : RingChange) → entry.edit ≡ edit_of change → HasRisingIds (after_entry state entry)
+    by_change change is = rising_after_renewal state entry change ids
+        (renewal_of A state change entry.out entry.rows (subst (λ (e : Edit A). IsChange state e entry.out entry.rows) is h))
+
     by_edit : (edit : Edit A) → entry.edit ≡ edit → HasRisingIds (after_entry state entry)
     by_edit (Split id path) is = rising_after_new state entry ids (subst BringsNew (sym is) tt) h
     by_edit (Merge a b) is = rising_after_new state entry ids (subst BringsNew (sym is) tt) h
     by_edit (Move a b path) is = rising_after_new state entry ids (subst BringsNew (sym is) tt) h
-    by_edit (Insert from to at) is =
-        rising_after_insert state entry from to at ids (subst (λ (e : Edit A). IsChange state e entry.out entry.rows) is h)
+    by_edit (Insert from to at) is = by_change (PutIn from to at) is
+    by_edit (Straighten at) is = by_change (TakeOut at) is
 
 pub rising_replayed : {A : Type 0} (state : State) (number : ℕ) (entries : List (JournalEntry A)) → HasRisingIds state
     → AreLawfulFrom state number entries → HasRisingIds (replay state entries)

@@ -8,15 +8,19 @@ use Rattle.geo_exact.specs.declared.corner.Corner.{Corner}
 use Rattle.geo_exact.specs.Layers.{NumberedRing, numbered}
 use Rattle.edge_chains.proofs.nodings.NodedEdges.{none_in_nil, Contains-cases}
 use Rattle.ring_edits.specs.declared.edit.Edit.{Edit}
-use Rattle.ring_edits.specs.declared.edit.Edit.TheVariants.{Split, Merge, Move, Insert}
+use Rattle.ring_edits.specs.declared.edit.Edit.TheVariants.{Split, Merge, Move, Insert, Straighten}
 use Rattle.fabric_core.specs.own.Balanced.{AreBelow, HasRisingIds}
 use Rattle.fabric_core.specs.Rows.{numbers}
 use Rattle.fabric_core.specs.Journal.{State, JournalEntry, after_entry, replay, without_ids}
-use Rattle.fabric_core.specs.EditResults.{IsChange, IsInsertOf, AreLawfulFrom}
+use Rattle.fabric_core.specs.declared.ring_change.RingChange.{RingChange}
+use Rattle.fabric_core.specs.declared.ring_change.RingChange.TheVariants.{PutIn, TakeOut}
+use Rattle.fabric_core.specs.EditResults.{IsChange, AreLawfulFrom}
+use Rattle.fabric_core.specs.own.RingChanges.{IsRenewalOf, edit_of}
+use Rattle.fabric_core.proofs.edits.RingChanges.{renewal_of}
 use Rattle.fabric_core.specs.Refusals.{Retires, IsRetiredBy}
 use Rattle.fabric_core.proofs.tilings.OneParcel.{of_each}
 use Rattle.fabric_core.proofs.rows.RowLists.{AreNumberedFrom, has_number, has_row, next_not_less, Contains-from_without}
-use Rattle.fabric_core.proofs.edits.Replays.{BringsNew, new_ids, rows_after_new, rows_after_insert, numbers_with_corner}
+use Rattle.fabric_core.proofs.edits.Replays.{BringsNew, new_ids, rows_after_new, rows_after_renewal, numbers_after}
 use Rattle.fabric_core.proofs.edits.Replays.{rising_after}
 
 -- ---- one entry more
@@ -85,6 +89,7 @@ module _ {A : Type 0} where
   out_is_there state (Merge a b) out rows new h id c = two_out state.rows a b h.ring_a h.ring_b out id h.has_a h.has_b h.out_are c
   out_is_there state (Move a b path) out rows new h id c = two_out state.rows a b h.ring_a h.ring_b out id h.has_a h.has_b h.out_are c
   out_is_there state (Insert from to at) out rows new h id c = absurd new
+  out_is_there state (Straighten at) out rows new h id c = absurd new
 
   -- so it retires them all
   pub retires_out : (state : State) (entry : JournalEntry A) → HasRisingIds state → BringsNew entry.edit
@@ -101,11 +106,11 @@ module _ {A : Type 0} where
     },
   )
 
-  -- and a corner that is put in retires none
-  pub insert_retires_none : (state : State) (entry : JournalEntry A) (from to at : Corner)
-      → IsInsertOf state from to at entry.out entry.rows
+  -- and a change of rings retires none
+  pub renewal_retires_none : (state : State) (entry : JournalEntry A) (change : RingChange)
+      → IsRenewalOf state change entry.out entry.rows
       → (id : ℕ) → ¬ Retires entry id
-  insert_retires_none state entry from to at h id r = r.is_not_back (subst (λ xs. Contains xs id) h.out_are r.is_out)
+  renewal_retires_none state entry change h id r = r.is_not_back (subst (λ xs. Contains xs id) h.out_are r.is_out)
 
 -- ---- an id that is retired was one's, and is no parcel's from then on
 pub record IsGone (state : State) (id : ℕ) : Type 0 where
@@ -128,12 +133,18 @@ module _ {A : Type 0} where
         (Contains-append_cases (without_ids entry.out state.rows) entry.rows (numbered id w.0) w.1);
   }
 
-  gone_after_insert : (state : State) (entry : JournalEntry A) (from to at : Corner) → HasRisingIds state
-      → IsInsertOf state from to at entry.out entry.rows → (id : ℕ) → IsGone state id → IsGone (after_entry state entry) id
-  gone_after_insert state entry from to at ids h id gone = record {
+  -- what makes a change of rings is a renewal
+  made_by : (state : State) (entry : JournalEntry A) → IsChange state entry.edit entry.out entry.rows → (change : RingChange)
+      → entry.edit ≡ edit_of change → IsRenewalOf state change entry.out entry.rows
+  made_by state entry h change is =
+      renewal_of A state change entry.out entry.rows (subst (λ (e : Edit A). IsChange state e entry.out entry.rows) is h)
+
+  gone_after_renewal : (state : State) (entry : JournalEntry A) (change : RingChange) → HasRisingIds state
+      → IsRenewalOf state change entry.out entry.rows → (id : ℕ) → IsGone state id → IsGone (after_entry state entry) id
+  gone_after_renewal state entry change ids h id gone = record {
     was_given = omega (arith, gone.was_given, next_not_less entry.rows state.next);
     is_not_here = λ c. gone.is_not_here (subst (λ ns. Contains ns id)
-        (ap numbers (rows_after_insert state from to at entry.out entry.rows ids h) ∙ numbers_with_corner from to at state.rows) c);
+        (ap numbers (rows_after_renewal state change entry.out entry.rows ids h) ∙ numbers_after change state.rows) c);
   }
 
   -- an id that is gone stays so
@@ -157,7 +168,8 @@ module _ {A : Type 0} where
       by_edit (Merge a b) is = by_new (subst BringsNew (sym is) tt)
       by_edit (Move a b path) is = by_new (subst BringsNew (sym is) tt)
       by_edit (Insert from to at) is =
-          gone_after_insert state entry from to at ids (subst (λ (e : Edit A). IsChange state e entry.out entry.rows) is h) id gone
+          gone_after_renewal state entry (PutIn from to at) ids (made_by state entry h (PutIn from to at) is) id gone
+      by_edit (Straighten at) is = gone_after_renewal state entry (TakeOut at) ids (made_by state entry h (TakeOut at) is) id gone
 
   -- an id that an entry retires was a parcel's, and is gone behind it
   pub was_here : (state : State) (entry : JournalEntry A) → IsChange state entry.edit entry.out entry.rows → (id : ℕ)
@@ -172,8 +184,9 @@ module _ {A : Type 0} where
       by_edit (Split a path) is = by_new (subst BringsNew (sym is) tt)
       by_edit (Merge a b) is = by_new (subst BringsNew (sym is) tt)
       by_edit (Move a b path) is = by_new (subst BringsNew (sym is) tt)
-      by_edit (Insert from to at) is = absurd (insert_retires_none state entry from to at
-          (subst (λ (e : Edit A). IsChange state e entry.out entry.rows) is h) id r)
+      by_edit (Insert from to at) is =
+          absurd (renewal_retires_none state entry (PutIn from to at) (made_by state entry h (PutIn from to at) is) id r)
+      by_edit (Straighten at) is = absurd (renewal_retires_none state entry (TakeOut at) (made_by state entry h (TakeOut at) is) id r)
 
   pub gone_once_retired : (state : State) (entry : JournalEntry A) → HasRisingIds state → IsChange state entry.edit entry.out entry.rows
       → (id : ℕ) → Retires entry id → IsGone (after_entry state entry) id
@@ -189,8 +202,9 @@ module _ {A : Type 0} where
       by_edit (Split a path) is = by_new (subst BringsNew (sym is) tt)
       by_edit (Merge a b) is = by_new (subst BringsNew (sym is) tt)
       by_edit (Move a b path) is = by_new (subst BringsNew (sym is) tt)
-      by_edit (Insert from to at) is = absurd (insert_retires_none state entry from to at
-          (subst (λ (e : Edit A). IsChange state e entry.out entry.rows) is h) id r)
+      by_edit (Insert from to at) is =
+          absurd (renewal_retires_none state entry (PutIn from to at) (made_by state entry h (PutIn from to at) is) id r)
+      by_edit (Straighten at) is = absurd (renewal_retires_none state entry (TakeOut at) (made_by state entry h (TakeOut at) is) id r)
 
   -- one that is gone is not retired again
   pub not_again : (state : State) (number : ℕ) (entries : List (JournalEntry A)) → HasRisingIds state

@@ -21,6 +21,7 @@ use Rattle.geo_exact.specs.Bounds.{HoldsCorner, IsLeastBox}
 use Rattle.cell_index.specs.Cells.{Grid, Indexes, HaveOwnKeys}
 use Rattle.fabric_core.specs.GridIndex.{IsIndexed}
 use Rattle.fabric_core.proofs.tilings.InTheCity.{rows_in_box}
+use Rattle.fabric_core.proofs.rows.Alikes.{alike_from_nets}
 use Rattle.fabric_core.proofs.rows.Lists.{numbers_of_rows, lists_of_rows}
 use Rattle.fabric_core.proofs.loads.RingChecks.{made_rows, simple_rows}
 use Rattle.fabric_core.proofs.tilings.Tilings.{tiles_on_ground, noded_ground}
@@ -40,7 +41,7 @@ pub kept_tiles : {A : Type 0} (parcels : List (ℕ × Parcel A)) (city refined :
     → IsKept parcels city refined index
     → IsTiling (rows_of_keyed parcels) city
 kept_tiles parcels city refined index h = tiles_on_ground (rows_of_keyed parcels) city refined
-    (made_rows parcels) h.wound_once h.ground h.nets
+    (made_rows parcels) h.wound_once h.ground h.alike
 
 -- the parcels' boxes are their rows'
 boxes_of_rows : {A : Type 0} (parcels : List (ℕ × Parcel A))
@@ -66,15 +67,16 @@ pub kept : {A : Type 0} (numbers : List ℕ) (rings : List (List Corner)) (parce
     → index.area ≡ area → Indexes index (entries_of parcels) → IsKept parcels city refined index
 kept number_list rings parcels city refined area index same h least e indexed =
     let all = loaded number_list rings parcels city refined same h in
-    let ground = noded_ground city h.is_city.corners refined h.is_city.is_noded in record {
+    let ground = noded_ground city h.is_city.corners refined h.is_city.is_noded in
+    let alike = alike_from_nets (corner_lists (rows_of_keyed parcels)) refined all.nets in record {
       ids_rise = subst IsStrictlyIncreasing (sym (ap numbers same ∙ numbers_of_rows number_list rings h.same_length)) h.rise;
       within = all.within;
-      nets = all.nets;
+      alike = alike;
       wound_once = h.is_city.wound_once;
       ground = ground;
       area = subst (λ box. IsLeastBox box city) (sym e) least;
       in_area = subst (λ box. AllByRecursion (λ row. All (HoldsCorner box) row.corners) (rows_of_keyed parcels)) (sym e)
-          (rows_in_box (rows_of_keyed parcels) city refined area all.simple ground all.nets least.holds);
+          (rows_in_box (rows_of_keyed parcels) city refined area all.simple ground alike least.holds);
       indexed = indexed;
     }
 

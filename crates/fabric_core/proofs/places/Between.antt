@@ -21,6 +21,7 @@ use Rattle.parcel_table.proofs.Boxes.{one_least_box}
 use Rattle.parcel_table.specs.Table.{rows_of_keyed, entries_of}
 use Rattle.fabric_core.specs.own.Lists.{IsIdOf}
 use Rattle.fabric_core.proofs.tilings.InTheCity.{rows_in_box}
+use Rattle.fabric_core.proofs.rows.Alikes.{alike_from_nets}
 use Rattle.fabric_core.proofs.tilings.Tilings.{noded_ground}
 use Rattle.fabric_core.proofs.tilings.OneParcel.{of_each}
 
@@ -67,7 +68,8 @@ pub meeting_in_city : (rows : List NumberedRing) (city corners refined : List Co
 meeting_in_city rows city corners refined area box low high row ring simple noded nets is_area is_row is_box between meet =
     meeting_is_candidate rows city area box low high row ring is_area
     (of_each (λ r. All (HoldsCorner area) r.corners) rows row
-    (rows_in_box rows city refined area simple (noded_ground city corners refined noded) nets is_area.holds) is_row)
+    (rows_in_box rows city refined area simple (noded_ground city corners refined noded)
+    (alike_from_nets (corner_lists rows) refined nets) is_area.holds) is_row)
     is_row is_box between meet
 
 -- ---- parcels, rows and entries

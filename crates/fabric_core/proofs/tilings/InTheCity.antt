@@ -20,11 +20,11 @@ use Rattle.ring_core.specs.Sums.{triangle_ring, winding_of_triangles, IsRoundAtM
 use Rattle.ring_core.proofs.clipping.Clipped.{make_up}
 use Rattle.ring_core.proofs.clipping.CornersInBoxes.{box_of_triangles}
 use Rattle.ring_core.proofs.clipping.WholeClipping.{to_triangles}
-use Rattle.edge_chains.proofs.nets.Balance.{winding_of_rings-balanced}
 use Rattle.fabric_core.specs.Tiling.{corner_lists, IsInNone}
 use Rattle.ring_edits.specs.Edits.{CoversAlike}
 use Rattle.fabric_core.specs.Faults.{AreSimple}
-use Rattle.fabric_core.specs.own.Checks.{HaveEqualNets}
+use Rattle.fabric_core.specs.own.Alike.{GoAlike}
+use Rattle.fabric_core.proofs.rows.Alikes.{winding_alike}
 use Rattle.fabric_core.proofs.tilings.Tilings.{IsMadeUp, rows_not_negative, in_none, city_alone}
 
 -- ---- triangles that all together go round nowhere
@@ -79,10 +79,10 @@ rows_made_up (row ∷ rows) simple =
     ((clipped.0, make_up row.corners clipped.0 clipped.1), rows_made_up rows simple.1)
 
 pub rows_in_box : (rows : List NumberedRing) (city refined : List Corner) (box : Bounds) → AreSimple rows → CoversAlike city refined
-    → HaveEqualNets (corner_lists rows) refined → All (HoldsCorner box) city
+    → GoAlike (corner_lists rows) refined → All (HoldsCorner box) city
     → AllByRecursion (λ row. All (HoldsCorner box) row.corners) rows
-rows_in_box rows city refined box simple ground nets all =
+rows_in_box rows city refined box simple ground alike all =
     rows_held box rows simple
     (λ p h. in_none p rows (rows_not_negative p rows (rows_made_up rows simple))
-    (winding_of_rings-balanced (corner_lists rows) (refined ∷ []) nets p ∙ city_alone p city refined ground
+    (winding_alike (corner_lists rows) refined alike p ∙ city_alone p city refined ground
     ∙ (beyond_box p box city all h).1))

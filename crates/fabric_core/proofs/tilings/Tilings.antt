@@ -18,13 +18,14 @@ use Rattle.ring_core.specs.Sums.{winding_of_triangles as triangles_winding, IsRo
 use Rattle.edge_chains.specs.Net.{all_edges, net_count, winding_of_rings, area2_of_rings}
 use Rattle.edge_chains.specs.Noding.{IsNoded, AreFullyNoded}
 use Rattle.edge_chains.specs.Jump.{net_difference, IsJump}
-use Rattle.edge_chains.proofs.nets.Balance.{winding_of_rings-balanced, area2_of_rings-balanced}
 use Rattle.geo_exact.proofs.rings.OnRings.{IsOnSome-left, IsOnSome-right}
 use Rattle.edge_chains.proofs.nodings.NodedRings.{winding_noded, area2_noded, boundary_noded}
 use Rattle.edge_chains.proofs.jumps.Jumps.{jump_beside}
 use Rattle.fabric_core.specs.Tiling.{corner_lists, IsOffEdges, IsInNone, IsInOne, IsTiling, IsWoundAtMostOnce}
 use Rattle.ring_edits.specs.Edits.{CoversAlike}
 use Rattle.fabric_core.specs.Rows.{IsUntiledBeside}
+use Rattle.fabric_core.specs.own.Alike.{GoAlike}
+use Rattle.fabric_core.proofs.rows.Alikes.{alike_from_nets, area2_alike, winding_alike}
 
 -- ---- rows of triangles
 triangles_not_negative : (p : Point) (ts : List Tri) → AllByRecursion (IsRoundAtMostOnce p) ts → pos 0 ≤ℤ triangles_winding p ts
@@ -122,17 +123,18 @@ city_alone p city refined h = plus_nothing (winding p refined) ∙ h.winding_num
 
 pub tiles_on_ground : (rows : List NumberedRing) (city refined : List Corner) → AllByRecursion IsMadeUp rows
     → ((p : Point) → IsWoundAtMostOnce p city) → CoversAlike city refined
-    → ((a b : Corner) → net_count (corner_lists rows) a b ≡ net_count (refined ∷ []) a b) → IsTiling rows city
-tiles_on_ground rows city refined made once ground nets =
+    → GoAlike (corner_lists rows) refined → IsTiling rows city
+tiles_on_ground rows city refined made once ground alike =
     tiles_where_sums_are_equal rows city made once
-    (λ p. winding_of_rings-balanced (corner_lists rows) (refined ∷ []) nets p ∙ city_alone p city refined ground)
-    (area2_of_rings-balanced (corner_lists rows) (refined ∷ []) nets ∙ plus_nothing (area2 refined) ∙ ground.signed_area)
+    (λ p. winding_alike (corner_lists rows) refined alike p ∙ city_alone p city refined ground)
+    (area2_alike (corner_lists rows) refined alike ∙ plus_nothing (area2 refined) ∙ ground.signed_area)
 
 pub tiles_where_nets_are_equal : (rows : List NumberedRing) (city corners refined : List Corner) → AllByRecursion IsMadeUp rows
     → ((p : Point) → IsWoundAtMostOnce p city) → IsNoded city corners refined
     → ((a b : Corner) → net_count (corner_lists rows) a b ≡ net_count (refined ∷ []) a b) → IsTiling rows city
 tiles_where_nets_are_equal rows city corners refined made once noded nets =
-    tiles_on_ground rows city refined made once (noded_ground city corners refined noded) nets
+    tiles_on_ground rows city refined made once (noded_ground city corners refined noded)
+    (alike_from_nets (corner_lists rows) refined nets)
 
 -- ---- no tiling
 none_sum : (p : Point) (rows : List NumberedRing) → IsInNone p rows → winding_of_rings p (corner_lists rows) ≡ pos 0

@@ -1,11 +1,11 @@
--- States whose ids rise, and whose rings have the city's net edges. Public contracts do not speak of it.
+-- States whose ids rise, and whose rings go alike with the city's. Public contracts do not speak of it.
 use Rattle.std.specs.Prelude.{⊤, ℕ, ◌<◌, List, [], ◌∷◌}
 use Rattle.std.specs.List.{AllByRecursion}
 use Rattle.geo_exact.specs.Layers.{NumberedRing}
 use Rattle.fabric_core.specs.Tiling.{corner_lists}
 use Rattle.fabric_core.specs.Faults.{AreSimple}
 use Rattle.fabric_core.specs.Journal.{State}
-use Rattle.fabric_core.specs.own.Checks.{HaveEqualNets}
+use Rattle.fabric_core.specs.own.Alike.{GoAlike}
 
 -- rows that ascend by id: each is below all later ones
 abbrev pub Ascend : List NumberedRing → Type 0
@@ -21,8 +21,8 @@ pub record HasRisingIds (state : State) : Type 0 where
   pub up : Ascend state.rows
   pub below : AreBelow state.next state.rows
 
--- a state of simple rings whose net edges are the city's
+-- a state of simple rings that go alike with the city's refined ring
 pub record IsBalanced (state : State) : Type 0 where
   pub ids : HasRisingIds state
   pub simple : AreSimple state.rows
-  pub nets : HaveEqualNets (corner_lists state.rows) state.refined
+  pub alike : GoAlike (corner_lists state.rows) state.refined

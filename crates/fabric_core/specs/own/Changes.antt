@@ -1,5 +1,5 @@
 -- What the single steps of an edit answer. Public contracts do not speak of it.
-use Rattle.std.specs.Prelude.{◌≡◌, ◌⊎◌, ◌↔◌, ℕ, ◌+◌, ◌≤◌, List, map, length, Some, MatchOption}
+use Rattle.std.specs.Prelude.{◌≡◌, ◌≢◌, ◌⊎◌, ◌↔◌, ℕ, ◌+◌, ◌≤◌, List, [], map, length, Some, MatchOption}
 use Rattle.std.specs.List.{AllByRecursion, Contains}
 use Rattle.geo_exact.specs.declared.corner.Corner.{Corner}
 use Rattle.geo_exact.specs.declared.limits.TheConstants.{LAYER_CORNERS, LAYER_RECORDS, RING_CORNERS}
@@ -12,14 +12,14 @@ use Rattle.ring_edits.specs.declared.fault.EditFault.TheVariants.{BadPath as NoP
 use Rattle.ring_edits.specs.declared.fault.EditFault.TheVariants.{SharedTwice as TwoBorders, NoMemory as NoRoom}
 use Rattle.fabric_core.specs.declared.refusal.Refusal.{Refusal}
 use Rattle.fabric_core.specs.declared.refusal.Refusal.TheVariants.{Unknown, Retired, BadPath, NotNeighbours}
-use Rattle.fabric_core.specs.declared.refusal.Refusal.TheVariants.{SharedTwice, NoSuchEdge, NotOnEdge, Ring, NoMemory}
+use Rattle.fabric_core.specs.declared.refusal.Refusal.TheVariants.{SharedTwice, NoSuchEdge, NotOnEdge, NoSuchCorner, Ring, NoMemory}
 use Rattle.fabric_core.specs.Rows.{numbers}
 use Rattle.ring_edits.specs.declared.edit.Edit.{Edit}
 use Rattle.ring_edits.specs.declared.edit.Edit.TheVariants.{Split, Move}
-use Rattle.fabric_core.specs.EditResults.{IsChange}
+use Rattle.fabric_core.specs.EditResults.{IsChange, rows_at_corner}
 use Rattle.fabric_core.specs.Journal.{State, JournalEntry, after_entry}
 use Rattle.fabric_core.specs.Refusals.{AreParcels, IsFirstAbsent, IsFirstBadRing, IsOwnRefusal, IsChangeRefusal}
-use Rattle.fabric_core.specs.Refusals.{Retires, named_ids, HaveBorderFault, HasNoEdge, IsBadMovePath}
+use Rattle.fabric_core.specs.Refusals.{Retires, named_ids, HaveBorderFault, HasNoEdge, IsBadMovePath, IsBent}
 use Rattle.fabric_core.specs.own.Kept.{Kept, gone_by}
 
 -- the state of what is kept
@@ -60,6 +60,12 @@ abbrev pub IsInsertRefusal : State → Corner → Corner → Corner → Refusal 
 IsInsertRefusal state from to at refusal =
     ((refusal ≡ NoSuchEdge) × HasNoEdge state from to)
     ⊎ ((refusal ≡ NotOnEdge) × (¬ HasNoEdge state from to) × (¬ IsStrictlyInside at from to))
+
+-- the refusal for a corner that is taken out of no ring
+abbrev pub IsStraightenRefusal : State → Corner → Refusal → Type 0
+IsStraightenRefusal state at refusal =
+    ((refusal ≡ NoSuchCorner) × (rows_at_corner at state.rows ≡ []))
+    ⊎ ((rows_at_corner at state.rows ≢ []) × IsBent state at refusal)
 
 -- the refusal of an edit that makes no rings
 abbrev pub refusal_of : EditFault → Refusal

@@ -1,23 +1,21 @@
 -- What the parcels that tile a city keep, with the index of their boxes. Public contracts do not speak of it.
-use Rattle.std.specs.Prelude.{◌≡◌, ℕ, ◌+◌, ◌^◌, ◌≤◌, nat_eq, if◌then◌else◌, List, ◌++◌, length, map, Option}
+use Rattle.std.specs.Prelude.{◌≡◌, ℕ, ◌+◌, ◌^◌, ◌≤◌, nat_eq, if◌then◌else◌, List, ◌++◌, length, Option}
 use Rattle.std.specs.Prelude.{Some, None, slice_index_or}
 use Rattle.std.specs.List.{All, AllByRecursion, list_any}
 use Rattle.std.specs.List.Sorted.{IsStrictlyIncreasing}
 use Rattle.geo_exact.specs.declared.corner.Corner.{Corner}
 use Rattle.geo_exact.specs.Point.{Point}
 use Rattle.geo_exact.specs.Bounds.{HoldsCorner, IsLeastBox}
-use Rattle.geo_exact.specs.Layers.{NumberedRing, numbered}
-use Rattle.ring_core.specs.declared.shape.Shape.{Shape}
+use Rattle.geo_exact.specs.Layers.{NumberedRing}
 use Rattle.cell_index.specs.Cells.{Grid, Indexes}
 use Rattle.parcel_table.specs.declared.parcels.Parcel.{Parcel}
 use Rattle.parcel_table.specs.Table.{rows_of_keyed, entries_of}
 use Rattle.fabric_core.specs.Tiling.{corner_lists, IsWoundAtMostOnce}
-use Rattle.ring_edits.specs.Edits.{CoversAlike, has_edge_between, with_corner}
+use Rattle.ring_edits.specs.Edits.{CoversAlike}
 use Rattle.fabric_core.specs.Rows.{numbers, Tiles}
 use Rattle.fabric_core.specs.Limits.{AreWithinLimits}
 use Rattle.fabric_core.specs.Journal.{without_ids, next_after}
-use Rattle.fabric_core.specs.EditResults.{rows_with_edge}
-use Rattle.fabric_core.specs.own.Checks.{HaveEqualNets}
+use Rattle.fabric_core.specs.own.Alike.{GoAlike}
 
 -- what they show: their rows by ascending id, the city's ring as it was read, that ring refined, the grid index, the
 -- next id, and for each id below it the number by which its parcel went, where one did
@@ -54,29 +52,20 @@ pub record IsExchanged (old new : Kept) (gone : List ℕ) (by : ℕ) (news : Lis
   pub next : new.next ≡ old.next + length news
   pub fates : (id : ℕ) → gone_by new id ≡ (if list_any (nat_eq id) gone then Some by else gone_by old id)
 
--- rows that may be kept: within the limits, with the net edges of the refined city
+-- rows that may be kept: within the limits, and alike with the refined city
 pub record MayBeKept (rows : List NumberedRing) (refined : List Corner) : Type 0 where
   pub within : AreWithinLimits rows
-  pub nets : HaveEqualNets (corner_lists rows) refined
+  pub alike : GoAlike (corner_lists rows) refined
 
--- what is so at each moment: the rows rise by id, are within the limits, and have the net edges of the refined city,
--- which has the city's ground; the city goes round no place twice; and the index is that of the parcels' boxes over
+-- what is so at each moment: the rows rise by id, are within the limits, and go alike with the refined city, which has
+-- the city's ground; the city goes round no place twice; and the index is that of the parcels' boxes over
 -- the city's least box, in which all rows lie
 pub record IsKept {A : Type 0} (parcels : List (ℕ × Parcel A)) (city refined : List Corner) (index : Grid) : Type 0 where
   pub ids_rise : IsStrictlyIncreasing (numbers (rows_of_keyed parcels))
   pub within : AreWithinLimits (rows_of_keyed parcels)
-  pub nets : HaveEqualNets (corner_lists (rows_of_keyed parcels)) refined
+  pub alike : GoAlike (corner_lists (rows_of_keyed parcels)) refined
   pub wound_once : (p : Point) → IsWoundAtMostOnce p city
   pub ground : CoversAlike city refined
   pub area : IsLeastBox index.area city
   pub in_area : AllByRecursion (λ row. All (HoldsCorner index.area) row.corners) (rows_of_keyed parcels)
   pub indexed : Indexes index (entries_of parcels)
-
--- a row after a corner is put into its ring's edge between two others, where it has that edge
-abbrev pub put_in_row : (from to at : Corner) → NumberedRing → NumberedRing
-put_in_row from to at row = if has_edge_between from to row.corners then numbered row.number (with_corner from to at row.corners) else row
-
--- shapes of the rings that have the edge, with the corner in it
-abbrev pub AreShapesWith : {A : Type 0} → (from to at : Corner) → List NumberedRing → List (Shape A) → Type 0
-AreShapesWith from to at rows shapes =
-    map (λ shape. shape.ring.corners) shapes ≡ map (λ row. with_corner from to at row.corners) (rows_with_edge from to rows)

@@ -28,3 +28,10 @@ returns-in-Insert-clause-err g c =
     subst (λ edit. IfErr c.insert_change.result (λ refusal. IsStopped kept (named_ids edit)
     (IsOwnRefusal (state_of kept) edit refusal) refusal))
     (sym c.in-Insert.is) c.insert_change.ensures.err
+
+pub returns-in-Straighten-clause-err : goal.returns-in-Straighten-clause-err
+returns-in-Straighten-clause-err g c =
+    let kept = c.args.tiled.now in
+    subst (λ edit. IfErr c.straighten_change.result (λ refusal. IsStopped kept (named_ids edit)
+    (IsOwnRefusal (state_of kept) edit refusal) refusal))
+    (sym c.in-Straighten.is) c.straighten_change.ensures.err

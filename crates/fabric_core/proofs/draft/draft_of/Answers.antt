@@ -111,3 +111,14 @@ pub returns-clause-here : goal.returns-clause-here
 returns-clause-here g c =
     all_here (state_of c.args.tiled.now) c.tiles.ensures.balanced c.args.edit.now c.in_ok-change.change.out.items
     (rows_of_entry c.in_ok-change.change.rows.items) c.in_ok-change.ensures.change
+
+pub returns-in_err-change-clause-err : goal.returns-in_err-change-clause-err
+returns-in_err-change-clause-err g c =
+    let r = c.in_err-change.field-0.0 in
+    passed_if c.from_residual.result r (λ refusal.
+    IsDraftRefusal c.args.tiled.now c.args.edit.now refusal ⊎ (refusal ≡ NoMemory))
+    c.from_residual.ensures.1
+    (⊎_elim
+    (λ none. inr none)
+    (λ stopped. inl (⊎_elim (λ told. inl told) (λ own. inr (own.0, inl own.1)) stopped))
+    c.in_err-change.ensures.err)

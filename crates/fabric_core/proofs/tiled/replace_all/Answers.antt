@@ -2,7 +2,7 @@ use Rattle.std.proofs.Common.{◌≡◌, sym, ◌∙◌, ap, subst, arith, ◌�
 use Rattle.std.specs.List.{AllByRecursion}
 use Rattle.parcel_table.specs.Table.{Table, HasId, with_shape}
 use Rattle.fabric_core.specs.own.Lists.{replaced}
-use Rattle.fabric_core.proofs.edits.PutIn.{ids_stay}
+use Rattle.fabric_core.proofs.edits.ChangedParcels.{ids_stay}
 use Rattle.fabric_core.proofs.tiled.replace_all.Goals as goal
 
 pub loop-shape-preserved : goal.loop-shape-preserved

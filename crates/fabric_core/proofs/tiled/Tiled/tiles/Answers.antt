@@ -47,7 +47,7 @@ returns-clause-balanced g c =
         below = rows_below c.self.inside.parcels.next parcels (λ id here. c.stand_apart.ensures.below id here);
       };
       simple = simple_keyed parcels;
-      nets = c.self.invariant.nets;
+      alike = c.self.invariant.alike;
     })
 
 pub returns-clause-here : goal.returns-clause-here

@@ -1,6 +1,0 @@
-use Rattle.std.proofs.Common.{◌≡◌, subst}
-use Rattle.fabric_core.specs.Journal.{Book}
-use Rattle.fabric_core.proofs.sheet.Sheet.refined.Goals as goal
-
-pub returns : goal.returns
-returns g c = subst (λ (t : Book _). c.refined.result.now ≡ t.now.refined) c.self.view_is c.refined.ensures
