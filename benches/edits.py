@@ -5,9 +5,9 @@
 
 PROGRAM is programs/bench_edits, built by build.sh unless it is given. It loads a city, opens it, copies it twice (the first copy lies in
 memory that comes fresh from the system, and so does what the load makes), and makes COUNT edits that are accepted, drawn at random with a fixed
-seed: splits, merges, moves and inserts of all parcels, so chosen that rings stay as long as they are. Of N processes the least times are
-printed: milliseconds of the load, the opening and the copies, with their part of the load, and the mean microseconds of each kind of edit, the
-refused among them. Then as many edits as --long says are made in one journal on city M, and the means of each tenth are printed.
+seed: splits, merges, moves, inserts and straightenings of all parcels, so chosen that rings stay as long as they are. Of N processes the least
+times are printed: milliseconds of the load, the opening and the copies, with their part of the load, and the mean microseconds of each kind of
+edit, the refused among them. Then as many edits as --long says are made in one journal on city M, and the means of each tenth are printed.
 """
 import argparse, os, shutil, subprocess, sys, tempfile
 
@@ -15,7 +15,7 @@ HERE = os.path.dirname(os.path.abspath(__file__))
 sys.dont_write_bytecode = True
 import nodes
 
-KINDS = ("split", "merge", "move", "insert", "refused")
+KINDS = ("split", "merge", "move", "insert", "straighten", "refused")
 
 
 def answer(program, folder, count):

@@ -8,8 +8,8 @@ The first word is a file of examples/ or says what is made:
     nulls N                  a main file of N null shapes
     index PLACE,LENGTH ..    an index file with these records, in words of 16 bits
     text LINE / LINE ..      these lines, each with a line feed
-    moves N X,Y X,Y LINE     N lines of edits, each of which moves the border of the last two parcels, at first 1 and 2, to where it is, from
-                             the one point straight to the other; and behind them this line
+    moves N X,Y X,Y LINE ..  N lines of edits, each of which moves the border of the last two parcels, at first 1 and 2, to where it is, from
+                             the one point straight to the other; and behind them these lines, with ` / ` between them
     folder                   no file, but a folder
 Then follow changes, from left to right:
     cut N                    only the first N bytes
@@ -69,11 +69,16 @@ def points_round(x, y, step):
     return [(float(a), float(b)) for a, b in west + north + east + south + west[:1]]
 
 
+def text(words):
+    """Lines, each with a line feed."""
+    return b"".join(line.strip().encode() + b"\n" for line in " ".join(words).split("/"))
+
+
 def moves(count, start, end, last):
-    """Edits that each move a border to where it is; the last line is another."""
+    """Edits that each move a border to where it is; the last lines are others."""
     path = " ".join([start, end]).replace(",", " ")
     lines = [f"move {2 * at + 1} {2 * at + 2} {path}\n" for at in range(count)]
-    return "".join([*lines, last, "\n"]).encode()
+    return "".join(lines).encode() + text(last)
 
 
 def begun(kind, words):
@@ -87,14 +92,14 @@ def begun(kind, words):
         columns, rows, step = (int(word) for word in words)
         return main_file([polygon(points_round(100 * i, 100 * j, step)) for j in range(rows) for i in range(columns)])
     if kind == "moves":
-        return moves(int(words[0]), words[1], words[2], " ".join(words[3:]))
+        return moves(int(words[0]), words[1], words[2], words[3:])
     if kind == "nulls":
         return main_file([struct.pack("<i", 0)] * int(words[0]))
     if kind == "index":
         entries = b"".join(struct.pack(">2i", *(int(part) for part in word.split(","))) for word in words)
         return header(entries) + entries
     if kind == "text":
-        return b"".join(line.strip().encode() + b"\n" for line in " ".join(words).split("/"))
+        return text(words)
     with open(os.path.join(EXAMPLES, kind), "rb") as file:
         return file.read()
 

@@ -193,6 +193,13 @@ def test_edits_carry_the_numbers_of_those_they_came_from(whole):
     assert list(edited.came_from) == ["1/1,1/2"] and len(frame) == 201
 
 
+def test_a_corner_that_is_taken_out_is_given_in_millimetres(whole):
+    from gandovel.edits import lines_of
+
+    scale = int(whole.scale)
+    assert lines_of(whole, [gv.Straighten((30.0, 0.5))]) == [f"straighten {30 * scale} {scale // 2}"]
+
+
 def test_back_from_an_export(whole, tmp_path):
     whole.save(tmp_path / "work")
     (tmp_path / "edits.txt").write_text("merge 1 2\n")

@@ -5,12 +5,12 @@ from the proved program `parcel_tool`; what is measured in floating point is sai
 """
 from .api import apply, area, check, locate, overlay
 from .back import back
-from .edits import Insert, Merge, Move, Split
+from .edits import Insert, Merge, Move, Split, Straighten
 from .errors import Refused
 from .prepare import prepare
 from .prepared import Prepared, load
 from .report import Report, report
 
-__all__ = ["Insert", "Merge", "Move", "Prepared", "Refused", "Report", "Split", "apply", "area", "back", "check",
-           "load", "locate", "overlay", "prepare", "report"]
+__all__ = ["Insert", "Merge", "Move", "Prepared", "Refused", "Report", "Split", "Straighten", "apply", "area", "back",
+           "check", "load", "locate", "overlay", "prepare", "report"]
 __version__ = "1.0.0"

@@ -128,7 +128,7 @@ def _located(prepared: Prepared, folder: Path, island: Island, whole: np.ndarray
 
 
 def apply(parcels: Register, edits: Sequence[Any], island: int = 1, **options: Any) -> gpd.GeoDataFrame:
-    """The parcels of an island after edits (`Split`, `Merge`, `Move`, `Insert`, or lines of a clerk's file in mm).
+    """The parcels of an island after edits (`Split`, `Merge`, `Move`, `Insert`, `Straighten`, or lines of a clerk's file in mm).
 
     As `back` returns them: with their attributes, `came_from` and `edited`. `.attrs["answers"]` has the program's
     answer to each edit, in order: `ok` and the entry's number, or `refused` and why; a refused edit changes nothing.

@@ -47,7 +47,14 @@ class Insert:
     new: Tuple[float, float]
 
 
-Edit = Union[Split, Merge, Move, Insert]
+@dataclass(frozen=True)
+class Straighten:
+    """The corner is taken out of every parcel that has it, where it bends none."""
+
+    corner: Tuple[float, float]
+
+
+Edit = Union[Split, Merge, Move, Insert, Straighten]
 
 
 def lines_of(prepared: Prepared, edits: Sequence[Any], at: int = 0) -> List[str]:
@@ -68,6 +75,8 @@ def _line(prepared: Prepared, edit: Edit, at: int) -> str:
         return f"move {_id(prepared, edit.one, at)} {_id(prepared, edit.other, at)} {_path(prepared, edit.path)}"
     if isinstance(edit, Insert):
         return f"insert {_path(prepared, (edit.first, edit.last, edit.new))}"
+    if isinstance(edit, Straighten):
+        return f"straighten {_path(prepared, (edit.corner,))}"
     raise TypeError(f"no edit: {edit!r}")
 
 
