@@ -26,7 +26,7 @@ class Progress:
         self.bar.update()
         if time.monotonic() - self.begun > SHOWN_AFTER:
             if self.lines:
-                print(text, file=sys.stderr, flush=True)
+                print(f"... {text}", file=sys.stderr, flush=True)
             self.bar.refresh()
 
     def close(self) -> None:
