@@ -3,3 +3,4 @@ pub mod loads
 pub mod edits
 pub mod rows
 pub mod places
+pub mod tens

@@ -7,5 +7,6 @@ pub mod GridIndex
 pub mod Journal
 pub mod JournalRows
 pub mod EditResults
+pub mod Tenfold
 pub mod Refusals
 pub mod own

@@ -22,6 +22,10 @@ ghost use Rattle.fabric_core.specs.Journal.{opening_state, after_entry, replay};
 ghost use Rattle.fabric_core.specs.EditResults.{IsEntryOf, IsLawful, IsDue};
 ghost use Rattle.fabric_core.specs.declared.follow.FollowFault.TheVariants.{NotDue, NoMemory as NoRoom};
 ghost use Rattle.fabric_core.specs.Refusals.{IsRefusal};
+ghost use Rattle.geo_exact.specs.declared.corner.Corner.{Corner as CornerValue};
+ghost use Rattle.scaled_rings.specs.Tenfold.{IsLeastFar, IsLeastFarOf};
+ghost use Rattle.fabric_core.specs.declared.tenfold.ScaleFault.TheVariants.{TooFar, NoMemory as NoScaleMemory};
+ghost use Rattle.fabric_core.specs.Tenfold.{IsScaleFault, IsTenfoldBook, corners_of_book};
 
 use crate::carry_out::carry_out;
 use crate::draft::draft_of;
@@ -31,11 +35,13 @@ use crate::layer::Layer;
 use crate::locate::At;
 use crate::opening::{Opening, count_corners, opening_of};
 use crate::refusal::Refusal;
+use crate::tenfold::{ScaleFault, least_far_of_entries, tenfold_entries};
 use crate::tiled::Tiled;
 use geo_exact::Corner;
 use parcel_table::{Ids, Shapes};
 use ring_core::{Ring, Shape};
 use ring_edits::Edit;
+use scaled_rings::least_far;
 use std::alloc::{AllocError, Allocator};
 use std::marker::Model;
 
@@ -157,6 +163,49 @@ impl<'a, H: Allocator> Fabric<'a, H> {
         ensures { IfOk result (λ sheet. sheet ≡ self.now) }
     {
         self.copy()
+    }
+
+    /// The fabric of a grid ten times as fine: each coordinate of the city, the parcels, the opening and the journal is ten
+    /// times what it is here, and all ids and numbers are the same. So a register in centimetres becomes one in millimetres.
+    ///
+    /// # Errors
+    ///
+    /// [`ScaleFault::TooFar`] (M1) with the least corner that is more than 10,000,000,000 from 0 along an axis, and
+    /// [`ScaleFault::NoMemory`].
+    ///
+    /// ```
+    /// let fine = fabric.tenfold()?; // (60, 100) is (600, 1000) there
+    /// ```
+    pub fn tenfold(&self) -> Result<Fabric<'a, H>, ScaleFault>
+        ensures tenfold { IfOk result (IsTenfoldBook self.now) }
+        ensures fault { IfErr result (λ fault. IsScaleFault (corners_of_book self.now) fault ⊎ (fault ≡ NoScaleMemory)) }
+        ensures refuses { (corner : CornerValue) → IsLeastFar (corners_of_book self.now) corner
+            → IsErrAnd result (λ e. (e ≡ TooFar corner) ⊎ (e ≡ NoScaleMemory)) }
+    {
+        if let Some(corner) = self.least_far() {
+            return Err(ScaleFault::TooFar(corner));
+        }
+        let heap = self.tiled.allocator();
+        let tiled = self.tiled.tenfold()?;
+        let opening = self.opening.tenfold(heap)?;
+        let journal = tenfold_entries(heap, self.journal())?;
+        let corners = self.corners;
+        Ok(Fabric {
+            tiled,
+            opening,
+            journal,
+            corners,
+        })
+    }
+
+    /// The least corner, by x and then by y, that is too far to be ten times as far.
+    fn least_far(&self) -> Option<Corner>
+        ensures { IsLeastFarOf (corners_of_book self.now) result }
+    {
+        let found = least_far(self.city(), None);
+        let found = self.opening.least_far(found);
+        let found = self.tiled.least_far(found);
+        least_far_of_entries(self.journal(), found)
     }
 
     /// The parcels are simple rings that tile the city, and are within the limits of a layer; in the

@@ -27,6 +27,7 @@ mod refine;
 mod refusal;
 mod ring_change;
 mod rings;
+mod tenfold;
 mod tiled;
 
 pub use all_faults::AllFaults;
@@ -44,3 +45,4 @@ pub use layer::{Layer, LoadFault};
 pub use locate::At;
 pub use parcel_table::{Ids, Shapes};
 pub use refusal::Refusal;
+pub use tenfold::ScaleFault;

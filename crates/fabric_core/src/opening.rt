@@ -1,15 +1,21 @@
 //! The state that a fabric was opened in.
 
-ghost use Rattle.std.specs.Prelude.{◌≡◌, ◌≤◌, map, IfOk};
+ghost use Rattle.std.specs.Prelude.{◌≡◌, ◌≤◌, ◌++◌, List, map, IfOk};
+ghost use Rattle.std.specs.List.{AllByRecursion};
+ghost use Rattle.geo_exact.specs.declared.corner.Corner.{Corner as CornerValue};
+ghost use Rattle.scaled_rings.specs.Tenfold.{IsLeastFarOf, IsNear};
+ghost use Rattle.fabric_core.specs.Tenfold.{IsTenfoldState, corners_of_state};
 ghost use Rattle.geo_exact.specs.declared.limits.TheConstants.{LAYER_CORNERS};
 ghost use Rattle.geo_exact.specs.Layers.{corner_count};
 ghost use Rattle.parcel_table.specs.Table.{rows_of as rows_of_shapes};
 ghost use Rattle.fabric_core.specs.JournalRows.{row_of};
 
 use crate::journal::Row;
+use crate::tenfold::{least_far_of_rows, tenfold_rows};
 use crate::tiled::Tiled;
-use geo_exact::Corners;
+use geo_exact::{Corner, Corners};
 use parcel_table::Shapes;
+use scaled_rings::{least_far, tenfold_all};
 use std::alloc::{AllocError, Allocator};
 use std::marker::Model;
 
@@ -93,4 +99,29 @@ pub(crate) fn opening_of<'a, H: Allocator>(
         refined,
         next: tiled.next_id(),
     })
+}
+
+impl<A: Allocator + Copy> Opening<A> {
+    /// The least corner of the rows and of the refined ring that is too far to be ten times as far, and of one found before.
+    pub(crate) fn least_far(&self, found: Option<Corner>) -> Option<Corner>
+        ensures { (before : List CornerValue) → IsLeastFarOf before found
+            → IsLeastFarOf (before ++ corners_of_state self.now) result }
+    {
+        let found = least_far_of_rows(&self.rows, found);
+        least_far(self.refined.as_slice(), found)
+    }
+
+    /// The opening, each corner ten times.
+    pub(crate) fn tenfold(&self, alloc: A) -> Result<Opening<A>, AllocError>
+        requires { AllByRecursion IsNear (corners_of_state self.now) }
+        ensures { IfOk result (IsTenfoldState self.now) }
+    {
+        let rows = tenfold_rows(alloc, &self.rows)?;
+        let refined = tenfold_all(alloc, self.refined.as_slice())?;
+        Ok(Opening {
+            rows,
+            refined,
+            next: self.next,
+        })
+    }
 }

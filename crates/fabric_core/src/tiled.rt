@@ -4,7 +4,7 @@ ghost use Rattle.std.specs.Prelude.{◌≡◌, ◌≢◌, ◌↔◌, ◌+◌, �
 ghost use Rattle.std.specs.Prelude.{OnOk, OnErr, MatchOption};
 ghost use Rattle.std.specs.List.{All, AllByRecursion, Contains};
 ghost use Rattle.std.specs.List.Sorted.{IsStrictlyIncreasing};
-ghost use Rattle.geo_exact.specs.declared.corner.Corner.{Corner};
+ghost use Rattle.geo_exact.specs.declared.corner.Corner.{Corner, Corner as CornerValue};
 ghost use Rattle.geo_exact.specs.Point.{corner_point};
 ghost use Rattle.geo_exact.specs.Bounds.{HoldsCorner, IsLeastBox};
 ghost use Rattle.geo_exact.specs.Interiors.{InteriorsMeet};
@@ -22,17 +22,22 @@ ghost use Rattle.fabric_core.specs.own.Changes.{state_of};
 ghost use Rattle.fabric_core.specs.own.Kept.{gone_by, IsExchanged, IsFresh, MayBeKept};
 ghost use Rattle.fabric_core.specs.own.RingChanges.{AreShapesOf, HasTwoEnds, KeepsGround, changed_city, changed_row, rows_changed};
 ghost use Rattle.fabric_core.specs.own.Lists.{numbered_rows, corners_of_rings, IsEntryAt, replaced};
-ghost use Rattle.parcel_table.specs.Table.{HasId};
+ghost use Rattle.parcel_table.specs.Table.{HasId, entries_of};
+ghost use Rattle.cell_index.specs.Cells.{Indexes};
+ghost use Rattle.scaled_rings.specs.Tenfold.{AreTenTimes, IsLeastFarOf, IsNear};
+ghost use Rattle.fabric_core.specs.Tenfold.{IsTenfoldState, corners_of_state};
 
 use crate::candidates::{ids_under, sort_once};
 use crate::grid_index::clip_all;
 use crate::hints::Hints;
 use crate::locate::{At, on_edge_or_outside, search};
 use crate::ring_change::RingChange;
+use crate::tenfold::{least_far_of_shapes, tenfold_shapes};
 use cell_index::{CellIndex, Entry};
 use geo_exact::{Bounds, Corner, Corners};
 use parcel_table::{Fate, Ids, Parcels, Shapes};
 use ring_core::{Ring, Shape, Side, side_of};
+use scaled_rings::{least_box, least_far, tenfold_all};
 use std::alloc::{AllocError, Allocator};
 use std::marker::Model;
 
@@ -304,6 +309,23 @@ fn entry_of<A: Allocator>(parcels: &Parcels<A>, id: u64) -> Entry
     }
 }
 
+/// The index of the boxes of parcels over an area.
+fn index_of<'a, H: Allocator>(
+    heap: &'a H,
+    area: Bounds,
+    parcels: &Parcels<&'a H>,
+) -> Result<CellIndex<'a, H>, AllocError>
+    ensures area { IfOk result (λ index. index.area ≡ area) }
+    ensures indexed { IfOk result (λ index. Indexes index (entries_of parcels.now.parcels)) }
+{
+    parcels.stand_apart();
+    let mut index = CellIndex::new(heap, area)?;
+    for id in parcels.ids() {
+        index.add(entry_of(parcels, id))?;
+    }
+    Ok(index)
+}
+
 /// Exchanges a ring for another, where there is one.
 fn change_ring<A: Allocator>(ring: &mut Corners<A>, other: Option<Corners<A>>)
     ensures { (expected : List Corner) → MatchOption other (ring.old ≡ expected) (λ new. new ≡ expected) → ring.new ≡ expected }
@@ -465,5 +487,46 @@ impl<'a, H: Allocator> Tiled<'a, H> {
         change_ring(&mut self.refined, refined);
         self.parcels.stand_apart();
         Ok(())
+    }
+}
+
+impl<'a, H: Allocator> Tiled<'a, H> {
+    /// The least corner of the parcels and of the city's refined ring that is too far to be ten times as far, and of one
+    /// found before.
+    pub(crate) fn least_far(&self, found: Option<Corner>) -> Option<Corner>
+        ensures { (before : List CornerValue) → IsLeastFarOf before found
+            → IsLeastFarOf (before ++ corners_of_state (state_of self.now)) result }
+    {
+        let found = least_far_of_shapes(self.shapes(), found);
+        least_far(self.refined(), found)
+    }
+
+    /// The same parcels under the same keys, each corner ten times.
+    pub(crate) fn tenfold(&self) -> Result<Tiled<'a, H>, AllocError>
+        requires near_city { AllByRecursion IsNear self.now.city }
+        requires near { AllByRecursion IsNear (corners_of_state (state_of self.now)) }
+        ensures city { IfOk result (λ other. AreTenTimes self.now.city other.city) }
+        ensures now { IfOk result (λ other. IsTenfoldState (state_of self.now) (state_of other)) }
+        ensures gone { IfOk result (λ other. (id : ℕ) → gone_by other id ≡ gone_by self.now id) }
+    {
+        let heap = self.allocator();
+        let city = tenfold_all(heap, self.city())?;
+        let refined = tenfold_all(heap, self.refined())?;
+        let area = least_box(city.as_slice());
+        let ids: Vec<u64, &'a H> = self.ids().collect(heap)?;
+        let shapes = tenfold_shapes(heap, self.shapes())?;
+        self.parcels.stand_apart();
+        let mut parcels = self.parcels.clone()?;
+        replace_all(&mut parcels, &ids, shapes);
+        parcels.stand_apart();
+        let index = index_of(heap, area, &parcels)?;
+        let hints = Hints::of(heap, area, &parcels)?;
+        Ok(Tiled {
+            city,
+            refined,
+            parcels,
+            index,
+            hints,
+        })
     }
 }

@@ -30,4 +30,6 @@ mod steps;
 #[cfg(test)]
 mod straightens;
 #[cfg(test)]
+mod tens;
+#[cfg(test)]
 mod tilings;

@@ -1,5 +1,5 @@
 -- Parcels whose rings are changed: their rows, and that their boxes and so their entries in the index stay.
-use Rattle.std.proofs.Common.{◌≡◌, ◌≢◌, ◌⊎◌, ⊎_elim, ◌↔◌, refl, sym, ◌∙◌, ap, subst, arith, ℕ, ◌<◌}
+use Rattle.std.proofs.Common.{◌≡◌, ◌≢◌, ◌↔◌, refl, sym, ◌∙◌, ap, subst, arith, ℕ, ◌<◌}
 use Rattle.std.proofs.Common.{Bool, true, false, nat_eq, cond, List, [], ◌∷◌, map, length, suc, IsTrue, Option, Some}
 use Rattle.std.proofs.Common.{None, MatchOption, IsNone, IfSome}
 use Rattle.std.specs.List.{AllByRecursion, Contains, filter}
@@ -39,7 +39,7 @@ other_number : (m n : ℕ) → m ≢ n → nat_eq m n ≡ false
 other_number m n h = grind (arith, nat_tests)
 
 -- none of the ids is this one
-abbrev HasNone : List ℕ → ℕ → Type 0
+abbrev pub HasNone : List ℕ → ℕ → Type 0
 HasNone ids id = AllByRecursion (λ other. id ≢ other) ids
 
 module _ {A : Type 0} where
@@ -65,6 +65,26 @@ module _ {A : Type 0} where
       (ap (λ b. cond b (first.0, record { id = first.1.id; shape = shape }) first) (other_number (id_of first) id h.0))
       ∙ past ids shapes first (with_shape id shape parcels) h.1
 
+  others : (id : ℕ) (parcels : List (ℕ × Parcel A)) → AllByRecursion (λ other. id < id_of other) parcels
+      → AllByRecursion (λ parcel. id_of parcel ≢ id) parcels
+  others id [] h = tt
+  others id (parcel ∷ parcels) h = (λ e. omega (arith, h.0, e), others id parcels h.1)
+
+  -- the parcel behind its own id with another shape
+  abbrev pub with_new : ℕ × Parcel A → Shape A → ℕ × Parcel A
+  with_new parcel shape = (parcel.0, record { id = parcel.1.id; shape = shape })
+
+  -- the first parcel gets the first shape where the first id is its own
+  pub first_replaced : (parcel : ℕ × Parcel A) (parcels : List (ℕ × Parcel A)) (ids : List ℕ) (shape : Shape A) (shapes : List (Shape A))
+      → Rise (parcel ∷ parcels) → HasNone ids (id_of parcel)
+      → replaced (id_of parcel ∷ ids) (shape ∷ shapes) (parcel ∷ parcels) ≡ with_new parcel shape ∷ replaced ids shapes parcels
+  first_replaced parcel parcels ids shape shapes rise none =
+      ap (λ b. replaced ids shapes (cond b (with_new parcel shape) parcel
+      ∷ with_shape (id_of parcel) shape parcels)) (same_number (id_of parcel))
+      ∙ ap (λ xs. replaced ids shapes (with_new parcel shape ∷ xs)) (alone (id_of parcel) shape parcels
+      (others (id_of parcel) parcels rise.0))
+      ∙ past ids shapes (with_new parcel shape) parcels none
+
 -- the row is changed
 abbrev changes : RingChange → NumberedRing → Bool
 changes change row = is_changed change row.corners
@@ -89,19 +109,11 @@ module _ {A : Type 0} (change : RingChange) where
       by_test true rest = (λ e. omega (arith, h.0, e), rest)
       by_test false rest = rest
 
-  others : (id : ℕ) (parcels : List (ℕ × Parcel A)) → AllByRecursion (λ other. id < id_of other) parcels
-      → AllByRecursion (λ parcel. id_of parcel ≢ id) parcels
-  others id [] h = tt
-  others id (parcel ∷ parcels) h = (λ e. omega (arith, h.0, e), others id parcels h.1)
-
-  -- the parcel behind its own id with the corner in its ring, and then the others
-  abbrev with_new : ℕ × Parcel A → Shape A → ℕ × Parcel A
-  with_new parcel shape = (parcel.0, record { id = parcel.1.id; shape = shape })
-
   abbrev row_of : ℕ × Parcel A → NumberedRing
   row_of parcel = numbered parcel.1.id parcel.1.shape.ring.corners
 
-  same_box : (parcel : ℕ × Parcel A) (shape : Shape A) → KeepsGround change parcel.1.shape.ring.corners → shape.ring.corners ≡ changed_ring change parcel.1.shape.ring.corners
+  same_box : (parcel : ℕ × Parcel A) (shape : Shape A) → KeepsGround change parcel.1.shape.ring.corners
+      → shape.ring.corners ≡ changed_ring change parcel.1.shape.ring.corners
       → entry_of (with_new parcel shape) ≡ entry_of parcel
   same_box parcel shape ground ring = ap (λ box. record { key = parcel.0; bounds = box })
       (one_least_box shape.bounds parcel.1.shape.bounds shape.ring.corners shape.least_box
@@ -134,11 +146,7 @@ module _ {A : Type 0} (change : RingChange) where
   first_gets parcel parcels ids shape shapes rise ground on named ring rest =
       let first : replaced (id_of parcel ∷ ids) (shape ∷ shapes) (parcel ∷ parcels) ≡ with_new parcel shape
       ∷ replaced ids shapes parcels =
-      ap (λ b. replaced ids shapes (cond b (with_new parcel shape) parcel
-      ∷ with_shape (id_of parcel) shape parcels)) (same_number (id_of parcel))
-      ∙ ap (λ xs. replaced ids shapes (with_new parcel shape ∷ xs)) (alone (id_of parcel) shape parcels
-      (others (id_of parcel) parcels rise.0))
-      ∙ past ids shapes (with_new parcel shape) parcels
+      first_replaced parcel parcels ids shape shapes rise
       (subst (λ xs. HasNone xs (id_of parcel)) (sym named) (greater (id_of parcel) parcels rise.0)) in
       record {
         rows = ap rows_of_keyed first

@@ -6,6 +6,7 @@ use Rattle.std.specs.List.{AllByRecursion, Contains}
 use Rattle.std.proofs.lemmas.Int.{ints}
 use Rattle.std.proofs.lemmas.List.{map-append}
 use Rattle.geo_exact.specs.declared.corner.Corner.{Corner}
+use Rattle.geo_exact.specs.Area.{edge_area2}
 use Rattle.geo_exact.specs.Layers.{NumberedRing, numbered}
 use Rattle.geo_exact.specs.Rings.{Edge}
 use Rattle.ring_core.specs.Simple.{IsSimpleRing}
@@ -14,14 +15,13 @@ use Rattle.ring_edits.specs.declared.edit.Edit.TheVariants.{Split, Merge, Move, 
 use Rattle.ring_edits.proofs.EditNets.{split_nets, merge_nets, move_nets}
 use Rattle.fabric_core.specs.declared.ring_change.RingChange.{RingChange}
 use Rattle.fabric_core.specs.declared.ring_change.RingChange.TheVariants.{PutIn, TakeOut}
-use Rattle.fabric_core.specs.own.Alike.{AddsUp, all_measured, measured}
 use Rattle.fabric_core.specs.own.Balanced.{Ascend, HasRisingIds, IsBalanced}
 use Rattle.fabric_core.specs.own.RingChanges.{IsRenewalOf, KeepsGround, changed_city, changed_row, is_changed, renewed}
 use Rattle.fabric_core.specs.Tiling.{corner_lists}
 use Rattle.fabric_core.specs.Faults.{AreSimple}
 use Rattle.fabric_core.specs.Journal.{State, JournalEntry, after_entry, replay, refined_by, with_rows, without_ids}
 use Rattle.fabric_core.specs.EditResults.{IsChange, IsEntryOf, AreLawfulFrom}
-use Rattle.fabric_core.proofs.rows.Alikes.{balanced_alike}
+use Rattle.fabric_core.proofs.rows.Alikes.{AddsUp, all_measured, areas_add, balanced_alike, crossing_of, crossings_add, measured}
 use Rattle.fabric_core.proofs.rows.RowLists.{Ascend-filter, taken_out, still_has, without_both}
 use Rattle.fabric_core.proofs.edits.Neighbours.{ring_is_simple, run_has_edge, merged_run, moved_run, two_parcels}
 use Rattle.fabric_core.proofs.edits.Replays.{BringsNew, rows_after_new, rows_after_renewal}
@@ -154,8 +154,11 @@ pub balanced_after : {A : Type 0} (state : State) (entry : JournalEntry A) → I
 balanced_after state entry h k = record {
   ids = rising_after state entry h.ids k.is_change;
   simple = all_after (λ row. IsSimpleRing row.corners) state entry.edit entry.out entry.rows h.ids k.is_change h.simple k.are_simple;
-  alike = λ measure adds.
-      equal_sums measure adds state entry.out entry.rows h.simple h.ids entry.edit k.is_change (h.alike measure adds);
+  alike = record {
+    windings = λ p.
+        equal_sums (crossing_of p) (crossings_add p) state entry.out entry.rows h.simple h.ids entry.edit k.is_change (h.alike.windings p);
+    areas = equal_sums edge_area2 areas_add state entry.out entry.rows h.simple h.ids entry.edit k.is_change h.alike.areas;
+  };
 }
 
 pub balanced_replayed : {A : Type 0} (state : State) (number : ℕ) (entries : List (JournalEntry A)) → IsBalanced state

@@ -98,7 +98,7 @@ module _ {A : Type 0} where
       (λ row. not (list_any (nat_eq row.number) ids)) (λ parcel. not (list_any (nat_eq parcel.1.id) ids)) parcels (λ x h. refl))
 
   -- ids are apart where they ascend, and keys where the entries' are
-  ids_apart : (parcels : List (ℕ × Parcel A)) → IsStrictlyIncreasing (ids_of parcels)
+  pub ids_apart : (parcels : List (ℕ × Parcel A)) → IsStrictlyIncreasing (ids_of parcels)
       → AllPairs (λ a b. id_of a ≢ id_of b) parcels
   ids_apart parcels rise i j d before below e =
       let r : get_or (ids_of parcels) i (id_of d) < get_or (ids_of parcels) j (id_of d) =

@@ -19,9 +19,9 @@ use Rattle.fabric_core.specs.declared.ring_change.RingChange.{RingChange}
 use Rattle.fabric_core.specs.declared.ring_change.RingChange.TheVariants.{PutIn, TakeOut}
 use Rattle.fabric_core.specs.EditResults.{IsChange, IsInsertOf, IsStraightenOf}
 use Rattle.fabric_core.specs.Journal.{State}
-use Rattle.fabric_core.specs.own.Alike.{AddsUp, measured}
 use Rattle.fabric_core.specs.own.RingChanges.{HasTwoEnds, KeepsGround, IsRenewalOf, changed_city, changed_ring, corner_of, edit_of}
 use Rattle.fabric_core.specs.own.RingChanges.{is_changed}
+use Rattle.fabric_core.proofs.rows.Alikes.{AddsUp, measured}
 
 -- ---- a ring with an edge has the edge's ends
 joins_end : (from to : Corner) (edge : Edge) → joins from to edge ≡ true → (edge.from ≡ from) ⊎ (edge.to ≡ from)

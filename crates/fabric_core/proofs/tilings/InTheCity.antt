@@ -24,7 +24,6 @@ use Rattle.fabric_core.specs.Tiling.{corner_lists, IsInNone}
 use Rattle.ring_edits.specs.Edits.{CoversAlike}
 use Rattle.fabric_core.specs.Faults.{AreSimple}
 use Rattle.fabric_core.specs.own.Alike.{GoAlike}
-use Rattle.fabric_core.proofs.rows.Alikes.{winding_alike}
 use Rattle.fabric_core.proofs.tilings.Tilings.{IsMadeUp, rows_not_negative, in_none, city_alone}
 
 -- ---- triangles that all together go round nowhere
@@ -84,5 +83,5 @@ pub rows_in_box : (rows : List NumberedRing) (city refined : List Corner) (box :
 rows_in_box rows city refined box simple ground alike all =
     rows_held box rows simple
     (λ p h. in_none p rows (rows_not_negative p rows (rows_made_up rows simple))
-    (winding_alike (corner_lists rows) refined alike p ∙ city_alone p city refined ground
+    (alike.windings p ∙ city_alone p city refined ground
     ∙ (beyond_box p box city all h).1))

@@ -25,7 +25,7 @@ use Rattle.fabric_core.specs.Tiling.{corner_lists, IsOffEdges, IsInNone, IsInOne
 use Rattle.ring_edits.specs.Edits.{CoversAlike}
 use Rattle.fabric_core.specs.Rows.{IsUntiledBeside}
 use Rattle.fabric_core.specs.own.Alike.{GoAlike}
-use Rattle.fabric_core.proofs.rows.Alikes.{alike_from_nets, area2_alike, winding_alike}
+use Rattle.fabric_core.proofs.rows.Alikes.{alike_from_nets}
 
 -- ---- rows of triangles
 triangles_not_negative : (p : Point) (ts : List Tri) → AllByRecursion (IsRoundAtMostOnce p) ts → pos 0 ≤ℤ triangles_winding p ts
@@ -126,8 +126,8 @@ pub tiles_on_ground : (rows : List NumberedRing) (city refined : List Corner) �
     → GoAlike (corner_lists rows) refined → IsTiling rows city
 tiles_on_ground rows city refined made once ground alike =
     tiles_where_sums_are_equal rows city made once
-    (λ p. winding_alike (corner_lists rows) refined alike p ∙ city_alone p city refined ground)
-    (area2_alike (corner_lists rows) refined alike ∙ plus_nothing (area2 refined) ∙ ground.signed_area)
+    (λ p. alike.windings p ∙ city_alone p city refined ground)
+    (alike.areas ∙ plus_nothing (area2 refined) ∙ ground.signed_area)
 
 pub tiles_where_nets_are_equal : (rows : List NumberedRing) (city corners refined : List Corner) → AllByRecursion IsMadeUp rows
     → ((p : Point) → IsWoundAtMostOnce p city) → IsNoded city corners refined

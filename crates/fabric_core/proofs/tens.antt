@@ -1,0 +1,4 @@
+pub mod Corners
+pub mod Rows
+pub mod Journals
+pub mod Kept
