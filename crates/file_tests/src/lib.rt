@@ -1,4 +1,4 @@
-//! Tests of files: layer files, read and written, and files that are read line by line. Worked
+//! Tests of files: layer files, read and written, and files that are read line by line, or written so. Worked
 //! examples, each cut and each fault, the first bad line, growths that are refused, and layers of
 //! the greatest size.
 #![tactic(auto)]
@@ -23,3 +23,5 @@ mod size;
 mod taking;
 #[cfg(test)]
 mod write_rows;
+#[cfg(test)]
+mod written_edits;

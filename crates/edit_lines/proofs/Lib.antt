@@ -1,0 +1,5 @@
+pub mod Bytes
+pub mod Numbers
+pub mod EditWords
+pub mod CutLines
+pub mod Journals
