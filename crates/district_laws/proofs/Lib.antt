@@ -1,0 +1,6 @@
+pub mod Sums
+pub mod Composed
+pub mod OwnLayers
+pub mod boundaries
+pub mod Located
+pub mod Overlapped
