@@ -1,7 +1,9 @@
-//! Windows, at which it is asked where a place lies.
-ghost use Rattle.std.specs.Prelude.{◌≡◌, length, IfOk, IfErr};
+//! Windows, at which it is asked where a place lies, and which ring a parcel has.
+ghost use Rattle.std.specs.Prelude.{◌≡◌, ◌≢◌, ◌++◌, length, IfOk, IfErr, MatchOption};
+ghost use Rattle.std.specs.List.{Contains};
 ghost use mathlib.Core.List.{IsPrefix};
 ghost use Rattle.geo_exact.specs.Point.{corner_point};
+ghost use Rattle.geo_exact.specs.Layers.{NumberedRing, numbered};
 ghost use Rattle.fabric_core.specs.Locate.{IsLocatedAt};
 ghost use Rattle.fabric_core.specs.Journal.{replay};
 ghost use Rattle.fabric_core.specs.EditResults.{IsLawful};
@@ -12,9 +14,9 @@ use crate::copied::Copied;
 use crate::name::Naming;
 use crate::receipt::{Notice, Receipt};
 use entry_history::Front;
-use fabric_core::{At, Entry};
-use geo_exact::Corner;
-use left_right::ReadHandle;
+use fabric_core::{At, Entry, Fabric};
+use geo_exact::{Corner, Corners};
+use left_right::{ReadGuard, ReadHandle};
 use published_copies::Version;
 use std::alloc::{AllocError, Allocator};
 use std::marker::Model;
@@ -40,13 +42,16 @@ impl From<AllocError> for LocateFault {
     }
 }
 
-/// A window of an office: it answers where a place lies, from a published version, and waits for
-/// nobody. It may go to a thread of its own.
+/// A version of an office's fabric.
+type VersionOf<'a, H, J> = Version<Copied<'a, H, J>, Entry<&'a H>, J>;
+
+/// A window of an office: it answers where a place lies and which ring a parcel has, from a published
+/// version, and waits for nobody. It may go to a thread of its own.
 ///
 /// Contracts see the state in which the office's fabric was opened, and the entries that the
 /// versions which the window entered and the receipts which it learnt rest on.
 pub struct Window<'a, H: Allocator, J: Naming<H>> {
-    pub(crate) reader: ReadHandle<Version<Copied<'a, H, J>, Entry<&'a H>, J>, &'a H>,
+    pub(crate) reader: ReadHandle<VersionOf<'a, H, J>, &'a H>,
     pub(crate) front: Front<Entry<&'a H>, J>,
     // Where the versions lie.
     pub(crate) heap: &'a H,
@@ -95,6 +100,59 @@ impl<'a, H: Allocator, J: Naming<H>> Window<'a, H, J> {
         self.front.learn(&notice.front);
     }
 
+    /// How many entries the newest version has that this window finds: all that it had seen or was
+    /// told, and those published since. It has seen them then.
+    ///
+    /// # Errors
+    ///
+    /// [`LocateFault::NoVersion`] (K4), as [`Window::locate`]; nothing has changed then.
+    ///
+    /// ```
+    /// let entries = window.entries()?;
+    /// ```
+    pub fn entries(&mut self) -> Result<u64, LocateFault>
+        ensures opening { self.new.opening ≡ self.old.opening }
+        ensures begins { IsPrefix self.old.seen self.new.seen }
+        ensures count { IfOk result (λ entries. entries ≡ length self.new.seen) }
+        ensures lawful { IfOk result (λ entries. IsLawful self.new.opening self.new.seen) }
+        ensures fault { IfErr result (λ fault. fault ≡ NoVersion) }
+        ensures no_version { IfErr result (λ fault. fault ≡ NoVersion → self.new ≡ self.old) }
+    {
+        let Some(version) = enter(&mut self.reader, &mut self.front) else {
+            return Err(LocateFault::NoVersion);
+        };
+        Ok(fabric_of(&version).entries())
+    }
+
+    /// The ring of the parcel with this id after some of the entries, begun at its least corner, with
+    /// how many entries these are, as [`Window::locate`] counts them; no ring where the id is no
+    /// parcel's then. It is found at once, and copied.
+    ///
+    /// # Errors
+    ///
+    /// As [`Window::locate`].
+    ///
+    /// ```
+    /// let (entries, ring) = window.parcel(id)?;
+    /// ```
+    pub fn parcel(&mut self, id: u64) -> Result<(u64, Option<Corners<&'a H>>), LocateFault>
+        ensures opening { self.new.opening ≡ self.old.opening }
+        ensures begins { IsPrefix self.old.seen self.new.seen }
+        ensures count { IfOk result (λ answer. answer.0 ≡ length self.new.seen) }
+        ensures lawful { IfOk result (λ answer. IsLawful self.new.opening self.new.seen) }
+        ensures parcel { IfOk result (λ answer. MatchOption answer.1
+            ((row : NumberedRing) → Contains (replay self.new.opening self.new.seen).rows row → row.number ≢ id)
+            (λ ring. Contains (replay self.new.opening self.new.seen).rows (numbered id ring))) }
+        ensures no_version { IfErr result (λ fault. fault ≡ NoVersion → self.new ≡ self.old) }
+    {
+        let Some(version) = enter(&mut self.reader, &mut self.front) else {
+            return Err(LocateFault::NoVersion);
+        };
+        let fabric = fabric_of(&version);
+        let ring = copied_ring(fabric, id)?;
+        Ok((fabric.entries(), ring))
+    }
+
     /// Where a corner lies among the parcels after some of the entries, with how many entries these
     /// are: all that this window had seen or was told, and those published since, as far as it finds
     /// them.
@@ -119,16 +177,57 @@ impl<'a, H: Allocator, J: Naming<H>> Window<'a, H, J> {
             IsLocatedAt (replay self.new.opening self.new.seen).rows (corner_point corner) answer.1) }
         ensures no_version { IfErr result (λ fault. fault ≡ NoVersion → self.new ≡ self.old) }
     {
-        let Some(version) = self.reader.enter() else {
+        let Some(version) = enter(&mut self.reader, &mut self.front) else {
             return Err(LocateFault::NoVersion);
         };
-        if version.front().len() < self.front.len() {
-            return Err(LocateFault::NoVersion);
-        }
-        self.front.learn(version.front());
-        let fabric = version.value().fabric();
-        fabric.tiles();
+        let fabric = fabric_of(&version);
         let at = fabric.locate(corner)?;
         Ok((fabric.entries(), at))
     }
+}
+
+/// Enters the newest version that is found, where it is as new as what was told, and learns it.
+fn enter<'r, 'a, H: Allocator, J: Naming<H>>(
+    reader: &'r mut ReadHandle<VersionOf<'a, H, J>, &'a H>,
+    front: &mut Front<Entry<&'a H>, J>,
+) -> Option<ReadGuard<'r, VersionOf<'a, H, J>, &'a H>>
+    ensures begins { IsPrefix front.old front.new }
+    ensures entered { MatchOption result (front.new ≡ front.old) (λ version. version.reading.part.value ≡ front.new) }
+{
+    let version = reader.enter()?;
+    if version.front().len() < front.len() {
+        return None;
+    }
+    front.learn(version.front());
+    Some(version)
+}
+
+/// The fabric of a version: its journal is that of the fabric which was handed in, and behind it the
+/// entries that the version has followed.
+fn fabric_of<'v, 'a, H: Allocator, J: Naming<H>>(
+    version: &'v VersionOf<'a, H, J>,
+) -> &'v Fabric<'a, H>
+    ensures journal { result.now.journal ≡ J.office.origin.journal ++ version.now }
+    ensures lawful { IsLawful J.office.origin.opening (J.office.origin.journal ++ version.now) }
+    ensures now { result.now.now ≡ replay J.office.origin.opening (J.office.origin.journal ++ version.now) }
+{
+    let fabric = version.value().fabric();
+    fabric.tiles();
+    fabric
+}
+
+/// A copy of the ring of the parcel with this id; `None` where the id is no parcel's.
+fn copied_ring<'a, H: Allocator>(
+    fabric: &Fabric<'a, H>,
+    id: u64,
+) -> Result<Option<Corners<&'a H>>, AllocError>
+    ensures { IfOk result (λ ring. MatchOption ring
+        ((row : NumberedRing) → Contains fabric.now.now.rows row → row.number ≢ id)
+        (λ corners. Contains fabric.now.now.rows (numbered id corners))) }
+{
+    let Some(ring) = fabric.ring(id) else {
+        return Ok(None);
+    };
+    let corners = ring.corners.clone()?;
+    Ok(Some(corners))
 }

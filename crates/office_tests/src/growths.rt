@@ -21,7 +21,7 @@ pub fn was_refused<H: Refuses>(heap: &H) -> bool {
 }
 
 /// What came of a call that was made to its end.
-fn told(is_refused: bool) -> Told {
+pub fn told(is_refused: bool) -> Told {
     if is_refused {
         Told::Refused
     } else {

@@ -4,6 +4,7 @@ ghost use Rattle.std.specs.Prelude.{◌≡◌};
 ghost use Rattle.desk_lock.specs.Offices.{origin_of};
 
 use crate::answers::{Cards, Windows};
+use crate::asked::{ask_parcels, parcel_with_memory};
 use crate::clerks::{Task, work_all};
 use crate::growths::{cut_with_memory, locate_with_memory, sheet_with_memory, was_refused};
 use crate::halves::{ask_late, learn_halves, learn_unasked};
@@ -31,6 +32,8 @@ pub enum Play {
     Late,
     /// Clerk 1 puts a corner into an edge and takes it out, and the first window learns the last receipt.
     Straight,
+    /// Clerk 1 cuts the first parcel in halves, and the first window shows parcels before and after.
+    Parcels,
     /// Each clerk puts 100 corners into a side of the city.
     Sides,
     /// Two clerks merge the same two parcels.
@@ -46,6 +49,8 @@ pub enum Play {
     Sheet(u64),
     /// A growth is refused for an answer.
     Locate(u64),
+    /// A growth is refused for the ring of a parcel.
+    Parcel(u64),
 }
 
 /// What came of it.
@@ -169,6 +174,7 @@ fn played_alone<'a, H: Refuses, J: Naming<H>, R: Wait + Drop, W: Wait>(
         Play::Halves => learn_halves(rt, heap, office, cards, windows),
         Play::Late => learn_unasked(rt, heap, office, &mut cards[0], &mut windows[0]),
         Play::Straight => learn_straight(rt, heap, office, &mut cards[0], windows),
+        Play::Parcels => ask_parcels(rt, heap, office, &mut cards[0], &mut windows[0]),
         Play::Cut(number, later) => cut_with_memory(
             rt,
             heap,
@@ -180,6 +186,9 @@ fn played_alone<'a, H: Refuses, J: Naming<H>, R: Wait + Drop, W: Wait>(
         Play::Sheet(number) => sheet_with_memory(rt, heap, office, cards, number),
         Play::Locate(number) => {
             locate_with_memory(rt, heap, office, &mut cards[0], &mut windows[0], number)
+        }
+        Play::Parcel(number) => {
+            parcel_with_memory(rt, heap, office, &mut cards[0], &mut windows[0], number)
         }
         _ => Ok(Told::Done),
     }

@@ -51,6 +51,8 @@ enum Growing {
     Sheet,
     /// An answer.
     Locate,
+    /// The ring of a parcel.
+    Parcel,
     /// The publishing of a cut in whose submit the growth of this number is refused.
     Publish(u64),
 }
@@ -60,6 +62,7 @@ fn play_of(growing: Growing, number: u64) -> Play {
     match growing {
         Growing::Sheet => Play::Sheet(number),
         Growing::Locate => Play::Locate(number),
+        Growing::Parcel => Play::Parcel(number),
         Growing::Publish(before) => Play::Cut(before, number),
     }
 }
@@ -85,6 +88,7 @@ fn answers_with_memory(rt: HostRuntime) -> Result<(), Fail> {
     let heap = Refusing::new(rt.alloc(), 0);
     assert!(rt; count_refused(rt, &heap, Growing::Sheet)? > 20);
     assert!(rt; count_refused(rt, &heap, Growing::Locate)? > 0);
+    assert!(rt; count_refused(rt, &heap, Growing::Parcel)? > 0);
     Ok(())
 }
 
