@@ -54,8 +54,12 @@ fn push_whose<A: Allocator>(lines: &mut Vec<u8, A>, clerk: u32, line: u64) -> Re
     Ok(())
 }
 
-/// Adds why an edit is refused.
-fn push_refusal<A: Allocator>(text: &mut Vec<u8, A>, refusal: Refusal) -> Result<(), AllocError>
+/// Adds why an edit is refused: its code with what that names, as `E2 7 3`, or `no memory`.
+///
+/// # Errors
+///
+/// [`AllocError`] where an allocation is refused; a beginning of the piece may stand at the end of the text then.
+pub fn push_refusal<A: Allocator>(text: &mut Vec<u8, A>, refusal: Refusal) -> Result<(), AllocError>
     ensures { OnOk result (text.new.items ≡ text.old.items ++ refusal_text refusal) }
 {
     let mut digits = Buffer::new();

@@ -1,5 +1,5 @@
 -- Files of a clerk's edits, a line for each edit (this product's own).
-use Rattle.std.specs.Prelude.{◌≡◌, ◌≢◌, ⊤, ℕ, ◌==◌, List, [], ◌∷◌, codes}
+use Rattle.std.specs.Prelude.{◌≡◌, ◌≢◌, ⊤, ℕ, ◌==◌, List, [], ◌∷◌, codes, Option, None, Some}
 use Rattle.std.specs.List.{slice_split}
 use Rattle.geo_exact.specs.declared.corner.Corner.{Corner}
 use Rattle.ring_edits.specs.declared.edit.Edit.{Edit}
@@ -63,6 +63,11 @@ SayEdit grid words (Merge a b) = IsMergeLine words a b
 SayEdit grid words (Move a b path) = IsMoveLine grid words a b path
 SayEdit grid words (Insert from to at) = IsInsertLine grid words from to at
 SayEdit grid words (Straighten at) = IsStraightenLine grid words at
+
+-- the words say this edit, or none
+abbrev pub IsEditOf : {A : Type 0} → Grid → List (List ℕ) → Option (Edit A) → Type 0
+IsEditOf {A} grid words None = (edit : Edit A) → ¬ SayEdit grid words edit
+IsEditOf grid words (Some edit) = SayEdit grid words edit
 
 -- the line has this number and says this edit
 pub record SaysEdit {A : Type 0} (grid : Grid) (number : ℕ) (line : List ℕ) (entry : ℕ × Edit A) : Type 0 where

@@ -2,9 +2,9 @@
 
 ghost use Rattle.std.specs.Prelude.{◌∷◌, ℕ, List, IfSome, IfNone, IfOk, MatchOption, codes};
 ghost use Rattle.geo_exact.specs.declared.corner.Corner.{Corner as CornerValue};
-ghost use Rattle.line_files.specs.ClerkFile.{words_of, ArePath};
+ghost use Rattle.line_files.specs.ClerkFile.{words_of, ArePath, IsEditOf};
 ghost use Rattle.line_files.specs.declared.grids.Grid.{Grid as GridValue};
-ghost use Rattle.line_files.specs.own.EditWords.{TakesNumber, TakesCorner, IsEditOf};
+ghost use Rattle.line_files.specs.own.EditWords.{TakesNumber, TakesCorner};
 
 use crate::grids::Grid;
 use crate::text_numbers::{read_corner_on, read_number};
@@ -13,7 +13,17 @@ use geo_exact::{Corner, Corners};
 use ring_edits::Edit;
 use std::alloc::{AllocError, Allocator};
 
-/// The edit that a line says, its corners on this grid; `None` where it says none.
+/// The edit that a line says, its corners on this grid; `None` where it says none. The forms are those of
+/// [`read_clerk`](crate::read_clerk). The line is without its end.
+///
+/// # Errors
+///
+/// [`AllocError`] where an allocation is refused.
+///
+/// ```
+/// // Some, of the edit that makes parcels 3 and 4 one:
+/// let edit = read_edit(alloc, Grid::Millimetres, b"merge 3 4")?;
+/// ```
 pub fn read_edit<A: Allocator + Copy>(
     alloc: A,
     grid: Grid,

@@ -10,6 +10,9 @@ mod text_numbers;
 mod words;
 
 pub use clerk::{ClerkFault, read_clerk};
+pub use edit_words::read_edit;
 pub use grids::Grid;
 pub use points::{PointsFault, read_points};
-pub use text_numbers::{MOST_DIGITS, read_corner};
+pub use text_lines::{is_skipped, split_line};
+pub use text_numbers::{MOST_DIGITS, read_corner, read_number};
+pub use words::Words;

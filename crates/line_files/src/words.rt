@@ -6,7 +6,12 @@ ghost use Rattle.line_files.specs.ClerkFile.{words_of};
 use crate::text_lines::split_at_byte;
 use std::marker::Model;
 
-/// The words of a line that are still to be read, which contracts see as their list.
+/// The words of a line that are still to be read, which contracts see as their list. The line is cut at each space, so
+/// that two spaces side by side, or one at an end of the line, leave an empty word.
+///
+/// ```
+/// let mut words = Words::of(b"merge 3 4"); // words.next() gives merge, 3 and 4, and then None
+/// ```
 #[derive(Drop)]
 pub struct Words<'a> {
     text: &'a [u8],

@@ -1,6 +1,5 @@
 use Rattle.std.proofs.Common.{◌≡◌, ◌∷◌, codes, rules, subst, sym}
-use Rattle.line_files.specs.ClerkFile.{words_of}
-use Rattle.line_files.specs.own.EditWords.{IsEditOf}
+use Rattle.line_files.specs.ClerkFile.{words_of, IsEditOf}
 use Rattle.line_files.proofs.edit_words.read_edit.Goals as goal
 
 pub returns-then-eq-2 : goal.returns-then-eq-2

@@ -1,0 +1,9 @@
+pub mod Lines
+pub mod Answers
+pub mod own
+pub use Rattle.line_files.specs.ClerkFile
+pub use Rattle.line_files.specs.TextLines
+pub use Rattle.line_files.specs.TextNumbers
+pub use Rattle.text_pieces.specs.CornerText
+pub use Rattle.clerk_runs.specs.ClerkLines
+pub use Rattle.clerk_runs.specs.PlaceTexts

@@ -1,0 +1,18 @@
+-- What the code tells of lines of one word.
+use Rattle.std.specs.Prelude.{⊤}
+use Rattle.session_lines.specs.declared.line.Line.{Line}
+use Rattle.session_lines.specs.declared.line.Line.TheVariants.{Skipped, Edit, Locate, Parcel, Entries, Overlay, Check, Export, Publish}
+use Rattle.session_lines.specs.declared.line.Line.TheVariants.{Close}
+
+-- what a line asks for by one word and no more
+abbrev pub IsBare : {A : Type 0} → Line A → Type 0
+IsBare Skipped = ⊥
+IsBare (Edit edit) = ⊥
+IsBare (Locate corner) = ⊥
+IsBare (Parcel id) = ⊥
+IsBare Entries = ⊤
+IsBare Overlay = ⊤
+IsBare Check = ⊤
+IsBare (Export base) = ⊥
+IsBare Publish = ⊤
+IsBare Close = ⊤
