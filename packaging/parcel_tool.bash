@@ -3,7 +3,7 @@ _parcel_tool() {
   local word="${COMP_WORDS[COMP_CWORD]}" before="${COMP_WORDS[COMP_CWORD-1]}" options=
   COMPREPLY=()
   if [ "$COMP_CWORD" -eq 1 ]; then
-    COMPREPLY=($(compgen -W 'area check export locate overlay help -h --help -V --version' -- "$word"))
+    COMPREPLY=($(compgen -W 'area check export locate overlay part help -h --help -V --version' -- "$word"))
     return
   fi
   case "$before" in
@@ -15,12 +15,13 @@ _parcel_tool() {
     --workers) COMPREPLY=(); return ;;
   esac
   case "${COMP_WORDS[1]}" in
-    help) COMPREPLY=($(compgen -W 'area check export locate overlay' -- "$word")); return ;;
+    help) COMPREPLY=($(compgen -W 'area check export locate overlay part' -- "$word")); return ;;
     area) options='--unit -h --help' ;;
     check) options='--unit --all --clerk -h --help' ;;
     export) options='--unit --out --clerk -h --help' ;;
     locate) options='--unit --at --points --clerk -h --help' ;;
     overlay) options='--unit --clerk --workers -h --help' ;;
+    part) options='--unit --out -h --help' ;;
   esac
   case "$word" in
     -*) COMPREPLY=($(compgen -W "$options" -- "$word")) ;;

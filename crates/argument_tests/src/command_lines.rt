@@ -6,7 +6,7 @@ use std::test::Fail;
 use tool_arguments::{Points, Request, parse};
 
 /// Command lines, and what each asks for.
-const REQUESTS: [(&str, &str); 8] = [
+const REQUESTS: [(&str, &str); 9] = [
     (
         "parcel_tool area city.shp --unit mm",
         "Area { main: \"city.shp\", unit: Mm }",
@@ -40,6 +40,11 @@ const REQUESTS: [(&str, &str); 8] = [
         "parcel_tool overlay a --workers 64 b c --unit m",
         "Overlay { inputs: Inputs { city: \"a\", parcels: \"b\", unit: M, clerks: [] }, \
          zones: \"c\", workers: Workers { count: 64 } }",
+    ),
+    (
+        "parcel_tool part a b --out c/d 18446744073709551615 --unit cm",
+        "Part { district: District { city: \"a\", districts: \"b\", unit: Cm, id: 18446744073709551615 }, \
+         base: \"c/d\" }",
     ),
 ];
 
@@ -79,7 +84,7 @@ fn reads_points(rt: HostRuntime) -> Result<(), Fail> {
 }
 
 /// Command lines that are refused: the kind of error, and what its text says.
-const REFUSED: [(&str, ErrorKind, &str); 12] = [
+const REFUSED: [(&str, ErrorKind, &str); 15] = [
     (
         "parcel_tool",
         ErrorKind::DisplayHelpOnMissingArgumentOrSubcommand,
@@ -114,6 +119,21 @@ const REFUSED: [(&str, ErrorKind, &str); 12] = [
         "parcel_tool locate a.shp b.shp --unit mm",
         ErrorKind::MissingRequiredArgument,
         "--points <FILE>",
+    ),
+    (
+        "parcel_tool part a.shp b.shp --unit mm --out c",
+        ErrorKind::MissingRequiredArgument,
+        "<ID>",
+    ),
+    (
+        "parcel_tool part a.shp b.shp 18446744073709551616 --unit mm --out c",
+        ErrorKind::ValueValidation,
+        "'18446744073709551616'",
+    ),
+    (
+        "parcel_tool part a.shp b.shp 1 --unit mm --out c --clerk d",
+        ErrorKind::UnknownArgument,
+        "'--clerk'",
     ),
     (
         "parcel_tool locate a.shp b.shp --unit mm --points c --at 0 0",
@@ -174,6 +194,10 @@ fn shows_help_and_version(rt: HostRuntime) -> Result<(), Fail> {
         (
             "parcel_tool locate --help",
             "Usage: parcel_tool locate [OPTIONS] --unit <UNIT> <--at <X> <Y>|--points <FILE>> <CITY> <PARCELS>",
+        ),
+        (
+            "parcel_tool part --help",
+            "Usage: parcel_tool part --unit <UNIT> --out <BASE> <CITY> <DISTRICTS> <ID>",
         ),
         (
             "parcel_tool --version",

@@ -16,7 +16,7 @@ use Rattle.city_layers.specs.declared.fault.Role.{Role}
 use Rattle.city_layers.specs.declared.fault.Role.TheVariants.{City}
 use Rattle.city_layers.specs.declared.fault.ToolFault.{ToolFault}
 use Rattle.city_layers.specs.declared.fault.ToolFault.TheVariants.{Unreadable, UnreadableIndex, Output, File, CityCount, CityRing, NoTiling}
-use Rattle.city_layers.specs.declared.fault.ToolFault.TheVariants.{ClerkCount, ClerkLine, PointLine, NoThread, NoWindow, NoMemory}
+use Rattle.city_layers.specs.declared.fault.ToolFault.TheVariants.{ClerkCount, ClerkLine, PointLine, NoParcel, NoThread, NoWindow, NoMemory}
 use Rattle.city_layers.specs.TilingFiles.{Files, IsCityOf, IsFaultOfCity, IsFaultOfLayer, IsTiledBy, told_of_city, told_of_load}
 
 -- a fault is told, or memory was wanted
@@ -42,6 +42,7 @@ city_unread files unit e reads refuses (UnreadableIndex stem) h = absurd h
 city_unread files unit e reads refuses (ClerkCount count) h = absurd h
 city_unread files unit e reads refuses (ClerkLine clerk line) h = absurd h
 city_unread files unit e reads refuses (PointLine number) h = absurd h
+city_unread files unit e reads refuses (NoParcel id) h = absurd h
 city_unread files unit e reads refuses (NoThread hand) h = absurd h
 city_unread files unit e reads refuses (NoWindow window) h = absurd h
 city_unread files unit e reads refuses Output h = absurd h
@@ -60,6 +61,7 @@ layer_unread role files unit city e reads refuses (UnreadableIndex stem) h = abs
 layer_unread role files unit city e reads refuses (ClerkCount count) h = absurd h
 layer_unread role files unit city e reads refuses (ClerkLine clerk line) h = absurd h
 layer_unread role files unit city e reads refuses (PointLine number) h = absurd h
+layer_unread role files unit city e reads refuses (NoParcel id) h = absurd h
 layer_unread role files unit city e reads refuses (NoThread hand) h = absurd h
 layer_unread role files unit city e reads refuses (NoWindow window) h = absurd h
 layer_unread role files unit city e reads refuses Output h = absurd h
@@ -80,6 +82,7 @@ city_counted files unit found count e ne only sound (UnreadableIndex stem) h = a
 city_counted files unit found count e ne only sound (ClerkCount other) h = absurd h
 city_counted files unit found count e ne only sound (ClerkLine clerk line) h = absurd h
 city_counted files unit found count e ne only sound (PointLine number) h = absurd h
+city_counted files unit found count e ne only sound (NoParcel id) h = absurd h
 city_counted files unit found count e ne only sound (NoThread hand) h = absurd h
 city_counted files unit found count e ne only sound (NoWindow window) h = absurd h
 city_counted files unit found count e ne only sound Output h = absurd h
@@ -123,6 +126,7 @@ city_refused files unit found ring P one only sound refuses (UnreadableIndex ste
 city_refused files unit found ring P one only sound refuses (ClerkCount count) h = absurd h
 city_refused files unit found ring P one only sound refuses (ClerkLine clerk line) h = absurd h
 city_refused files unit found ring P one only sound refuses (PointLine number) h = absurd h
+city_refused files unit found ring P one only sound refuses (NoParcel id) h = absurd h
 city_refused files unit found ring P one only sound refuses (NoThread hand) h = absurd h
 city_refused files unit found ring P one only sound refuses (NoWindow window) h = absurd h
 city_refused files unit found ring P one only sound refuses Output h = absurd h
@@ -191,6 +195,7 @@ layer_refused role files unit city found answer only sound refuses (UnreadableIn
 layer_refused role files unit city found answer only sound refuses (ClerkCount count) h = absurd h
 layer_refused role files unit city found answer only sound refuses (ClerkLine clerk line) h = absurd h
 layer_refused role files unit city found answer only sound refuses (PointLine number) h = absurd h
+layer_refused role files unit city found answer only sound refuses (NoParcel id) h = absurd h
 layer_refused role files unit city found answer only sound refuses (NoThread hand) h = absurd h
 layer_refused role files unit city found answer only sound refuses (NoWindow window) h = absurd h
 layer_refused role files unit city found answer only sound refuses Output h = absurd h
@@ -212,6 +217,7 @@ layer_has_none role files unit city found only sound none (UnreadableIndex stem)
 layer_has_none role files unit city found only sound none (ClerkCount count) h = h
 layer_has_none role files unit city found only sound none (ClerkLine clerk line) h = h
 layer_has_none role files unit city found only sound none (PointLine number) h = h
+layer_has_none role files unit city found only sound none (NoParcel id) h = h
 layer_has_none role files unit city found only sound none (NoThread hand) h = h
 layer_has_none role files unit city found only sound none (NoWindow window) h = h
 layer_has_none role files unit city found only sound none Output h = h

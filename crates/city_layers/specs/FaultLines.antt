@@ -16,7 +16,7 @@ use Rattle.fabric_core.specs.Rows.{AreRefined}
 use Rattle.fabric_core.specs.Faults.{AreRingFaults, AreGaps}
 use Rattle.city_layers.specs.declared.fault.ToolFault.{ToolFault}
 use Rattle.city_layers.specs.declared.fault.ToolFault.TheVariants.{Unreadable, UnreadableIndex, Output, File, CityCount, CityRing, NoTiling}
-use Rattle.city_layers.specs.declared.fault.ToolFault.TheVariants.{ClerkCount, ClerkLine, PointLine, NoThread, NoWindow}
+use Rattle.city_layers.specs.declared.fault.ToolFault.TheVariants.{ClerkCount, ClerkLine, PointLine, NoParcel, NoThread, NoWindow}
 use Rattle.city_layers.specs.declared.fault.ToolFault.TheVariants.{NoMemory}
 use Rattle.text_pieces.specs.CornerText.{corner_text}
 use Rattle.text_pieces.specs.RingFaultText.{ring_fault_text}
@@ -70,6 +70,7 @@ AreLinesBefore city parcels unit (CityRing fault) lines = lines ≡ []
 AreLinesBefore city parcels unit (ClerkCount count) lines = lines ≡ []
 AreLinesBefore city parcels unit (ClerkLine clerk line) lines = lines ≡ []
 AreLinesBefore city parcels unit (PointLine number) lines = lines ≡ []
+AreLinesBefore city parcels unit (NoParcel id) lines = lines ≡ []
 AreLinesBefore city parcels unit (NoThread hand) lines = lines ≡ []
 AreLinesBefore city parcels unit (NoWindow window) lines = lines ≡ []
 AreLinesBefore city parcels unit (Unreadable path) lines = lines ≡ []

@@ -8,7 +8,7 @@ use Rattle.city_layers.specs.declared.sources.PathFault.{PathFault}
 use Rattle.city_layers.specs.declared.sources.PathFault.TheVariants.{NotOpened, NotRead}
 use Rattle.city_layers.specs.declared.fault.ToolFault.{ToolFault}
 use Rattle.city_layers.specs.declared.fault.ToolFault.TheVariants.{Unreadable, UnreadableIndex, Output, File, CityCount, CityRing, NoTiling}
-use Rattle.city_layers.specs.declared.fault.ToolFault.TheVariants.{ClerkCount, ClerkLine, PointLine, NoThread, NoWindow, NoMemory}
+use Rattle.city_layers.specs.declared.fault.ToolFault.TheVariants.{ClerkCount, ClerkLine, PointLine, NoParcel, NoThread, NoWindow, NoMemory}
 
 -- the bytes of the index file, where there is one
 abbrev pub index_of : {A : Type 0} → Source A → Option (List ℕ)
@@ -36,6 +36,7 @@ IsTextBy reads path (Err (NoTiling role fault)) = ⊥
 IsTextBy reads path (Err (ClerkCount count)) = ⊥
 IsTextBy reads path (Err (ClerkLine clerk line)) = ⊥
 IsTextBy reads path (Err (PointLine number)) = ⊥
+IsTextBy reads path (Err (NoParcel id)) = ⊥
 IsTextBy reads path (Err (NoThread hand)) = ⊥
 IsTextBy reads path (Err (NoWindow window)) = ⊥
 
@@ -67,5 +68,6 @@ IsSourceBy reads path (Err (NoTiling role fault)) = ⊥
 IsSourceBy reads path (Err (ClerkCount count)) = ⊥
 IsSourceBy reads path (Err (ClerkLine clerk line)) = ⊥
 IsSourceBy reads path (Err (PointLine number)) = ⊥
+IsSourceBy reads path (Err (NoParcel id)) = ⊥
 IsSourceBy reads path (Err (NoThread hand)) = ⊥
 IsSourceBy reads path (Err (NoWindow window)) = ⊥

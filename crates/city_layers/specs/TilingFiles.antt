@@ -18,7 +18,7 @@ use Rattle.city_layers.specs.declared.fault.Role.{Role}
 use Rattle.city_layers.specs.declared.fault.Role.TheVariants.{City, Parcels}
 use Rattle.city_layers.specs.declared.fault.ToolFault.{ToolFault}
 use Rattle.city_layers.specs.declared.fault.ToolFault.TheVariants.{Unreadable, UnreadableIndex, Output, File, CityCount, CityRing, NoTiling}
-use Rattle.city_layers.specs.declared.fault.ToolFault.TheVariants.{ClerkCount, ClerkLine, PointLine, NoThread, NoWindow, NoMemory}
+use Rattle.city_layers.specs.declared.fault.ToolFault.TheVariants.{ClerkCount, ClerkLine, PointLine, NoParcel, NoThread, NoWindow, NoMemory}
 use Rattle.city_layers.specs.Sources.{index_of}
 
 -- the bytes of a layer's files
@@ -64,6 +64,7 @@ IsFaultOfCity files unit (NoTiling role fault) = ⊥
 IsFaultOfCity files unit (ClerkCount count) = ⊥
 IsFaultOfCity files unit (ClerkLine clerk line) = ⊥
 IsFaultOfCity files unit (PointLine number) = ⊥
+IsFaultOfCity files unit (NoParcel id) = ⊥
 IsFaultOfCity files unit (NoThread hand) = ⊥
 IsFaultOfCity files unit (NoWindow window) = ⊥
 IsFaultOfCity files unit (Unreadable path) = ⊥
@@ -102,6 +103,7 @@ IsFaultOfLayer role files unit city (CityRing fault) = ⊥
 IsFaultOfLayer role files unit city (ClerkCount count) = ⊥
 IsFaultOfLayer role files unit city (ClerkLine clerk line) = ⊥
 IsFaultOfLayer role files unit city (PointLine number) = ⊥
+IsFaultOfLayer role files unit city (NoParcel id) = ⊥
 IsFaultOfLayer role files unit city (NoThread hand) = ⊥
 IsFaultOfLayer role files unit city (NoWindow window) = ⊥
 IsFaultOfLayer role files unit city (Unreadable path) = ⊥

@@ -57,6 +57,8 @@ pub enum ToolFault<'a> {
     ClerkLine(u32, u64),
     /// L1: the line of this number, counted from 1, of the points' file is no point.
     PointLine(usize),
+    /// H4: no polygon of the parcels' layer has a record of this number.
+    NoParcel(u64),
     /// O7: the system refused a thread for the hand of this number, counted from 0.
     NoThread(usize),
     /// K3: the window of this number, counted from 1, of the clerks' office was given no reader.
@@ -122,6 +124,7 @@ impl<'a> fmt::Display for ToolFault<'a> {
             ToolFault::ClerkCount(count) => write!(f, "K1 {count}"),
             ToolFault::ClerkLine(clerk, line) => write!(f, "clerk {clerk}: L1 {line}"),
             ToolFault::PointLine(number) => write!(f, "points: L1 {number}"),
+            ToolFault::NoParcel(id) => write!(f, "parcels: H4 {id}"),
             ToolFault::NoThread(hand) => write!(f, "O7 {hand}"),
             ToolFault::NoWindow(window) => write!(f, "K3 {window}"),
             ToolFault::NoMemory

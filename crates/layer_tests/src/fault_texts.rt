@@ -16,6 +16,7 @@ fn tells_faults(rt: HostRuntime) -> Result<(), Fail> {
         (ToolFault::ClerkCount(9), "K1 9"),
         (ToolFault::ClerkLine(2, 5), "clerk 2: L1 5"),
         (ToolFault::PointLine(3), "points: L1 3"),
+        (ToolFault::NoParcel(6), "parcels: H4 6"),
         (ToolFault::NoThread(63), "O7 63"),
         (ToolFault::NoWindow(1), "K3 1"),
         (ToolFault::NoMemory, "no memory"),

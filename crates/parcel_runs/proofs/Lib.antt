@@ -1,6 +1,9 @@
 pub mod CityLimit
 pub mod SimpleRings
 pub mod RowLimits
+pub mod BegunTwice
+pub mod PartRings
+pub mod OneTiling
 pub mod Places
 pub mod EditedRuns
 pub mod RunFaults

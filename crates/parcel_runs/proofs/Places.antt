@@ -7,9 +7,10 @@ use Rattle.fabric_core.specs.declared.locate.At.{At}
 use Rattle.fabric_core.specs.declared.locate.At.TheVariants.{Inside, OnEdge, Outside}
 use Rattle.fabric_core.specs.Locate.{IsLocatedAt}
 use Rattle.clerk_runs.specs.ClerkRuns.{AreLocated}
+use Rattle.clerk_runs.specs.PlaceTexts.{place_text}
 use Rattle.text_pieces.specs.CornerText.{corner_text}
 use Rattle.parcel_runs.specs.LocateReport.{IsPlaceText, ArePlaceLines}
-use Rattle.parcel_runs.specs.own.PlaceTexts.{place_text, places_text}
+use Rattle.parcel_runs.specs.own.PlaceTexts.{places_text}
 
 -- pieces, one behind the other
 regrouped : (a b c d more : List ℕ) → (a ++ b ++ c ++ d) ++ more ≡ a ++ b ++ c ++ d ++ more

@@ -1,5 +1,6 @@
 pub mod CheckReport
 pub mod ExportReport
+pub mod PartReport
 pub mod RunFaults
 pub mod LocateReport
 pub mod OverlayReport
@@ -14,9 +15,11 @@ pub use Rattle.city_layers.specs.FaultLines
 pub use Rattle.clerk_runs.specs.ClerkFiles
 pub use Rattle.clerk_runs.specs.ClerkLines
 pub use Rattle.clerk_runs.specs.ClerkRuns
+pub use Rattle.clerk_runs.specs.PlaceTexts
 pub use Rattle.line_files.specs.TextLines
 pub use Rattle.line_files.specs.TextNumbers
 pub use Rattle.line_files.specs.PointLines
 pub use Rattle.text_puts.specs.Beginnings
 pub use Rattle.zone_tables.specs.Overlap
 pub use Rattle.zone_tables.specs.Report
+pub mod SheetReport

@@ -1,6 +1,6 @@
 -- The lines that tell where points lie (this product's own). Numbers are in decimal, with a minus sign where they are
 -- below 0; points in millimetres.
-use Rattle.std.specs.Prelude.{◌≡◌, ◌≢◌, ◌⊎◌, ℕ, List, [], ◌∷◌, ◌++◌, codes, decimal, Option}
+use Rattle.std.specs.Prelude.{◌≡◌, ◌≢◌, ◌⊎◌, ℕ, List, [], ◌∷◌, ◌++◌, codes, Option}
 use Rattle.std.specs.List.{flat_map}
 use Rattle.std.specs.Io.KnownBytes.{Appends}
 use Rattle.geo_exact.specs.Point.{corner_point, Point}
@@ -15,11 +15,8 @@ use Rattle.text_pieces.specs.CornerText.{corner_text}
 use Rattle.line_files.specs.PointLines.{ArePoints, IsFirstBadPoint}
 use Rattle.city_layers.specs.TilingFiles.{Files, AreTiles}
 use Rattle.clerk_runs.specs.ClerkRuns.{Register, IsEdited}
+use Rattle.clerk_runs.specs.PlaceTexts.{id_text}
 use Rattle.parcel_runs.specs.RunFaults.{IsRunFault}
-
--- ` ID`
-abbrev pub id_text : ℕ → List ℕ
-id_text id = codes " " ++ decimal id
 
 -- `edge ID ID ..` with all parcels on whose edges p lies, ascending, where there is one; else `inside ID` with
 -- one that it is inside of (in a tiling there is no other); else `outside`

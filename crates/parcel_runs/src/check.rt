@@ -137,7 +137,7 @@ fn checked_text<'h, R: Threads + Wait + Sync, H: Allocator + Send + Sync>(
 }
 
 /// Adds the line of a tiling: the number of parcels, and twice the city's area.
-fn push_tiling<A: Allocator>(
+pub(crate) fn push_tiling<A: Allocator>(
     text: &mut Vec<u8, A>,
     count: usize,
     area2: u128,

@@ -75,7 +75,7 @@ pub fn export<'h, R: Threads + Wait + Sync, H: Allocator + Send + Sync, A: Alloc
 }
 
 /// The main file and the index of the parcels, each numbered as the record that it is written as.
-fn written<'h, H: Allocator>(
+pub(crate) fn written<'h, H: Allocator>(
     heap: &'h H,
     parcels: &Parcels<'h, H>,
 ) -> Result<(Vec<u8, &'h H>, Vec<u8, &'h H>), AllocError>
@@ -107,7 +107,10 @@ fn rings_to_write<A: Allocator + Copy>(
 }
 
 /// A ring under a record's number.
-fn ring_to_write<A: Allocator + Copy>(number: u32, ring: &Ring<A>) -> Result<RawRing<A>, AllocError>
+pub(crate) fn ring_to_write<A: Allocator + Copy>(
+    number: u32,
+    ring: &Ring<A>,
+) -> Result<RawRing<A>, AllocError>
     requires { length ring.now.corners ≤ RING_CORNERS }
     ensures { IfOk result (λ written. written.corners ≡ ring.now.corners) }
 {
@@ -116,7 +119,10 @@ fn ring_to_write<A: Allocator + Copy>(number: u32, ring: &Ring<A>) -> Result<Raw
 }
 
 /// Adds the line of an export, which tells the number of parcels.
-fn push_exported<A: Allocator>(text: &mut Vec<u8, A>, count: usize) -> Result<(), AllocError>
+pub(crate) fn push_exported<A: Allocator>(
+    text: &mut Vec<u8, A>,
+    count: usize,
+) -> Result<(), AllocError>
     ensures { OnOk result (text.new.items ≡ text.old.items ++ (codes "exported " ++ decimal count ++ codes "\n")) }
 {
     let mut digits = Buffer::new();

@@ -1,26 +1,26 @@
 //! Where points lie among parcels.
 
 ghost use Rattle.std.specs.Prelude.{◌≡◌, ◌⊎◌, ◌≤◌, ◌++◌, ℕ, List, length, IfOk, IfErr, IsErrAnd, IsErrOf, OnOk, codes};
-ghost use Rattle.std.specs.List.{flat_map};
 ghost use Rattle.std.specs.Borrow.{Bor};
 ghost use Rattle.geo_exact.specs.Bytes.{raised};
 ghost use Rattle.city_layers.specs.declared.fault.ToolFault.{ToolFault as ToolFaultValue};
 ghost use Rattle.text_pieces.specs.CornerText.{corner_text};
-ghost use Rattle.parcel_runs.specs.LocateReport.{id_text, ArePlaceLines, WritesPlaces, WritesPlacesOfText, IsLocateFault};
+ghost use Rattle.parcel_runs.specs.LocateReport.{ArePlaceLines, WritesPlaces, WritesPlacesOfText, IsLocateFault};
 ghost use Rattle.line_files.specs.PointLines.{ArePoints, IsFirstBadPoint};
 ghost use Rattle.city_layers.specs.TilingFiles.{files_of};
 ghost use Rattle.clerk_runs.specs.ClerkFiles.{texts_of};
 ghost use Rattle.clerk_runs.specs.ClerkRuns.{Register, AreMade};
+ghost use Rattle.clerk_runs.specs.PlaceTexts.{place_text};
 ghost use Rattle.parcel_runs.specs.RunFaults.{IsRunFault, IsWant};
-ghost use Rattle.parcel_runs.specs.own.PlaceTexts.{place_text, places_text};
+ghost use Rattle.parcel_runs.specs.own.PlaceTexts.{places_text};
 
 use crate::clerks::CLERKS;
 use crate::edited::{Unedited, edit_layer};
 use crate::unedited::load_unedited;
 use city_layers::{Source, ToolFault};
+use clerk_runs::push_place;
 use fabric_core::At;
 use geo_exact::{ByteOut, Corner, Unit};
-use itoa::Buffer;
 use line_files::{PointsFault, read_points};
 use std::alloc::{AllocError, Allocator};
 use std::sync::Wait;
@@ -171,46 +171,5 @@ fn push_place_line<A: Allocator, B: Allocator>(
     lines.push(b' ')?;
     push_place(lines, at)?;
     lines.push(b'\n')?;
-    Ok(())
-}
-
-/// Adds where a point lies.
-fn push_place<A: Allocator, B: Allocator>(
-    text: &mut Vec<u8, A>,
-    at: &At<B>,
-) -> Result<(), AllocError>
-    ensures { OnOk result (text.new.items ≡ text.old.items ++ place_text at.now) }
-{
-    match at {
-        At::Inside(id) => {
-            text.extend_from_slice(b"inside")?;
-            push_id(text, *id)?;
-        }
-        At::OnEdge(ids) => {
-            text.extend_from_slice(b"edge")?;
-            push_ids(text, ids)?;
-        }
-        At::Outside => text.extend_from_slice(b"outside")?,
-    }
-    Ok(())
-}
-
-/// Adds ids, each behind a space.
-fn push_ids<A: Allocator>(text: &mut Vec<u8, A>, ids: &[u64]) -> Result<(), AllocError>
-    ensures { OnOk result (text.new.items ≡ text.old.items ++ flat_map id_text ids.now) }
-{
-    for id in ids {
-        push_id(text, *id)?;
-    }
-    Ok(())
-}
-
-/// Adds an id behind a space.
-fn push_id<A: Allocator>(text: &mut Vec<u8, A>, id: u64) -> Result<(), AllocError>
-    ensures { OnOk result (text.new.items ≡ text.old.items ++ id_text id) }
-{
-    let mut digits = Buffer::new();
-    text.push(b' ')?;
-    text.extend_from_slice(digits.format(id).as_bytes())?;
     Ok(())
 }

@@ -93,7 +93,7 @@ fn edited_sheet<'h, R: Threads + Wait + Sync, H: Allocator + Send + Sync>(
 }
 
 /// Writes lines, and then the report of a table.
-fn write_both<'t, 'h, H: Allocator, A: Allocator, W: ByteOut>(
+pub(crate) fn write_both<'t, 'h, H: Allocator, A: Allocator, W: ByteOut>(
     lines: &[u8],
     table: &Table<'t, 'h, H, A>,
     out: &mut W,

@@ -10,6 +10,7 @@ use parcel_runs::check::{check, check_all};
 use parcel_runs::export::export;
 use parcel_runs::locate::{locate, locate_text};
 use parcel_runs::overlay::overlay;
+use parcel_runs::part::part;
 use parcel_runs::refuse_many_clerks;
 use std::alloc::Global;
 use std::io::Input;
@@ -19,7 +20,7 @@ use std::sync::Wait;
 use std::thread::Threads;
 use std::{env, io};
 use text_puts::put_all;
-use tool_arguments::{Inputs, Points, Request, Workers};
+use tool_arguments::{District, Inputs, Points, Request, Workers};
 
 /// The status of a run that a fault ended.
 const FAULT: u8 = 1;
@@ -91,6 +92,7 @@ fn answer<'a, R: Files + Input + Print + Threads + Wait + Sync + AllocGlobal>(
             zones,
             workers,
         } => answer_overlay(rt, &inputs, zones, workers, &mut out),
+        Request::Part { district, base } => answer_part(rt, &district, base, &mut out),
     }
 }
 
@@ -141,6 +143,22 @@ fn answer_overlay<'a, R: Files + Threads + Wait + Sync + AllocGlobal, W: ByteOut
         workers.count,
         out,
     )
+}
+
+/// Writes one district as a layer of its own.
+fn answer_part<'a, R: Files + AllocGlobal, W: ByteOut>(
+    rt: &R,
+    district: &District<'a>,
+    base: &'a str,
+    out: &mut W,
+) -> Result<(), ToolFault<'a>> {
+    let heap = rt.alloc();
+    let city = read_source(&Disk(rt), heap, district.city)?;
+    let districts = read_source(&Disk(rt), heap, district.districts)?;
+    let written = part(&heap, &city, &districts, district.unit, district.id)?;
+    replace_layer(rt, heap, base, &written.main, &written.index)?;
+    put_all(&written.line, out)?;
+    Ok(())
 }
 
 /// The files of a run about parcels.

@@ -11,6 +11,8 @@ mod locate_runs;
 #[cfg(test)]
 mod overlay_runs;
 #[cfg(test)]
+mod part_runs;
+#[cfg(test)]
 mod point_lines;
 #[cfg(test)]
 mod refused_growths;

@@ -10,6 +10,7 @@ use parcel_runs::check::{check, check_all};
 use parcel_runs::export::export;
 use parcel_runs::locate::locate_text;
 use parcel_runs::overlay::overlay;
+use parcel_runs::part::part;
 use refusing_alloc::Refusing;
 use std::alloc::{AllocError, Global};
 use std::sync::Wait;
@@ -41,6 +42,8 @@ enum Which {
     Places,
     /// Of the two rectangles with the halves of the city.
     Overlay,
+    /// Of the second of the two rectangles.
+    Part,
 }
 
 /// A run, and what it prints with memory.
@@ -52,7 +55,7 @@ struct Row {
 }
 
 /// The runs.
-const RUNS: [Row; 11] = [
+const RUNS: [Row; 12] = [
     Row {
         which: Which::Areas,
         want: "1 20000\n",
@@ -81,6 +84,11 @@ const RUNS: [Row; 11] = [
     Row {
         which: Which::Overlay,
         want: "entries 0\npair 1 1\npair 1 2\npair 2 2\nsplit 1\nwithin 2 2\n",
+        unedited: None,
+    },
+    Row {
+        which: Which::Part,
+        want: "part 2 8000\n",
         unedited: None,
     },
     Row {
@@ -177,6 +185,11 @@ fn answer<'h, R: Threads + Wait + Sync>(
             locate_text(rt, heap, city, parcels, unit, points, clerks, out)
         }
         Which::Overlay => overlay(rt, heap, city, parcels, &inputs.zones, unit, clerks, 2, out),
+        Which::Part => {
+            let written = part(heap, city, parcels, unit, 2)?;
+            put_all(written.line.as_slice(), out)?;
+            Ok(())
+        }
     }
 }
 

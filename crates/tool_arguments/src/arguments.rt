@@ -57,6 +57,13 @@ pub enum Request<'a> {
         /// How many share the work.
         workers: Workers,
     },
+    /// One district of those that tile their city, written as a layer of its own.
+    Part {
+        /// What is read.
+        district: District<'a>,
+        /// The path of the files that are written, without their endings .shp and .shx.
+        base: &'a str,
+    },
 }
 
 /// How many workers share the parcels: 1 to 64.
@@ -79,6 +86,19 @@ pub struct Inputs<'a> {
     pub unit: Unit,
     /// The paths of the files of clerks' edits; clerk K's is the K-th.
     pub clerks: Vec<&'a str>,
+}
+
+/// What a request about one district reads.
+#[derive(Debug, Drop)]
+pub struct District<'a> {
+    /// The path of the main file of the city's layer.
+    pub city: &'a str,
+    /// The path of the main file of the layer of all districts.
+    pub districts: &'a str,
+    /// The unit of the coordinates of both.
+    pub unit: Unit,
+    /// The number of the district's record.
+    pub id: u64,
 }
 
 /// The points that a command line asks for.
@@ -104,6 +124,7 @@ pub fn parse<'a, S: AsStr>(alloc: Global, words: &'a [S]) -> Result<Request<'a>,
         Some(("check", given)) => check_request(alloc, given)?,
         Some(("export", given)) => export_request(alloc, given)?,
         Some(("overlay", given)) => overlay_request(alloc, given)?,
+        Some(("part", given)) => part_request(given),
         Some(("locate", given)) => match points_of(alloc, given)? {
             Some(points) => locate_request(alloc, given, points)?,
             None => return Err(command.error(ErrorKind::ValueValidation, AT_HELP)?),
@@ -179,6 +200,19 @@ fn overlay_request<'a>(
         zones,
         workers,
     }))
+}
+
+/// What the words of `part` ask for.
+fn part_request<'a>(given: &ArgMatches<'a>) -> Option<Request<'a>> {
+    Some(Request::Part {
+        district: District {
+            city: given.get_str("CITY")?,
+            districts: given.get_str("DISTRICTS")?,
+            unit: unit_of(given)?,
+            id: given.get_one("ID")?,
+        },
+        base: given.get_str("out")?,
+    })
 }
 
 /// How many workers were asked for.
@@ -272,7 +306,8 @@ fn tool_command<'a>(alloc: Global) -> Result<Command<'a>, AllocError> {
         .subcommand(check_command(alloc)?)?
         .subcommand(export_command(alloc)?)?
         .subcommand(locate_command(alloc)?)?
-        .subcommand(overlay_command(alloc)?)
+        .subcommand(overlay_command(alloc)?)?
+        .subcommand(part_command(alloc)?)
 }
 
 fn area_command<'a>(alloc: Global) -> Result<Command<'a>, AllocError> {
@@ -355,6 +390,31 @@ fn overlay_command<'a>(alloc: Global) -> Result<Command<'a>, AllocError> {
         .arg(worker_count(alloc))
 }
 
+fn part_command<'a>(alloc: Global) -> Result<Command<'a>, AllocError> {
+    Command::new(alloc, "part")
+        .about(
+            "Writes, where districts tile their city, one of them as a city of its own, and prints twice its area",
+        )
+        .arg(file(alloc, "CITY", "The main file of the city's layer, .shp"))?
+        .arg(file(
+            alloc,
+            "DISTRICTS",
+            "The main file of the layer of all districts, .shp",
+        ))?
+        .arg(record_number(alloc))?
+        .arg(unit(alloc, "The unit of the files' coordinates"))?
+        .arg(base(alloc))
+}
+
+/// The number of a record, which has to be given.
+fn record_number<'a>(alloc: Global) -> Arg<'a> {
+    Arg::new(alloc, "ID")
+        .required(true)
+        .action(ArgAction::Set)
+        .value_parser(value_parser!(u64))
+        .help("The number of the district's record, from 1")
+}
+
 /// How many threads share the parcels.
 fn worker_count<'a>(alloc: Global) -> Arg<'a> {
     Arg::new(alloc, "workers")
@@ -403,7 +463,7 @@ fn clerk<'a>(alloc: Global) -> Arg<'a> {
         )
 }
 
-/// Where an export is written, which has to be given.
+/// Where a layer is written, which has to be given.
 fn base<'a>(alloc: Global) -> Arg<'a> {
     Arg::new(alloc, "out")
         .long("out")

@@ -6,7 +6,7 @@ use Rattle.shp_files.specs.declared.fault.LayerFault.{LayerFault}
 use Rattle.city_layers.specs.declared.fault.Role.{Role}
 use Rattle.city_layers.specs.declared.fault.ToolFault.{ToolFault}
 use Rattle.city_layers.specs.declared.fault.ToolFault.TheVariants.{Unreadable, UnreadableIndex, Output, File, CityCount, CityRing, NoTiling}
-use Rattle.city_layers.specs.declared.fault.ToolFault.TheVariants.{ClerkCount, ClerkLine, PointLine, NoThread, NoWindow, NoMemory}
+use Rattle.city_layers.specs.declared.fault.ToolFault.TheVariants.{ClerkCount, ClerkLine, PointLine, NoParcel, NoThread, NoWindow, NoMemory}
 
 -- what is told of a layer with this role that was not read
 abbrev pub layer_fault : Role → LayerFault → ToolFault
@@ -26,5 +26,6 @@ IsLayerFault role main index unit (NoTiling told fault) = ⊥
 IsLayerFault role main index unit (ClerkCount count) = ⊥
 IsLayerFault role main index unit (ClerkLine clerk line) = ⊥
 IsLayerFault role main index unit (PointLine number) = ⊥
+IsLayerFault role main index unit (NoParcel id) = ⊥
 IsLayerFault role main index unit (NoThread hand) = ⊥
 IsLayerFault role main index unit (NoWindow window) = ⊥

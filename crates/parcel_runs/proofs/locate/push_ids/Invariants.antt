@@ -1,6 +1,0 @@
-use Rattle.std.proofs.Common.{◌≡◌, ◌++◌, take, flat_map}
-use Rattle.parcel_runs.specs.LocateReport.{id_text}
-use Rattle.parcel_runs.proofs.locate.push_ids.Given as goal
-
-abbrev pub invariant-loop-id : goal.invariant-loop-id
-invariant-loop-id g l = l.text.items ≡ l.fn.text.items ++ flat_map id_text (take l.id-index l.ids)

@@ -1,0 +1,97 @@
+//! The files that hold one parcel of a layer, as the city of a layer of its own.
+
+ghost use Rattle.std.specs.Prelude.{◌≡◌, ◌⊎◌, ◌≤◌, ◌++◌, [], ◌∷◌, Some, length, IfOk, IfErr, IsErrAnd, OnOk, unsigned_abs, codes, decimal};
+ghost use Rattle.geo_exact.specs.Area.{area2 as area2_of};
+ghost use Rattle.geo_exact.specs.Layers.{numbered};
+ghost use Rattle.geo_exact.specs.declared.coord.Unit.TheVariants.{Mm};
+ghost use Rattle.geo_exact.specs.declared.limits.TheConstants.{RING_CORNERS};
+ghost use Rattle.shp_files.specs.LayerFile.{IsLayerFile};
+ghost use Rattle.shp_files.specs.Written.{written_main, written_index};
+ghost use Rattle.city_layers.specs.declared.fault.ToolFault.{ToolFault as ToolFaultValue};
+ghost use Rattle.city_layers.specs.TilingFiles.{files_of};
+ghost use Rattle.parcel_runs.specs.PartReport.{part_line, IsPart, IsPartFault};
+
+use crate::export::ring_to_write;
+use city_layers::{Source, ToolFault, load_tiles};
+use geo_exact::{Unit, area2};
+use itoa::Buffer;
+use ring_core::Ring;
+use shp_files::write_layer;
+use std::alloc::{AllocError, Allocator};
+
+/// What is written of one parcel, and what is printed.
+#[derive(Drop)]
+pub struct WrittenPart<A: Allocator> {
+    /// The bytes of the main file.
+    pub main: Vec<u8, A>,
+    /// The bytes of the index file.
+    pub index: Vec<u8, A>,
+    /// The text that is printed: `part ID AREA2`, the parcel's number and twice its area in square millimetres.
+    pub line: Vec<u8, A>,
+}
+
+/// The two files of one of the districts that tile their city exactly: a layer of one polygon, the
+/// ring of the record of this number with all corners of the layer and the city that lie inside its
+/// edges, begun at its least corner. Coordinates are in millimetres, whatever the unit that was
+/// read. Read again they are a city, with exactly the ring that tiled.
+///
+/// # Errors
+///
+/// The first fault of the city's files and ring, then of the districts' files and rings, which is
+/// told of the parcels; then [`ToolFault::NoParcel`] where no polygon has this record number; and
+/// [`ToolFault::NoMemory`].
+pub fn part<'h, H: Allocator, A: Allocator>(
+    heap: &'h H,
+    city: &Source<A>,
+    districts: &Source<A>,
+    unit: Unit,
+    id: u64,
+) -> Result<WrittenPart<&'h H>, ToolFault<'static>>
+    ensures ok { IfOk result (λ part.
+        IsPart (files_of city.now) (files_of districts.now) unit id part.main.items part.index.items part.line.items) }
+    ensures fault { IfErr result (λ fault.
+        IsPartFault (files_of city.now) (files_of districts.now) unit id fault ⊎ (fault ≡ ToolFault.NoMemory)) }
+    ensures refuses { (fault : ToolFaultValue) → IsPartFault (files_of city.now) (files_of districts.now) unit id fault
+        → IsErrAnd result (λ told. (told ≡ fault) ⊎ (told ≡ ToolFault.NoMemory)) }
+{
+    let layer = load_tiles(heap, city, districts, unit)?;
+    layer.tiles();
+    match layer.ring(id) {
+        Some(ring) => Ok(part_of(heap, id, ring)?),
+        None => Err(ToolFault::NoParcel(id)),
+    }
+}
+
+/// The files of a ring alone, and the line of it under a number.
+fn part_of<'h, H: Allocator>(
+    heap: &'h H,
+    id: u64,
+    ring: &Ring<&'h H>,
+) -> Result<WrittenPart<&'h H>, AllocError>
+    requires { length ring.now.corners ≤ RING_CORNERS }
+    ensures main { IfOk result (λ part. part.main.items ≡ written_main (ring.now.corners ∷ [])) }
+    ensures index { IfOk result (λ part. part.index.items ≡ written_index (ring.now.corners ∷ [])) }
+    ensures read_back { IfOk result (λ part.
+        IsLayerFile part.main.items (Some part.index.items) Mm (numbered 1 ring.now.corners ∷ [])) }
+    ensures line { IfOk result (λ part. part.line.items ≡ part_line (numbered id ring.now.corners)) }
+{
+    let rings = [ring_to_write(1, ring)?];
+    let (main, index) = write_layer(heap, &rings)?;
+    let mut line = Vec::new(heap);
+    push_part(&mut line, id, area2(ring.corners.as_slice()).unsigned_abs())?;
+    Ok(WrittenPart { main, index, line })
+}
+
+/// Adds the line of a part: its number, and twice its area.
+fn push_part<A: Allocator>(text: &mut Vec<u8, A>, id: u64, area2: u128) -> Result<(), AllocError>
+    ensures { OnOk result (text.new.items ≡ text.old.items
+        ++ (codes "part " ++ decimal id ++ codes " " ++ decimal area2 ++ codes "\n")) }
+{
+    let mut digits = Buffer::new();
+    text.extend_from_slice(b"part ")?;
+    text.extend_from_slice(digits.format(id).as_bytes())?;
+    text.push(b' ')?;
+    text.extend_from_slice(digits.format(area2).as_bytes())?;
+    text.push(b'\n')?;
+    Ok(())
+}
