@@ -1,4 +1,4 @@
-"""What the tests share: the built program, and registers prepared once."""
+"""What the tests share: the program, registers prepared once, engines of `gandovel many`."""
 from __future__ import annotations
 
 import os
@@ -6,6 +6,9 @@ from pathlib import Path
 
 import pytest
 
+SLURM = bool(os.environ.get("GANDOVEL_SLURM"))
+collect_ignore = [] if SLURM else ["test_many_slurm.py"]
+ENGINES = ["parallel", "dask", *(["slurm"] if SLURM else [])]
 BUILT = Path(__file__).resolve().parents[2] / "crates/parcel_tool/out/parcel_tool"
 if "GANDOVEL_TOOL" not in os.environ and BUILT.is_file():
     os.environ["GANDOVEL_TOOL"] = str(BUILT)
@@ -27,3 +30,48 @@ def whole():
     from registers import register
 
     return gandovel.prepare(*register(faults=False))
+
+
+@pytest.fixture(scope="session")
+def dask_cluster():
+    """Four workers of Dask on this machine, each with a nanny."""
+    import dask
+    import distributed
+
+    with dask.config.set({"distributed.scheduler.allowed-failures": 5}):
+        with distributed.LocalCluster(
+            n_workers=4, threads_per_worker=1, host="127.0.0.1", dashboard_address="127.0.0.1:0"
+        ) as cluster:
+            yield cluster
+
+
+@pytest.fixture(scope="session")
+def slurm_cluster(tmp_path_factory):
+    """Two nodes of Slurm on this machine."""
+    from slurm_cluster import Cluster
+
+    cluster = Cluster(tmp_path_factory.mktemp("slurm"))
+    try:
+        yield cluster.start()
+    finally:
+        cluster.stop()
+
+
+@pytest.fixture(params=ENGINES)
+def run(request):
+    """`run_many` by an engine; `run.engine` is its name."""
+    from gandovel.many import run_many
+
+    name, options = request.param, {}
+    if name == "slurm":
+        request.getfixturevalue("slurm_cluster")
+    if name == "dask":
+        options["scheduler"] = request.getfixturevalue("dask_cluster").scheduler_address
+    if name == "parallel":
+        options["jobs"] = 4
+
+    def call(manifest, out, **more):
+        return run_many(manifest, out, name, **{**options, **more})
+
+    call.engine = name
+    return call

@@ -1,4 +1,4 @@
-"""The command `gandovel`: prepare, report, map, back."""
+"""The command `gandovel`: prepare, report, map, back, many."""
 from __future__ import annotations
 
 import argparse
@@ -9,6 +9,7 @@ from typing import List, Optional
 
 from . import __version__
 from .errors import Refused
+from .many.command import add_command, run_command
 from .prepare import prepare
 from .prepared import Prepared, load
 from .progress import Progress
@@ -54,6 +55,7 @@ def parser() -> argparse.ArgumentParser:
     four.add_argument("--rows", required=True, metavar="FOLDER/rows.csv",
                       help="the rows that prepare wrote for these parcels")
     four.add_argument("--out", required=True, metavar="NEW.gpkg", help="the GeoPackage to write")
+    add_command(commands)
     return top
 
 
@@ -113,7 +115,8 @@ def main(arguments: Optional[List[str]] = None) -> int:
     """Runs the command line; the status."""
     options = parser().parse_args(arguments)
     try:
-        {"prepare": _prepare, "report": _report, "map": _map, "back": _back}[options.command](options)
+        commands = {"prepare": _prepare, "report": _report, "map": _map, "back": _back, "many": run_command}
+        commands[options.command](options)
     except Refused as refused:
         print(f"error: {refused}", file=sys.stderr)
         return refused.status

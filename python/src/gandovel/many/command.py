@@ -1,0 +1,79 @@
+"""The command `gandovel many`."""
+from __future__ import annotations
+
+import argparse
+import sys
+from typing import Any
+
+from ..errors import Refused
+
+SHOWN = 8
+
+
+def add_command(commands: Any) -> None:
+    """Adds `many` to the commands of a command line, which `argparse` keeps in an object without a public type."""
+    one = commands.add_parser("many", help="many cities at once, by GNU parallel, Slurm or Dask")
+    one.add_argument(
+        "manifest",
+        metavar="MANIFEST.csv",
+        help="the cities: name, city, parcels, unit; zones, edits, part_of, district",
+    )
+    one.add_argument("--out", required=True, metavar="FOLDER", help="the folder of results")
+    one.add_argument(
+        "--engine", choices=("parallel", "slurm", "dask"), default="parallel", help="what runs the tasks (parallel)"
+    )
+    one.add_argument(
+        "--scheduler", metavar="ADDRESS", help="Dask's scheduler; without it, one with workers on this machine"
+    )
+    one.add_argument(
+        "--jobs", metavar="N", type=_positive, help="tasks at once (the processors; Slurm and a scheduler: theirs)"
+    )
+    one.add_argument("--threads", metavar="N", type=_positive, default=1, help="threads of an overlay (1)")
+    one.add_argument(
+        "--timeout", metavar="SECONDS", type=float, help="the longest that the program may take for a city"
+    )
+    one.add_argument(
+        "--memory", metavar="MB", type=_positive, help="the most address space that the program may take, in MiB"
+    )
+    one.add_argument(
+        "--retries", metavar="N", type=int, default=2, help="how often a task without a result is tried again (2)"
+    )
+    one.add_argument("--resume", action="store_true", help="do not do again what has a result of the same files")
+
+
+def _positive(word: str) -> int:
+    number = int(word)
+    if number < 1:
+        raise argparse.ArgumentTypeError("a whole number from 1")
+    return number
+
+
+def run_command(options: argparse.Namespace) -> None:
+    """Runs the command. Refused T8 where it is stopped, and T9 where a city is left without a verdict."""
+    from .run import run_many
+
+    try:
+        summary = run_many(
+            options.manifest,
+            options.out,
+            options.engine,
+            scheduler=options.scheduler,
+            jobs=options.jobs,
+            threads=options.threads,
+            timeout=options.timeout,
+            memory_mb=options.memory,
+            retries=max(0, options.retries),
+            resume=options.resume,
+            shown=True,
+        )
+    except KeyboardInterrupt as stopped:
+        raise Refused("T8", "the run was stopped; what is done stays, and --resume goes on from there") from stopped
+    for line in summary.lines():
+        print(line)
+    print(summary.costs(), file=sys.stderr)
+    without = summary.without
+    for verdict in without[:SHOWN]:
+        print(f"{verdict.name}: {verdict.code} {verdict.text}".rstrip(), file=sys.stderr)
+    if without:
+        more = f"; {len(without) - SHOWN} more are in summary.csv" if len(without) > SHOWN else ""
+        raise Refused("T9", f"{len(without)} of {len(summary.verdicts)} cities have no verdict{more}")

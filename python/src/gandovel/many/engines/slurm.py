@@ -1,0 +1,221 @@
+"""Slurm, by array jobs: one task, one element of an array. `sacct`, else `squeue`, tells what became of each."""
+from __future__ import annotations
+
+import json
+import os
+import re
+import shutil
+import subprocess
+import sys
+import time
+from pathlib import Path
+from typing import Dict, Iterable, List, Optional, Sequence, Tuple
+
+from ...errors import Refused
+from ..tasks import WORKER, Batch
+from .base import SPARE, Engine, Lost, Told
+
+OFTEN, SELDOM = 2.0, 10.0
+"""Seconds between two looks at the queue: at first, and after a minute."""
+
+PATIENCE = 900.0
+"""Seconds that the controller may be away before the run is given up."""
+
+LARGEST_ARRAY = 1001
+"""Slurm's own setting where it does not tell one."""
+
+PROGRAMS = ("sbatch", "squeue", "scancel", "scontrol")
+RECORD = "slurm.json"
+OVER = {
+    "BOOT_FAIL",
+    "CANCELLED",
+    "COMPLETED",
+    "DEADLINE",
+    "FAILED",
+    "NODE_FAIL",
+    "OUT_OF_MEMORY",
+    "PREEMPTED",
+    "TIMEOUT",
+}
+
+SCRIPT = """#!/bin/sh
+number=$(sed -n "$((SLURM_ARRAY_TASK_ID + 1))p" "$GANDOVEL_LIST")
+exec "$GANDOVEL_PYTHON" -I -S "$GANDOVEL_WORKER" "$GANDOVEL_TASKS/$number.json"
+"""
+"""What each element of an array runs: the line of a list that is its own has its task's number."""
+
+
+class SlurmEngine(Engine):
+    """Tasks as array jobs, as many as the cluster's `MaxArraySize` asks for. What left no result is submitted again.
+
+    Partition, account and the like are taken from sbatch's own variables (SBATCH_PARTITION, SBATCH_ACCOUNT ..).
+    """
+
+    def test(self) -> None:
+        for program in PROGRAMS:
+            if shutil.which(program) is None:
+                raise Refused("T7", f"Slurm's {program} is not on PATH")
+        self.largest = self._largest()
+
+    @staticmethod
+    def _largest() -> int:
+        ended = _ask("scontrol", "show", "config")
+        if ended.returncode != 0:
+            raise Refused("T7", f"Slurm's controller does not answer: {ended.stderr.strip()}")
+        found = re.search(r"^MaxArraySize\s*=\s*(\d+)", ended.stdout, re.MULTILINE)
+        return max(1, int(found[1])) if found else LARGEST_ARRAY
+
+    def run(self, batch: Batch, told: Told) -> Dict[int, Lost]:
+        states: Dict[int, str] = {}
+        record = batch.folder / RECORD
+        record.write_text(json.dumps({"name": _name(batch)}))
+        try:
+            for _ in range(self.settings.retries + 1):
+                left = batch.left()
+                if left:
+                    states.update(self._arrays(batch, left, told))
+        except BaseException:
+            _ask("scancel", f"--name={_name(batch)}")
+            raise
+        record.unlink()
+        return {number: _what(states.get(number)) for number in batch.left()}
+
+    def _arrays(self, batch: Batch, numbers: Sequence[int], told: Told) -> Dict[int, str]:
+        """Runs tasks as array jobs, all at once where the cluster takes them; the last state that was seen of each."""
+        chunks = [list(numbers[at : at + self.largest]) for at in range(0, len(numbers), self.largest)]
+        jobs: Dict[str, List[int]] = {}
+        states: Dict[int, str] = {}
+        begun = answered = time.monotonic()
+        while chunks or jobs:
+            while chunks:
+                job, why = self._submit(batch, chunks[0])
+                if job is None and not jobs:
+                    raise Refused("T7", f"sbatch does not take the array job: {why}")
+                if job is None:
+                    break
+                jobs[job] = chunks.pop(0)
+            seen, why = _look(jobs)
+            now = time.monotonic()
+            if seen is not None:
+                answered = now
+                for job, elements in seen.items():
+                    states.update({jobs[job][at]: state for at, state in elements.items() if at < len(jobs[job])})
+                for job in [job for job in jobs if all(state in OVER for state in seen.get(job, {}).values())]:
+                    states.update(
+                        {jobs[job][at]: state for at, state in _accounted(job).items() if at < len(jobs[job])}
+                    )
+                    del jobs[job]
+                waiting = sum(map(len, chunks)) + sum(state not in OVER for job in jobs for state in seen[job].values())
+                told(len(batch.tasks) - waiting)
+            elif now - answered > PATIENCE:
+                raise Refused("T7", f"Slurm's controller is away, with jobs {', '.join(jobs)} under way: {why}")
+            if jobs or chunks:
+                time.sleep(OFTEN if now - begun < 60 else SELDOM)
+        return states
+
+    def _submit(self, batch: Batch, numbers: Sequence[int]) -> Tuple[Optional[str], str]:
+        """Submits one array job: its id, or None and why it is not taken."""
+        settings, logs = self.settings, batch.folder / "logs"
+        logs.mkdir(exist_ok=True)
+        script = batch.folder / "task.sh"
+        script.write_text(SCRIPT)
+        numbered = batch.folder / f"list-{len(list(batch.folder.glob('list-*.txt')))}.txt"
+        numbered.write_text("".join(f"{number}\n" for number in numbers))
+        at_once = f"%{settings.jobs}" if settings.jobs else ""
+        words = [
+            "sbatch",
+            "--parsable",
+            f"--array=0-{len(numbers) - 1}{at_once}",
+            f"--job-name={_name(batch)}",
+            "--requeue",
+            "--export=ALL",
+            "--open-mode=append",
+            f"--output={logs}/%A_%a.txt",
+            "--nodes=1",
+            "--ntasks=1",
+            f"--cpus-per-task={settings.threads}",
+        ]
+        if settings.limits.timeout is not None:
+            words.append(f"--time={max(1, -int(-(settings.limits.timeout + SPARE) // 60))}")
+        if settings.memory_mb is not None:
+            words.append(f"--mem={settings.memory_mb}M")
+        told = {
+            "GANDOVEL_LIST": str(numbered),
+            "GANDOVEL_PYTHON": sys.executable,
+            "GANDOVEL_WORKER": str(WORKER),
+            "GANDOVEL_TASKS": str(batch.folder / "tasks"),
+        }
+        ended = _ask(*words, str(script), more=told)
+        if ended.returncode != 0:
+            numbered.unlink()
+            return None, ended.stderr.strip()
+        return ended.stdout.strip().split(";")[0], ""
+
+
+def _name(batch: Batch) -> str:
+    return f"gandovel-{batch.run}"
+
+
+def _ask(*words: str, more: Optional[Dict[str, str]] = None) -> "subprocess.CompletedProcess[str]":
+    return subprocess.run(
+        words,
+        stdin=subprocess.DEVNULL,
+        stdout=subprocess.PIPE,
+        stderr=subprocess.PIPE,
+        universal_newlines=True,
+        env={**os.environ, "LC_ALL": "C", **(more or {})},
+    )
+
+
+def _look(jobs: Iterable[str]) -> Tuple[Optional[Dict[str, Dict[int, str]]], str]:
+    """The states of array jobs by job and index; a forgotten job has none. None and why without an answer."""
+    found: Dict[str, Dict[int, str]] = {}
+    for job in jobs:
+        ended = _ask("squeue", "--noheader", "--array", "--states=all", f"--jobs={job}", "--format=%K|%T")
+        if ended.returncode != 0 and "Invalid job id" not in ended.stderr:
+            return None, ended.stderr.strip()
+        lines = [line.strip().partition("|") for line in ended.stdout.splitlines()]
+        found[job] = {int(index): state for index, _, state in lines if index.isdigit()}
+    return found, ""
+
+
+def _accounted(job: str) -> Dict[int, str]:
+    """The states by index, where the cluster keeps accounts."""
+    if shutil.which("sacct") is None:
+        return {}
+    ended = _ask("sacct", "--noheader", "--parsable2", "--allocations", f"--jobs={job}", "--format=JobID,State")
+    lines: List[Tuple[str, str]] = (
+        re.findall(r"^\d+_(\d+)\|([A-Z_]+)", ended.stdout, re.MULTILINE) if ended.returncode == 0 else []
+    )
+    return {int(index): state for index, state in lines}
+
+
+def _what(state: Optional[str]) -> Lost:
+    """What a state tells of a task that left no result and no note."""
+    if state is None:
+        return Lost("T4", "Slurm tells nothing of the task")
+    if state == "TIMEOUT":
+        return Lost("T3", "Slurm: the task took longer than its limit")
+    if state == "OUT_OF_MEMORY":
+        return Lost("no memory", "Slurm: the task took more than its limit")
+    if state == "NODE_FAIL":
+        return Lost("T4", "Slurm: the node went away")
+    return Lost("T4", f"Slurm: the task ended with the state {state}, and left nothing, as one that is killed")
+
+
+def refuse_earlier_jobs(engine_folder: Path) -> None:
+    """Refused P16 where an array job of an earlier, killed run on the same folder may still be in Slurm's queue."""
+    for record in engine_folder.glob(f"*/{RECORD}"):
+        try:
+            name = json.loads(record.read_text())["name"]
+        except (OSError, ValueError, KeyError):
+            continue
+        ended = _ask("squeue", "--noheader", f"--name={name}", "--format=%i") if shutil.which("squeue") else None
+        if ended is None or ended.returncode != 0:
+            raise Refused(
+                "P16", f"Slurm does not say whether the job {name} of an earlier run is over; if it is, remove {record}"
+            )
+        if ended.stdout.strip():
+            raise Refused(
+                "P16", f"the job {name} of an earlier run is in Slurm's queue: wait for it, or scancel --name={name}"
+            )

@@ -1,0 +1,194 @@
+"""The folder of results: a folder a city, each whole or not there, and the lock that keeps a second run out."""
+from __future__ import annotations
+
+import fcntl
+import json
+import os
+import shutil
+import time
+from concurrent.futures import ThreadPoolExecutor
+from dataclasses import dataclass
+from hashlib import sha256
+from pathlib import Path
+from typing import Any, Dict, List, Optional, Sequence, Tuple
+
+from ..errors import Refused
+from .tasks import Program, Task
+from .worker import checked
+
+KINDS = ("cities", "faults", "rings")
+"""The folders of results, by what was asked."""
+
+MARK = "many.json"
+"""The file by which a folder is known as one that `gandovel many` made."""
+
+DERIVED = ("summary.csv", "summary.json", "faults.gpkg")
+"""What a run makes of the results; an earlier run's goes when a run begins."""
+
+
+@dataclass(frozen=True)
+class Result:
+    """What the program said of a city, and of which files. `output` and `errors` are its words as they were.
+
+    `inputs` has the SHA-256 by path, None of an index that was not there. `seconds` are by the clock, of the program
+    alone; `memory_kb` is the most memory that it had at once, in kB of 1,024 bytes. `ring` is the SHA-256 of the
+    district's ring, where the result has one.
+    """
+
+    name: str
+    run: str
+    program: Dict[str, str]
+    command: Tuple[str, ...]
+    inputs: Dict[str, Optional[str]]
+    status: int
+    seconds: float
+    memory_kb: int
+    output: str
+    errors: str
+    ring: Optional[str] = None
+
+
+class ResultsFolder:
+    """A folder of results, held by one run. Use it in a `with` statement.
+
+    Refused P14 where the folder is another's or can't be made, P16 where another run holds it.
+    """
+
+    def __init__(self, path: Path) -> None:
+        self.path = Path(os.path.abspath(path))
+        self.lock: Optional[int] = None
+        """The open lock file. What inherits it holds the folder, too: so tasks do that outlive a killed command."""
+
+    def __enter__(self) -> "ResultsFolder":
+        mark = self.path / MARK
+        try:
+            if self.path.exists() and (not self.path.is_dir() or (any(self.path.iterdir()) and not mark.is_file())):
+                raise Refused("P14", f"{self.path} is there and no folder that gandovel many made")
+            for kind in KINDS:
+                (self.path / kind).mkdir(parents=True, exist_ok=True)
+            if not mark.is_file():
+                mark.write_text("{}")
+            self._take_lock()
+        except OSError as fault:
+            raise Refused("P14", f"{self.path} can't be written: {fault}") from fault
+        return self
+
+    def __exit__(self, *_: Any) -> None:
+        if self.lock is not None:
+            os.close(self.lock)
+            self.lock = None
+
+    def _take_lock(self) -> None:
+        lock = os.open(self.path / "run.lock", os.O_RDWR | os.O_CREAT, 0o644)
+        try:
+            fcntl.flock(lock, fcntl.LOCK_EX | fcntl.LOCK_NB)
+            os.ftruncate(lock, 0)
+            holder = f"process {os.getpid()} on {os.uname().nodename}, since {time.strftime('%Y-%m-%d %H:%M:%S')}"
+            os.write(lock, holder.encode("utf-8"))
+        except BlockingIOError as fault:
+            holder = os.read(lock, 500).decode("utf-8", "replace") or "another process"
+            os.close(lock)
+            raise Refused(
+                "P16", f"another run holds {self.path}: {holder}, or tasks that it left; wait until it ends"
+            ) from fault
+        except OSError as fault:
+            os.close(lock)
+            raise Refused("P16", f"{self.path / 'run.lock'} can't be locked: {fault}") from fault
+        self.lock = lock
+
+    def begin(self, facts: Dict[str, Any]) -> None:
+        """Clears away what an earlier run left half done or derived, and writes what this run is."""
+        for left in [*(path for kind in KINDS for path in self.path.glob(f"{kind}/.*")), self.path / "engine"]:
+            shutil.rmtree(left, ignore_errors=True)
+        try:
+            for name in DERIVED:
+                if (self.path / name).exists():
+                    (self.path / name).unlink()
+        except OSError as fault:
+            raise Refused("P14", f"{self.path} can't be written: {fault}") from fault
+        self.write(MARK, json.dumps(facts, indent=1))
+
+    def write(self, name: str, text: str) -> None:
+        """Writes a file of the folder under another name, then renames it."""
+        aside = self.path / f".{os.getpid()}.{name}"
+        try:
+            aside.write_text(text, encoding="utf-8")
+            os.replace(aside, self.path / name)
+        except OSError as fault:
+            raise Refused("P14", f"{self.path / name} can't be written: {fault}") from fault
+        finally:
+            if aside.exists():
+                aside.unlink()
+
+    def run_of(self, kind: str, name: str) -> Optional[str]:
+        """The run that made a result of a kind; None where there is none."""
+        try:
+            return json.loads((self.path / kind / name / "result.json").read_text(encoding="utf-8"))["run"]
+        except (OSError, ValueError, KeyError, TypeError):
+            return None
+
+    def result(self, kind: str, name: str) -> Optional[Result]:
+        """A whole result, with output and error text; None where there is none, or one that the disk has torn."""
+        folder = self.path / kind / name
+        try:
+            told = json.loads((folder / "result.json").read_text(encoding="utf-8"))
+            output, errors = ((folder / f"{part}.txt").read_bytes() for part in ("output", "errors"))
+            made = told.get("made", {})
+            files = [
+                (output, told["output"]),
+                (errors, told["errors"]),
+                *(((folder / name).read_bytes(), it) for name, it in made.items()),
+            ]
+            if any(sha256(content).hexdigest() != it["sha256"] for content, it in files):
+                return None
+            inputs = {path: it and it["sha256"] for path, it in told["inputs"].items()}
+            return Result(
+                told["name"],
+                told["run"],
+                told["program"],
+                tuple(told["command"]),
+                inputs,
+                told["status"],
+                told["seconds"],
+                told["memory_kb"],
+                output.decode("utf-8", "replace"),
+                errors.decode("utf-8", "replace"),
+                made[told["ring"]]["sha256"] if "ring" in told else None,
+            )
+        except (OSError, ValueError, KeyError, TypeError):
+            return None
+
+    def ring_of(self, name: str, unit: str) -> Path:
+        """The file of a district's ring in a unit."""
+        return self.path / "rings" / name / f"ring_{unit}.shp"
+
+    def kept(self, kind: str, tasks: Sequence[Task], program: Program, jobs: int) -> List[bool]:
+        """For each task whether there is a whole result of the same program, question and inputs (their checksums)."""
+        with ThreadPoolExecutor(max_workers=jobs) as pool:
+            return list(pool.map(lambda task: self._is_kept(kind, task, program), tasks))
+
+    def _is_kept(self, kind: str, task: Task, program: Program) -> bool:
+        result = self.result(kind, task.name)
+        if result is None or result.program != {"version": program.version, "sha256": program.sha256}:
+            return False
+        if asked(result.command[1:]) != asked(task.arguments) or list(result.inputs) != [
+            path for path, _ in task.inputs
+        ]:
+            return False
+        if result.status == 0 and task.ring_unit and not self.ring_of(task.name, task.ring_unit).is_file():
+            return False
+        try:
+            now = {path: checked(path) for path in result.inputs}
+        except OSError:
+            return False
+        return result.inputs == {path: it and it.sha256 for path, it in now.items()}
+
+
+def asked(arguments: Sequence[str]) -> List[str]:
+    """The arguments without the number of threads, which changes no answer, and the place of what is written."""
+    words = list(arguments)
+    for option in ("--workers", "--out"):
+        if option in words:
+            at = words.index(option)
+            del words[at : at + 2]
+    return words

@@ -1,0 +1,157 @@
+"""Tasks: what the program is asked of a city, on which files, within which limits; and how an engine is given them."""
+from __future__ import annotations
+
+import json
+import subprocess
+from dataclasses import dataclass
+from pathlib import Path
+from typing import Any, Callable, Dict, Iterable, List, Optional, Sequence, Tuple
+
+from ..errors import Refused
+from ..tool import find_tool
+from .manifest import Row
+from .worker import checked
+
+WORKER = Path(__file__).with_name("worker.py")
+"""What an engine starts for a task, with the task's file as its word."""
+
+
+@dataclass(frozen=True)
+class Program:
+    """The proved program: its path, what `--version` prints, and its file's SHA-256."""
+
+    path: str
+    version: str
+    sha256: str
+
+
+@dataclass(frozen=True)
+class Task:
+    """One process of the program: its arguments, and the files it reads, each with whether it has to be there.
+
+    Where `ring_unit` is `mm`, `cm` or `m`, the program writes a district's ring, which the result has in that unit.
+    """
+
+    name: str
+    arguments: Tuple[str, ...]
+    inputs: Tuple[Tuple[str, bool], ...]
+    ring_unit: Optional[str] = None
+
+
+@dataclass(frozen=True)
+class Limits:
+    """What a task may take: seconds by the clock, and kB of address space of the program; None for no limit."""
+
+    timeout: Optional[float] = None
+    memory_kb: Optional[int] = None
+
+
+def find_program() -> Program:
+    """The program that `gandovel` finds. Refused T1 where there is none, or where it tells no version."""
+    path = find_tool()
+    try:
+        ended = subprocess.run(
+            [path, "--version"],
+            stdin=subprocess.DEVNULL,
+            stdout=subprocess.PIPE,
+            stderr=subprocess.PIPE,
+            universal_newlines=True,
+        )
+        here = checked(path)
+    except (OSError, UnicodeDecodeError) as fault:
+        raise Refused("T1", f"the program {path} can't be run: {fault}") from fault
+    version = ended.stdout.strip()
+    if ended.returncode != 0 or not version or here is None:
+        raise Refused("T1", f"the program {path} tells no version: status {ended.returncode}")
+    return Program(path, version, here.sha256)
+
+
+def task_of(row: Row, threads: int = 1) -> Task:
+    """What a row with a city asks: an overlay by so many threads where it has zones, else a check with every fault."""
+    if row.zones is None:
+        return faults_task_of(row, "parcels")
+    city, clerks = str(row.city), [word for path in row.edits for word in ("--clerk", path)]
+    return Task(
+        row.name,
+        ("overlay", city, row.parcels, row.zones, "--unit", row.unit, *clerks, "--workers", str(threads)),
+        _inputs([city, row.parcels, row.zones], row.edits),
+    )
+
+
+def faults_task_of(row: Row, role: str) -> Task:
+    """The check that tells every fault of a layer, `parcels` or `zones`, of a row with a city."""
+    city, layer, edits = str(row.city), row.parcels, row.edits
+    if role == "zones" and row.zones is not None:
+        layer, edits = row.zones, ()
+    clerks = [word for path in edits for word in ("--clerk", path)]
+    return Task(row.name, ("check", city, layer, "--unit", row.unit, "--all", *clerks), _inputs([city, layer], edits))
+
+
+def ring_task_of(row: Row, above: Row) -> Task:
+    """What cuts a district's ring out of the layer of districts, which is the parcels of the row above it."""
+    city = str(above.city)
+    return Task(
+        row.name,
+        ("part", city, above.parcels, str(row.district), "--unit", above.unit),
+        _inputs([city, above.parcels], ()),
+        row.unit,
+    )
+
+
+def _inputs(layers: Sequence[str], edits: Sequence[str]) -> Tuple[Tuple[str, bool], ...]:
+    found = {}
+    for path in layers:
+        found[path] = True
+        found[path[: -len(".shp")] + ".shx"] = False
+    found.update(dict.fromkeys(edits, True))
+    return tuple(found.items())
+
+
+@dataclass
+class Batch:
+    """Tasks that an engine runs, numbered from 0; their files and the engine's own are in a folder.
+
+    `has_result` tells whether this run has put a task's result in place.
+    """
+
+    folder: Path
+    tasks: List[Task]
+    run: str
+    has_result: Callable[[Task], bool]
+
+    def file_of(self, number: int) -> Path:
+        """The file that the worker is given for a task."""
+        return self.folder / "tasks" / f"{number}.json"
+
+    def write(self, results: Path, program: Program, limits: Limits) -> None:
+        """Makes the folder and writes a file for each task. `results` is the folder that has their results."""
+        notes = self.folder / "failed"
+        for folder in (self.folder / "tasks", notes):
+            folder.mkdir(parents=True)
+        for number, task in enumerate(self.tasks):
+            told: Dict[str, Any] = {
+                "name": task.name,
+                "run": self.run,
+                "folder": str(results),
+                "notes": str(notes),
+                "command": [program.path, *task.arguments],
+                "inputs": dict(task.inputs),
+                "program": {"version": program.version, "sha256": program.sha256},
+                "ring_unit": task.ring_unit,
+                "timeout": limits.timeout,
+                "memory_kb": limits.memory_kb,
+            }
+            self.file_of(number).write_text(json.dumps(told), encoding="utf-8")
+
+    def left(self, numbers: Optional[Iterable[int]] = None) -> List[int]:
+        """The tasks, of these or of all, that have no result of this run."""
+        asked = range(len(self.tasks)) if numbers is None else numbers
+        return [number for number in asked if not self.has_result(self.tasks[number])]
+
+    def note(self, number: int) -> Optional[Tuple[str, str]]:
+        """The code and text that the task itself left of why it has no result."""
+        try:
+            note = json.loads((self.folder / "failed" / f"{self.tasks[number].name}.json").read_text(encoding="utf-8"))
+            return (note["code"], note["text"]) if note["run"] == self.run else None
+        except (OSError, ValueError, KeyError):
+            return None

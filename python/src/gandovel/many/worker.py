@@ -1,0 +1,461 @@
+"""One task of `gandovel many`: one process of the program, and its result moved into place whole or not at all.
+
+    python3 -I -S worker.py TASK.json|TASKS.txt [--with-parent]
+
+TASKS.txt lists files of tasks, one a line, which are run one behind the other, each in a process of its own. Each
+engine starts this file, by its path, in the same way. It needs nothing but Python's own modules, and few of them, so
+that a task begins fast, on any node that has Python 3.8. (`subprocess` alone would double the time to start.)
+
+The status is 0 where the result is in place. Any other end leaves no result, a note in the folder `failed` where the
+disk takes it, and one line on standard error; the status tells the code, too (`STATUS`).
+"""
+from __future__ import annotations
+
+import errno
+import hashlib
+import json
+import os
+import resource
+import signal
+import struct
+import sys
+import time
+from typing import Any, Dict, List, NamedTuple, NoReturn, Optional, Sequence, Tuple
+
+BLOCK = 1 << 20
+ON_LINUX_DIE_WITH_PARENT = 1
+"""`PR_SET_PDEATHSIG` of prctl(2)."""
+
+STATUS = {"P1": 11, "P14": 12, "T1": 13, "T2": 14, "T3": 15, "T4": 16, "T5": 17, "T6": 18}
+"""The status of a task's process by the code of why there is no result."""
+
+PASSING = 19
+"""The status where the program refused for what its machine lacked, as memory: the text is in the note alone."""
+
+FINAL = ("T3", "T5")
+"""Codes that another try of the same run does not mend: it ends at once, as the first did."""
+
+PASSING_WORDS = ("no memory", "S1", "S2", "K3", "O7")
+"""Refusals of the program that say nothing of the inputs."""
+
+MM_PER_UNIT = {"mm": 1, "cm": 10, "m": 1000}
+FILE_BOX, RECORD_BOX, CORNERS = (36, 4), (112, 4), 156
+"""Where a shapefile of one ring has its boxes, each of four doubles, and where its corners begin, in bytes."""
+
+
+class Failed(Exception):
+    """Why there is no result. `code` is P.. or T.. (docs/many.md), or the program's own word for what it lacked."""
+
+    def __init__(self, code: str, text: str) -> None:
+        super().__init__(text)
+        self.code = code
+        self.text = text
+
+    @property
+    def status(self) -> int:
+        """The status that the task's process ends with."""
+        return STATUS.get(self.code, PASSING)
+
+
+class Checked(NamedTuple):
+    """A file as it was: its checksum (64 hexadecimal digits), its length in bytes, and what a change of it changes."""
+
+    sha256: str
+    size: int
+    stamp: Tuple[int, int]
+    """The file's number on its disk, and when it was changed, in nanoseconds."""
+
+    def told(self) -> Dict[str, Any]:
+        """As a result tells it."""
+        return {"sha256": self.sha256, "bytes": self.size}
+
+
+class Ended(NamedTuple):
+    """How the program ended: the status of waitpid(2), seconds by the clock, its peak memory in kB, its errors."""
+
+    status: int
+    seconds: float
+    memory_kb: int
+    timed_out: bool
+    errors: bytes
+
+
+def checked(path: str) -> Optional[Checked]:
+    """A file's checksum; None where there is no such file. OSError where it can't be read."""
+    digest, size, block = hashlib.sha256(), 0, bytearray(BLOCK)
+    try:
+        with open(path, "rb", buffering=0) as file:
+            begun = os.fstat(file.fileno())
+            while True:
+                count = file.readinto(block)
+                if not count:
+                    break
+                digest.update(memoryview(block)[:count])
+                size += count
+    except (FileNotFoundError, NotADirectoryError):
+        return None
+    return Checked(digest.hexdigest(), size, (begun.st_ino, begun.st_mtime_ns))
+
+
+def told_of(path: str) -> Optional[Dict[str, Any]]:
+    """A file of a result, as the result tells it."""
+    it = checked(path)
+    return it and it.told()
+
+
+def checked_inputs(task: Dict[str, Any]) -> Dict[str, Optional[Checked]]:
+    """The checksums of a task's inputs by path. Failed P1 where one can't be read, or one is missing that has to be."""
+    found: Dict[str, Optional[Checked]] = {}
+    for path, needed in task["inputs"].items():
+        try:
+            found[path] = checked(path)
+        except OSError as fault:
+            raise Failed("P1", f"{path} can't be read: {fault.strerror}") from fault
+        if needed and found[path] is None:
+            raise Failed("P1", f"{path} is not there")
+    return found
+
+
+def test_program(task: Dict[str, Any]) -> None:
+    """Failed T6 where the program is another than the one that the run began with, T1 where it is not there."""
+    path = task["command"][0]
+    try:
+        here = checked(path)
+    except OSError as fault:
+        raise Failed("T1", f"the program {path} can't be read: {fault.strerror}") from fault
+    if here is None:
+        raise Failed("T1", f"the program {path} is not there")
+    if here.sha256 != task["program"]["sha256"]:
+        raise Failed("T6", f"{path} is not the program that the run began with")
+
+
+def run_program(task: Dict[str, Any], command: List[str], into: str) -> Ended:
+    """Runs the program once within the task's limits, with its output into a file. OSError where the disk is full.
+
+    Its error text goes to memory first: a full disk would lose it, which is what it tells of.
+    """
+    output = os.open(into, os.O_WRONLY | os.O_CREAT | os.O_TRUNC, 0o644)
+    reader, writer = os.pipe()
+    begun, parent = time.monotonic(), os.getpid()
+    process = os.fork()
+    if process == 0:
+        _become_program(command, task["memory_kb"], parent, output, writer)
+    timed_out: List[bool] = []
+
+    def end(number: int, _: Any) -> None:
+        if number == signal.SIGALRM:
+            timed_out.append(True)
+        for kill in (os.killpg, os.kill):  # its group, and itself where it has not made one yet
+            try:
+                kill(process, signal.SIGKILL)
+            except ProcessLookupError:
+                pass
+
+    former = signal.signal(signal.SIGALRM, end), signal.signal(signal.SIGTERM, end)
+    signal.setitimer(signal.ITIMER_REAL, task["timeout"] or 0)
+    os.close(writer)
+    with open(reader, "rb") as file:
+        errors = file.read()
+    _, status, used = os.wait4(process, 0)
+    signal.setitimer(signal.ITIMER_REAL, 0)
+    for number, handler in zip((signal.SIGALRM, signal.SIGTERM), former):
+        signal.signal(number, handler)
+    seconds = time.monotonic() - begun
+    os.close(output)
+    return Ended(status, seconds, used.ru_maxrss, bool(timed_out) and os.WIFSIGNALED(status), errors)
+
+
+def _become_program(command: List[str], memory_kb: Optional[int], parent: int, output: int, errors: int) -> NoReturn:
+    """The child: its limits and files, then the program. It dies with the task's process."""
+    try:
+        for number, place in enumerate((os.open(os.devnull, os.O_RDONLY), output, errors)):
+            os.dup2(place, number)
+        os.setpgid(0, 0)
+        die_with_parent(parent)
+        if memory_kb:
+            resource.setrlimit(resource.RLIMIT_AS, (memory_kb * 1024,) * 2)
+        os.execv(command[0], command)
+    except BaseException as fault:  # whatever it is, the child may not go on as a second task
+        os.write(2, f"{fault}\n".encode("utf-8", "replace"))
+    finally:
+        os._exit(127)
+
+
+def die_with_parent(parent: int) -> None:
+    """From now on this process is killed where the thread that started it ends. Linux alone; elsewhere nothing."""
+    try:
+        import ctypes
+
+        ctypes.CDLL(None).prctl(ON_LINUX_DIE_WITH_PARENT, int(signal.SIGKILL), 0, 0, 0)
+    except (ImportError, OSError, AttributeError):
+        return
+    if os.getppid() != parent:
+        os._exit(STATUS["T4"])
+
+
+def test_end(task: Dict[str, Any], ended: Ended) -> None:
+    """Failed T3 where the program took too long, T4 where a signal ended it."""
+    if ended.timed_out:
+        raise Failed("T3", f"it took longer than {task['timeout']:g} s")
+    if os.WIFSIGNALED(ended.status):
+        raise Failed("T4", f"the program was killed by signal {os.WTERMSIG(ended.status)}")
+
+
+def test_unchanged(task: Dict[str, Any], before: Dict[str, Optional[Checked]]) -> None:
+    """Failed T5 where an input is no longer what it was."""
+    for path, it in before.items():
+        try:
+            now = checked(path)
+        except OSError as fault:
+            raise Failed("T5", f"{path} can't be read again: {fault.strerror}") from fault
+        if now != it:
+            raise Failed("T5", f"{path} changed while the program ran")
+
+
+def answered(ended: Ended) -> int:
+    """The program's status, 0 or 1, where what it said is an answer. Failed T2, or with what the machine lacked."""
+    status = os.WEXITSTATUS(ended.status)
+    lines = ended.errors.decode("utf-8", "replace").splitlines()
+    said = [line[len("error: ") :] for line in lines if line.startswith("error: ")]
+    if status == 0:
+        return 0
+    if status != 1 or not said:
+        raise Failed("T2", f"the program ended with status {status}: {lines[-1] if lines else ''}")
+    for word in PASSING_WORDS:
+        if said[-1] == word or said[-1].startswith(f"{word} "):
+            raise Failed(word, said[-1][len(word) :].strip())
+    return 1
+
+
+def command_of(task: Dict[str, Any], folder: str) -> List[str]:
+    """The program's command line; where it writes a ring, to this folder."""
+    return [*task["command"], *(["--out", os.path.join(folder, "ring_mm")] if task["ring_unit"] else [])]
+
+
+def put_in_unit(task: Dict[str, Any], folder: str) -> List[str]:
+    """Makes of the program's ring one in the unit of the district's layers; the names of all files of both.
+
+    Failed T2 where the program does not read it as the ring that it wrote, corner by corner.
+    """
+    unit, made = task["ring_unit"], ["ring_mm.shp", "ring_mm.shx"]
+    if unit == "mm":
+        return made
+    ring, back = os.path.join(folder, f"ring_{unit}.shp"), os.path.join(folder, "back")
+    for name in made:
+        with open(os.path.join(folder, name), "rb") as file, open(f"{ring[:-1]}{name[-1]}", "wb") as out:
+            out.write(divided(file.read(), MM_PER_UNIT[unit], name.endswith(".shp")))
+    command = [task["command"][0], "export", ring, ring, "--unit", unit, "--out", back]
+    ended = run_program(task, command, f"{back}.txt")
+    test_end(task, ended)
+    if answered(ended) != 0 or told_of(f"{back}.shp") != told_of(os.path.join(folder, made[0])):
+        raise Failed("T2", f"the ring in {unit} is not read as the one in mm")
+    for ending in ("shp", "shx", "txt"):
+        os.unlink(f"{back}.{ending}")
+    return [*made, f"ring_{unit}.shp", f"ring_{unit}.shx"]
+
+
+def divided(data: bytes, factor: int, is_main: bool) -> bytes:
+    """A shapefile of one ring, or its index, with each coordinate divided and rounded to the nearest double."""
+    changed, places = bytearray(data), [FILE_BOX]
+    if is_main:
+        places += [RECORD_BOX, (CORNERS, (len(data) - CORNERS) // 8)]
+    for at, count in places:
+        numbers = struct.unpack_from(f"<{count}d", data, at)
+        struct.pack_into(f"<{count}d", changed, at, *(number / factor for number in numbers))
+    return bytes(changed)
+
+
+def done(task: Dict[str, Any], folder: str) -> None:
+    """Runs a task in an empty folder and writes its result there. Failed where there is none."""
+    before = checked_inputs(task)
+    test_program(task)
+    begun = time.strftime("%Y-%m-%dT%H:%M:%SZ", time.gmtime())
+    ended = run_program(task, command_of(task, folder), os.path.join(folder, "output.txt"))
+    test_end(task, ended)
+    test_unchanged(task, before)
+    status = answered(ended)
+    result = {
+        "name": task["name"],
+        "run": task["run"],
+        "program": task["program"],
+        "command": command_of(task, os.path.join(task["folder"], task["name"])),
+        "inputs": {path: it and it.told() for path, it in before.items()},
+        "status": status,
+        "seconds": round(ended.seconds, 6),
+        "memory_kb": ended.memory_kb,
+        "begun": begun,
+        "host": os.uname().nodename,
+    }
+    if task["ring_unit"] and status == 0:
+        result["ring"] = f"ring_{task['ring_unit']}.shp"
+        result["made"] = {name: told_of(os.path.join(folder, name)) for name in put_in_unit(task, folder)}
+    with open(os.path.join(folder, "errors.txt"), "wb") as out:
+        out.write(ended.errors)
+    for name in ("output", "errors"):
+        result[name] = told_of(os.path.join(folder, f"{name}.txt"))
+    with open(os.path.join(folder, "result.json"), "w", encoding="utf-8") as out:
+        json.dump(result, out, indent=1)
+
+
+def put_in_place(aside: str, final: str) -> None:
+    """Renames a folder to its final name; one that was there goes. Two that do so at once both end well."""
+    while True:
+        try:
+            return os.rename(aside, final)
+        except OSError as fault:
+            if fault.errno not in (errno.ENOTEMPTY, errno.EEXIST):
+                raise
+        former = f"{aside}.former"
+        try:
+            os.rename(final, former)
+        except FileNotFoundError:
+            continue
+        remove(former)
+
+
+def remove(folder: str) -> None:
+    """Removes a folder of files, where it is there."""
+    try:
+        for name in os.listdir(folder):
+            os.unlink(os.path.join(folder, name))
+        os.rmdir(folder)
+    except OSError:
+        pass
+
+
+def _note(task: Dict[str, Any], failed: Optional[Failed]) -> None:
+    """Leaves a note of why there is no result, or removes that of an earlier try. A disk that is full takes none."""
+    path = os.path.join(task["notes"], f"{task['name']}.json")
+    aside = os.path.join(task["notes"], f".{task['name']}.{os.getpid()}")
+    try:
+        if failed is None:
+            os.unlink(path)
+            return
+        with open(aside, "w", encoding="utf-8") as out:
+            json.dump({"run": task["run"], "code": failed.code, "text": failed.text}, out)
+        os.rename(aside, path)
+    except OSError:
+        pass
+
+
+def _final(task: Dict[str, Any]) -> Optional[Failed]:
+    """How an earlier try of the same run ended, where another one mends nothing."""
+    try:
+        with open(os.path.join(task["notes"], f"{task['name']}.json"), encoding="utf-8") as file:
+            note = json.load(file)
+    except (OSError, ValueError):
+        return None
+    return Failed(note["code"], note["text"]) if note["run"] == task["run"] and note["code"] in FINAL else None
+
+
+def _is_done(task: Dict[str, Any]) -> bool:
+    """Whether an earlier try of the same run put its result in place, and the engine did not hear of it."""
+    try:
+        with open(os.path.join(task["folder"], task["name"], "result.json"), encoding="utf-8") as file:
+            return json.load(file)["run"] == task["run"]
+    except (OSError, ValueError, KeyError, TypeError):
+        return False
+
+
+def _ask_to_stop(*_: Any) -> NoReturn:
+    raise Failed("T4", "the task was asked to stop")
+
+
+def run_task(path: str) -> int:
+    """Runs the task that a file describes; the status."""
+    task = _read(path)
+    aside = os.path.join(task["folder"], f".{task['name']}.{os.uname().nodename}.{os.getpid()}.new")
+    signal.signal(signal.SIGTERM, _ask_to_stop)
+    if _is_done(task):
+        return 0
+    try:
+        earlier = _final(task)
+        if earlier is not None:
+            raise earlier
+        _note(task, None)
+        os.mkdir(aside)
+        done(task, aside)
+        signal.signal(signal.SIGTERM, signal.SIG_IGN)
+        put_in_place(aside, os.path.join(task["folder"], task["name"]))
+        return 0
+    except (OSError, Failed) as fault:
+        signal.signal(signal.SIGTERM, signal.SIG_IGN)
+        failed = fault if isinstance(fault, Failed) else Failed("P14", f"the result can't be written: {fault}")
+        remove(aside)
+        _tell(task, failed)
+        return failed.status
+
+
+def run_tasks(paths: Sequence[str]) -> int:
+    """Runs tasks one behind the other, each in a process of its own; the status of the last that failed, else 0."""
+    running: List[int] = []
+    stopped: List[int] = []
+
+    def stop(number: int, _: Any) -> None:
+        stopped.append(number)
+        for child in running:
+            try:
+                os.kill(child, signal.SIGTERM)
+            except ProcessLookupError:
+                pass
+
+    status, parent = 0, os.getpid()
+    signal.signal(signal.SIGTERM, stop)
+    for path in paths:
+        signal.pthread_sigmask(signal.SIG_BLOCK, [signal.SIGTERM])
+        if stopped:
+            return STATUS["T4"]
+        child = os.fork()
+        if child == 0:
+            _become_task(path, parent)
+        running.append(child)
+        signal.pthread_sigmask(signal.SIG_UNBLOCK, [signal.SIGTERM])
+        ended = os.waitpid(child, 0)[1]
+        running.clear()
+        if os.WIFSIGNALED(ended):
+            _tell(_read(path), Failed("T4", f"the task was killed by signal {os.WTERMSIG(ended)}"))
+        status = (STATUS["T4"] if os.WIFSIGNALED(ended) else os.WEXITSTATUS(ended)) or status
+    return status
+
+
+def _become_task(path: str, parent: int) -> NoReturn:
+    """The child: one task, and it dies with the process that has its list."""
+    status = STATUS["T2"]
+    try:
+        signal.signal(signal.SIGTERM, signal.SIG_DFL)
+        signal.pthread_sigmask(signal.SIG_UNBLOCK, [signal.SIGTERM])
+        die_with_parent(parent)
+        status = run_task(path)
+    except Exception as fault:  # whatever it is, the child may not go on with the list
+        print(f"error: {path}: {type(fault).__name__}: {fault}", file=sys.stderr)
+    finally:
+        os._exit(status)
+
+
+def _read(path: str) -> Dict[str, Any]:
+    with open(path, encoding="utf-8") as file:
+        return json.load(file)
+
+
+def _tell(task: Dict[str, Any], failed: Failed) -> None:
+    """Tells why there is no result: by a note, and on standard error."""
+    _note(task, failed)
+    try:
+        print(f"error: {task['name']}: {failed.code} {failed.text}", file=sys.stderr, flush=True)
+    except OSError:
+        pass
+
+
+def main(words: List[str]) -> int:
+    """Runs the task that a file describes, or those that it lists; the status."""
+    if "--with-parent" in words:
+        die_with_parent(os.getppid())
+    paths = [words[0]]
+    if words[0].endswith(".txt"):
+        with open(words[0], encoding="utf-8") as file:
+            paths = file.read().splitlines()
+    return run_task(paths[0]) if len(paths) == 1 else run_tasks(paths)
+
+
+if __name__ == "__main__":
+    sys.exit(main(sys.argv[1:]))

@@ -1,0 +1,418 @@
+"""`gandovel many` by its engines: right answers or named errors, whatever is killed, changed, full or run twice.
+
+GNU parallel and Dask run in the gate, with a tenth of the cities. GANDOVEL_SLURM=1 adds Slurm, on the loopback;
+GANDOVEL_MANY=1000 says how many cities.
+"""
+from __future__ import annotations
+
+import os
+import shutil
+import signal
+import subprocess
+from pathlib import Path
+
+import geopandas as gpd
+import pytest
+
+from gandovel import Refused
+from gandovel.many import run_many
+from gandovel.many.engines import parallel
+from gandovel.many.tasks import Program, Task
+from many_cities import (
+    GAP,
+    SIDE,
+    TOOL,
+    calls,
+    command,
+    have_results,
+    kill_session,
+    names_in,
+    processes_of,
+    program,
+    started,
+    told,
+    until,
+    verdicts,
+    write_cities,
+    write_city,
+)
+
+COUNT = int(os.environ.get("GANDOVEL_MANY", "100"))
+TOWN = Path(__file__).resolve().parents[2] / "examples/town"
+
+
+def test_many_small_cities(run, tmp_path):
+    gaps = set(range(3, COUNT, 10))
+    summary = run(write_cities(tmp_path, COUNT, gaps), tmp_path / "out")
+    assert verdicts(summary) == {f"c{at}": ("refused", "H2") if at in gaps else ("tiles", "") for at in range(COUNT)}
+    assert summary.lines()[0] == f"{COUNT} cities: {COUNT - len(gaps)} tile, {len(gaps)} refused (H2 {len(gaps)})"
+    assert all(it.parcels == 4 and it.area2 == 8 * SIDE * SIDE for it in summary.verdicts if it.tiles)
+    frame = gpd.read_file(tmp_path / "out/faults.gpkg", layer="gaps")
+    assert set(frame.city) == {f"c{at}" for at in gaps} and set(frame.area2_mm2) == {str(2 * GAP * SIDE)}
+    assert names_in(tmp_path / "out/cities") == {f"c{at}" for at in range(COUNT)}
+    assert len((tmp_path / "out/summary.csv").read_text().splitlines()) == COUNT + 1
+
+
+def test_a_result_is_what_the_program_said(run, tmp_path):
+    write_cities(tmp_path, 2, [1])
+    run(tmp_path / "manifest.csv", tmp_path / "out")
+    for name in ("c0", "c1"):
+        folder, facts = tmp_path / "out/cities" / name, told(tmp_path / "out", name)
+        city, parcels = (str(tmp_path / "in" / name / f"{layer}.shp") for layer in ("city", "parcels"))
+        assert facts["command"] == [TOOL, "check", city, parcels, "--unit", "mm", "--all"]
+        asked = subprocess.run(facts["command"], stdout=subprocess.PIPE, stderr=subprocess.PIPE)
+        assert (folder / "output.txt").read_bytes() == asked.stdout and (
+            folder / "errors.txt"
+        ).read_bytes() == asked.stderr
+        assert facts["status"] == asked.returncode == (name == "c1")
+        assert names_in(folder) == {"result.json", "output.txt", "errors.txt"}
+        sums = {path: it["sha256"] for path, it in facts["inputs"].items()}
+        for path in (city, parcels, city[:-3] + "shx", parcels[:-3] + "shx"):
+            assert sums.pop(path) == subprocess.check_output(["sha256sum", path], universal_newlines=True).split()[0]
+        assert not sums
+        version = subprocess.check_output([TOOL, "--version"], universal_newlines=True).strip()
+        assert facts["program"]["version"] == version and facts["seconds"] > 0 and facts["memory_kb"] > 100
+
+
+def test_zones_edits_and_all_faults(run, tmp_path):
+    for name in ("city", "parcels", "parcels_with_a_gap", "zones"):
+        shutil.copy(TOWN / f"{name}.shp", tmp_path)
+    (tmp_path / "manifest.csv").write_text(
+        "name,city,parcels,zones,unit,edits\n"
+        "it's a {} town of $HOME,city.shp,parcels.shp,zones.shp,cm,\n"
+        "gäp,city.shp,parcels_with_a_gap.shp,zones.shp,cm,\n"
+        "zones,city.shp,parcels.shp,parcels_with_a_gap.shp,cm,\n"
+        f"edits,city.shp,parcels.shp,,cm,{TOWN}/edits.txt\n"
+    )
+    summary = run(tmp_path / "manifest.csv", tmp_path / "out {} of $HOME")
+    town, gap, zones, edits = summary.verdicts
+    assert (town.verdict, town.parcels, town.pairs, town.split) == ("tiles", 5, 7, 2)
+    assert (gap.code, gap.layer, zones.code, zones.layer) == ("H2", "parcels", "H2", "zones")
+    assert edits.tiles and edits.edits_refused is not None
+    frame = gpd.read_file(tmp_path / "out {} of $HOME/faults.gpkg", layer="gaps")
+    assert [tuple(row) for row in frame[["city", "layer", "area2_mm2"]].values] == [
+        ("gäp", "parcels", "1000000"),
+        ("zones", "zones", "1000000"),
+    ]
+    assert all(abs(shape.area - 0.5) < 1e-9 for shape in frame.geometry) and summary.untold == []
+    again = run(tmp_path / "manifest.csv", tmp_path / "out {} of $HOME", resume=True, threads=2)
+    assert again.kept == 4 and again.gaps == 2
+
+
+def test_resume_does_what_has_no_result_of_the_same_files(run, tmp_path, monkeypatch):
+    program(tmp_path, monkeypatch, "")
+    manifest, out = write_cities(tmp_path, 6, [1]), tmp_path / "out"
+    run(manifest, out)
+    assert sorted(calls(tmp_path)) == [f"c{at}" for at in range(6)]
+    first = {name: told(out, name)["run"] for name in ("c0", "c1")}
+    write_city(tmp_path / "in/c2", gap=True)
+    (tmp_path / "in/c3/parcels.shx").unlink()
+    (out / "cities/c4/output.txt").write_text("tiling 5 800\n")
+    (out / "cities/c5/result.json").write_text("{")
+    summary = run(manifest, out, resume=True)
+    assert sorted(calls(tmp_path)[6:]) == ["c2", "c3", "c4", "c5"] and summary.kept == 2
+    assert {name: told(out, name)["run"] for name in first} == first
+    assert [it.code for it in summary.verdicts] == ["", "H2", "H2", "", "", ""] and summary.gaps == 2
+    assert run(manifest, out, resume=True).kept == 6
+    assert len(calls(tmp_path)) == 10
+    assert run(manifest, out).kept == 0 and len(calls(tmp_path)) == 16
+
+
+def test_another_program_does_all_again(run, tmp_path, monkeypatch):
+    program(tmp_path, monkeypatch, "")
+    manifest, out = write_cities(tmp_path, 2), tmp_path / "out"
+    run(manifest, out)
+    program(tmp_path, monkeypatch, ": another")
+    assert run(manifest, out, resume=True).kept == 0 and len(calls(tmp_path)) == 4
+
+
+PARENT = '"$(sed -n "s/^PPid:.//p" "/proc/$PPID/status")"'
+"""In a program of `program`: the process that has started the task's."""
+
+KILLED = {"the program": "kill -9 $$", "the task's process": "kill -9 $PPID; sleep 5"}
+
+
+@pytest.mark.parametrize("who", sorted(KILLED))
+def test_what_is_killed_is_tried_again(run, tmp_path, monkeypatch, who):
+    program(tmp_path, monkeypatch, f'case "$city" in */c[135]) once killed && {{ {KILLED[who]}; }};; esac')
+    summary = run(write_cities(tmp_path, 8), tmp_path / "out", retries=2)
+    assert all(it.tiles for it in summary.verdicts)
+    assert sorted(calls(tmp_path)) == sorted([f"c{at}" for at in range(8)] + ["c1", "c3", "c5"])
+
+
+@pytest.mark.parametrize("who", sorted(KILLED))
+def test_what_is_killed_each_time_is_named(run, tmp_path, monkeypatch, who):
+    program(tmp_path, monkeypatch, f'case "$city" in */c1) {KILLED[who]};; esac')
+    summary = run(write_cities(tmp_path, 4), tmp_path / "out", retries=1)
+    assert [it.code for it in summary.verdicts] == ["", "T4", "", ""] and "killed" in summary.verdicts[1].text
+    assert calls(tmp_path).count("c1") == 2
+    assert not (tmp_path / "out/cities/c1").exists()
+    until(lambda: not processes_of(tmp_path / "in/c1"))
+
+
+def test_the_limit_of_time(run, tmp_path, monkeypatch):
+    program(tmp_path, monkeypatch, 'case "$city" in */c1) sleep 600;; esac')
+    summary = run(write_cities(tmp_path, 3), tmp_path / "out", timeout=5, retries=2)
+    assert [it.code for it in summary.verdicts] == ["", "T3", ""] and "longer than 5 s" in summary.verdicts[1].text
+    assert calls(tmp_path).count("c1") == 1, "another try of the same run mends nothing"
+
+
+def test_the_limit_of_memory(run, tmp_path, monkeypatch):
+    program(
+        tmp_path,
+        monkeypatch,
+        'case "$city" in */c1) echo "error: H2 $(ulimit -v)" >&2; exit 1;;\n'
+        '*/c2) echo "error: no memory" >&2; exit 1;; esac',
+    )
+    summary = run(write_cities(tmp_path, 3), tmp_path / "out", memory_mb=600, retries=1)
+    assert verdicts(summary) == {"c0": ("tiles", ""), "c1": ("refused", "H2"), "c2": ("none", "no memory")}
+    assert summary.verdicts[1].text == str(600 * 1024) and calls(tmp_path).count("c2") == 2
+
+
+CHANGED = {
+    "longer": 'echo >> "$city/parcels.shp"',
+    "another": 'cp "$city/parcels.shp" "$city/x" && mv "$city/x" "$city/city.shp"',
+    "gone": 'rm "$city/city.shx"',
+    "written to and fro": 'cd "$city" && cp city.shp x && echo >> city.shp && sleep 0.1 && cat x > city.shp',
+}
+
+
+@pytest.mark.parametrize("how", sorted(CHANGED))
+def test_an_input_that_changes_under_way(run, tmp_path, monkeypatch, how):
+    program(tmp_path, monkeypatch, f'case "$city" in */c1) {CHANGED[how]};; esac')
+    summary = run(write_cities(tmp_path, 3), tmp_path / "out")
+    assert [it.code for it in summary.verdicts] == ["", "T5", ""] and "changed while" in summary.verdicts[1].text
+    assert names_in(tmp_path / "out/cities") == {"c0", "c2"} and calls(tmp_path).count("c1") == 1
+
+
+def test_inputs_that_are_not_there(run, tmp_path):
+    manifest = write_cities(tmp_path, 3)
+    (tmp_path / "in/c0/city.shp").unlink()
+    (tmp_path / "in/c1/parcels.shp").unlink()
+    (tmp_path / "in/c1/parcels.shp").mkdir()
+    summary = run(manifest, tmp_path / "out", retries=0)
+    assert [it.code for it in summary.verdicts] == ["P1", "P1", ""]
+    assert "is not there" in summary.verdicts[0].text and "can't be read" in summary.verdicts[1].text
+
+
+def test_a_program_that_ends_as_none_should(run, tmp_path, monkeypatch):
+    program(tmp_path, monkeypatch, 'case "$city" in */c0) echo what >&2; exit 7;; */c1) exit 1;; */c2) exit 0;; esac')
+    summary = run(write_cities(tmp_path, 3), tmp_path / "out", retries=0)
+    assert [it.code for it in summary.verdicts] == ["T2"] * 3 and "status 7: what" in summary.verdicts[0].text
+
+
+def test_a_node_that_has_another_program(run, tmp_path, monkeypatch):
+    from gandovel.many import run as module
+
+    monkeypatch.setattr(module, "find_program", lambda: Program(TOOL, "a version", 64 * "0"))
+    summary = run(write_cities(tmp_path, 3), tmp_path / "out", retries=0)
+    assert {it.code for it in summary.verdicts} == {"T6"} and "not the program" in summary.verdicts[0].text
+
+
+@pytest.fixture
+def small_disk(tmp_path):
+    """A disk of a megabyte, in memory."""
+    folder = tmp_path / "disk"
+    folder.mkdir()
+    subprocess.check_call(["mount", "-t", "tmpfs", "-o", "size=1m", "tmpfs", str(folder)])
+    yield folder
+    subprocess.check_call(["umount", "--lazy", str(folder)])
+
+
+def test_a_full_disk(run, tmp_path, monkeypatch, small_disk):
+    program(
+        tmp_path,
+        monkeypatch,
+        'case "$city" in */c1) head -c 3000000 /dev/zero || { echo "error: S2" >&2; exit 1; };; esac',
+    )
+    manifest = write_cities(tmp_path, 3)
+    summary = run(manifest, small_disk / "out", retries=0)
+    assert [it.code for it in summary.verdicts] == ["", "S2", ""] and names_in(small_disk / "out/cities") == {
+        "c0",
+        "c2",
+    }
+    with open(small_disk / "filled", "wb", buffering=0) as file, pytest.raises(OSError, match="No space left"):
+        while True:
+            file.write(bytes(4096))
+    with pytest.raises(Refused, match="P14 .*No space left"):
+        run(manifest, small_disk / "other")
+    subprocess.check_call(["mount", "-o", "remount,size=50m", str(small_disk)])
+    program(tmp_path, monkeypatch, "")
+    assert [it.tiles for it in run(manifest, small_disk / "out", resume=True).verdicts] == [True] * 3
+
+
+def test_a_folder_of_someone_else_is_left(run, tmp_path):
+    (tmp_path / "out").mkdir()
+    (tmp_path / "out/mine.txt").write_text("mine")
+    with pytest.raises(Refused, match="P14 .* no folder that gandovel many made"):
+        run(write_cities(tmp_path, 1), tmp_path / "out")
+    assert names_in(tmp_path / "out") == {"mine.txt"}
+
+
+def words_of(run, *more):
+    """The words of a command line that runs a manifest by an engine."""
+    at_once = ["--jobs", "2"] if run.engine != "slurm" else []
+    return ["manifest.csv", "--out", "out", "--engine", run.engine, *at_once, *more]
+
+
+def test_two_runs_at_once(run, tmp_path, monkeypatch):
+    program(tmp_path, monkeypatch, 'until [ -e "$city/../../go" ]; do sleep 0.1; done')
+    write_cities(tmp_path, 3)
+    one = started(tmp_path, *words_of(run))
+    try:
+        until(lambda: calls(tmp_path))
+        other = command(tmp_path, *words_of(run, "--resume"))
+        assert other.returncode == 1 and other.stdout == ""
+        assert (
+            other.stderr.strip()
+            .splitlines()[-1]
+            .startswith(f"error: P16 another run holds {tmp_path}/out: process {one.pid} on ")
+        )
+    finally:
+        (tmp_path / "go").touch()
+        out, errors = one.communicate(timeout=300)
+    assert (one.returncode, out) == (0, "3 cities: 3 tile\n"), errors
+
+
+def lock_is_free(out):
+    """Whether no process holds the folder of results."""
+    return subprocess.run(["flock", "--nonblock", str(out / "run.lock"), "true"]).returncode == 0
+
+
+def test_resume_after_the_command_is_killed(run, tmp_path, monkeypatch):
+    program(tmp_path, monkeypatch, 'case "$city" in */c?[02468]) sleep 1;; esac')
+    write_cities(tmp_path, 30)
+    one = started(tmp_path, *words_of(run))
+    until(lambda: have_results(tmp_path / "out", 5))
+    kill_session(one)
+    until(lambda: lock_is_free(tmp_path / "out"))
+    if run.engine == "slurm":
+        last = command(tmp_path, *words_of(run, "--resume")).stderr.strip().splitlines()[-1]
+        assert last.startswith("error: P16 the job gandovel-") and "is in Slurm's queue" in last
+        subprocess.check_call(["scancel", "--user=root"])
+        until(lambda: not subprocess.check_output(["squeue", "-h"]))
+    done = {name for name in names_in(tmp_path / "out/cities") if not name.startswith(".")}
+    runs = {name: told(tmp_path / "out", name)["run"] for name in done}
+    ended = command(tmp_path, *words_of(run, "--resume"))
+    assert (ended.returncode, ended.stdout) == (0, f"30 cities: 30 tile; {len(done)} kept\n"), ended.stderr
+    assert {name: told(tmp_path / "out", name)["run"] for name in done} == runs
+    assert all(calls(tmp_path).count(name) == 1 for name in done)
+    assert names_in(tmp_path / "out/cities") == {f"c{at}" for at in range(30)}
+
+
+@pytest.mark.parametrize("number", [signal.SIGTERM, signal.SIGINT])
+def test_a_command_that_is_stopped_leaves_nothing_running(run, tmp_path, monkeypatch, number):
+    program(tmp_path, monkeypatch, 'case "$city" in */c0) ;; *) sleep 600;; esac')
+    write_cities(tmp_path, 6)
+    one = started(tmp_path, *words_of(run))
+    until(lambda: len(calls(tmp_path)) > 1 and have_results(tmp_path / "out", 1))
+    one.send_signal(number)
+    out, errors = one.communicate(timeout=300)
+    assert (one.returncode, out) == (1, "") and errors.strip().splitlines()[-1].startswith("error: T8 "), errors
+    until(lambda: not processes_of(tmp_path))
+    assert "c0" in names_in(tmp_path / "out/cities") and not have_results(tmp_path / "out", 2)
+
+
+def test_the_command_says_which_cities_have_no_verdict(run, tmp_path, monkeypatch):
+    program(tmp_path, monkeypatch, 'case "$city" in */c1) kill -9 $$;; esac')
+    write_cities(tmp_path, 3, [2])
+    ended = command(tmp_path, *words_of(run, "--retries", "0"))
+    assert ended.stdout == (
+        f"3 cities: 1 tile, 1 refused (H2 1), 1 without a verdict (T4 1)\n1 gap: {tmp_path}/out/faults.gpkg\n"
+    )
+    assert ended.returncode == 1
+    assert ended.stderr.strip().splitlines()[-2:] == [
+        "c1: T4 the program was killed by signal 9",
+        "error: T9 1 of 3 cities have no verdict",
+    ]
+    assert ("dashboard: http://127.0.0.1:" in ended.stderr) == (run.engine == "dask")
+
+
+def test_workers_of_dask_that_are_killed(dask_cluster, tmp_path, monkeypatch):
+    # The nanny of a worker starts another one; the task that it had goes to any of them.
+    program(tmp_path, monkeypatch, f'case "$city" in */c[27]) once killed && {{ kill -9 {PARENT}; sleep 600; }};; esac')
+    summary = run_many(write_cities(tmp_path, 12), tmp_path / "out", "dask", scheduler=dask_cluster.scheduler_address)
+    assert all(it.tiles for it in summary.verdicts)
+    assert sorted(calls(tmp_path)) == sorted([f"c{at}" for at in range(12)] + ["c2", "c7"])
+    until(lambda: not processes_of(tmp_path))
+
+
+def test_tasks_that_share_a_job(tmp_path, monkeypatch):
+    monkeypatch.setattr(parallel, "SHARES", 1)
+    program(
+        tmp_path,
+        monkeypatch,
+        f'case "$city" in */c1) kill -9 $PPID; sleep 600;; */c7) once killed && kill -9 {PARENT};; '
+        "*/c9) kill -9 $$;; esac",
+    )
+    manifest = write_cities(tmp_path, 12, [3])
+    summary = run_many(manifest, tmp_path / "out", "parallel", jobs=2, retries=1)
+    assert {it.name: it.code for it in summary.verdicts if not it.tiles} == {"c1": "T4", "c3": "H2", "c9": "T4"}
+    assert len(names_in(tmp_path / "out/engine/1-cities/jobs")) == 2
+    assert {name: calls(tmp_path).count(name) for name in ("c0", "c1", "c6", "c7", "c9")} == {
+        "c0": 1,
+        "c1": 2,
+        "c6": 1,
+        "c7": 2,
+        "c9": 1,
+    }
+    assert [it.text for it in summary.verdicts if it.code == "T4"] == [
+        "the task was killed by signal 9",
+        "the program was killed by signal 9",
+    ]
+    until(lambda: not processes_of(tmp_path / "in"))
+
+
+def test_which_tasks_share_a_job(tmp_path):
+    def jobs(sizes, at_once):
+        tasks = []
+        for at, size in enumerate(sizes):
+            (tmp_path / f"{at}.shp").write_bytes(b"")
+            os.truncate(tmp_path / f"{at}.shp", size)
+            tasks.append(Task(str(at), (), ((str(tmp_path / f"{at}.shp"), True), (str(tmp_path / "none"), False))))
+        return [len(job) for job in parallel.jobs_of(tasks, at_once)]
+
+    large = parallel.SMALL + 1
+    assert jobs([], 1) == [] and jobs([9], 1) == [1] and jobs([9] * 5, 4) == [1] * 5
+    assert jobs([9] * parallel.SHARES * 6, 2) == [3] * 2 * parallel.SHARES
+    assert jobs([large, 9, 9, large, large, 9] * parallel.SHARES, 1) == [1, 2, 1, 1, 1] + [1, 2, 1, 1, 1] * (
+        parallel.SHARES - 1
+    )
+    assert max(jobs([9] * parallel.SHARES * 100, 1)) == parallel.MOST
+
+
+def test_a_parallel_that_is_killed(tmp_path, monkeypatch):
+    program(tmp_path, monkeypatch, f'case "$city" in */c0) kill -9 {PARENT}; sleep 600;; */c1) sleep 600;; esac')
+    summary = run_many(write_cities(tmp_path, 12), tmp_path / "out", "parallel", jobs=2)
+    assert {it.code for it in summary.verdicts} == {"T7"}
+    until(lambda: not processes_of(tmp_path))
+
+
+def test_engines_that_are_not_there(tmp_path, monkeypatch):
+    from gandovel.many.engines import dask
+
+    manifest = write_cities(tmp_path, 1)
+    monkeypatch.setattr(dask, "PATIENCE", "1s")
+    (tmp_path / "bin").mkdir()
+    monkeypatch.setenv("PATH", str(tmp_path / "bin"))
+    for engine, words in (
+        ("parallel", "GNU parallel is not there"),
+        ("slurm", "sbatch is not on PATH"),
+        ("none", "no engine none"),
+    ):
+        with pytest.raises(Refused, match=f"T7 .*{words}"):
+            run_many(manifest, tmp_path / "out", engine)
+    (tmp_path / "bin/parallel").write_text("#!/bin/sh\necho parallel of moreutils\n")
+    (tmp_path / "bin/parallel").chmod(0o755)
+    with pytest.raises(Refused, match="T7 .*not GNU parallel"):
+        run_many(manifest, tmp_path / "out", "parallel")
+    with pytest.raises(Refused, match="T7 Dask's scheduler 127.0.0.1:1 does not answer"):
+        run_many(manifest, tmp_path / "out", "dask", scheduler="127.0.0.1:1")
+
+
+def test_a_program_that_is_not_there(tmp_path, monkeypatch):
+    manifest = write_cities(tmp_path, 1)
+    monkeypatch.setenv("GANDOVEL_TOOL", str(tmp_path / "none"))
+    with pytest.raises(Refused, match="T1 the program parcel_tool is not there"):
+        run_many(manifest, tmp_path / "out")
+    assert not (tmp_path / "out").exists()

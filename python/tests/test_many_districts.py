@@ -1,0 +1,302 @@
+"""A city of districts by `gandovel many`: rings cut out of the layer of districts, and what the districts make up."""
+from __future__ import annotations
+
+import csv
+import os
+import random
+import subprocess
+from pathlib import Path
+from typing import Any, Dict, List, Sequence
+
+import fiona
+import geopandas as gpd
+import numpy as np
+import pytest
+from shapely.geometry import Polygon
+
+from gandovel.layer_files import read_rings, write_rings
+from gandovel.many import run_many, worker
+from many_cities import GAP, SIDE, TOOL, box, calls, names_in, program, told, verdicts, write_city
+
+LARGE = int(os.environ.get("GANDOVEL_MANY", "100")) >= 1000
+MM = {"mm": 1, "cm": 10, "m": 1000}
+BENT = 777
+"""How far the border between two districts is bent, in mm."""
+
+
+def write_manifest(folder: Path, rows: Sequence[Dict[str, Any]]) -> Path:
+    """A manifest of rows; what a row lacks is left empty, but for its unit, mm."""
+    columns = ["name", "city", "parcels", "zones", "unit", "part_of", "district"]
+    with open(folder / "manifest.csv", "w", newline="") as file:
+        writer = csv.DictWriter(file, columns, restval="")
+        writer.writeheader()
+        writer.writerows({"unit": "mm", **row} for row in rows)
+    return folder / "manifest.csv"
+
+
+def row_of_districts(folder: Path, count: int, name: str = "metropolis", at: int = 0) -> List[Dict[str, Any]]:
+    """A city of so many districts in a row, from (`at`, 0), each of two by two parcels, with its rows of a manifest."""
+    folder.mkdir(exist_ok=True)
+    side = 2 * SIDE
+    write_rings(folder / "city.shp", [box(at, 0, at + count * side, side)])
+    write_rings(folder / "districts.shp", [box(at + i * side, 0, at + (i + 1) * side, side) for i in range(count)])
+    rows = [{"name": name, "city": folder / "city.shp", "parcels": folder / "districts.shp"}]
+    for i in range(count):
+        write_city(folder / f"d{i}", at=at + i * side)
+        rows.append({"name": f"d{i}", "parcels": folder / f"d{i}/parcels.shp", "part_of": name, "district": i + 1})
+    return rows
+
+
+def test_a_metropolis(run, tmp_path):
+    count = 16 if LARGE else 4
+    manifest, out = write_manifest(tmp_path, row_of_districts(tmp_path / "in", count)), tmp_path / "out"
+    summary = run(manifest, out)
+    assert summary.lines() == [
+        f"{count + 1} cities: {count + 1} tile",
+        f"metropolis: tiles: {4 * count} parcels of {count} districts",
+    ]
+    (whole,) = summary.wholes
+    assert (whole.tiles, whole.districts, whole.parcels, whole.area2) == (
+        True,
+        count,
+        4 * count,
+        2 * count * 4 * SIDE * SIDE,
+    )
+    for at in range(count):
+        (ring,) = read_rings(out / f"rings/d{at}/ring_mm.shp")
+        assert {*map(tuple, ring.tolist())} == {
+            (x, y) for x in (2 * at * SIDE, 2 * (at + 1) * SIDE) for y in (0, 2 * SIDE)
+        }
+    write_city(tmp_path / "in/d2", gap=True, at=4 * SIDE)
+    summary = run(manifest, out, resume=True)
+    assert (
+        summary.kept == count
+        and summary.lines()[1] == f"metropolis: open: {count - 1} of {count} districts tile; not d2 (H2)"
+    )
+    assert summary.wholes[0].parcels is None and summary.gaps == 1
+
+
+def test_what_a_ring_s_result_has(tmp_path):
+    rows = row_of_districts(tmp_path / "in", 2)
+    run_many(write_manifest(tmp_path, rows), tmp_path / "out")
+    folder, facts = tmp_path / "out/rings/d1", told(tmp_path / "out", "d1", "rings")
+    city, districts = str(rows[0]["city"]), str(rows[0]["parcels"])
+    assert facts["command"] == [TOOL, "part", city, districts, "2", "--unit", "mm", "--out", str(folder / "ring_mm")]
+    assert names_in(folder) == {"result.json", "output.txt", "errors.txt", "ring_mm.shp", "ring_mm.shx"}
+    assert (folder / "output.txt").read_text() == f"part 2 {8 * SIDE * SIDE}\n"
+    assert facts["ring"] == "ring_mm.shp" and set(facts["made"]) == {"ring_mm.shp", "ring_mm.shx"}
+    inputs = told(tmp_path / "out", "d1")["inputs"]
+    assert all(facts["made"][name] == inputs[str(folder / name)] for name in facts["made"])
+    assert set(facts["inputs"]) == {path[:-1] + end for path in (city, districts) for end in "px"}
+
+
+def strips(count: int, seed: int) -> List[np.ndarray]:
+    """Strips side by side, (0, 0) to (count SIDE, SIDE), with borders bent at nine places, all on whole mm."""
+    pick = random.Random(seed)
+    heights = [0, *sorted(pick.sample(range(1, SIDE), 9)), SIDE]
+    bends = [
+        [pick.randint(-BENT, BENT) if 0 < at < count and 0 < y < SIDE else 0 for y in heights]
+        for at in range(count + 1)
+    ]
+    borders = [[(at * SIDE + bend, y) for bend, y in zip(line, heights)] for at, line in enumerate(bends)]
+    return [np.array([*right, *left[::-1]], dtype=np.int64) for left, right in zip(borders, borders[1:])]
+
+
+def in_unit(path: Path, rings: Sequence[np.ndarray], unit: str) -> None:
+    """Writes rings in mm as a shapefile in another unit, as a GIS does, and without an index."""
+    gpd.GeoDataFrame({"number": range(len(rings))}, geometry=[Polygon(ring / MM[unit]) for ring in rings]).to_file(path)
+    path.with_suffix(".shx").unlink()
+
+
+@pytest.mark.parametrize("layer, parcels", [("m", "mm"), ("mm", "m"), ("cm", "cm"), ("m", "m"), ("cm", "mm")])
+def test_units(tmp_path, layer, parcels):
+    whole_cm = "cm" in (layer, parcels)
+    rings = [box(at * SIDE, 0, (at + 1) * SIDE, SIDE) for at in range(3)] if whole_cm else strips(3, 5)
+    in_unit(tmp_path / "city.shp", [box(0, 0, 3 * SIDE, SIDE)], layer)
+    in_unit(tmp_path / "districts.shp", rings, layer)
+    rows = [{"name": "all", "city": "city.shp", "parcels": "districts.shp", "unit": layer}]
+    for at, ring in enumerate(rings):
+        in_unit(tmp_path / f"p{at}.shp", [ring], parcels)
+        rows.append({"name": f"d{at}", "parcels": f"p{at}.shp", "unit": parcels, "part_of": "all", "district": at + 1})
+    summary = run_many(write_manifest(tmp_path, rows), tmp_path / "out")
+    assert summary.lines() == ["4 cities: 4 tile", "all: tiles: 3 parcels of 3 districts"]
+    names = {f"ring_{unit}.{ending}" for unit in ("mm", parcels) for ending in ("shp", "shx")}
+    assert names_in(tmp_path / "out/rings/d1") == {"result.json", "output.txt", "errors.txt", *names}
+    assert run_many(tmp_path / "manifest.csv", tmp_path / "out", resume=True).kept == 4
+
+
+def test_a_ring_that_is_not_read_as_it_was_written(tmp_path, monkeypatch):
+    rows = row_of_districts(tmp_path / "in", 2)
+    for row in rows[1:]:
+        row["unit"] = "cm"
+    in_unit(tmp_path / "wrong.shp", [box(0, 0, 10, 10)], "cm")
+    program(
+        tmp_path,
+        monkeypatch,
+        f'[ "$1" = export ] && set -- export {tmp_path}/wrong.shp {tmp_path}/wrong.shp --unit cm --out "$7"',
+    )
+    summary = run_many(write_manifest(tmp_path, rows), tmp_path / "out", retries=0)
+    assert [it.code for it in summary.verdicts] == ["", "T10", "T10"]
+    assert summary.verdicts[1].text == "its ring is not there: T2 the ring in cm is not read as the one in mm"
+
+
+def test_dividing_a_ring(tmp_path):
+    ring = np.array([(0, 0), (123_457, -7), (99_999_999_999, 10**11)], dtype=np.int64)
+    write_rings(tmp_path / "ring.shp", [ring])
+    for ending in ("shp", "shx"):
+        data = (tmp_path / f"ring.{ending}").read_bytes()
+        (tmp_path / f"divided.{ending}").write_bytes(worker.divided(data, 1000, ending == "shp"))
+        assert len((tmp_path / f"divided.{ending}").read_bytes()) == len(data)
+    with fiona.open(str(tmp_path / "divided.shp")) as layer:
+        assert layer.bounds == (0, -0.007, 99_999_999.999, 10**8)
+    shape = gpd.read_file(tmp_path / "divided.shp").geometry[0]
+    assert set(shape.exterior.coords) == {(x / 1000, y / 1000) for x, y in ring.tolist()}
+
+
+def test_a_layer_of_districts_that_does_not_tile(tmp_path):
+    rows = row_of_districts(tmp_path / "in", 3)
+    write_rings(
+        tmp_path / "in/districts.shp",
+        [box(2 * i * SIDE, 0, 2 * (i + 1) * SIDE - GAP * (i == 1), 2 * SIDE) for i in range(3)],
+    )
+    summary = run_many(write_manifest(tmp_path, rows), tmp_path / "out", retries=0)
+    assert verdicts(summary) == {"metropolis": ("refused", "H2"), **{f"d{at}": ("none", "T10") for at in range(3)}}
+    assert all(it.text.startswith("its ring is not there: districts: H2 ") for it in summary.verdicts[1:])
+    assert summary.lines() == [
+        "4 cities: 0 tile, 1 refused (H2 1), 3 without a verdict (T10 3)",
+        "metropolis: open: the layer of districts does not tile (H2)",
+        f"1 gap: {tmp_path}/out/faults.gpkg",
+    ]
+
+
+def test_districts_that_the_layer_or_the_manifest_lacks(tmp_path):
+    rows = row_of_districts(tmp_path / "in", 3)
+    run = run_many(write_manifest(tmp_path, rows[:-1]), tmp_path / "out", retries=0)
+    assert run.wholes[0].said == "open: the layer has 3 districts, and the manifest 2"
+    more = {**rows[-1], "name": "d3", "district": 4}
+    run = run_many(write_manifest(tmp_path, [*rows, more]), tmp_path / "out", retries=0, resume=True)
+    assert run.kept == 3 and verdicts(run)["d3"] == ("none", "T10")
+    assert run.without[0].text == "its ring is not there: districts: H4 4"
+    assert run.wholes[0].said == "open: the layer has 3 districts, and the manifest 4"
+    run = run_many(write_manifest(tmp_path, [*rows[:-1], more]), tmp_path / "out", retries=0, resume=True)
+    assert run.wholes[0].said == "open: 2 of 3 districts tile; not d3 (T10)"
+
+
+def test_a_country_of_cities_of_districts(tmp_path):
+    rows = row_of_districts(tmp_path / "in", 3, "country")
+    rows[2].update(parcels=tmp_path / "in/quarters.shp")
+    write_rings(
+        tmp_path / "in/quarters.shp", [box(2 * SIDE, 0, 3 * SIDE, 2 * SIDE), box(3 * SIDE, 0, 4 * SIDE, 2 * SIDE)]
+    )
+    for at in range(2):
+        write_rings(
+            tmp_path / f"in/q{at}.shp",
+            [box((2 + at) * SIDE, i * SIDE, (3 + at) * SIDE, (i + 1) * SIDE) for i in range(2)],
+        )
+        rows.insert(0, {"name": f"q{at}", "parcels": tmp_path / f"in/q{at}.shp", "part_of": "d1", "district": at + 1})
+    summary = run_many(write_manifest(tmp_path, rows), tmp_path / "out")
+    assert summary.lines() == [
+        "6 cities: 6 tile",
+        "country: tiles: 12 parcels of 3 districts",
+        "d1: tiles: 4 parcels of 2 districts",
+    ]
+    write_rings(tmp_path / "in/q1.shp", [box(3 * SIDE, 0, 4 * SIDE, SIDE)])
+    summary = run_many(tmp_path / "manifest.csv", tmp_path / "out", resume=True)
+    assert summary.lines()[:3] == [
+        "6 cities: 5 tile, 1 refused (H2 1); 5 kept",
+        "country: open: 2 of 3 districts tile; not d1 (open)",
+        "d1: open: 1 of 2 districts tile; not q1 (H2)",
+    ]
+
+
+def test_a_layer_of_districts_that_changes_between_ring_and_check(tmp_path, monkeypatch):
+    rows = row_of_districts(tmp_path / "in", 2)
+    write_rings(tmp_path / "other.shp", read_rings(tmp_path / "in/districts.shp")[::-1])
+    program(
+        tmp_path,
+        monkeypatch,
+        f'case "$1 $city" in "check "*/d0) cp {tmp_path}/other.shp {tmp_path}/in/districts.shp;; esac',
+    )
+    summary = run_many(write_manifest(tmp_path, [*rows[1:], rows[0]]), tmp_path / "out", jobs=1)
+    assert all(it.tiles for it in summary.verdicts)
+    assert summary.wholes[0].said == "open: the layer of districts changed between its check and the ring of d0, d1"
+    assert not run_many(tmp_path / "manifest.csv", tmp_path / "out", jobs=1, resume=True).wholes[0].tiles
+
+
+DAMAGES = {
+    "gone": "rm ring_mm.shp",
+    "torn": "truncate -s -8 ring_mm.shp",
+    "longer": "echo >> ring_mm.shp",
+    "an index that is torn": "truncate -s 100 ring_mm.shx",
+    "no result": "rm result.json",
+}
+
+
+@pytest.mark.parametrize("how", sorted(DAMAGES))
+def test_a_ring_that_is_damaged_is_cut_out_again(tmp_path, monkeypatch, how):
+    program(tmp_path, monkeypatch, "")
+    manifest = write_manifest(tmp_path, row_of_districts(tmp_path / "in", 2))
+    run_many(manifest, tmp_path / "out")
+    before, sums = calls(tmp_path), told(tmp_path / "out", "d1", "rings")["made"]
+    subprocess.check_call(DAMAGES[how], shell=True, cwd=tmp_path / "out/rings/d1")
+    summary = run_many(manifest, tmp_path / "out", resume=True)
+    assert summary.kept == 3 and summary.wholes[0].tiles and len(calls(tmp_path)) == len(before) + 1
+    assert told(tmp_path / "out", "d1", "rings")["made"] == sums
+
+
+@pytest.mark.parametrize("command", ["part", "check"])
+def test_what_is_killed_is_tried_again(run, tmp_path, monkeypatch, command):
+    program(tmp_path, monkeypatch, f'if [ "$1" = {command} ]; then once killed-{command} && kill -9 $$; fi')
+    summary = run(write_manifest(tmp_path, row_of_districts(tmp_path / "in", 3)), tmp_path / "out")
+    assert summary.wholes[0].tiles and names_in(tmp_path / "out/rings") == {"d0", "d1", "d2"}
+    assert (tmp_path / "in/killed-part").exists() or command == "check"
+
+
+def cut(pick: random.Random, x0: int, y0: int, x1: int, y1: int, count: int) -> List[np.ndarray]:
+    """A rectangle in mm cut into so many, at random."""
+    rings = [(x0, y0, x1, y1)]
+    while len(rings) < count:
+        a, b, c, d = rings.pop(
+            max(range(len(rings)), key=lambda i: max(rings[i][2] - rings[i][0], rings[i][3] - rings[i][1]))
+        )
+        if c - a >= d - b:
+            at = pick.randint(a + 1, c - 1)
+            rings += [(a, b, at, d), (at, b, c, d)]
+        else:
+            at = pick.randint(b + 1, d - 1)
+            rings += [(a, b, c, at), (a, at, c, d)]
+    return [box(*ring) for ring in rings]
+
+
+def test_what_the_districts_make_up_is_what_all_parcels_do(tmp_path):
+    """At random: where all districts tile, the program says of all parcels in one layer that they tile the city."""
+    rows: List[Dict[str, Any]] = []
+    wrong = {}
+    for city in range(12):
+        pick, folder = random.Random(city), tmp_path / f"in{city}"
+        folder.mkdir()
+        districts = cut(pick, 0, 0, SIDE, SIDE, pick.randint(2, 5))
+        parcels = [cut(pick, *ring[0].tolist(), *ring[2].tolist(), pick.randint(1, 6)) for ring in districts]
+        wrong[city] = pick.randrange(len(districts)) if city % 3 == 2 else None
+        if wrong[city] is not None:
+            parcels[wrong[city]][0][0] += 1
+        write_rings(folder / "city.shp", [box(0, 0, SIDE, SIDE)])
+        write_rings(folder / "districts.shp", districts)
+        write_rings(folder / "all.shp", [ring for rings in parcels for ring in rings])
+        rows.append({"name": f"c{city}", "city": folder / "city.shp", "parcels": folder / "districts.shp"})
+        for at, rings in enumerate(parcels):
+            write_rings(folder / f"p{at}.shp", rings)
+            rows.append(
+                {"name": f"c{city}d{at}", "parcels": folder / f"p{at}.shp", "part_of": f"c{city}", "district": at + 1}
+            )
+    summary = run_many(write_manifest(tmp_path, rows), tmp_path / "out")
+    for city, whole in enumerate(summary.wholes):
+        assert whole.tiles == (wrong[city] is None), whole
+        folder = tmp_path / f"in{city}"
+        asked = subprocess.run(
+            [TOOL, "check", str(folder / "city.shp"), str(folder / "all.shp"), "--unit", "mm"],
+            stdout=subprocess.PIPE,
+            stderr=subprocess.PIPE,
+            universal_newlines=True,
+        )
+        assert (asked.stdout == f"tiling {whole.parcels} {whole.area2}\n") == whole.tiles
