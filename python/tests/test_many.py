@@ -219,6 +219,9 @@ def small_disk(tmp_path):
     subprocess.check_call(["umount", "--lazy", str(folder)])
 
 
+@pytest.mark.skipif(
+    "GANDOVEL_FULL" not in os.environ, reason="cities that run at the same time race for the small disk: by hand"
+)
 def test_a_full_disk(run, tmp_path, monkeypatch, small_disk):
     program(
         tmp_path,
