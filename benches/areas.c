@@ -4,8 +4,9 @@
 //   areas sums MAIN        sums the areas as it reads, and keeps no ring, as parcel_tool does
 //   areas rings MAIN       keeps all rings first
 //
-// The files are read whole by `read`, a coordinate is a double that must be a whole number, and areas are 128-bit sums. It
-// tests no more than that a record lies in the file, so it is what the reading has to do at least, and no program to trust.
+// The files are read whole by `read`, a coordinate is a double that must be a whole number of centimetres and counts in
+// millimetres, and areas are 128-bit sums. It tests no more than that a record lies in the file, so it is what the reading
+// has to do at least, and no program to trust.
 #include <fcntl.h>
 #include <stdint.h>
 #include <stdio.h>
@@ -56,7 +57,7 @@ static int64_t coordinate(const unsigned char *at) {
     if (!(value >= -1e10 && value <= 1e10)) stop("a coordinate is beyond the limit");
     int64_t whole = (int64_t)value;
     if ((double)whole != value) stop("a coordinate is no whole centimetre");
-    return whole;
+    return 10 * whole;
 }
 
 static char *put(char *out, unsigned __int128 number) {

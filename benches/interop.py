@@ -23,9 +23,9 @@ def output_of(words):
     return subprocess.run(words, check=True, stdout=subprocess.PIPE, text=True).stdout
 
 
-def areas_of_ours(program, main):
-    """Twice the area of each polygon, in order."""
-    return [int(line.split()[1]) for line in output_of([program, "area", main, "--unit", "cm"]).splitlines()]
+def areas_of_ours(program, main, unit="mm"):
+    """Twice the area of each polygon in mm2, in order."""
+    return [int(line.split()[1]) for line in output_of([program, "area", main, "--unit", unit]).splitlines()]
 
 
 def areas_of_gdal(main):
@@ -84,7 +84,7 @@ def main():
         town = os.path.join(folder, "town")
         city, parcels = os.path.join(TOWN, "city.shp"), os.path.join(TOWN, "parcels.shp")
         output_of([given.program, "export", city, parcels, "--unit", "cm", "--out", town])
-        wanted = areas_of_ours(given.program, parcels)
+        wanted = areas_of_ours(given.program, parcels, "cm")
         compare("exported, read by parcel_tool", areas_of_ours(given.program, town + ".shp"), wanted)
         for name, areas_of, write in [("gdal", areas_of_gdal, write_by_gdal), ("pyshp", areas_of_pyshp, write_by_pyshp)]:
             compare(f"exported, read by {name}", areas_of(town + ".shp"), wanted)

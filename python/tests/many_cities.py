@@ -7,6 +7,7 @@ import signal
 import subprocess
 import sys
 import time
+from functools import partial
 from pathlib import Path
 from typing import Any, Callable, Dict, List, Sequence, Set, Tuple
 
@@ -98,7 +99,10 @@ def names_in(folder: Path) -> Set[str]:
 
 
 def started(folder: Path, *words: Any) -> "subprocess.Popen[str]":
-    """The command `gandovel many` in a folder, in a session of its own."""
+    """The command `gandovel many` in a folder, in a session of its own.
+
+    It is stopped by SIGINT also where whoever runs the tests ignores that, as a shell's command in the background does.
+    """
     path = os.pathsep.join([str(SOURCES), os.environ.get("PYTHONPATH", "")])
     return subprocess.Popen(
         [sys.executable, "-m", "gandovel", "many", *map(str, words)],
@@ -108,6 +112,7 @@ def started(folder: Path, *words: Any) -> "subprocess.Popen[str]":
         stderr=subprocess.PIPE,
         universal_newlines=True,
         start_new_session=True,
+        preexec_fn=partial(signal.signal, signal.SIGINT, signal.SIG_DFL),
         env={**os.environ, "PYTHONPATH": path, "PYTHONDONTWRITEBYTECODE": "1"},
     )
 
