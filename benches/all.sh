@@ -23,6 +23,7 @@ measure locate python3 "$here/locate.py" --ours "$programs/bench_locate" --runs 
 measure edits python3 "$here/edits.py" --ours "$programs/bench_edits"
 measure zoning python3 "$here/zoning.py" "$tool" --pairs "$programs/bench_overlay"
 measure office python3 "$here/office.py" --ours "$programs/bench_office" --runs 3
+measure sessions python3 "$here/sessions.py" "$tool" --office "$programs/bench_office"
 measure overlap python3 "$here/overlap.py" --ours "$programs/bench_overlap"
 measure nodes python3 "$here/nodes.py" --ours "$programs/bench_nodes" --runs 2 --limit 400
 exit "$failed"

@@ -11,6 +11,8 @@ The first word is a file of examples/ or says what is made:
     moves N X,Y X,Y LINE ..  N lines of edits, each of which moves the border of the last two parcels, at first 1 and 2, to where it is, from
                              the one point straight to the other; and behind them these lines, with ` / ` between them
     folder                   no file, but a folder
+    pipe                     no file, but a named pipe
+    link NAME                no file, but a link to this name
 Then follow changes, from left to right:
     cut N                    only the first N bytes
     put PLACE HEX            these bytes from this place on
@@ -112,6 +114,12 @@ def make(path, recipe):
     words = recipe.split()
     if words == ["folder"]:
         os.mkdir(path)
+        return
+    if words == ["pipe"]:
+        os.mkfifo(path)
+        return
+    if words[0] == "link":
+        os.symlink(words[1], path)
         return
     first = next((at for at, word in enumerate(words) if word in CHANGES), len(words))
     data, size, rest = begun(words[0], words[1:first]), None, words[first:]

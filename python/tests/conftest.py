@@ -1,7 +1,8 @@
-"""What the tests share: the program, registers prepared once, engines of `gandovel many`."""
+"""What the tests share: the program, registers prepared once, towns for sessions, engines of `gandovel many`."""
 from __future__ import annotations
 
 import os
+import signal
 from pathlib import Path
 
 import pytest
@@ -75,3 +76,34 @@ def run(request):
 
     call.engine = name
     return call
+
+
+@pytest.fixture
+def halves(tmp_path):
+    """The two parcels of the worked example in `docs/edits.md`."""
+    from session_town import HALVES, SQUARE, Town
+
+    return Town(tmp_path, SQUARE, HALVES)
+
+
+@pytest.fixture
+def town(tmp_path):
+    """A city of 64 parcels."""
+    from session_register import grid_city
+    from session_town import Town
+
+    return Town(tmp_path, *grid_city(8, 8, 1))
+
+
+@pytest.fixture
+def in_time():
+    """Fails a test that waits for ever."""
+    from session_town import FULL
+
+    def too_long(number, frame):
+        raise AssertionError("the test waits for ever")
+    before = signal.signal(signal.SIGALRM, too_long)
+    signal.alarm(7200 if FULL else 600)
+    yield
+    signal.alarm(0)
+    signal.signal(signal.SIGALRM, before)

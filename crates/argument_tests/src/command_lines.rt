@@ -48,6 +48,20 @@ const REQUESTS: [(&str, &str); 9] = [
     ),
 ];
 
+/// Command lines of sessions, and what each asks for.
+const SESSIONS: [(&str, &str); 2] = [
+    (
+        "parcel_tool session a b --unit mm",
+        "Session(Session { city: \"a\", parcels: \"b\", unit: Mm, zones: None, journal: None, desks: [], \
+         workers: Workers { count: 4 } })",
+    ),
+    (
+        "parcel_tool session --desk d a --journal j b --workers 64 --zones z --desk c --unit m --desk d",
+        "Session(Session { city: \"a\", parcels: \"b\", unit: M, zones: Some(\"z\"), journal: Some(\"j\"), \
+         desks: [\"d\", \"c\", \"d\"], workers: Workers { count: 64 } })",
+    ),
+];
+
 #[test]
 fn reads_requests(rt: HostRuntime) -> Result<(), Fail> {
     for (line, want) in REQUESTS {
@@ -59,6 +73,61 @@ fn reads_requests(rt: HostRuntime) -> Result<(), Fail> {
             }
             Err(error) => return Err(Fail::new(error)),
         }
+    }
+    Ok(())
+}
+
+#[test]
+fn reads_sessions(rt: HostRuntime) -> Result<(), Fail> {
+    for (line, want) in SESSIONS {
+        let words: Vec<&str> = line.split(' ').collect(rt.alloc())?;
+        match parse(rt.alloc(), words.as_slice()) {
+            Ok(request) => {
+                let told = format!(in rt.alloc(); "{request:?}")?;
+                assert_eq!(rt; told.as_str(), want);
+            }
+            Err(error) => return Err(Fail::new(error)),
+        }
+    }
+    Ok(())
+}
+
+/// Command lines of sessions that are refused: the kind of error, and what its text says.
+const REFUSED_SESSIONS: [(&str, ErrorKind, &str); 4] = [
+    (
+        "parcel_tool session a b",
+        ErrorKind::MissingRequiredArgument,
+        "--unit <UNIT>",
+    ),
+    (
+        "parcel_tool session a b --unit mm --journal j --journal j",
+        ErrorKind::ArgumentConflict,
+        "cannot be used multiple times",
+    ),
+    (
+        "parcel_tool session a b --unit mm --clerk c",
+        ErrorKind::UnknownArgument,
+        "'--clerk'",
+    ),
+    (
+        "parcel_tool session a b --unit mm --workers 65",
+        ErrorKind::ValueValidation,
+        "65",
+    ),
+];
+
+#[test]
+fn refuses_sessions(rt: HostRuntime) -> Result<(), Fail> {
+    for (line, kind, help) in REFUSED_SESSIONS {
+        let words: Vec<&str> = line.split(' ').collect(rt.alloc())?;
+        let Err(error) = parse(rt.alloc(), words.as_slice()) else {
+            return Err(Fail::new(line));
+        };
+        assert_eq!(rt; (error.kind(), error.exit_code()), (kind, 2), "{line}");
+        assert!(rt;
+            format!(in rt.alloc(); "{error}")?.as_str().contains(help),
+            "{line}"
+        );
     }
     Ok(())
 }

@@ -5,14 +5,17 @@ use city_layers::area::area;
 use city_layers::{Disk, Source, StandardInput, ToolFault, read_source, read_text, replace_layer};
 use clap::Error;
 use clap::error::ErrorKind;
-use geo_exact::{ByteOut, Counted};
+use geo_exact::{ByteOut, Counted, Unit};
 use parcel_runs::check::{check, check_all};
 use parcel_runs::export::export;
 use parcel_runs::locate::{locate, locate_text};
 use parcel_runs::overlay::overlay;
 use parcel_runs::part::part;
 use parcel_runs::refuse_many_clerks;
+use register_sessions::{Exports, Pipes, Plan, serve_session};
 use std::alloc::Global;
+use std::fmt::Display;
+use std::fs::File;
 use std::io::Input;
 use std::process::ExitCode;
 use std::rt::{Env, Files};
@@ -20,7 +23,7 @@ use std::sync::Wait;
 use std::thread::Threads;
 use std::{env, io};
 use text_puts::put_all;
-use tool_arguments::{District, Inputs, Points, Request, Workers};
+use tool_arguments::{District, Inputs, Points, Request, Session, Workers};
 
 /// The status of a run that a fault ended.
 const FAULT: u8 = 1;
@@ -34,10 +37,7 @@ fn main(rt: HostRuntime) -> ExitCode {
         Err(error) => return end_unread(&rt, &error),
     };
     match tool_arguments::parse(rt.alloc(), words.as_slice()) {
-        Ok(request) => match answer(&rt, request) {
-            Ok(()) => ExitCode::SUCCESS,
-            Err(fault) => end_by_fault(&rt, &fault),
-        },
+        Ok(request) => answer(&rt, &Disk(&rt), request),
         Err(error) => end_by_refusal(&rt, &error),
     }
 }
@@ -51,41 +51,17 @@ fn command_line<R: Env + AllocGlobal>(rt: &R) -> io::Result<Vec<String>> {
     Ok(words)
 }
 
-/// Does what the command line asks for.
-fn answer<'a, R: Files + Input + Print + Threads + Wait + Sync + AllocGlobal>(
-    rt: &R,
-    request: Request<'a>,
-) -> Result<(), ToolFault<'a>> {
-    let heap = rt.alloc();
+/// Does what the command line asks for. A session's pipes and exports are of the disk.
+fn answer<
+    'a,
+    R: Files<File = File> + Input + Print + Eprint + Threads + Wait + Sync + AllocGlobal,
+    P: Pipes + Exports + Sync,
+>(rt: &R, disk: &P, request: Request<'a>) -> ExitCode {
     let mut out = Counted::new(io::writer(rt));
-    match request {
-        Request::Area { main, unit } => {
-            let source = read_source(&Disk(rt), heap, main)?;
-            area(heap, &source, unit, &mut out)
-        }
-        Request::Check { inputs, all } => {
-            let read = read_inputs(rt, &inputs)?;
-            let (city, parcels, clerks) = (&read.city, &read.parcels, read.clerks.as_slice());
-            if all {
-                check_all(rt, &heap, city, parcels, inputs.unit, clerks, &mut out)
-            } else {
-                check(rt, &heap, city, parcels, inputs.unit, clerks, &mut out)
-            }
-        }
-        Request::Export { inputs, base } => {
-            let read = read_inputs(rt, &inputs)?;
-            let exported = export(
-                rt,
-                &heap,
-                &read.city,
-                &read.parcels,
-                inputs.unit,
-                &read.clerks,
-            )?;
-            replace_layer(rt, heap, base, &exported.main, &exported.index)?;
-            put_all(&exported.lines, &mut out)?;
-            Ok(())
-        }
+    let done = match request {
+        Request::Area { main, unit } => answer_area(rt, main, unit, &mut out),
+        Request::Check { inputs, all } => answer_check(rt, &inputs, all, &mut out),
+        Request::Export { inputs, base } => answer_export(rt, &inputs, base, &mut out),
         Request::Locate { inputs, points } => answer_locate(rt, &inputs, &points, &mut out),
         Request::Overlay {
             inputs,
@@ -93,6 +69,77 @@ fn answer<'a, R: Files + Input + Print + Threads + Wait + Sync + AllocGlobal>(
             workers,
         } => answer_overlay(rt, &inputs, zones, workers, &mut out),
         Request::Part { district, base } => answer_part(rt, &district, base, &mut out),
+        Request::Session(session) => return answer_session(rt, disk, session),
+    };
+    match done {
+        Ok(()) => ExitCode::SUCCESS,
+        Err(fault) => end_by_fault(rt, &fault),
+    }
+}
+
+/// Tells the areas of a layer's rings.
+fn answer_area<'a, R: Files + AllocGlobal, W: ByteOut>(
+    rt: &R,
+    main: &'a str,
+    unit: Unit,
+    out: &mut W,
+) -> Result<(), ToolFault<'a>> {
+    let heap = rt.alloc();
+    let source = read_source(&Disk(rt), heap, main)?;
+    area(heap, &source, unit, out)
+}
+
+/// Tells whether parcels tile their city, or, where all is asked for, all faults.
+fn answer_check<'a, R: Files + Threads + Wait + Sync + AllocGlobal, W: ByteOut>(
+    rt: &R,
+    inputs: &Inputs<'a>,
+    all: bool,
+    out: &mut W,
+) -> Result<(), ToolFault<'a>> {
+    let heap = rt.alloc();
+    let read = read_inputs(rt, inputs)?;
+    let (city, parcels, clerks) = (&read.city, &read.parcels, read.clerks.as_slice());
+    if all {
+        check_all(rt, &heap, city, parcels, inputs.unit, clerks, out)
+    } else {
+        check(rt, &heap, city, parcels, inputs.unit, clerks, out)
+    }
+}
+
+/// Writes the parcels that tile their city anew.
+fn answer_export<'a, R: Files + Threads + Wait + Sync + AllocGlobal, W: ByteOut>(
+    rt: &R,
+    inputs: &Inputs<'a>,
+    base: &'a str,
+    out: &mut W,
+) -> Result<(), ToolFault<'a>> {
+    let heap = rt.alloc();
+    let read = read_inputs(rt, inputs)?;
+    let (city, parcels, clerks) = (&read.city, &read.parcels, read.clerks.as_slice());
+    let exported = export(rt, &heap, city, parcels, inputs.unit, clerks)?;
+    replace_layer(rt, heap, base, &exported.main, &exported.index)?;
+    put_all(&exported.lines, out)?;
+    Ok(())
+}
+
+/// Keeps a register open until it is closed.
+fn answer_session<
+    'a,
+    R: Files<File = File> + Input + Print + Eprint + Threads + Wait + Sync + AllocGlobal,
+    P: Pipes + Exports + Sync,
+>(rt: &R, disk: &P, session: Session<'a>) -> ExitCode {
+    let heap = rt.alloc();
+    let plan = Plan {
+        city: session.city,
+        parcels: session.parcels,
+        zones: session.zones,
+        unit: session.unit,
+        journal: session.journal,
+        desks: session.desks,
+    };
+    match serve_session(rt, disk, &heap, &plan) {
+        Ok(()) => ExitCode::SUCCESS,
+        Err(fault) => end_by_fault(rt, &fault),
     }
 }
 
@@ -216,7 +263,7 @@ fn read_points<'a, R: Files + Input + AllocGlobal>(
 }
 
 /// Ends a run early, and tells why.
-fn end_by_fault(rt: &impl Eprint, fault: &ToolFault<'_>) -> ExitCode {
+fn end_by_fault<F: Display>(rt: &impl Eprint, fault: &F) -> ExitCode {
     // Where standard error fails too there is nobody left to tell.
     let _ = eprintln!(rt; "error: {fault}");
     ExitCode::from(FAULT)

@@ -64,6 +64,27 @@ pub enum Request<'a> {
         /// The path of the files that are written, without their endings .shp and .shx.
         base: &'a str,
     },
+    /// A register that stays open, at whose desks edits and questions are answered.
+    Session(Session<'a>),
+}
+
+/// What a session is of.
+#[derive(Debug, Drop)]
+pub struct Session<'a> {
+    /// The path of the main file of the city's layer.
+    pub city: &'a str,
+    /// The path of the main file of the parcels' layer.
+    pub parcels: &'a str,
+    /// The unit of the coordinates of all layers.
+    pub unit: Unit,
+    /// The path of the main file of the zones' layer, where overlays are asked for.
+    pub zones: Option<&'a str>,
+    /// The path of the journal, where there is one.
+    pub journal: Option<&'a str>,
+    /// The names of the desks; desk K's is the K-th.
+    pub desks: Vec<&'a str>,
+    /// How many share an overlay.
+    pub workers: Workers,
 }
 
 /// How many workers share the parcels: 1 to 64.
@@ -124,6 +145,7 @@ pub fn parse<'a, S: AsStr>(alloc: Global, words: &'a [S]) -> Result<Request<'a>,
         Some(("check", given)) => check_request(alloc, given)?,
         Some(("export", given)) => export_request(alloc, given)?,
         Some(("overlay", given)) => overlay_request(alloc, given)?,
+        Some(("session", given)) => session_request(alloc, given)?,
         Some(("part", given)) => part_request(given),
         Some(("locate", given)) => match points_of(alloc, given)? {
             Some(points) => locate_request(alloc, given, points)?,
@@ -213,6 +235,30 @@ fn part_request<'a>(given: &ArgMatches<'a>) -> Option<Request<'a>> {
         },
         base: given.get_str("out")?,
     })
+}
+
+/// What the words of `session` ask for.
+fn session_request<'a>(
+    alloc: Global,
+    given: &ArgMatches<'a>,
+) -> Result<Option<Request<'a>>, AllocError> {
+    let (Some(city), Some(parcels), Some(unit), Some(workers)) = (
+        given.get_str("CITY"),
+        given.get_str("PARCELS"),
+        unit_of(given),
+        workers_of(given),
+    ) else {
+        return Ok(None);
+    };
+    Ok(Some(Request::Session(Session {
+        city,
+        parcels,
+        unit,
+        zones: given.get_str("zones"),
+        journal: given.get_str("journal"),
+        desks: Vec::from_slice(alloc, given.get_strs("desk").unwrap_or(&[]))?,
+        workers,
+    })))
 }
 
 /// How many workers were asked for.
@@ -307,7 +353,8 @@ fn tool_command<'a>(alloc: Global) -> Result<Command<'a>, AllocError> {
         .subcommand(export_command(alloc)?)?
         .subcommand(locate_command(alloc)?)?
         .subcommand(overlay_command(alloc)?)?
-        .subcommand(part_command(alloc)?)
+        .subcommand(part_command(alloc)?)?
+        .subcommand(session_command(alloc)?)
 }
 
 fn area_command<'a>(alloc: Global) -> Result<Command<'a>, AllocError> {
@@ -413,6 +460,53 @@ fn record_number<'a>(alloc: Global) -> Arg<'a> {
         .action(ArgAction::Set)
         .value_parser(value_parser!(u64))
         .help("The number of the district's record, from 1")
+}
+
+fn session_command<'a>(alloc: Global) -> Result<Command<'a>, AllocError> {
+    Command::new(alloc, "session")
+        .about(
+            "Keeps parcels that tile their city open, and answers edits and questions line by line",
+        )
+        .arg(file(alloc, "CITY", "The main file of the city's layer, .shp"))?
+        .arg(file(
+            alloc,
+            "PARCELS",
+            "The main file of the parcels' layer, .shp",
+        ))?
+        .arg(unit(alloc, "The unit of the files' coordinates"))?
+        .arg(zones_option(alloc))?
+        .arg(journal(alloc))?
+        .arg(desk(alloc))?
+        .arg(worker_count(alloc))
+}
+
+/// The zones, where overlays are asked for.
+fn zones_option<'a>(alloc: Global) -> Arg<'a> {
+    Arg::new(alloc, "zones")
+        .long("zones")
+        .action(ArgAction::Set)
+        .value_name("ZONES")
+        .help("The main file of the zones' layer, .shp")
+}
+
+/// The journal of accepted edits.
+fn journal<'a>(alloc: Global) -> Arg<'a> {
+    Arg::new(alloc, "journal")
+        .long("journal")
+        .action(ArgAction::Set)
+        .value_name("FILE")
+        .help(
+            "The file of accepted edits, which are made first, and behind which further ones are written",
+        )
+}
+
+/// The desks. How many they may be is asked before the first is opened, and not here.
+fn desk<'a>(alloc: Global) -> Arg<'a> {
+    Arg::new(alloc, "desk")
+        .long("desk")
+        .action(ArgAction::Append)
+        .value_name("NAME")
+        .help("A desk, with the named pipes NAME.in and NAME.out; up to 8, all at the same time")
 }
 
 /// How many threads share the parcels.

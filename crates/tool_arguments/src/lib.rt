@@ -3,4 +3,4 @@
 
 mod arguments;
 
-pub use arguments::{District, Inputs, Points, Request, Workers, parse};
+pub use arguments::{District, Inputs, Points, Request, Session, Workers, parse};

@@ -2,7 +2,7 @@
 from __future__ import annotations
 
 from dataclasses import dataclass
-from typing import Any, List, Sequence, Tuple, Union
+from typing import Any, Callable, List, Sequence, Tuple, Union
 
 import numpy as np
 
@@ -66,18 +66,23 @@ def lines_of(prepared: Prepared, edits: Sequence[Any], at: int = 0) -> List[str]
     return [edit if isinstance(edit, str) else _line(prepared, edit, at) for edit in edits]
 
 
-def _line(prepared: Prepared, edit: Edit, at: int) -> str:
+def line_of(edit: Edit, name: Callable[[Parcel], int], path: Callable[[Places], str]) -> str:
+    """An edit as the line of a clerk's file: `name` gives a parcel's id, `path` the text `X Y X Y ..` of places."""
     if isinstance(edit, Split):
-        return f"split {_id(prepared, edit.parcel, at)} {_path(prepared, edit.path)}"
+        return f"split {name(edit.parcel)} {path(edit.path)}"
     if isinstance(edit, Merge):
-        return f"merge {_id(prepared, edit.one, at)} {_id(prepared, edit.other, at)}"
+        return f"merge {name(edit.one)} {name(edit.other)}"
     if isinstance(edit, Move):
-        return f"move {_id(prepared, edit.one, at)} {_id(prepared, edit.other, at)} {_path(prepared, edit.path)}"
+        return f"move {name(edit.one)} {name(edit.other)} {path(edit.path)}"
     if isinstance(edit, Insert):
-        return f"insert {_path(prepared, (edit.first, edit.last, edit.new))}"
+        return f"insert {path((edit.first, edit.last, edit.new))}"
     if isinstance(edit, Straighten):
-        return f"straighten {_path(prepared, (edit.corner,))}"
+        return f"straighten {path((edit.corner,))}"
     raise TypeError(f"no edit: {edit!r}")
+
+
+def _line(prepared: Prepared, edit: Edit, at: int) -> str:
+    return line_of(edit, lambda parcel: _id(prepared, parcel, at), lambda places: _path(prepared, places))
 
 
 def _id(prepared: Prepared, parcel: Parcel, at: int) -> int:

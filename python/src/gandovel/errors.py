@@ -35,12 +35,99 @@ class Refused(Exception):
         if self.number is not None:
             parts.append(f"{'zone' if self.role == 'zones' else 'parcel'} {self.number}: ")
         parts.append(" ".join(self.text.split()))
-        return "".join(parts)
+        return "".join(parts).rstrip()
 
     @property
     def status(self) -> int:
         """The exit status: 1, as the program's."""
         return 1
+
+
+class RefusedEdit(Refused):
+    """An edit that a session did not make: ``code`` is E1 .. E12 or ``no memory``, ``text`` what it names.
+
+    Nothing has changed (`docs/edits.md`).
+    """
+
+
+class SessionError(Refused):
+    """What a session answers in place of what it was asked for; ``code`` stands behind ``error: `` in its answer."""
+
+
+class NoSuchLine(SessionError):
+    """L1: the line is none of a session's, or longer than 1 MiB."""
+
+
+class NoVersion(SessionError):
+    """K4: there is no version of the register to answer from."""
+
+
+class NoMemory(SessionError):
+    """``no memory``: an allocation failed. The same line may be answered later."""
+
+
+class OperatorsOnly(SessionError):
+    """``operator``: the line is the operator's, and was sent at another desk."""
+
+
+class NoCard(SessionError):
+    """``no card``: an edit at the operator's desk of a session that has desks with names."""
+
+
+class NoWindow(SessionError):
+    """``no window``: a question at the operator's desk of a session with eight desks."""
+
+
+class JournalBroken(SessionError):
+    """``journal``: the journal could not be written, and no edit is taken any more. Questions go on."""
+
+
+class SessionClosed(SessionError):
+    """``closed``: the session was closed; the line was not taken."""
+
+
+class NoZones(SessionError):
+    """``no zones``: the session was begun without zones."""
+
+
+class CardsMissing(SessionError):
+    """K2: fewer cards came back than there are clerks, when the session was closed; both numbers are in ``text``."""
+
+
+class JournalRefused(SessionError):
+    """A session did not begin for its journal: ``line`` of it, from 1, is no edit (L1) or doesn't fit (E1 ..); or S1.
+
+    S1: it can't be opened, made or read, or is no regular file.
+    """
+
+    def __init__(self, code: str, text: str, line: Optional[int] = None) -> None:
+        super().__init__(code, text, "journal")
+        self.line = line
+
+    def __str__(self) -> str:
+        if self.line is None:
+            return super().__str__()
+        return f"journal line {self.line}: {' '.join([self.code, *self.text.split()])}"
+
+
+class JournalInUse(JournalRefused):
+    """``in use``: another session holds the journal."""
+
+
+class ProgramEnded(SessionError):
+    """T2: the program ended, or the desk did, before it answered. A line may have been taken."""
+
+
+class BadAnswer(SessionError):
+    """T3: an answer that is no line of a session's, or doesn't answer what was asked."""
+
+
+class TimedOut(SessionError, TimeoutError):
+    """T4: no answer within the time that the caller gave. The line may still be taken."""
+
+
+class DeskTaken(SessionError):
+    """T5: another client of this package has the desk."""
 
 
 def place(x: float, y: float) -> str:

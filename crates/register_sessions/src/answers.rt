@@ -1,0 +1,161 @@
+//! What is answered to the lines that any desk may be asked.
+
+use crate::lines::Came;
+use crate::room::{EditFault, Room};
+use desk_lock::{Card, LocateFault, Naming, Window};
+use geo_exact::{Corner, LIST_CORNERS};
+use ring_edits::Edit;
+use session_lines::{
+    Line, SessionFault, push_accepted, push_entries, push_error, push_located, push_no_parcel,
+    push_parcel, push_refused, push_skipped, read_line,
+};
+use std::alloc::{AllocError, Allocator};
+use std::sync::Wait;
+
+/// Who sits at a desk: with a card whoever may edit, and with a window whoever may ask.
+#[derive(Drop)]
+pub(crate) struct Chair<'h, H: Allocator, J: Naming<H>> {
+    pub(crate) card: Option<Card<'h, H, J>>,
+    pub(crate) window: Option<Window<'h, H, J>>,
+}
+
+/// Adds the answer to what came at a desk that is not the operator's.
+pub(crate) fn answer<'h, H: Allocator, J: Naming<H>, R: Wait>(
+    room: &Room<'_, 'h, H, J, R>,
+    chair: &mut Chair<'h, H, J>,
+    came: Came,
+    line: &[u8],
+    text: &mut Vec<u8, &'h H>,
+) -> Result<(), AllocError> {
+    match read_asked(room.heap, came, line) {
+        Ok(asked) => answer_asked(room, chair, asked, text),
+        Err(fault) => push_error(text, fault),
+    }
+}
+
+/// What a line that came asks for, or why it asks for nothing.
+pub(crate) fn read_asked<'l, A: Allocator + Copy>(
+    alloc: A,
+    came: Came,
+    line: &'l [u8],
+) -> Result<Line<'l, A>, SessionFault> {
+    match came {
+        Came::Line => match read_line(alloc, line) {
+            Ok(Some(asked)) => Ok(asked),
+            Ok(None) => Err(SessionFault::BadLine),
+            Err(_) => Err(SessionFault::NoMemory),
+        },
+        Came::TooLong => Err(SessionFault::BadLine),
+        Came::NoMemory => Err(SessionFault::NoMemory),
+        Came::Closed | Came::End => Err(SessionFault::Closed),
+    }
+}
+
+/// Adds the answer to a line that any desk may be asked; the operator's own lines are refused.
+pub(crate) fn answer_asked<'h, H: Allocator, J: Naming<H>, R: Wait>(
+    room: &Room<'_, 'h, H, J, R>,
+    chair: &mut Chair<'h, H, J>,
+    asked: Line<'_, &'h H>,
+    text: &mut Vec<u8, &'h H>,
+) -> Result<(), AllocError> {
+    match asked {
+        Line::Skipped => push_skipped(text),
+        Line::Edit(edit) => answer_edit(room, chair, &edit, text),
+        Line::Locate(corner) => match &mut chair.window {
+            Some(window) => answer_locate(window, corner, text),
+            None => push_error(text, SessionFault::NoWindow),
+        },
+        Line::Parcel(id) => match &mut chair.window {
+            Some(window) => answer_parcel(window, id, text),
+            None => push_error(text, SessionFault::NoWindow),
+        },
+        Line::Entries => match &mut chair.window {
+            Some(window) => answer_entries(window, text),
+            None => push_error(text, SessionFault::NoWindow),
+        },
+        Line::Overlay | Line::Check | Line::Export(_) | Line::Publish | Line::Close => {
+            push_error(text, SessionFault::OperatorOnly)
+        }
+    }
+}
+
+/// Adds the answer to an edit.
+fn answer_edit<'h, H: Allocator, J: Naming<H>, R: Wait>(
+    room: &Room<'_, 'h, H, J, R>,
+    chair: &mut Chair<'h, H, J>,
+    edit: &Edit<&'h H>,
+    text: &mut Vec<u8, &'h H>,
+) -> Result<(), AllocError> {
+    let Some(card) = &mut chair.card else {
+        return push_error(text, SessionFault::NoCard);
+    };
+    match room.submit(card, edit) {
+        Ok(receipt) => {
+            if let Some(window) = &mut chair.window {
+                window.learn(&receipt);
+            }
+            push_accepted(text, receipt.entry())
+        }
+        Err(EditFault::Refused(refusal)) => push_refused(text, refusal),
+        Err(EditFault::Journal) => push_error(text, SessionFault::JournalFailed),
+        Err(EditFault::NoMemory) => push_error(text, SessionFault::NoMemory),
+    }
+}
+
+/// Adds where a corner lies.
+fn answer_locate<'h, H: Allocator, J: Naming<H>>(
+    window: &mut Window<'h, H, J>,
+    corner: Corner,
+    text: &mut Vec<u8, &'h H>,
+) -> Result<(), AllocError> {
+    match window.locate(corner) {
+        Ok((entries, at)) => push_located(text, entries, corner, &at),
+        Err(fault) => push_error(text, told_of_window(fault)),
+    }
+}
+
+/// Adds the ring of a parcel.
+fn answer_parcel<'h, H: Allocator, J: Naming<H>>(
+    window: &mut Window<'h, H, J>,
+    id: u64,
+    text: &mut Vec<u8, &'h H>,
+) -> Result<(), AllocError> {
+    match window.parcel(id) {
+        Ok((entries, Some(ring))) => push_ring(text, entries, id, ring.as_slice()),
+        Ok((entries, None)) => push_no_parcel(text, entries, id),
+        Err(fault) => push_error(text, told_of_window(fault)),
+    }
+}
+
+/// Adds the ring of a parcel that there is.
+fn push_ring<A: Allocator>(
+    text: &mut Vec<u8, A>,
+    entries: u64,
+    id: u64,
+    ring: &[Corner],
+) -> Result<(), AllocError> {
+    // A parcel's ring has fewer corners by far. No contract of a window repeats it.
+    if ring.len() > LIST_CORNERS {
+        return push_error(text, SessionFault::NoMemory);
+    }
+    push_parcel(text, entries, id, ring)
+}
+
+/// Adds how many entries there are.
+fn answer_entries<'h, H: Allocator, J: Naming<H>>(
+    window: &mut Window<'h, H, J>,
+    text: &mut Vec<u8, &'h H>,
+) -> Result<(), AllocError> {
+    match window.entries() {
+        Ok(entries) => push_entries(text, entries),
+        Err(fault) => push_error(text, told_of_window(fault)),
+    }
+}
+
+/// Why a window does not answer, as a desk is told.
+fn told_of_window(fault: LocateFault) -> SessionFault {
+    match fault {
+        LocateFault::NoVersion => SessionFault::NoVersion,
+        LocateFault::NoMemory => SessionFault::NoMemory,
+    }
+}

@@ -1,0 +1,110 @@
+//! Desks, each served by a thread of its own.
+
+use crate::answers::{Chair, answer};
+use crate::lines::Came;
+use crate::pipes::{Paths, Pipes};
+use crate::post::{Next, Served, Trouble, go_on, take_line};
+use crate::room::Room;
+use desk_lock::Naming;
+use geo_exact::{ByteOut, Counted};
+use std::alloc::Allocator;
+use std::fs::File;
+use std::io;
+use std::io::{BufReader, ErrorKind, Read};
+use std::sync::Wait;
+
+/// A desk: its pipes, and who sits there.
+#[derive(Drop)]
+pub(crate) struct Desk<'p, 'h, H: Allocator, J: Naming<H>> {
+    pub(crate) paths: &'p Paths<&'h H>,
+    pub(crate) chair: Chair<'h, H, J>,
+}
+
+/// Serves a desk's clients, one after the other, until the session closes, or the desk's pipes can't be opened.
+pub(crate) fn serve_desk<'p, 'h, P: Pipes, H: Allocator, J: Naming<H>, R: Wait>(
+    room: &Room<'_, 'h, H, J, R>,
+    pipes: &P,
+    desk: Desk<'p, 'h, H, J>,
+) -> Desk<'p, 'h, H, J> {
+    let mut desk = desk;
+    for _ in room.rt.forever() {
+        if !serve_next(room, pipes, &mut desk) {
+            break;
+        }
+    }
+    desk
+}
+
+/// Serves the next client of a desk; whether the desk goes on then.
+fn serve_next<'p, 'h, P: Pipes, H: Allocator, J: Naming<H>, R: Wait>(
+    room: &Room<'_, 'h, H, J, R>,
+    pipes: &P,
+    desk: &mut Desk<'p, 'h, H, J>,
+) -> bool {
+    if !room.door.step_in(room.rt) {
+        return false;
+    }
+    let opened = open_both(pipes, room.heap, desk.paths);
+    room.door.pass(room.rt);
+    match opened {
+        Ok((mut reader, writer)) => {
+            let mut out = Counted::new(writer);
+            let served = serve_client(room, &mut desk.chair, &mut reader, &mut out);
+            // Whoever sees the end of the answers may ask anew at once: what is asked then must not come to this reader.
+            drop(reader);
+            drop(out);
+            served == Served::Gone
+        }
+        Err(error) => error.kind() == ErrorKind::OutOfMemory,
+    }
+}
+
+/// Answers a client's lines until no further one is taken.
+fn serve_client<'h, H: Allocator, J: Naming<H>, R: Wait, F: Read, W: ByteOut>(
+    room: &Room<'_, 'h, H, J, R>,
+    chair: &mut Chair<'h, H, J>,
+    reader: &mut BufReader<F, &'h H>,
+    out: &mut W,
+) -> Served {
+    let mut line = Vec::new(room.heap);
+    let mut text = Vec::new(room.heap);
+    for _ in 0..u64::MAX {
+        let came = match take_line(&room.door, reader, &mut line, &mut text, out) {
+            Ok(came) => came,
+            Err(served) => return served,
+        };
+        let before = text.len();
+        let answered = answer_desk(room, chair, came, line.as_slice(), &mut text);
+        if let Some(served) = go_on(answered, before, &mut text, out) {
+            return served;
+        }
+    }
+    Served::Gone
+}
+
+/// Adds the answer to what came at a desk; the desk ends where the session closes.
+fn answer_desk<'h, H: Allocator, J: Naming<H>, R: Wait>(
+    room: &Room<'_, 'h, H, J, R>,
+    chair: &mut Chair<'h, H, J>,
+    came: Came,
+    line: &[u8],
+    text: &mut Vec<u8, &'h H>,
+) -> Result<Next, Trouble> {
+    answer(room, chair, came, line, text)?;
+    if came == Came::Closed {
+        Ok(Next::End)
+    } else {
+        Ok(Next::Line)
+    }
+}
+
+/// Opens a desk's pipes: waits for a client.
+fn open_both<'h, P: Pipes, H: Allocator>(
+    pipes: &P,
+    heap: &'h H,
+    paths: &Paths<&'h H>,
+) -> io::Result<(BufReader<File, &'h H>, File)> {
+    let lines = pipes.open_to_read(paths.lines.as_str())?;
+    let answers = pipes.open_to_write(paths.answers.as_str())?;
+    Ok((BufReader::new(heap, lines)?, answers))
+}

@@ -1,0 +1,118 @@
+//! The operator's desk.
+
+use crate::answers::{Chair, answer_asked, read_asked};
+use crate::lines::Came;
+use crate::post::{Next, Served, Trouble, go_on, take_line};
+use crate::reports::{Exports, Ground, report_check, report_export, report_overlay};
+use crate::room::Room;
+use desk_lock::Naming;
+use fabric_core::Sheet;
+use geo_exact::ByteOut;
+use session_lines::{Line, SessionFault, push_error, push_published};
+use std::alloc::{AllocError, Allocator};
+use std::io::{BufReader, Read};
+use std::sync::Wait;
+
+/// The operator's desk: who sits there, and what reports need.
+#[derive(Drop)]
+pub(crate) struct Operator<'h, H: Allocator, J: Naming<H>> {
+    pub(crate) chair: Chair<'h, H, J>,
+    pub(crate) ground: Ground<'h, H, J>,
+}
+
+/// Answers the operator's lines until no further one is taken.
+pub(crate) fn serve_operator<
+    'h,
+    P: Exports,
+    H: Allocator,
+    J: Naming<H>,
+    R: Wait,
+    F: Read,
+    W: ByteOut,
+>(
+    room: &Room<'_, 'h, H, J, R>,
+    disk: &P,
+    operator: &mut Operator<'h, H, J>,
+    reader: &mut BufReader<F, &'h H>,
+    out: &mut W,
+) -> Served {
+    let mut line = Vec::new(room.heap);
+    let mut text = Vec::new(room.heap);
+    for _ in 0..u64::MAX {
+        let came = match take_line(&room.door, reader, &mut line, &mut text, out) {
+            Ok(came) => came,
+            Err(served) => return served,
+        };
+        let before = text.len();
+        let answered = answer_operator(room, disk, operator, came, line.as_slice(), &mut text, out);
+        if let Some(served) = go_on(answered, before, &mut text, out) {
+            return served;
+        }
+    }
+    Served::Gone
+}
+
+/// Adds the answer to what came at the operator's desk to a text, or writes the text and then the answer.
+fn answer_operator<'h, P: Exports, H: Allocator, J: Naming<H>, R: Wait, W: ByteOut>(
+    room: &Room<'_, 'h, H, J, R>,
+    disk: &P,
+    operator: &mut Operator<'h, H, J>,
+    came: Came,
+    line: &[u8],
+    text: &mut Vec<u8, &'h H>,
+    out: &mut W,
+) -> Result<Next, Trouble> {
+    match read_asked(room.heap, came, line) {
+        Ok(Line::Check) => report_check(sheet_of(room)?, text)?,
+        Ok(Line::Overlay) => answer_overlay(room, &operator.ground, text, out)?,
+        Ok(Line::Export(base)) => {
+            report_export(disk, room.heap, sheet_of(room)?, base, text)?;
+        }
+        Ok(Line::Publish) => answer_publish(room, &mut operator.chair, text)?,
+        Ok(Line::Close) => return Ok(Next::End),
+        Ok(asked) => answer_asked(room, &mut operator.chair, asked, text)?,
+        Err(fault) => push_error(text, fault)?,
+    }
+    Ok(Next::Line)
+}
+
+/// Writes which parcels and zones overlap, where there are zones.
+fn answer_overlay<'h, H: Allocator, J: Naming<H>, R: Wait, W: ByteOut>(
+    room: &Room<'_, 'h, H, J, R>,
+    ground: &Ground<'h, H, J>,
+    text: &mut Vec<u8, &'h H>,
+    out: &mut W,
+) -> Result<(), Trouble> {
+    match &ground.zones {
+        Some(zones) => {
+            let sheet = sheet_of(room)?;
+            report_overlay(room.heap, &sheet, zones, text, out)
+        }
+        None => Ok(push_error(text, SessionFault::NoZones)?),
+    }
+}
+
+/// Publishes all entries, and adds how many they are. The operator's window knows them then.
+fn answer_publish<'h, H: Allocator, J: Naming<H>, R: Wait>(
+    room: &Room<'_, 'h, H, J, R>,
+    chair: &mut Chair<'h, H, J>,
+    text: &mut Vec<u8, &'h H>,
+) -> Result<(), AllocError> {
+    match room.office.publish(room.rt) {
+        Some(notice) => {
+            if let Some(window) = &mut chair.window {
+                window.learn_notice(&notice);
+            }
+            push_published(text, notice.number())
+        }
+        None => push_error(text, SessionFault::NoMemory),
+    }
+}
+
+/// The parcels as they are now, with the journal that led there. The office is held no longer than they are copied.
+fn sheet_of<'h, H: Allocator, J: Naming<H>, R: Wait>(
+    room: &Room<'_, 'h, H, J, R>,
+) -> Result<Sheet<'h, H>, AllocError> {
+    let mut none = Vec::new(room.heap);
+    room.office.sheet(room.rt, none.as_mut_slice())
+}

@@ -1,0 +1,114 @@
+//! The named pipes of desks.
+
+use crate::start_fault::StartFault;
+use city_layers::Disk;
+use std::alloc::{AllocError, Allocator};
+use std::fs::{File, OpenOptions};
+use std::io;
+use std::io::Write;
+use std::os::unix::fs::{FileTypeExt, MetadataExt};
+use std::rt::Files;
+
+/// How the path of the pipe ends at which a desk is asked.
+const LINES: &str = ".in";
+
+/// How the path of the pipe ends at which it answers.
+const ANSWERS: &str = ".out";
+
+/// Where the named pipes of desks are opened: [`Disk`] is the machine's. A runtime of its own is passed so, since threads
+/// that open files are started at a runtime that is known.
+pub trait Pipes {
+    /// Opens the pipe at this path to read it: waits until somebody has opened it to write.
+    fn open_to_read(&self, path: &str) -> io::Result<File>;
+
+    /// Opens the pipe at this path to write it: waits until somebody has opened it to read.
+    fn open_to_write(&self, path: &str) -> io::Result<File>;
+
+    /// Opens the pipe at this path for both, and waits for nobody.
+    fn open_for_both(&self, path: &str) -> io::Result<File>;
+}
+
+impl<'a, R: Files<File = File>> Pipes for Disk<'a, R> {
+    fn open_to_read(&self, path: &str) -> io::Result<File> {
+        pipe(OpenOptions::new().read(true).open(self.0, path)?)
+    }
+
+    fn open_to_write(&self, path: &str) -> io::Result<File> {
+        pipe(OpenOptions::new().write(true).open(self.0, path)?)
+    }
+
+    fn open_for_both(&self, path: &str) -> io::Result<File> {
+        pipe(
+            OpenOptions::new()
+                .read(true)
+                .write(true)
+                .open(self.0, path)?,
+        )
+    }
+}
+
+/// An opened file that is a pipe; any other is an error.
+fn pipe(file: File) -> io::Result<File> {
+    if file.metadata()?.file_type().is_fifo() {
+        Ok(file)
+    } else {
+        Err(io::Error::from(io::ErrorKind::InvalidInput))
+    }
+}
+
+/// Wakes who waits to read a pipe, by an empty line. Where the pipe is full, its desk has lines to read before that one.
+pub(crate) fn wake(pipe: &File) -> io::Result<()> {
+    let mut pipe = pipe;
+    pipe.write_all(b"\n")
+}
+
+/// The paths of a desk's pipes: the lines that are asked come in at the one, and the answers go out at the other.
+#[derive(Drop)]
+pub(crate) struct Paths<A: Allocator> {
+    pub(crate) lines: String<A>,
+    pub(crate) answers: String<A>,
+}
+
+/// The pipes of desks with these names: NAME.in and NAME.out of each. Nothing is opened.
+///
+/// # Errors
+///
+/// [`StartFault::NoPipe`] (S4) with the first path at which is no named pipe, or one of those before;
+/// [`StartFault::Run`] where an allocation is refused.
+pub(crate) fn find_pipes<'a, F: Files, A: Allocator + Copy>(
+    files: &F,
+    alloc: A,
+    names: &[&'a str],
+) -> Result<Vec<Paths<A>, A>, StartFault<'a, A>> {
+    let mut seen = Vec::new(alloc);
+    let mut all = Vec::new(alloc);
+    for name in names {
+        let lines = format!(in alloc; "{name}{LINES}")?;
+        let answers = format!(in alloc; "{name}{ANSWERS}")?;
+        if !see_pipe(files, lines.as_str(), &mut seen)? {
+            return Err(StartFault::NoPipe(*name, LINES));
+        }
+        if !see_pipe(files, answers.as_str(), &mut seen)? {
+            return Err(StartFault::NoPipe(*name, ANSWERS));
+        }
+        all.push(Paths { lines, answers })?;
+    }
+    Ok(all)
+}
+
+/// Whether at a path is a named pipe, and none that was seen; then it is seen.
+fn see_pipe<F: Files, A: Allocator>(
+    files: &F,
+    path: &str,
+    seen: &mut Vec<(u64, u64), A>,
+) -> Result<bool, AllocError> {
+    let Ok(metadata) = files.metadata(path) else {
+        return Ok(false);
+    };
+    let node = (metadata.dev(), metadata.ino());
+    if !metadata.file_type().is_fifo() || seen.contains(&node) {
+        return Ok(false);
+    }
+    seen.push(node)?;
+    Ok(true)
+}

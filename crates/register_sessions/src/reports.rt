@@ -1,0 +1,186 @@
+//! The reports that the operator asks for.
+
+ghost use Rattle.std.specs.Prelude.{◌≡◌, length, IfOk};
+ghost use Rattle.zone_tables.specs.Overlap.{IsOverlapTable};
+
+use crate::post::{Trouble, write_out};
+use city_layers::{Disk, ToolFault, replace_layer};
+use desk_lock::Naming;
+use fabric_core::{Layer, Sheet};
+use geo_exact::{ByteOut, LAYER_RECORDS, LIST_CORNERS};
+use overlay_work::{Hand, Round, RoundFault, Step, Table};
+use parcel_runs::sheets::{export_sheet, push_sheet_tiling};
+use session_lines::{SessionFault, push_end, push_error, push_failure};
+use std::alloc::{AllocError, Allocator};
+use std::marker::PhantomData;
+use std::rt::Files;
+use zone_tables::write_report;
+
+/// What reports need beside the office's sheet: the zones of its city, where there are some.
+#[derive(Drop)]
+pub(crate) struct Ground<'h, H: Allocator, J: Naming<H>> {
+    pub(crate) zones: Option<Layer<'h, H>>,
+    pub(crate) of: PhantomData<J>,
+}
+
+/// Adds the line of a sheet's tiling.
+pub(crate) fn report_check<'h, H: Allocator>(
+    sheet: Sheet<'h, H>,
+    text: &mut Vec<u8, &'h H>,
+) -> Result<(), AllocError> {
+    // A city that was read has fewer corners by far. No contract of an office repeats it.
+    if sheet.city().len() > LIST_CORNERS {
+        return push_error(text, SessionFault::NoMemory);
+    }
+    push_sheet_tiling(text, sheet)?;
+    push_end(text)
+}
+
+/// Writes what was collected, and then which parcels and zones overlap. They are found in this thread, so that desks keep
+/// the other processors.
+pub(crate) fn report_overlay<'h, H: Allocator, W: ByteOut>(
+    heap: &'h H,
+    sheet: &Sheet<'h, H>,
+    zones: &Layer<'h, H>,
+    text: &mut Vec<u8, &'h H>,
+    out: &mut W,
+) -> Result<(), Trouble> {
+    match table_of(heap, sheet, zones) {
+        Ok(table) => {
+            table.stands();
+            write_out(text, out)?;
+            if write_report(&table, out).is_err() {
+                return Err(Trouble::Failed);
+            }
+            push_end(text)?;
+            Ok(())
+        }
+        Err(SessionFault::NoMemory) => Err(Trouble::NoMemory),
+        Err(fault) => Ok(push_error(text, fault)?),
+    }
+}
+
+/// The table of a sheet's parcels and the zones of its city, as one hand finds it.
+fn table_of<'t, 'h, H: Allocator>(
+    heap: &'h H,
+    sheet: &'t Sheet<'h, H>,
+    zones: &'t Layer<'h, H>,
+) -> Result<Table<'t, 'h, H, &'h H>, SessionFault>
+    ensures table { IfOk result (λ table. IsOverlapTable table.rows table.zones table.pairs) }
+    ensures rows { IfOk result (λ table. (table.rows ≡ sheet.now.now.rows) × (table.zones ≡ zones.now.rows)) }
+    ensures entries { IfOk result (λ table. table.entries ≡ length sheet.now.journal) }
+{
+    let Ok(sharing) = whole_list(heap, sheet) else {
+        return Err(SessionFault::NoMemory);
+    };
+    let (round, mut hands) = match Round::new(heap, sheet, zones, sharing) {
+        Ok(begun) => begun,
+        Err(RoundFault::OtherCity) => return Err(SessionFault::NoZones),
+        Err(_) => return Err(SessionFault::NoMemory),
+    };
+    let Some(mut hand) = hands.pop() else {
+        return Err(SessionFault::NoMemory);
+    };
+    work_off(&mut hand);
+    let Ok(()) = hands.push(hand) else {
+        return Err(SessionFault::NoMemory);
+    };
+    match round.close(hands) {
+        Ok(table) => Ok(table),
+        Err(_) => Err(SessionFault::NoMemory),
+    }
+}
+
+/// All parcels of a sheet as the one list of a round.
+fn whole_list<'h, H: Allocator>(
+    heap: &'h H,
+    sheet: &Sheet<'h, H>,
+) -> Result<Vec<Vec<u64, &'h H>, &'h H>, AllocError> {
+    let mut ids = Vec::new(heap);
+    for id in sheet.ids() {
+        ids.push(id)?;
+    }
+    let mut sharing = Vec::new(heap);
+    sharing.push(ids)?;
+    Ok(sharing)
+}
+
+/// Steps a hand until it is done, or wants memory.
+fn work_off<'t, 'h, H: Allocator>(hand: &mut Hand<'t, 'h, H>)
+    ensures { hand.new.task ≡ hand.old.task }
+{
+    for _ in 0..u64::MAX {
+        match hand.step() {
+            Step::Did(_) => {}
+            Step::Done | Step::NoMemory => return,
+        }
+    }
+}
+
+/// Where exports are written: [`Disk`] is the machine's.
+pub trait Exports {
+    /// Replaces the layer at BASE by two files: the bytes of its main file and of its index.
+    ///
+    /// # Errors
+    ///
+    /// As [`replace_layer`].
+    fn replace<A: Allocator + Copy>(
+        &self,
+        alloc: A,
+        base: &str,
+        main: &[u8],
+        index: &[u8],
+    ) -> Result<(), ToolFault<'static>>;
+}
+
+impl<'a, R: Files> Exports for Disk<'a, R> {
+    fn replace<A: Allocator + Copy>(
+        &self,
+        alloc: A,
+        base: &str,
+        main: &[u8],
+        index: &[u8],
+    ) -> Result<(), ToolFault<'static>> {
+        replace_layer(self.0, alloc, base, main, index)
+    }
+}
+
+/// Replaces the layer at BASE by a sheet's parcels, and adds how many there are.
+pub(crate) fn report_export<'h, X: Exports, H: Allocator>(
+    exports: &X,
+    heap: &'h H,
+    sheet: Sheet<'h, H>,
+    base: &str,
+    text: &mut Vec<u8, &'h H>,
+) -> Result<(), AllocError> {
+    // Edits bring no more parcels than a layer may have. No contract of an office repeats it.
+    if sheet.ids().len() > LAYER_RECORDS as usize {
+        return push_error(text, SessionFault::NoMemory);
+    }
+    let exported = export_sheet(heap, sheet)?;
+    match exports.replace(
+        heap,
+        base,
+        exported.main.as_slice(),
+        exported.index.as_slice(),
+    ) {
+        Ok(()) => {
+            text.extend_from_slice(exported.lines.as_slice())?;
+            push_end(text)
+        }
+        Err(fault) => push_told(heap, text, fault),
+    }
+}
+
+/// Adds why a report fails.
+fn push_told<'h, H: Allocator>(
+    heap: &'h H,
+    text: &mut Vec<u8, &'h H>,
+    fault: ToolFault<'static>,
+) -> Result<(), AllocError> {
+    if fault == ToolFault::NoMemory {
+        return push_error(text, SessionFault::NoMemory);
+    }
+    let told = format!(in heap; "{fault}")?;
+    push_failure(text, told.as_str())
+}

@@ -1,0 +1,267 @@
+//! How all desks of a session are served, and how it ends.
+
+use crate::answers::Chair;
+use crate::desks::{Desk, serve_desk};
+use crate::operator::{Operator, serve_operator};
+use crate::pipes::{Paths, Pipes, wake};
+use crate::post::{Served, write_out};
+use crate::reports::Exports;
+use crate::room::Room;
+use crate::start_fault::StartFault;
+use crate::threads::{Done, Host, Task, run_beside};
+use city_layers::ToolFault;
+use desk_lock::{Card, CloseFault, Naming, Office};
+use geo_exact::ByteOut;
+use session_lines::{SessionFault, push_closed, push_error};
+use std::alloc::{AllocError, Allocator};
+use std::io::{BufReader, Read};
+use std::sync::Wait;
+use std::thread::Threads;
+use text_puts::put_all;
+
+/// Where the operator's lines come from and its answers go.
+#[derive(Drop)]
+pub(crate) struct Counter<I, A: Allocator, W> {
+    pub(crate) reader: BufReader<I, A>,
+    pub(crate) text: Vec<u8, A>,
+    pub(crate) out: W,
+}
+
+/// What all threads of a session share.
+#[derive(Drop)]
+struct Shared<'s, 'r, 'h, P, H: Allocator, J: Naming<H>, R: Wait> {
+    room: &'s Room<'r, 'h, H, J, R>,
+    disk: &'s P,
+    paths: &'s [Paths<&'h H>],
+}
+
+impl<
+    's,
+    'r,
+    'p,
+    'h,
+    P: Pipes,
+    H: Allocator + Send + Sync,
+    J: Naming<H> + Send + Sync,
+    R: Wait,
+> Task<Shared<'s, 'r, 'h, P, H, J, R>> for Desk<'p, 'h, H, J> {
+    fn run(self, with: &Shared<'s, 'r, 'h, P, H, J, R>) -> Desk<'p, 'h, H, J> {
+        serve_desk(with.room, with.disk, self)
+    }
+}
+
+/// The operator's desk, where its lines come from, and where its answers go.
+#[derive(Drop)]
+struct Reception<'h, H: Allocator, J: Naming<H>, I, W> {
+    operator: Operator<'h, H, J>,
+    counter: Counter<I, &'h H, W>,
+}
+
+impl<
+    's,
+    'r,
+    'h,
+    P: Pipes + Exports,
+    H: Allocator,
+    J: Naming<H>,
+    R: Wait,
+    I: Read + Drop,
+    W: ByteOut + Drop,
+> Host<Shared<'s, 'r, 'h, P, H, J, R>> for Reception<'h, H, J, I, W> {
+    /// Tells the operator that all is ready, answers its lines, and has all desks end once it closes the session, or at
+    /// once where a desk has no thread. Where the operator can't be told, or its lines end, the desks go on.
+    fn receive(
+        self,
+        with: &Shared<'s, 'r, 'h, P, H, J, R>,
+        is_whole: bool,
+    ) -> Reception<'h, H, J, I, W> {
+        let Reception {
+            mut operator,
+            counter,
+        } = self;
+        let Counter {
+            mut reader,
+            mut text,
+            mut out,
+        } = counter;
+        let ends = if is_whole {
+            match write_out(&mut text, &mut out) {
+                Ok(()) => {
+                    serve_operator(with.room, with.disk, &mut operator, &mut reader, &mut out)
+                        == Served::Ended
+                }
+                Err(_) => false,
+            }
+        } else {
+            true
+        };
+        if ends {
+            close_all(with.room, with.disk, with.paths);
+        }
+        Reception {
+            operator,
+            counter: Counter { reader, text, out },
+        }
+    }
+}
+
+/// What is left once all desks have ended.
+#[derive(Drop)]
+struct Ended<'h, H: Allocator, J: Naming<H>, W> {
+    cards: Vec<Card<'h, H, J>, &'h H>,
+    /// The first desk that was refused a thread, from 0.
+    refused: Option<usize>,
+    text: Vec<u8, &'h H>,
+    out: W,
+}
+
+/// Serves all desks until the session is closed, and closes its office. The counter's text is what the operator is told
+/// first, once all is ready.
+///
+/// # Errors
+///
+/// O7 where the system refuses a desk its thread; S2 where the operator could not be told of the end.
+pub(crate) fn serve<
+    'a,
+    'r,
+    'p,
+    'h,
+    P: Pipes + Exports + Sync,
+    R: Threads + Wait + Sync,
+    H: Allocator + Send + Sync,
+    J: Naming<H> + Send + Sync,
+    I: Read + Drop,
+    W: ByteOut + Drop,
+>(
+    room: Room<'r, 'h, H, J, R>,
+    disk: &P,
+    paths: &'p [Paths<&'h H>],
+    desks: Vec<Desk<'p, 'h, H, J>, &'h H>,
+    operator: Operator<'h, H, J>,
+    counter: Counter<I, &'h H, W>,
+) -> Result<(), StartFault<'a, &'h H>> {
+    let Ended {
+        cards,
+        refused,
+        mut text,
+        mut out,
+    } = serve_all(&room, disk, paths, desks, Reception { operator, counter });
+    if let Some(desk) = refused {
+        return Err(StartFault::Run(ToolFault::NoThread(desk)));
+    }
+    let Room { office, rt, .. } = room;
+    text.clear();
+    push_end_of(rt, office, cards, &mut text)?;
+    match put_all(text.as_slice(), &mut out) {
+        Ok(()) => Ok(()),
+        Err(_) => Err(StartFault::Run(ToolFault::Output)),
+    }
+}
+
+/// Serves each desk in a thread of its own, and the operator's in this one, until all have ended.
+fn serve_all<
+    'p,
+    'h,
+    P: Pipes + Exports + Sync,
+    R: Threads + Wait + Sync,
+    H: Allocator + Send + Sync,
+    J: Naming<H> + Send + Sync,
+    I: Read + Drop,
+    W: ByteOut + Drop,
+>(
+    room: &Room<'_, 'h, H, J, R>,
+    disk: &P,
+    paths: &'p [Paths<&'h H>],
+    desks: Vec<Desk<'p, 'h, H, J>, &'h H>,
+    reception: Reception<'h, H, J, I, W>,
+) -> Ended<'h, H, J, W> {
+    let shared = Shared { room, disk, paths };
+    let done = run_beside(room.rt, room.heap, &shared, desks, reception);
+    take_apart(room.heap, done)
+}
+
+/// What is left of a session, taken apart.
+fn take_apart<'p, 'h, H: Allocator, J: Naming<H>, I: Drop, W: Drop>(
+    heap: &'h H,
+    done: Done<Desk<'p, 'h, H, J>, &'h H, Reception<'h, H, J, I, W>>,
+) -> Ended<'h, H, J, W> {
+    let Done {
+        tasks,
+        refused,
+        host,
+    } = done;
+    let Reception { operator, counter } = host;
+    let Counter { text, out, .. } = counter;
+    let Operator { chair, .. } = operator;
+    Ended {
+        cards: cards_of(heap, tasks, chair),
+        refused,
+        text,
+        out,
+    }
+}
+
+/// The cards of desks, and the operator's.
+fn cards_of<'p, 'h, H: Allocator, J: Naming<H>>(
+    heap: &'h H,
+    desks: Vec<Desk<'p, 'h, H, J>, &'h H>,
+    operators: Chair<'h, H, J>,
+) -> Vec<Card<'h, H, J>, &'h H> {
+    let mut cards = Vec::new(heap);
+    for desk in desks {
+        let Desk { chair, .. } = desk;
+        let Chair { card, .. } = chair;
+        keep_card(&mut cards, card);
+    }
+    let Chair { card, .. } = operators;
+    keep_card(&mut cards, card);
+    cards
+}
+
+/// Keeps a card for the close. One for which there is no memory is missing then.
+fn keep_card<'h, H: Allocator, J: Naming<H>>(
+    cards: &mut Vec<Card<'h, H, J>, &'h H>,
+    card: Option<Card<'h, H, J>>,
+) {
+    if let Some(card) = card {
+        let _ = cards.push(card);
+    }
+}
+
+/// Closes an office, and adds what the operator is told of it.
+fn push_end_of<'h, H: Allocator, J: Naming<H>, R: Wait>(
+    rt: &R,
+    office: Office<'h, H, J, &R>,
+    cards: Vec<Card<'h, H, J>, &'h H>,
+    text: &mut Vec<u8, &'h H>,
+) -> Result<(), AllocError> {
+    match office.close(rt, cards) {
+        Ok(fabric) => push_closed(text, fabric.entries()),
+        Err((_, _, CloseFault::CardsMissing(clerks, cards))) => {
+            push_error(text, SessionFault::CardsMissing(clerks, cards))
+        }
+    }
+}
+
+/// Has all desks take no further line, and wakes those that wait for a client or for a line.
+fn close_all<'h, P: Pipes, R: Wait, H: Allocator, J: Naming<H>>(
+    room: &Room<'_, 'h, H, J, R>,
+    pipes: &P,
+    paths: &[Paths<&'h H>],
+) {
+    room.door.close(room.rt);
+    let (mut asked, mut answered) = (Vec::new(room.heap), Vec::new(room.heap));
+    // A pipe that is gone by now wakes nobody.
+    for pair in paths {
+        if let Ok(answers) = pipes.open_for_both(pair.answers.as_str()) {
+            let _ = answered.push(answers);
+        }
+        if let Ok(lines) = pipes.open_for_both(pair.lines.as_str()) {
+            let _ = asked.push(lines);
+        }
+    }
+    for lines in asked.iter() {
+        let _ = wake(lines);
+    }
+    room.door.wait_for_all(room.rt);
+}

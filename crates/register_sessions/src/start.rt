@@ -1,0 +1,261 @@
+//! How a session starts.
+
+ghost use Rattle.std.specs.Prelude.{◌≡◌, max, length};
+ghost use Rattle.desk_lock.specs.Offices.{origin_of};
+
+use crate::door::Door;
+use crate::journal::{Journal, ReadJournal, read_journal};
+use crate::journal_edits::{ReplayFault, replay};
+use crate::offices::{Seats, clerks_of, seat_all, windows_of};
+use crate::operator::Operator;
+use crate::pipes::{Paths, Pipes, find_pipes};
+use crate::reports::{Exports, Ground};
+use crate::room::Room;
+use crate::serving::{Counter, serve};
+use crate::start_fault::StartFault;
+use city_layers::{Disk, Layers, Source, ToolFault, load_layers, load_tiles, read_source};
+use clerk_runs::push_refusal;
+use desk_lock::{Name, Naming, Office, OpenFault};
+use fabric_core::{Fabric, Layer};
+use geo_exact::{Counted, Unit};
+use parcel_runs::refuse_many_clerks;
+use session_lines::push_ready;
+use std::alloc::Allocator;
+use std::fs::File;
+use std::io;
+use std::io::{BufReader, Input};
+use std::marker::{Brand, PhantomData};
+use std::rt::Files;
+use std::sync::Wait;
+use std::thread::Threads;
+
+/// What a session is of.
+#[derive(Debug, Drop)]
+pub struct Plan<'a> {
+    /// The path of the main file of the city's layer.
+    pub city: &'a str,
+    /// The path of the main file of the parcels' layer.
+    pub parcels: &'a str,
+    /// The path of the main file of the zones' layer, where overlays are asked for.
+    pub zones: Option<&'a str>,
+    /// The unit of the coordinates of all three.
+    pub unit: Unit,
+    /// The path of the journal, where there is one.
+    pub journal: Option<&'a str>,
+    /// The names of the desks: each has the pipes NAME.in and NAME.out.
+    pub desks: Vec<&'a str>,
+}
+
+/// Starts a session, serves its desks, and returns once it is closed. Its pipes and its exports are of the disk, which is
+/// [`Disk`] of the same runtime.
+///
+/// # Errors
+///
+/// [`StartFault`], before any line is taken; and S2 where the operator's desk could not be told of the end.
+pub fn serve_session<
+    'a,
+    'h,
+    R: Files<File = File> + Input + Print + Eprint + Threads + Wait + Sync,
+    P: Pipes + Exports + Sync,
+    H: Allocator + Send + Sync,
+>(rt: &R, disk: &P, heap: &'h H, plan: &Plan<'a>) -> Result<(), StartFault<'a, &'h H>> {
+    refuse_many_clerks(plan.desks.len())?;
+    let paths = find_pipes(rt, heap, plan.desks.as_slice())?;
+    let register = open_register(rt, heap, plan)?;
+    let name = Name::new(heap)?;
+    at_office::<R, P, H, Brand>(rt, disk, heap, name, register, paths.as_slice())
+}
+
+/// A register that is ready to be edited: the parcels behind the edits of the journal, the zones, and the journal.
+#[derive(Drop)]
+struct Register<'h, H: Allocator> {
+    fabric: Fabric<'h, H>,
+    zones: Option<Layer<'h, H>>,
+    journal: Option<Journal>,
+}
+
+/// Reads and loads a register's files. All are read before the first is looked at.
+fn open_register<'a, 'h, R: Files<File = File> + Eprint, H: Allocator>(
+    rt: &R,
+    heap: &'h H,
+    plan: &Plan<'a>,
+) -> Result<Register<'h, H>, StartFault<'a, &'h H>> {
+    let sources = read_sources(rt, heap, plan)?;
+    let read = match plan.journal {
+        Some(path) => Some((path, read_journal(rt, heap, path)?)),
+        None => None,
+    };
+    let (layer, zones) = load(heap, &sources, plan.unit)?;
+    let Ok(mut fabric) = Fabric::open(layer) else {
+        return Err(StartFault::Run(ToolFault::NoMemory));
+    };
+    let journal = match read {
+        Some((path, read)) => Some(begin_journal(rt, heap, &mut fabric, path, read)?),
+        None => None,
+    };
+    Ok(Register {
+        fabric,
+        zones,
+        journal,
+    })
+}
+
+/// The bytes of a register's layers.
+#[derive(Drop)]
+struct Sources<A: Allocator> {
+    city: Source<A>,
+    parcels: Source<A>,
+    zones: Option<Source<A>>,
+}
+
+/// Reads the files of a register's layers.
+fn read_sources<'a, F: Files, A: Allocator + Copy>(
+    files: &F,
+    alloc: A,
+    plan: &Plan<'a>,
+) -> Result<Sources<A>, ToolFault<'a>> {
+    let city = read_source(&Disk(files), alloc, plan.city)?;
+    let parcels = read_source(&Disk(files), alloc, plan.parcels)?;
+    let zones = match plan.zones {
+        Some(path) => Some(read_source(&Disk(files), alloc, path)?),
+        None => None,
+    };
+    Ok(Sources {
+        city,
+        parcels,
+        zones,
+    })
+}
+
+/// The parcels, and the zones where there are some: both tile the city.
+fn load<'h, H: Allocator, A: Allocator>(
+    heap: &'h H,
+    sources: &Sources<A>,
+    unit: Unit,
+) -> Result<(Layer<'h, H>, Option<Layer<'h, H>>), ToolFault<'static>> {
+    match &sources.zones {
+        Some(zones) => {
+            let Layers { parcels, zones } = load_layers(
+                heap,
+                &sources.city,
+                &sources.parcels,
+                zones,
+                unit,
+            )?;
+            Ok((parcels, Some(zones)))
+        }
+        None => {
+            let parcels = load_tiles(heap, &sources.city, &sources.parcels, unit)?;
+            Ok((parcels, None))
+        }
+    }
+}
+
+/// Makes the edits of a journal, and has it ready to be written.
+fn begin_journal<'a, 'h, R: Eprint, H: Allocator>(
+    rt: &R,
+    heap: &'h H,
+    fabric: &mut Fabric<'h, H>,
+    path: &'a str,
+    read: ReadJournal<&'h H>,
+) -> Result<Journal, StartFault<'a, &'h H>> {
+    if let Err(fault) = replay(heap, fabric, read.lines()) {
+        return Err(told_of_replay(heap, path, fault));
+    }
+    let torn = read.torn();
+    let Ok(journal) = read.begin() else {
+        return Err(StartFault::JournalUnreadable(path));
+    };
+    if torn > 0 {
+        // Where standard error fails there is nobody left to tell.
+        let _ = eprintln!(rt;
+            "note: {path}: a last line of {torn} bytes without its end is cut off"
+        );
+    }
+    Ok(journal)
+}
+
+/// What it is to the user that a journal's edits are not made again.
+fn told_of_replay<'a, A: Allocator>(
+    alloc: A,
+    path: &'a str,
+    fault: ReplayFault,
+) -> StartFault<'a, A> {
+    match fault {
+        ReplayFault::BadLine(line) => StartFault::JournalLine(path, line),
+        ReplayFault::Refused(line, refusal) => {
+            let mut text = Vec::new(alloc);
+            match push_refusal(&mut text, refusal) {
+                Ok(()) => StartFault::JournalRefused(path, line, text),
+                Err(_) => StartFault::Run(ToolFault::NoMemory),
+            }
+        }
+        ReplayFault::NoMemory => StartFault::Run(ToolFault::NoMemory),
+    }
+}
+
+/// Opens the office that the name names, and serves its desks.
+fn at_office<
+    'a,
+    'h,
+    R: Input + Print + Threads + Wait + Sync,
+    P: Pipes + Exports + Sync,
+    H: Allocator + Send + Sync,
+    J: Naming<H> + Send + Sync,
+>(
+    rt: &R,
+    disk: &P,
+    heap: &'h H,
+    name: Name<&'h H>,
+    register: Register<'h, H>,
+    paths: &[Paths<&'h H>],
+) -> Result<(), StartFault<'a, &'h H>>
+    requires book { name.book ≡ J.book }
+    requires office { J.office
+        ≡ record { cards = name.cards; clerks = max (length paths.now) 1; origin = origin_of register.fabric } }
+{
+    let Register {
+        fabric,
+        zones,
+        journal,
+    } = register;
+    let mut text = Vec::new(heap);
+    push_ready(&mut text, fabric.entries())?;
+    let Ok(reader) = BufReader::new(heap, rt.reader()) else {
+        return Err(StartFault::Run(ToolFault::NoMemory));
+    };
+    let (clerks, windows) = (clerks_of(paths.len()), windows_of(paths.len()));
+    let opened = Office::<H, J, &R>::open(rt, heap, name, fabric, clerks, windows);
+    let (office, cards, windows) = match opened {
+        Ok(opened) => opened,
+        Err((_, fault)) => return Err(StartFault::Run(told_of_open(fault))),
+    };
+    let Seats { desks, chair } = seat_all(heap, paths, cards, windows)?;
+    let room = Room {
+        office,
+        journal,
+        door: Door::new(),
+        heap,
+        rt,
+    };
+    let ground = Ground {
+        zones,
+        of: PhantomData,
+    };
+    let operator = Operator { chair, ground };
+    let counter = Counter {
+        reader,
+        text,
+        out: Counted::new(io::writer(rt)),
+    };
+    serve(room, disk, paths, desks, operator, counter)
+}
+
+/// What the fault of an office is to the user.
+fn told_of_open(fault: OpenFault) -> ToolFault<'static> {
+    match fault {
+        OpenFault::NoWindow(window) => ToolFault::NoWindow(window),
+        OpenFault::Places(count) => ToolFault::ClerkCount(count),
+        OpenFault::NoMemory => ToolFault::NoMemory,
+    }
+}

@@ -1,0 +1,75 @@
+//! Why a session does not start, and the text that the user sees.
+
+ghost use Rattle.std.specs.Prelude.{◌≡◌};
+ghost use Rattle.city_layers.specs.declared.fault.ToolFault.TheVariants.{NoMemory};
+ghost use Rattle.register_sessions.specs.declared.start_fault.StartFault.TheVariants.{Run};
+
+use city_layers::ToolFault;
+use std::alloc::{AllocError, AllocFailed, Allocator};
+use std::fmt;
+
+/// Why a session does not start. Its `Display` is the text that the user sees after `error: `.
+#[derive(Drop)]
+pub enum StartFault<'a, A: Allocator> {
+    /// As the other commands end: what cannot be loaded, K1 for more than 8 desks, K3, O7, or a
+    /// growth that was refused.
+    Run(ToolFault<'a>),
+    /// S4: at the path that is this desk's name and this ending is no named pipe, or one that is another of the pipes.
+    NoPipe(&'a str, &'static str),
+    /// S1: the journal at this path can't be opened, made or read, or is no regular file.
+    JournalUnreadable(&'a str),
+    /// Another session holds the journal at this path.
+    JournalInUse(&'a str),
+    /// L1: of the journal at this path the line of this number, from 1, is no edit in millimetres.
+    JournalLine(&'a str, u64),
+    /// Of the journal at this path the edit in the line of this number, from 1, is refused, for what the text says.
+    JournalRefused(&'a str, u64, Vec<u8, A>),
+}
+
+impl<'a, A: Allocator> From<ToolFault<'a>> for StartFault<'a, A> {
+    ghost from_gives = { λ fault start. start ≡ Run fault };
+
+    fn from(fault: ToolFault<'a>) -> StartFault<'a, A> {
+        StartFault::Run(fault)
+    }
+}
+
+impl<'a, A: Allocator> From<AllocError> for StartFault<'a, A> {
+    ghost from_gives = { λ _ start. start ≡ Run NoMemory };
+
+    fn from(_: AllocError) -> StartFault<'a, A> {
+        StartFault::Run(ToolFault::NoMemory)
+    }
+}
+
+impl<'a, A: Allocator, T: Drop> From<AllocFailed<T>> for StartFault<'a, A> {
+    ghost from_gives = { λ _ start. start ≡ Run NoMemory };
+
+    fn from(_: AllocFailed<T>) -> StartFault<'a, A> {
+        StartFault::Run(ToolFault::NoMemory)
+    }
+}
+
+impl<'a, A: Allocator> fmt::Display for StartFault<'a, A> {
+    fn fmt<W: fmt::Write>(&self, f: &mut fmt::Formatter<W>) -> fmt::Result {
+        match self {
+            StartFault::Run(fault) => write!(f, "{fault}"),
+            StartFault::NoPipe(name, ending) => write!(f, "S4 {name}{ending}"),
+            StartFault::JournalUnreadable(path) => write!(f, "{path}: S1"),
+            StartFault::JournalInUse(path) => write!(f, "{path}: in use"),
+            StartFault::JournalLine(path, line) => write!(f, "{path} line {line}: L1"),
+            StartFault::JournalRefused(path, line, text) => {
+                write!(f, "{path} line {line}: refused ")?;
+                write_bytes(f, text.as_slice())
+            }
+        }
+    }
+}
+
+/// Writes a text of ASCII bytes.
+fn write_bytes<W: fmt::Write>(f: &mut fmt::Formatter<W>, text: &[u8]) -> fmt::Result {
+    for byte in text {
+        f.write_char(char::from(*byte))?;
+    }
+    Ok(())
+}

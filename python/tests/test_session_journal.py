@@ -1,0 +1,306 @@
+"""Journals of sessions: what was answered `ok` is on the disk, whatever becomes of the program. And refused ones."""
+from __future__ import annotations
+
+import os
+import random
+import signal
+import subprocess
+import time
+from pathlib import Path
+from typing import List
+
+import pytest
+
+import gandovel as gv
+from gandovel.layer_files import read_rings
+from gandovel.tool import ask, export, find_tool
+from session_clerks import Heard, Said, accepted_of, compare, edits_of, started
+from session_register import Register
+from session_town import FULL, SECONDS, Town, program
+
+pytestmark = pytest.mark.usefixtures("in_time")
+KILLS = 200 if FULL else 20
+CLERKS = ("anna", "bert", "carl", "dora")
+
+
+def test_a_journal_goes_on_where_it_ended(town):
+    for number in range(1, 6):
+        with town.session("anna") as session:
+            assert session.replayed == number - 1 and session.notes == []
+            with session.desk("anna") as desk:
+                assert desk.entries() == number - 1
+                assert desk.merge(1 if number == 1 else 63 + number, number + 1).number == number
+        assert session.close() == number
+    assert town.lines() == ["merge 1 2", "merge 65 3", "merge 66 4", "merge 67 5", "merge 68 6"]
+
+
+def test_no_journal_is_kept_unless_one_is_named(town):
+    with town.session(journal=None) as session:
+        assert session.merge(1, 2).number == 1
+    assert not town.journal.exists()
+
+
+def test_a_journal_is_a_clerks_file(town, tmp_path):
+    text = b"# by hand\r\nmerge 01 2\r\n\r\nmerge 65 3\n"
+    town.journal.write_bytes(text)
+    with town.session() as session:
+        assert session.replayed == 2
+        assert session.merge(66, 4).number == 3
+        assert session.export(tmp_path / "ours") == 61
+    assert town.journal.read_bytes() == text + b"merge 66 4\n"
+    answers = export(town.city, town.parcels, tmp_path / "theirs", [town.journal])
+    assert [answer.split(" ", 4)[4] for answer in answers] == ["ok 1", "ok 2", "ok 3"]
+    assert (tmp_path / "ours.shp").read_bytes() == (tmp_path / "theirs.shp").read_bytes()
+
+
+def test_the_journal_has_a_line_for_each_edit_and_none_else(halves):
+    with halves.session() as session:
+        session.insert((0, 0), (60, 0), (30, 0))
+        for line in ("insert 0 100 060 100 30 0100", "locate 1 1", "# merge 1 2", "", "merge 1 1", "entries"):
+            session.ask(line)
+        with pytest.raises(gv.NoSuchLine):
+            session.ask("merge")
+        session.split(1, [(30, 0), (20, 50), (30, 100)])
+        session.merge(3, 4)
+        session.straighten((30, 0))
+        session.move(5, 2, [(60, 0), (70, 50), (60, 100)])
+    assert halves.lines() == ["insert 0 0 60 0 30 0", "insert 0 100 60 100 30 100", "split 1 30 0 20 50 30 100",
+                              "merge 3 4", "straighten 30 0", "move 5 2 60 0 70 50 60 100"]
+
+
+@pytest.mark.parametrize("torn", ["m", "merge 65", "merge 65 3", "# x", "merge 65 3\r", "\xff", "x" * 100_000])
+def test_a_torn_last_line_is_cut_off(town, torn):
+    whole = b"merge 1 2\n"
+    town.journal.write_bytes(whole + torn.encode("latin-1"))
+    with town.session() as session:
+        assert session.replayed == 1
+        note = f"note: {town.journal}: a last line of {len(torn)} bytes without its end is cut off"
+        assert session.notes == [note]
+        assert town.journal.read_bytes() == whole
+        session.merge(65, 3)
+    assert town.lines() == ["merge 1 2", "merge 65 3"]
+
+
+def test_a_journal_of_one_torn_line(town):
+    town.journal.write_bytes(b"merge 1 2")
+    with town.session() as session:
+        assert session.replayed == 0 and len(session.notes) == 1 and town.lines() == []
+
+
+@pytest.mark.parametrize("text, code, line, rest", [
+    ("merge 1 2\nmerge 1 2\n", "E2", 2, "1 1"), ("merge 1 3\n", "E4", 1, ""), ("# x\n\nmerge 99 1\nx\n", "L1", 4, ""),
+    ("# x\n\nmerge 99 1\n", "E1", 3, "99"), ("straighten 0 0\n", "E12", 1, "1"), ("merge 1 2 \n", "L1", 1, ""),
+    ("grid cm\nmerge 1 2\n", "L1", 1, ""), ("merge 1 2\ngrid cm\n", "L1", 2, ""), ("locate 1 1\n", "L1", 1, ""),
+    ("merge 1 2\n\0\n", "L1", 2, ""), ("merge 1 2\rmerge 65 3\n", "L1", 1, ""), ("grid cm\n", "L1", 1, ""),
+])
+def test_a_journal_that_does_not_fit(town, text, code, line, rest):
+    town.journal.write_bytes(text.encode())
+    with pytest.raises(gv.JournalRefused) as refused:
+        town.session()
+    assert (refused.value.code, refused.value.line, refused.value.text) == (code, line, rest)
+    assert str(refused.value) == f"journal line {line}: {code} {rest}".rstrip()
+    assert town.journal.read_bytes() == text.encode()
+
+
+def test_a_journal_of_another_layer(town):
+    town.journal.write_text("insert 0 0 60 0 30 0\n")
+    with pytest.raises(gv.JournalRefused, match="^journal line 1: E7$"):
+        gv.Session(town.city, town.parcels, journal=town.journal, timeout=SECONDS)
+
+
+def test_two_sessions_on_one_journal(town):
+    with town.session("anna") as session:
+        with pytest.raises(gv.JournalInUse, match="^journal: in use$") as refused:
+            town.session()
+        assert isinstance(refused.value, gv.JournalRefused) and refused.value.line is None
+        with session.desk("anna") as desk:
+            assert desk.merge(1, 2).number == 1
+    with town.session() as session:
+        assert session.replayed == 1
+
+
+def test_a_journal_is_free_once_its_session_is_killed(town):
+    session = town.session()
+    session.merge(1, 2)
+    os.kill(session.pid, signal.SIGKILL)
+    with pytest.raises(gv.ProgramEnded):
+        session.entries()
+    with town.session() as other:
+        assert other.replayed == 1
+    session.terminate()
+
+
+@pytest.mark.parametrize("kind", ["a folder", "a pipe", "a device", "no folder", "a folder that can't be written"])
+def test_a_journal_that_cannot_be(town, tmp_path, kind):
+    path = tmp_path / "journal"
+    if kind == "a folder":
+        path.mkdir()
+    elif kind == "a pipe":
+        os.mkfifo(path)
+    elif kind == "a device":
+        path = Path("/dev/null")
+    elif kind == "no folder":
+        path = tmp_path / "none" / "journal"
+    else:
+        path = unwritable(tmp_path) / "journal"
+    with pytest.raises(gv.JournalRefused, match="^journal: S1") as refused:
+        town.session(journal=path)
+    assert (refused.value.code, refused.value.line) == ("S1", None)
+
+
+def unwritable(folder: Path) -> Path:
+    """A folder in which no file can be made: of root's, only the system's own are such."""
+    if os.geteuid() == 0:
+        return Path("/sys")
+    (folder / "mine").mkdir(mode=0o555)
+    return folder / "mine"
+
+
+def test_a_journal_that_may_only_be_read(town):
+    town.journal.write_text("merge 1 2\n")
+    town.journal.chmod(0o444)
+    if os.geteuid() == 0:
+        with town.session() as session:
+            assert session.replayed == 1
+    else:
+        with pytest.raises(gv.JournalRefused, match="S1"):
+            town.session()
+
+
+def limited(town: Town, monkeypatch: pytest.MonkeyPatch, before: str) -> None:
+    """Has each session begin by commands of the shell, in which `$journal` is the folder of the journal."""
+    text = f'folder={town.journal.parent}/full\n{before}\nexec "{find_tool()}" "$@"\n'
+    monkeypatch.setenv("GANDOVEL_TOOL", program(town.journal.parent / "limited", text, "/bin/bash"))
+
+
+FULL_DISKS = {
+    "a limit of the file's size": "trap '' XFSZ\nulimit -f 1",
+    "a small disk": "mount -t tmpfs -o size=4k none $folder || exit 9",
+}
+
+
+@pytest.mark.parametrize("kind", sorted(FULL_DISKS))
+def test_a_full_disk(town, tmp_path, monkeypatch, kind):
+    (tmp_path / "full").mkdir()
+    before = FULL_DISKS[kind]
+    if before.startswith("mount"):
+        if subprocess.run(["unshare", "-rm", "true"], stderr=subprocess.DEVNULL).returncode:
+            pytest.skip("no disk can be mounted here")
+        before = f'if [ -z "$inside" ]; then exec env inside=1 unshare -rm "$0" "$@"; fi\n{before}'
+    limited(town, monkeypatch, before)
+    town.journal = tmp_path / "full" / "register.txt"
+    with town.session("anna", "bert") as session:
+        accepted = until_full(session)
+        journal = Path(f"/proc/{session.pid}/root{town.journal}").read_bytes()
+        whole, _, torn = journal.rpartition(b"\n")
+        assert whole.decode().splitlines() == accepted
+        town.journal.write_bytes(journal)
+    monkeypatch.undo()
+    with town.session("anna") as session, session.desk("anna", SECONDS) as desk:
+        assert session.replayed == len(accepted) and len(session.notes) == (1 if torn else 0)
+        next_edit(desk)
+    assert len(town.lines()) == len(accepted) + 1
+
+
+def next_edit(desk: gv.Desk) -> str:
+    """Puts one more corner into the lower side of parcel 1, and answers the journal's line."""
+    ring = [(x, y) for x, y in desk.parcel(1).ring.tolist()]
+    desk.insert(ring[0], ring[1], (ring[1][0] - 1, 0))
+    return f"insert {ring[0][0]} {ring[0][1]} {ring[1][0]} {ring[1][1]} {ring[1][0] - 1} 0"
+
+
+def until_full(session: gv.Session) -> List[str]:
+    """Edits until the disk is full: what was accepted. Then no desk edits, and each answers questions."""
+    accepted: List[str] = []
+    with session.desk("anna", SECONDS) as desk, session.desk("bert", SECONDS) as other:
+        with pytest.raises(gv.JournalBroken):
+            while len(accepted) < 10_000:
+                accepted.append(next_edit(desk))
+        for it in (desk, other, desk):
+            with pytest.raises(gv.JournalBroken):
+                it.merge(3, 4)
+            assert it.locate(1, 1).ids == (1,) and it.parcel(3) is not None
+            with pytest.raises(gv.JournalBroken):
+                it.merge(3, 3)
+        assert session.check().count == 64
+    return accepted
+
+
+def test_killed_at_random_moments(town, tmp_path):
+    """Nothing that was answered `ok` is missing, nothing is there twice, and a line more only where no answer came."""
+    draw, register = random.Random(7), town.register()
+    for turn in range(KILLS):
+        before = register.entries
+        with town.session(*CLERKS) as session:
+            assert session.replayed == before and session.notes == []
+            finished = started([(session.path(name), 100 * turn + at, 80_000, 80_000, "work", 10**9)
+                                for at, name in enumerate(CLERKS)])
+            time.sleep(draw.random() * 0.4)
+            os.kill(session.pid, signal.SIGKILL)
+            session.terminate()
+            heard = finished()
+        lines = without_torn(town, heard)
+        are_answered(lines[before:], before, heard)
+        compare(register, lines, [it.said for it in heard], killed=True)
+        killed_while_it_starts(town, draw.random() * 0.05)
+        assert town.lines() == lines
+    assert register.entries > KILLS
+    is_as_read(town, tmp_path, register)
+
+
+def without_torn(town: Town, heard: List[Heard]) -> List[str]:
+    """The journal's whole lines. A torn one is the beginning of an edit that got no answer, and is cut off."""
+    text = town.journal.read_bytes()
+    whole, _, torn = text.rpartition(b"\n")
+    assert not torn or any(it.line.encode().startswith(torn) for it in unanswered(heard))
+    town.journal.write_bytes(text[:len(text) - len(torn)])
+    return town.lines()
+
+
+def unanswered(heard: List[Heard]) -> List[Said]:
+    """The edits that got no answer: the last of a desk at most."""
+    found = [[at for at, it in enumerate(desk.said) if it.answer is None] for desk in heard]
+    assert all(places in ([], [len(desk.said) - 1]) for places, desk in zip(found, heard))
+    return edits_of([desk.said[-1] for places, desk in zip(found, heard) if places])
+
+
+def are_answered(lines: List[str], before: int, heard: List[Heard]) -> None:
+    """Each line of the journal was answered `ok` at its number, or is one of those that got no answer, once."""
+    accepted = accepted_of([it for desk in heard for it in desk.said])
+    extra = [line for number, line in enumerate(lines, before + 1) if number not in accepted]
+    left = [it.line for it in unanswered(heard)]
+    for line in extra:
+        left.remove(line)
+    assert all(before < number <= before + len(lines) for number in accepted)
+
+
+def killed_while_it_starts(town: Town, seconds: float) -> None:
+    """Starts a session and kills it soon, perhaps before it is ready."""
+    words = [town.city, town.parcels, "--unit", "mm", "--journal", town.journal]
+    starting = subprocess.Popen([find_tool(), "session", *map(str, words)], stdin=subprocess.PIPE,
+                                stdout=subprocess.DEVNULL, stderr=subprocess.DEVNULL)
+    time.sleep(seconds)
+    starting.kill()
+    starting.wait()
+    starting.stdin.close()
+
+
+def is_as_read(town: Town, folder: Path, register: Register) -> None:
+    """Compares a session's parcels with the register's, and with those that `export --clerk` writes of the journal."""
+    with town.session("anna") as session:
+        with session.desk("anna") as desk:
+            for number in range(1, register.next):
+                outline = desk.parcel(number)
+                assert (outline is not None) == (number in register.rings)
+                if outline is not None:
+                    assert [tuple(corner) for corner in outline.ring.tolist()] == register.rings[number]
+        assert session.check() == gv.Tiling(len(register.rings), 12_800_000_000)
+        session.export(folder / "ours")
+    answers = export(town.city, town.parcels, folder / "theirs", [town.journal])
+    assert [answer.split()[4:] for answer in answers] == [["ok", str(at)] for at in range(1, register.entries + 1)]
+    for end in (".shp", ".shx"):
+        assert (folder / f"ours{end}").read_bytes() == (folder / f"theirs{end}").read_bytes()
+    assert [list(map(tuple, ring.tolist())) for ring in read_rings(folder / "ours.shp")] == [
+        register.rings[number] for number in sorted(register.rings)]
+    checked = ask(["check", str(town.city), str(town.parcels), "--unit", "mm", "--clerk", str(town.journal)])
+    assert checked.splitlines()[-1] == f"tiling {len(register.rings)} 12800000000"
