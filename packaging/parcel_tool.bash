@@ -3,25 +3,29 @@ _parcel_tool() {
   local word="${COMP_WORDS[COMP_CWORD]}" before="${COMP_WORDS[COMP_CWORD-1]}" options=
   COMPREPLY=()
   if [ "$COMP_CWORD" -eq 1 ]; then
-    COMPREPLY=($(compgen -W 'area check export locate overlay part help -h --help -V --version' -- "$word"))
+    COMPREPLY=($(compgen -W 'area check export locate overlay part session help -h --help -V --version' -- "$word"))
     return
   fi
   case "$before" in
     --at) COMPREPLY=(); return ;;
     --clerk) COMPREPLY=($(compgen -f -- "$word")); return ;;
+    --desk) COMPREPLY=(); return ;;
+    --journal) COMPREPLY=($(compgen -f -- "$word")); return ;;
     --out) COMPREPLY=($(compgen -f -- "$word")); return ;;
     --points) COMPREPLY=($(compgen -f -- "$word")); return ;;
     --unit) COMPREPLY=($(compgen -W 'mm cm m' -- "$word")); return ;;
     --workers) COMPREPLY=(); return ;;
+    --zones) COMPREPLY=(); return ;;
   esac
   case "${COMP_WORDS[1]}" in
-    help) COMPREPLY=($(compgen -W 'area check export locate overlay part' -- "$word")); return ;;
+    help) COMPREPLY=($(compgen -W 'area check export locate overlay part session' -- "$word")); return ;;
     area) options='--unit -h --help' ;;
     check) options='--unit --all --clerk -h --help' ;;
     export) options='--unit --out --clerk -h --help' ;;
     locate) options='--unit --at --points --clerk -h --help' ;;
     overlay) options='--unit --clerk --workers -h --help' ;;
     part) options='--unit --out -h --help' ;;
+    session) options='--unit --zones --journal --desk --workers -h --help' ;;
   esac
   case "$word" in
     -*) COMPREPLY=($(compgen -W "$options" -- "$word")) ;;
