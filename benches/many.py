@@ -1,7 +1,7 @@
 #!/usr/bin/python3
 """many.py - `gandovel many` by GNU parallel, Dask and Slurm, beside the plain sum of the single runs of the program.
 
-  many.py [PROGRAM] [--engines NAME[,NAME..]] [--cities N] [--districts N] [--cells N] [--zones] [--kill]
+  many.py [PROGRAM] [--engines NAME[,NAME..]] [--cities N] [--districts N] [--cells N] [--zones] [--kill [SECONDS]]
           [--keep FOLDER]
 
 PROGRAM is the built parcel_tool (benches/README.md says where it lies), or what GANDOVEL_TOOL names. Two manifests are
@@ -11,10 +11,12 @@ cities      N cities of size S (1,000), each hundredth with a gap; with --zones 
 metropolis  a city of N districts (16, a square number) of 256 by 256 parcels (--cells), with borders that are bent
 
 Beside each stands the plain sum: the program alone, once for each row of the manifest, one behind the other. The share
-is that sum by the seconds of the whole command and by the processors: 1 where nothing is lost. --kill ends a process of
-a task, of the program or of a Dask worker every half a second with SIGKILL, with ten retries, and no share is told. All
-verdicts are compared with what was planted. --cities 0 or --districts 0 leaves a manifest out; --keep leaves all in a
-folder.
+is that sum by the seconds of the whole command and by the processors: 1 where nothing is lost. Beside it stands the
+share of xargs, which starts the same runs as many at once as there are processors, and does nothing else: what is lost
+there is the machine's. --kill ends a process of a task, of the program or of a Dask worker every half a second, or every
+so many seconds, with SIGKILL, with ten retries, and no share is told; a city is then without a verdict at worst, with
+the code T4. All verdicts are compared with what was planted. --cities 0 or --districts 0 leaves a manifest out; --keep
+leaves all in a folder.
 
 It needs what scripts/python_tests installs, for the system's own Python; slurm also Debian's slurm-wlm.
 """
@@ -37,7 +39,7 @@ HERE = os.path.dirname(os.path.abspath(__file__))
 sys.dont_write_bytecode = True
 sys.path[:0] = [HERE, os.path.join(HERE, "..", "python", "tests"), os.path.join(HERE, "..", "python", "src")]
 SOURCES = os.path.abspath(os.path.join(HERE, "..", "python", "src"))
-WORKER = os.path.join(SOURCES, "gandovel", "many", "worker.py")
+WORKER = os.path.join(SOURCES, "gandovel", "many", "start.py")
 KINDS = 10
 """So many cities of S are made; the others are copies of them, with files of their own."""
 
@@ -130,20 +132,42 @@ def write_manifest(folder, rows):
         writer.writerows(rows)
 
 
-def plain_sum(out):
-    """The seconds of the program alone for each result of a run, one behind the other."""
+def commands_of(out):
+    """The program's command line for each result of a run."""
     commands = []
     for name in sorted(os.listdir(os.path.join(out, "cities"))):
         with open(os.path.join(out, "cities", name, "result.json")) as file:
             commands.append(json.load(file)["command"])
+    return commands
+
+
+def plain_sum(commands):
+    """The seconds of the program alone, one run behind the other."""
     begun = time.monotonic()
     for command in commands:
         subprocess.run(command, stdin=subprocess.DEVNULL, stdout=subprocess.DEVNULL, stderr=subprocess.DEVNULL)
     return time.monotonic() - begun
 
 
-def victims(program):
-    """The processes of tasks, of the program and of Dask's workers that this script's commands have started."""
+def plain_side_by_side(commands, at_once):
+    """The seconds of the same runs, so many at once, by xargs. All have as many words."""
+    words = "".join(f"{word}\0" for command in commands for word in command)
+    begun = time.monotonic()
+    subprocess.run(
+        ["xargs", "-0", "-P", str(at_once), "-n", str(len(commands[0]))],
+        input=words.encode(),
+        stdout=subprocess.DEVNULL,
+        stderr=subprocess.DEVNULL,
+    )
+    return time.monotonic() - begun
+
+
+def victims(program, folder):
+    """The processes of tasks, of the program and of Dask's workers that this script's commands have started, each with
+    its command line.
+
+    Slurm's tasks are no children of it: they name a file of the folder.
+    """
     parents, words = {}, {}
     for name in filter(str.isdigit, os.listdir("/proc")):
         with contextlib.suppress(OSError, IndexError):
@@ -158,34 +182,38 @@ def victims(program):
         return process == os.getpid()
 
     kinds = (WORKER, program, "multiprocessing.spawn")
-    return [
-        process
+    return {
+        process: text
         for process, text in words.items()
-        if any(kind in text for kind in kinds) and "parallel\0" not in text and (is_ours(process) or WORKER in text)
-    ]
+        if any(kind in text for kind in kinds) and "parallel\0" not in text and (is_ours(process) or folder in text)
+    }
 
 
 @contextlib.contextmanager
-def killing(program, wanted):
-    """Kills one of the victims every half a second; the list of how many were killed."""
-    over, killed, pick = threading.Event(), [0], random.Random(1)
+def killing(program, folder, seconds):
+    """Kills one of a folder's victims every so many seconds, or none; the list of how many were killed.
+
+    It begins with the first task: an engine may take longer to start than that.
+    """
+    over, begun, killed, pick = threading.Event(), [False], [0], random.Random(1)
 
     def kill():
-        while not over.wait(0.5):
-            found = victims(program)
-            if found:
+        while not over.wait(seconds):
+            found = victims(program, folder)
+            begun[0] = begun[0] or any(WORKER in text for text in found.values())
+            if found and begun[0]:
                 with contextlib.suppress(ProcessLookupError):
-                    os.kill(pick.choice(found), signal.SIGKILL)
+                    os.kill(pick.choice(sorted(found)), signal.SIGKILL)
                     killed[0] += 1
 
     thread = threading.Thread(target=kill)
-    if wanted:
+    if seconds:
         thread.start()
     try:
         yield killed
     finally:
         over.set()
-        if wanted:
+        if seconds:
             thread.join()
 
 
@@ -207,7 +235,7 @@ def many(folder, engine, program, kill, *words):
         *words,
     ]
     path = os.pathsep.join([SOURCES, os.environ.get("PYTHONPATH", "")])
-    with killing(program, kill) as killed:
+    with killing(program, folder, kill) as killed:
         begun = time.monotonic()
         ran = subprocess.run(
             command,
@@ -226,24 +254,38 @@ def many(folder, engine, program, kill, *words):
 def measure(name, folder, engine, program, given, wrong):
     """Runs a manifest by an engine, compares the verdicts with what was planted, and prints what it took."""
     out, took, killed = many(folder, engine, program, given.kill, *["--jobs", str(processors())] * (engine != "slurm"))
-    with open(os.path.join(out, "summary.csv"), newline="") as file:
-        verdicts = {row["name"]: row["verdict"] for row in csv.DictReader(file)}
-    bad = [city for city, verdict in verdicts.items() if verdict != ("refused" if city in wrong else "tiles")]
-    with open(os.path.join(out, "summary.json")) as file:
-        whole = [it["tiles"] for it in json.load(file)["wholes"]]
-    if bad or not all(whole):
-        sys.exit(f"{name} by {engine}: not the verdicts that were planted: {bad[:8]} {whole}")
+    verdicts, without = test_verdicts(name, engine, out, given.kill, wrong)
     if given.kill:
         print(
-            f"{name} by {engine}: {took:.2f} s, {killed} processes killed, {len(verdicts)} verdicts right", flush=True
+            f"{name} by {engine}: {took:.2f} s, {killed} processes killed, {verdicts} verdicts right, {without} without",
+            flush=True,
         )
         return
-    single = plain_sum(out)
+    commands = commands_of(out)
+    single, beside = plain_sum(commands), plain_side_by_side(commands, processors())
     print(
-        f"{name} by {engine}: {took:.2f} s, the plain sum {single:.2f} s, {len(verdicts) / took:.1f} cities a second, share "
-        f"{single / took / processors():.2f} of {processors()} processors",
+        f"{name} by {engine}: {took:.2f} s, {verdicts / took:.1f} cities a second; the plain sum {single:.2f} s, share "
+        f"{single / took / processors():.2f} of {processors()} processors; by xargs {beside:.2f} s, share "
+        f"{single / beside / processors():.2f}",
         flush=True,
     )
+
+
+def test_verdicts(name, engine, out, killed, wrong):
+    """How many verdicts are those that were planted, and how many cities have none: only where processes are killed."""
+    with open(os.path.join(out, "summary.csv"), newline="") as file:
+        rows = list(csv.DictReader(file))
+    with open(os.path.join(out, "summary.json")) as file:
+        whole = [it["tiles"] for it in json.load(file)["wholes"]]
+    without = [row["name"] for row in rows if killed and row["verdict"] == "none" and row["code"] in ("T4", "T10")]
+    bad = [
+        row["name"]
+        for row in rows
+        if row["name"] not in without and row["verdict"] != ("refused" if row["name"] in wrong else "tiles")
+    ]
+    if bad or all(whole) == bool(whole and without):
+        sys.exit(f"{name} by {engine}: not the verdicts that were planted: {bad[:8]} {whole}")
+    return len(rows) - len(without), len(without)
 
 
 @contextlib.contextmanager
@@ -271,7 +313,7 @@ def main():
     parser.add_argument("--districts", type=int, default=16)
     parser.add_argument("--cells", type=int, default=256)
     parser.add_argument("--zones", action="store_true")
-    parser.add_argument("--kill", action="store_true")
+    parser.add_argument("--kill", nargs="?", type=float, const=0.5, metavar="SECONDS")
     parser.add_argument("--keep", metavar="FOLDER")
     given = parser.parse_args()
     if not given.program:

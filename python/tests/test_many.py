@@ -9,6 +9,7 @@ import os
 import shutil
 import signal
 import subprocess
+import sys
 from pathlib import Path
 
 import geopandas as gpd
@@ -16,7 +17,7 @@ import pytest
 
 from gandovel import Refused
 from gandovel.many import run_many
-from gandovel.many.engines import parallel
+from gandovel.many.engines import jobs
 from gandovel.many.tasks import Program, Task
 from many_cities import (
     GAP,
@@ -340,8 +341,9 @@ def test_workers_of_dask_that_are_killed(dask_cluster, tmp_path, monkeypatch):
     until(lambda: not processes_of(tmp_path))
 
 
-def test_tasks_that_share_a_job(tmp_path, monkeypatch):
-    monkeypatch.setattr(parallel, "SHARES", 1)
+@pytest.mark.parametrize("engine", ["parallel", "dask"])
+def test_tasks_that_share_a_job(tmp_path, monkeypatch, engine):
+    monkeypatch.setattr(sys.modules[f"gandovel.many.engines.{engine}"], "jobs_of", lambda *_: [range(6), range(6, 12)])
     program(
         tmp_path,
         monkeypatch,
@@ -349,9 +351,9 @@ def test_tasks_that_share_a_job(tmp_path, monkeypatch):
         "*/c9) kill -9 $$;; esac",
     )
     manifest = write_cities(tmp_path, 12, [3])
-    summary = run_many(manifest, tmp_path / "out", "parallel", jobs=2, retries=1)
+    summary = run_many(manifest, tmp_path / "out", engine, jobs=2, retries=1)
     assert {it.name: it.code for it in summary.verdicts if not it.tiles} == {"c1": "T4", "c3": "H2", "c9": "T4"}
-    assert len(names_in(tmp_path / "out/engine/1-cities/jobs")) == 2
+    assert len(list((tmp_path / "out/engine/1-cities/jobs").glob("?.txt"))) == 2
     assert {name: calls(tmp_path).count(name) for name in ("c0", "c1", "c6", "c7", "c9")} == {
         "c0": 1,
         "c1": 2,
@@ -366,27 +368,50 @@ def test_tasks_that_share_a_job(tmp_path, monkeypatch):
     until(lambda: not processes_of(tmp_path / "in"))
 
 
-def test_which_tasks_share_a_job(tmp_path):
-    def jobs(sizes, at_once):
-        tasks = []
-        for at, size in enumerate(sizes):
-            (tmp_path / f"{at}.shp").write_bytes(b"")
-            os.truncate(tmp_path / f"{at}.shp", size)
-            tasks.append(Task(str(at), (), ((str(tmp_path / f"{at}.shp"), True), (str(tmp_path / "none"), False))))
-        return [len(job) for job in parallel.jobs_of(tasks, at_once)]
-
-    large = parallel.SMALL + 1
-    assert jobs([], 1) == [] and jobs([9], 1) == [1] and jobs([9] * 5, 4) == [1] * 5
-    assert jobs([9] * parallel.SHARES * 6, 2) == [3] * 2 * parallel.SHARES
-    assert jobs([large, 9, 9, large, large, 9] * parallel.SHARES, 1) == [1, 2, 1, 1, 1] + [1, 2, 1, 1, 1] * (
-        parallel.SHARES - 1
+@pytest.mark.parametrize("engine", ["parallel", "dask"])
+def test_a_job_that_is_killed_on_its_last_try(tmp_path, monkeypatch, engine):
+    monkeypatch.setattr(sys.modules[f"gandovel.many.engines.{engine}"], "jobs_of", lambda *_: [range(6), range(6, 8)])
+    program(
+        tmp_path,
+        monkeypatch,
+        f'case "$city" in */c2) once killed && {{ kill -9 {PARENT}; sleep 600; }};; */c4) kill -9 $$;; esac',
     )
-    assert max(jobs([9] * parallel.SHARES * 100, 1)) == parallel.MOST
+    summary = run_many(write_cities(tmp_path, 8), tmp_path / "out", engine, jobs=2, retries=0)
+    assert [it.code for it in summary.verdicts] == ["", "", "", "", "T4", "", "", ""]
+    assert [calls(tmp_path).count(f"c{at}") for at in range(8)] == [1, 1, 2, 1, 1, 1, 1, 1]
+    assert names_in(tmp_path / "out/engine/1-cities/alone") >= {f"{at}.txt" for at in range(4)}
+
+
+def sizes_of_jobs(folder, sizes, at_once):
+    """How many tasks each job has, of tasks with files of so many bytes."""
+    tasks = []
+    for at, size in enumerate(sizes):
+        (folder / f"{at}.shp").write_bytes(b"")
+        os.truncate(folder / f"{at}.shp", size)
+        tasks.append(Task(str(at), (), ((str(folder / f"{at}.shp"), True), (str(folder / "none"), False))))
+    found = jobs.jobs_of(tasks, at_once)
+    assert [number for job in found for number in job] == list(range(len(sizes)))
+    return [len(job) for job in found]
+
+
+def test_which_tasks_share_a_job(tmp_path):
+    assert sizes_of_jobs(tmp_path, [], 1) == [] and sizes_of_jobs(tmp_path, [9], 1) == [1]
+    assert sizes_of_jobs(tmp_path, [9] * 8, 4) == [1] * 8
+    assert sizes_of_jobs(tmp_path, [9] * 16, 2) == [4, 3, 2, 1, 1, 1, 1, 1, 1, 1]
+    many = sizes_of_jobs(tmp_path, [9] * 1000, 4)
+    assert many[:3] == [125, 109, 95] and many == sorted(many, reverse=True) and min(many[:-1]) == jobs.FEWEST
+    assert max(sizes_of_jobs(tmp_path, [9] * 5000, 1)) == jobs.MOST
+
+
+def test_large_cities_do_not_share_a_job(tmp_path):
+    large = 1000 * jobs.EACH
+    assert sizes_of_jobs(tmp_path, [large] * 8, 2) == [2, 1, 1, 1, 1, 1, 1]
+    assert sizes_of_jobs(tmp_path, [large, large, *[9] * 300], 2)[:2] == [1, 1]
 
 
 def test_a_parallel_that_is_killed(tmp_path, monkeypatch):
     program(tmp_path, monkeypatch, f'case "$city" in */c0) kill -9 {PARENT}; sleep 600;; */c1) sleep 600;; esac')
-    summary = run_many(write_cities(tmp_path, 12), tmp_path / "out", "parallel", jobs=2)
+    summary = run_many(write_cities(tmp_path, 3), tmp_path / "out", "parallel", jobs=2)
     assert {it.code for it in summary.verdicts} == {"T7"}
     until(lambda: not processes_of(tmp_path))
 

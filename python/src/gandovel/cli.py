@@ -1,19 +1,19 @@
-"""The command `gandovel`: prepare, report, map, back, many."""
+"""The command `gandovel`: prepare, report, map, back, many. Each imports what it needs when it runs."""
 from __future__ import annotations
 
 import argparse
 import os
 import sys
 from pathlib import Path
-from typing import List, Optional
+from typing import TYPE_CHECKING, List, Optional
 
 from . import __version__
 from .errors import Refused
 from .many.command import add_command, run_command
-from .prepare import prepare
-from .prepared import Prepared, load
-from .progress import Progress
-from .sources import read_layer
+
+if TYPE_CHECKING:
+    from .prepared import Prepared
+    from .progress import Progress
 
 
 def _preparing(command: argparse.ArgumentParser) -> None:
@@ -60,6 +60,9 @@ def parser() -> argparse.ArgumentParser:
 
 
 def _prepared(source: str, options: argparse.Namespace, progress: Progress) -> Prepared:
+    from .prepare import prepare
+    from .sources import read_layer
+
     zones, city = (read_layer(path, role) if path else None
                    for role, path in (("zones", options.zones), ("city", options.city)))
     return prepare(read_layer(source, "parcels"), zones, options.number, options.zone, city, options.frame,
@@ -67,6 +70,8 @@ def _prepared(source: str, options: argparse.Namespace, progress: Progress) -> P
 
 
 def _prepare(options: argparse.Namespace) -> None:
+    from .progress import Progress
+
     progress = Progress(6, shown=True)
     try:
         prepared = _prepared(options.parcels, options, progress)
@@ -79,6 +84,8 @@ def _prepare(options: argparse.Namespace) -> None:
 
 
 def _report(options: argparse.Namespace) -> None:
+    from .prepared import load
+    from .progress import Progress
     from .report import report
 
     progress = Progress(shown=True)

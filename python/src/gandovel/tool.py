@@ -7,11 +7,12 @@ import shutil
 import subprocess
 from dataclasses import dataclass, field
 from pathlib import Path
-from typing import Dict, List, Optional, Sequence, Tuple, Union
-
-import numpy as np
+from typing import TYPE_CHECKING, Dict, List, Optional, Sequence, Tuple, Union
 
 from .errors import Refused
+
+if TYPE_CHECKING:  # elsewhere where it is used: `gandovel many` has to begin fast
+    import numpy as np
 
 PathLike = Union[str, "os.PathLike[str]"]
 
@@ -72,6 +73,12 @@ def refusal(line: str) -> Refused:
     return Refused(code, rest, role=role, record=record)
 
 
+def _edges(rows: Sequence[Sequence[int]] = ()) -> np.ndarray:
+    import numpy as np
+
+    return np.array(rows, dtype=np.int64).reshape(-1, 5)
+
+
 @dataclass
 class CheckAnswer:
     """What `check --all` says of a layer: `count` and `area2` (mm2, doubled) where it tiles; else its faults.
@@ -81,7 +88,7 @@ class CheckAnswer:
 
     count: int = 0
     area2: int = 0
-    edges: np.ndarray = field(default_factory=lambda: np.zeros((0, 5), dtype=np.int64))
+    edges: np.ndarray = field(default_factory=_edges)
     rings: Dict[int, str] = field(default_factory=dict)
     refused: Optional[Refused] = None
 
@@ -107,12 +114,14 @@ def check_all(city: PathLike, layer: PathLike, unit: str = "mm") -> CheckAnswer:
         elif words[0] == "ring":
             answer.rings[int(words[1])] = " ".join(words[2:])
     if edges:
-        answer.edges = np.array(edges, dtype=np.int64)
+        answer.edges = _edges(edges)
     return answer
 
 
 def overlay_pairs(city: PathLike, parcels: PathLike, zones: PathLike, workers: int = 0) -> np.ndarray:
     """The pairs (record, zone's record), int64 of shape (n, 2), of `overlay`. Refused where a layer does not tile."""
+    import numpy as np
+
     threads = ["--workers", str(workers)] if workers else []
     printed = ask(["overlay", str(city), str(parcels), str(zones), "--unit", "mm", *threads])
     pairs = [line.split()[1:] for line in printed.splitlines() if line.startswith("pair ")]

@@ -127,6 +127,14 @@ class ResultsFolder:
         except (OSError, ValueError, KeyError, TypeError):
             return None
 
+    def stamp_of(self, kind: str, name: str) -> Optional[Tuple[int, int]]:
+        """What another result in a result's place changes; None where there is none."""
+        try:
+            facts = (self.path / kind / name / "result.json").stat()
+        except OSError:
+            return None
+        return facts.st_ino, facts.st_mtime_ns
+
     def result(self, kind: str, name: str) -> Optional[Result]:
         """A whole result, with output and error text; None where there is none, or one that the disk has torn."""
         folder = self.path / kind / name

@@ -9,8 +9,9 @@ import time
 import uuid
 from contextlib import contextmanager
 from dataclasses import replace
+from importlib import import_module
 from pathlib import Path
-from typing import Any, Callable, Dict, Iterator, List, Optional, Sequence, Tuple, Union
+from typing import TYPE_CHECKING, Any, Callable, Dict, Iterator, List, Optional, Sequence, Tuple, Union
 
 from tqdm import tqdm
 
@@ -18,13 +19,18 @@ from ..errors import Refused
 from .engines import ENGINES, Engine, Lost, Settings
 from .engines.base import processors
 from .engines.slurm import refuse_earlier_jobs
-from .faults_file import Faults
 from .manifest import Row, by_depth, read_manifest
 from .results import KINDS, Result, ResultsFolder
 from .summary import Summary, Verdict, not_judged, verdict_of, wholes_of
 from .tasks import Batch, Limits, Program, Task, faults_task_of, find_program, ring_task_of, task_of
 
+if TYPE_CHECKING:
+    from .faults_file import Faults
+
 SHOWN_AFTER = 2.0
+LOOKED_AT = 1000
+"""For so many results it is looked at a time, while an engine runs."""
+
 LINES_APART = 30.0
 """Seconds between two lines of progress where there is no terminal."""
 
@@ -105,7 +111,7 @@ class _Run:
         self.results, self.program, self.settings = results, program, settings
         self.shown, self.resume, self.name = shown, resume, uuid.uuid4().hex
         self.found: Dict[str, Dict[str, Tuple[Result, Verdict]]] = {kind: {} for kind in KINDS}
-        """The results and their verdicts. What the program printed is left out: of all cities it may be too much."""
+        """The results and their verdicts."""
         self.lost: Dict[str, Dict[str, Tuple[str, str]]] = {kind: {} for kind in KINDS}
         self.kept = self.batches = 0
 
@@ -168,19 +174,22 @@ class _Run:
             lambda task: self.results.run_of(kind, task.name) == self.name,
         )
         lost: Dict[int, Lost] = {}
+        early = _Early(self.results, kind, to_do, self.name)
         if to_do:
             try:
                 batch.write(self.results.path / kind, self.program, self.settings.limits)
                 with _progress(len(to_do), kind, self.shown) as told:
-                    lost = engine.run(batch, told)
+                    lost = engine.run(batch, early.then(told))
             except OSError as fault:
                 raise Refused("P14", f"{batch.folder} can't be written: {fault}") from fault
+            finally:
+                early.close()
         numbers = {task.name: number for number, task in enumerate(to_do)}
         for task in tasks:
-            result = self.results.result(kind, task.name)
             number = numbers.get(task.name)
-            if result is not None and (number is None or result.run == self.name):
-                self.found[kind][task.name] = replace(result, output="", errors=""), verdict_of(result)
+            found = early.found(task.name)
+            if found is not None and (number is None or found[0].run == self.name):
+                self.found[kind][task.name] = found
             else:
                 self.lost[kind][task.name] = _why(batch, number, lost)
         if kind == "cities":
@@ -206,25 +215,24 @@ class _Run:
             row.name: found[row.name][1] if row.name in found else not_judged(row.name, lost[row.name]) for row in rows
         }
         astray = {row.name for row in rows if row.part_of is not None and not self._has_its_ring(row)}
-        faults, untold = Faults(), []
-        for row in rows:
-            if verdicts[row.name].verdict == "refused" and not self._add_faults(faults, row):
-                untold.append(row.name)
-        summary = Summary(
-            list(verdicts.values()),
-            wholes_of(rows, verdicts, astray),
-            self.kept,
-            gaps=faults.count("gaps"),
-            overlaps=faults.count("overlaps"),
-            rings=faults.count("rings"),
-            untold=untold,
-        )
-        if faults.save(self.results.path / "faults.gpkg"):
-            summary.faults_file = str(self.results.path / "faults.gpkg")
+        summary = Summary(list(verdicts.values()), wholes_of(rows, verdicts, astray), self.kept)
+        self._tell_faults(summary, [row for row in rows if verdicts[row.name].verdict == "refused"])
         summary.seconds = time.monotonic() - begun
         self.results.write("summary.csv", summary.table())
         self.results.write("summary.json", summary.facts())
         return summary
+
+    def _tell_faults(self, summary: Summary, refused: Sequence[Row]) -> None:
+        """Writes the faults of refused cities, where there is one, and counts them. GeoPandas is imported for them alone."""
+        if not refused:
+            return
+        from .faults_file import Faults
+
+        faults = Faults()
+        summary.untold = [row.name for row in refused if not self._add_faults(faults, row)]
+        summary.gaps, summary.overlaps, summary.rings = map(faults.count, ("gaps", "overlaps", "rings"))
+        if faults.save(self.results.path / "faults.gpkg"):
+            summary.faults_file = str(self.results.path / "faults.gpkg")
 
     def _add_faults(self, faults: Faults, row: Row) -> bool:
         """Takes every fault of a refused city; False where the check that told them has none of the same files."""
@@ -243,6 +251,56 @@ class _Run:
             return False
         judged, ring, above = (self.found[kind][name][0] for kind, name in places)
         return ring.ring is not None and judged.inputs.get(str(row.city)) == ring.ring and _same_files(ring, above)
+
+
+class _Early:
+    """Reads results while an engine runs the rest, and begins to import what writes faults when a city is refused."""
+
+    def __init__(self, results: ResultsFolder, kind: str, tasks: Sequence[Task], run: str) -> None:
+        self.results, self.kind, self.run = results, kind, run
+        self.waiting = [task.name for task in tasks]
+        self.read: Dict[str, Tuple[Any, Tuple[Result, Verdict]]] = {}
+        self.importing: Optional[threading.Thread] = None
+
+    def then(self, told: Callable[[int], None]) -> Callable[[int], None]:
+        """The call that an engine makes when tasks have ended: it reads their results, too, as far as it finds them."""
+
+        def both(done: int) -> None:
+            told(done)
+            if len(self.read) < done:
+                first, rest = self.waiting[:LOOKED_AT], self.waiting[LOOKED_AT:]
+                self.waiting = [name for name in first if not self._take(name)] + rest
+
+        return both
+
+    def _take(self, name: str) -> bool:
+        stamp = self.results.stamp_of(self.kind, name)
+        result = self.results.result(self.kind, name) if stamp is not None else None
+        if result is None or result.run != self.run:
+            return False
+        self.read[name] = stamp, _short(result)
+        if self.read[name][1][1].verdict == "refused" and self.importing is None:
+            self.importing = threading.Thread(target=import_module, args=(f"{__package__}.faults_file",))
+            self.importing.start()
+        return True
+
+    def found(self, name: str) -> Optional[Tuple[Result, Verdict]]:
+        """A result, as it is now."""
+        stamp, read = self.read.get(name, (None, None))
+        if read is not None and stamp == self.results.stamp_of(self.kind, name):
+            return read
+        result = self.results.result(self.kind, name)
+        return None if result is None else _short(result)
+
+    def close(self) -> None:
+        """Waits until nothing is imported any more: the next engine's processes are forked from this one."""
+        if self.importing is not None:
+            self.importing.join()
+
+
+def _short(result: Result) -> Tuple[Result, Verdict]:
+    """A result and its verdict. What the program printed is left out: of all cities it may be too much."""
+    return replace(result, output="", errors=""), verdict_of(result)
 
 
 def _same_files(one: Result, other: Result) -> bool:

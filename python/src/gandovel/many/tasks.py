@@ -12,7 +12,7 @@ from ..tool import find_tool
 from .manifest import Row
 from .worker import checked
 
-WORKER = Path(__file__).with_name("worker.py")
+WORKER = Path(__file__).with_name("start.py")
 """What an engine starts for a task, with the task's file as its word."""
 
 

@@ -1,10 +1,11 @@
 """One task of `gandovel many`: one process of the program, and its result moved into place whole or not at all.
 
-    python3 -I -S worker.py TASK.json|TASKS.txt [--with-parent]
+    python3 -I -S start.py tasks/NUMBER.json|jobs/JOB.txt [--with-parent]
 
-TASKS.txt lists files of tasks, one a line, which are run one behind the other, each in a process of its own. Each
-engine starts this file, by its path, in the same way. It needs nothing but Python's own modules, and few of them, so
-that a task begins fast, on any node that has Python 3.8. (`subprocess` alone would double the time to start.)
+jobs/JOB.txt lists numbers of tasks, one a line, whose files are tasks/NUMBER.json in the folder beside. They are run one
+behind the other. Each engine starts start.py, by its path, in the same way. This file needs nothing but Python's own
+modules, and few of them, so that a task begins fast, on any node that has Python 3.8. (`subprocess` alone would double
+the time to start.)
 
 The status is 0 where the result is in place. Any other end leaves no result, a note in the folder `failed` where the
 disk takes it, and one line on standard error; the status tells the code, too (`STATUS`).
@@ -23,6 +24,11 @@ import time
 from typing import Any, Dict, List, NamedTuple, NoReturn, Optional, Sequence, Tuple
 
 BLOCK = 1 << 20
+HELD = 64 << 20
+"""So many bytes of its inputs a task holds while the program runs; of more, the checksum is taken a second time."""
+
+SETTLED = 2.0
+"""Seconds after which a change of a file gets another time than the last, whatever the disk's clock."""
 ON_LINUX_DIE_WITH_PARENT = 1
 """`PR_SET_PDEATHSIG` of prctl(2)."""
 
@@ -70,6 +76,13 @@ class Checked(NamedTuple):
         return {"sha256": self.sha256, "bytes": self.size}
 
 
+class Input(NamedTuple):
+    """A file as it was before the program ran: None where there was none; its bytes, where there is room for them."""
+
+    checked: Optional[Checked]
+    content: Optional[bytes]
+
+
 class Ended(NamedTuple):
     """How the program ended: the status of waitpid(2), seconds by the clock, its peak memory in kB, its errors."""
 
@@ -82,10 +95,18 @@ class Ended(NamedTuple):
 
 def checked(path: str) -> Optional[Checked]:
     """A file's checksum; None where there is no such file. OSError where it can't be read."""
-    digest, size, block = hashlib.sha256(), 0, bytearray(BLOCK)
+    return read_input(path, BLOCK).checked
+
+
+def read_input(path: str, room: int) -> Input:
+    """A file with its checksum, and its bytes where it is no longer than `room`. OSError where it can't be read."""
     try:
         with open(path, "rb", buffering=0) as file:
             begun = os.fstat(file.fileno())
+            if begun.st_size <= room:
+                content = file.readall()
+                return Input(Checked(hashlib.sha256(content).hexdigest(), len(content), stamp_of(begun)), content)
+            digest, size, block = hashlib.sha256(), 0, bytearray(BLOCK)
             while True:
                 count = file.readinto(block)
                 if not count:
@@ -93,8 +114,33 @@ def checked(path: str) -> Optional[Checked]:
                 digest.update(memoryview(block)[:count])
                 size += count
     except (FileNotFoundError, NotADirectoryError):
-        return None
-    return Checked(digest.hexdigest(), size, (begun.st_ino, begun.st_mtime_ns))
+        return Input(None, None)
+    return Input(Checked(digest.hexdigest(), size, stamp_of(begun)), None)
+
+
+def stamp_of(facts: os.stat_result) -> Tuple[int, int]:
+    """What a change of a file changes."""
+    return facts.st_ino, facts.st_mtime_ns
+
+
+def is_unchanged(path: str, before: Input) -> bool:
+    """Whether a file is what it was: the same file, with the same time and bytes. OSError where it can't be read."""
+    if before.checked is None or before.content is None:
+        return checked(path) == before.checked
+    try:
+        with open(path, "rb", buffering=0) as file:
+            if stamp_of(os.fstat(file.fileno())) != before.checked.stamp:
+                return False
+            block, at = bytearray(min(BLOCK, len(before.content) + 1)), 0
+            while True:
+                count = file.readinto(block)
+                if not count:
+                    return at == len(before.content)
+                if not before.content.startswith(memoryview(block)[:count], at):
+                    return False
+                at += count
+    except (FileNotFoundError, NotADirectoryError):
+        return False
 
 
 def told_of(path: str) -> Optional[Dict[str, Any]]:
@@ -103,16 +149,18 @@ def told_of(path: str) -> Optional[Dict[str, Any]]:
     return it and it.told()
 
 
-def checked_inputs(task: Dict[str, Any]) -> Dict[str, Optional[Checked]]:
-    """The checksums of a task's inputs by path. Failed P1 where one can't be read, or one is missing that has to be."""
-    found: Dict[str, Optional[Checked]] = {}
+def read_inputs(task: Dict[str, Any]) -> Dict[str, Input]:
+    """A task's inputs by path. Failed P1 where one can't be read, or one is missing that has to be."""
+    found: Dict[str, Input] = {}
+    room = HELD
     for path, needed in task["inputs"].items():
         try:
-            found[path] = checked(path)
+            found[path] = read_input(path, room)
         except OSError as fault:
             raise Failed("P1", f"{path} can't be read: {fault.strerror}") from fault
-        if needed and found[path] is None:
+        if needed and found[path].checked is None:
             raise Failed("P1", f"{path} is not there")
+        room -= len(found[path].content or b"")
     return found
 
 
@@ -120,13 +168,55 @@ def test_program(task: Dict[str, Any]) -> None:
     """Failed T6 where the program is another than the one that the run began with, T1 where it is not there."""
     path = task["command"][0]
     try:
-        here = checked(path)
+        here = _checksum_of_program(path)
+    except FileNotFoundError as fault:
+        raise Failed("T1", f"the program {path} is not there") from fault
     except OSError as fault:
         raise Failed("T1", f"the program {path} can't be read: {fault.strerror}") from fault
-    if here is None:
-        raise Failed("T1", f"the program {path} is not there")
-    if here.sha256 != task["program"]["sha256"]:
+    if here != task["program"]["sha256"]:
         raise Failed("T6", f"{path} is not the program that the run began with")
+
+
+_programs: Dict[Tuple[Any, ...], str] = {}
+"""The checksums that this process has taken of a program, by what a change of it changes."""
+
+
+def _checksum_of_program(path: str) -> str:
+    """A program's checksum; it is read once for all tasks of a list, and again where it changed. OSError without it."""
+    facts = os.stat(path)
+    state = path, facts.st_dev, facts.st_ino, facts.st_size, facts.st_mtime_ns, facts.st_ctime_ns
+    if state not in _programs:
+        here = checked(path)
+        if here is None:
+            raise FileNotFoundError(path)
+        if time.time() - facts.st_ctime < SETTLED:
+            return here.sha256
+        _programs[state] = here.sha256
+    return _programs[state]
+
+
+_running: List[int] = []
+"""The program that runs, by its process; 0 while it is being started."""
+
+_asked_to_stop: List[int] = []
+"""The signals by which this process was asked to stop."""
+
+
+def _ask_to_stop(number: int, _: Any) -> None:
+    """Ends the program where it runs, and else the task."""
+    _asked_to_stop.append(number)
+    if not _running:
+        raise Failed("T4", "the task was asked to stop")
+    _end_program()
+
+
+def _end_program(*_: Any) -> None:
+    for kill in (os.killpg, os.kill):  # its group, and itself where it has not made one yet
+        try:
+            if _running and _running[0]:
+                kill(_running[0], signal.SIGKILL)
+        except ProcessLookupError:
+            pass
 
 
 def run_program(task: Dict[str, Any], command: List[str], into: str) -> Ended:
@@ -136,42 +226,40 @@ def run_program(task: Dict[str, Any], command: List[str], into: str) -> Ended:
     """
     output = os.open(into, os.O_WRONLY | os.O_CREAT | os.O_TRUNC, 0o644)
     reader, writer = os.pipe()
-    begun, parent = time.monotonic(), os.getpid()
+    files = os.open(os.devnull, os.O_RDONLY), output, writer
+    begun, parent, die = time.monotonic(), os.getpid(), _prctl()
+    _running.append(0)
     process = os.fork()
     if process == 0:
-        _become_program(command, task["memory_kb"], parent, output, writer)
-    timed_out: List[bool] = []
-
-    def end(number: int, _: Any) -> None:
-        if number == signal.SIGALRM:
-            timed_out.append(True)
-        for kill in (os.killpg, os.kill):  # its group, and itself where it has not made one yet
-            try:
-                kill(process, signal.SIGKILL)
-            except ProcessLookupError:
-                pass
-
-    former = signal.signal(signal.SIGALRM, end), signal.signal(signal.SIGTERM, end)
-    signal.setitimer(signal.ITIMER_REAL, task["timeout"] or 0)
-    os.close(writer)
+        _become_program(command, task["memory_kb"], parent, die, files)
+    _running[0] = process
+    if _asked_to_stop:
+        _end_program()
+    if task["timeout"]:
+        signal.signal(signal.SIGALRM, _end_program)
+        signal.setitimer(signal.ITIMER_REAL, task["timeout"])
+    for file in files:
+        os.close(file)
     with open(reader, "rb") as file:
         errors = file.read()
     _, status, used = os.wait4(process, 0)
-    signal.setitimer(signal.ITIMER_REAL, 0)
-    for number, handler in zip((signal.SIGALRM, signal.SIGTERM), former):
-        signal.signal(number, handler)
+    _running.clear()
+    if task["timeout"]:
+        signal.setitimer(signal.ITIMER_REAL, 0)
     seconds = time.monotonic() - begun
-    os.close(output)
-    return Ended(status, seconds, used.ru_maxrss, bool(timed_out) and os.WIFSIGNALED(status), errors)
+    timed_out = bool(task["timeout"]) and seconds >= task["timeout"] and os.WIFSIGNALED(status)
+    return Ended(status, seconds, used.ru_maxrss, timed_out, errors)
 
 
-def _become_program(command: List[str], memory_kb: Optional[int], parent: int, output: int, errors: int) -> NoReturn:
-    """The child: its limits and files, then the program. It dies with the task's process."""
+def _become_program(
+    command: List[str], memory_kb: Optional[int], parent: int, die: Optional[Any], files: Sequence[int]
+) -> NoReturn:
+    """The child: its files and limits, then the program. It dies with the task's process."""
     try:
-        for number, place in enumerate((os.open(os.devnull, os.O_RDONLY), output, errors)):
+        for number, place in enumerate(files):
             os.dup2(place, number)
         os.setpgid(0, 0)
-        die_with_parent(parent)
+        _die_with_parent(parent, die)
         if memory_kb:
             resource.setrlimit(resource.RLIMIT_AS, (memory_kb * 1024,) * 2)
         os.execv(command[0], command)
@@ -181,16 +269,32 @@ def _become_program(command: List[str], memory_kb: Optional[int], parent: int, o
         os._exit(127)
 
 
+_found: List[Optional[Any]] = []
+"""What `_prctl` has found."""
+
+
+def _prctl() -> Optional[Any]:
+    """The C library's prctl, on Linux; elsewhere None. It is looked for once, before any child is."""
+    if not _found:
+        try:
+            import ctypes
+
+            _found.append(ctypes.CDLL(None).prctl)
+        except (ImportError, OSError, AttributeError):
+            _found.append(None)
+    return _found[0]
+
+
 def die_with_parent(parent: int) -> None:
     """From now on this process is killed where the thread that started it ends. Linux alone; elsewhere nothing."""
-    try:
-        import ctypes
+    _die_with_parent(parent, _prctl())
 
-        ctypes.CDLL(None).prctl(ON_LINUX_DIE_WITH_PARENT, int(signal.SIGKILL), 0, 0, 0)
-    except (ImportError, OSError, AttributeError):
-        return
-    if os.getppid() != parent:
-        os._exit(STATUS["T4"])
+
+def _die_with_parent(parent: int, die: Optional[Any]) -> None:
+    if die is not None:
+        die(ON_LINUX_DIE_WITH_PARENT, 9, 0, 0, 0)
+        if os.getppid() != parent:
+            os._exit(STATUS["T4"])
 
 
 def test_end(task: Dict[str, Any], ended: Ended) -> None:
@@ -201,14 +305,14 @@ def test_end(task: Dict[str, Any], ended: Ended) -> None:
         raise Failed("T4", f"the program was killed by signal {os.WTERMSIG(ended.status)}")
 
 
-def test_unchanged(task: Dict[str, Any], before: Dict[str, Optional[Checked]]) -> None:
+def test_unchanged(before: Dict[str, Input]) -> None:
     """Failed T5 where an input is no longer what it was."""
     for path, it in before.items():
         try:
-            now = checked(path)
+            same = is_unchanged(path, it)
         except OSError as fault:
             raise Failed("T5", f"{path} can't be read again: {fault.strerror}") from fault
-        if now != it:
+        if not same:
             raise Failed("T5", f"{path} changed while the program ran")
 
 
@@ -267,19 +371,19 @@ def divided(data: bytes, factor: int, is_main: bool) -> bytes:
 
 def done(task: Dict[str, Any], folder: str) -> None:
     """Runs a task in an empty folder and writes its result there. Failed where there is none."""
-    before = checked_inputs(task)
+    before = read_inputs(task)
     test_program(task)
     begun = time.strftime("%Y-%m-%dT%H:%M:%SZ", time.gmtime())
     ended = run_program(task, command_of(task, folder), os.path.join(folder, "output.txt"))
     test_end(task, ended)
-    test_unchanged(task, before)
+    test_unchanged(before)
     status = answered(ended)
     result = {
         "name": task["name"],
         "run": task["run"],
         "program": task["program"],
         "command": command_of(task, os.path.join(task["folder"], task["name"])),
-        "inputs": {path: it and it.told() for path, it in before.items()},
+        "inputs": {path: it.checked and it.checked.told() for path, it in before.items()},
         "status": status,
         "seconds": round(ended.seconds, 6),
         "memory_kb": ended.memory_kb,
@@ -294,7 +398,12 @@ def done(task: Dict[str, Any], folder: str) -> None:
     for name in ("output", "errors"):
         result[name] = told_of(os.path.join(folder, f"{name}.txt"))
     with open(os.path.join(folder, "result.json"), "w", encoding="utf-8") as out:
-        json.dump(result, out, indent=1)
+        out.write(written(result))
+
+
+def written(result: Dict[str, Any]) -> str:
+    """A result as JSON, one fact a line. (`indent` would take ten times as long.)"""
+    return "{\n" + ",\n".join(f" {json.dumps(name)}: {json.dumps(fact)}" for name, fact in result.items()) + "\n}\n"
 
 
 def put_in_place(aside: str, final: str) -> None:
@@ -357,29 +466,26 @@ def _is_done(task: Dict[str, Any]) -> bool:
         return False
 
 
-def _ask_to_stop(*_: Any) -> NoReturn:
-    raise Failed("T4", "the task was asked to stop")
-
-
 def run_task(path: str) -> int:
-    """Runs the task that a file describes; the status."""
+    """Runs the task that a file describes; the status. It comes back with SIGTERM held up, since its end is decided."""
     task = _read(path)
     aside = os.path.join(task["folder"], f".{task['name']}.{os.uname().nodename}.{os.getpid()}.new")
     signal.signal(signal.SIGTERM, _ask_to_stop)
-    if _is_done(task):
-        return 0
     try:
-        earlier = _final(task)
-        if earlier is not None:
-            raise earlier
-        _note(task, None)
-        os.mkdir(aside)
-        done(task, aside)
-        signal.signal(signal.SIGTERM, signal.SIG_IGN)
-        put_in_place(aside, os.path.join(task["folder"], task["name"]))
+        signal.pthread_sigmask(signal.SIG_UNBLOCK, [signal.SIGTERM])
+        if not _is_done(task):
+            earlier = _final(task)
+            if earlier is not None:
+                raise earlier
+            _note(task, None)
+            os.mkdir(aside)
+            done(task, aside)
+            signal.pthread_sigmask(signal.SIG_BLOCK, [signal.SIGTERM])
+            put_in_place(aside, os.path.join(task["folder"], task["name"]))
+        signal.pthread_sigmask(signal.SIG_BLOCK, [signal.SIGTERM])
         return 0
     except (OSError, Failed) as fault:
-        signal.signal(signal.SIGTERM, signal.SIG_IGN)
+        signal.pthread_sigmask(signal.SIG_BLOCK, [signal.SIGTERM])
         failed = fault if isinstance(fault, Failed) else Failed("P14", f"the result can't be written: {fault}")
         remove(aside)
         _tell(task, failed)
@@ -387,7 +493,10 @@ def run_task(path: str) -> int:
 
 
 def run_tasks(paths: Sequence[str]) -> int:
-    """Runs tasks one behind the other, each in a process of its own; the status of the last that failed, else 0."""
+    """Runs tasks one behind the other in a process beside this one; the status of the last that failed, else 0.
+
+    Where that process is killed, the task at hand has no result, and another process goes on behind it.
+    """
     running: List[int] = []
     stopped: List[int] = []
 
@@ -399,37 +508,46 @@ def run_tasks(paths: Sequence[str]) -> int:
             except ProcessLookupError:
                 pass
 
-    status, parent = 0, os.getpid()
+    at, status, parent = 0, 0, os.getpid()
     signal.signal(signal.SIGTERM, stop)
-    for path in paths:
+    while at < len(paths):
+        reader, writer = os.pipe()
         signal.pthread_sigmask(signal.SIG_BLOCK, [signal.SIGTERM])
         if stopped:
             return STATUS["T4"]
         child = os.fork()
         if child == 0:
-            _become_task(path, parent)
+            _become_tasks(paths[at:], parent, writer)
         running.append(child)
         signal.pthread_sigmask(signal.SIG_UNBLOCK, [signal.SIGTERM])
-        ended = os.waitpid(child, 0)[1]
+        os.close(writer)
+        with open(reader, "rb") as file:
+            ended = file.read()
+        killed_by = os.WTERMSIG(os.waitpid(child, 0)[1])
         running.clear()
-        if os.WIFSIGNALED(ended):
-            _tell(_read(path), Failed("T4", f"the task was killed by signal {os.WTERMSIG(ended)}"))
-        status = (STATUS["T4"] if os.WIFSIGNALED(ended) else os.WEXITSTATUS(ended)) or status
-    return status
+        at, status = at + len(ended), next((it for it in reversed(ended) if it), status)
+        if stopped or at == len(paths):
+            break
+        _tell(_read(paths[at]), Failed("T4", f"the task was killed by signal {killed_by}"))
+        at, status = at + 1, STATUS["T4"]
+    return STATUS["T4"] if stopped else status
 
 
-def _become_task(path: str, parent: int) -> NoReturn:
-    """The child: one task, and it dies with the process that has its list."""
-    status = STATUS["T2"]
+def _become_tasks(paths: Sequence[str], parent: int, ended: int) -> NoReturn:
+    """The child: tasks until it is asked to stop, each one's status into a pipe. It dies with its parent."""
     try:
-        signal.signal(signal.SIGTERM, signal.SIG_DFL)
-        signal.pthread_sigmask(signal.SIG_UNBLOCK, [signal.SIGTERM])
         die_with_parent(parent)
-        status = run_task(path)
-    except Exception as fault:  # whatever it is, the child may not go on with the list
-        print(f"error: {path}: {type(fault).__name__}: {fault}", file=sys.stderr)
+        for path in paths:
+            status = STATUS["T2"]
+            try:
+                status = run_task(path)
+            except Exception as fault:  # whatever it is, it is this task's end alone
+                print(f"error: {path}: {type(fault).__name__}: {fault}", file=sys.stderr)
+            os.write(ended, bytes([status]))
+            if _asked_to_stop or signal.SIGTERM in signal.sigpending():
+                break
     finally:
-        os._exit(status)
+        os._exit(0)
 
 
 def _read(path: str) -> Dict[str, Any]:
@@ -447,15 +565,12 @@ def _tell(task: Dict[str, Any], failed: Failed) -> None:
 
 
 def main(words: List[str]) -> int:
-    """Runs the task that a file describes, or those that it lists; the status."""
+    """Runs the task that a file describes, or those of a job's list; the status."""
     if "--with-parent" in words:
         die_with_parent(os.getppid())
     paths = [words[0]]
     if words[0].endswith(".txt"):
+        folder = os.path.join(os.path.dirname(os.path.dirname(os.path.abspath(words[0]))), "tasks")
         with open(words[0], encoding="utf-8") as file:
-            paths = file.read().splitlines()
+            paths = [os.path.join(folder, f"{number}.json") for number in file.read().split()]
     return run_task(paths[0]) if len(paths) == 1 else run_tasks(paths)
-
-
-if __name__ == "__main__":
-    sys.exit(main(sys.argv[1:]))

@@ -47,10 +47,11 @@ class Settings:
 
 
 class Lost(NamedTuple):
-    """What an engine says of a task that left no result: a code (docs/many.md) and a text."""
+    """What an engine says of a task that left no result: a code (docs/many.md), a text, and whether its job was killed."""
 
     code: str
     text: str
+    killed: bool = False
 
 
 Told = Callable[[int], None]
@@ -93,5 +94,5 @@ def of_status(status: int, who: str) -> Lost:
     if status == PASSING:
         return Lost("T2", f"{who}: the program lacked something of the machine, and the note could not be written")
     if status in (137, 143):
-        return Lost("T4", f"{who}: the task was killed by signal {status - 128}")
+        return Lost("T4", f"{who}: the task was killed by signal {status - 128}", True)
     return Lost("T2", f"{who}: the task ended with status {status}")

@@ -4,18 +4,28 @@ from __future__ import annotations
 import logging
 import subprocess
 import sys
-from typing import Any, Dict, Optional
+import threading
+from contextlib import contextmanager
+from pathlib import Path
+from typing import Any, Dict, Iterator, List, Optional, Sequence
 
 from ...errors import Refused
 from ..tasks import Batch
 from .base import Engine, Lost, Told, of_status, worker_words
+from .jobs import jobs_of, run_jobs
 
 PATIENCE = "30s"
 """How long a scheduler may take to answer at first."""
 
+OFTEN = 5.0
+"""Seconds after which workers on this machine that are gone for good are started anew."""
+
 
 class DaskEngine(Engine):
-    """One task, one call of `subprocess.run` on a worker. A worker needs Python and the files, no package of ours."""
+    """Tasks as calls of `subprocess.run` on a worker, many small cities in one.
+
+    A worker needs Python and the files, no package of ours.
+    """
 
     client: Any = None
     cluster: Any = None
@@ -45,34 +55,65 @@ class DaskEngine(Engine):
         print(f"dashboard: {self.client.dashboard_link}", file=sys.stderr, flush=True)
 
     def run(self, batch: Batch, told: Told) -> Dict[int, Lost]:
+        def run(jobs: Sequence[Sequence[int]], lists: List[Path]) -> Dict[int, Lost]:
+            with self._workers_kept():
+                return self._run(batch, jobs, lists, told)
+
+        return run_jobs(batch, jobs_of(batch.tasks, self._at_once()), run)
+
+    @contextmanager
+    def _workers_kept(self) -> Iterator[None]:
+        """Starts workers on this machine anew: a nanny gives up where its worker is killed as it begins."""
+        over = threading.Event()
+
+        def keep() -> None:
+            while not over.wait(OFTEN):
+                self.cluster.scale(self.settings.jobs_here)
+
+        keeper = threading.Thread(target=keep, daemon=True)
+        if self.cluster is not None:
+            keeper.start()
+        try:
+            yield
+        finally:
+            over.set()
+            if self.cluster is not None:
+                keeper.join()
+
+    def _run(self, batch: Batch, jobs: Sequence[Sequence[int]], lists: List[Path], told: Told) -> Dict[int, Lost]:
         from distributed import as_completed
 
-        numbers = list(range(len(batch.tasks)))
         futures = {
             self.client.submit(
                 subprocess.run,
-                [*worker_words(str(batch.file_of(number))), "--with-parent"],
+                [*worker_words(str(path)), "--with-parent"],
                 check=True,
                 stdin=subprocess.DEVNULL,
                 stdout=subprocess.PIPE,
                 stderr=subprocess.PIPE,
-                key=f"{batch.folder.name}-{batch.run}-{number}",
+                key=f"{batch.folder.name}-{batch.run}-{path.parent.name}-{path.stem}",
                 pure=False,
                 retries=self.settings.retries,
-            ): number
-            for number in numbers
+            ): numbers
+            for path, numbers in zip(lists, jobs)
         }
+        done = len(batch.tasks) - sum(map(len, jobs))
         lost: Dict[int, Lost] = {}
         try:
             with self.client.as_current():
-                for count, future in enumerate(as_completed(list(futures)), 1):
+                for future in as_completed(list(futures)):
                     what = _what(future)
                     if what is not None:
-                        lost[futures[future]] = what
-                    told(count)
+                        lost.update(dict.fromkeys(futures[future], what))
+                    done += len(futures[future])
+                    told(done)
         finally:
             self.client.cancel(list(futures))
         return lost
+
+    def _at_once(self) -> int:
+        """How many calls the workers take at once; where there is none yet, as if there were one."""
+        return max(1, sum(self.client.nthreads().values()))
 
     def close(self) -> None:
         for it in (self.client, self.cluster):
@@ -90,8 +131,8 @@ def _what(future: Any) -> Optional[Lost]:
     fault = future.exception()
     if isinstance(fault, subprocess.CalledProcessError):
         if fault.returncode < 0:
-            return Lost("T4", f"Dask: the task was killed by signal {-fault.returncode}")
+            return Lost("T4", f"Dask: the task was killed by signal {-fault.returncode}", True)
         return of_status(fault.returncode, "Dask")
     if type(fault).__name__ == "KilledWorker":
-        return Lost("T4", f"Dask: workers died under it, and it was given up: {fault}")
+        return Lost("T4", f"Dask: workers died under it, and it was given up: {fault}", True)
     return Lost("T2", f"Dask: {type(fault).__name__}: {fault}")

@@ -4,6 +4,7 @@ from __future__ import annotations
 import csv
 import ctypes
 import os
+import shutil
 import signal
 import subprocess
 import sys
@@ -11,52 +12,67 @@ from pathlib import Path
 from typing import Any, Dict, List, Sequence, Tuple
 
 from ...errors import Refused
-from ..tasks import WORKER, Batch, Task
+from ..tasks import WORKER, Batch
 from .base import SPARE, Engine, Lost, Told, of_status
+from .jobs import jobs_of, run_jobs
 
 OFTEN = 0.5
 """Seconds between two looks at the job log."""
 
-SMALL, MOST, SHARES = 8 << 20, 64, 16
-"""What a job of several tasks has at most: bytes of files, tasks, and one of so many shares a processor of all."""
+SCRIPT = (b"Ole Tange", b"GNU parallel")
+"""What stands in GNU parallel, which is a script. To ask it for its version takes a tenth of a second."""
 
 PR_SET_PDEATHSIG = 1
-JOB = 'exec "$GANDOVEL_PYTHON" -I -S "$GANDOVEL_WORKER" jobs/{}.txt --with-parent'
-"""What parallel runs, in the batch's folder. No path stands in it: parallel has a use for some of their characters."""
+JOB = 'exec "$GANDOVEL_PYTHON" -I -S "$GANDOVEL_WORKER" {} --with-parent'
+"""What parallel runs, in the folder of the jobs' lists. No path stands in it: parallel has a use for some of their characters."""
 
 
 class ParallelEngine(Engine):
-    """One task, one job of `parallel`; but several small cities are one: to begin it takes longer than their check.
+    """Tasks as jobs of `parallel`, many small cities in one.
 
     Where this command is killed, parallel ends its tasks and then itself.
     """
 
     def test(self) -> None:
+        path = shutil.which("parallel")
+        if path is None:
+            raise Refused("T7", "GNU parallel is not there: parallel is not on PATH")
         try:
+            with open(path, "rb") as file:
+                text = file.read()
+            if text.startswith(b"#!") and all(words in text for words in SCRIPT):
+                return
             ended = subprocess.run(
-                ["parallel", "--version"],
+                [path, "--version"],
                 stdin=subprocess.DEVNULL,
                 stdout=subprocess.PIPE,
                 stderr=subprocess.PIPE,
                 universal_newlines=True,
             )
         except OSError as fault:
-            raise Refused("T7", f"GNU parallel is not there: {fault.strerror}") from fault
+            raise Refused("T7", f"GNU parallel can't be run: {fault.strerror}") from fault
         if not ended.stdout.startswith("GNU parallel"):
             raise Refused("T7", "the program parallel on PATH is not GNU parallel")
 
     def run(self, batch: Batch, told: Told) -> Dict[int, Lost]:
-        jobs = jobs_of(batch.tasks, self.settings.jobs_here)
-        self._write(batch, jobs)
-        log, said = batch.folder / "job.log", batch.folder / "parallel.txt"
+        def run(jobs: Sequence[Sequence[int]], lists: List[Path]) -> Dict[int, Lost]:
+            return self._run(batch, jobs, lists, told)
+
+        return run_jobs(batch, jobs_of(batch.tasks, self.settings.jobs_here), run)
+
+    def _run(self, batch: Batch, jobs: Sequence[Sequence[int]], lists: List[Path], told: Told) -> Dict[int, Lost]:
+        before = len(batch.tasks) - sum(map(len, jobs))
+        folder = lists[0].parent
+        (folder / "lists").write_text("".join(f"{path.name}\n" for path in lists))
+        log, said = folder / "job.log", folder / "parallel.log"
         with open(said, "wb") as out:
             process = subprocess.Popen(
                 self._command(max(map(len, jobs))),
-                cwd=str(batch.folder),
+                cwd=str(folder),
                 stdin=subprocess.DEVNULL,
                 stdout=out,
                 stderr=out,
-                env=self._environment(batch.folder),
+                env=self._environment(folder),
                 start_new_session=True,
                 preexec_fn=_end_with_parent,
                 pass_fds=() if self.held is None else (self.held,),
@@ -67,19 +83,12 @@ class ParallelEngine(Engine):
                         process.wait(OFTEN)
                         break
                     except subprocess.TimeoutExpired:
-                        told(sum(len(jobs[at]) for at in _ended(log) if at < len(jobs)))
+                        told(before + sum(len(jobs[at]) for at in _ended(log) if at < len(jobs)))
             except BaseException:
                 process.terminate()
                 process.wait()
                 raise
         return self._lost(jobs, _ended(log), process.returncode, said)
-
-    @staticmethod
-    def _write(batch: Batch, jobs: Sequence[Sequence[int]]) -> None:
-        (batch.folder / "jobs").mkdir()
-        for at, numbers in enumerate(jobs):
-            (batch.folder / "jobs" / f"{at}.txt").write_text("".join(f"tasks/{number}.json\n" for number in numbers))
-        (batch.folder / "numbers.txt").write_text("".join(f"{at}\n" for at in range(len(jobs))))
 
     def _command(self, most: int) -> List[str]:
         settings = self.settings
@@ -99,7 +108,7 @@ class ParallelEngine(Engine):
             words += ["--timeout", f"{most * (settings.limits.timeout + SPARE):g}"]
         if settings.memory_mb is not None:
             words += ["--memfree", f"{settings.memory_mb}M"]
-        return [*words, "--arg-file", "numbers.txt", JOB]
+        return [*words, "--arg-file", "lists", JOB]
 
     @staticmethod
     def _environment(folder: Path) -> Dict[str, str]:
@@ -122,35 +131,13 @@ class ParallelEngine(Engine):
             if value is None:
                 why = Lost("T7", f"GNU parallel ended with status {status} before this task did: {last[0]}")
             elif killed_by or value < 0:
-                why = Lost("T4", f"GNU parallel: the task was killed by signal {killed_by}")
+                why = Lost("T4", f"GNU parallel: the task was killed by signal {killed_by}", True)
             elif value:
                 why = of_status(value, "GNU parallel")
             else:
                 continue
             lost.update(dict.fromkeys(numbers, why))
         return lost
-
-
-def jobs_of(tasks: Sequence[Task], at_once: int) -> List[List[int]]:
-    """The numbers of the tasks of each job, in order: tasks with small files share one."""
-    most = max(1, min(MOST, len(tasks) // (SHARES * at_once)))
-    jobs: List[List[int]] = []
-    room = 0
-    for number, task in enumerate(tasks):
-        size = sum(map(_size, (path for path, needed in task.inputs if needed)))
-        if not jobs or size > room or len(jobs[-1]) == most:
-            jobs.append([])
-            room = SMALL
-        jobs[-1].append(number)
-        room -= size
-    return jobs
-
-
-def _size(path: str) -> int:
-    try:
-        return os.stat(path).st_size
-    except OSError:
-        return 0
 
 
 def _ended(log: Path) -> Dict[int, Tuple[int, int]]:

@@ -1,0 +1,148 @@
+"""What a task's process and the engines do: what they know of files, how lists are stopped, and what is imported."""
+from __future__ import annotations
+
+import asyncio
+import os
+import signal
+import subprocess
+import sys
+from contextlib import suppress
+from pathlib import Path
+
+import pytest
+
+import gandovel
+from gandovel.many import read_manifest, worker
+from gandovel.many.engines import Settings
+from gandovel.many.engines import dask as dask_engine
+from gandovel.many.engines.base import worker_words
+from gandovel.many.engines.jobs import write_jobs
+from gandovel.many.tasks import Batch, Limits, find_program, task_of
+from many_cities import SOURCES, calls, names_in, processes_of, program, until, write_cities
+
+TEXT = bytes(range(256)) * 9000
+"""More than a block."""
+
+
+def at_the_same_time(path, write):
+    """Writes into a file and sets its time back."""
+    before = path.stat()
+    write()
+    os.utime(path, ns=(before.st_atime_ns, before.st_mtime_ns))
+
+
+def put(path, place, data):
+    """Writes bytes into a file at a place."""
+    with open(path, "r+b") as file:
+        file.seek(place)
+        file.write(data)
+
+
+CHANGES = {
+    "the first byte": lambda path: at_the_same_time(path, lambda: put(path, 0, b"x")),
+    "the last byte": lambda path: at_the_same_time(path, lambda: put(path, len(TEXT) - 1, b"x")),
+    "longer": lambda path: at_the_same_time(path, lambda: put(path, len(TEXT), b"x")),
+    "shorter": lambda path: at_the_same_time(path, lambda: os.truncate(path, len(TEXT) - 1)),
+    "empty": lambda path: at_the_same_time(path, lambda: os.truncate(path, 0)),
+    "its time": lambda path: os.utime(path, ns=(1, 1)),
+    "gone": Path.unlink,
+    "another": lambda path: (path.with_name("x").write_bytes(TEXT), os.replace(path.with_name("x"), path)),
+}
+
+
+@pytest.mark.parametrize("room", [0, len(TEXT) - 1, len(TEXT)])
+@pytest.mark.parametrize("how", sorted(CHANGES))
+def test_a_file_is_compared_by_all_its_bytes(tmp_path, how, room):
+    path = tmp_path / "file"
+    path.write_bytes(TEXT)
+    before = worker.read_input(str(path), room)
+    assert (before.content is not None) == (room == len(TEXT)) and before.checked == worker.checked(str(path))
+    assert worker.is_unchanged(str(path), before)
+    CHANGES[how](path)
+    assert not worker.is_unchanged(str(path), before)
+
+
+def test_a_file_that_was_not_there(tmp_path):
+    path = tmp_path / "file"
+    before = worker.read_input(str(path), worker.HELD)
+    assert before == (None, None) and worker.is_unchanged(str(path), before)
+    path.write_bytes(b"")
+    assert not worker.is_unchanged(str(path), before)
+
+
+def test_a_program_is_read_once_and_again_when_it_changed(tmp_path, monkeypatch):
+    path, read = tmp_path / "program", []
+    path.write_bytes(b"one")
+    monkeypatch.setattr(worker, "_programs", {})
+    monkeypatch.setattr(worker, "checked", lambda it, really=worker.checked: (read.append(it), really(it))[1])
+    task = {"command": [str(path)], "program": {"sha256": worker.checked(str(path)).sha256}}
+    for _ in range(2):
+        worker.test_program(task)
+    assert len(read) == 3, "what was written just now may change again and keep its time"
+    monkeypatch.setattr(worker, "SETTLED", -60.0)
+    for _ in range(3):
+        worker.test_program(task)
+    assert len(read) == 4
+    at_the_same_time(path, lambda: path.write_bytes(b"two"))
+    with pytest.raises(worker.Failed, match="not the program that the run began with"):
+        worker.test_program(task)
+    path.unlink()
+    with pytest.raises(worker.Failed, match="is not there"):
+        worker.test_program(task)
+
+
+def batch_of(folder, count):
+    """A batch that is written, of so many cities, with results in a folder `cities`."""
+    rows = read_manifest(write_cities(folder, count))
+    batch = Batch(folder / "engine", [task_of(row) for row in rows], "run", lambda task: False)
+    (folder / "cities").mkdir()
+    batch.write(folder / "cities", find_program(), Limits())
+    return batch
+
+
+def test_a_list_of_tasks_that_is_asked_to_stop(tmp_path, monkeypatch):
+    program(tmp_path, monkeypatch, 'case "$city" in */c2) sleep 600;; esac')
+    job = write_jobs(batch_of(tmp_path, 5), [range(5)])[0]
+    process = subprocess.Popen([*worker_words(str(job)), "--with-parent"])
+    until(lambda: "c2" in calls(tmp_path))
+    process.send_signal(signal.SIGTERM)
+    assert process.wait(60) == worker.STATUS["T4"]
+    assert calls(tmp_path) == ["c0", "c1", "c2"] and names_in(tmp_path / "cities") == {"c0", "c1"}
+    until(lambda: not processes_of(tmp_path / "in"))
+
+
+def test_workers_of_dask_that_are_gone_for_good(tmp_path, monkeypatch):
+    import dask
+
+    monkeypatch.setattr(dask_engine, "OFTEN", 0.5)
+    engine = dask_engine.DaskEngine(Settings(jobs=2))
+    with dask.config.set({"distributed.deploy.lost-worker-timeout": "1s"}):
+        engine.test()
+        try:
+            for nanny in list(engine.cluster.workers.values()):
+                with suppress(asyncio.TimeoutError):
+                    engine.cluster.sync(nanny.close)
+            assert engine.run(batch_of(tmp_path, 4), lambda count: None) == {}
+        finally:
+            engine.close()
+    assert names_in(tmp_path / "cities") == {f"c{at}" for at in range(4)}
+
+
+def test_what_is_imported_for_many_cities():
+    heavy = ("numpy", "pandas", "geopandas", "shapely", "fiona", "pyproj", "distributed")
+    code = f"import sys, gandovel.cli, gandovel.many; print([name for name in {heavy} if name in sys.modules])"
+    path = os.pathsep.join([str(SOURCES), os.environ.get("PYTHONPATH", "")])
+    told = subprocess.check_output([sys.executable, "-c", code], env={**os.environ, "PYTHONPATH": path}, text=True)
+    assert told == "[]\n"
+
+
+def test_the_names_of_the_package():
+    import gandovel.back
+    import gandovel.prepare
+    import gandovel.report
+
+    assert sorted(gandovel._MODULES) == gandovel.__all__ == sorted(gandovel.__all__)
+    assert all(callable(getattr(gandovel, name)) for name in gandovel.__all__)
+    assert gandovel.report is sys.modules["gandovel.report"].report
+    with pytest.raises(AttributeError, match="no attribute 'nothing'"):
+        gandovel.nothing
