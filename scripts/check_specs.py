@@ -3,8 +3,8 @@
 definitions: those that a reader has to believe, and the code's own.
 
 A contract is public where its function is `pub` and can be reached from the crate's `lib.rt`: it stands there or in a
-`pub mod` of it, is named in a `pub use` there, or is a method of a type that is. A definition beside the own folder may
-cite nothing of it either.
+`pub mod` of it, is named in a `pub use` there, or is a method of a type that is. The proof that a type keeps a law of its
+trait is no contract. A definition beside the own folder may cite nothing of it either.
 """
 import re
 import sys
@@ -14,6 +14,8 @@ ROOT = Path(__file__).resolve().parent.parent
 CLAUSE = re.compile(r"\s*(ensures|requires|ghost)\b")
 FUNCTION = re.compile(r"(\s*)(pub(\([a-z]+\))?\s+)?(unsafe\s+|const\s+)*fn\s+(\w+)")
 OWNER = re.compile(r"(impl|trait|pub trait|pub struct|pub enum|struct|enum)\b(.*)")
+TRAIT = re.compile(r"^(?:pub )?trait (\w+)(.*?)^}", re.M | re.S)
+MEMBER = re.compile(r"    ghost (\w+) = ")
 
 
 def words_of_own(text):
@@ -44,28 +46,45 @@ def cited(text, words):
     return sorted(w for w in words if re.search(rf"(?<![\w.]){re.escape(w)}(?![\w-])", text))
 
 
-def check_code(crate, path, public):
+def laws_of_traits():
+    """The laws of this repository's traits, as trait and member: the ghost members below the trait's last function."""
+    laws = set()
+    for path in ROOT.glob("crates/*/src/**/*.rt"):
+        for trait in TRAIT.finditer(path.read_text()):
+            parts = re.split(r"^    fn ", trait.group(2), flags=re.M)
+            below = parts[-1] if len(parts) > 1 else ""
+            laws.update((trait.group(1), name) for name in re.findall(r"^    ghost (\w+):", below, re.M))
+    return laws
+
+
+def check_code(crate, path, public, laws):
     """The faults of one source file: public clauses and public types' ghost facts that cite the code's own words."""
     text = path.read_text()
     words = words_of_own(text)
     faults = []
-    owner, of_trait, is_public, name = "", False, False, ""
+    owner, trait, name = "", "", ""
+    of_trait = of_law = is_public = False
     for number, line in enumerate(text.split("\n"), 1):
         top = OWNER.match(line)
         if top:
             named = re.findall(r"\w+", re.sub(r"<[^<>]*(<[^<>]*>)?[^<>]*>", " ", top.group(2)))
             owner = named[-1] if named else ""
             of_trait = " for " in line and "Model for" not in line
+            trait = named[named.index("for") - 1] if "for" in named else ""
             is_public = owner in public and not line.startswith("impl")
             name = owner
         elif line.startswith("}"):
-            owner, of_trait, is_public = "", False, False
+            owner, trait, of_trait, is_public = "", "", False, False
+        member = MEMBER.match(line)
+        if member:
+            of_law = (trait, member.group(1)) in laws
         function = FUNCTION.match(line)
         if function:
+            of_law = False
             name = function.group(5)
             handed_out = function.group(2) and not function.group(3)
             is_public = bool(handed_out or of_trait) and (owner in public if function.group(1) else name in public)
-        if is_public and words and not line.lstrip().startswith(("//", "ghost use")):
+        if is_public and words and not of_law and not line.lstrip().startswith(("//", "ghost use")):
             in_clause = CLAUSE.match(line) or "{ " in line or "→" in line or "λ" in line or "pub ghost" in line
             for word in cited(line, words) if in_clause else []:
                 faults.append(f"{path.relative_to(ROOT)}:{number}: `{name}` cites `{word}` of the code's own words")
@@ -75,10 +94,11 @@ def check_code(crate, path, public):
 def main():
     believed = own = 0
     faults = []
+    laws = laws_of_traits()
     for crate in sorted((ROOT / "crates").iterdir()):
         public = public_names(crate)
         for path in sorted(crate.glob("src/**/*.rt")):
-            faults += check_code(crate, path, public)
+            faults += check_code(crate, path, public, laws)
         for path in sorted(crate.glob("specs/**/*.antt")):
             lines = len(path.read_text().splitlines())
             inside = path.relative_to(crate / "specs").parts[0] in ("own", "own.antt")

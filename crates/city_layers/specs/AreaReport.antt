@@ -6,7 +6,7 @@ use Rattle.std.specs.Io.KnownBytes.{Appends}
 use Rattle.geo_exact.specs.Area.{area2}
 use Rattle.geo_exact.specs.declared.coord.Unit.{Unit as LengthUnit}
 use Rattle.shp_files.specs.LayerFile.{IsLayerFile, NumberedRing}
-use Rattle.text_puts.specs.Beginnings.{AppendsBeginning}
+use Rattle.text_pieces.specs.Beginnings.{AppendsBeginning}
 
 -- the line of a ring: its number, a space, and twice its area without sign, both in decimal
 abbrev pub area_line : NumberedRing → List ℕ

@@ -9,7 +9,7 @@ use Rattle.geo_exact.specs.declared.corner.Corner.{Corner}
 use Rattle.ring_core.specs.declared.ring.RingFault.{RingFault}
 use Rattle.shp_files.specs.LayerFile.{IsLayerFile, NumberedRing}
 use Rattle.fabric_core.specs.declared.all_faults.AllFaults.{AllFaults}
-use Rattle.fabric_core.specs.declared.all_faults.AllFaults.TheVariants.{TooMany as AllTooMany, Rings, Gaps, NoMemory as AllNoMemory}
+use Rattle.fabric_core.specs.declared.all_faults.AllFaults.TheVariants.{Rings, Gaps}
 use Rattle.fabric_core.specs.declared.layer.LoadFault.{LoadFault}
 use Rattle.fabric_core.specs.declared.layer.LoadFault.TheVariants.{TooMany, Ring, Gap, NoMemory as LayerMemory}
 use Rattle.fabric_core.specs.Rows.{AreRefined}
@@ -34,12 +34,11 @@ edge_text a b = codes "edge " ++ corner_text a ++ codes " " ++ corner_text b
 abbrev pub edge_line : Corner × Corner × ℤ → List ℕ
 edge_line gap = edge_text gap.0 gap.1 ++ codes " net " ++ signed_decimal gap.2 ++ codes "\n"
 
--- the lines of all faults of one kind; there are none for limits
-abbrev pub fault_lines : {A : Type 0} → AllFaults A → List ℕ
-fault_lines (AllTooMany number) = []
-fault_lines (Rings faults) = flat_map ring_line faults.items
-fault_lines (Gaps gaps) = flat_map edge_line gaps.items
-fault_lines AllNoMemory = []
+-- the lines of all faults of one kind, where there are some
+abbrev pub fault_lines : {A : Type 0} → Option (AllFaults A) → List ℕ
+fault_lines None = []
+fault_lines (Some (Rings faults)) = flat_map ring_line faults.items
+fault_lines (Some (Gaps gaps)) = flat_map edge_line gaps.items
 
 -- the lines of all faults of the rows that are of the first fault's kind
 abbrev pub AreKindLines : List NumberedRing → List Corner → LoadFault → List ℕ → Type 0

@@ -6,4 +6,4 @@ pub mod FaultLines
 pub mod own
 pub use Rattle.text_pieces.specs.CornerText
 pub use Rattle.text_pieces.specs.RingFaultText
-pub use Rattle.text_puts.specs.Beginnings
+pub use Rattle.text_pieces.specs.Beginnings

@@ -1,9 +1,7 @@
-//! The layer of parcels that tiles its city, or all faults of those that do not.
+//! The layer of parcels that tiles its city, or the faults of those that do not: the first, or all of its kind.
 
 ghost use Rattle.std.specs.Prelude.{◌≡◌, ◌⊎◌, [], IfOk, IfErr, IsErrAnd, None};
 ghost use Rattle.city_layers.specs.declared.fault.ToolFault.{ToolFault as ToolFaultValue};
-ghost use Rattle.fabric_core.specs.declared.layer.LoadFault.{LoadFault as LoadFaultValue};
-ghost use Rattle.fabric_core.specs.Faults.{BeginsWith};
 ghost use Rattle.city_layers.specs.FaultLines.{AreLinesBefore, text_or_none, fault_lines as fault_lines_of};
 ghost use Rattle.city_layers.specs.TilingFiles.{Files, files_of, told_of_load as told_of_load_fault, IsCityOf};
 ghost use Rattle.city_layers.specs.TilingFiles.{IsTiledBy, IsFaultOfLayer, AreTiles, IsTilesFault};
@@ -13,8 +11,8 @@ use crate::fault::{Role, ToolFault};
 use crate::fault_lines::fault_lines;
 use crate::layers::layer_rings;
 use crate::sources::Source;
-use crate::tiles::{read_city, told_of_load};
-use fabric_core::{AllFaults, City, Layer};
+use crate::tiles::read_city;
+use fabric_core::{Asked, City, Layer, LoadFault, LoadRefusal};
 use geo_exact::Unit;
 use shp_files::a_layer_file_is_within_the_limits;
 use std::alloc::Allocator;
@@ -55,17 +53,19 @@ impl<A: Allocator> LayerRefusal<A> {
     }
 }
 
-/// The layer of these files in the city, or all its faults of the first's kind; the layer has this role in the run.
-fn read_tiles_or_lines<'h, H: Allocator, A: Allocator>(
+/// The layer of these files in the city, or its first fault, with the lines of all faults of its kind
+/// where they are asked for; the layer has this role in the run.
+pub(crate) fn read_told<'h, H: Allocator, A: Allocator>(
     heap: &'h H,
     city: &City<'h, H>,
     role: Role,
     files: &Source<A>,
     unit: Unit,
+    asked: Asked,
 ) -> Result<Layer<'h, H>, LayerRefusal<&'h H>>
     ensures layer { IfOk result (λ layer. IsTiledBy (files_of files.now) unit city.now.ring.corners layer) }
     ensures fault { IfErr result (λ refusal. (IsFaultOfLayer role (files_of files.now) unit city.now.ring.corners refusal.fault
-        × ((of_city : Files) → IsCityOf of_city unit city.now.ring.corners
+        × (asked ≡ Asked.All → (of_city : Files) → IsCityOf of_city unit city.now.ring.corners
         → AreLinesBefore of_city (files_of files.now) unit refusal.fault (text_or_none refusal.lines)))
         ⊎ ((refusal.fault ≡ ToolFault.NoMemory) × (text_or_none refusal.lines ≡ []))) }
     // Files whose rings tile the city are loaded, unless memory runs out.
@@ -76,30 +76,65 @@ fn read_tiles_or_lines<'h, H: Allocator, A: Allocator>(
 {
     let records = layer_rings(heap, role, files.main.as_slice(), files.index_bytes(), unit)?;
     a_layer_file_is_within_the_limits();
-    match Layer::load_or_all(heap, city, records) {
+    match Layer::load_or_all(heap, city, records, asked) {
         Ok(layer) => Ok(layer),
-        Err(all) => Err(refusal_of(heap, role, &all)),
+        Err(refusal) => Err(refusal_of(heap, role, &refusal)),
     }
 }
 
-/// What the faults of a layer's rings are to the user; the layer has this role in the run.
+/// What the fault of a layer's rings is to the user; the layer has this role in the run.
+fn told_of_load(role: Role, fault: LoadFault) -> ToolFault<'static>
+    ensures { result ≡ told_of_load_fault role fault }
+{
+    match fault {
+        LoadFault::NoMemory => ToolFault::NoMemory,
+        LoadFault::TooMany(_) | LoadFault::Ring(_, _) | LoadFault::Gap(_, _, _) => {
+            ToolFault::NoTiling(role, fault)
+        }
+    }
+}
+
+/// What the refusal of a layer's rings is to the user; the layer has this role in the run.
 fn refusal_of<A: Allocator, B: Allocator>(
     alloc: A,
     role: Role,
-    all: &AllFaults<B>,
+    refusal: &LoadRefusal<B>,
 ) -> LayerRefusal<A>
-    requires { (first : LoadFaultValue) × BeginsWith all.now first }
-    ensures { ((first : LoadFaultValue) × BeginsWith all.now first × (result.fault ≡ told_of_load_fault role first)
-        × (text_or_none result.lines ≡ fault_lines_of all.now))
+    ensures { ((result.fault ≡ told_of_load_fault role refusal.now.first)
+        × (text_or_none result.lines ≡ fault_lines_of refusal.now.all))
         ⊎ ((result.fault ≡ ToolFault.NoMemory) × (text_or_none result.lines ≡ [])) }
 {
-    match fault_lines(alloc, all) {
+    match fault_lines(alloc, &refusal.all) {
         Ok(lines) => LayerRefusal {
-            fault: told_of_load(role, all.first()),
+            fault: told_of_load(role, refusal.first),
             lines: Some(lines),
         },
         Err(_) => LayerRefusal::from(ToolFault::NoMemory),
     }
+}
+
+/// The layer of the parcels' files, which tiles the city of the city's files, or the first fault of
+/// both, with the lines of all faults of its kind where they are asked for.
+pub(crate) fn load_told<'h, H: Allocator, A: Allocator>(
+    heap: &'h H,
+    city: &Source<A>,
+    parcels: &Source<A>,
+    unit: Unit,
+    asked: Asked,
+) -> Result<Layer<'h, H>, LayerRefusal<&'h H>>
+    ensures tiles { IfOk result (AreTiles (files_of city.now) (files_of parcels.now) unit) }
+    ensures fault { IfErr result (λ refusal. (IsTilesFault (files_of city.now) (files_of parcels.now) unit refusal.fault
+        × (asked ≡ Asked.All
+        → AreLinesBefore (files_of city.now) (files_of parcels.now) unit refusal.fault (text_or_none refusal.lines)))
+        ⊎ ((refusal.fault ≡ ToolFault.NoMemory) × (text_or_none refusal.lines ≡ []))) }
+    // Files that tile their city are loaded, unless memory runs out.
+    ensures loads { (tiles : Tiles) → AreTiles (files_of city.now) (files_of parcels.now) unit tiles
+        → IfErr result (λ refusal. refusal.fault ≡ ToolFault.NoMemory) }
+    ensures refuses { (fault : ToolFaultValue) → IsTilesFault (files_of city.now) (files_of parcels.now) unit fault
+        → IsErrAnd result (λ refusal. (refusal.fault ≡ fault) ⊎ (refusal.fault ≡ ToolFault.NoMemory)) }
+{
+    let city = read_city(heap, city, unit)?;
+    read_told(heap, &city, Role::Parcels, parcels, unit, asked)
 }
 
 /// The layer of the parcels' files, which tiles the city of the city's files, or all faults of the
@@ -124,6 +159,5 @@ pub fn load_tiles_or_lines<'h, H: Allocator, A: Allocator>(
     ensures refuses { (fault : ToolFaultValue) → IsTilesFault (files_of city.now) (files_of parcels.now) unit fault
         → IsErrAnd result (λ refusal. (refusal.fault ≡ fault) ⊎ (refusal.fault ≡ ToolFault.NoMemory)) }
 {
-    let city = read_city(heap, city, unit)?;
-    read_tiles_or_lines(heap, &city, Role::Parcels, parcels, unit)
+    load_told(heap, city, parcels, unit, Asked::All)
 }

@@ -15,7 +15,7 @@ use crate::report::area_text;
 use crate::sources::Source;
 use geo_exact::{ByteOut, Unit};
 use std::alloc::Allocator;
-use text_puts::put_all;
+use text_pieces::put_all;
 
 /// Writes, for each polygon of a layer in order, a line with its record's number and twice its area without sign, in
 /// square millimetres. The files are checked whole before the first byte is written.

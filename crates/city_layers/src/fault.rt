@@ -5,10 +5,10 @@ ghost use Rattle.city_layers.specs.declared.fault.ToolFault.TheVariants.{NoMemor
 
 use fabric_core::{CityFault, LoadFault};
 use geo_exact::{CoordFault, Failed};
-use ring_core::RingFault;
 use shp_files::{FaultKind, FileFault, FileName};
 use std::alloc::{AllocError, AllocFailed};
 use std::fmt;
+use text_pieces::push_ring_fault;
 
 /// What the layer is to the run that reads it.
 #[derive(Clone, Copy, Debug, PartialEq, Eq)]
@@ -51,7 +51,7 @@ pub enum ToolFault<'a> {
     CityRing(CityFault),
     /// H1 to H3: the rings of the layer do not tile the city.
     NoTiling(Role, LoadFault),
-    /// K1: the command line has this number of clerks' files, and a run takes at most 8.
+    /// K1: the command line has this number of clerks' files, more than a run takes.
     ClerkCount(usize),
     /// L1: of the file of this clerk, counted from 1, the line of this number, counted from 1, is no edit.
     ClerkLine(u32, u64),
@@ -107,7 +107,7 @@ impl<'a> fmt::Display for ToolFault<'a> {
             ToolFault::CityCount(count) => write!(f, "city: S3 {count}"),
             ToolFault::CityRing(CityFault::Ring(fault)) => {
                 write!(f, "city: ")?;
-                write_ring_fault(f, *fault)
+                push_ring_fault(f, *fault)
             }
             ToolFault::CityRing(CityFault::Folded(i, j)) => write!(f, "city: G5 {i} {j}"),
             ToolFault::NoTiling(role, LoadFault::TooMany(record)) => {
@@ -115,7 +115,7 @@ impl<'a> fmt::Display for ToolFault<'a> {
             }
             ToolFault::NoTiling(role, LoadFault::Ring(record, fault)) => {
                 write!(f, "{role}: H1 {record} ")?;
-                write_ring_fault(f, *fault)
+                push_ring_fault(f, *fault)
             }
             ToolFault::NoTiling(role, LoadFault::Gap(a, b, net)) => {
                 let (ax, ay, bx, by) = (a.x, a.y, b.x, b.y);
@@ -131,15 +131,6 @@ impl<'a> fmt::Display for ToolFault<'a> {
             | ToolFault::CityRing(CityFault::NoMemory)
             | ToolFault::NoTiling(_, LoadFault::NoMemory) => write!(f, "no memory"),
         }
-    }
-}
-
-/// The text of a ring's fault.
-fn write_ring_fault<W: fmt::Write>(f: &mut fmt::Formatter<W>, fault: RingFault) -> fmt::Result {
-    match fault {
-        RingFault::ZeroArea => write!(f, "G1"),
-        RingFault::EdgesMeet(i, j) => write!(f, "G2 {i} {j}"),
-        RingFault::Clockwise => write!(f, "G3"),
     }
 }
 

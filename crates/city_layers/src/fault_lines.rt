@@ -6,23 +6,22 @@ ghost use Rattle.city_layers.specs.FaultLines.{ring_line, edge_text, edge_line, 
 
 use fabric_core::AllFaults;
 use geo_exact::Corner;
-use itoa::Buffer;
 use ring_core::RingFault;
 use std::alloc::{AllocError, Allocator};
 use text_pieces::{push_corner, push_number, push_ring_fault};
 
-/// The lines of all faults: `ring R FAULT` for each ring, or `edge AX AY BX BY net N` for each
-/// edge, corners in millimetres.
+/// The lines of all faults, where there are some: `ring R FAULT` for each ring, or `edge AX AY BX BY
+/// net N` for each edge, corners in millimetres.
 pub fn fault_lines<A: Allocator, B: Allocator>(
     alloc: A,
-    all: &AllFaults<B>,
+    all: &Option<AllFaults<B>>,
 ) -> Result<Vec<u8, A>, AllocError>
     ensures { IfOk result (λ text. text.items ≡ fault_lines_of all.now) }
 {
     match all {
-        AllFaults::Rings(faults) => ring_lines(alloc, faults.as_slice()),
-        AllFaults::Gaps(gaps) => edge_lines(alloc, gaps.as_slice()),
-        AllFaults::TooMany(_) | AllFaults::NoMemory => Ok(Vec::new(alloc)),
+        None => Ok(Vec::new(alloc)),
+        Some(AllFaults::Rings(faults)) => ring_lines(alloc, faults.as_slice()),
+        Some(AllFaults::Gaps(gaps)) => edge_lines(alloc, gaps.as_slice()),
     }
 }
 
@@ -59,9 +58,8 @@ fn push_ring_line<A: Allocator>(
 ) -> Result<(), AllocError>
     ensures { OnOk result (text.new.items ≡ text.old.items ++ ring_line (number, fault)) }
 {
-    let mut digits = Buffer::new();
     text.extend_from_slice(b"ring ")?;
-    text.extend_from_slice(digits.format(number).as_bytes())?;
+    push_number(text, number)?;
     text.push(b' ')?;
     push_ring_fault(text, fault)?;
     text.push(b'\n')?;

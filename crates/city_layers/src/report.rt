@@ -12,9 +12,9 @@ ghost use Rattle.city_layers.specs.own.LayerFaults.{IsLayerFault};
 use crate::fault::{Role, ToolFault};
 use crate::layers::told;
 use geo_exact::{RawRing, Unit, area2};
-use itoa::Buffer;
 use shp_files::{TakeEach, read_each};
 use std::alloc::{AllocError, Allocator};
+use text_pieces::push_number;
 
 /// The report of an area run: a line for each ring that it has taken, in order. The rings are not kept.
 #[derive(Drop)]
@@ -67,11 +67,9 @@ pub fn area_text<A: Allocator + Copy>(
 fn push_line<A: Allocator>(text: &mut Vec<u8, A>, ring: &RawRing<A>) -> Result<(), AllocError>
     ensures { OnOk result (text.new.items ≡ text.old.items ++ area_line (numbered ring.now.number ring.now.corners)) }
 {
-    let mut digits = Buffer::new();
-    text.extend_from_slice(digits.format(ring.number).as_bytes())?;
+    push_number(text, ring.number)?;
     text.push(b' ')?;
-    let area = area2(ring.corners.as_slice()).unsigned_abs();
-    text.extend_from_slice(digits.format(area).as_bytes())?;
+    push_number(text, area2(ring.corners.as_slice()).unsigned_abs())?;
     text.push(b'\n')?;
     Ok(())
 }

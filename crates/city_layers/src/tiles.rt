@@ -4,17 +4,16 @@ ghost use Rattle.std.specs.Prelude.{◌≡◌, ◌⊎◌, List, IfOk, IfErr, IsE
 ghost use Rattle.geo_exact.specs.declared.corner.Corner.{Corner};
 ghost use Rattle.fabric_core.specs.Rows.{Tiles};
 ghost use Rattle.city_layers.specs.declared.fault.ToolFault.{ToolFault as ToolFaultValue};
-ghost use Rattle.city_layers.specs.declared.fault.Role.TheVariants.{Parcels};
-ghost use Rattle.city_layers.specs.TilingFiles.{told_of_city as told_of_city_fault, told_of_load as told_of_load_fault};
+ghost use Rattle.city_layers.specs.TilingFiles.{told_of_city as told_of_city_fault};
 ghost use Rattle.city_layers.specs.TilingFiles.{files_of, IsCityOf, IsFaultOfCity, IsTiledBy, IsFaultOfLayer, AreTiles};
 ghost use Rattle.city_layers.specs.TilingFiles.{IsTilesFault};
 
+use crate::all_tiles::{load_told, read_told};
 use crate::fault::{Role, ToolFault};
 use crate::layers::layer_rings;
 use crate::sources::Source;
-use fabric_core::{City, CityFault, Layer, LoadFault};
+use fabric_core::{Asked, City, CityFault, Layer};
 use geo_exact::Unit;
-use shp_files::a_layer_file_is_within_the_limits;
 use std::alloc::Allocator;
 
 /// The city of a city's files: their one ring.
@@ -60,18 +59,6 @@ fn told_of_city(fault: CityFault) -> ToolFault<'static>
     }
 }
 
-/// What the fault of a layer's rings is to the user; the layer has this role in the run.
-pub fn told_of_load(role: Role, fault: LoadFault) -> ToolFault<'static>
-    ensures { result ≡ told_of_load_fault role fault }
-{
-    match fault {
-        LoadFault::NoMemory => ToolFault::NoMemory,
-        LoadFault::TooMany(_) | LoadFault::Ring(_, _) | LoadFault::Gap(_, _, _) => {
-            ToolFault::NoTiling(role, fault)
-        }
-    }
-}
-
 /// The layer of these files in the city; the layer has this role in the run.
 pub fn read_tiles<'h, H: Allocator, A: Allocator>(
     heap: &'h H,
@@ -89,11 +76,9 @@ pub fn read_tiles<'h, H: Allocator, A: Allocator>(
     ensures refuses { (fault : ToolFaultValue) → IsFaultOfLayer role (files_of files.now) unit city.now.ring.corners fault
         → IsErrAnd result (λ told. (told ≡ fault) ⊎ (told ≡ ToolFault.NoMemory)) }
 {
-    let records = layer_rings(heap, role, files.main.as_slice(), files.index_bytes(), unit)?;
-    a_layer_file_is_within_the_limits();
-    match Layer::load(heap, city, records) {
+    match read_told(heap, city, role, files, unit, Asked::First) {
         Ok(layer) => Ok(layer),
-        Err(fault) => Err(told_of_load(role, fault)),
+        Err(refusal) => Err(refusal.fault),
     }
 }
 
@@ -118,6 +103,8 @@ pub fn load_tiles<'h, H: Allocator, A: Allocator>(
     ensures refuses { (fault : ToolFaultValue) → IsTilesFault (files_of city.now) (files_of parcels.now) unit fault
         → IsErrAnd result (λ told. (told ≡ fault) ⊎ (told ≡ ToolFault.NoMemory)) }
 {
-    let city = read_city(heap, city, unit)?;
-    read_tiles(heap, &city, Role::Parcels, parcels, unit)
+    match load_told(heap, city, parcels, unit, Asked::First) {
+        Ok(layer) => Ok(layer),
+        Err(refusal) => Err(refusal.fault),
+    }
 }

@@ -8,7 +8,7 @@ use Rattle.ring_edits.specs.declared.edit.Edit.{Edit}
 use Rattle.entry_cards.specs.Cards.{IsClerk}
 use Rattle.fabric_core.specs.Journal.{JournalEntry, Book, replay}
 use Rattle.fabric_core.specs.EditResults.{IsLawful}
-use Rattle.desk_lock.specs.Offices.{Origin, OfficeId, origin_of, CardState, ReceiptState, IsSheetOf, Agrees, behind, of_clerk, fresh_cards}
+use Rattle.desk_lock.specs.Offices.{Origin, OfficeId, origin_of, CardState, ReceiptState, IsSheetOf, Agrees, HasMet, behind, of_clerk, fresh_cards}
 use Rattle.clerk_runs.specs.ClerkRuns.{Run, AreTold, AreEachTold, register_of}
 use Rattle.clerk_runs.specs.own.Working.{run_at, IsWorked, AreMadeIn}
 use Rattle.clerk_runs.proofs.Submitted.{behind_none}
@@ -27,35 +27,36 @@ module _ {A X : Type 0} (run : Run) (card : X → CardState A) (edits : X → Li
 
   -- one clerk's lines tell of his edits and of the entries that the journal has of him
   one_told : (journal : List (JournalEntry A)) (clerk : ℕ) (old new : X) → Works old new
-      → card old ≡ record { clerk = clerk; made = [] }
-      → refused new ≡ false → Agrees journal (card new) → AreTold run clerk [] (edits old) (of_clerk clerk journal) (lines new)
-  one_told journal clerk old new works fresh not_refused agrees =
+      → card old ≡ record { clerk = clerk; made = []; met = [] }
+      → refused new ≡ false → Agrees journal (card new) → HasMet journal (card new)
+      → AreTold run journal clerk [] (edits old) (of_clerk clerk journal) (lines new)
+  one_told journal clerk old new works fresh not_refused agrees met =
       let old_clerk : (card old).clerk ≡ clerk = ap (λ (c : CardState A). c.clerk) fresh in
       let said = works.said (ap (λ (c : CardState A). c.made) fresh) not_refused in
       let made : (card new).made ≡ of_clerk clerk journal = agrees ∙ ap (λ k. of_clerk k journal) (works.same_clerk ∙ old_clerk) in
-      subst (λ made. AreTold run clerk [] (edits old) made (lines new)) made
-      (subst (λ k. AreTold run k [] (edits old) (card new).made (lines new)) old_clerk said.are_told)
+      subst (λ made. AreTold run journal clerk [] (edits old) made (lines new)) made
+      (subst (λ k. AreTold run journal k [] (edits old) (card new).made (lines new)) old_clerk (said.are_told journal met))
 
   -- and so of all clerks
   pub each_told : (journal : List (JournalEntry A)) (before n : ℕ) (olds news : List X) → AllZip Works olds news
       → map card olds ≡ fresh_cards before n → All (λ new. refused new ≡ false) news → All (Agrees journal) (map card news)
-      → AreEachTold run (before + 1) (map edits olds) journal (flat_map lines news)
-  each_told journal before n [] [] zip fresh not_refused agree = refl
-  each_told journal before n [] (new ∷ news) zip fresh not_refused agree = absurd zip
-  each_told journal before n (old ∷ olds) [] zip fresh not_refused agree = absurd zip
-  each_told journal before zero (old ∷ olds) (new ∷ news) zip fresh not_refused agree = absurd (cc fresh)
-  each_told journal before (suc n) (old ∷ olds) (new ∷ news) zip fresh not_refused agree =
-      let first : card old ≡ record { clerk = suc before; made = [] } = cc fresh in
+      → All (HasMet journal) (map card news) → AreEachTold run (before + 1) (map edits olds) journal (flat_map lines news)
+  each_told journal before n [] [] zip fresh not_refused agree met = refl
+  each_told journal before n [] (new ∷ news) zip fresh not_refused agree met = absurd zip
+  each_told journal before n (old ∷ olds) [] zip fresh not_refused agree met = absurd zip
+  each_told journal before zero (old ∷ olds) (new ∷ news) zip fresh not_refused agree met = absurd (cc fresh)
+  each_told journal before (suc n) (old ∷ olds) (new ∷ news) zip fresh not_refused agree met =
+      let first : card old ≡ record { clerk = suc before; made = []; met = [] } = cc fresh in
       let rest : map card olds ≡ fresh_cards (suc before) n = cc fresh in
       let told = one_told journal (suc before) old new zip.0 first (All-head (λ x. refused x ≡ false) new news not_refused)
-      (All-head (Agrees journal) (card new) (map card news) agree) in
+      (All-head (Agrees journal) (card new) (map card news) agree) (All-head (HasMet journal) (card new) (map card news) met) in
       let others = each_told journal (suc before) n olds news zip.1 rest (All-tail (λ x. refused x ≡ false) new news not_refused)
-      (All-tail (Agrees journal) (card new) (map card news) agree) in
+      (All-tail (Agrees journal) (card new) (map card news) agree) (All-tail (HasMet journal) (card new) (map card news) met) in
       let next : suc before ≡ before + 1 = omega arith in (
         lines new,
         flat_map lines news,
         refl,
-        subst (λ k. AreTold run k [] (edits old) (of_clerk k journal) (lines new)) next told,
+        subst (λ k. AreTold run journal k [] (edits old) (of_clerk k journal) (lines new)) next told,
         subst (λ k. AreEachTold run (k + 1) (map edits olds) journal (flat_map lines news)) next others,
       )
 
@@ -79,7 +80,8 @@ module _ {A X : Type 0} (run : Run) (card : X → CardState A) (edits : X → Li
         };
         leads = sym replays ∙ ap (λ o. replay o journal) opening;
         are_told = each_told journal 0 run.clerks olds news zip fresh not_refused
-            (subst (λ l. All (Agrees l) (map card news)) same sheet.agree);
+            (subst (λ l. All (Agrees l) (map card news)) same sheet.agree)
+            (subst (λ l. All (HasMet l) (map card news)) same sheet.met);
       }
 
 -- the run of an office that is known

@@ -93,7 +93,7 @@ module _ {A X : Type 0} (run : Run) (card : X → CardState A) (edits : X → Li
   AreLearnt job = All (IsLearnt seen) (receipts job)
 
   -- the entries of a clerk whose receipts are learnt stand in what was seen
-  his_stand : (clerk : ℕ) (old new : X) → Works old new → card old ≡ record { clerk = clerk; made = [] } → refused new ≡ false
+  his_stand : (clerk : ℕ) (old new : X) → Works old new → card old ≡ record { clerk = clerk; made = []; met = [] } → refused new ≡ false
       → Agrees journal (card new) → AreLearnt new → All (Stands seen) (of_clerk clerk journal)
   his_stand clerk old new works fresh not_refused agrees learnt =
       let old_clerk : (card old).clerk ≡ clerk = ap (λ (c : CardState A). c.clerk) fresh in
@@ -114,7 +114,7 @@ module _ {A X : Type 0} (run : Run) (card : X → CardState A) (edits : X → Li
   clerk_stand before (suc n) (old ∷ olds) (new ∷ news) zip fresh not_refused agree learnt clerk above below =
       elim (cases_eq clerk (suc before)) [
         | inl is ↦
-            let first : card old ≡ record { clerk = suc before; made = [] } = cc fresh in
+            let first : card old ≡ record { clerk = suc before; made = []; met = [] } = cc fresh in
             subst (λ k. All (Stands seen) (of_clerk k journal)) (sym is)
             (his_stand (suc before) old new zip.0 first (All-head (λ x. refused x ≡ false) new news not_refused)
             (All-head (Agrees journal) (card new) (map card news) agree) (All-head AreLearnt new news learnt))

@@ -2,6 +2,7 @@
 -- product's own).
 use Rattle.std.specs.Prelude.{◌≡◌, ◌⊎◌, ℕ, ◌+◌, List, [], ◌∷◌, ◌++◌, length}
 use Rattle.std.specs.List.{AllZip}
+use mathlib.Core.List.{IsPrefix}
 use Rattle.geo_exact.specs.Point.{corner_point}
 use Rattle.geo_exact.specs.Layers.{NumberedRing}
 use Rattle.geo_exact.specs.declared.corner.Corner.{Corner}
@@ -10,6 +11,7 @@ use Rattle.fabric_core.specs.declared.locate.At.{At}
 use Rattle.fabric_core.specs.declared.refusal.Refusal.{Refusal}
 use Rattle.fabric_core.specs.declared.refusal.Refusal.TheVariants.{NoMemory}
 use Rattle.fabric_core.specs.Rows.{Tiles}
+use Rattle.fabric_core.specs.Tiling.{IsTiling}
 use Rattle.fabric_core.specs.Journal.{State, JournalEntry, Book, opening_state, replay}
 use Rattle.fabric_core.specs.EditResults.{IsLawful}
 use Rattle.fabric_core.specs.Refusals.{IsRefusal}
@@ -42,26 +44,29 @@ module _ {A : Type 0} where
     pub lawful : IsLawful run.opening journal
     pub of_clerks : AreOfClerks run.clerks journal
 
-  -- the refusal is due after some such list, in which the clerk's entries are those that were accepted of him before;
-  -- the others' may be any,
-  -- and the list need not be a beginning of the run's journal
-  pub record IsRefusalDue (run : Run) (clerk : ℕ) (made : List (JournalEntry A)) (edit : Edit A) (refusal : Refusal) : Type 0 where
+  -- the refusal is due after such a list that begins another one, as the run's journal, and in which the clerk's entries are those that were
+  -- accepted of him before
+  pub record IsRefusalDue (run : Run) (whole : List (JournalEntry A)) (clerk : ℕ) (made : List (JournalEntry A)) (edit : Edit A)
+      (refusal : Refusal) : Type 0 where
     pub journal : List (JournalEntry A)
+    pub begins : IsPrefix journal whole
     pub is_journal : IsJournal run journal
     pub has_made : of_clerk clerk journal ≡ made
     pub is_refusal : IsRefusal (replay run.opening journal) journal edit refusal
 
   -- a clerk's edits, each behind its line's number, are told in order: `ok` under the number of the next of the
   -- clerk's entries, which has the
-  -- edit, or `refused` for a reason that was due, or for want of memory; he has no other entries, and `made` are his from before
-  abbrev pub AreTold : Run → ℕ → List (JournalEntry A) → List (ℕ × Edit A) → List (JournalEntry A) → List ℕ → Type 0
-  AreTold run clerk made [] entries text = (entries ≡ []) × (text ≡ [])
-  AreTold run clerk made (told ∷ rest) entries text =
+  -- edit, or `refused` for a reason that was due after a beginning of the run's journal, `whole`, or for want of memory; he has no other
+  -- entries, and `made` are his from before
+  abbrev pub AreTold : Run → List (JournalEntry A) → ℕ → List (JournalEntry A) → List (ℕ × Edit A) → List (JournalEntry A) → List ℕ
+      → Type 0
+  AreTold run whole clerk made [] entries text = (entries ≡ []) × (text ≡ [])
+  AreTold run whole clerk made (told ∷ rest) entries text =
       ((entry : JournalEntry A) × (others : List (JournalEntry A)) × (more : List ℕ) × (entries ≡ entry ∷ others)
       × (entry.edit ≡ told.1)
-      × (text ≡ ok_line clerk told.0 entry.number ++ more) × AreTold run clerk (made ++ entry ∷ []) rest others more)
-      ⊎ ((refusal : Refusal) × (more : List ℕ) × (IsRefusalDue run clerk made told.1 refusal ⊎ (refusal ≡ NoMemory))
-      × (text ≡ refused_line clerk told.0 refusal ++ more) × AreTold run clerk made rest entries more)
+      × (text ≡ ok_line clerk told.0 entry.number ++ more) × AreTold run whole clerk (made ++ entry ∷ []) rest others more)
+      ⊎ ((refusal : Refusal) × (more : List ℕ) × (IsRefusalDue run whole clerk made told.1 refusal ⊎ (refusal ≡ NoMemory))
+      × (text ≡ refused_line clerk told.0 refusal ++ more) × AreTold run whole clerk made rest entries more)
 
   -- the lines of each clerk, one clerk's after the other's, tell of his edits and of the journal's entries that are
   -- his; clerks are numbered on
@@ -69,17 +74,18 @@ module _ {A : Type 0} where
   abbrev pub AreEachTold : Run → ℕ → List (List (ℕ × Edit A)) → List (JournalEntry A) → List ℕ → Type 0
   AreEachTold run clerk [] journal text = text ≡ []
   AreEachTold run clerk (edits ∷ others) journal text = (lines : List ℕ) × (more : List ℕ) × (text ≡ lines ++ more)
-      × AreTold run clerk [] edits (of_clerk clerk journal) lines × AreEachTold run (clerk + 1) others journal more
+      × AreTold run journal clerk [] edits (of_clerk clerk journal) lines × AreEachTold run (clerk + 1) others journal more
 
   -- the run of these clerks' edits on a layer
   abbrev pub run_of : Tiles → List (List (ℕ × Edit A)) → Run
   run_of tiles clerks = record { clerks = length clerks; opening = opening_state tiles.rows tiles.refined }
 
   -- the edits of the clerks, made on a layer, lead to this register and give these lines: its journal is lawful, has entries of the clerks
-  -- alone, and leads to the parcels; and each clerk's lines tell of his edits
+  -- alone, and leads to the parcels, which tile the layer's city; and each clerk's lines tell of his edits
   pub record AreMade (tiles : Tiles) (clerks : List (List (ℕ × Edit A))) (after : Register A) (lines : List ℕ) : Type 0 where
     pub is_journal : IsJournal (run_of tiles clerks) after.journal
     pub leads : after.now ≡ replay (run_of tiles clerks).opening after.journal
+    pub is_tiling : IsTiling after.now.rows tiles.city
     pub are_told : AreEachTold (run_of tiles clerks) 1 clerks after.journal lines
 
   -- the same of the clerks' files

@@ -76,7 +76,7 @@ fn submit_all<'r, 'h, H: Allocator, J: Naming<H>, R: Wait>(
     requires no_receipts { receipts.old.items ≡ [] }
     ensures clerk { card.new.clerk ≡ card.old.clerk }
     ensures said { OnOk result (card.old.made ≡ []
-        → HasSaid (run_at J.office) card.old.clerk edits.now card.new.made lines.new.items receipts.new.items) }
+        → HasSaid (run_at J.office) card.new.met card.old.clerk edits.now card.new.made lines.new.items receipts.new.items) }
 {
     for told in edits {
         submit_edit(counter, card, told, lines, receipts)?;

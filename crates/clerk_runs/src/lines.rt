@@ -4,9 +4,8 @@ ghost use Rattle.std.specs.Prelude.{◌≡◌, ◌++◌, OnOk};
 ghost use Rattle.clerk_runs.specs.ClerkLines.{whose_text, ok_line, refusal_text, refused_line};
 
 use fabric_core::Refusal;
-use itoa::Buffer;
 use std::alloc::{AllocError, Allocator};
-use text_pieces::push_ring_fault;
+use text_pieces::{push_number, push_ring_fault};
 
 /// Adds the line of an edit that is accepted, under the number of its entry.
 pub(crate) fn push_ok_line<A: Allocator>(
@@ -17,10 +16,9 @@ pub(crate) fn push_ok_line<A: Allocator>(
 ) -> Result<(), AllocError>
     ensures { OnOk result (lines.new.items ≡ lines.old.items ++ ok_line clerk line number) }
 {
-    let mut digits = Buffer::new();
     push_whose(lines, clerk, line)?;
     lines.extend_from_slice(b"ok ")?;
-    lines.extend_from_slice(digits.format(number).as_bytes())?;
+    push_number(lines, number)?;
     lines.push(b'\n')?;
     Ok(())
 }
@@ -45,11 +43,10 @@ pub(crate) fn push_refused_line<A: Allocator>(
 fn push_whose<A: Allocator>(lines: &mut Vec<u8, A>, clerk: u32, line: u64) -> Result<(), AllocError>
     ensures { OnOk result (lines.new.items ≡ lines.old.items ++ whose_text clerk line) }
 {
-    let mut digits = Buffer::new();
     lines.extend_from_slice(b"clerk ")?;
-    lines.extend_from_slice(digits.format(clerk).as_bytes())?;
+    push_number(lines, clerk)?;
     lines.extend_from_slice(b" line ")?;
-    lines.extend_from_slice(digits.format(line).as_bytes())?;
+    push_number(lines, line)?;
     lines.push(b' ')?;
     Ok(())
 }
@@ -62,21 +59,20 @@ fn push_whose<A: Allocator>(lines: &mut Vec<u8, A>, clerk: u32, line: u64) -> Re
 pub fn push_refusal<A: Allocator>(text: &mut Vec<u8, A>, refusal: Refusal) -> Result<(), AllocError>
     ensures { OnOk result (text.new.items ≡ text.old.items ++ refusal_text refusal) }
 {
-    let mut digits = Buffer::new();
     match refusal {
         Refusal::Unknown(id) => {
             text.extend_from_slice(b"E1 ")?;
-            text.extend_from_slice(digits.format(id).as_bytes())?;
+            push_number(text, id)?;
         }
         Refusal::Retired { id, by } => {
             text.extend_from_slice(b"E2 ")?;
-            text.extend_from_slice(digits.format(id).as_bytes())?;
+            push_number(text, id)?;
             text.push(b' ')?;
-            text.extend_from_slice(digits.format(by).as_bytes())?;
+            push_number(text, by)?;
         }
         Refusal::Ring { which, fault } => {
             text.extend_from_slice(b"E6 ")?;
-            text.extend_from_slice(digits.format(which).as_bytes())?;
+            push_number(text, which)?;
             text.push(b' ')?;
             push_ring_fault(text, fault)?;
         }
@@ -90,7 +86,7 @@ pub fn push_refusal<A: Allocator>(text: &mut Vec<u8, A>, refusal: Refusal) -> Re
         Refusal::NoSuchCorner => text.extend_from_slice(b"E11")?,
         Refusal::NotFlat(id) => {
             text.extend_from_slice(b"E12 ")?;
-            text.extend_from_slice(digits.format(id).as_bytes())?;
+            push_number(text, id)?;
         }
         Refusal::NoMemory => text.extend_from_slice(b"no memory")?,
     }

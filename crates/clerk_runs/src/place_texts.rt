@@ -5,8 +5,8 @@ ghost use Rattle.std.specs.List.{flat_map};
 ghost use Rattle.clerk_runs.specs.PlaceTexts.{id_text, place_text};
 
 use fabric_core::At;
-use itoa::Buffer;
 use std::alloc::{AllocError, Allocator};
+use text_pieces::push_number;
 
 /// Adds where a point lies: `inside ID`, `edge ID ID ..`, or `outside`.
 ///
@@ -55,8 +55,7 @@ pub fn push_ids<A: Allocator>(text: &mut Vec<u8, A>, ids: &[u64]) -> Result<(), 
 pub fn push_id<A: Allocator>(text: &mut Vec<u8, A>, id: u64) -> Result<(), AllocError>
     ensures { OnOk result (text.new.items ≡ text.old.items ++ id_text id) }
 {
-    let mut digits = Buffer::new();
     text.push(b' ')?;
-    text.extend_from_slice(digits.format(id).as_bytes())?;
+    push_number(text, id)?;
     Ok(())
 }

@@ -4,6 +4,7 @@ ghost use Rattle.std.specs.Prelude.{◌≡◌, ◌⊎◌, ℕ, ◌<◌, ◌≤�
 ghost use Rattle.desk_lock.specs.Offices.{origin_of};
 ghost use Rattle.desk_lock.specs.declared.opening.TheConstants.{MOST_PLACES};
 ghost use Rattle.fabric_core.specs.Journal.{opening_state};
+ghost use Rattle.fabric_core.specs.Tiling.{IsTiling};
 ghost use Rattle.clerk_runs.specs.ClerkRuns.{register_of, AreMade, AreLocated};
 ghost use Rattle.clerk_runs.specs.declared.runs.RunFault.TheVariants.{NoWindow, NoMemory};
 ghost use Rattle.clerk_runs.specs.own.Working.{AreMadeIn};
@@ -15,7 +16,7 @@ use crate::place::places_of;
 use desk_lock::{Name, Naming, Office, OpenFault};
 use fabric_core::{At, Fabric, Layer, Sheet};
 use geo_exact::Corner;
-use job_threads::do_all;
+use job_threads::{AllDone, do_all};
 use std::alloc::{AllocError, AllocFailed, Allocator};
 use std::marker::Brand;
 use std::sync::Wait;
@@ -111,6 +112,7 @@ fn edit_at_office<
         clerks.entry.items (register_of edited.sheet) edited.lines.items) }
     ensures opening { IfOk result (λ edited. edited.sheet.opening ≡ fabric.entry.opening) }
     ensures city { IfOk result (λ edited. edited.sheet.city ≡ fabric.entry.city) }
+    ensures tiling { IfOk result (λ edited. IsTiling edited.sheet.now.rows edited.sheet.city) }
     ensures places { IfOk result (λ edited. AreLocated edited.sheet.now.rows corners.now edited.places.items) }
     ensures fault { IfErr result (λ fault. (fault ≡ NoWindow 1) ⊎ (fault ≡ NoMemory)) }
 {
@@ -130,7 +132,7 @@ fn edit_at_office<
     };
     let counter = Counter { office, rt };
     let jobs = jobs_of(heap, cards, clerks)?;
-    let Ok((jobs, _)) = do_all(rt, &counter, jobs) else {
+    let Ok(AllDone { jobs, .. }) = do_all(rt, &counter, jobs) else {
         return Err(RunFault::NoMemory);
     };
     let Done {

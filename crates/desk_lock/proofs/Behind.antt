@@ -1,17 +1,15 @@
 -- What stands behind the beginning of a list, and journals that begin with that of the fabric which was handed in.
-use Rattle.std.proofs.Common.{◌≡◌, ◌⊎◌, inl, inr, Some, None, Option, true, get_or, slice_get, ◌+◌, ◌≤◌, ◌<◌, ℕ}
+use Rattle.std.proofs.Common.{◌≡◌, ◌⊎◌, inl, inr, Some, get_or, slice_get, ◌+◌, ◌≤◌, ◌<◌, ℕ}
 use Rattle.std.proofs.Common.{List, [], ◌∷◌, ◌++◌, drop, length, refl, ap, sym, ◌∙◌, subst, arith, append_assoc}
-use Rattle.std.proofs.Common.{append-nil, length-append}
-use Rattle.std.specs.Prelude.{is_some, IfSome}
+use Rattle.std.proofs.Common.{append-nil}
 use Rattle.std.proofs.Math.Seq.{drop-append_seam}
 use Rattle.std.proofs.lemmas.List.{drop-append-le, get_or-drop}
 use Rattle.std.proofs.lemmas.Option.{slice_get-get_or}
 use mathlib.Core.List.{IsPrefix}
 use Rattle.entry_history.proofs.Beginnings.{begins_itself, begins_whole, begins_shorter, is_whole, next_begins}
-use Rattle.fabric_core.specs.Journal.{State, JournalEntry, Book, replay}
+use Rattle.fabric_core.specs.Journal.{JournalEntry, Book, replay}
 use Rattle.fabric_core.specs.EditResults.{IsLawful}
-use Rattle.desk_lock.specs.Offices.{Origin, IsOfOrigin, WindowState, Learns, EndsWith, origin_of, behind, window_of}
-use Rattle.desk_lock.specs.own.Keeping.{told_by}
+use Rattle.desk_lock.specs.Offices.{Origin, IsOfOrigin, WindowState, Learns, origin_of, behind, window_of}
 
 module _ {X : Type 0} where
   -- what stands behind a beginning
@@ -52,6 +50,11 @@ module _ {A : Type 0} where
       → book.journal ≡ origin.journal ++ behind origin book.journal
   journal_is origin book of = both_parts origin.journal book.journal of.begins
 
+  -- what stands behind the journal of the fabric that was handed in
+  pub behind_it : (origin : Origin A) (journal entries : List (JournalEntry A)) → journal ≡ origin.journal ++ entries
+      → behind origin journal ≡ entries
+  behind_it origin journal entries is = ap (drop (length origin.journal)) is ∙ drop-append_seam origin.journal entries
+
   -- what is shown of what was handed on, behind the journal of the fabric that was handed in, begins the journal
   pub shown_begins : (origin : Origin A) (book : Book A) (shown handed : List (JournalEntry A)) → IsOfOrigin origin book
       → IsPrefix shown handed → IsPrefix handed (behind origin book.journal) → IsPrefix (origin.journal ++ shown) book.journal
@@ -84,25 +87,6 @@ module _ {A : Type 0} where
     ap (drop (length origin.journal)) journal ∙ more_behind origin.journal old.journal (entry ∷ []) of.begins,
   )
 
-  -- what is learnt of entries behind one journal
-  pub learns_behind : (opening : State) (front before told after : List (JournalEntry A)) → (after ≡ before) ⊎ (after ≡ told)
-      → IsPrefix before after → IsPrefix told after
-      → Learns (record { opening = opening; seen = front ++ before }) (front ++ told) (record {
-        opening = opening;
-        seen = front ++ after;
-      })
-  learns_behind opening front before told after is_one this that = record {
-    opening = refl;
-    longer = record {
-      is_one = ⊎_both is_one;
-      begins = begins_behind front before after this;
-      other_begins = begins_behind front told after that;
-    };
-  } where
-    ⊎_both : (after ≡ before) ⊎ (after ≡ told) → (front ++ after ≡ front ++ before) ⊎ (front ++ after ≡ front ++ told)
-    ⊎_both (inl is) = inl (ap (λ xs. front ++ xs) is)
-    ⊎_both (inr is) = inr (ap (λ xs. front ++ xs) is)
-
   -- nothing is learnt of nothing
   pub learns_nothing : (window : WindowState A) → Learns window [] window
   learns_nothing window = record {
@@ -116,14 +100,8 @@ module _ {A : Type 0} where
   becomes before told after (inl is) that le = sym (is_whole told after that (omega (arith, ap length is, le)))
   becomes before told after (inr is) that le = is
 
-  -- a version that was entered: its fabric's journal is what the window has seen then
+  -- a fabric that comes of the one that was handed in, by a list that is its journal
   module _ (origin : Origin A) (book : Book A) (of : IsOfOrigin origin book) where
-    pub entered : (before told after : List (JournalEntry A)) → behind origin book.journal ≡ told → (after ≡ before)
-        ⊎ (after ≡ told)
-        → IsPrefix told after → length before ≤ length told → origin.journal ++ after ≡ book.journal
-    entered before told after is is_one that le =
-        ap (λ l. origin.journal ++ l) (becomes before told after is_one that le ∙ sym is) ∙ sym (journal_is origin book of)
-
     pub lawful_at : (seen : List (JournalEntry A)) → seen ≡ book.journal → IsLawful book.opening book.journal
         → IsLawful origin.opening seen
     lawful_at seen is lawful = subst (IsLawful origin.opening) (sym is) (subst (λ o. IsLawful o book.journal) of.opening lawful)
@@ -138,22 +116,3 @@ module _ {A : Type 0} where
   first_window origin front is =
       ap (λ seen. record { opening = origin.opening; seen = seen })
       (ap (λ l. origin.journal ++ l) is ∙ append-nil origin.journal)
-
-  -- a list of so many entries that ends with the last one
-  pub ends_with : (journal : List (JournalEntry A)) (entry : JournalEntry A) → entry.number ≡ length journal + 1
-      → EndsWith entry entry.number (journal ++ entry ∷ [])
-  ends_with journal entry number = record {
-    before = journal;
-    ends = refl;
-    count = omega (arith, length-append journal (entry ∷ []), number);
-  }
-
-  -- what a receipt tells whose entry was published
-  pub told_ends : (origin : Origin A) (front : Option (List (JournalEntry A))) (entries journal after : List (JournalEntry A))
-      (entry : JournalEntry A) (Q : Type 0) → IfSome front (λ list. (list ≡ entries) × Q) → after ≡ origin.journal ++ entries
-      → after ≡ journal ++ entry ∷ [] → entry.number ≡ length journal + 1 → is_some front ≡ true
-      → EndsWith entry entry.number (told_by origin front)
-  told_ends origin None entries journal after entry Q some whole more number is = absurd (cc is)
-  told_ends origin (Some list) entries journal after entry Q some whole more number is =
-      subst (EndsWith entry entry.number) (sym (ap (λ l. origin.journal ++ l) some.0 ∙ (sym whole ∙ more)))
-      (ends_with journal entry number)

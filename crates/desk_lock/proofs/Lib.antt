@@ -1,3 +1,4 @@
 pub mod Behind
 pub mod Clerks
+pub mod Told
 pub mod Totals

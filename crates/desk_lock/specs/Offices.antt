@@ -24,10 +24,12 @@ pub record OfficeId (A : Type 0) : Type 0 where
   pub clerks : ℕ
   pub origin : Origin A
 
--- what a card shows: its clerk's number, and the entries that were accepted with it, in order
+-- what a card shows: its clerk's number, the entries that were accepted with it, and all entries that were accepted at its desk until they
+-- last met, each in order
 pub record CardState (A : Type 0) : Type 0 where
   pub clerk : ℕ
   pub made : List (JournalEntry A)
+  pub met : List (JournalEntry A)
 
 -- what a desk shows: its fabric, the entries that were accepted at it, and the journal of the version that windows take
 pub record DeskState (A : Type 0) : Type 0 where
@@ -73,33 +75,44 @@ module _ {A : Type 0} where
   abbrev pub Agrees : List (JournalEntry A) → CardState A → Type 0
   Agrees entries card = card.made ≡ of_clerk card.clerk entries
 
-  -- a card after an edit that was accepted with it
-  abbrev pub with_made : CardState A → JournalEntry A → CardState A
-  with_made card entry = record { clerk = card.clerk; made = card.made ++ entry ∷ [] }
+  -- what the card has met is a beginning of the entries
+  abbrev pub HasMet : List (JournalEntry A) → CardState A → Type 0
+  HasMet entries card = IsPrefix card.met entries
+
+  -- the journal that the card last met, of an office
+  abbrev pub journal_met : OfficeId A → CardState A → List (JournalEntry A)
+  journal_met office card = office.origin.journal ++ card.met
+
+  -- a card that has met these entries; and one after an edit that was accepted with it, which has met these entries then
+  abbrev pub with_met : CardState A → List (JournalEntry A) → CardState A
+  with_met card met = record { clerk = card.clerk; made = card.made; met = met }
+
+  abbrev pub with_made : CardState A → JournalEntry A → List (JournalEntry A) → CardState A
+  with_made card entry met = record { clerk = card.clerk; made = card.made ++ entry ∷ []; met = met }
 
   -- the cards of so many clerks, whose numbers follow a number, with no entry yet
   abbrev pub fresh_cards : ℕ → ℕ → List (CardState A)
   fresh_cards before zero = []
-  fresh_cards before (suc n) = record { clerk = suc before; made = [] } ∷ fresh_cards (suc before) n
+  fresh_cards before (suc n) = record { clerk = suc before; made = []; met = [] } ∷ fresh_cards (suc before) n
 
   -- a window that has entered no version and learnt no receipt
   abbrev pub window_of : Origin A → WindowState A
   window_of origin = record { opening = origin.opening; seen = origin.journal }
 
   -- a journal of the office at some time, at which the card's clerk had made what the card says: lawful, first the
-  -- entries of the fabric that
-  -- was handed in, then entries of the office's clerks alone
+  -- entries of the fabric that was handed in, then entries of the office's clerks alone, of which the first are those that
+  -- the card has met
   pub record IsSometime (office : OfficeId A) (card : CardState A) (journal : List (JournalEntry A)) : Type 0 where
     pub lawful : IsLawful office.origin.opening journal
     pub begins : IsPrefix office.origin.journal journal
     pub of_clerks : AreOfClerks office.clerks (behind office.origin journal)
     pub agrees : Agrees (behind office.origin journal) card
+    pub met : HasMet (behind office.origin journal) card
 
-  -- the edit is refused for this reason after some such journal
-  pub record IsRefusedSometime (office : OfficeId A) (card : CardState A) (edit : Edit A) (refusal : Refusal) : Type 0 where
-    pub journal : List (JournalEntry A)
-    pub sometime : IsSometime office card journal
-    pub is_refusal : IsRefusal (replay office.origin.opening journal) journal edit refusal
+  -- the edit is refused for this reason after exactly the journal that the card has met
+  pub record IsRefusedWhenMet (office : OfficeId A) (card : CardState A) (edit : Edit A) (refusal : Refusal) : Type 0 where
+    pub sometime : IsSometime office card (journal_met office card)
+    pub is_refusal : IsRefusal (replay office.origin.opening (journal_met office card)) (journal_met office card) edit refusal
 
   -- a list of so many entries that ends with this one
   pub record EndsWith (entry : JournalEntry A) (number : ℕ) (journal : List (JournalEntry A)) : Type 0 where
@@ -119,12 +132,12 @@ module _ {A : Type 0} where
     pub longer : IsLonger before.seen told after.seen
 
   -- a fabric has, behind the entries of the fabric that was handed in, entries of the office's clerks alone, and of
-  -- each of these cards' clerks
-  -- what the card says
+  -- each of these cards' clerks what the card says; what the card has met are the first of them
   pub record IsSheetOf (office : OfficeId A) (cards : List (CardState A)) (book : Book A) : Type 0 where
     pub of_origin : IsOfOrigin office.origin book
     pub of_clerks : AreOfClerks office.clerks (behind office.origin book.journal)
     pub agree : All (Agrees (behind office.origin book.journal)) cards
+    pub met : All (HasMet (behind office.origin book.journal)) cards
 
   -- and nothing else: the cards are all that were handed out, and together they have all entries
   pub record IsTotal (office : OfficeId A) (cards : List (CardState A)) (book : Book A) : Type 0 where

@@ -1,12 +1,11 @@
 -- How many clerks and windows an office may have, and what it is refused for (this product's own).
 use Rattle.std.specs.Prelude.{◌≡◌, ◌⊎◌, ℕ, ◌<◌, ◌≤◌}
-use Rattle.desk_lock.specs.declared.opening.TheConstants.{MOST_PLACES}
 use Rattle.desk_lock.specs.declared.opening.OpenFault.{OpenFault}
 use Rattle.desk_lock.specs.declared.opening.OpenFault.TheVariants.{Places, NoWindow, NoMemory}
 
--- none, or too many
+-- none, or more than eight
 abbrev pub IsWrongCount : ℕ → Type 0
-IsWrongCount n = (n ≡ 0) ⊎ (MOST_PLACES < n)
+IsWrongCount n = (n ≡ 0) ⊎ (8 < n)
 
 -- this number is refused: that of the clerks, or else that of the windows
 abbrev pub IsWrong : ℕ → ℕ → ℕ → Type 0

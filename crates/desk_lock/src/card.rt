@@ -10,7 +10,8 @@ use std::marker::{Model, PhantomData};
 /// A clerk's card: what was edited with it is the clerk's. It may go to a thread of its own. It is spent by
 /// [`Office::close`](crate::Office::close) or by [`Card::give_up`], after which the office cannot be closed.
 ///
-/// Contracts see the clerk's number and the entries that were accepted with the card, in order.
+/// Contracts see the clerk's number, the entries that were accepted with the card, and all that were
+/// accepted at its desk until they last met, each in order.
 pub struct Card<'a, H: Allocator, J: Naming<H>> {
     pub(crate) stub: Stub<Entry<&'a H>>,
     pub(crate) clerk: u32,
@@ -40,7 +41,7 @@ impl<'a, H: Allocator, J: Naming<H>> Model for Card<'a, H, J> {
 
     ghost Value = { CardState (Bor H) };
 
-    ghost view = { λ card. record { clerk = card.clerk; made = card.stub.made } };
+    ghost view = { λ card. record { clerk = card.clerk; made = card.stub.made; met = card.stub.met } };
 
     ghost invariant = { λ card. (card.stub.name ≡ J.office.cards) × (card.clerk ≡ card.stub.clerk) × (card.count ≡ length card.stub.made) };
 }
@@ -65,7 +66,12 @@ impl<'a, H: Allocator, J: Naming<H>> Card<'a, H, J> {
 
     /// What ties it to the others.
     pub(crate) fn into_stub(self) -> Stub<Entry<&'a H>>
-        ensures { result ≡ record { name = J.office.cards; clerk = self.entry.clerk; made = self.entry.made } }
+        ensures { result ≡ record {
+          name = J.office.cards;
+          clerk = self.entry.clerk;
+          made = self.entry.made;
+          met = self.entry.met;
+        } }
     {
         let Card {
             stub,

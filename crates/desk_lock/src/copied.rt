@@ -1,6 +1,6 @@
 //! The copies of the fabric that windows read.
 ghost use Rattle.std.specs.Prelude.{◌≡◌, []};
-ghost use Rattle.desk_lock.specs.Offices.{IsOfOrigin, origin_of, behind};
+ghost use Rattle.desk_lock.specs.Offices.{IsOfOrigin, AreOfClerks, origin_of, behind};
 
 use crate::name::Naming;
 use fabric_core::{Entry, Fabric};
@@ -8,33 +8,39 @@ use published_copies::Follows;
 use std::alloc::{AllocError, Allocator};
 use std::marker::{Model, PhantomData};
 
-/// A copy of an office's fabric, which follows its journal. Contracts see the fabric.
+/// A copy of an office's fabric, which follows the entries of its clerks. Contracts see the fabric.
 #[derive(Drop)]
 pub struct Copied<'a, H: Allocator, J: Naming<H>> {
     fabric: Fabric<'a, H>,
+    // How many clerks the office has.
+    clerks: usize,
     of: PhantomData<J>,
 }
 
 impl<'a, H: Allocator, J: Naming<H>> Model for Copied<'a, H, J> {
+    ghost use Rattle.std.specs.Prelude.{◌≡◌};
     ghost use Rattle.std.specs.Borrow.{Bor};
     ghost use Rattle.fabric_core.specs.Journal.{Book};
-    ghost use Rattle.desk_lock.specs.Offices.{IsOfOrigin};
+    ghost use Rattle.desk_lock.specs.Offices.{IsOfOrigin, AreOfClerks, behind};
 
     ghost Value = { Book (Bor H) };
 
     ghost view = { λ copied. copied.fabric };
 
-    ghost invariant = { λ copied. IsOfOrigin J.office.origin copied.fabric };
+    ghost invariant = { λ copied. IsOfOrigin J.office.origin copied.fabric × (copied.clerks ≡ J.office.clerks)
+        × AreOfClerks J.office.clerks (behind J.office.origin copied.fabric.journal) };
 }
 
 impl<'a, H: Allocator, J: Naming<H>> Copied<'a, H, J> {
     /// A copy that has followed no entry.
-    pub(crate) fn of(fabric: Fabric<'a, H>) -> Copied<'a, H, J>
-        requires { origin_of fabric ≡ J.office.origin }
+    pub(crate) fn of(fabric: Fabric<'a, H>, clerks: usize) -> Copied<'a, H, J>
+        requires origin { origin_of fabric ≡ J.office.origin }
+        requires clerks { clerks ≡ J.office.clerks }
         ensures { behind J.office.origin result.journal ≡ [] }
     {
         Copied {
             fabric,
+            clerks,
             of: PhantomData,
         }
     }
@@ -43,6 +49,7 @@ impl<'a, H: Allocator, J: Naming<H>> Copied<'a, H, J> {
     pub(crate) fn fabric(&self) -> &Fabric<'a, H>
         ensures same { result.now ≡ self.now }
         ensures origin { IsOfOrigin J.office.origin self.now }
+        ensures of_clerks { AreOfClerks J.office.clerks (behind J.office.origin self.now.journal) }
     {
         &self.fabric
     }
@@ -53,7 +60,12 @@ impl<'a, H: Allocator, J: Naming<H>> Follows<Entry<&'a H>> for Copied<'a, H, J> 
 
     ghost entries = { λ copied. behind J.office.origin copied.journal };
 
+    /// Where the entry is no clerk's, it is not followed; who hands on hands on the clerks' alone.
     fn follow(&mut self, entry: &Entry<&'a H>) -> Result<(), AllocError> {
+        let clerk = entry.clerk() as usize;
+        if clerk == 0 || clerk > self.clerks {
+            return Err(AllocError);
+        }
         match self.fabric.follow(entry) {
             Ok(()) => Ok(()),
             Err(_) => Err(AllocError),

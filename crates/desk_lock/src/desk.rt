@@ -1,8 +1,7 @@
 //! What lies under the lock.
-ghost use Rattle.std.specs.Prelude.{◌≡◌, ◌⊎◌, ◌+◌, ◌≤◌, [], ◌∷◌, ◌++◌, map, length, drop, All, IfOk, IfErr, IfSome};
-ghost use Rattle.std.specs.Prelude.{IfNone, IsErrAnd, OnErr, MatchBool};
+ghost use Rattle.std.specs.Prelude.{◌≡◌, ◌≢◌, ◌⊎◌, ◌↔◌, ◌+◌, ◌≤◌, [], ◌∷◌, ◌++◌, map, length, drop, All, true, IfOk, IfErr, IfSome};
+ghost use Rattle.std.specs.Prelude.{IfNone, IsOk, IsErrAnd, OnErr, MatchBool};
 ghost use mathlib.Core.List.{IsPrefix};
-ghost use Rattle.entry_cards.specs.Cards.{HasAll};
 ghost use Rattle.ring_edits.specs.Edits.{CoversAlike};
 ghost use Rattle.fabric_core.specs.declared.refusal.Refusal.{Refusal};
 ghost use Rattle.fabric_core.specs.declared.refusal.Refusal.TheVariants.{NoMemory};
@@ -12,13 +11,15 @@ ghost use Rattle.fabric_core.specs.GridIndex.{IsIndexed};
 ghost use Rattle.fabric_core.specs.Journal.{after_entry, replay};
 ghost use Rattle.fabric_core.specs.EditResults.{IsEntryOf, IsLawful};
 ghost use Rattle.fabric_core.specs.Refusals.{IsRefusal};
-ghost use Rattle.desk_lock.specs.Offices.{AreOfClerks, IsOfOrigin, Agrees, IsSometime, IsTotal, with_made, behind};
+ghost use Rattle.desk_lock.specs.Offices.{AreOfClerks, IsOfOrigin, Agrees, HasMet, IsSometime, IsTotal, journal_met};
+ghost use Rattle.desk_lock.specs.Offices.{with_made, with_met, behind};
+ghost use Rattle.desk_lock.specs.own.Keeping.{as_known, IsKnown};
 
 use crate::card::Card;
 use crate::copied::Copied;
 use crate::name::Naming;
+use crate::receipt::{Notice, Receipt};
 use entry_cards::{Gathering, Keeper};
-use entry_history::Front;
 use fabric_core::{Entry, Fabric, Refusal, Sheet};
 use published_copies::Publisher;
 use ring_edits::Edit;
@@ -80,17 +81,17 @@ impl<'a, H: Allocator, J: Naming<H>, R: Wait + Drop> Desk<'a, H, J, R> {
         self.publisher.begins();
     }
 
-    /// Makes an edit by the card's clerk, as [`Fabric::edit`] does; the card counts it.
+    /// Makes an edit by the card's clerk, as [`Fabric::edit`] does; the card counts it, and has met the journal with it.
     ///
     /// # Errors
     ///
-    /// As [`Fabric::edit`]; nothing has changed then.
+    /// As [`Fabric::edit`]; nothing has changed then, but that the card has met the journal.
     pub fn edit(
         &mut self,
         card: &mut Card<'a, H, J>,
         edit: &Edit<&'a H>,
     ) -> Result<Entry<&'a H>, Refusal>
-        // What is before is lawful, and the card's entries are its clerk's.
+        // What is before is lawful, the card's entries are its clerk's, and what it has met begins the journal.
         ensures sometime { IsSometime J.office card.old self.old.book.journal }
         ensures replays { replay J.office.origin.opening self.old.book.journal ≡ self.old.book.now }
         // An accepted edit: the entry is that of this edit by the card's clerk on the state before,
@@ -104,41 +105,103 @@ impl<'a, H: Allocator, J: Naming<H>, R: Wait + Drop> Desk<'a, H, J, R> {
         ensures city { self.new.book.city ≡ self.old.book.city }
         ensures opening { self.new.book.opening ≡ self.old.book.opening }
         // The card and the desk have it; it is not published yet.
-        ensures made { IfOk result (λ entry. card.new ≡ with_made card.old entry) }
+        ensures made { IfOk result (λ entry. card.new ≡ with_made card.old entry card.new.met) }
         ensures entries { IfOk result (λ entry. self.new.entries ≡ self.old.entries ++ entry ∷ []) }
         ensures published { self.new.published ≡ self.old.published }
-        // A refused one changes nothing.
-        ensures unchanged { OnErr result ((self.new ≡ self.old) × (card.new ≡ card.old)) }
+        // The card has met the journal as it is now.
+        ensures met { journal_met J.office card.new ≡ self.new.book.journal }
+        // A refused one changes nothing else.
+        ensures unchanged { OnErr result ((self.new ≡ self.old) × (card.new ≡ with_met card.old card.new.met)) }
         ensures refusal { IfErr result (λ refusal.
             IsRefusal self.old.book.now self.old.book.journal edit.now refusal ⊎ (refusal ≡ NoMemory)) }
         ensures refuses { (refusal : Refusal) → IsRefusal self.old.book.now self.old.book.journal edit.now refusal
             → IsErrAnd result (λ e. (e ≡ refusal) ⊎ (e ≡ NoMemory)) }
     {
         self.fabric.tiles();
-        self.keeper.compare(&mut card.stub);
+        self.keeper.meet(&mut card.stub);
         let entry = self.fabric.edit(card.clerk, edit)?;
         self.keeper.add(&mut card.stub, &entry);
         card.count += 1;
         Ok(entry)
     }
 
-    /// Hands on all entries that are not handed on yet, in order, and publishes: what is published
-    /// then. `None` where that is refused; the next call takes what is missing. It waits for those
-    /// who read at this moment.
-    pub fn publish(&mut self) -> Option<Front<Entry<&'a H>, J>>
-        ensures book { (self.new.book ≡ self.old.book) × (self.new.entries ≡ self.old.entries) }
-        ensures some { IfSome result (λ front. (front ≡ self.old.entries) × (self.new.published ≡ self.old.book.journal)) }
-        ensures none { IfNone result (self.new.published ≡ self.old.published) }
+    /// Makes an edit by the card's clerk, as [`Desk::edit`], and publishes, as [`Desk::publish`]: a
+    /// receipt, which tells the journal of the published version.
+    ///
+    /// # Errors
+    ///
+    /// As [`Desk::edit`]; nothing has changed then, but that the card has met the journal.
+    pub fn submit(
+        &mut self,
+        card: &mut Card<'a, H, J>,
+        edit: &Edit<&'a H>,
+    ) -> Result<Receipt<'a, H, J>, Refusal>
+        // What is before is lawful, the card's entries are its clerk's, and what it has met begins the journal.
+        ensures sometime { IsSometime J.office card.old self.old.book.journal }
+        ensures replays { replay J.office.origin.opening self.old.book.journal ≡ self.old.book.now }
+        // An accepted edit: the receipt's entry is that of this edit by the card's clerk.
+        ensures is_entry { IfOk result (λ receipt. IsEntryOf self.old.book.now receipt.entry) }
+        ensures edit { IfOk result (λ receipt. receipt.entry.edit ≡ edit.now) }
+        ensures clerk { IfOk result (λ receipt. receipt.entry.clerk ≡ card.old.clerk) }
+        ensures number { IfOk result (λ receipt. receipt.entry.number ≡ length self.old.book.journal + 1) }
+        ensures now { IfOk result (λ receipt. self.new.book.now ≡ after_entry self.old.book.now receipt.entry) }
+        ensures journal { IfOk result (λ receipt. self.new.book.journal ≡ self.old.book.journal ++ receipt.entry ∷ []) }
+        ensures city { self.new.book.city ≡ self.old.book.city }
+        ensures opening { self.new.book.opening ≡ self.old.book.opening }
+        ensures made { IfOk result (λ receipt. card.new ≡ with_made card.old receipt.entry card.new.met) }
+        ensures entries { IfOk result (λ receipt. self.new.entries ≡ self.old.entries ++ receipt.entry ∷ []) }
+        // The journal is lawful afterwards, and the card's entries are its clerk's.
+        ensures after { IfOk result (λ receipt. IsSometime J.office card.new self.new.book.journal) }
+        // Where it says that it was published, the published version has the whole journal, which it tells.
+        ensures published { IfOk result (λ receipt. receipt.published ≡ true → self.new.published ≡ self.new.book.journal) }
+        ensures told { IfOk result (λ receipt. receipt.published ≡ true → receipt.told ≡ self.new.published) }
+        ensures unpublished { IfOk result (λ receipt. receipt.published ≢ true → self.new.published ≡ self.old.published) }
+        ensures untold { IfOk result (λ receipt. receipt.published ≢ true → receipt.told ≡ []) }
+        // The card has met the journal as it is now.
+        ensures met { journal_met J.office card.new ≡ self.new.book.journal }
+        // A refused one changes nothing else.
+        ensures unchanged { OnErr result ((self.new ≡ self.old) × (card.new ≡ with_met card.old card.new.met)) }
+        ensures refusal { IfErr result (λ refusal.
+            IsRefusal self.old.book.now self.old.book.journal edit.now refusal ⊎ (refusal ≡ NoMemory)) }
+        ensures refuses { (refusal : Refusal) → IsRefusal self.old.book.now self.old.book.journal edit.now refusal
+            → IsErrAnd result (λ e. (e ≡ refusal) ⊎ (e ≡ NoMemory)) }
+    {
+        let entry = self.edit(card, edit)?;
+        let heap = card.heap;
+        self.tiles();
+        let notice = self.publish();
+        Ok(Receipt {
+            entry,
+            notice,
+            heap,
+        })
+    }
+
+    /// Hands on all entries that are not handed on yet, in order, and publishes: a notice of the whole
+    /// journal, which is that of the published version then. `None` where that is refused: the
+    /// journal and the published version stay, and the next call takes what is missing. It waits for
+    /// those who read at this moment.
+    pub fn publish(&mut self) -> Option<Notice<'a, H, J>>
+        ensures same { (self.new.book ≡ self.old.book) × (self.new.entries ≡ self.old.entries) }
+        ensures whole { IfSome result (λ told. told ≡ self.old.book.journal) }
+        ensures shown { IfSome result (λ told. self.new.published ≡ told) }
+        ensures none { IfNone result (self.new ≡ self.old) }
     {
         let all = hand_on(self.fabric.journal(), self.opened_with, &mut self.publisher);
-        if all { self.publisher.publish() } else { None }
+        if !all {
+            return None;
+        }
+        let front = self.publisher.publish()?;
+        let number = self.fabric.entries();
+        Some(Notice { number, front })
     }
 
     /// Compares cards with the journal: the entries that were accepted with each are all of its clerk
-    /// behind those of the fabric that was handed in.
+    /// behind those of the fabric that was handed in, and what each has met begins these.
     pub fn compare(&mut self, cards: &mut [Card<'a, H, J>])
         ensures same { (self.new ≡ self.old) × (cards.new ≡ cards.old) }
         ensures agree { All (Agrees self.old.entries) cards.old }
+        ensures met { All (HasMet self.old.entries) cards.old }
     {
         compare_all(&mut self.keeper, cards);
     }
@@ -154,8 +217,25 @@ impl<'a, H: Allocator, J: Naming<H>, R: Wait + Drop> Desk<'a, H, J, R> {
         self.fabric.sheet()
     }
 
+    /// The fabric, where each clerk's card is handed in; else the desk and the cards come back as they were.
+    pub(crate) fn close<A: Allocator>(
+        self,
+        clerks: usize,
+        cards: Vec<Card<'a, H, J>, A>,
+    ) -> Result<Fabric<'a, H>, (Desk<'a, H, J, R>, Vec<Card<'a, H, J>, A>)>
+        requires { clerks ≡ J.office.clerks }
+        ensures closes { IsOk result ↔ (length cards.entry.items ≡ J.office.clerks) }
+        ensures total { IfOk result (λ fabric. IsTotal J.office cards.entry.items fabric) }
+        ensures back { IfErr result (λ back. (back.0 ≡ self.entry) × (back.1.items ≡ cards.entry.items)) }
+    {
+        if cards.len() != clerks {
+            return Err((self, cards));
+        }
+        Ok(self.settle(cards))
+    }
+
     /// The fabric, where all cards are handed in.
-    pub(crate) fn close<A: Allocator>(self, cards: Vec<Card<'a, H, J>, A>) -> Fabric<'a, H>
+    fn settle<A: Allocator>(self, cards: Vec<Card<'a, H, J>, A>) -> Fabric<'a, H>
         requires { length cards.items ≡ J.office.clerks }
         ensures { IsTotal J.office cards.entry.items result }
     {
@@ -179,7 +259,7 @@ fn compare_all<'a, H: Allocator, J: Naming<H>>(
 )
     requires { keeper.old.name ≡ J.office.cards }
     ensures same { (keeper.new ≡ keeper.old) × (cards.new ≡ cards.old) }
-    ensures agree { All (λ card. HasAll keeper.old.all (card.clerk, card.made)) cards.old }
+    ensures known { All (IsKnown keeper.old.all) cards.old }
 {
     for place in 0..cards.len() {
         compare_one(keeper, &mut cards[place]);
@@ -193,7 +273,7 @@ fn compare_one<'a, H: Allocator, J: Naming<H>>(
 )
     requires { keeper.old.name ≡ J.office.cards }
     ensures same { (keeper.new ≡ keeper.old) × (card.new ≡ card.old) }
-    ensures agrees { HasAll keeper.old.all (card.old.clerk, card.old.made) }
+    ensures known { IsKnown keeper.old.all card.old }
 {
     keeper.compare(&mut card.stub);
 }
@@ -205,7 +285,7 @@ fn take_all_in<'a, H: Allocator, J: Naming<H>, A: Allocator>(
 ) -> Gathering<Entry<&'a H>, &'a H>
     requires { gathering.name ≡ J.office.cards }
     ensures { result ≡ record gathering.entry {
-      cards = map (λ card. (card.clerk, card.made)) cards.entry.items ++ gathering.entry.cards;
+      cards = map as_known cards.entry.items ++ gathering.entry.cards;
     } }
 {
     let mut gathering = gathering;

@@ -5,8 +5,8 @@ ghost use Rattle.fabric_core.specs.EditResults.{IsLawful};
 ghost use Rattle.fabric_core.specs.declared.refusal.Refusal.TheVariants.{NoMemory};
 ghost use Rattle.desk_lock.specs.declared.opening.OpenFault.TheVariants.{Places};
 ghost use Rattle.desk_lock.specs.declared.office.CloseFault.TheVariants.{CardsMissing};
-ghost use Rattle.desk_lock.specs.Offices.{origin_of, behind, fresh_cards, window_of, with_made, IsRefusedSometime};
-ghost use Rattle.desk_lock.specs.Offices.{AreOfClerks, EndsWith, IsSheetOf, IsTotal};
+ghost use Rattle.desk_lock.specs.Offices.{origin_of, behind, fresh_cards, window_of, with_made, with_met, journal_met, IsSometime};
+ghost use Rattle.desk_lock.specs.Offices.{AreOfClerks, EndsWith, IsRefusedWhenMet, IsSheetOf, IsTotal};
 ghost use Rattle.desk_lock.specs.Places.{IsWrong, IsOpenFault};
 ghost use Rattle.desk_lock.specs.declared.opening.TheConstants.{MOST_PLACES};
 
@@ -14,7 +14,7 @@ use crate::card::Card;
 use crate::desk::Desk;
 use crate::name::{Name, Naming};
 use crate::opening::{OpenFault, Parts, check_places, parts_of};
-use crate::receipt::{Notice, Published, Receipt};
+use crate::receipt::{Notice, Receipt};
 use crate::window::Window;
 use fabric_core::{Entry, Fabric, Refusal, Sheet};
 use ring_edits::Edit;
@@ -87,7 +87,7 @@ impl<'a, H: Allocator, J: Naming<H>, R: Wait + Drop> Office<'a, H, J, R> {
     ///
     /// # Errors
     ///
-    /// As [`Fabric::edit`]; card and fabric are unchanged then.
+    /// As [`Fabric::edit`]; card and fabric are unchanged then, but that the card has met the journal.
     ///
     /// ```
     /// let receipt = office.submit(rt, &mut card, &edit)?;
@@ -101,19 +101,20 @@ impl<'a, H: Allocator, J: Naming<H>, R: Wait + Drop> Office<'a, H, J, R> {
     ) -> Result<Receipt<'a, H, J>, Refusal>
         ensures edit { IfOk result (λ receipt. receipt.entry.edit ≡ edit.now) }
         ensures clerk { IfOk result (λ receipt. receipt.entry.clerk ≡ card.old.clerk) }
-        ensures made { IfOk result (λ receipt. card.new ≡ with_made card.old receipt.entry) }
+        ensures made { IfOk result (λ receipt. card.new ≡ with_made card.old receipt.entry card.new.met) }
+        // The card has met the journal as it is then: what it had met before begins it, and an entry ends it.
+        ensures met { IsPrefix card.old.met card.new.met }
+        ensures ends { IfOk result (λ receipt. EndsWith receipt.entry receipt.entry.number (journal_met J.office card.new)) }
+        ensures after { IfOk result (λ receipt. IsSometime J.office card.new (journal_met J.office card.new)) }
         ensures told { IfOk result (λ receipt. receipt.published ≡ true
             → EndsWith receipt.entry receipt.entry.number receipt.told) }
+        ensures sometime { IfOk result (λ receipt. receipt.published ≡ true → IsSometime J.office card.new receipt.told) }
         ensures unpublished { IfOk result (λ receipt. receipt.published ≢ true → receipt.told ≡ []) }
-        ensures unchanged { OnErr result (card.new ≡ card.old) }
-        ensures refusal { IfErr result (λ refusal. IsRefusedSometime J.office card.old edit.now refusal ⊎ (refusal ≡ NoMemory)) }
+        ensures unchanged { OnErr result (card.new ≡ with_met card.old card.new.met) }
+        ensures refusal { IfErr result (λ refusal. IsRefusedWhenMet J.office card.new edit.now refusal ⊎ (refusal ≡ NoMemory)) }
     {
         let mut desk = self.desk.lock(rt);
-        let entry = desk.edit(card, edit)?;
-        desk.tiles();
-        let heap = card.heap;
-        let front = Published::of(desk.publish(), heap);
-        Ok(Receipt { entry, front, heap })
+        desk.submit(card, edit)
     }
 
     /// Takes the lock, and publishes all entries that are not published yet; it adds none. `None`
@@ -131,16 +132,12 @@ impl<'a, H: Allocator, J: Naming<H>, R: Wait + Drop> Office<'a, H, J, R> {
     {
         let mut desk = self.desk.lock(rt);
         desk.tiles();
-        let front = desk.publish()?;
-        Some(Notice {
-            number: desk.fabric.entries(),
-            front,
-        })
+        desk.publish()
     }
 
     /// Takes the lock, and copies the fabric: the sheet has of each given card's clerk, behind the
-    /// entries of the fabric that was handed in, those that were accepted with the card. The cards
-    /// stay as they are.
+    /// entries of the fabric that was handed in, those that were accepted with the card; what the card
+    /// has met are the first of them. The cards stay as they are.
     ///
     /// # Errors
     ///
@@ -164,7 +161,8 @@ impl<'a, H: Allocator, J: Naming<H>, R: Wait + Drop> Office<'a, H, J, R> {
     }
 
     /// Closes the office, with all cards: the fabric, whose journal has the entries that were
-    /// accepted with them, and no others, behind those of the fabric that was handed in.
+    /// accepted with them, and no others, behind those of the fabric that was handed in. What each card
+    /// has met are the first of them.
     ///
     /// # Errors
     ///
@@ -179,12 +177,16 @@ impl<'a, H: Allocator, J: Naming<H>, R: Wait + Drop> Office<'a, H, J, R> {
         ensures back { IfErr result (λ back. back.1.items ≡ cards.entry.items) }
         ensures fault { IfErr result (λ back. back.2 ≡ CardsMissing J.office.clerks (length cards.entry.items)) }
     {
-        if cards.len() != self.clerks {
-            let fault = CloseFault::CardsMissing(self.clerks, cards.len());
-            return Err((self, cards, fault));
+        let Office { desk, clerks } = self;
+        let count = cards.len();
+        match desk.into_inner().close(clerks, cards) {
+            Ok(fabric) => Ok(fabric),
+            Err((desk, cards)) => {
+                let desk = Mutex::new(desk);
+                let fault = CloseFault::CardsMissing(clerks, count);
+                Err((Office { desk, clerks }, cards, fault))
+            }
         }
-        let Office { desk, clerks: _ } = self;
-        Ok(desk.into_inner().close(cards))
     }
 }
 

@@ -1,5 +1,5 @@
 //! Opening an office.
-ghost use Rattle.std.specs.Prelude.{◌≡◌, ◌⊎◌, ◌↔◌, ℕ, ◌+◌, ◌<◌, ◌≤◌, ◌^◌, [], replicate, IfOk, IfErr, IsOk, IsTrue};
+ghost use Rattle.std.specs.Prelude.{◌≡◌, ◌⊎◌, ◌↔◌, ℕ, ◌+◌, ◌<◌, ◌≤◌, ◌^◌, [], ◌∷◌, ◌++◌, replicate, IfOk, IfErr, OnOk, IsOk, IsTrue};
 ghost use Rattle.desk_lock.specs.declared.opening.OpenFault.{OpenFault};
 ghost use Rattle.desk_lock.specs.declared.opening.OpenFault.TheVariants.{Places, NoWindow, NoMemory};
 ghost use Rattle.desk_lock.specs.Offices.{origin_of, fresh_cards, window_of};
@@ -97,15 +97,17 @@ pub(crate) fn publisher_of<'a, H: Allocator, J: Naming<H>, R: Wait + Drop>(
     heap: &'a H,
     opened: Opened<Entry<&'a H>>,
     fabric: &Fabric<'a, H>,
+    clerks: usize,
     windows: usize,
 ) -> Result<Copies<'a, H, J, R>, AllocError>
     requires book { opened ≡ J.book }
     requires origin { origin_of fabric.now ≡ J.office.origin }
+    requires clerks { clerks ≡ J.office.clerks }
     requires windows { (0 < windows) × (windows < 2 ^ 32) }
     ensures { IfOk result (λ publisher. publisher ≡ record { handed = []; shown = [] }) }
 {
-    let first = Copied::of(fabric.copy()?);
-    let second = Copied::of(fabric.copy()?);
+    let first = Copied::of(fabric.copy()?, clerks);
+    let second = Copied::of(fabric.copy()?, clerks);
     Publisher::open(rt, heap, opened, first, second, windows)
 }
 
@@ -121,20 +123,45 @@ pub(crate) fn windows_of<'a, H: Allocator, J: Naming<H>, R: Wait + Drop>(
 {
     let mut made = Vec::new(heap);
     for place in 0..windows {
-        let Ok(reader) = publisher.reader() else {
-            return Err(OpenFault::NoWindow(place + 1));
-        };
-        let front = publisher.front().again();
-        let window = Window {
-            reader,
-            front,
-            heap,
-        };
-        let Ok(()) = made.push(window) else {
-            return Err(OpenFault::NoMemory);
-        };
+        let window = new_window(heap, publisher, place + 1)?;
+        push_window(&mut made, window)?;
     }
     Ok(made)
+}
+
+/// The window of this number, from 1; K3 with its number where it is given no reader.
+fn new_window<'a, H: Allocator, J: Naming<H>, R: Wait + Drop>(
+    heap: &'a H,
+    publisher: &Copies<'a, H, J, R>,
+    number: usize,
+) -> Result<Window<'a, H, J>, OpenFault>
+    requires { publisher.now.handed ≡ [] }
+    ensures fresh { IfOk result (λ window. window ≡ window_of J.office.origin) }
+    ensures fault { IfErr result (λ fault. fault ≡ NoWindow number) }
+{
+    let Ok(reader) = publisher.reader() else {
+        return Err(OpenFault::NoWindow(number));
+    };
+    let front = publisher.front().again();
+    Ok(Window {
+        reader,
+        front,
+        heap,
+    })
+}
+
+/// Puts a window behind the others; out of memory where the list has no room.
+fn push_window<'a, H: Allocator, J: Naming<H>>(
+    made: &mut Vec<Window<'a, H, J>, &'a H>,
+    window: Window<'a, H, J>,
+) -> Result<(), OpenFault>
+    ensures pushed { OnOk result (made.new.items ≡ made.old.items ++ window.entry ∷ []) }
+    ensures fault { IfErr result (λ fault. fault ≡ NoMemory) }
+{
+    let Ok(()) = made.push(window) else {
+        return Err(OpenFault::NoMemory);
+    };
+    Ok(())
 }
 
 /// What an office has beside the fabric.
@@ -157,7 +184,8 @@ pub(crate) fn parts_of<'a, H: Allocator, J: Naming<H>, R: Wait + Drop>(
 ) -> Result<Parts<'a, H, J, R>, OpenFault>
     requires names { (name.book ≡ J.book) × (name.cards ≡ J.office.cards) }
     requires origin { origin_of fabric.now ≡ J.office.origin }
-    requires clerks { clerks ≤ MOST_PLACES }
+    requires clerks { clerks ≡ J.office.clerks }
+    requires few { clerks ≤ MOST_PLACES }
     requires windows { (0 < windows) × (windows < 2 ^ 32) }
     ensures keeper { IfOk result (λ parts. parts.keeper
         ≡ record { name = J.office.cards; clerks = MOST_PLACES; dealt = clerks; all = [] }) }
@@ -168,7 +196,7 @@ pub(crate) fn parts_of<'a, H: Allocator, J: Naming<H>, R: Wait + Drop>(
 {
     let Name { opened, mut keeper } = name;
     let cards = deal(heap, &mut keeper, clerks)?;
-    let publisher = publisher_of(rt, heap, opened, fabric, windows)?;
+    let publisher = publisher_of(rt, heap, opened, fabric, clerks, windows)?;
     match windows_of(heap, &publisher, windows) {
         Ok(windows) => Ok(Parts {
             keeper,

@@ -7,50 +7,13 @@ use fabric_core::Entry;
 use std::alloc::Allocator;
 use std::marker::Model;
 
-/// What a receipt tells that was published, beside where it lies. Contracts see the list.
-#[derive(Drop)]
-pub(crate) struct Published<'a, H: Allocator, J: Naming<H>> {
-    pub(crate) front: Front<Entry<&'a H>, J>,
-    pub(crate) heap: &'a H,
-}
-
-impl<'a, H: Allocator, J: Naming<H>> Model for Published<'a, H, J> {
-    ghost use Rattle.std.specs.Prelude.{List};
-    ghost use Rattle.std.specs.Borrow.{Bor};
-    ghost use Rattle.fabric_core.specs.Journal.{JournalEntry};
-
-    ghost Value = { List (JournalEntry (Bor H)) };
-
-    ghost view = { λ published. published.front };
-}
-
-impl<'a, H: Allocator, J: Naming<H>> Published<'a, H, J> {
-    /// A list that may be there.
-    pub(crate) fn of(
-        front: Option<Front<Entry<&'a H>, J>>,
-        heap: &'a H,
-    ) -> Option<Published<'a, H, J>>
-        ensures { result ≡ front.entry }
-    {
-        let front = front?;
-        Some(Published { front, heap })
-    }
-
-    /// The list.
-    pub(crate) fn front(&self) -> &Front<Entry<&'a H>, J>
-        ensures { result.now ≡ self.now }
-    {
-        &self.front
-    }
-}
-
 /// A receipt for an edit that was accepted: its entry, and whether a version with it was published.
 ///
 /// Contracts see the entry, whether it was published, and the journal that it tells: the entries up
 /// to its own where it was, else none.
 pub struct Receipt<'a, H: Allocator, J: Naming<H>> {
     pub(crate) entry: Entry<&'a H>,
-    pub(crate) front: Option<Published<'a, H, J>>,
+    pub(crate) notice: Option<Notice<'a, H, J>>,
     // Where the entry lies.
     pub(crate) heap: &'a H,
 }
@@ -60,7 +23,7 @@ impl<'a, H: Allocator, J: Naming<H>> Drop for Receipt<'a, H, J> {
     fn drop(self) {
         let Receipt {
             entry: _,
-            front: _,
+            notice: _,
             heap: _,
         } = self;
     }
@@ -76,8 +39,8 @@ impl<'a, H: Allocator, J: Naming<H>> Model for Receipt<'a, H, J> {
 
     ghost view = { λ receipt. record {
       entry = receipt.entry;
-      published = is_some receipt.front;
-      told = told_by J.office.origin receipt.front;
+      published = is_some receipt.notice;
+      told = told_by receipt.notice;
     } };
 }
 
@@ -100,7 +63,7 @@ impl<'a, H: Allocator, J: Naming<H>> Receipt<'a, H, J> {
     pub fn published(&self) -> bool
         ensures { result ≡ self.now.published }
     {
-        self.front.is_some()
+        self.notice.is_some()
     }
 }
 

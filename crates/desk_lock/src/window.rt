@@ -1,5 +1,5 @@
 //! Windows, at which it is asked where a place lies, and which ring a parcel has.
-ghost use Rattle.std.specs.Prelude.{◌≡◌, ◌≢◌, ◌++◌, length, IfOk, IfErr, MatchOption};
+ghost use Rattle.std.specs.Prelude.{◌≡◌, ◌≢◌, ◌<◌, ◌≤◌, ◌++◌, length, IfOk, IfErr, MatchBool, MatchOption};
 ghost use Rattle.std.specs.List.{Contains};
 ghost use mathlib.Core.List.{IsPrefix};
 ghost use Rattle.geo_exact.specs.Point.{corner_point};
@@ -7,7 +7,7 @@ ghost use Rattle.geo_exact.specs.Layers.{NumberedRing, numbered};
 ghost use Rattle.fabric_core.specs.Locate.{IsLocatedAt};
 ghost use Rattle.fabric_core.specs.Journal.{replay};
 ghost use Rattle.fabric_core.specs.EditResults.{IsLawful};
-ghost use Rattle.desk_lock.specs.Offices.{Learns};
+ghost use Rattle.desk_lock.specs.Offices.{Learns, AreOfClerks, behind};
 ghost use Rattle.desk_lock.specs.declared.window.LocateFault.TheVariants.{NoVersion};
 
 use crate::copied::Copied;
@@ -87,9 +87,8 @@ impl<'a, H: Allocator, J: Naming<H>> Window<'a, H, J> {
     pub fn learn(&mut self, receipt: &Receipt<'a, H, J>)
         ensures { Learns self.old receipt.now.told self.new }
     {
-        if let Some(published) = &receipt.front {
-            let front = published.front();
-            self.front.learn(front);
+        if let Some(notice) = &receipt.notice {
+            self.learn_notice(notice);
         }
     }
 
@@ -112,9 +111,11 @@ impl<'a, H: Allocator, J: Naming<H>> Window<'a, H, J> {
     /// ```
     pub fn entries(&mut self) -> Result<u64, LocateFault>
         ensures opening { self.new.opening ≡ self.old.opening }
+        ensures origin { IsPrefix J.office.origin.journal self.new.seen }
         ensures begins { IsPrefix self.old.seen self.new.seen }
         ensures count { IfOk result (λ entries. entries ≡ length self.new.seen) }
         ensures lawful { IfOk result (λ entries. IsLawful self.new.opening self.new.seen) }
+        ensures of_clerks { IfOk result (λ entries. AreOfClerks J.office.clerks (behind J.office.origin self.new.seen)) }
         ensures fault { IfErr result (λ fault. fault ≡ NoVersion) }
         ensures no_version { IfErr result (λ fault. fault ≡ NoVersion → self.new ≡ self.old) }
     {
@@ -137,9 +138,11 @@ impl<'a, H: Allocator, J: Naming<H>> Window<'a, H, J> {
     /// ```
     pub fn parcel(&mut self, id: u64) -> Result<(u64, Option<Corners<&'a H>>), LocateFault>
         ensures opening { self.new.opening ≡ self.old.opening }
+        ensures origin { IsPrefix J.office.origin.journal self.new.seen }
         ensures begins { IsPrefix self.old.seen self.new.seen }
         ensures count { IfOk result (λ answer. answer.0 ≡ length self.new.seen) }
         ensures lawful { IfOk result (λ answer. IsLawful self.new.opening self.new.seen) }
+        ensures of_clerks { IfOk result (λ answer. AreOfClerks J.office.clerks (behind J.office.origin self.new.seen)) }
         ensures parcel { IfOk result (λ answer. MatchOption answer.1
             ((row : NumberedRing) → Contains (replay self.new.opening self.new.seen).rows row → row.number ≢ id)
             (λ ring. Contains (replay self.new.opening self.new.seen).rows (numbered id ring))) }
@@ -170,9 +173,11 @@ impl<'a, H: Allocator, J: Naming<H>> Window<'a, H, J> {
     /// ```
     pub fn locate(&mut self, corner: Corner) -> Result<(u64, At<&'a H>), LocateFault>
         ensures opening { self.new.opening ≡ self.old.opening }
+        ensures origin { IsPrefix J.office.origin.journal self.new.seen }
         ensures begins { IsPrefix self.old.seen self.new.seen }
         ensures count { IfOk result (λ answer. answer.0 ≡ length self.new.seen) }
         ensures lawful { IfOk result (λ answer. IsLawful self.new.opening self.new.seen) }
+        ensures of_clerks { IfOk result (λ answer. AreOfClerks J.office.clerks (behind J.office.origin self.new.seen)) }
         ensures at { IfOk result (λ answer.
             IsLocatedAt (replay self.new.opening self.new.seen).rows (corner_point corner) answer.1) }
         ensures no_version { IfErr result (λ fault. fault ≡ NoVersion → self.new ≡ self.old) }
@@ -195,11 +200,18 @@ fn enter<'r, 'a, H: Allocator, J: Naming<H>>(
     ensures entered { MatchOption result (front.new ≡ front.old) (λ version. version.reading.part.value ≡ front.new) }
 {
     let version = reader.enter()?;
-    if version.front().len() < front.len() {
+    if is_older(version.front(), front) {
         return None;
     }
     front.learn(version.front());
     Some(version)
+}
+
+/// Whether a version has fewer entries than a window was told.
+fn is_older<E, J: entry_history::Naming>(version: &Front<E, J>, told: &Front<E, J>) -> bool
+    ensures { MatchBool result (length version.now < length told.now) (length told.now ≤ length version.now) }
+{
+    version.len() < told.len()
 }
 
 /// The fabric of a version: its journal is that of the fabric which was handed in, and behind it the
@@ -209,6 +221,7 @@ fn fabric_of<'v, 'a, H: Allocator, J: Naming<H>>(
 ) -> &'v Fabric<'a, H>
     ensures journal { result.now.journal ≡ J.office.origin.journal ++ version.now }
     ensures lawful { IsLawful J.office.origin.opening (J.office.origin.journal ++ version.now) }
+    ensures of_clerks { AreOfClerks J.office.clerks (behind J.office.origin (J.office.origin.journal ++ version.now)) }
     ensures now { result.now.now ≡ replay J.office.origin.opening (J.office.origin.journal ++ version.now) }
 {
     let fabric = version.value().fabric();

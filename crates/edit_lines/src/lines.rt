@@ -1,13 +1,12 @@
 //! The line of an edit.
 
-ghost use Rattle.std.specs.Prelude.{◌≡◌, ◌++◌, codes, decimal, OnOk};
+ghost use Rattle.std.specs.Prelude.{◌≡◌, ◌++◌, OnOk};
 ghost use Rattle.edit_lines.specs.EditLine.{places_text, edit_text, edit_line};
 
 use geo_exact::Corner;
-use itoa::Buffer;
 use ring_edits::Edit;
 use std::alloc::{AllocError, Allocator};
-use text_pieces::push_corner;
+use text_pieces::{push_corner, push_number};
 
 /// Adds the line of an edit, as a clerk's file in whole millimetres has it, with its line feed:
 ///
@@ -49,20 +48,20 @@ fn push_edit<A: Allocator, B: Allocator>(
     match edit {
         Edit::Split { id, path } => {
             text.extend_from_slice(b"split ")?;
-            push_id(text, *id)?;
+            push_number(text, *id)?;
             push_places(text, path.as_slice())?;
         }
         Edit::Merge { a, b } => {
             text.extend_from_slice(b"merge ")?;
-            push_id(text, *a)?;
+            push_number(text, *a)?;
             text.push(b' ')?;
-            push_id(text, *b)?;
+            push_number(text, *b)?;
         }
         Edit::Move { a, b, path } => {
             text.extend_from_slice(b"move ")?;
-            push_id(text, *a)?;
+            push_number(text, *a)?;
             text.push(b' ')?;
-            push_id(text, *b)?;
+            push_number(text, *b)?;
             push_places(text, path.as_slice())?;
         }
         Edit::Insert { from, to, at } => {
@@ -74,15 +73,6 @@ fn push_edit<A: Allocator, B: Allocator>(
             push_places(text, &[*at])?;
         }
     }
-    Ok(())
-}
-
-/// Adds the number of a parcel.
-fn push_id<A: Allocator>(text: &mut Vec<u8, A>, id: u64) -> Result<(), AllocError>
-    ensures { OnOk result (text.new.items ≡ text.old.items ++ decimal id) }
-{
-    let mut digits = Buffer::new();
-    text.extend_from_slice(digits.format(id).as_bytes())?;
     Ok(())
 }
 

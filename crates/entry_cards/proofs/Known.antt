@@ -7,7 +7,8 @@ use Rattle.std.specs.List.{AllByRecursion}
 use Rattle.std.proofs.lemmas.Bool.{cases_eq, cases_lt}
 use Rattle.std.proofs.lemmas.List.Elements.{All-from_recursion}
 use Rattle.std.proofs.lemmas.List.Sums.{sum_by-cons}
-use Rattle.entry_cards.specs.Cards.{IsClerk, HasAll, AccountFor, of_clerk, times}
+use Rattle.entry_cards.specs.declared.view.Card.{Card}
+use Rattle.entry_cards.specs.Cards.{IsClerk, HasAll, HasMet, AccountFor, of_clerk, times}
 use Rattle.entry_cards.specs.own.Rule.{blank_cards, taken_in, AreKnown}
 use Rattle.entry_cards.proofs.Lists.{all_left, all_right, beyond_next, times-cons, times-append, times_first}
 use Rattle.entry_cards.proofs.Lists.{length-blank_cards, blank_before, blank_one, at_most_one, one_is_clerk}
@@ -63,30 +64,30 @@ module _ {E : Type 0} where
   its_length true x xs = omega arith
   its_length false x xs = omega arith
 
-  abbrev entries_of : List (ℕ × E) → List (ℕ × List E) → ℕ
-  entries_of all cards = sum_by (λ card. length (of_clerk card.0 all)) cards
+  abbrev number_of : List (ℕ × E) → List (Card E) → ℕ
+  number_of all cards = sum_by (λ card. length (of_clerk card.clerk all)) cards
 
-  no_entries : (cards : List (ℕ × List E)) → entries_of [] cards ≡ 0
+  no_entries : (cards : List (Card E)) → number_of [] cards ≡ 0
   no_entries [] = refl
   no_entries (card ∷ cards) =
-      let sum = sum_by-cons (λ (c : ℕ × List E). length (of_clerk {E = E} c.0 [])) card cards in
+      let sum = sum_by-cons (λ (c : Card E). length (of_clerk {E = E} c.clerk [])) card cards in
       let rest = no_entries cards in
       omega (arith, sum, rest)
 
-  one_more : (k : ℕ) (entry : E) (all : List (ℕ × E)) (cards : List (ℕ × List E))
-      → entries_of ((k, entry) ∷ all) cards ≡ times k cards + entries_of all cards
+  one_more : (k : ℕ) (entry : E) (all : List (ℕ × E)) (cards : List (Card E))
+      → number_of ((k, entry) ∷ all) cards ≡ times k cards + number_of all cards
   one_more k entry all [] = refl
   one_more k entry all (card ∷ cards) =
-      let new = sum_by-cons (λ (c : ℕ × List E). length (of_clerk c.0 ((k, entry) ∷ all))) card cards in
-      let old = sum_by-cons (λ (c : ℕ × List E). length (of_clerk c.0 all)) card cards in
-      let first = its_length (nat_eq k card.0) (k, entry) (filter (λ e. nat_eq e.0 card.0) all) in
+      let new = sum_by-cons (λ (c : Card E). length (of_clerk c.clerk ((k, entry) ∷ all))) card cards in
+      let old = sum_by-cons (λ (c : Card E). length (of_clerk c.clerk all)) card cards in
+      let first = its_length (nat_eq k card.clerk) (k, entry) (filter (λ e. nat_eq e.0 card.clerk) all) in
       let count = times-cons k card cards in
       let rest = one_more k entry all cards in
       omega (arith, new, old, first, count, rest)
 
-  all_entries : (n : ℕ) (all : List (ℕ × E)) (cards : List (ℕ × List E)) → AllByRecursion (λ e. IsClerk n e.0) all
+  all_entries : (n : ℕ) (all : List (ℕ × E)) (cards : List (Card E)) → AllByRecursion (λ e. IsClerk n e.0) all
       → ((k : ℕ) → IsClerk n k → times k cards ≡ 1)
-      → entries_of all cards ≡ length all
+      → number_of all cards ≡ length all
   all_entries n [] cards of_clerks distinct = no_entries cards
   all_entries n ((k, entry) ∷ all) cards of_clerks distinct =
       let more = one_more k entry all cards in
@@ -94,23 +95,23 @@ module _ {E : Type 0} where
       let rest = all_entries n all cards of_clerks.1 distinct in
       omega (arith, more, one, rest)
 
-  made_are : (all : List (ℕ × E)) (cards : List (ℕ × List E)) → AllByRecursion (HasAll all) cards
-      → sum_by (λ card. length card.1) cards ≡ entries_of all cards
+  made_are : (all : List (ℕ × E)) (cards : List (Card E)) → AllByRecursion (HasAll all) cards
+      → sum_by (λ card. length card.made) cards ≡ number_of all cards
   made_are all [] own = refl
   made_are all (card ∷ cards) own =
-      let made = sum_by-cons (λ (c : ℕ × List E). length c.1) card cards in
-      let old = sum_by-cons (λ (c : ℕ × List E). length (of_clerk c.0 all)) card cards in
+      let made = sum_by-cons (λ (c : Card E). length c.made) card cards in
+      let old = sum_by-cons (λ (c : Card E). length (of_clerk c.clerk all)) card cards in
       let first = ap length own.0 in
       let rest = made_are all cards own.1 in
       omega (arith, made, old, first, rest)
 
   -- ---- one stub, and all
-  pub one_stub : (clerks dealt : ℕ) (all : List (ℕ × E)) (card : ℕ × List E) → dealt ≤ clerks
+  pub one_stub : (clerks dealt : ℕ) (all : List (ℕ × E)) (card : Card E) → dealt ≤ clerks
       → AreKnown clerks all (card ∷ blank_cards dealt (clerks - dealt))
-      → HasAll all card × IsClerk dealt card.0
+      → HasAll all card × IsClerk dealt card.clerk
   one_stub clerks dealt all card few known =
-      let blanks : List (ℕ × List E) = blank_cards dealt (clerks - dealt) in
-      let k : ℕ = card.0 in
+      let blanks : List (Card E) = blank_cards dealt (clerks - dealt) in
+      let k : ℕ = card.clerk in
       let first : times k (card ∷ blanks) ≡ 1 + times k blanks = times_first card blanks in
       let once = known.at_most_once k in
       let one = at_most_one E k clerks in
@@ -128,12 +129,12 @@ module _ {E : Type 0} where
         },
       )
 
-  pub all_stubs : (clerks dealt : ℕ) (all : List (ℕ × E)) (cards : List (ℕ × List E)) → dealt ≤ clerks
+  pub all_stubs : (clerks dealt : ℕ) (all : List (ℕ × E)) (cards : List (Card E)) → dealt ≤ clerks
       → length cards ≡ dealt
       → AreKnown clerks all (cards ++ blank_cards dealt (clerks - dealt)) → AccountFor dealt all cards
   all_stubs clerks dealt all cards few count known =
       let n : ℕ = clerks - dealt in
-      let blanks : List (ℕ × List E) = blank_cards dealt n in
+      let blanks : List (Card E) = blank_cards dealt n in
       let together = length-append cards blanks in
       let left = length-blank_cards E dealt n in
       let whole : length (cards ++ blanks) ≡ clerks = omega (arith, together, left, count, few) in
@@ -152,17 +153,18 @@ module _ {E : Type 0} where
       (λ k more most. blank_has_none all k dealt n unused more (omega (arith, most, few))) in
       record {
         agree = All-from_recursion (HasAll all) cards own;
+        met = All-from_recursion (HasMet all) cards (all_left (HasMet all) cards blanks known.met);
         distinct = distinct;
         known = All-from_recursion (λ (e : ℕ × E). IsClerk dealt e.0) all of_dealt;
         total = sym (made_are all cards own ∙ all_entries dealt all cards of_dealt distinct);
       }
 
   -- ---- the cards that a gathering took in
-  pub taken_in_front : (clerks dealt : ℕ) (cards : List (ℕ × List E))
+  pub taken_in_front : (clerks dealt : ℕ) (cards : List (Card E))
       → taken_in clerks dealt (cards ++ blank_cards dealt (clerks - dealt)) ≡ cards
   taken_in_front clerks dealt cards =
       let n : ℕ = clerks - dealt in
-      let blanks : List (ℕ × List E) = blank_cards dealt n in
+      let blanks : List (Card E) = blank_cards dealt n in
       let together = length-append cards blanks in
       let left = length-blank_cards E dealt n in
       let count : length (cards ++ blanks) - n ≡ length cards = omega (arith, together, left) in

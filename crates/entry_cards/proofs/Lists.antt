@@ -1,13 +1,15 @@
 -- Cards of clerks, and the entries of one clerk in a list.
 use Rattle.std.proofs.Common.{◌≡◌, ◌≢◌, ⊎_elim, refl, sym, ◌∙◌, ap, arith, ℕ, zero, suc, ◌+◌, ◌<◌, ◌≤◌}
-use Rattle.std.proofs.Common.{nat_eq, cond, List, [], ◌∷◌, ◌++◌, map, length, append-nil, eq-eqb, ne_eqb}
+use Rattle.std.proofs.Common.{nat_eq, cond, List, [], ◌∷◌, ◌++◌, map, length, append-nil, append_assoc, eq-eqb, ne_eqb}
 use Rattle.std.specs.List.{AllByRecursion}
 use Rattle.std.proofs.lemmas.Bool.{cases_eq, cases_lt}
 use Rattle.std.proofs.lemmas.List.{map-append}
 use Rattle.std.proofs.lemmas.List.Elements.{filter-append}
 use Rattle.std.proofs.lemmas.List.Sums.{sum_by-cons, sum_by-append, count_by-le-length}
-use Rattle.entry_cards.specs.Cards.{IsClerk, HasAll, of_clerk, times}
-use Rattle.entry_cards.specs.own.Rule.{blank_cards}
+use mathlib.Core.List.{IsPrefix}
+use Rattle.entry_cards.specs.declared.view.Card.{Card}
+use Rattle.entry_cards.specs.Cards.{IsClerk, HasAll, HasMet, entries_of, of_clerk, times}
+use Rattle.entry_cards.specs.own.Rule.{blank_cards, blank_card}
 
 module _ {X : Type 0} (P : X → Type 0) where
   pub all_append : (xs ys : List X) → AllByRecursion P xs → AllByRecursion P ys → AllByRecursion P (xs ++ ys)
@@ -37,18 +39,18 @@ beyond_next k before less apart = ⊎_elim
     (cases_lt (suc before) k)
 
 module _ {E : Type 0} where
-  pub times-cons : (k : ℕ) (card : ℕ × List E) (cards : List (ℕ × List E))
-      → times k (card ∷ cards) ≡ cond (nat_eq k card.0) 1 0 + times k cards
+  pub times-cons : (k : ℕ) (card : Card E) (cards : List (Card E))
+      → times k (card ∷ cards) ≡ cond (nat_eq k card.clerk) 1 0 + times k cards
   times-cons k card cards = sum_by-cons _ card cards
 
-  pub times-append : (k : ℕ) (cards others : List (ℕ × List E)) → times k (cards ++ others) ≡ times k cards + times k others
+  pub times-append : (k : ℕ) (cards others : List (Card E)) → times k (cards ++ others) ≡ times k cards + times k others
   times-append k cards others = sum_by-append _ cards others
 
-  pub times_at_most : (k : ℕ) (cards : List (ℕ × List E)) → times k cards ≤ length cards
+  pub times_at_most : (k : ℕ) (cards : List (Card E)) → times k cards ≤ length cards
   times_at_most k cards = count_by-le-length _ cards
 
-  pub times_first : (card : ℕ × List E) (cards : List (ℕ × List E)) → times card.0 (card ∷ cards) ≡ 1 + times card.0 cards
-  times_first card cards = times-cons card.0 card cards ∙ ap (λ n. n + times card.0 cards) (here card.0 card.0 refl)
+  pub times_first : (card : Card E) (cards : List (Card E)) → times card.clerk (card ∷ cards) ≡ 1 + times card.clerk cards
+  times_first card cards = times-cons card.clerk card cards ∙ ap (λ n. n + times card.clerk cards) (here card.clerk card.clerk refl)
 
 -- ---- blank cards
 module _ (E : Type 0) where
@@ -59,7 +61,7 @@ module _ (E : Type 0) where
   pub blank_before : (k before n : ℕ) → k ≤ before → times k (blank_cards {E = E} before n) ≡ 0
   blank_before k before zero less = refl
   blank_before k before (suc n) less =
-      let all = times-cons k (suc before, []) (blank_cards {E = E} (suc before) n) in
+      let all = times-cons k (blank_card (suc before)) (blank_cards {E = E} (suc before) n) in
       let first = elsewhere k (suc before) (λ same. absurd (omega (arith, same, less))) in
       let rest = blank_before k (suc before) n (omega (arith, less)) in
       omega (arith, all, first, rest)
@@ -67,7 +69,7 @@ module _ (E : Type 0) where
   pub blank_behind : (k before n : ℕ) → before + n < k → times k (blank_cards {E = E} before n) ≡ 0
   blank_behind k before zero more = refl
   blank_behind k before (suc n) more =
-      let all = times-cons k (suc before, []) (blank_cards {E = E} (suc before) n) in
+      let all = times-cons k (blank_card (suc before)) (blank_cards {E = E} (suc before) n) in
       let first = elsewhere k (suc before) (λ same. absurd (omega (arith, same, more))) in
       let rest = blank_behind k (suc before) n (omega (arith, more)) in
       omega (arith, all, first, rest)
@@ -75,7 +77,7 @@ module _ (E : Type 0) where
   pub blank_one : (k before n : ℕ) → before < k → k ≤ before + n → times k (blank_cards {E = E} before n) ≡ 1
   blank_one k before zero less most = absurd (omega (arith, less, most))
   blank_one k before (suc n) less most =
-      let all = times-cons k (suc before, []) (blank_cards {E = E} (suc before) n) in
+      let all = times-cons k (blank_card (suc before)) (blank_cards {E = E} (suc before) n) in
       ⊎_elim
       (λ (same : k ≡ suc before).
       let first = here k (suc before) same in
@@ -128,11 +130,29 @@ module _ {E : Type 0} where
       ∙ append-nil (of_clerk k all)
 
   -- cards of other clerks have all of their clerks' entries after one more
-  pub others_have_all : (k : ℕ) (all : List (ℕ × E)) (entry : E) (cards : List (ℕ × List E)) → times k cards ≡ 0
+  pub others_have_all : (k : ℕ) (all : List (ℕ × E)) (entry : E) (cards : List (Card E)) → times k cards ≡ 0
       → AllByRecursion (HasAll all) cards
       → AllByRecursion (HasAll (all ++ (k, entry) ∷ [])) cards
   others_have_all k all entry [] none own = tt
   others_have_all k all entry (card ∷ cards) none own =
       let count = times-cons k card cards in
-      let apart : card.0 ≢ k = (λ same. let one = here k card.0 (sym same) in absurd (omega (arith, count, none, one))) in
-      (own.0 ∙ sym (of_clerk_other card.0 k all entry apart), others_have_all k all entry cards (omega (arith, count, none)) own.1)
+      let apart : card.clerk ≢ k = (λ same. let one = here k card.clerk (sym same) in absurd (omega (arith, count, none, one))) in
+      (own.0 ∙ sym (of_clerk_other card.clerk k all entry apart), others_have_all k all entry cards (omega (arith, count, none)) own.1)
+
+  -- ---- what cards met
+  met_more : (all : List (ℕ × E)) (xs : List E) (entry : ℕ × E) → IsPrefix xs (entries_of all)
+      → IsPrefix xs (entries_of (all ++ entry ∷ []))
+  met_more all xs entry p = (
+    p.0 ++ entry.1 ∷ [],
+    sym (append_assoc xs p.0 (entry.1 ∷ []))
+        ∙ (ap (λ l. l ++ entry.1 ∷ []) p.1 ∙ sym (map-append (λ (e : ℕ × E). e.1) all (entry ∷ []))),
+  )
+
+  pub all_met_more : (all : List (ℕ × E)) (entry : ℕ × E) (cards : List (Card E)) → AllByRecursion (HasMet all) cards
+      → AllByRecursion (HasMet (all ++ entry ∷ [])) cards
+  all_met_more all entry [] met = tt
+  all_met_more all entry (card ∷ cards) met = (met_more all card.met entry met.0, all_met_more all entry cards met.1)
+
+  -- what all entries are begins them
+  pub begins_all : (all known : List (ℕ × E)) → known ≡ all → IsPrefix (entries_of known) (entries_of all)
+  begins_all all known same = ([], append-nil (entries_of known) ∙ ap entries_of same)

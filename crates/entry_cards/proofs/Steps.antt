@@ -8,11 +8,13 @@ use mathlib.Core.Option.{some, some-ne-none, some-injective}
 use lib.ListN.{get_elem?}
 use Rattle.atomic_table.proofs.Lists.{at_set, at_snoc, set_else, set_again}
 use Rattle.entry_cards.specs.declared.view.View.{View}
-use Rattle.entry_cards.specs.Cards.{IsClerk, HasAll, times}
+use Rattle.entry_cards.specs.declared.view.Card.{Card}
+use Rattle.entry_cards.specs.Cards.{IsClerk, HasAll, HasMet, times}
 use Rattle.entry_cards.specs.own.Rule.{blank_cards, IsKept, keeper_view, stub_view, spent_view, joined, without_first}
-use Rattle.entry_cards.specs.own.Rule.{first_of, with_entry, with_more, AreKnown, KnowsCards}
+use Rattle.entry_cards.specs.own.Rule.{first_of, with_met, with_all_met, with_entry, with_more, AreKnown, KnowsCards}
 use Rattle.entry_cards.proofs.Lists.{all_append, times-cons, times-append, times_at_most, times_first}
 use Rattle.entry_cards.proofs.Lists.{length-blank_cards, at_most_one, one_is_clerk, of_clerk_more, others_have_all}
+use Rattle.entry_cards.proofs.Lists.{all_met_more, begins_all}
 use Rattle.entry_cards.proofs.Sums.{sum_set, at_in, two_in, all_in_one}
 
 true_is_not_false : {P : Type 0} → false ≡ true → P
@@ -21,6 +23,10 @@ true_is_not_false same = absurd (cc)
 blank_have_all : (E : Type 0) (before n : ℕ) → AllByRecursion (HasAll {E = E} []) (blank_cards before n)
 blank_have_all E before zero = tt
 blank_have_all E before (suc n) = (refl, blank_have_all E (suc before) n)
+
+blank_have_met : (E : Type 0) (before n : ℕ) → AllByRecursion (HasMet {E = E} []) (blank_cards before n)
+blank_have_met E before zero = tt
+blank_have_met E before (suc n) = (([], refl), blank_have_met E (suc before) n)
 
 alone : {X : Type 0} (x y : X) (i : ℕ) → get_elem? (x ∷ []) i ≡ some y → (i ≡ 0) × (x ≡ y)
 alone x y zero at = (refl, some-injective x y at)
@@ -34,12 +40,12 @@ module _ {E : Type 0} where
   abbrev size : View E → ℕ
   size view = length view.cards
 
-  abbrev of : ℕ → Bool → List (ℕ × E) → List (ℕ × List E) → View E
+  abbrev of : ℕ → Bool → List (ℕ × E) → List (Card E) → View E
   of clerks keeps all cards = record { clerks = clerks; keeps = keeps; all = all; cards = cards }
 
   -- ---- an entry is added
   pub adds : (clerks : ℕ) (views : List (View E)) (id n : ℕ) (keeps : Bool) (xs : List (ℕ × E))
-      (cards : List (ℕ × List E)) (entry : E)
+      (cards : List (Card E)) (entry : E)
       → IsKept clerks views
       → get_elem? views id ≡ some (of n keeps xs cards) → keeps ≡ true → 0 < length cards
       → IsKept clerks (set views id (with_more (of n keeps xs cards) (some entry)))
@@ -47,7 +53,7 @@ module _ {E : Type 0} where
   adds clerks views id n keeps xs (card ∷ cards) entry kept at right some_card =
       let v = of n keeps xs (card ∷ cards) in
       let w = with_more v (some entry) in
-      let k : ℕ = card.0 in
+      let k : ℕ = card.clerk in
       let all : List (ℕ × E) = kept.all ++ (k, entry) ∷ [] in
       let mine = kept.knows id v at right in
       let own = kept.own id v at in
@@ -76,10 +82,17 @@ module _ {E : Type 0} where
             let both = two_in (its k) views id seat v u spent_view refl at other.1 other.0 in
             others_have_all k kept.all entry u.cards (omega (arith, once, first, both)) (kept.own seat u other.1))
             (at_set views id seat w u there);
+        met = λ seat u there. ⊎_elim
+            (λ same. subst (λ (x : View E). AllByRecursion (HasMet all) x.cards) same.1 (
+              begins_all all w.all (ap (λ l. l ++ (k, entry) ∷ []) mine.1),
+              all_met_more kept.all (k, entry) cards (kept.met id v at).1,
+            ))
+            (λ other. all_met_more kept.all (k, entry) u.cards (kept.met seat u other.1))
+            (at_set views id seat w u there);
         each_once = λ j.
             let changed = sum_set (its j) views id v w at in
             let old = times-cons j card cards in
-            let new = times-cons j (with_entry card entry) cards in
+            let new = times-cons j (with_met (with_entry card entry) w.all) cards in
             let total = kept.each_once j in
             omega (arith, changed, old, new, total);
         whole = let changed = sum_set size views id v w at in let total = kept.whole in omega (arith, changed, total);
@@ -87,8 +100,50 @@ module _ {E : Type 0} where
             ((let total = kept.each_once k in one_is_clerk E k clerks (omega (arith, total, first, here))), tt);
       }
 
+  -- ---- the first card meets who keeps
+  pub meets : (clerks : ℕ) (views : List (View E)) (id n : ℕ) (keeps : Bool) (xs : List (ℕ × E)) (cards : List (Card E))
+      → IsKept clerks views
+      → get_elem? views id ≡ some (of n keeps xs cards) → keeps ≡ true → 0 < length cards
+      → IsKept clerks (set views id (with_all_met (of n keeps xs cards)))
+  meets clerks views id n keeps xs [] kept at right some_card = absurd (omega (arith, some_card))
+  meets clerks views id n keeps xs (card ∷ cards) kept at right some_card =
+      let v = of n keeps xs (card ∷ cards) in
+      let w = with_all_met v in
+      let mine = kept.knows id v at right in
+      record {
+        keeper = kept.keeper;
+        all = kept.all;
+        knows = λ seat u there keeps'. ⊎_elim
+            (λ same. (
+              same.0 ∙ mine.0,
+              ap (λ (x : View E). x.all) (sym same.1) ∙ mine.1,
+              ap (λ (x : View E). x.clerks) (sym same.1) ∙ mine.2,
+            ))
+            (λ other. kept.knows seat u other.1 keeps')
+            (at_set views id seat w u there);
+        own = λ seat u there. ⊎_elim
+            (λ same. subst (λ (x : View E). AllByRecursion (HasAll kept.all) x.cards) same.1 (kept.own id v at))
+            (λ other. kept.own seat u other.1)
+            (at_set views id seat w u there);
+        met = λ seat u there. ⊎_elim
+            (λ same. subst (λ (x : View E). AllByRecursion (HasMet kept.all) x.cards) same.1 (
+              begins_all kept.all xs mine.1,
+              (kept.met id v at).1,
+            ))
+            (λ other. kept.met seat u other.1)
+            (at_set views id seat w u there);
+        each_once = λ j.
+            let changed = sum_set (its j) views id v w at in
+            let old = times-cons j card cards in
+            let new = times-cons j (with_met card xs) cards in
+            let total = kept.each_once j in
+            omega (arith, changed, old, new, total);
+        whole = let changed = sum_set size views id v w at in let total = kept.whole in omega (arith, changed, total);
+        of_clerks = kept.of_clerks;
+      }
+
   -- ---- the first card is cut off
-  pub cuts : (clerks : ℕ) (views : List (View E)) (id n : ℕ) (keeps : Bool) (xs : List (ℕ × E)) (cards : List (ℕ × List E))
+  pub cuts : (clerks : ℕ) (views : List (View E)) (id n : ℕ) (keeps : Bool) (xs : List (ℕ × E)) (cards : List (Card E))
       → IsKept clerks views
       → get_elem? views id ≡ some (of n keeps xs cards) → 0 < length cards
       → IsKept clerks (set views id (without_first (of n keeps xs cards)) ++ first_of (of n keeps xs cards) ∷ [])
@@ -98,6 +153,7 @@ module _ {E : Type 0} where
       let w = of n keeps xs cards in
       let stub = stub_view card in
       let own = kept.own id v at in
+      let met = kept.met id v at in
       record {
         keeper = kept.keeper;
         all = kept.all;
@@ -119,6 +175,13 @@ module _ {E : Type 0} where
             (λ other. kept.own seat u other.1)
             (at_set views id seat w u before))
             (λ last. subst (λ (x : View E). AllByRecursion (HasAll kept.all) x.cards) last (own.0, tt))
+            (at_snoc (set views id w) stub u seat there);
+        met = λ seat u there. ⊎_elim
+            (λ before. ⊎_elim
+            (λ same. subst (λ (x : View E). AllByRecursion (HasMet kept.all) x.cards) same.1 met.1)
+            (λ other. kept.met seat u other.1)
+            (at_set views id seat w u before))
+            (λ last. subst (λ (x : View E). AllByRecursion (HasMet kept.all) x.cards) last (met.0, tt))
             (at_snoc (set views id w) stub u seat there);
         each_once = λ j.
             let more = sum_by_push (its j) (set views id w) stub in
@@ -145,6 +208,7 @@ module _ {E : Type 0} where
       let first = set views id both in
       let there' : get_elem? views other ≡ some w = sym (set_else views id other both apart) ∙ there in
       let own = all_append (HasAll kept.all) w.cards v.cards (kept.own other w there') (kept.own id v at) in
+      let met = all_append (HasMet kept.all) w.cards v.cards (kept.met other w there') (kept.met id v at) in
       record {
         keeper = kept.keeper;
         all = kept.all;
@@ -165,6 +229,13 @@ module _ {E : Type 0} where
             (λ left. ⊎_elim
             (λ same. subst (λ (x : View E). AllByRecursion (HasAll kept.all) x.cards) same.1 own)
             (λ apart'. kept.own seat u apart'.1)
+            (at_set views id seat both u left.1))
+            (at_set first other seat spent_view u stands);
+        met = λ seat u stands. ⊎_elim
+            (λ spent. subst (λ (x : View E). AllByRecursion (HasMet kept.all) x.cards) spent.1 tt)
+            (λ left. ⊎_elim
+            (λ same. subst (λ (x : View E). AllByRecursion (HasMet kept.all) x.cards) same.1 met)
+            (λ apart'. kept.met seat u apart'.1)
             (at_set views id seat both u left.1))
             (at_set first other seat spent_view u stands);
         each_once = λ j.
@@ -189,6 +260,7 @@ module _ {E : Type 0} where
       let mine = kept.knows id v at keeps in
       subst (λ n. AreKnown n v.all v.cards) (sym mine.2) (subst (λ all. AreKnown clerks all v.cards) (sym mine.1) record {
         own = kept.own id v at;
+        met = kept.met id v at;
         at_most_once = λ k. let total = kept.each_once k in let here = at_in (its k) views id v at in omega (arith, total, here);
         once = λ all_cards k.
             let count = kept.whole in
@@ -213,6 +285,8 @@ begins E clerks =
           (at.0, ap (λ (x : View E). x.all) (sym at.1), ap (λ (x : View E). x.clerks) (sym at.1));
       own = λ seat u here.
           subst (λ (x : View E). AllByRecursion (HasAll []) x.cards) (alone view u seat here).1 (blank_have_all E 0 clerks);
+      met = λ seat u here.
+          subst (λ (x : View E). AllByRecursion (HasMet []) x.cards) (alone view u seat here).1 (blank_have_met E 0 clerks);
       each_once = λ k. let one = sum_by-cons (its k) view [] in omega (arith, one);
       whole = let one = sum_by-cons size view [] in let count = length-blank_cards E 0 clerks in omega (arith, one, count);
       of_clerks = tt;

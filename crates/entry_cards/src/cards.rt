@@ -2,9 +2,10 @@
 
 ghost use Rattle.std.specs.Prelude.{◌≡◌, ◌<◌, true, [], length, IfOk};
 ghost use mathlib.Core.Option.{some};
-ghost use Rattle.entry_cards.specs.own.Rule.{keeper_view, blank_cards, joined, without_first, first_of, with_more, AreKnown};
+ghost use Rattle.entry_cards.specs.own.Rule.{keeper_view, blank_cards, joined, without_first, first_of, with_all_met, with_more};
+ghost use Rattle.entry_cards.specs.own.Rule.{AreKnown};
 
-use crate::plays::{AddEntry, CardOff, Compare, Rule, Together, Told};
+use crate::plays::{AddEntry, CardOff, Compare, Meet, Rule, Together, Told};
 use crate::view::View;
 use atomic_table::{Seat, Table};
 use std::alloc::{AllocError, Allocator};
@@ -62,13 +63,15 @@ impl<E, A: Allocator> Cards<E, A> {
         self.table.shared.join_seat::<Together>(mark, other);
     }
 
-    /// Adds an entry of the first card's clerk to the list of who keeps, and to the card.
+    /// Compares the cards of who keeps with the list, and then adds an entry of the first card's clerk
+    /// to the list, and to the card, which has met the list with it.
     pub(crate) fn add(&self, mark: &mut Mark<E>, entry: &E)
         requires own { mark.old.table_id ≡ self.now.name }
         requires keeps { mark.old.me.0.keeps ≡ true }
         requires some { 0 < length mark.old.me.0.cards }
-        ensures { (mark.new.table_id ≡ mark.old.table_id)
+        ensures added { (mark.new.table_id ≡ mark.old.table_id)
             × (mark.new.me ≡ (with_more mark.old.me.0 (some entry.now), mark.old.me.1)) }
+        ensures known { AreKnown mark.old.me.0.clerks mark.old.me.0.all mark.old.me.0.cards }
     {
         self.add_told::<Brand>(mark, entry);
     }
@@ -78,10 +81,23 @@ impl<E, A: Allocator> Cards<E, A> {
         requires told { B.entry ≡ some entry.now }
         requires keeps { mark.old.me.0.keeps ≡ true }
         requires some { 0 < length mark.old.me.0.cards }
-        ensures { (mark.new.table_id ≡ mark.old.table_id)
+        ensures added { (mark.new.table_id ≡ mark.old.table_id)
             × (mark.new.me ≡ (with_more mark.old.me.0 (some entry.now), mark.old.me.1)) }
+        ensures known { AreKnown mark.old.me.0.clerks mark.old.me.0.all mark.old.me.0.cards }
     {
         self.table.shared.load::<AddEntry<B>>(mark, 0);
+    }
+
+    /// Compares the cards of who keeps with the list, which the first card has met then.
+    pub(crate) fn meet(&self, mark: &mut Mark<E>)
+        requires own { mark.old.table_id ≡ self.now.name }
+        requires keeps { mark.old.me.0.keeps ≡ true }
+        requires some { 0 < length mark.old.me.0.cards }
+        ensures met { (mark.new.table_id ≡ mark.old.table_id)
+            × (mark.new.me ≡ (with_all_met mark.old.me.0, mark.old.me.1)) }
+        ensures known { AreKnown mark.old.me.0.clerks mark.old.me.0.all mark.old.me.0.cards }
+    {
+        self.table.shared.load::<Meet>(mark, 0);
     }
 
     /// Compares the cards of who keeps with the list.

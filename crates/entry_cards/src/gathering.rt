@@ -64,14 +64,16 @@ impl<E, A: Allocator> Gathering<E, A> {
     /// Takes a stub in.
     pub fn take_in(&mut self, stub: Stub<E>)
         requires own { stub.name ≡ self.old.name }
-        ensures { self.new ≡ record self.old { cards = (stub.clerk, stub.made) ∷ self.old.cards } }
+        ensures { self.new ≡ record self.old {
+          cards = record { clerk = stub.clerk; made = stub.made; met = stub.met } ∷ self.old.cards;
+        } }
     {
         let Stub { badge } = stub;
         self.cards.join(&mut self.mark, badge.into_seat());
     }
 
-    /// With as many stubs as were dealt: each has all entries of its clerk, they are of the clerks
-    /// from 1 on, one each, and together they have all entries.
+    /// With as many stubs as were dealt: each has all entries of its clerk, what it met begins all
+    /// entries, they are of the clerks from 1 on, one each, and together they have all entries.
     pub fn confirm(&mut self)
         requires all_stubs { length self.old.cards ≡ self.old.dealt }
         ensures same { self.new ≡ self.old }

@@ -1,7 +1,8 @@
 //! The keeper of the list of all entries, who deals stubs.
 
 ghost use Rattle.std.specs.Prelude.{◌≡◌, ◌+◌, ◌<◌, [], ◌∷◌, ◌++◌, IfOk};
-ghost use Rattle.entry_cards.specs.Cards.{IsClerk, of_clerk};
+ghost use mathlib.Core.List.{IsPrefix};
+ghost use Rattle.entry_cards.specs.Cards.{IsClerk, entries_of, of_clerk};
 
 use crate::cards::{Cards, Mark};
 use crate::gathering::Gathering;
@@ -68,7 +69,7 @@ impl<E, A: Allocator> Keeper<E, A> {
     pub fn deal(&mut self) -> Stub<E>
         requires more { self.old.dealt < self.old.clerks }
         ensures keeper { self.new ≡ record self.old { dealt = self.old.dealt + 1 } }
-        ensures stub { result ≡ record { name = self.old.name; clerk = self.old.dealt + 1; made = [] } }
+        ensures stub { result ≡ record { name = self.old.name; clerk = self.old.dealt + 1; made = []; met = [] } }
     {
         let mark = self.cards.card_off(&mut self.mark);
         self.dealt += 1;
@@ -77,11 +78,16 @@ impl<E, A: Allocator> Keeper<E, A> {
         }
     }
 
-    /// Adds an entry that is made with a stub: to the list, behind the clerk's number, and to what the stub knows.
+    /// Adds an entry that is made with a stub: to the list, behind the clerk's number, and to what the
+    /// stub knows. It has met the list with the entry then, and what it had met before begins the list.
     pub fn add(&mut self, stub: &mut Stub<E>, entry: &E)
         requires own { stub.old.name ≡ self.old.name }
         ensures keeper { self.new ≡ record self.old { all = self.old.all ++ (stub.old.clerk, entry.now) ∷ [] } }
-        ensures stub { stub.new ≡ record stub.old { made = stub.old.made ++ entry.now ∷ [] } }
+        ensures stub { stub.new ≡ record stub.old {
+          made = stub.old.made ++ entry.now ∷ [];
+          met = entries_of self.new.all;
+        } }
+        ensures met { IsPrefix stub.old.met (entries_of self.old.all) }
     {
         let badge = mem::replace(&mut stub.badge, Badge::blank());
         self.cards.join(&mut self.mark, badge.into_seat());
@@ -90,16 +96,33 @@ impl<E, A: Allocator> Keeper<E, A> {
     }
 
     /// Compares a stub with the list: the entries that were made with it are all that the list has of
-    /// its clerk, who was dealt it.
+    /// its clerk, who was dealt it, and what it has met begins the list.
     pub fn compare(&mut self, stub: &mut Stub<E>)
         requires own { stub.old.name ≡ self.old.name }
         ensures same { (self.new ≡ self.old) × (stub.new ≡ stub.old) }
         ensures agrees { stub.old.made ≡ of_clerk stub.old.clerk self.old.all }
         ensures dealt { IsClerk self.old.dealt stub.old.clerk }
+        ensures met { IsPrefix stub.old.met (entries_of self.old.all) }
     {
         let badge = mem::replace(&mut stub.badge, Badge::blank());
         self.cards.join(&mut self.mark, badge.into_seat());
         self.cards.compare(&mut self.mark);
+        stub.badge = self.cards.card_off(&mut self.mark).into_badge();
+    }
+
+    /// Compares a stub with the list, as [`Keeper::compare`], and lets it remember the list: it has met
+    /// all entries then.
+    pub fn meet(&mut self, stub: &mut Stub<E>)
+        requires own { stub.old.name ≡ self.old.name }
+        ensures keeper { self.new ≡ self.old }
+        ensures stub { stub.new ≡ record stub.old { met = entries_of self.old.all } }
+        ensures agrees { stub.old.made ≡ of_clerk stub.old.clerk self.old.all }
+        ensures dealt { IsClerk self.old.dealt stub.old.clerk }
+        ensures met { IsPrefix stub.old.met (entries_of self.old.all) }
+    {
+        let badge = mem::replace(&mut stub.badge, Badge::blank());
+        self.cards.join(&mut self.mark, badge.into_seat());
+        self.cards.meet(&mut self.mark);
         stub.badge = self.cards.card_off(&mut self.mark).into_badge();
     }
 

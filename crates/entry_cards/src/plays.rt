@@ -2,7 +2,7 @@
 ghost use Rattle.std.specs.Prelude.{◌≡◌, []};
 ghost use mathlib.Core.Option.{none};
 ghost use Rattle.entry_cards.specs.own.Rule.{IsKept, KnowsCards, keeper_view, blank_cards, spent_view};
-ghost use Rattle.entry_cards.specs.own.Rule.{joined, without_first, first_of, with_more};
+ghost use Rattle.entry_cards.specs.own.Rule.{joined, without_first, first_of, with_all_met, with_more};
 
 use crate::view::View;
 use atomic_table::{Join, Play, Split, TableRule};
@@ -28,13 +28,21 @@ impl<E> Told<E> for Brand {
     ghost entry = { none };
 }
 
-/// The entry that is told is added to the list, and to the first card.
+/// Cards are compared with the list. Then the entry that is told is added to the list and to the
+/// first card, which has met the list with it.
 pub struct AddEntry<B> {
     of: PhantomData<B>,
 }
 
 impl<E, B: Told<E>> Play<(), View<E>> for AddEntry<B> {
-    ghost then = { λ step before found after. after ≡ (with_more before.0 B.entry, before.1) };
+    ghost then = { λ step before found after. (after ≡ (with_more before.0 B.entry, before.1)) × KnowsCards before.0 };
+}
+
+/// Cards are compared with the list, and the first card has met it then.
+pub struct Meet;
+
+impl<E> Play<(), View<E>> for Meet {
+    ghost then = { λ step before found after. (after ≡ (with_all_met before.0, before.1)) × KnowsCards before.0 };
 }
 
 /// Cards are compared with the list.

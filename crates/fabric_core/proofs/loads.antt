@@ -1,6 +1,7 @@
 pub mod OneFault
 pub mod RefinedRings
 pub mod RingChecks
+pub mod ByIds
 pub mod Loaded
 pub mod OneNoding
 pub mod BegunRings
@@ -8,4 +9,5 @@ pub mod OneLoadFault
 pub mod FullyNoded
 pub mod ToldRings
 pub mod ToldGaps
+pub mod LoadRefusals
 pub mod Clipped

@@ -1,5 +1,5 @@
 -- Why a ring is no city, and why the rows of a layer are not loaded: the first reason that applies (this product's own order).
-use Rattle.std.specs.Prelude.{◌≡◌, ◌≢◌, ◌↔◌, ℕ, ℤ, pos, IsTrue, List, [], ◌∷◌, ◌++◌, map}
+use Rattle.std.specs.Prelude.{◌≡◌, ◌≢◌, ◌↔◌, ℕ, ℤ, pos, IsTrue, List, [], ◌∷◌, ◌++◌, map, Option, None, Some, Vec}
 use Rattle.std.specs.List.{AllByRecursion, Contains}
 use Rattle.std.specs.List.Sorted.{IsStrictlyIncreasing}
 use Rattle.geo_exact.specs.declared.corner.Corner.{Corner}
@@ -19,7 +19,9 @@ use Rattle.fabric_core.specs.declared.city.CityFault.TheVariants.{Ring as CityRi
 use Rattle.fabric_core.specs.declared.layer.LoadFault.{LoadFault}
 use Rattle.fabric_core.specs.declared.layer.LoadFault.TheVariants.{TooMany, Ring, Gap, NoMemory}
 use Rattle.fabric_core.specs.declared.all_faults.AllFaults.{AllFaults}
-use Rattle.fabric_core.specs.declared.all_faults.AllFaults.TheVariants.{TooMany as AllTooMany, Rings, Gaps, NoMemory as AllNoMemory}
+use Rattle.fabric_core.specs.declared.all_faults.AllFaults.TheVariants.{Rings, Gaps}
+use Rattle.fabric_core.specs.declared.all_faults.Asked.{Asked}
+use Rattle.fabric_core.specs.declared.all_faults.LoadRefusal.{LoadRefusal}
 use Rattle.fabric_core.specs.Tiling.{corner_lists}
 use Rattle.fabric_core.specs.Rows.{AreRefined}
 use Rattle.fabric_core.specs.Limits.{AreWithinLimits, IsFirstTooMany}
@@ -91,30 +93,28 @@ pub record IsLoadFault (records : List NumberedRing) (city : List Corner) (fault
   pub are_refined : AreRefined records city rows refined
   pub is_first : IsFirstFault rows refined fault
 
--- these are all faults of the rows and the refined ring that are of the first fault's kind: limits before rings, and
--- rings before gaps; of limits, the first row that passes one
-abbrev pub AreAllFaults : {A : Type 0} → List NumberedRing → List Corner → AllFaults A → Type 0
-AreAllFaults rows refined (AllTooMany number) = IsFirstTooMany rows number
-AreAllFaults rows refined (Rings faults) = AreWithinLimits rows × AreRingFaults rows faults.items
-AreAllFaults rows refined (Gaps gaps) = AreWithinLimits rows × AreSimple rows × AreGaps rows refined gaps.items
-AreAllFaults rows refined AllNoMemory = ⊥
+-- these are all faults of the first fault's kind, and begin with the first; of limits there is no list
+abbrev pub AreAllFaults : {A : Type 0} → List NumberedRing → List Corner → LoadFault → Option (AllFaults A) → Type 0
+AreAllFaults rows refined (TooMany number) all = all ≡ None
+AreAllFaults {A} rows refined (Ring number fault) all = (faults : Vec (ℕ × RingFault) A) × (rest : List (ℕ × RingFault))
+    × (all ≡ Some (Rings faults)) × (faults.items ≡ (number, fault) ∷ rest) × AreRingFaults rows faults.items
+AreAllFaults {A} rows refined (Gap a b net) all = (gaps : Vec (Corner × Corner × ℤ) A) × (rest : List (Corner × Corner × ℤ))
+    × (all ≡ Some (Gaps gaps)) × (gaps.items ≡ (a, b, net) ∷ rest) × AreGaps rows refined gaps.items
+AreAllFaults rows refined NoMemory all = all ≡ None
 
--- the fault is the first of these
-abbrev pub BeginsWith : {A : Type 0} → AllFaults A → LoadFault → Type 0
-BeginsWith (AllTooMany number) fault = fault ≡ TooMany number
-BeginsWith (Rings faults) fault = (told : ℕ × RingFault) × (rest : List (ℕ × RingFault))
-    × (faults.items ≡ told ∷ rest) × (fault ≡ Ring told.0 told.1)
-BeginsWith (Gaps gaps) fault =
-    (told : Corner × Corner × ℤ) × (rest : List (Corner × Corner × ℤ)) × (gaps.items ≡ told ∷ rest)
-    × (fault ≡ Gap told.0 told.1 told.2)
-BeginsWith AllNoMemory fault = fault ≡ NoMemory
+-- what is asked for beside the first fault: nothing, or all faults of its kind
+abbrev pub AreAsked : {A : Type 0} → Asked → List NumberedRing → List Corner → LoadFault → Option (AllFaults A) → Type 0
+AreAsked Asked.First rows refined first all = all ≡ None
+AreAsked Asked.All rows refined first all = AreAllFaults rows refined first all
 
--- these are all faults, of the first's kind, of the layer of these records in this city; they begin with the layer's first fault
-pub record AreLoadFaults {A : Type 0} (records : List NumberedRing) (city : List Corner) (all : AllFaults A) : Type 0 where
+-- the refusal of the layer of these records in this city: its first fault, and what is asked for beside it
+pub record IsLoadRefusal {A : Type 0} (asked : Asked) (records : List NumberedRing) (city : List Corner) (refusal : LoadRefusal A) : Type 0 where
   pub rows : List NumberedRing
   pub refined : List Corner
   pub are_refined : AreRefined records city rows refined
-  pub are_all : AreAllFaults rows refined all
-  pub first : LoadFault
-  pub begins : BeginsWith all first
-  pub is_first : IsFirstFault rows refined first
+  pub is_first : IsFirstFault rows refined refusal.first
+  pub are_asked : AreAsked asked rows refined refusal.first refusal.all
+
+-- want of memory, which tells nothing of the layer
+abbrev pub IsOutOfMemory : {A : Type 0} → LoadRefusal A → Type 0
+IsOutOfMemory refusal = (refusal.first ≡ NoMemory) × (refusal.all ≡ None)

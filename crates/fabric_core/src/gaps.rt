@@ -1,12 +1,13 @@
 //! Net numbers of edges that rings and their city do not have alike: gaps and overlaps.
 
-ghost use Rattle.std.specs.Prelude.{◌≡◌, ◌+◌, ◌⊎◌, IfOk, IfErr, OnOk, ◌∷◌, []};
+ghost use Rattle.std.specs.Prelude.{◌+◌, ◌⊎◌, IfOk, IfErr, OnOk, ◌∷◌, []};
 ghost use Rattle.geo_exact.specs.declared.corner.Corner.{Corner};
 ghost use Rattle.edge_chains.specs.Counts.{AreNetOf};
 ghost use Rattle.fabric_core.specs.own.Lists.{corners_of_rings, AreFewCorners};
-ghost use Rattle.fabric_core.specs.declared.layer.LoadFault.TheVariants.{NoMemory};
-ghost use Rattle.fabric_core.specs.own.Checks.{HaveEqualNets, IsNetsFault};
+ghost use Rattle.fabric_core.specs.Faults.{IsOutOfMemory};
+ghost use Rattle.fabric_core.specs.own.Checks.{HaveEqualNets, IsToldOfNets};
 
+use crate::all_faults::{AllFaults, Asked, LoadRefusal};
 use crate::layer::LoadFault;
 use edge_chains::EdgeSum;
 use geo_exact::Corner;
@@ -31,19 +32,31 @@ pub(crate) fn net_numbers<A: Allocator + Copy>(
 }
 
 /// Refuses rings that do not have each edge as often as the city, with the least such edge and how
-/// much oftener they have it.
+/// much oftener they have it, and with all such edges where they are asked for.
 pub(crate) fn check_nets<A: Allocator + Copy>(
     alloc: A,
     rings: &[Ring<A>],
     refined: &[Corner],
-) -> Result<(), LoadFault>
+    asked: Asked,
+) -> Result<(), LoadRefusal<A>>
     requires { AreFewCorners (corners_of_rings rings.now) refined.now }
     ensures ok { OnOk result (HaveEqualNets (corners_of_rings rings.now) refined.now) }
-    ensures err { IfErr result (λ fault. IsNetsFault (corners_of_rings rings.now) refined.now fault ⊎ (fault ≡ NoMemory)) }
+    ensures err { IfErr result (λ refusal. IsToldOfNets asked (corners_of_rings rings.now) refined.now refusal
+        ⊎ IsOutOfMemory refusal) }
 {
     let sum = net_numbers(alloc, rings, refined)?;
-    match sum.first_unbalanced() {
-        None => Ok(()),
-        Some((a, b, net)) => Err(LoadFault::Gap(a, b, net)),
+    let Some((a, b, net)) = sum.first_unbalanced() else {
+        return Ok(());
+    };
+    let first = LoadFault::Gap(a, b, net);
+    match asked {
+        Asked::First => Err(LoadRefusal::from(first)),
+        Asked::All => {
+            let gaps = sum.unbalanced(alloc)?;
+            Err(LoadRefusal {
+                first,
+                all: Some(AllFaults::Gaps(gaps)),
+            })
+        }
     }
 }

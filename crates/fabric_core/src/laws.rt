@@ -1,13 +1,14 @@
 //! Laws: which rows tile a city.
 
-ghost use Rattle.std.specs.Prelude.{◌≡◌, ◌≢◌, ◌↔◌, ℕ, pos, List, ◌∷◌, [], ◌++◌};
-ghost use Rattle.std.specs.List.{AllByRecursion};
+ghost use Rattle.std.specs.Prelude.{◌≡◌, ◌≢◌, ◌↔◌, ◌<◌, ℕ, pos, List, ◌∷◌, [], ◌++◌, map};
+ghost use Rattle.std.specs.List.{AllByRecursion, Contains};
 ghost use Rattle.geo_exact.specs.declared.corner.Corner.{Corner};
 ghost use Rattle.geo_exact.specs.Point.{Point};
 ghost use Rattle.geo_exact.specs.Turn.{IsOnRing};
 ghost use Rattle.geo_exact.specs.Winding.{winding, IsInterior};
 ghost use Rattle.geo_exact.specs.Area.{area2};
 ghost use Rattle.geo_exact.specs.Layers.{NumberedRing};
+ghost use Rattle.cell_index.specs.Cells.{Grid, standing};
 ghost use Rattle.ring_core.specs.declared.triangle.Tri.{Tri};
 ghost use Rattle.ring_core.specs.Sums.{MakeUp};
 ghost use Rattle.edge_chains.specs.Net.{net_count};
@@ -15,6 +16,7 @@ ghost use Rattle.edge_chains.specs.Noding.{IsNoded, AreFullyNoded};
 ghost use Rattle.edge_chains.specs.Jump.{net_difference};
 ghost use Rattle.fabric_core.specs.Tiling.{corner_lists, IsTiling, IsWoundAtMostOnce, IsOffEdges};
 ghost use Rattle.fabric_core.specs.Faults.{AreSimple};
+ghost use Rattle.fabric_core.specs.GridIndex.{IsIndexed, ReachesCell};
 ghost use Rattle.fabric_core.specs.Locate.{IsInsideOf, IsInsideOneOnly, IsOnEdgeOf};
 ghost use Rattle.fabric_core.specs.Rows.{AreRefined, IsUntiledBeside};
 
@@ -77,4 +79,12 @@ pub fn what_is_inside_a_parcel_is_in_no_other()
         → IsInsideOf rows p id → IsInsideOf rows p other → other ≡ id }
     ensures city { (rows : List NumberedRing) (city : List Corner) (p : Point) (id : ℕ) → AreSimple rows → IsTiling rows city
         → IsInsideOf rows p id → winding p city ≡ pos 1 }
+{}
+
+/// In a cell of an index that agrees with rows an id stands exactly where a row with this id
+/// reaches the cell by its least box.
+pub fn an_id_stands_in_the_cells_that_its_row_reaches()
+    ensures { (rows : List NumberedRing) (city : List Corner) (index : Grid) (i j id : ℕ) → IsIndexed rows city index
+        → i < 64 → j < 64
+        → Contains (map (λ entry. entry.key) (standing index i j)) id ↔ ReachesCell rows index.area i j id }
 {}

@@ -1,6 +1,6 @@
 //! The layer: parcels that tile a city.
 
-ghost use Rattle.std.specs.Prelude.{◌≡◌, ◌≢◌, ◌⊎◌, ◌↔◌, ◌≤◌, ◌≤ℤ◌, ℕ, ℤ, length, map, List, IfOk, IfErr, IsErrOf};
+ghost use Rattle.std.specs.Prelude.{◌≡◌, ◌≢◌, ◌⊎◌, ◌↔◌, ◌≤◌, ◌≤ℤ◌, ℕ, ℤ, map, List, IfOk, IfErr, IsErrOf};
 ghost use Rattle.std.specs.Prelude.{IsErrAnd, MatchResult, MatchOption};
 ghost use Rattle.std.specs.List.{All, Contains};
 ghost use Rattle.std.specs.List.Sorted.{IsStrictlyIncreasing};
@@ -17,17 +17,14 @@ ghost use Rattle.fabric_core.specs.Rows.{AreRefined, numbers, IsUntiledBeside};
 ghost use Rattle.fabric_core.specs.Limits.{AreWithinLimits};
 ghost use Rattle.fabric_core.specs.GridIndex.{IsIndexed, IsCandidate};
 ghost use Rattle.fabric_core.specs.Locate.{IsLocatedAt};
-ghost use Rattle.fabric_core.specs.Faults.{AreSimple, IsFirstFault, IsLoadFault};
-ghost use Rattle.fabric_core.specs.own.Checks.{HaveNoFault, IsRefinedCity, IsChecked};
+ghost use Rattle.fabric_core.specs.Faults.{AreSimple, IsLoadFault};
+ghost use Rattle.fabric_core.specs.own.Checks.{HaveNoFault, IsChecked};
 ghost use Rattle.fabric_core.specs.own.Kept.{IsFresh, IsShownBy};
 ghost use Rattle.fabric_core.specs.own.Lists.{numbered_rows, corners_of_rings};
 
+use crate::all_faults::Asked;
 use crate::city::City;
-use crate::gaps::check_nets;
-use crate::limits::first_too_many;
 use crate::locate::At;
-use crate::refine::{Refined, refine};
-use crate::rings::checked;
 use crate::tiled::Tiled;
 use geo_exact::{Bounds, Corner, Corners, RawRing};
 use parcel_table::{Ids, Shapes};
@@ -140,8 +137,10 @@ impl<'a, H: Allocator> Layer<'a, H> {
             → AreRefined (rings_of records.entry.items) city.now.ring.corners rows refined
             → IsErrOf result (Gap a b net) → IsUntiledBeside rows city.now.ring.corners refined a b }
     {
-        let refined = refine(heap, &city.ring.corners, records)?;
-        load_refined(heap, city.bounds, refined)
+        match Layer::load_or_all(heap, city, records, Asked::First) {
+            Ok(layer) => Ok(layer),
+            Err(refusal) => Err(refusal.first),
+        }
     }
 
     /// What the layer keeps, in which no parcel has gone.
@@ -268,40 +267,6 @@ impl<'a, H: Allocator> Layer<'a, H> {
     {
         self.tiled.refined()
     }
-}
-
-/// The layer of rings that are noded and begun at their least corners, in a city that is refined.
-fn load_refined<'a, H: Allocator>(
-    heap: &'a H,
-    area: Bounds,
-    refined: Refined<&'a H>,
-) -> Result<Layer<'a, H>, LoadFault>
-    requires numbered { length refined.numbers.items ≡ length refined.rings.items }
-    requires rising { IsStrictlyIncreasing refined.numbers.items }
-    requires city { IsRefinedCity refined.city refined.refined }
-    requires area { IsLeastBox area refined.city }
-    ensures rows { IfOk result (λ layer. layer.rows ≡ numbered_rows refined.entry.numbers.items refined.entry.rings.items) }
-    ensures city { IfOk result (λ layer. layer.city ≡ refined.entry.city) }
-    ensures refined { IfOk result (λ layer. layer.refined ≡ refined.entry.refined) }
-    ensures no_fault { IfOk result (λ layer. HaveNoFault layer.rows layer.refined) }
-    ensures tiling { IfOk result (λ layer. IsTiling layer.rows layer.city) }
-    ensures indexed { IfOk result (λ layer. IsIndexed layer.rows layer.city layer.index) }
-    ensures fault { IfErr result (λ fault.
-        IsFirstFault (numbered_rows refined.entry.numbers.items refined.entry.rings.items) refined.entry.refined fault
-        ⊎ (fault ≡ NoMemory)) }
-{
-    let Refined {
-        numbers,
-        rings,
-        city,
-        refined,
-    } = refined;
-    if let Some(record) = first_too_many(&numbers, &rings) {
-        return Err(LoadFault::TooMany(record));
-    }
-    let rings = checked(heap, &numbers, rings)?;
-    check_nets(heap, &rings, refined.as_slice())?;
-    Ok(layer_of(heap, area, &numbers, rings, city, refined)?)
 }
 
 /// The layer of rings that have no fault, in a city that is refined.

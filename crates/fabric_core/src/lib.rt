@@ -30,7 +30,7 @@ mod rings;
 mod tenfold;
 mod tiled;
 
-pub use all_faults::AllFaults;
+pub use all_faults::{AllFaults, Asked, LoadRefusal};
 pub use box_laws::{a_parcel_that_meets_a_ring_is_a_candidate, rows_lie_in_the_box_of_their_city};
 pub use city::{City, CityFault};
 pub use fabric::{Fabric, Sheet};
@@ -38,8 +38,8 @@ pub use follow::FollowFault;
 pub use journal::{Entry, JOURNAL_ENTRIES, Row};
 pub use laws::{
     a_place_off_all_edges_is_inside_one_parcel, a_refined_city_keeps_its_ground,
-    an_unbalanced_edge_is_no_tiling, rows_with_the_nets_of_a_city_tile_it,
-    what_is_inside_a_parcel_is_in_no_other,
+    an_id_stands_in_the_cells_that_its_row_reaches, an_unbalanced_edge_is_no_tiling,
+    rows_with_the_nets_of_a_city_tile_it, what_is_inside_a_parcel_is_in_no_other,
 };
 pub use layer::{Layer, LoadFault};
 pub use locate::At;

@@ -66,7 +66,7 @@ impl<'a, H: Allocator> Drop for Tiled<'a, H> {
 
 impl<'a, H: Allocator> Model for Tiled<'a, H> {
     ghost use Rattle.parcel_table.specs.Table.{rows_of_keyed};
-    ghost use Rattle.fabric_core.specs.own.Kept.{Kept, IsKept};
+    ghost use Rattle.fabric_core.specs.own.Kept.{Kept, IsKept, ids_by_key, by_ids};
 
     ghost Value = { Kept };
 
@@ -74,7 +74,7 @@ impl<'a, H: Allocator> Model for Tiled<'a, H> {
       rows = rows_of_keyed tiled.parcels.parcels;
       city = tiled.city;
       refined = tiled.refined;
-      index = tiled.index;
+      index = by_ids (ids_by_key tiled.parcels.parcels) tiled.index;
       next = tiled.parcels.next;
       fates = tiled.parcels.fates;
     } };

@@ -3,7 +3,7 @@
 
 use crate::candidates::between;
 use crate::changes::are_at;
-use fabric_core::{AllFaults, At, City, CityFault, Layer, LoadFault};
+use fabric_core::{AllFaults, Asked, At, City, CityFault, Layer, LoadFault, LoadRefusal};
 use geo_exact::Corner;
 use refusing_alloc::Refusing;
 use ring_core::RingFault;
@@ -243,10 +243,10 @@ fn is_loading_refused<'a>(
 }
 
 /// Whether these are all faults.
-fn are_all(faults: &AllFaults<&Heap>, want: &Answer) -> bool {
-    match (faults, want) {
-        (AllFaults::Rings(rings), Answer::Rings(want)) => rings.as_slice() == *want,
-        (AllFaults::Gaps(gaps), Answer::Gaps(want)) => are_edges(gaps.as_slice(), want),
+fn are_all(refusal: &LoadRefusal<&Heap>, want: &Answer) -> bool {
+    match (&refusal.all, want) {
+        (Some(AllFaults::Rings(rings)), Answer::Rings(want)) => rings.as_slice() == *want,
+        (Some(AllFaults::Gaps(gaps)), Answer::Gaps(want)) => are_edges(gaps.as_slice(), want),
         _ => false,
     }
 }
@@ -260,13 +260,13 @@ fn telling<'a>(
 ) -> Result<(Told, bool), Fail> {
     let rings = records(heap, row.0)?;
     heap.refuse(number);
-    let layer = Layer::load_or_all(heap, city, rings);
+    let layer = Layer::load_or_all(heap, city, rings, Asked::All);
     let is_refused = heap.is_spent();
     heap.refuse(0);
     let told = match layer {
         Ok(layer) => Told::of(has_ids(&layer, &row.1)?),
-        Err(AllFaults::NoMemory) => Told::NoMemory,
-        Err(faults) => Told::of(are_all(&faults, &row.1)),
+        Err(refusal) if refusal.first == LoadFault::NoMemory => Told::NoMemory,
+        Err(refusal) => Told::of(are_all(&refusal, &row.1)),
     };
     Ok((told, is_refused))
 }

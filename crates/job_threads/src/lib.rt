@@ -1,11 +1,15 @@
 //! Jobs that are done at the same time, each in a thread of its own, and handed back.
 #![tactic(auto)]
 
-ghost use Rattle.std.specs.Prelude.{◌≡◌, ◌⊎◌, ℕ, ◌+◌, ◌≤◌, [], Some, vec_len, vec_capacity, IfOk, IfErr, IfSome};
+ghost use Rattle.std.specs.Prelude.{◌≡◌, ◌⊎◌, ℕ, ◌+◌, ◌≤◌, [], Some, length, vec_len, vec_capacity, IfOk, IfErr, IfSome};
 ghost use Rattle.std.specs.List.{AllZip};
-ghost use Rattle.job_threads.specs.Jobs.{HasRank};
-ghost use Rattle.job_threads.specs.own.Attempts.{WasTried, IsFinished, IsTriedBehind};
+ghost use Rattle.job_threads.specs.Jobs.{IsLeastRefused};
+ghost use Rattle.job_threads.specs.own.Attempts.{WasTried, IsTriedBehind, threads_of};
 
+mod own_thread;
+
+pub use own_thread::OwnThreads;
+use own_thread::{Tried, finish};
 use std::alloc::Allocator;
 use std::marker::PhantomData;
 use std::snapshot::Snapshot;
@@ -42,6 +46,17 @@ impl<C, J: Job<C>> Promise<Result<J, J>> for Tries<C, J> {
     ghost kept_by = { λ promise tried. WasTried J.stays promise.was.value tried };
 }
 
+/// Jobs that are done, each where it was handed in.
+#[derive(Drop)]
+pub struct AllDone<J, A: Allocator> {
+    /// The jobs.
+    pub jobs: Vec<J, A>,
+    /// Which of them had a thread of their own.
+    pub threads: OwnThreads<A>,
+    /// The least rank of those that had none, where there is one.
+    pub refused: Option<usize>,
+}
+
 /// Does each job in a thread of its own, and hands all back in their order. Jobs for which the
 /// system refused a thread are done in this thread, one after the other, once all others are
 /// joined; the least rank of these is told.
@@ -53,9 +68,9 @@ pub fn do_all<C: Sync, J: Job<C>, A: Allocator + Copy, R: Threads + Wait + Sync>
     rt: &R,
     with: &C,
     jobs: Vec<J, A>,
-) -> Result<(Vec<J, A>, Option<usize>), Vec<J, A>>
-    ensures done { IfOk result (λ done. AllZip J.stays jobs.items done.0.items) }
-    ensures refused { IfOk result (λ done. IfSome done.1 (HasRank J.rank_of jobs.items)) }
+) -> Result<AllDone<J, A>, Vec<J, A>>
+    ensures done { IfOk result (λ done. AllZip J.stays jobs.items done.jobs.items) }
+    ensures refused { IfOk result (λ done. IsLeastRefused J.rank_of jobs.items done.threads done.refused) }
     ensures back { IfErr result (λ back. back.items ≡ jobs.items) }
 {
     let alloc = *jobs.allocator();
@@ -65,9 +80,17 @@ pub fn do_all<C: Sync, J: Job<C>, A: Allocator + Copy, R: Threads + Wait + Sync>
     let Ok(back) = Vec::with_capacity(alloc, jobs.len()) else {
         return Err(jobs);
     };
+    let Ok(had) = Vec::with_capacity(alloc, jobs.len()) else {
+        return Err(jobs);
+    };
     let called_back = AtomicUsize::new(0);
     let (tried, refused) = in_scope(rt, with, &called_back, jobs, room);
-    Ok((finish(with, tried, back), refused))
+    let (jobs, threads) = finish(with, tried, back, had);
+    Ok(AllDone {
+        jobs,
+        threads,
+        refused,
+    })
 }
 
 /// Tries jobs in threads of a scope, which joins all that started.
@@ -76,21 +99,20 @@ fn in_scope<C: Sync, J: Job<C>, A: Allocator + Copy, R: Threads + Wait + Sync>(
     with: &C,
     called_back: &AtomicUsize,
     jobs: Vec<J, A>,
-    tried: Vec<Result<J, J>, A>,
-) -> (Vec<Result<J, J>, A>, Option<usize>)
+    tried: Vec<Tried<J>, A>,
+) -> (Vec<Tried<J>, A>, Option<usize>)
     requires none { tried.items ≡ [] }
     requires room { vec_len tried + vec_len jobs ≤ vec_capacity tried }
-    ensures tried { AllZip (WasTried J.stays) jobs.items result.0.items }
-    ensures refused { IfSome result.1 (HasRank J.rank_of jobs.items) }
+    ensures tried { AllZip (λ job attempt. WasTried J.stays job attempt.job) jobs.items result.0.items }
+    ensures refused { IsLeastRefused J.rank_of jobs.items (threads_of result.0.items) result.1 }
     ensures count { vec_len result.0 ≡ vec_len jobs }
 {
     thread::scope(
         thread::scope_env(),
         rt,
-        move |scope| -> (Vec<Result<J, J>, A>, Option<usize>)
+        move |scope| -> (Vec<Tried<J>, A>, Option<usize>)
             requires { vec_len tried + vec_len jobs ≤ vec_capacity tried }
-            ensures tried { IsTriedBehind J.stays jobs.items tried.items result.0.items }
-            ensures refused { IfSome result.1 (HasRank J.rank_of jobs.items) }
+            ensures tried { IsTriedBehind J.stays J.rank_of jobs.items tried.items result.0.items result.1 }
             ensures count { vec_len result.0 ≡ vec_len tried + vec_len jobs }
         { spread(scope, rt, with, called_back, jobs, tried) },
     )
@@ -105,11 +127,10 @@ fn spread<'s, E, C: Sync + 's, J: Job<C> + 's, A: Allocator + Copy, R: Threads +
     with: &'s C,
     called_back: &'s AtomicUsize,
     mut jobs: Vec<J, A>,
-    tried: Vec<Result<J, J>, A>,
-) -> (Vec<Result<J, J>, A>, Option<usize>)
+    tried: Vec<Tried<J>, A>,
+) -> (Vec<Tried<J>, A>, Option<usize>)
     requires room { vec_len tried + vec_len jobs ≤ vec_capacity tried }
-    ensures tried { IsTriedBehind J.stays jobs.items tried.items result.0.items }
-    ensures refused { IfSome result.1 (HasRank J.rank_of jobs.items) }
+    ensures tried { IsTriedBehind J.stays J.rank_of jobs.items tried.items result.0.items result.1 }
     ensures count { vec_len result.0 ≡ vec_len tried + vec_len jobs }
     ensures capacity { vec_capacity result.0 ≡ vec_capacity tried }
 {
@@ -130,13 +151,13 @@ fn spread<'s, E, C: Sync + 's, J: Job<C> + 's, A: Allocator + Copy, R: Threads +
     ) {
         Ok(handle) => {
             let (mut tried, refused) = spread(scope, rt, with, called_back, jobs, tried);
-            tried.push_reserved(handle.join(rt));
+            tried.push_reserved(Tried::joined(rt, handle));
             (tried, refused)
         }
         Err(closure) => {
             let (mut tried, refused) = spread(scope, rt, with, called_back, jobs, tried);
             called_back.store(number, Ordering::Relaxed);
-            tried.push_reserved((closure.value)());
+            tried.push_reserved(Tried::called_back(closure));
             (tried, Some(least(refused, rank)))
         }
     }
@@ -150,32 +171,6 @@ fn attempt<C, J: Job<C>>(job: J, number: usize, with: &C, called_back: &AtomicUs
         Err(job)
     } else {
         Ok(job.work(with))
-    }
-}
-
-/// Does those jobs that were handed back as they were.
-fn finish<C, J: Job<C>, A: Allocator>(
-    with: &C,
-    tried: Vec<Result<J, J>, A>,
-    mut back: Vec<J, A>,
-) -> Vec<J, A>
-    requires none { back.items ≡ [] }
-    requires room { vec_len tried ≤ vec_capacity back }
-    ensures { AllZip (IsFinished J.stays) tried.items result.items }
-{
-    for job in tried {
-        back.push_reserved(finished(with, job));
-    }
-    back
-}
-
-/// A job that was done, or does it.
-fn finished<C, J: Job<C>>(with: &C, tried: Result<J, J>) -> J
-    ensures { IsFinished J.stays tried result }
-{
-    match tried {
-        Ok(done) => done,
-        Err(refused) => refused.work(with),
     }
 }
 

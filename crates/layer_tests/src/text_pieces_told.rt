@@ -8,9 +8,9 @@ use text_pieces::{push_corner, push_number, push_ring_fault};
 #[test]
 fn tells_numbers_and_corners(rt: HostRuntime) -> Result<(), Fail> {
     let mut text = Vec::from_slice(rt.alloc(), b"x")?;
-    push_number(&mut text, -17)?;
+    push_number(&mut text, -17i64)?;
     text.push(b',')?;
-    push_number(&mut text, 0)?;
+    push_number(&mut text, 0u64)?;
     text.push(b',')?;
     push_corner(&mut text, Corner { x: -LIMIT, y: 60 })?;
     assert_eq!(rt; text.as_slice(), b"x-17,0,-100000000000 60".as_slice());

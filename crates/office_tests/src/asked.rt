@@ -1,6 +1,6 @@
 //! Windows that are asked how many entries they find, and which ring a parcel has.
 
-use crate::growths::{told, was_refused};
+use crate::growths::{published, told, was_refused};
 use crate::halves::cut;
 use crate::opened::Refuses;
 use crate::plays::Told;
@@ -64,7 +64,7 @@ pub fn ask_parcels<'a, H: Allocator, J: Naming<H>, R: Wait + Drop, W: Wait>(
     }
     let last = cut(rt, heap, office, card)?;
     window.learn(&last);
-    if !shows_half(heap, window)? {
+    if !shows_half(heap, window)? || published(rt, office)?.number() != 3 {
         return Err(Fail::new("another parcel after the edits"));
     }
     Ok(Told::Done)

@@ -4,7 +4,7 @@ use crate::answers::Cards;
 use desk_lock::{Card, Naming, Office};
 use fabric_core::Refusal;
 use geo_exact::Corner;
-use job_threads::{Job, do_all};
+use job_threads::{AllDone, Job, do_all};
 use ring_edits::Edit;
 use std::alloc::{AllocError, Allocator};
 use std::sync::Wait;
@@ -161,7 +161,14 @@ pub fn work_all<
     task: Task,
 ) -> Result<Vec<Outcome, &'a H>, Fail> {
     let clerks = clerks_of(rt, heap, cards, task)?;
-    let Ok((clerks, None)) = do_all(&rt, office, clerks) else {
+    let Ok(
+        AllDone {
+            jobs: clerks,
+            refused: None,
+            ..
+        },
+    ) = do_all(&rt, office, clerks)
+    else {
         return Err(Fail::new("a thread is refused"));
     };
     let outcomes = outcomes_of(heap, clerks.as_slice());

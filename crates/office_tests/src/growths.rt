@@ -67,7 +67,7 @@ fn cut_at_last<'a, H: Refuses, J: Naming<H>, R: Wait + Drop, W: Wait>(
 }
 
 /// A notice of a publishing with memory.
-fn published<'a, H: Allocator, J: Naming<H>, R: Wait + Drop, W: Wait>(
+pub fn published<'a, H: Allocator, J: Naming<H>, R: Wait + Drop, W: Wait>(
     rt: &W,
     office: &Office<'a, H, J, R>,
 ) -> Result<Notice<'a, H, J>, Fail> {

@@ -10,7 +10,7 @@ use crate::scans::is_found;
 use desk_lock::{Card, Naming, Office, Window};
 use fabric_core::{At, Entry, Fabric};
 use geo_exact::Corner;
-use job_threads::{Job, do_all};
+use job_threads::{AllDone, Job, do_all};
 use rand_core::utils::NextWord;
 use rand_pcg::Pcg32;
 use std::alloc::{AllocError, Allocator};
@@ -309,7 +309,14 @@ pub fn read_meanwhile<
     windows: &mut Windows<'a, H, J>,
 ) -> Result<Told, Fail> {
     let workers = workers_of(rt, heap, cards, windows)?;
-    let Ok((workers, None)) = do_all(&rt, office, workers) else {
+    let Ok(
+        AllDone {
+            jobs: workers,
+            refused: None,
+            ..
+        },
+    ) = do_all(&rt, office, workers)
+    else {
         return Err(Fail::new("a thread is refused"));
     };
     check_at(&rt, heap, office, workers.as_slice())?;

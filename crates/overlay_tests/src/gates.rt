@@ -4,7 +4,7 @@ use crate::rounds::{BOTH, STRIPS, TWO};
 use crate::steps::{Sharing, begun};
 use crate::zones::HALVES;
 use fabric_core::{Layer, Sheet};
-use overlay_work::{Gate, run_round};
+use overlay_work::{CloseFault, Gate, run_round};
 use std::alloc::Allocator;
 use std::sync::Wait;
 use std::sync::atomic::{AtomicU64, Ordering};
@@ -135,6 +135,26 @@ fn passes_before_each_step(rt: HostRuntime) -> Result<(), Fail> {
     );
     assert_eq!(rt; gate.passes.load(Ordering::SeqCst), 3);
     Ok(())
+}
+
+/// With a hand missing, the other works in a thread of its own until it is done, and O6 names both numbers.
+#[test]
+fn one_of_two_hands_runs(rt: HostRuntime) -> Result<(), Fail> {
+    let heap = rt.alloc();
+    let sheet = sheet(&heap, &SQUARE, &RINGS)?;
+    let zones = layer(&heap, &SQUARE, &HALVES)?;
+    let (round, mut hands) = begun(&heap, &sheet, &zones, (2, &TWO))?;
+    if let Some(last) = hands.pop() {
+        assert_eq!(rt; last.give_up().number(), 1);
+    }
+    match run_round(&rt, round, hands, &Open) {
+        Ok(_) => Err(Fail::new("a table without a hand")),
+        Err(back) => {
+            assert_eq!(rt; back.fault, CloseFault::HandsMissing(2, 1));
+            assert_eq!(rt; back.threads.as_slice(), [true].as_slice());
+            Ok(())
+        }
+    }
 }
 
 #[test]

@@ -72,6 +72,7 @@ pub fn closes_later<H: Allocator>(
     let RoundBack {
         round,
         mut hands,
+        threads: _,
         fault,
     } = back;
     let is_so = do_all(&round, &mut hands, turns);

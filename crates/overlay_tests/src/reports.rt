@@ -5,7 +5,7 @@ ghost use Rattle.std.specs.Prelude.{◌≡◌, IfOk};
 use crate::pairs::all_pairs;
 use crate::zones::HALVES;
 use fabric_core::{City, Fabric, Sheet};
-use geo_exact::{ByteOut, Counted, FailAt};
+use geo_exact::{ByteOut, Counted, FailAt, Failed};
 use ring_edits::Edit;
 use std::alloc::{AllocError, Allocator, Global};
 use std::io;
@@ -13,7 +13,7 @@ use std::io::Write;
 use std::test::Fail;
 use test_builders::{Place, corner, corners};
 use test_cities::{EAST, SQUARE, WEST, city, fabric_in, layer_in, sheet_in};
-use zone_tables::{Table, WriteFault, write_report};
+use zone_tables::{Table, write_report};
 
 /// The report of a table.
 pub fn report_of<H: Allocator, A: Allocator, B: Allocator>(
@@ -23,7 +23,7 @@ pub fn report_of<H: Allocator, A: Allocator, B: Allocator>(
     let mut out = Counted::new(Vec::new(alloc));
     match write_report(table, &mut out) {
         Ok(()) => Ok(out.into_inner()),
-        Err(WriteFault::Device) => Err(Fail::new("a write failed")),
+        Err(Failed) => Err(Fail::new("a write failed")),
     }
 }
 

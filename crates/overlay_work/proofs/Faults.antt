@@ -1,13 +1,15 @@
 -- A round that can be closed has no fault, and no other has two.
 use Rattle.std.proofs.Common.{◌≡◌, ◌⊎◌, inl, inr, ⊎_elim, refl, sym, ◌∙◌, ap, subst, arith, ℕ, ◌<◌, ◌≤◌}
-use Rattle.std.proofs.Common.{List, [], ◌∷◌, length}
-use Rattle.std.specs.Prelude.{IsSome, None}
+use Rattle.std.proofs.Common.{Bool, List, [], ◌∷◌, length}
+use Rattle.std.proofs.lemmas.Bool.{cases_eq}
+use Rattle.job_threads.specs.Jobs.{HadThreads}
+use Rattle.std.specs.Prelude.{Option, IsSome, None, Some, ⊤}
 use Rattle.std.specs.List.{AllByRecursion}
 use Rattle.overlay_work.specs.declared.close.CloseFault.{CloseFault}
 use Rattle.overlay_work.specs.declared.close.CloseFault.TheVariants.{NoThread, HandsMissing, Holding, NotDone, NoMemory}
 use Rattle.overlay_work.specs.Rounds.{Task, Progress, HasAllEnds, IsAtEnd}
-use Rattle.overlay_work.specs.Faults.{AreAllIn, IsCloseFault, IsLeastHolding, HoldNothing, IsRunFault}
-use Rattle.overlay_work.specs.own.Gathered.{AreDone, HaveStopped}
+use Rattle.overlay_work.specs.Faults.{AreAllIn, IsCloseFault, IsLeastHolding, HoldNothing, SomeHolds, IsRunFault}
+use Rattle.overlay_work.specs.own.Gathered.{AreDone, HaveStopped, LeastIs}
 use Rattle.overlay_work.proofs.ZonesFound.{member_of_all}
 use Rattle.overlay_work.proofs.HandsIn.{nothing_held}
 
@@ -61,23 +63,51 @@ none_is_at_end : (hands : List Progress) → 0 < length hands → AllByRecursion
 none_is_at_end [] some ends none = omega (arith, some)
 none_is_at_end (hand ∷ hands) some ends none = none.0 ends.0.all_ends
 
-pub told_of_stopped : (task : Task) (hands : List Progress) (fault : CloseFault) → 0 < length task.lists
-    → HaveStopped hands → HoldNothing hands
-    → IsCloseFault task hands fault ⊎ (fault ≡ NoMemory) → IsRunFault task hands fault
-told_of_stopped task hands fault some stopped none (inr e) = subst (IsRunFault task hands) (sym e) tt
-told_of_stopped task hands (NoThread number) some stopped none (inl is) = absurd is
-told_of_stopped task hands (HandsMissing made here) some stopped none (inl is) = (is, at_ends hands stopped none)
-told_of_stopped task hands (Holding number) some stopped none (inl is) = absurd (none_holds hands number none is.1)
-told_of_stopped task hands NotDone some stopped none (inl is) =
+-- an answer that is want of memory is no other
+abbrev IsMemory : CloseFault → Type 0
+IsMemory (NoThread number) = ⊥
+IsMemory (HandsMissing made here) = ⊥
+IsMemory (Holding number) = ⊥
+IsMemory NotDone = ⊥
+IsMemory NoMemory = ⊤
+
+-- where a round with a fault is refused by that one, and memory was wanting, all hands were there
+all_in_for_want : (task : Task) (hands : List Progress) (fault : CloseFault) → fault ≡ NoMemory
+    → ((other : CloseFault) → IsCloseFault task hands other → fault ≡ other) → AreAllIn task hands
+all_in_for_want task hands fault wants refuses = ⊎_elim
+    (λ (same : length hands ≡ length task.lists). same)
+    (λ (apart : length hands ≡ length task.lists → ⊥).
+    absurd (subst IsMemory (sym wants ∙ refuses (HandsMissing (length task.lists) (length hands)) (apart, refl, refl)) tt))
+    (cases_eq (length hands) (length task.lists))
+
+pub told_of_stopped : (task : Task) (old hands : List Progress) (threads : List Bool) (fault : CloseFault) → 0 < length task.lists
+    → HaveStopped hands → HoldNothing hands → HadThreads hands threads
+    → ((other : CloseFault) → IsCloseFault task hands other → fault ≡ other)
+    → IsCloseFault task hands fault ⊎ (fault ≡ NoMemory) → IsRunFault task old hands threads fault
+told_of_stopped task old hands threads fault some stopped none had refuses (inr e) =
+    subst (IsRunFault task old hands threads) (sym e)
+    (inr (had, inr (all_in_for_want task hands fault e refuses, at_ends hands stopped none)))
+told_of_stopped task old hands threads (NoThread number) some stopped none had refuses (inl is) = absurd is
+told_of_stopped task old hands threads (HandsMissing made here) some stopped none had refuses (inl is) =
+    (had, is, at_ends hands stopped none)
+told_of_stopped task old hands threads (Holding number) some stopped none had refuses (inl is) =
+    absurd (none_holds hands number none is.1)
+told_of_stopped task old hands threads NotDone some stopped none had refuses (inl is) =
     let all = is.0 in
     absurd (none_is_at_end hands (omega (arith, all, some)) (at_ends hands stopped none) is.2)
-told_of_stopped task hands NoMemory some stopped none (inl is) = absurd is
+told_of_stopped task old hands threads NoMemory some stopped none had refuses (inl is) = absurd is
+
+-- where one holds a parcel, it stopped for want of memory
+pub some_holding : (least : Option ℕ) (hands : List Progress) → LeastIs least hands → IsSome least → SomeHolds hands
+some_holding None hands is some = absurd (nothing_held None refl some)
+some_holding (Some number) hands is some = (is.hand, is.is_in, is.holds)
 
 -- where all hands are handed in, a thread or memory was wanted
-pub wants_of_all : (task : Task) (hands : List Progress) (fault : CloseFault) → AreAllIn task hands → IsRunFault task hands fault
+pub wants_of_all : (old : List Progress) (threads : List Bool) (task : Task) (hands : List Progress) (fault : CloseFault)
+    → AreAllIn task hands → IsRunFault task old hands threads fault
     → (fault ≡ NoMemory) ⊎ ((hand : ℕ) × (fault ≡ NoThread hand))
-wants_of_all task hands (NoThread number) all is = inr (number, refl)
-wants_of_all task hands (HandsMissing made here) all is = absurd (is.0.0 all)
-wants_of_all task hands (Holding number) all is = absurd is
-wants_of_all task hands NotDone all is = absurd is
-wants_of_all task hands NoMemory all is = inl refl
+wants_of_all old threads task hands (NoThread number) all is = inr (number, refl)
+wants_of_all old threads task hands (HandsMissing made here) all is = absurd (is.1.0 all)
+wants_of_all old threads task hands (Holding number) all is = absurd is
+wants_of_all old threads task hands NotDone all is = absurd is
+wants_of_all old threads task hands NoMemory all is = inl refl

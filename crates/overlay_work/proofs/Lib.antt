@@ -8,6 +8,7 @@ pub mod HandsIn
 pub mod Steps
 pub mod Workers
 pub mod EachIdOnce
+pub mod AllClaimed
 pub mod Tables
 pub mod SortedPairs
 pub mod Faults

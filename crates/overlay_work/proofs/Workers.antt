@@ -1,11 +1,10 @@
 -- Hands that are stepped until they stop.
-use Rattle.std.proofs.Common.{◌≡◌, ⊎_elim, refl, sym, ◌∙◌, ap, arith, ℕ, zero, suc, List, [], ◌∷◌, ◌++◌, length}
-use Rattle.std.proofs.Common.{append_assoc, append-nil}
-use Rattle.std.specs.List.{AllZip}
-use Rattle.job_threads.specs.Jobs.{HasRank}
+use Rattle.std.proofs.Common.{◌≡◌, inl, inr, ⊎_elim, refl, sym, ◌∙◌, ap, subst, ℕ, suc, ◌≤◌, Bool, true, false, List, []}
+use Rattle.std.proofs.Common.{◌∷◌, ◌++◌, length, append_assoc, append-nil}
+use Rattle.std.specs.List.{AllByRecursion, AllZip}
+use Rattle.job_threads.specs.Jobs.{HadThreads, HasRefused, IsLeastRank}
 use Rattle.overlay_work.specs.Rounds.{Task, Progress, GoesOn, HasParcel, DoesParcel, IsDone, WaitsForMemory}
 use Rattle.overlay_work.specs.Rounds.{HasGoneOn, WorksOff, AreHandsOf}
-use Rattle.overlay_work.specs.Faults.{IsNumberOf}
 use Rattle.overlay_work.specs.own.Gathered.{HaveStopped}
 
 -- ---- one hand
@@ -76,6 +75,20 @@ waiting_goes_on old new task number waits = record {
 }
 
 -- ---- all hands
+-- what is so of each that has worked
+pub all_worked : (passed : ℕ → Type 0) (xs ys : List Progress)
+    → AllZip (λ old new. WorksOff old new × passed old.number) xs ys → AllZip WorksOff xs ys
+all_worked passed [] [] zip = tt
+all_worked passed [] (y ∷ ys) zip = absurd zip
+all_worked passed (x ∷ xs) [] zip = absurd zip
+all_worked passed (x ∷ xs) (y ∷ ys) zip = (zip.0.0, all_worked passed xs ys zip.1)
+
+pub all_passed : (passed : ℕ → Type 0) (xs ys : List Progress)
+    → AllZip (λ old new. WorksOff old new × passed old.number) xs ys → AllByRecursion (λ hand. passed hand.number) xs
+all_passed passed [] ys zip = tt
+all_passed passed (x ∷ xs) [] zip = absurd zip
+all_passed passed (x ∷ xs) (y ∷ ys) zip = (zip.0.1, all_passed passed xs ys zip.1)
+
 pub hands_stay : (task : Task) (xs ys : List Progress) → AreHandsOf task xs → AllZip WorksOff xs ys → AreHandsOf task ys
 hands_stay task [] [] are zip = tt
 hands_stay task [] (y ∷ ys) are zip = absurd zip
@@ -104,13 +117,35 @@ all_stop [] (y ∷ ys) zip = absurd zip
 all_stop (x ∷ xs) [] zip = absurd zip
 all_stop (x ∷ xs) (y ∷ ys) zip = (zip.0.stops, all_stop xs ys zip.1)
 
+-- what is so of each hand and whether it had a thread stays so while the hands work
+pub threads_stay : (P : Progress → Bool → Type 0) → ((old new : Progress) (had : Bool) → WorksOff old new → P old had → P new had)
+    → (xs ys : List Progress) (threads : List Bool) → AllZip WorksOff xs ys → AllZip P xs threads → AllZip P ys threads
+threads_stay P keeps [] [] [] zip are = tt
+threads_stay P keeps [] [] (t ∷ threads) zip are = absurd are
+threads_stay P keeps [] (y ∷ ys) threads zip are = absurd zip
+threads_stay P keeps (x ∷ xs) [] threads zip are = absurd zip
+threads_stay P keeps (x ∷ xs) (y ∷ ys) [] zip are = absurd are
+threads_stay P keeps (x ∷ xs) (y ∷ ys) (t ∷ threads) zip are =
+    (keeps x y t zip.0 are.0, threads_stay P keeps xs ys threads zip.1 are.1)
+
+pub threads_had : (xs ys : List Progress) (threads : List Bool) → AllZip WorksOff xs ys → HadThreads xs threads → HadThreads ys threads
+threads_had xs ys threads zip had = threads_stay (λ hand had. had ≡ true) (λ old new had works is. is) xs ys threads zip had
+
 -- the rank of one is its number, which stays
-pub number_stays : (xs ys : List Progress) (number : ℕ) → AllZip WorksOff xs ys
-    → HasRank (λ (hand : Progress). hand.number) xs number → IsNumberOf ys number
-number_stays [] ys number zip (hand, (k, less, is), has) = absurd (omega (arith, less))
-number_stays (x ∷ xs) [] number zip has = absurd zip
-number_stays (x ∷ xs) (y ∷ ys) number zip (hand, (zero, less, is), has) =
-    (y, (0, omega arith, refl), zip.0.goes_on.same_number ∙ ap (λ (h : Progress). h.number) is ∙ has)
-number_stays (x ∷ xs) (y ∷ ys) number zip (hand, (suc k, less, is), has) =
-    let rest = number_stays xs ys number zip.1 (hand, (k, omega (arith, less), is), has) in
-    (rest.0, (suc rest.1.0, omega (arith, rest.1.1), rest.1.2), rest.2)
+refused_stays : (xs ys : List Progress) (threads : List Bool) (number : ℕ) → AllZip WorksOff xs ys
+    → HasRefused (λ (hand : Progress). hand.number) xs threads number
+    → HasRefused (λ (hand : Progress). hand.number) ys threads number
+refused_stays [] ys threads number zip is = absurd is
+refused_stays (x ∷ xs) [] threads number zip is = absurd zip
+refused_stays (x ∷ xs) (y ∷ ys) [] number zip is = absurd is
+refused_stays (x ∷ xs) (y ∷ ys) (t ∷ threads) number zip (inl here) = inl (here.0, zip.0.goes_on.same_number ∙ here.1)
+refused_stays (x ∷ xs) (y ∷ ys) (t ∷ threads) number zip (inr behind) = inr (refused_stays xs ys threads number zip.1 behind)
+
+pub least_stays : (xs ys : List Progress) (threads : List Bool) (number : ℕ) → AllZip WorksOff xs ys
+    → IsLeastRank (λ (hand : Progress). hand.number) xs threads number
+    → IsLeastRank (λ (hand : Progress). hand.number) ys threads number
+least_stays xs ys threads number zip is = record {
+  has_rank = refused_stays xs ys threads number zip is.has_rank;
+  is_least = threads_stay (λ hand had. had ≡ false → number ≤ hand.number)
+      (λ old new had works less none. subst (λ n. number ≤ n) (sym works.goes_on.same_number) (less none)) xs ys threads zip is.is_least;
+}

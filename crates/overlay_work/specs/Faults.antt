@@ -1,7 +1,8 @@
 -- Why a round is not begun, and why it is not closed: the first reason that applies (this product's own order).
-use Rattle.std.specs.Prelude.{◌≡◌, ◌≢◌, ⊤, ℕ, ◌≤◌, List, length, None, IsSome}
+use Rattle.std.specs.Prelude.{◌≡◌, ◌≢◌, ◌⊎◌, ℕ, ◌≤◌, Bool, List, [], length, None, IsSome}
 use Rattle.std.specs.List.{AllByRecursion, Contains}
 use Rattle.geo_exact.specs.declared.corner.Corner.{Corner}
+use Rattle.job_threads.specs.Jobs.{HadThreads, IsLeastRank}
 use Rattle.overlay_work.specs.declared.round.RoundFault.{RoundFault}
 use Rattle.overlay_work.specs.declared.round.RoundFault.TheVariants.{HandCount, OtherCity, NotASharing, NoMemory}
 use Rattle.overlay_work.specs.declared.close.CloseFault.{CloseFault}
@@ -41,16 +42,24 @@ IsCloseFault task hands (Holding number) = AreAllIn task hands × IsLeastHolding
 IsCloseFault task hands NotDone = AreAllIn task hands × HoldNothing hands × AllByRecursion (λ hand. HasAllEnds hand → ⊥) hands
 IsCloseFault task hands CloseMemory = ⊥
 
--- the hand with this number is one of these
-abbrev pub IsNumberOf : List Progress → ℕ → Type 0
-IsNumberOf hands number = (hand : Progress) × Contains hands hand × (hand.number ≡ number)
+-- a hand holds a parcel
+abbrev pub SomeHolds : List Progress → Type 0
+SomeHolds hands = (hand : Progress) × Contains hands hand × IsSome hand.holds
 
--- Hands worked a round off, each until it was at its end or held a parcel for want of memory, and the round is not closed: the system
--- refused a thread for one of them (O7); they are not all hands of the round, and all are at their ends (O6); or memory was wanted. No hand
--- is left holding a parcel for another cause, and one that works comes to its end: there is no O5 and no O4.
-abbrev pub IsRunFault : Task → List Progress → CloseFault → Type 0
-IsRunFault task hands (NoThread number) = IsNumberOf hands number
-IsRunFault task hands (HandsMissing made here) = IsCloseFault task hands (HandsMissing made here) × AllByRecursion IsAtEnd hands
-IsRunFault task hands (Holding number) = ⊥
-IsRunFault task hands NotDone = ⊥
-IsRunFault task hands CloseMemory = ⊤
+-- Memory was wanting: for the threads, and no hand was worked with; or, with a thread for each hand, for a parcel that one of them
+-- holds, or to close the round once all hands of it were at their ends.
+abbrev pub WantsMemory : Task → (old new : List Progress) → (threads : List Bool) → Type 0
+WantsMemory task old new threads = ((new ≡ old) × (threads ≡ []))
+    ⊎ (HadThreads new threads × (SomeHolds new ⊎ (AreAllIn task new × AllByRecursion IsAtEnd new)))
+
+-- Hands worked a round off, each until it was at its end or held a parcel for want of memory, and the round is not closed: a
+-- hand had no thread of its own, and of those that had none it has the least number (O7); each had one, and they are not all
+-- hands of the round, and all are at their ends (O6); or memory was wanting. No hand is left holding a parcel for another
+-- cause, and one that works comes to its end: there is no O5 and no O4.
+abbrev pub IsRunFault : Task → (old new : List Progress) → (threads : List Bool) → CloseFault → Type 0
+IsRunFault task old new threads (NoThread number) = IsLeastRank (λ hand. hand.number) new threads number
+IsRunFault task old new threads (HandsMissing made here) =
+    HadThreads new threads × IsCloseFault task new (HandsMissing made here) × AllByRecursion IsAtEnd new
+IsRunFault task old new threads (Holding number) = ⊥
+IsRunFault task old new threads NotDone = ⊥
+IsRunFault task old new threads CloseMemory = WantsMemory task old new threads

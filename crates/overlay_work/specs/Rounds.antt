@@ -1,8 +1,8 @@
 -- A round of an overlay: the parcels of a sheet are dealt to hands in lists, and each hand finds the zones that its
 -- parcels overlap (this product's own; which overlap is zone_tables').
-use Rattle.std.specs.Prelude.{◌≡◌, ◌⊎◌, ◌↔◌, ℕ, zero, suc, ◌+◌, ◌<◌, List, [], ◌∷◌, ◌++◌, length}
+use Rattle.std.specs.Prelude.{◌≡◌, ◌⊎◌, ◌↔◌, ℕ, zero, suc, ◌+◌, ◌<◌, List, [], ◌∷◌, ◌++◌, length, map}
 use Rattle.std.specs.Prelude.{slice_index, slice_index_or}
-use Rattle.std.specs.Prelude.{Option, Some, None, IsSome}
+use Rattle.std.specs.Prelude.{Option, Some, None, IsSome, IsPermutation}
 use Rattle.std.specs.List.{AllByRecursion, Contains}
 use Rattle.std.specs.List.Sorted.{IsStrictlyIncreasing}
 use Rattle.geo_exact.specs.declared.corner.Corner.{Corner}
@@ -10,7 +10,9 @@ use Rattle.geo_exact.specs.declared.bounds.Bounds.{Bounds}
 use Rattle.geo_exact.specs.Bounds.{IsLeastBox}
 use Rattle.geo_exact.specs.Layers.{NumberedRing}
 use Rattle.fabric_core.specs.GridIndex.{IsCandidate}
-use Rattle.overlay_claims.specs.Claims.{times}
+use Rattle.fabric_core.specs.Rows.{numbers}
+use Rattle.overlay_claims.specs.declared.view.View.{View}
+use Rattle.overlay_claims.specs.Claims.{times, places_of, IsClaimed}
 use Rattle.overlay_claims.specs.Claimants.{Lists, Standing, ClaimsNext}
 use Rattle.zone_tables.specs.Overlap.{Overlaps, AreInPairOrder}
 
@@ -109,11 +111,22 @@ pub record DoesParcel (old new : Progress) (id : ℕ) : Type 0 where
   pub holds_nothing : new.holds ≡ None
   pub is_not_done : HasAllEnds new → ⊥
 
--- the hand holds nothing and has found each list at its end; what it did before stays
+-- what the hand knows of the lists, as the rule of their words has it
+abbrev pub known_by : Progress → View
+known_by hand = record { lengths = hand.task.claims.lengths; parts = 1; places = hand.claimed; notes = hand.ended }
+
+-- Whatever the words and what all hands know may be, where the rule of the words holds and this hand is one of them: the ids
+-- at the places that they claimed are the parcels, each once. So each parcel was claimed, by this hand or another.
+abbrev pub AreAllClaimed : Progress → Type 0
+AreAllClaimed hand = (words : List ℕ) (views : List View) → IsClaimed hand.task.claims.lengths words views
+    → Contains views (known_by hand) → IsPermutation (map (id_at hand.task.lists) (places_of views)) (numbers hand.task.rows)
+
+-- The hand holds nothing and has found each list at its end, so that all parcels are claimed; what it did before stays.
 pub record IsDone (old new : Progress) : Type 0 where
   pub held_nothing : old.holds ≡ None
   pub holds_nothing : new.holds ≡ None
   pub all_ends : HasAllEnds new
+  pub all_claimed : AreAllClaimed new
   pub same_claims : new.claimed ≡ old.claimed
   pub did : new.did ≡ old.did
   pub kept : new.kept ≡ old.kept

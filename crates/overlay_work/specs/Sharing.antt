@@ -2,7 +2,6 @@
 -- stands exactly once, and nothing else.
 use Rattle.std.specs.Prelude.{◌≢◌, ◌⊎◌, ℕ, ◌<◌, ◌≤◌, List, length, nat_eq, count_by, flat_map, IsPermutation}
 use Rattle.std.specs.List.{Contains}
-use Rattle.overlay_work.specs.declared.round.TheConstants.{MOST_HANDS}
 
 -- all lists, one behind the other
 abbrev pub joined : {X : Type 0} → List (List X) → List X
@@ -12,9 +11,9 @@ joined lists = flat_map (λ list. list) lists
 abbrev pub times : ℕ → List (List ℕ) → ℕ
 times id lists = count_by (nat_eq id) (joined lists)
 
--- as many lists as there may be hands
+-- as many lists as there may be hands: one at least, and 64 at most
 abbrev pub HasHands : List (List ℕ) → Type 0
-HasHands lists = (0 < length lists) × (length lists ≤ MOST_HANDS)
+HasHands lists = (0 < length lists) × (length lists ≤ 64)
 
 -- the lists together are the ids in some order: each stands exactly once, and nothing else does
 pub record IsSharing (ids : List ℕ) (lists : List (List ℕ)) : Type 0 where

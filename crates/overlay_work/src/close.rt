@@ -1,6 +1,6 @@
 //! The end of a round: the hands taken back, and what they found put together.
 
-ghost use Rattle.std.specs.Prelude.{◌≡◌, ◌⊎◌, IfOk, IfErr, IsErrAnd, OnOk, map, length, flat_map, IsPermutation};
+ghost use Rattle.std.specs.Prelude.{◌≡◌, ◌⊎◌, [], IfOk, IfErr, IsErrAnd, OnOk, map, length, flat_map, IsPermutation};
 ghost use Rattle.fabric_core.specs.Rows.{numbers};
 ghost use Rattle.zone_tables.specs.Overlap.{IsOverlapTable};
 ghost use Rattle.overlay_claims.specs.Claims.{all_places};
@@ -14,13 +14,14 @@ use crate::hand::Hand;
 use crate::hands_in::{check_hands, confirm};
 use crate::pairs::sorted_pairs;
 use crate::round::Round;
+use job_threads::OwnThreads;
 use std::alloc::Allocator;
 use zone_tables::Table;
 
 /// Why a round is not closed: the first that applies, in this order.
 #[derive(Clone, Copy, Debug, PartialEq, Eq)]
 pub enum CloseFault {
-    /// O7: the system refused a thread for this hand, and for none with a lesser number.
+    /// O7: this hand had no thread of its own, since the system refused it one, and none with a lesser number.
     NoThread(usize),
     /// O6: so many hands were made, and so many handed in.
     HandsMissing(usize, usize),
@@ -39,6 +40,8 @@ pub struct RoundBack<'t, 'h, H: Allocator> {
     pub round: Round<'t, 'h, H>,
     /// The hands, as they were handed in.
     pub hands: Vec<Hand<'t, 'h, H>, &'h H>,
+    /// Which of the hands had a thread of their own; none where no threads were started.
+    pub threads: OwnThreads<&'h H>,
     /// Why it was not closed.
     pub fault: CloseFault,
 }
@@ -71,6 +74,7 @@ impl<'t, 'h, H: Allocator> Round<'t, 'h, H> {
             (all_places 0 (map (λ list. length list) self.entry.lists))) }
         ensures once { OnOk result (IsPermutation (flat_map (λ hand. hand.did) hands.entry.items) (numbers self.entry.rows)) }
         ensures back { IfErr result (λ back. (back.round ≡ self.entry) × (back.hands.items ≡ hands.entry.items)) }
+        ensures no_threads { IfErr result (λ back. back.threads ≡ []) }
         // A fault that is answered is the round's, or memory is wanting; and a round with a fault is
         // refused by that one, also where memory is wanting.
         ensures fault { IfErr result (λ back. IsCloseFault self.entry hands.entry.items back.fault ⊎ (back.fault ≡ NoMemory)) }
@@ -78,16 +82,20 @@ impl<'t, 'h, H: Allocator> Round<'t, 'h, H> {
             → IsErrAnd result (λ back. back.fault ≡ fault) }
     {
         if let Err(fault) = check_hands(self.work(), hands.as_slice()) {
+            let threads = OwnThreads::none(self.work().heap());
             return Err(RoundBack {
                 round: self,
                 hands,
+                threads,
                 fault,
             });
         }
         let Ok(pairs) = sorted_pairs(self.work().heap(), hands.as_slice()) else {
+            let threads = OwnThreads::none(self.work().heap());
             return Err(RoundBack {
                 round: self,
                 hands,
+                threads,
                 fault: CloseFault::NoMemory,
             });
         };

@@ -205,8 +205,14 @@ impl<'t, 'h, H: Allocator> Hand<'t, 'h, H> {
         claimant
     }
 
-    /// Lets the hand go, with what it did. Its round can no longer be closed.
-    pub fn give_up(self) {
-        drop(self);
+    /// Lets the hand go, with what it did, and hands back its claims, to which it has added none. Its round
+    /// can no longer be closed.
+    pub fn give_up(self) -> Claimant
+        ensures claims { (result.lists ≡ self.entry.task.claims) × (result.number ≡ self.entry.number) }
+        ensures claimed { result.places ≡ self.entry.claimed }
+        ensures ended { result.ended ≡ self.entry.ended }
+    {
+        let Hand { claimant, .. } = self;
+        claimant
     }
 }

@@ -4,6 +4,7 @@ use Rattle.std.proofs.Common.{◌∙◌}
 use Rattle.std.proofs.lemmas.Bool.Decides.{nat_tests}
 use Rattle.geo_exact.specs.declared.limits.TheConstants.{LAYER_RECORDS}
 use Rattle.fabric_core.specs.Rows.{Tiles}
+use Rattle.fabric_core.specs.Tiling.{IsTiling}
 use Rattle.fabric_core.specs.Journal.{State, JournalEntry, Book, after_entry, replay}
 use Rattle.fabric_core.specs.EditResults.{AreLawfulFrom}
 use Rattle.clerk_runs.specs.ClerkRuns.{Register, Run, IsJournal, opened, register_of, AreMade}
@@ -14,10 +15,11 @@ none_where_empty [] n e h = refl
 none_where_empty (x ∷ xs) n e h = absurd (grind (arith, nat_tests, e, h))
 
 -- without clerks nothing is made
-pub none_made : {A : Type 0} (tiles : Tiles) → AreMade {A = A} tiles [] (opened tiles) []
-none_made tiles = record {
+pub none_made : {A : Type 0} (tiles : Tiles) → IsTiling tiles.rows tiles.city → AreMade {A = A} tiles [] (opened tiles) []
+none_made tiles tiling = record {
   is_journal = record { lawful = tt; of_clerks = λ k entry less. absurd (omega (arith, less)) };
   leads = refl;
+  is_tiling = tiling;
   are_told = refl;
 }
 

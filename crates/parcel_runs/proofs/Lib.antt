@@ -9,5 +9,8 @@ pub mod EditedRuns
 pub mod RunFaults
 pub mod OverlayFaults
 pub mod LinesWritten
+pub mod RunTexts
 pub mod DealtLists
+pub mod InTurn
+pub mod HandNumbers
 pub mod OverlayTexts

@@ -7,7 +7,7 @@ use Rattle.city_layers.specs.declared.fault.ToolFault.TheVariants.{NoMemory}
 use Rattle.city_layers.specs.TilingFiles.{Files}
 use Rattle.city_layers.specs.ZonedFiles.{AreZoned, IsLayersFault}
 use Rattle.clerk_runs.specs.ClerkFiles.{texts_of}
-use Rattle.parcel_runs.specs.declared.clerks.TheConstants.{CLERKS}
+use Rattle.desk_lock.specs.declared.opening.TheConstants.{MOST_PLACES}
 use Rattle.parcel_runs.specs.RunFaults.{IsClerkFault}
 use Rattle.parcel_runs.specs.OverlayReport.{IsOverlayFault}
 use Rattle.parcel_runs.proofs.RunFaults.{few_texts}
@@ -15,7 +15,7 @@ use Rattle.parcel_runs.proofs.RunFaults.{few_texts}
 -- an overlay's fault, where there are few clerks' files, is of the layers or behind them
 pub few_overlay_fault : {A : Type 0} (city parcels zones : Files) (unit : LengthUnit) (clerks : List (Vec ℕ A))
     (P : Type 0) (fault : ToolFault)
-    → length clerks ≤ CLERKS → IsOverlayFault city parcels zones unit (texts_of clerks) fault
+    → length clerks ≤ MOST_PLACES → IsOverlayFault city parcels zones unit (texts_of clerks) fault
     → (IsLayersFault city parcels zones unit fault → P)
     → ((tiles regions : Tiles) → AreZoned city parcels zones unit tiles regions → IsClerkFault (texts_of clerks) fault → P) → P
 few_overlay_fault city parcels zones unit clerks P fault few (inl h) of_layers behind =
@@ -26,7 +26,7 @@ few_overlay_fault city parcels zones unit clerks P fault few (inr h) of_layers b
 -- a fault of the clerks' files, as it is told behind the layers'
 pub behind_zones : {A : Type 0} (city parcels zones : Files) (unit : LengthUnit) (clerks : List (Vec ℕ A))
     (tiles regions : Tiles) (fault : ToolFault)
-    → length clerks ≤ CLERKS → AreZoned city parcels zones unit tiles regions → IsClerkFault (texts_of clerks) fault
+    → length clerks ≤ MOST_PLACES → AreZoned city parcels zones unit tiles regions → IsClerkFault (texts_of clerks) fault
     ⊎ (fault ≡ NoMemory)
     → IsOverlayFault city parcels zones unit (texts_of clerks) fault ⊎ (fault ≡ NoMemory)
 behind_zones city parcels zones unit clerks tiles regions fault few are (inl h) =

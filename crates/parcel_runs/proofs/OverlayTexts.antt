@@ -1,5 +1,5 @@
 -- The text of an overlay, from what was loaded, edited and found; and that no fault of files is a failed write.
-use Rattle.std.proofs.Common.{◌≡◌, ◌⊎◌, inl, inr, ℕ, List, ◌++◌, Option, Result, Ok, Err, refl, subst}
+use Rattle.std.proofs.Common.{◌≡◌, ◌⊎◌, inl, inr, ℕ, List, ◌++◌, Option, Result, Ok, Err, refl, subst, arith}
 use Rattle.std.specs.Result.{OnOk, OnErr, IfErr, IsErrOf}
 use Rattle.geo_exact.specs.declared.coord.Unit.{Unit as LengthUnit}
 use Rattle.fabric_core.specs.Rows.{Tiles}
@@ -84,6 +84,12 @@ no_output city parcels zones unit clerks fault (inl (inr h)) e = elim h.1 [
 ]
 no_output city parcels zones unit clerks fault (inr h) e = cc
 
-pub overlay_want_no_output : (fault : ToolFault) → IsOverlayWant fault → fault ≡ Output → ⊥
-overlay_want_no_output fault (inl h) e = want_no_output fault h e
-overlay_want_no_output fault (inr h) e = let same = h.1 in cc
+pub overlay_want_no_output : (files workers : ℕ) (fault : ToolFault) → IsOverlayWant files workers fault → fault ≡ Output → ⊥
+overlay_want_no_output files workers fault (inl h) e = want_no_output files fault h e
+overlay_want_no_output files workers fault (inr h) e = let same = h.2 in cc
+
+-- what is wanted with no clerk's file may be wanted with any
+pub want_of_more : (files workers : ℕ) (fault : ToolFault) → IsOverlayWant 0 workers fault → IsOverlayWant files workers fault
+want_of_more files workers fault (inl (inl e)) = inl (inl e)
+want_of_more files workers fault (inl (inr h)) = absurd (omega (arith, h.0))
+want_of_more files workers fault (inr h) = inr h

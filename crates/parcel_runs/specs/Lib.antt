@@ -19,7 +19,7 @@ pub use Rattle.clerk_runs.specs.PlaceTexts
 pub use Rattle.line_files.specs.TextLines
 pub use Rattle.line_files.specs.TextNumbers
 pub use Rattle.line_files.specs.PointLines
-pub use Rattle.text_puts.specs.Beginnings
+pub use Rattle.text_pieces.specs.Beginnings
 pub use Rattle.zone_tables.specs.Overlap
 pub use Rattle.zone_tables.specs.Report
 pub mod SheetReport

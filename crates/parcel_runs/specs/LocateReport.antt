@@ -13,6 +13,7 @@ use Rattle.city_layers.specs.declared.fault.ToolFault.{ToolFault}
 use Rattle.city_layers.specs.declared.fault.ToolFault.TheVariants.{PointLine}
 use Rattle.text_pieces.specs.CornerText.{corner_text}
 use Rattle.line_files.specs.PointLines.{ArePoints, IsFirstBadPoint}
+use Rattle.text_pieces.specs.Beginnings.{AppendsBeginning}
 use Rattle.city_layers.specs.TilingFiles.{Files, AreTiles}
 use Rattle.clerk_runs.specs.ClerkRuns.{Register, IsEdited}
 use Rattle.clerk_runs.specs.PlaceTexts.{id_text}
@@ -31,10 +32,10 @@ ArePlaceLines rows [] text = text ≡ []
 ArePlaceLines rows (point ∷ points) text = (place : List ℕ) × (rest : List ℕ) × IsPlaceText rows (corner_point point) place
     × (text ≡ corner_text point ++ codes " " ++ place ++ codes "\n" ++ rest) × ArePlaceLines rows points rest
 
--- the parcels' files tile the city of the city's files, and the lines of the clerks' edits, and those of the points among the parcels
--- that these lead to, were written after the told bytes; edits are in a memory A
-pub record WritesPlaces (A : Type 0) (city parcels : Files) (unit : LengthUnit) (clerks : List (List ℕ)) (points : List Corner)
-    (old new : Option (List ℕ))
+-- The text of points: the parcels' files tile the city of the city's files, and the text is the lines of the clerks' edits, and those of
+-- the points among the parcels that these lead to. Edits are in a memory A.
+pub record IsPlacesText (A : Type 0) (city parcels : Files) (unit : LengthUnit) (clerks : List (List ℕ)) (points : List Corner)
+    (text : List ℕ)
     : Type 0 where
   pub tiles : Tiles
   pub are_tiles : AreTiles city parcels unit tiles
@@ -43,15 +44,38 @@ pub record WritesPlaces (A : Type 0) (city parcels : Files) (unit : LengthUnit) 
   pub is_edited : IsEdited tiles clerks after told
   pub lines : List ℕ
   pub are_lines : ArePlaceLines after.now.rows points lines
-  pub is_written : Appends old new (told ++ lines)
+  pub is_text : text ≡ told ++ lines
 
--- the same of the points of a text
+-- it was written after the told bytes
+pub record WritesPlaces (A : Type 0) (city parcels : Files) (unit : LengthUnit) (clerks : List (List ℕ)) (points : List Corner)
+    (old new : Option (List ℕ))
+    : Type 0 where
+  pub text : List ℕ
+  pub are_places : IsPlacesText A city parcels unit clerks points text
+  pub is_written : Appends old new text
+
+-- a beginning of it was written after the told bytes
+pub record BeginsPlaces (A : Type 0) (city parcels : Files) (unit : LengthUnit) (clerks : List (List ℕ)) (points : List Corner)
+    (old new : Option (List ℕ))
+    : Type 0 where
+  pub text : List ℕ
+  pub are_places : IsPlacesText A city parcels unit clerks points text
+  pub is_begun : AppendsBeginning old new text
+
+-- the same two of the points of a text
 pub record WritesPlacesOfText (A : Type 0) (city parcels : Files) (unit : LengthUnit) (clerks : List (List ℕ)) (text : List ℕ)
     (old new : Option (List ℕ))
     : Type 0 where
   pub points : List Corner
   pub are_points : ArePoints text points
   pub are_written : WritesPlaces A city parcels unit clerks points old new
+
+pub record BeginsPlacesOfText (A : Type 0) (city parcels : Files) (unit : LengthUnit) (clerks : List (List ℕ)) (text : List ℕ)
+    (old new : Option (List ℕ))
+    : Type 0 where
+  pub points : List Corner
+  pub are_points : ArePoints text points
+  pub are_begun : BeginsPlaces A city parcels unit clerks points old new
 
 -- the parcels' files tile the city of the city's files, the clerks' files have no fault, and the fault is the text's first bad line
 pub record IsPointsFault (city parcels : Files) (unit : LengthUnit) (clerks : List (List ℕ)) (text : List ℕ)

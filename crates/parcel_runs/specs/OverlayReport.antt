@@ -1,12 +1,12 @@
 -- What an overlay of parcels with zones writes, and why it does not (this product's own; which overlap is zone_tables').
-use Rattle.std.specs.Prelude.{◌≡◌, ◌⊎◌, ℕ, ◌≤◌, List, ◌++◌, length, Option}
+use Rattle.std.specs.Prelude.{◌≡◌, ◌⊎◌, ℕ, ◌<◌, ◌≤◌, List, ◌++◌, length, Option}
 use Rattle.std.specs.Io.KnownBytes.{Appends}
 use Rattle.geo_exact.specs.declared.coord.Unit.{Unit as LengthUnit}
 use Rattle.fabric_core.specs.Rows.{Tiles}
-use Rattle.text_puts.specs.Beginnings.{AppendsBeginning}
+use Rattle.text_pieces.specs.Beginnings.{AppendsBeginning}
 use Rattle.zone_tables.specs.Overlap.{Overlay, IsOverlapTable}
 use Rattle.zone_tables.specs.Report.{IsReport}
-use Rattle.parcel_runs.specs.declared.clerks.TheConstants.{CLERKS}
+use Rattle.desk_lock.specs.declared.opening.TheConstants.{MOST_PLACES}
 use Rattle.city_layers.specs.declared.fault.ToolFault.{ToolFault}
 use Rattle.city_layers.specs.declared.fault.ToolFault.TheVariants.{NoThread}
 use Rattle.city_layers.specs.TilingFiles.{Files}
@@ -64,9 +64,9 @@ pub record IsClerkFaultBehindZones (city parcels zones : Files) (unit : LengthUn
 -- the fault is the first: how many clerks' files there are; then the layers', and the clerks', one file after the other
 abbrev pub IsOverlayFault : Files → Files → Files → LengthUnit → List (List ℕ) → ToolFault → Type 0
 IsOverlayFault city parcels zones unit clerks fault = IsCrowded clerks fault
-    ⊎ ((length clerks ≤ CLERKS)
+    ⊎ ((length clerks ≤ MOST_PLACES)
     × (IsLayersFault city parcels zones unit fault ⊎ IsClerkFaultBehindZones city parcels zones unit clerks fault))
 
--- memory was wanted, or a reader for the window of the clerks' office, or a thread for a hand
-abbrev pub IsOverlayWant : ToolFault → Type 0
-IsOverlayWant fault = IsWant fault ⊎ ((hand : ℕ) × (fault ≡ NoThread hand))
+-- memory was wanted, or, where there are clerks' files, a reader for the window of their office, or a thread for one of so many workers
+abbrev pub IsOverlayWant : (files workers : ℕ) → ToolFault → Type 0
+IsOverlayWant files workers fault = IsWant files fault ⊎ ((hand : ℕ) × (hand < workers) × (fault ≡ NoThread hand))

@@ -3,14 +3,14 @@ use Rattle.std.specs.Prelude.{◌≡◌, ◌⊎◌, ℕ, ◌<◌, ◌≤◌, Lis
 use Rattle.geo_exact.specs.declared.coord.Unit.{Unit as LengthUnit}
 use Rattle.fabric_core.specs.Rows.{Tiles}
 use Rattle.clerk_runs.specs.ClerkFiles.{IsFirstBadOfAll}
-use Rattle.parcel_runs.specs.declared.clerks.TheConstants.{CLERKS}
+use Rattle.desk_lock.specs.declared.opening.TheConstants.{MOST_PLACES}
 use Rattle.city_layers.specs.declared.fault.ToolFault.{ToolFault}
 use Rattle.city_layers.specs.declared.fault.ToolFault.TheVariants.{ClerkCount, ClerkLine, NoWindow, NoMemory}
 use Rattle.city_layers.specs.TilingFiles.{Files, AreTiles, IsTilesFault}
 
 -- there are more clerks' files than a run takes
 pub record IsCrowded (clerks : List (List ℕ)) (fault : ToolFault) : Type 0 where
-  pub are_more : CLERKS < length clerks
+  pub are_more : MOST_PLACES < length clerks
   pub is_told : fault ≡ ClerkCount (length clerks)
 
 -- the first bad line of the first file that has one
@@ -26,8 +26,8 @@ pub record IsClerkFaultBehind (city parcels : Files) (unit : LengthUnit) (clerks
 -- the fault is the first: how many clerks' files there are; then the city's, the parcels', and the clerks', one file after the other
 abbrev pub IsRunFault : Files → Files → LengthUnit → List (List ℕ) → ToolFault → Type 0
 IsRunFault city parcels unit clerks fault = IsCrowded clerks fault
-    ⊎ ((length clerks ≤ CLERKS) × (IsTilesFault city parcels unit fault ⊎ IsClerkFaultBehind city parcels unit clerks fault))
+    ⊎ ((length clerks ≤ MOST_PLACES) × (IsTilesFault city parcels unit fault ⊎ IsClerkFaultBehind city parcels unit clerks fault))
 
--- memory was wanted, or a reader for the one window of the clerks' office
-abbrev pub IsWant : ToolFault → Type 0
-IsWant fault = (fault ≡ NoMemory) ⊎ (fault ≡ NoWindow 1)
+-- memory was wanted, or, where there are clerks' files, a reader for the one window of the clerks' office
+abbrev pub IsWant : ℕ → ToolFault → Type 0
+IsWant files fault = (fault ≡ NoMemory) ⊎ ((0 < files) × (fault ≡ NoWindow 1))

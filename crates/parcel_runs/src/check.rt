@@ -5,24 +5,23 @@ ghost use Rattle.std.specs.Borrow.{Bor};
 ghost use Rattle.geo_exact.specs.Bytes.{raised};
 ghost use Rattle.geo_exact.specs.declared.limits.TheConstants.{LIST_CORNERS};
 ghost use Rattle.city_layers.specs.declared.fault.ToolFault.{ToolFault as ToolFaultValue};
-ghost use Rattle.parcel_runs.specs.CheckReport.{tiling_line, WritesTiling};
+ghost use Rattle.parcel_runs.specs.CheckReport.{tiling_line, WritesTiling, BeginsTiling, BeginsLines};
 ghost use Rattle.city_layers.specs.FaultLines.{WritesLinesBefore};
 ghost use Rattle.city_layers.specs.TilingFiles.{files_of};
 ghost use Rattle.clerk_runs.specs.ClerkFiles.{texts_of};
 ghost use Rattle.clerk_runs.specs.ClerkRuns.{Register, AreMade};
 ghost use Rattle.parcel_runs.specs.RunFaults.{IsRunFault, IsWant};
+ghost use Rattle.desk_lock.specs.declared.opening.TheConstants.{MOST_PLACES};
 
-use crate::clerks::CLERKS;
 use crate::edited::{Unedited, edit_layer};
 use crate::unedited::{load_unedited, load_unedited_or_lines};
 use city_layers::{Source, ToolFault};
 use geo_exact::{ByteOut, Unit};
-use itoa::Buffer;
 use shp_files::a_layer_file_is_within_the_limits;
 use std::alloc::{AllocError, Allocator};
 use std::sync::Wait;
 use std::thread::Threads;
-use text_puts::put_all;
+use text_pieces::{push_number, put_all};
 
 /// Writes `tiling N AREA2` where the parcels tile their city exactly: how many they are, and twice
 /// the city's area in square millimetres. Before that the edits of clerks' files are made at one
@@ -32,7 +31,7 @@ use text_puts::put_all;
 ///
 /// # Errors
 ///
-/// [`ToolFault::ClerkCount`] for more than 8 clerks' files; the first fault of the city's files and
+/// [`ToolFault::ClerkCount`] for more clerks' files than [`MOST_PLACES`]; the first fault of the city's files and
 /// ring, then of the parcels' files and rings, then the first bad line of the clerks' files;
 /// [`ToolFault::NoWindow`] and [`ToolFault::NoMemory`]; all before anything is written.
 /// [`ToolFault::Output`] where a write failed.
@@ -49,10 +48,14 @@ pub fn check<'h, R: Threads + Wait + Sync, H: Allocator + Send + Sync, A: Alloca
         (files_of city.now) (files_of parcels.now) unit (texts_of clerks.now) (W.written out.old) (W.written out.new)) }
     ensures fault { IfErr result (λ fault.
         (IsRunFault (files_of city.now) (files_of parcels.now) unit (texts_of clerks.now) fault × (out.new ≡ out.old))
-        ⊎ (IsWant fault × (out.new ≡ out.old)) ⊎ (fault ≡ ToolFault.Output)) }
+        ⊎ (IsWant (length clerks.now) fault × (out.new ≡ out.old)) ⊎ (fault ≡ ToolFault.Output)) }
     ensures refuses { (fault : ToolFaultValue)
         → IsRunFault (files_of city.now) (files_of parcels.now) unit (texts_of clerks.now) fault
         → IsErrAnd result (λ told. (told ≡ fault) ⊎ (told ≡ ToolFault.NoMemory)) }
+
+    // Only a writer that failed in this call ends the output early.
+    ensures output { IsErrOf result ToolFault.Output → BeginsTiling (Bor H)
+        (files_of city.now) (files_of parcels.now) unit (texts_of clerks.now) (W.written out.old) (W.written out.new) }
     ensures failed { IsErrOf result ToolFault.Output → W.failure_count out.new ≡ raised (W.failure_count out.old) }
     ensures no_failure { OnOk result (W.failure_count out.new ≡ W.failure_count out.old) }
 {
@@ -92,12 +95,19 @@ pub fn check_all<
         (files_of city.now) (files_of parcels.now) unit (texts_of clerks.now) (W.written out.old) (W.written out.new)) }
     // The lines of all faults are written before the first is answered.
     ensures fault { IfErr result (λ fault.
-        ((IsRunFault (files_of city.now) (files_of parcels.now) unit (texts_of clerks.now) fault ⊎ IsWant fault)
+        ((IsRunFault (files_of city.now) (files_of parcels.now) unit (texts_of clerks.now) fault ⊎ IsWant (length clerks.now) fault)
         × WritesLinesBefore (files_of city.now) (files_of parcels.now) unit fault (W.written out.old) (W.written out.new))
         ⊎ (fault ≡ ToolFault.Output)) }
     ensures refuses { (fault : ToolFaultValue)
         → IsRunFault (files_of city.now) (files_of parcels.now) unit (texts_of clerks.now) fault
         → IsErrAnd result (λ told. (told ≡ fault) ⊎ (told ≡ ToolFault.NoMemory) ⊎ (told ≡ ToolFault.Output)) }
+
+    // Only a writer that failed in this call ends the output early, that of the lines too.
+    ensures output { IsErrOf result ToolFault.Output
+        → BeginsTiling (Bor H) (files_of city.now) (files_of parcels.now) unit (texts_of clerks.now)
+        (W.written out.old) (W.written out.new)
+        ⊎ BeginsLines (files_of city.now) (files_of parcels.now) unit (texts_of clerks.now)
+        (W.written out.old) (W.written out.new) }
     ensures failed { IsErrOf result ToolFault.Output → W.failure_count out.new ≡ raised (W.failure_count out.old) }
     ensures no_failure { OnOk result (W.failure_count out.new ≡ W.failure_count out.old) }
 {
@@ -121,12 +131,12 @@ fn checked_text<'h, R: Threads + Wait + Sync, H: Allocator + Send + Sync>(
     heap: &'h H,
     unedited: Unedited<'h, H>,
 ) -> Result<Vec<u8, &'h H>, ToolFault<'static>>
-    requires few { length unedited.clerks.items ≤ CLERKS }
+    requires few { length unedited.clerks.items ≤ MOST_PLACES }
     requires short { length unedited.layer.city ≤ LIST_CORNERS }
     ensures text { IfOk result (λ text. (after : Register (Bor H)) × (told : List ℕ)
         × AreMade unedited.entry.layer unedited.entry.clerks.items after told
         × (text.items ≡ told ++ tiling_line after.now.rows unedited.entry.layer.city)) }
-    ensures fault { IfErr result IsWant }
+    ensures fault { IfErr result (IsWant (length unedited.entry.clerks.items)) }
 {
     let edited = edit_layer(rt, heap, unedited, &[])?;
     let count = edited.parcels.count();
@@ -145,11 +155,10 @@ pub(crate) fn push_tiling<A: Allocator>(
     ensures { OnOk result (text.new.items ≡ text.old.items
         ++ (codes "tiling " ++ decimal count ++ codes " " ++ decimal area2 ++ codes "\n")) }
 {
-    let mut digits = Buffer::new();
     text.extend_from_slice(b"tiling ")?;
-    text.extend_from_slice(digits.format(count).as_bytes())?;
+    push_number(text, count)?;
     text.push(b' ')?;
-    text.extend_from_slice(digits.format(area2).as_bytes())?;
+    push_number(text, area2)?;
     text.push(b'\n')?;
     Ok(())
 }

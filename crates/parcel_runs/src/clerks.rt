@@ -4,24 +4,24 @@ ghost use Rattle.std.specs.Prelude.{◌≡◌, ◌⊎◌, ◌↔◌, ◌≤◌, 
 ghost use Rattle.clerk_runs.specs.ClerkFiles.{texts_of, AreClerkFiles};
 ghost use Rattle.city_layers.specs.declared.fault.ToolFault.{ToolFault as ToolFaultValue};
 ghost use Rattle.parcel_runs.specs.RunFaults.{IsClerkFault};
+ghost use Rattle.desk_lock.specs.declared.opening.TheConstants.{MOST_PLACES};
 
 use city_layers::ToolFault;
 use clerk_runs::{ClerkEdits, FilesFault, read_clerks};
+use desk_lock::MOST_PLACES;
 use std::alloc::Allocator;
 
-/// The most files of clerks' edits that a run takes.
-pub const CLERKS: usize = 8;
-
-/// Refuses more files of clerks' edits than a run takes.
+/// Refuses more files of clerks' edits than one office has places for clerks.
 ///
 /// # Errors
 ///
 /// [`ToolFault::ClerkCount`] with their number.
 pub fn refuse_many_clerks(count: usize) -> Result<(), ToolFault<'static>>
-    ensures few { IsOk result ↔ (count ≤ CLERKS) }
+    ensures few { IsOk result ↔ (count ≤ MOST_PLACES) }
+    ensures eight { IsOk result ↔ (count ≤ 8) }
     ensures many { IfErr result (λ fault. fault ≡ ToolFault.ClerkCount count) }
 {
-    if count > CLERKS {
+    if count > MOST_PLACES {
         return Err(ToolFault::ClerkCount(count));
     }
     Ok(())
@@ -38,9 +38,9 @@ pub fn read_clerk_files<'h, H: Allocator, A: Allocator>(
     heap: &'h H,
     files: &[Vec<u8, A>],
 ) -> Result<Vec<ClerkEdits<&'h H>, &'h H>, ToolFault<'static>>
-    requires { length files.now ≤ CLERKS }
+    requires { length files.now ≤ MOST_PLACES }
     ensures edits { IfOk result (λ clerks. AreClerkFiles (texts_of files.now) clerks.items) }
-    ensures few { IfOk result (λ clerks. length clerks.items ≤ CLERKS) }
+    ensures few { IfOk result (λ clerks. length clerks.items ≤ MOST_PLACES) }
     ensures fault { IfErr result (λ fault. IsClerkFault (texts_of files.now) fault ⊎ (fault ≡ ToolFault.NoMemory)) }
     ensures refuses { (fault : ToolFaultValue) → IsClerkFault (texts_of files.now) fault
         → IsErrAnd result (λ told. (told ≡ fault) ⊎ (told ≡ ToolFault.NoMemory)) }

@@ -2,7 +2,7 @@
 
 ghost use Rattle.std.specs.Prelude.{◌≡◌, ◌<◌, [], length, IfOk, IsPermutation};
 ghost use Rattle.overlay_work.specs.Sharing.{joined};
-ghost use Rattle.parcel_runs.specs.own.Dealing.{dealt};
+ghost use Rattle.parcel_runs.specs.own.Dealing.{dealt, AreDealtInTurn};
 
 use fabric_core::Ids;
 use std::alloc::{AllocError, Allocator};
@@ -17,6 +17,7 @@ pub fn deal<'h, H: Allocator>(
     requires { 0 < workers }
     ensures count { IfOk result (λ lists. length lists.items ≡ workers) }
     ensures each_once { IfOk result (λ lists. IsPermutation (joined (dealt lists.items)) ids.entry) }
+    ensures in_turn { IfOk result (λ lists. AreDealtInTurn workers ids.entry (dealt lists.items)) }
 {
     let mut lists = no_lists(heap, workers)?;
     let mut worker = 0;

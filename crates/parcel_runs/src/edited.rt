@@ -8,8 +8,8 @@ ghost use Rattle.fabric_core.specs.Limits.{AreWithinLimits};
 ghost use Rattle.clerk_runs.specs.ClerkRuns.{AreMade, AreLocated};
 ghost use Rattle.parcel_runs.specs.RunFaults.{IsWant};
 ghost use Rattle.parcel_runs.specs.own.Registers.{register_of_parcels, city_of_parcels};
+ghost use Rattle.desk_lock.specs.declared.opening.TheConstants.{MOST_PLACES};
 
-use crate::clerks::CLERKS;
 use city_layers::ToolFault;
 use clerk_runs::{ClerkEdits, RunFault, edit_by_clerks};
 use fabric_core::{At, Fabric, Layer, Shapes, Sheet};
@@ -153,13 +153,13 @@ pub fn edit_layer<'h, R: Threads + Wait + Sync, H: Allocator + Send + Sync>(
     unedited: Unedited<'h, H>,
     corners: &[Corner],
 ) -> Result<Edited<'h, H>, ToolFault<'static>>
-    requires { length unedited.clerks.items ≤ CLERKS }
+    requires { length unedited.clerks.items ≤ MOST_PLACES }
     ensures made { IfOk result (λ edited. AreMade unedited.entry.layer unedited.entry.clerks.items
         (register_of_parcels edited.parcels) edited.lines.items) }
     ensures city { IfOk result (λ edited. city_of_parcels edited.parcels ≡ unedited.entry.layer.city) }
     ensures places { IfOk result (λ edited.
         AreLocated (register_of_parcels edited.parcels).now.rows corners.now edited.places.items) }
-    ensures fault { IfErr result IsWant }
+    ensures fault { IfErr result (IsWant (length unedited.entry.clerks.items)) }
 {
     let Unedited { layer, clerks } = unedited;
     if clerks.is_empty() {
@@ -188,6 +188,7 @@ fn as_read<'h, H: Allocator>(
         AreLocated (register_of_parcels edited.parcels).now.rows corners.now edited.places.items) }
 {
     let places = places_in(heap, &layer, corners)?;
+    layer.tiles();
     Ok(Edited {
         parcels: Parcels::Read(layer),
         lines: Vec::new(heap),

@@ -17,12 +17,12 @@ use crate::unedited::load_unedited;
 use city_layers::{Source, ToolFault};
 use fabric_core::Shapes;
 use geo_exact::{RawRing, Unit};
-use itoa::Buffer;
 use ring_core::Ring;
 use shp_files::{a_layer_file_is_within_the_limits, write_layer};
 use std::alloc::{AllocError, Allocator};
 use std::sync::Wait;
 use std::thread::Threads;
+use text_pieces::push_number;
 
 /// What an export writes, and what it prints.
 #[derive(Drop)]
@@ -44,7 +44,7 @@ pub struct Exported<A: Allocator> {
 ///
 /// # Errors
 ///
-/// [`ToolFault::ClerkCount`] for more than 8 clerks' files; the first fault of the city's files and
+/// [`ToolFault::ClerkCount`] for more clerks' files than [`MOST_PLACES`]; the first fault of the city's files and
 /// ring, then of the parcels' files and rings, then the first bad line of the clerks' files;
 /// [`ToolFault::NoWindow`] and [`ToolFault::NoMemory`].
 pub fn export<'h, R: Threads + Wait + Sync, H: Allocator + Send + Sync, A: Allocator>(
@@ -58,7 +58,7 @@ pub fn export<'h, R: Threads + Wait + Sync, H: Allocator + Send + Sync, A: Alloc
     ensures ok { IfOk result (λ exported. IsExport (Bor H) (files_of city.now) (files_of parcels.now) unit
         (texts_of clerks.now) exported.main.items exported.index.items exported.lines.items) }
     ensures fault { IfErr result (λ fault.
-        IsRunFault (files_of city.now) (files_of parcels.now) unit (texts_of clerks.now) fault ⊎ IsWant fault) }
+        IsRunFault (files_of city.now) (files_of parcels.now) unit (texts_of clerks.now) fault ⊎ IsWant (length clerks.now) fault) }
     ensures refuses { (fault : ToolFaultValue)
         → IsRunFault (files_of city.now) (files_of parcels.now) unit (texts_of clerks.now) fault
         → IsErrAnd result (λ told. (told ≡ fault) ⊎ (told ≡ ToolFault.NoMemory)) }
@@ -125,9 +125,8 @@ pub(crate) fn push_exported<A: Allocator>(
 ) -> Result<(), AllocError>
     ensures { OnOk result (text.new.items ≡ text.old.items ++ (codes "exported " ++ decimal count ++ codes "\n")) }
 {
-    let mut digits = Buffer::new();
     text.extend_from_slice(b"exported ")?;
-    text.extend_from_slice(digits.format(count).as_bytes())?;
+    push_number(text, count)?;
     text.push(b'\n')?;
     Ok(())
 }

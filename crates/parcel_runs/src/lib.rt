@@ -18,4 +18,4 @@ pub mod sheets;
 mod unedited;
 mod zoned;
 
-pub use clerks::{CLERKS, refuse_many_clerks};
+pub use clerks::refuse_many_clerks;

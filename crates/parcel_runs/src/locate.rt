@@ -5,7 +5,8 @@ ghost use Rattle.std.specs.Borrow.{Bor};
 ghost use Rattle.geo_exact.specs.Bytes.{raised};
 ghost use Rattle.city_layers.specs.declared.fault.ToolFault.{ToolFault as ToolFaultValue};
 ghost use Rattle.text_pieces.specs.CornerText.{corner_text};
-ghost use Rattle.parcel_runs.specs.LocateReport.{ArePlaceLines, WritesPlaces, WritesPlacesOfText, IsLocateFault};
+ghost use Rattle.parcel_runs.specs.LocateReport.{ArePlaceLines, WritesPlaces, BeginsPlaces, WritesPlacesOfText, BeginsPlacesOfText};
+ghost use Rattle.parcel_runs.specs.LocateReport.{IsLocateFault};
 ghost use Rattle.line_files.specs.PointLines.{ArePoints, IsFirstBadPoint};
 ghost use Rattle.city_layers.specs.TilingFiles.{files_of};
 ghost use Rattle.clerk_runs.specs.ClerkFiles.{texts_of};
@@ -13,8 +14,8 @@ ghost use Rattle.clerk_runs.specs.ClerkRuns.{Register, AreMade};
 ghost use Rattle.clerk_runs.specs.PlaceTexts.{place_text};
 ghost use Rattle.parcel_runs.specs.RunFaults.{IsRunFault, IsWant};
 ghost use Rattle.parcel_runs.specs.own.PlaceTexts.{places_text};
+ghost use Rattle.desk_lock.specs.declared.opening.TheConstants.{MOST_PLACES};
 
-use crate::clerks::CLERKS;
 use crate::edited::{Unedited, edit_layer};
 use crate::unedited::load_unedited;
 use city_layers::{Source, ToolFault};
@@ -25,8 +26,7 @@ use line_files::{PointsFault, read_points};
 use std::alloc::{AllocError, Allocator};
 use std::sync::Wait;
 use std::thread::Threads;
-use text_pieces::push_corner;
-use text_puts::put_all;
+use text_pieces::{push_corner, put_all};
 
 /// Writes for each point in order, where the parcels tile their city, `X Y inside ID`, `X Y edge ID
 /// ID ..` with all parcels on whose edges it lies, or `X Y outside`. Before that the edits of
@@ -36,7 +36,7 @@ use text_puts::put_all;
 ///
 /// # Errors
 ///
-/// [`ToolFault::ClerkCount`] for more than 8 clerks' files; the first fault of the city's files and
+/// [`ToolFault::ClerkCount`] for more clerks' files than [`MOST_PLACES`]; the first fault of the city's files and
 /// ring, then of the parcels' files and rings, then the first bad line of the clerks' files;
 /// [`ToolFault::NoWindow`] and [`ToolFault::NoMemory`]; all before anything is written.
 /// [`ToolFault::Output`] where a write failed.
@@ -54,10 +54,14 @@ pub fn locate<'h, R: Threads + Wait + Sync, H: Allocator + Send + Sync, A: Alloc
         points.now (W.written out.old) (W.written out.new)) }
     ensures fault { IfErr result (λ fault.
         (IsRunFault (files_of city.now) (files_of parcels.now) unit (texts_of clerks.now) fault × (out.new ≡ out.old))
-        ⊎ (IsWant fault × (out.new ≡ out.old)) ⊎ (fault ≡ ToolFault.Output)) }
+        ⊎ (IsWant (length clerks.now) fault × (out.new ≡ out.old)) ⊎ (fault ≡ ToolFault.Output)) }
     ensures refuses { (fault : ToolFaultValue)
         → IsRunFault (files_of city.now) (files_of parcels.now) unit (texts_of clerks.now) fault
         → IsErrAnd result (λ told. (told ≡ fault) ⊎ (told ≡ ToolFault.NoMemory)) }
+
+    // Only a writer that failed in this call ends the output early.
+    ensures output { IsErrOf result ToolFault.Output → BeginsPlaces (Bor H) (files_of city.now) (files_of parcels.now) unit
+        (texts_of clerks.now) points.now (W.written out.old) (W.written out.new) }
     ensures failed { IsErrOf result ToolFault.Output → W.failure_count out.new ≡ raised (W.failure_count out.old) }
     ensures no_failure { OnOk result (W.failure_count out.new ≡ W.failure_count out.old) }
 {
@@ -95,10 +99,14 @@ pub fn locate_text<
     ensures fault { IfErr result (λ fault.
         (IsLocateFault (files_of city.now) (files_of parcels.now) unit (texts_of clerks.now) text.now fault
         × (out.new ≡ out.old))
-        ⊎ (IsWant fault × (out.new ≡ out.old)) ⊎ (fault ≡ ToolFault.Output)) }
+        ⊎ (IsWant (length clerks.now) fault × (out.new ≡ out.old)) ⊎ (fault ≡ ToolFault.Output)) }
     ensures refuses { (fault : ToolFaultValue)
         → IsLocateFault (files_of city.now) (files_of parcels.now) unit (texts_of clerks.now) text.now fault
         → IsErrAnd result (λ told. (told ≡ fault) ⊎ (told ≡ ToolFault.NoMemory)) }
+
+    // Only a writer that failed in this call ends the output early.
+    ensures output { IsErrOf result ToolFault.Output → BeginsPlacesOfText (Bor H) (files_of city.now) (files_of parcels.now) unit
+        (texts_of clerks.now) text.now (W.written out.old) (W.written out.new) }
     ensures failed { IsErrOf result ToolFault.Output → W.failure_count out.new ≡ raised (W.failure_count out.old) }
     ensures no_failure { OnOk result (W.failure_count out.new ≡ W.failure_count out.old) }
 {
@@ -131,11 +139,11 @@ fn located_text<'h, R: Threads + Wait + Sync, H: Allocator + Send + Sync>(
     unedited: Unedited<'h, H>,
     points: &[Corner],
 ) -> Result<Vec<u8, &'h H>, ToolFault<'static>>
-    requires { length unedited.clerks.items ≤ CLERKS }
+    requires { length unedited.clerks.items ≤ MOST_PLACES }
     ensures text { IfOk result (λ text. (after : Register (Bor H)) × (told : List ℕ) × (lines : List ℕ)
         × AreMade unedited.entry.layer unedited.entry.clerks.items after told
         × ArePlaceLines after.now.rows points.now lines × (text.items ≡ told ++ lines)) }
-    ensures fault { IfErr result IsWant }
+    ensures fault { IfErr result (IsWant (length unedited.entry.clerks.items)) }
 {
     let edited = edit_layer(rt, heap, unedited, points)?;
     let (mut lines, places) = edited.into_places();

@@ -1,6 +1,7 @@
 //! Which parcels of a sheet and which zones overlap, as workers find it.
 
 ghost use Rattle.std.specs.Prelude.{◌≡◌, ◌⊎◌, ℕ, ◌<◌, ◌≤◌, length, IfOk, IfErr};
+ghost use Rattle.std.specs.List.{AllByRecursion};
 ghost use Rattle.overlay_work.specs.Rounds.{AreHandsOf};
 ghost use Rattle.overlay_work.specs.declared.round.RoundFault.TheVariants.{NoMemory as RoundMemory};
 ghost use Rattle.overlay_work.specs.declared.close.CloseFault.TheVariants.{NoThread, NoMemory as CloseMemory};
@@ -38,7 +39,7 @@ pub fn overlaps<'t, 'h, R: Threads + Wait + Sync, H: Allocator + Send + Sync>(
     ensures zones { IfOk result (λ table. table.zones ≡ zones.now.rows) }
     ensures entries { IfOk result (λ table. table.entries ≡ length sheet.now.journal) }
     ensures table { IfOk result (λ table. IsOverlapTable table.rows table.zones table.pairs) }
-    ensures fault { IfErr result IsOverlayWant }
+    ensures fault { IfErr result (IsOverlayWant 0 workers) }
 {
     let (round, hands) = begin(heap, sheet, zones, workers)?;
     match run_round(rt, round, hands, &OpenGate) {
@@ -62,6 +63,7 @@ fn begin<'t, 'h, H: Allocator>(
     ensures entries { IfOk result (λ made. made.0.entries ≡ length sheet.now.journal) }
     ensures hands { IfOk result (λ made. AreHandsOf made.0 made.1.items) }
     ensures all { IfOk result (λ made. length made.1.items ≡ length made.0.lists) }
+    ensures numbers { IfOk result (λ made. AllByRecursion (λ hand. hand.number < workers) made.1.items) }
     ensures fault { IfErr result (λ fault. fault ≡ ToolFault.NoMemory) }
 {
     let lists = deal(heap, sheet.ids(), workers)?;
@@ -88,7 +90,8 @@ fn told_of_round(fault: RoundFault) -> ToolFault<'static>
 /// What it is to the user that a round with all its hands gave no table.
 fn told_of_close(fault: CloseFault) -> ToolFault<'static>
     requires { (fault ≡ CloseMemory) ⊎ ((hand : ℕ) × (fault ≡ NoThread hand)) }
-    ensures { IsOverlayWant result }
+    ensures { ((fault ≡ CloseMemory) × (result ≡ ToolFault.NoMemory))
+        ⊎ ((hand : ℕ) × (fault ≡ NoThread hand) × (result ≡ ToolFault.NoThread hand)) }
 {
     match fault {
         CloseFault::NoThread(hand) => ToolFault::NoThread(hand),

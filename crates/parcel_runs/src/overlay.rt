@@ -11,8 +11,8 @@ ghost use Rattle.clerk_runs.specs.ClerkFiles.{texts_of};
 ghost use Rattle.clerk_runs.specs.ClerkRuns.{AreMade, register_of};
 ghost use Rattle.parcel_runs.specs.RunFaults.{IsWant};
 ghost use Rattle.parcel_runs.specs.own.LinesAndReports.{WritesBoth, BeginsBoth};
+ghost use Rattle.desk_lock.specs.declared.opening.TheConstants.{MOST_PLACES};
 
-use crate::clerks::CLERKS;
 use crate::edited::{Unedited, edit_layer};
 use crate::overlaps::overlaps;
 use crate::zoned::{Zoned, load_zoned};
@@ -23,7 +23,7 @@ use overlay_work::{MOST_HANDS, Table, write_report};
 use std::alloc::Allocator;
 use std::sync::Wait;
 use std::thread::Threads;
-use text_puts::put_all;
+use text_pieces::put_all;
 
 /// Writes which parcels and which zones overlap, where both tile one city: `entries N`, how many
 /// edits led to these parcels; `pair ID ZONE` for each parcel and zone whose interiors have a
@@ -35,7 +35,7 @@ use text_puts::put_all;
 ///
 /// # Errors
 ///
-/// [`ToolFault::ClerkCount`] for more than 8 clerks' files; the first fault of the city's files and
+/// [`ToolFault::ClerkCount`] for more clerks' files than [`MOST_PLACES`]; the first fault of the city's files and
 /// ring, then of the parcels' files and rings, then of the zones', then the first bad line of the
 /// clerks' files; [`ToolFault::NoWindow`], [`ToolFault::NoThread`] and [`ToolFault::NoMemory`]; all
 /// before anything is written. [`ToolFault::Output`] where a write failed.
@@ -57,7 +57,7 @@ pub fn overlay<'h, R: Threads + Wait + Sync, H: Allocator + Send + Sync, A: Allo
     ensures fault { IfErr result (λ fault.
         (IsOverlayFault (files_of city.now) (files_of parcels.now) (files_of zones.now) unit (texts_of clerks.now) fault
         × (out.new ≡ out.old))
-        ⊎ (IsOverlayWant fault × (out.new ≡ out.old)) ⊎ (fault ≡ ToolFault.Output)) }
+        ⊎ (IsOverlayWant (length clerks.now) workers fault × (out.new ≡ out.old)) ⊎ (fault ≡ ToolFault.Output)) }
     ensures refuses { (fault : ToolFaultValue)
         → IsOverlayFault (files_of city.now) (files_of parcels.now) (files_of zones.now) unit (texts_of clerks.now) fault
         → IsErrAnd result (λ told. (told ≡ fault) ⊎ (told ≡ ToolFault.NoMemory)) }
@@ -80,11 +80,11 @@ fn edited_sheet<'h, R: Threads + Wait + Sync, H: Allocator + Send + Sync>(
     heap: &'h H,
     unedited: Unedited<'h, H>,
 ) -> Result<(Sheet<'h, H>, Vec<u8, &'h H>), ToolFault<'static>>
-    requires { length unedited.clerks.items ≤ CLERKS }
+    requires { length unedited.clerks.items ≤ MOST_PLACES }
     ensures made { IfOk result (λ made.
         AreMade unedited.entry.layer unedited.entry.clerks.items (register_of made.0) made.1.items) }
     ensures city { IfOk result (λ made. made.0.city ≡ unedited.entry.layer.city) }
-    ensures fault { IfErr result IsWant }
+    ensures fault { IfErr result (IsWant (length unedited.entry.clerks.items)) }
 {
     let edited = edit_layer(rt, heap, unedited, &[])?;
     let (parcels, lines) = edited.into_parcels();
@@ -106,8 +106,6 @@ pub(crate) fn write_both<'t, 'h, H: Allocator, A: Allocator, W: ByteOut>(
 {
     table.stands();
     put_all(lines, out)?;
-    match write_report(table, out) {
-        Ok(()) => Ok(()),
-        Err(_) => Err(ToolFault::Output),
-    }
+    write_report(table, out)?;
+    Ok(())
 }

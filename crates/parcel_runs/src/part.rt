@@ -14,10 +14,10 @@ ghost use Rattle.parcel_runs.specs.PartReport.{part_line, IsPart, IsPartFault};
 use crate::export::ring_to_write;
 use city_layers::{Source, ToolFault, load_tiles};
 use geo_exact::{Unit, area2};
-use itoa::Buffer;
 use ring_core::Ring;
 use shp_files::write_layer;
 use std::alloc::{AllocError, Allocator};
+use text_pieces::push_number;
 
 /// What is written of one parcel, and what is printed.
 #[derive(Drop)]
@@ -87,11 +87,10 @@ fn push_part<A: Allocator>(text: &mut Vec<u8, A>, id: u64, area2: u128) -> Resul
     ensures { OnOk result (text.new.items ≡ text.old.items
         ++ (codes "part " ++ decimal id ++ codes " " ++ decimal area2 ++ codes "\n")) }
 {
-    let mut digits = Buffer::new();
     text.extend_from_slice(b"part ")?;
-    text.extend_from_slice(digits.format(id).as_bytes())?;
+    push_number(text, id)?;
     text.push(b' ')?;
-    text.extend_from_slice(digits.format(area2).as_bytes())?;
+    push_number(text, area2)?;
     text.push(b'\n')?;
     Ok(())
 }

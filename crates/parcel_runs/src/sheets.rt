@@ -86,7 +86,7 @@ pub fn overlay_sheet<'h, R: Threads + Wait + Sync, H: Allocator + Send + Sync, W
     requires city { zones.now.city ≡ sheet.now.city }
     ensures ok { OnOk result
         (WritesSheetOverlay text.now (register_of sheet.now) zones.now (W.written out.old) (W.written out.new)) }
-    ensures fault { IfErr result (λ fault. (IsOverlayWant fault × (out.new ≡ out.old)) ⊎ (fault ≡ ToolFault.Output)) }
+    ensures fault { IfErr result (λ fault. (IsOverlayWant 0 workers fault × (out.new ≡ out.old)) ⊎ (fault ≡ ToolFault.Output)) }
     ensures failed { IsErrOf result ToolFault.Output → W.failure_count out.new ≡ raised (W.failure_count out.old) }
     ensures no_failure { OnOk result (W.failure_count out.new ≡ W.failure_count out.old) }
 {

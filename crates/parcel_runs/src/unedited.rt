@@ -6,8 +6,9 @@ ghost use Rattle.city_layers.specs.FaultLines.{AreLinesBefore, text_or_none};
 ghost use Rattle.city_layers.specs.TilingFiles.{files_of, AreTiles};
 ghost use Rattle.clerk_runs.specs.ClerkFiles.{texts_of, AreClerkFiles};
 ghost use Rattle.parcel_runs.specs.RunFaults.{IsRunFault};
+ghost use Rattle.desk_lock.specs.declared.opening.TheConstants.{MOST_PLACES};
 
-use crate::clerks::{CLERKS, read_clerk_files, refuse_many_clerks};
+use crate::clerks::{read_clerk_files, refuse_many_clerks};
 use crate::edited::Unedited;
 use city_layers::{LayerRefusal, Source, ToolFault, load_tiles, load_tiles_or_lines};
 use geo_exact::Unit;
@@ -17,7 +18,7 @@ use std::alloc::Allocator;
 ///
 /// # Errors
 ///
-/// [`ToolFault::ClerkCount`] for more than 8 clerks' files; the first fault of the city's files,
+/// [`ToolFault::ClerkCount`] for more clerks' files than [`MOST_PLACES`]; the first fault of the city's files,
 /// the number of their rings, or the ring's fault; then the first fault of the parcels' files, or
 /// of their rings as a layer; then the first bad line of the clerks' files; and
 /// [`ToolFault::NoMemory`].
@@ -30,7 +31,7 @@ pub fn load_unedited<'h, H: Allocator, A: Allocator>(
 ) -> Result<Unedited<'h, H>, ToolFault<'static>>
     ensures tiles { IfOk result (λ unedited. AreTiles (files_of city.now) (files_of parcels.now) unit unedited.layer) }
     ensures edits { IfOk result (λ unedited. AreClerkFiles (texts_of clerks.now) unedited.clerks.items) }
-    ensures few { IfOk result (λ unedited. length unedited.clerks.items ≤ CLERKS) }
+    ensures few { IfOk result (λ unedited. length unedited.clerks.items ≤ MOST_PLACES) }
     ensures fault { IfErr result (λ fault.
         IsRunFault (files_of city.now) (files_of parcels.now) unit (texts_of clerks.now) fault
         ⊎ (fault ≡ ToolFault.NoMemory)) }
@@ -62,7 +63,7 @@ pub fn load_unedited_or_lines<'h, H: Allocator, A: Allocator>(
 ) -> Result<Unedited<'h, H>, LayerRefusal<&'h H>>
     ensures tiles { IfOk result (λ unedited. AreTiles (files_of city.now) (files_of parcels.now) unit unedited.layer) }
     ensures edits { IfOk result (λ unedited. AreClerkFiles (texts_of clerks.now) unedited.clerks.items) }
-    ensures few { IfOk result (λ unedited. length unedited.clerks.items ≤ CLERKS) }
+    ensures few { IfOk result (λ unedited. length unedited.clerks.items ≤ MOST_PLACES) }
     ensures fault { IfErr result (λ refusal.
         (IsRunFault (files_of city.now) (files_of parcels.now) unit (texts_of clerks.now) refusal.fault
         × AreLinesBefore (files_of city.now) (files_of parcels.now) unit refusal.fault (text_or_none refusal.lines))

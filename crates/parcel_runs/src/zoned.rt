@@ -6,8 +6,9 @@ ghost use Rattle.city_layers.specs.TilingFiles.{files_of};
 ghost use Rattle.clerk_runs.specs.ClerkFiles.{texts_of, AreClerkFiles};
 ghost use Rattle.city_layers.specs.ZonedFiles.{AreZoned};
 ghost use Rattle.parcel_runs.specs.OverlayReport.{IsOverlayFault};
+ghost use Rattle.desk_lock.specs.declared.opening.TheConstants.{MOST_PLACES};
 
-use crate::clerks::{CLERKS, read_clerk_files, refuse_many_clerks};
+use crate::clerks::{read_clerk_files, refuse_many_clerks};
 use crate::edited::Unedited;
 use city_layers::{Layers, Source, ToolFault, load_layers};
 use fabric_core::Layer;
@@ -27,7 +28,7 @@ pub struct Zoned<'h, H: Allocator> {
 ///
 /// # Errors
 ///
-/// [`ToolFault::ClerkCount`] for more than 8 clerks' files; the first fault of the city's files and
+/// [`ToolFault::ClerkCount`] for more clerks' files than [`MOST_PLACES`]; the first fault of the city's files and
 /// ring, then of the parcels' files and rings, then of the zones'; then the first bad line of the
 /// clerks' files; and [`ToolFault::NoMemory`].
 pub fn load_zoned<'h, H: Allocator, A: Allocator>(
@@ -41,7 +42,7 @@ pub fn load_zoned<'h, H: Allocator, A: Allocator>(
     ensures zoned { IfOk result (λ zoned.
         AreZoned (files_of city.now) (files_of parcels.now) (files_of zones.now) unit zoned.unedited.layer zoned.zones) }
     ensures edits { IfOk result (λ zoned. AreClerkFiles (texts_of clerks.now) zoned.unedited.clerks.items) }
-    ensures few { IfOk result (λ zoned. length zoned.unedited.clerks.items ≤ CLERKS) }
+    ensures few { IfOk result (λ zoned. length zoned.unedited.clerks.items ≤ MOST_PLACES) }
     ensures fault { IfErr result (λ fault.
         IsOverlayFault (files_of city.now) (files_of parcels.now) (files_of zones.now) unit (texts_of clerks.now) fault
         ⊎ (fault ≡ ToolFault.NoMemory)) }

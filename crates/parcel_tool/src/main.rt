@@ -22,7 +22,7 @@ use std::rt::{Env, Files};
 use std::sync::Wait;
 use std::thread::Threads;
 use std::{env, io};
-use text_puts::put_all;
+use text_pieces::put_all;
 use tool_arguments::{District, Inputs, Points, Request, Session, Workers};
 
 /// The status of a run that a fault ended.

@@ -3,7 +3,7 @@
 use crate::answers::{Chair, answer};
 use crate::lines::Came;
 use crate::pipes::{Paths, Pipes};
-use crate::post::{Next, Served, Trouble, go_on, take_line};
+use crate::post::{Attendant, Next, Served, Trouble, serve_lines};
 use crate::room::Room;
 use desk_lock::Naming;
 use geo_exact::{ByteOut, Counted};
@@ -66,35 +66,33 @@ fn serve_client<'h, H: Allocator, J: Naming<H>, R: Wait, F: Read, W: ByteOut>(
     reader: &mut BufReader<F, &'h H>,
     out: &mut W,
 ) -> Served {
-    let mut line = Vec::new(room.heap);
-    let mut text = Vec::new(room.heap);
-    for _ in 0..u64::MAX {
-        let came = match take_line(&room.door, reader, &mut line, &mut text, out) {
-            Ok(came) => came,
-            Err(served) => return served,
-        };
-        let before = text.len();
-        let answered = answer_desk(room, chair, came, line.as_slice(), &mut text);
-        if let Some(served) = go_on(answered, before, &mut text, out) {
-            return served;
-        }
-    }
-    Served::Gone
+    let mut attendant = DeskAttendant { room, chair };
+    serve_lines(room.heap, &room.door, reader, out, &mut attendant)
 }
 
-/// Adds the answer to what came at a desk; the desk ends where the session closes.
-fn answer_desk<'h, H: Allocator, J: Naming<H>, R: Wait>(
-    room: &Room<'_, 'h, H, J, R>,
-    chair: &mut Chair<'h, H, J>,
-    came: Came,
-    line: &[u8],
-    text: &mut Vec<u8, &'h H>,
-) -> Result<Next, Trouble> {
-    answer(room, chair, came, line, text)?;
-    if came == Came::Closed {
-        Ok(Next::End)
-    } else {
-        Ok(Next::Line)
+/// Who answers at a desk: whoever sits there asks the room.
+#[derive(Drop)]
+struct DeskAttendant<'s, 'r, 'h, H: Allocator, J: Naming<H>, R: Wait> {
+    room: &'s Room<'r, 'h, H, J, R>,
+    chair: &'s mut Chair<'h, H, J>,
+}
+
+impl<'s, 'r, 'h, H: Allocator, J: Naming<H>, R: Wait, W: ByteOut> Attendant<&'h H, W>
+    for DeskAttendant<'s, 'r, 'h, H, J, R> {
+    /// The desk ends where the session closes.
+    fn answer(
+        &mut self,
+        came: Came,
+        line: &[u8],
+        text: &mut Vec<u8, &'h H>,
+        _: &mut W,
+    ) -> Result<Next, Trouble> {
+        answer(self.room, self.chair, came, line, text)?;
+        if came == Came::Closed {
+            Ok(Next::End)
+        } else {
+            Ok(Next::Line)
+        }
     }
 }
 

@@ -9,7 +9,8 @@ use std::fs::{File, OpenOptions, TryLockError};
 use std::io;
 use std::io::{ErrorKind, Read, Write};
 use std::rt::Files;
-use std::sync::{Mutex, MutexGuard, Wait};
+use std::sync::atomic::{AtomicU64, Ordering};
+use std::sync::{Condvar, Mutex, MutexGuard, Wait};
 
 /// A journal that was read, and not written yet.
 #[derive(Drop)]
@@ -115,14 +116,16 @@ impl<A: Allocator> ReadJournal<A> {
 pub(crate) struct Journal {
     file: File,
     written: Mutex<Written>,
+    /// How many lines were written whole.
+    lines: AtomicU64,
     synced: Mutex<Synced>,
+    /// Wakes those that wait for a synchronisation.
+    ended: Condvar,
 }
 
-/// What was written of a journal.
+/// Whether a journal can be written.
 #[derive(Drop)]
 pub(crate) struct Written {
-    /// How many lines were written whole.
-    lines: u64,
     /// Whether a write or a synchronisation failed.
     is_broken: bool,
 }
@@ -132,6 +135,8 @@ pub(crate) struct Written {
 struct Synced {
     /// How many lines it has for certain.
     lines: u64,
+    /// Whether somebody synchronises.
+    is_busy: bool,
     /// Whether a synchronisation failed: no later one says that the disk has what this one was to bring.
     is_lost: bool,
 }
@@ -141,14 +146,14 @@ impl Journal {
     fn of(file: File) -> Journal {
         Journal {
             file,
-            written: Mutex::new(Written {
-                lines: 0,
-                is_broken: false,
-            }),
+            written: Mutex::new(Written { is_broken: false }),
+            lines: AtomicU64::new(0),
             synced: Mutex::new(Synced {
                 lines: 0,
+                is_busy: false,
                 is_lost: false,
             }),
+            ended: Condvar::new(),
         }
     }
 
@@ -169,27 +174,43 @@ impl Journal {
             written.is_broken = true;
             return None;
         }
-        written.lines = written.lines.wrapping_add(1);
-        Some(written.lines)
+        Some(self.lines.fetch_add(1, Ordering::SeqCst).wrapping_add(1))
     }
 
     /// Waits until the disk has the line of this number, and all before it; whether it has. One
-    /// synchronisation serves all lines that were written before it began.
+    /// synchronisation serves all lines that were written before it began. All that wait are woken at its end,
+    /// and one of those whose line came later begins the next.
     pub(crate) fn sync_to<R: Wait>(&self, rt: &R, number: u64) -> bool {
-        let mut synced = self.synced.lock(rt);
+        let mut synced = self.ended.wait_while(rt, self.synced.lock(rt), |synced| {
+            synced.is_busy && synced.lines < number
+        });
         if synced.lines >= number {
             return true;
         }
         if synced.is_lost {
             return false;
         }
-        let lines = self.written.lock(rt).lines;
-        if self.file.sync_data().is_err() {
-            synced.is_lost = true;
+        synced.is_busy = true;
+        drop(synced);
+        self.sync_all(rt)
+    }
+
+    /// Synchronises all lines that were written, and wakes those that wait for it; whether the disk has them.
+    fn sync_all<R: Wait>(&self, rt: &R) -> bool {
+        let lines = self.lines.load(Ordering::SeqCst);
+        let is_there = self.file.sync_data().is_ok();
+        if !is_there {
             self.written.lock(rt).is_broken = true;
-            return false;
         }
-        synced.lines = lines;
-        true
+        let mut synced = self.synced.lock(rt);
+        synced.is_busy = false;
+        if is_there {
+            synced.lines = lines;
+        } else {
+            synced.is_lost = true;
+        }
+        drop(synced);
+        self.ended.notify_all();
+        is_there
     }
 }

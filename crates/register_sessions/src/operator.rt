@@ -2,7 +2,7 @@
 
 use crate::answers::{Chair, answer_asked, read_asked};
 use crate::lines::Came;
-use crate::post::{Next, Served, Trouble, go_on, take_line};
+use crate::post::{Attendant, Next, Served, Trouble, serve_lines};
 use crate::reports::{Exports, Ground, report_check, report_export, report_overlay};
 use crate::room::Room;
 use desk_lock::Naming;
@@ -36,44 +36,46 @@ pub(crate) fn serve_operator<
     reader: &mut BufReader<F, &'h H>,
     out: &mut W,
 ) -> Served {
-    let mut line = Vec::new(room.heap);
-    let mut text = Vec::new(room.heap);
-    for _ in 0..u64::MAX {
-        let came = match take_line(&room.door, reader, &mut line, &mut text, out) {
-            Ok(came) => came,
-            Err(served) => return served,
-        };
-        let before = text.len();
-        let answered = answer_operator(room, disk, operator, came, line.as_slice(), &mut text, out);
-        if let Some(served) = go_on(answered, before, &mut text, out) {
-            return served;
-        }
-    }
-    Served::Gone
+    let mut attendant = OperatorAttendant {
+        room,
+        disk,
+        operator,
+    };
+    serve_lines(room.heap, &room.door, reader, out, &mut attendant)
 }
 
-/// Adds the answer to what came at the operator's desk to a text, or writes the text and then the answer.
-fn answer_operator<'h, P: Exports, H: Allocator, J: Naming<H>, R: Wait, W: ByteOut>(
-    room: &Room<'_, 'h, H, J, R>,
-    disk: &P,
-    operator: &mut Operator<'h, H, J>,
-    came: Came,
-    line: &[u8],
-    text: &mut Vec<u8, &'h H>,
-    out: &mut W,
-) -> Result<Next, Trouble> {
-    match read_asked(room.heap, came, line) {
-        Ok(Line::Check) => report_check(sheet_of(room)?, text)?,
-        Ok(Line::Overlay) => answer_overlay(room, &operator.ground, text, out)?,
-        Ok(Line::Export(base)) => {
-            report_export(disk, room.heap, sheet_of(room)?, base, text)?;
+/// Who answers at the operator's desk.
+#[derive(Drop)]
+struct OperatorAttendant<'s, 'r, 'h, P, H: Allocator, J: Naming<H>, R: Wait> {
+    room: &'s Room<'r, 'h, H, J, R>,
+    disk: &'s P,
+    operator: &'s mut Operator<'h, H, J>,
+}
+
+impl<'s, 'r, 'h, P: Exports, H: Allocator, J: Naming<H>, R: Wait, W: ByteOut> Attendant<&'h H, W>
+    for OperatorAttendant<'s, 'r, 'h, P, H, J, R> {
+    fn answer(
+        &mut self,
+        came: Came,
+        line: &[u8],
+        text: &mut Vec<u8, &'h H>,
+        out: &mut W,
+    ) -> Result<Next, Trouble> {
+        let room = self.room;
+        let Operator { chair, ground } = &mut *self.operator;
+        match read_asked(room.heap, came, line) {
+            Ok(Line::Check) => report_check(sheet_of(room)?, text)?,
+            Ok(Line::Overlay) => answer_overlay(room, ground, text, out)?,
+            Ok(Line::Export(base)) => {
+                report_export(self.disk, room.heap, sheet_of(room)?, base, text)?;
+            }
+            Ok(Line::Publish) => answer_publish(room, chair, text)?,
+            Ok(Line::Close) => return Ok(Next::End),
+            Ok(asked) => answer_asked(room, chair, asked, text)?,
+            Err(fault) => push_error(text, fault)?,
         }
-        Ok(Line::Publish) => answer_publish(room, &mut operator.chair, text)?,
-        Ok(Line::Close) => return Ok(Next::End),
-        Ok(asked) => answer_asked(room, &mut operator.chair, asked, text)?,
-        Err(fault) => push_error(text, fault)?,
+        Ok(Next::Line)
     }
-    Ok(Next::Line)
 }
 
 /// Writes which parcels and zones overlap, where there are zones.

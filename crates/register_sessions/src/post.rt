@@ -8,7 +8,7 @@ use geo_exact::{ByteOut, Failed};
 use session_lines::{SessionFault, push_error};
 use std::alloc::{AllocError, Allocator};
 use std::io::{BufReader, Read};
-use text_puts::put_all;
+use text_pieces::put_all;
 
 /// How many bytes of answers are collected at most before they are written.
 const MOST_TEXT: usize = 65_536;
@@ -54,9 +54,45 @@ pub(crate) enum Served {
     Broken,
 }
 
+/// Who answers the lines that come at a desk.
+pub(crate) trait Attendant<A: Allocator, W: ByteOut> {
+    /// Adds the answer to what came to a text, or writes the text and then the answer.
+    fn answer(
+        &mut self,
+        came: Came,
+        line: &[u8],
+        text: &mut Vec<u8, A>,
+        out: &mut W,
+    ) -> Result<Next, Trouble>;
+}
+
+/// Has lines answered, one after the other, until no further one is taken.
+pub(crate) fn serve_lines<
+    F: Read,
+    B: Allocator,
+    A: Allocator + Copy,
+    W: ByteOut,
+    T: Attendant<A, W>,
+>(alloc: A, door: &Door, reader: &mut BufReader<F, B>, out: &mut W, attendant: &mut T) -> Served {
+    let mut line = Vec::new(alloc);
+    let mut text = Vec::new(alloc);
+    for _ in 0..u64::MAX {
+        let came = match take_line(door, reader, &mut line, &mut text, out) {
+            Ok(came) => came,
+            Err(served) => return served,
+        };
+        let before = text.len();
+        let answered = attendant.answer(came, line.as_slice(), &mut text, out);
+        if let Some(served) = go_on(answered, before, &mut text, out) {
+            return served;
+        }
+    }
+    Served::Gone
+}
+
 /// Takes the next line. The answers that were collected are written before the reader waits for more, or once they are
 /// many.
-pub(crate) fn take_line<F: Read, B: Allocator, A: Allocator, W: ByteOut>(
+fn take_line<F: Read, B: Allocator, A: Allocator, W: ByteOut>(
     door: &Door,
     reader: &mut BufReader<F, B>,
     line: &mut Vec<u8, A>,
@@ -78,7 +114,7 @@ pub(crate) fn take_line<F: Read, B: Allocator, A: Allocator, W: ByteOut>(
 
 /// What follows once a line was answered, or was not: `None` where the next line does. So many bytes of text stood before
 /// the answer.
-pub(crate) fn go_on<A: Allocator, W: ByteOut>(
+fn go_on<A: Allocator, W: ByteOut>(
     answered: Result<Next, Trouble>,
     before: usize,
     text: &mut Vec<u8, A>,

@@ -55,7 +55,7 @@ impl<'r, 'h, H: Allocator, J: Naming<H>, R: Wait> Room<'r, 'h, H, J, R> {
     ) -> Result<Receipt<'h, H, J>, EditFault>
         ensures edit { IfOk result (λ receipt. receipt.entry.edit ≡ edit.now) }
         ensures clerk { IfOk result (λ receipt. receipt.entry.clerk ≡ card.old.clerk) }
-        ensures made { IfOk result (λ receipt. card.new ≡ with_made card.old receipt.entry) }
+        ensures made { IfOk result (λ receipt. card.new ≡ with_made card.old receipt.entry card.new.met) }
     {
         match &self.journal {
             Some(journal) => self.submit_and_keep(journal, card, edit),
@@ -72,7 +72,7 @@ impl<'r, 'h, H: Allocator, J: Naming<H>, R: Wait> Room<'r, 'h, H, J, R> {
     ) -> Result<Receipt<'h, H, J>, EditFault>
         ensures edit { IfOk result (λ receipt. receipt.entry.edit ≡ edit.now) }
         ensures clerk { IfOk result (λ receipt. receipt.entry.clerk ≡ card.old.clerk) }
-        ensures made { IfOk result (λ receipt. card.new ≡ with_made card.old receipt.entry) }
+        ensures made { IfOk result (λ receipt. card.new ≡ with_made card.old receipt.entry card.new.met) }
     {
         let mut line = Vec::new(self.heap);
         push_edit_line(&mut line, edit)?;

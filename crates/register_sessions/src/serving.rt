@@ -17,7 +17,7 @@ use std::alloc::{AllocError, Allocator};
 use std::io::{BufReader, Read};
 use std::sync::Wait;
 use std::thread::Threads;
-use text_puts::put_all;
+use text_pieces::put_all;
 
 /// Where the operator's lines come from and its answers go.
 #[derive(Drop)]

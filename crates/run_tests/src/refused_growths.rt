@@ -17,7 +17,7 @@ use std::sync::Wait;
 use std::test::Fail;
 use std::thread::Threads;
 use test_layers::{BEYOND, CITY, EAST, HUNDRED, WEST, alone, layer, square};
-use text_puts::put_all;
+use text_pieces::put_all;
 
 /// No run here has so many growths.
 const MOST: u64 = 1000;

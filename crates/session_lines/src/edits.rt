@@ -9,8 +9,8 @@ ghost use Rattle.session_lines.specs.Answers.{accepted_line, refused_line};
 
 use clerk_runs::{push_id, push_ids, push_refusal};
 use fabric_core::{Entry, Refusal, Row};
-use itoa::Buffer;
 use std::alloc::{AllocError, Allocator};
+use text_pieces::push_number;
 
 /// Adds the answer to an edit that was accepted as this entry: `ok NUMBER out ID.. new ID..`, with the ids of the
 /// parcels that it took out and of those that it brought. Either list may be empty.
@@ -24,9 +24,8 @@ pub fn push_accepted<A: Allocator, B: Allocator>(
 ) -> Result<(), AllocError>
     ensures { OnOk result (text.new.items ≡ text.old.items ++ accepted_line entry.now) }
 {
-    let mut digits = Buffer::new();
     text.extend_from_slice(b"ok ")?;
-    text.extend_from_slice(digits.format(entry.number()).as_bytes())?;
+    push_number(text, entry.number())?;
     text.extend_from_slice(b" out")?;
     push_ids(text, entry.out())?;
     text.extend_from_slice(b" new")?;

@@ -3,8 +3,8 @@
 ghost use Rattle.std.specs.Prelude.{◌≡◌, ◌++◌, OnOk};
 ghost use Rattle.session_lines.specs.Answers.{fault_text, error_line};
 
-use itoa::Buffer;
 use std::alloc::{AllocError, Allocator};
+use text_pieces::push_number;
 
 /// Why a line of a session is not carried out. Nothing has changed then.
 #[derive(Clone, Copy, Debug, PartialEq, Eq)]
@@ -67,7 +67,6 @@ pub fn push_failure<A: Allocator>(text: &mut Vec<u8, A>, why: &str) -> Result<()
 fn push_fault<A: Allocator>(text: &mut Vec<u8, A>, fault: SessionFault) -> Result<(), AllocError>
     ensures { OnOk result (text.new.items ≡ text.old.items ++ fault_text fault) }
 {
-    let mut digits = Buffer::new();
     match fault {
         SessionFault::BadLine => text.extend_from_slice(b"L1")?,
         SessionFault::NoVersion => text.extend_from_slice(b"K4")?,
@@ -80,9 +79,9 @@ fn push_fault<A: Allocator>(text: &mut Vec<u8, A>, fault: SessionFault) -> Resul
         SessionFault::NoZones => text.extend_from_slice(b"no zones")?,
         SessionFault::CardsMissing(clerks, cards) => {
             text.extend_from_slice(b"K2 ")?;
-            text.extend_from_slice(digits.format(clerks).as_bytes())?;
+            push_number(text, clerks)?;
             text.push(b' ')?;
-            text.extend_from_slice(digits.format(cards).as_bytes())?;
+            push_number(text, cards)?;
         }
     }
     Ok(())

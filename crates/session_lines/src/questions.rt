@@ -9,9 +9,8 @@ use crate::states::push_counted;
 use clerk_runs::push_place;
 use fabric_core::At;
 use geo_exact::{Corner, area2};
-use itoa::Buffer;
 use std::alloc::{AllocError, Allocator};
-use text_pieces::push_corner;
+use text_pieces::{push_corner, push_number};
 
 /// Adds the answer to `locate X Y`: `at ENTRIES X Y inside ID`, `at ENTRIES X Y edge ID ID ..` or
 /// `at ENTRIES X Y outside`.
@@ -27,9 +26,8 @@ pub fn push_located<A: Allocator, B: Allocator>(
 ) -> Result<(), AllocError>
     ensures { OnOk result (text.new.items ≡ text.old.items ++ located_line entries corner at.now) }
 {
-    let mut digits = Buffer::new();
     text.extend_from_slice(b"at ")?;
-    text.extend_from_slice(digits.format(entries).as_bytes())?;
+    push_number(text, entries)?;
     text.push(b' ')?;
     push_corner(text, corner)?;
     text.push(b' ')?;
@@ -53,9 +51,8 @@ pub fn push_parcel<A: Allocator>(
     requires { length ring.now ≤ LIST_CORNERS }
     ensures { OnOk result (text.new.items ≡ text.old.items ++ parcel_line entries id ring.now) }
 {
-    let mut digits = Buffer::new();
     push_whose(text, entries, id)?;
-    text.extend_from_slice(digits.format(area2(ring)).as_bytes())?;
+    push_number(text, area2(ring))?;
     push_corners(text, ring)?;
     text.push(b'\n')?;
     Ok(())
@@ -82,11 +79,10 @@ pub fn push_no_parcel<A: Allocator>(
 fn push_whose<A: Allocator>(text: &mut Vec<u8, A>, entries: u64, id: u64) -> Result<(), AllocError>
     ensures { OnOk result (text.new.items ≡ text.old.items ++ parcel_text entries id) }
 {
-    let mut digits = Buffer::new();
     text.extend_from_slice(b"parcel ")?;
-    text.extend_from_slice(digits.format(entries).as_bytes())?;
+    push_number(text, entries)?;
     text.push(b' ')?;
-    text.extend_from_slice(digits.format(id).as_bytes())?;
+    push_number(text, id)?;
     text.push(b' ')?;
     Ok(())
 }

@@ -3,8 +3,8 @@
 ghost use Rattle.std.specs.Prelude.{◌≡◌, ◌++◌, OnOk, codes, decimal};
 ghost use Rattle.session_lines.specs.Answers.{ready_line, published_line, closed_line};
 
-use itoa::Buffer;
 use std::alloc::{AllocError, Allocator};
+use text_pieces::push_number;
 
 /// Adds that all is loaded, and how many entries the journal has: `ready ENTRIES`.
 ///
@@ -69,9 +69,8 @@ pub(crate) fn push_counted<A: Allocator>(
 ) -> Result<(), AllocError>
     ensures { OnOk result (text.new.items ≡ text.old.items ++ (word.now ++ decimal entries ++ codes "\n")) }
 {
-    let mut digits = Buffer::new();
     text.extend_from_slice(word)?;
-    text.extend_from_slice(digits.format(entries).as_bytes())?;
+    push_number(text, entries)?;
     text.push(b'\n')?;
     Ok(())
 }

@@ -1,2 +1,5 @@
+pub mod Beginnings
 pub mod CornerText
+pub mod Pending
 pub mod RingFaultText
+pub mod own

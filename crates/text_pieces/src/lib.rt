@@ -1,11 +1,19 @@
-//! Pieces of the texts that users read: numbers, corners, and why a ring is refused.
+//! Pieces of the texts that users read: numbers, corners, and why a ring is refused; and what takes such a text: a list
+//! of bytes, or a writer.
 //!
-//! Each call adds its piece to the end of a text, byte for byte as stated, or answers that a growth was refused; a
-//! beginning of the piece may stand at the end of the text then.
+//! Each `push_` call puts its piece behind what the sink has taken, byte for byte as stated, or answers that the sink
+//! failed; a beginning of the piece may have been taken then.
 #![tactic(auto)]
 
+mod gathered;
 mod numbers;
+mod pending;
+mod put;
 mod ring_faults;
+mod sink;
 
+pub use gathered::Gathered;
 pub use numbers::{push_corner, push_number};
+pub use put::put_all;
 pub use ring_faults::push_ring_fault;
+pub use sink::Sink;

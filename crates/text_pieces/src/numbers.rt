@@ -1,36 +1,35 @@
 //! Numbers and corners in texts.
 
-ghost use Rattle.std.specs.Prelude.{◌≡◌, ◌++◌, OnOk};
-ghost use Rattle.std.specs.Fmt.{signed_decimal};
+ghost use Rattle.std.specs.Prelude.{OnOk, OnErr};
 ghost use Rattle.text_pieces.specs.CornerText.{corner_text};
 
+use crate::sink::Sink;
 use geo_exact::Corner;
-use itoa::Buffer;
-use std::alloc::{AllocError, Allocator};
+use itoa::{Buffer, Integer};
 
 /// Adds a corner's two coordinates, in millimetres: `X Y`.
 ///
 /// # Errors
 ///
-/// [`AllocError`] where an allocation is refused; a beginning of the piece may stand at the end of the text then.
-pub fn push_corner<A: Allocator>(text: &mut Vec<u8, A>, corner: Corner) -> Result<(), AllocError>
-    ensures { OnOk result (text.new.items ≡ text.old.items ++ corner_text corner) }
+/// The sink's fault; a beginning of the piece may have been taken then.
+pub fn push_corner<S: Sink>(text: &mut S, corner: Corner) -> Result<(), S::Fault>
+    ensures ok { OnOk result (S.takes text.old (corner_text corner) text.new) }
+    ensures err { OnErr result (S.breaks_off text.old (corner_text corner) text.new) }
 {
     push_number(text, corner.x)?;
-    text.push(b' ')?;
-    push_number(text, corner.y)?;
-    Ok(())
+    text.push_piece(" ")?;
+    push_number(text, corner.y)
 }
 
 /// Adds a number in decimal, with a minus sign where it is below 0.
 ///
 /// # Errors
 ///
-/// [`AllocError`] where an allocation is refused; nothing is added then.
-pub fn push_number<A: Allocator>(text: &mut Vec<u8, A>, number: i64) -> Result<(), AllocError>
-    ensures { OnOk result (text.new.items ≡ text.old.items ++ signed_decimal number) }
+/// The sink's fault; a beginning of the piece may have been taken then.
+pub fn push_number<S: Sink, N: Integer>(text: &mut S, number: N) -> Result<(), S::Fault>
+    ensures ok { OnOk result (S.takes text.old (N.text number) text.new) }
+    ensures err { OnErr result (S.breaks_off text.old (N.text number) text.new) }
 {
     let mut digits = Buffer::new();
-    text.extend_from_slice(digits.format(number).as_bytes())?;
-    Ok(())
+    text.push_piece(digits.format(number))
 }

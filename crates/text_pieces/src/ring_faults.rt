@@ -1,33 +1,36 @@
 //! Faults of rings in texts.
 
-ghost use Rattle.std.specs.Prelude.{◌≡◌, ◌++◌, OnOk};
+ghost use Rattle.std.specs.Prelude.{OnOk, OnErr};
+ghost use Rattle.ring_core.specs.declared.ring.RingFault.TheVariants.{EdgesMeet};
 ghost use Rattle.text_pieces.specs.RingFaultText.{ring_fault_text};
 
-use itoa::Buffer;
+use crate::numbers::push_number;
+use crate::sink::Sink;
 use ring_core::RingFault;
-use std::alloc::{AllocError, Allocator};
 
 /// Adds the text of a ring's fault: `G1`, `G3`, or `G2 I J`.
 ///
 /// # Errors
 ///
-/// [`AllocError`] where an allocation is refused; a beginning of the piece may stand at the end of the text then.
-pub fn push_ring_fault<A: Allocator>(
-    text: &mut Vec<u8, A>,
-    fault: RingFault,
-) -> Result<(), AllocError>
-    ensures { OnOk result (text.new.items ≡ text.old.items ++ ring_fault_text fault) }
+/// The sink's fault; a beginning of the piece may have been taken then.
+pub fn push_ring_fault<S: Sink>(text: &mut S, fault: RingFault) -> Result<(), S::Fault>
+    ensures ok { OnOk result (S.takes text.old (ring_fault_text fault) text.new) }
+    ensures err { OnErr result (S.breaks_off text.old (ring_fault_text fault) text.new) }
 {
-    let mut digits = Buffer::new();
     match fault {
-        RingFault::ZeroArea => text.extend_from_slice(b"G1")?,
-        RingFault::Clockwise => text.extend_from_slice(b"G3")?,
-        RingFault::EdgesMeet(i, j) => {
-            text.extend_from_slice(b"G2 ")?;
-            text.extend_from_slice(digits.format(i).as_bytes())?;
-            text.push(b' ')?;
-            text.extend_from_slice(digits.format(j).as_bytes())?;
-        }
+        RingFault::ZeroArea => text.push_piece("G1"),
+        RingFault::Clockwise => text.push_piece("G3"),
+        RingFault::EdgesMeet(i, j) => push_edges(text, i, j),
     }
-    Ok(())
+}
+
+/// Adds which edges of a ring meet: `G2 I J`.
+fn push_edges<S: Sink>(text: &mut S, i: usize, j: usize) -> Result<(), S::Fault>
+    ensures ok { OnOk result (S.takes text.old (ring_fault_text (EdgesMeet i j)) text.new) }
+    ensures err { OnErr result (S.breaks_off text.old (ring_fault_text (EdgesMeet i j)) text.new) }
+{
+    text.push_piece("G2 ")?;
+    push_number(text, i)?;
+    text.push_piece(" ")?;
+    push_number(text, j)
 }

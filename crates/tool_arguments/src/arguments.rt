@@ -11,6 +11,7 @@ ghost use Rattle.geo_exact.specs.declared.coord.Unit.{Unit as LengthUnit};
 
 use clap::error::ErrorKind;
 use clap::{Arg, ArgAction, ArgGroup, ArgMatches, Command, Error, value_parser};
+use desk_lock::MOST_PLACES;
 use geo_exact::{Corners, Unit};
 use line_files::read_corner;
 use overlay_work::MOST_HANDS;
@@ -434,7 +435,7 @@ fn overlay_command<'a>(alloc: Global) -> Result<Command<'a>, AllocError> {
         .arg(file(alloc, "ZONES", "The main file of the zones' layer, .shp"))?
         .arg(unit(alloc, "The unit of the files' coordinates"))?
         .arg(clerk(alloc))?
-        .arg(worker_count(alloc))
+        .arg(worker_count(alloc, "How many threads share the parcels, from 1 to 64"))
 }
 
 fn part_command<'a>(alloc: Global) -> Result<Command<'a>, AllocError> {
@@ -477,7 +478,10 @@ fn session_command<'a>(alloc: Global) -> Result<Command<'a>, AllocError> {
         .arg(zones_option(alloc))?
         .arg(journal(alloc))?
         .arg(desk(alloc))?
-        .arg(worker_count(alloc))
+        .arg(worker_count(
+            alloc,
+            "Has no effect in a session, whose overlays are found in one thread; from 1 to 64",
+        ))
 }
 
 /// The zones, where overlays are asked for.
@@ -509,15 +513,15 @@ fn desk<'a>(alloc: Global) -> Arg<'a> {
         .help("A desk, with the named pipes NAME.in and NAME.out; up to 8, all at the same time")
 }
 
-/// How many threads share the parcels.
-fn worker_count<'a>(alloc: Global) -> Arg<'a> {
+/// How many threads share the parcels, where several do.
+fn worker_count<'a>(alloc: Global, help: &'a str) -> Arg<'a> {
     Arg::new(alloc, "workers")
         .long("workers")
         .action(ArgAction::Set)
         .value_name("N")
         .value_parser(value_parser!(usize).range(1..=64))
         .default_value("4")
-        .help("How many threads share the parcels, from 1 to 64")
+        .help(help)
 }
 
 /// The points, which have to be given in one way.
@@ -545,6 +549,9 @@ fn points_file<'a>(alloc: Global) -> Arg<'a> {
         .value_name("FILE")
         .help("A file with a line X Y for each point, in whole millimetres; - reads standard input")
 }
+
+// The help of `--clerk` writes this number.
+const _: () = prove!(MOST_PLACES == 8);
 
 /// The files of clerks' edits. How many they may be is asked before the first is opened, and not here.
 fn clerk<'a>(alloc: Global) -> Arg<'a> {

@@ -9,7 +9,7 @@ use Rattle.fabric_core.specs.Rows.{numbers}
 use Rattle.fabric_core.specs.Tiling.{IsTiling}
 use Rattle.fabric_core.specs.Faults.{AreSimple}
 use Rattle.fabric_core.proofs.rows.RowLists.{Contains-mapped}
-use Rattle.zone_tables.specs.Overlap.{Overlay, Overlaps, OverlapsAlone, IsOverlapTable, IsSplitZoned, AreSplitZoned}
+use Rattle.zone_tables.specs.Overlap.{Overlay, OverlapsAlone, IsOverlapTable, IsSplitZoned, AreSplitZoned}
 use Rattle.zone_tables.specs.Within.{IsWithinZone}
 use Rattle.zone_tables.specs.Report.{AreWithinZones, IsReport}
 use Rattle.zone_tables.specs.own.Zonings.{zonings, split_ids, single_zones, IsOnlyZone}

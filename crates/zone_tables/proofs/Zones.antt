@@ -1,33 +1,28 @@
 -- Parcels and zones that tile one city: each parcel overlaps a zone, and is within a zone exactly where it overlaps
 -- this one alone. A point that is moved
 -- a little is off all edges, and each ring goes round it as round the point itself.
-use Rattle.std.proofs.Common.{◌≡◌, ◌⊎◌, ⊎_elim, refl, sym, ◌∙◌, ap, subst, arith, ℕ, ℤ, pos, ◌+ℤ◌, List, []}
-use Rattle.std.proofs.Common.{◌∷◌, ◌++◌}
-use Rattle.std.specs.Prelude.{◌↔◌}
-use Rattle.std.specs.List.{AllByRecursion, Contains}
+use Rattle.std.proofs.Common.{◌≡◌, refl, sym, ◌∙◌, ap, subst, arith, ℕ, pos, List}
+use Rattle.std.specs.List.{Contains}
 use Rattle.std.specs.List.Sorted.{IsStrictlyIncreasing}
-use Rattle.std.proofs.lemmas.Int.{ints, by_lt_z}
-use Rattle.std.proofs.lemmas.List.Elements.{Contains-append_right, Contains-append_cases}
-use lib.Signed.{◌<ℤ◌, ◌≤ℤ◌}
+use Rattle.std.proofs.lemmas.Int.{ints}
+use lib.Signed.{◌≤ℤ◌}
 use Rattle.geo_exact.specs.declared.corner.Corner.{Corner}
 use Rattle.geo_exact.specs.Point.{Point}
 use Rattle.geo_exact.specs.Rings.{edges}
-use Rattle.geo_exact.specs.Turn.{turn, turn_at, IsOnRing}
+use Rattle.geo_exact.specs.Turn.{IsOnRing}
 use Rattle.geo_exact.specs.Winding.{winding, IsInterior}
 use Rattle.geo_exact.specs.Layers.{NumberedRing, numbered}
 use Rattle.geo_exact.proofs.corners_and_turns.Moved.{moved, moved_interior, moved_off_some, moved_winding}
-use Rattle.ring_core.specs.declared.triangle.Tri.{Tri}
 use Rattle.ring_core.specs.Simple.{IsSimpleRing}
-use Rattle.edge_chains.proofs.nodings.NodedEdges.{Contains-here, Contains-cases, all_from_contains}
 use Rattle.fabric_core.specs.Rows.{numbers}
-use Rattle.fabric_core.specs.Tiling.{IsTiling, IsOffEdges, IsInNone, IsInOne}
+use Rattle.fabric_core.specs.Tiling.{IsTiling, IsInOne}
 use Rattle.fabric_core.specs.Faults.{AreSimple}
 use Rattle.fabric_core.proofs.tilings.OneParcel.{of_each}
 use Rattle.fabric_core.proofs.tilings.OneRow.{in_city, in_the_row, is_the_row, moved_off}
 use Rattle.fabric_core.proofs.rows.RowLists.{ascending, same_row, has_row}
 use Rattle.fabric_core.proofs.tilings.InnerPoints.{inner_point}
-use Rattle.zone_tables.specs.Overlap.{Overlaps, OverlapsAlone, IsSplitZoned}
-use Rattle.zone_tables.specs.Within.{IsOffZones, IsWithin, IsWithinZone}
+use Rattle.zone_tables.specs.Overlap.{Overlaps, OverlapsAlone}
+use Rattle.zone_tables.specs.Within.{IsOffZones, IsWithinZone}
 
 -- ---- points that are moved
 -- a ring that goes round the moved point, and does not have the point itself on an edge, has it inside

@@ -1,12 +1,12 @@
 -- The parcels that ascending pairs speak of: each once, with its first zone, and split exactly where it has another.
 use Rattle.std.proofs.Common.{◌≡◌, ◌≢◌, ◌⊎◌, inl, inr, ⊎_elim, refl, sym, ◌∙◌, ap, subst, arith, Bool, true}
 use Rattle.std.proofs.Common.{false, cond, not}
-use Rattle.std.proofs.Common.{ℕ, zero, suc, ◌+◌, ◌<◌, ◌≤◌, List, [], ◌∷◌, length, map, add-one}
+use Rattle.std.proofs.Common.{ℕ, zero, suc, ◌<◌, ◌≤◌, List, [], ◌∷◌, length, map, add-one}
 use Rattle.std.specs.Prelude.{nat_eq, nat_lt, slice_index, ◌↔◌}
 use Rattle.std.specs.Bool.{⊤}
 use Rattle.std.specs.List.{AllByRecursion, Contains, filter}
 use Rattle.std.specs.List.Sorted.{IsStrictlyIncreasing}
-use Rattle.std.proofs.lemmas.Bool.{cases_Bool, le-ltb, lt-ltb, eq-eqb, not-true, not_from_true, not_from_false, false≢true}
+use Rattle.std.proofs.lemmas.Bool.{cases_Bool, le-ltb, lt-ltb, not-true, false≢true}
 use Rattle.std.proofs.lemmas.Bool.Decides.{eqb_tells}
 use Rattle.edge_chains.proofs.nodings.NodedEdges.{none_in_nil, Contains-here, Contains-there, Contains-cases}
 use Rattle.fabric_core.proofs.tilings.OneParcel.{of_each}
@@ -14,7 +14,7 @@ use Rattle.fabric_core.proofs.rows.RowLists.{AllByRecursion-filter, AllByRecursi
 use Rattle.fabric_core.proofs.rows.RowLists.{Contains-from_kept, Contains-mapped, Contains-from_mapped}
 use Rattle.zone_tables.specs.declared.zoning.Zoning.{Zoning}
 use Rattle.zone_tables.specs.Overlap.{IsPairBefore, AreInPairOrder}
-use Rattle.zone_tables.specs.own.Zonings.{behind, with_pair, zonings, split_ids, single_zones, IsFrom, IsOnlyZone}
+use Rattle.zone_tables.specs.own.Zonings.{behind, with_pair, zonings, split_ids, single_zones, IsOnlyZone}
 
 abbrev zoning : ℕ → ℕ → Bool → Zoning
 zoning id zone is_split = record { id = id; zone = zone; is_split = is_split }

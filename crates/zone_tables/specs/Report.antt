@@ -6,7 +6,7 @@ use Rattle.std.specs.List.Sorted.{IsStrictlyIncreasing}
 use Rattle.std.specs.Io.KnownBytes.{Appends}
 use Rattle.geo_exact.specs.Layers.{NumberedRing}
 use Rattle.fabric_core.specs.Rows.{numbers}
-use Rattle.text_puts.specs.Beginnings.{AppendsBeginning}
+use Rattle.text_pieces.specs.Beginnings.{AppendsBeginning}
 use Rattle.zone_tables.specs.Overlap.{Overlay, IsOverlapTable, AreSplitZoned}
 use Rattle.zone_tables.specs.Within.{IsWithinZone}
 

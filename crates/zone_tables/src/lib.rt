@@ -10,5 +10,5 @@ mod table;
 mod zoning;
 
 pub use laws::{a_parcel_is_within_its_only_zone, each_parcel_overlaps_a_zone};
-pub use report::{WriteFault, write_report};
+pub use report::write_report;
 pub use table::Table;

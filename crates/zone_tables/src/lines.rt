@@ -1,139 +1,92 @@
 //! The lines of a report.
 
-ghost use Rattle.std.specs.Prelude.{◌≡◌, ◌++◌, OnOk, OnErr};
+ghost use Rattle.std.specs.Prelude.{OnOk, OnErr};
 ghost use Rattle.std.specs.List.{flat_map};
-ghost use Rattle.geo_exact.specs.Bytes.{raised};
-ghost use Rattle.text_puts.specs.Beginnings.{AppendsBeginning};
-ghost use Rattle.text_puts.specs.Pending.{Passes};
 ghost use Rattle.zone_tables.specs.Report.{line, number_text, pair_line, split_line, within_line};
 ghost use Rattle.zone_tables.specs.own.Zonings.{zonings, split_ids, single_zones};
 ghost use Rattle.zone_tables.specs.own.Texts.{report_text};
 
 use crate::zoning::Zonings;
-use geo_exact::{ByteOut, Failed};
-use itoa::Buffer;
-use text_puts::Pending;
+use text_pieces::{Sink, push_number};
 
 /// Adds the lines of a table: how many entries there were, its pairs, the parcels that have more
 /// than one, and the others.
-pub(crate) fn add_report<W: ByteOut>(
-    pending: &mut Pending,
+pub(crate) fn push_report<S: Sink>(
+    text: &mut S,
     entries: u64,
     pairs: &[(u64, u64)],
-    out: &mut W,
-) -> Result<(), Failed>
-    ensures ok { OnOk result (Passes (W.written out.old) (W.written out.new) pending.old (report_text entries pairs.now) pending.new) }
-    ensures err { OnErr result (AppendsBeginning (W.written out.old) (W.written out.new) (pending.old ++ report_text entries pairs.now)) }
-    ensures failed { OnErr result (W.failure_count out.new ≡ raised (W.failure_count out.old)) }
-    ensures no_failure { OnOk result (W.failure_count out.new ≡ W.failure_count out.old) }
+) -> Result<(), S::Fault>
+    ensures ok { OnOk result (S.takes text.old (report_text entries pairs.now) text.new) }
+    ensures err { OnErr result (S.breaks_off text.old (report_text entries pairs.now) text.new) }
 {
-    add_line(pending, b"entries", &[entries], out)?;
-    add_pairs(pending, pairs, out)?;
-    add_splits(pending, pairs, out)?;
-    add_singles(pending, pairs, out)
+    push_line(text, "entries", &[entries])?;
+    push_pairs(text, pairs)?;
+    push_splits(text, pairs)?;
+    push_singles(text, pairs)
 }
 
 /// Adds a line: a word, and numbers behind it.
-fn add_line<W: ByteOut>(
-    pending: &mut Pending,
-    word: &[u8],
-    numbers: &[u64],
-    out: &mut W,
-) -> Result<(), Failed>
-    ensures ok { OnOk result (Passes (W.written out.old) (W.written out.new) pending.old (line word.now numbers.now) pending.new) }
-    ensures err { OnErr result (AppendsBeginning (W.written out.old) (W.written out.new) (pending.old ++ line word.now numbers.now)) }
-    ensures failed { OnErr result (W.failure_count out.new ≡ raised (W.failure_count out.old)) }
-    ensures no_failure { OnOk result (W.failure_count out.new ≡ W.failure_count out.old) }
+fn push_line<S: Sink>(text: &mut S, word: &str, numbers: &[u64]) -> Result<(), S::Fault>
+    ensures ok { OnOk result (S.takes text.old (line word.now numbers.now) text.new) }
+    ensures err { OnErr result (S.breaks_off text.old (line word.now numbers.now) text.new) }
 {
-    pending.add(word, out)?;
-    add_numbers(pending, numbers, out)?;
-    pending.add(b"\n", out)
+    text.push_piece(word)?;
+    push_numbers(text, numbers)?;
+    text.push_piece("\n")
 }
 
 /// Adds numbers, each behind a space.
-fn add_numbers<W: ByteOut>(
-    pending: &mut Pending,
-    numbers: &[u64],
-    out: &mut W,
-) -> Result<(), Failed>
-    ensures ok { OnOk result (Passes (W.written out.old) (W.written out.new) pending.old (flat_map number_text numbers.now) pending.new) }
-    ensures err { OnErr result (AppendsBeginning (W.written out.old) (W.written out.new)
-        (pending.old ++ flat_map number_text numbers.now)) }
-    ensures failed { OnErr result (W.failure_count out.new ≡ raised (W.failure_count out.old)) }
-    ensures no_failure { OnOk result (W.failure_count out.new ≡ W.failure_count out.old) }
+fn push_numbers<S: Sink>(text: &mut S, numbers: &[u64]) -> Result<(), S::Fault>
+    ensures ok { OnOk result (S.takes text.old (flat_map number_text numbers.now) text.new) }
+    ensures err { OnErr result (S.breaks_off text.old (flat_map number_text numbers.now) text.new) }
 {
     for number in numbers {
-        add_number(pending, *number, out)?;
+        push_next(text, *number)?;
     }
     Ok(())
 }
 
 /// Adds a number behind a space.
-fn add_number<W: ByteOut>(pending: &mut Pending, number: u64, out: &mut W) -> Result<(), Failed>
-    ensures ok { OnOk result (Passes (W.written out.old) (W.written out.new) pending.old (number_text number) pending.new) }
-    ensures err { OnErr result (AppendsBeginning (W.written out.old) (W.written out.new) (pending.old ++ number_text number)) }
-    ensures failed { OnErr result (W.failure_count out.new ≡ raised (W.failure_count out.old)) }
-    ensures no_failure { OnOk result (W.failure_count out.new ≡ W.failure_count out.old) }
+fn push_next<S: Sink>(text: &mut S, number: u64) -> Result<(), S::Fault>
+    ensures ok { OnOk result (S.takes text.old (number_text number) text.new) }
+    ensures err { OnErr result (S.breaks_off text.old (number_text number) text.new) }
 {
-    let mut digits = Buffer::new();
-    pending.add(b" ", out)?;
-    pending.add(digits.format(number).as_bytes(), out)
+    text.push_piece(" ")?;
+    push_number(text, number)
 }
 
 /// Adds a line for each pair.
-fn add_pairs<W: ByteOut>(
-    pending: &mut Pending,
-    pairs: &[(u64, u64)],
-    out: &mut W,
-) -> Result<(), Failed>
-    ensures ok { OnOk result (Passes (W.written out.old) (W.written out.new) pending.old (flat_map pair_line pairs.now) pending.new) }
-    ensures err { OnErr result (AppendsBeginning (W.written out.old) (W.written out.new) (pending.old ++ flat_map pair_line pairs.now)) }
-    ensures failed { OnErr result (W.failure_count out.new ≡ raised (W.failure_count out.old)) }
-    ensures no_failure { OnOk result (W.failure_count out.new ≡ W.failure_count out.old) }
+fn push_pairs<S: Sink>(text: &mut S, pairs: &[(u64, u64)]) -> Result<(), S::Fault>
+    ensures ok { OnOk result (S.takes text.old (flat_map pair_line pairs.now) text.new) }
+    ensures err { OnErr result (S.breaks_off text.old (flat_map pair_line pairs.now) text.new) }
 {
     for pair in pairs {
-        add_line(pending, b"pair", &[pair.0, pair.1], out)?;
+        push_line(text, "pair", &[pair.0, pair.1])?;
     }
     Ok(())
 }
 
 /// Adds a line for each parcel that has more than one pair.
-fn add_splits<W: ByteOut>(
-    pending: &mut Pending,
-    pairs: &[(u64, u64)],
-    out: &mut W,
-) -> Result<(), Failed>
-    ensures ok { OnOk result (Passes (W.written out.old) (W.written out.new) pending.old
-        (flat_map split_line (split_ids (zonings pairs.now))) pending.new) }
-    ensures err { OnErr result (AppendsBeginning (W.written out.old) (W.written out.new)
-        (pending.old ++ flat_map split_line (split_ids (zonings pairs.now)))) }
-    ensures failed { OnErr result (W.failure_count out.new ≡ raised (W.failure_count out.old)) }
-    ensures no_failure { OnOk result (W.failure_count out.new ≡ W.failure_count out.old) }
+fn push_splits<S: Sink>(text: &mut S, pairs: &[(u64, u64)]) -> Result<(), S::Fault>
+    ensures ok { OnOk result (S.takes text.old (flat_map split_line (split_ids (zonings pairs.now))) text.new) }
+    ensures err { OnErr result (S.breaks_off text.old (flat_map split_line (split_ids (zonings pairs.now))) text.new) }
 {
     for parcel in Zonings::of(pairs) {
         if parcel.is_split {
-            add_line(pending, b"split", &[parcel.id], out)?;
+            push_line(text, "split", &[parcel.id])?;
         }
     }
     Ok(())
 }
 
 /// Adds a line for each parcel that has one pair, with its zone.
-fn add_singles<W: ByteOut>(
-    pending: &mut Pending,
-    pairs: &[(u64, u64)],
-    out: &mut W,
-) -> Result<(), Failed>
-    ensures ok { OnOk result (Passes (W.written out.old) (W.written out.new) pending.old
-        (flat_map within_line (single_zones (zonings pairs.now))) pending.new) }
-    ensures err { OnErr result (AppendsBeginning (W.written out.old) (W.written out.new)
-        (pending.old ++ flat_map within_line (single_zones (zonings pairs.now)))) }
-    ensures failed { OnErr result (W.failure_count out.new ≡ raised (W.failure_count out.old)) }
-    ensures no_failure { OnOk result (W.failure_count out.new ≡ W.failure_count out.old) }
+fn push_singles<S: Sink>(text: &mut S, pairs: &[(u64, u64)]) -> Result<(), S::Fault>
+    ensures ok { OnOk result (S.takes text.old (flat_map within_line (single_zones (zonings pairs.now))) text.new) }
+    ensures err { OnErr result (S.breaks_off text.old (flat_map within_line (single_zones (zonings pairs.now))) text.new) }
 {
     for parcel in Zonings::of(pairs) {
         if !parcel.is_split {
-            add_line(pending, b"within", &[parcel.id, parcel.zone], out)?;
+            push_line(text, "within", &[parcel.id, parcel.zone])?;
         }
     }
     Ok(())

@@ -1,11 +1,12 @@
 -- What a desk keeps, and the names of what belongs to one office. Public contracts do not speak of it.
-use Rattle.std.specs.Prelude.{◌≡◌, ◌++◌, ℕ, List, [], map, length, Option, None, Some}
+use Rattle.std.specs.Prelude.{◌≡◌, ℕ, List, [], map, length, Option, None, Some}
 use mathlib.Core.List.{IsPrefix}
 use Rattle.atomic_table.specs.Seated.{TableId}
 use Rattle.logbook.specs.Pages.{Book as Pages}
-use Rattle.entry_cards.specs.Cards.{Kept}
+use Rattle.entry_cards.specs.declared.view.Card.{Card}
+use Rattle.entry_cards.specs.Cards.{Kept, HasAll, HasMet}
 use Rattle.fabric_core.specs.Journal.{JournalEntry, Book}
-use Rattle.desk_lock.specs.Offices.{Origin, OfficeId, IsOfOrigin, behind, AreOfClerks}
+use Rattle.desk_lock.specs.Offices.{Origin, OfficeId, CardState, IsOfOrigin, behind, AreOfClerks}
 
 -- the names that an office's cards and its list of entries have
 pub record NameId : Type 0 where
@@ -27,10 +28,19 @@ module _ {A : Type 0} where
   abbrev pub by_clerk : List (JournalEntry A) → List (ℕ × JournalEntry A)
   by_clerk entries = map (λ entry. (entry.clerk, entry)) entries
 
-  -- what a list that may be there tells of the office's journal
-  abbrev pub told_by : Origin A → Option (List (JournalEntry A)) → List (JournalEntry A)
-  told_by origin None = []
-  told_by origin (Some list) = origin.journal ++ list
+  -- a card, as those who keep and gather cards see it
+  abbrev pub as_known : CardState A → Card (JournalEntry A)
+  as_known card = record { clerk = card.clerk; made = card.made; met = card.met }
+
+  -- a card agrees with all entries that a keeper knows, and what it has met begins them
+  pub record IsKnown (all : List (ℕ × JournalEntry A)) (card : CardState A) : Type 0 where
+    pub has_all : HasAll all (as_known card)
+    pub has_met : HasMet all (as_known card)
+
+  -- what a notice tells that may be there
+  abbrev pub told_by : Option (List (JournalEntry A)) → List (JournalEntry A)
+  told_by None = []
+  told_by (Some told) = told
 
   -- The fabric comes of the one that was handed in, whose journal had so many entries; behind them stand the entries of clerks that the
   -- keeper of the cards knows, and those that were handed on are the first of these.

@@ -25,12 +25,13 @@ use Rattle.parcel_table.specs.Table.{HasId, with_shape, ids_of, rows_of_keyed, e
 use Rattle.parcel_table.proofs.Boxes.{one_least_box}
 use Rattle.fabric_core.specs.declared.ring_change.RingChange.{RingChange}
 use Rattle.fabric_core.specs.own.RingChanges.{AreShapesOf, KeepsGround, changed_city, changed_ring, changed_row, is_changed}
-use Rattle.fabric_core.specs.own.RingChanges.{rows_changed}
+use Rattle.fabric_core.specs.own.RingChanges.{renewed, rows_changed}
 use Rattle.fabric_core.proofs.edits.RingChanges.{box_kept, city_stays}
 use Rattle.fabric_core.specs.Rows.{numbers}
-use Rattle.fabric_core.specs.own.Kept.{IsKept, MayBeKept}
+use Rattle.fabric_core.specs.own.Kept.{IsKept, MayBeKept, ids_by_key}
 use Rattle.fabric_core.specs.own.Lists.{replaced}
 use Rattle.fabric_core.proofs.edits.Exchanged.{entry_of, id_of, simple_keyed}
+use Rattle.fabric_core.proofs.loads.ByIds.{same_ids_by_key}
 
 same_number : (n : ℕ) → nat_eq n n ≡ true
 same_number n = grind (arith, nat_tests)
@@ -88,6 +89,16 @@ module _ {A : Type 0} where
 -- the row is changed
 abbrev changes : RingChange → NumberedRing → Bool
 changes change row = is_changed change row.corners
+
+-- the numbers of rows stay
+numbers_kept : (change : RingChange) (rows : List NumberedRing) → numbers (map (changed_row change) rows) ≡ numbers rows
+numbers_kept change [] = refl
+numbers_kept change (row ∷ rows) = by_test (is_changed change row.corners) (numbers_kept change rows)
+  where
+    by_test : (b : Bool) → numbers (map (changed_row change) rows) ≡ numbers rows
+        → (cond b (renewed change row) row).number ∷ numbers (map (changed_row change) rows) ≡ row.number ∷ numbers rows
+    by_test true later = ap (λ ids. row.number ∷ ids) later
+    by_test false later = ap (λ ids. row.number ∷ ids) later
 
 module _ {A : Type 0} (change : RingChange) where
   -- what the parcels become: their rows and their entries
@@ -178,6 +189,11 @@ module _ {A : Type 0} (change : RingChange) where
 
       tails : {x y : List Corner} {xs ys : List (List Corner)} → x ∷ xs ≡ y ∷ ys → xs ≡ ys
       tails e = cc
+
+  -- the ids beside the keys stay
+  pub ids_by_key_changed : (parcels after : List (ℕ × Parcel A)) → AreChanged change parcels after → ids_by_key after ≡ ids_by_key parcels
+  ids_by_key_changed parcels after changed = same_ids_by_key after parcels
+      (sym (ids_of_rows after) ∙ ap numbers changed.rows ∙ numbers_kept change (rows_of_keyed parcels) ∙ ids_of_rows parcels) changed.entries
 
   pub change_all : (parcels : List (ℕ × Parcel A)) (ids : List ℕ) (shapes : List (Shape A)) → Rise parcels
       → AllByRecursion (λ row. KeepsGround change row.corners) (rows_of_keyed parcels)

@@ -1,5 +1,5 @@
 -- Entries keep the rows alike with the city's refined ring.
-use Rattle.std.proofs.Common.{◌≡◌, ◌≢◌, refl, sym, ◌∙◌, ap, subst, arith, Bool, true, false, cond, ℕ, ◌+◌, ℤ, pos}
+use Rattle.std.proofs.Common.{◌≡◌, ◌≢◌, refl, sym, ◌∙◌, ap, arith, Bool, true, false, cond, ℕ, ◌+◌, ℤ, pos}
 use Rattle.std.proofs.Common.{◌+ℤ◌, List, []}
 use Rattle.std.proofs.Common.{◌∷◌, ◌++◌, map}
 use Rattle.std.specs.List.{AllByRecursion, Contains}

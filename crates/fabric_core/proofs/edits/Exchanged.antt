@@ -111,7 +111,7 @@ module _ {A : Type 0} where
         e,
       )
 
-  keys_apart : (parcels : List (ℕ × Parcel A)) → HaveOwnKeys (entries_of parcels)
+  pub keys_apart : (parcels : List (ℕ × Parcel A)) → HaveOwnKeys (entries_of parcels)
       → AllPairs (λ (a b : ℕ × Parcel A). a.0 ≢ b.0) parcels
   keys_apart parcels own i j d before below e =
       own i j (entry_of d) before (omega (arith, below, length-map parcels entry_of))

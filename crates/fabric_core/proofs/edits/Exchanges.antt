@@ -1,7 +1,8 @@
 -- The three ways in which parcels are exchanged for others: one for two, two for one, and two for two.
 use Rattle.std.proofs.Common.{◌≡◌, ◌≢◌, refl, sym, ◌∙◌, ap, subst, arith, ℕ, zero, suc, ◌+◌, ◌<◌, Bool, true}
 use Rattle.std.proofs.Common.{false, not, ◌||◌, ◌&&◌, nat_eq, cond, List, [], ◌∷◌, ◌++◌, length, map, append_assoc}
-use Rattle.std.proofs.Common.{Option, Some, None, slice_index_or}
+use Rattle.std.proofs.Common.{Option, Some, None, slice_index_or, Result, Ok, Err}
+use Rattle.std.specs.Result.{OnErr}
 use Rattle.std.specs.List.{AllByRecursion, Contains, filter, list_any, slice_set}
 use Rattle.std.specs.List.Sorted.{IsStrictlyIncreasing}
 use Rattle.std.proofs.lemmas.Bool.Decides.{nat_tests}
@@ -21,7 +22,7 @@ use Rattle.fabric_core.specs.Rows.{numbers}
 use Rattle.fabric_core.specs.Tiling.{corner_lists}
 use Rattle.fabric_core.specs.Journal.{without_ids}
 use Rattle.fabric_core.specs.own.Alike.{GoAlike}
-use Rattle.fabric_core.specs.own.Kept.{Kept, IsKept, MayBeKept}
+use Rattle.fabric_core.specs.own.Kept.{Kept, IsKept, MayBeKept, ids_by_key, by_ids}
 use Rattle.fabric_core.specs.own.Lists.{IsEntryAt}
 use Rattle.fabric_core.proofs.edits.Exchanged.{entry_of, id_of, without_all, rows_without, filter_twice, exchanged}
 
@@ -85,10 +86,17 @@ module _ {A : Type 0} where
     rows = rows_of_keyed table.parcels;
     city = city;
     refined = refined;
-    index = index;
+    index = by_ids (ids_by_key table.parcels) index;
     next = table.next;
     fates = table.fates;
   }
+
+  -- where an allocation was refused, what is shown stays
+  pub stays : {X E : Type 0} (result : Result X E) (city refined : List Corner) (table old : Table A) (index kept : Grid) (now : Kept)
+      → table ≡ old → index ≡ kept → shown city refined old kept ≡ now → OnErr result (shown city refined table index ≡ now)
+  stays (Ok x) city refined table old index kept now e f is = tt
+  stays (Err x) city refined table old index kept now e f is =
+      ap (λ t. shown city refined t index) e ∙ ap (λ i. shown city refined old i) f ∙ is
 
   pub has_id : (parcels : List (ℕ × Parcel A)) (id : ℕ) → Contains (numbers (rows_of_keyed parcels)) id → HasId parcels id
   has_id parcels id there =

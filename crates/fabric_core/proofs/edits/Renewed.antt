@@ -1,11 +1,11 @@
 -- The rows that an edit changes: each is a candidate of one of its corners, and they are changed one after the other.
-use Rattle.std.proofs.Common.{◌≡◌, ◌≢◌, ◌⊎◌, inl, inr, ⊎_elim, refl, sym, ◌∙◌, ap, subst, arith, Bool, true}
-use Rattle.std.proofs.Common.{false, ◌&&◌}
+use Rattle.std.proofs.Common.{◌≡◌, ⊎_elim, refl, sym, ◌∙◌, ap, subst, arith, Bool, true}
+use Rattle.std.proofs.Common.{false}
 use Rattle.std.proofs.Common.{ℕ, ◌<◌, ◌≤◌, ℤ, List, [], ◌∷◌, ◌++◌, length, map, take, get_or}
 use Rattle.std.proofs.lemmas.Int.{ints, clamps}
-use Rattle.std.specs.List.{All, AllByRecursion, Contains, list_any}
+use Rattle.std.specs.List.{All, AllByRecursion, Contains}
 use Rattle.std.specs.List.Sorted.{IsStrictlyIncreasing}
-use Rattle.std.proofs.lemmas.Bool.{or_cases, and_parts, cases_Bool, false_from_ne_true, false≢true}
+use Rattle.std.proofs.lemmas.Bool.{cases_Bool, false_from_ne_true, false≢true}
 use Rattle.std.proofs.lemmas.List.{map-append, length-take, get_or-take, get_or_default}
 use Rattle.std.proofs.lemmas.List.Elements.{All-contains, Contains-append_left, Contains-push, Contains-push_cases}
 use Rattle.std.proofs.lemmas.List.Kept.{AllPairs-from_increasing}
@@ -14,14 +14,13 @@ use Rattle.geo_exact.specs.declared.bounds.Bounds.{Bounds}
 use Rattle.geo_exact.specs.declared.corner.Corner.{Corner}
 use Rattle.geo_exact.specs.Bounds.{HoldsCorner, IsLeastBox}
 use Rattle.geo_exact.specs.Layers.{NumberedRing, numbered}
-use Rattle.cell_index.specs.declared.entry.Entry.{Entry}
 use Rattle.cell_index.specs.Cells.{Grid, column, row, brought_into, StandsBetween}
 use Rattle.cell_index.proofs.Along.{cell_grows}
 use Rattle.cell_index.proofs.BoxesInCells.{Decides-stands}
 use Rattle.edge_chains.proofs.nodings.NodedEdges.{none_in_nil, Contains-here, Contains-there, Contains-cases, all_from_contains}
 use Rattle.fabric_core.specs.own.Balanced.{Ascend}
 use Rattle.fabric_core.specs.declared.ring_change.RingChange.{RingChange}
-use Rattle.fabric_core.specs.GridIndex.{IsIndexed, IsCandidate}
+use Rattle.fabric_core.specs.GridIndex.{IsEntryOf, IsIndexed, IsCandidate}
 use Rattle.fabric_core.specs.own.RingChanges.{changed_ring, corner_of, is_changed, renewed, rows_changed}
 use Rattle.fabric_core.proofs.edits.RingChanges.{has_its_corner}
 use Rattle.fabric_core.proofs.places.Between.{zipped_left}
@@ -63,8 +62,7 @@ pub changed_is_candidate : (change : RingChange) (rows : List NumberedRing) (cit
     → is_changed change row.corners ≡ true → IsCandidate rows city (corner_of change) (corner_of change) row.number
 changed_is_candidate change rows city index row indexed in_area is_row has =
     let corner = corner_of change in
-    let w = zipped_left (λ (row : NumberedRing) (entry : Entry). IsLeastBox entry.bounds row.corners) rows
-    indexed.entries row indexed.have_their_boxes is_row in
+    let w = zipped_left IsEntryOf rows indexed.entries row indexed.are_theirs is_row in
     let there = has_its_corner change row.corners has in record {
       row = row;
       is_row = is_row;
@@ -72,11 +70,11 @@ changed_is_candidate change rows city index row indexed in_area is_row has =
       area = index.area;
       is_area = indexed.area;
       box = w.0.bounds;
-      is_its_box = w.2;
+      is_its_box = w.2.is_its_box;
       stands = stands_at_own index.area w.0.bounds corner
           (All-contains (HoldsCorner index.area) row.corners corner
           (of_each (λ r. All (HoldsCorner index.area) r.corners) rows row in_area is_row) there)
-          (All-contains (HoldsCorner w.0.bounds) row.corners corner w.2.holds there);
+          (All-contains (HoldsCorner w.0.bounds) row.corners corner w.2.is_its_box.holds there);
     }
 
 -- ---- two lists of rows by ascending id that have the same rows are equal

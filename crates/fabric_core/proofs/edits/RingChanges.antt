@@ -19,7 +19,7 @@ use Rattle.fabric_core.specs.declared.ring_change.RingChange.{RingChange}
 use Rattle.fabric_core.specs.declared.ring_change.RingChange.TheVariants.{PutIn, TakeOut}
 use Rattle.fabric_core.specs.EditResults.{IsChange, IsInsertOf, IsStraightenOf}
 use Rattle.fabric_core.specs.Journal.{State}
-use Rattle.fabric_core.specs.own.RingChanges.{HasTwoEnds, KeepsGround, IsRenewalOf, changed_city, changed_ring, corner_of, edit_of}
+use Rattle.fabric_core.specs.own.RingChanges.{KeepsGround, IsRenewalOf, changed_city, changed_ring, corner_of, edit_of}
 use Rattle.fabric_core.specs.own.RingChanges.{is_changed}
 use Rattle.fabric_core.proofs.rows.Alikes.{AddsUp, measured}
 

@@ -1,5 +1,5 @@
 -- A layer that passes all checks of loading.
-use Rattle.std.proofs.Common.{◌≡◌, sym, ◌∙◌, ap, subst, arith, ℕ, zero, suc, ◌<◌, List, [], ◌∷◌, length}
+use Rattle.std.proofs.Common.{◌≡◌, refl, sym, ◌∙◌, ap, subst, arith, ℕ, zero, suc, ◌<◌, List, [], ◌∷◌, length}
 use Rattle.std.proofs.Common.{slice_index, add-one}
 use Rattle.std.specs.List.Sorted.{IsStrictlyIncreasing}
 use Rattle.geo_exact.specs.declared.corner.Corner.{Corner}
@@ -13,13 +13,14 @@ use Rattle.fabric_core.specs.Limits.{AreWithinLimits}
 use Rattle.fabric_core.specs.Faults.{AreSimple}
 use Rattle.fabric_core.specs.own.Checks.{HaveEqualNets, HaveNoFault, IsRefinedCity, IsChecked}
 use Rattle.fabric_core.specs.own.Lists.{numbered_rows, corners_of_rings}
-use Rattle.fabric_core.specs.own.Kept.{IsKept}
+use Rattle.fabric_core.specs.own.Kept.{IsKept, ids_by_key, by_ids}
 use Rattle.parcel_table.specs.Table.{rows_of_keyed, entries_of}
 use Rattle.std.specs.List.{All, AllZip, AllByRecursion}
 use Rattle.geo_exact.specs.declared.bounds.Bounds.{Bounds}
 use Rattle.geo_exact.specs.Bounds.{HoldsCorner, IsLeastBox}
 use Rattle.cell_index.specs.Cells.{Grid, Indexes, HaveOwnKeys}
-use Rattle.fabric_core.specs.GridIndex.{IsIndexed}
+use Rattle.fabric_core.specs.GridIndex.{IsEntryOf, IsIndexed}
+use Rattle.fabric_core.proofs.loads.ByIds.{entries_by_id, stands_by_ids}
 use Rattle.fabric_core.proofs.tilings.InTheCity.{rows_in_box}
 use Rattle.fabric_core.proofs.rows.Alikes.{alike_from_nets}
 use Rattle.fabric_core.proofs.rows.Lists.{numbers_of_rows, lists_of_rows}
@@ -43,21 +44,19 @@ pub kept_tiles : {A : Type 0} (parcels : List (ℕ × Parcel A)) (city refined :
 kept_tiles parcels city refined index h = tiles_on_ground (rows_of_keyed parcels) city refined
     (made_rows parcels) h.wound_once h.ground h.alike
 
--- the parcels' boxes are their rows'
-boxes_of_rows : {A : Type 0} (parcels : List (ℕ × Parcel A))
-    → AllZip (λ row entry. IsLeastBox entry.bounds row.corners) (rows_of_keyed parcels) (entries_of parcels)
-boxes_of_rows [] = tt
-boxes_of_rows (parcel ∷ parcels) = (parcel.1.shape.least_box, boxes_of_rows parcels)
+-- the entries of parcels under their ids are their rows'
+entries_of_rows : {A : Type 0} (parcels : List (ℕ × Parcel A)) → AllZip IsEntryOf (rows_of_keyed parcels) (entries_by_id parcels)
+entries_of_rows [] = tt
+entries_of_rows (parcel ∷ parcels) = (record { has_id = refl; is_its_box = parcel.1.shape.least_box }, entries_of_rows parcels)
 
 pub is_indexed : {A : Type 0} (parcels : List (ℕ × Parcel A)) (city refined : List Corner) (index : Grid)
     → IsKept parcels city refined index
-    → HaveOwnKeys (entries_of parcels) → IsIndexed (rows_of_keyed parcels) city index
+    → HaveOwnKeys (entries_of parcels) → IsIndexed (rows_of_keyed parcels) city (by_ids (ids_by_key parcels) index)
 is_indexed parcels city refined index h own = record {
   area = h.area;
-  entries = entries_of parcels;
-  have_their_boxes = boxes_of_rows parcels;
-  have_own_keys = own;
-  stand = h.indexed;
+  entries = entries_by_id parcels;
+  are_theirs = entries_of_rows parcels;
+  stand = stands_by_ids parcels index own h.indexed;
 }
 
 pub kept : {A : Type 0} (numbers : List ℕ) (rings : List (List Corner)) (parcels : List (ℕ × Parcel A))

@@ -1,9 +1,7 @@
 -- A layer has one first fault at most, and rows and a refined city are refined in one way.
 use Rattle.std.proofs.Common.{◌≡◌, ◌⊎◌, inl, inr, refl, sym, ◌∙◌, ap, subst, arith, ℕ, ◌<◌, ◌≤◌, ℤ, pos}
-use Rattle.std.proofs.Common.{◌-ℤ◌, List, [], ◌∷◌, ◌++◌, length, Bool, true, false, IsTrue, ◌||◌, ◌&&◌, Result, Ok}
-use Rattle.std.proofs.Common.{Err}
+use Rattle.std.proofs.Common.{◌-ℤ◌, List, [], ◌∷◌, ◌++◌, length, Bool, true, false, IsTrue, ◌||◌, ◌&&◌}
 use Rattle.std.specs.List.{AllByRecursion, AllZip}
-use Rattle.std.specs.Result.{IfOk, IfErr, IsErrAnd}
 use Rattle.std.proofs.lemmas.Int.{ints}
 use Rattle.geo_exact.specs.declared.corner.Corner.{Corner}
 use Rattle.geo_exact.specs.Order.{is_same, is_before}
@@ -167,7 +165,7 @@ one_edge a b c d h k =
     second_part false true z e h = h
     second_part false false z e h = cc
 
-one_gap : (rows : List NumberedRing) (refined : List Corner) (a b c d : Corner) (m n : ℤ)
+pub one_gap : (rows : List NumberedRing) (refined : List Corner) (a b c d : Corner) (m n : ℤ)
     → IsFirstGap rows refined a b m → IsFirstGap rows refined c d n → Gap a b m ≡ Gap c d n
 one_gap rows refined a b c d m n h k = same_gap (one_edge a b c d (not_true (is_edge_before (a, b) (c, d)) (k.is_least a b m h.is_gap))
     (not_true (is_edge_before (c, d) (a, b)) (h.is_least c d n k.is_gap)))
@@ -231,12 +229,3 @@ one_load_fault records city f g h k =
     let e = one_refinement records city k.rows h.rows k.refined h.refined k.are_refined h.are_refined in
     one_first_fault h.rows h.refined f g h.is_first
     (subst (λ rows. IsFirstFault rows h.refined g) e.0 (subst (λ refined. IsFirstFault k.rows refined g) e.1 k.is_first))
-
--- an answer that is a layer only without faults, and else the first fault or want of memory
-pub refused_by : {T : Type 0} (r : Result T LoadFault) (records : List NumberedRing) (city : List Corner)
-    → IfOk r (λ x. AreFaultless records city)
-    → IfErr r (λ f. IsLoadFault records city f ⊎ (f ≡ NoMemory)) → (fault : LoadFault) → IsLoadFault records city fault
-    → IsErrAnd r (λ e. (e ≡ fault) ⊎ (e ≡ NoMemory))
-refused_by (Ok x) records city none told fault h = absurd (faultless records city fault none h)
-refused_by (Err f) records city none (inl k) fault h = inl (one_load_fault records city f fault k h)
-refused_by (Err f) records city none (inr e) fault h = inr e

@@ -1,49 +1,42 @@
--- All gaps, and all faults of the first's kind.
-use Rattle.std.proofs.Common.{◌≡◌, ◌≢◌, ◌⊎◌, inl, inr, refl, sym, ◌∙◌, ap, subst, ℕ, ℤ, List, [], ◌∷◌}
-use Rattle.std.proofs.Common.{IsTrue, Result, Ok, Err}
-use Rattle.std.specs.Result.{IfOk, IfErr, IsErrAnd}
-use Rattle.std.specs.List.Sorted.{IsStrictlyIncreasing}
+-- The first gap and all gaps, as they are counted.
+use Rattle.std.proofs.Common.{◌≡◌, inl, inr, sym, ◌∙◌, ap, subst, ℤ, List, [], ◌∷◌, IsTrue}
 use Rattle.std.specs.List.{AllByRecursion, Contains}
 use Rattle.geo_exact.specs.declared.corner.Corner.{Corner}
 use Rattle.geo_exact.specs.Layers.{NumberedRing}
-use Rattle.edge_chains.specs.Counts.{Counts, net_at, AreNetOf, is_edge_before}
+use Rattle.edge_chains.specs.Counts.{Counts, net_at, AreNetOf, IsFirstUnbalanced, is_edge_before}
 use Rattle.edge_chains.specs.Jump.{net_difference}
 use Rattle.edge_chains.specs.Unbalanced.{AreUnbalanced}
 use Rattle.edge_chains.proofs.edges.Corners.{Decides-is_edge_before, edge_before_irreflexive, edge_before_transitive}
-use Rattle.edge_chains.proofs.nets.Unbalanced.{all_balanced}
 use Rattle.edge_chains.proofs.nodings.NodedEdges.{none_in_nil, Contains-here, Contains-cases}
 use Rattle.edge_chains.proofs.nets.Firsts.{is_true}
-use Rattle.fabric_core.specs.declared.all_faults.AllFaults.{AllFaults}
-use Rattle.fabric_core.specs.declared.all_faults.AllFaults.TheVariants.{TooMany as AllTooMany, Rings, Gaps, NoMemory as AllNoMemory}
-use Rattle.fabric_core.specs.declared.layer.LoadFault.{LoadFault}
-use Rattle.fabric_core.specs.declared.layer.LoadFault.TheVariants.{TooMany, Ring, Gap}
+use Rattle.fabric_core.specs.declared.layer.LoadFault.TheVariants.{Gap}
 use Rattle.fabric_core.specs.Tiling.{corner_lists}
-use Rattle.fabric_core.specs.Rows.{numbers}
-use Rattle.fabric_core.specs.Limits.{AreWithinLimits, IsFirstTooMany}
-use Rattle.fabric_core.specs.Faults.{AreSimple, IsFirstGap, AreGaps, BeginsWith, IsLoadFault, AreLoadFaults}
-use Rattle.fabric_core.specs.own.Checks.{HaveEqualNets, AreRingsFaults, AreNetsFaults, AreTold}
-use Rattle.fabric_core.proofs.loads.OneLoadFault.{AreFaultless, faultless, one_load_fault, head_of}
-use Rattle.ring_core.specs.declared.ring.RingFault.{RingFault}
-use Rattle.fabric_core.proofs.loads.ToldRings.{are_ring_faults, first_faulty}
-use Rattle.fabric_core.proofs.rows.RowGaps.{equal_nets}
+use Rattle.fabric_core.specs.Faults.{IsFirstGap, AreGaps}
+use Rattle.fabric_core.proofs.loads.OneLoadFault.{one_gap}
 
 -- ---- from the counts
-pub no_gaps : (sum : Counts) (rings : List (List Corner)) (refined : List Corner) (gaps : List (Corner × Corner × ℤ))
-    → AreNetOf sum rings (refined ∷ [])
-    → AreUnbalanced sum gaps → gaps ≡ [] → HaveEqualNets rings refined
-no_gaps sum rings refined gaps net all none = equal_nets sum rings refined net (all_balanced sum (subst (AreUnbalanced sum) none all))
+net_of_rows : (sum : Counts) (rings : List (List Corner)) (refined : List Corner) → AreNetOf sum rings (refined ∷ [])
+    → (rows : List NumberedRing) → corner_lists rows ≡ rings
+    → (a b : Corner) → net_at sum.counts a b ≡ net_difference (corner_lists rows) (refined ∷ []) a b
+net_of_rows sum rings refined net rows same a b = net a b ∙ ap (λ lists. net_difference lists (refined ∷ []) a b) (sym same)
 
-pub are_gaps : (sum : Counts) (rings : List (List Corner)) (refined : List Corner) (gaps : List (Corner × Corner × ℤ))
+pub first_counted : (sum : Counts) (rings : List (List Corner)) (refined : List Corner) (a b : Corner) (n : ℤ)
+    → AreNetOf sum rings (refined ∷ [])
+    → IsFirstUnbalanced sum a b n → (rows : List NumberedRing) → corner_lists rows ≡ rings → IsFirstGap rows refined a b n
+first_counted sum rings refined a b n net first rows same = let is = net_of_rows sum rings refined net rows same in record {
+  is_gap = record { in_order = first.in_order; is_net = sym (is a b) ∙ first.number; is_unbalanced = first.is_unbalanced };
+  is_least = λ c d m gap. first.is_least c d gap.in_order (λ none. gap.is_unbalanced (sym gap.is_net ∙ sym (is c d) ∙ none));
+}
+
+pub all_counted : (sum : Counts) (rings : List (List Corner)) (refined : List Corner) (gaps : List (Corner × Corner × ℤ))
     → AreNetOf sum rings (refined ∷ [])
     → AreUnbalanced sum gaps → (rows : List NumberedRing) → corner_lists rows ≡ rings → AreGaps rows refined gaps
-are_gaps sum rings refined gaps net all rows same = record {
+all_counted sum rings refined gaps net all rows same = let is = net_of_rows sum rings refined net rows same in record {
   ascend = all.ascend;
-  exactly = λ a b n.
-      let is : net_at sum.counts a b ≡ net_difference (corner_lists rows) (refined ∷ []) a b =
-      net a b ∙ ap (λ lists. net_difference lists (refined ∷ []) a b) (sym same) in (
-        λ h. let k = (all.exactly a b n).0 h in record { in_order = k.0; is_net = sym is ∙ k.1; is_unbalanced = k.2 },
-        λ gap. (all.exactly a b n).1 (gap.in_order, is ∙ gap.is_net, gap.is_unbalanced),
-      );
+  exactly = λ a b n. (
+    λ h. let k = (all.exactly a b n).0 h in record { in_order = k.0; is_net = sym (is a b) ∙ k.1; is_unbalanced = k.2 },
+    λ gap. (all.exactly a b n).1 (gap.in_order, is a b ∙ gap.is_net, gap.is_unbalanced),
+  );
 }
 
 -- ---- the first
@@ -73,66 +66,16 @@ first_of_gaps rows refined first rest h = record {
   ];
 }
 
-first_gap : (rows : List NumberedRing) (refined : List Corner) (gaps : List (Corner × Corner × ℤ))
-    → AreGaps rows refined gaps → gaps ≢ []
-    → (t : Corner × Corner × ℤ) × (rest : List (Corner × Corner × ℤ)) × (gaps ≡ t ∷ rest)
-    × IsFirstGap rows refined t.0 t.1 t.2
-first_gap rows refined [] h some = absurd (some refl)
-first_gap rows refined (t ∷ rest) h some = (t, rest, refl, first_of_gaps rows refined t rest h)
-
--- ---- all faults of the first's kind
-pub tells_rings : {A : Type 0} (rows : List NumberedRing) (refined : List Corner) (all : AllFaults A) → AreWithinLimits rows
-    → IsStrictlyIncreasing (numbers rows) → AreRingsFaults rows all → AreTold rows refined all
-tells_rings rows refined (AllTooMany n) within rise h = absurd h
-tells_rings rows refined (Rings faults) within rise h =
-    let w = first_faulty rows faults.items h.0 h.1 in record {
-      are_all = (within, are_ring_faults rows faults.items h.0 rise);
-      first = Ring w.0.0 w.0.1;
-      begins = (w.0, w.1, w.2, refl);
-      is_first = (within, w.3);
-    }
-tells_rings rows refined (Gaps gaps) within rise h = absurd h
-tells_rings rows refined AllNoMemory within rise h = absurd h
-
-pub tells_gaps : {A : Type 0} (rows : List NumberedRing) (refined : List Corner) (all : AllFaults A)
-    → AreWithinLimits rows → AreSimple rows
-    → AreNetsFaults rows refined all → AreTold rows refined all
-tells_gaps rows refined (AllTooMany n) within simple h = absurd h
-tells_gaps rows refined (Rings faults) within simple h = absurd h
-tells_gaps rows refined (Gaps gaps) within simple h =
-    let w = first_gap rows refined gaps.items h.0 h.1 in record {
-      are_all = (within, simple, h.0);
-      first = Gap w.0.0 w.0.1 w.0.2;
-      begins = (w.0, w.1, w.2, refl);
-      is_first = (within, simple, w.3);
-    }
-tells_gaps rows refined AllNoMemory within simple h = absurd h
-
-pub tells_too_many : {A : Type 0} (rows : List NumberedRing) (refined : List Corner) (n : ℕ) → IsFirstTooMany rows n
-    → AreTold {A = A} rows refined (AllTooMany n)
-tells_too_many rows refined n h = record { are_all = h; first = TooMany n; begins = refl; is_first = h }
-
--- ---- the first fault of a layer is the one that they begin with
-one_beginning : {A : Type 0} (all : AllFaults A) (f g : LoadFault) → BeginsWith all f → f ≡ g → BeginsWith all g
-one_beginning all f g h e = subst (BeginsWith all) e h
-
--- an answer that is a layer only without faults, and else all faults of the first's kind or want of memory
-pub refused_by_all : {T A : Type 0} (r : Result T (AllFaults A)) (records : List NumberedRing) (city : List Corner)
-    → IfOk r (λ x. AreFaultless records city)
-    → IfErr r (λ all. AreLoadFaults records city all ⊎ (all ≡ AllNoMemory)) → (fault : LoadFault)
-    → IsLoadFault records city fault
-    → IsErrAnd r (λ all. BeginsWith all fault ⊎ (all ≡ AllNoMemory))
-refused_by_all (Ok x) records city none told fault h = absurd (faultless records city fault none h)
-refused_by_all (Err all) records city none (inl k) fault h =
-    inl (one_beginning all k.first fault k.begins (one_load_fault records city k.first fault
-    (record { rows = k.rows; refined = k.refined; are_refined = k.are_refined; is_first = k.is_first }) h))
-refused_by_all (Err all) records city none (inr e) fault h = inr e
-
--- they begin with one fault
-pub begins_once : {A : Type 0} (all : AllFaults A) (f g : LoadFault) → BeginsWith all f → BeginsWith all g → f ≡ g
-begins_once (AllTooMany n) f g h k = h ∙ sym k
-begins_once (Rings faults) f g h k = h.3 ∙ ap (λ (t : ℕ × RingFault). Ring t.0 t.1) (head_of h.0 k.0 h.1 k.1 (sym h.2
-    ∙ k.2)) ∙ sym k.3
-begins_once (Gaps gaps) f g h k = h.3 ∙ ap (λ (t : Corner × Corner × ℤ). Gap t.0 t.1 t.2)
-    (head_of h.0 k.0 h.1 k.1 (sym h.2 ∙ k.2)) ∙ sym k.3
-begins_once AllNoMemory f g h k = h ∙ sym k
+-- all gaps begin with the first
+pub begun_by_first : (rows : List NumberedRing) (refined : List Corner) (a b : Corner) (n : ℤ) (gaps : List (Corner × Corner × ℤ))
+    → AreGaps rows refined gaps → IsFirstGap rows refined a b n
+    → (rest : List (Corner × Corner × ℤ)) × (gaps ≡ (a, b, n) ∷ rest)
+begun_by_first rows refined a b n [] h first = absurd (none_in_nil (a, b, n) ((h.exactly a b n).1 first.is_gap))
+begun_by_first rows refined a b n (t ∷ rest) h first = (
+  rest,
+  ap (λ gap. gap ∷ rest)
+      (same t.0 t.1 t.2 (one_gap rows refined a b t.0 t.1 n t.2 first (first_of_gaps rows refined t rest h))),
+)
+  where
+    same : (c d : Corner) (m : ℤ) → Gap a b n ≡ Gap c d m → ◌≡◌ {A = Corner × Corner × ℤ} (c, d, m) (a, b, n)
+    same c d m e = cc

@@ -1,7 +1,7 @@
--- All rings that are not simple, told one after the other.
-use Rattle.std.proofs.Common.{◌≡◌, ◌≢◌, inl, inr, refl, sym, ◌∙◌, ap, subst, arith, ℕ, suc, ◌+◌, ◌<◌, List, []}
+-- Rings that are checked one after the other, and the faults of those that are not simple.
+use Rattle.std.proofs.Common.{◌≡◌, ◌⊎◌, inl, inr, refl, sym, ◌∙◌, ap, subst, arith, ℕ, suc, ◌+◌, ◌<◌, List, []}
 use Rattle.std.proofs.Common.{◌∷◌, ◌++◌, map}
-use Rattle.std.proofs.Common.{length, get_or, append-nil, append_assoc}
+use Rattle.std.proofs.Common.{length, get_or, drop, append-nil, append_assoc}
 use Rattle.std.specs.List.{AllByRecursion, Contains}
 use Rattle.std.specs.List.Sorted.{IsStrictlyIncreasing, IsStrictlySortedBy}
 use Rattle.std.specs.declared.cmp.Ordering.TheVariants.{Less}
@@ -18,8 +18,17 @@ use Rattle.edge_chains.proofs.nodings.NodedEdges.{none_in_nil, Contains-here, Co
 use Rattle.fabric_core.specs.Rows.{numbers}
 use Rattle.fabric_core.specs.Faults.{IsFirstFaulty, IsFaulty, AreRingFaults}
 use Rattle.fabric_core.specs.own.Lists.{numbered_rows, corners_of_rings}
-use Rattle.fabric_core.specs.own.Checks.{AreToldRings}
 use Rattle.fabric_core.proofs.loads.OneFault.{simple_has_no_fault, one_ring_fault}
+use Rattle.fabric_core.proofs.loads.OneLoadFault.{head_of}
+use Rattle.fabric_core.proofs.loads.RingChecks.{faulty_at}
+
+-- the faults of the rows that are no simple rings, under their numbers, row by row
+abbrev pub AreToldRings : List NumberedRing → List (ℕ × RingFault) → Type 0
+AreToldRings [] told = told ≡ []
+AreToldRings (row ∷ rows) told =
+    (IsSimpleRing row.corners × AreToldRings rows told)
+    ⊎ ((fault : RingFault) × (rest : List (ℕ × RingFault)) × IsRingFault row.corners fault × AreToldRings rows rest
+    × (told ≡ (row.number, fault) ∷ rest))
 
 rows_of_none : (ids : List ℕ) → numbered_rows ids [] ≡ []
 rows_of_none [] = refl
@@ -98,13 +107,6 @@ has_number ids rings left rest done ring many so_far here = omega (
   length-append (done ++ ring ∷ []) rest,
   one_more done ring,
 )
-
-pub place_within : {A : Type 0} (ids : List ℕ) (rings left rest : List (List Corner)) (kept : List (Ring A))
-    (told : List (ℕ × RingFault)) (ring : List Corner)
-    → length ids ≡ length rings → AreLookedAt ids rings left kept told → left ≡ ring ∷ rest
-    → length kept + length told < length ids
-place_within ids rings left rest kept told ring many h here =
-    omega (arith, h.count, has_number ids rings left rest h.done ring many h.are_all here)
 
 corners_kept : {A : Type 0} (kept : List (Ring A)) (ring : Ring A)
     → corners_of_rings (kept ++ ring ∷ []) ≡ corners_of_rings kept ++ ring.corners ∷ []
@@ -240,36 +242,43 @@ are_ring_faults rows told h rise = record {
 }
 
 -- ---- the first
-pub first_faulty : (rows : List NumberedRing) (told : List (ℕ × RingFault)) → AreToldRings rows told → told ≢ []
-    → (t : ℕ × RingFault) × (rest : List (ℕ × RingFault)) × (told ≡ t ∷ rest) × IsFirstFaulty rows t.0 t.1
-first_faulty [] told h some = absurd (some h)
-first_faulty (row ∷ rows) told h some = elim h [
-  | inl p ↦ let w = first_faulty rows told p.1 some in (
-    w.0,
-    w.1,
-    w.2,
-    record {
-      before = row ∷ w.3.before;
-      row = w.3.row;
-      behind = w.3.behind;
-      are_all = ap (λ rs. row ∷ rs) w.3.are_all;
-      has_number = w.3.has_number;
-      is_fault = w.3.is_fault;
-      simple_before = (p.0, w.3.simple_before);
-    },
-  )
-  | inr p ↦ (
-    (row.number, p.0),
-    p.1,
-    p.4,
-    record {
-      before = [];
-      row = row;
-      behind = rows;
-      are_all = refl;
-      has_number = refl;
-      is_fault = p.2;
-      simple_before = tt;
-    },
-  )
+pub headed : {X : Type 0} (xs : List X) (x : X) → (xs ≡ [] → ⊥) → x ≡ get_or xs 0 x → xs ≡ x ∷ drop 1 xs
+headed [] x some e = absurd (some refl)
+headed (y ∷ xs) x some e = ap (λ z. z ∷ xs) (sym e)
+
+pub first_faulty : (rows : List NumberedRing) (told : List (ℕ × RingFault)) (t : ℕ × RingFault) (rest : List (ℕ × RingFault))
+    → AreToldRings rows told → told ≡ t ∷ rest → IsFirstFaulty rows t.0 t.1
+first_faulty [] told t rest h e = absurd (never (sym h ∙ e))
+  where
+    never : [] ≡ t ∷ rest → ⊥
+    never k = cc
+first_faulty (row ∷ rows) told t rest h e = elim h [
+  | inl p ↦ let w = first_faulty rows told t rest p.1 e in record {
+    before = row ∷ w.before;
+    row = w.row;
+    behind = w.behind;
+    are_all = ap (λ rs. row ∷ rs) w.are_all;
+    has_number = w.has_number;
+    is_fault = w.is_fault;
+    simple_before = (p.0, w.simple_before);
+  }
+  | inr p ↦ let same : (row.number, p.0) ≡ t = head_of (row.number, p.0) t p.1 rest (sym p.4 ∙ e) in record {
+    before = [];
+    row = row;
+    behind = rows;
+    are_all = refl;
+    has_number = ap (λ (x : ℕ × RingFault). x.0) same;
+    is_fault = subst (λ (x : ℕ × RingFault). IsRingFault row.corners x.1) same p.2;
+    simple_before = tt;
+  }
 ]
+
+-- where none was told so far, the next that is not simple is the first
+pub first_told : {A : Type 0} (ids : List ℕ) (rings left rest : List (List Corner)) (kept : List (Ring A)) (told : List (ℕ × RingFault))
+    (corners : List Corner) (fault : RingFault) (number place : ℕ) → length ids ≡ length rings → AreLookedAt ids rings left kept told
+    → told ≡ [] → left ≡ corners ∷ rest → place ≡ length kept + length told → number ≡ get_or ids place 0 → IsRingFault corners fault
+    → IsFirstFaulty (numbered_rows ids rings) number fault
+first_told ids rings left rest kept told corners fault number place many h none here at is_number is_fault =
+    subst (λ n. IsFirstFaulty (numbered_rows ids rings) n fault) (sym is_number)
+    (faulty_at ids rings left rest kept place corners fault many (ap (λ xs. xs ++ left) (h.are_kept none) ∙ h.are_all) here
+    (omega (arith, at, ap length none)) is_fault)

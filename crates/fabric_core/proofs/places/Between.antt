@@ -35,7 +35,7 @@ module _ {X Y : Type 0} (R : X → Y → Type 0) where
       (λ later. let w = zipped_left xs ys x h.1 later in (w.0, Contains-there y ys w.0 w.1, w.2))
       (Contains-cases z xs x c)
 
-  zipped_right : (xs : List X) (ys : List Y) (y : Y) → AllZip R xs ys → Contains ys y → (x : X) × Contains xs x × R x y
+  pub zipped_right : (xs : List X) (ys : List Y) (y : Y) → AllZip R xs ys → Contains ys y → (x : X) × Contains xs x × R x y
   zipped_right xs [] y h c = absurd (none_in_nil y c)
   zipped_right [] (z ∷ ys) y h c = absurd h
   zipped_right (x ∷ xs) (z ∷ ys) y h c = ⊎_elim

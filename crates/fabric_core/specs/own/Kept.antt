@@ -1,5 +1,5 @@
 -- What the parcels that tile a city keep, with the index of their boxes. Public contracts do not speak of it.
-use Rattle.std.specs.Prelude.{◌≡◌, ℕ, ◌+◌, ◌^◌, ◌≤◌, nat_eq, if◌then◌else◌, List, ◌++◌, length, Option}
+use Rattle.std.specs.Prelude.{◌≡◌, ℕ, ◌+◌, ◌^◌, ◌≤◌, nat_eq, if◌then◌else◌, List, [], ◌∷◌, ◌++◌, length, map, Option}
 use Rattle.std.specs.Prelude.{Some, None, slice_index_or}
 use Rattle.std.specs.List.{All, AllByRecursion, list_any}
 use Rattle.std.specs.List.Sorted.{IsStrictlyIncreasing}
@@ -7,6 +7,7 @@ use Rattle.geo_exact.specs.declared.corner.Corner.{Corner}
 use Rattle.geo_exact.specs.Point.{Point}
 use Rattle.geo_exact.specs.Bounds.{HoldsCorner, IsLeastBox}
 use Rattle.geo_exact.specs.Layers.{NumberedRing}
+use Rattle.cell_index.specs.declared.entry.Entry.{Entry}
 use Rattle.cell_index.specs.Cells.{Grid, Indexes}
 use Rattle.parcel_table.specs.declared.parcels.Parcel.{Parcel}
 use Rattle.parcel_table.specs.Table.{rows_of_keyed, entries_of}
@@ -17,8 +18,29 @@ use Rattle.fabric_core.specs.Limits.{AreWithinLimits}
 use Rattle.fabric_core.specs.Journal.{without_ids, next_after}
 use Rattle.fabric_core.specs.own.Alike.{GoAlike}
 
--- what they show: their rows by ascending id, the city's ring as it was read, that ring refined, the grid index, the
--- next id, and for each id below it the number by which its parcel went, where one did
+-- the keys of parcels, each beside the id of its parcel
+abbrev pub ids_by_key : {A : Type 0} → List (ℕ × Parcel A) → List (ℕ × ℕ)
+ids_by_key parcels = map (λ parcel. (parcel.0, parcel.1.id)) parcels
+
+-- the id beside a key; 0 where the key is not there
+abbrev pub id_beside : List (ℕ × ℕ) → ℕ → ℕ
+id_beside [] key = 0
+id_beside (pair ∷ pairs) key = if nat_eq pair.0 key then pair.1 else id_beside pairs key
+
+-- an entry under the id beside its key
+abbrev pub under_id : List (ℕ × ℕ) → Entry → Entry
+under_id pairs entry = record { key = id_beside pairs entry.key; bounds = entry.bounds }
+
+-- an index whose entries are under keys, with each under the id beside its key
+abbrev pub by_ids : List (ℕ × ℕ) → Grid → Grid
+by_ids pairs index = record {
+  area = index.area;
+  cells = map (map (under_id pairs)) index.cells;
+  beside = map (under_id pairs) index.beside;
+}
+
+-- what they show: their rows by ascending id, the city's ring as it was read, that ring refined, the grid index, in which their boxes stand
+-- under their ids, the next id, and for each id below it the number by which its parcel went, where one did
 pub record Kept : Type 0 where
   pub rows : List NumberedRing
   pub city : List Corner

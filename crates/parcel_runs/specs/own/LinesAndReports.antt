@@ -1,7 +1,7 @@
 -- Lines, and behind them the report of a table.
 use Rattle.std.specs.Prelude.{ℕ, List, ◌++◌, Option}
 use Rattle.std.specs.Io.KnownBytes.{Appends}
-use Rattle.text_puts.specs.Beginnings.{AppendsBeginning}
+use Rattle.text_pieces.specs.Beginnings.{AppendsBeginning}
 use Rattle.zone_tables.specs.Overlap.{Overlay}
 use Rattle.zone_tables.specs.Report.{IsReport}
 

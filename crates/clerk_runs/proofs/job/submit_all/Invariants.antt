@@ -7,6 +7,6 @@ abbrev pub invariant-loop-told : goal.invariant-loop-told
 invariant-loop-told g l = record {
   clerk : l.card.clerk ≡ l.fn.card.clerk;
   said : l.fn.card.made ≡ []
-      → HaveSaid (run_at g.J.Naming-1.office) l.fn.card.clerk l.edits (drop l.told-index l.edits) l.card.made
+      → HaveSaid (run_at g.J.Naming-1.office) l.card.met l.fn.card.clerk l.edits (drop l.told-index l.edits) l.card.made
       l.lines.items l.receipts.items;
 }

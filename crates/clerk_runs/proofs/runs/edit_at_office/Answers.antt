@@ -19,7 +19,7 @@ returns-clause-made g c =
     let number : office.clerks ≡ length clerks = ap (λ (o : OfficeId (Bor g.row.H.Denot)). o.clerks) c.requires.office in
     let origin : office.origin ≡ origin_of c.args.fabric = ap (λ (o : OfficeId (Bor g.row.H.Denot)). o.origin) c.requires.office in
     let jobs = c.in_ok-jobs.jobs.items in
-    let done = c.in-Ok-do_all.jobs.items in
+    let done = c.in-Ok-do_all.field-0.jobs.items in
     let count : c.len.result ≡ length clerks = omega (arith, c.len.ensures, c.args.clerks.ok.0) in
     let fresh : map (λ job. job.card) jobs ≡ fresh_cards 0 (length clerks) =
     c.in_ok-jobs.ensures.cards ∙ (c.in-Ok.ensures.cards ∙ ap (λ n. fresh_cards 0 n) count) in
@@ -38,9 +38,9 @@ places_of-requires-clause-has_seen g c = λ published.
     let count : c.len.result ≡ office.clerks = omega (arith, c.len.ensures, c.args.clerks.ok.0, number) in
     let fresh : map (λ job. job.card) c.in_ok-jobs.jobs.items ≡ fresh_cards 0 office.clerks =
     c.in_ok-jobs.ensures.cards ∙ (c.in-Ok.ensures.cards ∙ ap (λ n. fresh_cards 0 n) count) in
-    let cards : c.as_mut_slice.result.now ≡ map (λ job. job.card) c.in-Ok-do_all.jobs.items =
+    let cards : c.as_mut_slice.result.now ≡ map (λ job. job.card) c.in-Ok-do_all.field-0.jobs.items =
     c.as_mut_slice.ensures.value ∙ c.in_ok-cards.ensures.cards in
     journal_seen (λ job. job.card) (λ job. job.edits.items) (λ job. job.refused) (λ job. job.lines.items) (λ job. job.receipts.items)
-    office c.in_ok-sheet.sheet c.take_all_in.new.window.seen c.in_ok-jobs.jobs.items c.in-Ok-do_all.jobs.items
+    office c.in_ok-sheet.sheet c.take_all_in.new.window.seen c.in_ok-jobs.jobs.items c.in-Ok-do_all.field-0.jobs.items
     (origin_empty office c.args.fabric origin c.requires.fresh) c.in-Ok-do_all.ensures.done fresh c.in_ok-cards.ensures.none_refused
     (rw cards at c.in_ok-sheet.ensures.sheet) c.tiles.ensures.lawful (c.in_ok-cards.ensures.learnt published)

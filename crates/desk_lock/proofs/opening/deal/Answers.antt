@@ -14,9 +14,9 @@ loop-place-preserved g c = record {
   cards = c.in_ok-push.ensures.items
       ∙ (ap (λ (l : List (CardState (Bor g.row.H.Denot))). l ++ record {
         clerk = c.loop-place.place + 1;
-        made =
-            c.deal-stub.result.made;
+        made = c.deal-stub.result.made;
+        met = c.deal-stub.result.met;
       } ∷ []) c.loop-place.invariant.cards
-      ∙ next_fresh c.loop-place.place (c.loop-place.place + 1) c.deal-stub.result.made refl
-      (cc (c.deal-stub.ensures.stub)));
+      ∙ next_fresh c.loop-place.place (c.loop-place.place + 1) c.deal-stub.result.made c.deal-stub.result.met refl
+      (cc (c.deal-stub.ensures.stub)) (cc (c.deal-stub.ensures.stub)));
 }

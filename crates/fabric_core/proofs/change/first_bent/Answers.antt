@@ -1,9 +1,7 @@
-use Rattle.std.proofs.Common.{◌≡◌, ◌∙◌, refl, sym, subst, get_or, take}
-use Rattle.std.specs.List.{Contains}
+use Rattle.std.proofs.Common.{◌∙◌, refl, sym, subst, get_or, take}
 use Rattle.std.proofs.lemmas.List.{take_more, take_all}
 use Rattle.std.proofs.lemmas.List.Elements.{Contains-get_or}
 use Rattle.std.proofs.lemmas.Bool.{false≢true}
-use Rattle.geo_exact.specs.Layers.{numbered}
 use Rattle.ring_edits.specs.Edits.{BendsAt}
 use Rattle.fabric_core.proofs.edits.Bends.{AreStraight, all_straight, first_is_bent, more_straight, named_here, named_rise, none_straight}
 use Rattle.fabric_core.proofs.change.first_bent.Goals as goal

@@ -1,5 +1,8 @@
+use Rattle.std.proofs.Common.{inr}
+use Rattle.geo_exact.proofs.PassedOn.{passed_if}
 use Rattle.parcel_runs.specs.own.Registers.{register_of_parcels}
 use Rattle.parcel_runs.proofs.EditedRuns.{made_few}
+use Rattle.parcel_runs.proofs.RunFaults.{same_want}
 use Rattle.parcel_runs.proofs.RowLimits.{few_rows}
 use Rattle.parcel_runs.proofs.export.export.Goals as goal
 
@@ -7,6 +10,11 @@ pub written-files-requires : goal.written-files-requires
 written-files-requires g c = made_few _ _ c.in_ok-edited.ensures.made.is_journal c.in_ok-edited.ensures.made.leads
     (few_rows _ _ _ _ c.in_ok-unedited.ensures.tiles.is_tiled (λ records h.
     c.a_layer_file_is_within_the_limits.ensures.rings _ _ _ records h))
+
+pub returns-in_err-edited-clause-fault : goal.returns-in_err-edited-clause-fault
+returns-in_err-edited-clause-fault g c = passed_if _ _ _ c.from_residual-in_err-edited.ensures.1
+    (inr (same_want c.args.clerks.now c.in_ok-unedited.unedited.clerks.items _ c.in_ok-unedited.ensures.edits
+    c.in_err-edited.ensures.fault))
 
 pub returns-in_err-edited-clause-refuses : goal.returns-in_err-edited-clause-refuses
 returns-in_err-edited-clause-refuses g c = λ fault h. absurd (c.in_ok-unedited.ensures.refuses fault h)

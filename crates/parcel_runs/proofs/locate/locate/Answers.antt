@@ -1,20 +1,38 @@
-use Rattle.std.proofs.Common.{inl, inr, refl, ◌∙◌, subst}
+use Rattle.std.proofs.Common.{inl, inr, refl, subst, length}
 use Rattle.std.specs.Io.KnownBytes.{Appends}
+use Rattle.text_pieces.specs.Beginnings.{AppendsBeginning}
+use Rattle.city_layers.specs.TilingFiles.{files_of}
+use Rattle.clerk_runs.specs.ClerkFiles.{texts_of}
 use Rattle.geo_exact.proofs.PassedOn.{passed_if, passed_is}
-use Rattle.parcel_runs.proofs.RunFaults.{no_output, want_no_output}
+use Rattle.parcel_runs.proofs.RunFaults.{same_want, no_output, want_no_output}
+use Rattle.parcel_runs.proofs.RunTexts.{points_text}
 use Rattle.parcel_runs.proofs.locate.locate.Goals as goal
 
 pub returns-in_err-unedited-clause-failed : goal.returns-in_err-unedited-clause-failed
 returns-in_err-unedited-clause-failed g c = λ h.
     absurd (no_output _ _ _ _ c.in_err-unedited.field-0.0 c.in_err-unedited.ensures.fault (passed_is _ _ _ c.from_residual.ensures.1 h))
 
+pub returns-in_err-unedited-clause-output : goal.returns-in_err-unedited-clause-output
+returns-in_err-unedited-clause-output g c = λ h.
+    absurd (no_output _ _ _ _ c.in_err-unedited.field-0.0 c.in_err-unedited.ensures.fault (passed_is _ _ _ c.from_residual.ensures.1 h))
+
 pub returns-in_err-lines-clause-fault : goal.returns-in_err-lines-clause-fault
 returns-in_err-lines-clause-fault g c = passed_if _ _ _ c.from_residual-in_err-lines.ensures.1
-    (inr (inl (c.in_err-lines.ensures.fault, refl)))
+    (inr (inl (
+      same_want c.args.clerks.now c.in_ok-unedited.unedited.clerks.items _ c.in_ok-unedited.ensures.edits
+          c.in_err-lines.ensures.fault,
+      refl,
+    )))
+
+pub returns-in_err-lines-clause-output : goal.returns-in_err-lines-clause-output
+returns-in_err-lines-clause-output g c = λ h.
+    absurd (want_no_output (length c.in_ok-unedited.unedited.clerks.items) _ c.in_err-lines.ensures.fault
+    (passed_is _ _ _ c.from_residual-in_err-lines.ensures.1 h))
 
 pub returns-in_err-lines-clause-failed : goal.returns-in_err-lines-clause-failed
 returns-in_err-lines-clause-failed g c = λ h.
-    absurd (want_no_output _ c.in_err-lines.ensures.fault (passed_is _ _ _ c.from_residual-in_err-lines.ensures.1 h))
+    absurd (want_no_output (length c.in_ok-unedited.unedited.clerks.items) _ c.in_err-lines.ensures.fault
+    (passed_is _ _ _ c.from_residual-in_err-lines.ensures.1 h))
 
 pub returns-in_err-lines-clause-refuses : goal.returns-in_err-lines-clause-refuses
 returns-in_err-lines-clause-refuses g c = λ fault h. absurd (c.in_ok-unedited.ensures.refuses fault h)
@@ -22,19 +40,25 @@ returns-in_err-lines-clause-refuses g c = λ fault h. absurd (c.in_ok-unedited.e
 pub returns-in_err-put_all-clause-refuses : goal.returns-in_err-put_all-clause-refuses
 returns-in_err-put_all-clause-refuses g c = λ fault h. absurd (c.in_ok-unedited.ensures.refuses fault h)
 
+pub returns-in_err-put_all-clause-output : goal.returns-in_err-put_all-clause-output
+returns-in_err-put_all-clause-output g c = λ h. record {
+  text = c.in_ok-lines.lines.items;
+  are_places = points_text (files_of c.args.city.now) (files_of c.args.parcels.now) c.args.unit (texts_of c.args.clerks.now)
+      c.in_ok-unedited.unedited.layer c.in_ok-unedited.unedited.clerks.items c.in_ok-lines.lines.items c.in_ok-unedited.ensures.tiles
+      c.in_ok-unedited.ensures.edits c.args.points.now c.in_ok-lines.ensures.text;
+  is_begun = subst (AppendsBeginning (g.W.ByteOut.written c.args.out.now) (g.W.ByteOut.written c.put_all.new.out))
+      c.as_slice.ensures.value c.in_err-put_all.ensures.err;
+}
+
 pub returns-clause-ok : goal.returns-clause-ok
-returns-clause-ok g c =
-    let told = c.in_ok-lines.ensures.text in record {
-      tiles = c.in_ok-unedited.unedited.layer;
-      are_tiles = c.in_ok-unedited.ensures.tiles;
-      after = told.0;
-      told = told.1;
-      is_edited = record { clerks = c.in_ok-unedited.unedited.clerks.items; are_files = c.in_ok-unedited.ensures.edits; are_made = told.3 };
-      lines = told.2;
-      are_lines = told.4;
-      is_written = subst (Appends (g.W.ByteOut.written c.args.out.now) (g.W.ByteOut.written c.put_all.new.out))
-          (c.as_slice.ensures.value ∙ told.5) c.in_ok-put_all.ensures.ok;
-    }
+returns-clause-ok g c = record {
+  text = c.in_ok-lines.lines.items;
+  are_places = points_text (files_of c.args.city.now) (files_of c.args.parcels.now) c.args.unit (texts_of c.args.clerks.now)
+      c.in_ok-unedited.unedited.layer c.in_ok-unedited.unedited.clerks.items c.in_ok-lines.lines.items c.in_ok-unedited.ensures.tiles
+      c.in_ok-unedited.ensures.edits c.args.points.now c.in_ok-lines.ensures.text;
+  is_written = subst (Appends (g.W.ByteOut.written c.args.out.now) (g.W.ByteOut.written c.put_all.new.out))
+      c.as_slice.ensures.value c.in_ok-put_all.ensures.ok;
+}
 
 pub returns-clause-refuses : goal.returns-clause-refuses
 returns-clause-refuses g c = λ fault h. absurd (c.in_ok-unedited.ensures.refuses fault h)

@@ -8,6 +8,7 @@ use Rattle.overlay_work.specs.own.Starting.{CanBegin}
 use Rattle.overlay_work.proofs.Starts.{no_fault}
 use Rattle.parcel_runs.specs.own.Dealing.{dealt}
 use Rattle.parcel_runs.proofs.DealtLists.{length_fresh_hands}
+use Rattle.parcel_runs.proofs.HandNumbers.{AreNumberedBelow, fresh_below}
 use Rattle.parcel_runs.proofs.overlaps.begin.Goals as goal
 
 pub told_of_round-requires : goal.told_of_round-requires
@@ -35,3 +36,9 @@ pub returns-in-Ok-clause-all : goal.returns-in-Ok-clause-all
 returns-in-Ok-clause-all g c =
     ap length c.in-Ok.ensures.hands ∙ length_fresh_hands _ _ ∙ sym (ap length c.in-Ok.ensures.lists
     ∙ length-map c.in_ok-lists.lists.items (λ list. list.items))
+
+pub returns-in-Ok-clause-numbers : goal.returns-in-Ok-clause-numbers
+returns-in-Ok-clause-numbers g c =
+    let many = c.in_ok-lists.ensures.count in
+    subst (AreNumberedBelow c.args.workers) (sym c.in-Ok.ensures.hands)
+    (fresh_below _ (length c.in_ok-lists.lists.items) c.args.workers (omega (arith, many)))

@@ -1,4 +1,4 @@
-use Rattle.std.proofs.Common.{inl, inr, refl, subst}
+use Rattle.std.proofs.Common.{inl, inr, refl, subst, length}
 use Rattle.std.specs.Result.{OnOk, OnErr}
 use Rattle.clerk_runs.specs.ClerkFiles.{texts_of}
 use Rattle.clerk_runs.specs.ClerkRuns.{register_of, IsEdited}
@@ -6,8 +6,9 @@ use Rattle.city_layers.specs.TilingFiles.{files_of}
 use Rattle.parcel_runs.specs.OverlayReport.{IsTableOf}
 use Rattle.parcel_runs.specs.own.LinesAndReports.{WritesBoth, BeginsBoth}
 use Rattle.geo_exact.proofs.PassedOn.{passed_on, passed_if, passed_is}
-use Rattle.parcel_runs.proofs.RunFaults.{want_no_output}
-use Rattle.parcel_runs.proofs.OverlayTexts.{no_output, overlay_want_no_output, all_written, some_written, on_output, output_alone, on_ok}
+use Rattle.parcel_runs.proofs.RunFaults.{same_want, want_no_output}
+use Rattle.parcel_runs.proofs.OverlayTexts.{no_output, overlay_want_no_output, want_of_more}
+use Rattle.parcel_runs.proofs.OverlayTexts.{all_written, some_written, on_output, output_alone, on_ok}
 use Rattle.parcel_runs.proofs.overlay.overlay.Goals as goal
 
 pub returns-in_err-unedited-clause-refuses : goal.returns-in_err-unedited-clause-refuses
@@ -24,33 +25,42 @@ returns-in_err-unedited-clause-failed g c = λ h.
 
 pub returns-in_err-sheet-clause-fault : goal.returns-in_err-sheet-clause-fault
 returns-in_err-sheet-clause-fault g c =
-    passed_if _ _ _ c.from_residual-in_err-sheet.ensures.1 (inr (inl (inl c.in_err-sheet.ensures.fault, refl)))
+    passed_if _ _ _ c.from_residual-in_err-sheet.ensures.1
+    (inr (inl (
+      inl (same_want c.args.clerks.now c.in_ok-unedited.field-0.unedited.clerks.items _ c.in_ok-unedited.ensures.edits
+          c.in_err-sheet.ensures.fault),
+      refl,
+    )))
 
 pub returns-in_err-sheet-clause-refuses : goal.returns-in_err-sheet-clause-refuses
 returns-in_err-sheet-clause-refuses g c = λ fault h. absurd (c.in_ok-unedited.ensures.refuses fault h)
 
 pub returns-in_err-sheet-clause-output : goal.returns-in_err-sheet-clause-output
 returns-in_err-sheet-clause-output g c = λ h.
-    absurd (want_no_output _ c.in_err-sheet.ensures.fault (passed_is _ _ _ c.from_residual-in_err-sheet.ensures.1 h))
+    absurd (want_no_output (length c.in_ok-unedited.field-0.unedited.clerks.items) _ c.in_err-sheet.ensures.fault
+    (passed_is _ _ _ c.from_residual-in_err-sheet.ensures.1 h))
 
 pub returns-in_err-sheet-clause-failed : goal.returns-in_err-sheet-clause-failed
 returns-in_err-sheet-clause-failed g c = λ h.
-    absurd (want_no_output _ c.in_err-sheet.ensures.fault (passed_is _ _ _ c.from_residual-in_err-sheet.ensures.1 h))
+    absurd (want_no_output (length c.in_ok-unedited.field-0.unedited.clerks.items) _ c.in_err-sheet.ensures.fault
+    (passed_is _ _ _ c.from_residual-in_err-sheet.ensures.1 h))
 
 pub returns-in_err-table-clause-fault : goal.returns-in_err-table-clause-fault
 returns-in_err-table-clause-fault g c = passed_if _ _ _ c.from_residual-in_err-table.ensures.1
-    (inr (inl (c.in_err-table.ensures.fault, refl)))
+    (inr (inl (want_of_more (length c.args.clerks.now) c.args.workers _ c.in_err-table.ensures.fault, refl)))
 
 pub returns-in_err-table-clause-refuses : goal.returns-in_err-table-clause-refuses
 returns-in_err-table-clause-refuses g c = λ fault h. absurd (c.in_ok-unedited.ensures.refuses fault h)
 
 pub returns-in_err-table-clause-output : goal.returns-in_err-table-clause-output
 returns-in_err-table-clause-output g c = λ h.
-    absurd (overlay_want_no_output _ c.in_err-table.ensures.fault (passed_is _ _ _ c.from_residual-in_err-table.ensures.1 h))
+    absurd (overlay_want_no_output 0 c.args.workers _ c.in_err-table.ensures.fault
+    (passed_is _ _ _ c.from_residual-in_err-table.ensures.1 h))
 
 pub returns-in_err-table-clause-failed : goal.returns-in_err-table-clause-failed
 returns-in_err-table-clause-failed g c = λ h.
-    absurd (overlay_want_no_output _ c.in_err-table.ensures.fault (passed_is _ _ _ c.from_residual-in_err-table.ensures.1 h))
+    absurd (overlay_want_no_output 0 c.args.workers _ c.in_err-table.ensures.fault
+    (passed_is _ _ _ c.from_residual-in_err-table.ensures.1 h))
 
 pub returns-clause-ok : goal.returns-clause-ok
 returns-clause-ok g c =

@@ -1,6 +1,6 @@
 use Rattle.std.proofs.Common.{refl}
 use Rattle.std.proofs.lemmas.Result.{err_from_is_err_and}
-use Rattle.text_puts.proofs.Puts.{begins_more, begins_behind}
+use Rattle.text_pieces.specs.own.Gathering.{begins_more, begins_behind}
 use Rattle.zone_tables.specs.own.Texts.{report_text}
 use Rattle.zone_tables.proofs.Told.{table_report}
 use Rattle.parcel_runs.proofs.overlay.write_both.Goals as goal
@@ -18,11 +18,13 @@ returns-in_err-put_all-clause-err g c =
       is_begun = begins_more _ _ c.args.lines.now report c.in_err-put_all.ensures.err;
     })
 
-pub returns-in-Err-clause-err : goal.returns-in-Err-clause-err
-returns-in-Err-clause-err g c =
-    let begun = c.in-Err.ensures.begun in
-    record {
+pub returns-in_err-write_report-clause-err : goal.returns-in_err-write_report-clause-err
+returns-in_err-write_report-clause-err g c =
+    let p = err_from_is_err_and c.from_residual-in_err-write_report.result c.from_residual-in_err-write_report.ensures.1 in
+    let begun = c.in_err-write_report.ensures.begun in
+    rw (p.1)
+    (record {
       report = begun.text;
       is_report = begun.is_report;
       is_begun = begins_behind _ _ _ c.args.lines.now begun.text c.in_ok-put_all.ensures.ok begun.is_begun;
-    }
+    })

@@ -10,7 +10,7 @@ returns-in_err-table-clause-fault g c = passed_if _ _ _ c.from_residual.ensures.
 
 pub returns-in_err-table-clause-failed : goal.returns-in_err-table-clause-failed
 returns-in_err-table-clause-failed g c = λ h.
-    absurd (overlay_want_no_output _ c.in_err-table.ensures.fault (passed_is _ _ _ c.from_residual.ensures.1 h))
+    absurd (overlay_want_no_output 0 c.args.workers _ c.in_err-table.ensures.fault (passed_is _ _ _ c.from_residual.ensures.1 h))
 
 pub returns-clause-ok : goal.returns-clause-ok
 returns-clause-ok g c =

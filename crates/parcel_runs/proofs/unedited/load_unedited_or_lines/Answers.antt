@@ -1,6 +1,6 @@
 use Rattle.std.proofs.Common.{rules, ◌≡◌, ◌⊎◌, inr, [], ◌≤◌, length, sym, ap, subst}
 use Rattle.fabric_core.proofs.edits.Refusals.{IsErrAnd-weaker}
-use Rattle.parcel_runs.specs.declared.clerks.TheConstants.{CLERKS}
+use Rattle.desk_lock.specs.declared.opening.TheConstants.{MOST_PLACES}
 use Rattle.city_layers.specs.declared.fault.ToolFault.TheVariants.{NoMemory}
 use Rattle.city_layers.specs.FaultLines.{AreLinesBefore, text_or_none}
 use Rattle.city_layers.specs.TilingFiles.{files_of}
@@ -12,7 +12,7 @@ use Rattle.parcel_runs.proofs.unedited.load_unedited_or_lines.Goals as goal
 
 pub returns-in_err-layer-clause-refuses : goal.returns-in_err-layer-clause-refuses
 returns-in_err-layer-clause-refuses g c = λ fault h.
-    let few : length c.args.clerks.now ≤ CLERKS = search rules in
+    let few : length c.args.clerks.now ≤ MOST_PLACES = search rules in
     let e = c.in_err-layer.field-0.0 in
     IsErrAnd-weaker c.from_residual-in_err-layer.result _ (λ refusal. (refusal.fault ≡ fault) ⊎ (refusal.fault ≡ NoMemory))
     (λ refusal same. subst (λ r. (r.fault ≡ fault) ⊎ (r.fault ≡ NoMemory)) (sym same)
@@ -23,7 +23,7 @@ returns-in_err-layer-clause-refuses g c = λ fault h.
 
 pub returns-in_err-edits-clause-fault : goal.returns-in_err-edits-clause-fault
 returns-in_err-edits-clause-fault g c =
-    let few : length c.args.clerks.now ≤ CLERKS = search rules in
+    let few : length c.args.clerks.now ≤ MOST_PLACES = search rules in
     passed_as c.from_residual-in_err-edits.result _
     (λ refusal. (IsRunFault (files_of c.args.city.now) (files_of c.args.parcels.now) c.args.unit (texts_of c.args.clerks.now) refusal.fault
     × AreLinesBefore (files_of c.args.city.now) (files_of c.args.parcels.now) c.args.unit refusal.fault (text_or_none refusal.lines))
@@ -35,7 +35,7 @@ returns-in_err-edits-clause-fault g c =
 
 pub returns-in_err-edits-clause-refuses : goal.returns-in_err-edits-clause-refuses
 returns-in_err-edits-clause-refuses g c = λ fault h.
-    let few : length c.args.clerks.now ≤ CLERKS = search rules in
+    let few : length c.args.clerks.now ≤ MOST_PLACES = search rules in
     let e = c.in_err-edits.field-0.0 in
     IsErrAnd-weaker c.from_residual-in_err-edits.result _ (λ refusal. (refusal.fault ≡ fault) ⊎ (refusal.fault ≡ NoMemory))
     (λ refusal told. subst (λ x. (x ≡ fault) ⊎ (x ≡ NoMemory)) (sym told.0)
@@ -46,7 +46,7 @@ returns-in_err-edits-clause-refuses g c = λ fault h.
 
 pub returns-clause-refuses : goal.returns-clause-refuses
 returns-clause-refuses g c = λ fault h.
-    let few : length c.args.clerks.now ≤ CLERKS = search rules in
+    let few : length c.args.clerks.now ≤ MOST_PLACES = search rules in
     few_fault (files_of c.args.city.now) (files_of c.args.parcels.now) c.args.unit c.args.clerks.now ⊥ fault few h
     (λ k. c.in_ok-layer.ensures.refuses fault k)
     (λ tiles are k. c.in_ok-edits.ensures.refuses fault k)

@@ -1,5 +1,5 @@
 use Rattle.std.proofs.Common.{rules, ◌≡◌, ◌⊎◌, inr, ◌≤◌, length}
-use Rattle.parcel_runs.specs.declared.clerks.TheConstants.{CLERKS}
+use Rattle.desk_lock.specs.declared.opening.TheConstants.{MOST_PLACES}
 use Rattle.city_layers.specs.declared.fault.ToolFault.TheVariants.{NoMemory}
 use Rattle.city_layers.specs.TilingFiles.{files_of}
 use Rattle.geo_exact.proofs.PassedOn.{passed_on, passed_if}
@@ -8,7 +8,7 @@ use Rattle.parcel_runs.proofs.zoned.load_zoned.Goals as goal
 
 pub returns-in_err-parcels-clause-refuses : goal.returns-in_err-parcels-clause-refuses
 returns-in_err-parcels-clause-refuses g c = λ fault h.
-    let few : length c.args.clerks.now ≤ CLERKS = search rules in
+    let few : length c.args.clerks.now ≤ MOST_PLACES = search rules in
     let e = c.in_err-parcels.field-0.0 in
     passed_on _ e (λ told. (told ≡ fault) ⊎ (told ≡ NoMemory)) c.from_residual-in_err-parcels.ensures.1
     (few_overlay_fault (files_of c.args.city.now) (files_of c.args.parcels.now) (files_of c.args.zones.now) c.args.unit c.args.clerks.now
@@ -18,7 +18,7 @@ returns-in_err-parcels-clause-refuses g c = λ fault h.
 
 pub returns-in_err-edits-clause-fault : goal.returns-in_err-edits-clause-fault
 returns-in_err-edits-clause-fault g c =
-    let few : length c.args.clerks.now ≤ CLERKS = search rules in
+    let few : length c.args.clerks.now ≤ MOST_PLACES = search rules in
     passed_if _ _ _ c.from_residual-in_err-edits.ensures.1
     (behind_zones (files_of c.args.city.now) (files_of c.args.parcels.now) (files_of c.args.zones.now) c.args.unit c.args.clerks.now
     c.in_ok-parcels.field-0.parcels c.in_ok-parcels.field-0.zones c.in_err-edits.field-0.0 few
@@ -26,7 +26,7 @@ returns-in_err-edits-clause-fault g c =
 
 pub returns-in_err-edits-clause-refuses : goal.returns-in_err-edits-clause-refuses
 returns-in_err-edits-clause-refuses g c = λ fault h.
-    let few : length c.args.clerks.now ≤ CLERKS = search rules in
+    let few : length c.args.clerks.now ≤ MOST_PLACES = search rules in
     let e = c.in_err-edits.field-0.0 in
     passed_on _ e (λ told. (told ≡ fault) ⊎ (told ≡ NoMemory)) c.from_residual-in_err-edits.ensures.1
     (few_overlay_fault (files_of c.args.city.now) (files_of c.args.parcels.now) (files_of c.args.zones.now) c.args.unit c.args.clerks.now
@@ -36,7 +36,7 @@ returns-in_err-edits-clause-refuses g c = λ fault h.
 
 pub returns-clause-refuses : goal.returns-clause-refuses
 returns-clause-refuses g c = λ fault h.
-    let few : length c.args.clerks.now ≤ CLERKS = search rules in
+    let few : length c.args.clerks.now ≤ MOST_PLACES = search rules in
     few_overlay_fault (files_of c.args.city.now) (files_of c.args.parcels.now) (files_of c.args.zones.now) c.args.unit c.args.clerks.now
     _ fault few h
     (λ k. absurd (c.in_ok-parcels.ensures.refuses fault k))

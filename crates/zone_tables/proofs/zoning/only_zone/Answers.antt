@@ -1,4 +1,4 @@
-use Rattle.std.proofs.Common.{◌≡◌, sym, ◌∙◌, ap, true, false, not, ℕ}
+use Rattle.std.proofs.Common.{◌≡◌, sym, ◌∙◌, ap, true, false, not}
 use Rattle.std.proofs.lemmas.Bool.{eqb-true, not-true}
 use Rattle.zone_tables.proofs.FromParcel.{answers_zone, none_is_only, first_is_only}
 use Rattle.zone_tables.proofs.zoning.only_zone.Goals as goal

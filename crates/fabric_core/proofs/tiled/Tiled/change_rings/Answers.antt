@@ -4,12 +4,12 @@ use Rattle.std.proofs.lemmas.List.{length-map}
 use Rattle.parcel_table.specs.Table.{HasId, rows_of_keyed}
 use Rattle.ring_edits.specs.Edits.{CoversAlike}
 use Rattle.fabric_core.specs.Rows.{numbers}
-use Rattle.fabric_core.specs.own.Kept.{Kept, MayBeKept}
+use Rattle.fabric_core.specs.own.Kept.{Kept, MayBeKept, by_ids}
 use Rattle.fabric_core.specs.own.Lists.{replaced}
 use Rattle.fabric_core.specs.own.RingChanges.{AreShapesOf, KeepsGround, changed_city, changed_ring, changed_row, is_changed, rows_changed}
 use Rattle.fabric_core.proofs.rows.RowLists.{ascending}
 use Rattle.fabric_core.proofs.edits.Exchanges.{shown}
-use Rattle.fabric_core.proofs.edits.ChangedParcels.{AreChanged, change_all, changed_kept, rise_of, ids_here, ring_after}
+use Rattle.fabric_core.proofs.edits.ChangedParcels.{AreChanged, change_all, changed_kept, rise_of, ids_here, ids_by_key_changed, ring_after}
 use Rattle.fabric_core.proofs.edits.RingChanges.{city_covers}
 use Rattle.fabric_core.proofs.tiled.Tiled.change_rings.Goals as goal
 
@@ -76,6 +76,10 @@ returns-clause-ok g c =
     subst (λ (t : Kept). shown c.self.inside.city c.change_ring.new.ring c.replace_all.new.parcels c.self.inside.index
     ≡ record t { rows = map (changed_row change) t.rows; refined = changed_city change t.refined }) c.self.view_is
     (ap (λ table. shown c.self.inside.city c.change_ring.new.ring table c.self.inside.index) c.replace_all.ensures
+    ∙ ap (λ pairs. record (shown c.self.inside.city c.change_ring.new.ring old c.self.inside.index) {
+      rows = rows_of_keyed (replaced c.args.ids.now c.args.shapes.items parcels);
+      index = by_ids pairs c.self.inside.index;
+    }) (ids_by_key_changed change parcels (replaced c.args.ids.now c.args.shapes.items parcels) changed)
     ∙ ap (λ rows. record (shown c.self.inside.city c.change_ring.new.ring old c.self.inside.index) { rows = rows }) changed.rows
     ∙ ap (λ ring. record (shown c.self.inside.city ring old c.self.inside.index) {
       rows =

@@ -1,6 +1,9 @@
 use Rattle.std.proofs.Common.{◌≡◌, sym, ◌∙◌, ap, subst}
 use Rattle.parcel_table.proofs.Clones.{same_rows, same_entries}
-use Rattle.fabric_core.specs.own.Kept.{Kept, IsKept}
+use Rattle.parcel_table.proofs.Tables.{ids_of_rows}
+use Rattle.fabric_core.specs.Rows.{numbers}
+use Rattle.fabric_core.specs.own.Kept.{Kept, IsKept, ids_by_key, by_ids}
+use Rattle.fabric_core.proofs.loads.ByIds.{same_ids_by_key}
 use Rattle.fabric_core.proofs.edits.Copied.{copied}
 use Rattle.fabric_core.proofs.edits.Exchanges.{shown}
 use Rattle.fabric_core.proofs.tiled.Tiled.copy.Goals as goal
@@ -21,7 +24,15 @@ returns g c =
     (ap (λ city. shown city c.in_ok-refined.refined copy c.in_ok-index.index) c.in_ok-city.ensures.cases
     ∙ ap (λ refined. shown c.self.inside.city refined copy c.in_ok-index.index) c.in_ok-refined.ensures.cases
     ∙ ap (λ index. shown c.self.inside.city c.self.inside.refined copy index) c.in_ok-index.ensures.cases
-    ∙ ap (λ rows. record (shown c.self.inside.city c.self.inside.refined copy c.self.inside.index) { rows = rows })
+    ∙ ap (λ pairs. record (shown c.self.inside.city c.self.inside.refined copy c.self.inside.index) {
+      index = by_ids pairs c.self.inside.index;
+    }) (same_ids_by_key copy.parcels old.parcels
+    (sym (ids_of_rows copy.parcels) ∙ ap numbers (same_rows old.parcels copy.parcels clones.parcels) ∙ ids_of_rows old.parcels)
+    (same_entries old.parcels copy.parcels clones.parcels))
+    ∙ ap (λ rows. record (shown c.self.inside.city c.self.inside.refined copy c.self.inside.index) {
+      rows = rows;
+      index = by_ids (ids_by_key old.parcels) c.self.inside.index;
+    })
     (same_rows old.parcels copy.parcels clones.parcels)
     ∙ ap (λ next. record (shown c.self.inside.city c.self.inside.refined old c.self.inside.index) {
       next = next;

@@ -6,7 +6,7 @@ use Rattle.parcel_table.specs.Table.{HasId}
 use Rattle.fabric_core.specs.Rows.{numbers}
 use Rattle.fabric_core.specs.Journal.{without_ids}
 use Rattle.fabric_core.specs.own.Kept.{Kept, MayBeKept, IsExchanged}
-use Rattle.fabric_core.proofs.edits.Exchanges.{shown, has_id, entry_is, kept_after, rows_after, divided, fate_pushed, fate_of_one}
+use Rattle.fabric_core.proofs.edits.Exchanges.{shown, stays, has_id, entry_is, kept_after, rows_after, divided, fate_pushed, fate_of_one}
 use Rattle.fabric_core.proofs.tiled.Tiled.divide.Goals as goal
 
 pub entry_of-gone-requires : goal.entry_of-gone-requires
@@ -77,3 +77,13 @@ returns-clause-ok g c =
                 (sym c.self.view_is) c.requires.here)),
           ));
     })
+
+pub returns-in_err-reserve-clause-err : goal.returns-in_err-reserve-clause-err
+returns-in_err-reserve-clause-err g c =
+    stays c.from_residual.result c.self.inside.city c.self.inside.refined c.reserve.new.self _
+    c.self.inside.index c.self.inside.index c.args.self.now c.in_err-reserve.ensures.kept refl c.self.view_is
+
+pub returns-in_err-change-clause-err : goal.returns-in_err-change-clause-err
+returns-in_err-change-clause-err g c =
+    stays c.from_residual-in_err-change.result c.self.inside.city c.self.inside.refined c.reserve.new.self _
+    c.change.new.self c.self.inside.index c.args.self.now c.in_ok-reserve.ensures.kept c.in_err-change.ensures.err c.self.view_is

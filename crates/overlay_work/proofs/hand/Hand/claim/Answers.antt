@@ -8,6 +8,7 @@ use Rattle.std.proofs.lemmas.List.{length-map}
 use Rattle.overlay_claims.specs.Claimants.{Standing, ClaimsNext}
 use Rattle.overlay_work.specs.Rounds.{Task, id_at, standing_of}
 use Rattle.overlay_work.specs.own.Kept.{IsTask, IsHand, done_of, ids_at}
+use Rattle.overlay_work.proofs.AllClaimed.{all_are_claimed}
 use Rattle.overlay_work.proofs.Places.{one_more_id, before_last}
 use Rattle.overlay_work.proofs.Steps.{claims_for_hand, not_done_yet}
 use Rattle.overlay_work.proofs.Hands.{hand_claims, hand_ends}
@@ -27,6 +28,12 @@ returns-in_default-clause-none g c =
       held_nothing = c.requires;
       holds_nothing = none;
       all_ends = λ list less. told.none.all_ends list (omega (arith, less, count));
+      all_claimed = all_are_claimed task (record {
+        lengths = task.claims.lengths;
+        parts = 1;
+        places = c.next.new.self.places;
+        notes = c.next.new.self.ended;
+      }) stands (λ list less. told.none.all_ends list (omega (arith, less, count)));
       same_claims = told.none.same_places ∙ ap (λ v. v.claimed) c.self.view_is;
       did = ap (λ l. done_of hand.holds (ids_at task.lists l)) told.none.same_places ∙ ap (λ v. v.did) c.self.view_is;
       kept = ap (λ v. v.kept) c.self.view_is;

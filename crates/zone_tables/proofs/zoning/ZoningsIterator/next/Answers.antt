@@ -1,5 +1,4 @@
-use Rattle.std.proofs.Common.{◌≡◌, sym, ◌∙◌, ap, arith, ◌∷◌, length, List}
-use Rattle.zone_tables.specs.declared.zoning.Zoning.{Zoning}
+use Rattle.std.proofs.Common.{◌≡◌, ◌∙◌, ap, arith, ◌∷◌}
 use Rattle.zone_tables.specs.own.Zonings.{zonings}
 use Rattle.zone_tables.proofs.Zonings.{zonings_first}
 use Rattle.zone_tables.proofs.zoning.ZoningsIterator.next.Goals as goal

@@ -1,0 +1,24 @@
+use Rattle.std.proofs.Common.{ap, flat_map, length, ◌<◌, arith}
+use Rattle.std.proofs.lemmas.List.{drop_more}
+use Rattle.std.proofs.lemmas.Result.{err_from_is_err_and}
+use Rattle.text_pieces.proofs.Sinks.{piece_breaks_off, piece_passes, whole_left}
+use Rattle.zone_tables.specs.Report.{pair_line}
+use Rattle.zone_tables.proofs.lines.push_pairs.Goals as goal
+
+pub loop-pair-init : goal.loop-pair-init
+loop-pair-init g c = whole_left _ g.met.S.Sink.takes_nothing _ _
+
+pub returns-in_err-push_line-clause-err : goal.returns-in_err-push_line-clause-err
+returns-in_err-push_line-clause-err g c =
+    let p = err_from_is_err_and c.from_residual.result c.from_residual.ensures.1 in
+    let in_list : c.loop-pair.pair-index < length c.args.pairs.now = omega arith in
+    rw (p.1)
+    (piece_breaks_off g.S.Sink.takes g.S.Sink.breaks_off g.met.S.Sink.breaks_off_later g.met.S.Sink.breaks_off_before _ _ _ _ _ _ _
+    c.loop-pair.invariant
+    (ap (flat_map pair_line) (drop_more c.args.pairs.now c.loop-pair.pair-index (0, 0) in_list)) c.in_err-push_line.ensures.err)
+
+pub loop-pair-preserved : goal.loop-pair-preserved
+loop-pair-preserved g c =
+    let in_list : c.loop-pair.pair-index < length c.args.pairs.now = omega arith in
+    piece_passes g.S.Sink.takes g.met.S.Sink.takes_both _ _ _ _ _ _ _ c.loop-pair.invariant
+    (ap (flat_map pair_line) (drop_more c.args.pairs.now c.loop-pair.pair-index (0, 0) in_list)) c.in_ok-push_line.ensures.ok
