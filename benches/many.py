@@ -154,7 +154,7 @@ def plain_side_by_side(commands, at_once):
     words = "".join(f"{word}\0" for command in commands for word in command)
     begun = time.monotonic()
     subprocess.run(
-        ["xargs", "-0", "-P", str(at_once), "-n", str(len(commands[0]))],
+        ["xargs", "-0", "-P", str(at_once), "-n", str(len(commands[0])), "env"],
         input=words.encode(),
         stdout=subprocess.DEVNULL,
         stderr=subprocess.DEVNULL,
