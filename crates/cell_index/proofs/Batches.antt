@@ -8,7 +8,7 @@ use Rattle.std.proofs.lemmas.List.Folds.{list_any-append}
 use Rattle.std.proofs.lemmas.List.Sums.{length-filter, count_by-le-length}
 use Rattle.smallvec.specs.SmallVec.{HasRoomFor}
 use Rattle.geo_exact.specs.declared.bounds.Bounds.{Bounds}
-use Rattle.cell_index.specs.declared.entry.Entry.{Entry}
+use Rattle.cell_index.specs.declared.entry.IndexEntry.{IndexEntry}
 use Rattle.cell_index.specs.declared.places.Places.{Places}
 use Rattle.cell_index.specs.Cells.{is_same_entry, without}
 use Rattle.cell_index.specs.own.Ranges.{is_kept_in, place_count, place_at, Cell, cell_at, contents, HaveRoom}
@@ -22,21 +22,21 @@ not_either : (a b : Bool) → not (a || b) ≡ (not a && not b)
 not_either true b = refl
 not_either false b = refl
 
-without_both : (gone more entries : List Entry) → without (gone ++ more) entries ≡ without more (without gone entries)
+without_both : (gone more entries : List IndexEntry) → without (gone ++ more) entries ≡ without more (without gone entries)
 without_both gone more entries =
     filter_agree _ _
     (λ e. ap not (list_any-append (is_same_entry e) gone more) ∙ not_either (list_any (is_same_entry e) gone)
     (list_any (is_same_entry e) more)) entries
     ∙ sym (filter_both (λ e. not (list_any (is_same_entry e) more)) (λ e. not (list_any (is_same_entry e) gone)) entries)
 
-pub without_nothing : (entries : List Entry) → without [] entries ≡ entries
+pub without_nothing : (entries : List IndexEntry) → without [] entries ≡ entries
 without_nothing [] = refl
 without_nothing (x ∷ xs) = ap (λ ys. x ∷ ys) (without_nothing xs)
 
-pub one_gone_more : (area : Bounds) (places : Places) (gone : List Entry) (n : ℕ) (x : Entry) (old new : List Cell)
+pub one_gone_more : (area : Bounds) (places : Places) (gone : List IndexEntry) (n : ℕ) (x : IndexEntry) (old new : List Cell)
     → n < length gone → x ≡ get_or gone n x
     → AreWhereKept places area x.bounds → IsChanged places (place_count places) (passing (λ e. not (is_same_entry e x))) old new
-    → (entries : List Entry) → Keeps area old (without (take n gone) entries) → Keeps area new (without (take (n + 1) gone) entries)
+    → (entries : List IndexEntry) → Keeps area old (without (take n gone) entries) → Keeps area new (without (take (n + 1) gone) entries)
 one_gone_more area places gone n x old new inside is where_kept h entries kept =
     subst (Keeps area new)
     (sym (without_both (take n gone) (x ∷ []) entries)
@@ -45,10 +45,10 @@ one_gone_more area places gone n x old new inside is where_kept h entries kept =
     (removed area places x old new where_kept h (without (take n gone) entries) kept)
 
 -- ---- the entries that come, one by one
-pub one_come_more : (area : Bounds) (places : Places) (come : List Entry) (n : ℕ) (x : Entry) (old new : List Cell)
+pub one_come_more : (area : Bounds) (places : Places) (come : List IndexEntry) (n : ℕ) (x : IndexEntry) (old new : List Cell)
     → n < length come → x ≡ get_or come n x
     → AreWhereKept places area x.bounds → IsChanged places (place_count places) (with_entry x) old new
-    → (entries : List Entry) → Keeps area old (entries ++ take n come) → Keeps area new (entries ++ take (n + 1) come)
+    → (entries : List IndexEntry) → Keeps area old (entries ++ take n come) → Keeps area new (entries ++ take (n + 1) come)
 one_come_more area places come n x old new inside is where_kept h entries kept =
     subst (Keeps area new)
     (append_assoc entries (take n come) (x ∷ [])
@@ -57,7 +57,7 @@ one_come_more area places come n x old new inside is where_kept h entries kept =
     (added area places x old new where_kept h (entries ++ take n come) kept)
 
 -- ---- room
-pub room_of : (area : Bounds) (places : Places) (come : List Entry) (count : ℕ) (x : Entry) (cells : List Cell)
+pub room_of : (area : Bounds) (places : Places) (come : List IndexEntry) (count : ℕ) (x : IndexEntry) (cells : List Cell)
     → Contains come x → 1 ≤ count
     → AreWhereKept places area x.bounds → HaveRoomForAll area come count cells → HaveRoom places (place_count places) 1 cells
 room_of area places come count x cells member some where_kept room m q =
@@ -74,7 +74,7 @@ still_room old new k count lo ln same more inside room =
     sym (item_at new k (omega (arith, inside, ln))) ∙ ap (λ xs. get_or xs k []) same ∙ item_at old k (omega (arith, inside, lo)) in
     omega (arith, room, more k, ap length items)
 
-pub room_for_one_more : (area : Bounds) (places : Places) (come : List Entry) (n count : ℕ) (x : Entry) (old new : List Cell)
+pub room_for_one_more : (area : Bounds) (places : Places) (come : List IndexEntry) (n count : ℕ) (x : IndexEntry) (old new : List Cell)
     → n < length come → x ≡ get_or come n x → length old ≡ 4097 → length new ≡ 4097 → contents new ≡ contents old
     → KeepRoom old new
     → AreWhereKept places area x.bounds → HaveRoom places (place_count places) count new
@@ -90,9 +90,9 @@ room_for_one_more area places come n count x old new inside is lo ln same more w
     (either_member (get_or come n x) e [] last))
     (Contains-append_cases (take n come) (get_or come n x ∷ []) e (subst (λ xs. Contains xs e) (take_more come n x inside) member))
 
-pub room_after_taking : (area : Bounds) (places : Places) (x : Entry) (old new : List Cell) → AreWhereKept places area x.bounds
+pub room_after_taking : (area : Bounds) (places : Places) (x : IndexEntry) (old new : List Cell) → AreWhereKept places area x.bounds
     → IsChanged places (place_count places) (passing (λ e. not (is_same_entry e x))) old new
-    → (come : List Entry) (count : ℕ) → HaveRoomForAll area come count old → HaveRoomForAll area come count new
+    → (come : List IndexEntry) (count : ℕ) → HaveRoomForAll area come count old → HaveRoomForAll area come count new
 room_after_taking area places x old new where_kept h come count room e member k inside kept =
     by_test (is_kept_in area k x.bounds)
     (λ t. subst (λ c. HasRoomFor c count) (sym (changed_there places area x.bounds where_kept (passing stays) old new h k inside t))
@@ -102,17 +102,17 @@ room_after_taking area places x old new where_kept h come count room e member k 
     (λ f. subst (λ c. HasRoomFor c count) (sym (same_elsewhere places area x.bounds where_kept (passing stays) old new h k inside f))
     (room e member k inside kept))
   where
-    stays : Entry → Bool
+    stays : IndexEntry → Bool
     stays y = not (is_same_entry y x)
 
-one_longer : (c : Cell) (x : Entry) (count less : ℕ) → less + 1 ≤ count → HasRoomFor c count → HasRoomFor (with_entry x c) less
+one_longer : (c : Cell) (x : IndexEntry) (count less : ℕ) → less + 1 ≤ count → HasRoomFor c count → HasRoomFor (with_entry x c) less
 one_longer c x count less h room = omega (arith, h, room, length-snoc c.items x)
   where
-    length-snoc : (xs : List Entry) (y : Entry) → length (xs ++ y ∷ []) ≡ length xs + 1
+    length-snoc : (xs : List IndexEntry) (y : IndexEntry) → length (xs ++ y ∷ []) ≡ length xs + 1
     length-snoc [] y = refl
     length-snoc (z ∷ xs) y = omega (arith, length-snoc xs y)
 
-pub room_after_adding : (area : Bounds) (places : Places) (x : Entry) (old new : List Cell) (come : List Entry)
+pub room_after_adding : (area : Bounds) (places : Places) (x : IndexEntry) (old new : List Cell) (come : List IndexEntry)
     (count less : ℕ) → less + 1 ≤ count
     → AreWhereKept places area x.bounds → IsChanged places (place_count places) (with_entry x) old new
     → HaveRoomForAll area come count old → HaveRoomForAll area come less new

@@ -13,7 +13,7 @@ use Rattle.std.proofs.lemmas.Nat.{div_below, mod_below}
 use Rattle.geo_exact.specs.declared.bounds.Bounds.{Bounds}
 use Rattle.geo_exact.specs.Order.{is_same}
 use Rattle.geo_exact.proofs.corners_and_turns.CornerOrder.{same_from_test}
-use Rattle.cell_index.specs.declared.entry.Entry.{Entry}
+use Rattle.cell_index.specs.declared.entry.IndexEntry.{IndexEntry}
 use Rattle.cell_index.specs.declared.places.Places.{Places}
 use Rattle.cell_index.specs.Cells.{cell, stands_in, is_wide, narrow, Grid, standing, Indexes, is_same_entry, without}
 use Rattle.cell_index.specs.own.Ranges.{is_kept_in, place_count, HasPlace, Cell, no_cell, cell_at, contents, shown}
@@ -26,22 +26,22 @@ pub item_at : (cells : List Cell) (k : ℕ) → k < length cells → get_or (con
 item_at cells k inside = get_or-map (λ c. c.items) cells k no_cell [] inside
 
 -- ---- filters
-taken : (p : Entry → Bool) (x : Entry) (xs : List Entry) → p x ≡ true → filter p (x ∷ xs) ≡ x ∷ filter p xs
+taken : (p : IndexEntry → Bool) (x : IndexEntry) (xs : List IndexEntry) → p x ≡ true → filter p (x ∷ xs) ≡ x ∷ filter p xs
 taken p x xs t = ap (λ b. cond b (x ∷ filter p xs) (filter p xs)) t
 
-left_out : (p : Entry → Bool) (x : Entry) (xs : List Entry) → p x ≡ false → filter p (x ∷ xs) ≡ filter p xs
+left_out : (p : IndexEntry → Bool) (x : IndexEntry) (xs : List IndexEntry) → p x ≡ false → filter p (x ∷ xs) ≡ filter p xs
 left_out p x xs f = ap (λ b. cond b (x ∷ filter p xs) (filter p xs)) f
 
-one_more : (p : Entry → Bool) (entry : Entry) (xs : List Entry) → p entry ≡ true → filter p (xs ++ entry ∷ [])
+one_more : (p : IndexEntry → Bool) (entry : IndexEntry) (xs : List IndexEntry) → p entry ≡ true → filter p (xs ++ entry ∷ [])
     ≡ filter p xs ++ entry ∷ []
 one_more p entry xs t = filter-append p xs (entry ∷ []) ∙ ap (λ b. filter p xs ++ cond b (entry ∷ []) []) t
 
-no_more : (p : Entry → Bool) (entry : Entry) (xs : List Entry) → p entry ≡ false → filter p (xs ++ entry ∷ []) ≡ filter p xs
+no_more : (p : IndexEntry → Bool) (entry : IndexEntry) (xs : List IndexEntry) → p entry ≡ false → filter p (xs ++ entry ∷ []) ≡ filter p xs
 no_more p entry xs f = filter-append p xs (entry ∷ []) ∙ ap (λ b. filter p xs ++ cond b (entry ∷ []) []) f
     ∙ append-nil (filter p xs)
 
 -- one filter after another
-pub filter_both : (p q : Entry → Bool) (xs : List Entry) → filter p (filter q xs) ≡ filter (λ x. q x && p x) xs
+pub filter_both : (p q : IndexEntry → Bool) (xs : List IndexEntry) → filter p (filter q xs) ≡ filter (λ x. q x && p x) xs
 filter_both p q [] = refl
 filter_both p q (x ∷ xs) =
     by_test (q x)
@@ -58,10 +58,10 @@ and_swapped true false = refl
 and_swapped false true = refl
 and_swapped false false = refl
 
-in_either_order : (p q : Entry → Bool) (xs : List Entry) → filter q (filter p xs) ≡ filter p (filter q xs)
+in_either_order : (p q : IndexEntry → Bool) (xs : List IndexEntry) → filter q (filter p xs) ≡ filter p (filter q xs)
 in_either_order p q xs = filter_both q p xs ∙ filter_agree _ _ (λ x. and_swapped (p x) (q x)) xs ∙ sym (filter_both p q xs)
 
-unseen : (p q : Entry → Bool) → ((x : Entry) → p x ≡ true → q x ≡ true) → (xs : List Entry) → filter p (filter q xs)
+unseen : (p q : IndexEntry → Bool) → ((x : IndexEntry) → p x ≡ true → q x ≡ true) → (xs : List IndexEntry) → filter p (filter q xs)
     ≡ filter p xs
 unseen p q says xs = filter_both p q xs ∙ filter_agree _ _ (λ x. implied (p x) (q x) (says x)) xs
   where
@@ -73,9 +73,9 @@ unseen p q says xs = filter_both p q xs ∙ filter_agree _ _ (λ x. implied (p x
 
 -- ---- what the cells show
 pub shown_alike : (area : Bounds) (old new : List Cell) → contents old ≡ contents new → shown area old ≡ shown area new
-shown_alike area old new e = ap (λ (xs : List (List Entry)). record { area = area; cells = take 4096 xs; beside = get_or xs 4096 [] }) e
+shown_alike area old new e = ap (λ (xs : List (List IndexEntry)). record { area = area; cells = take 4096 xs; beside = get_or xs 4096 [] }) e
 
-module _ (area : Bounds) (cells : List Cell) (all : length cells ≡ 4097) (entries : List Entry) where
+module _ (area : Bounds) (cells : List Cell) (all : length cells ≡ 4097) (entries : List IndexEntry) where
   pub items_shown : (k : ℕ) → k < 4096 → get_or (shown area cells).cells k [] ≡ (cell_at cells k).items
   items_shown k h = get_or-take 4096 (contents cells) k [] h ∙ item_at cells k (omega (arith, h, all))
 
@@ -127,9 +127,9 @@ module _ (places : Places) (area box : Bounds) (where_kept : AreWhereKept places
   same_elsewhere f = h.others k (λ m q e. false≢true (sym f ∙ (where_kept k inside).0 (m, q, e)))
 
 -- ---- one entry more
-pub added : (area : Bounds) (places : Places) (entry : Entry) (old new : List Cell) → AreWhereKept places area entry.bounds
+pub added : (area : Bounds) (places : Places) (entry : IndexEntry) (old new : List Cell) → AreWhereKept places area entry.bounds
     → IsChanged places (place_count places) (with_entry entry) old new
-    → (entries : List Entry) → Keeps area old entries → Keeps area new (entries ++ entry ∷ [])
+    → (entries : List IndexEntry) → Keeps area old entries → Keeps area new (entries ++ entry ∷ [])
 added area places entry old new where_kept h entries kept k inside =
     by_test (is_kept_in area k entry.bounds)
     (λ t. ap (λ c. c.items) (changed_there places area entry.bounds where_kept (with_entry entry) old new h k inside t)
@@ -151,7 +151,7 @@ second_and true false c e = absurd (false≢true e)
 second_and false b c e = absurd (false≢true e)
 
 -- the same entry is kept in the same cells
-kept_alike : (area : Bounds) (k : ℕ) (a b : Entry) → is_same_entry a b ≡ true → is_kept_in area k a.bounds
+kept_alike : (area : Bounds) (k : ℕ) (a b : IndexEntry) → is_same_entry a b ≡ true → is_kept_in area k a.bounds
     ≡ is_kept_in area k b.bounds
 kept_alike area k a b e =
     let corners = second_and (nat_eq a.key b.key) (is_same a.bounds.low b.bounds.low) (is_same a.bounds.high b.bounds.high) e in
@@ -160,9 +160,9 @@ kept_alike area k a b e =
     ap (λ c. is_kept_in area k (record { low = c; high = a.bounds.high })) low
     ∙ ap (λ c. is_kept_in area k (record { low = b.bounds.low; high = c })) high
 
-pub removed : (area : Bounds) (places : Places) (gone : Entry) (old new : List Cell) → AreWhereKept places area gone.bounds
+pub removed : (area : Bounds) (places : Places) (gone : IndexEntry) (old new : List Cell) → AreWhereKept places area gone.bounds
     → IsChanged places (place_count places) (passing (λ e. not (is_same_entry e gone))) old new
-    → (entries : List Entry) → Keeps area old entries → Keeps area new (without (gone ∷ []) entries)
+    → (entries : List IndexEntry) → Keeps area old entries → Keeps area new (without (gone ∷ []) entries)
 removed area places gone old new where_kept h entries kept k inside =
     by_test (is_kept_in area k gone.bounds)
     (λ t. ap (λ c. c.items) (changed_there places area gone.bounds where_kept (passing stays) old new h k inside t)
@@ -175,18 +175,18 @@ removed area places gone old new where_kept h entries kept k inside =
     (λ s. absurd (false≢true (sym f ∙ sym (kept_alike area k e gone s) ∙ t)))
     (λ s. rw s refl)) entries))
   where
-    here : Entry → Bool
+    here : IndexEntry → Bool
     here e = is_kept_in area k e.bounds
 
-    stays : Entry → Bool
+    stays : IndexEntry → Bool
     stays e = not (is_same_entry e gone)
 
-    left : Entry → Bool
+    left : IndexEntry → Bool
     left e = not (list_any (is_same_entry e) (gone ∷ []))
 
 -- ---- what stands in a cell, wherever it is kept
-pub standing_counts : (grid : Grid) (entries : List Entry) → Indexes grid entries → (i j : ℕ) → i < 64 → j < 64
-    → (test : Entry → Bool)
+pub standing_counts : (grid : Grid) (entries : List IndexEntry) → Indexes grid entries → (i j : ℕ) → i < 64 → j < 64
+    → (test : IndexEntry → Bool)
     → count_by test (standing grid i j) ≡ count_by test (filter (λ e. stands_in grid.area i j e.bounds) entries)
 standing_counts grid entries index i j h k test =
     sum_by-append (λ e. cond (test e) 1 0) (cell grid i j) (filter stands grid.beside)
@@ -196,13 +196,13 @@ standing_counts grid entries index i j h k test =
     ∙ ap (λ xs. count_by test (filter thin (filter stands entries)) + count_by test xs) (in_either_order broad stands entries)
     ∙ sum_by-filter_both thin broad (λ e. twice (broad e)) (λ e. cond (test e) 1 0) (filter stands entries)
   where
-    stands : Entry → Bool
+    stands : IndexEntry → Bool
     stands e = stands_in grid.area i j e.bounds
 
-    broad : Entry → Bool
+    broad : IndexEntry → Bool
     broad e = is_wide grid.area e.bounds
 
-    thin : Entry → Bool
+    thin : IndexEntry → Bool
     thin e = not (is_wide grid.area e.bounds)
 
     twice : (b : Bool) → b ≡ not (not b)

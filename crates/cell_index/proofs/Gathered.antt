@@ -10,7 +10,7 @@ use Rattle.std.proofs.lemmas.List.Kept.{AllPairs-filter}
 use Rattle.geo_exact.specs.declared.bounds.Bounds.{Bounds}
 use Rattle.geo_exact.specs.declared.corner.Corner.{Corner}
 use Rattle.geo_exact.specs.Places.{origin}
-use Rattle.cell_index.specs.declared.entry.Entry.{Entry}
+use Rattle.cell_index.specs.declared.entry.IndexEntry.{IndexEntry}
 use Rattle.cell_index.specs.declared.range.CellRange.{CellRange}
 use Rattle.cell_index.specs.Cells.{column, row, stands_in, is_wide, narrow, Grid, Indexes, HaveOwnKeys, IsCellBetween}
 use Rattle.cell_index.specs.Cells.{IsKeyBetween, StandsBetween}
@@ -22,17 +22,17 @@ use Rattle.cell_index.proofs.Ranges.{has_cell, column_in_grid, row_in_grid, nth_
 use Rattle.cell_index.proofs.BoxesInCells.{Stands, Decides-stands}
 
 -- what the n-th cell gives
-abbrev gives : Bounds → CellRange → List (List Entry) → ℕ → List Entry
+abbrev gives : Bounds → CellRange → List (List IndexEntry) → ℕ → List IndexEntry
 gives area range cells n = filter (λ entry. is_first_at area range n entry.bounds) (get_or cells (number_at range n) [])
 
-abbrev keys_of : List Entry → List ℕ
+abbrev keys_of : List IndexEntry → List ℕ
 keys_of entries = map (λ entry. entry.key) entries
 
-pub gathered_more : (area : Bounds) (range : CellRange) (cells : List (List Entry)) (n : ℕ)
+pub gathered_more : (area : Bounds) (range : CellRange) (cells : List (List IndexEntry)) (n : ℕ)
     → gathered area range cells (n + 1) ≡ gathered area range cells n ++ keys_of (gives area range cells n)
 gathered_more area range cells n = ap (gathered area range cells) (add-one n)
 
-no_entry : Entry
+no_entry : IndexEntry
 no_entry = record { key = 0; bounds = record { low = origin; high = origin } }
 
 -- ---- the first cell along an axis
@@ -51,11 +51,11 @@ and_true : (a b : Bool) → a ≡ true → b ≡ true → (a && b) ≡ true
 and_true a b e f = rw (e, f) refl
 
 -- in each cell are exactly the entries whose boxes stand there
-abbrev InCells : Bounds → List (List Entry) → List Entry → Type 0
+abbrev InCells : Bounds → List (List IndexEntry) → List IndexEntry → Type 0
 InCells area cells entries = (i j : ℕ) → i < 64 → j < 64 → get_or cells (64 * i + j) []
     ≡ filter (λ e. stands_in area i j e.bounds) entries
 
-module _ (area : Bounds) (range : CellRange) (cells : List (List Entry)) (entries : List Entry)
+module _ (area : Bounds) (range : CellRange) (cells : List (List IndexEntry)) (entries : List IndexEntry)
     (index : InCells area cells entries) where
   -- ---- what stands in the n-th cell
   cell_is : (n : ℕ) → n < cell_count range
@@ -63,19 +63,19 @@ module _ (area : Bounds) (range : CellRange) (cells : List (List Entry)) (entrie
   cell_is n b = index (column_at range n) (row_at range n) (column_in_grid range n b) (row_in_grid range n b)
 
   -- an entry that stands in the n-th cell, which is its first
-  abbrev IsGivenAt : ℕ → Entry → Type 0
+  abbrev IsGivenAt : ℕ → IndexEntry → Type 0
   IsGivenAt n e =
       Contains entries e × (stands_in area (column_at range n) (row_at range n) e.bounds ≡ true)
       × (is_first_at area range n e.bounds ≡ true)
 
-  given_at : (n : ℕ) (e : Entry) → n < cell_count range → Contains (gives area range cells n) e → IsGivenAt n e
+  given_at : (n : ℕ) (e : IndexEntry) → n < cell_count range → Contains (gives area range cells n) e → IsGivenAt n e
   given_at n e b h =
       let first = from_filtered (λ x. is_first_at area range n x.bounds) (get_or cells (number_at range n) []) e h in
       let stands = from_filtered (λ x. stands_in area (column_at range n) (row_at range n) x.bounds) entries e
       (subst (λ xs. Contains xs e) (cell_is n b) first.0) in
       (stands.0, stands.1, first.1)
 
-  gives_it : (n : ℕ) (e : Entry) → n < cell_count range → IsGivenAt n e → Contains (gives area range cells n) e
+  gives_it : (n : ℕ) (e : IndexEntry) → n < cell_count range → IsGivenAt n e → Contains (gives area range cells n) e
   gives_it n e b h =
       filtered (λ x. is_first_at area range n x.bounds) (get_or cells (number_at range n) []) e
       (subst (λ xs. Contains xs e) (sym (cell_is n b))
@@ -83,7 +83,7 @@ module _ (area : Bounds) (range : CellRange) (cells : List (List Entry)) (entrie
 
   -- ---- members
   abbrev IsFrom : ℕ → ℕ → Type 0
-  IsFrom n key = (m : ℕ) × (m < n) × ((e : Entry) × IsGivenAt m e × (e.key ≡ key))
+  IsFrom n key = (m : ℕ) × (m < n) × ((e : IndexEntry) × IsGivenAt m e × (e.key ≡ key))
 
   from_gathered : (n : ℕ) (key : ℕ) → n ≤ cell_count range → Contains (gathered area range cells n) key → IsFrom n key
   from_gathered zero key b (k, c, e) = absurd (omega (arith, c))
@@ -107,7 +107,7 @@ module _ (area : Bounds) (range : CellRange) (cells : List (List Entry)) (entrie
       (cases_lt m n)
 
   -- ---- each once
-  one_cell : (m n : ℕ) (e : Entry) → m < cell_count range → n < cell_count range → IsGivenAt m e → IsGivenAt n e → m ≡ n
+  one_cell : (m n : ℕ) (e : IndexEntry) → m < cell_count range → n < cell_count range → IsGivenAt m e → IsGivenAt n e → m ≡ n
   one_cell m n e b c h k =
       let at_m : Stands area (column_at range m) (row_at range m) e.bounds =
       (Decides-stands area (column_at range m) (row_at range m) e.bounds).0 h.1 in
@@ -155,7 +155,7 @@ module _ (area : Bounds) (range : CellRange) (cells : List (List Entry)) (entrie
         )
 
     -- the first cell that the entry has in common with the range
-    from_first : (e : Entry) → Contains entries e → e.key ≡ key → (i j : ℕ) → HasCell range i j
+    from_first : (e : IndexEntry) → Contains entries e → e.key ≡ key → (i j : ℕ) → HasCell range i j
         → stands_in area i j e.bounds ≡ true
         → Contains (gathered area range cells (cell_count range)) key
     from_first e member is i j has stands =
@@ -230,11 +230,11 @@ module _ (area : Bounds) (range : CellRange) (low high : Corner)
       (common_found range.rows.first range.rows.count (row area box.low.y) (row area box.high.y) j has.from_row has.to_row s.1.0 s.1.1)
 
 -- ---- what is in the cells and what is beside them
-abbrev pub found_beside : Bounds → CellRange → List Entry → List ℕ
+abbrev pub found_beside : Bounds → CellRange → List IndexEntry → List ℕ
 found_beside area range beside = keys_of (filter (λ entry. has_some_of area range entry.bounds) beside)
 
-module _ (grid : Grid) (range : CellRange) (entries : List Entry) (index : Indexes grid entries) where
-  abbrev IsWide : Entry → Bool
+module _ (grid : Grid) (range : CellRange) (entries : List IndexEntry) (index : Indexes grid entries) where
+  abbrev IsWide : IndexEntry → Bool
   IsWide e = is_wide grid.area e.bounds
 
   abbrev all_found : List ℕ
@@ -242,7 +242,7 @@ module _ (grid : Grid) (range : CellRange) (entries : List Entry) (index : Index
 
   -- an entry that is kept beside the cells, and stands in some of them
   from_beside : (key : ℕ) → Contains (found_beside grid.area range grid.beside) key
-      → (e : Entry) × Contains entries e × (e.key ≡ key) × (IsWide e ≡ true) × (has_some_of grid.area range e.bounds ≡ true)
+      → (e : IndexEntry) × Contains entries e × (e.key ≡ key) × (IsWide e ≡ true) × (has_some_of grid.area range e.bounds ≡ true)
   from_beside key h =
       let m = from_mapped (λ x. x.key) (filter (λ x. has_some_of grid.area range x.bounds) grid.beside) key h in
       let some = from_filtered (λ x. has_some_of grid.area range x.bounds) grid.beside m.0 m.1 in

@@ -7,7 +7,7 @@ use Rattle.std.specs.List.{filter, list_any, Contains, AllPairs}
 use Rattle.geo_exact.specs.declared.bounds.Bounds.{Bounds}
 use Rattle.geo_exact.specs.declared.corner.Corner.{Corner}
 use Rattle.geo_exact.specs.Order.{is_same}
-use Rattle.cell_index.specs.declared.entry.Entry.{Entry}
+use Rattle.cell_index.specs.declared.entry.IndexEntry.{IndexEntry}
 use Rattle.cell_index.specs.declared.axis.TheConstants.{ACROSS, MOST_CELLS}
 
 -- how far one coordinate is above another; 0 where it is not
@@ -55,44 +55,44 @@ abbrev pub is_wide : Bounds → Bounds → Bool
 is_wide area box = nat_lt MOST_CELLS (box_cells area box)
 
 -- the entries whose boxes are wide, and the others, in the list's order
-abbrev pub wide : Bounds → List Entry → List Entry
+abbrev pub wide : Bounds → List IndexEntry → List IndexEntry
 wide area entries = filter (λ entry. is_wide area entry.bounds) entries
 
-abbrev pub narrow : Bounds → List Entry → List Entry
+abbrev pub narrow : Bounds → List IndexEntry → List IndexEntry
 narrow area entries = filter (λ entry. not (is_wide area entry.bounds)) entries
 
 -- what an index shows: its area, the lists of what is kept in its cells, column by column, and the list of what is kept beside them
 pub record Grid : Type 0 where
   pub area : Bounds
-  pub cells : List (List Entry)
-  pub beside : List Entry
+  pub cells : List (List IndexEntry)
+  pub beside : List IndexEntry
 
 -- what is kept in the cell of column i and row j
-abbrev pub cell : Grid → ℕ → ℕ → List Entry
+abbrev pub cell : Grid → ℕ → ℕ → List IndexEntry
 cell grid i j = slice_index_or grid.cells (ACROSS * i + j) []
 
 -- what stands in the cell of column i and row j: what is kept in it, and what stands there of that which is kept beside the cells
-abbrev pub standing : Grid → ℕ → ℕ → List Entry
+abbrev pub standing : Grid → ℕ → ℕ → List IndexEntry
 standing grid i j = cell grid i j ++ filter (λ entry. stands_in grid.area i j entry.bounds) grid.beside
 
 -- In each cell are kept exactly the entries of the list whose boxes stand there and are not wide, and beside the cells those whose boxes
 -- are wide, each as often as in the list and in its order. So in each cell stand exactly the entries whose boxes stand there.
-pub record Indexes (grid : Grid) (entries : List Entry) : Type 0 where
+pub record Indexes (grid : Grid) (entries : List IndexEntry) : Type 0 where
   pub all_cells : length grid.cells ≡ ACROSS * ACROSS
   pub in_cells : (i j : ℕ) → i < ACROSS → j < ACROSS
       → cell grid i j ≡ filter (λ entry. stands_in grid.area i j entry.bounds) (narrow grid.area entries)
   pub beside_cells : grid.beside ≡ wide grid.area entries
 
 -- the same key with the same box
-abbrev pub is_same_entry : Entry → Entry → Bool
+abbrev pub is_same_entry : IndexEntry → IndexEntry → Bool
 is_same_entry a b = nat_eq a.key b.key && (is_same a.bounds.low b.bounds.low && is_same a.bounds.high b.bounds.high)
 
 -- the entries without those that are gone
-abbrev pub without : List Entry → List Entry → List Entry
+abbrev pub without : List IndexEntry → List IndexEntry → List IndexEntry
 without gone entries = filter (λ entry. not (list_any (is_same_entry entry) gone)) entries
 
 -- no two of the entries have one key
-abbrev pub HaveOwnKeys : List Entry → Type 0
+abbrev pub HaveOwnKeys : List IndexEntry → Type 0
 HaveOwnKeys entries = AllPairs (λ a b. a.key ≢ b.key) entries
 
 -- a coordinate brought into the range from low to high, to the nearer end where it lies outside
@@ -111,6 +111,6 @@ abbrev pub StandsBetween : Bounds → (low high : Corner) → Bounds → Type 0
 StandsBetween area low high box = (i : ℕ) × (j : ℕ) × IsCellBetween area low high i j × IsTrue (stands_in area i j box)
 
 -- the key is that of an entry whose box stands in some cell between the cells of two corners
-abbrev pub IsKeyBetween : Bounds → (low high : Corner) → List Entry → ℕ → Type 0
+abbrev pub IsKeyBetween : Bounds → (low high : Corner) → List IndexEntry → ℕ → Type 0
 IsKeyBetween area low high entries key =
-    (entry : Entry) × Contains entries entry × (entry.key ≡ key) × StandsBetween area low high entry.bounds
+    (entry : IndexEntry) × Contains entries entry × (entry.key ≡ key) × StandsBetween area low high entry.bounds

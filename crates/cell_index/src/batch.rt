@@ -1,12 +1,12 @@
 //! Entries of many cells at once: room for them, taking them out, and adding them.
 
 ghost use Rattle.std.specs.Prelude.{◌≡◌, ◌++◌, length, ℕ, List, OnOk};
-ghost use Rattle.cell_index.specs.declared.entry.Entry.{Entry};
+ghost use Rattle.cell_index.specs.declared.entry.IndexEntry.{IndexEntry};
 ghost use Rattle.cell_index.specs.Cells.{without};
 ghost use Rattle.cell_index.specs.own.Ranges.{contents, HaveRoomForAll, Keeps};
 
 use crate::cells::{Cell, make_room, push_all, take_out};
-use crate::entry::Entry;
+use crate::entry::IndexEntry;
 use crate::places::places_of;
 use geo_exact::Bounds;
 use std::alloc::{AllocError, Allocator};
@@ -16,7 +16,7 @@ use std::alloc::{AllocError, Allocator};
 pub fn make_room_for_all<'a, H: Allocator>(
     cells: &mut [Cell<'a, H>],
     area: Bounds,
-    come: &[Entry],
+    come: &[IndexEntry],
 ) -> Result<(), AllocError>
     requires { length cells.old ≡ 4097 }
     ensures kept { contents cells.new ≡ contents cells.old }
@@ -29,10 +29,10 @@ pub fn make_room_for_all<'a, H: Allocator>(
 }
 
 /// Takes entries out of all cells that they are kept in. No cell has less room than before.
-pub fn take_all_out<'a, H: Allocator>(cells: &mut [Cell<'a, H>], area: Bounds, gone: &[Entry])
+pub fn take_all_out<'a, H: Allocator>(cells: &mut [Cell<'a, H>], area: Bounds, gone: &[IndexEntry])
     requires { length cells.old ≡ 4097 }
-    ensures kept { (entries : List Entry) → Keeps area cells.old entries → Keeps area cells.new (without gone.now entries) }
-    ensures room { (come : List Entry) (count : ℕ) → HaveRoomForAll area come count cells.old → HaveRoomForAll area come count cells.new }
+    ensures kept { (entries : List IndexEntry) → Keeps area cells.old entries → Keeps area cells.new (without gone.now entries) }
+    ensures room { (come : List IndexEntry) (count : ℕ) → HaveRoomForAll area come count cells.old → HaveRoomForAll area come count cells.new }
 {
     for entry in gone {
         take_out(cells, places_of(area, entry.bounds), *entry);
@@ -40,10 +40,10 @@ pub fn take_all_out<'a, H: Allocator>(cells: &mut [Cell<'a, H>], area: Bounds, g
 }
 
 /// Adds entries to all cells that they will be kept in, which have room for all of them.
-pub fn push_all_in<'a, H: Allocator>(cells: &mut [Cell<'a, H>], area: Bounds, come: &[Entry])
+pub fn push_all_in<'a, H: Allocator>(cells: &mut [Cell<'a, H>], area: Bounds, come: &[IndexEntry])
     requires all { length cells.old ≡ 4097 }
     requires room { HaveRoomForAll area come.now (length come.now) cells.old }
-    ensures { (entries : List Entry) → Keeps area cells.old entries → Keeps area cells.new (entries ++ come.now) }
+    ensures { (entries : List IndexEntry) → Keeps area cells.old entries → Keeps area cells.new (entries ++ come.now) }
 {
     for entry in come {
         push_all(cells, places_of(area, entry.bounds), *entry);

@@ -5,14 +5,14 @@ ghost use Rattle.std.specs.List.{filter};
 ghost use Rattle.cell_index.specs.Cells.{is_same_entry};
 ghost use Rattle.cell_index.specs.own.Ranges.{place_count, contents, HaveRoom, KeepRoom, IsChanged, with_entry, passing};
 
-use crate::entry::{Entry, is_entry};
+use crate::entry::{IndexEntry, is_entry};
 use crate::places::Places;
 use smallvec::SmallVec;
 use std::alloc::{AllocError, Allocator};
 
 /// What is kept in one cell. Four entries lie in the cell itself: most cells over a town of a
 /// thousand parcels have no more, and need no memory of their own.
-pub type Cell<'a, H> = SmallVec<Entry, 4, &'a H>;
+pub type Cell<'a, H> = SmallVec<IndexEntry, 4, &'a H>;
 
 /// Makes room for `count` more entries in each of some cells. What is kept in them does not change,
 /// also where memory is refused.
@@ -33,7 +33,7 @@ pub fn make_room<'a, H: Allocator>(
 }
 
 /// Adds an entry to each of some cells, which have room.
-pub fn push_all<'a, H: Allocator>(cells: &mut [Cell<'a, H>], places: Places, entry: Entry)
+pub fn push_all<'a, H: Allocator>(cells: &mut [Cell<'a, H>], places: Places, entry: IndexEntry)
     requires all { length cells.old ≡ 4097 }
     requires room { HaveRoom places (place_count places) 1 cells.old }
     ensures { IsChanged places (place_count places) (with_entry entry) cells.old cells.new }
@@ -44,7 +44,7 @@ pub fn push_all<'a, H: Allocator>(cells: &mut [Cell<'a, H>], places: Places, ent
 }
 
 /// Takes an entry out of one cell.
-fn take_from<'a, H: Allocator>(cell: &mut Cell<'a, H>, gone: Entry)
+fn take_from<'a, H: Allocator>(cell: &mut Cell<'a, H>, gone: IndexEntry)
     ensures items { cell.new.items ≡ filter (λ entry. not (is_same_entry entry gone)) cell.old.items }
     ensures capacity { cell.new.capacity ≡ cell.old.capacity }
 {
@@ -52,7 +52,7 @@ fn take_from<'a, H: Allocator>(cell: &mut Cell<'a, H>, gone: Entry)
 }
 
 /// Takes an entry out of each of some cells.
-pub fn take_out<'a, H: Allocator>(cells: &mut [Cell<'a, H>], places: Places, gone: Entry)
+pub fn take_out<'a, H: Allocator>(cells: &mut [Cell<'a, H>], places: Places, gone: IndexEntry)
     requires { length cells.old ≡ 4097 }
     ensures { IsChanged places (place_count places) (passing (λ entry. not (is_same_entry entry gone))) cells.old cells.new }
 {

@@ -7,17 +7,17 @@ use geo_exact::Bounds;
 
 /// A key with its box beside it. Coordinates are in whole millimetres.
 #[derive(Clone, Copy, Debug, PartialEq, Eq)]
-pub struct Entry {
+pub struct IndexEntry {
     /// What the entry stands for, as its owner numbers it.
     pub key: usize,
     /// The box that says in which cells the entry stands.
     pub bounds: Bounds,
 }
 
-impl Default for Entry {
+impl Default for IndexEntry {
     /// An entry with a box that holds no corner.
-    fn default() -> Entry {
-        Entry {
+    fn default() -> IndexEntry {
+        IndexEntry {
             key: 0,
             bounds: Bounds::nowhere(),
         }
@@ -25,7 +25,7 @@ impl Default for Entry {
 }
 
 /// Whether two entries have the same key and the same box.
-pub(crate) fn is_entry(a: &Entry, b: &Entry) -> bool
+pub(crate) fn is_entry(a: &IndexEntry, b: &IndexEntry) -> bool
     ensures { result ≡ is_same_entry a.now b.now }
 {
     if a.key != b.key {

@@ -3,14 +3,14 @@
 ghost use Rattle.std.specs.Prelude.{◌≡◌, ◌≢◌, ◌↔◌, ℕ, List, [], ◌∷◌, ◌++◌, map, IfOk, OnOk, OnErr};
 ghost use Rattle.std.specs.List.{filter, Contains, AllPairs};
 ghost use Rattle.geo_exact.specs.Bounds.{HoldsCorner};
-ghost use Rattle.cell_index.specs.declared.entry.Entry.{Entry};
+ghost use Rattle.cell_index.specs.declared.entry.IndexEntry.{IndexEntry};
 ghost use Rattle.cell_index.specs.Cells.{stands_at, wide, narrow, Indexes, without, HaveOwnKeys, IsKeyBetween};
 ghost use Rattle.cell_index.specs.own.Ranges.{cell_count, gathered, has_some_of};
 
 use crate::axis::{ACROSS, cell_of};
 use crate::batch::{make_room_for_all, push_all_in, take_all_out};
 use crate::cells::{Cell, make_room, push_all, take_out};
-use crate::entry::Entry;
+use crate::entry::IndexEntry;
 use crate::places::{WIDE_CELL, places_of};
 use crate::range::{CellRange, cells_toward};
 use geo_exact::{Bounds, Corner};
@@ -74,9 +74,9 @@ impl<'a, H: Allocator> CellIndex<'a, H> {
     /// # Errors
     ///
     /// [`AllocError`] where the memory of a cell is refused.
-    pub fn add(&mut self, entry: Entry) -> Result<(), AllocError>
+    pub fn add(&mut self, entry: IndexEntry) -> Result<(), AllocError>
         ensures area { self.new.area ≡ self.old.area }
-        ensures ok { (entries : List Entry) → Indexes self.old entries
+        ensures ok { (entries : List IndexEntry) → Indexes self.old entries
             → OnOk result (Indexes self.new (entries ++ entry ∷ [])) }
         ensures err { OnErr result (self.new ≡ self.old) }
     {
@@ -87,9 +87,9 @@ impl<'a, H: Allocator> CellIndex<'a, H> {
     }
 
     /// Takes an entry out, its key and its box both the same; where there is none, nothing changes.
-    pub fn remove(&mut self, entry: Entry)
+    pub fn remove(&mut self, entry: IndexEntry)
         ensures area { self.new.area ≡ self.old.area }
-        ensures removed { (entries : List Entry) → Indexes self.old entries
+        ensures removed { (entries : List IndexEntry) → Indexes self.old entries
             → Indexes self.new (without (entry ∷ []) entries) }
     {
         take_out(
@@ -105,9 +105,9 @@ impl<'a, H: Allocator> CellIndex<'a, H> {
     /// # Errors
     ///
     /// [`AllocError`] where the memory of a cell is refused.
-    pub fn change(&mut self, gone: &[Entry], come: &[Entry]) -> Result<(), AllocError>
+    pub fn change(&mut self, gone: &[IndexEntry], come: &[IndexEntry]) -> Result<(), AllocError>
         ensures area { self.new.area ≡ self.old.area }
-        ensures ok { (entries : List Entry) → Indexes self.old entries
+        ensures ok { (entries : List IndexEntry) → Indexes self.old entries
             → OnOk result (Indexes self.new (without gone.now entries ++ come.now)) }
         ensures err { OnErr result (self.new ≡ self.old) }
     {
@@ -119,9 +119,9 @@ impl<'a, H: Allocator> CellIndex<'a, H> {
 
     /// What is kept in the cell of a corner in the area: what stands there and is not wide. What is
     /// wide is [`beside`](Self::beside) the cells, wherever it stands.
-    pub fn at(&self, corner: Corner) -> &[Entry]
+    pub fn at(&self, corner: Corner) -> &[IndexEntry]
         requires { HoldsCorner self.now.area corner }
-        ensures { (entries : List Entry) → Indexes self.now entries → result.now
+        ensures { (entries : List IndexEntry) → Indexes self.now entries → result.now
             ≡ filter (λ entry. stands_at self.now.area corner entry.bounds) (narrow self.now.area entries) }
     {
         let column = cell_of(self.area.low.x, self.area.high.x, corner.x);
@@ -130,8 +130,8 @@ impl<'a, H: Allocator> CellIndex<'a, H> {
     }
 
     /// What is kept beside the cells: the entries whose boxes are wide.
-    pub fn beside(&self) -> &[Entry]
-        ensures { (entries : List Entry) → Indexes self.now entries → result.now ≡ wide self.now.area entries }
+    pub fn beside(&self) -> &[IndexEntry]
+        ensures { (entries : List IndexEntry) → Indexes self.now entries → result.now ≡ wide self.now.area entries }
     {
         let kept = &self.cells[WIDE_CELL];
         kept.as_slice()
@@ -145,9 +145,9 @@ impl<'a, H: Allocator> CellIndex<'a, H> {
     ///
     /// [`AllocError`] where the list of keys is refused.
     pub fn between(&self, low: Corner, high: Corner) -> Result<Vec<usize, &'a H>, AllocError>
-        ensures found { (entries : List Entry) → Indexes self.now entries
+        ensures found { (entries : List IndexEntry) → Indexes self.now entries
             → IfOk result (λ keys. (key : ℕ) → Contains keys.items key ↔ IsKeyBetween self.now.area low high entries key) }
-        ensures once { (entries : List Entry) → Indexes self.now entries → HaveOwnKeys entries
+        ensures once { (entries : List IndexEntry) → Indexes self.now entries → HaveOwnKeys entries
             → IfOk result (λ keys. AllPairs (λ a b. a ≢ b) keys.items) }
     {
         let range = cells_toward(self.area, low, high);

@@ -10,13 +10,13 @@ ghost use Rattle.geo_exact.specs.Point.{corner_point};
 ghost use Rattle.geo_exact.specs.Turn.{IsOnRing};
 ghost use Rattle.geo_exact.specs.Winding.{IsInterior};
 ghost use Rattle.cell_index.specs.declared.axis.TheConstants.{ACROSS};
-ghost use Rattle.cell_index.specs.declared.entry.Entry.{Entry};
+ghost use Rattle.cell_index.specs.declared.entry.IndexEntry.{IndexEntry};
 ghost use Rattle.cell_index.specs.Cells.{stands_in, stands_at, Grid, standing, Indexes, StandsBetween};
 
 /// In each cell of an index stand exactly the entries whose boxes stand there, each as often as in
 /// the list, wherever it is kept: no test on entries tells the two lists apart by how many pass it.
 pub fn in_each_cell_stand_the_entries_of_its_boxes()
-    ensures { (grid : Grid) (entries : List Entry) → Indexes grid entries → (i j : ℕ) → i < ACROSS → j < ACROSS → (test : Entry → Bool)
+    ensures { (grid : Grid) (entries : List IndexEntry) → Indexes grid entries → (i j : ℕ) → i < ACROSS → j < ACROSS → (test : IndexEntry → Bool)
         → count_by test (standing grid i j) ≡ count_by test (filter (λ entry. stands_in grid.area i j entry.bounds) entries) }
 {}
 

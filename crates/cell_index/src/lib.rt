@@ -11,7 +11,7 @@ mod laws;
 mod places;
 mod range;
 
-pub use entry::Entry;
+pub use entry::IndexEntry;
 pub use index::CellIndex;
 pub use laws::{
     a_corner_is_off_what_does_not_stand_in_its_cell, in_each_cell_stand_the_entries_of_its_boxes,

@@ -1,11 +1,13 @@
 //! The lines that tell of clerks' edits.
 
-ghost use Rattle.std.specs.Prelude.{◌≡◌, ◌++◌, OnOk};
+ghost use Rattle.std.specs.Prelude.{◌≡◌, ◌++◌, OnOk, OnErr};
+ghost use Rattle.fabric_core.specs.declared.refusal.Refusal.TheVariants.{Retired};
 ghost use Rattle.clerk_runs.specs.ClerkLines.{whose_text, ok_line, refusal_text, refused_line};
 
 use fabric_core::Refusal;
+use itoa::Integer;
 use std::alloc::{AllocError, Allocator};
-use text_pieces::{push_number, push_ring_fault};
+use text_pieces::{Sink, push_number, push_ring_fault};
 
 /// Adds the line of an edit that is accepted, under the number of its entry.
 pub(crate) fn push_ok_line<A: Allocator>(
@@ -55,40 +57,47 @@ fn push_whose<A: Allocator>(lines: &mut Vec<u8, A>, clerk: u32, line: u64) -> Re
 ///
 /// # Errors
 ///
-/// [`AllocError`] where an allocation is refused; a beginning of the piece may stand at the end of the text then.
-pub fn push_refusal<A: Allocator>(text: &mut Vec<u8, A>, refusal: Refusal) -> Result<(), AllocError>
-    ensures { OnOk result (text.new.items ≡ text.old.items ++ refusal_text refusal) }
+/// The sink's fault; a beginning of the piece may have been taken then.
+pub fn push_refusal<S: Sink>(text: &mut S, refusal: Refusal) -> Result<(), S::Fault>
+    ensures ok { OnOk result (S.takes text.old (refusal_text refusal) text.new) }
+    ensures err { OnErr result (S.breaks_off text.old (refusal_text refusal) text.new) }
 {
     match refusal {
-        Refusal::Unknown(id) => {
-            text.extend_from_slice(b"E1 ")?;
-            push_number(text, id)?;
-        }
-        Refusal::Retired { id, by } => {
-            text.extend_from_slice(b"E2 ")?;
-            push_number(text, id)?;
-            text.push(b' ')?;
-            push_number(text, by)?;
-        }
+        Refusal::Unknown(id) => push_named(text, "E1 ", id),
+        Refusal::Retired { id, by } => push_retired(text, id, by),
         Refusal::Ring { which, fault } => {
-            text.extend_from_slice(b"E6 ")?;
-            push_number(text, which)?;
-            text.push(b' ')?;
-            push_ring_fault(text, fault)?;
+            push_named(text, "E6 ", which)?;
+            text.push_piece(" ")?;
+            push_ring_fault(text, fault)
         }
-        Refusal::BadPath => text.extend_from_slice(b"E3")?,
-        Refusal::NotNeighbours => text.extend_from_slice(b"E4")?,
-        Refusal::SharedTwice => text.extend_from_slice(b"E5")?,
-        Refusal::NoSuchEdge => text.extend_from_slice(b"E7")?,
-        Refusal::NotOnEdge => text.extend_from_slice(b"E8")?,
-        Refusal::JournalFull => text.extend_from_slice(b"E9")?,
-        Refusal::TooMany => text.extend_from_slice(b"E10")?,
-        Refusal::NoSuchCorner => text.extend_from_slice(b"E11")?,
-        Refusal::NotFlat(id) => {
-            text.extend_from_slice(b"E12 ")?;
-            push_number(text, id)?;
-        }
-        Refusal::NoMemory => text.extend_from_slice(b"no memory")?,
+        Refusal::BadPath => text.push_piece("E3"),
+        Refusal::NotNeighbours => text.push_piece("E4"),
+        Refusal::SharedTwice => text.push_piece("E5"),
+        Refusal::NoSuchEdge => text.push_piece("E7"),
+        Refusal::NotOnEdge => text.push_piece("E8"),
+        Refusal::JournalFull => text.push_piece("E9"),
+        Refusal::TooMany => text.push_piece("E10"),
+        Refusal::NoSuchCorner => text.push_piece("E11"),
+        Refusal::NotFlat(id) => push_named(text, "E12 ", id),
+        Refusal::NoMemory => text.push_piece("no memory"),
     }
-    Ok(())
+}
+
+/// Adds a code, and the number behind it.
+fn push_named<S: Sink, N: Integer>(text: &mut S, code: &str, number: N) -> Result<(), S::Fault>
+    ensures ok { OnOk result (S.takes text.old (code.now ++ N.text number) text.new) }
+    ensures err { OnErr result (S.breaks_off text.old (code.now ++ N.text number) text.new) }
+{
+    text.push_piece(code)?;
+    push_number(text, number)
+}
+
+/// Adds that a parcel is gone, and by which entry.
+fn push_retired<S: Sink>(text: &mut S, id: u64, by: u64) -> Result<(), S::Fault>
+    ensures ok { OnOk result (S.takes text.old (refusal_text (Retired id by)) text.new) }
+    ensures err { OnErr result (S.breaks_off text.old (refusal_text (Retired id by)) text.new) }
+{
+    push_named(text, "E2 ", id)?;
+    text.push_piece(" ")?;
+    push_number(text, by)
 }

@@ -67,7 +67,7 @@ fn place_of<'h, H: Allocator, J: Naming<H>>(
     if !has_seen {
         return sheet.locate(corner);
     }
-    sheet.tiles();
+    sheet.use_invariant();
     match window.locate(corner) {
         Ok((entries, at)) if entries == sheet.entries() => Ok(at),
         Ok(_) | Err(LocateFault::NoVersion) => sheet.locate(corner),

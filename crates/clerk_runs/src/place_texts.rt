@@ -1,45 +1,43 @@
 //! Where points lie, in texts.
 
-ghost use Rattle.std.specs.Prelude.{◌≡◌, ◌++◌, OnOk};
+ghost use Rattle.std.specs.Prelude.{OnOk, OnErr};
 ghost use Rattle.std.specs.List.{flat_map};
 ghost use Rattle.clerk_runs.specs.PlaceTexts.{id_text, place_text};
 
 use fabric_core::At;
-use std::alloc::{AllocError, Allocator};
-use text_pieces::push_number;
+use std::alloc::Allocator;
+use text_pieces::{Sink, push_number};
 
 /// Adds where a point lies: `inside ID`, `edge ID ID ..`, or `outside`.
 ///
 /// # Errors
 ///
-/// [`AllocError`] where an allocation is refused; a beginning of the piece may stand at the end of the text then.
-pub fn push_place<A: Allocator, B: Allocator>(
-    text: &mut Vec<u8, A>,
-    at: &At<B>,
-) -> Result<(), AllocError>
-    ensures { OnOk result (text.new.items ≡ text.old.items ++ place_text at.now) }
+/// The sink's fault; a beginning of the piece may have been taken then.
+pub fn push_place<S: Sink, B: Allocator>(text: &mut S, at: &At<B>) -> Result<(), S::Fault>
+    ensures ok { OnOk result (S.takes text.old (place_text at.now) text.new) }
+    ensures err { OnErr result (S.breaks_off text.old (place_text at.now) text.new) }
 {
     match at {
         At::Inside(id) => {
-            text.extend_from_slice(b"inside")?;
-            push_id(text, *id)?;
+            text.push_piece("inside")?;
+            push_id(text, *id)
         }
         At::OnEdge(ids) => {
-            text.extend_from_slice(b"edge")?;
-            push_ids(text, ids)?;
+            text.push_piece("edge")?;
+            push_ids(text, ids)
         }
-        At::Outside => text.extend_from_slice(b"outside")?,
+        At::Outside => text.push_piece("outside"),
     }
-    Ok(())
 }
 
 /// Adds ids, each behind a space.
 ///
 /// # Errors
 ///
-/// [`AllocError`] where an allocation is refused; a beginning of the piece may stand at the end of the text then.
-pub fn push_ids<A: Allocator>(text: &mut Vec<u8, A>, ids: &[u64]) -> Result<(), AllocError>
-    ensures { OnOk result (text.new.items ≡ text.old.items ++ flat_map id_text ids.now) }
+/// The sink's fault; a beginning of the piece may have been taken then.
+pub fn push_ids<S: Sink>(text: &mut S, ids: &[u64]) -> Result<(), S::Fault>
+    ensures ok { OnOk result (S.takes text.old (flat_map id_text ids.now) text.new) }
+    ensures err { OnErr result (S.breaks_off text.old (flat_map id_text ids.now) text.new) }
 {
     for id in ids {
         push_id(text, *id)?;
@@ -51,11 +49,11 @@ pub fn push_ids<A: Allocator>(text: &mut Vec<u8, A>, ids: &[u64]) -> Result<(), 
 ///
 /// # Errors
 ///
-/// [`AllocError`] where an allocation is refused; a beginning of the piece may stand at the end of the text then.
-pub fn push_id<A: Allocator>(text: &mut Vec<u8, A>, id: u64) -> Result<(), AllocError>
-    ensures { OnOk result (text.new.items ≡ text.old.items ++ id_text id) }
+/// The sink's fault; a beginning of the piece may have been taken then.
+pub fn push_id<S: Sink>(text: &mut S, id: u64) -> Result<(), S::Fault>
+    ensures ok { OnOk result (S.takes text.old (id_text id) text.new) }
+    ensures err { OnErr result (S.breaks_off text.old (id_text id) text.new) }
 {
-    text.push(b' ')?;
-    push_number(text, id)?;
-    Ok(())
+    text.push_piece(" ")?;
+    push_number(text, id)
 }

@@ -141,7 +141,7 @@ fn edit_at_office<
         published,
     } = take_all_in(heap, jobs, &mut window)?;
     let sheet = counter.office.sheet(rt, cards.as_mut_slice())?;
-    sheet.tiles();
+    sheet.use_invariant();
     let places = places_of(heap, &mut window, published, &sheet, corners)?;
     let Counter { office, .. } = counter;
     let _ = office.close(rt, cards);

@@ -33,7 +33,7 @@ impl<'a, H: Allocator, J: Naming<H>> Model for Copied<'a, H, J> {
 
 impl<'a, H: Allocator, J: Naming<H>> Copied<'a, H, J> {
     /// A copy that has followed no entry.
-    pub(crate) fn of(fabric: Fabric<'a, H>, clerks: usize) -> Copied<'a, H, J>
+    pub(crate) fn new(fabric: Fabric<'a, H>, clerks: usize) -> Copied<'a, H, J>
         requires origin { origin_of fabric ≡ J.office.origin }
         requires clerks { clerks ≡ J.office.clerks }
         ensures { behind J.office.origin result.journal ≡ [] }

@@ -65,7 +65,7 @@ impl<'a, H: Allocator, J: Naming<H>, R: Wait + Drop> Desk<'a, H, J, R> {
     /// The desk's fabric tiles its city, its index and journal agree with its rows, and it comes of
     /// the fabric that was handed to the office, with entries of the office's clerks alone behind
     /// those of that fabric. What is published begins its journal.
-    pub fn tiles(&self)
+    pub fn use_invariant(&self)
         ensures tiling { IsTiling self.now.book.now.rows self.now.book.city }
         ensures simple { AreSimple self.now.book.now.rows }
         ensures indexed { IsIndexed self.now.book.now.rows self.now.book.city self.now.book.index }
@@ -77,8 +77,8 @@ impl<'a, H: Allocator, J: Naming<H>, R: Wait + Drop> Desk<'a, H, J, R> {
         ensures of_clerks { AreOfClerks J.office.clerks self.now.entries }
         ensures published { IsPrefix self.now.published self.now.book.journal }
     {
-        self.fabric.tiles();
-        self.publisher.begins();
+        self.fabric.use_invariant();
+        self.publisher.use_invariant();
     }
 
     /// Makes an edit by the card's clerk, as [`Fabric::edit`] does; the card counts it, and has met the journal with it.
@@ -117,7 +117,7 @@ impl<'a, H: Allocator, J: Naming<H>, R: Wait + Drop> Desk<'a, H, J, R> {
         ensures refuses { (refusal : Refusal) → IsRefusal self.old.book.now self.old.book.journal edit.now refusal
             → IsErrAnd result (λ e. (e ≡ refusal) ⊎ (e ≡ NoMemory)) }
     {
-        self.fabric.tiles();
+        self.fabric.use_invariant();
         self.keeper.meet(&mut card.stub);
         let entry = self.fabric.edit(card.clerk, edit)?;
         self.keeper.add(&mut card.stub, &entry);
@@ -168,7 +168,7 @@ impl<'a, H: Allocator, J: Naming<H>, R: Wait + Drop> Desk<'a, H, J, R> {
     {
         let entry = self.edit(card, edit)?;
         let heap = card.heap;
-        self.tiles();
+        self.use_invariant();
         let notice = self.publish();
         Ok(Receipt {
             entry,

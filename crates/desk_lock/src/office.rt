@@ -131,7 +131,7 @@ impl<'a, H: Allocator, J: Naming<H>, R: Wait + Drop> Office<'a, H, J, R> {
         ensures of_clerks { IfSome result (λ told. AreOfClerks J.office.clerks (behind J.office.origin told)) }
     {
         let mut desk = self.desk.lock(rt);
-        desk.tiles();
+        desk.use_invariant();
         desk.publish()
     }
 
@@ -156,7 +156,7 @@ impl<'a, H: Allocator, J: Naming<H>, R: Wait + Drop> Office<'a, H, J, R> {
     {
         let mut desk = self.desk.lock(rt);
         desk.compare(cards);
-        desk.tiles();
+        desk.use_invariant();
         desk.sheet()
     }
 

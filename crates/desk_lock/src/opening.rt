@@ -106,8 +106,8 @@ pub(crate) fn publisher_of<'a, H: Allocator, J: Naming<H>, R: Wait + Drop>(
     requires windows { (0 < windows) × (windows < 2 ^ 32) }
     ensures { IfOk result (λ publisher. publisher ≡ record { handed = []; shown = [] }) }
 {
-    let first = Copied::of(fabric.copy()?, clerks);
-    let second = Copied::of(fabric.copy()?, clerks);
+    let first = Copied::new(fabric.copy()?, clerks);
+    let second = Copied::new(fabric.copy()?, clerks);
     Publisher::open(rt, heap, opened, first, second, windows)
 }
 

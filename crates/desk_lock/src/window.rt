@@ -225,7 +225,7 @@ fn fabric_of<'v, 'a, H: Allocator, J: Naming<H>>(
     ensures now { result.now.now ≡ replay J.office.origin.opening (J.office.origin.journal ++ version.now) }
 {
     let fabric = version.value().fabric();
-    fabric.tiles();
+    fabric.use_invariant();
     fabric
 }
 

@@ -5,7 +5,7 @@ ghost use mathlib.Core.Option.{some};
 ghost use Rattle.entry_cards.specs.own.Rule.{keeper_view, blank_cards, joined, without_first, first_of, with_all_met, with_more};
 ghost use Rattle.entry_cards.specs.own.Rule.{AreKnown};
 
-use crate::plays::{AddEntry, CardOff, Compare, Meet, Rule, Together, Told};
+use crate::plays::{AddEntry, CardOff, Compare, Meet, NamesEntry, Rule, Together};
 use crate::view::View;
 use atomic_table::{Seat, Table};
 use std::alloc::{AllocError, Allocator};
@@ -33,7 +33,7 @@ impl<E, A: Allocator> Model for Cards<E, A> {
 
 impl<E, A: Allocator> Cards<E, A> {
     /// A table for so many clerks, with the mark of who keeps, which has the cards of all of them, with no entry.
-    pub(crate) fn of(alloc: A, clerks: u32) -> Result<(Cards<E, A>, Mark<E>), AllocError>
+    pub(crate) fn new(alloc: A, clerks: u32) -> Result<(Cards<E, A>, Mark<E>), AllocError>
         ensures clerks { IfOk result (λ made. made.0.clerks ≡ clerks) }
         ensures name { IfOk result (λ made. made.1.table_id ≡ made.0.name) }
         ensures mark { IfOk result (λ made. made.1.me ≡ (keeper_view clerks [] (blank_cards 0 clerks), [])) }
@@ -76,7 +76,7 @@ impl<E, A: Allocator> Cards<E, A> {
         self.add_told::<Brand>(mark, entry);
     }
 
-    fn add_told<B: Told<E>>(&self, mark: &mut Mark<E>, entry: &E)
+    fn add_told<B: NamesEntry<E>>(&self, mark: &mut Mark<E>, entry: &E)
         requires own { mark.old.table_id ≡ self.now.name }
         requires told { B.entry ≡ some entry.now }
         requires keeps { mark.old.me.0.keeps ≡ true }

@@ -49,7 +49,7 @@ impl<E, A: Allocator> Keeper<E, A> {
         ensures none_dealt { IfOk result (λ keeper. keeper.dealt ≡ 0) }
         ensures no_entry { IfOk result (λ keeper. keeper.all ≡ []) }
     {
-        let (cards, mark) = Cards::of(alloc, clerks)?;
+        let (cards, mark) = Cards::new(alloc, clerks)?;
         Ok(Keeper {
             cards,
             mark,

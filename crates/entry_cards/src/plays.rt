@@ -18,13 +18,13 @@ impl<E> TableRule<(), View<E>, u32> for Rule {
 }
 
 /// Names the entry that a step adds, since a step has no argument of its own. Each call picks it.
-pub trait Told<E> {
+pub trait NamesEntry<E> {
     ghost use mathlib.Core.Option.{Option};
 
     ghost entry: { Option E };
 }
 
-impl<E> Told<E> for Brand {
+impl<E> NamesEntry<E> for Brand {
     ghost entry = { none };
 }
 
@@ -34,7 +34,7 @@ pub struct AddEntry<B> {
     of: PhantomData<B>,
 }
 
-impl<E, B: Told<E>> Play<(), View<E>> for AddEntry<B> {
+impl<E, B: NamesEntry<E>> Play<(), View<E>> for AddEntry<B> {
     ghost then = { λ step before found after. (after ≡ (with_more before.0 B.entry, before.1)) × KnowsCards before.0 };
 }
 

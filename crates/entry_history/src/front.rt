@@ -28,7 +28,7 @@ impl<E, J: Naming> Model for Front<E, J> {
 
 impl<E, J: Naming> Front<E, J> {
     /// The beginning that has no entry.
-    pub(crate) fn of(seen: Seen<E, u64, Law>) -> Front<E, J>
+    pub(crate) fn new(seen: Seen<E, u64, Law>) -> Front<E, J>
         requires book { seen.book ≡ J.book }
         requires empty { seen.log ≡ [] }
         ensures { result ≡ [] }

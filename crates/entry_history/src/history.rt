@@ -58,7 +58,7 @@ impl<E> Opened<E> {
                 head,
                 of: PhantomData,
             },
-            Front::of(seen),
+            Front::new(seen),
         )
     }
 }

@@ -5,18 +5,18 @@ use Rattle.geo_exact.specs.declared.bounds.Bounds.{Bounds}
 use Rattle.geo_exact.specs.declared.corner.Corner.{Corner}
 use Rattle.geo_exact.specs.Bounds.{IsLeastBox}
 use Rattle.geo_exact.specs.Layers.{NumberedRing}
-use Rattle.cell_index.specs.declared.entry.Entry.{Entry}
+use Rattle.cell_index.specs.declared.entry.IndexEntry.{IndexEntry}
 use Rattle.cell_index.specs.Cells.{Grid, Indexes, StandsBetween, stands_in}
 
 -- a row's entry: its least box, under its id
-pub record IsEntryOf (row : NumberedRing) (entry : Entry) : Type 0 where
+pub record IsEntryOf (row : NumberedRing) (entry : IndexEntry) : Type 0 where
   pub has_id : entry.key ≡ row.number
   pub is_its_box : IsLeastBox entry.bounds row.corners
 
 -- The index agrees with the rows: its area is the city's least box, and in its cells stand exactly the rows' least boxes, under their ids.
 pub record IsIndexed (rows : List NumberedRing) (city : List Corner) (index : Grid) : Type 0 where
   pub area : IsLeastBox index.area city
-  pub entries : List Entry
+  pub entries : List IndexEntry
   pub are_theirs : AllZip IsEntryOf rows entries
   pub stand : Indexes index entries
 

@@ -230,7 +230,7 @@ fn first_bent<'a, H: Allocator>(tiled: &Tiled<'a, H>, ids: &[u64], at: Corner) -
     ensures bent { IfSome result (λ id. IsFirstBent tiled.now.rows at id) }
     ensures straight { IfNone result (AllByRecursion (λ row. ¬ BendsAt at row.corners) tiled.now.rows) }
 {
-    tiled.tiles();
+    tiled.use_invariant();
     for id in ids {
         let Some(shape) = tiled.shape(*id) else {
             unreachable!()

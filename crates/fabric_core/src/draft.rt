@@ -51,7 +51,7 @@ pub(crate) fn draft_of<'a, H: Allocator>(
     ensures corners { IfOk result (λ draft. draft.corners ≡ corner_count (after_entry (state_of tiled.now) draft.entry).rows) }
     ensures err { IfErr result (λ refusal. IsDraftRefusal tiled.now edit.now refusal ⊎ (refusal ≡ NoMemory)) }
 {
-    tiled.tiles();
+    tiled.use_invariant();
     let heap = tiled.allocator();
     let change = change_of(heap, tiled, tiled.next_id(), edit)?;
     if !is_within(tiled, &change, corners) {
@@ -62,7 +62,7 @@ pub(crate) fn draft_of<'a, H: Allocator>(
     let edit = edit.clone()?;
     let Change { out, rows } = change;
     Ok(Draft {
-        entry: Entry::of(number, clerk, edit, out, rows),
+        entry: Entry::new(number, clerk, edit, out, rows),
         shapes,
         corners,
     })

@@ -21,7 +21,7 @@ pub(crate) fn renewed_rows<'a, H: Allocator>(
     requires in_area { AllByRecursion (λ row. All (HoldsCorner tiled.now.index.area) row.corners) tiled.now.rows }
     ensures { IfOk result (λ rows. rows_of_entry rows.items ≡ map (renewed change) (rows_changed change tiled.now.rows)) }
 {
-    tiled.tiles();
+    tiled.use_invariant();
     let _ids = tiled.ids();
     let corner = change.corner();
     let ids = tiled.candidates(corner, corner)?;

@@ -117,7 +117,7 @@ impl<'a, H: Allocator> Fabric<'a, H> {
         match opening_of(layer.tiled()) {
             Ok(opening) => {
                 let tiled = layer.into_tiled();
-                tiled.tiles();
+                tiled.use_invariant();
                 let corners = count_corners(tiled.shapes());
                 let journal = Vec::new(tiled.allocator());
                 Ok(Fabric {
@@ -211,7 +211,7 @@ impl<'a, H: Allocator> Fabric<'a, H> {
     /// The parcels are simple rings that tile the city, and are within the limits of a layer; in the
     /// cells of the grid index stand exactly the parcels; the city's refined ring covers what the
     /// city's ring covers; and the journal is lawful, and leads from the opening to what is now.
-    pub fn tiles(&self)
+    pub fn use_invariant(&self)
         ensures tiling { IsTiling self.now.now.rows self.now.city }
         ensures simple { AreSimple self.now.now.rows }
         ensures within { AreWithinLimits self.now.now.rows }
@@ -220,7 +220,7 @@ impl<'a, H: Allocator> Fabric<'a, H> {
         ensures lawful { IsLawful self.now.opening self.now.journal }
         ensures replays { replay self.now.opening self.now.journal ≡ self.now.now }
     {
-        self.tiled.tiles();
+        self.tiled.use_invariant();
     }
 
     /// The journal: all entries since the fabric was opened, in order.

@@ -7,7 +7,7 @@ ghost use Rattle.fabric_core.specs.own.Lists.{numbered_rows, corners_of_rings};
 ghost use Rattle.parcel_table.specs.Table.{rows_of_keyed, entries_of, retired_by};
 ghost use Rattle.fabric_core.specs.Journal.{next_after};
 
-use cell_index::{CellIndex, Entry};
+use cell_index::{CellIndex, IndexEntry};
 use geo_exact::Bounds;
 use parcel_table::Parcels;
 use ring_core::{Ring, Shape};
@@ -36,7 +36,7 @@ pub(crate) fn clip_all<'a, H: Allocator>(
         let shape = Shape::clip(heap, ring)?;
         let bounds = shape.bounds;
         let key = parcels.push(u64::from(number), shape)?;
-        index.add(Entry { key, bounds })?;
+        index.add(IndexEntry { key, bounds })?;
     }
     Ok((parcels, index))
 }

@@ -170,7 +170,7 @@ impl<'a, H: Allocator> Hints<'a, H> {
     }
 
     /// The hints of parcels over an area.
-    pub(crate) fn of(
+    pub(crate) fn from_parcels(
         heap: &'a H,
         area: Bounds,
         parcels: &Parcels<&'a H>,

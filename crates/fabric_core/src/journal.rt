@@ -76,7 +76,7 @@ impl<A: Allocator> Model for Entry<A> {
 
 impl<A: Allocator> Entry<A> {
     /// An entry of these parts.
-    pub(crate) fn of(
+    pub(crate) fn new(
         number: u64,
         clerk: u32,
         edit: Edit<A>,

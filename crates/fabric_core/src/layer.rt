@@ -162,13 +162,13 @@ impl<'a, H: Allocator> Layer<'a, H> {
 
     /// The rows are simple rings that tile the city, and are within the limits of a layer; and in the
     /// cells of the grid index stand exactly the rows.
-    pub fn tiles(&self)
+    pub fn use_invariant(&self)
         ensures tiling { IsTiling self.now.rows self.now.city }
         ensures simple { AreSimple self.now.rows }
         ensures within { AreWithinLimits self.now.rows }
         ensures indexed { IsIndexed self.now.rows self.now.city self.now.index }
     {
-        self.tiled.tiles();
+        self.tiled.use_invariant();
     }
 
     /// The parcels' ids, ascending.
@@ -287,7 +287,7 @@ pub(crate) fn layer_of<'a, H: Allocator>(
     ensures tiling { IfOk result (λ layer. IsTiling layer.rows layer.city) }
     ensures indexed { IfOk result (λ layer. IsIndexed layer.rows layer.city layer.index) }
 {
-    let tiled = Tiled::of(heap, area, numbers, rings, city, refined)?;
-    tiled.tiles();
+    let tiled = Tiled::new(heap, area, numbers, rings, city, refined)?;
+    tiled.use_invariant();
     Ok(Layer { tiled })
 }

@@ -5,14 +5,14 @@ ghost use Rattle.std.specs.List.{Contains};
 ghost use Rattle.geo_exact.specs.declared.limits.TheConstants.{RING_CORNERS};
 ghost use Rattle.geo_exact.specs.Layers.{NumberedRing};
 ghost use Rattle.geo_exact.specs.Point.{Point, corner_point};
-ghost use Rattle.cell_index.specs.declared.entry.Entry.{Entry as EntryValue};
+ghost use Rattle.cell_index.specs.declared.entry.IndexEntry.{IndexEntry as IndexEntryValue};
 ghost use Rattle.parcel_table.specs.declared.parcels.Parcel.{Parcel as ParcelValue};
 ghost use Rattle.parcel_table.specs.Table.{rows_of_keyed, entries_of};
 ghost use Rattle.fabric_core.specs.Locate.{IsInsideOf, IsLocatedAt};
 ghost use Rattle.fabric_core.specs.own.Sides.{IsFound};
 
 use crate::candidates::sort_once;
-use cell_index::Entry;
+use cell_index::IndexEntry;
 use geo_exact::Corner;
 use parcel_table::Parcels;
 use ring_core::{Side, side_of};
@@ -44,11 +44,11 @@ pub(crate) fn on_edge_or_outside<A: Allocator>(mut on_edge: Vec<u64, A>) -> At<A
 /// it inside, which is the answer: in a tiling, what is inside one parcel is on no edge.
 pub(crate) fn search<A: Allocator>(
     parcels: &Parcels<A>,
-    entries: &[Entry],
+    entries: &[IndexEntry],
     corner: Corner,
     on_edge: &mut Vec<u64, A>,
 ) -> Result<Option<u64>, AllocError>
-    requires { (entry : EntryValue) → Contains entries.now entry → (parcel : ParcelValue A)
+    requires { (entry : IndexEntryValue) → Contains entries.now entry → (parcel : ParcelValue A)
         × Contains parcels.now.parcels (entry.key, parcel) × (length parcel.shape.ring.corners ≤ RING_CORNERS) }
     ensures { (some : List (ℕ × ParcelValue A)) → entries.now ≡ entries_of some
         → ((parcel : ℕ × ParcelValue A) → Contains some parcel → Contains parcels.now.parcels parcel)

@@ -51,7 +51,7 @@ fn make_split<'a, H: Allocator>(
     ensures made { OnOk result (IsMade tiled.old tiled.new entry.now) }
     ensures unchanged { OnErr result (tiled.new ≡ tiled.old) }
 {
-    tiled.tiles();
+    tiled.use_invariant();
     let (left, right) = both(shapes);
     tiled.divide(id, entry.number(), left, right)
 }
@@ -70,7 +70,7 @@ fn make_merge<'a, H: Allocator>(
     ensures made { OnOk result (IsMade tiled.old tiled.new entry.now) }
     ensures unchanged { OnErr result (tiled.new ≡ tiled.old) }
 {
-    tiled.tiles();
+    tiled.use_invariant();
     let shape = only(shapes);
     tiled.unite(a, b, entry.number(), shape)
 }
@@ -89,7 +89,7 @@ fn make_move<'a, H: Allocator>(
     ensures made { OnOk result (IsMade tiled.old tiled.new entry.now) }
     ensures unchanged { OnErr result (tiled.new ≡ tiled.old) }
 {
-    tiled.tiles();
+    tiled.use_invariant();
     let (of_a, of_b) = both(shapes);
     tiled.renew(a, b, entry.number(), of_a, of_b)
 }
@@ -107,7 +107,7 @@ fn make_change<'a, H: Allocator>(
     ensures made { OnOk result (IsMade tiled.old tiled.new entry.now) }
     ensures unchanged { OnErr result (tiled.new ≡ tiled.old) }
 {
-    tiled.tiles();
+    tiled.use_invariant();
     tiled.change_rings(change, entry.out(), shapes)
 }
 

@@ -67,7 +67,7 @@ pub(crate) fn is_within<'a, H: Allocator>(
     ensures { IsTrue result
         ↔ AreWithinLayerLimits (with_rows (rows_of_entry change.now.rows.items) (without_ids change.now.out.items tiled.now.rows)) }
 {
-    tiled.tiles();
+    tiled.use_invariant();
     let left = corners_left(tiled, &change.out, corners);
     let parcels = tiled.ids().len() - change.out.len();
     add_within(&change.rows, left, parcels)

@@ -33,7 +33,7 @@ use crate::hints::Hints;
 use crate::locate::{At, on_edge_or_outside, search};
 use crate::ring_change::RingChange;
 use crate::tenfold::{least_far_of_shapes, tenfold_shapes};
-use cell_index::{CellIndex, Entry};
+use cell_index::{CellIndex, IndexEntry};
 use geo_exact::{Bounds, Corner, Corners};
 use parcel_table::{Fate, Ids, Parcels, Shapes};
 use ring_core::{Ring, Shape, Side, side_of};
@@ -84,7 +84,7 @@ impl<'a, H: Allocator> Model for Tiled<'a, H> {
 
 impl<'a, H: Allocator> Tiled<'a, H> {
     /// The parcels of rings that have no fault, in a city that is refined.
-    pub(crate) fn of(
+    pub(crate) fn new(
         heap: &'a H,
         area: Bounds,
         numbers: &[u32],
@@ -101,7 +101,7 @@ impl<'a, H: Allocator> Tiled<'a, H> {
         ensures fresh { IfOk result (λ tiled. IsFresh tiled) }
     {
         let (parcels, index) = clip_all(heap, area, numbers, rings)?;
-        let hints = Hints::of(heap, area, &parcels)?;
+        let hints = Hints::from_parcels(heap, area, &parcels)?;
         Ok(Tiled {
             city,
             refined,
@@ -131,7 +131,7 @@ impl<'a, H: Allocator> Tiled<'a, H> {
 
     /// The rows tile the city, and are within the limits of a layer; and in the cells of the grid
     /// index stand exactly the rows.
-    pub(crate) fn tiles(&self)
+    pub(crate) fn use_invariant(&self)
         ensures tiling { IsTiling self.now.rows self.now.city }
         ensures within { AreWithinLimits self.now.rows }
         ensures indexed { IsIndexed self.now.rows self.now.city self.now.index }
@@ -140,7 +140,7 @@ impl<'a, H: Allocator> Tiled<'a, H> {
         ensures balanced { IsBalanced (state_of self.now) }
         ensures here { (id : ℕ) → Contains (numbers self.now.rows) id → gone_by self.now id ≡ None }
     {
-        self.parcels.stand_apart();
+        self.parcels.use_invariant();
     }
 
     /// The allocator of all that is kept.
@@ -296,12 +296,12 @@ impl<'a, H: Allocator> Tiled<'a, H> {
 }
 
 /// The entry that the parcel with this id has in the index.
-fn entry_of<A: Allocator>(parcels: &Parcels<A>, id: u64) -> Entry
+fn entry_of<A: Allocator>(parcels: &Parcels<A>, id: u64) -> IndexEntry
     requires { HasId parcels.now.parcels id }
     ensures { IsEntryAt parcels.now.parcels id result }
 {
     match parcels.fate(id) {
-        Fate::Here(key) => Entry {
+        Fate::Here(key) => IndexEntry {
             key,
             bounds: parcels.at(key).shape.bounds,
         },
@@ -318,7 +318,7 @@ fn index_of<'a, H: Allocator>(
     ensures area { IfOk result (λ index. index.area ≡ area) }
     ensures indexed { IfOk result (λ index. Indexes index (entries_of parcels.now.parcels)) }
 {
-    parcels.stand_apart();
+    parcels.use_invariant();
     let mut index = CellIndex::new(heap, area)?;
     for id in parcels.ids() {
         index.add(entry_of(parcels, id))?;
@@ -367,14 +367,14 @@ impl<'a, H: Allocator> Tiled<'a, H> {
             (numbered self.old.next left.entry.ring.corners ∷ numbered (self.old.next + 1) right.entry.ring.corners ∷ [])) }
         ensures err { OnErr result (self.new ≡ self.old) }
     {
-        self.parcels.stand_apart();
+        self.parcels.use_invariant();
         self.parcels.reserve(2)?;
         let gone = entry_of(&self.parcels, id);
-        let first = Entry {
+        let first = IndexEntry {
             key: gone.key,
             bounds: left.bounds,
         };
-        let second = Entry {
+        let second = IndexEntry {
             key: self.parcels.vacant_key(),
             bounds: right.bounds,
         };
@@ -383,7 +383,7 @@ impl<'a, H: Allocator> Tiled<'a, H> {
         self.hints.set(right.core, second.key);
         self.parcels.succeed(id, by, left);
         self.parcels.push_reserved(right);
-        self.parcels.stand_apart();
+        self.parcels.use_invariant();
         Ok(())
     }
 
@@ -404,11 +404,11 @@ impl<'a, H: Allocator> Tiled<'a, H> {
             (numbered self.old.next shape.entry.ring.corners ∷ [])) }
         ensures err { OnErr result (self.new ≡ self.old) }
     {
-        self.parcels.stand_apart();
+        self.parcels.use_invariant();
         self.parcels.reserve(1)?;
         let from_a = entry_of(&self.parcels, a);
         let from_b = entry_of(&self.parcels, b);
-        let come = Entry {
+        let come = IndexEntry {
             key: from_a.key,
             bounds: shape.bounds,
         };
@@ -416,7 +416,7 @@ impl<'a, H: Allocator> Tiled<'a, H> {
         self.hints.set(shape.core, come.key);
         self.parcels.succeed(a, by, shape);
         self.parcels.retire(b, by);
-        self.parcels.stand_apart();
+        self.parcels.use_invariant();
         Ok(())
     }
 
@@ -438,15 +438,15 @@ impl<'a, H: Allocator> Tiled<'a, H> {
             (numbered self.old.next of_a.entry.ring.corners ∷ numbered (self.old.next + 1) of_b.entry.ring.corners ∷ [])) }
         ensures err { OnErr result (self.new ≡ self.old) }
     {
-        self.parcels.stand_apart();
+        self.parcels.use_invariant();
         self.parcels.reserve(2)?;
         let from_a = entry_of(&self.parcels, a);
         let from_b = entry_of(&self.parcels, b);
-        let first = Entry {
+        let first = IndexEntry {
             key: from_a.key,
             bounds: of_a.bounds,
         };
-        let second = Entry {
+        let second = IndexEntry {
             key: from_b.key,
             bounds: of_b.bounds,
         };
@@ -455,7 +455,7 @@ impl<'a, H: Allocator> Tiled<'a, H> {
         self.hints.set(of_b.core, second.key);
         self.parcels.succeed(a, by, of_a);
         self.parcels.succeed(b, by, of_b);
-        self.parcels.stand_apart();
+        self.parcels.use_invariant();
         Ok(())
     }
 
@@ -479,13 +479,13 @@ impl<'a, H: Allocator> Tiled<'a, H> {
         }) }
         ensures err { OnErr result (self.new ≡ self.old) }
     {
-        self.parcels.stand_apart();
+        self.parcels.use_invariant();
         let ring = &self.refined;
         let refined = change.of_city(self.parcels.allocator(), ring.as_slice())?;
         self.hints.tell_all(&self.parcels, ids, shapes.as_slice());
         replace_all(&mut self.parcels, ids, shapes);
         change_ring(&mut self.refined, refined);
-        self.parcels.stand_apart();
+        self.parcels.use_invariant();
         Ok(())
     }
 }
@@ -515,12 +515,12 @@ impl<'a, H: Allocator> Tiled<'a, H> {
         let area = least_box(city.as_slice());
         let ids: Vec<u64, &'a H> = self.ids().collect(heap)?;
         let shapes = tenfold_shapes(heap, self.shapes())?;
-        self.parcels.stand_apart();
+        self.parcels.use_invariant();
         let mut parcels = self.parcels.clone()?;
         replace_all(&mut parcels, &ids, shapes);
-        parcels.stand_apart();
+        parcels.use_invariant();
         let index = index_of(heap, area, &parcels)?;
-        let hints = Hints::of(heap, area, &parcels)?;
+        let hints = Hints::from_parcels(heap, area, &parcels)?;
         Ok(Tiled {
             city,
             refined,

@@ -82,7 +82,7 @@ enum Told {
 
 impl Told {
     /// An answer that is none of want of memory.
-    fn of(is_wanted: bool) -> Told {
+    fn new(is_wanted: bool) -> Told {
         if is_wanted {
             Told::Wanted
         } else {
@@ -116,7 +116,7 @@ fn city_of(heap: &Heap, number: u64) -> Result<(Result<City<'_, Heap>, CityFault
 fn is_city_refused(heap: &Heap, number: u64) -> Result<bool, Fail> {
     let (city, is_refused) = city_of(heap, number)?;
     let told = match &city {
-        Ok(city) => Told::of(are_at(city.ring.corners.as_slice(), &SQUARE)),
+        Ok(city) => Told::new(are_at(city.ring.corners.as_slice(), &SQUARE)),
         Err(CityFault::NoMemory) => Told::NoMemory,
         Err(_) => Told::Another,
     };
@@ -218,9 +218,9 @@ fn loading<'a>(
     let is_refused = heap.is_spent();
     heap.refuse(0);
     let told = match layer {
-        Ok(layer) => Told::of(has_ids(&layer, &row.1)?),
+        Ok(layer) => Told::new(has_ids(&layer, &row.1)?),
         Err(LoadFault::NoMemory) => Told::NoMemory,
-        Err(fault) => Told::of(is_first(fault, &row.1)),
+        Err(fault) => Told::new(is_first(fault, &row.1)),
     };
     Ok((told, is_refused))
 }
@@ -264,9 +264,9 @@ fn telling<'a>(
     let is_refused = heap.is_spent();
     heap.refuse(0);
     let told = match layer {
-        Ok(layer) => Told::of(has_ids(&layer, &row.1)?),
+        Ok(layer) => Told::new(has_ids(&layer, &row.1)?),
         Err(refusal) if refusal.first == LoadFault::NoMemory => Told::NoMemory,
-        Err(refusal) => Told::of(are_all(&refusal, &row.1)),
+        Err(refusal) => Told::new(are_all(&refusal, &row.1)),
     };
     Ok((told, is_refused))
 }

@@ -31,7 +31,7 @@ pub fn read_edit<A: Allocator + Copy>(
 ) -> Result<Option<Edit<A>>, AllocError>
     ensures { IfOk result (IsEditOf grid (words_of line.now)) }
 {
-    let mut words = Words::of(line);
+    let mut words = Words::new(line);
     let Some(name) = words.next() else {
         return Ok(None);
     };

@@ -10,7 +10,7 @@ use std::marker::Model;
 /// that two spaces side by side, or one at an end of the line, leave an empty word.
 ///
 /// ```
-/// let mut words = Words::of(b"merge 3 4"); // words.next() gives merge, 3 and 4, and then None
+/// let mut words = Words::new(b"merge 3 4"); // words.next() gives merge, 3 and 4, and then None
 /// ```
 #[derive(Drop)]
 pub struct Words<'a> {
@@ -29,7 +29,7 @@ impl<'a> Model for Words<'a> {
 
 impl<'a> Words<'a> {
     /// All words of a line.
-    pub fn of(line: &'a [u8]) -> Words<'a>
+    pub fn new(line: &'a [u8]) -> Words<'a>
         ensures { result ≡ words_of line.now }
     {
         Words {

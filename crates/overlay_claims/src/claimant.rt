@@ -90,26 +90,6 @@ impl Claimant {
     }
 }
 
-/// Lists of these lengths, none of whose places is claimed, and a hand for each list, in order.
-///
-/// # Errors
-///
-/// [`AllocError`] where an allocation is refused.
-pub fn open<A: Allocator + Copy>(
-    alloc: A,
-    lengths: Vec<u64, A>,
-) -> Result<(Claims<A>, Vec<Claimant, A>), AllocError>
-    requires some { 0 < length lengths.items }
-    requires short { AllByRecursion (λ n. n + length lengths.items < 2 ^ 64) lengths.items }
-    ensures lengths { IfOk result (λ made. made.0.lengths ≡ lengths.items) }
-    ensures hands { IfOk result (λ made. made.1.items ≡ fresh_hands made.0 (length lengths.items)) }
-{
-    let (claims, mark) = Claims::of(alloc, lengths)?;
-    let hands = Vec::with_capacity(alloc, claims.len())?;
-    let hands = deal(&claims, mark, hands)?;
-    Ok((claims, hands))
-}
-
 /// The list to which a hand goes after so many: by rising number from its own, and past the last from 0.
 fn list_after(number: usize, ended: usize, count: usize) -> usize
     requires own { number < count }
@@ -125,7 +105,7 @@ fn list_after(number: usize, ended: usize, count: usize) -> usize
 }
 
 /// A hand for each list, the first of which takes what is left of the mark of all.
-fn deal<A: Allocator + Copy>(
+pub(crate) fn deal<A: Allocator + Copy>(
     claims: &Claims<A>,
     mut whole: Mark,
     mut hands: Vec<Claimant, A>,

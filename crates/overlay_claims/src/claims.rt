@@ -3,8 +3,10 @@
 ghost use Rattle.std.specs.Prelude.{◌≡◌, ℕ, ◌+◌, ◌^◌, ◌<◌, ◌≤◌, [], length, slice_index, sum_by, IfOk, IfSome, IfNone, IsPermutation};
 ghost use Rattle.std.specs.List.{AllByRecursion};
 ghost use Rattle.overlay_claims.specs.own.Spread.{word_of};
+ghost use Rattle.overlay_claims.specs.Claimants.{fresh_hands};
 ghost use Rattle.overlay_claims.specs.Claims.{view_of, with_fewer_parts, with_place, with_note, joined, times, all_places};
 
+use crate::claimant::{Claimant, deal};
 use crate::plays::{Claim, Confirm, PartOff, Rule, Together};
 use crate::view::View;
 use atomic_table::{Seat, Table};
@@ -47,9 +49,26 @@ impl<A: Allocator> Model for Claims<A> {
 }
 
 impl<A: Allocator + Copy> Claims<A> {
+    /// Lists of these lengths, none of whose places is claimed, and a hand for each list, in order.
+    ///
+    /// # Errors
+    ///
+    /// [`AllocError`] where an allocation is refused.
+    pub fn open(alloc: A, lengths: Vec<u64, A>) -> Result<(Claims<A>, Vec<Claimant, A>), AllocError>
+        requires some { 0 < length lengths.items }
+        requires short { AllByRecursion (λ n. n + length lengths.items < 2 ^ 64) lengths.items }
+        ensures lengths { IfOk result (λ made. made.0.lengths ≡ lengths.items) }
+        ensures hands { IfOk result (λ made. made.1.items ≡ fresh_hands made.0 (length lengths.items)) }
+    {
+        let (claims, mark) = Claims::new(alloc, lengths)?;
+        let hands = Vec::with_capacity(alloc, claims.len())?;
+        let hands = deal(&claims, mark, hands)?;
+        Ok((claims, hands))
+    }
+
     /// Lists of these lengths, none of whose places is claimed, with a mark that has the parts of all
     /// hands, of which there are as many as lists.
-    pub(crate) fn of(alloc: A, lengths: Vec<u64, A>) -> Result<(Claims<A>, Mark), AllocError>
+    pub(crate) fn new(alloc: A, lengths: Vec<u64, A>) -> Result<(Claims<A>, Mark), AllocError>
         requires some { 0 < length lengths.items }
         requires short { AllByRecursion (λ n. n + length lengths.items < 2 ^ 64) lengths.items }
         ensures lengths { IfOk result (λ made. made.0.lengths ≡ lengths.items) }

@@ -33,7 +33,7 @@ impl Model for Gathering {
 
 impl Gathering {
     /// What one hand knows.
-    pub fn of(hand: Claimant) -> Gathering
+    pub fn new(hand: Claimant) -> Gathering
         ensures { result ≡ record { lists = hand.lists; hands = 1; places = hand.places; ended = hand.ended } }
     {
         Gathering {

@@ -8,7 +8,7 @@ mod laws;
 mod plays;
 mod view;
 
-pub use claimant::{Claimant, open};
+pub use claimant::Claimant;
 pub use claims::Claims;
 pub use gathering::Gathering;
 pub use laws::no_word_passes_its_list_by_more_than_the_hands;

@@ -17,7 +17,7 @@ pub trait Gate {
 }
 
 /// Steps a hand until it is done, or wants memory. It comes to that, since each other step does a parcel.
-pub(crate) fn work_off<'t, 'h, H: Allocator, G: Gate>(hand: &mut Hand<'t, 'h, H>, gate: &G)
+pub(crate) fn step_until_done<'t, 'h, H: Allocator, G: Gate>(hand: &mut Hand<'t, 'h, H>, gate: &G)
     ensures works { WorksOff hand.old hand.new }
     // It passed the gate under its number: of a gate of which nothing is known, a pass alone tells this.
     ensures passed { G.passed_by hand.old.number }
@@ -25,7 +25,7 @@ pub(crate) fn work_off<'t, 'h, H: Allocator, G: Gate>(hand: &mut Hand<'t, 'h, H>
     loop {
         gate.pass(hand.number());
         match hand.step() {
-            Step::Did(_) => hand.stands(),
+            Step::Did(_) => hand.use_invariant(),
             Step::Done | Step::NoMemory => return,
         }
     }

@@ -8,7 +8,7 @@ ghost use Rattle.overlay_claims.specs.Claimants.{fresh as fresh_claimant};
 ghost use Rattle.overlay_work.specs.Rounds.{fresh, DoesParcel, IsDone, WaitsForMemory, HasAllEnds};
 ghost use Rattle.overlay_work.specs.own.Kept.{Takes, ArePairsOfAll, ids_at};
 
-use crate::tests_of_parcels::keep_pairs;
+use crate::pair_search::keep_pairs;
 use crate::work::Work;
 use overlay_claims::Claimant;
 use std::alloc::{AllocError, Allocator};
@@ -63,7 +63,7 @@ impl<'t, 'h, H: Allocator> Model for Hand<'t, 'h, H> {
 
 impl<'t, 'h, H: Allocator> Hand<'t, 'h, H> {
     /// A hand that has claimed nothing.
-    pub(crate) fn of(
+    pub(crate) fn new(
         heap: &'h H,
         work: Arc<Work<'t, 'h, H>, &'h H>,
         claimant: Claimant,
@@ -120,7 +120,7 @@ impl<'t, 'h, H: Allocator> Hand<'t, 'h, H> {
         ensures some { IfSome result (λ id. Takes self.old self.new id) }
         ensures none { IfNone result (IsDone self.old self.new) }
     {
-        self.work.stands();
+        self.work.use_invariant();
         let Some((list, place)) = self.claimant.next(self.work.claims()) else {
             return None;
         };
@@ -136,7 +136,7 @@ impl<'t, 'h, H: Allocator> Hand<'t, 'h, H> {
         ensures same { (self.new.task ≡ self.old.task) × (self.new.number ≡ self.old.number) }
         ensures err { OnErr result (self.new ≡ self.old) }
     {
-        self.work.stands();
+        self.work.use_invariant();
         let tests = keep_pairs(&self.work, id, &mut self.kept)?;
         self.holds = None;
         self.tests += tests as u64;
@@ -165,17 +165,17 @@ impl<'t, 'h, H: Allocator> Hand<'t, 'h, H> {
     }
 
     /// It did no more parcels than a layer may have.
-    pub(crate) fn stands(&self)
+    pub(crate) fn use_invariant(&self)
         ensures { length self.now.did ≤ LAYER_CORNERS }
     {
-        self.work.stands();
+        self.work.use_invariant();
     }
 
     /// Whether it has found each list at its end.
     pub(crate) fn is_done(&self) -> bool
         ensures { IsTrue result ↔ HasAllEnds self.now }
     {
-        self.work.stands();
+        self.work.use_invariant();
         self.claimant.is_done()
     }
 

@@ -83,13 +83,13 @@ pub(crate) fn confirm<'t, 'h, H: Allocator>(
         (all_places 0 (map (λ list. length list) work.now.lists)) }
     ensures did { IsPermutation (flat_map (λ hand. hand.did) hands.entry.items) (numbers work.now.rows) }
 {
-    work.stands();
+    work.use_invariant();
     let claims = work.claims();
     let mut rest = hands.into_iter();
     let Some(first) = rest.next() else {
         unreachable!();
     };
-    let mut all = Gathering::of(first.into_claimant());
+    let mut all = Gathering::new(first.into_claimant());
     for hand in rest {
         all.add(claims, hand.into_claimant());
     }

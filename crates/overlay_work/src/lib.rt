@@ -6,12 +6,12 @@ mod close;
 mod gate;
 mod hand;
 mod hands_in;
+mod pair_search;
 mod pairs;
 mod queues;
 mod round;
 mod run;
 mod sharing;
-mod tests_of_parcels;
 mod work;
 
 pub use close::{CloseFault, RoundBack};

@@ -16,7 +16,7 @@ use crate::sharing::{least_out_of_place, lengths_of};
 use crate::work::Work;
 use fabric_core::{Layer, Sheet};
 use geo_exact::Corner;
-use overlay_claims::{Claimant, open};
+use overlay_claims::{Claimant, Claims};
 use std::alloc::{AllocError, AllocFailed, Allocator};
 use std::marker::Model;
 use std::sync::Arc;
@@ -160,10 +160,10 @@ fn begin<'t, 'h, H: Allocator>(
     ensures entries { IfOk result (λ made. (arc_value made.0).entries ≡ length sheet.now.journal) }
     ensures claimants { IfOk result (λ made. made.1.items ≡ fresh_claimants (arc_value made.0).claims (length lists.entry.items)) }
 {
-    sheet.tiles();
+    sheet.use_invariant();
     let lengths = lengths_of(heap, lists.as_slice())?;
-    let (claims, claimants) = open(heap, lengths)?;
-    let work = Arc::new(heap, Work::of(claims, lists, sheet, zones))?;
+    let (claims, claimants) = Claims::open(heap, lengths)?;
+    let work = Arc::new(heap, Work::new(claims, lists, sheet, zones))?;
     Ok((work, claimants))
 }
 
@@ -178,7 +178,7 @@ fn hands_of<'t, 'h, H: Allocator>(
 {
     let mut hands = Vec::with_capacity(heap, claimants.len())?;
     for claimant in claimants {
-        hands.push(Hand::of(heap, Arc::try_clone(work)?, claimant))?;
+        hands.push(Hand::new(heap, Arc::try_clone(work)?, claimant))?;
     }
     Ok(hands)
 }

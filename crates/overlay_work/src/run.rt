@@ -10,7 +10,7 @@ ghost use Rattle.overlay_work.specs.Faults.{AreAllIn, IsRunFault};
 ghost use Rattle.overlay_work.specs.own.Gathered.{HaveStopped};
 
 use crate::close::{CloseFault, RoundBack};
-use crate::gate::{Gate, work_off};
+use crate::gate::{Gate, step_until_done};
 use crate::hand::Hand;
 use crate::hands_in::least_holding;
 use crate::round::Round;
@@ -30,7 +30,7 @@ impl<'t, 'h, H: Allocator + Send + Sync, G: Gate + Sync> Job<G> for Hand<'t, 'h,
     }
 
     fn work(mut self, with: &G) -> Hand<'t, 'h, H> {
-        work_off(&mut self, with);
+        step_until_done(&mut self, with);
         self
     }
 }
@@ -117,7 +117,7 @@ fn close_worked<'t, 'h, H: Allocator>(
     ensures fault { (old : List Progress) → IfErr result (λ back. IsRunFault round.entry old hands.entry.items threads.entry back.fault) }
     ensures refuses { (AreAllIn round.entry hands.entry.items → ⊥) → IsErr result }
 {
-    round.work().stands();
+    round.work().use_invariant();
     if least_holding(hands.as_slice()).is_some() {
         return Err(RoundBack {
             round,

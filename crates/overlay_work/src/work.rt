@@ -50,7 +50,7 @@ impl<'t, 'h, H: Allocator> Model for Work<'t, 'h, H> {
 
 impl<'t, 'h, H: Allocator> Work<'t, 'h, H> {
     /// What the hands share.
-    pub(crate) fn of(
+    pub(crate) fn new(
         claims: Claims<&'h H>,
         lists: Vec<Vec<u64, &'h H>, &'h H>,
         sheet: &'t Sheet<'h, H>,
@@ -68,8 +68,8 @@ impl<'t, 'h, H: Allocator> Work<'t, 'h, H> {
           entries = length sheet.now.journal;
         } }
     {
-        sheet.tiles();
-        zones.tiles();
+        sheet.use_invariant();
+        zones.use_invariant();
         Work {
             claims,
             lists,
@@ -79,7 +79,7 @@ impl<'t, 'h, H: Allocator> Work<'t, 'h, H> {
     }
 
     /// The lists share the sheet's ids.
-    pub(crate) fn stands(&self)
+    pub(crate) fn use_invariant(&self)
         ensures { IsTask self.now }
     {
         let _ = &self.lists;

@@ -87,12 +87,12 @@ impl<'h, H: Allocator> Parcels<'h, H> {
     }
 
     /// The rows are within the limits of a layer's corners.
-    pub fn are_within(&self)
+    pub fn use_invariant(&self)
         ensures { AreWithinLimits (register_of_parcels self.now).now.rows }
     {
         match self {
-            Parcels::Read(layer) => layer.tiles(),
-            Parcels::Changed(sheet) => sheet.tiles(),
+            Parcels::Read(layer) => layer.use_invariant(),
+            Parcels::Changed(sheet) => sheet.use_invariant(),
         }
     }
 
@@ -188,7 +188,7 @@ fn as_read<'h, H: Allocator>(
         AreLocated (register_of_parcels edited.parcels).now.rows corners.now edited.places.items) }
 {
     let places = places_in(heap, &layer, corners)?;
-    layer.tiles();
+    layer.use_invariant();
     Ok(Edited {
         parcels: Parcels::Read(layer),
         lines: Vec::new(heap),

@@ -83,7 +83,7 @@ pub(crate) fn written<'h, H: Allocator>(
     ensures main { IfOk result (λ files. files.0.items ≡ written_main (lists_of_parcels parcels.now)) }
     ensures index { IfOk result (λ files. files.1.items ≡ written_index (lists_of_parcels parcels.now)) }
 {
-    parcels.are_within();
+    parcels.use_invariant();
     let rings = rings_to_write(heap, parcels.shapes())?;
     write_layer(heap, &rings)
 }

@@ -104,7 +104,7 @@ pub(crate) fn write_both<'t, 'h, H: Allocator, A: Allocator, W: ByteOut>(
     ensures failed { OnErr result (W.failure_count out.new ≡ raised (W.failure_count out.old)) }
     ensures no_failure { OnOk result (W.failure_count out.new ≡ W.failure_count out.old) }
 {
-    table.stands();
+    table.use_invariant();
     put_all(lines, out)?;
     write_report(table, out)?;
     Ok(())

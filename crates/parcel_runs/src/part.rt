@@ -55,7 +55,7 @@ pub fn part<'h, H: Allocator, A: Allocator>(
         → IsErrAnd result (λ told. (told ≡ fault) ⊎ (told ≡ ToolFault.NoMemory)) }
 {
     let layer = load_tiles(heap, city, districts, unit)?;
-    layer.tiles();
+    layer.use_invariant();
     match layer.ring(id) {
         Some(ring) => Ok(part_of(heap, id, ring)?),
         None => Err(ToolFault::NoParcel(id)),

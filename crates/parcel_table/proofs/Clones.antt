@@ -7,7 +7,7 @@ use Rattle.std.specs.List.{AllZip, cons_option}
 use Rattle.std.proofs.lemmas.List.Elements.{length_all_zip}
 use Rattle.std.proofs.lemmas.List.Sums.{sum_by-cons}
 use Rattle.slab.specs.Slab.{Slab, get, IsSlotClone}
-use Rattle.cell_index.specs.declared.entry.Entry.{Entry}
+use Rattle.cell_index.specs.declared.entry.IndexEntry.{IndexEntry}
 use Rattle.geo_exact.specs.declared.bounds.Bounds.{Bounds}
 use Rattle.geo_exact.specs.Bounds.{IsLeastBox}
 use Rattle.geo_exact.specs.Layers.{numbered}
@@ -117,7 +117,7 @@ module _ {A : Type 0} where
       ∙ ap (λ bounds. entry x.0 bounds ∷ entries_of ys) h.0.1.bounds
       ∙ ap (λ entries. entry x.0 x.1.shape.bounds ∷ entries) (same_entries xs ys h.1)
     where
-      entry : ℕ → Bounds → Entry
+      entry : ℕ → Bounds → IndexEntry
       entry key bounds = record { key = key; bounds = bounds }
 
 -- copies of places are the same places

@@ -6,7 +6,7 @@ use Rattle.std.specs.List.Sorted.{IsStrictlyIncreasing}
 use Rattle.std.proofs.Math.ListN.{get_or-map}
 use Rattle.std.proofs.lemmas.List.Elements.{Contains-get_or}
 use Rattle.std.proofs.lemmas.List.Kept.{AllPairs-cons}
-use Rattle.cell_index.specs.declared.entry.Entry.{Entry}
+use Rattle.cell_index.specs.declared.entry.IndexEntry.{IndexEntry}
 use Rattle.cell_index.specs.Cells.{HaveOwnKeys}
 use Rattle.cell_index.proofs.Members.{from_mapped}
 use Rattle.slab.specs.Slab.{Slab, get}
@@ -58,12 +58,12 @@ module _ {A : Type 0} where
       rw h.0.1 (AllPairs-cons (λ a b. a.key ≢ b.key) (record { key = key; bounds = h.0.0.shape.bounds }) (entries_of (keyed slab places))
       (all_of (λ b. key ≢ b.key) (entries_of (keyed slab places)) later) (own_keys slab (first + 1) places h.1))
     where
-      later : (b : Entry) → Contains (entries_of (keyed slab places)) b → key ≢ b.key
+      later : (b : IndexEntry) → Contains (entries_of (keyed slab places)) b → key ≢ b.key
       later b c e =
           let m = from_mapped (λ parcel. record { key = parcel.0; bounds = parcel.1.shape.bounds }) (keyed slab places) b c in
           let w = stands_at slab (first + 1) places m.0.0 m.0.1 h.1 m.1 in
           let same : h.0.0 ≡ m.0.1 = same_parcel h.0.0 m.0.1
-          (sym h.0.1 ∙ ap (get slab) (e ∙ sym (ap (λ (x : Entry). x.key) m.2)) ∙ w.is_there) in
+          (sym h.0.1 ∙ ap (get slab) (e ∙ sym (ap (λ (x : IndexEntry). x.key) m.2)) ∙ w.is_there) in
           let ids : h.0.0.id ≡ m.0.1.id = ap (λ (p : Parcel A). p.id) same in
           omega (arith, w.is_id, ids, h.0.2)
 

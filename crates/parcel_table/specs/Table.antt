@@ -1,7 +1,7 @@
 -- A table of parcels, each under a key and with an id, and what has become of the ids that were given out (this product's own).
 use Rattle.std.specs.Prelude.{◌≡◌, ℕ, nat_eq, not, if◌then◌else◌, List, map, Option, Some, None, slice_index_or}
 use Rattle.std.specs.List.{filter, AllZip, Contains}
-use Rattle.cell_index.specs.declared.entry.Entry.{Entry}
+use Rattle.cell_index.specs.declared.entry.IndexEntry.{IndexEntry}
 use Rattle.geo_exact.specs.Layers.{NumberedRing, numbered}
 use Rattle.ring_core.specs.declared.shape.Shape.{Shape}
 use Rattle.parcel_table.specs.declared.parcels.Parcel.{Parcel}
@@ -77,5 +77,5 @@ module _ {A : Type 0} where
   rows_of_keyed parcels = map (λ parcel. numbered parcel.1.id parcel.1.shape.ring.corners) parcels
 
   -- parcels as the entries of a grid index: each one's box under its key
-  abbrev pub entries_of : List (ℕ × Parcel A) → List Entry
+  abbrev pub entries_of : List (ℕ × Parcel A) → List IndexEntry
   entries_of parcels = map (λ parcel. record { key = parcel.0; bounds = parcel.1.shape.bounds }) parcels

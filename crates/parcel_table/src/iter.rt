@@ -37,7 +37,7 @@ impl<'l, A: Allocator> Model for Shapes<'l, A> {
 
 impl<'l, A: Allocator> Shapes<'l, A> {
     /// The parcels that these places lead to, of which there are so many.
-    pub(crate) fn of(slab: &'l Slab<Parcel<A>, A>, places: &'l [Place]) -> Shapes<'l, A>
+    pub(crate) fn new(slab: &'l Slab<Parcel<A>, A>, places: &'l [Place]) -> Shapes<'l, A>
         requires { slab_len slab.now ≡ length (shapes_at slab.now places.now) }
         ensures { result ≡ shapes_at slab.now places.now }
     {
@@ -96,7 +96,7 @@ impl<'l, A: Allocator> Model for Ids<'l, A> {
 
 impl<'l, A: Allocator> Ids<'l, A> {
     /// The ids beside these shapes.
-    pub(crate) fn of(shapes: Shapes<'l, A>) -> Ids<'l, A>
+    pub(crate) fn new(shapes: Shapes<'l, A>) -> Ids<'l, A>
         ensures { result ≡ map (λ shape. shape.0) shapes.entry }
     {
         Ids { shapes }

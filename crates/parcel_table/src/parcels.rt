@@ -262,7 +262,7 @@ impl<A: Allocator> Parcels<A> {
     }
 
     /// The parcels have keys of their own, and their ids ascend and are below the next one; none of them is retired.
-    pub fn stand_apart(&self)
+    pub fn use_invariant(&self)
         ensures keys { HaveOwnKeys (entries_of self.now.parcels) }
         ensures ascend { IsStrictlyIncreasing (ids_of self.now.parcels) }
         ensures below { (id : ℕ) → HasId self.now.parcels id → id < self.now.next }
@@ -285,13 +285,13 @@ impl<A: Allocator> Parcels<A> {
     pub fn ids(&self) -> Ids<'_, A>
         ensures { result ≡ ids_of self.now.parcels }
     {
-        Ids::of(self.shapes())
+        Ids::new(self.shapes())
     }
 
     /// The ids and the shapes of all parcels, by ascending id.
     pub fn shapes(&self) -> Shapes<'_, A>
         ensures { result ≡ shapes_of self.now.parcels }
     {
-        Shapes::of(&self.slab, self.places.as_slice())
+        Shapes::new(&self.slab, self.places.as_slice())
     }
 }

@@ -1,7 +1,7 @@
 //! Three boxes in an area of 100 by 100 millimetres, whose cells are 2 wide and high: two that lie
 //! along its south side, and one that stands in too many cells to be kept in them.
 
-use cell_index::{CellIndex, Entry};
+use cell_index::{CellIndex, IndexEntry};
 use geo_exact::{Bounds, Corner};
 use refusing_alloc::Refusing;
 use std::alloc::{AllocError, Allocator};
@@ -18,22 +18,22 @@ const AREA: Bounds = Bounds {
 };
 
 /// What three parcels have: south, from x 0 to 60 and from x 60 to 100, and all of the rest.
-const PARCELS: [Entry; 3] = [
-    Entry {
+const PARCELS: [IndexEntry; 3] = [
+    IndexEntry {
         key: 1,
         bounds: Bounds {
             low: Corner { x: 0, y: 0 },
             high: Corner { x: 60, y: 4 },
         },
     },
-    Entry {
+    IndexEntry {
         key: 2,
         bounds: Bounds {
             low: Corner { x: 60, y: 0 },
             high: Corner { x: 100, y: 4 },
         },
     },
-    Entry {
+    IndexEntry {
         key: 3,
         bounds: Bounds {
             low: Corner { x: 0, y: 10 },
@@ -44,57 +44,57 @@ const PARCELS: [Entry; 3] = [
 
 /// What comes in place of the first and the third: four in the cell of one corner, and four that are
 /// wide.
-const COMING: [Entry; 8] = [
-    Entry {
+const COMING: [IndexEntry; 8] = [
+    IndexEntry {
         key: 4,
         bounds: Bounds {
             low: Corner { x: 61, y: 5 },
             high: Corner { x: 61, y: 5 },
         },
     },
-    Entry {
+    IndexEntry {
         key: 5,
         bounds: Bounds {
             low: Corner { x: 0, y: 10 },
             high: Corner { x: 100, y: 100 },
         },
     },
-    Entry {
+    IndexEntry {
         key: 6,
         bounds: Bounds {
             low: Corner { x: 61, y: 5 },
             high: Corner { x: 61, y: 5 },
         },
     },
-    Entry {
+    IndexEntry {
         key: 7,
         bounds: Bounds {
             low: Corner { x: 0, y: 0 },
             high: Corner { x: 100, y: 100 },
         },
     },
-    Entry {
+    IndexEntry {
         key: 8,
         bounds: Bounds {
             low: Corner { x: 61, y: 5 },
             high: Corner { x: 61, y: 5 },
         },
     },
-    Entry {
+    IndexEntry {
         key: 9,
         bounds: Bounds {
             low: Corner { x: 0, y: 0 },
             high: Corner { x: 60, y: 100 },
         },
     },
-    Entry {
+    IndexEntry {
         key: 10,
         bounds: Bounds {
             low: Corner { x: 61, y: 5 },
             high: Corner { x: 61, y: 5 },
         },
     },
-    Entry {
+    IndexEntry {
         key: 11,
         bounds: Bounds {
             low: Corner { x: 0, y: 0 },
@@ -126,7 +126,7 @@ fn kept_at<'a, H: Allocator>(
 }
 
 /// Whether the entries have these keys, in this order.
-fn are_keys(entries: &[Entry], want: &[usize]) -> bool {
+fn are_keys(entries: &[IndexEntry], want: &[usize]) -> bool {
     if entries.len() != want.len() {
         return false;
     }
@@ -330,7 +330,7 @@ fn each_growth_refused(rt: HostRuntime) -> Result<(), Fail> {
 fn grow<'a, H: Allocator>(index: &mut CellIndex<'a, H>) -> Result<(), AllocError> {
     let place = Corner { x: 61, y: 5 };
     for key in 3..7 {
-        index.add(Entry {
+        index.add(IndexEntry {
             key,
             bounds: Bounds::of_corner(place),
         })?;

@@ -6,4 +6,4 @@ mod publisher;
 mod version;
 
 pub use publisher::Publisher;
-pub use version::{Follows, Told, Version};
+pub use version::{Enqueued, Follows, Version};

@@ -5,7 +5,7 @@ ghost use mathlib.Core.List.{IsPrefix};
 ghost use Rattle.published_copies.specs.own.Keeping.{waiting_list};
 
 use crate::copies::Copies;
-use crate::version::{Follows, Told, Version};
+use crate::version::{Enqueued, Follows, Version};
 use entry_history::{Front, History, Naming, Opened};
 use left_right::ReadHandle;
 use std::alloc::{AllocError, Allocator};
@@ -20,8 +20,8 @@ pub struct Publisher<F: Follows<E>, E: Drop, J: Naming, R: Wait + Drop, A: Alloc
     history: History<E, J>,
     front: Front<E, J>,
     // The last entry, as long as the writer has no memory for it.
-    waiting: Option<Told<E, J>>,
-    copies: Copies<Version<F, E, J>, Told<E, J>, R, A>,
+    waiting: Option<Enqueued<E, J>>,
+    copies: Copies<Version<F, E, J>, Enqueued<E, J>, R, A>,
 }
 
 impl<F: Follows<E>, E: Drop, J: Naming, R: Wait + Drop, A: Allocator> Model
@@ -60,8 +60,8 @@ impl<F: Follows<E>, E: Drop, J: Naming, R: Wait + Drop, A: Allocator> Publisher<
         ensures { IfOk result (λ publisher. publisher ≡ record { handed = []; shown = [] }) }
     {
         let (history, front) = opened.named::<J>();
-        let first = Version::of(first, front.again());
-        let second = Version::of(second, front.again());
+        let first = Version::new(first, front.again());
+        let second = Version::new(second, front.again());
         let copies = Copies::new(alloc, rt, first, second, readers)?;
         Ok(Publisher {
             history,
@@ -107,7 +107,7 @@ impl<F: Follows<E>, E: Drop, J: Naming, R: Wait + Drop, A: Allocator> Publisher<
             return Err(entry);
         }
         self.front.learn(&front);
-        self.waiting = Some(Told::of(entry, front));
+        self.waiting = Some(Enqueued::new(entry, front));
         flush(&mut self.waiting, &mut self.copies);
         Ok(())
     }
@@ -130,7 +130,7 @@ impl<F: Follows<E>, E: Drop, J: Naming, R: Wait + Drop, A: Allocator> Publisher<
     }
 
     /// What the published copy has followed begins what was handed on.
-    pub fn begins(&self)
+    pub fn use_invariant(&self)
         ensures { IsPrefix self.now.shown self.now.handed }
     {
         let _ = &self.copies;
@@ -142,8 +142,8 @@ impl<F: Follows<E>, E: Drop, J: Naming, R: Wait + Drop, A: Allocator> Publisher<
 
 /// Gives the writer the entry that waits; whether none waits then.
 fn flush<F: Follows<E>, E: Drop, J: Naming, R: Wait + Drop, A: Allocator>(
-    waiting: &mut Option<Told<E, J>>,
-    copies: &mut Copies<Version<F, E, J>, Told<E, J>, R, A>,
+    waiting: &mut Option<Enqueued<E, J>>,
+    copies: &mut Copies<Version<F, E, J>, Enqueued<E, J>, R, A>,
 ) -> bool
     ensures shown { copies.new.shown ≡ copies.old.shown }
     ensures flushed { MatchBool result

@@ -37,7 +37,7 @@ impl<F: Follows<E>, E: Drop, J: Naming> Model for Version<F, E, J> {
 
 impl<F: Follows<E>, E: Drop, J: Naming> Version<F, E, J> {
     /// A copy that has followed this beginning of the list.
-    pub(crate) fn of(value: F, front: Front<E, J>) -> Version<F, E, J>
+    pub(crate) fn new(value: F, front: Front<E, J>) -> Version<F, E, J>
         requires { F.entries value ≡ front }
         ensures { result ≡ front }
     {
@@ -62,12 +62,12 @@ impl<F: Follows<E>, E: Drop, J: Naming> Version<F, E, J> {
 /// An entry that is handed on to the copies, beside the beginning of the list that ends with it.
 /// Contracts see the entry.
 #[derive(Drop)]
-pub struct Told<E: Drop, J: Naming> {
+pub struct Enqueued<E: Drop, J: Naming> {
     entry: E,
     front: Front<E, J>,
 }
 
-impl<E: Drop, J: Naming> Model for Told<E, J> {
+impl<E: Drop, J: Naming> Model for Enqueued<E, J> {
     ghost use Rattle.std.specs.Prelude.{◌≡◌};
     ghost use Rattle.published_copies.specs.own.Keeping.{EndsWith};
 
@@ -78,17 +78,17 @@ impl<E: Drop, J: Naming> Model for Told<E, J> {
     ghost invariant = { λ told. EndsWith told.front told.entry };
 }
 
-impl<E: Drop, J: Naming> Told<E, J> {
+impl<E: Drop, J: Naming> Enqueued<E, J> {
     /// An entry that ends this beginning of the list.
-    pub(crate) fn of(entry: E, front: Front<E, J>) -> Told<E, J>
+    pub(crate) fn new(entry: E, front: Front<E, J>) -> Enqueued<E, J>
         requires { EndsWith front entry }
         ensures { result ≡ entry }
     {
-        Told { entry, front }
+        Enqueued { entry, front }
     }
 }
 
-impl<F: Follows<E>, E: Drop, J: Naming> Absorb<Told<E, J>> for Version<F, E, J> {
+impl<F: Follows<E>, E: Drop, J: Naming> Absorb<Enqueued<E, J>> for Version<F, E, J> {
     type State = [E; 0];
 
     ghost use Rattle.std.specs.Prelude.{◌++◌, ◌∷◌, []};
@@ -100,7 +100,7 @@ impl<F: Follows<E>, E: Drop, J: Naming> Absorb<Told<E, J>> for Version<F, E, J> 
     /// Where the entry is not the next of the list, nothing is absorbed; who hands on hands on each in turn.
     fn absorb_first(
         &mut self,
-        operation: &Told<E, J>,
+        operation: &Enqueued<E, J>,
         _other: &Version<F, E, J>,
     ) -> Result<(), AllocError> {
         if operation.front.len() - 1 != self.front.len() {

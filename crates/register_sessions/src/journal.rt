@@ -107,7 +107,7 @@ impl<A: Allocator> ReadJournal<A> {
             self.file.sync_data()?;
         }
         let ReadJournal { file, .. } = self;
-        Ok(Journal::of(file))
+        Ok(Journal::new(file))
     }
 }
 
@@ -143,7 +143,7 @@ struct Synced {
 
 impl Journal {
     /// A journal to whose file nothing was written yet.
-    fn of(file: File) -> Journal {
+    fn new(file: File) -> Journal {
         Journal {
             file,
             written: Mutex::new(Written { is_broken: false }),

@@ -47,7 +47,7 @@ pub(crate) fn report_overlay<'h, H: Allocator, W: ByteOut>(
 ) -> Result<(), Trouble> {
     match table_of(heap, sheet, zones) {
         Ok(table) => {
-            table.stands();
+            table.use_invariant();
             write_out(text, out)?;
             if write_report(&table, out).is_err() {
                 return Err(Trouble::Failed);
@@ -81,7 +81,7 @@ fn table_of<'t, 'h, H: Allocator>(
     let Some(mut hand) = hands.pop() else {
         return Err(SessionFault::NoMemory);
     };
-    work_off(&mut hand);
+    step_until_done(&mut hand);
     let Ok(()) = hands.push(hand) else {
         return Err(SessionFault::NoMemory);
     };
@@ -106,7 +106,7 @@ fn whole_list<'h, H: Allocator>(
 }
 
 /// Steps a hand until it is done, or wants memory.
-fn work_off<'t, 'h, H: Allocator>(hand: &mut Hand<'t, 'h, H>)
+fn step_until_done<'t, 'h, H: Allocator>(hand: &mut Hand<'t, 'h, H>)
     ensures { hand.new.task ≡ hand.old.task }
 {
     for _ in 0..u64::MAX {

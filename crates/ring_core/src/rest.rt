@@ -61,7 +61,7 @@ impl<A: Allocator + Copy> Rest<A> {
     /// # Errors
     ///
     /// [`AllocError`] where an allocation is refused.
-    pub(crate) fn of(alloc: A, corners: &[Corner]) -> Result<Rest<A>, AllocError>
+    pub(crate) fn from_corners(alloc: A, corners: &[Corner]) -> Result<Rest<A>, AllocError>
         ensures { IfOk result (λ rest. rest ≡ corners.now) }
     {
         let numbers = numbers_of(alloc, corners.len())?;

@@ -79,7 +79,7 @@ impl<A: Allocator + Copy> Shape<A> {
         ensures areas { IfOk result (λ shape. area2 ring.corners ≡ area2_of_triangles shape.triangles) }
         ensures bounds { IfOk result (λ shape. IsLeastBox shape.bounds ring.corners) }
     {
-        let mut rest = Rest::of(alloc, ring.corners.as_slice())?;
+        let mut rest = Rest::from_corners(alloc, ring.corners.as_slice())?;
         let mut triangles = Triangles::with_capacity(alloc, ring.corners.len().saturating_sub(2))?;
         while rest.as_slice().len() > 2 {
             if let Some(k) = rest.first_flat() {

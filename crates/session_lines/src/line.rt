@@ -89,7 +89,7 @@ fn read_locate(line: &[u8]) -> Option<Corner>
     ensures found { IfSome result (IsLocateLine (words_of line.now)) }
     ensures none { IfNone result ((corner : CornerValue) → ¬ IsLocateLine (words_of line.now) corner) }
 {
-    let mut words = Words::of(line);
+    let mut words = Words::new(line);
     let name = words.next()?;
     let x = words.next()?;
     let y = words.next()?;
@@ -105,7 +105,7 @@ fn read_parcel(line: &[u8]) -> Option<u64>
     ensures found { IfSome result (IsParcelLine (words_of line.now)) }
     ensures none { IfNone result ((id : ℕ) → ¬ IsParcelLine (words_of line.now) id) }
 {
-    let mut words = Words::of(line);
+    let mut words = Words::new(line);
     let name = words.next()?;
     let id = words.next()?;
     if name == b"parcel".as_slice() && words.is_empty() {

@@ -42,11 +42,14 @@ pub trait Sink {
 impl<A: Allocator> Sink for Vec<u8, A> {
     type Fault = AllocError;
 
+    ghost use Rattle.std.specs.Prelude.{Some};
     ghost use Rattle.std.proofs.Common.{ap, sym, ◌∙◌, append_assoc, append-nil};
+    ghost use Rattle.text_pieces.specs.Beginnings.{AppendsBeginning};
+    ghost use Rattle.text_pieces.specs.own.Gathering.{begins_more, begins_behind};
 
     ghost takes = { λ old piece new. new.items ≡ old.items ++ piece };
 
-    ghost breaks_off = { λ _ _ _. ⊤ };
+    ghost breaks_off = { λ old piece new. AppendsBeginning (Some old.items) (Some new.items) piece };
 
     fn push_piece(&mut self, piece: &str) -> Result<(), AllocError> {
         self.extend_from_slice(piece.as_bytes())
@@ -56,9 +59,10 @@ impl<A: Allocator> Sink for Vec<u8, A> {
 
     ghost takes_both = { λ a b c first second h k. k ∙ ap (λ t. t ++ second) h ∙ append_assoc a.items first second };
 
-    ghost breaks_off_later = { λ _ _ _ _ _ _ _. tt };
+    ghost breaks_off_later = { λ a b c first second h k.
+        begins_behind (Some a.items) (Some b.items) (Some c.items) first second h k };
 
-    ghost breaks_off_before = { λ _ _ _ _ _. tt };
+    ghost breaks_off_before = { λ a b first second h. begins_more (Some a.items) (Some b.items) first second h };
 }
 
 // What a formatter has written is not told.

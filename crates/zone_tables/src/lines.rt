@@ -71,7 +71,7 @@ fn push_splits<S: Sink>(text: &mut S, pairs: &[(u64, u64)]) -> Result<(), S::Fau
     ensures ok { OnOk result (S.takes text.old (flat_map split_line (split_ids (zonings pairs.now))) text.new) }
     ensures err { OnErr result (S.breaks_off text.old (flat_map split_line (split_ids (zonings pairs.now))) text.new) }
 {
-    for parcel in Zonings::of(pairs) {
+    for parcel in Zonings::new(pairs) {
         if parcel.is_split {
             push_line(text, "split", &[parcel.id])?;
         }
@@ -84,7 +84,7 @@ fn push_singles<S: Sink>(text: &mut S, pairs: &[(u64, u64)]) -> Result<(), S::Fa
     ensures ok { OnOk result (S.takes text.old (flat_map within_line (single_zones (zonings pairs.now))) text.new) }
     ensures err { OnErr result (S.breaks_off text.old (flat_map within_line (single_zones (zonings pairs.now))) text.new) }
 {
-    for parcel in Zonings::of(pairs) {
+    for parcel in Zonings::new(pairs) {
         if !parcel.is_split {
             push_line(text, "within", &[parcel.id, parcel.zone])?;
         }

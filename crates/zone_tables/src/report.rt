@@ -30,7 +30,7 @@ pub fn write_report<'t, 'h, H: Allocator, A: Allocator, W: ByteOut>(
     ensures failed { OnErr result (W.failure_count out.new ≡ raised (W.failure_count out.old)) }
     ensures no_failure { OnOk result (W.failure_count out.new ≡ W.failure_count out.old) }
 {
-    table.stands();
+    table.use_invariant();
     let mut text = Gathered::new(out);
     push_report(&mut text, table.entries(), table.pairs())?;
     text.finish()

@@ -67,7 +67,7 @@ impl<'t, 'h, H: Allocator, A: Allocator> Table<'t, 'h, H, A> {
     }
 
     /// The pairs are all those of a parcel and a zone whose interiors meet, and parcels and zones both tile the city.
-    pub fn stands(&self)
+    pub fn use_invariant(&self)
         ensures table { IsOverlapTable self.now.rows self.now.zones self.now.pairs }
         ensures tiling { IsTiling self.now.rows self.now.city }
         ensures zones_tile { IsTiling self.now.zones self.now.city }
@@ -75,8 +75,8 @@ impl<'t, 'h, H: Allocator, A: Allocator> Table<'t, 'h, H, A> {
         ensures ids_rise { IsStrictlyIncreasing (numbers self.now.rows) }
         ensures zones_rise { IsStrictlyIncreasing (numbers self.now.zones) }
     {
-        self.sheet.tiles();
-        self.zones.tiles();
+        self.sheet.use_invariant();
+        self.zones.use_invariant();
         let _ = self.sheet.ids();
         let _ = self.zones.ids();
         let _ = &self.pairs;
@@ -111,9 +111,9 @@ impl<'t, 'h, H: Allocator, A: Allocator> Table<'t, 'h, H, A> {
         A: Copy,
         ensures { IfOk result (λ ids. AreSplitZoned self.now.rows self.now.zones ids.items) }
     {
-        self.stands();
+        self.use_invariant();
         let mut ids = Vec::new(*self.pairs.allocator());
-        for parcel in Zonings::of(&self.pairs) {
+        for parcel in Zonings::new(&self.pairs) {
             if parcel.is_split {
                 ids.push(parcel.id)?;
             }
@@ -133,7 +133,7 @@ impl<'t, 'h, H: Allocator, A: Allocator> Table<'t, 'h, H, A> {
         ensures within { (zone : ℕ) → (result ≡ Some zone) ↔ IsWithinZone self.now.rows self.now.zones id zone }
         ensures alone { (zone : ℕ) → (result ≡ Some zone) ↔ OverlapsAlone self.now.rows self.now.zones id zone }
     {
-        self.stands();
+        self.use_invariant();
         only_zone(id, &self.pairs)
     }
 }

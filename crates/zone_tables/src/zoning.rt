@@ -35,7 +35,7 @@ impl<'p> Model for Zonings<'p> {
 
 impl<'p> Zonings<'p> {
     /// The parcels of these pairs.
-    pub(crate) fn of(pairs: &'p [(u64, u64)]) -> Zonings<'p>
+    pub(crate) fn new(pairs: &'p [(u64, u64)]) -> Zonings<'p>
         ensures { result ≡ zonings pairs.now }
     {
         Zonings { pairs }
@@ -90,6 +90,6 @@ pub(crate) fn only_zone(id: u64, pairs: &[(u64, u64)]) -> Option<u64>
     requires { AreInPairOrder pairs.now }
     ensures { (zone : ℕ) → (result ≡ Some zone) ↔ IsOnlyZone pairs.now id zone }
 {
-    let parcel = Zonings::of(from_parcel(id, pairs)).next()?;
+    let parcel = Zonings::new(from_parcel(id, pairs)).next()?;
     (parcel.id == id && !parcel.is_split).then_some(parcel.zone)
 }

@@ -6,7 +6,7 @@ use Rattle.std.specs.List.{filter, Contains}
 use Rattle.smallvec.specs.SmallVec.{SmallVec, HasRoomFor}
 use Rattle.cell_index.specs.declared.axis.TheConstants.{ACROSS}
 use Rattle.cell_index.specs.declared.axis.Span.{Span}
-use Rattle.cell_index.specs.declared.entry.Entry.{Entry}
+use Rattle.cell_index.specs.declared.entry.IndexEntry.{IndexEntry}
 use Rattle.cell_index.specs.declared.range.CellRange.{CellRange}
 use Rattle.cell_index.specs.declared.places.TheConstants.{WIDE_CELL}
 use Rattle.cell_index.specs.declared.places.Places.{Places}
@@ -55,7 +55,7 @@ HasPlace places k = (n : ℕ) × (n < place_count places) × (place_at places n 
 
 -- a cell, as the code keeps it
 abbrev pub Cell : Type 0
-Cell = SmallVec Entry
+Cell = SmallVec IndexEntry
 
 abbrev pub no_cell : Cell
 no_cell = record { items = []; capacity = 0 }
@@ -64,7 +64,7 @@ abbrev pub cell_at : List Cell → ℕ → Cell
 cell_at cells k = slice_index_or cells k no_cell
 
 -- what stands in the cells
-abbrev pub contents : List Cell → List (List Entry)
+abbrev pub contents : List Cell → List (List IndexEntry)
 contents cells = map (λ c. c.items) cells
 
 -- what the cells show: the last of them is that of the wide boxes
@@ -76,12 +76,12 @@ abbrev pub HaveRoom : Places → ℕ → ℕ → List Cell → Type 0
 HaveRoom places n count cells = (m : ℕ) → m < n → HasRoomFor (cell_at cells (place_at places m)) count
 
 -- each cell that one of these boxes is kept in has so much room
-abbrev pub HaveRoomForAll : Bounds → List Entry → ℕ → List Cell → Type 0
-HaveRoomForAll area entries count cells = (entry : Entry) → Contains entries entry → (k : ℕ) → k ≤ WIDE_CELL
+abbrev pub HaveRoomForAll : Bounds → List IndexEntry → ℕ → List Cell → Type 0
+HaveRoomForAll area entries count cells = (entry : IndexEntry) → Contains entries entry → (k : ℕ) → k ≤ WIDE_CELL
     → is_kept_in area k entry.bounds ≡ true → HasRoomFor (cell_at cells k) count
 
 -- in each cell are exactly the entries that are kept there
-abbrev pub Keeps : Bounds → List Cell → List Entry → Type 0
+abbrev pub Keeps : Bounds → List Cell → List IndexEntry → Type 0
 Keeps area cells entries = (k : ℕ) → k ≤ WIDE_CELL → (cell_at cells k).items
     ≡ filter (λ entry. is_kept_in area k entry.bounds) entries
 
@@ -95,11 +95,11 @@ pub record IsChanged (places : Places) (n : ℕ) (change : Cell → Cell) (old n
   pub others : (k : ℕ) → ((m : ℕ) → m < n → place_at places m ≢ k) → cell_at new k ≡ cell_at old k
 
 -- the cell with one more entry in the room that it has
-abbrev pub with_entry : Entry → Cell → Cell
+abbrev pub with_entry : IndexEntry → Cell → Cell
 with_entry entry c = record { items = c.items ++ entry ∷ []; capacity = c.capacity }
 
 -- the cell without the entries that do not pass the test
-abbrev pub passing : (Entry → Bool) → Cell → Cell
+abbrev pub passing : (IndexEntry → Bool) → Cell → Cell
 passing test c = record { items = filter test c.items; capacity = c.capacity }
 
 -- cell i of a range from `first` on is the first that it has in common with the cells from `low` on, where it is one of these
@@ -113,7 +113,7 @@ is_first_at area range n box =
     && is_first_common range.rows.first (row area box.low.y) (row_at range n)
 
 -- the keys of the entries in the first n cells of a range, each from its first cell
-abbrev pub gathered : Bounds → CellRange → List (List Entry) → ℕ → List ℕ
+abbrev pub gathered : Bounds → CellRange → List (List IndexEntry) → ℕ → List ℕ
 gathered area range cells zero = []
 gathered area range cells (suc n) =
     gathered area range cells n ++ map (λ entry. entry.key) (filter (λ entry. is_first_at area range n entry.bounds)

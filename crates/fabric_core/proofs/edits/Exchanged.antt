@@ -10,7 +10,7 @@ use Rattle.geo_exact.specs.declared.corner.Corner.{Corner}
 use Rattle.geo_exact.specs.Bounds.{HoldsCorner, IsLeastBox}
 use Rattle.geo_exact.specs.Layers.{numbered}
 use Rattle.geo_exact.proofs.corners_and_turns.CornerOrder.{is_same_itself}
-use Rattle.cell_index.specs.declared.entry.Entry.{Entry}
+use Rattle.cell_index.specs.declared.entry.IndexEntry.{IndexEntry}
 use Rattle.cell_index.specs.Cells.{Grid, Indexes, HaveOwnKeys, is_same_entry, without}
 use Rattle.cell_index.proofs.Members.{by_test, same_member}
 use Rattle.parcel_table.specs.declared.parcels.Parcel.{Parcel}
@@ -71,19 +71,19 @@ other_numbers m n t e = grind (arith, nat_tests)
 no_equal : (m n : ℕ) → m ≢ n → nat_eq m n ≡ false
 no_equal m n h = grind (arith, nat_tests)
 
-same_itself : (e : Entry) → is_same_entry e e ≡ true
+same_itself : (e : IndexEntry) → is_same_entry e e ≡ true
 same_itself e = rw (nat_itself e.key, is_same_itself e.bounds.low, is_same_itself e.bounds.high) refl
   where
     nat_itself : (n : ℕ) → nat_eq n n ≡ true
     nat_itself n = grind (arith, nat_tests)
 
-other_entry : (a b : Entry) → a.key ≢ b.key → is_same_entry a b ≡ false
+other_entry : (a b : IndexEntry) → a.key ≢ b.key → is_same_entry a b ≡ false
 other_entry a b h = rw (no_equal a.key b.key h) refl
 
 -- ---- parcels without those with some ids
 module _ {A : Type 0} where
   -- a parcel as the entry of the index
-  abbrev pub entry_of : ℕ × Parcel A → Entry
+  abbrev pub entry_of : ℕ × Parcel A → IndexEntry
   entry_of parcel = record { key = parcel.0; bounds = parcel.1.shape.bounds }
 
   abbrev pub id_of : ℕ × Parcel A → ℕ
@@ -115,8 +115,8 @@ module _ {A : Type 0} where
       → AllPairs (λ (a b : ℕ × Parcel A). a.0 ≢ b.0) parcels
   keys_apart parcels own i j d before below e =
       own i j (entry_of d) before (omega (arith, below, length-map parcels entry_of))
-      (ap (λ (entry : Entry). entry.key) (get_or-map entry_of parcels i d (entry_of d) (omega (arith, before, below))) ∙ e
-      ∙ sym (ap (λ (entry : Entry). entry.key) (get_or-map entry_of parcels j d (entry_of d) below)))
+      (ap (λ (entry : IndexEntry). entry.key) (get_or-map entry_of parcels i d (entry_of d) (omega (arith, before, below))) ∙ e
+      ∙ sym (ap (λ (entry : IndexEntry). entry.key) (get_or-map entry_of parcels j d (entry_of d) below)))
 
   module _ (parcels : List (ℕ × Parcel A)) (rise : IsStrictlyIncreasing (ids_of parcels)) (own : HaveOwnKeys (entries_of parcels)) where
     -- a parcel has the entry of another exactly where it has its id
@@ -155,7 +155,7 @@ module _ {A : Type 0} where
       → after ≡ without_all (map id_of heres) parcels ++ news → IsStrictlyIncreasing (ids_of after)
       → GoAlike (corner_lists (rows_of_keyed after)) refined → AreWithinLimits (rows_of_keyed after)
       → changed.area ≡ index.area
-      → ((entries : List Entry) → Indexes index entries → Indexes changed (without (map entry_of heres) entries ++ entries_of news))
+      → ((entries : List IndexEntry) → Indexes index entries → Indexes changed (without (map entry_of heres) entries ++ entries_of news))
       → IsKept after city refined changed
   exchanged parcels heres news after city refined index changed kept rise own all is rises alike within same indexed = record {
     ids_rise = subst IsStrictlyIncreasing (sym (ids_of_rows after)) rises;

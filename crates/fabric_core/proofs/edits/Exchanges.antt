@@ -11,7 +11,7 @@ use Rattle.std.proofs.lemmas.List.Elements.{filter-append}
 use Rattle.geo_exact.specs.declared.corner.Corner.{Corner}
 use Rattle.geo_exact.specs.Layers.{numbered}
 use Rattle.ring_core.specs.declared.shape.Shape.{Shape}
-use Rattle.cell_index.specs.declared.entry.Entry.{Entry}
+use Rattle.cell_index.specs.declared.entry.IndexEntry.{IndexEntry}
 use Rattle.cell_index.specs.Cells.{Grid, Indexes, HaveOwnKeys, without}
 use Rattle.cell_index.proofs.Members.{filtered, from_mapped}
 use Rattle.parcel_table.specs.declared.parcels.Parcel.{Parcel}
@@ -120,7 +120,7 @@ module _ {A : Type 0} where
   )
 
   -- an entry of the index is that of its parcel
-  pub entry_is : (parcels : List (ℕ × Parcel A)) (id : ℕ) (entry : Entry) → (h : IsEntryAt parcels id entry)
+  pub entry_is : (parcels : List (ℕ × Parcel A)) (id : ℕ) (entry : IndexEntry) → (h : IsEntryAt parcels id entry)
       → entry ≡ entry_of (entry.key, h.parcel)
   entry_is parcels id entry h = ap (λ box. record { key = entry.key; bounds = box }) h.has_box
 
@@ -194,14 +194,14 @@ module _ {A : Type 0} where
       ∙ ap (λ rows. rows ++ rows_of_keyed news) (rows_without ids parcels)
 
   -- what is kept, from what the steps of an exchange say
-  pub kept_after : (parcels heres news after : List (ℕ × Parcel A)) (ids : List ℕ) (gone come : List Entry)
+  pub kept_after : (parcels heres news after : List (ℕ × Parcel A)) (ids : List ℕ) (gone come : List IndexEntry)
       (city refined : List Corner)
       (index changed : Grid) → map id_of heres ≡ ids → IsKept parcels city refined index
       → IsStrictlyIncreasing (ids_of parcels) → HaveOwnKeys (entries_of parcels)
       → AllByRecursion (Contains parcels) heres → gone ≡ map entry_of heres → come ≡ entries_of news
       → after ≡ without_all ids parcels ++ news → IsStrictlyIncreasing (ids_of after)
       → MayBeKept (without_ids ids (rows_of_keyed parcels) ++ rows_of_keyed news) refined → changed.area ≡ index.area
-      → ((entries : List Entry) → Indexes index entries → Indexes changed (without gone entries ++ come))
+      → ((entries : List IndexEntry) → Indexes index entries → Indexes changed (without gone entries ++ come))
       → IsKept after city refined changed
   kept_after parcels heres news after ids gone come city refined index changed named kept rise own all goes comes is
       rises may same indexed =

@@ -4,7 +4,7 @@ use Rattle.std.proofs.Common.{List, [], ◌∷◌, map, length, get_or}
 use Rattle.std.specs.List.{AllPairs, AllByRecursion, filter}
 use Rattle.std.proofs.lemmas.Bool.Decides.{nat_tests}
 use Rattle.std.proofs.lemmas.List.{length-map}
-use Rattle.cell_index.specs.declared.entry.Entry.{Entry}
+use Rattle.cell_index.specs.declared.entry.IndexEntry.{IndexEntry}
 use Rattle.cell_index.specs.Cells.{Grid, Indexes, HaveOwnKeys, is_wide, stands_in}
 use Rattle.parcel_table.specs.declared.parcels.Parcel.{Parcel}
 use Rattle.parcel_table.specs.Table.{ids_of, entries_of}
@@ -19,7 +19,7 @@ each P (x ∷ xs) h = (h 0 x (omega arith), each P xs (λ i d below. h (suc i) d
 -- ---- entries
 module _ {A : Type 0} where
   -- parcels as entries: each one's box under its id
-  abbrev pub entries_by_id : List (ℕ × Parcel A) → List Entry
+  abbrev pub entries_by_id : List (ℕ × Parcel A) → List IndexEntry
   entries_by_id parcels = map (λ parcel. record { key = parcel.1.id; bounds = parcel.1.shape.bounds }) parcels
 
   -- a parcel whose key is none of theirs changes nothing for others
@@ -52,14 +52,14 @@ module _ {A : Type 0} where
 -- ---- cells
 module _ (pairs : List (ℕ × ℕ)) where
   -- a cell of an index under ids
-  cell_under_ids : (cells : List (List Entry)) (place : ℕ)
+  cell_under_ids : (cells : List (List IndexEntry)) (place : ℕ)
       → get_or (map (map (under_id pairs)) cells) place [] ≡ map (under_id pairs) (get_or cells place [])
   cell_under_ids [] place = refl
   cell_under_ids (cell ∷ cells) zero = refl
   cell_under_ids (cell ∷ cells) (suc place) = cell_under_ids cells place
 
   -- what stands in the cells stays there
-  stands_under_ids : (index : Grid) (entries : List Entry) → Indexes index entries
+  stands_under_ids : (index : Grid) (entries : List IndexEntry) → Indexes index entries
       → Indexes (by_ids pairs index) (map (under_id pairs) entries)
   stands_under_ids index entries h = record {
     all_cells = length-map index.cells (map (under_id pairs)) ∙ h.all_cells;
@@ -71,13 +71,13 @@ module _ (pairs : List (ℕ × ℕ)) where
         ∙ sym (filter_mapped (under_id pairs) wide wide entries (λ entry there. refl));
   }
     where
-      wide : Entry → Bool
+      wide : IndexEntry → Bool
       wide entry = is_wide index.area entry.bounds
 
-      narrow : Entry → Bool
+      narrow : IndexEntry → Bool
       narrow entry = not (is_wide index.area entry.bounds)
 
-      stands : ℕ → ℕ → Entry → Bool
+      stands : ℕ → ℕ → IndexEntry → Bool
       stands i j entry = stands_in index.area i j entry.bounds
 
 -- ---- an index of parcels
@@ -95,7 +95,7 @@ module _ {A : Type 0} where
   same_ids_by_key [] (other ∷ others) ids entries = absurd (cc)
   same_ids_by_key (parcel ∷ parcels) [] ids entries = absurd (cc)
   same_ids_by_key (parcel ∷ parcels) (other ∷ others) ids entries =
-      ap (λ key. (key, parcel.1.id) ∷ ids_by_key parcels) (ap (λ (entry : Entry). entry.key) (heads entries))
+      ap (λ key. (key, parcel.1.id) ∷ ids_by_key parcels) (ap (λ (entry : IndexEntry). entry.key) (heads entries))
       ∙ ap (λ id. (other.0, id) ∷ ids_by_key parcels) (heads ids)
       ∙ ap (λ pairs. (other.0, other.1.id) ∷ pairs) (same_ids_by_key parcels others (tails ids) (tails entries))
     where

@@ -6,7 +6,7 @@ use Rattle.geo_exact.specs.declared.corner.Corner.{Corner}
 use Rattle.geo_exact.specs.Bounds.{HoldsCorner, IsLeastBox}
 use Rattle.geo_exact.specs.Interiors.{InteriorsMeet}
 use Rattle.geo_exact.specs.Layers.{NumberedRing, numbered}
-use Rattle.cell_index.specs.declared.entry.Entry.{Entry}
+use Rattle.cell_index.specs.declared.entry.IndexEntry.{IndexEntry}
 use Rattle.cell_index.specs.Cells.{StandsBetween, IsKeyBetween}
 use Rattle.cell_index.proofs.Members.{mapped, from_mapped}
 use Rattle.cell_index.proofs.Searches.{interiors_share_a_cell}
@@ -81,8 +81,8 @@ module _ {A : Type 0} (parcels : List (ℕ × Parcel A)) where
       let w = from_mapped (λ (parcel : ℕ × Parcel A). record { key = parcel.0; bounds = parcel.1.shape.bounds })
       parcels entry there in (
         w.0.1,
-        subst (λ (k : ℕ). Contains parcels (k, w.0.1)) (ap (λ (e : Entry). e.key) w.2 ∙ is_key) w.1,
-        subst (λ (e : Entry). StandsBetween area low high e.bounds) (sym w.2) stands,
+        subst (λ (k : ℕ). Contains parcels (k, w.0.1)) (ap (λ (e : IndexEntry). e.key) w.2 ∙ is_key) w.1,
+        subst (λ (e : IndexEntry). StandsBetween area low high e.bounds) (sym w.2) stands,
       )
 
   module _ (city : List Corner) (area : Bounds) (low high : Corner) (is_area : IsLeastBox area city) where

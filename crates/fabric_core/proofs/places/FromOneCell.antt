@@ -13,7 +13,7 @@ use Rattle.geo_exact.specs.Point.{Point, corner_point}
 use Rattle.geo_exact.specs.Turn.{IsOnRing}
 use Rattle.geo_exact.specs.Winding.{IsInterior}
 use Rattle.geo_exact.proofs.boxes.InBoxes.{Decides-holds_corner}
-use Rattle.cell_index.specs.declared.entry.Entry.{Entry}
+use Rattle.cell_index.specs.declared.entry.IndexEntry.{IndexEntry}
 use Rattle.cell_index.specs.Cells.{is_wide, wide, narrow, stands_at, Grid}
 use Rattle.cell_index.proofs.Members.{filtered, from_filtered, mapped, from_mapped}
 use Rattle.cell_index.proofs.Searches.{off_ring, off_what_stands_elsewhere}
@@ -176,20 +176,20 @@ module _ {A : Type 0} where
       by_test false c later = Contains-there y all x (later c)
 
   -- the parcel of the entry at place i
-  pub record IsNext (some : List (ℕ × Parcel A)) (i : ℕ) (entry : Entry) : Type 0 where
+  pub record IsNext (some : List (ℕ × Parcel A)) (i : ℕ) (entry : IndexEntry) : Type 0 where
     pub parcel : Parcel A
     pub is_there : Contains some (entry.key, parcel)
     pub has_box : entry.bounds ≡ parcel.shape.bounds
     pub next : drop i (rows_of_keyed some) ≡ numbered parcel.id parcel.shape.ring.corners ∷ drop (suc i) (rows_of_keyed some)
 
-  next_of : (some : List (ℕ × Parcel A)) (i : ℕ) (entry : Entry) → i < length (entries_of some)
+  next_of : (some : List (ℕ × Parcel A)) (i : ℕ) (entry : IndexEntry) → i < length (entries_of some)
       → entry ≡ get_or (entries_of some) i entry
       → IsNext some i entry
   next_of [] i entry l e = absurd (omega (arith, l))
   next_of (x ∷ some) zero entry l e = record {
     parcel = x.1;
-    is_there = subst (λ (k : ℕ). Contains (x ∷ some) (k, x.1)) (sym (ap (λ (en : Entry). en.key) e)) (Contains-here x some);
-    has_box = ap (λ (en : Entry). en.bounds) e;
+    is_there = subst (λ (k : ℕ). Contains (x ∷ some) (k, x.1)) (sym (ap (λ (en : IndexEntry). en.key) e)) (Contains-here x some);
+    has_box = ap (λ (en : IndexEntry). en.bounds) e;
     next = refl;
   }
   next_of (x ∷ some) (suc i) entry l e = let w = next_of some i entry (omega (arith, l)) e in record {
@@ -199,19 +199,19 @@ module _ {A : Type 0} where
     next = w.next;
   }
 
-  pub next_row : (some : List (ℕ × Parcel A)) (i : ℕ) (entry : Entry) → (w : IsNext some i entry)
+  pub next_row : (some : List (ℕ × Parcel A)) (i : ℕ) (entry : IndexEntry) → (w : IsNext some i entry)
       → drop i (rows_of_keyed some) ≡ numbered w.parcel.id w.parcel.shape.ring.corners ∷ drop (i + 1) (rows_of_keyed some)
   next_row some i entry w =
       let one_more : suc i ≡ i + 1 = omega arith in
       w.next ∙ ap (λ k. numbered w.parcel.id w.parcel.shape.ring.corners ∷ drop k (rows_of_keyed some)) one_more
 
-  pub next_parcel : (some : List (ℕ × Parcel A)) (entries : List Entry) (i : ℕ) (entry : Entry)
+  pub next_parcel : (some : List (ℕ × Parcel A)) (entries : List IndexEntry) (i : ℕ) (entry : IndexEntry)
       → entries ≡ entries_of some → i < length entries
       → entry ≡ get_or entries i entry → IsNext some i entry
   next_parcel some entries i entry same l e =
       next_of some i entry (subst (λ xs. i < length xs) same l) (subst (λ xs. entry ≡ get_or xs i entry) same e)
 
-  pub none_left : (some : List (ℕ × Parcel A)) (entries : List Entry) (i : ℕ) → entries ≡ entries_of some → length entries ≤ i
+  pub none_left : (some : List (ℕ × Parcel A)) (entries : List IndexEntry) (i : ℕ) → entries ≡ entries_of some → length entries ≤ i
       → drop i (rows_of_keyed some) ≡ []
   none_left some entries i same l = past some i (subst (λ xs. length xs ≤ i) same l)
     where
@@ -314,12 +314,12 @@ inside_alone parcels city refined index p id kept i = (
 -- what a search asks of its entries
 pub searchable : {A : Type 0} (all some : List (ℕ × Parcel A))
     → AllByRecursion (λ row. length row.corners ≤ RING_CORNERS) (rows_of_keyed all)
-    → ((x : ℕ × Parcel A) → Contains some x → Contains all x) → (entry : Entry) → Contains (entries_of some) entry
+    → ((x : ℕ × Parcel A) → Contains some x → Contains all x) → (entry : IndexEntry) → Contains (entries_of some) entry
     → (parcel : Parcel A) × Contains all (entry.key, parcel) × (length parcel.shape.ring.corners ≤ RING_CORNERS)
 searchable {A = A} all some short among entry there =
     let w = from_mapped (λ (x : ℕ × Parcel A). record { key = x.0; bounds = x.1.shape.bounds }) some entry there in
     let parcel : Contains all (entry.key, w.0.1) =
-    subst (λ (k : ℕ). Contains all (k, w.0.1)) (ap (λ (e : Entry). e.key) w.2) (among w.0 w.1) in (
+    subst (λ (k : ℕ). Contains all (k, w.0.1)) (ap (λ (e : IndexEntry). e.key) w.2) (among w.0 w.1) in (
       w.0.1,
       parcel,
       of_each (λ row. length row.corners ≤ RING_CORNERS) (rows_of_keyed all) (numbered w.0.1.id w.0.1.shape.ring.corners) short

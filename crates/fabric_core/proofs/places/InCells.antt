@@ -4,7 +4,7 @@ use Rattle.std.specs.List.{Contains, filter}
 use Rattle.std.proofs.lemmas.List.Elements.{Contains-append_left, Contains-append_right, Contains-append_cases}
 use Rattle.geo_exact.specs.declared.corner.Corner.{Corner}
 use Rattle.geo_exact.specs.Layers.{NumberedRing}
-use Rattle.cell_index.specs.declared.entry.Entry.{Entry}
+use Rattle.cell_index.specs.declared.entry.IndexEntry.{IndexEntry}
 use Rattle.cell_index.specs.Cells.{Grid, Indexes, cell, standing, stands_in, is_wide}
 use Rattle.cell_index.proofs.Members.{by_test, filtered, from_filtered, mapped, from_mapped}
 use Rattle.parcel_table.proofs.Boxes.{one_least_box}
@@ -12,17 +12,17 @@ use Rattle.fabric_core.specs.GridIndex.{IsEntryOf, IsIndexed, ReachesCell}
 use Rattle.fabric_core.proofs.places.Between.{zipped_left, zipped_right}
 
 -- ---- entries
-module _ (index : Grid) (entries : List Entry) (h : Indexes index entries) (i j : ℕ) (column : i < 64) (row : j < 64) where
-  abbrev stands : Entry → Bool
+module _ (index : Grid) (entries : List IndexEntry) (h : Indexes index entries) (i j : ℕ) (column : i < 64) (row : j < 64) where
+  abbrev stands : IndexEntry → Bool
   stands entry = stands_in index.area i j entry.bounds
 
-  abbrev broad : Entry → Bool
+  abbrev broad : IndexEntry → Bool
   broad entry = is_wide index.area entry.bounds
 
-  abbrev thin : Entry → Bool
+  abbrev thin : IndexEntry → Bool
   thin entry = not (is_wide index.area entry.bounds)
 
-  stands_there : (entry : Entry) → Contains entries entry → stands entry ≡ true → Contains (standing index i j) entry
+  stands_there : (entry : IndexEntry) → Contains entries entry → stands entry ≡ true → Contains (standing index i j) entry
   stands_there entry among reaches = by_test (broad entry)
       (λ t. Contains-append_right (cell index i j) (filter stands index.beside) entry
       (filtered stands index.beside entry (subst (λ xs. Contains xs entry) (sym h.beside_cells) (filtered broad entries entry among t))
@@ -31,7 +31,7 @@ module _ (index : Grid) (entries : List Entry) (h : Indexes index entries) (i j 
       (subst (λ xs. Contains xs entry) (sym (h.in_cells i j column row))
       (filtered stands (filter thin entries) entry (filtered thin entries entry among (ap not t)) reaches)))
 
-  from_there : (entry : Entry) → Contains (standing index i j) entry → Contains entries entry × (stands entry ≡ true)
+  from_there : (entry : IndexEntry) → Contains (standing index i j) entry → Contains entries entry × (stands entry ≡ true)
   from_there entry there = ⊎_elim
       (λ c. let w = from_filtered stands (filter thin entries) entry (subst (λ xs. Contains xs entry) (h.in_cells i j column row) c) in
       ((from_filtered thin entries entry w.0).0, w.1))
@@ -44,7 +44,7 @@ pub stands_where_it_reaches : (rows : List NumberedRing) (city : List Corner) (i
     → i < 64 → j < 64 → Contains (map (λ entry. entry.key) (standing index i j)) id ↔ ReachesCell rows index.area i j id
 stands_where_it_reaches rows city index i j id h column row = (
   λ c.
-      let w = from_mapped (λ (entry : Entry). entry.key) (standing index i j) id c in
+      let w = from_mapped (λ (entry : IndexEntry). entry.key) (standing index i j) id c in
       let s = from_there index h.entries h.stand i j column row w.0 w.1 in
       let z = zipped_right IsEntryOf rows h.entries w.0 h.are_theirs s.0 in record {
         row = z.0;
@@ -57,8 +57,8 @@ stands_where_it_reaches rows city index i j id h column row = (
   λ r.
       let z = zipped_left IsEntryOf rows h.entries r.row h.are_theirs r.is_row in
       let same : z.0.bounds ≡ r.box = one_least_box z.0.bounds r.box r.row.corners z.2.is_its_box r.is_its_box in
-      subst (Contains (map (λ (entry : Entry). entry.key) (standing index i j))) (z.2.has_id ∙ r.has_id)
-      (mapped (λ (entry : Entry). entry.key) (standing index i j) z.0
+      subst (Contains (map (λ (entry : IndexEntry). entry.key) (standing index i j))) (z.2.has_id ∙ r.has_id)
+      (mapped (λ (entry : IndexEntry). entry.key) (standing index i j) z.0
       (stands_there index h.entries h.stand i j column row z.0 z.1
       (subst (λ box. stands_in index.area i j box ≡ true) (sym same) r.reaches))),
 )

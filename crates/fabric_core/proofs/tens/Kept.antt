@@ -8,7 +8,7 @@ use Rattle.geo_exact.specs.declared.corner.Corner.{Corner}
 use Rattle.geo_exact.specs.Bounds.{IsLeastBox}
 use Rattle.geo_exact.specs.Layers.{NumberedRing, numbered}
 use Rattle.geo_exact.specs.Point.{Point}
-use Rattle.cell_index.specs.declared.entry.Entry.{Entry}
+use Rattle.cell_index.specs.declared.entry.IndexEntry.{IndexEntry}
 use Rattle.cell_index.specs.Cells.{Grid, Indexes}
 use Rattle.cell_index.proofs.Members.{same_member}
 use Rattle.parcel_table.specs.declared.parcels.Parcel.{Parcel}
@@ -147,15 +147,15 @@ module _ {A : Type 0} where
           )
 
   -- the entry of a parcel's id is the parcel's
-  entry_of_id : (parcels : List (ℕ × Parcel A)) (parcel : ℕ × Parcel A) (entry : Entry) → IsStrictlyIncreasing (ids_of parcels)
+  entry_of_id : (parcels : List (ℕ × Parcel A)) (parcel : ℕ × Parcel A) (entry : IndexEntry) → IsStrictlyIncreasing (ids_of parcels)
       → Contains parcels parcel → IsEntryAt parcels (id_of parcel) entry → entry ≡ entry_of parcel
   entry_of_id parcels parcel entry rise there h =
       entry_is parcels (id_of parcel) entry h
       ∙ ap entry_of (same_member id_of parcels (entry.key, h.parcel) parcel (ids_apart parcels rise) h.is_here there h.has_id)
 
-  pub one_indexed : (parcels : List (ℕ × Parcel A)) (old new : Grid) (id : ℕ) (left later : List ℕ) (entry : Entry) → left ≡ id ∷ later
+  pub one_indexed : (parcels : List (ℕ × Parcel A)) (old new : Grid) (id : ℕ) (left later : List ℕ) (entry : IndexEntry) → left ≡ id ∷ later
       → IsStrictlyIncreasing (ids_of parcels) → IsEntryAt parcels id entry
-      → ((entries : List Entry) → Indexes old entries → Indexes new (entries ++ entry ∷ []))
+      → ((entries : List IndexEntry) → Indexes old entries → Indexes new (entries ++ entry ∷ []))
       → AreIndexed parcels old left → AreIndexed parcels new later
   one_indexed parcels old new id left later entry is rise at adds h = by_rest h.rest (sym is ∙ h.are_left) h.are_all
     where

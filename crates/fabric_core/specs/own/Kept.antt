@@ -7,7 +7,7 @@ use Rattle.geo_exact.specs.declared.corner.Corner.{Corner}
 use Rattle.geo_exact.specs.Point.{Point}
 use Rattle.geo_exact.specs.Bounds.{HoldsCorner, IsLeastBox}
 use Rattle.geo_exact.specs.Layers.{NumberedRing}
-use Rattle.cell_index.specs.declared.entry.Entry.{Entry}
+use Rattle.cell_index.specs.declared.entry.IndexEntry.{IndexEntry}
 use Rattle.cell_index.specs.Cells.{Grid, Indexes}
 use Rattle.parcel_table.specs.declared.parcels.Parcel.{Parcel}
 use Rattle.parcel_table.specs.Table.{rows_of_keyed, entries_of}
@@ -28,7 +28,7 @@ id_beside [] key = 0
 id_beside (pair ∷ pairs) key = if nat_eq pair.0 key then pair.1 else id_beside pairs key
 
 -- an entry under the id beside its key
-abbrev pub under_id : List (ℕ × ℕ) → Entry → Entry
+abbrev pub under_id : List (ℕ × ℕ) → IndexEntry → IndexEntry
 under_id pairs entry = record { key = id_beside pairs entry.key; bounds = entry.bounds }
 
 -- an index whose entries are under keys, with each under the id beside its key

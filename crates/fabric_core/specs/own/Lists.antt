@@ -2,7 +2,7 @@
 use Rattle.std.specs.Prelude.{◌≡◌, ℕ, ◌≤◌, List, [], ◌∷◌, length, map, ◌+◌, ◌*◌}
 use Rattle.std.specs.List.{AllZip, Contains}
 use Rattle.geo_exact.specs.declared.corner.Corner.{Corner}
-use Rattle.cell_index.specs.declared.entry.Entry.{Entry}
+use Rattle.cell_index.specs.declared.entry.IndexEntry.{IndexEntry}
 use Rattle.geo_exact.specs.Rings.{begun_at_least}
 use Rattle.geo_exact.specs.Layers.{NumberedRing, numbered}
 use Rattle.geo_exact.specs.declared.limits.TheConstants.{LAYER_CORNERS, RING_CORNERS}
@@ -33,7 +33,7 @@ pub record AreNodedRings (records : List NumberedRing) (city : List Corner) (ids
   pub is_refined : IsNoded city (corners_of_layer records city) refined
 
 -- the entry is that of the parcel with this id: its key and its box
-pub record IsEntryAt {A : Type 0} (parcels : List (ℕ × Parcel A)) (id : ℕ) (entry : Entry) : Type 0 where
+pub record IsEntryAt {A : Type 0} (parcels : List (ℕ × Parcel A)) (id : ℕ) (entry : IndexEntry) : Type 0 where
   pub parcel : Parcel A
   pub is_here : Contains parcels (entry.key, parcel)
   pub has_id : parcel.id ≡ id

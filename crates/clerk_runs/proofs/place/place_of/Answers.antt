@@ -17,5 +17,5 @@ returns-in-Ok-clause-at g c =
     is_whole journal seen begins (omega (arith, c.in-Ok.ensures.count, c.if-entries.true, c.entries.ensures)) in
     let opening : c.args.sheet.now.opening ≡ c.locate-2.new.self.opening = sym (c.locate-2.ensures.opening ∙ c.requires.opening) in
     let now : replay c.locate-2.new.self.opening seen ≡ c.args.sheet.now.now =
-    sym (sym c.tiles.ensures.replays ∙ (ap (λ l. replay c.args.sheet.now.opening l) same ∙ ap (λ o. replay o seen) opening)) in
+    sym (sym c.use_invariant.ensures.replays ∙ (ap (λ l. replay c.args.sheet.now.opening l) same ∙ ap (λ o. replay o seen) opening)) in
     subst (λ (state : State). IsLocatedAt state.rows (corner_point c.args.corner) c.in-Ok.at) now c.in-Ok.ensures.at

@@ -27,7 +27,7 @@ returns-clause-made g c =
     made_known (λ job. job.card) (λ job. job.edits.items) (λ job. job.refused) (λ job. job.lines.items) (λ job. job.receipts.items)
     office clerks c.args.fabric c.in_ok-sheet.sheet jobs done _ number origin c.requires.fresh c.in-Ok-do_all.ensures.done fresh
     c.in_ok-jobs.ensures.edits c.in_ok-cards.ensures.lines c.in_ok-cards.ensures.none_refused (rw cards at c.in_ok-sheet.ensures.sheet)
-    c.tiles.ensures.lawful c.tiles.ensures.replays
+    c.use_invariant.ensures.lawful c.use_invariant.ensures.replays
 
 pub places_of-requires-clause-has_seen : goal.places_of-requires-clause-has_seen
 places_of-requires-clause-has_seen g c = λ published.
@@ -43,4 +43,4 @@ places_of-requires-clause-has_seen g c = λ published.
     journal_seen (λ job. job.card) (λ job. job.edits.items) (λ job. job.refused) (λ job. job.lines.items) (λ job. job.receipts.items)
     office c.in_ok-sheet.sheet c.take_all_in.new.window.seen c.in_ok-jobs.jobs.items c.in-Ok-do_all.field-0.jobs.items
     (origin_empty office c.args.fabric origin c.requires.fresh) c.in-Ok-do_all.ensures.done fresh c.in_ok-cards.ensures.none_refused
-    (rw cards at c.in_ok-sheet.ensures.sheet) c.tiles.ensures.lawful (c.in_ok-cards.ensures.learnt published)
+    (rw cards at c.in_ok-sheet.ensures.sheet) c.use_invariant.ensures.lawful (c.in_ok-cards.ensures.learnt published)

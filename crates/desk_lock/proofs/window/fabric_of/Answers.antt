@@ -24,7 +24,7 @@ returns-clause-journal g c = journal g c
 
 pub returns-clause-lawful : goal.returns-clause-lawful
 returns-clause-lawful g c = lawful_at g.J.Naming-1.office.origin c.fabric-fabric.result.now (of_origin g c)
-    (g.J.Naming-1.office.origin.journal ++ c.args.version.now) (sym (journal g c)) c.tiles.ensures.lawful
+    (g.J.Naming-1.office.origin.journal ++ c.args.version.now) (sym (journal g c)) c.use_invariant.ensures.lawful
 
 pub returns-clause-of_clerks : goal.returns-clause-of_clerks
 returns-clause-of_clerks g c =
@@ -36,4 +36,4 @@ returns-clause-of_clerks g c =
 
 pub returns-clause-now : goal.returns-clause-now
 returns-clause-now g c = leads_to g.J.Naming-1.office.origin c.fabric-fabric.result.now (of_origin g c)
-    (g.J.Naming-1.office.origin.journal ++ c.args.version.now) (sym (journal g c)) c.tiles.ensures.replays
+    (g.J.Naming-1.office.origin.journal ++ c.args.version.now) (sym (journal g c)) c.use_invariant.ensures.replays

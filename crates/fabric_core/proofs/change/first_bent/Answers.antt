@@ -19,7 +19,7 @@ pub returns-then-is_bent-clause-bent : goal.returns-then-is_bent-clause-bent
 returns-then-is_bent-clause-bent g c =
     let rows = c.args.tiled.now.rows in let at = c.args.at in
     let ids = c.args.ids.now in let k = c.loop-id.id-index in
-    let up = c.tiles.ensures.balanced.ids.up in
+    let up = c.use_invariant.ensures.balanced.ids.up in
     first_is_bent at rows ids k (get_or ids k 0) c.in-Some.shape.now.ring.corners up c.requires
     (named_rise at rows ids up c.requires)
     c.loop-id-test.true refl c.loop-id.invariant c.in-Some.ensures
@@ -32,7 +32,7 @@ loop-id-preserved g c =
     let off : ¬ BendsAt at c.in-Some.shape.now.ring.corners =
     λ bends. false≢true (sym c.if-is_bent.false ∙ c.is_bent.ensures.1 (subst (BendsAt at) (sym c.as_slice.ensures) bends)) in
     rw (take_more ids k 0 c.loop-id-test.true)
-    (more_straight at rows (take k ids) (get_or ids k 0) c.in-Some.shape.now.ring.corners c.tiles.ensures.balanced.ids.up
+    (more_straight at rows (take k ids) (get_or ids k 0) c.in-Some.shape.now.ring.corners c.use_invariant.ensures.balanced.ids.up
     c.in-Some.ensures off c.loop-id.invariant)
 
 pub returns-clause-straight : goal.returns-clause-straight

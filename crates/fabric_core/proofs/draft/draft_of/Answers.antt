@@ -19,19 +19,19 @@ use Rattle.fabric_core.proofs.draft.draft_of.Goals as goal
 
 pub is_within-requires-clause-here : goal.is_within-requires-clause-here
 is_within-requires-clause-here g c =
-    out_here (state_of c.args.tiled.now) c.tiles.ensures.balanced c.args.edit.now c.in_ok-change.change.out.items
+    out_here (state_of c.args.tiled.now) c.use_invariant.ensures.balanced c.args.edit.now c.in_ok-change.change.out.items
     (rows_of_entry c.in_ok-change.change.rows.items) c.in_ok-change.ensures.change
 
 pub is_within-requires-clause-apart : goal.is_within-requires-clause-apart
 is_within-requires-clause-apart g c =
-    out_apart (state_of c.args.tiled.now) c.tiles.ensures.balanced c.args.edit.now c.in_ok-change.change.out.items
+    out_apart (state_of c.args.tiled.now) c.use_invariant.ensures.balanced c.args.edit.now c.in_ok-change.change.out.items
     (rows_of_entry c.in_ok-change.change.rows.items) c.in_ok-change.ensures.change
 
 pub returns-then-not-is_within-clause-err : goal.returns-then-not-is_within-clause-err
 returns-then-not-is_within-clause-err g c =
     let out = c.in_ok-change.change.out.items in let rows = rows_of_entry c.in_ok-change.change.rows.items in
     inl (inr (
-      all_here (state_of c.args.tiled.now) c.tiles.ensures.balanced c.args.edit.now out rows c.in_ok-change.ensures.change,
+      all_here (state_of c.args.tiled.now) c.use_invariant.ensures.balanced c.args.edit.now out rows c.in_ok-change.ensures.change,
       inr (
         out,
         rows,
@@ -43,12 +43,12 @@ returns-then-not-is_within-clause-err g c =
 
 pub corners_after-corners-requires-clause-here : goal.corners_after-corners-requires-clause-here
 corners_after-corners-requires-clause-here g c =
-    out_here (state_of c.args.tiled.now) c.tiles.ensures.balanced c.args.edit.now c.in_ok-change.change.out.items
+    out_here (state_of c.args.tiled.now) c.use_invariant.ensures.balanced c.args.edit.now c.in_ok-change.change.out.items
     (rows_of_entry c.in_ok-change.change.rows.items) c.in_ok-change.ensures.change
 
 pub corners_after-corners-requires-clause-apart : goal.corners_after-corners-requires-clause-apart
 corners_after-corners-requires-clause-apart g c =
-    out_apart (state_of c.args.tiled.now) c.tiles.ensures.balanced c.args.edit.now c.in_ok-change.change.out.items
+    out_apart (state_of c.args.tiled.now) c.use_invariant.ensures.balanced c.args.edit.now c.in_ok-change.change.out.items
     (rows_of_entry c.in_ok-change.change.rows.items) c.in_ok-change.ensures.change
 
 pub simple_shapes-requires-clause-short : goal.simple_shapes-requires-clause-short
@@ -78,7 +78,7 @@ returns-in_err-shapes-clause-err g c =
     c.from_residual-in_err-shapes.ensures.1
     (⊎_elim
     (λ ring. inl (inr (
-      all_here state c.tiles.ensures.balanced c.args.edit.now out rows c.in_ok-change.ensures.change,
+      all_here state c.use_invariant.ensures.balanced c.args.edit.now out rows c.in_ok-change.ensures.change,
       inr (
         out,
         rows,
@@ -92,24 +92,24 @@ pub returns-clause-is_entry : goal.returns-clause-is_entry
 returns-clause-is_entry g c =
     let out = c.in_ok-change.change.out.items in let rows = rows_of_entry c.in_ok-change.change.rows.items in
     let state = state_of c.args.tiled.now in
-    let edit = c.of.ensures.edit ∙ c.in_ok-edit.ensures.cases in
-    let change : IsChange state c.args.edit.now c.of.result.out c.of.result.rows =
-    subst (λ xs. IsChange state c.args.edit.now xs c.of.result.rows) (sym c.of.ensures.out)
-    (subst (λ xs. IsChange state c.args.edit.now out xs) (sym c.of.ensures.rows) c.in_ok-change.ensures.change) in
+    let edit = c.new.ensures.edit ∙ c.in_ok-edit.ensures.cases in
+    let change : IsChange state c.args.edit.now c.new.result.out c.new.result.rows =
+    subst (λ xs. IsChange state c.args.edit.now xs c.new.result.rows) (sym c.new.ensures.out)
+    (subst (λ xs. IsChange state c.args.edit.now out xs) (sym c.new.ensures.rows) c.in_ok-change.ensures.change) in
     record {
-      has_place = subst (λ n. n ≤ JOURNAL_ENTRIES) (sym c.of.ensures.number) c.requires.place;
-      is_change = subst (λ e. IsChange state e c.of.result.out c.of.result.rows) (sym edit) change;
-      are_simple = subst AreSimple (sym c.of.ensures.rows) (simple_news c.in_ok-shapes.shapes.items rows
+      has_place = subst (λ n. n ≤ JOURNAL_ENTRIES) (sym c.new.ensures.number) c.requires.place;
+      is_change = subst (λ e. IsChange state e c.new.result.out c.new.result.rows) (sym edit) change;
+      are_simple = subst AreSimple (sym c.new.ensures.rows) (simple_news c.in_ok-shapes.shapes.items rows
           (c.in_ok-shapes.ensures.ok ∙ ap (λ entries. corner_lists (rows_of_entry entries)) c.deref.ensures.value));
-      within = subst (λ xs. AreWithinLayerLimits (with_rows c.of.result.rows (without_ids xs c.args.tiled.now.rows)))
-          (sym c.of.ensures.out)
-          (subst (λ xs. AreWithinLayerLimits (with_rows xs (without_ids out c.args.tiled.now.rows))) (sym c.of.ensures.rows)
+      within = subst (λ xs. AreWithinLayerLimits (with_rows c.new.result.rows (without_ids xs c.args.tiled.now.rows)))
+          (sym c.new.ensures.out)
+          (subst (λ xs. AreWithinLayerLimits (with_rows xs (without_ids out c.args.tiled.now.rows))) (sym c.new.ensures.rows)
           (c.is_within.ensures.0 c.if-not-is_within.false));
     }
 
 pub returns-clause-here : goal.returns-clause-here
 returns-clause-here g c =
-    all_here (state_of c.args.tiled.now) c.tiles.ensures.balanced c.args.edit.now c.in_ok-change.change.out.items
+    all_here (state_of c.args.tiled.now) c.use_invariant.ensures.balanced c.args.edit.now c.in_ok-change.change.out.items
     (rows_of_entry c.in_ok-change.change.rows.items) c.in_ok-change.ensures.change
 
 pub returns-in_err-change-clause-err : goal.returns-in_err-change-clause-err

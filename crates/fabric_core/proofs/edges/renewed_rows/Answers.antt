@@ -82,6 +82,6 @@ returns g c =
     ∙ sym (take_all c.loop-id.id-index items c.loop-id-test.false))
     ((c.in_ok-ids.ensures.exactly row.number).1
     (subst (λ corner. IsCandidate rows c.args.tiled.now.city corner corner row.number) (sym c.corner-corner.ensures)
-    (changed_is_candidate change rows c.args.tiled.now.city c.args.tiled.now.index row c.tiles.ensures.indexed c.requires.in_area
+    (changed_is_candidate change rows c.args.tiled.now.city c.args.tiled.now.index row c.use_invariant.ensures.indexed c.requires.in_area
     is has))))
     c.loop-id.invariant

@@ -35,7 +35,7 @@ unite-requires-clause-b_here g c =
 pub unite-requires-clause-apart : goal.unite-requires-clause-apart
 unite-requires-clause-apart g c =
     let entry = c.args.entry.now in let kept = c.args.tiled.now in
-    let balanced = c.tiles.ensures.balanced in
+    let balanced = c.use_invariant.ensures.balanced in
     let h : IsMergeOf (state_of kept) c.args.a c.args.b entry.out entry.rows =
     subst (λ edit. IsChange (state_of kept) edit entry.out entry.rows) c.requires.is_merge c.requires.is_entry.is_change in
     two_parcels kept.rows c.args.a c.args.b h.ring_a h.ring_b balanced.simple balanced.ids.up h.has_a h.has_b
@@ -46,7 +46,7 @@ unite-requires-clause-kept g c =
     let entry = c.args.entry.now in let kept = c.args.tiled.now in
     let h : IsMergeOf (state_of kept) c.args.a c.args.b entry.out entry.rows =
     subst (λ edit. IsChange (state_of kept) edit entry.out entry.rows) c.requires.is_merge c.requires.is_entry.is_change in
-    may_be_brought kept entry c.tiles.ensures.balanced c.requires.is_entry (subst BringsNew (sym c.requires.is_merge) tt)
+    may_be_brought kept entry c.use_invariant.ensures.balanced c.requires.is_entry (subst BringsNew (sym c.requires.is_merge) tt)
     (ap (λ edit. refined_by edit kept.refined) c.requires.is_merge) (c.args.a ∷ c.args.b ∷ [])
     (c.only-shape.result.ring.corners ∷ []) h.out_are
     (ap rings_of_shapes (sym c.only-shape.ensures) ∙ c.requires.shapes)
@@ -58,7 +58,7 @@ returns-clause-made g c =
     let h : IsMergeOf (state_of kept) c.args.a c.args.b entry.out entry.rows =
     subst (λ edit. IsChange (state_of kept) edit entry.out entry.rows) c.requires.is_merge c.requires.is_entry.is_change in
     on_ok_weaker c.unite.result
-    (λ done. made_exchanged kept entry c.tiles.ensures.balanced c.requires.is_entry c.tiles.ensures.here
+    (λ done. made_exchanged kept entry c.use_invariant.ensures.balanced c.requires.is_entry c.use_invariant.ensures.here
     (subst BringsNew (sym c.requires.is_merge) tt) (ap (λ edit. refined_by edit kept.refined) c.requires.is_merge) c.unite.new.self
     (c.args.a ∷ c.args.b ∷ []) rings h.out_are (ap rings_of_shapes (sym c.only-shape.ensures) ∙ c.requires.shapes)
     (subst (λ by. IsExchanged kept c.unite.new.self (c.args.a ∷ c.args.b ∷ []) by (number_on kept.next rings)) c.number.ensures done))

@@ -35,7 +35,7 @@ renew-requires-clause-b_here g c =
 pub renew-requires-clause-apart : goal.renew-requires-clause-apart
 renew-requires-clause-apart g c =
     let entry = c.args.entry.now in let kept = c.args.tiled.now in
-    let balanced = c.tiles.ensures.balanced in
+    let balanced = c.use_invariant.ensures.balanced in
     let h : IsMoveOf (state_of kept) c.args.a c.args.b c.requires.is_move.path entry.out entry.rows =
     subst (λ edit. IsChange (state_of kept) edit entry.out entry.rows) c.requires.is_move.is c.requires.is_entry.is_change in
     two_parcels kept.rows c.args.a c.args.b h.ring_a h.ring_b balanced.simple balanced.ids.up h.has_a h.has_b
@@ -46,7 +46,7 @@ renew-requires-clause-kept g c =
     let entry = c.args.entry.now in let kept = c.args.tiled.now in
     let h : IsMoveOf (state_of kept) c.args.a c.args.b c.requires.is_move.path entry.out entry.rows =
     subst (λ edit. IsChange (state_of kept) edit entry.out entry.rows) c.requires.is_move.is c.requires.is_entry.is_change in
-    may_be_brought kept entry c.tiles.ensures.balanced c.requires.is_entry (subst BringsNew (sym c.requires.is_move.is) tt)
+    may_be_brought kept entry c.use_invariant.ensures.balanced c.requires.is_entry (subst BringsNew (sym c.requires.is_move.is) tt)
     (ap (λ edit. refined_by edit kept.refined) c.requires.is_move.is) (c.args.a ∷ c.args.b ∷ [])
     (c.both-of_a.result.0.ring.corners ∷ c.both-of_a.result.1.ring.corners ∷ []) h.out_are
     (ap rings_of_shapes (sym c.both-of_a.ensures) ∙ c.requires.shapes)
@@ -58,7 +58,7 @@ returns-clause-made g c =
     let h : IsMoveOf (state_of kept) c.args.a c.args.b c.requires.is_move.path entry.out entry.rows =
     subst (λ edit. IsChange (state_of kept) edit entry.out entry.rows) c.requires.is_move.is c.requires.is_entry.is_change in
     on_ok_weaker c.renew.result
-    (λ done. made_exchanged kept entry c.tiles.ensures.balanced c.requires.is_entry c.tiles.ensures.here
+    (λ done. made_exchanged kept entry c.use_invariant.ensures.balanced c.requires.is_entry c.use_invariant.ensures.here
     (subst BringsNew (sym c.requires.is_move.is) tt) (ap (λ edit. refined_by edit kept.refined) c.requires.is_move.is) c.renew.new.self
     (c.args.a ∷ c.args.b ∷ []) rings h.out_are (ap rings_of_shapes (sym c.both-of_a.ensures) ∙ c.requires.shapes)
     (subst (λ by. IsExchanged kept c.renew.new.self (c.args.a ∷ c.args.b ∷ []) by (number_on kept.next rings)) c.number.ensures done))

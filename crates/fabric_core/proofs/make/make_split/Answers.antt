@@ -29,7 +29,7 @@ divide-requires-clause-kept g c =
     let entry = c.args.entry.now in let kept = c.args.tiled.now in
     let h : IsSplitOf (state_of kept) c.args.id c.requires.is_split.path entry.out entry.rows =
     subst (λ edit. IsChange (state_of kept) edit entry.out entry.rows) c.requires.is_split.is c.requires.is_entry.is_change in
-    may_be_brought kept entry c.tiles.ensures.balanced c.requires.is_entry (subst BringsNew (sym c.requires.is_split.is) tt)
+    may_be_brought kept entry c.use_invariant.ensures.balanced c.requires.is_entry (subst BringsNew (sym c.requires.is_split.is) tt)
     (ap (λ edit. refined_by edit kept.refined) c.requires.is_split.is) (c.args.id ∷ [])
     (c.both-left.result.0.ring.corners ∷ c.both-left.result.1.ring.corners ∷ []) h.out_is
     (ap rings_of_shapes (sym c.both-left.ensures) ∙ c.requires.shapes)
@@ -41,7 +41,7 @@ returns-clause-made g c =
     let h : IsSplitOf (state_of kept) c.args.id c.requires.is_split.path entry.out entry.rows =
     subst (λ edit. IsChange (state_of kept) edit entry.out entry.rows) c.requires.is_split.is c.requires.is_entry.is_change in
     on_ok_weaker c.divide.result
-    (λ done. made_exchanged kept entry c.tiles.ensures.balanced c.requires.is_entry c.tiles.ensures.here
+    (λ done. made_exchanged kept entry c.use_invariant.ensures.balanced c.requires.is_entry c.use_invariant.ensures.here
     (subst BringsNew (sym c.requires.is_split.is) tt) (ap (λ edit. refined_by edit kept.refined) c.requires.is_split.is) c.divide.new.self
     (c.args.id ∷ []) rings h.out_is (ap rings_of_shapes (sym c.both-left.ensures) ∙ c.requires.shapes)
     (subst (λ by. IsExchanged kept c.divide.new.self (c.args.id ∷ []) by (number_on kept.next rings)) c.number.ensures done))

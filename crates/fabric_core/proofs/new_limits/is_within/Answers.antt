@@ -15,7 +15,7 @@ add_within-requires g c =
       arith,
       c.corners_left-left.ensures.corners,
       fewer_corners (λ row. not (list_any (nat_eq row.number) c.deref.result.now)) rows,
-      c.tiles.ensures.within.together,
+      c.use_invariant.ensures.within.together,
     )
 
 pub returns : goal.returns
@@ -34,5 +34,5 @@ returns g c =
       c.corners_left-left.ensures.number,
     ) in
     let same = changed_within rows news entries out ids left (c.len.result - c.len-2.result) c.deref.ensures.value
-    (ap rows_of_entry c.deref-2.ensures.value) c.corners_left-left.ensures.corners number c.tiles.ensures.within.each in
+    (ap rows_of_entry c.deref-2.ensures.value) c.corners_left-left.ensures.corners number c.use_invariant.ensures.within.each in
     (λ h. same.0 (c.add_within.ensures.0 h), λ h. c.add_within.ensures.1 (same.1 h))

@@ -11,7 +11,7 @@ pub loop-id-preserved : goal.loop-id-preserved
 loop-id-preserved g c = record {
   area = c.add.ensures.area ∙ c.loop-id.invariant.area;
   indexed = one_indexed c.args.parcels.now.parcels c.loop-id.index c.add.new.self c.in-Some.id c.loop-id.id-iterator c.next.new.self
-      c.entry_of.result c.in-Some.ensures.steps c.stand_apart.ensures.ascend c.entry_of.ensures
+      c.entry_of.result c.in-Some.ensures.steps c.use_invariant.ensures.ascend c.entry_of.ensures
       (λ entries h. c.in_ok-add.ensures.ok entries h) c.loop-id.invariant.indexed;
 }
 

@@ -21,8 +21,8 @@ loop-hand-init g c =
     let whole : hands ≡ first ∷ rest = sym c.into_iter-rest.ensures.rest ∙ c.in-Some.ensures.items
     ∙ ap (λ i. first ∷ i.rest.items) (sym c.into_iter-hand-iterator.ensures.into_iter_gives) in
     let ready = subst (AreReady task) whole (are_ready task hands c.requires.at_work c.requires.done.hold_nothing) in
-    let all = c.of-all.ensures in
-    let did : ids_at task.lists c.of-all.result.places ≡ first.did =
+    let all = c.new-all.ensures in
+    let did : ids_at task.lists c.new-all.result.places ≡ first.did =
     ap (λ a. ids_at task.lists a.places) all ∙ ap (λ (t : Task). ids_at t.lists c.into_claimant.result.places)
     (sym ready.0) ∙ c.into_claimant.ensures.did in
     record {
@@ -47,7 +47,7 @@ confirm-requires-clause-all_ends g c list less =
     sym (append-nil c.loop-hand.all.ended) ∙ ap (λ l. c.loop-hand.all.ended ++ ended_by l) (sym none) ∙ c.loop-hand.invariant.ended in
     let done = c.requires.done.some_done in
     let many : length c.claims-claims.result.now.lengths ≡ length task.lists =
-    ap (λ l. length l.lengths) c.claims-claims.ensures ∙ ap length c.stands.ensures.lengths
+    ap (λ l. length l.lengths) c.claims-claims.ensures ∙ ap length c.use_invariant.ensures.lengths
     ∙ length-map task.lists (λ (l : List ℕ). length l) in
     subst (λ l. 0 < times list l) (sym ended) (all_ended task hands done.0 done.1
     (member_of_all (λ hand. hand.task ≡ task) hands done.0 c.requires.at_work done.1) done.2 list (omega (arith, less, many)))
@@ -62,7 +62,7 @@ returns-clause-claimed g c =
     let claimed : c.loop-hand.all.places ≡ claimed_by hands =
     sym (append-nil c.loop-hand.all.places) ∙ ap (λ l. c.loop-hand.all.places ++ claimed_by l) (sym none) ∙ c.loop-hand.invariant.claimed in
     let lengths : c.claims-claims.result.now.lengths ≡ map (λ (l : List ℕ). length l) task.lists =
-    ap (λ l. l.lengths) c.claims-claims.ensures ∙ c.stands.ensures.lengths in
+    ap (λ l. l.lengths) c.claims-claims.ensures ∙ c.use_invariant.ensures.lengths in
     subst (λ l. IsPermutation (claimed_by hands) (all_places 0 l)) lengths
     (subst (λ l. IsPermutation l (all_places 0 c.claims-claims.result.now.lengths)) claimed c.confirm.ensures.all_once)
 
@@ -77,7 +77,7 @@ returns-clause-did g c =
     sym (append-nil (ids_at task.lists c.loop-hand.all.places))
     ∙ ap (λ l. ids_at task.lists c.loop-hand.all.places ++ did_by l) (sym none) ∙ c.loop-hand.invariant.did in
     let lengths : c.claims-claims.result.now.lengths ≡ map (λ (l : List ℕ). length l) task.lists =
-    ap (λ l. l.lengths) c.claims-claims.ensures ∙ c.stands.ensures.lengths in
+    ap (λ l. l.lengths) c.claims-claims.ensures ∙ c.use_invariant.ensures.lengths in
     subst (λ l. IsPermutation l (numbers task.rows)) did
     (all_claimed_once (numbers task.rows) task.lists c.claims-claims.result.now.lengths c.loop-hand.all.places
-    c.stands.ensures.sharing lengths c.confirm.ensures.all_once)
+    c.use_invariant.ensures.sharing lengths c.confirm.ensures.all_once)

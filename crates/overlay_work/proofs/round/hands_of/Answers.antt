@@ -16,8 +16,8 @@ loop-claimant-init g c =
       are_fresh = subst (AreFresh task.claims) (sym (rest ∙ c.requires.1)) (are_fresh task.claims c.requires.0);
     }
 
-pub of-requires : goal.of-requires
-of-requires g c =
+pub new-requires : goal.new-requires
+new-requires g c =
     let fresh_one =
     (subst (AreFresh (arc_value c.args.work.now).claims) c.in-Some.ensures.steps.0 c.loop-claimant.invariant.are_fresh).0 in (
       c.in-Some.claimant.number,
@@ -30,10 +30,10 @@ loop-claimant-preserved g c =
     let task = arc_value c.args.work.now in
     let rest = c.in-Some.ensures.steps.0 in
     let new = started task c.next.new.self.rest.items in
-    let one : c.of.result ≡ fresh task c.in-Some.claimant.number = c.of.ensures
+    let one : c.new.result ≡ fresh task c.in-Some.claimant.number = c.new.ensures
     ∙ ap (λ (t : Task). fresh t c.in-Some.claimant.number) c.in_ok-try_clone.ensures in
     record {
-      all_hands = ap (λ l. l ++ new) c.in_ok-push.ensures.items ∙ append_assoc c.loop-claimant.hands.items (c.of.result ∷ []) new
+      all_hands = ap (λ l. l ++ new) c.in_ok-push.ensures.items ∙ append_assoc c.loop-claimant.hands.items (c.new.result ∷ []) new
           ∙ ap (λ h. c.loop-claimant.hands.items ++ h ∷ new) one
           ∙ ap (λ l. c.loop-claimant.hands.items ++ started task l) (sym rest) ∙ c.loop-claimant.invariant.all_hands;
       are_fresh = (subst (AreFresh task.claims) rest c.loop-claimant.invariant.are_fresh).1;

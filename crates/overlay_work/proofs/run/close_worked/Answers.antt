@@ -23,7 +23,7 @@ returns-clause-fault g c = λ old.
     let none : HoldNothing hands = none_holding c.least_holding.result hands least (λ some.
     true≢false (sym (c.is_some.ensures ∙ some) ∙ c.if-is_some.false)) in
     let lists : 0 < length c.args.round.lists =
-    subst (λ (t : Task). 0 < length t.lists) c.work.ensures c.stands.ensures.sharing.has_hands.0 in
+    subst (λ (t : Task). 0 < length t.lists) c.work.ensures c.use_invariant.ensures.sharing.has_hands.0 in
     told_of_stopped c.args.round old hands c.args.threads c.in-Err.back.fault lists c.requires.stopped
     none c.requires.had_threads c.in-Err.ensures.refuses c.in-Err.ensures.fault
 

@@ -18,7 +18,7 @@ pub rings_to_write-requires-clause-short : goal.rings_to_write-requires-clause-s
 rings_to_write-requires-clause-short g c =
     let rows = (register_of_parcels c.args.parcels.now).now.rows in
     each_short (λ shape. shape.1.ring.corners) c.shapes.result rows
-    (lists_of_shapes c.shapes.result rows c.shapes.ensures) c.are_within.ensures.each
+    (lists_of_shapes c.shapes.result rows c.shapes.ensures) c.use_invariant.ensures.each
 
 pub write_layer-requires-clause-rings : goal.write_layer-requires-clause-rings
 write_layer-requires-clause-rings g c =
@@ -32,7 +32,7 @@ write_layer-requires-clause-corners g c =
     let rows = (register_of_parcels c.args.parcels.now).now.rows in
     let lists : lists_of_rings c.deref.result.now ≡ corner_lists rows =
     ap lists_of_rings c.deref.ensures.value ∙ c.in_ok-rings.ensures ∙ lists_of_shapes c.shapes.result rows c.shapes.ensures in
-    few_corners c.deref.result.now rows lists c.are_within.ensures
+    few_corners c.deref.result.now rows lists c.use_invariant.ensures
 
 pub returns-clause-main : goal.returns-clause-main
 returns-clause-main g c =

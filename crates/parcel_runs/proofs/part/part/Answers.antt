@@ -36,7 +36,7 @@ returns-in-Some-clause-ok g c =
         is_only = c.in_ok-part_of-in-Some.ensures.read_back;
         is_begun = row_begins (corners_of_layer tiled.records layer.city) tiled.records layer.rows tiled.are_refined.are_rows row
             c.in-Some.ensures;
-        is_city = row_is_a_city layer.rows layer.city c.tiles.ensures.simple c.tiles.ensures.tiling row c.in-Some.ensures;
+        is_city = row_is_a_city layer.rows layer.city c.use_invariant.ensures.simple c.use_invariant.ensures.tiling row c.in-Some.ensures;
       };
       is_told = c.in_ok-part_of-in-Some.ensures.line;
     }

@@ -8,7 +8,7 @@ pub returns : goal.returns
 returns c = λ zone.
     let parcel = c.in_ok-parcel.parcel in
     let only = first_is_only c.args.id c.args.pairs.now c.from_parcel.result.now c.from_parcel.ensures c.requires
-    parcel _ (sym c.of.ensures ∙ c.in_ok-parcel.ensures.steps) zone in
+    parcel _ (sym c.new.ensures ∙ c.in_ok-parcel.ensures.steps) zone in
     let b = c.if-parcel-id.then_some in
     let yes : b ≡ true → (parcel.id ≡ c.args.id) × (parcel.is_split ≡ false) =
     λ e. elim c.if-parcel-id.branch [
@@ -26,5 +26,5 @@ returns c = λ zone.
 pub returns-in_err-parcel : goal.returns-in_err-parcel
 returns-in_err-parcel c = λ zone.
     let none = none_is_only c.args.id c.args.pairs.now c.from_parcel.result.now c.from_parcel.ensures c.requires zone
-    (sym c.of.ensures ∙ c.in_err-parcel.ensures.steps.0) in
+    (sym c.new.ensures ∙ c.in_err-parcel.ensures.steps.0) in
     ((λ h. absurd (cc)), (λ h. absurd (none h)))

@@ -9,7 +9,7 @@ pub returns-in_err-entry-clause-sometime : goal.returns-in_err-entry-clause-some
 returns-in_err-entry-clause-sometime g c = rw (← c.self.view_is, ← c.card.view_is)
     (is_sometime g.J.Naming-1.office c.self.inside.fabric c.self.inside.keeper c.self.inside.publisher.handed
     c.self.inside.opened_with c.self.invariant c.card.inside.clerk c.card.inside.stub.made c.card.inside.stub.met
-    c.tiles.ensures.lawful (c.meet.ensures.agrees ∙ ap (λ k. Cards.of_clerk k c.self.inside.keeper.all) (sym c.card.invariant.1))
+    c.use_invariant.ensures.lawful (c.meet.ensures.agrees ∙ ap (λ k. Cards.of_clerk k c.self.inside.keeper.all) (sym c.card.invariant.1))
     c.meet.ensures.met)
 
 pub returns-in_err-entry-clause-met : goal.returns-in_err-entry-clause-met
@@ -41,7 +41,7 @@ pub returns-clause-sometime : goal.returns-clause-sometime
 returns-clause-sometime g c = rw (← c.self.view_is, ← c.card.view_is)
     (is_sometime g.J.Naming-1.office c.self.inside.fabric c.self.inside.keeper c.self.inside.publisher.handed
     c.self.inside.opened_with c.self.invariant c.card.inside.clerk c.card.inside.stub.made c.card.inside.stub.met
-    c.tiles.ensures.lawful (c.meet.ensures.agrees ∙ ap (λ k. Cards.of_clerk k c.self.inside.keeper.all) (sym c.card.invariant.1))
+    c.use_invariant.ensures.lawful (c.meet.ensures.agrees ∙ ap (λ k. Cards.of_clerk k c.self.inside.keeper.all) (sym c.card.invariant.1))
     c.meet.ensures.met)
 
 pub returns-clause-met : goal.returns-clause-met

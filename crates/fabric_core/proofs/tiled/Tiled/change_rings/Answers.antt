@@ -53,7 +53,7 @@ invariant_of-self g c =
     (subst (λ ring. MayBeKept (map (changed_row change) (rows_of_keyed parcels)) ring) (sym refined)
     (subst (λ (t : Kept). MayBeKept (map (changed_row change) t.rows) (changed_city change t.refined))
     (sym c.self.view_is) c.requires.kept))
-    c.stand_apart-2.ensures.ascend
+    c.use_invariant-2.ensures.ascend
 
 pub returns-clause-ok : goal.returns-clause-ok
 returns-clause-ok g c =

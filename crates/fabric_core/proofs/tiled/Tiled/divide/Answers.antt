@@ -1,7 +1,7 @@
 use Rattle.std.proofs.Common.{arith, Some, None, slice_index_or, sym, ◌∙◌, ap, subst, refl, ℕ, ◌+◌, [], ◌∷◌, ◌++◌}
 use Rattle.std.specs.List.{Contains, slice_set}
 use Rattle.geo_exact.specs.Layers.{numbered}
-use Rattle.cell_index.specs.declared.entry.Entry.{Entry}
+use Rattle.cell_index.specs.declared.entry.IndexEntry.{IndexEntry}
 use Rattle.parcel_table.specs.Table.{HasId}
 use Rattle.fabric_core.specs.Rows.{numbers}
 use Rattle.fabric_core.specs.Journal.{without_ids}
@@ -30,9 +30,9 @@ invariant_of-self-2 g c =
     (c.args.id ∷ []) (gone ∷ [])
     (record { key = gone.key; bounds = c.args.left.bounds } ∷ record { key = c.vacant_key.result; bounds = c.args.right.bounds } ∷ [])
     c.self.inside.city c.self.inside.refined c.self.inside.index c.change.new.self
-    (ap (λ n. n ∷ []) w.has_id) c.self.invariant c.stand_apart.ensures.ascend c.stand_apart.ensures.keys
+    (ap (λ n. n ∷ []) w.has_id) c.self.invariant c.use_invariant.ensures.ascend c.use_invariant.ensures.keys
     (subst (λ xs. Contains xs (gone.key, w.parcel)) parcels w.is_here, tt)
-    (ap (λ (e : Entry). e ∷ []) (entry_is c.reserve.new.self.parcels c.args.id gone w))
+    (ap (λ (e : IndexEntry). e ∷ []) (entry_is c.reserve.new.self.parcels c.args.id gone w))
     (ap (λ (k : ℕ). record { key = gone.key; bounds = c.args.left.bounds } ∷ record { key = k; bounds = c.args.right.bounds } ∷ [])
     (c.vacant_key.ensures ∙ sym (c.push_reserved.ensures.key ∙ c.succeed.ensures.vacant)))
     (divided old c.reserve.new.self c.succeed.new.self c.push_reserved.new.self c.args.id gone.key
@@ -40,7 +40,7 @@ invariant_of-self-2 g c =
     parcels (ap (λ table. table.next) c.in_ok-reserve.ensures.kept) (c.succeed.ensures.parcels gone.key
     (record { parcel = w.parcel; is_here = w.is_here; has_id = w.has_id })) c.succeed.ensures.next
     c.push_reserved.ensures.parcels)
-    c.stand_apart-2.ensures.ascend
+    c.use_invariant-2.ensures.ascend
     (subst (λ (t : Kept). MayBeKept (without_ids (c.args.id ∷ []) t.rows ++ numbered t.next c.args.left.ring.corners
     ∷ numbered (t.next + 1) c.args.right.ring.corners ∷ []) t.refined) (sym c.self.view_is) c.requires.kept)
     c.change.ensures.area c.in_ok-change.ensures.ok
@@ -71,8 +71,8 @@ returns-clause-ok g c =
           ∙ fate_of_one old.fates c.args.id c.args.by id
           (omega (
             arith,
-            c.stand_apart.ensures.fates,
-            c.stand_apart.ensures.below c.args.id
+            c.use_invariant.ensures.fates,
+            c.use_invariant.ensures.below c.args.id
                 (has_id old.parcels c.args.id (subst (λ (t : Kept). Contains (numbers t.rows) c.args.id)
                 (sym c.self.view_is) c.requires.here)),
           ));

@@ -3,7 +3,7 @@ use Rattle.std.proofs.Common.{[], ◌∷◌, ◌++◌}
 use Rattle.std.specs.List.{Contains, slice_set}
 use Rattle.std.proofs.lemmas.List.{length-append, length-set}
 use Rattle.geo_exact.specs.Layers.{numbered}
-use Rattle.cell_index.specs.declared.entry.Entry.{Entry}
+use Rattle.cell_index.specs.declared.entry.IndexEntry.{IndexEntry}
 use Rattle.parcel_table.specs.Table.{HasId, IsKeyOf}
 use Rattle.fabric_core.specs.Rows.{numbers}
 use Rattle.fabric_core.specs.Journal.{without_ids}
@@ -67,18 +67,18 @@ invariant_of-self-2 g c =
     ∷ record { key = from_b.key; bounds = c.args.of_b.bounds } ∷ [])
     c.self.inside.city c.self.inside.refined c.self.inside.index c.change.new.self
     (ap (λ n. n ∷ b.parcel.id ∷ []) a.has_id ∙ ap (λ n. c.args.a ∷ n ∷ []) b.has_id)
-    c.self.invariant c.stand_apart.ensures.ascend c.stand_apart.ensures.keys (
+    c.self.invariant c.use_invariant.ensures.ascend c.use_invariant.ensures.keys (
       subst (λ xs. Contains xs (from_a.key, a.parcel)) parcels a.is_here,
       (subst (λ xs. Contains xs (from_b.key, b.parcel)) parcels b.is_here, tt),
     )
-    (ap (λ (e : Entry). e ∷ from_b ∷ []) (entry_is c.reserve.new.self.parcels c.args.a from_a a)
-    ∙ ap (λ (e : Entry). record { key = from_a.key; bounds = a.parcel.shape.bounds } ∷ e ∷ [])
+    (ap (λ (e : IndexEntry). e ∷ from_b ∷ []) (entry_is c.reserve.new.self.parcels c.args.a from_a a)
+    ∙ ap (λ (e : IndexEntry). record { key = from_a.key; bounds = a.parcel.shape.bounds } ∷ e ∷ [])
     (entry_is c.reserve.new.self.parcels c.args.b from_b b))
     refl
     (renewed old c.reserve.new.self c.succeed.new.self c.succeed-2.new.self c.args.a c.args.b from_a.key from_b.key
     c.args.of_a c.args.of_b parcels
     (ap (λ table. table.next) kept)
-    (next_is_other old.next c.args.b (c.stand_apart.ensures.below c.args.b
+    (next_is_other old.next c.args.b (c.use_invariant.ensures.below c.args.b
     (has_id c.self.inside.parcels.parcels c.args.b (subst (λ (t : Kept). Contains (numbers t.rows) c.args.b)
     (sym c.self.view_is) c.requires.b_here))))
     (c.succeed.ensures.parcels from_a.key (record { parcel = a.parcel; is_here = a.is_here; has_id = a.has_id })) c.succeed.ensures.next
@@ -86,7 +86,7 @@ invariant_of-self-2 g c =
     (sym (c.succeed.ensures.parcels from_a.key (record { parcel = a.parcel; is_here = a.is_here; has_id = a.has_id })))
     (still_key c.reserve.new.self.parcels ((from_a.key, record { id = c.reserve.new.self.next; shape = c.args.of_a }) ∷ [])
     c.args.a c.args.b from_b.key c.requires.apart (record { parcel = b.parcel; is_here = b.is_here; has_id = b.has_id })))))
-    c.stand_apart-2.ensures.ascend
+    c.use_invariant-2.ensures.ascend
     (subst (λ (t : Kept). MayBeKept (without_ids (c.args.a ∷ c.args.b ∷ []) t.rows ++ numbered t.next c.args.of_a.ring.corners
     ∷ numbered (t.next + 1) c.args.of_b.ring.corners ∷ []) t.refined)
     (sym c.self.view_is) c.requires.kept)
@@ -96,9 +96,9 @@ pub returns-clause-ok : goal.returns-clause-ok
 returns-clause-ok g c =
     let old = c.self.inside.parcels in let from_a = c.entry_of-from_a.result in let from_b = c.entry_of-from_b.result in
     let a = c.entry_of-from_a.ensures in let b = c.entry_of-from_b.ensures in let kept = c.in_ok-reserve.ensures.kept in
-    let below_a = c.stand_apart.ensures.below c.args.a (has_id c.self.inside.parcels.parcels c.args.a
+    let below_a = c.use_invariant.ensures.below c.args.a (has_id c.self.inside.parcels.parcels c.args.a
     (subst (λ (t : Kept). Contains (numbers t.rows) c.args.a) (sym c.self.view_is) c.requires.a_here)) in
-    let below_b = c.stand_apart.ensures.below c.args.b (has_id c.self.inside.parcels.parcels c.args.b
+    let below_b = c.use_invariant.ensures.below c.args.b (has_id c.self.inside.parcels.parcels c.args.b
     (subst (λ (t : Kept). Contains (numbers t.rows) c.args.b) (sym c.self.view_is) c.requires.b_here)) in
     let fates_a = c.succeed.ensures.fates ∙ ap (λ table. slice_set table.fates c.args.a (Some c.args.by) ++ None ∷ []) kept in
     subst (λ (t : Kept). IsExchanged t (shown c.self.inside.city c.self.inside.refined c.succeed-2.new.self c.change.new.self)
@@ -126,10 +126,10 @@ returns-clause-ok g c =
       fates = λ id. ap (λ fates. slice_index_or fates id None) c.succeed-2.ensures.fates
           ∙ fate_pushed (slice_set c.succeed.new.self.fates c.args.b (Some c.args.by)) id
           ∙ fate_of_two old.fates c.succeed.new.self.fates c.args.a c.args.b c.args.by id
-          (omega (arith, c.stand_apart.ensures.fates, below_a))
+          (omega (arith, c.use_invariant.ensures.fates, below_a))
           (omega (
             arith,
-            c.stand_apart.ensures.fates,
+            c.use_invariant.ensures.fates,
             below_b,
             ap length fates_a,
             length-append (slice_set old.fates c.args.a (Some c.args.by)) (None ∷ []),

@@ -19,7 +19,7 @@ returns-in_default-clause-none g c =
     let hand = c.self.inside in
     let task = arc_value hand.work in
     let none : hand.holds ≡ None = ap (λ v. v.holds) c.self.view_is ∙ c.requires in
-    let stands : IsTask task = subst IsTask c.deref.ensures c.stands.ensures in
+    let stands : IsTask task = subst IsTask c.deref.ensures c.use_invariant.ensures in
     let told = c.in_default.ensures in
     let count : length c.next.new.self.lists.lengths ≡ length task.lists =
     ap (λ l. length l.lengths) (told.same.0 ∙ c.self.invariant.claims) ∙ ap length stands.lengths
@@ -74,7 +74,7 @@ returns-clause-some g c =
       kept = ap (λ v. v.kept) c.self.view_is;
       tests = ap (λ v. v.tests) c.self.view_is;
       is_not_done = not_done_yet task hand.claimant c.next.new.self place
-          (subst IsTask c.deref.ensures c.stands.ensures) c.self.invariant.claims told.some;
+          (subst IsTask c.deref.ensures c.use_invariant.ensures) c.self.invariant.claims told.some;
     }
 
 pub invariant_of-self : goal.invariant_of-self
@@ -101,4 +101,4 @@ invariant_of-self-2 g c =
     (c.id_at-id.ensures.id ∙ ap (λ t. id_at t.lists (c.in-Some.list, c.in-Some.place)) c.deref-3.ensures)
     (subst (λ t. Contains (numbers t.rows) c.id_at-id.result) c.deref-3.ensures c.id_at-id.ensures.here)
     (not_done_yet task hand.claimant c.next.new.self (c.in-Some.list, c.in-Some.place)
-    (subst IsTask c.deref.ensures c.stands.ensures) c.self.invariant.claims told.some)
+    (subst IsTask c.deref.ensures c.use_invariant.ensures) c.self.invariant.claims told.some)

@@ -27,7 +27,7 @@ overflow_add-self g c =
     let hand = c.self.inside in
     let task = arc_value hand.work in
     let holds : hand.holds ≡ Some c.args.id = ap (λ v. v.holds) c.self.view_is ∙ c.requires in
-    let stands : IsTask task = subst IsTask c.deref.ensures c.stands.ensures in
+    let stands : IsTask task = subst IsTask c.deref.ensures c.use_invariant.ensures in
     let is = subst (λ h. IsHand task hand.claimant h hand.kept.items hand.tests) holds c.self.invariant in
     let keeps = subst (λ t. KeepsPairs t c.args.id hand.kept.items c.keep_pairs.new.kept.items c.in_ok-tests.tests)
     c.deref-2.ensures c.in_ok-tests.ensures.ok in
@@ -40,7 +40,7 @@ invariant_of-self-2 g c =
     let hand = c.self.inside in
     let task = arc_value hand.work in
     let holds : hand.holds ≡ Some c.args.id = ap (λ v. v.holds) c.self.view_is ∙ c.requires in
-    let stands : IsTask task = subst IsTask c.deref.ensures c.stands.ensures in
+    let stands : IsTask task = subst IsTask c.deref.ensures c.use_invariant.ensures in
     let is = subst (λ h. IsHand task hand.claimant h hand.kept.items hand.tests) holds c.self.invariant in
     let keeps = subst (λ t. KeepsPairs t c.args.id hand.kept.items c.keep_pairs.new.kept.items c.in_ok-tests.tests)
     c.deref-2.ensures c.in_ok-tests.ensures.ok in

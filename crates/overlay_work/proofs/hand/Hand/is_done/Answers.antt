@@ -9,7 +9,7 @@ pub returns : goal.returns
 returns g c =
     let hand = c.self.inside in
     let task = arc_value hand.work in
-    let stands : IsTask task = subst IsTask c.deref.ensures c.stands.ensures in
+    let stands : IsTask task = subst IsTask c.deref.ensures c.use_invariant.ensures in
     let count : length hand.claimant.lists.lengths ≡ length task.lists =
     ap (λ l. length l.lengths) c.self.invariant.claims ∙ ap length stands.lengths
     ∙ length-map task.lists (λ (l : List ℕ). length l) in (

@@ -10,4 +10,4 @@ returns g c =
     let all : ids ≡ split_ids (zonings c.args.self.now.pairs) =
     sym (append-nil ids) ∙ sym (ap (λ left. ids ++ split_ids left) c.in-None.ensures.steps.0) ∙ c.loop-parcel.invariant in
     subst (AreSplitZoned c.args.self.now.rows c.args.self.now.zones) (sym all)
-    (are_split c.args.self.now.rows c.args.self.now.zones c.args.self.now.pairs c.stands.ensures.table)
+    (are_split c.args.self.now.rows c.args.self.now.zones c.args.self.now.pairs c.use_invariant.ensures.table)

@@ -1,5 +1,0 @@
-use Rattle.entry_cards.proofs.Steps.{begins}
-use Rattle.entry_cards.proofs.cards.Cards.of.Goals as goal
-
-pub of_words-requires : goal.of_words-requires
-of_words-requires g c = begins _ c.args.clerks
