@@ -5,6 +5,7 @@ ghost use mathlib.Core.List.{IsPrefix};
 ghost use Rattle.geo_exact.specs.Point.{corner_point};
 ghost use Rattle.geo_exact.specs.Layers.{NumberedRing, numbered};
 ghost use Rattle.fabric_core.specs.Locate.{IsLocatedAt};
+ghost use Rattle.fabric_core.specs.Tiling.{IsTiling};
 ghost use Rattle.fabric_core.specs.Journal.{replay};
 ghost use Rattle.fabric_core.specs.EditResults.{IsLawful};
 ghost use Rattle.desk_lock.specs.Offices.{Learns, AreOfClerks, behind};
@@ -116,6 +117,8 @@ impl<'a, H: Allocator, J: Naming<H>> Window<'a, H, J> {
         ensures count { IfOk result (λ entries. entries ≡ length self.new.seen) }
         ensures lawful { IfOk result (λ entries. IsLawful self.new.opening self.new.seen) }
         ensures of_clerks { IfOk result (λ entries. AreOfClerks J.office.clerks (behind J.office.origin self.new.seen)) }
+        // The parcels that it answers from tile the city.
+        ensures tiling { IfOk result (λ entries. IsTiling (replay self.new.opening self.new.seen).rows J.office.origin.city) }
         ensures fault { IfErr result (λ fault. fault ≡ NoVersion) }
         ensures no_version { IfErr result (λ fault. fault ≡ NoVersion → self.new ≡ self.old) }
     {
@@ -143,6 +146,8 @@ impl<'a, H: Allocator, J: Naming<H>> Window<'a, H, J> {
         ensures count { IfOk result (λ answer. answer.0 ≡ length self.new.seen) }
         ensures lawful { IfOk result (λ answer. IsLawful self.new.opening self.new.seen) }
         ensures of_clerks { IfOk result (λ answer. AreOfClerks J.office.clerks (behind J.office.origin self.new.seen)) }
+        // The parcels that it answers from tile the city.
+        ensures tiling { IfOk result (λ answer. IsTiling (replay self.new.opening self.new.seen).rows J.office.origin.city) }
         ensures parcel { IfOk result (λ answer. MatchOption answer.1
             ((row : NumberedRing) → Contains (replay self.new.opening self.new.seen).rows row → row.number ≢ id)
             (λ ring. Contains (replay self.new.opening self.new.seen).rows (numbered id ring))) }
@@ -178,6 +183,8 @@ impl<'a, H: Allocator, J: Naming<H>> Window<'a, H, J> {
         ensures count { IfOk result (λ answer. answer.0 ≡ length self.new.seen) }
         ensures lawful { IfOk result (λ answer. IsLawful self.new.opening self.new.seen) }
         ensures of_clerks { IfOk result (λ answer. AreOfClerks J.office.clerks (behind J.office.origin self.new.seen)) }
+        // The parcels that it answers from tile the city.
+        ensures tiling { IfOk result (λ answer. IsTiling (replay self.new.opening self.new.seen).rows J.office.origin.city) }
         ensures at { IfOk result (λ answer.
             IsLocatedAt (replay self.new.opening self.new.seen).rows (corner_point corner) answer.1) }
         ensures no_version { IfErr result (λ fault. fault ≡ NoVersion → self.new ≡ self.old) }
@@ -223,6 +230,7 @@ fn fabric_of<'v, 'a, H: Allocator, J: Naming<H>>(
     ensures lawful { IsLawful J.office.origin.opening (J.office.origin.journal ++ version.now) }
     ensures of_clerks { AreOfClerks J.office.clerks (behind J.office.origin (J.office.origin.journal ++ version.now)) }
     ensures now { result.now.now ≡ replay J.office.origin.opening (J.office.origin.journal ++ version.now) }
+    ensures tiling { IsTiling result.now.now.rows J.office.origin.city }
 {
     let fabric = version.value().fabric();
     fabric.use_invariant();

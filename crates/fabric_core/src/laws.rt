@@ -14,6 +14,7 @@ ghost use Rattle.ring_core.specs.Sums.{MakeUp};
 ghost use Rattle.edge_chains.specs.Net.{net_count};
 ghost use Rattle.edge_chains.specs.Noding.{IsNoded, AreFullyNoded};
 ghost use Rattle.edge_chains.specs.Jump.{net_difference};
+ghost use Rattle.fabric_core.specs.declared.journal.TheConstants.{JOURNAL_ENTRIES};
 ghost use Rattle.fabric_core.specs.Tiling.{corner_lists, IsTiling, IsWoundAtMostOnce, IsOffEdges};
 ghost use Rattle.fabric_core.specs.Faults.{AreSimple};
 ghost use Rattle.fabric_core.specs.GridIndex.{IsIndexed, ReachesCell};
@@ -87,4 +88,9 @@ pub fn an_id_stands_in_the_cells_that_its_row_reaches()
     ensures { (rows : List NumberedRing) (city : List Corner) (index : Grid) (i j id : ℕ) → IsIndexed rows city index
         → i < 64 → j < 64
         → Contains (map (λ entry. entry.key) (standing index i j)) id ↔ ReachesCell rows index.area i j id }
+{}
+
+/// A journal is full with 1,048,576 entries: so many the page of limits allows, and not one fewer.
+pub fn a_journal_has_room_for_so_many_entries()
+    ensures { JOURNAL_ENTRIES ≡ 1048576 }
 {}

@@ -37,9 +37,10 @@ pub use fabric::{Fabric, Sheet};
 pub use follow::FollowFault;
 pub use journal::{Entry, JOURNAL_ENTRIES, Row};
 pub use laws::{
-    a_place_off_all_edges_is_inside_one_parcel, a_refined_city_keeps_its_ground,
-    an_id_stands_in_the_cells_that_its_row_reaches, an_unbalanced_edge_is_no_tiling,
-    rows_with_the_nets_of_a_city_tile_it, what_is_inside_a_parcel_is_in_no_other,
+    a_journal_has_room_for_so_many_entries, a_place_off_all_edges_is_inside_one_parcel,
+    a_refined_city_keeps_its_ground, an_id_stands_in_the_cells_that_its_row_reaches,
+    an_unbalanced_edge_is_no_tiling, rows_with_the_nets_of_a_city_tile_it,
+    what_is_inside_a_parcel_is_in_no_other,
 };
 pub use layer::{Layer, LoadFault};
 pub use locate::At;

@@ -2,17 +2,18 @@ use Rattle.std.proofs.Common.{◌≡◌, ◌++◌, refl, ap, sym, subst, ◌∙�
 use Rattle.std.proofs.lemmas.List.Elements.{All-same}
 use Rattle.entry_cards.specs.Cards.{IsClerk}
 use Rattle.fabric_core.specs.Journal.{JournalEntry, Book}
+use Rattle.fabric_core.specs.Tiling.{IsTiling}
 use Rattle.desk_lock.specs.Offices.{IsOfOrigin, behind}
 use Rattle.desk_lock.proofs.Behind.{journal_is, behind_it, lawful_at, leads_to}
 use Rattle.desk_lock.proofs.window.fabric_of.Given as given
 use Rattle.desk_lock.proofs.window.fabric_of.Goals as goal
 
 -- the copy's fabric comes of the one that was handed in
-of_origin : (g : given.Over) (c : goal.After-tiles g) → IsOfOrigin g.J.Naming-1.office.origin c.fabric-fabric.result.now
+of_origin : (g : given.Over) (c : goal.After-use_invariant g) → IsOfOrigin g.J.Naming-1.office.origin c.fabric-fabric.result.now
 of_origin g c = subst (IsOfOrigin g.J.Naming-1.office.origin) (sym c.fabric-fabric.ensures.same) c.fabric-fabric.ensures.origin
 
 -- its journal is that of the fabric which was handed in, and what the version has followed
-journal : (g : given.Over) (c : goal.After-tiles g)
+journal : (g : given.Over) (c : goal.After-use_invariant g)
     → c.fabric-fabric.result.now.journal ≡ g.J.Naming-1.office.origin.journal ++ c.args.version.now
 journal g c = journal_is g.J.Naming-1.office.origin c.fabric-fabric.result.now (of_origin g c)
     ∙ ap (λ l. g.J.Naming-1.office.origin.journal ++ l)
@@ -37,3 +38,6 @@ returns-clause-of_clerks g c =
 pub returns-clause-now : goal.returns-clause-now
 returns-clause-now g c = leads_to g.J.Naming-1.office.origin c.fabric-fabric.result.now (of_origin g c)
     (g.J.Naming-1.office.origin.journal ++ c.args.version.now) (sym (journal g c)) c.use_invariant.ensures.replays
+
+pub returns-clause-tiling : goal.returns-clause-tiling
+returns-clause-tiling g c = subst (IsTiling c.fabric-fabric.result.now.now.rows) ((of_origin g c).city) c.use_invariant.ensures.tiling
