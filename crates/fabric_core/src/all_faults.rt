@@ -1,26 +1,20 @@
 //! The faults of rings that are no layer of a city: the first, or all of its kind.
 
-ghost use Rattle.std.specs.Prelude.{◌≡◌, ◌⊎◌, ◌≤◌, length, None, IfOk, IfErr, IsErrAnd};
+ghost use Rattle.std.specs.Prelude.{◌≡◌, ◌⊎◌, length, None, IfOk, IfErr};
 ghost use Rattle.std.specs.List.Sorted.{IsStrictlyIncreasing};
 ghost use Rattle.geo_exact.specs.Bounds.{IsLeastBox};
-ghost use Rattle.geo_exact.specs.Layers.{rings_of, corner_count, NumbersRise};
-ghost use Rattle.geo_exact.specs.declared.limits.TheConstants.{LAYER_CORNERS, LAYER_RECORDS};
-ghost use Rattle.fabric_core.specs.declared.layer.LoadFault.{LoadFault as FirstFault};
-ghost use Rattle.fabric_core.specs.declared.layer.LoadFault.TheVariants.{NoMemory};
 ghost use Rattle.fabric_core.specs.Tiling.{IsTiling};
-ghost use Rattle.fabric_core.specs.Rows.{AreRefined};
 ghost use Rattle.fabric_core.specs.GridIndex.{IsIndexed};
-ghost use Rattle.fabric_core.specs.Faults.{IsLoadFault, IsLoadRefusal, IsOutOfMemory};
+ghost use Rattle.fabric_core.specs.Faults.{IsOutOfMemory};
 ghost use Rattle.fabric_core.specs.own.Checks.{HaveNoFault, IsRefinedCity, IsTold};
 ghost use Rattle.fabric_core.specs.own.Lists.{numbered_rows};
 
-use crate::city::City;
 use crate::gaps::check_nets;
 use crate::layer::{Layer, LoadFault, layer_of};
 use crate::limits::first_too_many;
-use crate::refine::{Refined, refine};
+use crate::refine::Refined;
 use crate::rings::checked;
-use geo_exact::{Bounds, Corner, RawRing};
+use geo_exact::{Bounds, Corner};
 use ring_core::RingFault;
 use std::alloc::{AllocError, AllocFailed, Allocator};
 
@@ -85,42 +79,8 @@ impl<T: Drop, A: Allocator> From<AllocFailed<T>> for LoadRefusal<A> {
     }
 }
 
-impl<'a, H: Allocator> Layer<'a, H> {
-    /// As [`load`](Layer::load), but with all faults of the first's kind beside the first, where they
-    /// are asked for.
-    ///
-    /// # Errors
-    ///
-    /// The first fault that applies, as `load` answers it: [`LoadFault::TooMany`] (H3),
-    /// [`LoadFault::Ring`] (H1), [`LoadFault::Gap`] (H2); and [`LoadFault::NoMemory`] where an
-    /// allocation is refused.
-    pub fn load_or_all(
-        heap: &'a H,
-        city: &City<'a, H>,
-        records: Vec<RawRing<&'a H>, &'a H>,
-        asked: Asked,
-    ) -> Result<Layer<'a, H>, LoadRefusal<&'a H>>
-        requires numbers { NumbersRise 0 LAYER_RECORDS (rings_of records.items) }
-        requires corners { corner_count (rings_of records.items) ≤ LAYER_CORNERS }
-        ensures rows { IfOk result (λ layer. AreRefined (rings_of records.entry.items) city.now.ring.corners layer.rows layer.refined) }
-        ensures city { IfOk result (λ layer. layer.city ≡ city.now.ring.corners) }
-        ensures tiling { IfOk result (λ layer. IsTiling layer.rows city.now.ring.corners) }
-        ensures indexed { IfOk result (λ layer. IsIndexed layer.rows city.now.ring.corners layer.index) }
-        // The fault that is answered is the first of the layer, beside it all of its kind are answered
-        // where they are asked for, and a layer with a first fault is refused by it, unless memory runs
-        // out.
-        ensures faults { IfErr result (λ refusal. IsLoadRefusal asked (rings_of records.entry.items) city.now.ring.corners refusal
-            ⊎ IsOutOfMemory refusal) }
-        ensures refuses { (fault : FirstFault) → IsLoadFault (rings_of records.entry.items) city.now.ring.corners fault
-            → IsErrAnd result (λ refusal. (refusal.first ≡ fault) ⊎ (refusal.first ≡ NoMemory)) }
-    {
-        let refined = refine(heap, &city.ring.corners, records)?;
-        load_refined(heap, city.bounds, refined, asked)
-    }
-}
-
 /// The layer of rings that are noded and begun at their least corners, in a city that is refined.
-fn load_refined<'a, H: Allocator>(
+pub(crate) fn load_refined<'a, H: Allocator>(
     heap: &'a H,
     area: Bounds,
     refined: Refined<&'a H>,

@@ -1,7 +1,8 @@
 //! The journal's rows and entries.
 
-ghost use Rattle.std.specs.Prelude.{◌≡◌, map};
+ghost use Rattle.std.specs.Prelude.{◌≡◌, ◌↔◌, map, IsTrue};
 ghost use Rattle.fabric_core.specs.JournalRows.{row_of};
+ghost use Rattle.fabric_core.specs.own.EntryRows.{rows_of_entry};
 
 use geo_exact::Corners;
 use ring_edits::Edit;
@@ -132,6 +133,13 @@ impl<A: Allocator> Entry<A> {
     {
         self.rows.as_slice()
     }
+
+    /// Whether it takes out and brings what another entry does.
+    pub(crate) fn changes_as(&self, other: &Entry<A>) -> bool
+        ensures { IsTrue result ↔ ((self.now.out ≡ other.now.out) × (self.now.rows ≡ other.now.rows)) }
+    {
+        self.out() == other.out() && are_same_rows(self.rows(), other.rows())
+    }
 }
 
 impl<A: Allocator + Copy> Clone for Entry<A> {
@@ -151,4 +159,26 @@ impl<A: Allocator + Copy> Clone for Entry<A> {
             rows,
         })
     }
+}
+
+/// Whether two parcels have one id and one ring.
+fn is_same_row<A: Allocator>(row: &Row<A>, other: &Row<A>) -> bool
+    ensures { IsTrue result ↔ (row_of row.now ≡ row_of other.now) }
+{
+    row.id == other.id && row.corners == other.corners
+}
+
+/// Whether two lists have the same parcels, in one order.
+fn are_same_rows<A: Allocator>(rows: &[Row<A>], others: &[Row<A>]) -> bool
+    ensures { IsTrue result ↔ (rows_of_entry rows.now ≡ rows_of_entry others.now) }
+{
+    if rows.len() != others.len() {
+        return false;
+    }
+    for place in 0..rows.len() {
+        if !is_same_row(&rows[place], &others[place]) {
+            return false;
+        }
+    }
+    true
 }

@@ -17,14 +17,15 @@ ghost use Rattle.fabric_core.specs.Rows.{AreRefined, numbers, IsUntiledBeside};
 ghost use Rattle.fabric_core.specs.Limits.{AreWithinLimits};
 ghost use Rattle.fabric_core.specs.GridIndex.{IsIndexed, IsCandidate};
 ghost use Rattle.fabric_core.specs.Locate.{IsLocatedAt};
-ghost use Rattle.fabric_core.specs.Faults.{AreSimple, IsLoadFault};
+ghost use Rattle.fabric_core.specs.Faults.{AreSimple, IsLoadFault, IsLoadRefusal, IsOutOfMemory};
 ghost use Rattle.fabric_core.specs.own.Checks.{HaveNoFault, IsChecked};
 ghost use Rattle.fabric_core.specs.own.Kept.{IsFresh, IsShownBy};
 ghost use Rattle.fabric_core.specs.own.Lists.{numbered_rows, corners_of_rings};
 
-use crate::all_faults::Asked;
+use crate::all_faults::{Asked, LoadRefusal, load_refined};
 use crate::city::City;
 use crate::locate::At;
+use crate::refine::refine;
 use crate::tiled::Tiled;
 use geo_exact::{Bounds, Corner, Corners, RawRing};
 use parcel_table::{Ids, Shapes};
@@ -141,6 +142,38 @@ impl<'a, H: Allocator> Layer<'a, H> {
             Ok(layer) => Ok(layer),
             Err(refusal) => Err(refusal.first),
         }
+    }
+
+    /// As [`load`](Layer::load), but with all faults of the first's kind beside the first, where they
+    /// are asked for.
+    ///
+    /// # Errors
+    ///
+    /// The first fault that applies, as `load` answers it: [`LoadFault::TooMany`] (H3),
+    /// [`LoadFault::Ring`] (H1), [`LoadFault::Gap`] (H2); and [`LoadFault::NoMemory`] where an
+    /// allocation is refused.
+    pub fn load_or_all(
+        heap: &'a H,
+        city: &City<'a, H>,
+        records: Vec<RawRing<&'a H>, &'a H>,
+        asked: Asked,
+    ) -> Result<Layer<'a, H>, LoadRefusal<&'a H>>
+        requires numbers { NumbersRise 0 LAYER_RECORDS (rings_of records.items) }
+        requires corners { corner_count (rings_of records.items) ≤ LAYER_CORNERS }
+        ensures rows { IfOk result (λ layer. AreRefined (rings_of records.entry.items) city.now.ring.corners layer.rows layer.refined) }
+        ensures city { IfOk result (λ layer. layer.city ≡ city.now.ring.corners) }
+        ensures tiling { IfOk result (λ layer. IsTiling layer.rows city.now.ring.corners) }
+        ensures indexed { IfOk result (λ layer. IsIndexed layer.rows city.now.ring.corners layer.index) }
+        // The fault that is answered is the first of the layer, beside it all of its kind are answered
+        // where they are asked for, and a layer with a first fault is refused by it, unless memory runs
+        // out.
+        ensures faults { IfErr result (λ refusal. IsLoadRefusal asked (rings_of records.entry.items) city.now.ring.corners refusal
+            ⊎ IsOutOfMemory refusal) }
+        ensures refuses { (fault : LoadFault) → IsLoadFault (rings_of records.entry.items) city.now.ring.corners fault
+            → IsErrAnd result (λ refusal. (refusal.first ≡ fault) ⊎ (refusal.first ≡ NoMemory)) }
+    {
+        let refined = refine(heap, &city.ring.corners, records)?;
+        load_refined(heap, city.bounds, refined, asked)
     }
 
     /// What the layer keeps, in which no parcel has gone.

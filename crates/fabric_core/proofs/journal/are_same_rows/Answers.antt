@@ -2,7 +2,7 @@ use Rattle.std.proofs.Common.{◌≡◌, add-one}
 use Rattle.fabric_core.specs.JournalRows.{row_of}
 use Rattle.fabric_core.specs.own.EntryRows.{rows_of_entry}
 use Rattle.fabric_core.proofs.rows.SameRows.{same_step, same_at}
-use Rattle.fabric_core.proofs.follow.are_same_rows.Goals as goal
+use Rattle.fabric_core.proofs.journal.are_same_rows.Goals as goal
 
 pub returns-then-not-is_same_row : goal.returns-then-not-is_same_row
 returns-then-not-is_same_row g c =
