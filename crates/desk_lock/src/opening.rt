@@ -119,7 +119,8 @@ pub(crate) fn windows_of<'a, H: Allocator, J: Naming<H>, R: Wait + Drop>(
 ) -> Result<Vec<Window<'a, H, J>, &'a H>, OpenFault>
     requires { publisher.now.handed ≡ [] }
     ensures windows { IfOk result (λ made. made.items ≡ replicate windows (window_of J.office.origin)) }
-    ensures fault { IfErr result (λ fault. ((k : ℕ) × (1 ≤ k) × (k ≤ windows) × (fault ≡ NoWindow k)) ⊎ (fault ≡ NoMemory)) }
+    ensures fault { IfErr result (λ fault.
+        ((k : ℕ) × (1 ≤ k) × (k ≤ windows) × (fault ≡ NoWindow k)) ⊎ (fault ≡ NoMemory)) }
 {
     let mut made = Vec::new(heap);
     for place in 0..windows {
@@ -192,7 +193,8 @@ pub(crate) fn parts_of<'a, H: Allocator, J: Naming<H>, R: Wait + Drop>(
     ensures publisher { IfOk result (λ parts. parts.publisher ≡ record { handed = []; shown = [] }) }
     ensures cards { IfOk result (λ parts. parts.cards.items ≡ fresh_cards 0 clerks) }
     ensures windows { IfOk result (λ parts. parts.windows.items ≡ replicate windows (window_of J.office.origin)) }
-    ensures fault { IfErr result (λ fault. ((k : ℕ) × (1 ≤ k) × (k ≤ windows) × (fault ≡ NoWindow k)) ⊎ (fault ≡ NoMemory)) }
+    ensures fault { IfErr result (λ fault.
+        ((k : ℕ) × (1 ≤ k) × (k ≤ windows) × (fault ≡ NoWindow k)) ⊎ (fault ≡ NoMemory)) }
 {
     let Name { opened, mut keeper } = name;
     let cards = deal(heap, &mut keeper, clerks)?;

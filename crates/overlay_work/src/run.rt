@@ -114,7 +114,8 @@ fn close_worked<'t, 'h, H: Allocator>(
     ensures entries { IfOk result (λ table. table.entries ≡ round.entry.entries) }
     ensures back { IfErr result (λ back. (back.round ≡ round.entry) × (back.hands.items ≡ hands.entry.items)) }
     ensures threads { IfErr result (λ back. back.threads ≡ threads.entry) }
-    ensures fault { (old : List Progress) → IfErr result (λ back. IsRunFault round.entry old hands.entry.items threads.entry back.fault) }
+    ensures fault { (old : List Progress)
+        → IfErr result (λ back. IsRunFault round.entry old hands.entry.items threads.entry back.fault) }
     ensures refuses { (AreAllIn round.entry hands.entry.items → ⊥) → IsErr result }
 {
     round.work().use_invariant();
