@@ -1,4 +1,4 @@
--- The lines that tell of clerks' edits (this product's own). Numbers are in decimal.
+-- The lines that report clerks' edits (this product's own). Numbers are in decimal.
 use Rattle.std.specs.Prelude.{ℕ, List, ◌++◌, codes, decimal}
 use Rattle.fabric_core.specs.declared.refusal.Refusal.{Refusal}
 use Rattle.fabric_core.specs.declared.refusal.Refusal.TheVariants.{Unknown, Retired, BadPath, NotNeighbours, SharedTwice, Ring}

@@ -1,4 +1,4 @@
--- The edits of several clerks, made on one fabric by all of them at the same time: what they lead to, and the lines that tell of each (this
+-- The edits of several clerks, made on one fabric by all of them at the same time: what they lead to, and the lines that report each (this
 -- product's own).
 use Rattle.std.specs.Prelude.{◌≡◌, ◌⊎◌, ℕ, ◌+◌, List, [], ◌∷◌, ◌++◌, length}
 use Rattle.std.specs.List.{AllZip}
@@ -54,10 +54,9 @@ module _ {A : Type 0} where
     pub has_made : of_clerk clerk journal ≡ made
     pub is_refusal : IsRefusal (replay run.opening journal) journal edit refusal
 
-  -- a clerk's edits, each behind its line's number, are told in order: `ok` under the number of the next of the
-  -- clerk's entries, which has the
-  -- edit, or `refused` for a reason that was due after a beginning of the run's journal, `whole`, or for want of memory; he has no other
-  -- entries, and `made` are his from before
+  -- a clerk's edits, each behind its line's number, are reported in order: `ok` under the number of the next of the
+  -- clerk's entries, which has the edit, or `refused` for a reason that was due after a beginning of the run's journal,
+  -- `whole`, or because memory ran out; the clerk has no other entries, and `made` are those from before
   abbrev pub AreTold : Run → List (JournalEntry A) → ℕ → List (JournalEntry A) → List (ℕ × Edit A) → List (JournalEntry A) → List ℕ
       → Type 0
   AreTold run whole clerk made [] entries text = (entries ≡ []) × (text ≡ [])
@@ -68,9 +67,8 @@ module _ {A : Type 0} where
       ⊎ ((refusal : Refusal) × (more : List ℕ) × (IsRefusalDue run whole clerk made told.1 refusal ⊎ (refusal ≡ NoMemory))
       × (text ≡ refused_line clerk told.0 refusal ++ more) × AreTold run whole clerk made rest entries more)
 
-  -- the lines of each clerk, one clerk's after the other's, tell of his edits and of the journal's entries that are
-  -- his; clerks are numbered on
-  -- from a first one
+  -- the lines of each clerk, one clerk's after the other's, report the clerk's edits and the journal's entries of that
+  -- clerk; clerks are numbered on from a first one
   abbrev pub AreEachTold : Run → ℕ → List (List (ℕ × Edit A)) → List (JournalEntry A) → List ℕ → Type 0
   AreEachTold run clerk [] journal text = text ≡ []
   AreEachTold run clerk (edits ∷ others) journal text = (lines : List ℕ) × (more : List ℕ) × (text ≡ lines ++ more)
@@ -81,7 +79,7 @@ module _ {A : Type 0} where
   run_of tiles clerks = record { clerks = length clerks; opening = opening_state tiles.rows tiles.refined }
 
   -- the edits of the clerks, made on a layer, lead to this register and give these lines: its journal is lawful, has entries of the clerks
-  -- alone, and leads to the parcels, which tile the layer's city; and each clerk's lines tell of his edits
+  -- alone, and leads to the parcels, which tile the layer's city; and each clerk's lines report the clerk's edits
   pub record AreMade (tiles : Tiles) (clerks : List (List (ℕ × Edit A))) (after : Register A) (lines : List ℕ) : Type 0 where
     pub is_journal : IsJournal (run_of tiles clerks) after.journal
     pub leads : after.now ≡ replay (run_of tiles clerks).opening after.journal

@@ -1,4 +1,4 @@
--- How it is told where a point lies (this product's own). Numbers are in decimal.
+-- How it is reported where a point lies (this product's own). Numbers are in decimal.
 use Rattle.std.specs.Prelude.{ℕ, List, ◌++◌, codes, decimal}
 use Rattle.std.specs.List.{flat_map}
 use Rattle.fabric_core.specs.declared.locate.At.{At}

@@ -79,7 +79,7 @@ pub fn read_clerks<'h, H: Allocator, A: Allocator>(
     Ok(clerks)
 }
 
-/// The edits of a clerk's file; its first bad line is told with the clerk's number.
+/// The edits of a clerk's file; its first bad line is reported with the clerk's number.
 fn edits_of_clerk<'h, H: Allocator>(
     heap: &'h H,
     clerk: u32,

@@ -1,11 +1,10 @@
-//! The lines that tell of clerks' edits.
+//! The lines that report clerks' edits.
 
-ghost use Rattle.std.specs.Prelude.{◌≡◌, ◌++◌, OnOk, OnErr};
+ghost use Rattle.std.specs.Prelude.{◌≡◌, ◌++◌, OnOk, OnErr, decimal};
 ghost use Rattle.fabric_core.specs.declared.refusal.Refusal.TheVariants.{Retired};
 ghost use Rattle.clerk_runs.specs.ClerkLines.{whose_text, ok_line, refusal_text, refused_line};
 
 use fabric_core::Refusal;
-use itoa::Integer;
 use std::alloc::{AllocError, Allocator};
 use text_pieces::{Sink, push_number, push_ring_fault};
 
@@ -66,7 +65,7 @@ pub fn push_refusal<S: Sink>(text: &mut S, refusal: Refusal) -> Result<(), S::Fa
         Refusal::Unknown(id) => push_named(text, "E1 ", id),
         Refusal::Retired { id, by } => push_retired(text, id, by),
         Refusal::Ring { which, fault } => {
-            push_named(text, "E6 ", which)?;
+            push_named(text, "E6 ", u64::from(which))?;
             text.push_piece(" ")?;
             push_ring_fault(text, fault)
         }
@@ -84,9 +83,9 @@ pub fn push_refusal<S: Sink>(text: &mut S, refusal: Refusal) -> Result<(), S::Fa
 }
 
 /// Adds a code, and the number behind it.
-fn push_named<S: Sink, N: Integer>(text: &mut S, code: &str, number: N) -> Result<(), S::Fault>
-    ensures ok { OnOk result (S.takes text.old (code.now ++ N.text number) text.new) }
-    ensures err { OnErr result (S.breaks_off text.old (code.now ++ N.text number) text.new) }
+fn push_named<S: Sink>(text: &mut S, code: &str, number: u64) -> Result<(), S::Fault>
+    ensures ok { OnOk result (S.takes text.old (code.now ++ decimal number) text.new) }
+    ensures err { OnErr result (S.breaks_off text.old (code.now ++ decimal number) text.new) }
 {
     text.push_piece(code)?;
     push_number(text, number)

@@ -60,7 +60,7 @@ impl<T: Drop> From<AllocFailed<T>> for RunFault {
 
 /// Opens an office with one window for the clerks, each of whom makes his edits line by line in a
 /// thread of his own, or in this thread, once the others are joined, where the system refuses one.
-/// An edit that is refused, for want of memory too, changes nothing, and the clerk goes on with his
+/// An edit that is refused, also because memory ran out, changes nothing, and the clerk goes on with his
 /// next. Where the corners lie is asked at the window, once it learnt the receipts of all clerks,
 /// or of the sheet that is drawn then where a receipt was not published.
 ///

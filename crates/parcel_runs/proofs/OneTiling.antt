@@ -1,8 +1,7 @@
 -- A layer's files tile a city of files in one way: the rows are the same, whoever read them.
-use Rattle.std.proofs.Common.{◌≡◌, refl, ◌∙◌, sym, subst, List, [], ◌∷◌}
+use Rattle.std.proofs.Common.{◌≡◌, refl, ◌∙◌, subst, List, [], ◌∷◌}
 use Rattle.geo_exact.specs.declared.corner.Corner.{Corner}
 use Rattle.geo_exact.specs.declared.coord.Unit.{Unit as LengthUnit}
-use Rattle.geo_exact.specs.Layers.{NumberedRing}
 use Rattle.shp_files.proofs.layers.Laws.{one_list_of_rings}
 use Rattle.fabric_core.specs.Rows.{Tiles, AreRefined}
 use Rattle.fabric_core.proofs.loads.OneLoadFault.{one_refinement}

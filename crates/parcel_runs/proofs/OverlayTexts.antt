@@ -8,17 +8,18 @@ use Rattle.city_layers.specs.declared.fault.ToolFault.{ToolFault}
 use Rattle.city_layers.specs.declared.fault.ToolFault.TheVariants.{NoMemory, Output}
 use Rattle.city_layers.specs.TilingFiles.{Files}
 use Rattle.clerk_runs.specs.ClerkRuns.{Register, IsEdited}
+use Rattle.parcel_runs.specs.RunFiles.{ParcelRun}
 use Rattle.parcel_runs.specs.OverlayReport.{IsTableOf, WritesOverlay, BeginsOverlay, IsOverlayFault, IsOverlayWant}
 use Rattle.city_layers.specs.ZonedFiles.{AreZoned, IsLayersFault}
 use Rattle.parcel_runs.specs.own.LinesAndReports.{WritesBoth, BeginsBoth}
 use Rattle.parcel_runs.proofs.RunFaults.{clerks_no_output, layers_no_output, want_no_output}
 
 -- lines and the report of a table are the overlay's
-module _ {A : Type 0} (city parcels zones : Files) (unit : LengthUnit) (clerks : List (List ℕ))
-    (tiles regions : Tiles) (after : Register A)
-    (told : List ℕ) (table : Overlay) (are : AreZoned city parcels zones unit tiles regions) (edited : IsEdited tiles clerks after told)
-    (is : IsTableOf after regions table) (old new : Option (List ℕ)) where
-  pub all_written : WritesBoth told table old new → WritesOverlay A city parcels zones unit clerks old new
+module _ {A : Type 0} (run : ParcelRun) (zones : Files) (tiles regions : Tiles) (after : Register A) (told : List ℕ)
+    (table : Overlay) (are : AreZoned run.city run.parcels zones run.unit tiles regions)
+    (edited : IsEdited tiles run.clerks after told) (is : IsTableOf after regions table)
+    (old new : Option (List ℕ)) where
+  pub all_written : WritesBoth told table old new → WritesOverlay A run zones old new
   all_written h = record {
     text = told ++ h.report;
     is_overlay = record {
@@ -37,7 +38,7 @@ module _ {A : Type 0} (city parcels zones : Files) (unit : LengthUnit) (clerks :
     is_written = h.is_written;
   }
 
-  pub some_written : BeginsBoth told table old new → BeginsOverlay A city parcels zones unit clerks old new
+  pub some_written : BeginsBoth told table old new → BeginsOverlay A run zones old new
   some_written h = record {
     text = told ++ h.report;
     is_overlay = record {
@@ -75,14 +76,15 @@ zoned_no_output : (city parcels zones : Files) (unit : LengthUnit) → IsLayersF
 zoned_no_output city parcels zones unit (inl h) = layers_no_output city parcels unit h
 zoned_no_output city parcels zones unit (inr h) = h.is_fault
 
-pub no_output : (city parcels zones : Files) (unit : LengthUnit) (clerks : List (List ℕ)) (fault : ToolFault)
-    → IsOverlayFault city parcels zones unit clerks fault ⊎ (fault ≡ NoMemory) → fault ≡ Output → ⊥
-no_output city parcels zones unit clerks fault (inl (inl h)) e = let same = h.is_told in cc
-no_output city parcels zones unit clerks fault (inl (inr h)) e = elim h.1 [
-  | inl k ↦ zoned_no_output city parcels zones unit (subst (IsLayersFault city parcels zones unit) e k)
-  | inr k ↦ clerks_no_output clerks fault k.is_first e
+pub no_output : (run : ParcelRun) (zones : Files) (fault : ToolFault)
+    → IsOverlayFault run zones fault ⊎ (fault ≡ NoMemory) → fault ≡ Output → ⊥
+no_output run zones fault (inl (inl h)) e = let same = h.is_told in cc
+no_output run zones fault (inl (inr h)) e = elim h.1 [
+  | inl k ↦ zoned_no_output run.city run.parcels zones run.unit
+      (subst (IsLayersFault run.city run.parcels zones run.unit) e k)
+  | inr k ↦ clerks_no_output run.clerks fault k.is_first e
 ]
-no_output city parcels zones unit clerks fault (inr h) e = cc
+no_output run zones fault (inr h) e = cc
 
 pub overlay_want_no_output : (files workers : ℕ) (fault : ToolFault) → IsOverlayWant files workers fault → fault ≡ Output → ⊥
 overlay_want_no_output files workers fault (inl h) e = want_no_output files fault h e

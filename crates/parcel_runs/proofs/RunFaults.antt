@@ -9,9 +9,11 @@ use Rattle.fabric_core.specs.Rows.{Tiles}
 use Rattle.desk_lock.specs.declared.opening.TheConstants.{MOST_PLACES}
 use Rattle.city_layers.specs.declared.fault.ToolFault.{ToolFault}
 use Rattle.city_layers.specs.declared.fault.ToolFault.TheVariants.{NoMemory, Output}
-use Rattle.city_layers.specs.TilingFiles.{Files, AreTiles, IsTilesFault}
+use Rattle.city_layers.specs.TilingFiles.{Files, files_of, AreTiles, IsTilesFault}
 use Rattle.clerk_runs.specs.ClerkFiles.{texts_of, AreClerkFiles}
 use Rattle.city_layers.specs.FaultLines.{AreLinesBefore}
+use Rattle.parcel_runs.specs.declared.run_files.RunFiles.{RunFiles}
+use Rattle.parcel_runs.specs.RunFiles.{ParcelRun, parcel_run_of}
 use Rattle.parcel_runs.specs.RunFaults.{IsClerkFault, IsRunFault, IsWant}
 
 -- there are as many texts as files
@@ -28,56 +30,54 @@ pub same_want : {A B : Type 0} (clerks : List (Vec ℕ A)) (edits : List (List (
     → AreClerkFiles (texts_of clerks) edits → IsWant (length edits) fault → IsWant (length clerks) fault
 same_want clerks edits fault are want = subst (λ n. IsWant n fault) (as_many_edits clerks edits are) want
 
--- a run's fault, where there are few clerks' files, is of the layers or behind them
-pub few_fault : {A : Type 0} (city parcels : Files) (unit : LengthUnit) (clerks : List (Vec ℕ A)) (P : Type 0) (fault : ToolFault)
-    → length clerks ≤ MOST_PLACES
-    → IsRunFault city parcels unit (texts_of clerks) fault → (IsTilesFault city parcels unit fault → P)
-    → ((tiles : Tiles) → AreTiles city parcels unit tiles → IsClerkFault (texts_of clerks) fault → P) → P
-few_fault city parcels unit clerks P fault few (inl h) of_tiles behind = absurd (omega (arith, h.are_more, few_texts clerks few))
-few_fault city parcels unit clerks P fault few (inr h) of_tiles behind = elim h.1 [
-  | inl k ↦ of_tiles k
-  | inr k ↦
-      behind k.tiles k.are_tiles k.is_first
-]
-
--- a fault of the layers is the run's
-pub of_layers : {A : Type 0} (city parcels : Files) (unit : LengthUnit) (clerks : List (Vec ℕ A)) (fault : ToolFault)
-    → length clerks ≤ MOST_PLACES
-    → IsTilesFault city parcels unit fault → IsRunFault city parcels unit (texts_of clerks) fault
-of_layers city parcels unit clerks fault few h = inr (few_texts clerks few, inl h)
-
--- and so is one of the clerks' files, where the layers have none
-pub of_clerks : {A : Type 0} (city parcels : Files) (unit : LengthUnit) (clerks : List (Vec ℕ A)) (tiles : Tiles) (fault : ToolFault)
-    → length clerks ≤ MOST_PLACES
-    → AreTiles city parcels unit tiles → IsClerkFault (texts_of clerks) fault → IsRunFault city parcels unit (texts_of clerks) fault
-of_clerks city parcels unit clerks tiles fault few are h =
-    inr (few_texts clerks few, inr record { tiles = tiles; are_tiles = are; is_first = h })
-
--- as it is told behind them
-pub behind : {A : Type 0} (city parcels : Files) (unit : LengthUnit) (clerks : List (Vec ℕ A)) (tiles : Tiles) (fault : ToolFault)
-    → length clerks ≤ MOST_PLACES → AreTiles city parcels unit tiles → IsClerkFault (texts_of clerks) fault ⊎ (fault ≡ NoMemory)
-    → IsRunFault city parcels unit (texts_of clerks) fault ⊎ (fault ≡ NoMemory)
-behind city parcels unit clerks tiles fault few are (inl h) = inl (of_clerks city parcels unit clerks tiles fault few are h)
-behind city parcels unit clerks tiles fault few are (inr h) = inr h
-
 -- before a clerk's fault there are no lines
-no_lines_before : (city parcels : Files) (unit : LengthUnit) (clerks : List (List ℕ)) (fault : ToolFault) → IsClerkFault clerks fault
-    → AreLinesBefore city parcels unit fault []
-no_lines_before city parcels unit clerks fault h = subst (λ x. AreLinesBefore city parcels unit x []) (sym h.3) refl
+no_lines_before : (run : ParcelRun) (fault : ToolFault) → IsClerkFault run.clerks fault
+    → AreLinesBefore run.city run.parcels run.unit fault []
+no_lines_before run fault h = subst (λ x. AreLinesBefore run.city run.parcels run.unit x []) (sym h.3) refl
 
--- a fault of the clerks' files, as it is told with the lines before it
-pub told_behind : {A : Type 0} (city parcels : Files) (unit : LengthUnit) (clerks : List (Vec ℕ A)) (tiles : Tiles)
-    (fault told : ToolFault) (lines : List ℕ)
-    → length clerks ≤ MOST_PLACES → AreTiles city parcels unit tiles → IsClerkFault (texts_of clerks) fault ⊎ (fault ≡ NoMemory)
-    → told ≡ fault → lines ≡ []
-    → (IsRunFault city parcels unit (texts_of clerks) told × AreLinesBefore city parcels unit told lines)
-    ⊎ ((told ≡ NoMemory) × (lines ≡ []))
-told_behind city parcels unit clerks tiles fault told lines few are (inl h) same none = inl (
-  subst (IsRunFault city parcels unit (texts_of clerks)) (sym same) (of_clerks city parcels unit clerks tiles fault few are h),
-  subst (λ x. AreLinesBefore city parcels unit x lines) (sym same)
-      (subst (AreLinesBefore city parcels unit fault) (sym none) (no_lines_before city parcels unit (texts_of clerks) fault h)),
-)
-told_behind city parcels unit clerks tiles fault told lines few are (inr h) same none = inr (same ∙ h, none)
+-- ---- the files of a run with few clerks' files
+module _ {A : Type 0} (files : RunFiles A) (few : length files.clerks.items ≤ MOST_PLACES) where
+  -- a fault is of the layers or behind them
+  pub few_fault : (P : Type 0) (fault : ToolFault) → IsRunFault (parcel_run_of files) fault
+      → (IsTilesFault (files_of files.city) (files_of files.parcels) files.unit fault → P)
+      → ((tiles : Tiles) → AreTiles (files_of files.city) (files_of files.parcels) files.unit tiles
+      → IsClerkFault (texts_of files.clerks.items) fault → P) → P
+  few_fault P fault (inl h) of_tiles behind = absurd (omega (arith, h.are_more, few_texts files.clerks.items few))
+  few_fault P fault (inr h) of_tiles behind = elim h.1 [
+    | inl k ↦ of_tiles k
+    | inr k ↦ behind k.tiles k.are_tiles k.is_first
+  ]
+
+  -- one of the clerks' files is the run's, where the layers have none
+  of_clerks : (tiles : Tiles) (fault : ToolFault)
+      → AreTiles (files_of files.city) (files_of files.parcels) files.unit tiles
+      → IsClerkFault (texts_of files.clerks.items) fault → IsRunFault (parcel_run_of files) fault
+  of_clerks tiles fault are h =
+      inr (few_texts files.clerks.items few, inr record { tiles = tiles; are_tiles = are; is_first = h })
+
+  -- as it is told behind them
+  pub behind : (tiles : Tiles) (fault : ToolFault)
+      → AreTiles (files_of files.city) (files_of files.parcels) files.unit tiles
+      → IsClerkFault (texts_of files.clerks.items) fault ⊎ (fault ≡ NoMemory)
+      → IsRunFault (parcel_run_of files) fault ⊎ (fault ≡ NoMemory)
+  behind tiles fault are (inl h) = inl (of_clerks tiles fault are h)
+  behind tiles fault are (inr h) = inr h
+
+  -- and as it is told with the lines before it
+  pub told_behind : (tiles : Tiles) (fault told : ToolFault) (lines : List ℕ)
+      → AreTiles (files_of files.city) (files_of files.parcels) files.unit tiles
+      → IsClerkFault (texts_of files.clerks.items) fault ⊎ (fault ≡ NoMemory)
+      → told ≡ fault → lines ≡ []
+      → (IsRunFault (parcel_run_of files) told
+      × AreLinesBefore (files_of files.city) (files_of files.parcels) files.unit told lines)
+      ⊎ ((told ≡ NoMemory) × (lines ≡ []))
+  told_behind tiles fault told lines are (inl h) same none = inl (
+    subst (IsRunFault (parcel_run_of files)) (sym same) (of_clerks tiles fault are h),
+    subst (λ x. AreLinesBefore (files_of files.city) (files_of files.parcels) files.unit x lines) (sym same)
+        (subst (AreLinesBefore (files_of files.city) (files_of files.parcels) files.unit fault) (sym none)
+        (no_lines_before (parcel_run_of files) fault h)),
+  )
+  told_behind tiles fault told lines are (inr h) same none = inr (same ∙ h, none)
 
 -- ---- a fault of files is no failed write, and neither is a want
 pub clerks_no_output : (clerks : List (List ℕ)) (fault : ToolFault) → IsClerkFault clerks fault → fault ≡ Output → ⊥
@@ -91,11 +91,10 @@ pub layers_no_output : (city parcels : Files) (unit : LengthUnit) → IsTilesFau
 layers_no_output city parcels unit (inl h) = h
 layers_no_output city parcels unit (inr h) = h.is_fault
 
-pub no_output : (city parcels : Files) (unit : LengthUnit) (clerks : List (List ℕ)) (fault : ToolFault)
-    → IsRunFault city parcels unit clerks fault ⊎ (fault ≡ NoMemory) → fault ≡ Output → ⊥
-no_output city parcels unit clerks fault (inl (inl h)) e = let same = h.is_told in cc
-no_output city parcels unit clerks fault (inl (inr h)) e = elim h.1 [
-  | inl k ↦ layers_no_output city parcels unit (subst (IsTilesFault city parcels unit) e k)
-  | inr k ↦ clerks_no_output clerks fault k.is_first e
+pub no_output : (run : ParcelRun) (fault : ToolFault) → IsRunFault run fault ⊎ (fault ≡ NoMemory) → fault ≡ Output → ⊥
+no_output run fault (inl (inl h)) e = let same = h.is_told in cc
+no_output run fault (inl (inr h)) e = elim h.1 [
+  | inl k ↦ layers_no_output run.city run.parcels run.unit (subst (IsTilesFault run.city run.parcels run.unit) e k)
+  | inr k ↦ clerks_no_output run.clerks fault k.is_first e
 ]
-no_output city parcels unit clerks fault (inr h) e = cc
+no_output run fault (inr h) e = cc

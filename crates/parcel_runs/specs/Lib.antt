@@ -1,6 +1,7 @@
 pub mod CheckReport
 pub mod ExportReport
 pub mod PartReport
+pub mod RunFiles
 pub mod RunFaults
 pub mod LocateReport
 pub mod OverlayReport
@@ -22,4 +23,3 @@ pub use Rattle.line_files.specs.PointLines
 pub use Rattle.text_pieces.specs.Beginnings
 pub use Rattle.zone_tables.specs.Overlap
 pub use Rattle.zone_tables.specs.Report
-pub mod SheetReport

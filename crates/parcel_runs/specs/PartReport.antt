@@ -1,5 +1,5 @@
--- What a part writes and tells: one parcel of a layer that tiles its city, as the city of a layer of its own (this product's
--- own; the two files are those of the Technical Description, July 1998).
+-- What a part writes and prints: one parcel of a layer that tiles its city, as the city of a layer of its own (this
+-- product's own; the two files are those of the Technical Description, July 1998).
 use Rattle.std.specs.Prelude.{◌≡◌, ◌≢◌, ◌⊎◌, ℕ, List, [], ◌∷◌, ◌++◌, Some, codes}
 use Rattle.std.specs.List.{Contains}
 use Rattle.geo_exact.specs.declared.coord.Unit.{Unit as LengthUnit}
@@ -16,8 +16,8 @@ use Rattle.city_layers.specs.TilingFiles.{Files, AreTiles, IsCityOf, IsTilesFaul
 abbrev pub part_line : NumberedRing → List ℕ
 part_line row = codes "part " ++ area_line row
 
--- the districts' files tile the city of the city's files; the main file and the index file are those of the ring of the row with this
--- number, alone, and read in millimetres they are a city with that very ring; told is the row's line
+-- the districts' files tile the city of the city's files; the main file and the index file are those of the ring of the
+-- row with this number, alone, and read in millimetres they are a city with that very ring; printed is the row's line
 pub record IsPart (city districts : Files) (unit : LengthUnit) (id : ℕ) (main index line : List ℕ) : Type 0 where
   pub tiles : Tiles
   pub are_tiles : AreTiles city districts unit tiles
@@ -38,4 +38,5 @@ pub record IsNoParcel (city districts : Files) (unit : LengthUnit) (id : ℕ) (f
 
 -- the fault is the first: the city's, then the districts', and then that no row has this number
 abbrev pub IsPartFault : Files → Files → LengthUnit → ℕ → ToolFault → Type 0
-IsPartFault city districts unit id fault = IsTilesFault city districts unit fault ⊎ IsNoParcel city districts unit id fault
+IsPartFault city districts unit id fault =
+    IsTilesFault city districts unit fault ⊎ IsNoParcel city districts unit id fault

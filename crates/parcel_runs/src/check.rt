@@ -1,27 +1,29 @@
 //! Whether parcels tile their city.
 
-ghost use Rattle.std.specs.Prelude.{◌≡◌, ◌⊎◌, ◌≤◌, ◌++◌, ℕ, List, length, IfOk, IfErr, IsErrAnd, IsErrOf, OnOk, codes, decimal};
+ghost use Rattle.std.specs.Prelude.{◌≡◌, ◌⊎◌, ◌≤◌, ◌++◌, ℕ, List, length, codes, decimal};
+ghost use Rattle.std.specs.Prelude.{IfOk, IfErr, IsErrAnd, IsErrOf, OnOk, OnErr};
 ghost use Rattle.std.specs.Borrow.{Bor};
 ghost use Rattle.geo_exact.specs.Bytes.{raised};
 ghost use Rattle.geo_exact.specs.declared.limits.TheConstants.{LIST_CORNERS};
 ghost use Rattle.city_layers.specs.declared.fault.ToolFault.{ToolFault as ToolFaultValue};
+ghost use Rattle.parcel_runs.specs.RunFiles.{parcel_run_of};
 ghost use Rattle.parcel_runs.specs.CheckReport.{tiling_line, WritesTiling, BeginsTiling, BeginsLines};
 ghost use Rattle.city_layers.specs.FaultLines.{WritesLinesBefore};
 ghost use Rattle.city_layers.specs.TilingFiles.{files_of};
-ghost use Rattle.clerk_runs.specs.ClerkFiles.{texts_of};
 ghost use Rattle.clerk_runs.specs.ClerkRuns.{Register, AreMade};
 ghost use Rattle.parcel_runs.specs.RunFaults.{IsRunFault, IsWant};
 ghost use Rattle.desk_lock.specs.declared.opening.TheConstants.{MOST_PLACES};
 
-use crate::edited::{Unedited, edit_layer};
-use crate::unedited::{load_unedited, load_unedited_or_lines};
-use city_layers::{Source, ToolFault};
-use geo_exact::{ByteOut, Unit};
+use crate::inputs::{RunInputs, load_inputs, load_inputs_or_lines};
+use crate::outcome::edit_layer;
+use crate::run_files::RunFiles;
+use city_layers::ToolFault;
+use geo_exact::ByteOut;
 use shp_files::a_layer_file_is_within_the_limits;
-use std::alloc::{AllocError, Allocator};
+use std::alloc::Allocator;
 use std::sync::Wait;
 use std::thread::Threads;
-use text_pieces::{push_number, put_all};
+use text_pieces::{Sink, push_number, put_all};
 
 /// Writes `tiling N AREA2` where the parcels tile their city exactly: how many they are, and twice
 /// the city's area in square millimetres. Before that the edits of clerks' files are made at one
@@ -38,30 +40,26 @@ use text_pieces::{push_number, put_all};
 pub fn check<'h, R: Threads + Wait + Sync, H: Allocator + Send + Sync, A: Allocator, W: ByteOut>(
     rt: &R,
     heap: &'h H,
-    city: &Source<A>,
-    parcels: &Source<A>,
-    unit: Unit,
-    clerks: &[Vec<u8, A>],
+    files: &RunFiles<A>,
     out: &mut W,
 ) -> Result<(), ToolFault<'static>>
-    ensures ok { OnOk result (WritesTiling (Bor H)
-        (files_of city.now) (files_of parcels.now) unit (texts_of clerks.now) (W.written out.old) (W.written out.new)) }
+    ensures ok { OnOk result
+        (WritesTiling (Bor H) (parcel_run_of files.now) (W.written out.old) (W.written out.new)) }
     ensures fault { IfErr result (λ fault.
-        (IsRunFault (files_of city.now) (files_of parcels.now) unit (texts_of clerks.now) fault × (out.new ≡ out.old))
-        ⊎ (IsWant (length clerks.now) fault × (out.new ≡ out.old)) ⊎ (fault ≡ ToolFault.Output)) }
-    ensures refuses { (fault : ToolFaultValue)
-        → IsRunFault (files_of city.now) (files_of parcels.now) unit (texts_of clerks.now) fault
+        (IsRunFault (parcel_run_of files.now) fault × (out.new ≡ out.old))
+        ⊎ (IsWant (length files.now.clerks.items) fault × (out.new ≡ out.old)) ⊎ (fault ≡ ToolFault.Output)) }
+    ensures refuses { (fault : ToolFaultValue) → IsRunFault (parcel_run_of files.now) fault
         → IsErrAnd result (λ told. (told ≡ fault) ⊎ (told ≡ ToolFault.NoMemory)) }
 
     // Only a writer that failed in this call ends the output early.
-    ensures output { IsErrOf result ToolFault.Output → BeginsTiling (Bor H)
-        (files_of city.now) (files_of parcels.now) unit (texts_of clerks.now) (W.written out.old) (W.written out.new) }
+    ensures output { IsErrOf result ToolFault.Output
+        → BeginsTiling (Bor H) (parcel_run_of files.now) (W.written out.old) (W.written out.new) }
     ensures failed { IsErrOf result ToolFault.Output → W.failure_count out.new ≡ raised (W.failure_count out.old) }
     ensures no_failure { OnOk result (W.failure_count out.new ≡ W.failure_count out.old) }
 {
-    let unedited = load_unedited(heap, city, parcels, unit, clerks)?;
+    let inputs = load_inputs(heap, files)?;
     a_layer_file_is_within_the_limits();
-    let text = checked_text(rt, heap, unedited)?;
+    let text = checked_text(rt, heap, inputs)?;
     put_all(text.as_slice(), out)?;
     Ok(())
 }
@@ -82,39 +80,29 @@ pub fn check_all<
     H: Allocator + Send + Sync,
     A: Allocator,
     W: ByteOut,
->(
-    rt: &R,
-    heap: &'h H,
-    city: &Source<A>,
-    parcels: &Source<A>,
-    unit: Unit,
-    clerks: &[Vec<u8, A>],
-    out: &mut W,
-) -> Result<(), ToolFault<'static>>
-    ensures ok { OnOk result (WritesTiling (Bor H)
-        (files_of city.now) (files_of parcels.now) unit (texts_of clerks.now) (W.written out.old) (W.written out.new)) }
+>(rt: &R, heap: &'h H, files: &RunFiles<A>, out: &mut W) -> Result<(), ToolFault<'static>>
+    ensures ok { OnOk result
+        (WritesTiling (Bor H) (parcel_run_of files.now) (W.written out.old) (W.written out.new)) }
     // The lines of all faults are written before the first is answered.
     ensures fault { IfErr result (λ fault.
-        ((IsRunFault (files_of city.now) (files_of parcels.now) unit (texts_of clerks.now) fault ⊎ IsWant (length clerks.now) fault)
-        × WritesLinesBefore (files_of city.now) (files_of parcels.now) unit fault (W.written out.old) (W.written out.new))
+        ((IsRunFault (parcel_run_of files.now) fault ⊎ IsWant (length files.now.clerks.items) fault)
+        × WritesLinesBefore (files_of files.now.city) (files_of files.now.parcels) files.now.unit fault
+        (W.written out.old) (W.written out.new))
         ⊎ (fault ≡ ToolFault.Output)) }
-    ensures refuses { (fault : ToolFaultValue)
-        → IsRunFault (files_of city.now) (files_of parcels.now) unit (texts_of clerks.now) fault
+    ensures refuses { (fault : ToolFaultValue) → IsRunFault (parcel_run_of files.now) fault
         → IsErrAnd result (λ told. (told ≡ fault) ⊎ (told ≡ ToolFault.NoMemory) ⊎ (told ≡ ToolFault.Output)) }
 
     // Only a writer that failed in this call ends the output early, that of the lines too.
     ensures output { IsErrOf result ToolFault.Output
-        → BeginsTiling (Bor H) (files_of city.now) (files_of parcels.now) unit (texts_of clerks.now)
-        (W.written out.old) (W.written out.new)
-        ⊎ BeginsLines (files_of city.now) (files_of parcels.now) unit (texts_of clerks.now)
-        (W.written out.old) (W.written out.new) }
+        → BeginsTiling (Bor H) (parcel_run_of files.now) (W.written out.old) (W.written out.new)
+        ⊎ BeginsLines (parcel_run_of files.now) (W.written out.old) (W.written out.new) }
     ensures failed { IsErrOf result ToolFault.Output → W.failure_count out.new ≡ raised (W.failure_count out.old) }
     ensures no_failure { OnOk result (W.failure_count out.new ≡ W.failure_count out.old) }
 {
-    match load_unedited_or_lines(heap, city, parcels, unit, clerks) {
-        Ok(unedited) => {
+    match load_inputs_or_lines(heap, files) {
+        Ok(inputs) => {
             a_layer_file_is_within_the_limits();
-            let text = checked_text(rt, heap, unedited)?;
+            let text = checked_text(rt, heap, inputs)?;
             put_all(text.as_slice(), out)?;
             Ok(())
         }
@@ -129,36 +117,37 @@ pub fn check_all<
 fn checked_text<'h, R: Threads + Wait + Sync, H: Allocator + Send + Sync>(
     rt: &R,
     heap: &'h H,
-    unedited: Unedited<'h, H>,
+    inputs: RunInputs<'h, H>,
 ) -> Result<Vec<u8, &'h H>, ToolFault<'static>>
-    requires few { length unedited.clerks.items ≤ MOST_PLACES }
-    requires short { length unedited.layer.city ≤ LIST_CORNERS }
+    requires few { length inputs.clerks.items ≤ MOST_PLACES }
+    requires short { length inputs.layer.city ≤ LIST_CORNERS }
     ensures text { IfOk result (λ text. (after : Register (Bor H)) × (told : List ℕ)
-        × AreMade unedited.entry.layer unedited.entry.clerks.items after told
-        × (text.items ≡ told ++ tiling_line after.now.rows unedited.entry.layer.city)) }
-    ensures fault { IfErr result (IsWant (length unedited.entry.clerks.items)) }
+        × AreMade inputs.entry.layer inputs.entry.clerks.items after told
+        × (text.items ≡ told ++ tiling_line after.now.rows inputs.entry.layer.city)) }
+    ensures fault { IfErr result (IsWant (length inputs.entry.clerks.items)) }
 {
-    let edited = edit_layer(rt, heap, unedited, &[])?;
-    let count = edited.parcels.count();
-    let area2 = edited.parcels.city_area2();
-    let mut lines = edited.into_lines();
+    let outcome = edit_layer(rt, heap, inputs, &[])?;
+    let count = outcome.parcels.count();
+    let area2 = outcome.parcels.city_area2();
+    let mut lines = outcome.into_lines();
     push_tiling(&mut lines, count, area2)?;
     Ok(lines)
 }
 
 /// Adds the line of a tiling: the number of parcels, and twice the city's area.
-pub(crate) fn push_tiling<A: Allocator>(
-    text: &mut Vec<u8, A>,
-    count: usize,
-    area2: u128,
-) -> Result<(), AllocError>
-    ensures { OnOk result (text.new.items ≡ text.old.items
-        ++ (codes "tiling " ++ decimal count ++ codes " " ++ decimal area2 ++ codes "\n")) }
+///
+/// # Errors
+///
+/// The sink's fault; a beginning of the piece may have been taken then.
+pub(crate) fn push_tiling<S: Sink>(text: &mut S, count: usize, area2: u128) -> Result<(), S::Fault>
+    ensures ok { OnOk result (S.takes text.old
+        (codes "tiling " ++ decimal count ++ codes " " ++ decimal area2 ++ codes "\n") text.new) }
+    ensures err { OnErr result (S.breaks_off text.old
+        (codes "tiling " ++ decimal count ++ codes " " ++ decimal area2 ++ codes "\n") text.new) }
 {
-    text.extend_from_slice(b"tiling ")?;
+    text.push_piece("tiling ")?;
     push_number(text, count)?;
-    text.push(b' ')?;
+    text.push_piece(" ")?;
     push_number(text, area2)?;
-    text.push(b'\n')?;
-    Ok(())
+    text.push_piece("\n")
 }

@@ -6,6 +6,7 @@ ghost use Rattle.city_layers.specs.declared.fault.ToolFault.{ToolFault as ToolFa
 ghost use Rattle.parcel_runs.specs.RunFaults.{IsClerkFault};
 ghost use Rattle.desk_lock.specs.declared.opening.TheConstants.{MOST_PLACES};
 
+use crate::run_files::RunFiles;
 use city_layers::ToolFault;
 use clerk_runs::{ClerkEdits, FilesFault, read_clerks};
 use desk_lock::MOST_PLACES;
@@ -27,8 +28,8 @@ pub fn refuse_many_clerks(count: usize) -> Result<(), ToolFault<'static>>
     Ok(())
 }
 
-/// The edits of clerks' files; clerk K is that of file K, from 1. The first bad line of the files
-/// is a fault of the run.
+/// The edits of a run's clerks' files; clerk K is that of file K, from 1. The first bad line of the
+/// files is a fault of the run.
 ///
 /// # Errors
 ///
@@ -36,16 +37,17 @@ pub fn refuse_many_clerks(count: usize) -> Result<(), ToolFault<'static>>
 /// [`ToolFault::NoMemory`].
 pub fn read_clerk_files<'h, H: Allocator, A: Allocator>(
     heap: &'h H,
-    files: &[Vec<u8, A>],
+    files: &RunFiles<A>,
 ) -> Result<Vec<ClerkEdits<&'h H>, &'h H>, ToolFault<'static>>
-    requires { length files.now ≤ MOST_PLACES }
-    ensures edits { IfOk result (λ clerks. AreClerkFiles (texts_of files.now) clerks.items) }
+    requires { length files.now.clerks.items ≤ MOST_PLACES }
+    ensures edits { IfOk result (λ clerks. AreClerkFiles (texts_of files.now.clerks.items) clerks.items) }
     ensures few { IfOk result (λ clerks. length clerks.items ≤ MOST_PLACES) }
-    ensures fault { IfErr result (λ fault. IsClerkFault (texts_of files.now) fault ⊎ (fault ≡ ToolFault.NoMemory)) }
-    ensures refuses { (fault : ToolFaultValue) → IsClerkFault (texts_of files.now) fault
+    ensures fault { IfErr result (λ fault.
+        IsClerkFault (texts_of files.now.clerks.items) fault ⊎ (fault ≡ ToolFault.NoMemory)) }
+    ensures refuses { (fault : ToolFaultValue) → IsClerkFault (texts_of files.now.clerks.items) fault
         → IsErrAnd result (λ told. (told ≡ fault) ⊎ (told ≡ ToolFault.NoMemory)) }
 {
-    match read_clerks(heap, files) {
+    match read_clerks(heap, files.clerks.as_slice()) {
         Ok(clerks) => Ok(clerks),
         Err(FilesFault::BadLine(clerk, line)) => Err(ToolFault::ClerkLine(clerk, line)),
         Err(FilesFault::NoMemory) => Err(ToolFault::NoMemory),

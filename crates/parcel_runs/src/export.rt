@@ -6,17 +6,17 @@ ghost use Rattle.std.specs.List.{AllByRecursion};
 ghost use Rattle.geo_exact.specs.declared.limits.TheConstants.{LAYER_RECORDS, RING_CORNERS};
 ghost use Rattle.shp_files.specs.Written.{corner_lists as lists_of_rings, written_main, written_index};
 ghost use Rattle.city_layers.specs.declared.fault.ToolFault.{ToolFault as ToolFaultValue};
+ghost use Rattle.parcel_runs.specs.RunFiles.{parcel_run_of};
 ghost use Rattle.parcel_runs.specs.ExportReport.{IsExport};
-ghost use Rattle.city_layers.specs.TilingFiles.{files_of};
-ghost use Rattle.clerk_runs.specs.ClerkFiles.{texts_of};
 ghost use Rattle.parcel_runs.specs.RunFaults.{IsRunFault, IsWant};
 ghost use Rattle.parcel_runs.specs.own.Registers.{lists_of_parcels, register_of_parcels};
 
-use crate::edited::{Parcels, edit_layer};
-use crate::unedited::load_unedited;
-use city_layers::{Source, ToolFault};
+use crate::inputs::load_inputs;
+use crate::outcome::{RunParcels, edit_layer};
+use crate::run_files::RunFiles;
+use city_layers::ToolFault;
 use fabric_core::Shapes;
-use geo_exact::{RawRing, Unit};
+use geo_exact::RawRing;
 use ring_core::Ring;
 use shp_files::{a_layer_file_is_within_the_limits, write_layer};
 use std::alloc::{AllocError, Allocator};
@@ -50,34 +50,30 @@ pub struct Exported<A: Allocator> {
 pub fn export<'h, R: Threads + Wait + Sync, H: Allocator + Send + Sync, A: Allocator>(
     rt: &R,
     heap: &'h H,
-    city: &Source<A>,
-    parcels: &Source<A>,
-    unit: Unit,
-    clerks: &[Vec<u8, A>],
+    files: &RunFiles<A>,
 ) -> Result<Exported<&'h H>, ToolFault<'static>>
-    ensures ok { IfOk result (λ exported. IsExport (Bor H) (files_of city.now) (files_of parcels.now) unit
-        (texts_of clerks.now) exported.main.items exported.index.items exported.lines.items) }
+    ensures ok { IfOk result (λ exported.
+        IsExport (Bor H) (parcel_run_of files.now) exported.main.items exported.index.items exported.lines.items) }
     ensures fault { IfErr result (λ fault.
-        IsRunFault (files_of city.now) (files_of parcels.now) unit (texts_of clerks.now) fault ⊎ IsWant (length clerks.now) fault) }
-    ensures refuses { (fault : ToolFaultValue)
-        → IsRunFault (files_of city.now) (files_of parcels.now) unit (texts_of clerks.now) fault
+        IsRunFault (parcel_run_of files.now) fault ⊎ IsWant (length files.now.clerks.items) fault) }
+    ensures refuses { (fault : ToolFaultValue) → IsRunFault (parcel_run_of files.now) fault
         → IsErrAnd result (λ told. (told ≡ fault) ⊎ (told ≡ ToolFault.NoMemory)) }
 {
-    let unedited = load_unedited(heap, city, parcels, unit, clerks)?;
+    let inputs = load_inputs(heap, files)?;
     a_layer_file_is_within_the_limits();
-    let edited = edit_layer(rt, heap, unedited, &[])?;
-    let count = edited.parcels.count();
-    let files = written(heap, &edited.parcels);
-    let mut lines = edited.into_lines();
+    let outcome = edit_layer(rt, heap, inputs, &[])?;
+    let count = outcome.parcels.count();
+    let layer = written(heap, &outcome.parcels);
+    let mut lines = outcome.into_lines();
     push_exported(&mut lines, count)?;
-    let (main, index) = files?;
+    let (main, index) = layer?;
     Ok(Exported { main, index, lines })
 }
 
 /// The main file and the index of the parcels, each numbered as the record that it is written as.
 pub(crate) fn written<'h, H: Allocator>(
     heap: &'h H,
-    parcels: &Parcels<'h, H>,
+    parcels: &RunParcels<'h, H>,
 ) -> Result<(Vec<u8, &'h H>, Vec<u8, &'h H>), AllocError>
     requires { length (register_of_parcels parcels.now).now.rows ≤ LAYER_RECORDS }
     ensures main { IfOk result (λ files. files.0.items ≡ written_main (lists_of_parcels parcels.now)) }
@@ -118,7 +114,7 @@ pub(crate) fn ring_to_write<A: Allocator + Copy>(
     Ok(RawRing { number, corners })
 }
 
-/// Adds the line of an export, which tells the number of parcels.
+/// Adds the line of an export, with the number of parcels.
 pub(crate) fn push_exported<A: Allocator>(
     text: &mut Vec<u8, A>,
     count: usize,

@@ -8,14 +8,16 @@
 pub mod check;
 mod clerks;
 mod dealing;
-mod edited;
 pub mod export;
+mod inputs;
 pub mod locate;
-mod overlaps;
+mod outcome;
 pub mod overlay;
+mod overlay_inputs;
+mod overlay_job;
 pub mod part;
+mod run_files;
 pub mod sheets;
-mod unedited;
-mod zoned;
 
 pub use clerks::refuse_many_clerks;
+pub use run_files::RunFiles;

@@ -5,23 +5,23 @@ ghost use Rattle.std.specs.Borrow.{Bor};
 ghost use Rattle.geo_exact.specs.Bytes.{raised};
 ghost use Rattle.city_layers.specs.declared.fault.ToolFault.{ToolFault as ToolFaultValue};
 ghost use Rattle.text_pieces.specs.CornerText.{corner_text};
-ghost use Rattle.parcel_runs.specs.LocateReport.{ArePlaceLines, WritesPlaces, BeginsPlaces, WritesPlacesOfText, BeginsPlacesOfText};
-ghost use Rattle.parcel_runs.specs.LocateReport.{IsLocateFault};
+ghost use Rattle.parcel_runs.specs.RunFiles.{parcel_run_of};
+ghost use Rattle.parcel_runs.specs.LocateReport.{ArePlaceLines, WritesPlaces, BeginsPlaces, IsLocateFault};
+ghost use Rattle.parcel_runs.specs.LocateReport.{WritesPlacesOfText, BeginsPlacesOfText};
 ghost use Rattle.line_files.specs.PointLines.{ArePoints, IsFirstBadPoint};
-ghost use Rattle.city_layers.specs.TilingFiles.{files_of};
-ghost use Rattle.clerk_runs.specs.ClerkFiles.{texts_of};
 ghost use Rattle.clerk_runs.specs.ClerkRuns.{Register, AreMade};
 ghost use Rattle.clerk_runs.specs.PlaceTexts.{place_text};
 ghost use Rattle.parcel_runs.specs.RunFaults.{IsRunFault, IsWant};
 ghost use Rattle.parcel_runs.specs.own.PlaceTexts.{places_text};
 ghost use Rattle.desk_lock.specs.declared.opening.TheConstants.{MOST_PLACES};
 
-use crate::edited::{Unedited, edit_layer};
-use crate::unedited::load_unedited;
-use city_layers::{Source, ToolFault};
+use crate::inputs::{RunInputs, load_inputs};
+use crate::outcome::edit_layer;
+use crate::run_files::RunFiles;
+use city_layers::ToolFault;
 use clerk_runs::push_place;
 use fabric_core::At;
-use geo_exact::{ByteOut, Corner, Unit};
+use geo_exact::{ByteOut, Corner};
 use line_files::{PointsFault, read_points};
 use std::alloc::{AllocError, Allocator};
 use std::sync::Wait;
@@ -43,30 +43,26 @@ use text_pieces::{push_corner, put_all};
 pub fn locate<'h, R: Threads + Wait + Sync, H: Allocator + Send + Sync, A: Allocator, W: ByteOut>(
     rt: &R,
     heap: &'h H,
-    city: &Source<A>,
-    parcels: &Source<A>,
-    unit: Unit,
+    files: &RunFiles<A>,
     points: &[Corner],
-    clerks: &[Vec<u8, A>],
     out: &mut W,
 ) -> Result<(), ToolFault<'static>>
-    ensures ok { OnOk result (WritesPlaces (Bor H) (files_of city.now) (files_of parcels.now) unit (texts_of clerks.now)
-        points.now (W.written out.old) (W.written out.new)) }
+    ensures ok { OnOk result
+        (WritesPlaces (Bor H) (parcel_run_of files.now) points.now (W.written out.old) (W.written out.new)) }
     ensures fault { IfErr result (λ fault.
-        (IsRunFault (files_of city.now) (files_of parcels.now) unit (texts_of clerks.now) fault × (out.new ≡ out.old))
-        ⊎ (IsWant (length clerks.now) fault × (out.new ≡ out.old)) ⊎ (fault ≡ ToolFault.Output)) }
-    ensures refuses { (fault : ToolFaultValue)
-        → IsRunFault (files_of city.now) (files_of parcels.now) unit (texts_of clerks.now) fault
+        (IsRunFault (parcel_run_of files.now) fault × (out.new ≡ out.old))
+        ⊎ (IsWant (length files.now.clerks.items) fault × (out.new ≡ out.old)) ⊎ (fault ≡ ToolFault.Output)) }
+    ensures refuses { (fault : ToolFaultValue) → IsRunFault (parcel_run_of files.now) fault
         → IsErrAnd result (λ told. (told ≡ fault) ⊎ (told ≡ ToolFault.NoMemory)) }
 
     // Only a writer that failed in this call ends the output early.
-    ensures output { IsErrOf result ToolFault.Output → BeginsPlaces (Bor H) (files_of city.now) (files_of parcels.now) unit
-        (texts_of clerks.now) points.now (W.written out.old) (W.written out.new) }
+    ensures output { IsErrOf result ToolFault.Output
+        → BeginsPlaces (Bor H) (parcel_run_of files.now) points.now (W.written out.old) (W.written out.new) }
     ensures failed { IsErrOf result ToolFault.Output → W.failure_count out.new ≡ raised (W.failure_count out.old) }
     ensures no_failure { OnOk result (W.failure_count out.new ≡ W.failure_count out.old) }
 {
-    let unedited = load_unedited(heap, city, parcels, unit, clerks)?;
-    let lines = located_text(rt, heap, unedited, points)?;
+    let inputs = load_inputs(heap, files)?;
+    let lines = located_text(rt, heap, inputs, points)?;
     put_all(lines.as_slice(), out)?;
     Ok(())
 }
@@ -87,32 +83,27 @@ pub fn locate_text<
 >(
     rt: &R,
     heap: &'h H,
-    city: &Source<A>,
-    parcels: &Source<A>,
-    unit: Unit,
+    files: &RunFiles<A>,
     text: &[u8],
-    clerks: &[Vec<u8, A>],
     out: &mut W,
 ) -> Result<(), ToolFault<'static>>
-    ensures ok { OnOk result (WritesPlacesOfText (Bor H) (files_of city.now) (files_of parcels.now) unit
-        (texts_of clerks.now) text.now (W.written out.old) (W.written out.new)) }
+    ensures ok { OnOk result
+        (WritesPlacesOfText (Bor H) (parcel_run_of files.now) text.now (W.written out.old) (W.written out.new)) }
     ensures fault { IfErr result (λ fault.
-        (IsLocateFault (files_of city.now) (files_of parcels.now) unit (texts_of clerks.now) text.now fault
-        × (out.new ≡ out.old))
-        ⊎ (IsWant (length clerks.now) fault × (out.new ≡ out.old)) ⊎ (fault ≡ ToolFault.Output)) }
-    ensures refuses { (fault : ToolFaultValue)
-        → IsLocateFault (files_of city.now) (files_of parcels.now) unit (texts_of clerks.now) text.now fault
+        (IsLocateFault (parcel_run_of files.now) text.now fault × (out.new ≡ out.old))
+        ⊎ (IsWant (length files.now.clerks.items) fault × (out.new ≡ out.old)) ⊎ (fault ≡ ToolFault.Output)) }
+    ensures refuses { (fault : ToolFaultValue) → IsLocateFault (parcel_run_of files.now) text.now fault
         → IsErrAnd result (λ told. (told ≡ fault) ⊎ (told ≡ ToolFault.NoMemory)) }
 
     // Only a writer that failed in this call ends the output early.
-    ensures output { IsErrOf result ToolFault.Output → BeginsPlacesOfText (Bor H) (files_of city.now) (files_of parcels.now) unit
-        (texts_of clerks.now) text.now (W.written out.old) (W.written out.new) }
+    ensures output { IsErrOf result ToolFault.Output
+        → BeginsPlacesOfText (Bor H) (parcel_run_of files.now) text.now (W.written out.old) (W.written out.new) }
     ensures failed { IsErrOf result ToolFault.Output → W.failure_count out.new ≡ raised (W.failure_count out.old) }
     ensures no_failure { OnOk result (W.failure_count out.new ≡ W.failure_count out.old) }
 {
-    let unedited = load_unedited(heap, city, parcels, unit, clerks)?;
+    let inputs = load_inputs(heap, files)?;
     let points = points_of_text(heap, text)?;
-    let lines = located_text(rt, heap, unedited, &points)?;
+    let lines = located_text(rt, heap, inputs, &points)?;
     put_all(lines.as_slice(), out)?;
     Ok(())
 }
@@ -121,7 +112,8 @@ pub fn locate_text<
 fn points_of_text<A: Allocator>(alloc: A, text: &[u8]) -> Result<Vec<Corner, A>, ToolFault<'static>>
     ensures points { IfOk result (λ points. ArePoints text.now points.items) }
     ensures fault { IfErr result (λ fault.
-        ((number : ℕ) × (fault ≡ ToolFault.PointLine number) × IsFirstBadPoint text.now number) ⊎ (fault ≡ ToolFault.NoMemory)) }
+        ((number : ℕ) × (fault ≡ ToolFault.PointLine number) × IsFirstBadPoint text.now number)
+        ⊎ (fault ≡ ToolFault.NoMemory)) }
     ensures refuses { (number : ℕ) → IsFirstBadPoint text.now number
         → IsErrAnd result (λ fault. (fault ≡ ToolFault.PointLine number) ⊎ (fault ≡ ToolFault.NoMemory)) }
 {
@@ -136,17 +128,17 @@ fn points_of_text<A: Allocator>(alloc: A, text: &[u8]) -> Result<Vec<Corner, A>,
 fn located_text<'h, R: Threads + Wait + Sync, H: Allocator + Send + Sync>(
     rt: &R,
     heap: &'h H,
-    unedited: Unedited<'h, H>,
+    inputs: RunInputs<'h, H>,
     points: &[Corner],
 ) -> Result<Vec<u8, &'h H>, ToolFault<'static>>
-    requires { length unedited.clerks.items ≤ MOST_PLACES }
+    requires { length inputs.clerks.items ≤ MOST_PLACES }
     ensures text { IfOk result (λ text. (after : Register (Bor H)) × (told : List ℕ) × (lines : List ℕ)
-        × AreMade unedited.entry.layer unedited.entry.clerks.items after told
+        × AreMade inputs.entry.layer inputs.entry.clerks.items after told
         × ArePlaceLines after.now.rows points.now lines × (text.items ≡ told ++ lines)) }
-    ensures fault { IfErr result (IsWant (length unedited.entry.clerks.items)) }
+    ensures fault { IfErr result (IsWant (length inputs.entry.clerks.items)) }
 {
-    let edited = edit_layer(rt, heap, unedited, points)?;
-    let (mut lines, places) = edited.into_places();
+    let outcome = edit_layer(rt, heap, inputs, points)?;
+    let (mut lines, places) = outcome.into_places();
     push_place_lines(&mut lines, points, &places)?;
     Ok(lines)
 }

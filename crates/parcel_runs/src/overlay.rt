@@ -5,20 +5,22 @@ ghost use Rattle.std.specs.Borrow.{Bor};
 ghost use Rattle.geo_exact.specs.Bytes.{raised};
 ghost use Rattle.overlay_work.specs.declared.round.TheConstants.{MOST_HANDS};
 ghost use Rattle.city_layers.specs.declared.fault.ToolFault.{ToolFault as ToolFaultValue};
+ghost use Rattle.parcel_runs.specs.RunFiles.{parcel_run_of};
 ghost use Rattle.parcel_runs.specs.OverlayReport.{WritesOverlay, BeginsOverlay, IsOverlayFault, IsOverlayWant};
 ghost use Rattle.city_layers.specs.TilingFiles.{files_of};
-ghost use Rattle.clerk_runs.specs.ClerkFiles.{texts_of};
 ghost use Rattle.clerk_runs.specs.ClerkRuns.{AreMade, register_of};
 ghost use Rattle.parcel_runs.specs.RunFaults.{IsWant};
 ghost use Rattle.parcel_runs.specs.own.LinesAndReports.{WritesBoth, BeginsBoth};
 ghost use Rattle.desk_lock.specs.declared.opening.TheConstants.{MOST_PLACES};
 
-use crate::edited::{Unedited, edit_layer};
-use crate::overlaps::overlaps;
-use crate::zoned::{Zoned, load_zoned};
+use crate::inputs::RunInputs;
+use crate::outcome::edit_layer;
+use crate::overlay_inputs::{OverlayInputs, load_overlay_inputs};
+use crate::overlay_job::overlay_table;
+use crate::run_files::RunFiles;
 use city_layers::{Source, ToolFault};
 use fabric_core::Sheet;
-use geo_exact::{ByteOut, Unit};
+use geo_exact::ByteOut;
 use overlay_work::{MOST_HANDS, Table, write_report};
 use std::alloc::Allocator;
 use std::sync::Wait;
@@ -42,58 +44,54 @@ use text_pieces::put_all;
 pub fn overlay<'h, R: Threads + Wait + Sync, H: Allocator + Send + Sync, A: Allocator, W: ByteOut>(
     rt: &R,
     heap: &'h H,
-    city: &Source<A>,
-    parcels: &Source<A>,
+    files: &RunFiles<A>,
     zones: &Source<A>,
-    unit: Unit,
-    clerks: &[Vec<u8, A>],
     workers: usize,
     out: &mut W,
 ) -> Result<(), ToolFault<'static>>
     requires some { 0 < workers }
     requires few { workers ≤ MOST_HANDS }
-    ensures ok { OnOk result (WritesOverlay (Bor H) (files_of city.now) (files_of parcels.now) (files_of zones.now) unit
-        (texts_of clerks.now) (W.written out.old) (W.written out.new)) }
+    ensures ok { OnOk result
+        (WritesOverlay (Bor H) (parcel_run_of files.now) (files_of zones.now) (W.written out.old) (W.written out.new)) }
     ensures fault { IfErr result (λ fault.
-        (IsOverlayFault (files_of city.now) (files_of parcels.now) (files_of zones.now) unit (texts_of clerks.now) fault
-        × (out.new ≡ out.old))
-        ⊎ (IsOverlayWant (length clerks.now) workers fault × (out.new ≡ out.old)) ⊎ (fault ≡ ToolFault.Output)) }
-    ensures refuses { (fault : ToolFaultValue)
-        → IsOverlayFault (files_of city.now) (files_of parcels.now) (files_of zones.now) unit (texts_of clerks.now) fault
+        (IsOverlayFault (parcel_run_of files.now) (files_of zones.now) fault × (out.new ≡ out.old))
+        ⊎ (IsOverlayWant (length files.now.clerks.items) workers fault × (out.new ≡ out.old))
+        ⊎ (fault ≡ ToolFault.Output)) }
+    ensures refuses { (fault : ToolFaultValue) → IsOverlayFault (parcel_run_of files.now) (files_of zones.now) fault
         → IsErrAnd result (λ told. (told ≡ fault) ⊎ (told ≡ ToolFault.NoMemory)) }
 
     // Only a writer that failed in this call ends the output early.
-    ensures output { IsErrOf result ToolFault.Output → BeginsOverlay (Bor H) (files_of city.now) (files_of parcels.now)
-        (files_of zones.now) unit (texts_of clerks.now) (W.written out.old) (W.written out.new) }
+    ensures output { IsErrOf result ToolFault.Output
+        → BeginsOverlay (Bor H) (parcel_run_of files.now) (files_of zones.now) (W.written out.old) (W.written out.new) }
     ensures failed { IsErrOf result ToolFault.Output → W.failure_count out.new ≡ raised (W.failure_count out.old) }
     ensures no_failure { OnOk result (W.failure_count out.new ≡ W.failure_count out.old) }
 {
-    let Zoned { unedited, zones } = load_zoned(heap, city, parcels, zones, unit, clerks)?;
-    let (sheet, lines) = edited_sheet(rt, heap, unedited)?;
-    let table = overlaps(rt, heap, &sheet, &zones, workers)?;
+    let OverlayInputs { run, zones } = load_overlay_inputs(heap, files, zones)?;
+    let (sheet, lines) = edited_sheet(rt, heap, run)?;
+    let table = overlay_table(rt, heap, &sheet, &zones, workers)?;
     write_both(lines.as_slice(), &table, out)
 }
 
-/// A sheet of the parcels after the edits of clerks, which are made, and the lines that tell of each edit.
+/// A sheet of the parcels after the edits of clerks, which are made, and the lines that report each edit.
 fn edited_sheet<'h, R: Threads + Wait + Sync, H: Allocator + Send + Sync>(
     rt: &R,
     heap: &'h H,
-    unedited: Unedited<'h, H>,
+    inputs: RunInputs<'h, H>,
 ) -> Result<(Sheet<'h, H>, Vec<u8, &'h H>), ToolFault<'static>>
-    requires { length unedited.clerks.items ≤ MOST_PLACES }
+    requires { length inputs.clerks.items ≤ MOST_PLACES }
     ensures made { IfOk result (λ made.
-        AreMade unedited.entry.layer unedited.entry.clerks.items (register_of made.0) made.1.items) }
-    ensures city { IfOk result (λ made. made.0.city ≡ unedited.entry.layer.city) }
-    ensures fault { IfErr result (IsWant (length unedited.entry.clerks.items)) }
+        AreMade inputs.entry.layer inputs.entry.clerks.items (register_of made.0) made.1.items) }
+    ensures city { IfOk result (λ made. made.0.city ≡ inputs.entry.layer.city) }
+    ensures fault { IfErr result (IsWant (length inputs.entry.clerks.items)) }
 {
-    let edited = edit_layer(rt, heap, unedited, &[])?;
-    let (parcels, lines) = edited.into_parcels();
+    let outcome = edit_layer(rt, heap, inputs, &[])?;
+    let (parcels, lines) = outcome.into_parcels();
     let sheet = parcels.into_sheet()?;
     Ok((sheet, lines))
 }
 
 /// Writes lines, and then the report of a table.
-pub(crate) fn write_both<'t, 'h, H: Allocator, A: Allocator, W: ByteOut>(
+fn write_both<'t, 'h, H: Allocator, A: Allocator, W: ByteOut>(
     lines: &[u8],
     table: &Table<'t, 'h, H, A>,
     out: &mut W,

@@ -1,6 +1,7 @@
 //! The files that hold one parcel of a layer, as the city of a layer of its own.
 
-ghost use Rattle.std.specs.Prelude.{◌≡◌, ◌⊎◌, ◌≤◌, ◌++◌, [], ◌∷◌, Some, length, IfOk, IfErr, IsErrAnd, OnOk, unsigned_abs, codes, decimal};
+ghost use Rattle.std.specs.Prelude.{◌≡◌, ◌⊎◌, ◌≤◌, ◌++◌, [], ◌∷◌, Some, length, unsigned_abs, codes, decimal};
+ghost use Rattle.std.specs.Prelude.{IfOk, IfErr, IsErrAnd, OnOk};
 ghost use Rattle.geo_exact.specs.Area.{area2 as area2_of};
 ghost use Rattle.geo_exact.specs.Layers.{numbered};
 ghost use Rattle.geo_exact.specs.declared.coord.Unit.TheVariants.{Mm};
@@ -38,7 +39,7 @@ pub struct WrittenPart<A: Allocator> {
 /// # Errors
 ///
 /// The first fault of the city's files and ring, then of the districts' files and rings, which is
-/// told of the parcels; then [`ToolFault::NoParcel`] where no polygon has this record number; and
+/// reported as the parcels'; then [`ToolFault::NoParcel`] where no polygon has this record number; and
 /// [`ToolFault::NoMemory`].
 pub fn part<'h, H: Allocator, A: Allocator>(
     heap: &'h H,

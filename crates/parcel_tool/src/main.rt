@@ -2,7 +2,7 @@
 #![tactic(auto)]
 
 use city_layers::area::area;
-use city_layers::{Disk, Source, StandardInput, ToolFault, read_source, read_text, replace_layer};
+use city_layers::{Disk, StandardInput, ToolFault, read_source, read_text, replace_layer};
 use clap::Error;
 use clap::error::ErrorKind;
 use geo_exact::{ByteOut, Counted, Unit};
@@ -11,7 +11,7 @@ use parcel_runs::export::export;
 use parcel_runs::locate::{locate, locate_text};
 use parcel_runs::overlay::overlay;
 use parcel_runs::part::part;
-use parcel_runs::refuse_many_clerks;
+use parcel_runs::{RunFiles, refuse_many_clerks};
 use register_sessions::{Exports, Pipes, Plan, serve_session};
 use std::alloc::Global;
 use std::fmt::Display;
@@ -97,12 +97,11 @@ fn answer_check<'a, R: Files + Threads + Wait + Sync + AllocGlobal, W: ByteOut>(
     out: &mut W,
 ) -> Result<(), ToolFault<'a>> {
     let heap = rt.alloc();
-    let read = read_inputs(rt, inputs)?;
-    let (city, parcels, clerks) = (&read.city, &read.parcels, read.clerks.as_slice());
+    let files = read_inputs(rt, inputs)?;
     if all {
-        check_all(rt, &heap, city, parcels, inputs.unit, clerks, out)
+        check_all(rt, &heap, &files, out)
     } else {
-        check(rt, &heap, city, parcels, inputs.unit, clerks, out)
+        check(rt, &heap, &files, out)
     }
 }
 
@@ -114,9 +113,8 @@ fn answer_export<'a, R: Files + Threads + Wait + Sync + AllocGlobal, W: ByteOut>
     out: &mut W,
 ) -> Result<(), ToolFault<'a>> {
     let heap = rt.alloc();
-    let read = read_inputs(rt, inputs)?;
-    let (city, parcels, clerks) = (&read.city, &read.parcels, read.clerks.as_slice());
-    let exported = export(rt, &heap, city, parcels, inputs.unit, clerks)?;
+    let files = read_inputs(rt, inputs)?;
+    let exported = export(rt, &heap, &files)?;
     replace_layer(rt, heap, base, &exported.main, &exported.index)?;
     put_all(&exported.lines, out)?;
     Ok(())
@@ -151,16 +149,12 @@ fn answer_locate<'a, R: Files + Input + Threads + Wait + Sync + AllocGlobal, W: 
     out: &mut W,
 ) -> Result<(), ToolFault<'a>> {
     let heap = rt.alloc();
-    let read = read_inputs(rt, inputs)?;
-    let (city, parcels, clerks) = (&read.city, &read.parcels, read.clerks.as_slice());
+    let files = read_inputs(rt, inputs)?;
     match points {
-        Points::At(corners) => {
-            let points = corners.as_slice();
-            locate(rt, &heap, city, parcels, inputs.unit, points, clerks, out)
-        }
+        Points::At(corners) => locate(rt, &heap, &files, corners.as_slice(), out),
         Points::File(path) => {
             let text = read_points(rt, *path)?;
-            locate_text(rt, &heap, city, parcels, inputs.unit, &text, clerks, out)
+            locate_text(rt, &heap, &files, &text, out)
         }
     }
 }
@@ -178,18 +172,13 @@ fn answer_overlay<'a, R: Files + Threads + Wait + Sync + AllocGlobal, W: ByteOut
     let city = read_source(&Disk(rt), heap, inputs.city)?;
     let parcels = read_source(&Disk(rt), heap, inputs.parcels)?;
     let zones = read_source(&Disk(rt), heap, zones)?;
-    let clerks = read_clerks(rt, inputs)?;
-    overlay(
-        rt,
-        &heap,
-        &city,
-        &parcels,
-        &zones,
-        inputs.unit,
-        &clerks,
-        workers.count,
-        out,
-    )
+    let files = RunFiles {
+        city,
+        parcels,
+        unit: inputs.unit,
+        clerks: read_clerks(rt, inputs)?,
+    };
+    overlay(rt, &heap, &files, &zones, workers.count, out)
 }
 
 /// Writes one district as a layer of its own.
@@ -208,31 +197,21 @@ fn answer_part<'a, R: Files + AllocGlobal, W: ByteOut>(
     Ok(())
 }
 
-/// The files of a run about parcels.
-#[derive(Drop)]
-struct Sources {
-    /// The city's.
-    city: Source<Global>,
-    /// The parcels'.
-    parcels: Source<Global>,
-    /// The clerks', in their order.
-    clerks: Vec<Vec<u8>>,
-}
-
 /// Reads the files of a run about parcels: the city's, the parcels', and the clerks'. None is
 /// opened where there are more clerks' files than a run takes.
 fn read_inputs<'a, R: Files + AllocGlobal>(
     rt: &R,
     inputs: &Inputs<'a>,
-) -> Result<Sources, ToolFault<'a>> {
+) -> Result<RunFiles<Global>, ToolFault<'a>> {
     refuse_many_clerks(inputs.clerks.len())?;
     let alloc = rt.alloc();
     let city = read_source(&Disk(rt), alloc, inputs.city)?;
     let parcels = read_source(&Disk(rt), alloc, inputs.parcels)?;
     let clerks = read_clerks(rt, inputs)?;
-    Ok(Sources {
+    Ok(RunFiles {
         city,
         parcels,
+        unit: inputs.unit,
         clerks,
     })
 }
@@ -262,7 +241,7 @@ fn read_points<'a, R: Files + Input + AllocGlobal>(
     }
 }
 
-/// Ends a run early, and tells why.
+/// Ends a run early, and says why.
 fn end_by_fault<F: Display>(rt: &impl Eprint, fault: &F) -> ExitCode {
     // Where standard error fails too there is nobody left to tell.
     let _ = eprintln!(rt; "error: {fault}");

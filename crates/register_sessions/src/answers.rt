@@ -110,7 +110,7 @@ fn answer_locate<'h, H: Allocator, J: Naming<H>>(
 ) -> Result<(), AllocError> {
     match window.locate(corner) {
         Ok((entries, at)) => push_located(text, entries, corner, &at),
-        Err(fault) => push_error(text, told_of_window(fault)),
+        Err(fault) => push_error(text, fault_of_window(fault)),
     }
 }
 
@@ -123,7 +123,7 @@ fn answer_parcel<'h, H: Allocator, J: Naming<H>>(
     match window.parcel(id) {
         Ok((entries, Some(ring))) => push_ring(text, entries, id, ring.as_slice()),
         Ok((entries, None)) => push_no_parcel(text, entries, id),
-        Err(fault) => push_error(text, told_of_window(fault)),
+        Err(fault) => push_error(text, fault_of_window(fault)),
     }
 }
 
@@ -148,12 +148,12 @@ fn answer_entries<'h, H: Allocator, J: Naming<H>>(
 ) -> Result<(), AllocError> {
     match window.entries() {
         Ok(entries) => push_entries(text, entries),
-        Err(fault) => push_error(text, told_of_window(fault)),
+        Err(fault) => push_error(text, fault_of_window(fault)),
     }
 }
 
 /// Why a window does not answer, as a desk is told.
-fn told_of_window(fault: LocateFault) -> SessionFault {
+fn fault_of_window(fault: LocateFault) -> SessionFault {
     match fault {
         LocateFault::NoVersion => SessionFault::NoVersion,
         LocateFault::NoMemory => SessionFault::NoMemory,

@@ -50,7 +50,8 @@ fn serve_next<'p, 'h, P: Pipes, H: Allocator, J: Naming<H>, R: Wait>(
         Ok((mut reader, writer)) => {
             let mut out = Counted::new(writer);
             let served = serve_client(room, &mut desk.chair, &mut reader, &mut out);
-            // Whoever sees the end of the answers may ask anew at once: what is asked then must not come to this reader.
+            // Whoever sees the end of the answers may ask anew at once: what is asked then must not come to this
+            // reader.
             drop(reader);
             drop(out);
             served == Served::Gone

@@ -28,8 +28,8 @@ pub enum ReplayFault {
 /// # Errors
 ///
 /// [`ReplayFault::BadLine`] for a text that is no clerk's file in millimetres: nothing has changed then.
-/// [`ReplayFault::Refused`] with the first edit that is refused, and [`ReplayFault::NoMemory`]; the edits before may have
-/// been made then.
+/// [`ReplayFault::Refused`] with the first edit that is refused, and [`ReplayFault::NoMemory`]; the edits before may
+/// have been made then.
 pub fn replay<'h, H: Allocator>(
     heap: &'h H,
     fabric: &mut Fabric<'h, H>,
@@ -55,7 +55,7 @@ pub fn replay<'h, H: Allocator>(
     }
 }
 
-/// Makes edits, in order, as clerk 1's. The first that is refused ends it, and is told with its line.
+/// Makes edits, in order, as clerk 1's. The first that is refused ends it, and is reported with its line.
 fn make_all<'h, H: Allocator>(
     fabric: &mut Fabric<'h, H>,
     edits: &[(u64, Edit<&'h H>)],

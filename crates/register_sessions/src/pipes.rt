@@ -15,8 +15,8 @@ const LINES: &str = ".in";
 /// How the path of the pipe ends at which it answers.
 const ANSWERS: &str = ".out";
 
-/// Where the named pipes of desks are opened: [`Disk`] is the machine's. A runtime of its own is passed so, since threads
-/// that open files are started at a runtime that is known.
+/// Where the named pipes of desks are opened: [`Disk`] is the machine's. A runtime of its own is passed so, since
+/// threads that open files are started at a runtime that is known.
 pub trait Pipes {
     /// Opens the pipe at this path to read it: waits until somebody has opened it to write.
     fn open_to_read(&self, path: &str) -> io::Result<File>;
@@ -56,7 +56,8 @@ fn pipe(file: File) -> io::Result<File> {
     }
 }
 
-/// Wakes who waits to read a pipe, by an empty line. Where the pipe is full, its desk has lines to read before that one.
+/// Wakes who waits to read a pipe, by an empty line. Where the pipe is full, its desk has lines to read before that
+/// one.
 pub(crate) fn wake(pipe: &File) -> io::Result<()> {
     let mut pipe = pipe;
     pipe.write_all(b"\n")

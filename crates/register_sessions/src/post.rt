@@ -112,8 +112,8 @@ fn take_line<F: Read, B: Allocator, A: Allocator, W: ByteOut>(
     }
 }
 
-/// What follows once a line was answered, or was not: `None` where the next line does. So many bytes of text stood before
-/// the answer.
+/// What follows once a line was answered, or was not: `None` where the next line does. So many bytes of text stood
+/// before the answer.
 fn go_on<A: Allocator, W: ByteOut>(
     answered: Result<Next, Trouble>,
     before: usize,

@@ -36,8 +36,8 @@ pub(crate) fn report_check<'h, H: Allocator>(
     push_end(text)
 }
 
-/// Writes what was collected, and then which parcels and zones overlap. They are found in this thread, so that desks keep
-/// the other processors.
+/// Writes what was collected, and then which parcels and zones overlap. They are found in this thread, so that desks
+/// keep the other processors.
 pub(crate) fn report_overlay<'h, H: Allocator, W: ByteOut>(
     heap: &'h H,
     sheet: &Sheet<'h, H>,
@@ -168,12 +168,12 @@ pub(crate) fn report_export<'h, X: Exports, H: Allocator>(
             text.extend_from_slice(exported.lines.as_slice())?;
             push_end(text)
         }
-        Err(fault) => push_told(heap, text, fault),
+        Err(fault) => push_tool_fault(heap, text, fault),
     }
 }
 
 /// Adds why a report fails.
-fn push_told<'h, H: Allocator>(
+fn push_tool_fault<'h, H: Allocator>(
     heap: &'h H,
     text: &mut Vec<u8, &'h H>,
     fault: ToolFault<'static>,
@@ -181,6 +181,6 @@ fn push_told<'h, H: Allocator>(
     if fault == ToolFault::NoMemory {
         return push_error(text, SessionFault::NoMemory);
     }
-    let told = format!(in heap; "{fault}")?;
-    push_failure(text, told.as_str())
+    let why = format!(in heap; "{fault}")?;
+    push_failure(text, why.as_str())
 }

@@ -46,8 +46,8 @@ pub struct Plan<'a> {
     pub desks: Vec<&'a str>,
 }
 
-/// Starts a session, serves its desks, and returns once it is closed. Its pipes and its exports are of the disk, which is
-/// [`Disk`] of the same runtime.
+/// Starts a session, serves its desks, and returns once it is closed. Its pipes and its exports are of the disk, which
+/// is [`Disk`] of the same runtime.
 ///
 /// # Errors
 ///
@@ -160,7 +160,7 @@ fn begin_journal<'a, 'h, R: Eprint, H: Allocator>(
     read: ReadJournal<&'h H>,
 ) -> Result<Journal, StartFault<'a, &'h H>> {
     if let Err(fault) = replay(heap, fabric, read.lines()) {
-        return Err(told_of_replay(heap, path, fault));
+        return Err(fault_of_replay(heap, path, fault));
     }
     let torn = read.torn();
     let Ok(journal) = read.begin() else {
@@ -176,7 +176,7 @@ fn begin_journal<'a, 'h, R: Eprint, H: Allocator>(
 }
 
 /// What it is to the user that a journal's edits are not made again.
-fn told_of_replay<'a, A: Allocator>(
+fn fault_of_replay<'a, A: Allocator>(
     alloc: A,
     path: &'a str,
     fault: ReplayFault,
@@ -228,7 +228,7 @@ fn at_office<
     let opened = Office::<H, J, &R>::open(rt, heap, name, fabric, clerks, windows);
     let (office, cards, windows) = match opened {
         Ok(opened) => opened,
-        Err((_, fault)) => return Err(StartFault::Run(told_of_open(fault))),
+        Err((_, fault)) => return Err(StartFault::Run(fault_of_open(fault))),
     };
     let Seats { desks, chair } = seat_all(heap, paths, cards, windows)?;
     let room = Room {
@@ -252,7 +252,7 @@ fn at_office<
 }
 
 /// What the fault of an office is to the user.
-fn told_of_open(fault: OpenFault) -> ToolFault<'static> {
+fn fault_of_open(fault: OpenFault) -> ToolFault<'static> {
     match fault {
         OpenFault::NoWindow(window) => ToolFault::NoWindow(window),
         OpenFault::Places(count) => ToolFault::ClerkCount(count),

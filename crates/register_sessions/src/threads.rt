@@ -28,8 +28,8 @@ pub(crate) struct Done<T, A: Allocator, M> {
 }
 
 /// Starts a thread for each task, until the system refuses one, and waits for all once the host has run, which is told
-/// whether each task has its thread, and has all tasks end. A task for which there is no memory to wait for it runs, too,
-/// and is not given back.
+/// whether each task has its thread, and has all tasks end. A task for which there is no memory to wait for it runs,
+/// too, and is not given back.
 pub(crate) fn run_beside<
     C: Sync,
     T: Task<C>,

@@ -1,11 +1,11 @@
-//! What the edits of clerks' files lead to, and what is told of them.
+//! What the edits of clerks' files lead to, and what is reported of them.
 
 use city_layers::Source;
 use geo_exact::{Corner, Counted, RawRing, Unit};
 use parcel_runs::check::{check, check_all};
 use parcel_runs::export::export;
 use parcel_runs::locate::{locate, locate_text};
-use parcel_runs::refuse_many_clerks;
+use parcel_runs::{RunFiles, refuse_many_clerks};
 use shp_files::read_layer;
 use std::alloc::{AllocError, Global};
 use std::sync::Wait;
@@ -17,17 +17,27 @@ use test_layers::{BAY, BEYOND, CITY, EAST, Place, WEST, alone, layer};
 pub const FIVE: &str =
     "insert 0 0 60 0 30 0\ninsert 0 100 60 100 30 100\nsplit 1 30 0 30 100\nsplit 1 30 0 30 100\nmerge 3 4\n";
 
-/// What is told of them.
+/// What is reported of them.
 pub const FIVE_TOLD: &str =
     "clerk 1 line 1 ok 1\nclerk 1 line 2 ok 2\nclerk 1 line 3 ok 3\nclerk 1 line 4 refused E2 1 3\nclerk 1 line 5 ok 4\n";
 
-/// Clerks' files of these texts.
-pub fn files(alloc: Global, texts: &[&str]) -> Result<Vec<Vec<u8>>, AllocError> {
-    let mut files = Vec::new(alloc);
+/// What a run in millimetres is given: the files of a city and of its parcels, and clerks' files of these texts.
+pub fn run_files(
+    alloc: Global,
+    city: Source<Global>,
+    parcels: Source<Global>,
+    texts: &[&str],
+) -> Result<RunFiles<Global>, AllocError> {
+    let mut clerks = Vec::new(alloc);
     for text in texts {
-        files.push(Vec::from_slice(alloc, text.as_bytes())?)?;
+        clerks.push(Vec::from_slice(alloc, text.as_bytes())?)?;
     }
-    Ok(files)
+    Ok(RunFiles {
+        city,
+        parcels,
+        unit: Unit::Mm,
+        clerks,
+    })
 }
 
 /// The two rectangles, or where it is said so the three parcels of the bay.
@@ -47,17 +57,9 @@ fn told<R: Threads + Wait + Sync>(
     texts: &[&str],
 ) -> Result<String, AllocError> {
     let city = alone(layer(alloc, &[&CITY])?);
-    let clerks = files(alloc, texts)?;
+    let files = run_files(alloc, city, parcels(alloc, bay)?, texts)?;
     let mut out = Counted::new(Vec::new(alloc));
-    match check(
-        rt,
-        &alloc,
-        &city,
-        &parcels(alloc, bay)?,
-        Unit::Mm,
-        &clerks,
-        &mut out,
-    ) {
+    match check(rt, &alloc, &files, &mut out) {
         Ok(()) => String::from_utf8_lossy(alloc, out.into_inner().as_slice()),
         Err(fault) => format!(in alloc; "error: {fault}"),
     }
@@ -66,7 +68,7 @@ fn told<R: Threads + Wait + Sync>(
 /// Clerks' files, and what a check prints with them: whether of the bay, the texts, and what is printed.
 type Row = (bool, &'static [&'static str], &'static str);
 
-/// Each refusal that a small layer reaches, and how files are told one after the other.
+/// Each refusal that a small layer reaches, and how files are reported one after the other.
 const ROWS: [Row; 14] = [
     (
         false,
@@ -215,15 +217,8 @@ fn is_at(corners: &[Corner], places: &[Place]) -> bool {
 fn exports_what_edits_lead_to(rt: HostRuntime) -> Result<(), Fail> {
     let alloc = rt.alloc();
     let city = alone(layer(alloc, &[&CITY])?);
-    let clerks = files(alloc, &[FIVE])?;
-    let Ok(exported) = export(
-        &rt,
-        &alloc,
-        &city,
-        &parcels(alloc, false)?,
-        Unit::Mm,
-        &clerks,
-    ) else {
+    let files = run_files(alloc, city, parcels(alloc, false)?, &[FIVE])?;
+    let Ok(exported) = export(&rt, &alloc, &files) else {
         return Err(Fail::new("no export"));
     };
     let want = format!(in alloc; "{FIVE_TOLD}exported 2\n")?;
@@ -241,8 +236,7 @@ fn exports_what_edits_lead_to(rt: HostRuntime) -> Result<(), Fail> {
 fn locates_in_what_edits_lead_to(rt: HostRuntime) -> Result<(), Fail> {
     let alloc = rt.alloc();
     let city = alone(layer(alloc, &[&CITY])?);
-    let parcels = parcels(alloc, false)?;
-    let clerks = files(alloc, &["merge 1 2"])?;
+    let files = run_files(alloc, city, parcels(alloc, false)?, &["merge 1 2"])?;
     for (text, want) in [
         (
             "60 50\n60 0",
@@ -251,16 +245,7 @@ fn locates_in_what_edits_lead_to(rt: HostRuntime) -> Result<(), Fail> {
         ("60 50\n\n60", "points: L1 3"),
     ] {
         let mut out = Counted::new(Vec::new(alloc));
-        let answer = locate_text(
-            &rt,
-            &alloc,
-            &city,
-            &parcels,
-            Unit::Mm,
-            text.as_bytes(),
-            &clerks,
-            &mut out,
-        );
+        let answer = locate_text(&rt, &alloc, &files, text.as_bytes(), &mut out);
         let printed = match answer {
             Ok(()) => String::from_utf8_lossy(alloc, out.into_inner().as_slice())?,
             Err(fault) => format!(in alloc; "{fault}")?,
@@ -274,20 +259,10 @@ fn locates_in_what_edits_lead_to(rt: HostRuntime) -> Result<(), Fail> {
 fn locates_a_corner_in_what_edits_lead_to(rt: HostRuntime) -> Result<(), Fail> {
     let alloc = rt.alloc();
     let city = alone(layer(alloc, &[&CITY])?);
-    let parcels = parcels(alloc, false)?;
-    let clerks = files(alloc, &["merge 1 2"])?;
+    let files = run_files(alloc, city, parcels(alloc, false)?, &["merge 1 2"])?;
     let mut out = Counted::new(Vec::new(alloc));
     let points = [Corner { x: 60, y: 50 }];
-    let answer = locate(
-        &rt,
-        &alloc,
-        &city,
-        &parcels,
-        Unit::Mm,
-        &points,
-        &clerks,
-        &mut out,
-    );
+    let answer = locate(&rt, &alloc, &files, &points, &mut out);
     assert_eq!(rt; answer, Ok(()));
     let want = b"clerk 1 line 1 ok 1\n60 50 inside 3\n".as_slice();
     assert_eq!(rt; out.into_inner().as_slice(), want);
@@ -297,9 +272,8 @@ fn locates_a_corner_in_what_edits_lead_to(rt: HostRuntime) -> Result<(), Fail> {
 #[test]
 fn checks_all_before_the_clerks(rt: HostRuntime) -> Result<(), Fail> {
     let alloc = rt.alloc();
-    let city = alone(layer(alloc, &[&CITY])?);
-    let gap = alone(layer(alloc, &[&WEST, &BEYOND])?);
-    let whole = parcels(alloc, false)?;
+    let whole: [&[Place]; 2] = [&WEST, &EAST];
+    let gap: [&[Place]; 2] = [&WEST, &BEYOND];
     let lines =
         "edge 60 0 60 100 net 1\nedge 60 0 61 0 net -1\nedge 60 100 61 100 net 1\nedge 61 0 61 100 net -1\n";
     for (parcels, text, printed, fault) in [
@@ -312,9 +286,11 @@ fn checks_all_before_the_clerks(rt: HostRuntime) -> Result<(), Fail> {
         (&gap, "x", lines, "parcels: H2 60 0 60 100 net 1"),
         (&whole, "merge 1 2\nx", "", "clerk 1: L1 2"),
     ] {
-        let clerks = files(alloc, &[text])?;
+        let city = alone(layer(alloc, &[&CITY])?);
+        let parcels = alone(layer(alloc, parcels)?);
+        let files = run_files(alloc, city, parcels, &[text])?;
         let mut out = Counted::new(Vec::new(alloc));
-        let told = match check_all(&rt, &alloc, &city, parcels, Unit::Mm, &clerks, &mut out) {
+        let told = match check_all(&rt, &alloc, &files, &mut out) {
             Ok(()) => String::new(alloc),
             Err(fault) => format!(in alloc; "{fault}")?,
         };

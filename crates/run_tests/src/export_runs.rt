@@ -1,5 +1,6 @@
 //! Runs of `export`, with edits and failing writers.
 
+use crate::edit_runs::run_files;
 use city_layers::Source;
 use geo_exact::{Unit, write_coord};
 use parcel_runs::export::export;
@@ -18,8 +19,8 @@ fn told<R: Threads + Wait + Sync>(
     city: Vec<u8>,
     parcels: Vec<u8>,
 ) -> Result<String, AllocError> {
-    let (city, parcels) = (alone(city), alone(parcels));
-    match export(rt, &alloc, &city, &parcels, Unit::Mm, &[]) {
+    let files = run_files(alloc, alone(city), alone(parcels), &[])?;
+    match export(rt, &alloc, &files) {
         Ok(exported) => {
             let again = Source {
                 main: Vec::from_slice(alloc, &exported.main)?,
@@ -33,7 +34,7 @@ fn told<R: Threads + Wait + Sync>(
     }
 }
 
-/// The ring of a city, or no corner for a null shape; the rings of its parcels; and what is told of their export.
+/// The ring of a city, or no corner for a null shape; the rings of its parcels; and what is printed of their export.
 type Row = (&'static [Place], &'static [&'static [Place]], &'static str);
 
 const LOWER: [Place; 4] = [(60, 0), (100, 0), (100, 50), (60, 50)];
@@ -97,7 +98,8 @@ fn writes_rings_with_the_corners_of_their_neighbours(rt: HostRuntime) -> Result<
     let alloc = rt.alloc();
     let city = alone(layer(alloc, &[&CITY])?);
     let parcels = alone(layer(alloc, &[&WEST, &LOWER, &UPPER])?);
-    match export(&rt, &alloc, &city, &parcels, Unit::Mm, &[]) {
+    let files = run_files(alloc, city, parcels, &[])?;
+    match export(&rt, &alloc, &files) {
         Ok(exported) => {
             // Clockwise, from the least corner.
             let ring: [Place; 5] = [(0, 0), (0, 100), (60, 100), (60, 50), (60, 0)];

@@ -1,5 +1,6 @@
-//! Where points lie among parcels, as a run tells it.
+//! Where points lie among parcels, as a run reports it.
 
+use crate::edit_runs::run_files;
 use city_layers::ToolFault;
 use geo_exact::{Corner, Counted, FailAt, LIMIT, Unit};
 use parcel_runs::locate::{locate, locate_text};
@@ -19,10 +20,9 @@ pub fn told<R: Threads + Wait + Sync>(
     parcels: Vec<u8>,
     points: &[u8],
 ) -> Result<String, AllocError> {
-    let (city, parcels) = (alone(city), alone(parcels));
+    let files = run_files(alloc, alone(city), alone(parcels), &[])?;
     let mut out = Counted::new(Vec::new(alloc));
-    let unit = Unit::Mm;
-    match locate_text(rt, &alloc, &city, &parcels, unit, points, &[], &mut out) {
+    match locate_text(rt, &alloc, &files, points, &mut out) {
         Ok(()) => String::from_utf8_lossy(alloc, out.into_inner().as_slice()),
         Err(fault) => {
             let printed = String::from_utf8_lossy(alloc, out.into_inner().as_slice())?;
@@ -47,7 +47,7 @@ pub fn told_of_two<R: Threads + Wait + Sync>(
 }
 
 /// The ring of a city, or no corner for a null shape; the rings of its parcels; how many bytes of
-/// their file there are; points; and what is told of them.
+/// their file there are; points; and what is reported of them.
 type Row = (
     &'static [Place],
     &'static [&'static [Place]],
@@ -129,7 +129,7 @@ fn tells_places_at_the_limits(rt: HostRuntime) -> Result<(), Fail> {
     Ok(())
 }
 
-/// What is told of these corners among the two rectangles, in this unit.
+/// What is reported of these corners among the two rectangles, in this unit.
 fn told_of_corners<R: Threads + Wait + Sync>(
     rt: &R,
     alloc: Global,
@@ -138,8 +138,10 @@ fn told_of_corners<R: Threads + Wait + Sync>(
 ) -> Result<String, AllocError> {
     let city = alone(layer(alloc, &[&CITY])?);
     let parcels = alone(layer(alloc, &[&WEST, &EAST])?);
+    let mut files = run_files(alloc, city, parcels, &[])?;
+    files.unit = unit;
     let mut out = Counted::new(Vec::new(alloc));
-    match locate(rt, &alloc, &city, &parcels, unit, corners, &[], &mut out) {
+    match locate(rt, &alloc, &files, corners, &mut out) {
         Ok(()) => String::from_utf8_lossy(alloc, out.into_inner().as_slice()),
         Err(fault) => format!(in alloc; "error: {fault}"),
     }
@@ -172,21 +174,13 @@ fn tells_each_failed_write_of_lines(rt: HostRuntime) -> Result<(), Fail> {
     let alloc = rt.alloc();
     let city = alone(layer(alloc, &[&CITY])?);
     let parcels = alone(layer(alloc, &[&WEST, &EAST])?);
+    let files = run_files(alloc, city, parcels, &[])?;
     let text = "61 50 inside 2\n0 0 edge 1\n";
     let length = text.len() as u64;
     for call in 1..=length + 1 {
         let writer = Counted::new(ByteByByte(Vec::new(alloc)));
         let mut out = FailAt::new(writer, call);
-        let answer = locate_text(
-            &rt,
-            &alloc,
-            &city,
-            &parcels,
-            Unit::Mm,
-            b"61 50\n0 0",
-            &[],
-            &mut out,
-        );
+        let answer = locate_text(&rt, &alloc, &files, b"61 50\n0 0", &mut out);
         let held = out.into_inner().into_inner().0;
         let want = if call <= length {
             Err(ToolFault::Output)

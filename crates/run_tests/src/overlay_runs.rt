@@ -1,7 +1,7 @@
 //! What overlays of the two rectangles with zones print.
 
-use crate::edit_runs::{FIVE, FIVE_TOLD, files};
-use geo_exact::{Counted, Unit};
+use crate::edit_runs::{FIVE, FIVE_TOLD, run_files};
+use geo_exact::Counted;
 use parcel_runs::overlay::overlay;
 use std::alloc::{AllocError, Global};
 use std::sync::Wait;
@@ -26,19 +26,9 @@ fn told<R: Threads + Wait + Sync>(
     let city = alone(layer(alloc, &[&CITY])?);
     let parcels = alone(layer(alloc, &[&WEST, &EAST])?);
     let zones = alone(layer(alloc, zones)?);
-    let clerks = files(alloc, texts)?;
+    let files = run_files(alloc, city, parcels, texts)?;
     let mut out = Counted::new(Vec::new(alloc));
-    match overlay(
-        rt,
-        &alloc,
-        &city,
-        &parcels,
-        &zones,
-        Unit::Mm,
-        &clerks,
-        4,
-        &mut out,
-    ) {
+    match overlay(rt, &alloc, &files, &zones, 4, &mut out) {
         Ok(()) => String::from_utf8_lossy(alloc, out.into_inner().as_slice()),
         Err(fault) => format!(in alloc; "error: {fault}"),
     }

@@ -1,5 +1,6 @@
 //! Runs of `part`: what one district is written as, that it is the city of its own parcels, and what is refused.
 
+use crate::edit_runs::run_files;
 use city_layers::Source;
 use geo_exact::{Counted, Unit};
 use parcel_runs::check::check;
@@ -40,15 +41,16 @@ fn checked<R: Threads + Wait + Sync>(
 ) -> Result<String, AllocError> {
     let city = source_of(alloc, written)?;
     let parcels = alone(layer(alloc, parcels)?);
+    let files = run_files(alloc, city, parcels, &[])?;
     let mut out = Counted::new(Vec::new(alloc));
-    match check(rt, &alloc, &city, &parcels, Unit::Mm, &[], &mut out) {
+    match check(rt, &alloc, &files, &mut out) {
         Ok(()) => String::from_utf8_lossy(alloc, out.into_inner().as_slice()),
         Err(fault) => format!(in alloc; "error: {fault}"),
     }
 }
 
 /// The ring of a city; the rings of its districts, or no corner for a null shape; the number that is asked for; and what
-/// is told.
+/// is printed.
 type Row = (
     &'static [Place],
     &'static [&'static [Place]],
@@ -117,7 +119,7 @@ fn writes_the_ring_that_tiled(rt: HostRuntime) -> Result<(), Fail> {
 /// The lower parcel in the east, not begun at its least corner.
 const TURNED_LOWER: [Place; 4] = [(100, 50), (60, 50), (60, 0), (100, 0)];
 
-/// Rings of parcels, and what a check of them tells where the west is the city.
+/// Rings of parcels, and what a check of them reports where the west is the city.
 const CHECKS: [(&[&[Place]], &str); 3] = [
     (&STRIPS, "tiling 2 12000\n"),
     (&[&NODED_WEST], "tiling 1 12000\n"),

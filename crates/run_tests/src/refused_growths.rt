@@ -1,11 +1,12 @@
-//! Each growth of a run refused in turn: its answer is want of memory, nothing was printed, and
+//! Each growth of a run refused in turn: its answer is that memory ran out, nothing was printed, and
 //! the same run with memory prints what it has to print.
 
-use crate::edit_runs::files;
+use crate::edit_runs::run_files;
 use crate::overlay_runs::HALVES;
 use city_layers::area::area;
 use city_layers::{Source, ToolFault};
 use geo_exact::{Counted, Unit};
+use parcel_runs::RunFiles;
 use parcel_runs::check::{check, check_all};
 use parcel_runs::export::export;
 use parcel_runs::locate::locate_text;
@@ -16,7 +17,7 @@ use std::alloc::{AllocError, Global};
 use std::sync::Wait;
 use std::test::Fail;
 use std::thread::Threads;
-use test_layers::{BEYOND, CITY, EAST, HUNDRED, WEST, alone, layer, square};
+use test_layers::{BEYOND, CITY, EAST, HUNDRED, Place, WEST, alone, layer, square};
 use text_pieces::put_all;
 
 /// No run here has so many growths.
@@ -126,9 +127,12 @@ const RUNS: [Row; 12] = [
 struct Inputs<'h> {
     heap: &'h Heap,
     square: Source<&'h Heap>,
-    city: Source<Global>,
-    parcels: Source<Global>,
-    gap: Source<Global>,
+    /// Of the two rectangles.
+    two: RunFiles<Global>,
+    /// Of the two rectangles, with a clerk's file that merges them.
+    merged: RunFiles<Global>,
+    /// Of two rectangles with a gap between them.
+    gap: RunFiles<Global>,
     zones: Source<Global>,
 }
 
@@ -138,12 +142,22 @@ impl<'h> Drop for Inputs<'h> {
         let Inputs {
             heap: _,
             square: _,
-            city: _,
-            parcels: _,
+            two: _,
+            merged: _,
             gap: _,
             zones: _,
         } = self;
     }
+}
+
+/// What a run of these parcels in the city is given, with clerks' files of these texts.
+fn files_of(
+    alloc: Global,
+    parcels: &[&[Place]],
+    texts: &[&str],
+) -> Result<RunFiles<Global>, AllocError> {
+    let city = alone(layer(alloc, &[&CITY])?);
+    run_files(alloc, city, alone(layer(alloc, parcels)?), texts)
 }
 
 fn inputs_in<'h>(heap: &'h Heap, alloc: Global) -> Result<Inputs<'h>, AllocError> {
@@ -153,9 +167,9 @@ fn inputs_in<'h>(heap: &'h Heap, alloc: Global) -> Result<Inputs<'h>, AllocError
             main: Vec::from_slice(heap, square(alloc, HUNDRED)?.as_slice())?,
             index: None,
         },
-        city: alone(layer(alloc, &[&CITY])?),
-        parcels: alone(layer(alloc, &[&WEST, &EAST])?),
-        gap: alone(layer(alloc, &[&WEST, &BEYOND])?),
+        two: files_of(alloc, &[&WEST, &EAST], &[])?,
+        merged: files_of(alloc, &[&WEST, &EAST], &["merge 1 2"])?,
+        gap: files_of(alloc, &[&WEST, &BEYOND], &[])?,
         zones: alone(layer(alloc, &HALVES)?),
     })
 }
@@ -163,30 +177,33 @@ fn inputs_in<'h>(heap: &'h Heap, alloc: Global) -> Result<Inputs<'h>, AllocError
 /// What a run answers, which prints on this output.
 fn answer<'h, R: Threads + Wait + Sync>(
     rt: &R,
-    which: Which,
+    row: &Row,
     inputs: &Inputs<'h>,
-    clerks: &[Vec<u8>],
     out: &mut Counted<Vec<u8>>,
 ) -> Result<(), ToolFault<'static>> {
-    let (heap, unit) = (inputs.heap, Unit::Mm);
-    let (city, parcels) = (&inputs.city, &inputs.parcels);
-    match which {
-        Which::Areas => area(heap, &inputs.square, unit, out),
-        Which::Check => check(rt, heap, city, parcels, unit, clerks, out),
-        Which::AllFaults => check_all(rt, heap, city, &inputs.gap, unit, clerks, out),
-        Which::NoFaults => check_all(rt, heap, city, parcels, unit, clerks, out),
+    let heap = inputs.heap;
+    let files = if row.unedited.is_some() {
+        &inputs.merged
+    } else {
+        &inputs.two
+    };
+    match row.which {
+        Which::Areas => area(heap, &inputs.square, Unit::Mm, out),
+        Which::Check => check(rt, heap, files, out),
+        Which::AllFaults => check_all(rt, heap, &inputs.gap, out),
+        Which::NoFaults => check_all(rt, heap, files, out),
         Which::Export => {
-            let exported = export(rt, heap, city, parcels, unit, clerks)?;
+            let exported = export(rt, heap, files)?;
             put_all(exported.lines.as_slice(), out)?;
             Ok(())
         }
         Which::Places => {
             let points = b"0 0\n1 1\n1 0\n-1 0\n62 2";
-            locate_text(rt, heap, city, parcels, unit, points, clerks, out)
+            locate_text(rt, heap, files, points, out)
         }
-        Which::Overlay => overlay(rt, heap, city, parcels, &inputs.zones, unit, clerks, 2, out),
+        Which::Overlay => overlay(rt, heap, files, &inputs.zones, 2, out),
         Which::Part => {
-            let written = part(heap, city, parcels, unit, 2)?;
+            let written = part(heap, &files.city, &files.parcels, files.unit, 2)?;
             put_all(written.line.as_slice(), out)?;
             Ok(())
         }
@@ -205,7 +222,7 @@ fn is_whole(row: &Row, answer: &Result<(), ToolFault<'static>>, printed: &[u8]) 
     matches!(answer, Ok(()) | Err(ToolFault::NoTiling(_, _))) && printed == row.want.as_bytes()
 }
 
-/// Whether a run may answer this where a growth was refused: want of memory, with nothing printed. With a clerk's file
+/// Whether a run may answer this where a growth was refused: that memory ran out, with nothing printed. With a clerk's file
 /// the office may lack its window, the edit alone may be refused, and some growths could be done without.
 fn is_wanting(row: &Row, answer: &Result<(), ToolFault<'static>>, printed: &[u8]) -> bool {
     match row.unedited {
@@ -226,12 +243,11 @@ fn is_told<'h, R: Threads + Wait + Sync>(
     alloc: Global,
     row: &Row,
     inputs: &Inputs<'h>,
-    clerks: &[Vec<u8>],
     number: u64,
 ) -> Option<bool> {
     let mut out = Counted::new(Vec::new(alloc));
     inputs.heap.refuse(number);
-    let told = answer(rt, row.which, inputs, clerks, &mut out);
+    let told = answer(rt, row, inputs, &mut out);
     let is_refused = was_refused(inputs.heap);
     let printed = out.into_inner();
     if !is_refused {
@@ -242,7 +258,7 @@ fn is_told<'h, R: Threads + Wait + Sync>(
         };
     }
     let mut again = Counted::new(Vec::new(alloc));
-    let whole = answer(rt, row.which, inputs, clerks, &mut again);
+    let whole = answer(rt, row, inputs, &mut again);
     let behind = again.into_inner();
     Some(is_wanting(row, &told, printed.as_slice()) && is_whole(row, &whole, behind.as_slice()))
 }
@@ -251,17 +267,10 @@ fn is_told<'h, R: Threads + Wait + Sync>(
 fn tells_each_refused_growth(rt: HostRuntime) -> Result<(), Fail> {
     let heap = &Refusing::new(rt.alloc(), 0);
     let inputs = inputs_in(heap, rt.alloc())?;
-    let merge = files(rt.alloc(), &["merge 1 2"])?;
-    let none: Vec<Vec<u8>> = Vec::new(rt.alloc());
     for row in &RUNS {
-        let clerks = if row.unedited.is_some() {
-            merge.as_slice()
-        } else {
-            none.as_slice()
-        };
         let mut growths = 0u64;
         for number in 1..MOST {
-            match is_told(&rt, rt.alloc(), row, &inputs, clerks, number) {
+            match is_told(&rt, rt.alloc(), row, &inputs, number) {
                 Some(is_so) => assert!(rt; is_so, "at growth {number}"),
                 None => break,
             }

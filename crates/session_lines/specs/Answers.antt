@@ -1,5 +1,5 @@
--- What a session answers, a line for each line (this product's own). Numbers are in decimal, with a minus sign where they
--- are below 0; corners in millimetres, areas in square millimetres.
+-- What a session answers, a line for each line (this product's own). Numbers are in decimal, with a minus sign where
+-- they are below 0; corners in millimetres, areas in square millimetres.
 use Rattle.std.specs.Prelude.{ℕ, List, ◌++◌, codes, decimal}
 use Rattle.std.specs.List.{flat_map}
 use Rattle.std.specs.Fmt.{signed_decimal}
@@ -16,19 +16,25 @@ use Rattle.session_lines.specs.declared.faults.SessionFault.{SessionFault}
 use Rattle.session_lines.specs.declared.faults.SessionFault.TheVariants.{BadLine, NoVersion, NoMemory, OperatorOnly, NoCard, NoWindow}
 use Rattle.session_lines.specs.declared.faults.SessionFault.TheVariants.{JournalFailed, Closed, NoZones, CardsMissing}
 
--- `ok NUMBER out ID.. new ID..`: the entry's number, the ids that it took out, and those of the rows that it brought
+-- `ok NUMBER out ID..`: the entry's number, and the ids that it took out
+abbrev pub out_text : {A : Type 0} → JournalEntry A → List ℕ
+out_text entry = codes "ok " ++ decimal entry.number ++ codes " out" ++ flat_map id_text entry.out
+
+-- `ok NUMBER out ID.. new ID..`: with those of the rows that it brought
 abbrev pub accepted_line : {A : Type 0} → JournalEntry A → List ℕ
-accepted_line entry = codes "ok " ++ decimal entry.number ++ codes " out" ++ flat_map id_text entry.out ++ codes " new"
-    ++ flat_map id_text (numbers entry.rows) ++ codes "\n"
+accepted_line entry = out_text entry ++ codes " new" ++ flat_map id_text (numbers entry.rows) ++ codes "\n"
 
 -- `refused TEXT`
 abbrev pub refused_line : Refusal → List ℕ
 refused_line refusal = codes "refused " ++ refusal_text refusal ++ codes "\n"
 
+-- `at ENTRIES X Y`
+abbrev pub asked_text : ℕ → Corner → List ℕ
+asked_text entries corner = codes "at " ++ decimal entries ++ codes " " ++ corner_text corner
+
 -- `at ENTRIES X Y inside ID`, `at ENTRIES X Y edge ID ID ..` or `at ENTRIES X Y outside`
 abbrev pub located_line : {A : Type 0} → ℕ → Corner → At A → List ℕ
-located_line entries corner at =
-    codes "at " ++ decimal entries ++ codes " " ++ corner_text corner ++ codes " " ++ place_text at ++ codes "\n"
+located_line entries corner at = asked_text entries corner ++ codes " " ++ place_text at ++ codes "\n"
 
 -- `parcel ENTRIES ID `
 abbrev pub parcel_text : ℕ → ℕ → List ℕ

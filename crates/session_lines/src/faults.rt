@@ -1,10 +1,10 @@
 //! What is answered to a line that is not carried out.
 
-ghost use Rattle.std.specs.Prelude.{◌≡◌, ◌++◌, OnOk};
+ghost use Rattle.std.specs.Prelude.{OnOk, OnErr};
 ghost use Rattle.session_lines.specs.Answers.{fault_text, error_line};
+ghost use Rattle.session_lines.specs.declared.faults.SessionFault.TheVariants.{CardsMissing};
 
-use std::alloc::{AllocError, Allocator};
-use text_pieces::push_number;
+use text_pieces::{Sink, push_number};
 
 /// Why a line of a session is not carried out. Nothing has changed then.
 #[derive(Clone, Copy, Debug, PartialEq, Eq)]
@@ -35,54 +35,57 @@ pub enum SessionFault {
 ///
 /// # Errors
 ///
-/// [`AllocError`] where an allocation is refused; a beginning of the line may stand at the end of the text then.
-pub fn push_error<A: Allocator>(
-    text: &mut Vec<u8, A>,
-    fault: SessionFault,
-) -> Result<(), AllocError>
-    ensures { OnOk result (text.new.items ≡ text.old.items ++ error_line (fault_text fault)) }
+/// The sink's fault; a beginning of the line may have been taken then.
+pub fn push_error<S: Sink>(text: &mut S, fault: SessionFault) -> Result<(), S::Fault>
+    ensures ok { OnOk result (S.takes text.old (error_line (fault_text fault)) text.new) }
+    ensures err { OnErr result (S.breaks_off text.old (error_line (fault_text fault)) text.new) }
 {
-    text.extend_from_slice(b"error: ")?;
+    text.push_piece("error: ")?;
     push_fault(text, fault)?;
-    text.push(b'\n')?;
-    Ok(())
+    text.push_piece("\n")
 }
 
-/// Adds the answer to a report that fails, as an export whose files can't be written: `error: TEXT`, the text being that
-/// which the program tells of this fault elsewhere.
+/// Adds the answer to a report that fails, as an export whose files can't be written: `error: TEXT`, the text being
+/// that which the program prints of this fault elsewhere.
 ///
 /// # Errors
 ///
-/// [`AllocError`] where an allocation is refused; a beginning of the line may stand at the end of the text then.
-pub fn push_failure<A: Allocator>(text: &mut Vec<u8, A>, why: &str) -> Result<(), AllocError>
-    ensures { OnOk result (text.new.items ≡ text.old.items ++ error_line why.now) }
+/// The sink's fault; a beginning of the line may have been taken then.
+pub fn push_failure<S: Sink>(text: &mut S, why: &str) -> Result<(), S::Fault>
+    ensures ok { OnOk result (S.takes text.old (error_line why.now) text.new) }
+    ensures err { OnErr result (S.breaks_off text.old (error_line why.now) text.new) }
 {
-    text.extend_from_slice(b"error: ")?;
-    text.extend_from_slice(why.as_bytes())?;
-    text.push(b'\n')?;
-    Ok(())
+    text.push_piece("error: ")?;
+    text.push_piece(why)?;
+    text.push_piece("\n")
 }
 
 /// Adds what a fault is called.
-fn push_fault<A: Allocator>(text: &mut Vec<u8, A>, fault: SessionFault) -> Result<(), AllocError>
-    ensures { OnOk result (text.new.items ≡ text.old.items ++ fault_text fault) }
+fn push_fault<S: Sink>(text: &mut S, fault: SessionFault) -> Result<(), S::Fault>
+    ensures ok { OnOk result (S.takes text.old (fault_text fault) text.new) }
+    ensures err { OnErr result (S.breaks_off text.old (fault_text fault) text.new) }
 {
     match fault {
-        SessionFault::BadLine => text.extend_from_slice(b"L1")?,
-        SessionFault::NoVersion => text.extend_from_slice(b"K4")?,
-        SessionFault::NoMemory => text.extend_from_slice(b"no memory")?,
-        SessionFault::OperatorOnly => text.extend_from_slice(b"operator")?,
-        SessionFault::NoCard => text.extend_from_slice(b"no card")?,
-        SessionFault::NoWindow => text.extend_from_slice(b"no window")?,
-        SessionFault::JournalFailed => text.extend_from_slice(b"journal")?,
-        SessionFault::Closed => text.extend_from_slice(b"closed")?,
-        SessionFault::NoZones => text.extend_from_slice(b"no zones")?,
-        SessionFault::CardsMissing(clerks, cards) => {
-            text.extend_from_slice(b"K2 ")?;
-            push_number(text, clerks)?;
-            text.push(b' ')?;
-            push_number(text, cards)?;
-        }
+        SessionFault::BadLine => text.push_piece("L1"),
+        SessionFault::NoVersion => text.push_piece("K4"),
+        SessionFault::NoMemory => text.push_piece("no memory"),
+        SessionFault::OperatorOnly => text.push_piece("operator"),
+        SessionFault::NoCard => text.push_piece("no card"),
+        SessionFault::NoWindow => text.push_piece("no window"),
+        SessionFault::JournalFailed => text.push_piece("journal"),
+        SessionFault::Closed => text.push_piece("closed"),
+        SessionFault::NoZones => text.push_piece("no zones"),
+        SessionFault::CardsMissing(clerks, cards) => push_missing_cards(text, clerks, cards),
     }
-    Ok(())
+}
+
+/// Adds that cards are missing at the close: of how many clerks, and how many were handed in.
+fn push_missing_cards<S: Sink>(text: &mut S, clerks: usize, cards: usize) -> Result<(), S::Fault>
+    ensures ok { OnOk result (S.takes text.old (fault_text (CardsMissing clerks cards)) text.new) }
+    ensures err { OnErr result (S.breaks_off text.old (fault_text (CardsMissing clerks cards)) text.new) }
+{
+    text.push_piece("K2 ")?;
+    push_number(text, clerks)?;
+    text.push_piece(" ")?;
+    push_number(text, cards)
 }

@@ -1,7 +1,7 @@
 //! The lines of a session as texts: what a line asks for, and what is answered to it.
 //!
-//! Each call that answers adds one line to the end of a text, byte for byte as stated, or answers that a growth was
-//! refused; a beginning of the line may stand at the end of the text then.
+//! Each call that answers adds one line behind what the sink has taken, byte for byte as stated, or answers that the
+//! sink failed; a beginning of the line may have been taken then.
 #![tactic(auto)]
 
 mod edits;

@@ -60,7 +60,8 @@ pub fn read_line<'l, A: Allocator + Copy>(
     ensures found { IfOk result (λ found. IfSome found (Asks line.now)) }
     ensures none { IfOk result (λ found. IfNone found ((asked : LineValue A) → ¬ Asks line.now asked)) }
     // What it asks for is found, and there is nothing else that it asks for.
-    ensures reads { (asked : LineValue A) → Asks line.now asked → IfOk result (λ found. IsSomeAnd found (AskTheSame asked)) }
+    ensures reads { (asked : LineValue A) → Asks line.now asked
+        → IfOk result (λ found. IsSomeAnd found (AskTheSame asked)) }
 {
     if is_skipped(line) {
         return Ok(Some(Line::Skipped));

@@ -1,39 +1,48 @@
 //! What is answered to a question. Each answer says after how many entries of the journal it holds.
 
-ghost use Rattle.std.specs.Prelude.{◌≡◌, ◌≤◌, ◌++◌, length, OnOk};
+ghost use Rattle.std.specs.Prelude.{◌≤◌, length, OnOk, OnErr};
 ghost use Rattle.std.specs.List.{flat_map};
 ghost use Rattle.geo_exact.specs.declared.limits.TheConstants.{LIST_CORNERS};
-ghost use Rattle.session_lines.specs.Answers.{located_line, parcel_text, next_corner_text, parcel_line, no_parcel_line, entries_line};
+ghost use Rattle.session_lines.specs.Answers.{asked_text, located_line, parcel_text, next_corner_text, parcel_line};
+ghost use Rattle.session_lines.specs.Answers.{no_parcel_line, entries_line};
 
 use crate::states::push_counted;
 use clerk_runs::push_place;
 use fabric_core::At;
 use geo_exact::{Corner, area2};
-use std::alloc::{AllocError, Allocator};
-use text_pieces::{push_corner, push_number};
+use std::alloc::Allocator;
+use text_pieces::{Sink, push_corner, push_number};
 
 /// Adds the answer to `locate X Y`: `at ENTRIES X Y inside ID`, `at ENTRIES X Y edge ID ID ..` or
 /// `at ENTRIES X Y outside`.
 ///
 /// # Errors
 ///
-/// [`AllocError`] where an allocation is refused; a beginning of the line may stand at the end of the text then.
-pub fn push_located<A: Allocator, B: Allocator>(
-    text: &mut Vec<u8, A>,
+/// The sink's fault; a beginning of the line may have been taken then.
+pub fn push_located<S: Sink, B: Allocator>(
+    text: &mut S,
     entries: u64,
     corner: Corner,
     at: &At<B>,
-) -> Result<(), AllocError>
-    ensures { OnOk result (text.new.items ≡ text.old.items ++ located_line entries corner at.now) }
+) -> Result<(), S::Fault>
+    ensures ok { OnOk result (S.takes text.old (located_line entries corner at.now) text.new) }
+    ensures err { OnErr result (S.breaks_off text.old (located_line entries corner at.now) text.new) }
 {
-    text.extend_from_slice(b"at ")?;
-    push_number(text, entries)?;
-    text.push(b' ')?;
-    push_corner(text, corner)?;
-    text.push(b' ')?;
+    push_asked(text, entries, corner)?;
+    text.push_piece(" ")?;
     push_place(text, at)?;
-    text.push(b'\n')?;
-    Ok(())
+    text.push_piece("\n")
+}
+
+/// Adds which corner was asked for, and after how many entries it is answered.
+fn push_asked<S: Sink>(text: &mut S, entries: u64, corner: Corner) -> Result<(), S::Fault>
+    ensures ok { OnOk result (S.takes text.old (asked_text entries corner) text.new) }
+    ensures err { OnErr result (S.breaks_off text.old (asked_text entries corner) text.new) }
+{
+    text.push_piece("at ")?;
+    push_number(text, entries)?;
+    text.push_piece(" ")?;
+    push_corner(text, corner)
 }
 
 /// Adds the answer to `parcel ID` where the parcel has this ring: `parcel ENTRIES ID AREA2 X Y X Y ..`, with twice the
@@ -41,70 +50,76 @@ pub fn push_located<A: Allocator, B: Allocator>(
 ///
 /// # Errors
 ///
-/// [`AllocError`] where an allocation is refused; a beginning of the line may stand at the end of the text then.
-pub fn push_parcel<A: Allocator>(
-    text: &mut Vec<u8, A>,
+/// The sink's fault; a beginning of the line may have been taken then.
+pub fn push_parcel<S: Sink>(
+    text: &mut S,
     entries: u64,
     id: u64,
     ring: &[Corner],
-) -> Result<(), AllocError>
+) -> Result<(), S::Fault>
     requires { length ring.now ≤ LIST_CORNERS }
-    ensures { OnOk result (text.new.items ≡ text.old.items ++ parcel_line entries id ring.now) }
+    ensures ok { OnOk result (S.takes text.old (parcel_line entries id ring.now) text.new) }
+    ensures err { OnErr result (S.breaks_off text.old (parcel_line entries id ring.now) text.new) }
 {
     push_whose(text, entries, id)?;
     push_number(text, area2(ring))?;
     push_corners(text, ring)?;
-    text.push(b'\n')?;
-    Ok(())
+    text.push_piece("\n")
 }
 
 /// Adds the answer to `parcel ID` where there is no such parcel: `parcel ENTRIES ID none`.
 ///
 /// # Errors
 ///
-/// [`AllocError`] where an allocation is refused; a beginning of the line may stand at the end of the text then.
-pub fn push_no_parcel<A: Allocator>(
-    text: &mut Vec<u8, A>,
-    entries: u64,
-    id: u64,
-) -> Result<(), AllocError>
-    ensures { OnOk result (text.new.items ≡ text.old.items ++ no_parcel_line entries id) }
+/// The sink's fault; a beginning of the line may have been taken then.
+pub fn push_no_parcel<S: Sink>(text: &mut S, entries: u64, id: u64) -> Result<(), S::Fault>
+    ensures ok { OnOk result (S.takes text.old (no_parcel_line entries id) text.new) }
+    ensures err { OnErr result (S.breaks_off text.old (no_parcel_line entries id) text.new) }
 {
     push_whose(text, entries, id)?;
-    text.extend_from_slice(b"none\n")?;
-    Ok(())
+    text.push_piece("none\n")
 }
 
 /// Adds which parcel it is, and after how many entries.
-fn push_whose<A: Allocator>(text: &mut Vec<u8, A>, entries: u64, id: u64) -> Result<(), AllocError>
-    ensures { OnOk result (text.new.items ≡ text.old.items ++ parcel_text entries id) }
+fn push_whose<S: Sink>(text: &mut S, entries: u64, id: u64) -> Result<(), S::Fault>
+    ensures ok { OnOk result (S.takes text.old (parcel_text entries id) text.new) }
+    ensures err { OnErr result (S.breaks_off text.old (parcel_text entries id) text.new) }
 {
-    text.extend_from_slice(b"parcel ")?;
+    text.push_piece("parcel ")?;
     push_number(text, entries)?;
-    text.push(b' ')?;
+    text.push_piece(" ")?;
     push_number(text, id)?;
-    text.push(b' ')?;
-    Ok(())
+    text.push_piece(" ")
 }
 
 /// Adds corners, each behind a space.
-fn push_corners<A: Allocator>(text: &mut Vec<u8, A>, corners: &[Corner]) -> Result<(), AllocError>
-    ensures { OnOk result (text.new.items ≡ text.old.items ++ flat_map next_corner_text corners.now) }
+fn push_corners<S: Sink>(text: &mut S, corners: &[Corner]) -> Result<(), S::Fault>
+    ensures ok { OnOk result (S.takes text.old (flat_map next_corner_text corners.now) text.new) }
+    ensures err { OnErr result (S.breaks_off text.old (flat_map next_corner_text corners.now) text.new) }
 {
     for corner in corners {
-        text.push(b' ')?;
-        push_corner(text, *corner)?;
+        push_next_corner(text, *corner)?;
     }
     Ok(())
+}
+
+/// Adds a corner behind a space.
+fn push_next_corner<S: Sink>(text: &mut S, corner: Corner) -> Result<(), S::Fault>
+    ensures ok { OnOk result (S.takes text.old (next_corner_text corner) text.new) }
+    ensures err { OnErr result (S.breaks_off text.old (next_corner_text corner) text.new) }
+{
+    text.push_piece(" ")?;
+    push_corner(text, corner)
 }
 
 /// Adds the answer to `entries`: `entries ENTRIES`.
 ///
 /// # Errors
 ///
-/// [`AllocError`] where an allocation is refused; a beginning of the line may stand at the end of the text then.
-pub fn push_entries<A: Allocator>(text: &mut Vec<u8, A>, entries: u64) -> Result<(), AllocError>
-    ensures { OnOk result (text.new.items ≡ text.old.items ++ entries_line entries) }
+/// The sink's fault; a beginning of the line may have been taken then.
+pub fn push_entries<S: Sink>(text: &mut S, entries: u64) -> Result<(), S::Fault>
+    ensures ok { OnOk result (S.takes text.old (entries_line entries) text.new) }
+    ensures err { OnErr result (S.breaks_off text.old (entries_line entries) text.new) }
 {
-    push_counted(text, b"entries ", entries)
+    push_counted(text, "entries ", entries)
 }

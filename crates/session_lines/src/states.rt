@@ -1,76 +1,76 @@
-//! What is told of the session itself.
+//! What is reported of the session itself.
 
-ghost use Rattle.std.specs.Prelude.{◌≡◌, ◌++◌, OnOk, codes, decimal};
+ghost use Rattle.std.specs.Prelude.{◌++◌, OnOk, OnErr, codes, decimal};
 ghost use Rattle.session_lines.specs.Answers.{ready_line, published_line, closed_line};
 
-use std::alloc::{AllocError, Allocator};
-use text_pieces::push_number;
+use text_pieces::{Sink, push_number};
 
 /// Adds that all is loaded, and how many entries the journal has: `ready ENTRIES`.
 ///
 /// # Errors
 ///
-/// [`AllocError`] where an allocation is refused; a beginning of the line may stand at the end of the text then.
-pub fn push_ready<A: Allocator>(text: &mut Vec<u8, A>, entries: u64) -> Result<(), AllocError>
-    ensures { OnOk result (text.new.items ≡ text.old.items ++ ready_line entries) }
+/// The sink's fault; a beginning of the line may have been taken then.
+pub fn push_ready<S: Sink>(text: &mut S, entries: u64) -> Result<(), S::Fault>
+    ensures ok { OnOk result (S.takes text.old (ready_line entries) text.new) }
+    ensures err { OnErr result (S.breaks_off text.old (ready_line entries) text.new) }
 {
-    push_counted(text, b"ready ", entries)
+    push_counted(text, "ready ", entries)
 }
 
 /// Adds the answer to `publish`: `published ENTRIES`.
 ///
 /// # Errors
 ///
-/// [`AllocError`] where an allocation is refused; a beginning of the line may stand at the end of the text then.
-pub fn push_published<A: Allocator>(text: &mut Vec<u8, A>, entries: u64) -> Result<(), AllocError>
-    ensures { OnOk result (text.new.items ≡ text.old.items ++ published_line entries) }
+/// The sink's fault; a beginning of the line may have been taken then.
+pub fn push_published<S: Sink>(text: &mut S, entries: u64) -> Result<(), S::Fault>
+    ensures ok { OnOk result (S.takes text.old (published_line entries) text.new) }
+    ensures err { OnErr result (S.breaks_off text.old (published_line entries) text.new) }
 {
-    push_counted(text, b"published ", entries)
+    push_counted(text, "published ", entries)
 }
 
 /// Adds the answer to `close`: `closed ENTRIES`.
 ///
 /// # Errors
 ///
-/// [`AllocError`] where an allocation is refused; a beginning of the line may stand at the end of the text then.
-pub fn push_closed<A: Allocator>(text: &mut Vec<u8, A>, entries: u64) -> Result<(), AllocError>
-    ensures { OnOk result (text.new.items ≡ text.old.items ++ closed_line entries) }
+/// The sink's fault; a beginning of the line may have been taken then.
+pub fn push_closed<S: Sink>(text: &mut S, entries: u64) -> Result<(), S::Fault>
+    ensures ok { OnOk result (S.takes text.old (closed_line entries) text.new) }
+    ensures err { OnErr result (S.breaks_off text.old (closed_line entries) text.new) }
 {
-    push_counted(text, b"closed ", entries)
+    push_counted(text, "closed ", entries)
 }
 
 /// Adds the answer to a line that is skipped: `skipped`.
 ///
 /// # Errors
 ///
-/// [`AllocError`] where an allocation is refused; nothing is added then.
-pub fn push_skipped<A: Allocator>(text: &mut Vec<u8, A>) -> Result<(), AllocError>
-    ensures { OnOk result (text.new.items ≡ text.old.items ++ codes "skipped\n") }
+/// The sink's fault; a beginning of the line may have been taken then.
+pub fn push_skipped<S: Sink>(text: &mut S) -> Result<(), S::Fault>
+    ensures ok { OnOk result (S.takes text.old (codes "skipped\n") text.new) }
+    ensures err { OnErr result (S.breaks_off text.old (codes "skipped\n") text.new) }
 {
-    text.extend_from_slice(b"skipped\n")
+    text.push_piece("skipped\n")
 }
 
 /// Adds the line that ends a report: `.`.
 ///
 /// # Errors
 ///
-/// [`AllocError`] where an allocation is refused; nothing is added then.
-pub fn push_end<A: Allocator>(text: &mut Vec<u8, A>) -> Result<(), AllocError>
-    ensures { OnOk result (text.new.items ≡ text.old.items ++ codes ".\n") }
+/// The sink's fault; a beginning of the line may have been taken then.
+pub fn push_end<S: Sink>(text: &mut S) -> Result<(), S::Fault>
+    ensures ok { OnOk result (S.takes text.old (codes ".\n") text.new) }
+    ensures err { OnErr result (S.breaks_off text.old (codes ".\n") text.new) }
 {
-    text.extend_from_slice(b".\n")
+    text.push_piece(".\n")
 }
 
 /// Adds a line: a word with the space behind it, and a number of entries.
-pub(crate) fn push_counted<A: Allocator>(
-    text: &mut Vec<u8, A>,
-    word: &[u8],
-    entries: u64,
-) -> Result<(), AllocError>
-    ensures { OnOk result (text.new.items ≡ text.old.items ++ (word.now ++ decimal entries ++ codes "\n")) }
+pub(crate) fn push_counted<S: Sink>(text: &mut S, word: &str, entries: u64) -> Result<(), S::Fault>
+    ensures ok { OnOk result (S.takes text.old (word.now ++ decimal entries ++ codes "\n") text.new) }
+    ensures err { OnErr result (S.breaks_off text.old (word.now ++ decimal entries ++ codes "\n") text.new) }
 {
-    text.extend_from_slice(word)?;
+    text.push_piece(word)?;
     push_number(text, entries)?;
-    text.push(b'\n')?;
-    Ok(())
+    text.push_piece("\n")
 }

@@ -1,4 +1,4 @@
--- What the code tells of where places lie.
+-- The lines that the code makes of where points lie.
 use Rattle.std.specs.Prelude.{ℕ, List, [], ◌∷◌, ◌++◌, codes}
 use Rattle.geo_exact.specs.declared.corner.Corner.{Corner}
 use Rattle.fabric_core.specs.declared.locate.At.{At}

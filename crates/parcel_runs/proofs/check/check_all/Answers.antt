@@ -2,8 +2,7 @@ use Rattle.std.proofs.Common.{rules, ◌≤◌, length, ◌≡◌, ◌⊎◌, in
 use Rattle.std.specs.Io.KnownBytes.{Appends}
 use Rattle.text_pieces.specs.Beginnings.{AppendsBeginning}
 use Rattle.geo_exact.specs.declared.limits.TheConstants.{LIST_CORNERS}
-use Rattle.city_layers.specs.TilingFiles.{files_of}
-use Rattle.clerk_runs.specs.ClerkFiles.{texts_of}
+use Rattle.parcel_runs.specs.RunFiles.{parcel_run_of}
 use Rattle.parcel_runs.specs.RunFaults.{IsRunFault}
 use Rattle.city_layers.specs.FaultLines.{text_or_none}
 use Rattle.city_layers.specs.declared.fault.ToolFault.TheVariants.{NoMemory}
@@ -17,7 +16,7 @@ use Rattle.parcel_runs.proofs.check.check_all.Goals as goal
 pub checked_text-requires-clause-short : goal.checked_text-requires-clause-short
 checked_text-requires-clause-short g c =
     let city = c.in-Ok.ensures.tiles.is_city in
-    let short : length c.in-Ok.unedited.layer.city ≤ LIST_CORNERS =
+    let short : length c.in-Ok.inputs.layer.city ≤ LIST_CORNERS =
     city_short _ _ _ city (c.a_layer_file_is_within_the_limits.ensures.corners _ _ _ _ city.is_only) in
     search (rules, short)
 
@@ -25,8 +24,8 @@ pub returns-in_ok-put_all-in-Ok-clause-ok : goal.returns-in_ok-put_all-in-Ok-cla
 returns-in_ok-put_all-in-Ok-clause-ok g c =
     record {
       text = c.in_ok-text-in-Ok.text.items;
-      is_check = check_text (files_of c.args.city.now) (files_of c.args.parcels.now) c.args.unit (texts_of c.args.clerks.now)
-          c.in-Ok.unedited.layer c.in-Ok.unedited.clerks.items c.in_ok-text-in-Ok.text.items c.in-Ok.ensures.tiles
+      is_check = check_text (parcel_run_of c.args.files.now)
+          c.in-Ok.inputs.layer c.in-Ok.inputs.clerks.items c.in_ok-text-in-Ok.text.items c.in-Ok.ensures.tiles
           c.in-Ok.ensures.edits c.in_ok-text-in-Ok.ensures.text;
       is_written = subst (Appends (g.W.ByteOut.written c.args.out.now) (g.W.ByteOut.written c.put_all.new.out))
           c.as_slice.ensures.value c.in_ok-put_all-in-Ok.ensures.ok;
@@ -35,8 +34,8 @@ returns-in_ok-put_all-in-Ok-clause-ok g c =
 pub returns-in_err-put_all-in-Ok-clause-output : goal.returns-in_err-put_all-in-Ok-clause-output
 returns-in_err-put_all-in-Ok-clause-output g c = λ h. inl record {
   text = c.in_ok-text-in-Ok.text.items;
-  is_check = check_text (files_of c.args.city.now) (files_of c.args.parcels.now) c.args.unit (texts_of c.args.clerks.now)
-      c.in-Ok.unedited.layer c.in-Ok.unedited.clerks.items c.in_ok-text-in-Ok.text.items c.in-Ok.ensures.tiles
+  is_check = check_text (parcel_run_of c.args.files.now)
+      c.in-Ok.inputs.layer c.in-Ok.inputs.clerks.items c.in_ok-text-in-Ok.text.items c.in-Ok.ensures.tiles
       c.in-Ok.ensures.edits c.in_ok-text-in-Ok.ensures.text;
   is_begun = subst (AppendsBeginning (g.W.ByteOut.written c.args.out.now) (g.W.ByteOut.written c.put_all.new.out))
       c.as_slice.ensures.value c.in_err-put_all-in-Ok.ensures.err;
@@ -44,15 +43,15 @@ returns-in_err-put_all-in-Ok-clause-output g c = λ h. inl record {
 
 pub returns-in_err-put_all-in-Err-clause-output : goal.returns-in_err-put_all-in-Err-clause-output
 returns-in_err-put_all-in-Err-clause-output g c = λ h.
-    inr (lines_begun (files_of c.args.city.now) (files_of c.args.parcels.now) c.args.unit (texts_of c.args.clerks.now)
+    inr (lines_begun (parcel_run_of c.args.files.now)
     c.in-Err.refusal.fault (text_or_none c.in-Err.refusal.lines) c.lines.result.now (g.W.ByteOut.written c.args.out.now) _
     c.lines.ensures c.in_err-put_all-in-Err.ensures.err c.in-Err.ensures.fault)
 
 pub returns-in_ok-put_all-in-Err-clause-fault : goal.returns-in_ok-put_all-in-Err-clause-fault
 returns-in_ok-put_all-in-Err-clause-fault g c =
-    lines_written (files_of c.args.city.now) (files_of c.args.parcels.now) c.args.unit (texts_of c.args.clerks.now) c.in-Err.refusal.fault
+    lines_written (parcel_run_of c.args.files.now) c.in-Err.refusal.fault
     (text_or_none c.in-Err.refusal.lines)
-    c.lines.result.now (g.W.ByteOut.written c.args.out.now) _ (length c.args.clerks.now) c.lines.ensures
+    c.lines.result.now (g.W.ByteOut.written c.args.out.now) _ (length c.args.files.now.clerks.items) c.lines.ensures
     c.in_ok-put_all-in-Err.ensures.ok c.in-Err.ensures.fault
 
 pub returns-in_ok-put_all-in-Err-clause-refuses : goal.returns-in_ok-put_all-in-Err-clause-refuses
@@ -63,22 +62,22 @@ returns-in_ok-put_all-in-Err-clause-refuses g c = λ fault h. elim (c.in-Err.ens
 
 pub returns-in_err-text-in-Ok-clause-fault : goal.returns-in_err-text-in-Ok-clause-fault
 returns-in_err-text-in-Ok-clause-fault g c =
-    let want = same_want c.args.clerks.now c.in-Ok.unedited.clerks.items _ c.in-Ok.ensures.edits
+    let want = same_want c.args.files.now.clerks.items c.in-Ok.inputs.clerks.items _ c.in-Ok.ensures.edits
     c.in_err-text-in-Ok.ensures.fault in
     passed_if _ _ _ c.from_residual.ensures.1 (inl (
       inr want,
-      none_written (files_of c.args.city.now) (files_of c.args.parcels.now) c.args.unit _ (g.W.ByteOut.written c.args.out.now)
-          (length c.args.clerks.now) want,
+      none_written (parcel_run_of c.args.files.now) _ (g.W.ByteOut.written c.args.out.now)
+          (length c.args.files.now.clerks.items) want,
     ))
 
 pub returns-in_err-text-in-Ok-clause-failed : goal.returns-in_err-text-in-Ok-clause-failed
 returns-in_err-text-in-Ok-clause-failed g c = λ h.
-    absurd (want_no_output (length c.in-Ok.unedited.clerks.items) _ c.in_err-text-in-Ok.ensures.fault
+    absurd (want_no_output (length c.in-Ok.inputs.clerks.items) _ c.in_err-text-in-Ok.ensures.fault
     (passed_is _ _ _ c.from_residual.ensures.1 h))
 
 pub returns-in_err-text-in-Ok-clause-output : goal.returns-in_err-text-in-Ok-clause-output
 returns-in_err-text-in-Ok-clause-output g c = λ h.
-    absurd (want_no_output (length c.in-Ok.unedited.clerks.items) _ c.in_err-text-in-Ok.ensures.fault
+    absurd (want_no_output (length c.in-Ok.inputs.clerks.items) _ c.in_err-text-in-Ok.ensures.fault
     (passed_is _ _ _ c.from_residual.ensures.1 h))
 
 pub returns-in_err-text-in-Ok-clause-refuses : goal.returns-in_err-text-in-Ok-clause-refuses
@@ -87,15 +86,13 @@ returns-in_err-text-in-Ok-clause-refuses g c = λ fault h. absurd (c.in-Ok.ensur
 pub returns-in_ok-put_all-in-Err-clause-output : goal.returns-in_ok-put_all-in-Err-clause-output
 returns-in_ok-put_all-in-Err-clause-output g c = λ h.
     let fault = c.in-Err.refusal.fault in
-    let answered : IsRunFault (files_of c.args.city.now) (files_of c.args.parcels.now) c.args.unit
-    (texts_of c.args.clerks.now) fault ⊎ (fault ≡ NoMemory) =
+    let answered : IsRunFault (parcel_run_of c.args.files.now) fault ⊎ (fault ≡ NoMemory) =
     elim c.in-Err.ensures.fault [ inl k ↦ inl k.0 | inr k ↦ inr k.0 ] in
-    absurd (no_output _ _ _ _ fault answered (passed_is _ fault _ refl h))
+    absurd (no_output _ fault answered (passed_is _ fault _ refl h))
 
 pub returns-in_ok-put_all-in-Err-clause-failed : goal.returns-in_ok-put_all-in-Err-clause-failed
 returns-in_ok-put_all-in-Err-clause-failed g c = λ h.
     let fault = c.in-Err.refusal.fault in
-    let answered : IsRunFault (files_of c.args.city.now) (files_of c.args.parcels.now) c.args.unit
-    (texts_of c.args.clerks.now) fault ⊎ (fault ≡ NoMemory) =
+    let answered : IsRunFault (parcel_run_of c.args.files.now) fault ⊎ (fault ≡ NoMemory) =
     elim c.in-Err.ensures.fault [ inl k ↦ inl k.0 | inr k ↦ inr k.0 ] in
-    absurd (no_output _ _ _ _ fault answered (passed_is _ fault _ refl h))
+    absurd (no_output _ fault answered (passed_is _ fault _ refl h))

@@ -8,5 +8,6 @@ use Rattle.parcel_runs.proofs.clerks.read_clerk_files.Goals as goal
 
 pub returns-in-Ok-clause-few : goal.returns-in-Ok-clause-few
 returns-in-Ok-clause-few g c =
-    subst (λ n. n ≤ MOST_PLACES) (sym (AllZip-long IsClerkFile (texts_of c.args.files.now) _ c.in-Ok.ensures.edits))
-    (few_texts c.args.files.now c.requires)
+    let files = c.as_slice.result.now in
+    subst (λ n. n ≤ MOST_PLACES) (sym (AllZip-long IsClerkFile (texts_of files) _ c.in-Ok.ensures.edits))
+    (few_texts files (rw (c.as_slice.ensures.value) c.requires))

@@ -6,29 +6,29 @@ use Rattle.parcel_runs.proofs.RunFaults.{same_want}
 use Rattle.parcel_runs.proofs.RowLimits.{few_rows}
 use Rattle.parcel_runs.proofs.export.export.Goals as goal
 
-pub written-files-requires : goal.written-files-requires
-written-files-requires g c = made_few _ _ c.in_ok-edited.ensures.made.is_journal c.in_ok-edited.ensures.made.leads
-    (few_rows _ _ _ _ c.in_ok-unedited.ensures.tiles.is_tiled (λ records h.
+pub written-layer-requires : goal.written-layer-requires
+written-layer-requires g c = made_few _ _ c.in_ok-outcome.ensures.made.is_journal c.in_ok-outcome.ensures.made.leads
+    (few_rows _ _ _ _ c.in_ok-inputs.ensures.tiles.is_tiled (λ records h.
     c.a_layer_file_is_within_the_limits.ensures.rings _ _ _ records h))
 
-pub returns-in_err-edited-clause-fault : goal.returns-in_err-edited-clause-fault
-returns-in_err-edited-clause-fault g c = passed_if _ _ _ c.from_residual-in_err-edited.ensures.1
-    (inr (same_want c.args.clerks.now c.in_ok-unedited.unedited.clerks.items _ c.in_ok-unedited.ensures.edits
-    c.in_err-edited.ensures.fault))
+pub returns-in_err-outcome-clause-fault : goal.returns-in_err-outcome-clause-fault
+returns-in_err-outcome-clause-fault g c = passed_if _ _ _ c.from_residual-in_err-outcome.ensures.1
+    (inr (same_want c.args.files.now.clerks.items c.in_ok-inputs.inputs.clerks.items _ c.in_ok-inputs.ensures.edits
+    c.in_err-outcome.ensures.fault))
 
-pub returns-in_err-edited-clause-refuses : goal.returns-in_err-edited-clause-refuses
-returns-in_err-edited-clause-refuses g c = λ fault h. absurd (c.in_ok-unedited.ensures.refuses fault h)
+pub returns-in_err-outcome-clause-refuses : goal.returns-in_err-outcome-clause-refuses
+returns-in_err-outcome-clause-refuses g c = λ fault h. absurd (c.in_ok-inputs.ensures.refuses fault h)
 
 pub returns-clause-ok : goal.returns-clause-ok
 returns-clause-ok g c = record {
-  tiles = c.in_ok-unedited.unedited.layer;
-  are_tiles = c.in_ok-unedited.ensures.tiles;
-  after = register_of_parcels c.in_ok-edited.edited.parcels;
-  told = c.in_ok-edited.edited.lines.items;
+  tiles = c.in_ok-inputs.inputs.layer;
+  are_tiles = c.in_ok-inputs.ensures.tiles;
+  after = register_of_parcels c.in_ok-outcome.outcome.parcels;
+  told = c.in_ok-outcome.outcome.lines.items;
   is_edited = record {
-    clerks = c.in_ok-unedited.unedited.clerks.items;
-    are_files = c.in_ok-unedited.ensures.edits;
-    are_made = c.in_ok-edited.ensures.made;
+    clerks = c.in_ok-inputs.inputs.clerks.items;
+    are_files = c.in_ok-inputs.ensures.edits;
+    are_made = c.in_ok-outcome.ensures.made;
   };
   is_main = c.in_ok-main.ensures.main;
   is_index = c.in_ok-main.ensures.index;
@@ -36,4 +36,4 @@ returns-clause-ok g c = record {
 }
 
 pub returns-clause-refuses : goal.returns-clause-refuses
-returns-clause-refuses g c = λ fault h. absurd (c.in_ok-unedited.ensures.refuses fault h)
+returns-clause-refuses g c = λ fault h. absurd (c.in_ok-inputs.ensures.refuses fault h)

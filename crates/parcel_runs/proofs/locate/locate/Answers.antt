@@ -1,51 +1,50 @@
 use Rattle.std.proofs.Common.{inl, inr, refl, subst, length}
 use Rattle.std.specs.Io.KnownBytes.{Appends}
 use Rattle.text_pieces.specs.Beginnings.{AppendsBeginning}
-use Rattle.city_layers.specs.TilingFiles.{files_of}
-use Rattle.clerk_runs.specs.ClerkFiles.{texts_of}
 use Rattle.geo_exact.proofs.PassedOn.{passed_if, passed_is}
+use Rattle.parcel_runs.specs.RunFiles.{parcel_run_of}
 use Rattle.parcel_runs.proofs.RunFaults.{same_want, no_output, want_no_output}
 use Rattle.parcel_runs.proofs.RunTexts.{points_text}
 use Rattle.parcel_runs.proofs.locate.locate.Goals as goal
 
-pub returns-in_err-unedited-clause-failed : goal.returns-in_err-unedited-clause-failed
-returns-in_err-unedited-clause-failed g c = λ h.
-    absurd (no_output _ _ _ _ c.in_err-unedited.field-0.0 c.in_err-unedited.ensures.fault (passed_is _ _ _ c.from_residual.ensures.1 h))
+pub returns-in_err-inputs-clause-failed : goal.returns-in_err-inputs-clause-failed
+returns-in_err-inputs-clause-failed g c = λ h.
+    absurd (no_output _ c.in_err-inputs.field-0.0 c.in_err-inputs.ensures.fault (passed_is _ _ _ c.from_residual.ensures.1 h))
 
-pub returns-in_err-unedited-clause-output : goal.returns-in_err-unedited-clause-output
-returns-in_err-unedited-clause-output g c = λ h.
-    absurd (no_output _ _ _ _ c.in_err-unedited.field-0.0 c.in_err-unedited.ensures.fault (passed_is _ _ _ c.from_residual.ensures.1 h))
+pub returns-in_err-inputs-clause-output : goal.returns-in_err-inputs-clause-output
+returns-in_err-inputs-clause-output g c = λ h.
+    absurd (no_output _ c.in_err-inputs.field-0.0 c.in_err-inputs.ensures.fault (passed_is _ _ _ c.from_residual.ensures.1 h))
 
 pub returns-in_err-lines-clause-fault : goal.returns-in_err-lines-clause-fault
 returns-in_err-lines-clause-fault g c = passed_if _ _ _ c.from_residual-in_err-lines.ensures.1
     (inr (inl (
-      same_want c.args.clerks.now c.in_ok-unedited.unedited.clerks.items _ c.in_ok-unedited.ensures.edits
+      same_want c.args.files.now.clerks.items c.in_ok-inputs.inputs.clerks.items _ c.in_ok-inputs.ensures.edits
           c.in_err-lines.ensures.fault,
       refl,
     )))
 
 pub returns-in_err-lines-clause-output : goal.returns-in_err-lines-clause-output
 returns-in_err-lines-clause-output g c = λ h.
-    absurd (want_no_output (length c.in_ok-unedited.unedited.clerks.items) _ c.in_err-lines.ensures.fault
+    absurd (want_no_output (length c.in_ok-inputs.inputs.clerks.items) _ c.in_err-lines.ensures.fault
     (passed_is _ _ _ c.from_residual-in_err-lines.ensures.1 h))
 
 pub returns-in_err-lines-clause-failed : goal.returns-in_err-lines-clause-failed
 returns-in_err-lines-clause-failed g c = λ h.
-    absurd (want_no_output (length c.in_ok-unedited.unedited.clerks.items) _ c.in_err-lines.ensures.fault
+    absurd (want_no_output (length c.in_ok-inputs.inputs.clerks.items) _ c.in_err-lines.ensures.fault
     (passed_is _ _ _ c.from_residual-in_err-lines.ensures.1 h))
 
 pub returns-in_err-lines-clause-refuses : goal.returns-in_err-lines-clause-refuses
-returns-in_err-lines-clause-refuses g c = λ fault h. absurd (c.in_ok-unedited.ensures.refuses fault h)
+returns-in_err-lines-clause-refuses g c = λ fault h. absurd (c.in_ok-inputs.ensures.refuses fault h)
 
 pub returns-in_err-put_all-clause-refuses : goal.returns-in_err-put_all-clause-refuses
-returns-in_err-put_all-clause-refuses g c = λ fault h. absurd (c.in_ok-unedited.ensures.refuses fault h)
+returns-in_err-put_all-clause-refuses g c = λ fault h. absurd (c.in_ok-inputs.ensures.refuses fault h)
 
 pub returns-in_err-put_all-clause-output : goal.returns-in_err-put_all-clause-output
 returns-in_err-put_all-clause-output g c = λ h. record {
   text = c.in_ok-lines.lines.items;
-  are_places = points_text (files_of c.args.city.now) (files_of c.args.parcels.now) c.args.unit (texts_of c.args.clerks.now)
-      c.in_ok-unedited.unedited.layer c.in_ok-unedited.unedited.clerks.items c.in_ok-lines.lines.items c.in_ok-unedited.ensures.tiles
-      c.in_ok-unedited.ensures.edits c.args.points.now c.in_ok-lines.ensures.text;
+  are_places = points_text (parcel_run_of c.args.files.now)
+      c.in_ok-inputs.inputs.layer c.in_ok-inputs.inputs.clerks.items c.in_ok-lines.lines.items c.in_ok-inputs.ensures.tiles
+      c.in_ok-inputs.ensures.edits c.args.points.now c.in_ok-lines.ensures.text;
   is_begun = subst (AppendsBeginning (g.W.ByteOut.written c.args.out.now) (g.W.ByteOut.written c.put_all.new.out))
       c.as_slice.ensures.value c.in_err-put_all.ensures.err;
 }
@@ -53,12 +52,12 @@ returns-in_err-put_all-clause-output g c = λ h. record {
 pub returns-clause-ok : goal.returns-clause-ok
 returns-clause-ok g c = record {
   text = c.in_ok-lines.lines.items;
-  are_places = points_text (files_of c.args.city.now) (files_of c.args.parcels.now) c.args.unit (texts_of c.args.clerks.now)
-      c.in_ok-unedited.unedited.layer c.in_ok-unedited.unedited.clerks.items c.in_ok-lines.lines.items c.in_ok-unedited.ensures.tiles
-      c.in_ok-unedited.ensures.edits c.args.points.now c.in_ok-lines.ensures.text;
+  are_places = points_text (parcel_run_of c.args.files.now)
+      c.in_ok-inputs.inputs.layer c.in_ok-inputs.inputs.clerks.items c.in_ok-lines.lines.items c.in_ok-inputs.ensures.tiles
+      c.in_ok-inputs.ensures.edits c.args.points.now c.in_ok-lines.ensures.text;
   is_written = subst (Appends (g.W.ByteOut.written c.args.out.now) (g.W.ByteOut.written c.put_all.new.out))
       c.as_slice.ensures.value c.in_ok-put_all.ensures.ok;
 }
 
 pub returns-clause-refuses : goal.returns-clause-refuses
-returns-clause-refuses g c = λ fault h. absurd (c.in_ok-unedited.ensures.refuses fault h)
+returns-clause-refuses g c = λ fault h. absurd (c.in_ok-inputs.ensures.refuses fault h)

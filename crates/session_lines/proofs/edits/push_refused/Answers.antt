@@ -1,0 +1,41 @@
+use Rattle.std.specs.Prelude.{◌++◌, codes}
+use Rattle.clerk_runs.specs.ClerkLines.{refusal_text}
+use Rattle.std.proofs.lemmas.Result.{err_from_is_err_and, on_err_weaker, on_ok_weaker}
+use Rattle.session_lines.proofs.edits.push_refused.Goals as goal
+
+pub returns-in_err-push_piece-clause-err : goal.returns-in_err-push_piece-clause-err
+returns-in_err-push_piece-clause-err g c =
+    let p = err_from_is_err_and c.from_residual.result c.from_residual.ensures.1 in
+    let one = codes "refused " in
+    let two = one ++ refusal_text c.args.refusal in
+    rw (p.1)
+    (g.met.S.Sink.breaks_off_before _ _ two _
+    (g.met.S.Sink.breaks_off_before _ _ one _ c.in_err-push_piece.ensures.err))
+
+pub returns-in_err-push_refusal-clause-err : goal.returns-in_err-push_refusal-clause-err
+returns-in_err-push_refusal-clause-err g c =
+    let p = err_from_is_err_and c.from_residual-in_err-push_refusal.result
+    c.from_residual-in_err-push_refusal.ensures.1 in
+    let one = codes "refused " in
+    let two = one ++ refusal_text c.args.refusal in
+    rw (p.1)
+    (g.met.S.Sink.breaks_off_before _ _ two _
+    (g.met.S.Sink.breaks_off_later _ _ _ one _ c.in_ok-push_piece.ensures.ok c.in_err-push_refusal.ensures.err))
+
+pub returns-clause-ok : goal.returns-clause-ok
+returns-clause-ok g c =
+    let one = codes "refused " in
+    let two = one ++ refusal_text c.args.refusal in
+    let to_two = g.met.S.Sink.takes_both _ _ _ one _ c.in_ok-push_piece.ensures.ok c.in_ok-push_refusal.ensures.ok in
+    on_ok_weaker c.push_piece-2.result
+    (λ h. g.met.S.Sink.takes_both _ _ _ two _ to_two h)
+    c.push_piece-2.ensures.ok
+
+pub returns-clause-err : goal.returns-clause-err
+returns-clause-err g c =
+    let one = codes "refused " in
+    let two = one ++ refusal_text c.args.refusal in
+    let to_two = g.met.S.Sink.takes_both _ _ _ one _ c.in_ok-push_piece.ensures.ok c.in_ok-push_refusal.ensures.ok in
+    on_err_weaker c.push_piece-2.result
+    (λ h. g.met.S.Sink.breaks_off_later _ _ _ two _ to_two h)
+    c.push_piece-2.ensures.err
