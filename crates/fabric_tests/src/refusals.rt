@@ -74,28 +74,28 @@ static ALL: [Row; 3] = [
 
 /// What a call with a growth refused was answered.
 #[derive(Clone, Copy)]
-enum Told {
+enum Verdict {
     NoMemory,
     Wanted,
     Another,
 }
 
-impl Told {
+impl Verdict {
     /// An answer that is none of want of memory.
-    fn new(is_wanted: bool) -> Told {
+    fn new(is_wanted: bool) -> Verdict {
         if is_wanted {
-            Told::Wanted
+            Verdict::Wanted
         } else {
-            Told::Another
+            Verdict::Another
         }
     }
 }
 
 /// Whether a growth was refused. The answer has to be want of memory exactly then, and else the one that is wanted.
-fn refused(is_refused: bool, told: Told) -> Result<bool, Fail> {
+fn refused(is_refused: bool, told: Verdict) -> Result<bool, Fail> {
     match (is_refused, told) {
-        (true, Told::NoMemory) => Ok(true),
-        (false, Told::Wanted) => Ok(false),
+        (true, Verdict::NoMemory) => Ok(true),
+        (false, Verdict::Wanted) => Ok(false),
         _ => Err(Fail::new("another answer")),
     }
 }
@@ -116,9 +116,9 @@ fn city_of(heap: &Heap, number: u64) -> Result<(Result<City<'_, Heap>, CityFault
 fn is_city_refused(heap: &Heap, number: u64) -> Result<bool, Fail> {
     let (city, is_refused) = city_of(heap, number)?;
     let told = match &city {
-        Ok(city) => Told::new(are_at(city.ring.corners.as_slice(), &SQUARE)),
-        Err(CityFault::NoMemory) => Told::NoMemory,
-        Err(_) => Told::Another,
+        Ok(city) => Verdict::new(are_at(city.ring.corners.as_slice(), &SQUARE)),
+        Err(CityFault::NoMemory) => Verdict::NoMemory,
+        Err(_) => Verdict::Another,
     };
     if !refused(is_refused, told)? {
         return Ok(false);
@@ -211,22 +211,22 @@ fn loading<'a>(
     city: &City<'a, Heap>,
     row: &Row,
     number: u64,
-) -> Result<(Told, bool), Fail> {
+) -> Result<(Verdict, bool), Fail> {
     let rings = records(heap, row.0)?;
     heap.refuse(number);
     let layer = Layer::load(heap, city, rings);
     let is_refused = heap.is_spent();
     heap.refuse(0);
     let told = match layer {
-        Ok(layer) => Told::new(has_ids(&layer, &row.1)?),
-        Err(LoadFault::NoMemory) => Told::NoMemory,
-        Err(fault) => Told::new(is_first(fault, &row.1)),
+        Ok(layer) => Verdict::new(has_ids(&layer, &row.1)?),
+        Err(LoadFault::NoMemory) => Verdict::NoMemory,
+        Err(fault) => Verdict::new(is_first(fault, &row.1)),
     };
     Ok((told, is_refused))
 }
 
 /// Whether a growth was refused, and the call was answered as is wanted once it was made again.
-fn answered_again(first: (Told, bool), again: Told) -> Result<bool, Fail> {
+fn answered_again(first: (Verdict, bool), again: Verdict) -> Result<bool, Fail> {
     refused(false, again)?;
     refused(first.1, first.0)
 }
@@ -257,16 +257,16 @@ fn telling<'a>(
     city: &City<'a, Heap>,
     row: &Row,
     number: u64,
-) -> Result<(Told, bool), Fail> {
+) -> Result<(Verdict, bool), Fail> {
     let rings = records(heap, row.0)?;
     heap.refuse(number);
     let layer = Layer::load_or_all(heap, city, rings, Asked::All);
     let is_refused = heap.is_spent();
     heap.refuse(0);
     let told = match layer {
-        Ok(layer) => Told::new(has_ids(&layer, &row.1)?),
-        Err(refusal) if refusal.first == LoadFault::NoMemory => Told::NoMemory,
-        Err(refusal) => Told::new(are_all(&refusal, &row.1)),
+        Ok(layer) => Verdict::new(has_ids(&layer, &row.1)?),
+        Err(refusal) if refusal.first == LoadFault::NoMemory => Verdict::NoMemory,
+        Err(refusal) => Verdict::new(are_all(&refusal, &row.1)),
     };
     Ok((told, is_refused))
 }

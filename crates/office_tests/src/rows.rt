@@ -18,22 +18,22 @@ use test_builders::Place;
 use test_cities::fabric;
 
 /// What a fabric has: so many entries and parcels, of which this is the last.
-pub type Parcels = (u64, usize, u64);
+pub type Tally = (u64, usize, u64);
 
 /// The town.
-pub const WHOLE: Parcels = (0, 2, 2);
+pub const WHOLE: Tally = (0, 2, 2);
 
 /// The town with its first parcel cut in halves.
-pub const HALVED: Parcels = (3, 3, 4);
+pub const HALVED: Tally = (3, 3, 4);
 
 /// The town, into which a corner was put that is taken out.
-const STRAIGHT: Parcels = (2, 2, 2);
+const STRAIGHT: Tally = (2, 2, 2);
 
 /// The town with its parcels merged.
-const MERGED: Parcels = (1, 1, 3);
+const MERGED: Tally = (1, 1, 3);
 
 /// Whether a fabric has this.
-fn has_parcels<H: Allocator>(fabric: &Fabric<'_, H>, want: Parcels) -> bool {
+fn has_parcels<H: Allocator>(fabric: &Fabric<'_, H>, want: Tally) -> bool {
     fabric.entries() == want.0
         && fabric.ids().count() == want.1
         && fabric.ids().last() == Some(want.2)
@@ -47,7 +47,7 @@ pub fn told_of<H: Refuses + Send + Sync, R: Threads + Wait + Copy + Send + Sync>
     places: (usize, usize),
     refused: u64,
     play: Play,
-    want: Parcels,
+    want: Tally,
 ) -> Result<Told, Fail> {
     let (fabric, told) = at_office(rt, heap, town(heap)?, places, refused, play)?;
     let is_so = match &fabric {
@@ -83,7 +83,7 @@ pub fn told_of_opening<H: Refuses + Send + Sync, R: Threads + Wait + Copy + Send
 }
 
 /// Places for clerks and windows, a play there, what comes of it, and what the fabric has then.
-type Row = ((usize, usize), Play, Told, Parcels);
+type Row = ((usize, usize), Play, Told, Tally);
 
 static ROWS: [Row; 13] = [
     ((1, 1), Play::Halves, Told::Done, HALVED),
