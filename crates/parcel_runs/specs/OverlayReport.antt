@@ -63,7 +63,7 @@ IsOverlayFault run zones fault = IsCrowded run.clerks fault
     ⊎ ((length run.clerks ≤ MOST_PLACES)
     × (IsLayersFault run.city run.parcels zones run.unit fault ⊎ IsClerkFaultBehindZones run zones fault))
 
--- an allocation failed, or, where there are clerks' files, a reader for the window of their office, or a thread for one of
--- so many workers
+-- an allocation failed; or, where there are clerks' files, the window of their office was given no reader; or one of so
+-- many workers was given no thread
 abbrev pub IsOverlayWant : (files workers : ℕ) → ToolFault → Type 0
 IsOverlayWant files workers fault = IsWant files fault ⊎ ((hand : ℕ) × (hand < workers) × (fault ≡ NoThread hand))

@@ -32,6 +32,6 @@ IsRunFault run fault = IsCrowded run.clerks fault
     ⊎ ((length run.clerks ≤ MOST_PLACES)
     × (IsTilesFault run.city run.parcels run.unit fault ⊎ IsClerkFaultBehind run fault))
 
--- an allocation failed, or, where there are clerks' files, a reader for the one window of the clerks' office
+-- an allocation failed, or, where there are clerks' files, the one window of the clerks' office was given no reader
 abbrev pub IsWant : ℕ → ToolFault → Type 0
 IsWant files fault = (fault ≡ NoMemory) ⊎ ((0 < files) × (fault ≡ NoWindow 1))
