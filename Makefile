@@ -5,6 +5,7 @@ help:
 	@echo 'make demo     the overlay of the town in examples/town, built without proofs: a minute or three'
 	@echo 'make quick    the tests without proofs: some 10 to 20 minutes; not the gate'
 	@echo 'make test     the gate: every proof, mutant, test and run (.ci/run)'
+	@echo 'make mutants  tries every mutant of both tiers; goes on where it was stopped; hours from nothing'
 	@echo 'make release  the program to hand out, in dist/: static, .tar.gz, wheel and .deb, of a commit that passed the gate here'
 	@echo 'make bench    measures speed and memory (benches/all.sh)'
 
@@ -18,10 +19,13 @@ quick:
 test:
 	@.ci/run
 
+mutants:
+	@scripts/wrong_bodies --all
+
 release:
 	@scripts/release
 
 bench:
 	@benches/all.sh
 
-.PHONY: help demo quick test release bench
+.PHONY: help demo quick test mutants release bench
