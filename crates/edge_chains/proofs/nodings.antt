@@ -1,2 +1,4 @@
 pub mod NodedEdges
 pub mod NodedRings
+pub mod NodedLists
+pub mod Slices

@@ -3,5 +3,6 @@ pub mod Blocks
 pub mod Inside
 pub mod Lines
 pub mod Sides
+pub mod Slices
 pub mod Steps
 pub mod Tree

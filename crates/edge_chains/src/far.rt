@@ -1,6 +1,6 @@
 //! The search for corners inside an edge whose neighbours are no help.
-ghost use Rattle.std.specs.Prelude.{◌≡◌, ◌↔◌, List, IfOk, IfSome, false};
-ghost use Rattle.std.specs.List.{filter, Contains};
+ghost use Rattle.std.specs.Prelude.{◌≡◌, List, IfOk, IfSome, false};
+ghost use Rattle.std.specs.List.{filter};
 ghost use Rattle.geo_exact.specs.Bounds.{holds_corner};
 ghost use Rattle.geo_exact.specs.Order.{is_before};
 ghost use Rattle.edge_chains.specs.own.Steps.{AreInside, AreSteps};
@@ -44,38 +44,38 @@ const QUICK: usize = 256;
 /// are put in order across it, once, and each further edge in that direction is looked up among
 /// those on its line. Where many other edges are slow, a second tree is made, whose boxes lean with what they hold.
 #[derive(Drop)]
-pub(crate) struct Far<A: Allocator> {
-    blocks: Blocks<A>,
+pub(crate) struct Far<'b, A: Allocator> {
+    blocks: &'b Blocks<A>,
     points: Option<Points<A>>,
     directions: Directions<A>,
     tree: Option<Tree<A>>,
     cost: usize,
 }
 
-impl<A: Allocator> Model for Far<A> {
+impl<'b, A: Allocator> Model for Far<'b, A> {
     ghost use Rattle.std.specs.Prelude.{List};
     ghost use Rattle.geo_exact.specs.declared.corner.Corner.{Corner};
     ghost use Rattle.edge_chains.specs.own.Lines.{HaveAll};
 
     ghost Value = { List Corner };
 
-    ghost view = { λ far. far.blocks };
+    ghost view = { λ far. far.blocks.now };
 
-    ghost invariant = { λ far. HaveAll far.blocks far.points far.directions far.tree };
+    ghost invariant = { λ far. HaveAll far.blocks.now far.points far.directions far.tree };
 }
 
-impl<A: Allocator + Copy> Far<A> {
-    /// A search among these corners.
-    pub fn new(alloc: A, corners: &[Corner]) -> Result<Far<A>, AllocError>
-        ensures { IfOk result (λ far. (c : Corner) → Contains far c ↔ Contains corners.now c) }
+impl<'b, A: Allocator + Copy> Far<'b, A> {
+    /// A search among the corners of these blocks, which others may search at the same time.
+    pub fn new(blocks: &'b Blocks<A>) -> Far<'b, A>
+        ensures { result ≡ blocks.now }
     {
-        Ok(Far {
-            blocks: Blocks::new(alloc, corners)?,
+        Far {
+            blocks,
             points: None,
-            directions: Directions::new(alloc),
+            directions: Directions::new(blocks.alloc()),
             tree: None,
             cost: 0,
-        })
+        }
     }
 
     /// Those of the corners that are in a box, in the order of the list; `None` where they are more than `most`, or

@@ -18,4 +18,4 @@ mod tree;
 
 pub use edge_sum::EdgeSum;
 pub use laws::{an_unbalanced_edge_is_a_jump, equal_nets_cover_alike, noding_changes_no_ground};
-pub use noding::node;
+pub use noding::{node, node_by};

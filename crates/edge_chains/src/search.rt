@@ -1,11 +1,11 @@
 //! Which of many corners lie strictly inside an edge.
 
-ghost use Rattle.std.specs.Prelude.{◌≡◌, ◌↔◌, List, IfOk};
-ghost use Rattle.std.specs.List.{filter, Contains};
+ghost use Rattle.std.specs.Prelude.{◌≡◌, List, IfOk};
+ghost use Rattle.std.specs.List.{filter};
 ghost use Rattle.edge_chains.specs.own.Steps.{AreInside};
 ghost use Rattle.geo_exact.specs.Bounds.{holds_corner};
 
-use crate::blocks::inside_of;
+use crate::blocks::{Blocks, inside_of};
 use crate::edge_tests::covers;
 use crate::far::Far;
 use geo_exact::{Bounds, Corner};
@@ -33,15 +33,15 @@ const MOST_REST: usize = 31;
 /// they are few, and an edge in that box is searched among them alone. Where box after box has too many corners, or too
 /// many blocks lie beside it, some edges go by, more each time, before the next is tried.
 #[derive(Drop)]
-pub(crate) struct Search<A: Allocator> {
-    far: Far<A>,
+pub(crate) struct Search<'b, A: Allocator> {
+    far: Far<'b, A>,
     bounds: Bounds,
     near: Vec<Corner, A>,
     rest: usize,
     left: usize,
 }
 
-impl<A: Allocator> Model for Search<A> {
+impl<'b, A: Allocator> Model for Search<'b, A> {
     ghost use Rattle.std.specs.Prelude.{◌≡◌, List};
     ghost use Rattle.std.specs.List.{filter};
     ghost use Rattle.geo_exact.specs.declared.corner.Corner.{Corner};
@@ -54,18 +54,18 @@ impl<A: Allocator> Model for Search<A> {
     ghost invariant = { λ search. search.near.items ≡ filter (λ c. holds_corner search.bounds c) search.far };
 }
 
-impl<A: Allocator + Copy> Search<A> {
-    /// A search among these corners.
-    pub fn new(alloc: A, corners: &[Corner]) -> Result<Search<A>, AllocError>
-        ensures { IfOk result (λ search. (c : Corner) → Contains search c ↔ Contains corners.now c) }
+impl<'b, A: Allocator + Copy> Search<'b, A> {
+    /// A search among the corners of these blocks, which others may search at the same time.
+    pub fn new(blocks: &'b Blocks<A>) -> Search<'b, A>
+        ensures { result ≡ blocks.now }
     {
-        Ok(Search {
-            far: Far::new(alloc, corners)?,
+        Search {
+            far: Far::new(blocks),
             bounds: Bounds::nowhere(),
-            near: Vec::new(alloc),
+            near: Vec::new(blocks.alloc()),
             rest: 0,
             left: 0,
-        })
+        }
     }
 
     /// Those of the corners that lie strictly inside the edge between two corners, in any order.

@@ -11,3 +11,4 @@ pub mod ToldRings
 pub mod ToldGaps
 pub mod LoadRefusals
 pub mod Clipped
+pub mod Shared

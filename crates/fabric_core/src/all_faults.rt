@@ -6,17 +6,19 @@ ghost use Rattle.geo_exact.specs.Bounds.{IsLeastBox};
 ghost use Rattle.fabric_core.specs.Tiling.{IsTiling};
 ghost use Rattle.fabric_core.specs.GridIndex.{IsIndexed};
 ghost use Rattle.fabric_core.specs.Faults.{IsOutOfMemory};
-ghost use Rattle.fabric_core.specs.own.Checks.{HaveNoFault, IsRefinedCity, IsTold};
-ghost use Rattle.fabric_core.specs.own.Lists.{numbered_rows};
+ghost use Rattle.fabric_core.specs.own.Checks.{HaveNoFault, IsChecked, IsRefinedCity, IsTold};
+ghost use Rattle.fabric_core.specs.own.Lists.{numbered_rows, corners_of_rings};
 
+use crate::clipped::{clip_each, clip_shared};
 use crate::gaps::check_nets;
 use crate::layer::{Layer, LoadFault, layer_of};
 use crate::limits::first_too_many;
 use crate::refine::Refined;
 use crate::rings::checked;
-use geo_exact::{Bounds, Corner};
-use ring_core::RingFault;
+use geo_exact::{Bounds, Corner, Corners};
+use ring_core::{Ring, RingFault};
 use std::alloc::{AllocError, AllocFailed, Allocator};
+use std::thread::Threads;
 
 /// What is asked of rings that are no layer of a city.
 #[derive(Clone, Copy, Debug, PartialEq, Eq)]
@@ -79,6 +81,53 @@ impl<T: Drop, A: Allocator> From<AllocFailed<T>> for LoadRefusal<A> {
     }
 }
 
+/// Rings that have no fault, in a city that is refined.
+#[derive(Drop)]
+struct Faultless<A: Allocator> {
+    numbers: Vec<u32, A>,
+    rings: Vec<Ring<A>, A>,
+    city: Corners<A>,
+    refined: Corners<A>,
+}
+
+/// Refuses rings, noded and begun at their least corners, that have a fault, in a city that is refined.
+fn without_fault<A: Allocator + Copy>(
+    alloc: A,
+    refined: Refined<A>,
+    asked: Asked,
+) -> Result<Faultless<A>, LoadRefusal<A>>
+    requires numbered { length refined.numbers.items ≡ length refined.rings.items }
+    requires rising { IsStrictlyIncreasing refined.numbers.items }
+    requires city { IsRefinedCity refined.city refined.refined }
+    ensures checked { IfOk result (λ found.
+        IsChecked found.numbers.items (corners_of_rings found.rings.items) found.city found.refined) }
+    ensures numbers { IfOk result (λ found. found.numbers.items ≡ refined.numbers.items) }
+    ensures rings { IfOk result (λ found. corners_of_rings found.rings.items ≡ refined.rings.items) }
+    ensures city { IfOk result (λ found. found.city ≡ refined.city) }
+    ensures refined { IfOk result (λ found. found.refined ≡ refined.refined) }
+    ensures faults { IfErr result (λ refusal.
+        IsTold asked (numbered_rows refined.numbers.items refined.rings.items) refined.refined refusal
+        ⊎ IsOutOfMemory refusal) }
+{
+    let Refined {
+        numbers,
+        rings,
+        city,
+        refined,
+    } = refined;
+    if let Some(record) = first_too_many(&numbers, &rings) {
+        return Err(LoadRefusal::from(LoadFault::TooMany(record)));
+    }
+    let rings = checked(alloc, &numbers, rings, asked)?;
+    check_nets(alloc, &rings, refined.as_slice(), asked)?;
+    Ok(Faultless {
+        numbers,
+        rings,
+        city,
+        refined,
+    })
+}
+
 /// The layer of rings that are noded and begun at their least corners, in a city that is refined.
 pub(crate) fn load_refined<'a, H: Allocator>(
     heap: &'a H,
@@ -100,16 +149,49 @@ pub(crate) fn load_refined<'a, H: Allocator>(
         IsTold asked (numbered_rows refined.entry.numbers.items refined.entry.rings.items) refined.entry.refined refusal
         ⊎ IsOutOfMemory refusal) }
 {
-    let Refined {
+    let found = without_fault(heap, refined, asked)?;
+    let Faultless {
         numbers,
         rings,
         city,
         refined,
-    } = refined;
-    if let Some(record) = first_too_many(&numbers, &rings) {
-        return Err(LoadRefusal::from(LoadFault::TooMany(record)));
-    }
-    let rings = checked(heap, &numbers, rings, asked)?;
-    check_nets(heap, &rings, refined.as_slice(), asked)?;
-    Ok(layer_of(heap, area, &numbers, rings, city, refined)?)
+    } = found;
+    let shapes = clip_each(heap, rings)?;
+    let layer = layer_of(heap, area, &numbers, shapes, city, refined)?;
+    Ok(layer)
+}
+
+/// The same, by so many threads at the most.
+pub(crate) fn load_refined_by<'a, H: Allocator + Send + Sync, R: Threads + Sync>(
+    rt: &R,
+    workers: usize,
+    heap: &'a H,
+    area: Bounds,
+    refined: Refined<&'a H>,
+    asked: Asked,
+) -> Result<Layer<'a, H>, LoadRefusal<&'a H>>
+    requires numbered { length refined.numbers.items ≡ length refined.rings.items }
+    requires rising { IsStrictlyIncreasing refined.numbers.items }
+    requires city { IsRefinedCity refined.city refined.refined }
+    requires area { IsLeastBox area refined.city }
+    ensures rows { IfOk result (λ layer. layer.rows ≡ numbered_rows refined.entry.numbers.items refined.entry.rings.items) }
+    ensures city { IfOk result (λ layer. layer.city ≡ refined.entry.city) }
+    ensures refined { IfOk result (λ layer. layer.refined ≡ refined.entry.refined) }
+    ensures no_fault { IfOk result (λ layer. HaveNoFault layer.rows layer.refined) }
+    ensures tiling { IfOk result (λ layer. IsTiling layer.rows layer.city) }
+    ensures indexed { IfOk result (λ layer. IsIndexed layer.rows layer.city layer.index) }
+    ensures faults { IfErr result (λ refusal.
+        IsTold asked (numbered_rows refined.entry.numbers.items refined.entry.rings.items) refined.entry.refined refusal
+        ⊎ IsOutOfMemory refusal) }
+{
+    let found = without_fault(heap, refined, asked)?;
+    let Faultless {
+        numbers,
+        rings,
+        city,
+        refined,
+    } = found;
+    let shapes = clip_shared(rt, heap, workers, rings)?;
+    let layer = layer_of(heap, area, &numbers, shapes, city, refined)?;
+    Ok(layer)
 }

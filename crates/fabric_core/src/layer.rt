@@ -20,18 +20,19 @@ ghost use Rattle.fabric_core.specs.Locate.{IsLocatedAt};
 ghost use Rattle.fabric_core.specs.Faults.{AreSimple, IsLoadFault, IsLoadRefusal, IsOutOfMemory};
 ghost use Rattle.fabric_core.specs.own.Checks.{HaveNoFault, IsChecked};
 ghost use Rattle.fabric_core.specs.own.Kept.{IsFresh, IsShownBy};
-ghost use Rattle.fabric_core.specs.own.Lists.{numbered_rows, corners_of_rings};
+ghost use Rattle.fabric_core.specs.own.Lists.{numbered_rows, corners_of_shapes};
 
-use crate::all_faults::{Asked, LoadRefusal, load_refined};
+use crate::all_faults::{Asked, LoadRefusal, load_refined, load_refined_by};
 use crate::city::City;
 use crate::locate::At;
-use crate::refine::refine;
+use crate::refine::{refine, refine_by};
 use crate::tiled::Tiled;
 use geo_exact::{Bounds, Corner, Corners, RawRing};
 use parcel_table::{Ids, Shapes};
 use ring_core::{Ring, RingFault, Shape};
 use std::alloc::{AllocError, AllocFailed, Allocator};
 use std::marker::Model;
+use std::thread::Threads;
 
 /// Why rings are no layer of a city: the first that applies, in this order.
 #[derive(Clone, Copy, Debug, PartialEq, Eq)]
@@ -302,25 +303,105 @@ impl<'a, H: Allocator> Layer<'a, H> {
     }
 }
 
-/// The layer of rings that have no fault, in a city that is refined.
+impl<'a, H: Allocator + Send + Sync> Layer<'a, H> {
+    /// As [`load`](Layer::load), by so many threads at the most. For each number of them, and however they take turns,
+    /// what comes out is the same: the layer, or its first fault. What the system refuses a thread is done in this one.
+    ///
+    /// # Errors
+    ///
+    /// As `load`: [`LoadFault::TooMany`] (H3), [`LoadFault::Ring`] (H1), [`LoadFault::Gap`] (H2); and
+    /// [`LoadFault::NoMemory`] where an allocation is refused.
+    ///
+    /// ```
+    /// let layer = Layer::load_by(rt, 4, heap, &city, records)?;
+    /// ```
+    pub fn load_by<R: Threads + Sync>(
+        rt: &R,
+        workers: usize,
+        heap: &'a H,
+        city: &City<'a, H>,
+        records: Vec<RawRing<&'a H>, &'a H>,
+    ) -> Result<Layer<'a, H>, LoadFault>
+        requires numbers { NumbersRise 0 LAYER_RECORDS (rings_of records.items) }
+        requires corners { corner_count (rings_of records.items) ≤ LAYER_CORNERS }
+        // The rows are all records' rings, noded for all corners, under the record numbers.
+        ensures rows { IfOk result (λ layer. AreRefined (rings_of records.entry.items) city.now.ring.corners layer.rows layer.refined) }
+        ensures city { IfOk result (λ layer. layer.city ≡ city.now.ring.corners) }
+        ensures tiling { IfOk result (λ layer. IsTiling layer.rows city.now.ring.corners) }
+        ensures indexed { IfOk result (λ layer. IsIndexed layer.rows city.now.ring.corners layer.index) }
+        // A fault that is answered is the first of the layer, and a layer with a first fault is refused
+        // by it, unless memory runs out.
+        ensures fault { IfErr result (λ fault. IsLoadFault (rings_of records.entry.items) city.now.ring.corners fault
+            ⊎ (fault ≡ NoMemory)) }
+        ensures refuses { (fault : LoadFault) → IsLoadFault (rings_of records.entry.items) city.now.ring.corners fault
+            → IsErrAnd result (λ e. (e ≡ fault) ⊎ (e ≡ NoMemory)) }
+        // No tiling is refused: simple rings within the limits that tile the city are loaded, unless memory runs out.
+        ensures loads { (rows : List NumberedRing) (refined : List Corner)
+            → AreRefined (rings_of records.entry.items) city.now.ring.corners rows refined
+            → AreWithinLimits rows → AreSimple rows → IsTiling rows city.now.ring.corners
+            → MatchResult result (λ layer. layer.rows ≡ rows) (λ e. e ≡ NoMemory) }
+        // Beside an edge that is told as a gap, the rows do not go round each place as often as the city.
+        ensures gap { (rows : List NumberedRing) (refined : List Corner) (a b : Corner) (net : ℤ)
+            → AreRefined (rings_of records.entry.items) city.now.ring.corners rows refined
+            → IsErrOf result (Gap a b net) → IsUntiledBeside rows city.now.ring.corners refined a b }
+    {
+        match Layer::load_or_all_by(rt, workers, heap, city, records, Asked::First) {
+            Ok(layer) => Ok(layer),
+            Err(refusal) => Err(refusal.first),
+        }
+    }
+
+    /// As [`load_or_all`](Layer::load_or_all), by so many threads at the most, as in [`load_by`](Layer::load_by).
+    ///
+    /// # Errors
+    ///
+    /// As `load_or_all`.
+    pub fn load_or_all_by<R: Threads + Sync>(
+        rt: &R,
+        workers: usize,
+        heap: &'a H,
+        city: &City<'a, H>,
+        records: Vec<RawRing<&'a H>, &'a H>,
+        asked: Asked,
+    ) -> Result<Layer<'a, H>, LoadRefusal<&'a H>>
+        requires numbers { NumbersRise 0 LAYER_RECORDS (rings_of records.items) }
+        requires corners { corner_count (rings_of records.items) ≤ LAYER_CORNERS }
+        ensures rows { IfOk result (λ layer. AreRefined (rings_of records.entry.items) city.now.ring.corners layer.rows layer.refined) }
+        ensures city { IfOk result (λ layer. layer.city ≡ city.now.ring.corners) }
+        ensures tiling { IfOk result (λ layer. IsTiling layer.rows city.now.ring.corners) }
+        ensures indexed { IfOk result (λ layer. IsIndexed layer.rows city.now.ring.corners layer.index) }
+        // The fault that is answered is the first of the layer, beside it all of its kind are answered
+        // where they are asked for, and a layer with a first fault is refused by it, unless memory runs
+        // out.
+        ensures faults { IfErr result (λ refusal. IsLoadRefusal asked (rings_of records.entry.items) city.now.ring.corners refusal
+            ⊎ IsOutOfMemory refusal) }
+        ensures refuses { (fault : LoadFault) → IsLoadFault (rings_of records.entry.items) city.now.ring.corners fault
+            → IsErrAnd result (λ refusal. (refusal.first ≡ fault) ⊎ (refusal.first ≡ NoMemory)) }
+    {
+        let refined = refine_by(rt, workers, heap, &city.ring.corners, records)?;
+        load_refined_by(rt, workers, heap, city.bounds, refined, asked)
+    }
+}
+
+/// The layer of shapes whose rings have no fault, in a city that is refined.
 pub(crate) fn layer_of<'a, H: Allocator>(
     heap: &'a H,
     area: Bounds,
     numbers: &[u32],
-    rings: Vec<Ring<&'a H>, &'a H>,
+    shapes: Vec<Shape<&'a H>, &'a H>,
     city: Corners<&'a H>,
     refined: Corners<&'a H>,
 ) -> Result<Layer<'a, H>, AllocError>
-    requires checked { IsChecked numbers.now (corners_of_rings rings.items) city refined }
+    requires checked { IsChecked numbers.now (corners_of_shapes shapes.items) city refined }
     requires area { IsLeastBox area city }
-    ensures rows { IfOk result (λ layer. layer.rows ≡ numbered_rows numbers.now (corners_of_rings rings.entry.items)) }
+    ensures rows { IfOk result (λ layer. layer.rows ≡ numbered_rows numbers.now (corners_of_shapes shapes.entry.items)) }
     ensures city { IfOk result (λ layer. layer.city ≡ city.entry) }
     ensures refined { IfOk result (λ layer. layer.refined ≡ refined.entry) }
     ensures no_fault { IfOk result (λ layer. HaveNoFault layer.rows layer.refined) }
     ensures tiling { IfOk result (λ layer. IsTiling layer.rows layer.city) }
     ensures indexed { IfOk result (λ layer. IsIndexed layer.rows layer.city layer.index) }
 {
-    let tiled = Tiled::new(heap, area, numbers, rings, city, refined)?;
+    let tiled = Tiled::new(heap, area, numbers, shapes, city, refined)?;
     tiled.use_invariant();
     Ok(Layer { tiled })
 }

@@ -7,6 +7,7 @@ mod candidates;
 mod carry_out;
 mod change;
 mod city;
+mod clipped;
 mod draft;
 mod edges;
 mod fabric;

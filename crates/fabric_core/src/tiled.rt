@@ -21,14 +21,14 @@ ghost use Rattle.fabric_core.specs.own.Balanced.{IsBalanced};
 ghost use Rattle.fabric_core.specs.own.Changes.{state_of};
 ghost use Rattle.fabric_core.specs.own.Kept.{gone_by, IsExchanged, IsFresh, MayBeKept};
 ghost use Rattle.fabric_core.specs.own.RingChanges.{AreShapesOf, HasTwoEnds, KeepsGround, changed_city, changed_row, rows_changed};
-ghost use Rattle.fabric_core.specs.own.Lists.{numbered_rows, corners_of_rings, IsEntryAt, replaced};
+ghost use Rattle.fabric_core.specs.own.Lists.{numbered_rows, corners_of_rings, corners_of_shapes, IsEntryAt, replaced};
 ghost use Rattle.parcel_table.specs.Table.{HasId, entries_of};
 ghost use Rattle.cell_index.specs.Cells.{Indexes};
 ghost use Rattle.scaled_rings.specs.Tenfold.{AreTenTimes, IsLeastFarOf, IsNear};
 ghost use Rattle.fabric_core.specs.Tenfold.{IsTenfoldState, corners_of_state};
 
 use crate::candidates::{ids_under, sort_once};
-use crate::grid_index::clip_all;
+use crate::grid_index::enter_all;
 use crate::hints::Hints;
 use crate::locate::{At, on_edge_or_outside, search};
 use crate::ring_change::RingChange;
@@ -83,24 +83,24 @@ impl<'a, H: Allocator> Model for Tiled<'a, H> {
 }
 
 impl<'a, H: Allocator> Tiled<'a, H> {
-    /// The parcels of rings that have no fault, in a city that is refined.
+    /// The parcels of shapes whose rings have no fault, in a city that is refined.
     pub(crate) fn new(
         heap: &'a H,
         area: Bounds,
         numbers: &[u32],
-        rings: Vec<Ring<&'a H>, &'a H>,
+        shapes: Vec<Shape<&'a H>, &'a H>,
         city: Corners<&'a H>,
         refined: Corners<&'a H>,
     ) -> Result<Tiled<'a, H>, AllocError>
-        requires checked { IsChecked numbers.now (corners_of_rings rings.items) city refined }
+        requires checked { IsChecked numbers.now (corners_of_shapes shapes.items) city refined }
         requires area { IsLeastBox area city }
-        ensures rows { IfOk result (λ tiled. tiled.rows ≡ numbered_rows numbers.now (corners_of_rings rings.entry.items)) }
+        ensures rows { IfOk result (λ tiled. tiled.rows ≡ numbered_rows numbers.now (corners_of_shapes shapes.entry.items)) }
         ensures city { IfOk result (λ tiled. tiled.city ≡ city.entry) }
         ensures refined { IfOk result (λ tiled. tiled.refined ≡ refined.entry) }
         ensures no_fault { IfOk result (λ tiled. HaveNoFault tiled.rows tiled.refined) }
         ensures fresh { IfOk result (λ tiled. IsFresh tiled) }
     {
-        let (parcels, index) = clip_all(heap, area, numbers, rings)?;
+        let (parcels, index) = enter_all(heap, area, numbers, shapes)?;
         let hints = Hints::from_parcels(heap, area, &parcels)?;
         Ok(Tiled {
             city,

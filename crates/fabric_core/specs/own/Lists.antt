@@ -23,6 +23,14 @@ numbered_rows (number ∷ rest) (ring ∷ rings) = numbered number ring ∷ numb
 abbrev pub corners_of_rings : {A : Type 0} → List (Ring A) → List (List Corner)
 corners_of_rings rings = map (λ ring. ring.corners) rings
 
+-- each shape is that of the ring at its place
+abbrev pub AreShapesOfRings : {A : Type 0} → List (Ring A) → List (Shape A) → Type 0
+AreShapesOfRings rings shapes = AllZip (λ ring shape. shape.ring.corners ≡ ring.corners) rings shapes
+
+-- the corners of shapes' rings
+abbrev pub corners_of_shapes : {A : Type 0} → List (Shape A) → List (List Corner)
+corners_of_shapes shapes = map (λ shape. shape.ring.corners) shapes
+
 -- the rings are the records', noded for all corners of the layer and begun at their least corners, and their numbers stand beside them
 pub record AreNodedRings (records : List NumberedRing) (city : List Corner) (ids : List ℕ)
     (rings : List (List Corner)) (refined : List Corner) : Type 0 where

@@ -5,6 +5,6 @@ use Rattle.edge_chains.proofs.noding.node_all.Given as goal
 
 abbrev pub invariant-loop-ring : goal.invariant-loop-ring
 invariant-loop-ring g l = record {
-  same : l.search ≡ l.fn.search;
-  so_far : AllZip (λ ring out. IsNoded ring l.fn.search out) (take l.ring-index l.rings) l.noded.items;
+  same : l.search ≡ l.blocks;
+  so_far : AllZip (λ ring out. IsNoded ring l.blocks out) (take l.ring-index l.rings) l.noded.items;
 }

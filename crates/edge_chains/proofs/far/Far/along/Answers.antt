@@ -13,7 +13,7 @@ pub returns-in-Some-clause-found : goal.returns-in-Some-clause-found
 returns-in-Some-clause-found g c =
     let lines = c.in-Some.lines.now in
     let same = All-contains (λ (ranks : Ranks). (x : Corner) → Contains ranks.corners x
-    ↔ Contains c.self.inside.blocks x) c.self.inside.directions lines
+    ↔ Contains c.self.inside.blocks.now x) c.self.inside.directions lines
     c.self.invariant.directions_have c.in-Some.ensures.0 in
     IfOk-weaker c.inside.result _ _
     (λ found h. inside_alike lines.corners c.args.self.now (λ x. subst (λ xs. Contains lines.corners x
@@ -27,8 +27,8 @@ returns-in-Some-2-clause-found g c =
     let b = c.args.b in
     let found = c.in-Some-2.found in
     let is = subst (λ seen. IfSome seen (λ found. found.items
-    ≡ filter (λ x. is_strictly_inside x a b) c.self.inside.blocks)) c.in-Some-2.is c.in_ok-found.ensures in
-    subst (λ xs. AreInside xs a b found.items) c.self.view_is (inside_from_filter c.self.inside.blocks found.items a b is)
+    ≡ filter (λ x. is_strictly_inside x a b) c.self.inside.blocks.now)) c.in-Some-2.is c.in_ok-found.ensures in
+    subst (λ xs. AreInside xs a b found.items) c.self.view_is (inside_from_filter c.self.inside.blocks.now found.items a b is)
 
 pub returns-then-not-branch-clause-found : goal.returns-then-not-branch-clause-found
 returns-then-not-branch-clause-found g c =
@@ -41,9 +41,9 @@ invariant_of-self-2 g c =
     record {
       points_have = c.self.invariant.points_have;
       tree_has = c.self.invariant.tree_has;
-      directions_have = subst (All (λ (ranks : Ranks). (x : Corner) → Contains ranks.corners x ↔ Contains c.self.inside.blocks x))
+      directions_have = subst (All (λ (ranks : Ranks). (x : Corner) → Contains ranks.corners x ↔ Contains c.self.inside.blocks.now x))
           (sym (c.in_ok-keep.ensures.kept ∙ ap (λ ds. ds ++ lines ∷ []) c.in_ok-count.ensures))
-          (All-push (λ (ranks : Ranks). (x : Corner) → Contains ranks.corners x ↔ Contains c.self.inside.blocks x)
+          (All-push (λ (ranks : Ranks). (x : Corner) → Contains ranks.corners x ↔ Contains c.self.inside.blocks.now x)
           c.self.inside.directions lines
           c.self.invariant.directions_have
           (λ x. subst (λ xs. Contains lines.corners x ↔ Contains xs x) c.corners.ensures (c.in_ok-lines.ensures.corners x)));

@@ -12,8 +12,8 @@ returns-in-Some g c =
     let b = c.args.b in
     let found = c.in-Some.found in
     let is = subst (λ seen. IfSome seen (λ found. found.items
-    ≡ filter (λ x. is_strictly_inside x a b) c.self.inside.blocks)) c.in-Some.is c.in_ok-found.ensures in
-    subst (λ xs. AreInside xs a b found.items) c.self.view_is (inside_from_filter c.self.inside.blocks found.items a b is)
+    ≡ filter (λ x. is_strictly_inside x a b) c.self.inside.blocks.now)) c.in-Some.is c.in_ok-found.ensures in
+    subst (λ xs. AreInside xs a b found.items) c.self.view_is (inside_from_filter c.self.inside.blocks.now found.items a b is)
 
 pub returns-in-None : goal.returns-in-None
 returns-in-None g c =

@@ -8,7 +8,7 @@ use Rattle.edge_chains.proofs.far.Far.on_steps.Goals as goal
 pub returns-in-Some-clause-found : goal.returns-in-Some-clause-found
 returns-in-Some-clause-found g c =
     let points = c.in-Some.points in
-    let same = subst (λ kept. IfSome kept (λ points. (x : Corner) → Contains points x ↔ Contains c.self.inside.blocks x)) c.in-Some.is
+    let same = subst (λ kept. IfSome kept (λ points. (x : Corner) → Contains points x ↔ Contains c.self.inside.blocks.now x)) c.in-Some.is
     c.self.invariant.points_have in
     IfOk-weaker c.inside.result _ _
     (λ found h. inside_alike points c.args.self.now (λ x. subst (λ xs. Contains points x ↔ Contains xs x) c.self.view_is (same x))

@@ -9,7 +9,7 @@ use Rattle.edge_chains.proofs.far.Far.slowly.Goals as goal
 pub returns-in-Some-clause-found : goal.returns-in-Some-clause-found
 returns-in-Some-clause-found g c =
     let tree = c.in-Some.tree in
-    let same = subst (λ kept. IfSome kept (λ tree. (x : Corner) → Contains tree x ↔ Contains c.self.inside.blocks x)) c.in-Some.is
+    let same = subst (λ kept. IfSome kept (λ tree. (x : Corner) → Contains tree x ↔ Contains c.self.inside.blocks.now x)) c.in-Some.is
     c.self.invariant.tree_has in
     IfOk-weaker c.inside.result _ _
     (λ found h. inside_alike tree c.args.self.now (λ x. subst (λ xs. Contains tree x ↔ Contains xs x) c.self.view_is (same x))
