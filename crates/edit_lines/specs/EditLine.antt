@@ -4,16 +4,12 @@ use Rattle.std.specs.List.{flat_map, enumerate_from}
 use Rattle.geo_exact.specs.declared.corner.Corner.{Corner}
 use Rattle.ring_edits.specs.declared.edit.Edit.{Edit}
 use Rattle.ring_edits.specs.declared.edit.Edit.TheVariants.{Split, Merge, Move, Insert, Straighten}
-use Rattle.text_pieces.specs.CornerText.{corner_text}
+use Rattle.text_pieces.specs.CornerText.{next_corner_text}
 use Rattle.line_files.specs.declared.text_numbers.TheConstants.{MOST_DIGITS}
-
--- ` X Y`, a corner behind a space
-abbrev pub place_text : Corner → List ℕ
-place_text corner = codes " " ++ corner_text corner
 
 -- ` X Y X Y ..`
 abbrev pub places_text : List Corner → List ℕ
-places_text corners = flat_map place_text corners
+places_text corners = flat_map next_corner_text corners
 
 -- `split ID X Y X Y ..`, `merge ID ID`, `move ID ID X Y X Y ..`, `insert X Y X Y X Y`, `straighten X Y`
 abbrev pub edit_text : {A : Type 0} → Edit A → List ℕ

@@ -1,12 +1,11 @@
 //! The line of an edit.
 
 ghost use Rattle.std.specs.Prelude.{◌≡◌, ◌++◌, OnOk};
-ghost use Rattle.edit_lines.specs.EditLine.{places_text, edit_text, edit_line};
+ghost use Rattle.edit_lines.specs.EditLine.{edit_text, edit_line};
 
-use geo_exact::Corner;
 use ring_edits::Edit;
 use std::alloc::{AllocError, Allocator};
-use text_pieces::{push_corner, push_number};
+use text_pieces::{Piece, push_pieces};
 
 /// Adds the line of an edit, as a clerk's file in whole millimetres has it, with its line feed:
 ///
@@ -46,43 +45,40 @@ fn push_edit<A: Allocator, B: Allocator>(
     ensures { OnOk result (text.new.items ≡ text.old.items ++ edit_text edit.now) }
 {
     match edit {
-        Edit::Split { id, path } => {
-            text.extend_from_slice(b"split ")?;
-            push_number(text, *id)?;
-            push_places(text, path.as_slice())?;
-        }
-        Edit::Merge { a, b } => {
-            text.extend_from_slice(b"merge ")?;
-            push_number(text, *a)?;
-            text.push(b' ')?;
-            push_number(text, *b)?;
-        }
-        Edit::Move { a, b, path } => {
-            text.extend_from_slice(b"move ")?;
-            push_number(text, *a)?;
-            text.push(b' ')?;
-            push_number(text, *b)?;
-            push_places(text, path.as_slice())?;
-        }
-        Edit::Insert { from, to, at } => {
-            text.extend_from_slice(b"insert")?;
-            push_places(text, &[*from, *to, *at])?;
-        }
-        Edit::Straighten { at } => {
-            text.extend_from_slice(b"straighten")?;
-            push_places(text, &[*at])?;
-        }
+        Edit::Split { id, path } => push_pieces(
+            text,
+            &[
+                Piece::Text("split "),
+                Piece::Number(*id),
+                Piece::Corners(path.as_slice()),
+            ],
+        ),
+        Edit::Merge { a, b } => push_pieces(
+            text,
+            &[
+                Piece::Text("merge "),
+                Piece::Number(*a),
+                Piece::Text(" "),
+                Piece::Number(*b),
+            ],
+        ),
+        Edit::Move { a, b, path } => push_pieces(
+            text,
+            &[
+                Piece::Text("move "),
+                Piece::Number(*a),
+                Piece::Text(" "),
+                Piece::Number(*b),
+                Piece::Corners(path.as_slice()),
+            ],
+        ),
+        Edit::Insert { from, to, at } => push_pieces(
+            text,
+            &[Piece::Text("insert"), Piece::Corners(&[*from, *to, *at])],
+        ),
+        Edit::Straighten { at } => push_pieces(
+            text,
+            &[Piece::Text("straighten"), Piece::Corners(&[*at])],
+        ),
     }
-    Ok(())
-}
-
-/// Adds corners, each behind a space.
-fn push_places<A: Allocator>(text: &mut Vec<u8, A>, corners: &[Corner]) -> Result<(), AllocError>
-    ensures { OnOk result (text.new.items ≡ text.old.items ++ places_text corners.now) }
-{
-    for corner in corners {
-        text.push(b' ')?;
-        push_corner(text, *corner)?;
-    }
-    Ok(())
 }

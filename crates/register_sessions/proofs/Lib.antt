@@ -1,2 +1,1 @@
-pub mod Replayed
 pub mod Hands

@@ -1,9 +1,11 @@
 //! What is answered to the lines that any desk may be asked.
 
+use crate::journal_file::Synchroniser;
 use crate::lines::Came;
 use crate::room::{EditFault, Room};
 use desk_lock::{Card, LocateFault, Naming, Window};
 use geo_exact::{Corner, LIST_CORNERS};
+use journal_records::split_word;
 use ring_edits::Edit;
 use session_lines::{
     Line, SessionFault, push_accepted, push_entries, push_error, push_located, push_no_parcel,
@@ -20,8 +22,8 @@ pub(crate) struct Chair<'h, H: Allocator, J: Naming<H>> {
 }
 
 /// Adds the answer to what came at a desk that is not the operator's.
-pub(crate) fn answer<'h, H: Allocator, J: Naming<H>, R: Wait>(
-    room: &Room<'_, 'h, H, J, R>,
+pub(crate) fn answer<'h, H: Allocator, J: Naming<H>, R: Wait, K: Synchroniser>(
+    room: &Room<'_, 'h, H, J, R, K>,
     chair: &mut Chair<'h, H, J>,
     came: Came,
     line: &[u8],
@@ -33,34 +35,70 @@ pub(crate) fn answer<'h, H: Allocator, J: Naming<H>, R: Wait>(
     }
 }
 
+/// What a line asks for, and the client's own word for who asks and why; it is empty where there is none.
+#[derive(Drop)]
+pub(crate) struct Asked<'l, A: Allocator> {
+    pub(crate) who: &'l [u8],
+    pub(crate) line: Line<'l, A>,
+}
+
 /// What a line that came asks for, or why it asks for nothing.
 pub(crate) fn read_asked<'l, A: Allocator + Copy>(
     alloc: A,
     came: Came,
     line: &'l [u8],
-) -> Result<Line<'l, A>, SessionFault> {
+) -> Result<Asked<'l, A>, SessionFault> {
     match came {
-        Came::Line => match read_line(alloc, line) {
-            Ok(Some(asked)) => Ok(asked),
-            Ok(None) => Err(SessionFault::BadLine),
-            Err(_) => Err(SessionFault::NoMemory),
-        },
+        Came::Line => read_said(alloc, line),
         Came::TooLong => Err(SessionFault::BadLine),
         Came::NoMemory => Err(SessionFault::NoMemory),
         Came::Closed | Came::End => Err(SessionFault::Closed),
     }
 }
 
+/// What a line asks for, with who asks and why where an edit says it.
+fn read_said<'l, A: Allocator + Copy>(
+    alloc: A,
+    line: &'l [u8],
+) -> Result<Asked<'l, A>, SessionFault> {
+    let Some((who, said)) = split_word(line) else {
+        return Ok(Asked {
+            who: &[],
+            line: read_one(alloc, line)?,
+        });
+    };
+    match read_one(alloc, said)? {
+        Line::Edit(edit) => Ok(Asked {
+            who,
+            line: Line::Edit(edit),
+        }),
+        _ => Err(SessionFault::BadLine),
+    }
+}
+
+/// What a line asks for that says nothing of who asks.
+fn read_one<'l, A: Allocator + Copy>(
+    alloc: A,
+    line: &'l [u8],
+) -> Result<Line<'l, A>, SessionFault> {
+    match read_line(alloc, line) {
+        Ok(Some(asked)) => Ok(asked),
+        Ok(None) => Err(SessionFault::BadLine),
+        Err(_) => Err(SessionFault::NoMemory),
+    }
+}
+
 /// Adds the answer to a line that any desk may be asked; the operator's own lines are refused.
-pub(crate) fn answer_asked<'h, H: Allocator, J: Naming<H>, R: Wait>(
-    room: &Room<'_, 'h, H, J, R>,
+pub(crate) fn answer_asked<'h, H: Allocator, J: Naming<H>, R: Wait, K: Synchroniser>(
+    room: &Room<'_, 'h, H, J, R, K>,
     chair: &mut Chair<'h, H, J>,
-    asked: Line<'_, &'h H>,
+    asked: Asked<'_, &'h H>,
     text: &mut Vec<u8, &'h H>,
 ) -> Result<(), AllocError> {
-    match asked {
+    let Asked { who, line } = asked;
+    match line {
         Line::Skipped => push_skipped(text),
-        Line::Edit(edit) => answer_edit(room, chair, &edit, text),
+        Line::Edit(edit) => answer_edit(room, chair, who, &edit, text),
         Line::Locate(corner) => match &mut chair.window {
             Some(window) => answer_locate(window, corner, text),
             None => push_error(text, SessionFault::NoWindow),
@@ -80,16 +118,17 @@ pub(crate) fn answer_asked<'h, H: Allocator, J: Naming<H>, R: Wait>(
 }
 
 /// Adds the answer to an edit.
-fn answer_edit<'h, H: Allocator, J: Naming<H>, R: Wait>(
-    room: &Room<'_, 'h, H, J, R>,
+fn answer_edit<'h, H: Allocator, J: Naming<H>, R: Wait, K: Synchroniser>(
+    room: &Room<'_, 'h, H, J, R, K>,
     chair: &mut Chair<'h, H, J>,
+    who: &[u8],
     edit: &Edit<&'h H>,
     text: &mut Vec<u8, &'h H>,
 ) -> Result<(), AllocError> {
     let Some(card) = &mut chair.card else {
         return push_error(text, SessionFault::NoCard);
     };
-    match room.submit(card, edit) {
+    match room.submit(card, who, edit) {
         Ok(receipt) => {
             if let Some(window) = &mut chair.window {
                 window.learn(&receipt);

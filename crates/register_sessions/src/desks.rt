@@ -1,6 +1,7 @@
 //! Desks, each served by a thread of its own.
 
 use crate::answers::{Chair, answer};
+use crate::journal_file::Synchroniser;
 use crate::lines::Came;
 use crate::pipes::{Paths, Pipes};
 use crate::post::{Attendant, Next, Served, Trouble, serve_lines};
@@ -21,8 +22,8 @@ pub(crate) struct Desk<'p, 'h, H: Allocator, J: Naming<H>> {
 }
 
 /// Serves a desk's clients, one after the other, until the session closes, or the desk's pipes can't be opened.
-pub(crate) fn serve_desk<'p, 'h, P: Pipes, H: Allocator, J: Naming<H>, R: Wait>(
-    room: &Room<'_, 'h, H, J, R>,
+pub(crate) fn serve_desk<'p, 'h, P: Pipes, H: Allocator, J: Naming<H>, R: Wait, K: Synchroniser>(
+    room: &Room<'_, 'h, H, J, R, K>,
     pipes: &P,
     desk: Desk<'p, 'h, H, J>,
 ) -> Desk<'p, 'h, H, J> {
@@ -36,8 +37,8 @@ pub(crate) fn serve_desk<'p, 'h, P: Pipes, H: Allocator, J: Naming<H>, R: Wait>(
 }
 
 /// Serves the next client of a desk; whether the desk goes on then.
-fn serve_next<'p, 'h, P: Pipes, H: Allocator, J: Naming<H>, R: Wait>(
-    room: &Room<'_, 'h, H, J, R>,
+fn serve_next<'p, 'h, P: Pipes, H: Allocator, J: Naming<H>, R: Wait, K: Synchroniser>(
+    room: &Room<'_, 'h, H, J, R, K>,
     pipes: &P,
     desk: &mut Desk<'p, 'h, H, J>,
 ) -> bool {
@@ -61,8 +62,8 @@ fn serve_next<'p, 'h, P: Pipes, H: Allocator, J: Naming<H>, R: Wait>(
 }
 
 /// Answers a client's lines until no further one is taken.
-fn serve_client<'h, H: Allocator, J: Naming<H>, R: Wait, F: Read, W: ByteOut>(
-    room: &Room<'_, 'h, H, J, R>,
+fn serve_client<'h, H: Allocator, J: Naming<H>, R: Wait, K: Synchroniser, F: Read, W: ByteOut>(
+    room: &Room<'_, 'h, H, J, R, K>,
     chair: &mut Chair<'h, H, J>,
     reader: &mut BufReader<F, &'h H>,
     out: &mut W,
@@ -73,13 +74,15 @@ fn serve_client<'h, H: Allocator, J: Naming<H>, R: Wait, F: Read, W: ByteOut>(
 
 /// Who answers at a desk: whoever sits there asks the room.
 #[derive(Drop)]
-struct DeskAttendant<'s, 'r, 'h, H: Allocator, J: Naming<H>, R: Wait> {
-    room: &'s Room<'r, 'h, H, J, R>,
+struct DeskAttendant<'s, 'r, 'h, H: Allocator, J: Naming<H>, R: Wait, K: Synchroniser> {
+    room: &'s Room<'r, 'h, H, J, R, K>,
     chair: &'s mut Chair<'h, H, J>,
 }
 
-impl<'s, 'r, 'h, H: Allocator, J: Naming<H>, R: Wait, W: ByteOut> Attendant<&'h H, W>
-    for DeskAttendant<'s, 'r, 'h, H, J, R> {
+impl<'s, 'r, 'h, H: Allocator, J: Naming<H>, R: Wait, K: Synchroniser, W: ByteOut> Attendant<
+    &'h H,
+    W,
+> for DeskAttendant<'s, 'r, 'h, H, J, R, K> {
     /// The desk ends where the session closes.
     fn answer(
         &mut self,

@@ -6,8 +6,9 @@
 mod answers;
 mod desks;
 mod door;
+mod found_journal;
 mod journal;
-mod journal_edits;
+mod journal_file;
 mod lines;
 mod offices;
 mod operator;
@@ -20,7 +21,7 @@ mod start;
 mod start_fault;
 mod threads;
 
-pub use journal_edits::{ReplayFault, replay};
+pub use journal_file::{DiskSynchroniser, Machine, Synchroniser};
 pub use lines::LINE_BYTES;
 pub use pipes::Pipes;
 pub use reports::Exports;

@@ -1,6 +1,7 @@
 //! The operator's desk.
 
-use crate::answers::{Chair, answer_asked, read_asked};
+use crate::answers::{Asked, Chair, answer_asked, read_asked};
+use crate::journal_file::Synchroniser;
 use crate::lines::Came;
 use crate::post::{Attendant, Next, Served, Trouble, serve_lines};
 use crate::reports::{Exports, Ground, report_check, report_export, report_overlay};
@@ -27,10 +28,11 @@ pub(crate) fn serve_operator<
     H: Allocator,
     J: Naming<H>,
     R: Wait,
+    K: Synchroniser,
     F: Read,
     W: ByteOut,
 >(
-    room: &Room<'_, 'h, H, J, R>,
+    room: &Room<'_, 'h, H, J, R, K>,
     disk: &P,
     operator: &mut Operator<'h, H, J>,
     reader: &mut BufReader<F, &'h H>,
@@ -46,14 +48,23 @@ pub(crate) fn serve_operator<
 
 /// Who answers at the operator's desk.
 #[derive(Drop)]
-struct OperatorAttendant<'s, 'r, 'h, P, H: Allocator, J: Naming<H>, R: Wait> {
-    room: &'s Room<'r, 'h, H, J, R>,
+struct OperatorAttendant<'s, 'r, 'h, P, H: Allocator, J: Naming<H>, R: Wait, K: Synchroniser> {
+    room: &'s Room<'r, 'h, H, J, R, K>,
     disk: &'s P,
     operator: &'s mut Operator<'h, H, J>,
 }
 
-impl<'s, 'r, 'h, P: Exports, H: Allocator, J: Naming<H>, R: Wait, W: ByteOut> Attendant<&'h H, W>
-    for OperatorAttendant<'s, 'r, 'h, P, H, J, R> {
+impl<
+    's,
+    'r,
+    'h,
+    P: Exports,
+    H: Allocator,
+    J: Naming<H>,
+    R: Wait,
+    K: Synchroniser,
+    W: ByteOut,
+> Attendant<&'h H, W> for OperatorAttendant<'s, 'r, 'h, P, H, J, R, K> {
     fn answer(
         &mut self,
         came: Came,
@@ -63,24 +74,30 @@ impl<'s, 'r, 'h, P: Exports, H: Allocator, J: Naming<H>, R: Wait, W: ByteOut> At
     ) -> Result<Next, Trouble> {
         let room = self.room;
         let Operator { chair, ground } = &mut *self.operator;
-        match read_asked(room.heap, came, line) {
-            Ok(Line::Check) => report_check(sheet_of(room)?, text)?,
-            Ok(Line::Overlay) => answer_overlay(room, ground, text, out)?,
-            Ok(Line::Export(base)) => {
+        let Asked { who, line } = match read_asked(room.heap, came, line) {
+            Ok(asked) => asked,
+            Err(fault) => {
+                push_error(text, fault)?;
+                return Ok(Next::Line);
+            }
+        };
+        match line {
+            Line::Check => report_check(sheet_of(room)?, text)?,
+            Line::Overlay => answer_overlay(room, ground, text, out)?,
+            Line::Export(base) => {
                 report_export(self.disk, room.heap, sheet_of(room)?, base, text)?;
             }
-            Ok(Line::Publish) => answer_publish(room, chair, text)?,
-            Ok(Line::Close) => return Ok(Next::End),
-            Ok(asked) => answer_asked(room, chair, asked, text)?,
-            Err(fault) => push_error(text, fault)?,
+            Line::Publish => answer_publish(room, chair, text)?,
+            Line::Close => return Ok(Next::End),
+            line => answer_asked(room, chair, Asked { who, line }, text)?,
         }
         Ok(Next::Line)
     }
 }
 
 /// Writes which parcels and zones overlap, where there are zones.
-fn answer_overlay<'h, H: Allocator, J: Naming<H>, R: Wait, W: ByteOut>(
-    room: &Room<'_, 'h, H, J, R>,
+fn answer_overlay<'h, H: Allocator, J: Naming<H>, R: Wait, K: Synchroniser, W: ByteOut>(
+    room: &Room<'_, 'h, H, J, R, K>,
     ground: &Ground<'h, H, J>,
     text: &mut Vec<u8, &'h H>,
     out: &mut W,
@@ -95,8 +112,8 @@ fn answer_overlay<'h, H: Allocator, J: Naming<H>, R: Wait, W: ByteOut>(
 }
 
 /// Publishes all entries, and adds how many they are. The operator's window knows them then.
-fn answer_publish<'h, H: Allocator, J: Naming<H>, R: Wait>(
-    room: &Room<'_, 'h, H, J, R>,
+fn answer_publish<'h, H: Allocator, J: Naming<H>, R: Wait, K: Synchroniser>(
+    room: &Room<'_, 'h, H, J, R, K>,
     chair: &mut Chair<'h, H, J>,
     text: &mut Vec<u8, &'h H>,
 ) -> Result<(), AllocError> {
@@ -112,8 +129,8 @@ fn answer_publish<'h, H: Allocator, J: Naming<H>, R: Wait>(
 }
 
 /// The parcels as they are now, with the journal that led there. The office is held no longer than they are copied.
-fn sheet_of<'h, H: Allocator, J: Naming<H>, R: Wait>(
-    room: &Room<'_, 'h, H, J, R>,
+fn sheet_of<'h, H: Allocator, J: Naming<H>, R: Wait, K: Synchroniser>(
+    room: &Room<'_, 'h, H, J, R, K>,
 ) -> Result<Sheet<'h, H>, AllocError> {
     let mut none = Vec::new(room.heap);
     room.office.sheet(room.rt, none.as_mut_slice())

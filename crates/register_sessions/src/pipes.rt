@@ -6,7 +6,7 @@ use std::alloc::{AllocError, Allocator};
 use std::fs::{File, OpenOptions};
 use std::io;
 use std::io::Write;
-use std::os::unix::fs::{FileTypeExt, MetadataExt};
+use std::os::unix::fs::{FileTypeExt, MetadataExt, OpenOptionsExt};
 use std::rt::Files;
 
 /// How the path of the pipe ends at which a desk is asked.
@@ -14,6 +14,16 @@ const LINES: &str = ".in";
 
 /// How the path of the pipe ends at which it answers.
 const ANSWERS: &str = ".out";
+
+/// How the path of the file ends that a session holds as long as it serves a desk. A pipe has no place for a lock: whoever
+/// holds one open is its client's other end.
+const LOCK: &str = ".lock";
+
+/// What of a pipe's mode lets every user read or write it.
+const EVERY_USER: u32 = 0o006;
+
+/// Only its owner takes a lock that a session makes.
+const OWNERS: u32 = 0o600;
 
 /// Where the named pipes of desks are opened: [`Disk`] is the machine's. A runtime of its own is passed so, since
 /// threads that open files are started at a runtime that is known.
@@ -68,15 +78,17 @@ pub(crate) fn wake(pipe: &File) -> io::Result<()> {
 pub(crate) struct Paths<A: Allocator> {
     pub(crate) lines: String<A>,
     pub(crate) answers: String<A>,
+    /// Held as long as the desk is served.
+    pub(crate) lock: File,
 }
 
-/// The pipes of desks with these names: NAME.in and NAME.out of each. Nothing is opened.
+/// The pipes of desks with these names: NAME.in and NAME.out of each. None is opened; NAME.lock is held.
 ///
 /// # Errors
 ///
-/// [`StartFault::NoPipe`] (S4) with the first path at which is no named pipe, or one of those before;
-/// [`StartFault::Run`] where an allocation is refused.
-pub(crate) fn find_pipes<'a, F: Files, A: Allocator + Copy>(
+/// [`StartFault::NoPipe`] (S4) with the first path at which is no named pipe, or one of those before, or one that every
+/// user can read or write, or a lock that another session holds; [`StartFault::Run`] where an allocation is refused.
+pub(crate) fn find_pipes<'a, F: Files<File = File>, A: Allocator + Copy>(
     files: &F,
     alloc: A,
     names: &[&'a str],
@@ -92,12 +104,35 @@ pub(crate) fn find_pipes<'a, F: Files, A: Allocator + Copy>(
         if !see_pipe(files, answers.as_str(), &mut seen)? {
             return Err(StartFault::NoPipe(*name, ANSWERS));
         }
-        all.push(Paths { lines, answers })?;
+        let lock = format!(in alloc; "{name}{LOCK}")?;
+        let Ok(lock) = hold(files, lock.as_str()) else {
+            return Err(StartFault::NoPipe(*name, LOCK));
+        };
+        all.push(Paths {
+            lines,
+            answers,
+            lock,
+        })?;
     }
     Ok(all)
 }
 
-/// Whether at a path is a named pipe, and none that was seen; then it is seen.
+/// Opens or makes the file at a path, and locks it.
+fn hold<F: Files<File = File>>(files: &F, path: &str) -> io::Result<File> {
+    let file = OpenOptions::new()
+        .read(true)
+        .write(true)
+        .create(true)
+        .mode(OWNERS)
+        .open(files, path)?;
+    if !file.metadata()?.is_file() {
+        return Err(io::Error::from(io::ErrorKind::InvalidInput));
+    }
+    file.try_lock()?;
+    Ok(file)
+}
+
+/// Whether at a path is a named pipe that not every user can read or write, and none that was seen; then it is seen.
 fn see_pipe<F: Files, A: Allocator>(
     files: &F,
     path: &str,
@@ -107,7 +142,8 @@ fn see_pipe<F: Files, A: Allocator>(
         return Ok(false);
     };
     let node = (metadata.dev(), metadata.ino());
-    if !metadata.file_type().is_fifo() || seen.contains(&node) {
+    let is_open = metadata.mode() & EVERY_USER != 0;
+    if !metadata.file_type().is_fifo() || is_open || seen.contains(&node) {
         return Ok(false);
     }
     seen.push(node)?;

@@ -5,8 +5,8 @@ ghost use Rattle.desk_lock.specs.Offices.{with_made};
 
 use crate::door::Door;
 use crate::journal::Journal;
+use crate::journal_file::Synchroniser;
 use desk_lock::{Card, Naming, Office, Receipt};
-use edit_lines::push_edit_line;
 use fabric_core::Refusal;
 use ring_edits::Edit;
 use std::alloc::{AllocError, Allocator};
@@ -14,9 +14,9 @@ use std::sync::Wait;
 
 /// What all desks share: the office, the journal, if there is one, and the door.
 #[derive(Drop)]
-pub(crate) struct Room<'r, 'h, H: Allocator, J: Naming<H>, R: Wait> {
+pub(crate) struct Room<'r, 'h, H: Allocator, J: Naming<H>, R: Wait, K: Synchroniser> {
     pub(crate) office: Office<'h, H, J, &'r R>,
-    pub(crate) journal: Option<Journal>,
+    pub(crate) journal: Option<Journal<K>>,
     pub(crate) door: Door,
     pub(crate) heap: &'h H,
     pub(crate) rt: &'r R,
@@ -45,12 +45,13 @@ impl From<Refusal> for EditFault {
     }
 }
 
-impl<'r, 'h, H: Allocator, J: Naming<H>, R: Wait> Room<'r, 'h, H, J, R> {
-    /// Submits an edit at the office. Where there is a journal, the disk has the edit's line before this returns;
-    /// lines stand in the order of their entries' numbers.
+impl<'r, 'h, H: Allocator, J: Naming<H>, R: Wait, K: Synchroniser> Room<'r, 'h, H, J, R, K> {
+    /// Submits an edit at the office, with the client's own word for who and why. Where there is a journal, the disk has
+    /// the edit's record before this returns; records stand in the order of their entries' numbers.
     pub(crate) fn submit(
         &self,
         card: &mut Card<'h, H, J>,
+        who: &[u8],
         edit: &Edit<&'h H>,
     ) -> Result<Receipt<'h, H, J>, EditFault>
         ensures edit { IfOk result (λ receipt. receipt.entry.edit ≡ edit.now) }
@@ -58,7 +59,7 @@ impl<'r, 'h, H: Allocator, J: Naming<H>, R: Wait> Room<'r, 'h, H, J, R> {
         ensures made { IfOk result (λ receipt. card.new ≡ with_made card.old receipt.entry card.new.met) }
     {
         match &self.journal {
-            Some(journal) => self.submit_and_keep(journal, card, edit),
+            Some(journal) => self.submit_and_keep(journal, card, who, edit),
             None => Ok(self.office.submit(self.rt, card, edit)?),
         }
     }
@@ -66,25 +67,28 @@ impl<'r, 'h, H: Allocator, J: Naming<H>, R: Wait> Room<'r, 'h, H, J, R> {
     /// The same where there is a journal.
     fn submit_and_keep(
         &self,
-        journal: &Journal,
+        journal: &Journal<K>,
         card: &mut Card<'h, H, J>,
+        who: &[u8],
         edit: &Edit<&'h H>,
     ) -> Result<Receipt<'h, H, J>, EditFault>
         ensures edit { IfOk result (λ receipt. receipt.entry.edit ≡ edit.now) }
         ensures clerk { IfOk result (λ receipt. receipt.entry.clerk ≡ card.old.clerk) }
         ensures made { IfOk result (λ receipt. card.new ≡ with_made card.old receipt.entry card.new.met) }
     {
-        let mut line = Vec::new(self.heap);
-        push_edit_line(&mut line, edit)?;
-        let Some(mut written) = journal.take(self.rt) else {
+        let Some(mut writer) = journal.take(self.rt) else {
+            return Err(EditFault::Journal);
+        };
+        let Some(draft) = journal.draft(self.heap, &writer, card.clerk(), who, edit)? else {
             return Err(EditFault::Journal);
         };
         let receipt = self.office.submit(self.rt, card, edit)?;
-        let Some(number) = journal.add(&mut written, line.as_slice()) else {
+        if receipt.number() != draft.number || !journal.add(&mut writer, &draft) {
+            writer.give_up();
             return Err(EditFault::Journal);
-        };
-        drop(written);
-        if journal.sync_to(self.rt, number) {
+        }
+        drop(writer);
+        if journal.sync_to(self.rt, draft.number) {
             Ok(receipt)
         } else {
             Err(EditFault::Journal)

@@ -2,9 +2,10 @@
 
 use crate::answers::Chair;
 use crate::desks::{Desk, serve_desk};
+use crate::journal_file::Synchroniser;
 use crate::operator::{Operator, serve_operator};
 use crate::pipes::{Paths, Pipes, wake};
-use crate::post::{Served, write_out};
+use crate::post::write_out;
 use crate::reports::Exports;
 use crate::room::Room;
 use crate::start_fault::StartFault;
@@ -29,8 +30,8 @@ pub(crate) struct Counter<I, A: Allocator, W> {
 
 /// What all threads of a session share.
 #[derive(Drop)]
-struct Shared<'s, 'r, 'h, P, H: Allocator, J: Naming<H>, R: Wait> {
-    room: &'s Room<'r, 'h, H, J, R>,
+struct Shared<'s, 'r, 'h, P, H: Allocator, J: Naming<H>, R: Wait, K: Synchroniser> {
+    room: &'s Room<'r, 'h, H, J, R, K>,
     disk: &'s P,
     paths: &'s [Paths<&'h H>],
 }
@@ -44,8 +45,9 @@ impl<
     H: Allocator + Send + Sync,
     J: Naming<H> + Send + Sync,
     R: Wait,
-> Task<Shared<'s, 'r, 'h, P, H, J, R>> for Desk<'p, 'h, H, J> {
-    fn run(self, with: &Shared<'s, 'r, 'h, P, H, J, R>) -> Desk<'p, 'h, H, J> {
+    K: Synchroniser,
+> Task<Shared<'s, 'r, 'h, P, H, J, R, K>> for Desk<'p, 'h, H, J> {
+    fn run(self, with: &Shared<'s, 'r, 'h, P, H, J, R, K>) -> Desk<'p, 'h, H, J> {
         serve_desk(with.room, with.disk, self)
     }
 }
@@ -65,14 +67,15 @@ impl<
     H: Allocator,
     J: Naming<H>,
     R: Wait,
+    K: Synchroniser,
     I: Read + Drop,
     W: ByteOut + Drop,
-> Host<Shared<'s, 'r, 'h, P, H, J, R>> for Reception<'h, H, J, I, W> {
-    /// Tells the operator that all is ready, answers its lines, and has all desks end once it closes the session, or at
-    /// once where a desk has no thread. Where the operator can't be told, or its lines end, the desks go on.
+> Host<Shared<'s, 'r, 'h, P, H, J, R, K>> for Reception<'h, H, J, I, W> {
+    /// Tells the operator that all is ready, answers its lines, and has all desks end once it closes the session or its
+    /// lines end, or at once where it can't be told or a desk has no thread.
     fn receive(
         self,
-        with: &Shared<'s, 'r, 'h, P, H, J, R>,
+        with: &Shared<'s, 'r, 'h, P, H, J, R, K>,
         is_whole: bool,
     ) -> Reception<'h, H, J, I, W> {
         let Reception {
@@ -84,20 +87,10 @@ impl<
             mut text,
             mut out,
         } = counter;
-        let ends = if is_whole {
-            match write_out(&mut text, &mut out) {
-                Ok(()) => {
-                    serve_operator(with.room, with.disk, &mut operator, &mut reader, &mut out)
-                        == Served::Ended
-                }
-                Err(_) => false,
-            }
-        } else {
-            true
-        };
-        if ends {
-            close_all(with.room, with.disk, with.paths);
+        if is_whole && write_out(&mut text, &mut out).is_ok() {
+            let _ = serve_operator(with.room, with.disk, &mut operator, &mut reader, &mut out);
         }
+        close_all(with.room, with.disk, with.paths);
         Reception {
             operator,
             counter: Counter { reader, text, out },
@@ -130,10 +123,11 @@ pub(crate) fn serve<
     R: Threads + Wait + Sync,
     H: Allocator + Send + Sync,
     J: Naming<H> + Send + Sync,
+    K: Synchroniser + Sync,
     I: Read + Drop,
     W: ByteOut + Drop,
 >(
-    room: Room<'r, 'h, H, J, R>,
+    room: Room<'r, 'h, H, J, R, K>,
     disk: &P,
     paths: &'p [Paths<&'h H>],
     desks: Vec<Desk<'p, 'h, H, J>, &'h H>,
@@ -166,10 +160,11 @@ fn serve_all<
     R: Threads + Wait + Sync,
     H: Allocator + Send + Sync,
     J: Naming<H> + Send + Sync,
+    K: Synchroniser + Sync,
     I: Read + Drop,
     W: ByteOut + Drop,
 >(
-    room: &Room<'_, 'h, H, J, R>,
+    room: &Room<'_, 'h, H, J, R, K>,
     disk: &P,
     paths: &'p [Paths<&'h H>],
     desks: Vec<Desk<'p, 'h, H, J>, &'h H>,
@@ -244,8 +239,8 @@ fn push_end_of<'h, H: Allocator, J: Naming<H>, R: Wait>(
 }
 
 /// Has all desks take no further line, and wakes those that wait for a client or for a line.
-fn close_all<'h, P: Pipes, R: Wait, H: Allocator, J: Naming<H>>(
-    room: &Room<'_, 'h, H, J, R>,
+fn close_all<'h, P: Pipes, R: Wait, H: Allocator, J: Naming<H>, K: Synchroniser>(
+    room: &Room<'_, 'h, H, J, R, K>,
     pipes: &P,
     paths: &[Paths<&'h H>],
 ) {

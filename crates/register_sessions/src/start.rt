@@ -4,8 +4,9 @@ ghost use Rattle.std.specs.Prelude.{◌≡◌, max, length};
 ghost use Rattle.desk_lock.specs.Offices.{origin_of};
 
 use crate::door::Door;
-use crate::journal::{Journal, ReadJournal, read_journal};
-use crate::journal_edits::{ReplayFault, replay};
+use crate::found_journal::{FoundJournal, find_journal};
+use crate::journal::Journal;
+use crate::journal_file::{DiskFile, DiskSynchroniser, Machine, Synchroniser};
 use crate::offices::{Seats, clerks_of, seat_all, windows_of};
 use crate::operator::Operator;
 use crate::pipes::{Paths, Pipes, find_pipes};
@@ -18,6 +19,9 @@ use clerk_runs::push_refusal;
 use desk_lock::{Name, Naming, Office, OpenFault};
 use fabric_core::{Fabric, Layer};
 use geo_exact::{Counted, Unit};
+use journal_records::JournalFault;
+use journal_replays::{ReplayFault, Replayed, replay, seal_of_layer};
+use journal_writers::JournalWriter;
 use parcel_runs::refuse_many_clerks;
 use session_lines::push_ready;
 use std::alloc::Allocator;
@@ -56,41 +60,49 @@ pub fn serve_session<
     'a,
     'h,
     R: Files<File = File> + Input + Print + Eprint + Threads + Wait + Sync,
-    P: Pipes + Exports + Sync,
+    P: Pipes + Exports + Machine + Sync,
     H: Allocator + Send + Sync,
->(rt: &R, disk: &P, heap: &'h H, plan: &Plan<'a>) -> Result<(), StartFault<'a, &'h H>> {
+>(rt: &R, disk: &'a P, heap: &'h H, plan: &Plan<'a>) -> Result<(), StartFault<'a, &'h H>> {
     refuse_many_clerks(plan.desks.len())?;
     let paths = find_pipes(rt, heap, plan.desks.as_slice())?;
-    let register = open_register(rt, heap, plan)?;
+    let register = open_register(rt, disk, heap, plan)?;
     let name = Name::new(heap)?;
-    at_office::<R, P, H, Brand>(rt, disk, heap, name, register, paths.as_slice())
+    at_office::<R, P, H, DiskSynchroniser<'a, P>, Brand>(
+        rt,
+        disk,
+        heap,
+        name,
+        register,
+        paths.as_slice(),
+    )
 }
 
 /// A register that is ready to be edited: the parcels behind the edits of the journal, the zones, and the journal.
 #[derive(Drop)]
-struct Register<'h, H: Allocator> {
+struct Register<'h, H: Allocator, K: Synchroniser> {
     fabric: Fabric<'h, H>,
     zones: Option<Layer<'h, H>>,
-    journal: Option<Journal>,
+    journal: Option<Journal<K>>,
 }
 
 /// Reads and loads a register's files. All are read before the first is looked at.
-fn open_register<'a, 'h, R: Files<File = File> + Eprint, H: Allocator>(
+fn open_register<'a, 'h, R: Files<File = File> + Eprint, P: Machine, H: Allocator>(
     rt: &R,
+    disk: &'a P,
     heap: &'h H,
     plan: &Plan<'a>,
-) -> Result<Register<'h, H>, StartFault<'a, &'h H>> {
+) -> Result<Register<'h, H, DiskSynchroniser<'a, P>>, StartFault<'a, &'h H>> {
     let sources = read_sources(rt, heap, plan)?;
-    let read = match plan.journal {
-        Some(path) => Some((path, read_journal(rt, heap, path)?)),
+    let found = match plan.journal {
+        Some(path) => Some(find_journal(rt, heap, path)?),
         None => None,
     };
     let (layer, zones) = load(heap, &sources, plan.unit)?;
     let Ok(mut fabric) = Fabric::open(layer) else {
         return Err(StartFault::Run(ToolFault::NoMemory));
     };
-    let journal = match read {
-        Some((path, read)) => Some(begin_journal(rt, heap, &mut fabric, path, read)?),
+    let journal = match found {
+        Some(found) => Some(begin_journal(rt, disk, heap, &mut fabric, found)?),
         None => None,
     };
     Ok(Register {
@@ -151,28 +163,49 @@ fn load<'h, H: Allocator, A: Allocator>(
     }
 }
 
-/// Makes the edits of a journal, and has it ready to be written.
-fn begin_journal<'a, 'h, R: Eprint, H: Allocator>(
+/// Makes the edits of a journal, and has it ready to be written: the disk has all of it then.
+fn begin_journal<'a, 'h, R: Eprint, P: Machine, H: Allocator>(
     rt: &R,
+    machine: &'a P,
     heap: &'h H,
     fabric: &mut Fabric<'h, H>,
-    path: &'a str,
-    read: ReadJournal<&'h H>,
-) -> Result<Journal, StartFault<'a, &'h H>> {
-    if let Err(fault) = replay(heap, fabric, read.lines()) {
-        return Err(fault_of_replay(heap, path, fault));
-    }
-    let torn = read.torn();
-    let Ok(journal) = read.begin() else {
+    found: FoundJournal<'a, &'h H>,
+) -> Result<Journal<DiskSynchroniser<'a, P>>, StartFault<'a, &'h H>> {
+    let FoundJournal { path, file, text } = found;
+    let Ok(again) = file.try_clone() else {
+        return Err(StartFault::JournalUnreadable(path));
+    };
+    let synchroniser = DiskSynchroniser {
+        machine,
+        path,
+        file: again,
+    };
+    let layer = seal_of_layer(heap, fabric)?;
+    let file = DiskFile { file };
+    let (begun, torn) = if text.is_empty() {
+        (JournalWriter::begin(heap, file, &layer), 0)
+    } else {
+        let Replayed {
+            records,
+            seal,
+            torn,
+        } = match replay(heap, fabric, &layer, text.as_slice()) {
+            Ok(replayed) => replayed,
+            Err(fault) => return Err(fault_of_replay(heap, path, fault)),
+        };
+        let whole = text.len().saturating_sub(torn);
+        (JournalWriter::go_on(file, records, seal, whole, torn), torn)
+    };
+    let Ok(writer) = begun else {
         return Err(StartFault::JournalUnreadable(path));
     };
     if torn > 0 {
         // Where standard error fails there is nobody left to tell.
         let _ = eprintln!(rt;
-            "note: {path}: a last line of {torn} bytes without its end is cut off"
+            "note: {path}: a last record of {torn} bytes without its end is cut off"
         );
     }
-    Ok(journal)
+    Ok(Journal::new(writer, synchroniser))
 }
 
 /// What it is to the user that a journal's edits are not made again.
@@ -182,15 +215,21 @@ fn fault_of_replay<'a, A: Allocator>(
     fault: ReplayFault,
 ) -> StartFault<'a, A> {
     match fault {
-        ReplayFault::BadLine(line) => StartFault::JournalLine(path, line),
-        ReplayFault::Refused(line, refusal) => {
+        ReplayFault::Journal(JournalFault::NoJournal) => StartFault::NoJournal(path),
+        ReplayFault::Journal(JournalFault::OtherLayer) => StartFault::OtherLayer(path),
+        ReplayFault::Journal(JournalFault::Changed(line)) => StartFault::JournalChanged(path, line),
+        ReplayFault::Journal(JournalFault::NoMemory) => StartFault::Run(ToolFault::NoMemory),
+        ReplayFault::Refused(number, refusal) => {
             let mut text = Vec::new(alloc);
             match push_refusal(&mut text, refusal) {
-                Ok(()) => StartFault::JournalRefused(path, line, text),
+                // The header is line 1, and a record's edit its second line.
+                Ok(()) => {
+                    let line = number.saturating_mul(2).saturating_add(1);
+                    StartFault::JournalRefused(path, line, text)
+                }
                 Err(_) => StartFault::Run(ToolFault::NoMemory),
             }
         }
-        ReplayFault::NoMemory => StartFault::Run(ToolFault::NoMemory),
     }
 }
 
@@ -201,13 +240,14 @@ fn at_office<
     R: Input + Print + Threads + Wait + Sync,
     P: Pipes + Exports + Sync,
     H: Allocator + Send + Sync,
+    K: Synchroniser + Sync,
     J: Naming<H> + Send + Sync,
 >(
     rt: &R,
     disk: &P,
     heap: &'h H,
     name: Name<&'h H>,
-    register: Register<'h, H>,
+    register: Register<'h, H, K>,
     paths: &[Paths<&'h H>],
 ) -> Result<(), StartFault<'a, &'h H>>
     requires book { name.book ≡ J.book }

@@ -14,14 +14,19 @@ pub enum StartFault<'a, A: Allocator> {
     /// As the other commands end: what cannot be loaded, K1 for more than 8 desks, K3, O7, or a
     /// growth that was refused.
     Run(ToolFault<'a>),
-    /// S4: at the path that is this desk's name and this ending is no named pipe, or one that is another of the pipes.
+    /// S4: at the path that is this desk's name and this ending is no named pipe, or one that is another of the pipes or
+    /// that every user can read or write; or the desk's lock is held by another session, or can't be made.
     NoPipe(&'a str, &'static str),
     /// S1: the journal at this path can't be opened, made or read, or is no regular file.
     JournalUnreadable(&'a str),
     /// Another session holds the journal at this path.
     JournalInUse(&'a str),
-    /// L1: of the journal at this path the line of this number, from 1, is no edit in millimetres.
-    JournalLine(&'a str, u64),
+    /// The file at this path is not empty, and no journal. It is not touched.
+    NoJournal(&'a str),
+    /// The journal at this path was begun with another layer.
+    OtherLayer(&'a str),
+    /// Of the journal at this path the line of this number, from 1, or the one behind it, is not as it was written.
+    JournalChanged(&'a str, u64),
     /// Of the journal at this path the edit in the line of this number, from 1, is refused, for what the text says.
     JournalRefused(&'a str, u64, Vec<u8, A>),
 }
@@ -57,7 +62,9 @@ impl<'a, A: Allocator> fmt::Display for StartFault<'a, A> {
             StartFault::NoPipe(name, ending) => write!(f, "S4 {name}{ending}"),
             StartFault::JournalUnreadable(path) => write!(f, "{path}: S1"),
             StartFault::JournalInUse(path) => write!(f, "{path}: in use"),
-            StartFault::JournalLine(path, line) => write!(f, "{path} line {line}: L1"),
+            StartFault::NoJournal(path) => write!(f, "{path}: no journal"),
+            StartFault::OtherLayer(path) => write!(f, "{path}: another layer"),
+            StartFault::JournalChanged(path, line) => write!(f, "{path} line {line}: changed"),
             StartFault::JournalRefused(path, line, text) => {
                 write!(f, "{path} line {line}: refused ")?;
                 write_bytes(f, text.as_slice())

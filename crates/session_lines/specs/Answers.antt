@@ -9,7 +9,7 @@ use Rattle.fabric_core.specs.Journal.{JournalEntry}
 use Rattle.fabric_core.specs.Rows.{numbers}
 use Rattle.fabric_core.specs.declared.locate.At.{At}
 use Rattle.fabric_core.specs.declared.refusal.Refusal.{Refusal}
-use Rattle.text_pieces.specs.CornerText.{corner_text}
+use Rattle.text_pieces.specs.CornerText.{corner_text, next_corner_text}
 use Rattle.clerk_runs.specs.ClerkLines.{refusal_text}
 use Rattle.clerk_runs.specs.PlaceTexts.{id_text, place_text}
 use Rattle.session_lines.specs.declared.faults.SessionFault.{SessionFault}
@@ -39,10 +39,6 @@ located_line entries corner at = asked_text entries corner ++ codes " " ++ place
 -- `parcel ENTRIES ID `
 abbrev pub parcel_text : ℕ → ℕ → List ℕ
 parcel_text entries id = codes "parcel " ++ decimal entries ++ codes " " ++ decimal id ++ codes " "
-
--- ` X Y`
-abbrev pub next_corner_text : Corner → List ℕ
-next_corner_text corner = codes " " ++ corner_text corner
 
 -- `parcel ENTRIES ID AREA2 X Y X Y ..`: twice the ring's area, and its corners in their order
 abbrev pub parcel_line : ℕ → ℕ → List Corner → List ℕ

@@ -1,16 +1,16 @@
 //! What is answered to an edit.
 
-ghost use Rattle.std.specs.Prelude.{map, OnOk, OnErr};
+ghost use Rattle.std.specs.Prelude.{◌++◌, map, codes, OnOk, OnErr};
 ghost use Rattle.std.specs.List.{flat_map};
 ghost use Rattle.fabric_core.specs.JournalRows.{row_of};
 ghost use Rattle.fabric_core.specs.Rows.{numbers};
 ghost use Rattle.clerk_runs.specs.PlaceTexts.{id_text};
 ghost use Rattle.session_lines.specs.Answers.{out_text, accepted_line, refused_line};
 
-use clerk_runs::{push_id, push_ids, push_refusal};
+use clerk_runs::refusal_pieces;
 use fabric_core::{Entry, Refusal, Row};
 use std::alloc::Allocator;
-use text_pieces::{Sink, push_number};
+use text_pieces::{Piece, Sink, push_parts, push_pieces};
 
 /// Adds the answer to an edit that was accepted as this entry: `ok NUMBER out ID.. new ID..`, with the ids of the
 /// parcels that it took out and of those that it brought. Either list may be empty.
@@ -23,20 +23,25 @@ pub fn push_accepted<S: Sink, B: Allocator>(text: &mut S, entry: &Entry<B>) -> R
     ensures err { OnErr result (S.breaks_off text.old (accepted_line entry.now) text.new) }
 {
     push_out(text, entry)?;
-    text.push_piece(" new")?;
     push_row_ids(text, entry.rows())?;
     text.push_piece("\n")
 }
 
-/// Adds an entry's number, and the ids that it took out.
+/// Adds an entry's number, the ids that it took out, and the word that stands before those that it brought.
 fn push_out<S: Sink, B: Allocator>(text: &mut S, entry: &Entry<B>) -> Result<(), S::Fault>
-    ensures ok { OnOk result (S.takes text.old (out_text entry.now) text.new) }
-    ensures err { OnErr result (S.breaks_off text.old (out_text entry.now) text.new) }
+    ensures ok { OnOk result (S.takes text.old (out_text entry.now ++ codes " new") text.new) }
+    ensures err { OnErr result (S.breaks_off text.old (out_text entry.now ++ codes " new") text.new) }
 {
-    text.push_piece("ok ")?;
-    push_number(text, entry.number())?;
-    text.push_piece(" out")?;
-    push_ids(text, entry.out())
+    push_pieces(
+        text,
+        &[
+            Piece::Text("ok "),
+            Piece::Number(entry.number()),
+            Piece::Text(" out"),
+            Piece::Numbers(entry.out()),
+            Piece::Text(" new"),
+        ],
+    )
 }
 
 /// Adds the ids of rows, each behind a space.
@@ -50,6 +55,14 @@ fn push_row_ids<S: Sink, B: Allocator>(text: &mut S, rows: &[Row<B>]) -> Result<
     Ok(())
 }
 
+/// Adds an id behind a space.
+fn push_id<S: Sink>(text: &mut S, id: u64) -> Result<(), S::Fault>
+    ensures ok { OnOk result (S.takes text.old (id_text id) text.new) }
+    ensures err { OnErr result (S.breaks_off text.old (id_text id) text.new) }
+{
+    push_pieces(text, &[Piece::Numbers(&[id])])
+}
+
 /// Adds the answer to an edit that was refused: `refused TEXT`.
 ///
 /// # Errors
@@ -59,7 +72,12 @@ pub fn push_refused<S: Sink>(text: &mut S, refusal: Refusal) -> Result<(), S::Fa
     ensures ok { OnOk result (S.takes text.old (refused_line refusal) text.new) }
     ensures err { OnErr result (S.breaks_off text.old (refused_line refusal) text.new) }
 {
-    text.push_piece("refused ")?;
-    push_refusal(text, refusal)?;
-    text.push_piece("\n")
+    push_parts(
+        text,
+        &[
+            &[Piece::Text("refused ")],
+            &refusal_pieces(refusal),
+            &[Piece::EndOfLine],
+        ],
+    )
 }

@@ -1,10 +1,11 @@
 //! What is answered to a line that is not carried out.
 
-ghost use Rattle.std.specs.Prelude.{OnOk, OnErr};
+ghost use Rattle.std.specs.Prelude.{◌≡◌, OnOk, OnErr};
+ghost use Rattle.std.specs.List.{flat_map};
+ghost use Rattle.text_pieces.specs.PieceText.{piece_text};
 ghost use Rattle.session_lines.specs.Answers.{fault_text, error_line};
-ghost use Rattle.session_lines.specs.declared.faults.SessionFault.TheVariants.{CardsMissing};
 
-use text_pieces::{Sink, push_number};
+use text_pieces::{Piece, Sink, push_parts, push_pieces};
 
 /// Why a line of a session is not carried out. Nothing has changed then.
 #[derive(Clone, Copy, Debug, PartialEq, Eq)]
@@ -40,9 +41,14 @@ pub fn push_error<S: Sink>(text: &mut S, fault: SessionFault) -> Result<(), S::F
     ensures ok { OnOk result (S.takes text.old (error_line (fault_text fault)) text.new) }
     ensures err { OnErr result (S.breaks_off text.old (error_line (fault_text fault)) text.new) }
 {
-    text.push_piece("error: ")?;
-    push_fault(text, fault)?;
-    text.push_piece("\n")
+    push_parts(
+        text,
+        &[
+            &[Piece::Text("error: ")],
+            &fault_pieces(fault),
+            &[Piece::EndOfLine],
+        ],
+    )
 }
 
 /// Adds the answer to a report that fails, as an export whose files can't be written: `error: TEXT`, the text being
@@ -55,37 +61,43 @@ pub fn push_failure<S: Sink>(text: &mut S, why: &str) -> Result<(), S::Fault>
     ensures ok { OnOk result (S.takes text.old (error_line why.now) text.new) }
     ensures err { OnErr result (S.breaks_off text.old (error_line why.now) text.new) }
 {
-    text.push_piece("error: ")?;
-    text.push_piece(why)?;
-    text.push_piece("\n")
+    push_pieces(
+        text,
+        &[Piece::Text("error: "), Piece::Text(why), Piece::EndOfLine],
+    )
 }
 
-/// Adds what a fault is called.
-fn push_fault<S: Sink>(text: &mut S, fault: SessionFault) -> Result<(), S::Fault>
-    ensures ok { OnOk result (S.takes text.old (fault_text fault) text.new) }
-    ensures err { OnErr result (S.breaks_off text.old (fault_text fault) text.new) }
+/// What a fault is called, as the pieces of that text. The last ones are empty where it is shorter.
+fn fault_pieces(fault: SessionFault) -> [Piece<'static>; 4]
+    ensures { flat_map piece_text result ≡ fault_text fault }
 {
     match fault {
-        SessionFault::BadLine => text.push_piece("L1"),
-        SessionFault::NoVersion => text.push_piece("K4"),
-        SessionFault::NoMemory => text.push_piece("no memory"),
-        SessionFault::OperatorOnly => text.push_piece("operator"),
-        SessionFault::NoCard => text.push_piece("no card"),
-        SessionFault::NoWindow => text.push_piece("no window"),
-        SessionFault::JournalFailed => text.push_piece("journal"),
-        SessionFault::Closed => text.push_piece("closed"),
-        SessionFault::NoZones => text.push_piece("no zones"),
-        SessionFault::CardsMissing(clerks, cards) => push_missing_cards(text, clerks, cards),
+        SessionFault::BadLine => name("L1"),
+        SessionFault::NoVersion => name("K4"),
+        SessionFault::NoMemory => name("no memory"),
+        SessionFault::OperatorOnly => name("operator"),
+        SessionFault::NoCard => name("no card"),
+        SessionFault::NoWindow => name("no window"),
+        SessionFault::JournalFailed => name("journal"),
+        SessionFault::Closed => name("closed"),
+        SessionFault::NoZones => name("no zones"),
+        SessionFault::CardsMissing(clerks, cards) => [
+            Piece::Text("K2 "),
+            Piece::Number(clerks as u64),
+            Piece::Text(" "),
+            Piece::Number(cards as u64),
+        ],
     }
 }
 
-/// Adds that cards are missing at the close: of how many clerks, and how many were handed in.
-fn push_missing_cards<S: Sink>(text: &mut S, clerks: usize, cards: usize) -> Result<(), S::Fault>
-    ensures ok { OnOk result (S.takes text.old (fault_text (CardsMissing clerks cards)) text.new) }
-    ensures err { OnErr result (S.breaks_off text.old (fault_text (CardsMissing clerks cards)) text.new) }
+/// A name alone.
+fn name(text: &'static str) -> [Piece<'static>; 4]
+    ensures { flat_map piece_text result ≡ text.now }
 {
-    text.push_piece("K2 ")?;
-    push_number(text, clerks)?;
-    text.push_piece(" ")?;
-    push_number(text, cards)
+    [
+        Piece::Text(text),
+        Piece::Text(""),
+        Piece::Text(""),
+        Piece::Text(""),
+    ]
 }

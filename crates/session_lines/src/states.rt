@@ -3,7 +3,7 @@
 ghost use Rattle.std.specs.Prelude.{◌++◌, OnOk, OnErr, codes, decimal};
 ghost use Rattle.session_lines.specs.Answers.{ready_line, published_line, closed_line};
 
-use text_pieces::{Sink, push_number};
+use text_pieces::{Piece, Sink, push_pieces};
 
 /// Adds that all is loaded, and how many entries the journal has: `ready ENTRIES`.
 ///
@@ -70,7 +70,8 @@ pub(crate) fn push_counted<S: Sink>(text: &mut S, word: &str, entries: u64) -> R
     ensures ok { OnOk result (S.takes text.old (word.now ++ decimal entries ++ codes "\n") text.new) }
     ensures err { OnErr result (S.breaks_off text.old (word.now ++ decimal entries ++ codes "\n") text.new) }
 {
-    text.push_piece(word)?;
-    push_number(text, entries)?;
-    text.push_piece("\n")
+    push_pieces(
+        text,
+        &[Piece::Text(word), Piece::Number(entries), Piece::EndOfLine],
+    )
 }
