@@ -13,6 +13,6 @@ mod runs;
 
 pub use files::{ClerkEdits, FilesFault, read_clerks};
 pub use laws::{with_one_clerk_a_refusal_is_due_after_his_entries, without_clerks_nothing_changes};
-pub use lines::push_refusal;
-pub use place_texts::{push_id, push_ids, push_place};
+pub use lines::{push_refusal, refusal_pieces};
+pub use place_texts::{place_pieces, push_place};
 pub use runs::{Edited, RunFault, edit_by_clerks};

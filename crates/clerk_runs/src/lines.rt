@@ -1,12 +1,13 @@
 //! The lines that report clerks' edits.
 
 ghost use Rattle.std.specs.Prelude.{◌≡◌, ◌++◌, OnOk, OnErr, decimal};
-ghost use Rattle.fabric_core.specs.declared.refusal.Refusal.TheVariants.{Retired};
-ghost use Rattle.clerk_runs.specs.ClerkLines.{whose_text, ok_line, refusal_text, refused_line};
+ghost use Rattle.std.specs.List.{flat_map};
+ghost use Rattle.text_pieces.specs.PieceText.{piece_text};
+ghost use Rattle.clerk_runs.specs.ClerkLines.{ok_line, refusal_text, refused_line};
 
 use fabric_core::Refusal;
 use std::alloc::{AllocError, Allocator};
-use text_pieces::{Sink, push_number, push_ring_fault};
+use text_pieces::{Piece, Sink, push_parts, push_pieces};
 
 /// Adds the line of an edit that is accepted, under the number of its entry.
 pub(crate) fn push_ok_line<A: Allocator>(
@@ -17,11 +18,18 @@ pub(crate) fn push_ok_line<A: Allocator>(
 ) -> Result<(), AllocError>
     ensures { OnOk result (lines.new.items ≡ lines.old.items ++ ok_line clerk line number) }
 {
-    push_whose(lines, clerk, line)?;
-    lines.extend_from_slice(b"ok ")?;
-    push_number(lines, number)?;
-    lines.push(b'\n')?;
-    Ok(())
+    push_pieces(
+        lines,
+        &[
+            Piece::Text("clerk "),
+            Piece::Number(u64::from(clerk)),
+            Piece::Text(" line "),
+            Piece::Number(line),
+            Piece::Text(" ok "),
+            Piece::Number(number),
+            Piece::EndOfLine,
+        ],
+    )
 }
 
 /// Adds the line of an edit that is refused.
@@ -33,23 +41,17 @@ pub(crate) fn push_refused_line<A: Allocator>(
 ) -> Result<(), AllocError>
     ensures { OnOk result (lines.new.items ≡ lines.old.items ++ refused_line clerk line refusal) }
 {
-    push_whose(lines, clerk, line)?;
-    lines.extend_from_slice(b"refused ")?;
-    push_refusal(lines, refusal)?;
-    lines.push(b'\n')?;
-    Ok(())
-}
-
-/// Adds whose edit it is, and of which line.
-fn push_whose<A: Allocator>(lines: &mut Vec<u8, A>, clerk: u32, line: u64) -> Result<(), AllocError>
-    ensures { OnOk result (lines.new.items ≡ lines.old.items ++ whose_text clerk line) }
-{
-    lines.extend_from_slice(b"clerk ")?;
-    push_number(lines, clerk)?;
-    lines.extend_from_slice(b" line ")?;
-    push_number(lines, line)?;
-    lines.push(b' ')?;
-    Ok(())
+    let whose = [
+        Piece::Text("clerk "),
+        Piece::Number(u64::from(clerk)),
+        Piece::Text(" line "),
+        Piece::Number(line),
+        Piece::Text(" refused "),
+    ];
+    push_parts(
+        lines,
+        &[&whose, &refusal_pieces(refusal), &[Piece::EndOfLine]],
+    )
 }
 
 /// Adds why an edit is refused: its code with what that names, as `E2 7 3`, or `no memory`.
@@ -61,42 +63,61 @@ pub fn push_refusal<S: Sink>(text: &mut S, refusal: Refusal) -> Result<(), S::Fa
     ensures ok { OnOk result (S.takes text.old (refusal_text refusal) text.new) }
     ensures err { OnErr result (S.breaks_off text.old (refusal_text refusal) text.new) }
 {
+    push_pieces(text, &refusal_pieces(refusal))
+}
+
+/// Why an edit is refused, as the pieces of its text: its code with what that names, as `E2 7 3`, or `no memory`. The
+/// last ones are empty where that is shorter.
+pub fn refusal_pieces(refusal: Refusal) -> [Piece<'static>; 4]
+    ensures { flat_map piece_text result ≡ refusal_text refusal }
+{
     match refusal {
-        Refusal::Unknown(id) => push_named(text, "E1 ", id),
-        Refusal::Retired { id, by } => push_retired(text, id, by),
-        Refusal::Ring { which, fault } => {
-            push_named(text, "E6 ", u64::from(which))?;
-            text.push_piece(" ")?;
-            push_ring_fault(text, fault)
-        }
-        Refusal::BadPath => text.push_piece("E3"),
-        Refusal::NotNeighbours => text.push_piece("E4"),
-        Refusal::SharedTwice => text.push_piece("E5"),
-        Refusal::NoSuchEdge => text.push_piece("E7"),
-        Refusal::NotOnEdge => text.push_piece("E8"),
-        Refusal::JournalFull => text.push_piece("E9"),
-        Refusal::TooMany => text.push_piece("E10"),
-        Refusal::NoSuchCorner => text.push_piece("E11"),
-        Refusal::NotFlat(id) => push_named(text, "E12 ", id),
-        Refusal::NoMemory => text.push_piece("no memory"),
+        Refusal::Unknown(id) => named("E1 ", id),
+        Refusal::Retired { id, by } => [
+            Piece::Text("E2 "),
+            Piece::Number(id),
+            Piece::Text(" "),
+            Piece::Number(by),
+        ],
+        Refusal::Ring { which, fault } => [
+            Piece::Text("E6 "),
+            Piece::Number(u64::from(which)),
+            Piece::Text(" "),
+            Piece::Refused(fault),
+        ],
+        Refusal::BadPath => bare("E3"),
+        Refusal::NotNeighbours => bare("E4"),
+        Refusal::SharedTwice => bare("E5"),
+        Refusal::NoSuchEdge => bare("E7"),
+        Refusal::NotOnEdge => bare("E8"),
+        Refusal::JournalFull => bare("E9"),
+        Refusal::TooMany => bare("E10"),
+        Refusal::NoSuchCorner => bare("E11"),
+        Refusal::NotFlat(id) => named("E12 ", id),
+        Refusal::NoMemory => bare("no memory"),
     }
 }
 
-/// Adds a code, and the number behind it.
-fn push_named<S: Sink>(text: &mut S, code: &str, number: u64) -> Result<(), S::Fault>
-    ensures ok { OnOk result (S.takes text.old (code.now ++ decimal number) text.new) }
-    ensures err { OnErr result (S.breaks_off text.old (code.now ++ decimal number) text.new) }
+/// A code alone.
+fn bare(code: &'static str) -> [Piece<'static>; 4]
+    ensures { flat_map piece_text result ≡ code.now }
 {
-    text.push_piece(code)?;
-    push_number(text, number)
+    [
+        Piece::Text(code),
+        Piece::Text(""),
+        Piece::Text(""),
+        Piece::Text(""),
+    ]
 }
 
-/// Adds that a parcel is gone, and by which entry.
-fn push_retired<S: Sink>(text: &mut S, id: u64, by: u64) -> Result<(), S::Fault>
-    ensures ok { OnOk result (S.takes text.old (refusal_text (Retired id by)) text.new) }
-    ensures err { OnErr result (S.breaks_off text.old (refusal_text (Retired id by)) text.new) }
+/// A code, and the number behind it.
+fn named(code: &'static str, number: u64) -> [Piece<'static>; 4]
+    ensures { flat_map piece_text result ≡ code.now ++ decimal number }
 {
-    push_named(text, "E2 ", id)?;
-    text.push_piece(" ")?;
-    push_number(text, by)
+    [
+        Piece::Text(code),
+        Piece::Number(number),
+        Piece::Text(""),
+        Piece::Text(""),
+    ]
 }

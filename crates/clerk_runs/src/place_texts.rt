@@ -1,12 +1,13 @@
 //! Where points lie, in texts.
 
-ghost use Rattle.std.specs.Prelude.{OnOk, OnErr};
+ghost use Rattle.std.specs.Prelude.{◌≡◌, OnOk, OnErr};
 ghost use Rattle.std.specs.List.{flat_map};
-ghost use Rattle.clerk_runs.specs.PlaceTexts.{id_text, place_text};
+ghost use Rattle.text_pieces.specs.PieceText.{piece_text};
+ghost use Rattle.clerk_runs.specs.PlaceTexts.{place_text};
 
 use fabric_core::At;
 use std::alloc::Allocator;
-use text_pieces::{Sink, push_number};
+use text_pieces::{Piece, Sink, push_pieces};
 
 /// Adds where a point lies: `inside ID`, `edge ID ID ..`, or `outside`.
 ///
@@ -17,43 +18,17 @@ pub fn push_place<S: Sink, B: Allocator>(text: &mut S, at: &At<B>) -> Result<(),
     ensures ok { OnOk result (S.takes text.old (place_text at.now) text.new) }
     ensures err { OnErr result (S.breaks_off text.old (place_text at.now) text.new) }
 {
+    push_pieces(text, &place_pieces(at))
+}
+
+/// Where a point lies, as the pieces of its text: `inside ID`, `edge ID ID ..`, or `outside`. The last one is empty
+/// where that is shorter.
+pub fn place_pieces<B: Allocator>(at: &At<B>) -> [Piece<'_>; 2]
+    ensures { flat_map piece_text result ≡ place_text at.now }
+{
     match at {
-        At::Inside(id) => {
-            text.push_piece("inside")?;
-            push_id(text, *id)
-        }
-        At::OnEdge(ids) => {
-            text.push_piece("edge")?;
-            push_ids(text, ids)
-        }
-        At::Outside => text.push_piece("outside"),
+        At::Inside(id) => [Piece::Text("inside "), Piece::Number(*id)],
+        At::OnEdge(ids) => [Piece::Text("edge"), Piece::Numbers(ids.as_slice())],
+        At::Outside => [Piece::Text("outside"), Piece::Text("")],
     }
-}
-
-/// Adds ids, each behind a space.
-///
-/// # Errors
-///
-/// The sink's fault; a beginning of the piece may have been taken then.
-pub fn push_ids<S: Sink>(text: &mut S, ids: &[u64]) -> Result<(), S::Fault>
-    ensures ok { OnOk result (S.takes text.old (flat_map id_text ids.now) text.new) }
-    ensures err { OnErr result (S.breaks_off text.old (flat_map id_text ids.now) text.new) }
-{
-    for id in ids {
-        push_id(text, *id)?;
-    }
-    Ok(())
-}
-
-/// Adds an id behind a space.
-///
-/// # Errors
-///
-/// The sink's fault; a beginning of the piece may have been taken then.
-pub fn push_id<S: Sink>(text: &mut S, id: u64) -> Result<(), S::Fault>
-    ensures ok { OnOk result (S.takes text.old (id_text id) text.new) }
-    ensures err { OnErr result (S.breaks_off text.old (id_text id) text.new) }
-{
-    text.push_piece(" ")?;
-    push_number(text, id)
 }

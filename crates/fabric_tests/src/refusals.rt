@@ -9,6 +9,7 @@ use refusing_alloc::Refusing;
 use ring_core::RingFault;
 use std::alloc::Global;
 use std::test::Fail;
+use std::thread::Threads;
 use test_builders::{Place, corner};
 use test_cities::{EAST, SQUARE, WEST, city, records};
 
@@ -282,6 +283,27 @@ fn is_telling_refused<'a>(
     answered_again(first, telling(heap, city, row, 0)?.0)
 }
 
+/// What telling all faults by three threads with growth `number` refused is answered, and whether that was refused.
+fn telling_by<'a, R: Threads + Sync>(
+    rt: &R,
+    heap: &'a Heap,
+    city: &City<'a, Heap>,
+    row: &Row,
+    number: u64,
+) -> Result<(Verdict, bool), Fail> {
+    let rings = records(heap, row.0)?;
+    heap.refuse(number);
+    let layer = Layer::load_or_all_by(rt, 3, heap, city, rings, Asked::All);
+    let is_refused = heap.is_spent();
+    heap.refuse(0);
+    let told = match layer {
+        Ok(layer) => Verdict::new(has_ids(&layer, &row.1)?),
+        Err(refusal) if refusal.first == LoadFault::NoMemory => Verdict::NoMemory,
+        Err(refusal) => Verdict::new(are_all(&refusal, &row.1)),
+    };
+    Ok((told, is_refused))
+}
+
 /// The first growth that is not made any more.
 fn growths_of_loading(heap: &Heap, row: &Row) -> Result<u64, Fail> {
     let city = city(heap, &SQUARE)?;
@@ -302,6 +324,28 @@ fn growths_of_telling(heap: &Heap, row: &Row) -> Result<u64, Fail> {
         }
     }
     Err(Fail::new("each growth was refused"))
+}
+
+/// The same, by three threads.
+fn growths_of_telling_by<R: Threads + Sync>(rt: &R, heap: &Heap, row: &Row) -> Result<u64, Fail> {
+    let city = city(heap, &SQUARE)?;
+    for number in 1..MOST {
+        let first = telling_by(rt, heap, &city, row, number)?;
+        if !answered_again(first, telling_by(rt, heap, &city, row, 0)?.0)? {
+            return Ok(number);
+        }
+    }
+    Err(Fail::new("each growth was refused"))
+}
+
+#[test]
+fn a_layer_by_threads(rt: HostRuntime) -> Result<(), Fail> {
+    let heap = Refusing::new(rt.alloc(), 0);
+    for (place, row) in ALL.iter().enumerate() {
+        let growths = growths_of_telling_by(&rt, &heap, row)?;
+        assert!(rt; growths > row.2, "row {place}");
+    }
+    Ok(())
 }
 
 #[test]

@@ -5,8 +5,9 @@ use geo_exact::{Corner, LIST_CORNERS, area2};
 use ring_core::RingFault;
 use std::alloc::Allocator;
 use std::test::Fail;
+use std::thread::Threads;
 use test_builders::Place;
-use test_cities::{EAST, SQUARE, WEST, answer_layer};
+use test_cities::{EAST, SQUARE, WEST, answer_layer, city, records};
 
 /// A parcel's id, twice its area, and its ring.
 type Parcel = (u64, i128, &'static [Place]);
@@ -220,16 +221,32 @@ fn is_fault(fault: LoadFault, want: &Answer) -> bool {
     }
 }
 
+/// Whether this is what a row's rings have to be answered.
+fn is_wanted<H: Allocator>(answer: Result<Layer<'_, H>, LoadFault>, row: &Row) -> bool {
+    match (answer, &row.2) {
+        (Ok(layer), Answer::Tiles(parcels, refined)) => {
+            are(&layer, parcels) && are_at(layer.city(), row.0) && are_at(layer.refined(), refined)
+        }
+        (Err(fault), want) => is_fault(fault, want),
+        _ => false,
+    }
+}
+
 /// Whether the rings of a row are answered as it says.
 fn is_answered<H: Allocator>(heap: &H, row: &Row) -> Result<bool, Fail> {
-    let answer = answer_layer(heap, row.0, row.1)?;
-    match (answer, &row.2) {
-        (Ok(layer), Answer::Tiles(parcels, refined)) => Ok(
-            are(&layer, parcels) && are_at(layer.city(), row.0) && are_at(layer.refined(), refined),
-        ),
-        (Err(fault), want) => Ok(is_fault(fault, want)),
-        _ => Ok(false),
-    }
+    Ok(is_wanted(answer_layer(heap, row.0, row.1)?, row))
+}
+
+/// Whether the rings of a row are answered as it says by so many threads.
+fn is_answered_by<R: Threads + Sync, H: Allocator + Send + Sync>(
+    rt: &R,
+    workers: usize,
+    heap: &H,
+    row: &Row,
+) -> Result<bool, Fail> {
+    let city = city(heap, row.0)?;
+    let rings = records(heap, row.1)?;
+    Ok(is_wanted(Layer::load_by(rt, workers, heap, &city, rings), row))
 }
 
 #[test]
@@ -238,6 +255,18 @@ fn loads_what_tiles_and_nothing_else(rt: HostRuntime) -> Result<(), Fail> {
     for (number, row) in ROWS.iter().enumerate() {
         let is_so = is_answered(heap, row)?;
         assert!(rt; is_so, "row {number}");
+    }
+    Ok(())
+}
+
+#[test]
+fn loads_alike_by_threads(rt: HostRuntime) -> Result<(), Fail> {
+    let heap = &rt.alloc();
+    for workers in [0, 1, 3, 64] {
+        for (number, row) in ROWS.iter().enumerate() {
+            let is_so = is_answered_by(&rt, workers, heap, row)?;
+            assert!(rt; is_so, "row {number} by {workers}");
+        }
     }
     Ok(())
 }

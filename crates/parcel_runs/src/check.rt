@@ -23,7 +23,7 @@ use shp_files::a_layer_file_is_within_the_limits;
 use std::alloc::Allocator;
 use std::sync::Wait;
 use std::thread::Threads;
-use text_pieces::{Sink, push_number, put_all};
+use text_pieces::{Piece, Sink, push_pieces, put_all};
 
 /// Writes `tiling N AREA2` where the parcels tile their city exactly: how many they are, and twice
 /// the city's area in square millimetres. Before that the edits of clerks' files are made at one
@@ -145,9 +145,14 @@ pub(crate) fn push_tiling<S: Sink>(text: &mut S, count: usize, area2: u128) -> R
     ensures err { OnErr result (S.breaks_off text.old
         (codes "tiling " ++ decimal count ++ codes " " ++ decimal area2 ++ codes "\n") text.new) }
 {
-    text.push_piece("tiling ")?;
-    push_number(text, count)?;
-    text.push_piece(" ")?;
-    push_number(text, area2)?;
-    text.push_piece("\n")
+    push_pieces(
+        text,
+        &[
+            Piece::Text("tiling "),
+            Piece::Number(count as u64),
+            Piece::Text(" "),
+            Piece::Area(area2),
+            Piece::EndOfLine,
+        ],
+    )
 }

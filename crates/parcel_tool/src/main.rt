@@ -12,7 +12,7 @@ use parcel_runs::locate::{locate, locate_text};
 use parcel_runs::overlay::overlay;
 use parcel_runs::part::part;
 use parcel_runs::{RunFiles, refuse_many_clerks};
-use register_sessions::{Exports, Pipes, Plan, serve_session};
+use register_sessions::{Exports, Machine, Pipes, Plan, serve_session};
 use std::alloc::Global;
 use std::fmt::Display;
 use std::fs::File;
@@ -55,7 +55,7 @@ fn command_line<R: Env + AllocGlobal>(rt: &R) -> io::Result<Vec<String>> {
 fn answer<
     'a,
     R: Files<File = File> + Input + Print + Eprint + Threads + Wait + Sync + AllocGlobal,
-    P: Pipes + Exports + Sync,
+    P: Pipes + Exports + Machine + Sync,
 >(rt: &R, disk: &P, request: Request<'a>) -> ExitCode {
     let mut out = Counted::new(io::writer(rt));
     let done = match request {
@@ -124,7 +124,7 @@ fn answer_export<'a, R: Files + Threads + Wait + Sync + AllocGlobal, W: ByteOut>
 fn answer_session<
     'a,
     R: Files<File = File> + Input + Print + Eprint + Threads + Wait + Sync + AllocGlobal,
-    P: Pipes + Exports + Sync,
+    P: Pipes + Exports + Machine + Sync,
 >(rt: &R, disk: &P, session: Session<'a>) -> ExitCode {
     let heap = rt.alloc();
     let plan = Plan {

@@ -1,9 +1,10 @@
 //! Edges that are counted, and rings that are noded.
 
-use edge_chains::{EdgeSum, node};
+use edge_chains::{EdgeSum, node, node_by};
 use geo_exact::{Corner, Corners, LIST_CORNERS};
 use std::alloc::{AllocError, Allocator, Global};
 use std::test::Fail;
+use std::thread::Threads;
 use test_builders::{Place, corner, corners as ring};
 
 type Rings = Vec<Corners<Global>, Global>;
@@ -133,6 +134,34 @@ fn are_noded(alloc: Global, row: &NodeRow) -> Result<bool, Fail> {
     let noded = node(alloc, &rings, &corners)?;
     let want = rings_of(alloc, row.2)?;
     Ok(noded.as_slice() == want.as_slice())
+}
+
+/// Whether the rings of a row are noded as it says by so many threads.
+fn are_noded_by<R: Threads + Sync>(
+    rt: &R,
+    alloc: Global,
+    workers: usize,
+    row: &NodeRow,
+) -> Result<bool, Fail> {
+    let rings = rings_of(alloc, row.0)?;
+    let corners = match row.1 {
+        Some(places) => ring(alloc, places)?.into_vec(),
+        None => corners_of(alloc, &rings)?,
+    };
+    let noded = node_by(rt, alloc, workers, &rings, &corners)?;
+    let want = rings_of(alloc, row.2)?;
+    Ok(noded.as_slice() == want.as_slice())
+}
+
+#[test]
+fn nodes_rings_by_threads(rt: HostRuntime) -> Result<(), Fail> {
+    for workers in [0, 1, 3, 64] {
+        for (number, row) in NODED.iter().enumerate() {
+            let noded = are_noded_by(&rt, rt.alloc(), workers, row)?;
+            assert!(rt; noded, "row {number} by {workers}");
+        }
+    }
+    Ok(())
 }
 
 #[test]

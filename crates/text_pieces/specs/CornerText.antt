@@ -7,3 +7,7 @@ use Rattle.geo_exact.specs.declared.corner.Corner.{Corner}
 -- `X Y`
 abbrev pub corner_text : Corner → List ℕ
 corner_text corner = signed_decimal corner.x ++ codes " " ++ signed_decimal corner.y
+
+-- ` X Y`, a corner behind a space
+abbrev pub next_corner_text : Corner → List ℕ
+next_corner_text corner = codes " " ++ corner_text corner

@@ -6,14 +6,17 @@
 #![tactic(auto)]
 
 mod gathered;
+mod lists;
 mod numbers;
 mod pending;
+mod pieces;
 mod put;
 mod ring_faults;
 mod sink;
 
 pub use gathered::Gathered;
 pub use numbers::{push_corner, push_number};
+pub use pieces::{Piece, push_parts, push_pieces};
 pub use put::put_all;
 pub use ring_faults::push_ring_fault;
 pub use sink::Sink;

@@ -4,7 +4,7 @@ ghost use Rattle.std.specs.Prelude.{OnOk, OnErr};
 ghost use Rattle.ring_core.specs.declared.ring.RingFault.TheVariants.{EdgesMeet};
 ghost use Rattle.text_pieces.specs.RingFaultText.{ring_fault_text};
 
-use crate::numbers::push_number;
+use crate::lists::push_numbers;
 use crate::sink::Sink;
 use ring_core::RingFault;
 
@@ -29,8 +29,6 @@ fn push_edges<S: Sink>(text: &mut S, i: usize, j: usize) -> Result<(), S::Fault>
     ensures ok { OnOk result (S.takes text.old (ring_fault_text (EdgesMeet i j)) text.new) }
     ensures err { OnErr result (S.breaks_off text.old (ring_fault_text (EdgesMeet i j)) text.new) }
 {
-    text.push_piece("G2 ")?;
-    push_number(text, i)?;
-    text.push_piece(" ")?;
-    push_number(text, j)
+    text.push_piece("G2")?;
+    push_numbers(text, &[i as u64, j as u64])
 }

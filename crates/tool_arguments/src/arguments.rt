@@ -1,136 +1,13 @@
-//! The command line: what it asks for, and its help.
+//! The command line: its words, and its help.
 
-ghost use Rattle.std.specs.Prelude.{◌≡◌, ◌≢◌, ◌<◌, ◌≤◌, List, map, Some, IfOk, IfSome, IfNone, codes};
-ghost use Rattle.clap.specs.Words.{first_value, found_of};
-ghost use Rattle.geo_exact.specs.declared.corner.Corner.{Corner};
-ghost use Rattle.overlay_work.specs.declared.round.TheConstants.{MOST_HANDS};
-ghost use Rattle.line_files.specs.TextNumbers.{AreCornerWords};
-ghost use Rattle.line_files.specs.declared.grids.Grid.TheVariants.{Millimetres};
-ghost use Rattle.tool_arguments.specs.Arguments.{unit_word};
-ghost use Rattle.geo_exact.specs.declared.coord.Unit.{Unit as LengthUnit};
-
+use crate::asked::request_of;
+use crate::requests::Request;
+use crate::words::{Verb, Words};
 use clap::error::ErrorKind;
 use clap::{Arg, ArgAction, ArgGroup, ArgMatches, Command, Error, value_parser};
 use desk_lock::MOST_PLACES;
-use geo_exact::{Corners, Unit};
-use line_files::read_corner;
-use overlay_work::MOST_HANDS;
 use std::alloc::{AllocError, Global};
 use std::convert::AsStr;
-
-/// What a command line asks for.
-#[derive(Debug, Drop)]
-pub enum Request<'a> {
-    /// The area of each ring of a layer.
-    Area {
-        /// The path of the layer's main file.
-        main: &'a str,
-        /// The unit of its coordinates.
-        unit: Unit,
-    },
-    /// Whether parcels tile their city.
-    Check {
-        /// What is read.
-        inputs: Inputs<'a>,
-        /// Whether all faults of a layer that does not tile its city are told, and not only the first.
-        all: bool,
-    },
-    /// The parcels that tile their city, written anew.
-    Export {
-        /// What is read.
-        inputs: Inputs<'a>,
-        /// The path of the files that are written, without their endings .shp and .shx.
-        base: &'a str,
-    },
-    /// Where points lie among parcels.
-    Locate {
-        /// What is read.
-        inputs: Inputs<'a>,
-        /// The points.
-        points: Points<'a>,
-    },
-    /// Which parcels and which zones overlap.
-    Overlay {
-        /// What is read.
-        inputs: Inputs<'a>,
-        /// The path of the main file of the zones' layer.
-        zones: &'a str,
-        /// How many share the work.
-        workers: Workers,
-    },
-    /// One district of those that tile their city, written as a layer of its own.
-    Part {
-        /// What is read.
-        district: District<'a>,
-        /// The path of the files that are written, without their endings .shp and .shx.
-        base: &'a str,
-    },
-    /// A register that stays open, at whose desks edits and questions are answered.
-    Session(Session<'a>),
-}
-
-/// What a session is of.
-#[derive(Debug, Drop)]
-pub struct Session<'a> {
-    /// The path of the main file of the city's layer.
-    pub city: &'a str,
-    /// The path of the main file of the parcels' layer.
-    pub parcels: &'a str,
-    /// The unit of the coordinates of all layers.
-    pub unit: Unit,
-    /// The path of the main file of the zones' layer, where overlays are asked for.
-    pub zones: Option<&'a str>,
-    /// The path of the journal, where there is one.
-    pub journal: Option<&'a str>,
-    /// The names of the desks; desk K's is the K-th.
-    pub desks: Vec<&'a str>,
-    /// How many share an overlay.
-    pub workers: Workers,
-}
-
-/// How many workers share the parcels: 1 to 64.
-#[derive(Clone, Copy, Debug, PartialEq, Eq)]
-pub struct Workers {
-    /// Their number.
-    pub count: usize,
-    pub ghost some: { 0 < count },
-    pub ghost few: { count ≤ MOST_HANDS },
-}
-
-/// What a request about parcels reads.
-#[derive(Debug, Drop)]
-pub struct Inputs<'a> {
-    /// The path of the main file of the city's layer.
-    pub city: &'a str,
-    /// The path of the main file of the parcels' layer.
-    pub parcels: &'a str,
-    /// The unit of the coordinates of both.
-    pub unit: Unit,
-    /// The paths of the files of clerks' edits; clerk K's is the K-th.
-    pub clerks: Vec<&'a str>,
-}
-
-/// What a request about one district reads.
-#[derive(Debug, Drop)]
-pub struct District<'a> {
-    /// The path of the main file of the city's layer.
-    pub city: &'a str,
-    /// The path of the main file of the layer of all districts.
-    pub districts: &'a str,
-    /// The unit of the coordinates of both.
-    pub unit: Unit,
-    /// The number of the district's record.
-    pub id: u64,
-}
-
-/// The points that a command line asks for.
-#[derive(Debug, Drop)]
-pub enum Points<'a> {
-    /// These.
-    At(Corners<Global>),
-    /// Those of the file at this path; `-` is standard input.
-    File(&'a str),
-}
 
 /// What the words of `--at` have to be.
 const AT_HELP: &str =
@@ -141,198 +18,52 @@ const AT_HELP: &str =
 pub fn parse<'a, S: AsStr>(alloc: Global, words: &'a [S]) -> Result<Request<'a>, Error> {
     let mut command = tool_command(alloc)?;
     let matches = command.try_get_matches_from_mut(words)?;
-    let asked = match matches.subcommand() {
-        Some(("area", given)) => area_request(given),
-        Some(("check", given)) => check_request(alloc, given)?,
-        Some(("export", given)) => export_request(alloc, given)?,
-        Some(("overlay", given)) => overlay_request(alloc, given)?,
-        Some(("session", given)) => session_request(alloc, given)?,
-        Some(("part", given)) => part_request(given),
-        Some(("locate", given)) => match points_of(alloc, given)? {
-            Some(points) => locate_request(alloc, given, points)?,
-            None => return Err(command.error(ErrorKind::ValueValidation, AT_HELP)?),
-        },
-        _ => None,
+    let (verb, given) = match matches.subcommand() {
+        Some(("area", given)) => (Verb::Area, given),
+        Some(("check", given)) => (Verb::Check, given),
+        Some(("export", given)) => (Verb::Export, given),
+        Some(("locate", given)) => (Verb::Locate, given),
+        Some(("overlay", given)) => (Verb::Overlay, given),
+        Some(("part", given)) => (Verb::Part, given),
+        Some(("session", given)) => (Verb::Session, given),
+        _ => return Err(no_subcommand(&mut command)?),
     };
-    if let Some(request) = asked {
+    if let Some(request) = request_of(alloc, verb, &words_of(given))? {
         return Ok(request);
     }
-    Err(command.error(
+    if verb == Verb::Locate {
+        return Err(command.error(ErrorKind::ValueValidation, AT_HELP)?);
+    }
+    Err(no_subcommand(&mut command)?)
+}
+
+/// The error of a command line that names no command, or too few words of one.
+fn no_subcommand(command: &mut Command<'_>) -> Result<Error, AllocError> {
+    command.error(
         ErrorKind::MissingSubcommand,
         "a subcommand with its words is required",
-    )?)
+    )
 }
 
-/// What the words of `area` ask for.
-fn area_request<'a>(given: &ArgMatches<'a>) -> Option<Request<'a>> {
-    Some(Request::Area {
-        main: given.get_str("MAIN")?,
-        unit: unit_of(given)?,
-    })
-}
-
-/// What the words of `check` ask for.
-fn check_request<'a>(
-    alloc: Global,
-    given: &ArgMatches<'a>,
-) -> Result<Option<Request<'a>>, AllocError> {
-    let Some(inputs) = inputs_of(alloc, given)? else {
-        return Ok(None);
-    };
-    let all = given.get_flag("all");
-    Ok(Some(Request::Check { inputs, all }))
-}
-
-/// What the words of `export` ask for.
-fn export_request<'a>(
-    alloc: Global,
-    given: &ArgMatches<'a>,
-) -> Result<Option<Request<'a>>, AllocError> {
-    let (Some(inputs), Some(base)) = (inputs_of(alloc, given)?, given.get_str("out")) else {
-        return Ok(None);
-    };
-    Ok(Some(Request::Export { inputs, base }))
-}
-
-/// What the words of `locate` ask for, of these points.
-fn locate_request<'a>(
-    alloc: Global,
-    given: &ArgMatches<'a>,
-    points: Points<'a>,
-) -> Result<Option<Request<'a>>, AllocError> {
-    let Some(inputs) = inputs_of(alloc, given)? else {
-        return Ok(None);
-    };
-    Ok(Some(Request::Locate { inputs, points }))
-}
-
-/// What the words of `overlay` ask for.
-fn overlay_request<'a>(
-    alloc: Global,
-    given: &ArgMatches<'a>,
-) -> Result<Option<Request<'a>>, AllocError> {
-    let (Some(inputs), Some(zones), Some(workers)) = (
-        inputs_of(alloc, given)?,
-        given.get_str("ZONES"),
-        workers_of(given),
-    ) else {
-        return Ok(None);
-    };
-    Ok(Some(Request::Overlay {
-        inputs,
-        zones,
-        workers,
-    }))
-}
-
-/// What the words of `part` ask for.
-fn part_request<'a>(given: &ArgMatches<'a>) -> Option<Request<'a>> {
-    Some(Request::Part {
-        district: District {
-            city: given.get_str("CITY")?,
-            districts: given.get_str("DISTRICTS")?,
-            unit: unit_of(given)?,
-            id: given.get_one("ID")?,
-        },
-        base: given.get_str("out")?,
-    })
-}
-
-/// What the words of `session` ask for.
-fn session_request<'a>(
-    alloc: Global,
-    given: &ArgMatches<'a>,
-) -> Result<Option<Request<'a>>, AllocError> {
-    let (Some(city), Some(parcels), Some(unit), Some(workers)) = (
-        given.get_str("CITY"),
-        given.get_str("PARCELS"),
-        unit_of(given),
-        workers_of(given),
-    ) else {
-        return Ok(None);
-    };
-    Ok(Some(Request::Session(Session {
-        city,
-        parcels,
-        unit,
-        zones: given.get_str("zones"),
+/// The words of a command, each under its name.
+fn words_of<'g, 'a>(given: &'g ArgMatches<'a>) -> Words<'g, 'a> {
+    Words {
+        main: given.get_str("MAIN"),
+        city: given.get_str("CITY"),
+        parcels: given.get_str("PARCELS"),
+        // Of an overlay the one, of a session the other.
+        zones: given.get_str("ZONES").or(given.get_str("zones")),
+        districts: given.get_str("DISTRICTS"),
+        id: given.get_one("ID"),
+        unit: given.get_str("unit"),
+        out: given.get_str("out"),
+        points: given.get_str("points"),
         journal: given.get_str("journal"),
-        desks: Vec::from_slice(alloc, given.get_strs("desk").unwrap_or(&[]))?,
-        workers,
-    })))
-}
-
-/// How many workers were asked for.
-fn workers_of(given: &ArgMatches<'_>) -> Option<Workers> {
-    let count = given.get_one("workers")?;
-    if count < 1 || count > MOST_HANDS {
-        return None;
-    }
-    Some(Workers { count })
-}
-
-/// What a request about parcels reads; `None` where a word is missing.
-fn inputs_of<'a>(alloc: Global, given: &ArgMatches<'a>) -> Result<Option<Inputs<'a>>, AllocError> {
-    let (Some(city), Some(parcels), Some(unit)) = (
-        given.get_str("CITY"),
-        given.get_str("PARCELS"),
-        unit_of(given),
-    ) else {
-        return Ok(None);
-    };
-    let clerks = Vec::from_slice(alloc, given.get_strs("clerk").unwrap_or(&[]))?;
-    Ok(Some(Inputs {
-        city,
-        parcels,
-        unit,
-        clerks,
-    }))
-}
-
-/// The points that were given; `None` where the words of `--at` are none.
-fn points_of<'a>(alloc: Global, given: &ArgMatches<'a>) -> Result<Option<Points<'a>>, AllocError> {
-    if let Some(path) = given.get_str("points") {
-        return Ok(Some(Points::File(path)));
-    }
-    let words = given.get_strs("at").unwrap_or(&[]);
-    match corners_of(alloc, words)? {
-        Some(corners) => Ok(Some(Points::At(corners))),
-        None => Ok(None),
-    }
-}
-
-/// The corners whose coordinates the words are, two and two; `None` where they are none.
-fn corners_of(alloc: Global, words: &[&str]) -> Result<Option<Corners<Global>>, AllocError>
-    ensures found { IfOk result (λ corners. IfSome corners (AreCornerWords Millimetres (map (λ word. word.now) words.now))) }
-    ensures none { IfOk result (λ corners. IfNone corners
-        ((list : List Corner) → ¬ AreCornerWords Millimetres (map (λ word. word.now) words.now) list)) }
-{
-    if words.len() % 2 != 0 {
-        return Ok(None);
-    }
-    let mut corners = Corners::new(alloc);
-    for i in 0..words.len() / 2 {
-        let x = words[2 * i];
-        let y = words[2 * i + 1];
-        let Some(corner) = read_corner(x.as_bytes(), y.as_bytes()) else {
-            return Ok(None);
-        };
-        corners.push(corner)?;
-    }
-    Ok(Some(corners))
-}
-
-/// The unit that was given.
-fn unit_of(given: &ArgMatches<'_>) -> Option<Unit>
-    ensures named { IfSome result (λ unit. first_value (found_of given.now) (codes "unit") ≡ Some (unit_word unit)) }
-    ensures none { IfNone result
-        ((unit : LengthUnit) → first_value (found_of given.now) (codes "unit") ≢ Some (unit_word unit)) }
-{
-    match given.get_str("unit") {
-        Some("mm") => Some(Unit::Mm),
-        Some("cm") => Some(Unit::Cm),
-        Some("m") => Some(Unit::M),
-        _ => None,
+        workers: given.get_one("workers"),
+        all: given.get_flag("all"),
+        clerks: given.get_strs("clerk"),
+        desks: given.get_strs("desk"),
+        at: given.get_strs("at"),
     }
 }
 

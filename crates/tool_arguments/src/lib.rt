@@ -2,5 +2,11 @@
 #![tactic(auto)]
 
 mod arguments;
+mod asked;
+mod requests;
+mod words;
 
-pub use arguments::{District, Inputs, Points, Request, Session, Workers, parse};
+pub use arguments::parse;
+pub use asked::request_of;
+pub use requests::{District, Inputs, Points, Request, Session, Workers};
+pub use words::{Verb, Words};

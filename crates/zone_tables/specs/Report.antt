@@ -1,18 +1,15 @@
 -- The text of an overlay's report (this product's own): how many entries the journal had, the pairs, the split-zoned
 -- parcels, and the zone of each other parcel. Numbers are in decimal.
-use Rattle.std.specs.Prelude.{◌≡◌, ◌⊎◌, ◌↔◌, ℕ, List, [], ◌∷◌, ◌++◌, map, codes, decimal, Option}
+use Rattle.std.specs.Prelude.{◌≡◌, ◌⊎◌, ◌↔◌, ℕ, List, [], ◌∷◌, ◌++◌, map, codes, Option}
 use Rattle.std.specs.List.{Contains, flat_map}
 use Rattle.std.specs.List.Sorted.{IsStrictlyIncreasing}
 use Rattle.std.specs.Io.KnownBytes.{Appends}
 use Rattle.geo_exact.specs.Layers.{NumberedRing}
 use Rattle.fabric_core.specs.Rows.{numbers}
 use Rattle.text_pieces.specs.Beginnings.{AppendsBeginning}
+use Rattle.text_pieces.specs.PieceText.{number_text}
 use Rattle.zone_tables.specs.Overlap.{Overlay, IsOverlapTable, AreSplitZoned}
 use Rattle.zone_tables.specs.Within.{IsWithinZone}
-
--- a number behind a space
-abbrev pub number_text : ℕ → List ℕ
-number_text number = codes " " ++ decimal number
 
 -- a line: a word, and the numbers behind it
 abbrev pub line : List ℕ → List ℕ → List ℕ

@@ -2,12 +2,12 @@
 
 ghost use Rattle.std.specs.Prelude.{OnOk, OnErr};
 ghost use Rattle.std.specs.List.{flat_map};
-ghost use Rattle.zone_tables.specs.Report.{line, number_text, pair_line, split_line, within_line};
+ghost use Rattle.zone_tables.specs.Report.{line, pair_line, split_line, within_line};
 ghost use Rattle.zone_tables.specs.own.Zonings.{zonings, split_ids, single_zones};
 ghost use Rattle.zone_tables.specs.own.Texts.{report_text};
 
 use crate::zoning::Zonings;
-use text_pieces::{Sink, push_number};
+use text_pieces::{Piece, Sink, push_pieces};
 
 /// Adds the lines of a table: how many entries there were, its pairs, the parcels that have more
 /// than one, and the others.
@@ -26,33 +26,14 @@ pub(crate) fn push_report<S: Sink>(
 }
 
 /// Adds a line: a word, and numbers behind it.
-fn push_line<S: Sink>(text: &mut S, word: &str, numbers: &[u64]) -> Result<(), S::Fault>
+fn push_line<'t, S: Sink>(text: &mut S, word: &'t str, numbers: &'t [u64]) -> Result<(), S::Fault>
     ensures ok { OnOk result (S.takes text.old (line word.now numbers.now) text.new) }
     ensures err { OnErr result (S.breaks_off text.old (line word.now numbers.now) text.new) }
 {
-    text.push_piece(word)?;
-    push_numbers(text, numbers)?;
-    text.push_piece("\n")
-}
-
-/// Adds numbers, each behind a space.
-fn push_numbers<S: Sink>(text: &mut S, numbers: &[u64]) -> Result<(), S::Fault>
-    ensures ok { OnOk result (S.takes text.old (flat_map number_text numbers.now) text.new) }
-    ensures err { OnErr result (S.breaks_off text.old (flat_map number_text numbers.now) text.new) }
-{
-    for number in numbers {
-        push_next(text, *number)?;
-    }
-    Ok(())
-}
-
-/// Adds a number behind a space.
-fn push_next<S: Sink>(text: &mut S, number: u64) -> Result<(), S::Fault>
-    ensures ok { OnOk result (S.takes text.old (number_text number) text.new) }
-    ensures err { OnErr result (S.breaks_off text.old (number_text number) text.new) }
-{
-    text.push_piece(" ")?;
-    push_number(text, number)
+    push_pieces(
+        text,
+        &[Piece::Text(word), Piece::Numbers(numbers), Piece::EndOfLine],
+    )
 }
 
 /// Adds a line for each pair.

@@ -1,48 +1,29 @@
-use Rattle.std.specs.Prelude.{◌++◌, codes, decimal}
+use Rattle.std.proofs.Common.{◌≡◌, ℕ, [], ◌∷◌, ◌++◌, codes, decimal, flat_map, subst, append_assoc, append-nil}
 use Rattle.std.proofs.lemmas.Result.{err_from_is_err_and, on_err_weaker, on_ok_weaker}
+use Rattle.text_pieces.specs.PieceText.{number_text}
 use Rattle.text_pieces.proofs.ring_faults.push_edges.Goals as goal
+
+-- numbers behind spaces
+are_numbers : (i j : ℕ) → codes "G2" ++ flat_map number_text (i ∷ j ∷ []) ≡ codes "G2 " ++ decimal i ++ codes " " ++ decimal j
+are_numbers i j = simp (append_assoc, append-nil)
 
 pub returns-in_err-push_piece-clause-err : goal.returns-in_err-push_piece-clause-err
 returns-in_err-push_piece-clause-err g c =
     let p = err_from_is_err_and c.from_residual.result c.from_residual.ensures.1 in
-    let i = decimal c.args.i in
     rw (p.1)
-    (g.met.S.Sink.breaks_off_before _ _ (codes "G2 " ++ i ++ codes " ") (decimal c.args.j)
-    (g.met.S.Sink.breaks_off_before _ _ (codes "G2 " ++ i) (codes " ")
-    (g.met.S.Sink.breaks_off_before _ _ (codes "G2 ") i c.in_err-push_piece.ensures.err)))
-
-pub returns-in_err-push_number-clause-err : goal.returns-in_err-push_number-clause-err
-returns-in_err-push_number-clause-err g c =
-    let p = err_from_is_err_and c.from_residual-in_err-push_number.result c.from_residual-in_err-push_number.ensures.1 in
-    let i = decimal c.args.i in
-    rw (p.1)
-    (g.met.S.Sink.breaks_off_before _ _ (codes "G2 " ++ i ++ codes " ") (decimal c.args.j)
-    (g.met.S.Sink.breaks_off_before _ _ (codes "G2 " ++ i) (codes " ")
-    (g.met.S.Sink.breaks_off_later _ _ _ (codes "G2 ") i c.in_ok-push_piece.ensures.ok c.in_err-push_number.ensures.err)))
-
-pub returns-in_err-push_piece-2-clause-err : goal.returns-in_err-push_piece-2-clause-err
-returns-in_err-push_piece-2-clause-err g c =
-    let p = err_from_is_err_and c.from_residual-in_err-push_piece-2.result c.from_residual-in_err-push_piece-2.ensures.1 in
-    let i = decimal c.args.i in
-    let two = g.met.S.Sink.takes_both _ _ _ (codes "G2 ") i c.in_ok-push_piece.ensures.ok c.in_ok-push_number.ensures.ok in
-    rw (p.1)
-    (g.met.S.Sink.breaks_off_before _ _ (codes "G2 " ++ i ++ codes " ") (decimal c.args.j)
-    (g.met.S.Sink.breaks_off_later _ _ _ (codes "G2 " ++ i) (codes " ") two c.in_err-push_piece-2.ensures.err))
+    (subst (λ t. g.S.Sink.breaks_off c.args.text.now t c.push_piece.new.self) (are_numbers c.args.i c.args.j)
+    (g.met.S.Sink.breaks_off_before _ _ (codes "G2") (flat_map number_text (c.args.i ∷ c.args.j ∷ [])) c.in_err-push_piece.ensures.err))
 
 pub returns-clause-ok : goal.returns-clause-ok
 returns-clause-ok g c =
-    let i = decimal c.args.i in
-    let two = g.met.S.Sink.takes_both _ _ _ (codes "G2 ") i c.in_ok-push_piece.ensures.ok c.in_ok-push_number.ensures.ok in
-    let three = g.met.S.Sink.takes_both _ _ _ (codes "G2 " ++ i) (codes " ") two c.in_ok-push_piece-2.ensures.ok in
-    on_ok_weaker c.push_number-2.result
-    (λ h. g.met.S.Sink.takes_both _ _ _ (codes "G2 " ++ i ++ codes " ") (decimal c.args.j) three h)
-    c.push_number-2.ensures.ok
+    on_ok_weaker c.push_numbers.result
+    (λ h. subst (λ t. g.S.Sink.takes c.args.text.now t c.push_numbers.new.text) (are_numbers c.args.i c.args.j)
+    (g.met.S.Sink.takes_both _ _ _ (codes "G2") (flat_map number_text (c.args.i ∷ c.args.j ∷ [])) c.in_ok-push_piece.ensures.ok h))
+    c.push_numbers.ensures.ok
 
 pub returns-clause-err : goal.returns-clause-err
 returns-clause-err g c =
-    let i = decimal c.args.i in
-    let two = g.met.S.Sink.takes_both _ _ _ (codes "G2 ") i c.in_ok-push_piece.ensures.ok c.in_ok-push_number.ensures.ok in
-    let three = g.met.S.Sink.takes_both _ _ _ (codes "G2 " ++ i) (codes " ") two c.in_ok-push_piece-2.ensures.ok in
-    on_err_weaker c.push_number-2.result
-    (λ h. g.met.S.Sink.breaks_off_later _ _ _ (codes "G2 " ++ i ++ codes " ") (decimal c.args.j) three h)
-    c.push_number-2.ensures.err
+    on_err_weaker c.push_numbers.result
+    (λ h. subst (λ t. g.S.Sink.breaks_off c.args.text.now t c.push_numbers.new.text) (are_numbers c.args.i c.args.j)
+    (g.met.S.Sink.breaks_off_later _ _ _ (codes "G2") (flat_map number_text (c.args.i ∷ c.args.j ∷ [])) c.in_ok-push_piece.ensures.ok h))
+    c.push_numbers.ensures.err

@@ -1,0 +1,93 @@
+-- What the words of a command line ask for, each word under its name (this product's own).
+use Rattle.std.specs.Prelude.{◌≡◌, ◌⊎◌, List, [], map, Option, None, Some}
+use Rattle.std.specs.Borrow.{Bor}
+use Rattle.geo_exact.specs.declared.corner.Corner.{Corner}
+use Rattle.line_files.specs.TextNumbers.{AreCornerWords}
+use Rattle.line_files.specs.declared.grids.Grid.TheVariants.{Millimetres}
+use Rattle.tool_arguments.specs.Arguments.{IsUnit, IsNoUnit, IsNoWorkerCount}
+use Rattle.tool_arguments.specs.declared.requests.District.{District}
+use Rattle.tool_arguments.specs.declared.requests.Inputs.{Inputs}
+use Rattle.tool_arguments.specs.declared.requests.Points.{Points}
+use Rattle.tool_arguments.specs.declared.requests.Points.TheVariants.{At, File}
+use Rattle.tool_arguments.specs.declared.requests.Request.{Request}
+use Rattle.tool_arguments.specs.declared.requests.Request.TheVariants.{Area, Check, Export, Locate, Overlay, Part, Session}
+use Rattle.tool_arguments.specs.declared.requests.Session.{Session as SessionValue}
+use Rattle.tool_arguments.specs.declared.words.Verb.{Verb}
+use Rattle.tool_arguments.specs.declared.words.Words.{Words}
+
+-- the words that were given under a name, in their order
+abbrev pub given : {X : Type 0} → Option (Bor (List X)) → List X
+given None = []
+given (Some words) = words.now
+
+-- what is read of parcels: the words of these names, and every clerk's
+pub record AreInputs (words : Words) (inputs : Inputs) : Type 0 where
+  pub is_city : words.city ≡ Some inputs.city
+  pub is_parcels : words.parcels ≡ Some inputs.parcels
+  pub is_unit : IsUnit words.unit inputs.unit
+  pub are_clerks : inputs.clerks.items ≡ given words.clerks
+
+-- what is read of one district
+pub record AreDistrictWords (words : Words) (district : District) : Type 0 where
+  pub is_city : words.city ≡ Some district.city
+  pub is_districts : words.districts ≡ Some district.districts
+  pub is_unit : IsUnit words.unit district.unit
+  pub is_number : words.id ≡ Some district.id
+
+-- what a session is of: the words of these names, with zones and journal where they were given, and every desk's
+pub record AreSession (words : Words) (session : SessionValue) : Type 0 where
+  pub is_city : words.city ≡ Some session.city
+  pub is_parcels : words.parcels ≡ Some session.parcels
+  pub is_unit : IsUnit words.unit session.unit
+  pub is_zones : session.zones ≡ words.zones
+  pub is_journal : session.journal ≡ words.journal
+  pub are_desks : session.desks.items ≡ given words.desks
+  pub are_workers : words.workers ≡ Some session.workers.count
+
+-- the points: those of the file, where one was given, and else those whose coordinates the words of `--at` are
+abbrev pub ArePoints : Words → Points → Type 0
+ArePoints words (File path) = words.points ≡ Some path
+ArePoints words (At corners) =
+    (words.points ≡ None) × AreCornerWords Millimetres (map (λ word. word.now) (given words.at)) corners
+
+-- the words ask for this
+abbrev pub IsRequest : Words → Request → Type 0
+IsRequest words (Area main unit) = (words.main ≡ Some main) × IsUnit words.unit unit
+IsRequest words (Check inputs all) = AreInputs words inputs × (all ≡ words.all)
+IsRequest words (Export inputs base) = AreInputs words inputs × (words.out ≡ Some base)
+IsRequest words (Locate inputs points) = AreInputs words inputs × ArePoints words points
+IsRequest words (Overlay inputs zones workers) =
+    AreInputs words inputs × (words.zones ≡ Some zones) × (words.workers ≡ Some workers.count)
+IsRequest words (Part district base) = AreDistrictWords words district × (words.out ≡ Some base)
+IsRequest words (Session session) = AreSession words session
+
+-- what a request is to do
+abbrev pub verb_of : Request → Verb
+verb_of (Area main unit) = Verb.Area
+verb_of (Check inputs all) = Verb.Check
+verb_of (Export inputs base) = Verb.Export
+verb_of (Locate inputs points) = Verb.Locate
+verb_of (Overlay inputs zones workers) = Verb.Overlay
+verb_of (Part district base) = Verb.Part
+verb_of (Session session) = Verb.Session
+
+-- a word is missing, or is none that there may be
+abbrev pub HasNoInputs : Words → Type 0
+HasNoInputs words = (words.city ≡ None) ⊎ (words.parcels ≡ None) ⊎ IsNoUnit words.unit
+
+abbrev pub HasNoDistrict : Words → Type 0
+HasNoDistrict words = (words.city ≡ None) ⊎ (words.districts ≡ None) ⊎ IsNoUnit words.unit ⊎ (words.id ≡ None)
+
+abbrev pub HasNoPoints : Words → Type 0
+HasNoPoints words = (words.points ≡ None)
+    × ((list : List Corner) → ¬ AreCornerWords Millimetres (map (λ word. word.now) (given words.at)) list)
+
+-- so the words ask for nothing that this command can do
+abbrev pub IsMissing : Verb → Words → Type 0
+IsMissing Verb.Area words = (words.main ≡ None) ⊎ IsNoUnit words.unit
+IsMissing Verb.Check words = HasNoInputs words
+IsMissing Verb.Export words = HasNoInputs words ⊎ (words.out ≡ None)
+IsMissing Verb.Locate words = HasNoInputs words ⊎ HasNoPoints words
+IsMissing Verb.Overlay words = HasNoInputs words ⊎ (words.zones ≡ None) ⊎ IsNoWorkerCount words.workers
+IsMissing Verb.Part words = HasNoDistrict words ⊎ (words.out ≡ None)
+IsMissing Verb.Session words = HasNoInputs words ⊎ IsNoWorkerCount words.workers

@@ -1,0 +1,268 @@
+//! What the words of a command line ask for.
+
+ghost use Rattle.std.specs.Prelude.{◌≡◌, List, map, IfOk, IfSome, IfNone};
+ghost use Rattle.geo_exact.specs.declared.corner.Corner.{Corner};
+ghost use Rattle.geo_exact.specs.declared.coord.Unit.{Unit as LengthUnit};
+ghost use Rattle.line_files.specs.TextNumbers.{AreCornerWords};
+ghost use Rattle.line_files.specs.declared.grids.Grid.TheVariants.{Millimetres};
+ghost use Rattle.tool_arguments.specs.Arguments.{IsUnit, IsNoUnit, IsNoWorkerCount};
+ghost use Rattle.tool_arguments.specs.Requests.{AreInputs, HasNoInputs, AreDistrictWords, HasNoDistrict, ArePoints, HasNoPoints};
+ghost use Rattle.tool_arguments.specs.Requests.{IsRequest, IsMissing, verb_of};
+
+use crate::requests::{District, Inputs, Points, Request, Session, Workers};
+use crate::words::{Verb, Words};
+use geo_exact::{Corners, Unit};
+use line_files::read_corner;
+use overlay_work::MOST_HANDS;
+use std::alloc::{AllocError, Global};
+
+/// What the words ask for; `None` where one is missing, or is none that there may be.
+///
+/// # Errors
+///
+/// [`AllocError`] where an allocation is refused.
+pub fn request_of<'a>(
+    alloc: Global,
+    verb: Verb,
+    words: &Words<'_, 'a>,
+) -> Result<Option<Request<'a>>, AllocError>
+    ensures verb { IfOk result (λ found. IfSome found (λ request. verb_of request ≡ verb)) }
+    ensures words { IfOk result (λ found. IfSome found (IsRequest words.now)) }
+    ensures none { IfOk result (λ found. IfNone found (IsMissing verb words.now)) }
+{
+    match verb {
+        Verb::Area => Ok(area_request(words)),
+        Verb::Check => check_request(alloc, words),
+        Verb::Export => export_request(alloc, words),
+        Verb::Locate => locate_request(alloc, words),
+        Verb::Overlay => overlay_request(alloc, words),
+        Verb::Part => Ok(part_request(words)),
+        Verb::Session => session_request(alloc, words),
+    }
+}
+
+/// What the words of `area` ask for.
+fn area_request<'a>(words: &Words<'_, 'a>) -> Option<Request<'a>>
+    ensures verb { IfSome result (λ request. verb_of request ≡ Verb.Area) }
+    ensures words { IfSome result (IsRequest words.now) }
+    ensures none { IfNone result (IsMissing Verb.Area words.now) }
+{
+    let (Some(main), Some(unit)) = (words.main, unit_of(words.unit)) else {
+        return None;
+    };
+    Some(Request::Area { main, unit })
+}
+
+/// What the words of `check` ask for.
+fn check_request<'a>(
+    alloc: Global,
+    words: &Words<'_, 'a>,
+) -> Result<Option<Request<'a>>, AllocError>
+    ensures verb { IfOk result (λ found. IfSome found (λ request. verb_of request ≡ Verb.Check)) }
+    ensures words { IfOk result (λ found. IfSome found (IsRequest words.now)) }
+    ensures none { IfOk result (λ found. IfNone found (IsMissing Verb.Check words.now)) }
+{
+    let Some(inputs) = inputs_of(alloc, words)? else {
+        return Ok(None);
+    };
+    let all = words.all;
+    Ok(Some(Request::Check { inputs, all }))
+}
+
+/// What the words of `export` ask for.
+fn export_request<'a>(
+    alloc: Global,
+    words: &Words<'_, 'a>,
+) -> Result<Option<Request<'a>>, AllocError>
+    ensures verb { IfOk result (λ found. IfSome found (λ request. verb_of request ≡ Verb.Export)) }
+    ensures words { IfOk result (λ found. IfSome found (IsRequest words.now)) }
+    ensures none { IfOk result (λ found. IfNone found (IsMissing Verb.Export words.now)) }
+{
+    let Some(base) = words.out else {
+        return Ok(None);
+    };
+    let Some(inputs) = inputs_of(alloc, words)? else {
+        return Ok(None);
+    };
+    Ok(Some(Request::Export { inputs, base }))
+}
+
+/// What the words of `locate` ask for.
+fn locate_request<'a>(
+    alloc: Global,
+    words: &Words<'_, 'a>,
+) -> Result<Option<Request<'a>>, AllocError>
+    ensures verb { IfOk result (λ found. IfSome found (λ request. verb_of request ≡ Verb.Locate)) }
+    ensures words { IfOk result (λ found. IfSome found (IsRequest words.now)) }
+    ensures none { IfOk result (λ found. IfNone found (IsMissing Verb.Locate words.now)) }
+{
+    let Some(points) = points_of(alloc, words)? else {
+        return Ok(None);
+    };
+    let Some(inputs) = inputs_of(alloc, words)? else {
+        return Ok(None);
+    };
+    Ok(Some(Request::Locate { inputs, points }))
+}
+
+/// What the words of `overlay` ask for.
+fn overlay_request<'a>(
+    alloc: Global,
+    words: &Words<'_, 'a>,
+) -> Result<Option<Request<'a>>, AllocError>
+    ensures verb { IfOk result (λ found. IfSome found (λ request. verb_of request ≡ Verb.Overlay)) }
+    ensures words { IfOk result (λ found. IfSome found (IsRequest words.now)) }
+    ensures none { IfOk result (λ found. IfNone found (IsMissing Verb.Overlay words.now)) }
+{
+    let (Some(zones), Some(workers)) = (words.zones, workers_of(words.workers)) else {
+        return Ok(None);
+    };
+    let Some(inputs) = inputs_of(alloc, words)? else {
+        return Ok(None);
+    };
+    Ok(Some(Request::Overlay {
+        inputs,
+        zones,
+        workers,
+    }))
+}
+
+/// What the words of `part` ask for.
+fn part_request<'a>(words: &Words<'_, 'a>) -> Option<Request<'a>>
+    ensures verb { IfSome result (λ request. verb_of request ≡ Verb.Part) }
+    ensures words { IfSome result (IsRequest words.now) }
+    ensures none { IfNone result (IsMissing Verb.Part words.now) }
+{
+    let (Some(district), Some(base)) = (district_of(words), words.out) else {
+        return None;
+    };
+    Some(Request::Part { district, base })
+}
+
+/// What the words of `session` ask for.
+fn session_request<'a>(
+    alloc: Global,
+    words: &Words<'_, 'a>,
+) -> Result<Option<Request<'a>>, AllocError>
+    ensures verb { IfOk result (λ found. IfSome found (λ request. verb_of request ≡ Verb.Session)) }
+    ensures words { IfOk result (λ found. IfSome found (IsRequest words.now)) }
+    ensures none { IfOk result (λ found. IfNone found (IsMissing Verb.Session words.now)) }
+{
+    let (Some(city), Some(parcels)) = (words.city, words.parcels) else {
+        return Ok(None);
+    };
+    let (Some(unit), Some(workers)) = (unit_of(words.unit), workers_of(words.workers)) else {
+        return Ok(None);
+    };
+    let desks = Vec::from_slice(alloc, words.desks.unwrap_or(&[]))?;
+    Ok(Some(Request::Session(Session {
+        city,
+        parcels,
+        unit,
+        zones: words.zones,
+        journal: words.journal,
+        desks,
+        workers,
+    })))
+}
+
+/// What a request about parcels reads; `None` where a word is missing.
+fn inputs_of<'a>(alloc: Global, words: &Words<'_, 'a>) -> Result<Option<Inputs<'a>>, AllocError>
+    ensures found { IfOk result (λ found. IfSome found (AreInputs words.now)) }
+    ensures none { IfOk result (λ found. IfNone found (HasNoInputs words.now)) }
+{
+    let (Some(city), Some(parcels)) = (words.city, words.parcels) else {
+        return Ok(None);
+    };
+    let Some(unit) = unit_of(words.unit) else {
+        return Ok(None);
+    };
+    let clerks = Vec::from_slice(alloc, words.clerks.unwrap_or(&[]))?;
+    Ok(Some(Inputs {
+        city,
+        parcels,
+        unit,
+        clerks,
+    }))
+}
+
+/// What a request about one district reads; `None` where a word is missing.
+fn district_of<'a>(words: &Words<'_, 'a>) -> Option<District<'a>>
+    ensures found { IfSome result (AreDistrictWords words.now) }
+    ensures none { IfNone result (HasNoDistrict words.now) }
+{
+    let (Some(city), Some(districts)) = (words.city, words.districts) else {
+        return None;
+    };
+    let (Some(unit), Some(id)) = (unit_of(words.unit), words.id) else {
+        return None;
+    };
+    Some(District {
+        city,
+        districts,
+        unit,
+        id,
+    })
+}
+
+/// The points that were given; `None` where there is no file of them, and the words of `--at` are none.
+fn points_of<'a>(alloc: Global, words: &Words<'_, 'a>) -> Result<Option<Points<'a>>, AllocError>
+    ensures found { IfOk result (λ found. IfSome found (ArePoints words.now)) }
+    ensures none { IfOk result (λ found. IfNone found (HasNoPoints words.now)) }
+{
+    if let Some(path) = words.points {
+        return Ok(Some(Points::File(path)));
+    }
+    match corners_of(alloc, words.at.unwrap_or(&[]))? {
+        Some(corners) => Ok(Some(Points::At(corners))),
+        None => Ok(None),
+    }
+}
+
+/// The corners whose coordinates the words are, two and two; `None` where they are none.
+fn corners_of(alloc: Global, words: &[&str]) -> Result<Option<Corners<Global>>, AllocError>
+    ensures found { IfOk result (λ corners. IfSome corners (AreCornerWords Millimetres (map (λ word. word.now) words.now))) }
+    ensures none { IfOk result (λ corners. IfNone corners
+        ((list : List Corner) → ¬ AreCornerWords Millimetres (map (λ word. word.now) words.now) list)) }
+{
+    if words.len() % 2 != 0 {
+        return Ok(None);
+    }
+    let mut corners = Corners::new(alloc);
+    for i in 0..words.len() / 2 {
+        let x = words[2 * i];
+        let y = words[2 * i + 1];
+        let Some(corner) = read_corner(x.as_bytes(), y.as_bytes()) else {
+            return Ok(None);
+        };
+        corners.push(corner)?;
+    }
+    Ok(Some(corners))
+}
+
+/// How many workers were asked for; `None` where that is no number from 1 to 64.
+fn workers_of(count: Option<usize>) -> Option<Workers>
+    ensures found { IfSome result (λ workers. count ≡ Some workers.count) }
+    ensures none { IfNone result (IsNoWorkerCount count) }
+{
+    let Some(count) = count else {
+        return None;
+    };
+    if count < 1 || count > MOST_HANDS {
+        return None;
+    }
+    Some(Workers { count })
+}
+
+/// The unit that was given.
+fn unit_of(word: Option<&str>) -> Option<Unit>
+    ensures named { IfSome result (IsUnit word.entry) }
+    ensures none { IfNone result (IsNoUnit word.entry) }
+{
+    match word {
+        Some("mm") => Some(Unit::Mm),
+        Some("cm") => Some(Unit::Cm),
+        Some("m") => Some(Unit::M),
+        _ => None,
+    }
+}
