@@ -1,0 +1,100 @@
+"""Overlay zones: which parcels lie in which zones, and the parts of those that are split."""
+from __future__ import annotations
+
+from typing import Any, Dict, Optional
+
+from qgis.core import (
+    QgsProcessing,
+    QgsProcessingParameterFeatureSink,
+    QgsProcessingParameterFeatureSource,
+    QgsProcessingParameterField,
+    QgsProcessingParameterNumber,
+    QgsUnitTypes,
+    QgsWkbTypes,
+)
+
+from ..faults import fault_fields, fill_faults
+from ..joined import Joined
+from ..layers import fill, layer_of, own_fields
+from .base import EXACT, Algorithm, Job, Parameters
+from .check_parcels import COUNTS, VERDICT, add_skip_invalid, results_of, skipping
+
+OUTPUTS = (
+    ("SPLIT", "Split parcels", "split", QgsProcessing.TypeVectorPolygon),
+    ("PARTS", "Parts of split parcels", "split_parts", QgsProcessing.TypeVectorPolygon),
+)
+
+
+class OverlayZones(Algorithm):
+    """Which zones each parcel lies in."""
+
+    NAME, TITLE = "overlayzones", "Overlay zones"
+    HELP = (
+        "<p>Which parcels lie in which zones, also where the layers do not tile.</p><p><b>Split parcels</b> are those "
+        "in two zones or more, with the zones' names. <b>Parts</b> are what each has in each zone, with its area "
+        "(measured). The <b>joined table</b> has a row for each parcel and zone that overlap, with the attributes of "
+        "both. <b>Faults</b> are those of parcels and zones.</p><p>That a parcel and a zone overlap is exact. Those "
+        "that only touch are not told. In the table, in which zone a parcel lies that is not split is "
+        "measured at a point inside it (<i>zone_how</i>).</p>" + EXACT
+    )
+    TAGS = ("zones", "intersection", "split")
+    STYLED = {"FAULTS": "faults", "SPLIT": "split", "PARTS": "split_parts"}
+
+    def initAlgorithm(self, configuration: Optional[Parameters] = None) -> None:
+        """Its parameters and outputs."""
+        self.add_parcels()
+        self.addParameter(QgsProcessingParameterFeatureSource("OVERLAY", "Zones", [QgsProcessing.TypeVectorPolygon]))
+        names = QgsProcessingParameterField(
+            "OVERLAY_FIELD", "Field of the zones' names", None, "OVERLAY", optional=True
+        )
+        names.setHelp("Several rows may have the same name. Without a field, rows are numbered from 1.")
+        self.addParameter(names)
+        self.add_city()
+        minimum = QgsProcessingParameterNumber(
+            "MIN_AREA",
+            "Parts of less are marked as slivers (m²)",
+            QgsProcessingParameterNumber.Double,
+            1.0,
+            minValue=0.0,
+        )
+        self.addParameter(minimum)
+        add_skip_invalid(self)
+        for name, text, _, kind in OUTPUTS:
+            self.addParameter(QgsProcessingParameterFeatureSink(name, text, kind))
+        self.addParameter(QgsProcessingParameterFeatureSink("TABLE", "Joined table", QgsProcessing.TypeVector))
+        faults = QgsProcessingParameterFeatureSink(
+            "FAULTS", "Faults", QgsProcessing.TypeVectorPolygon, optional=True, createByDefault=False
+        )
+        self.addParameter(faults)
+        more = {"SPLIT_COUNT": "Number of split parcels", "PAIR_COUNT": "Number of parcels and zones that overlap"}
+        self.add_results({**more, **COUNTS}, VERDICT)
+
+    def answered(self, job: Job) -> Parameters:
+        """The split parcels, their parts, the table, the faults, and how many."""
+        minimum = self.parameterAsDouble(job.parameters, "MIN_AREA", job.context)
+        answer, path = job.report(True, min_area=minimum, **skipping(job))
+        results: Dict[str, Any] = results_of(answer)
+        counts = {}
+        for name, _, layer, _ in OUTPUTS:
+            results[name], counts[name] = _copied(job, name, path, layer)
+        results["TABLE"], pairs = self._table(job, path)
+        sink, results["FAULTS"] = job.sink("FAULTS", fault_fields(), QgsWkbTypes.MultiPolygon)
+        if sink is not None:
+            fill_faults(sink, path)
+        return {**results, "SPLIT_COUNT": counts["SPLIT"], "PAIR_COUNT": pairs}
+
+    def _table(self, job: Job, path: str) -> Any:
+        """The joined table, and how many rows it has."""
+        parcels, zones, parts = (layer_of(path, name) for name in ("parcels", "zones", "split_parts"))
+        metre = QgsUnitTypes.fromUnitToUnitFactor(parcels.crs().mapUnits(), QgsUnitTypes.DistanceMeters)
+        joined = Joined(parcels, zones, parts, metre * metre)
+        sink, name = job.sink("TABLE", joined.fields(), QgsWkbTypes.NoGeometry)
+        return name, joined.fill(sink) if sink is not None else 0
+
+
+def _copied(job: Job, output: str, path: str, layer: str) -> Any:
+    """Puts a layer of a GeoPackage into an output; its name, and how many features it has."""
+    found = layer_of(path, layer)
+    fields = own_fields(found)
+    sink, name = job.sink(output, fields, QgsWkbTypes.MultiPolygon)
+    return name, fill(sink, fields, found) if sink is not None else found.featureCount()

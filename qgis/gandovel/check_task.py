@@ -1,0 +1,153 @@
+"""A check in the background: of a layer as it is in the window, edits that are not saved included."""
+from __future__ import annotations
+
+import tempfile
+from dataclasses import dataclass
+from pathlib import Path
+from typing import Any, Callable, Dict, List, Optional
+
+from qgis.core import QgsGeometry, QgsProject, QgsTask, QgsVectorLayer, QgsVectorLayerFeatureSource
+
+from . import answers
+from .answers import KINDS, LAYERS, Answer, Refused
+from .layers import LayerFault, Written, read_layer, write_layer
+from .program import Cancelled, NotFound
+
+STEPS = 12
+
+
+@dataclass(frozen=True)
+class Fault:
+    """A fault of a layer: kind, numbers of the parcels there, area (m2; doubled in mm2, exact), shape."""
+
+    kind: str
+    layer: str
+    numbers: List[str]
+    area_m2: float
+    area2_mm2: str
+    shape: QgsGeometry
+
+
+@dataclass(frozen=True)
+class Outcome:
+    """What a check found; or why there is none, with the features that are refused."""
+
+    faults: List[Fault]
+    verdict: str = ""
+    notes: tuple[str, ...] = ()
+    refused: str = ""
+    features: tuple[int, ...] = ()
+    cancelled: bool = False
+
+
+class Snapshot:
+    """The features of a layer as they are now, to be read in another thread."""
+
+    def __init__(self, layer: QgsVectorLayer) -> None:
+        self._source = QgsVectorLayerFeatureSource(layer)
+        self._fields, self._kind, self._crs = layer.fields(), layer.wkbType(), layer.crs()
+
+    def fields(self) -> Any:
+        """The layer's fields."""
+        return self._fields
+
+    def wkbType(self) -> Any:
+        """The type of the layer's shapes."""
+        return self._kind
+
+    def sourceCrs(self) -> Any:
+        """The layer's projection."""
+        return self._crs
+
+    def getFeatures(self, request: Any) -> Any:
+        """The features."""
+        return self._source.getFeatures(request)
+
+
+class CheckTask(QgsTask):
+    """One check of a layer, in its city where one is given. `done` gets the outcome, in the main thread."""
+
+    def __init__(
+        self,
+        layer: QgsVectorLayer,
+        number: str,
+        city: Optional[QgsVectorLayer],
+        unit: str,
+        done: Callable[[Outcome], None],
+    ) -> None:
+        super().__init__(f"Gandovel: check of {layer.name()}", QgsTask.CanCancel)
+        self.parcels, self.number, self.unit, self.done = Snapshot(layer), number, unit, done
+        self.city = Snapshot(city) if city is not None else None
+        self.context = QgsProject.instance().transformContext()
+        self.steps = 0
+        self.outcome = Outcome([], cancelled=True)
+
+    def is_cancelled(self) -> bool:
+        """Whether the user cancelled."""
+        return bool(self.isCanceled())
+
+    def step(self, text: str) -> None:
+        """The package begins its next step."""
+        self.steps += 1
+        self.setDescription(f"Gandovel: {text}")
+        self.setProgress(100.0 * self.steps / (self.steps + STEPS / 3.0))
+
+    def run(self) -> bool:
+        """Writes the layer, asks the package, and reads the faults; in a thread of its own."""
+        with tempfile.TemporaryDirectory(prefix="gandovel-") as folder:
+            written: Dict[str, Written] = {}
+            try:
+                self.outcome = self._checked(folder, written)
+            except Refused as refused:
+                self.outcome = Outcome([], refused=_line(refused), features=_concerned(refused, written))
+            except Cancelled:
+                return False
+            except (NotFound, LayerFault) as fault:
+                self.outcome = Outcome([], refused=str(fault))
+            except Exception as fault:  # pylint: disable=broad-except
+                self.outcome = Outcome([], refused=f"The check failed: {type(fault).__name__}: {fault}")
+        return True  # a refusal is an outcome, too: QGIS says nothing of its own then
+
+    def _checked(self, folder: str, written: Dict[str, Written]) -> Outcome:
+        written["parcels"] = self._written(self.parcels, folder, "parcels", self.number)
+        out = str(Path(folder) / "report.gpkg")
+        parcels = written["parcels"]
+        options: Dict[str, Any] = {"number": parcels.column}
+        if self.city is not None:
+            written["city"] = self._written(self.city, folder, "city", None)
+            options["city"] = written["city"].path
+        answer: Answer = answers.report(parcels.path, out, options, folder, self)
+        faults = sorted(faults_in(out), key=lambda fault: (-fault.area_m2, fault.kind, fault.numbers))
+        return Outcome(faults, answers.verdict_of(answer), tuple(answers.notes_of(answer)))
+
+    def _written(self, source: Snapshot, folder: str, name: str, number: Optional[str]) -> Written:
+        return write_layer(source, folder, name, number, self.context, self.is_cancelled, False, self.unit)
+
+    def finished(self, result: bool) -> None:
+        """Hands the outcome on, in the main thread."""
+        self.done(self.outcome)
+
+
+def _line(refused: Refused) -> str:
+    more = len(refused.refusals) - 1
+    return f"{refused.refusals[0]}{f' (and {more} more)' if more else ''}"
+
+
+def _concerned(refused: Refused, written: Dict[str, Written]) -> tuple[int, ...]:
+    """The features of the parcels that are refused."""
+    parcels = written.get("parcels")
+    own = [refusal for refusal in refused.refusals if refusal.role in ("", "parcels")]
+    return tuple(one for refusal in own for one in parcels.concerned(refusal)) if parcels is not None else ()
+
+
+def faults_in(path: str) -> List[Fault]:
+    """The faults of a report."""
+    found = []
+    for kind in KINDS:
+        layer = read_layer(path, LAYERS[kind])
+        for feature in layer.getFeatures() if layer is not None else ():
+            numbers = str(feature["numbers"] or "").split(",")
+            area, doubled = float(feature["area_m2"]), str(feature["area2_mm2"])
+            shape = QgsGeometry(feature.geometry())
+            found.append(Fault(kind, str(feature["layer"]), [it for it in numbers if it], area, doubled, shape))
+    return found

@@ -1,0 +1,110 @@
+"""The joined table of an overlay: a row for each parcel and zone that overlap, with the attributes of both."""
+from __future__ import annotations
+
+from collections import defaultdict
+from typing import Any, Dict, Iterator, List, Optional, Tuple
+
+from qgis.core import QgsFeature, QgsFeatureRequest, QgsField, QgsFields, QgsGeometry, QgsSpatialIndex, QgsVectorLayer
+from qgis.PyQt.QtCore import QVariant
+
+from .layers import RESERVED, add, fields_of
+
+COLUMNS = (
+    ("number", QVariant.String),
+    ("zone", QVariant.String),
+    ("zone_how", QVariant.String),
+    ("split", QVariant.Int),
+    ("area_m2", QVariant.Double),
+    ("share", QVariant.Double),
+    ("area_how", QVariant.String),
+)
+OWN = (*RESERVED, "number", "records", "status")
+"""Columns of a report that are no attributes of the user's layers."""
+Row = Tuple[Dict[str, Any], QgsFeature, Optional[QgsFeature]]
+
+
+class Joined:
+    """The table of a report's layers. `square_metres` is the area of a square of the layers' unit."""
+
+    def __init__(
+        self, parcels: QgsVectorLayer, zones: QgsVectorLayer, parts: QgsVectorLayer, square_metres: float
+    ) -> None:
+        self.parcels, self.square_metres = parcels, square_metres
+        self.zones = {feature.id(): feature for feature in zones.getFeatures()}
+        self.by_name = {str(feature["number"]): feature for feature in reversed(list(self.zones.values()))}
+        self.index = QgsSpatialIndex(zones.getFeatures())
+        self.parts: Dict[str, List[QgsFeature]] = defaultdict(list)
+        for part in parts.getFeatures(QgsFeatureRequest().setFlags(QgsFeatureRequest.NoGeometry)):
+            self.parts[str(part["number"])].append(part)
+        self.attributes = [_others(parcels, "parcel_"), _others(zones, "zone_")]
+
+    def fields(self) -> QgsFields:
+        """The table's own columns, and those of both layers, each under its prefix."""
+        fields = fields_of(COLUMNS)
+        for others in self.attributes:
+            for name, (field, _) in others.items():
+                own = QgsField(field)
+                own.setName(name)
+                fields.append(own)
+        return fields
+
+    def fill(self, sink: Any) -> int:
+        """Puts all rows into a sink; how many."""
+        fields, count = self.fields(), 0
+        for values, *owners in self._rows():
+            for others, owner in zip(self.attributes, owners):
+                if owner is not None:
+                    values.update({name: owner[field.name()] for name, (field, _) in others.items()})
+            add(sink, fields, values)
+            count += 1
+        return count
+
+    def _rows(self) -> Iterator[Row]:
+        for parcel in self.parcels.getFeatures():
+            number = str(parcel["number"])
+            parts = self.parts.get(number, [])
+            for part in parts:
+                values = {
+                    "number": number,
+                    "zone": part["zone"],
+                    "zone_how": "exact",
+                    "split": 1,
+                    "area_how": "measured",
+                }
+                yield {**values, "area_m2": part["area_m2"], "share": part["share"]}, parcel, self.by_name.get(
+                    part["zone"]
+                )
+            if not parts:
+                yield self._whole(number, parcel)
+
+    def _whole(self, number: str, parcel: QgsFeature) -> Row:
+        """The row of a parcel that no two zones share; in which one it lies is measured at a point inside."""
+        zone = self._zone_at(parcel.geometry())
+        values = {
+            "number": number,
+            "zone": zone["number"] if zone is not None else None,
+            "zone_how": "measured",
+            "split": 0,
+        }
+        area = parcel.geometry().area() * self.square_metres
+        return {**values, "area_m2": area, "share": 1.0, "area_how": "measured"}, parcel, zone
+
+    def _zone_at(self, shape: QgsGeometry) -> Optional[QgsFeature]:
+        point = shape.pointOnSurface()
+        for feature in self.index.intersects(point.boundingBox()):
+            if self.zones[feature].geometry().intersects(point):
+                return self.zones[feature]
+        return None
+
+
+def _others(layer: QgsVectorLayer, prefix: str) -> Dict[str, Tuple[QgsField, str]]:
+    """The user's attributes of a layer, by their names in the table."""
+    own = {name for name, _ in COLUMNS}
+    found: Dict[str, Tuple[QgsField, str]] = {}
+    for field in layer.fields():
+        if field.name().lower() not in OWN:
+            name = f"{prefix}{field.name()}"
+            while name in own or name in found:
+                name += "_"
+            found[name] = field, name
+    return found

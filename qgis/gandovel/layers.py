@@ -1,0 +1,206 @@
+"""Layers between QGIS and the package: written to a folder as GeoPackages, and read back into sinks."""
+from __future__ import annotations
+
+from collections import defaultdict
+from dataclasses import dataclass, field
+from pathlib import Path
+from typing import Any, Callable, Dict, Iterator, List, Optional, Sequence
+
+from qgis.core import (
+    QgsCoordinateReferenceSystem,
+    QgsCoordinateTransformContext,
+    QgsFeature,
+    QgsFeatureRequest,
+    QgsFeatureSink,
+    QgsField,
+    QgsFields,
+    QgsProcessingFeatureSource,
+    QgsVectorFileWriter,
+    QgsVectorLayer,
+)
+
+from qgis.PyQt.QtCore import QVariant
+
+from .answers import Refusal
+from .program import Cancelled
+
+ROW = "row"
+"""The column of the numbers where rows are numbered, from 1."""
+RESERVED = ("fid", "ogc_fid", "geom", "geometry")
+"""Columns that a GeoPackage has of its own."""
+STYLES = Path(__file__).with_name("styles")
+LOOK_EVERY = 1000
+"""After how many features it is looked whether the user cancelled."""
+
+
+UNITS = {"mm": ("millimetres", 0.001), "cm": ("centimetres", 0.01), "m": ("metres", 1.0)}
+"""The units of layers without a projection, in metres."""
+
+
+class LayerFault(Exception):
+    """A layer that can't be written for the package."""
+
+
+@dataclass
+class Written:
+    """A layer that was written: its path, the column of its numbers there, and which features have which number."""
+
+    path: str
+    column: str
+    features: Dict[str, List[int]] = field(default_factory=dict)
+
+    def concerned(self, refusal: Refusal) -> List[int]:
+        """The features of the layer that a refusal is about: by their number, without one those that have none."""
+        if refusal.number is None:
+            return self.features.get("", []) if refusal.code == "P3" else []
+        return self.features.get(refusal.number, [])
+
+
+def write_layer(
+    source: Any,
+    folder: str,
+    name: str,
+    number: Optional[str],
+    context: QgsCoordinateTransformContext,
+    cancelled: Callable[[], bool],
+    attributes: bool = True,
+    unit: str = "",
+) -> Written:
+    """Writes the features of a source, invalid ones too, to `folder`/`name`.gpkg.
+
+    `number` is the field of the features' own numbers, "" for their rows, None for none. Without `attributes` it is the
+    only column.
+    `unit` (mm, cm, m) is that of a source without a projection. Raises `LayerFault`, and `Cancelled`.
+    """
+    path = str(Path(folder) / f"{name}.gpkg")
+    kept, fields, column = _columns(source.fields(), number, attributes)
+    options = QgsVectorFileWriter.SaveVectorOptions()
+    options.driverName, options.layerName = "GPKG", name
+    options.layerOptions = ["FID=gandovel_fid", "GEOMETRY_NAME=gandovel_geometry", "SPATIAL_INDEX=NO"]
+    crs = _projection(source, name, unit)
+    writer = QgsVectorFileWriter.create(path, fields, source.wkbType(), crs, context, options)
+    if writer.hasError() != QgsVectorFileWriter.NoError:
+        raise LayerFault(f"The layer {name} can't be written for the check: {writer.errorMessage()}")
+    written = Written(path, column)
+    found: Dict[str, List[int]] = defaultdict(list)
+    at_number = source.fields().lookupField(number) if number else -1
+    for row, feature in enumerate(every_feature(source, cancelled), 1):
+        values = feature.attributes()
+        copy = QgsFeature(fields)
+        copy.setGeometry(feature.geometry())
+        copy.setAttributes([values[at] for at in kept] + ([row] if number == "" else []))
+        if not writer.addFeature(copy):
+            raise LayerFault(
+                f"Feature {feature.id()} of {name} can't be written for the check: {writer.errorMessage()}"
+            )
+        found[str(row) if at_number < 0 else text_of(values[at_number])].append(feature.id())
+    del writer
+    written.features = dict(found)
+    return written
+
+
+def _projection(source: Any, name: str, unit: str) -> QgsCoordinateReferenceSystem:
+    """A source's projection; without one a plane in the unit that is named. Raises `LayerFault`."""
+    if source.sourceCrs().isValid():
+        return source.sourceCrs()
+    if unit not in UNITS:
+        raise LayerFault(f"The layer {name} has no projection: give it one, or name the unit of its coordinates.")
+    title, metres = UNITS[unit]
+    return QgsCoordinateReferenceSystem.fromWkt(
+        f'LOCAL_CS["plane in {title}",UNIT["{title}",{metres}],AXIS["Easting",EAST],AXIS["Northing",NORTH]]'
+    )
+
+
+def _columns(fields: QgsFields, number: Optional[str], attributes: bool) -> tuple[List[int], QgsFields, str]:
+    """Which fields are written, as which, and the column of the numbers. Names that collide get an underscore."""
+    written, kept, used, column = QgsFields(), [], set(RESERVED), ROW
+    for at in range(fields.count()):
+        one = QgsField(fields[at])
+        is_number = one.name() == number
+        if not is_number and (not attributes or one.name().lower() in RESERVED):
+            continue
+        while one.name().lower() in used:
+            one.setName(f"{one.name()}_")
+        used.add(one.name().lower())
+        column = one.name() if is_number else column
+        kept.append(at)
+        written.append(one)
+    if number == "":
+        while column.lower() in used:
+            column += "_"
+        written.append(QgsField(column, QVariant.LongLong))
+    return kept, written, column
+
+
+def every_feature(source: Any, cancelled: Callable[[], bool]) -> Iterator[QgsFeature]:
+    """The features of a source, invalid ones too: it is the package that names them. Raises `Cancelled`."""
+    request = QgsFeatureRequest()
+    if isinstance(source, QgsProcessingFeatureSource):
+        features = source.getFeatures(request, QgsProcessingFeatureSource.FlagSkipGeometryValidityChecks)
+    else:
+        features = source.getFeatures(request)
+    for at, feature in enumerate(features):
+        if at % LOOK_EVERY == 0 and cancelled():
+            raise Cancelled("cancelled")
+        yield feature
+
+
+def text_of(value: Any) -> str:
+    """A feature's number as the package writes it; empty where there is none."""
+    if value is None or (hasattr(value, "isNull") and value.isNull()):
+        return ""
+    if isinstance(value, float) and value.is_integer():
+        return str(int(value))
+    return str(value).strip()
+
+
+def read_layer(path: str, name: str) -> Optional[QgsVectorLayer]:
+    """A layer of a GeoPackage; None where there is no such layer."""
+    layer = QgsVectorLayer(f"{path}|layername={name}", name, "ogr")
+    return layer if layer.isValid() else None
+
+
+def layer_of(path: str, name: str) -> QgsVectorLayer:
+    """A layer that the package has to have written. Raises `LayerFault`."""
+    layer = read_layer(path, name)
+    if layer is None:
+        raise LayerFault(f"The package gandovel wrote no layer {name}: install the version that fits this plugin.")
+    return layer
+
+
+def own_fields(layer: QgsVectorLayer) -> QgsFields:
+    """The fields of a layer that was read, without those of the GeoPackage itself."""
+    fields = QgsFields()
+    for one in layer.fields():
+        if one.name().lower() not in RESERVED:
+            fields.append(one)
+    return fields
+
+
+def fill(sink: Any, fields: QgsFields, layer: Optional[QgsVectorLayer], more: Optional[Dict[str, Any]] = None) -> int:
+    """Puts the features of a layer into a sink, by the names of its fields, with `more` values; how many."""
+    count = 0
+    for feature in layer.getFeatures() if layer is not None else ():
+        names = {one.name() for one in feature.fields()}
+        values = {name: feature[name] for name in fields.names() if name in names}
+        add(sink, fields, {**values, **(more or {})}, feature.geometry())
+        count += 1
+    return count
+
+
+def add(sink: Any, fields: QgsFields, values: Dict[str, Any], geometry: Any = None) -> None:
+    """Puts one feature into a sink. Raises `LayerFault` where it does not take it."""
+    feature = QgsFeature(fields)
+    if geometry is not None:
+        feature.setGeometry(geometry)
+    feature.setAttributes([values.get(name) for name in fields.names()])
+    if not sink.addFeature(feature, QgsFeatureSink.FastInsert):
+        raise LayerFault(f"An output can't be written: {sink.lastError() or 'is the disk full?'}")
+
+
+def fields_of(columns: Sequence[tuple[str, Any]]) -> QgsFields:
+    """Fields of these names and types."""
+    fields = QgsFields()
+    for name, kind in columns:
+        fields.append(QgsField(name, kind))
+    return fields

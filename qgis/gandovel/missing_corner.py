@@ -1,0 +1,110 @@
+"""The missing corner: where a parcel has one beside a fault, and its neighbour goes straight past."""
+from __future__ import annotations
+
+from dataclasses import dataclass
+from typing import Any, Dict, List, Optional, Sequence, Tuple
+
+from qgis.core import QgsGeometry, QgsPointXY, QgsUnitTypes, QgsVectorLayer
+
+NEAR_MM = 0.75
+"""How far a corner of a fault, which is a whole millimetre, may be from the layer's own corner."""
+COMMAND = "Insert missing corners"
+
+
+@dataclass(frozen=True)
+class Missing:
+    """A feature of the layer, and the corners of its neighbours that it lacks beside a fault."""
+
+    feature: int
+    corners: Tuple[QgsPointXY, ...]
+    farthest: float
+
+
+def near_of(layer: QgsVectorLayer) -> float:
+    """`NEAR_MM` in the layer's unit; without a projection the unit is taken as a metre."""
+    unit = layer.crs().mapUnits() if layer.crs().isValid() else QgsUnitTypes.DistanceMeters
+    return float(NEAR_MM * QgsUnitTypes.fromUnitToUnitFactor(QgsUnitTypes.DistanceMillimeters, unit))
+
+
+def missing_corners(fault: QgsGeometry, shapes: Dict[int, QgsGeometry], near: float) -> Optional[Missing]:
+    """What one of the shapes (by feature) that border a fault lacks; None where each has corners of its own there.
+
+    A corner of the fault is missing in a shape if it is a corner of another one, the shape's border goes past it inside
+    an edge, and the shape changes within the fault alone when it is put in. `near` is a distance in the layer's unit.
+    Where several shapes lack corners, it is the one whose border is nearest.
+    """
+    corners = [QgsPointXY(vertex) for vertex in fault.vertices()]
+    found: List[Missing] = []
+    for feature, shape in shapes.items():
+        others = [other for at, other in shapes.items() if at != feature]
+        one = _missing_in(feature, shape, corners, others, near)
+        if one is not None and _changes_within(fault, shape, with_corners(shape, one.corners), near):
+            found.append(one)
+    return min(found, key=lambda one: one.farthest) if found else None
+
+
+def _missing_in(
+    feature: int, shape: QgsGeometry, corners: Sequence[QgsPointXY], others: Sequence[QgsGeometry], near: float
+) -> Optional[Missing]:
+    taken: List[QgsPointXY] = []
+    farthest = 0.0
+    for corner in corners:
+        square, place, _, _ = shape.closestSegmentWithContext(corner)
+        own = _corner_near(others, corner, near)
+        if square <= near * near or own is None or _corner_near([shape], place, near) is not None:
+            continue
+        farthest = max(farthest, square)
+        if own not in taken:
+            taken.append(own)
+    return Missing(feature, tuple(taken), farthest) if taken else None
+
+
+def with_corners(shape: QgsGeometry, corners: Sequence[QgsPointXY]) -> QgsGeometry:
+    """The shape with corners put into its nearest edges, one after the other."""
+    changed = QgsGeometry(shape)
+    for corner in corners:
+        _, _, after, _ = changed.closestSegmentWithContext(corner)
+        changed.insertVertex(corner.x(), corner.y(), after)
+    return changed
+
+
+def _changes_within(fault: QgsGeometry, shape: QgsGeometry, changed: QgsGeometry, near: float) -> bool:
+    """Whether a change of a shape leaves it valid, and touches nothing beyond the fault."""
+    if not changed.isGeosValid():
+        return False
+    difference = changed.symDifference(shape)
+    return bool(difference.difference(fault).area() <= near * difference.length())
+
+
+def _corner_near(shapes: Sequence[QgsGeometry], place: QgsPointXY, near: float) -> Optional[QgsPointXY]:
+    """The corner of shapes that is nearest to a place, if it is near."""
+    best: Tuple[float, Optional[QgsPointXY]] = (near * near, None)
+    for shape in shapes:
+        corner, _, _, _, square = shape.closestVertex(place)
+        if 0 <= square <= best[0]:
+            best = square, corner
+    return best[1]
+
+
+def insert(layer: QgsVectorLayer, missing: Missing) -> int:
+    """Inserts the missing corners into the feature: one command, which undo takes back; how many."""
+    layer.beginEditCommand(COMMAND)
+    count = 0
+    for corner in missing.corners:
+        shape = layer.getGeometry(missing.feature)
+        _, _, after, _ = shape.closestSegmentWithContext(corner)
+        count += int(layer.insertVertex(corner.x(), corner.y(), missing.feature, after))
+    if count:
+        layer.endEditCommand()
+    else:
+        layer.destroyEditCommand()
+    return count
+
+
+def shapes_by_number(layer: QgsVectorLayer, field: str, numbers: Sequence[str], text_of: Any) -> Dict[int, QgsGeometry]:
+    """The shapes of the features with these numbers, unsaved edits included; without a field rows, from 1."""
+    wanted, found = set(numbers), {}
+    for row, feature in enumerate(layer.getFeatures(), 1):
+        if (text_of(feature[field]) if field else str(row)) in wanted:
+            found[feature.id()] = QgsGeometry(feature.geometry())
+    return found

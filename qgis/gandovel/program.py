@@ -1,0 +1,201 @@
+"""The package `gandovel` in a process of its own: found, run, watched, and ended when the user cancels."""
+from __future__ import annotations
+
+import os
+import queue
+import shutil
+import signal
+import subprocess
+import sys
+import tempfile
+import threading
+from dataclasses import dataclass
+from pathlib import Path
+from typing import IO, Dict, List, Optional, Protocol, Sequence
+
+from qgis.core import QgsSettings
+
+PYTHON_SETTING, TOOL_SETTING = "GANDOVEL_PYTHON", "GANDOVEL_TOOL"
+"""Settings of Processing, and variables of the environment that stand above them."""
+WHERE = "Settings > Options > Processing > Providers > Gandovel"
+NO_PACKAGE = (
+    "The Python package gandovel was not found: install it (`pip install gandovel`, or the wheel of a release) and "
+    f"name the Python that has it in {WHERE}."
+)
+NO_PROGRAM = f"The program parcel_tool was not found: install it from a release and name it in {WHERE}."
+TRIED_MODULES = ("geopandas", "tqdm")
+FIND = "import importlib.util as util, gandovel; print(all(map(util.find_spec, {modules!r})))"
+PAUSE = 0.1
+"""Seconds between two looks at whether the user cancelled."""
+PATIENCE = 2.0
+"""Seconds that a process has to end before it is killed."""
+
+
+class NotFound(Exception):
+    """The package or the program is not there; the text says in one sentence how to get it."""
+
+
+class Cancelled(Exception):
+    """The user cancelled; the process and its children have ended, and nothing was written."""
+
+
+class Watcher(Protocol):
+    """Who looks on while a process runs."""
+
+    def is_cancelled(self) -> bool:
+        """Whether the user cancelled."""
+
+    def step(self, text: str) -> None:
+        """The process begins its next step."""
+
+
+@dataclass(frozen=True)
+class Ended:
+    """How a process ended: its status, what it printed, and the lines of its standard error."""
+
+    status: int
+    printed: str
+    errors: List[str]
+
+
+def setting(name: str) -> str:
+    """What the environment, else the setting of Processing, names; empty where neither does."""
+    return os.environ.get(name) or str(QgsSettings().value(f"Processing/Configuration/{name}", "") or "")
+
+
+def environment(folder: Optional[str] = None) -> Dict[str, str]:
+    """The variables of a process of the package. Its temporary files go to `folder`, which the caller removes."""
+    variables = {name: value for name, value in os.environ.items() if name not in ("PYTHONHOME", "PYTHONOPTIMIZE")}
+    variables.update(PYTHONUTF8="1", PYTHONDONTWRITEBYTECODE="1")
+    if folder is not None:
+        variables["TMPDIR"] = variables["TEMP"] = variables["TMP"] = folder
+    tool = setting(TOOL_SETTING)
+    if tool:
+        variables[TOOL_SETTING] = tool
+    return variables
+
+
+_found: Dict[str, str] = {}
+"""The Python that has the package, by the setting with which it was looked for."""
+
+
+def find_python() -> str:
+    """The Python that has the package: the one that is named, else the first that has it. Raises `NotFound`."""
+    named = setting(PYTHON_SETTING)
+    if named not in _found:
+        candidates = [named] if named else _pythons()
+        found = next((python for python in candidates if _has_package(python)), None)
+        if found is None:
+            raise NotFound(f"{NO_PACKAGE} ({named} is named now.)" if named else NO_PACKAGE)
+        _found[named] = found
+    return _found[named]
+
+
+def _pythons() -> List[str]:
+    """Pythons where the package may be: QGIS's own, those on the path, and that of a command `gandovel`."""
+    places = [sys.executable, *(shutil.which(name) for name in ("python3", "python")), "/usr/bin/python3"]
+    command = shutil.which("gandovel")
+    if command:
+        places.append(_interpreter_of(Path(command)))
+    names = [place for place in dict.fromkeys(places) if place and Path(place).name.lower().startswith("python")]
+    return [str(name) for name in names]
+
+
+def _interpreter_of(script: Path) -> Optional[str]:
+    """The Python in the first line of a script."""
+    with open(script, "rb") as file:
+        line = file.readline(4096).decode("utf-8", "replace")
+    return line[2:].split()[0] if line.startswith("#!/") else None
+
+
+def _has_package(python: str) -> bool:
+    command = [python, "-c", FIND.format(modules=TRIED_MODULES)]
+    try:
+        ended = subprocess.run(
+            command,
+            env=environment(),
+            capture_output=True,
+            text=True,
+            timeout=60,
+            stdin=subprocess.DEVNULL,
+            check=False,
+        )
+    except (OSError, subprocess.TimeoutExpired):
+        return False
+    return ended.returncode == 0 and ended.stdout.strip() == "True"
+
+
+def run(arguments: Sequence[str], folder: str, watcher: Watcher) -> Ended:
+    """Runs the package's Python. Raises `NotFound`, and `Cancelled` once all its processes have ended."""
+    with tempfile.TemporaryFile(dir=folder) as output:
+        process = subprocess.Popen(  # pylint: disable=consider-using-with
+            [find_python(), *arguments],
+            env=environment(folder),
+            stdin=subprocess.DEVNULL,
+            stdout=output,
+            stderr=subprocess.PIPE,
+            start_new_session=True,
+        )
+        errors = _watched(process, watcher)
+        output.seek(0)
+        return Ended(process.returncode, output.read().decode("utf-8", "replace"), errors)
+
+
+def _watched(process: subprocess.Popen[bytes], watcher: Watcher) -> List[str]:
+    """The lines of a process's standard error, once it has ended. Steps (`... TEXT`) are handed to the watcher."""
+    lines: queue.Queue[Optional[str]] = queue.Queue()
+    assert process.stderr is not None
+    reader = threading.Thread(target=_read, args=(process.stderr, lines), daemon=True)
+    reader.start()
+    kept: List[str] = []
+    try:
+        while True:
+            if watcher.is_cancelled():
+                raise Cancelled("cancelled")
+            try:
+                line = lines.get(timeout=PAUSE)
+            except queue.Empty:
+                continue
+            if line is None:
+                process.wait()
+                return kept
+            if line.startswith("... "):
+                watcher.step(line[4:])
+            else:
+                kept.append(line)
+    finally:
+        _end(process)
+        reader.join(PATIENCE)
+        process.stderr.close()
+
+
+def _read(stream: IO[bytes], lines: queue.Queue[Optional[str]]) -> None:
+    try:
+        for line in stream:
+            lines.put(line.decode("utf-8", "replace").rstrip())
+    except ValueError:  # closed, since the process was ended
+        pass
+    lines.put(None)
+
+
+def _end(process: subprocess.Popen[bytes]) -> None:
+    """Ends a process that still runs, and those that it started."""
+    if process.poll() is not None:
+        return
+    _send(process, signal.SIGTERM)
+    try:
+        process.wait(PATIENCE)
+    except subprocess.TimeoutExpired:
+        pass
+    _send(process, getattr(signal, "SIGKILL", signal.SIGTERM))
+    process.wait()
+
+
+def _send(process: subprocess.Popen[bytes], number: int) -> None:
+    if hasattr(os, "killpg"):
+        try:
+            os.killpg(process.pid, number)
+        except ProcessLookupError:
+            pass
+    else:
+        process.kill()

@@ -1,0 +1,110 @@
+"""The dock in the window of QGIS, under Xvfb: a clerk edits a street."""
+from __future__ import annotations
+
+import json
+import os
+import shutil
+import subprocess
+import time
+from pathlib import Path
+from typing import Any, Dict, Iterator
+
+import pytest
+from conftest import environment
+from layers_made import STREET_AREAS, STREET_CORNER, make_street
+
+HERE = Path(__file__).resolve().parent
+PROFILE = "profiles/default/QGIS/QGIS3.ini"
+SETTINGS = """[PythonPlugins]
+gandovel=true
+processing=true
+
+[qgis]
+checkVersion=false
+newsFeed\\disabled=true
+
+[app]
+projections\\unknownCrsBehavior=NoAction
+"""
+
+
+@pytest.fixture(scope="module")
+def display() -> Iterator[str]:
+    """An Xvfb of its own."""
+    reading, writing = os.pipe()
+    words = ["Xvfb", "-displayfd", str(writing), "-screen", "0", "1280x800x24", "-nolisten", "tcp"]
+    with subprocess.Popen(words, pass_fds=[writing], stderr=subprocess.DEVNULL) as server:
+        os.close(writing)
+        with os.fdopen(reading) as told:
+            number = told.readline().strip()
+        assert number, "Xvfb did not start"
+        yield f":{number}"
+        server.terminate()
+
+
+@pytest.fixture(scope="module")
+def seen(display: str, tmp_path_factory: pytest.TempPathFactory) -> Dict[str, Any]:
+    """What `window.py` saw."""
+    folder = tmp_path_factory.mktemp("window")
+    make_street(folder / "street.gpkg")
+    settings = folder / PROFILE
+    settings.parent.mkdir(parents=True)
+    settings.write_text(SETTINGS)
+    variables = environment(folder)
+    variables.pop("QGIS_CUSTOM_CONFIG_PATH")
+    variables.update(DISPLAY=display, QT_QPA_PLATFORM="xcb", GANDOVEL_WINDOW=str(folder), LIBGL_ALWAYS_SOFTWARE="1")
+    words = ["qgis", "--nologo", "--noversioncheck", "--profiles-path", str(folder), "--code", str(HERE / "window.py")]
+    begun = time.monotonic()
+    ended = subprocess.run(words, env=variables, capture_output=True, text=True, timeout=900, check=False)
+    path = folder / "seen.json"
+    assert path.is_file(), f"QGIS ended after {time.monotonic() - begun:.0f} s: {ended.stderr[-2000:]}"
+    found: Dict[str, Any] = json.loads(path.read_text())
+    assert "failed" not in found, found["failed"]
+    keep = os.environ.get("GANDOVEL_PICTURES")
+    for image in folder.glob("*.png") if keep else ():
+        shutil.copy(image, str(keep))
+    return found
+
+
+def areas_of(rows: list[list[str]], kind: str) -> list[float]:
+    """The areas of a kind of fault, as the dock lists them."""
+    return [float(area.replace(",", "")) for name, area, _ in rows if name == kind]
+
+
+def test_the_dock_lists_the_faults_of_an_edited_layer_largest_first(seen: Dict[str, Any]) -> None:
+    """All that were planted, with their areas and numbers."""
+    assert seen["number"] == "parcel_no"
+    rows = seen["first"]
+    for kind, planted in STREET_AREAS.items():
+        assert areas_of(rows, kind) == pytest.approx(planted, abs=0.03)
+    assert len(rows) == sum(map(len, STREET_AREAS.values()))
+    areas = [float(area) for _, area, _ in rows]
+    assert areas == sorted(areas, reverse=True)
+    assert set(rows[0][2].split(", ")) == set(STREET_CORNER)
+    assert "do not tile" in seen["said"]
+
+
+def test_a_click_zooms_to_the_fault(seen: Dict[str, Any]) -> None:
+    """The map shows less than half of what it did."""
+    assert seen["zoomed"] is True
+
+
+def test_the_missing_corner_is_an_edit_that_undo_takes_back(seen: Dict[str, Any]) -> None:
+    """The fault goes with it, nothing was saved, and it is back after undo."""
+    assert seen["inserted"].startswith("1 corner inserted")
+    assert seen["commands"] == 1
+    assert seen["mended"] == seen["first"][1:]
+    assert seen["undone"] == seen["first"]
+
+
+def test_a_plot_that_crosses_itself_is_refused_and_selected(seen: Dict[str, Any]) -> None:
+    """By its number, in the message bar too."""
+    assert "P6 parcel 12" in seen["refused"]
+    assert seen["selected"] == ["12"]
+    assert seen["messages"] >= 1
+
+
+def test_a_check_can_be_cancelled(seen: Dict[str, Any]) -> None:
+    """The dock says so; a layer that is removed then is forgotten."""
+    assert seen["cancelled"] == "Cancelled."
+    assert seen["forgotten"] is True
