@@ -102,6 +102,7 @@ def in_time():
 
     def too_long(number, frame):
         raise AssertionError("the test waits for ever")
+
     before = signal.signal(signal.SIGALRM, too_long)
     signal.alarm(7200 if FULL else 600)
     yield

@@ -65,6 +65,7 @@ def program(folder: Path, monkeypatch: Any, lines: str) -> Path:
     script.write_text(
         f"""#!/bin/sh
 [ "$1" = --version ] && exec "{TOOL}" --version
+case "$2" in */gandovel-trial-*) exec "{TOOL}" "$@";; esac
 city=$(dirname "$2")
 once() {{ mkdir "$city/$1" 2> /dev/null; }}
 echo "$(basename "$city") $1" >> "{folder}/calls"

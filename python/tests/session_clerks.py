@@ -93,14 +93,23 @@ class Clerk:
     def silly(self, parcel: int, ring: Ring) -> Any:
         """An edit that is refused, of one kind or another, unless others have made it right."""
         desk, (a, b, c) = self.desk, ring[:3]
-        return self.draw.choice([
-            lambda: desk.merge(parcel, parcel), lambda: desk.merge(parcel, self.draw.choice(self.gone)),
-            lambda: desk.split(10**18 + parcel, ring[:2]), lambda: desk.split(parcel, [a, b, a]),
-            lambda: desk.split(parcel, [a, (b[0] + 1, b[1] + 1), c]), lambda: desk.split(parcel, [b, a, c]),
-            lambda: desk.insert(a, c, b), lambda: desk.insert(a, b, c), lambda: desk.insert(a, b, a),
-            lambda: desk.straighten(a), lambda: desk.straighten((a[0] + 1, a[1] + 3)),
-            lambda: desk.move(parcel, 1, ring), lambda: desk.merge(parcel, self.draw.randint(1, 2 * parcel)),
-        ])()
+        return self.draw.choice(
+            [
+                lambda: desk.merge(parcel, parcel),
+                lambda: desk.merge(parcel, self.draw.choice(self.gone)),
+                lambda: desk.split(10**18 + parcel, ring[:2]),
+                lambda: desk.split(parcel, [a, b, a]),
+                lambda: desk.split(parcel, [a, (b[0] + 1, b[1] + 1), c]),
+                lambda: desk.split(parcel, [b, a, c]),
+                lambda: desk.insert(a, c, b),
+                lambda: desk.insert(a, b, c),
+                lambda: desk.insert(a, b, a),
+                lambda: desk.straighten(a),
+                lambda: desk.straighten((a[0] + 1, a[1] + 3)),
+                lambda: desk.move(parcel, 1, ring),
+                lambda: desk.merge(parcel, self.draw.randint(1, 2 * parcel)),
+            ]
+        )()
 
     def split(self, parcel: int, ring: Ring) -> Any:
         """Along a chord of the ring, at times bent in the middle."""
@@ -206,6 +215,7 @@ def started(jobs: Sequence[Tuple[Any, ...]]) -> Callable[[], List[Heard]]:
         for process, _ in begun:
             process.join()
         return heard
+
     return finished
 
 

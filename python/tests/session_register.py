@@ -31,8 +31,9 @@ def area2(ring: Sequence[Corner]) -> int:
 
 def is_on(p: Corner, a: Corner, b: Corner) -> bool:
     """Whether p lies on the segment from a to b, its ends included."""
-    return (turn(a, b, p) == 0 and min(a[0], b[0]) <= p[0] <= max(a[0], b[0])
-            and min(a[1], b[1]) <= p[1] <= max(a[1], b[1]))
+    return (
+        turn(a, b, p) == 0 and min(a[0], b[0]) <= p[0] <= max(a[0], b[0]) and min(a[1], b[1]) <= p[1] <= max(a[1], b[1])
+    )
 
 
 def is_strictly_on(p: Corner, a: Corner, b: Corner) -> bool:
@@ -56,9 +57,9 @@ def meet_otherwise(ring: Ring, i: int, j: int) -> bool:
     """Whether edges i < j meet otherwise than neighbours do in their common corner."""
     n = len(ring)
     a, b, c, d = ring[i], ring[(i + 1) % n], ring[j], ring[(j + 1) % n]
-    if j == i + 1:          # b is c
+    if j == i + 1:  # b is c
         return (a != b and is_on(a, c, d)) or (d != c and is_on(d, a, b))
-    if i == 0 and j == n - 1:       # d is a
+    if i == 0 and j == n - 1:  # d is a
         return (c != d and is_on(c, a, b)) or (b != a and is_on(b, c, d))
     return segments_meet(a, b, c, d)
 
@@ -90,7 +91,7 @@ def run_between(ring: Ring, u: Corner, v: Corner) -> Ring:
     """The corners that the ring goes by from u on to v, without these two."""
     at = ring.index(u)
     turned = ring[at:] + ring[:at]
-    return turned[1:turned.index(v)] if u != v else turned[1:]
+    return turned[1 : turned.index(v)] if u != v else turned[1:]
 
 
 class Register:
@@ -203,7 +204,7 @@ class Register:
         return found, rows
 
     def _straighten(self, words: List[str]) -> Tuple[List[int], List[Tuple[int, Ring]]]:
-        corner, = corners_of(words)
+        (corner,) = corners_of(words)
         found = sorted(self.at.get(corner, ()))
         if not found:
             raise Refusal("E11")
@@ -302,8 +303,11 @@ def grid_city(columns: int, rows: int, seed: int, side: int = CELL) -> Tuple[Rin
             dx = draw.randrange(-side // 320, side // 320 + 1) * 64 if 0 < i < columns else 0
             dy = draw.randrange(-side // 320, side // 320 + 1) * 64 if 0 < j < rows else 0
             places[i, j] = (i * side + dx, j * side + dy)
-    rings = [[places[i, j], places[i + 1, j], places[i + 1, j + 1], places[i, j + 1]]
-             for j in range(rows) for i in range(columns)]
+    rings = [
+        [places[i, j], places[i + 1, j], places[i + 1, j + 1], places[i, j + 1]]
+        for j in range(rows)
+        for i in range(columns)
+    ]
     low = [places[i, 0] for i in range(columns)] + [places[columns, j] for j in range(rows)]
     high = [places[i, rows] for i in range(columns, 0, -1)] + [places[0, j] for j in range(rows, 0, -1)]
     return low + high, rings

@@ -1,6 +1,7 @@
 """A small city with a journal, and clients that speak bytes: what the tests of sessions share."""
 from __future__ import annotations
 
+import hashlib
 import os
 import stat
 import sys
@@ -9,9 +10,9 @@ from typing import Any, List, Optional, Sequence
 
 import numpy as np
 
-from gandovel import Session
+from gandovel import Session, read_journal
 from gandovel.layer_files import write_rings
-from session_register import Register, Ring
+from session_register import Register, Ring, from_least
 
 SECONDS = 120
 """How long a call, or a start, may take before the test fails."""
@@ -41,10 +42,30 @@ class Town:
         return Register(self.ring, self.rings)
 
     def lines(self) -> List[str]:
-        """The journal's lines. A last one without its end fails."""
-        text = self.journal.read_bytes().decode("ascii")
-        assert not text or text.endswith("\n")
-        return text.splitlines()
+        """The lines of the journal's edits. A record that was changed, or is torn, fails."""
+        if not self.journal.exists() or not self.journal.stat().st_size:
+            return []
+        journal = read_journal(self.journal)
+        assert journal.torn == 0 and journal.layer == self.layer()
+        return [record.edit for record in journal.records]
+
+    def layer(self) -> str:
+        """The SHA-256 that names the layer in its journal."""
+        rings = [self.ring, *self.rings]
+        text = "".join(
+            f"{number} {' '.join(f'{x} {y}' for x, y in from_least(list(ring)))}\n" for number, ring in enumerate(rings)
+        )
+        return hashlib.sha256(text.encode()).hexdigest()
+
+    def text_of(self, *edits: str, clerk: int = 1) -> bytes:
+        """The journal of these edits, as a session writes it, all by one clerk."""
+        digest = self.layer().encode()
+        text = b"# gandovel journal 1 mm " + digest + b"\n"
+        for number, edit in enumerate(edits, 1):
+            stamp = f"# {number} {clerk} 2026-01-01T00:00:00Z ".encode()
+            digest = hashlib.sha256(digest + stamp + edit.encode() + b"\n").hexdigest().encode()
+            text += stamp + digest + b"\n" + edit.encode() + b"\n"
+        return text
 
 
 class Raw:
@@ -58,7 +79,7 @@ class Raw:
         """Sends bytes, and answers so many lines, without their ends."""
         sent = memoryview(text)
         while sent:
-            sent = sent[self.outward.write(sent):]
+            sent = sent[self.outward.write(sent) :]
         return [self.inward.readline()[:-1] for _ in range(count)]
 
     def close(self) -> None:

@@ -23,8 +23,15 @@ def write_small_report(path: Union[str, Path]) -> None:
     parcels = [box(0, 0, 9, 10), *cells[1:4], box(8, 10, 20, 20), cells[5]]
     numbers = [f"P{at}" for at in range(1, 7)]
     layers = [
-        ("parcels", _frame(parcels, number=numbers, records=[str(at) for at in range(1, 7)],
-                           status=["gap", "gap", "ok", "overlap", "overlap", "split"])),
+        (
+            "parcels",
+            _frame(
+                parcels,
+                number=numbers,
+                records=[str(at) for at in range(1, 7)],
+                status=["gap", "gap", "ok", "overlap", "overlap", "split"],
+            ),
+        ),
         ("zones", _frame([box(0, 0, 25, 20), box(25, 0, 30, 20)], number=["west", "east"])),
         ("gaps", _frame([box(9, 0, 10, 10)], area2_mm2=["20000000"], area_m2=[10.0], numbers=["P1,P2"])),
         ("overlaps", _frame([box(8, 10, 10, 20)], area2_mm2=["40000000"], area_m2=[20.0], numbers=["P4,P5"])),

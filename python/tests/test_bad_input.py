@@ -12,6 +12,9 @@ import pytest
 from shapely.geometry import LineString, Polygon, box
 
 import gandovel as gv
+from gandovel.large import is_large
+from gandovel.grid import twice_area
+from gandovel.limits import too_large
 from gandovel.prepared import Island, Rows
 from test_register import SOURCES, command
 
@@ -49,22 +52,28 @@ def test_refused_by_name_and_place(name):
     assert words in str(refused.value) and "\n" not in str(refused.value)
 
 
-def test_a_ring_past_4096_corners():
+def test_a_ring_past_4096_corners_is_cut():
     angles = np.linspace(0, 2 * np.pi, 4098)[:-1]
     round_one = Polygon(np.column_stack([np.cos(angles), np.sin(angles)]) * 10_000)
-    with pytest.raises(gv.Refused) as refused:
-        gv.prepare(layer([round_one]))
-    assert refused.value.code == "P10" and refused.value.number == "p0" and "4097 corners" in str(refused.value)
+    prepared = gv.prepare(layer([round_one]))
+    assert all(len(ring) <= 4096 for island in prepared.islands for ring in island.parcels.rings)
+    assert prepared.islands[0].parcels.source.count(0) == 2 and len(gv.check(prepared)) == 0
+    assert gv.area(prepared).area2_mm2[0] == sum(
+        twice_area(ring)
+        for ring, row in zip(prepared.islands[0].parcels.rings, prepared.islands[0].parcels.source)
+        if row == 0
+    )
 
 
 def test_65537_rings():
-    from gandovel.prepare import _test_limits
-
     ring = np.array([[0, 0], [1, 0], [0, 1]])
-    island = Island(ring, Rows([ring] * 65_537, [0] * 65_537, [1] * 65_537))
-    with pytest.raises(gv.Refused, match="P10 65537 rings"):
-        _test_limits(island, (["a"], []), 1000.0)
-    _test_limits(Island(ring, Rows([ring] * 65_536, [0] * 65_536, [1] * 65_536)), (["a"], []), 1000.0)
+    prepared = gv.prepare(layer([ONE]))
+    for count, cut in ((65_537, True), (65_536, False)):
+        prepared.islands = [Island(ring, Rows([ring] * count, [0] * count, [1] * count))]
+        assert too_large(prepared) is None and is_large(prepared.islands[0].parcels.rings) == cut
+    with pytest.raises(gv.Refused, match="P10 65537 rings can't be edited at once"):
+        prepared.islands = [Island(ring, Rows([ring] * 65_537, [0] * 65_537, [1] * 65_537))]
+        gv.apply(prepared, [])
 
 
 def test_a_file_that_is_torn_or_not_there(tmp_path):
@@ -88,9 +97,14 @@ def test_a_full_disk_leaves_nothing_half_written(tmp_path):
     cells = [box(x, y, x + 1, y + 1) for x in range(40) for y in range(40)]
     layer(cells).to_file(tmp_path / "parcels.gpkg", driver="GPKG")
     ended = subprocess.run(
-        [sys.executable, "-m", "gandovel", "prepare", "parcels.gpkg", "--out", "work"], cwd=tmp_path, text=True,
-        stdout=subprocess.PIPE, stderr=subprocess.PIPE, env={**os.environ, "PYTHONPATH": str(SOURCES)},
-        preexec_fn=lambda: resource.setrlimit(resource.RLIMIT_FSIZE, (100_000, 100_000)))
+        [sys.executable, "-m", "gandovel", "prepare", "parcels.gpkg", "--out", "work"],
+        cwd=tmp_path,
+        text=True,
+        stdout=subprocess.PIPE,
+        stderr=subprocess.PIPE,
+        env={**os.environ, "PYTHONPATH": str(SOURCES)},
+        preexec_fn=lambda: resource.setrlimit(resource.RLIMIT_FSIZE, (100_000, 100_000)),
+    )
     assert ended.returncode == 1 and ended.stderr.strip().splitlines()[-1].startswith("error: P14 ")
     assert sorted(path.name for path in tmp_path.iterdir()) == ["parcels.gpkg"]
 

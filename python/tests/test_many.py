@@ -5,6 +5,7 @@ GANDOVEL_MANY=1000 says how many cities.
 """
 from __future__ import annotations
 
+import json
 import os
 import shutil
 import signal
@@ -16,7 +17,7 @@ import geopandas as gpd
 import pytest
 
 from gandovel import Refused
-from gandovel.many import run_many
+from gandovel.many import run_many, worker
 from gandovel.many.engines import jobs
 from gandovel.many.tasks import Program, Task
 from many_cities import (
@@ -202,6 +203,41 @@ def test_a_program_that_ends_as_none_should(run, tmp_path, monkeypatch):
     assert [it.code for it in summary.verdicts] == ["T2"] * 3 and "status 7: what" in summary.verdicts[0].text
 
 
+FAKES = {"always tiles": 'echo "tiling 1 200"', "never tiles": 'echo "error: parcels: H2 0 0 1 1 net 1" >&2; exit 1'}
+
+
+@pytest.mark.parametrize("how", sorted(FAKES))
+def test_a_program_that_is_none(tmp_path, monkeypatch, how):
+    fake = tmp_path / "fake"
+    fake.write_text(f'#!/bin/sh\n[ "$1" = --version ] && echo parcel_tool 9 && exit\n{FAKES[how]}\n')
+    fake.chmod(0o755)
+    monkeypatch.setenv("GANDOVEL_TOOL", str(fake))
+    with pytest.raises(Refused, match="T1 .* is not parcel_tool"):
+        run_many(write_cities(tmp_path, 1), tmp_path / "out")
+
+
+def test_a_verdict_that_does_not_fit_the_layer(tmp_path, monkeypatch):
+    program(tmp_path, monkeypatch, 'case "$city" in */c1) echo "tiling 30 800000000"; exit;; esac')
+    summary = run_many(write_cities(tmp_path, 2), tmp_path / "out", retries=0)
+    assert verdicts(summary) == {"c0": ("tiles", ""), "c1": ("none", "T2")} and summary.status == 2
+    assert summary.without[0].text == "the program told a verdict of 30 parcels, and the layer has 4"
+
+
+def test_results_of_someone_else_are_verified(tmp_path, monkeypatch):
+    program(tmp_path, monkeypatch, "")
+    manifest, out = write_cities(tmp_path, 3, [1]), tmp_path / "out"
+    run_many(manifest, out)
+    folder, facts = out / "cities/c1", told(out, "c1")
+    (folder / "output.txt").write_text("tiling 4 800000000\n")
+    (folder / "errors.txt").write_text("")
+    for name in ("output", "errors"):
+        facts[name] = worker.told_of(str(folder / f"{name}.txt"))
+    (folder / "result.json").write_text(json.dumps({**facts, "status": 0}))
+    assert run_many(manifest, out, resume=True).verdicts[1].tiles, "whoever may write there may write results"
+    summary = run_many(manifest, out, verify=True)
+    assert summary.differing == ["c1"] and verdicts(summary)["c1"] == ("refused", "H2") and summary.kept == 0
+
+
 def test_a_node_that_has_another_program(run, tmp_path, monkeypatch):
     from gandovel.many import run as module
 
@@ -290,14 +326,9 @@ def test_resume_after_the_command_is_killed(run, tmp_path, monkeypatch):
     until(lambda: have_results(tmp_path / "out", 5))
     kill_session(one)
     until(lambda: lock_is_free(tmp_path / "out"))
-    if run.engine == "slurm":
-        last = command(tmp_path, *words_of(run, "--resume")).stderr.strip().splitlines()[-1]
-        assert last.startswith("error: P16 the job gandovel-") and "is in Slurm's queue" in last
-        subprocess.check_call(["scancel", "--user=root"])
-        until(lambda: not subprocess.check_output(["squeue", "-h"]))
     done = {name for name in names_in(tmp_path / "out/cities") if not name.startswith(".")}
     runs = {name: told(tmp_path / "out", name)["run"] for name in done}
-    ended = command(tmp_path, *words_of(run, "--resume"))
+    ended = command(tmp_path, *words_of(run, "--resume"))  # Slurm's jobs of the run that was killed are cancelled first
     assert (ended.returncode, ended.stdout) == (0, f"30 cities: 30 tile; {len(done)} kept\n"), ended.stderr
     assert {name: told(tmp_path / "out", name)["run"] for name in done} == runs
     assert all(calls(tmp_path).count(name) == 1 for name in done)
@@ -324,7 +355,7 @@ def test_the_command_says_which_cities_have_no_verdict(run, tmp_path, monkeypatc
     assert ended.stdout == (
         f"3 cities: 1 tile, 1 refused (H2 1), 1 without a verdict (T4 1)\n1 gap: {tmp_path}/out/faults.gpkg\n"
     )
-    assert ended.returncode == 1
+    assert ended.returncode == 2
     assert ended.stderr.strip().splitlines()[-2:] == [
         "c1: T4 the program was killed by signal 9",
         "error: T9 1 of 3 cities have no verdict",

@@ -4,6 +4,7 @@ from __future__ import annotations
 import csv
 import os
 import random
+import struct
 import subprocess
 from pathlib import Path
 from typing import Any, Dict, List, Sequence
@@ -15,7 +16,8 @@ import pytest
 from shapely.geometry import Polygon
 
 from gandovel.layer_files import read_rings, write_rings
-from gandovel.many import run_many, worker
+from gandovel.many import run_many
+from gandovel.many.rings import DistrictLayer, NoRing
 from many_cities import GAP, SIDE, TOOL, box, calls, names_in, program, told, verdicts, write_city
 
 LARGE = int(os.environ.get("GANDOVEL_MANY", "100")) >= 1000
@@ -71,23 +73,23 @@ def test_a_metropolis(run, tmp_path):
     summary = run(manifest, out, resume=True)
     assert (
         summary.kept == count
-        and summary.lines()[1] == f"metropolis: open: {count - 1} of {count} districts tile; not d2 (H2)"
+        and summary.lines()[1] == f"metropolis: does not tile: {count - 1} of {count} districts tile; not d2 (H2)"
     )
     assert summary.wholes[0].parcels is None and summary.gaps == 1
 
 
-def test_what_a_ring_s_result_has(tmp_path):
+def test_a_ring_is_its_record_in_the_layer(tmp_path):
     rows = row_of_districts(tmp_path / "in", 2)
     run_many(write_manifest(tmp_path, rows), tmp_path / "out")
-    folder, facts = tmp_path / "out/rings/d1", told(tmp_path / "out", "d1", "rings")
-    city, districts = str(rows[0]["city"]), str(rows[0]["parcels"])
-    assert facts["command"] == [TOOL, "part", city, districts, "2", "--unit", "mm", "--out", str(folder / "ring_mm")]
-    assert names_in(folder) == {"result.json", "output.txt", "errors.txt", "ring_mm.shp", "ring_mm.shx"}
-    assert (folder / "output.txt").read_text() == f"part 2 {8 * SIDE * SIDE}\n"
-    assert facts["ring"] == "ring_mm.shp" and set(facts["made"]) == {"ring_mm.shp", "ring_mm.shx"}
-    inputs = told(tmp_path / "out", "d1")["inputs"]
-    assert all(facts["made"][name] == inputs[str(folder / name)] for name in facts["made"])
-    assert set(facts["inputs"]) == {path[:-1] + end for path in (city, districts) for end in "px"}
+    folder = tmp_path / "out/rings/d1"
+    assert names_in(folder) == {"ring_mm.shp", "ring_mm.shx"}
+    record = (tmp_path / "in/districts.shp").read_bytes()[-128:]
+    assert (folder / "ring_mm.shp").read_bytes()[108:] == record
+    assert list(told(tmp_path / "out", "d1")["inputs"])[:2] == [
+        str(folder / "ring_mm.shp"),
+        str(folder / "ring_mm.shx"),
+    ]
+    assert told(tmp_path / "out", "metropolis")["inputs"][str(rows[0]["parcels"])]
 
 
 def strips(count: int, seed: int) -> List[np.ndarray]:
@@ -120,37 +122,38 @@ def test_units(tmp_path, layer, parcels):
         rows.append({"name": f"d{at}", "parcels": f"p{at}.shp", "unit": parcels, "part_of": "all", "district": at + 1})
     summary = run_many(write_manifest(tmp_path, rows), tmp_path / "out")
     assert summary.lines() == ["4 cities: 4 tile", "all: tiles: 3 parcels of 3 districts"]
-    names = {f"ring_{unit}.{ending}" for unit in ("mm", parcels) for ending in ("shp", "shx")}
-    assert names_in(tmp_path / "out/rings/d1") == {"result.json", "output.txt", "errors.txt", *names}
+    assert names_in(tmp_path / "out/rings/d1") == {f"ring_{parcels}.shp", f"ring_{parcels}.shx"}
     assert run_many(tmp_path / "manifest.csv", tmp_path / "out", resume=True).kept == 4
 
 
-def test_a_ring_that_is_not_read_as_it_was_written(tmp_path, monkeypatch):
+def test_a_layer_of_districts_off_the_grid(tmp_path):
     rows = row_of_districts(tmp_path / "in", 2)
+    in_unit(tmp_path / "in/districts.shp", [box(0, 0, 2, 2), box(2, 0, 4, 2)], "mm")
+    data = bytearray((tmp_path / "in/districts.shp").read_bytes())
+    data[156:164] = struct.pack("<d", 0.25)
+    (tmp_path / "in/districts.shp").write_bytes(data)
     for row in rows[1:]:
         row["unit"] = "cm"
-    in_unit(tmp_path / "wrong.shp", [box(0, 0, 10, 10)], "cm")
-    program(
-        tmp_path,
-        monkeypatch,
-        f'[ "$1" = export ] && set -- export {tmp_path}/wrong.shp {tmp_path}/wrong.shp --unit cm --out "$7"',
-    )
     summary = run_many(write_manifest(tmp_path, rows), tmp_path / "out", retries=0)
-    assert [it.code for it in summary.verdicts] == ["", "T10", "T10"]
-    assert summary.verdicts[1].text == "its ring is not there: T2 the ring in cm is not read as the one in mm"
+    assert summary.verdicts[0].verdict == "open" and summary.verdicts[1].code == "T10"
+    assert summary.verdicts[1].text == "its ring is not there: the layer of districts is not on the grid of its unit"
 
 
-def test_dividing_a_ring(tmp_path):
+def test_a_ring_in_another_unit(tmp_path):
     ring = np.array([(0, 0), (123_457, -7), (99_999_999_999, 10**11)], dtype=np.int64)
     write_rings(tmp_path / "ring.shp", [ring])
-    for ending in ("shp", "shx"):
-        data = (tmp_path / f"ring.{ending}").read_bytes()
-        (tmp_path / f"divided.{ending}").write_bytes(worker.divided(data, 1000, ending == "shp"))
-        assert len((tmp_path / f"divided.{ending}").read_bytes()) == len(data)
-    with fiona.open(str(tmp_path / "divided.shp")) as layer:
+    DistrictLayer(str(tmp_path / "ring.shp")).write(1, "mm", "m", tmp_path / "d")
+    with fiona.open(str(tmp_path / "d/ring_m.shp")) as layer:
         assert layer.bounds == (0, -0.007, 99_999_999.999, 10**8)
-    shape = gpd.read_file(tmp_path / "divided.shp").geometry[0]
+    shape = gpd.read_file(tmp_path / "d/ring_m.shp").geometry[0]
     assert set(shape.exterior.coords) == {(x / 1000, y / 1000) for x, y in ring.tolist()}
+    back = DistrictLayer(str(tmp_path / "d/ring_m.shp"))
+    back.write(1, "m", "mm", tmp_path / "back")
+    assert (tmp_path / "back/ring_mm.shp").read_bytes() == (tmp_path / "ring.shp").read_bytes()
+    assert (tmp_path / "back/ring_mm.shx").read_bytes() == (tmp_path / "ring.shx").read_bytes()
+    for record, words in ((2, "H4 2"), (0, "H4 0")):
+        with pytest.raises(NoRing, match=words):
+            back.write(record, "m", "m", tmp_path / "none")
 
 
 def test_a_layer_of_districts_that_does_not_tile(tmp_path):
@@ -160,26 +163,61 @@ def test_a_layer_of_districts_that_does_not_tile(tmp_path):
         [box(2 * i * SIDE, 0, 2 * (i + 1) * SIDE - GAP * (i == 1), 2 * SIDE) for i in range(3)],
     )
     summary = run_many(write_manifest(tmp_path, rows), tmp_path / "out", retries=0)
-    assert verdicts(summary) == {"metropolis": ("refused", "H2"), **{f"d{at}": ("none", "T10") for at in range(3)}}
-    assert all(it.text.startswith("its ring is not there: districts: H2 ") for it in summary.verdicts[1:])
+    expected = {"metropolis": ("refused", "H2"), "d0": ("tiles", ""), "d1": ("refused", "H2"), "d2": ("tiles", "")}
+    assert verdicts(summary) == expected and summary.status == 1
     assert summary.lines() == [
-        "4 cities: 0 tile, 1 refused (H2 1), 3 without a verdict (T10 3)",
-        "metropolis: open: the layer of districts does not tile (H2)",
-        f"1 gap: {tmp_path}/out/faults.gpkg",
+        "4 cities: 2 tile, 2 refused (H2 2)",
+        "metropolis: does not tile: the layer of districts does not (H2); 2 of 3 districts tile; not d1 (H2)",
+        f"1 gap, 1 overlap: {tmp_path}/out/faults.gpkg",
     ]
 
 
 def test_districts_that_the_layer_or_the_manifest_lacks(tmp_path):
     rows = row_of_districts(tmp_path / "in", 3)
     run = run_many(write_manifest(tmp_path, rows[:-1]), tmp_path / "out", retries=0)
-    assert run.wholes[0].said == "open: the layer has 3 districts, and the manifest 2"
+    assert run.wholes[0].said == "open: the manifest has no row for district 3 of 3" and run.status == 2
+    assert (
+        "metropolis,open,open,,the manifest has no row for district 3 of 3,"
+        in (tmp_path / "out/summary.csv").read_text()
+    )
     more = {**rows[-1], "name": "d3", "district": 4}
     run = run_many(write_manifest(tmp_path, [*rows, more]), tmp_path / "out", retries=0, resume=True)
     assert run.kept == 3 and verdicts(run)["d3"] == ("none", "T10")
     assert run.without[0].text == "its ring is not there: districts: H4 4"
-    assert run.wholes[0].said == "open: the layer has 3 districts, and the manifest 4"
+    assert run.wholes[0].said == "open: not judged: d3 (T10)"
     run = run_many(write_manifest(tmp_path, [*rows[:-1], more]), tmp_path / "out", retries=0, resume=True)
-    assert run.wholes[0].said == "open: 2 of 3 districts tile; not d3 (T10)"
+    assert run.wholes[0].said == "open: the manifest has no row for district 3 of 3"
+
+
+def number_them(path: Path, numbers: Sequence[str]) -> None:
+    """Gives a shapefile a .dbf with a column parcel_no."""
+    rings = read_rings(path)
+    shapes = [Polygon(ring) for ring in rings]
+    gpd.GeoDataFrame({"parcel_no": numbers}, geometry=shapes).to_file(path.with_name("numbered.shp"))
+    (path.with_name("numbered.dbf")).rename(path.with_suffix(".dbf"))
+
+
+def test_numbers_of_districts(tmp_path):
+    rows = row_of_districts(tmp_path / "in", 2)
+    for at, numbers in enumerate((["a", "b", "c", "d"], ["e", "f", "g", "a"])):
+        number_them(tmp_path / f"in/d{at}/parcels.shp", numbers)
+    manifest = write_manifest(tmp_path, rows)
+    summary = run_many(manifest, tmp_path / "out")
+    assert summary.wholes[0].said == "open: parcels have the same number: a (d0, d1)" and summary.status == 2
+    parcels = read_rings(tmp_path / "in/d0/parcels.shp")
+    parcels[1][parcels[1][:, 0] == 2 * SIDE, 0] += GAP
+    write_rings(tmp_path / "in/d0/parcels.shp", parcels)
+    beside = read_rings(tmp_path / "in/d1/parcels.shp")
+    beside[0][beside[0][:, 0] == 2 * SIDE, 0] += GAP
+    write_rings(tmp_path / "in/d1/parcels.shp", beside)
+    summary = run_many(manifest, tmp_path / "out")
+    assert summary.wholes[0].said == (
+        "does not tile: 0 of 2 districts tile; not d0 (H2), d1 (H2); parcel b crosses districts d0 and d1"
+    )
+    frame = gpd.read_file(tmp_path / "out/faults.gpkg", layer="overlaps")
+    assert frame[["city", "records", "numbers"]].values.tolist() == [["d0", "2", "b"]]
+    gaps = gpd.read_file(tmp_path / "out/faults.gpkg", layer="gaps")
+    assert gaps[["city", "numbers"]].values.tolist() == [["d1", "e,g"]]
 
 
 def test_a_country_of_cities_of_districts(tmp_path):
@@ -203,9 +241,9 @@ def test_a_country_of_cities_of_districts(tmp_path):
     write_rings(tmp_path / "in/q1.shp", [box(3 * SIDE, 0, 4 * SIDE, SIDE)])
     summary = run_many(tmp_path / "manifest.csv", tmp_path / "out", resume=True)
     assert summary.lines()[:3] == [
-        "6 cities: 5 tile, 1 refused (H2 1); 5 kept",
-        "country: open: 2 of 3 districts tile; not d1 (open)",
-        "d1: open: 1 of 2 districts tile; not q1 (H2)",
+        "6 cities: 3 tile, 3 refused (H2 3); 5 kept",
+        "country: does not tile: 2 of 3 districts tile; not d1 (H2)",
+        "d1: does not tile: 1 of 2 districts tile; not q1 (H2)",
     ]
 
 
@@ -218,7 +256,6 @@ def test_a_layer_of_districts_that_changes_between_ring_and_check(tmp_path, monk
         f'case "$1 $city" in "check "*/d0) cp {tmp_path}/other.shp {tmp_path}/in/districts.shp;; esac',
     )
     summary = run_many(write_manifest(tmp_path, [*rows[1:], rows[0]]), tmp_path / "out", jobs=1)
-    assert all(it.tiles for it in summary.verdicts)
     assert summary.wholes[0].said == "open: the layer of districts changed between its check and the ring of d0, d1"
     assert not run_many(tmp_path / "manifest.csv", tmp_path / "out", jobs=1, resume=True).wholes[0].tiles
 
@@ -228,7 +265,6 @@ DAMAGES = {
     "torn": "truncate -s -8 ring_mm.shp",
     "longer": "echo >> ring_mm.shp",
     "an index that is torn": "truncate -s 100 ring_mm.shx",
-    "no result": "rm result.json",
 }
 
 
@@ -237,19 +273,19 @@ def test_a_ring_that_is_damaged_is_cut_out_again(tmp_path, monkeypatch, how):
     program(tmp_path, monkeypatch, "")
     manifest = write_manifest(tmp_path, row_of_districts(tmp_path / "in", 2))
     run_many(manifest, tmp_path / "out")
-    before, sums = calls(tmp_path), told(tmp_path / "out", "d1", "rings")["made"]
+    files = [tmp_path / f"out/rings/d1/ring_mm.{ending}" for ending in ("shp", "shx")]
+    before, contents = calls(tmp_path), [path.read_bytes() for path in files]
     subprocess.check_call(DAMAGES[how], shell=True, cwd=tmp_path / "out/rings/d1")
     summary = run_many(manifest, tmp_path / "out", resume=True)
-    assert summary.kept == 3 and summary.wholes[0].tiles and len(calls(tmp_path)) == len(before) + 1
-    assert told(tmp_path / "out", "d1", "rings")["made"] == sums
+    assert summary.kept == 3 and summary.wholes[0].tiles and calls(tmp_path) == before
+    assert [path.read_bytes() for path in files] == contents
 
 
-@pytest.mark.parametrize("command", ["part", "check"])
-def test_what_is_killed_is_tried_again(run, tmp_path, monkeypatch, command):
-    program(tmp_path, monkeypatch, f'if [ "$1" = {command} ]; then once killed-{command} && kill -9 $$; fi')
+def test_what_is_killed_is_tried_again(run, tmp_path, monkeypatch):
+    program(tmp_path, monkeypatch, "once killed && kill -9 $$")
     summary = run(write_manifest(tmp_path, row_of_districts(tmp_path / "in", 3)), tmp_path / "out")
     assert summary.wholes[0].tiles and names_in(tmp_path / "out/rings") == {"d0", "d1", "d2"}
-    assert (tmp_path / "in/killed-part").exists() or command == "check"
+    assert (tmp_path / "in/killed").exists()
 
 
 def cut(pick: random.Random, x0: int, y0: int, x1: int, y1: int, count: int) -> List[np.ndarray]:

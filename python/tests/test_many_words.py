@@ -7,6 +7,7 @@ from gandovel import Refused
 from gandovel.many import Result, Verdict, read_manifest, whole_of
 from gandovel.many.manifest import by_depth
 from gandovel.many.summary import Summary, verdict_of
+from gandovel.many.tasks import task_of
 
 HEAD = "name,city,parcels,zones,unit,edits,part_of,district\n"
 
@@ -44,7 +45,6 @@ def test_districts_of_a_city(tmp_path):
 ROW = "a,c.shp,p.shp,,mm,,,\n"
 BAD = {
     "a missing column": ("name,city,parcels\na,c.shp,p.shp\n", "P2", "no column unit"),
-    "an unknown column": ("name,city,parcels,unit,zone\n", "P2", "'zone'"),
     "a column twice": ("name,city,parcels,unit,unit\n", "P2", "'unit'"),
     "nothing": ("", "P2", "no column name"),
     "no city": (HEAD, "P15", "has no city"),
@@ -78,6 +78,12 @@ def test_a_manifest_is_refused(tmp_path, name):
     assert refused.value.code == code and words in str(refused.value), str(refused.value)
 
 
+def test_a_manifest_with_other_columns_and_in_capitals(tmp_path):
+    (row,) = read_manifest(manifest(tmp_path, "Name,CITY,Parcels,Unit,zone,remark\na,C.SHP,P.Shp,mm,x,y\n"))
+    assert (row.name, row.city, row.parcels) == ("a", str(tmp_path / "C.SHP"), str(tmp_path / "P.Shp"))
+    assert row.zones is None and [path for path, _ in task_of(row).inputs] == [row.city, row.parcels]
+
+
 def test_a_manifest_that_is_not_there(tmp_path):
     with pytest.raises(Refused, match="P1 the manifest .*none.csv can't be read"):
         read_manifest(tmp_path / "none.csv")
@@ -106,25 +112,25 @@ def tiles(name, area2=None, parcels=None):
 
 
 OPEN = {
-    "one missing": (tiles("all", 30, 3), [tiles("a"), tiles("b")], (), "the layer has 3 districts, and the manifest 2"),
+    "one missing": (tiles("all", 30, 3), [tiles("a"), tiles("b")], (), "the manifest has no row for district 3 of 3"),
     "one too many": (tiles("all", 30, 1), [tiles("a"), tiles("b")], (), "the layer has 1 district, and the manifest 2"),
     "one refused": (
         tiles("all", 30, 2),
         [tiles("a"), Verdict("b", "refused", "H2")],
         (),
-        "1 of 2 districts tile; not b (H2)",
+        "does not tile: 1 of 2 districts tile; not b (H2)",
     ),
     "one without": (
         tiles("all", 30, 2),
         [Verdict("a", "none", "T4"), tiles("b")],
         (),
-        "1 of 2 districts tile; not a (T4)",
+        "not judged: a (T4)",
     ),
     "their layer": (
         Verdict("all", "refused", "H2"),
         [tiles("a"), tiles("b")],
         (),
-        "the layer of districts does not tile (H2)",
+        "does not tile: the layer of districts does not (H2)",
     ),
     "no layer": (
         Verdict("all", "none", "T3"),
@@ -142,11 +148,16 @@ OPEN = {
 
 
 @pytest.mark.parametrize("name", sorted(OPEN))
-def test_the_whole_is_open(name):
+def test_the_whole_does_not_tile(name):
     layer, districts, astray, said = OPEN[name]
-    whole = whole_of(layer, dict(enumerate(districts, 1)), frozenset(astray))
-    assert (whole.name, whole.districts, whole.said, whole.tiles) == ("all", 2, f"open: {said}", False)
-    assert (whole.verdict.verdict, whole.verdict.code, whole.parcels, whole.area2) == ("none", "open", None, None)
+    whole = whole_of(layer, dict(enumerate(districts, 1)), frozenset(astray), 2)
+    refused = said.startswith("does not tile")
+    assert (whole.name, whole.districts, whole.tiles) == ("all", 2, False)
+    assert whole.said == (said if refused else f"open: {said}")
+    kind = ("refused", "H2") if refused else ("open", "open")
+    assert (whole.verdict.verdict, whole.verdict.code, whole.parcels, whole.area2) == (*kind, None, None)
+    summary = Summary([layer, *districts], [whole])
+    assert (summary.verdicts[0].verdict, summary.status) == (kind[0], 1 if refused else 2)
 
 
 def test_the_whole_tiles():

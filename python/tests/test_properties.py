@@ -31,8 +31,14 @@ def tiling(columns, rows, slant, third):
             cuts.append(x + Fraction(at, third))
         cuts.append(Fraction(width))
         for left, right in zip(cuts, cuts[1:]):
-            cells.append([(left, low + left * slant), (right, low + right * slant),
-                          (right, low + height + right * slant), (left, low + height + left * slant)])
+            cells.append(
+                [
+                    (left, low + left * slant),
+                    (right, low + right * slant),
+                    (right, low + height + right * slant),
+                    (left, low + height + left * slant),
+                ]
+            )
         low += height
     return cells
 
@@ -60,10 +66,13 @@ def test_a_square_millimetre_is_found_and_nothing_else(columns, rows, third, whi
     inner = [at for at in range(len(cells)) if (at + 1) % len(columns)]
     cell = cells[inner[which % len(inner)]]
     x1, y1 = cell[1]
-    middle = [(x1, y1 + Fraction(1, 1)), (x1 + way * Fraction(1, 1000), y1 + Fraction(1001, 1000)),
-              (x1, y1 + Fraction(1002, 1000))]
+    middle = [
+        (x1, y1 + Fraction(1, 1)),
+        (x1 + way * Fraction(1, 1000), y1 + Fraction(1001, 1000)),
+        (x1, y1 + Fraction(1002, 1000)),
+    ]
     cells[cells.index(cell)] = [cell[0], cell[1], *middle, cell[2], cell[3]]
-    found = gv.check(gv.prepare(layer(cells)))
+    found = gv.check(gv.prepare(layer(cells), touch=0))
     assert list(zip(found.kind, found.area2_mm2)) == [("gap" if way < 0 else "overlap", "2")]
 
 
@@ -71,7 +80,7 @@ def test_a_square_millimetre_is_found_and_nothing_else(columns, rows, third, whi
 @given(STEPS, STEPS, SLANTS, st.integers(3, 7))
 def test_preparing_what_is_prepared_changes_nothing(columns, rows, slant, third):
     once = gv.prepare(layer(tiling(columns, rows, slant, third)))
-    again = gv.prepare(once.frame()[["number", "geometry"]], number="number")
+    again = gv.prepare(once.frame()[["number", "geometry"]], number="number", touch=0)
     assert again.told["put_in"] == 0 and again.told["moved"] == 0
     assert len(once.islands) == len(again.islands) == 1
     assert len(once.islands[0].parcels.rings) == len(again.islands[0].parcels.rings) == len(columns) * len(rows)
@@ -117,8 +126,12 @@ def test_crossing_edges_give_exact_fractions():
     square, triangle = [(0, 0), (3, 0), (3, 3), (0, 3)], [(1, -1), (3, 0), (5, 1), (2, 5)]
     edges = np.array([(*a, *b, 1) for ring in (square, triangle) for a, b in zip(ring, ring[1:] + ring[:1])])
     faults = [(fault.depth, fault.area2, from_least(fault.outer), fault.holes) for fault in faults_of(edges)]
-    expected = [(1, Fraction(17, 2), HALF_LEFT), (1, Fraction(11, 6), BELOW), (2, Fraction(19, 2), COMMON),
-                (1, Fraction(32, 3), BEYOND)]
+    expected = [
+        (1, Fraction(17, 2), HALF_LEFT),
+        (1, Fraction(11, 6), BELOW),
+        (2, Fraction(19, 2), COMMON),
+        (1, Fraction(32, 3), BEYOND),
+    ]
     assert faults == [(depth, area2, from_least(outer), []) for depth, area2, outer in expected]
     assert sum(fault[0] * fault[1] for fault in faults) == twice_area(square) + twice_area(triangle) == 18 + 22
 

@@ -25,8 +25,14 @@ SOURCES = Path(__file__).resolve().parents[1] / "src"
 def command(*words, cwd):
     """Runs `gandovel` in a folder; what it printed and its status."""
     path = os.pathsep.join([str(SOURCES), os.environ.get("PYTHONPATH", "")])
-    return subprocess.run([*RUN, *map(str, words)], cwd=cwd, stdout=subprocess.PIPE, stderr=subprocess.PIPE, text=True,
-                          env={**os.environ, "PYTHONPATH": path})
+    return subprocess.run(
+        [*RUN, *map(str, words)],
+        cwd=cwd,
+        stdout=subprocess.PIPE,
+        stderr=subprocess.PIPE,
+        text=True,
+        env={**os.environ, "PYTHONPATH": path},
+    )
 
 
 @pytest.fixture(scope="module")
@@ -113,18 +119,19 @@ def test_changes_are_told(folder):
     assert f"; {len(moved)} corners moved, at most {moved.distance_mm.max():.2f} mm (measured); " in said
 
 
-def test_a_corner_that_a_touch_puts_in_is_told():
+def test_a_corner_that_is_made_to_touch_is_told():
     left = Polygon([(0, 0), (10, 0), (10, 10), (0, 10)])
     right = Polygon([(10, 0), (20, 0), (20, 10), (10, 10), (10.0004, 5)])
     layer = gpd.GeoDataFrame({"parcel_no": ["left", "right"]}, geometry=[left, right], crs=25832)
     apart, touched = gv.prepare(layer), gv.prepare(layer, touch=0.5)
-    assert apart.told["put_in"] == 1 and apart.told["largest_off"] == 0
-    assert (touched.told["put_in"], touched.told["moved"]) == (1, 1)
-    assert abs(touched.told["largest_off"] - 0.4) < 1e-6 and abs(touched.told["largest_move"] - 0.4) < 1e-6
-    assert "; 1 corner put in, at most 0.40 mm off (measured); " in touched.summary()
-    assert touched.summary().endswith("; 1 corner moved, at most 0.40 mm (measured)")
+    assert (apart.told["touched"], apart.told["put_in"], apart.told["largest_off"]) == (0, 1, 0)
+    assert (touched.told["touched"], touched.told["put_in"], touched.told["moved"]) == (1, 0, 1)
+    assert abs(touched.told["largest_touch"] - 0.4) < 1e-6 and abs(touched.told["largest_move"] - 0.4) < 1e-6
+    assert abs(touched.told["closed_m2"] - 0.0004 * 10 / 2) < 1e-9
+    said = "; 1 corner made to touch a border, at most 0.40 mm off (measured), which closed 0.00 m2 (measured); "
+    assert said in touched.summary() and touched.summary().endswith("; 1 corner moved, at most 0.40 mm (measured)")
     rows = touched.changes_frame()
-    assert list(zip(rows.change, rows.number)) == [("put in", "left"), ("moved", "left")]
+    assert list(zip(rows.change, rows.number)) == [("touched", "left"), ("moved", "left")]
     assert np.allclose(rows.distance_mm, 0.4) and set(rows.distance_how) == {"measured"}
     assert list(zip(rows.x_mm, rows.y_mm)) == [(10_000, 5_000)] * 2
 

@@ -47,12 +47,20 @@ def test_the_worked_example(halves):
     assert halves.lines() == EXAMPLE
 
 
-@pytest.mark.parametrize("edit, text", [
-    (gv.Split(9, [(0, 0), (60, 100)]), "E1 9"), (gv.Split(2, [(60, 0), (50, 50), (60, 100)]), "E6 1 G3"),
-    (gv.Split(1, [(0, 0), (1, 1)]), "E3"), (gv.Merge(1, 1), "E4"), (gv.Insert((0, 0), (60, 0), (60, 0)), "E8"),
-    (gv.Insert((0, 0), (100, 0), (30, 0)), "E7"), (gv.Move(1, 2, [(60, 100), (40, 50), (60, 0)]), "E3"),
-    (gv.Split(1, [(0, 0), (60, 0)]), "E6 2 G1"), (gv.Split(1, [(0, 0), (80, 50), (60, 100)]), "E6 2 G2 1 3"),
-])
+@pytest.mark.parametrize(
+    "edit, text",
+    [
+        (gv.Split(9, [(0, 0), (60, 100)]), "E1 9"),
+        (gv.Split(2, [(60, 0), (50, 50), (60, 100)]), "E6 1 G3"),
+        (gv.Split(1, [(0, 0), (1, 1)]), "E3"),
+        (gv.Merge(1, 1), "E4"),
+        (gv.Insert((0, 0), (60, 0), (60, 0)), "E8"),
+        (gv.Insert((0, 0), (100, 0), (30, 0)), "E7"),
+        (gv.Move(1, 2, [(60, 100), (40, 50), (60, 0)]), "E3"),
+        (gv.Split(1, [(0, 0), (60, 0)]), "E6 2 G1"),
+        (gv.Split(1, [(0, 0), (80, 50), (60, 100)]), "E6 2 G2 1 3"),
+    ],
+)
 def test_refused_edits(halves, edit, text):
     with halves.session() as session:
         with pytest.raises(gv.RefusedEdit) as refused:
@@ -67,14 +75,24 @@ def test_a_border_is_moved(halves):
         assert session.parcel(np.int64(4)).ring.tolist() == [[40, 50], [60, 0], [100, 0], [100, 100], [60, 100]]
 
 
-@pytest.mark.parametrize("call", [
-    lambda it: it.locate(1.0, 2), lambda it: it.locate(1, True), lambda it: it.locate("1", 2),
-    lambda it: it.parcel(1.5),
-    lambda it: it.split(1, [(0, 0), (60.0, 100)]), lambda it: it.split(1, np.array([(0.0, 0.0), (60.0, 100.0)])),
-    lambda it: it.split("1", [(0, 0), (60, 100)]), lambda it: it.split(1, [(0, 0, 0), (60, 100)]),
-    lambda it: it.merge(1, None), lambda it: it.move(1, 2, [60, 0]), lambda it: it.insert((0, 0), (60, 0), (30.5, 0)),
-    lambda it: it.straighten((0,)), lambda it: it.edit("merge 1 2"),
-])
+@pytest.mark.parametrize(
+    "call",
+    [
+        lambda it: it.locate(1.0, 2),
+        lambda it: it.locate(1, True),
+        lambda it: it.locate("1", 2),
+        lambda it: it.parcel(1.5),
+        lambda it: it.split(1, [(0, 0), (60.0, 100)]),
+        lambda it: it.split(1, np.array([(0.0, 0.0), (60.0, 100.0)])),
+        lambda it: it.split("1", [(0, 0), (60, 100)]),
+        lambda it: it.split(1, [(0, 0, 0), (60, 100)]),
+        lambda it: it.merge(1, None),
+        lambda it: it.move(1, 2, [60, 0]),
+        lambda it: it.insert((0, 0), (60, 0), (30.5, 0)),
+        lambda it: it.straighten((0,)),
+        lambda it: it.edit("merge 1 2"),
+    ],
+)
 def test_anything_but_whole_numbers_is_a_type_error(halves, call):
     with halves.session() as session:
         with pytest.raises(TypeError):
@@ -83,8 +101,13 @@ def test_anything_but_whole_numbers_is_a_type_error(halves, call):
 
 
 def test_the_operators_calls(town, tmp_path):
-    write_rings(tmp_path / "zones.shp", [np.array([(0, 0), (35_000, 0), (35_000, 80_000), (0, 80_000)]),
-                                         np.array([(35_000, 0), (80_000, 0), (80_000, 80_000), (35_000, 80_000)])])
+    write_rings(
+        tmp_path / "zones.shp",
+        [
+            np.array([(0, 0), (35_000, 0), (35_000, 80_000), (0, 80_000)]),
+            np.array([(35_000, 0), (80_000, 0), (80_000, 80_000), (35_000, 80_000)]),
+        ],
+    )
     register = town.register()
     with town.session("anna", zones=tmp_path / "zones.shp", workers=2) as session:
         with session.desk("anna") as desk:
@@ -129,13 +152,48 @@ def test_the_operator_of_seven_desks_has_a_window(town):
 
 
 NO_LINES = [
-    b"grid cm", b"merge 1", b"merge 1 2 3", b"merge  1 2", b" merge 1 2", b"merge 1 2 ", b"Merge 1 2",
-    b"merge 1 2\r\r", b"merge\t1 2", b"merge 1 +2", b"merge 1 -2", b"merge 1 99999999999999999999", b"split 1",
-    b"split 1 0", b"split 1 0 0 6", b"move 1 2", b"insert 0 0 1 1", b"insert 0 0 1 1 2 2 3 3", b"straighten 0",
-    b"straighten 0 0 0", b"locate 1", b"locate 1 2 3", b"locate 100000000001 0", b"locate 1.0 2", b"locate +1 2",
-    b"locate " + b"0" * 20 + b" 1", b"parcel", b"parcel -1", b"parcel 1 2", b"parcel " + b"0" * 20, b"entries 1",
-    b"entries ", b" ", b" # x", b"\xff\xfe", b"merge 1 2\x00", b"\x00", b"merge 1 \xb2", "m\u00e9rge 1 2".encode(),
-    b"\xef\xbb\xbfmerge 1 2", b"ok 1 out new", b"quit",
+    b"grid cm",
+    b"merge 1",
+    b"merge 1 2 3",
+    b"merge  1 2",
+    b" merge 1 2",
+    b"merge 1 2 ",
+    b"Merge 1 2",
+    b"merge 1 2\r\r",
+    b"merge\t1 2",
+    b"merge 1 +2",
+    b"merge 1 -2",
+    b"merge 1 99999999999999999999",
+    b"split 1",
+    b"split 1 0",
+    b"split 1 0 0 6",
+    b"move 1 2",
+    b"insert 0 0 1 1",
+    b"insert 0 0 1 1 2 2 3 3",
+    b"straighten 0",
+    b"straighten 0 0 0",
+    b"locate 1",
+    b"locate 1 2 3",
+    b"locate 100000000001 0",
+    b"locate 1.0 2",
+    b"locate +1 2",
+    b"locate " + b"0" * 20 + b" 1",
+    b"parcel",
+    b"parcel -1",
+    b"parcel 1 2",
+    b"parcel " + b"0" * 20,
+    b"entries 1",
+    b"entries ",
+    b" ",
+    b" # x",
+    b"\xff\xfe",
+    b"merge 1 2\x00",
+    b"\x00",
+    b"merge 1 \xb2",
+    "m\u00e9rge 1 2".encode(),
+    b"\xef\xbb\xbfmerge 1 2",
+    b"ok 1 out new",
+    b"quit",
 ]
 
 
@@ -230,7 +288,7 @@ def filled(raw: Raw, line: bytes, seconds: float) -> int:
     text, sent, last = line * 100, 0, time.monotonic()
     while time.monotonic() < last + seconds:
         try:
-            count = raw.outward.write(text[sent % len(line):])
+            count = raw.outward.write(text[sent % len(line) :])
         except BrokenPipeError:
             break
         if count:
@@ -280,7 +338,7 @@ def test_names_of_desks(town):
 
 def test_pipes_that_are_none(tmp_path):
     (tmp_path / "anna.in").write_text("")
-    os.mkfifo(tmp_path / "anna.out")
+    os.mkfifo(tmp_path / "anna.out", 0o600)
     for path in (tmp_path / "anna", tmp_path / "bert"):
         with pytest.raises(gv.Refused, match="P1 "):
             gv.Desk.at(path)
@@ -289,8 +347,9 @@ def test_pipes_that_are_none(tmp_path):
 def ran(town: Town, *words: str) -> subprocess.CompletedProcess:
     """How a session ends whose operator says nothing."""
     command = [find_tool(), "session", str(town.city), str(town.parcels), "--unit", "mm", *words]
-    return subprocess.run(command, stdin=subprocess.DEVNULL, stdout=subprocess.PIPE, stderr=subprocess.PIPE, text=True,
-                          timeout=SECONDS)
+    return subprocess.run(
+        command, stdin=subprocess.DEVNULL, stdout=subprocess.PIPE, stderr=subprocess.PIPE, text=True, timeout=SECONDS
+    )
 
 
 @pytest.mark.parametrize("bad", ["in", "out"])
@@ -298,7 +357,7 @@ def ran(town: Town, *words: str) -> subprocess.CompletedProcess:
 def test_what_is_no_pipe_is_refused_by_name_before_any_is_read(town, tmp_path, bad, how):
     for name in ("anna.in", "anna.out", "bert.in", "bert.out"):
         if name != f"bert.{bad}":
-            os.mkfifo(tmp_path / name)
+            os.mkfifo(tmp_path / name, 0o600)
         elif how != "nothing":
             (tmp_path / name).write_text("merge 1 2\n") if how == "file" else (tmp_path / name).mkdir()
     ended = ran(town, "--desk", str(tmp_path / "anna"), "--desk", str(tmp_path / "bert"))
@@ -323,22 +382,21 @@ def test_the_operator_alone_closes_by_the_end_of_input(town):
     assert (ended.returncode, ended.stderr) == (0, "") and ended.stdout.startswith("ready 0\n")
 
 
-def test_the_end_of_the_operators_input_ends_no_desk(town, tmp_path):
+def test_the_end_of_the_operators_input_closes_the_desks(town, tmp_path):
     for name in ("anna.in", "anna.out"):
-        os.mkfifo(tmp_path / name)
+        os.mkfifo(tmp_path / name, 0o600)
     command = [find_tool(), "session", town.city, town.parcels, "--unit", "mm", "--desk", tmp_path / "anna"]
-    running = subprocess.Popen(list(map(str, command)), stdin=subprocess.DEVNULL, stdout=subprocess.PIPE)
+    running = subprocess.Popen(list(map(str, command)), stdin=subprocess.PIPE, stdout=subprocess.PIPE)
     try:
         assert running.stdout.readline() == b"ready 0\n"
         for number in (1, 2):
             with gv.Desk.at(tmp_path / "anna", SECONDS) as desk:
                 assert desk.merge(number, 65 if number == 2 else 9).number == number
-        running.terminate()
-        assert running.wait(SECONDS) == -signal.SIGTERM
+        assert running.communicate(b"", SECONDS)[0] == b"closed 2\n"
+        assert running.returncode == 0
     finally:
         running.kill()
         running.wait()
-        running.stdout.close()
 
 
 def test_close_wakes_desks_that_are_blocked(town):
@@ -422,13 +480,19 @@ def test_programs_that_misbehave(town, tmp_path, monkeypatch, name):
 
 
 def test_answers_that_are_not_to_the_question(town, tmp_path, monkeypatch):
-    monkeypatch.setenv("GANDOVEL_TOOL", program(tmp_path / "odd", """
+    monkeypatch.setenv(
+        "GANDOVEL_TOOL",
+        program(
+            tmp_path / "odd",
+            """
 print("ready 0", flush=True)
 for answer in ("at 0 1 3 outside", "at 0 1 2 inside", "at 0 1 2 inside 1 2", "parcel 0 2 none", "parcel 0 1 5 0 0 1 1",
                "ok 1 out new", "ok 1 out 1 new 2", "ok x out new", "refused", "refused E3 ", "closed 1"):
     input()
     print(answer, flush=True)
-"""))
+""",
+        ),
+    )
     with town.session() as session:
         for _ in range(3):
             with pytest.raises(gv.BadAnswer):
@@ -452,7 +516,11 @@ def test_cards_that_are_missing(town, tmp_path, monkeypatch):
 
 
 def test_an_answer_that_comes_late_is_forgotten(town, tmp_path, monkeypatch):
-    monkeypatch.setenv("GANDOVEL_TOOL", program(tmp_path / "late", """
+    monkeypatch.setenv(
+        "GANDOVEL_TOOL",
+        program(
+            tmp_path / "late",
+            """
 import time
 print("ready 0", flush=True)
 for number in range(2):
@@ -461,7 +529,9 @@ for number in range(2):
     print("entries", number, flush=True)
 input()
 print("closed 0", flush=True)
-"""))
+""",
+        ),
+    )
     with town.session() as session:
         session.timeout = 0.2
         with pytest.raises(gv.TimedOut) as raised:
@@ -484,7 +554,7 @@ def test_close_is_waited_for_again(town, tmp_path, monkeypatch):
 
 def test_a_desk_whose_session_is_gone(town, tmp_path):
     for name in ("anna.in", "anna.out"):
-        os.mkfifo(tmp_path / name)
+        os.mkfifo(tmp_path / name, 0o600)
     with pytest.raises(gv.TimedOut):
         gv.Desk.at(tmp_path / "anna", 0.2)
 

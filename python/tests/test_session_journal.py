@@ -4,14 +4,17 @@ from __future__ import annotations
 import os
 import random
 import signal
+import stat
 import subprocess
 import time
+from datetime import datetime, timezone
 from pathlib import Path
 from typing import List
 
 import pytest
 
 import gandovel as gv
+from gandovel.journals import journal_of
 from gandovel.layer_files import read_rings
 from gandovel.tool import ask, export, find_tool
 from session_clerks import Heard, Said, accepted_of, compare, edits_of, started
@@ -41,16 +44,39 @@ def test_no_journal_is_kept_unless_one_is_named(town):
 
 
 def test_a_journal_is_a_clerks_file(town, tmp_path):
-    text = b"# by hand\r\nmerge 01 2\r\n\r\nmerge 65 3\n"
+    text = town.text_of("merge 1 2", "merge 65 3")
     town.journal.write_bytes(text)
     with town.session() as session:
         assert session.replayed == 2
         assert session.merge(66, 4).number == 3
         assert session.export(tmp_path / "ours") == 61
-    assert town.journal.read_bytes() == text + b"merge 66 4\n"
+    assert town.journal.read_bytes().startswith(text) and town.lines() == ["merge 1 2", "merge 65 3", "merge 66 4"]
     answers = export(town.city, town.parcels, tmp_path / "theirs", [town.journal])
     assert [answer.split(" ", 4)[4] for answer in answers] == ["ok 1", "ok 2", "ok 3"]
     assert (tmp_path / "ours.shp").read_bytes() == (tmp_path / "theirs.shp").read_bytes()
+
+
+def test_a_record_tells_who_and_when(town):
+    before = datetime.now(timezone.utc).replace(microsecond=0)
+    with town.session("anna", "bert") as session:
+        with session.desk("anna") as anna, session.desk("bert") as bert:
+            anna.edit(gv.Merge(1, 2), who="Anna Müller, deed 17: a merger")
+            bert.merge(65, 3)
+    records = gv.read_journal(town.journal).records
+    assert [(it.number, it.clerk, it.who, it.edit) for it in records] == [
+        (1, 1, "Anna Müller, deed 17: a merger", "merge 1 2"),
+        (2, 2, "", "merge 65 3"),
+    ]
+    assert all(before <= it.time <= datetime.now(timezone.utc) for it in records)
+    assert stat.S_IMODE(town.journal.stat().st_mode) == 0o600
+
+
+@pytest.mark.parametrize("who", ["", "x" * 201, "a\tb", "\x7f", "a\x85b"])
+def test_a_word_that_is_none(town, who):
+    with town.session() as session:
+        with pytest.raises(gv.NoSuchLine):
+            session.edit(gv.Merge(1, 2), who=who)
+        assert session.edit(gv.Merge(1, 2), who="x" * 200).number == 1
 
 
 def test_the_journal_has_a_line_for_each_edit_and_none_else(halves):
@@ -64,48 +90,142 @@ def test_the_journal_has_a_line_for_each_edit_and_none_else(halves):
         session.merge(3, 4)
         session.straighten((30, 0))
         session.move(5, 2, [(60, 0), (70, 50), (60, 100)])
-    assert halves.lines() == ["insert 0 0 60 0 30 0", "insert 0 100 60 100 30 100", "split 1 30 0 20 50 30 100",
-                              "merge 3 4", "straighten 30 0", "move 5 2 60 0 70 50 60 100"]
+    assert halves.lines() == [
+        "insert 0 0 60 0 30 0",
+        "insert 0 100 60 100 30 100",
+        "split 1 30 0 20 50 30 100",
+        "merge 3 4",
+        "straighten 30 0",
+        "move 5 2 60 0 70 50 60 100",
+    ]
 
 
-@pytest.mark.parametrize("torn", ["m", "merge 65", "merge 65 3", "# x", "merge 65 3\r", "\xff", "x" * 100_000])
-def test_a_torn_last_line_is_cut_off(town, torn):
-    whole = b"merge 1 2\n"
-    town.journal.write_bytes(whole + torn.encode("latin-1"))
+@pytest.mark.parametrize("length", [1, 2, 3, 20, 60, 91, 92, 93, 101])
+def test_a_torn_last_record_is_cut_off(town, length):
+    whole, more = town.text_of("merge 1 2"), town.text_of("merge 1 2", "merge 65 3")
+    town.journal.write_bytes(more[: len(whole) + length])
     with town.session() as session:
         assert session.replayed == 1
-        note = f"note: {town.journal}: a last line of {len(torn)} bytes without its end is cut off"
-        assert session.notes == [note]
+        assert session.notes == [f"note: {town.journal}: a last record of {length} bytes without its end is cut off"]
         assert town.journal.read_bytes() == whole
         session.merge(65, 3)
     assert town.lines() == ["merge 1 2", "merge 65 3"]
 
 
-def test_a_journal_of_one_torn_line(town):
-    town.journal.write_bytes(b"merge 1 2")
-    with town.session() as session:
-        assert session.replayed == 0 and len(session.notes) == 1 and town.lines() == []
+@pytest.mark.parametrize(
+    "text",
+    [
+        b"x",
+        b"merge 1 2",
+        b"merge 1 2\n",
+        b"# a comment\n",
+        b"\n",
+        b"grid cm\n",
+        b"\xff" * 100,
+        b"# gandovel journal 1 mm ",
+        b"# gandovel journal 2 mm " + b"0" * 64 + b"\n",
+    ],
+)
+def test_a_file_that_is_no_journal_is_not_touched(town, text):
+    town.journal.write_bytes(text)
+    with pytest.raises(gv.JournalRefused, match="^journal: no journal$"):
+        town.session()
+    assert town.journal.read_bytes() == text
 
 
-@pytest.mark.parametrize("text, code, line, rest", [
-    ("merge 1 2\nmerge 1 2\n", "E2", 2, "1 1"), ("merge 1 3\n", "E4", 1, ""), ("# x\n\nmerge 99 1\nx\n", "L1", 4, ""),
-    ("# x\n\nmerge 99 1\n", "E1", 3, "99"), ("straighten 0 0\n", "E12", 1, "1"), ("merge 1 2 \n", "L1", 1, ""),
-    ("grid cm\nmerge 1 2\n", "L1", 1, ""), ("merge 1 2\ngrid cm\n", "L1", 2, ""), ("locate 1 1\n", "L1", 1, ""),
-    ("merge 1 2\n\0\n", "L1", 2, ""), ("merge 1 2\rmerge 65 3\n", "L1", 1, ""), ("grid cm\n", "L1", 1, ""),
-])
-def test_a_journal_that_does_not_fit(town, text, code, line, rest):
-    town.journal.write_bytes(text.encode())
+@pytest.mark.parametrize(
+    "edits, code, line, rest",
+    [
+        (["merge 1 2", "merge 1 2"], "E2", 5, "1 1"),
+        (["merge 1 3"], "E4", 3, ""),
+        (["merge 99 1"], "E1", 3, "99"),
+        (["straighten 0 0"], "E12", 3, "1"),
+        (["merge 01 2"], "changed", 2, ""),
+        (["merge 1 2 "], "changed", 2, ""),
+        (["merge 1 2", "locate 1 1"], "changed", 4, ""),
+        (["# x", "merge 1 2"], "changed", 2, ""),
+    ],
+)
+def test_a_journal_that_does_not_fit(town, edits, code, line, rest):
+    text = town.text_of(*edits)
+    town.journal.write_bytes(text)
     with pytest.raises(gv.JournalRefused) as refused:
         town.session()
     assert (refused.value.code, refused.value.line, refused.value.text) == (code, line, rest)
-    assert str(refused.value) == f"journal line {line}: {code} {rest}".rstrip()
-    assert town.journal.read_bytes() == text.encode()
+    assert town.journal.read_bytes() == text
 
 
-def test_a_journal_of_another_layer(town):
-    town.journal.write_text("insert 0 0 60 0 30 0\n")
-    with pytest.raises(gv.JournalRefused, match="^journal line 1: E7$"):
-        gv.Session(town.city, town.parcels, journal=town.journal, timeout=SECONDS)
+def damaged(draw: random.Random, text: bytes, kind: str) -> bytes:
+    """A journal with a digit changed, a line gone, doubled or made a comment, or two lines exchanged."""
+    lines = text.split(b"\n")[:-1]
+    at = draw.randrange(1, len(lines))
+    if kind == "digit":
+        places = [place for place, byte in enumerate(text) if chr(byte).isdigit()]
+        place = draw.choice(places)
+        digit = draw.choice([it for it in b"0123456789" if it != text[place]])
+        return text[:place] + bytes([digit]) + text[place + 1 :]
+    if kind == "gone":
+        del lines[draw.randrange(1, len(lines) - 2)]
+    elif kind == "doubled":
+        lines.insert(at, lines[at])
+    elif kind == "comment":
+        lines[at] = b"# " + lines[at]
+    else:
+        other = draw.choice([it for it in range(1, len(lines)) if lines[it] != lines[at]])
+        lines[at], lines[other] = lines[other], lines[at]
+    return b"\n".join(lines) + b"\n"
+
+
+@pytest.mark.parametrize("kind", ["digit", "gone", "doubled", "comment", "exchanged"])
+def test_no_damage_is_read_in_silence(town, kind):
+    draw = random.Random(kind)
+    text = town.text_of(*[f"merge {1 if at == 2 else 62 + at} {at}" for at in range(2, 9)])
+    for _ in range(500 if FULL else 10):
+        other = damaged(draw, text, kind)
+        town.journal.write_bytes(other)
+        with pytest.raises(gv.JournalRefused, match="changed|another layer|no journal"):
+            town.session()
+        assert town.journal.read_bytes() == other
+
+
+def test_a_journal_of_another_layer(town, halves):
+    text = halves.text_of("insert 0 0 60 0 30 0")
+    town.journal.write_bytes(text)
+    with pytest.raises(gv.JournalRefused, match="^journal: another layer$"):
+        gv.Session(town.city, town.city, journal=town.journal, timeout=SECONDS)
+    assert town.journal.read_bytes() == text
+
+
+@pytest.mark.parametrize("how", ["unlinked", "moved", "replaced"])
+def test_a_journal_whose_path_names_it_no_more(town, tmp_path, how):
+    with town.session() as session:
+        session.merge(1, 2)
+        if how == "moved":
+            town.journal.rename(tmp_path / "elsewhere")
+        else:
+            town.journal.unlink()
+        if how == "replaced":
+            town.journal.write_bytes(b"")
+        with pytest.raises(gv.JournalBroken):
+            session.merge(65, 3)
+        with pytest.raises(gv.JournalBroken):
+            session.merge(65, 3)
+
+
+def test_a_desk_that_another_session_serves(town, tmp_path):
+    for name in ("anna.in", "anna.out"):
+        os.mkfifo(tmp_path / name, 0o600)
+    command = [find_tool(), "session", town.city, town.parcels, "--unit", "mm", "--desk", tmp_path / "anna"]
+    first = subprocess.Popen(list(map(str, command)), stdin=subprocess.PIPE, stdout=subprocess.PIPE)
+    try:
+        assert first.stdout.readline() == b"ready 0\n"
+        second = subprocess.run(list(map(str, command)), stdin=subprocess.DEVNULL, capture_output=True, timeout=SECONDS)
+        assert (second.returncode, second.stdout) == (1, b"")
+        assert second.stderr == f"error: S4 {tmp_path}/anna.lock\n".encode()
+        assert first.communicate(b"close\n", SECONDS)[0] == b"closed 0\n"
+    finally:
+        first.kill()
+        first.wait()
 
 
 def test_two_sessions_on_one_journal(town):
@@ -157,7 +277,7 @@ def unwritable(folder: Path) -> Path:
 
 
 def test_a_journal_that_may_only_be_read(town):
-    town.journal.write_text("merge 1 2\n")
+    town.journal.write_bytes(town.text_of("merge 1 2"))
     town.journal.chmod(0o444)
     if os.geteuid() == 0:
         with town.session() as session:
@@ -192,12 +312,12 @@ def test_a_full_disk(town, tmp_path, monkeypatch, kind):
     with town.session("anna", "bert") as session:
         accepted = until_full(session)
         journal = Path(f"/proc/{session.pid}/root{town.journal}").read_bytes()
-        whole, _, torn = journal.rpartition(b"\n")
-        assert whole.decode().splitlines() == accepted
+        read = journal_of(journal)
+        assert [record.edit for record in read.records] == accepted
         town.journal.write_bytes(journal)
     monkeypatch.undo()
     with town.session("anna") as session, session.desk("anna", SECONDS) as desk:
-        assert session.replayed == len(accepted) and len(session.notes) == (1 if torn else 0)
+        assert session.replayed == len(accepted) and len(session.notes) == (1 if read.torn else 0)
         next_edit(desk)
     assert len(town.lines()) == len(accepted) + 1
 
@@ -233,8 +353,12 @@ def test_killed_at_random_moments(town, tmp_path):
         before = register.entries
         with town.session(*CLERKS) as session:
             assert session.replayed == before and session.notes == []
-            finished = started([(session.path(name), 100 * turn + at, 80_000, 80_000, "work", 10**9)
-                                for at, name in enumerate(CLERKS)])
+            finished = started(
+                [
+                    (session.path(name), 100 * turn + at, 80_000, 80_000, "work", 10**9)
+                    for at, name in enumerate(CLERKS)
+                ]
+            )
             time.sleep(draw.random() * 0.4)
             os.kill(session.pid, signal.SIGKILL)
             session.terminate()
@@ -249,11 +373,11 @@ def test_killed_at_random_moments(town, tmp_path):
 
 
 def without_torn(town: Town, heard: List[Heard]) -> List[str]:
-    """The journal's whole lines. A torn one is the beginning of an edit that got no answer, and is cut off."""
+    """The lines of the journal's edits. A torn record is the beginning of one that got no answer, and is cut off."""
     text = town.journal.read_bytes()
-    whole, _, torn = text.rpartition(b"\n")
-    assert not torn or any(it.line.encode().startswith(torn) for it in unanswered(heard))
-    town.journal.write_bytes(text[:len(text) - len(torn)])
+    torn = gv.read_journal(town.journal).torn
+    assert not torn or unanswered(heard)
+    town.journal.write_bytes(text[: len(text) - torn])
     return town.lines()
 
 
@@ -277,8 +401,12 @@ def are_answered(lines: List[str], before: int, heard: List[Heard]) -> None:
 def killed_while_it_starts(town: Town, seconds: float) -> None:
     """Starts a session and kills it soon, perhaps before it is ready."""
     words = [town.city, town.parcels, "--unit", "mm", "--journal", town.journal]
-    starting = subprocess.Popen([find_tool(), "session", *map(str, words)], stdin=subprocess.PIPE,
-                                stdout=subprocess.DEVNULL, stderr=subprocess.DEVNULL)
+    starting = subprocess.Popen(
+        [find_tool(), "session", *map(str, words)],
+        stdin=subprocess.PIPE,
+        stdout=subprocess.DEVNULL,
+        stderr=subprocess.DEVNULL,
+    )
     time.sleep(seconds)
     starting.kill()
     starting.wait()
@@ -301,6 +429,7 @@ def is_as_read(town: Town, folder: Path, register: Register) -> None:
     for end in (".shp", ".shx"):
         assert (folder / f"ours{end}").read_bytes() == (folder / f"theirs{end}").read_bytes()
     assert [list(map(tuple, ring.tolist())) for ring in read_rings(folder / "ours.shp")] == [
-        register.rings[number] for number in sorted(register.rings)]
+        register.rings[number] for number in sorted(register.rings)
+    ]
     checked = ask(["check", str(town.city), str(town.parcels), "--unit", "mm", "--clerk", str(town.journal)])
     assert checked.splitlines()[-1] == f"tiling {len(register.rings)} 12800000000"

@@ -23,8 +23,9 @@ def test_eight_desks_at_once(tmp_path, clerks):
     edits, wide = ALL // 2 // clerks, COLUMNS * SIDE
     with town.session(*NAMES) as session:
         jobs = [("work", edits) if at < clerks else ("read", 3 * edits) for at in range(len(NAMES))]
-        heard = started([(session.path(name), at, wide, wide, *job)
-                         for at, (name, job) in enumerate(zip(NAMES, jobs))])()
+        heard = started(
+            [(session.path(name), at, wide, wide, *job) for at, (name, job) in enumerate(zip(NAMES, jobs))]
+        )()
         assert [it.fault for it in heard] == [None] * len(NAMES)
         told = session.check()
     assert session.close() == len(town.lines()) == edits * clerks

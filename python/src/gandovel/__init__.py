@@ -17,19 +17,83 @@ if TYPE_CHECKING:
     from .api import apply, area, check, locate, overlay
     from .back import back
     from .edits import Insert, Merge, Move, Split, Straighten
-    from .errors import (BadAnswer, CardsMissing, DeskTaken, JournalBroken, JournalInUse, JournalRefused, NoCard,
-                         NoMemory, NoSuchLine, NoVersion, NoWindow, NoZones, OperatorsOnly, ProgramEnded, Refused,
-                         RefusedEdit, SessionClosed, SessionError, TimedOut)
+    from .errors import (
+        BadAnswer,
+        CardsMissing,
+        DeskTaken,
+        JournalBroken,
+        JournalInUse,
+        JournalRefused,
+        NoCard,
+        NoMemory,
+        NoSuchLine,
+        NoVersion,
+        NoWindow,
+        NoZones,
+        OperatorsOnly,
+        ProgramEnded,
+        Refused,
+        RefusedEdit,
+        SessionClosed,
+        SessionError,
+        TimedOut,
+    )
+    from .journals import Journal, JournalRecord, read_journal
+    from .mend import Mended, mend
     from .prepare import prepare
     from .prepared import Prepared, load
     from .report import Report, report
     from .session import Desk, Session
 
-__all__ = ["Accepted", "BadAnswer", "CardsMissing", "Desk", "DeskTaken", "Insert", "JournalBroken", "JournalInUse",
-           "JournalRefused", "Merge", "Move", "NoCard", "NoMemory", "NoSuchLine", "NoVersion", "NoWindow", "NoZones",
-           "OperatorsOnly", "Outline", "Overlaps", "Place", "Prepared", "ProgramEnded", "Refused", "RefusedEdit",
-           "Report", "Session", "SessionClosed", "SessionError", "Split", "Straighten", "Tiling", "TimedOut", "apply",
-           "area", "back", "check", "load", "locate", "overlay", "prepare", "report"]
+__all__ = [
+    "Accepted",
+    "BadAnswer",
+    "CardsMissing",
+    "Desk",
+    "DeskTaken",
+    "Insert",
+    "Journal",
+    "JournalBroken",
+    "JournalInUse",
+    "JournalRecord",
+    "JournalRefused",
+    "Mended",
+    "Merge",
+    "Move",
+    "NoCard",
+    "NoMemory",
+    "NoSuchLine",
+    "NoVersion",
+    "NoWindow",
+    "NoZones",
+    "OperatorsOnly",
+    "Outline",
+    "Overlaps",
+    "Place",
+    "Prepared",
+    "ProgramEnded",
+    "Refused",
+    "RefusedEdit",
+    "Report",
+    "Session",
+    "SessionClosed",
+    "SessionError",
+    "Split",
+    "Straighten",
+    "Tiling",
+    "TimedOut",
+    "apply",
+    "area",
+    "back",
+    "check",
+    "load",
+    "locate",
+    "mend",
+    "overlay",
+    "prepare",
+    "read_journal",
+    "report",
+]
 __version__ = "1.0.0"
 
 _NAMES = {
@@ -38,8 +102,10 @@ _NAMES = {
     "back": "back",
     "edits": "Insert Merge Move Split Straighten",
     "errors": "BadAnswer CardsMissing DeskTaken JournalBroken JournalInUse JournalRefused NoCard NoMemory NoSuchLine "
-              "NoVersion NoWindow NoZones OperatorsOnly ProgramEnded Refused RefusedEdit SessionClosed SessionError "
-              "TimedOut",
+    "NoVersion NoWindow NoZones OperatorsOnly ProgramEnded Refused RefusedEdit SessionClosed SessionError "
+    "TimedOut",
+    "journals": "Journal JournalRecord read_journal",
+    "mend": "Mended mend",
     "prepare": "prepare",
     "prepared": "Prepared load",
     "report": "Report report",
@@ -61,6 +127,8 @@ class _Package(ModuleType):
         if name not in _MODULES:
             raise AttributeError(f"module {self.__name__!r} has no attribute {name!r}")
         value = getattr(import_module(f".{_MODULES[name]}", self.__name__), name)
+        if "pandas" in sys.modules:
+            import_module(".accessor", self.__name__)
         setattr(self, name, value)
         return value
 
@@ -69,3 +137,5 @@ class _Package(ModuleType):
 
 
 sys.modules[__name__].__class__ = _Package
+if "pandas" in sys.modules:
+    import_module(".accessor", __name__)

@@ -7,8 +7,25 @@ from typing import Dict, List, Optional, Sequence, Tuple, Type, Union
 
 import numpy as np
 
-from .errors import (BadAnswer, CardsMissing, JournalBroken, JournalInUse, JournalRefused, NoCard, NoMemory, NoSuchLine,
-                     NoVersion, NoWindow, NoZones, OperatorsOnly, Refused, RefusedEdit, SessionClosed, SessionError)
+from .arrays import Array
+from .errors import (
+    BadAnswer,
+    CardsMissing,
+    JournalBroken,
+    JournalInUse,
+    JournalRefused,
+    NoCard,
+    NoMemory,
+    NoSuchLine,
+    NoVersion,
+    NoWindow,
+    NoZones,
+    OperatorsOnly,
+    Refused,
+    RefusedEdit,
+    SessionClosed,
+    SessionError,
+)
 from .tool import refusal
 
 
@@ -45,7 +62,7 @@ class Outline:
     entries: int
     id: int
     area2: int
-    ring: np.ndarray
+    ring: Array
 
 
 @dataclass(frozen=True)
@@ -65,14 +82,22 @@ class Overlaps:
     """
 
     entries: int
-    pairs: np.ndarray
+    pairs: Array
     split: Tuple[int, ...]
-    within: np.ndarray
+    within: Array
 
 
 ERRORS: Dict[str, Type[SessionError]] = {
-    "L1": NoSuchLine, "K4": NoVersion, "no memory": NoMemory, "operator": OperatorsOnly, "no card": NoCard,
-    "no window": NoWindow, "journal": JournalBroken, "closed": SessionClosed, "no zones": NoZones, "K2": CardsMissing,
+    "L1": NoSuchLine,
+    "K4": NoVersion,
+    "no memory": NoMemory,
+    "operator": OperatorsOnly,
+    "no card": NoCard,
+    "no window": NoWindow,
+    "journal": JournalBroken,
+    "closed": SessionClosed,
+    "no zones": NoZones,
+    "K2": CardsMissing,
 }
 
 _ERROR = re.compile(r"error: (L1|K4|no memory|operator|no card|no window|journal|closed|no zones|K2)(?: (.*))?")
@@ -81,7 +106,9 @@ _REFUSED = re.compile(r"refused (E[0-9]+|no memory)(?: (.*))?")
 _PLACE = re.compile(r"at ([0-9]+) (-?[0-9]+) (-?[0-9]+) (?:(inside)( [0-9]+)|(edge)((?: [0-9]+)+)|(outside))")
 _PARCEL = re.compile(r"parcel ([0-9]+) ([0-9]+) (?:none|([0-9]+)((?: -?[0-9]+ -?[0-9]+){3,}))")
 _OVERLAP = re.compile(r"(pair|within) ([0-9]+) ([0-9]+)|(split) ([0-9]+)")
-_JOURNAL = re.compile(r"(?: line ([0-9]+))?: (?:refused )?(L1|S1|in use|no memory|E[0-9]+)(?: (.*))?")
+_JOURNAL = re.compile(
+    r"(?: line ([0-9]+))?: (?:refused )?(S1|in use|no journal|another layer|changed|no memory|E[0-9]+)(?: (.*))?"
+)
 
 
 def test_error(line: str) -> None:
@@ -91,7 +118,7 @@ def test_error(line: str) -> None:
     found = _ERROR.fullmatch(line)
     if found:
         raise ERRORS[found[1]](found[1], found[2] or "")
-    told = refusal(line[len("error: "):])
+    told = refusal(line[len("error: ") :])
     if told.code == "T2":
         raise bad(line, "an error")
     raise SessionError(told.code, told.text, told.role, told.record)
@@ -163,7 +190,7 @@ def overlaps_of(lines: Sequence[str]) -> Overlaps:
 
 def start_refused(text: str, journal: Optional[str]) -> Union[Refused, JournalRefused]:
     """Why a session did not begin: `text` behind `error: `, and the journal's path as it was given."""
-    found = _JOURNAL.fullmatch(text[len(journal):]) if journal and text.startswith(journal) else None
+    found = _JOURNAL.fullmatch(text[len(journal) :]) if journal and text.startswith(journal) else None
     if not found:
         return refusal(text)
     kind = JournalInUse if found[2] == "in use" else JournalRefused

@@ -5,27 +5,28 @@ import tempfile
 from collections import defaultdict
 from contextlib import contextmanager
 from pathlib import Path
-from typing import Any, Dict, Iterator, List, Sequence, Tuple, Union
+from typing import Any, Dict, Iterator, List, Optional, Sequence, Tuple, Union
 
 import geopandas as gpd
 import numpy as np
 import pandas as pd
 
+from .arrays import Array
 from . import tool
 from .back import back
 from .edits import lines_of
 from .errors import Refused
+from .large import is_large
+from .large.verdict import areas_of_island, locate_in_island, overlaid_island, test_editable
 from .layer_files import read_rings
 from .prepare import prepare
 from .prepared import OUT_ROW, Island, Prepared
-from .report import FAULT_COLUMNS, report
+from .reading import Source
+from .report import report
 from .verdicts import named, numbers_at, write_island
 
-Register = Union[Prepared, gpd.GeoDataFrame]
-
-
-def _prepared(parcels: Register, options: Dict[str, Any]) -> Prepared:
-    return parcels if isinstance(parcels, Prepared) else prepare(parcels, **options)
+Register = Union[Prepared, Source]
+"""A register that `prepare` made, or parcels that it takes."""
 
 
 @contextmanager
@@ -40,39 +41,134 @@ def _islands(prepared: Prepared) -> Iterator[List[Tuple[Path, Island]]]:
         yield folders
 
 
-def check(parcels: Register, **options: Any) -> gpd.GeoDataFrame:
-    """The gaps and overlaps of a register, and of its zones where it has some; no row where all tiles.
+def check(
+    parcels: Register,
+    *,
+    zones: Optional[Source] = None,
+    number: str = "parcel_no",
+    zone: Optional[str] = None,
+    city: Optional[Source] = None,
+    frame: bool = False,
+    max_move: float = 1.0,
+    touch: Optional[float] = None,
+    grid: Optional[float] = None,
+    unit: Union[str, float, None] = None,
+    skip_invalid: bool = False,
+    narrow: float = 1.0,
+) -> gpd.GeoDataFrame:
+    """The faults of a register, and of its zones where it has some, the largest area first; no row where all tiles.
 
-    Columns: kind (`gap` | `overlap`), layer, island, area2_mm2 (text: twice the exact area in mm2), area_m2, area_how,
-    depth (how often too much is covered), numbers (of a gap those that border it, exact; of an overlap those that cover
-    it, measured by GEOS), numbers_how (`exact` | `measured`), geometry. Refused H1, H3, F.., P...
+    Columns: kind (`gap` | `overlap` | `open_gap` | `sliver`), layer, island, area2_mm2 (text: twice the area in mm2,
+    exact but for open gaps), area_m2, area_how, area and unit (in the layer's unit), depth (how often too much is
+    covered), numbers (of a gap those that border it, exact; of an overlap those that cover it, measured by GEOS),
+    numbers_how (`exact` | `measured`), touched (corners of it that were made to touch), geometry. Refused H1, H3, F..,
+    P... Options are those of `prepare`.
     """
-    answer = report(_prepared(parcels, options))
-    frames = [frame.assign(kind=kind) for kind, frame in (("gap", answer.gaps), ("overlap", answer.overlaps))]
-    both = pd.concat(frames, ignore_index=True)
-    return gpd.GeoDataFrame(both[["kind", *FAULT_COLUMNS]], geometry="geometry", crs=answer.parcels.crs)
+    prepared = (
+        parcels
+        if isinstance(parcels, Prepared)
+        else prepare(
+            parcels,
+            zones,
+            number,
+            zone,
+            city,
+            frame,
+            max_move,
+            touch,
+            grid=grid,
+            unit=unit,
+            skip_invalid=skip_invalid,
+            narrow=narrow,
+        )
+    )
+    return report(prepared).faults()
 
 
-def area(parcels: Register, **options: Any) -> gpd.GeoDataFrame:
+def area(
+    parcels: Register,
+    *,
+    zones: Optional[Source] = None,
+    number: str = "parcel_no",
+    zone: Optional[str] = None,
+    city: Optional[Source] = None,
+    frame: bool = False,
+    max_move: float = 1.0,
+    touch: Optional[float] = None,
+    grid: Optional[float] = None,
+    unit: Union[str, float, None] = None,
+    skip_invalid: bool = False,
+    narrow: float = 1.0,
+) -> gpd.GeoDataFrame:
     """The parcels with area2_mm2 (whole number: twice the area in mm2 on the grid, exact) and area_m2 (rounded)."""
-    prepared = _prepared(parcels, options)
+    prepared = (
+        parcels
+        if isinstance(parcels, Prepared)
+        else prepare(
+            parcels,
+            zones,
+            number,
+            zone,
+            city,
+            frame,
+            max_move,
+            touch,
+            grid=grid,
+            unit=unit,
+            skip_invalid=skip_invalid,
+            narrow=narrow,
+        )
+    )
     doubled: Dict[int, int] = defaultdict(int)
     with _islands(prepared) as folders:
         for folder, island in folders:
-            for record, value in tool.areas(folder / "parcels.shp").items():
+            for record, value in areas_of_island(island, folder).items():
                 doubled[island.parcels.source[record - 1]] += value
     values = [doubled[row] for row in range(len(prepared.numbers))]
-    return prepared.parcels.assign(area2_mm2=pd.Series(values, dtype=object, index=prepared.parcels.index),
-                                   area_m2=[value / 2_000_000 for value in values])
+    return prepared.parcels.assign(
+        area2_mm2=pd.Series(values, dtype=object, index=prepared.parcels.index),
+        area_m2=[value / 2_000_000 for value in values],
+    )
 
 
-def overlay(parcels: Register, zones: gpd.GeoDataFrame = None, **options: Any) -> gpd.GeoDataFrame:
+def overlay(
+    parcels: Register,
+    zones: Optional[Source] = None,
+    *,
+    number: str = "parcel_no",
+    zone: Optional[str] = None,
+    city: Optional[Source] = None,
+    frame: bool = False,
+    max_move: float = 1.0,
+    touch: Optional[float] = None,
+    grid: Optional[float] = None,
+    unit: Union[str, float, None] = None,
+    skip_invalid: bool = False,
+    narrow: float = 1.0,
+) -> gpd.GeoDataFrame:
     """The pairs of a parcel and a zone whose interiors have a common point, by number and then by zone.
 
     Columns: number, zone, split (whether the parcel lies in two zones or more), geometry (the parcel's, as given).
     Refused H2 where parcels or zones do not tile the city (`report` answers there, too), H1, H3, F.., P...
     """
-    prepared = _prepared(parcels, {**options, "zones": zones} if zones is not None else options)
+    prepared = (
+        parcels
+        if isinstance(parcels, Prepared)
+        else prepare(
+            parcels,
+            zones,
+            number,
+            zone,
+            city,
+            frame,
+            max_move,
+            touch,
+            grid=grid,
+            unit=unit,
+            skip_invalid=skip_invalid,
+            narrow=narrow,
+        )
+    )
     if prepared.zones is None:
         raise Refused("P2", "there are no zones to overlay", "zones")
     found: Dict[Tuple[int, str], None] = {}
@@ -80,31 +176,68 @@ def overlay(parcels: Register, zones: gpd.GeoDataFrame = None, **options: Any) -
         for folder, island in folders:
             for parcel, zone in _pairs(prepared, folder, island).tolist():
                 if island.parcels.source[parcel] != OUT_ROW:
-                    found[island.parcels.source[parcel], prepared.zone_of(island.zones.source[zone])] = None
+                    found[island.parcels.source[parcel], prepared.zone_of(island.rows_of_zones().source[zone])] = None
     count: Dict[int, int] = defaultdict(int)
     for row, _ in found:
         count[row] += 1
     rows = sorted(found)
-    table = {"number": [prepared.number_of(row) for row, _ in rows], "zone": [zone for _, zone in rows],
-             "split": [count[row] > 1 for row, _ in rows],
-             "geometry": list(prepared.parcels.geometry.iloc[[row for row, _ in rows]])}
+    table = {
+        "number": [prepared.number_of(row) for row, _ in rows],
+        "zone": [zone for _, zone in rows],
+        "split": [count[row] > 1 for row, _ in rows],
+        "geometry": list(prepared.parcels.geometry.iloc[[row for row, _ in rows]]),
+    }
     return gpd.GeoDataFrame(table, geometry="geometry", crs=prepared.crs)
 
 
-def _pairs(prepared: Prepared, folder: Path, island: Island) -> np.ndarray:
+def _pairs(prepared: Prepared, folder: Path, island: Island) -> Array:
     try:
+        if island.zones is not None and (is_large(island.parcels.rings) or is_large(island.zones.rings)):
+            return overlaid_island(island)
         return tool.overlay_pairs(folder / "city.shp", folder / "parcels.shp", folder / "zones.shp") - 1
     except Refused as refused:
         raise named(prepared, island, refused, refused.role) from refused
 
 
-def locate(parcels: Register, points: gpd.GeoDataFrame, **options: Any) -> gpd.GeoDataFrame:
+def locate(
+    parcels: Register,
+    points: gpd.GeoDataFrame,
+    *,
+    zones: Optional[Source] = None,
+    number: str = "parcel_no",
+    zone: Optional[str] = None,
+    city: Optional[Source] = None,
+    frame: bool = False,
+    max_move: float = 1.0,
+    touch: Optional[float] = None,
+    grid: Optional[float] = None,
+    unit: Union[str, float, None] = None,
+    skip_invalid: bool = False,
+    narrow: float = 1.0,
+) -> gpd.GeoDataFrame:
     """The points with `where` (`inside` | `edge` | `outside`), `numbers` (text, comma separated), `moved_mm`.
 
     A point is asked for at the whole millimetre nearest to it, `moved_mm` away (`moved_how`: measured). Refused H2
     where the parcels do not tile the city, P7 where the points have another projection.
     """
-    prepared = _prepared(parcels, options)
+    prepared = (
+        parcels
+        if isinstance(parcels, Prepared)
+        else prepare(
+            parcels,
+            zones,
+            number,
+            zone,
+            city,
+            frame,
+            max_move,
+            touch,
+            grid=grid,
+            unit=unit,
+            skip_invalid=skip_invalid,
+            narrow=narrow,
+        )
+    )
     if points.crs is not None and prepared.crs is not None and points.crs != prepared.crs:
         raise Refused("P7", "their projection is not that of the parcels", "points")
     places = np.column_stack([points.geometry.x, points.geometry.y]) * prepared.scale
@@ -120,14 +253,32 @@ def locate(parcels: Register, points: gpd.GeoDataFrame, **options: Any) -> gpd.G
     return points.assign(where=where, numbers=numbers, moved_mm=np.hypot(*(whole - places).T), moved_how="measured")
 
 
-def _located(prepared: Prepared, folder: Path, island: Island, whole: np.ndarray) -> List[Tuple[str, List[int]]]:
+def _located(prepared: Prepared, folder: Path, island: Island, whole: Array) -> List[Tuple[str, List[int]]]:
     try:
+        if is_large(island.parcels.rings):
+            return locate_in_island(island, whole.astype(np.int64).tolist())
         return tool.locate_points(folder / "city.shp", folder / "parcels.shp", whole.astype(np.int64).tolist())
     except Refused as refused:
         raise named(prepared, island, refused, "parcels") from refused
 
 
-def apply(parcels: Register, edits: Sequence[Any], island: int = 1, **options: Any) -> gpd.GeoDataFrame:
+def apply(
+    parcels: Register,
+    edits: Sequence[Any],
+    island: int = 1,
+    *,
+    zones: Optional[Source] = None,
+    number: str = "parcel_no",
+    zone: Optional[str] = None,
+    city: Optional[Source] = None,
+    frame: bool = False,
+    max_move: float = 1.0,
+    touch: Optional[float] = None,
+    grid: Optional[float] = None,
+    unit: Union[str, float, None] = None,
+    skip_invalid: bool = False,
+    narrow: float = 1.0,
+) -> gpd.GeoDataFrame:
     """The parcels of an island after edits (`Split`, `Merge`, `Move`, `Insert`, `Straighten`, or lines of a clerk's file in mm).
 
     As `back` returns them: with their attributes, `came_from` and `edited`. `.attrs["answers"]` has the program's
@@ -135,7 +286,25 @@ def apply(parcels: Register, edits: Sequence[Any], island: int = 1, **options: A
     Refused H2 where the parcels do not tile the city, P13 for a number that is not there, L1 for a line that is no
     edit.
     """
-    prepared = _prepared(parcels, options)
+    prepared = (
+        parcels
+        if isinstance(parcels, Prepared)
+        else prepare(
+            parcels,
+            zones,
+            number,
+            zone,
+            city,
+            frame,
+            max_move,
+            touch,
+            grid=grid,
+            unit=unit,
+            skip_invalid=skip_invalid,
+            narrow=narrow,
+        )
+    )
+    test_editable(prepared.islands[island - 1])
     lines = lines_of(prepared, edits, island - 1)
     with _islands(prepared) as folders:
         folder, here = folders[island - 1]
@@ -145,6 +314,6 @@ def apply(parcels: Register, edits: Sequence[Any], island: int = 1, **options: A
             answers = tool.export(folder / "city.shp", folder / "parcels.shp", folder / "new", [clerk])
         except Refused as refused:
             raise named(prepared, here, refused, "parcels") from refused
-        frame = back(prepared, read_rings(folder / "new.shp"), island - 1)
-    frame.attrs["answers"] = [answer.split(" ", 4)[4] for answer in answers]
-    return frame
+        result = back(prepared, read_rings(folder / "new.shp"), island - 1)
+    result.attrs["answers"] = [answer.split(" ", 4)[4] for answer in answers]
+    return result

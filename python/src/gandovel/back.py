@@ -11,6 +11,7 @@ import numpy as np
 import pandas as pd
 from shapely.geometry import MultiPolygon, Polygon
 
+from .arrays import Array
 from . import notes
 from .errors import Refused
 from .gpkg import write_layers
@@ -35,7 +36,7 @@ def back_from_files(export: Union[str, Path], rows: Union[str, Path], out: Union
     return frame
 
 
-def back(prepared: Prepared, rings: Sequence[np.ndarray], at: int = 0) -> gpd.GeoDataFrame:
+def back(prepared: Prepared, rings: Sequence[Array], at: int = 0) -> gpd.GeoDataFrame:
     """The rings (k, 2) int64 mm of an island, number `at` from 0, after edits, as parcels in the layer's projection.
 
     Rows that are as they were make up their parcel again, holes and parts and all. Each other row is a parcel of its
@@ -58,7 +59,7 @@ def back(prepared: Prepared, rings: Sequence[np.ndarray], at: int = 0) -> gpd.Ge
     return _frame(prepared, rings, rows)
 
 
-def _origins(island: Island, rings: Sequence[np.ndarray]) -> Tuple[List[List[int]], List[bool]]:
+def _origins(island: Island, rings: Sequence[Array]) -> Tuple[List[List[int]], List[bool]]:
     """For each new row the old ones that it overlaps, by the program, and whether it covers just what one did."""
     with tempfile.TemporaryDirectory() as name:
         folder = Path(name)
@@ -73,7 +74,7 @@ def _origins(island: Island, rings: Sequence[np.ndarray]) -> Tuple[List[List[int
     return origins, same
 
 
-def _most(island: Island, ring: np.ndarray, olds: List[int]) -> int:
+def _most(island: Island, ring: Array, olds: List[int]) -> int:
     """The row of the layer that a ring overlaps most, measured by GEOS."""
     shift = island.city[0]
     area: Dict[int, float] = defaultdict(float)
@@ -84,8 +85,9 @@ def _most(island: Island, ring: np.ndarray, olds: List[int]) -> int:
     return max(area, key=lambda row: area[row])
 
 
-def _frame(prepared: Prepared, rings: Sequence[np.ndarray],
-           rows: List[Tuple[int, List[int], List[str], int]]) -> gpd.GeoDataFrame:
+def _frame(
+    prepared: Prepared, rings: Sequence[Array], rows: List[Tuple[int, List[int], List[str], int]]
+) -> gpd.GeoDataFrame:
     shapes = [_united(prepared, [rings[new] for new in news]) for _, news, _, _ in rows]
     sources = [row[0] for row in rows]
     attributes = pd.DataFrame(prepared.parcels.drop(columns=prepared.parcels.geometry.name))
@@ -95,7 +97,7 @@ def _frame(prepared: Prepared, rings: Sequence[np.ndarray],
     return gpd.GeoDataFrame(attributes, geometry=shapes, crs=prepared.crs)
 
 
-def _united(prepared: Prepared, rings: Sequence[np.ndarray]) -> Union[Polygon, MultiPolygon]:
+def _united(prepared: Prepared, rings: Sequence[Array]) -> Union[Polygon, MultiPolygon]:
     """Rings that touch along their cuts as the polygons that they were, exactly."""
     if len(rings) == 1:
         return prepared.polygon(rings[0])

@@ -3,13 +3,13 @@ from __future__ import annotations
 
 import numbers
 from collections import deque
-from typing import Any, Deque, List, Optional, Sequence
+from typing import Any, Deque, List, Optional, Sequence, Tuple
 
 from .answers import Accepted, Outline, Place, accepted_of, count_of, outline_of, place_of, test_error
 from .edits import Edit, Insert, Merge, Move, Split, Straighten, line_of
 from .wires import Wire, limit_of
 
-Corner = Sequence[int]
+Corner = Tuple[int, int]
 """A corner (x, y), in mm."""
 Corners = Sequence[Corner]
 """Corners in mm, also as an array of integers of shape (k, 2)."""
@@ -52,12 +52,14 @@ class Calls:
         """Takes a corner out of every parcel that has it, where it bends none. Raises as `edit` does."""
         return self.edit(Straighten(corner))
 
-    def edit(self, edit: Edit) -> Accepted:
+    def edit(self, edit: Edit, who: Optional[str] = None) -> Accepted:
         """Makes an edit, with ids as its parcels. Raises `RefusedEdit` where nothing has changed.
 
-        Where it raises `ProgramEnded`, `TimedOut` or `JournalBroken`, the edit may stand in the journal all the same.
+        `who` says who edits and why, as it is to stand in the journal: 1 to 200 bytes without control characters, else
+        `NoSuchLine`. Where it raises `ProgramEnded`, `TimedOut` or `JournalBroken`, the edit may stand in the journal all the same.
         """
-        return accepted_of(self.ask(line_of(edit, _whole, _path)))
+        line = line_of(edit, _whole, _path)
+        return accepted_of(self.ask(line if who is None else f"by {who}: {line}"))
 
     def locate(self, x: int, y: int) -> Place:
         """Where a point (mm) lies among the parcels. It waits for no clerk."""

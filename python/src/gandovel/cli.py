@@ -1,136 +1,337 @@
-"""The command `gandovel`: prepare, report, map, back, many. Each imports what it needs when it runs."""
+"""The command `gandovel`: prepare, check, report, overlay, locate, mend, map, back, many."""
 from __future__ import annotations
 
 import argparse
+import logging
 import os
 import sys
 from pathlib import Path
-from typing import TYPE_CHECKING, List, Optional
+from typing import TYPE_CHECKING, Any, Callable, Dict, List, Optional
 
 from . import __version__
 from .errors import Refused
+from .large.options import add_options, cut_as_told
 from .many.command import add_command, run_command
+from .serve.command import add_commands, run_backup, run_serve
 
 if TYPE_CHECKING:
     from .prepared import Prepared
     from .progress import Progress
 
+ENDED_BY_USER = 130
+"""The status of a command that its user interrupted."""
+
 
 def _preparing(command: argparse.ArgumentParser) -> None:
-    command.add_argument("--zones", metavar="LAYER", help="the zones, in the parcels' projection")
-    command.add_argument("--number", metavar="COLUMN", default="parcel_no", help="the parcels' own numbers (parcel_no)")
-    command.add_argument("--zone", metavar="COLUMN",
-                         help="the zones' names (zone, else the column of --number, else the row)")
-    command.add_argument("--city", metavar="LAYER", help="the city's outline; without it, what the parcels cover")
-    command.add_argument("--frame", action="store_true",
-                         help="a frame as the city, with a parcel and a zone OUT; zones uncut")
-    command.add_argument("--max-move", metavar="MM", type=float, default=1.0,
-                         help="refuse to move a corner farther (1)")
-    command.add_argument("--touch", metavar="MM", type=float, help="a corner this near to a border touches it "
-                         "(the noise of floating point, or the last decimal)")
+    """The options of a command that prepares layers."""
+    add = command.add_argument
+    add("--zones", metavar="LAYER", help="the zones, in the parcels' projection")
+    add("--number", metavar="COLUMN", default="parcel_no", help="the parcels' own numbers (parcel_no), or ROW")
+    add("--zone", metavar="COLUMN", help="the zones' names (zone, else the column of --number, else ROW)")
+    add("--city", metavar="LAYER", help="the city's outline; without it, what the parcels cover")
+    for name in ("", "zones-", "city-"):
+        add(f"--{name}layer", metavar="NAME", help="the layer, where its source has several")
+    add("--frame", action="store_true", help="a frame as the city, with a parcel and a zone OUT; zones uncut")
+    add("--unit", metavar="UNIT", help="m, mm, cm, dm, km, ft, us-ft, or metres: where the projection does not say it")
+    add("--max-move", metavar="MM", type=float, default=1.0, help="refuse to move a corner farther (1)")
+    add("--grid", metavar="MM", type=float, help="the step that coordinates are rounded to (it is found)")
+    add("--touch", metavar="MM", type=float, help="a corner this near to a border touches it (1.42 times the grid)")
+    add("--narrow", metavar="M", type=float, default=1.0, help="what is open to the outside and narrower is told (1)")
+    add("--skip-invalid", action="store_true", help="go on without rows whose geometry is invalid")
+
+
+def _answering(command: argparse.ArgumentParser) -> None:
+    """The options of a command that answers other programs, too."""
+    forms = command.add_mutually_exclusive_group()
+    forms.add_argument("--json", action="store_true", help="one JSON object on standard output")
+    forms.add_argument("--csv", action="store_true", help="a table on standard output")
+
+
+def _add_questions(commands: Any) -> None:
+    """The commands that ask and write no layer, and `report`."""
+    check = commands.add_parser("check", help="gaps and overlaps, printed")
+    report = commands.add_parser("report", help="gaps, overlaps and split parcels as a GeoPackage")
+    overlay = commands.add_parser("overlay", help="which parcels lie in which zones, printed")
+    locate = commands.add_parser("locate", help="in which parcels points lie, printed")
+    for command in (check, report, overlay, locate):
+        command.add_argument("source", metavar="FOLDER|PARCELS", help="what prepare wrote, or the parcels' layer")
+        _preparing(command)
+        add_options(command)
+        _answering(command)
+    for command in (check, report):
+        command.add_argument("--strict", action="store_true", help="status 1 where the parcels do not tile")
+    report.add_argument("--out", metavar="REPORT.gpkg", help="the GeoPackage to write; split.csv beside it")
+    report.add_argument(
+        "--min-area", metavar="M2", type=float, default=1.0, help="parts of less, as measured, are slivers (1)"
+    )
+    where = locate.add_mutually_exclusive_group(required=True)
+    where.add_argument("--at", nargs=2, type=float, metavar=("X", "Y"), help="a point, in the layer's unit")
+    where.add_argument("--points", metavar="LAYER", help="a layer of points")
 
 
 def parser() -> argparse.ArgumentParser:
     """The command line."""
     top = argparse.ArgumentParser(
-        prog="gandovel", description="Parcel layers of a GIS to the proved verdict and back.",
-        epilog="Status: 0 done, 1 refused (one line `error: ..`), 2 a command line not understood.")
+        prog="gandovel",
+        description="Parcel layers of a GIS to the proved verdict and back.",
+        epilog="Status: 0 done, 1 refused (one line `error: ..`), 2 a command line not understood.",
+    )
     top.add_argument("--version", action="version", version=f"gandovel {__version__}")
     commands = top.add_subparsers(dest="command", required=True)
-    one = commands.add_parser("prepare", help="layers of a GIS to whole millimetres; nothing is mended")
-    one.add_argument("parcels", help="the parcels, in any format that GDAL reads")
-    _preparing(one)
-    one.add_argument("--out", required=True, metavar="FOLDER", help="the folder to write")
-    two = commands.add_parser("report", help="gaps, overlaps and split parcels as a GeoPackage")
-    two.add_argument("source", metavar="FOLDER|PARCELS", help="what prepare wrote, or the parcels' layer")
-    _preparing(two)
-    two.add_argument("--out", required=True, metavar="REPORT.gpkg", help="the GeoPackage to write; split.csv beside it")
-    two.add_argument("--min-area", metavar="M2", type=float, default=1.0,
-                     help="parts of less, as measured, are slivers (1)")
-    three = commands.add_parser("map", help="a report as one page to look at")
-    three.add_argument("report", metavar="REPORT.gpkg")
-    three.add_argument("--out", required=True, metavar="MAP.html")
-    four = commands.add_parser("back", help="an export after edits, with projection, numbers and attributes")
-    four.add_argument("export", metavar="NEW.shp", help="what parcel_tool export wrote")
-    four.add_argument("--rows", required=True, metavar="FOLDER/rows.csv",
-                      help="the rows that prepare wrote for these parcels")
-    four.add_argument("--out", required=True, metavar="NEW.gpkg", help="the GeoPackage to write")
+    prepare = commands.add_parser("prepare", help="layers of a GIS to whole millimetres")
+    prepare.add_argument("source", metavar="PARCELS", help="the parcels: whatever GDAL reads")
+    _preparing(prepare)
+    prepare.add_argument("--out", required=True, metavar="FOLDER", help="the folder to write")
+    _add_questions(commands)
+    mend = commands.add_parser("mend", help="the parcels without their slivers, as a GeoPackage")
+    mend.add_argument("source", metavar="FOLDER|PARCELS", help="what prepare wrote, or the parcels' layer")
+    _preparing(mend)
+    _answering(mend)
+    mend.add_argument("--width", metavar="MM", type=float, default=1.0, help="nothing wider is closed (1)")
+    mend.add_argument("--out", required=True, metavar="MENDED.gpkg", help="the GeoPackage to write")
+    page = commands.add_parser("map", help="a report as one page to look at")
+    page.add_argument("report", metavar="REPORT.gpkg")
+    page.add_argument("--out", required=True, metavar="MAP.html")
+    back = commands.add_parser("back", help="an export after edits, with projection, numbers and attributes")
+    back.add_argument("export", metavar="NEW.shp", help="what parcel_tool export wrote")
+    back.add_argument("--rows", required=True, metavar="FOLDER/rows.csv", help="the rows that prepare wrote for it")
+    back.add_argument("--out", required=True, metavar="NEW.gpkg", help="the GeoPackage to write")
     add_command(commands)
+    add_commands(commands)
     return top
 
 
-def _prepared(source: str, options: argparse.Namespace, progress: Progress) -> Prepared:
+def _prepared(options: argparse.Namespace, progress: Progress) -> Prepared:
+    """The register that is asked about: a folder that `prepare` wrote, or layers that are prepared now."""
     from .prepare import prepare
-    from .sources import read_layer
+    from .prepared import load
 
-    zones, city = (read_layer(path, role) if path else None
-                   for role, path in (("zones", options.zones), ("city", options.city)))
-    return prepare(read_layer(source, "parcels"), zones, options.number, options.zone, city, options.frame,
-                   options.max_move, options.touch, progress)
+    if options.command != "prepare" and os.path.isfile(os.path.join(options.source, "prepared.json")):
+        return load(options.source)
+    return prepare(
+        options.source,
+        options.zones,
+        options.number,
+        options.zone,
+        options.city,
+        options.frame,
+        options.max_move,
+        options.touch,
+        progress,
+        grid=options.grid,
+        unit=options.unit,
+        skip_invalid=options.skip_invalid,
+        narrow=options.narrow,
+        layer=options.layer,
+        zones_layer=options.zones_layer,
+        city_layer=options.city_layer,
+    )
 
 
-def _prepare(options: argparse.Namespace) -> None:
+def _lost(prepared: Prepared) -> None:
+    """Says on standard error what no use is made of."""
+    for text in prepared.lost:
+        print(f"note: {text}", file=sys.stderr)
+
+
+def _prepare(options: argparse.Namespace) -> int:
     from .progress import Progress
 
     progress = Progress(6, shown=True)
     try:
-        prepared = _prepared(options.parcels, options, progress)
+        prepared = _prepared(options, progress)
         progress.step("writing")
         prepared.save(options.out)
     finally:
         progress.close()
+    _lost(prepared)
     print(prepared.summary())
     print(progress.end(), file=sys.stderr)
+    return 0
 
 
-def _report(options: argparse.Namespace) -> None:
-    from .prepared import load
+def _report(options: argparse.Namespace) -> int:
+    """`check` and `report`."""
+    from .answer import answer_of, faults_csv, json_of
+    from .gpkg import test_name
     from .progress import Progress
     from .report import report
 
+    out = getattr(options, "out", None)
+    if options.command == "report" and out is None and not (options.json or options.csv):
+        raise Refused("P14", "say where to write the report: --out REPORT.gpkg (or ask by --json or --csv)")
+    if out is not None:
+        test_name(out)
     progress = Progress(shown=True)
-    folder = os.path.isfile(os.path.join(options.source, "prepared.json"))
     try:
-        prepared = load(options.source) if folder else _prepared(options.source, options, progress)
-        answer = report(prepared, options.min_area, progress)
-        progress.step("writing")
-        answer.save(options.out)
+        prepared = _prepared(options, progress)
+        answer = report(prepared, getattr(options, "min_area", 1.0), progress)
+        if out is not None:
+            progress.step("writing")
+            answer.save(out)
     finally:
         progress.close()
-    if not folder:
-        print(prepared.summary())
-    print(answer.summary())
+    _lost(prepared)
+    if options.json:
+        print(json_of(answer_of(answer, prepared)))
+    elif options.csv:
+        print(faults_csv(answer), end="")
+    else:
+        if not os.path.isfile(os.path.join(options.source, "prepared.json")):
+            print(prepared.summary())
+        print(answer.summary())
     print(progress.end(), file=sys.stderr)
+    return 1 if options.strict and answer.verdict == "does not tile" else 0
 
 
-def _map(options: argparse.Namespace) -> None:
+def _overlay(options: argparse.Namespace) -> int:
+    from .answer import csv_of, json_of
+    from .api import overlay
+    from .progress import Progress
+    from .tool import program_version
+
+    prepared = _prepared(options, Progress(shown=True))
+    frame = overlay(prepared)
+    rows = list(zip(frame["number"], frame["zone"], map(bool, frame["split"])))
+    split = list(dict.fromkeys(number for number, _, is_split in rows if is_split))
+    _lost(prepared)
+    if options.json:
+        pairs = [dict(zip(("number", "zone", "split"), row)) for row in rows]
+        print(json_of({"program": program_version(), "pairs": pairs, "split": split, "lost": prepared.lost}))
+    elif options.csv:
+        print(csv_of(("number", "zone", "split"), [(number, zone, int(it)) for number, zone, it in rows]), end="")
+    else:
+        print(f"{len(prepared.numbers)} parcels, {len(split)} of them split; {len(rows)} pairs of a parcel and a zone")
+    return 0
+
+
+def _locate(options: argparse.Namespace) -> int:
+    import geopandas as gpd
+    from shapely.geometry import Point
+
+    from .answer import csv_of, json_of
+    from .api import locate
+    from .progress import Progress
+    from .reading import read_layer
+    from .tool import program_version
+
+    prepared = _prepared(options, Progress(shown=True))
+    if options.points is not None:
+        points = read_layer(options.points, "points")
+    else:
+        points = gpd.GeoDataFrame(geometry=[Point(*options.at)], crs=prepared.crs)
+    frame = locate(prepared, points)
+    columns = (frame.geometry.x, frame.geometry.y, frame["where"], frame["numbers"], frame["moved_mm"])
+    rows = [
+        (x, y, where, numbers.split(",") if numbers else [], moved) for x, y, where, numbers, moved in zip(*columns)
+    ]
+    names = ("x", "y", "where", "numbers", "moved_mm")
+    _lost(prepared)
+    if options.json:
+        print(json_of({"program": program_version(), "points": [dict(zip(names, row)) for row in rows]}))
+    elif options.csv:
+        print(csv_of(names, [(x, y, where, " ".join(numbers), moved) for x, y, where, numbers, moved in rows]), end="")
+    else:
+        for x, y, where, numbers, _ in rows:
+            print(f"{x:.3f} {y:.3f} {where} {' '.join(numbers)}".rstrip())
+    return 0
+
+
+def _mend(options: argparse.Namespace) -> int:
+    from .answer import csv_of, json_of
+    from .gpkg import test_name
+    from .mend import mend
+    from .progress import Progress
+
+    test_name(options.out)
+    prepared = _prepared(options, Progress(shown=True))
+    mended = mend(prepared, options.width)
+    mended.save(options.out)
+    _lost(prepared)
+    names = ("kind", "number", "area2_mm2", "area_m2", "x", "y")
+    rows = [[row[name] for name in names] for row in mended.closed]
+    if options.json:
+        print(json_of({"closed": mended.closed, "left": mended.left, "verdict": mended.verdict}))
+    elif options.csv:
+        print(csv_of(names, rows), end="")
+    else:
+        for kind, number, doubled, _, x, y in rows:
+            print(f"{kind} of {doubled} / 2 mm2 at ({x:.3f}, {y:.3f}): parcel {number} has it now")
+        print(mended.summary())
+    return 0
+
+
+def _map(options: argparse.Namespace) -> int:
     from .map import write_map
 
     if not Path(options.report).is_file():
         raise Refused("P1", f"{options.report} is not there")
     write_map(options.report, options.out)
+    return 0
 
 
-def _back(options: argparse.Namespace) -> None:
+def _back(options: argparse.Namespace) -> int:
     from .back import back_from_files
+    from .gpkg import test_name
 
+    test_name(options.out)
     frame = back_from_files(options.export, options.rows, options.out)
     print(f"{len(frame)} parcels, {int(frame['edited'].sum())} of them from edits")
+    return 0
+
+
+def _refused(options: argparse.Namespace, refused: Refused) -> int:
+    """Says what is refused, on standard output too where a program asked."""
+    if getattr(options, "json", False):
+        from .answer import json_of, refusal_of
+
+        print(json_of(refusal_of(refused)))
+    print(f"error: {refused}", file=sys.stderr)
+    return refused.status
+
+
+def _begin_log() -> None:
+    """Notes of the package go to standard error; `GANDOVEL_LOG` says from which level on (INFO)."""
+    level = logging.getLevelName(os.environ.get("GANDOVEL_LOG", "INFO").upper())
+    logging.basicConfig(format="note: %(message)s")
+    logging.getLogger("gandovel").setLevel(level if isinstance(level, int) else logging.INFO)
+    logging.getLogger("fiona").setLevel(logging.CRITICAL)
 
 
 def main(arguments: Optional[List[str]] = None) -> int:
     """Runs the command line; the status."""
     options = parser().parse_args(arguments)
+    _begin_log()
+    commands: Dict[str, Callable[[argparse.Namespace], Optional[int]]] = {
+        "prepare": _prepare,
+        "check": _report,
+        "report": _report,
+        "overlay": _overlay,
+        "locate": _locate,
+        "mend": _mend,
+        "map": _map,
+        "back": _back,
+        "many": run_command,
+        "serve": run_serve,
+        "backup": run_backup,
+    }
     try:
-        commands = {"prepare": _prepare, "report": _report, "map": _map, "back": _back, "many": run_command}
-        commands[options.command](options)
+        with cut_as_told(options):
+            return commands[options.command](options) or 0
     except Refused as refused:
-        print(f"error: {refused}", file=sys.stderr)
-        return refused.status
+        return _refused(options, refused)
     except MemoryError:
         print("error: no memory", file=sys.stderr)
-        return 1
-    return 0
+    except KeyboardInterrupt:
+        print("error: interrupted", file=sys.stderr)
+        return ENDED_BY_USER
+    except BrokenPipeError:
+        os.dup2(os.open(os.devnull, os.O_WRONLY), sys.stdout.fileno())
+    except Exception as fault:  # whatever else is wrong with what came in: one line, and the place on demand
+        logging.getLogger("gandovel").debug("where it happened", exc_info=True)
+        text = f"{type(fault).__name__}: {' '.join(str(fault).split())}"
+        print(f"error: T2 a fault of this package: {text} (GANDOVEL_LOG=debug says where)", file=sys.stderr)
+    return 1
 
 
 if __name__ == "__main__":

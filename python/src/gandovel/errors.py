@@ -1,7 +1,7 @@
 """What is refused, and how it is said: one line, a code, and the place."""
 from __future__ import annotations
 
-from typing import Any, Optional
+from typing import Any, Dict, List, Optional, Sequence
 
 
 class Refused(Exception):
@@ -41,6 +41,58 @@ class Refused(Exception):
     def status(self) -> int:
         """The exit status: 1, as the program's."""
         return 1
+
+    @property
+    def all(self) -> "List[Refused]":
+        """Each single refusal: this one, where there are not several at once."""
+        return [self]
+
+    def record_of(self) -> Dict[str, Any]:
+        """It as a dictionary: code, role, number, text, x, y (in the layer's projection, or None)."""
+        x, y = (self.geometry.x, self.geometry.y) if self.geometry is not None else (None, None)
+        text = " ".join(self.text.split())
+        return {"code": self.code, "role": self.role, "number": self.number, "text": text, "x": x, "y": y}
+
+
+MOST_IN_A_LINE = 200
+
+
+class SeveralRefused(Refused):
+    """Several features that are refused at once: `all` has each; code, role, number and place are the first one's."""
+
+    def __init__(self, problems: Sequence[Refused], advice: str) -> None:
+        first = problems[0]
+        super().__init__(first.code, first.text, first.role, first.record, first.number, first.geometry)
+        self._problems = list(problems)
+        self.advice = advice
+
+    @property
+    def all(self) -> List[Refused]:
+        """Each single refusal."""
+        return self._problems
+
+    def __str__(self) -> str:
+        alike = len({problem.code for problem in self._problems}) == 1
+        texts = []
+        for problem in self._problems[:MOST_IN_A_LINE]:
+            what = "" if alike else f"{problem.code} "
+            if problem.number is not None:
+                what += f"{'zone' if self.role == 'zones' else 'parcel'} {problem.number}: "
+            texts.append(what + " ".join(problem.text.split()))
+        rest = len(self._problems) - len(texts)
+        texts += [f"and {rest} more, which --json lists"] if rest else []
+        head = f"{self.role}: " if self.role else ""
+        return f"{head}{self.code} {len(self._problems)} rows are refused: {'; '.join(texts)}. {self.advice}"
+
+
+def raise_all(problems: Sequence[Refused], advice: str) -> None:
+    """Raises what is refused, all at once; `advice` says what to do. Nothing where nothing is."""
+    if len(problems) == 1:
+        only = problems[0]
+        only.text = f"{only.text}: {advice}"
+        raise only
+    if problems:
+        raise SeveralRefused(problems, f"{advice[:1].upper()}{advice[1:]}")
 
 
 class RefusedEdit(Refused):
@@ -95,9 +147,10 @@ class CardsMissing(SessionError):
 
 
 class JournalRefused(SessionError):
-    """A session did not begin for its journal: ``line`` of it, from 1, is no edit (L1) or doesn't fit (E1 ..); or S1.
+    """A session did not begin for its journal: ``line`` of it, from 1, was changed, or its edit doesn't fit (E1 ..).
 
-    S1: it can't be opened, made or read, or is no regular file.
+    "no journal": the file is not empty, and no journal. "another layer": it was begun with other parcels. S1: it can't be
+    opened, made or read, or is no regular file. The file is not touched.
     """
 
     def __init__(self, code: str, text: str, line: Optional[int] = None) -> None:

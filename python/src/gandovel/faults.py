@@ -9,10 +9,12 @@ from __future__ import annotations
 from collections import defaultdict
 from dataclasses import dataclass, field
 from fractions import Fraction
-from typing import Dict, List, Sequence, Set, Tuple, Union
+from typing import Any, Dict, List, Optional, Sequence, Set, Tuple, Union
 
 import numpy as np
+from shapely.geometry import Polygon
 
+from .arrays import Array
 from .holes import traced
 
 Number = Union[int, Fraction]
@@ -34,12 +36,18 @@ class Fault:
     area2: Number = 0
     edges: Set[Edge] = field(default_factory=set)
 
+    def is_narrow(self, width: float) -> bool:
+        """Whether it is nowhere wider than `width` (mm): measured by GEOS, from a corner of it."""
+        x0, y0 = self.outer[0]
+        loops = [[(float(x - x0), float(y - y0)) for x, y in loop] for loop in (self.outer, *self.holes)]
+        return bool(Polygon(loops[0], loops[1:]).buffer(-width / 2 * (1 + 1e-9)).is_empty)
+
     def inside(self) -> Corner:
         """A point inside the fault's outer ring and in none of its holes."""
         return point_inside(self.outer, self.holes)
 
 
-def faults_of(edges: np.ndarray) -> List[Fault]:
+def faults_of(edges: Array) -> List[Fault]:
     """The faults that unbalanced edges, rows (ax, ay, bx, by, net) int64, bound; by their least corner."""
     if not len(edges):
         return []
@@ -57,7 +65,7 @@ def faults_of(edges: np.ndarray) -> List[Fault]:
     return sorted(faults, key=lambda fault: min(fault.outer))
 
 
-def _fault(depth: int, cycle: List[Corner], within: List[List[Corner]], parents: Dict) -> Fault:
+def _fault(depth: int, cycle: List[Corner], within: List[List[Corner]], parents: Dict[Any, Edge]) -> Fault:
     simple = [loop for walk in (cycle, *within) for loop in simple_loops(walk)]
     outer = next(loop for loop in simple if twice_area(loop) > 0)
     holes = [loop for loop in simple if twice_area(loop) < 0]
@@ -85,7 +93,7 @@ def simple_loops(walk: Sequence[Corner]) -> List[List[Corner]]:
         if corner in where:
             begin = where[corner]
             loop = stack[begin:]
-            del stack[begin + 1:]
+            del stack[begin + 1 :]
             for gone in loop[1:]:
                 del where[gone]
             if len(loop) > 2:
@@ -96,14 +104,15 @@ def simple_loops(walk: Sequence[Corner]) -> List[List[Corner]]:
     return loops + ([stack] if len(stack) > 2 else [])
 
 
-def _split_at_crossings(edges: np.ndarray) -> Tuple[Dict, Dict]:
+def _split_at_crossings(edges: Array) -> Tuple[Dict[Any, int], Dict[Any, Edge]]:
     """Both directions of each edge, split where two cross: to its net, and to the program's edge."""
     cuts: Dict[int, List[Tuple[Fraction, Corner]]] = defaultdict(list)
     for i, j in _crossing(edges):
         t, s, point = _crossing_of(*(tuple(map(int, edges[k, :4])) for k in (i, j)))
         cuts[i].append((t, point))
         cuts[j].append((s, point))
-    nets, parents = {}, {}
+    nets: Dict[Any, int] = {}
+    parents: Dict[Any, Edge] = {}
     for i, (ax, ay, bx, by, net) in enumerate(edges.tolist()):
         corners = [(ax, ay), *(point for _, point in sorted(cuts.get(i, ()))), (bx, by)]
         for a, b in zip(corners, corners[1:]):
@@ -113,7 +122,7 @@ def _split_at_crossings(edges: np.ndarray) -> Tuple[Dict, Dict]:
     return nets, parents
 
 
-def _crossing(edges: np.ndarray) -> List[Tuple[int, int]]:
+def _crossing(edges: Array) -> List[Tuple[int, int]]:
     """The pairs of edges that cross inside both."""
     low, high = np.minimum(edges[:, :2], edges[:, 2:4]), np.maximum(edges[:, :2], edges[:, 2:4])
     order = np.argsort(low[:, 0], kind="stable")
@@ -133,7 +142,7 @@ def _crossing(edges: np.ndarray) -> List[Tuple[int, int]]:
     return found
 
 
-def _crossing_pairs(edges: np.ndarray, i: np.ndarray, j: np.ndarray) -> List[Tuple[int, int]]:
+def _crossing_pairs(edges: Array, i: Array, j: Array) -> List[Tuple[int, int]]:
     if not len(i):
         return []
     base = edges[i, :2]
@@ -141,7 +150,7 @@ def _crossing_pairs(edges: np.ndarray, i: np.ndarray, j: np.ndarray) -> List[Tup
     if max(int(np.abs(it).max()) for it in (b, c, d)) >= 2**29:
         a, b, c, d = (it.astype(object) for it in (a, b, c, d))
 
-    def side(p, q, r):
+    def side(p: Array, q: Array, r: Array) -> Any:
         cross = (q[:, 0] - p[:, 0]) * (r[:, 1] - p[:, 1]) - (q[:, 1] - p[:, 1]) * (r[:, 0] - p[:, 0])
         return np.sign(cross.astype(object) if cross.dtype == object else cross).astype(int)
 
@@ -149,7 +158,7 @@ def _crossing_pairs(edges: np.ndarray, i: np.ndarray, j: np.ndarray) -> List[Tup
     return list(zip(i[crosses].tolist(), j[crosses].tolist()))
 
 
-def _crossing_of(one: Edge, other: Edge) -> Tuple[Fraction, Fraction, Corner]:
+def _crossing_of(one: Sequence[int], other: Sequence[int]) -> Tuple[Fraction, Fraction, Corner]:
     """How far along each of two crossing edges their common point is, and the point."""
     ax, ay, bx, by = one
     cx, cy, dx, dy = other
@@ -160,7 +169,9 @@ def _crossing_of(one: Edge, other: Edge) -> Tuple[Fraction, Fraction, Corner]:
     return t, s, (plain(ax + t * ux), plain(ay + t * uy))
 
 
-def _depths(cycles, doubled, of_edge, nets) -> Tuple[Dict[int, int], Dict[int, List[int]]]:
+def _depths(
+    cycles: List[List[Any]], doubled: List[Any], of_edge: Dict[Any, int], nets: Dict[Any, int]
+) -> Tuple[Dict[int, int], Dict[int, List[int]]]:
     """How often each face is covered too much, and the outer walks of other groups of edges that lie in it."""
     depth: Dict[int, int] = {}
     holes: Dict[int, List[int]] = defaultdict(list)
@@ -168,7 +179,7 @@ def _depths(cycles, doubled, of_edge, nets) -> Tuple[Dict[int, int], Dict[int, L
     inner = [at for at in range(len(cycles)) if doubled[at] > 0]
     boxes = np.array([_box(cycles[at]) for at in inner], dtype=float).reshape(-1, 4)
     outside = [at for at in range(len(cycles)) if doubled[at] < 0]
-    for at in sorted(outside, key=lambda it: doubled[it]):
+    for at in sorted(outside, key=lambda it: (doubled[it],)):
         parent = _face_around(cycles, doubled, group, inner, boxes, at)
         depth[at] = 0 if parent is None else depth[parent]
         if parent is not None:
@@ -185,7 +196,7 @@ def _depths(cycles, doubled, of_edge, nets) -> Tuple[Dict[int, int], Dict[int, L
     return depth, holes
 
 
-def _groups(cycles, of_edge) -> List[int]:
+def _groups(cycles: List[List[Any]], of_edge: Dict[Any, int]) -> List[int]:
     group = [-1] * len(cycles)
     for begin in range(len(cycles)):
         waiting = [begin] if group[begin] < 0 else []
@@ -206,13 +217,15 @@ def _box(cycle: Sequence[Corner]) -> Tuple[Number, ...]:
     return min(xs), min(ys), max(xs), max(ys)
 
 
-def _face_around(cycles, doubled, group, inner, boxes, at):
+def _face_around(
+    cycles: List[List[Any]], doubled: List[Any], group: List[int], inner: List[int], boxes: Array, at: int
+) -> Optional[int]:
     """The least face of another group that has cycle `at` inside; None where there is none."""
     x0, y0, x1, y1 = (float(value) for value in _box(cycles[at]))
     close = (boxes[:, 0] <= x0) & (boxes[:, 1] <= y0) & (boxes[:, 2] >= x1) & (boxes[:, 3] >= y1)
     around = [inner[k] for k in np.flatnonzero(close) if group[inner[k]] != group[at]]
     around = [face for face in around if contains(cycles[face], cycles[at][0])]
-    return min(around, key=lambda face: doubled[face], default=None)
+    return min(around, key=lambda face: (doubled[face],)) if around else None
 
 
 def contains(ring: Sequence[Corner], point: Corner) -> bool:
@@ -232,11 +245,15 @@ def point_inside(outer: Sequence[Corner], holes: Sequence[Sequence[Corner]]) -> 
     at = min(range(len(outer)), key=lambda i: outer[i])
     a, v, b = outer[at - 1], outer[at], outer[(at + 1) % len(outer)]
 
-    def side(p, q, r):
+    def side(p: Corner, q: Corner, r: Corner) -> Number:
         return (q[0] - p[0]) * (r[1] - p[1]) - (q[1] - p[1]) * (r[0] - p[0])
 
-    within = [p for ring in (outer, *holes) for p in ring
-              if p not in (a, v, b) and side(a, v, p) >= 0 and side(v, b, p) >= 0 and side(b, a, p) > 0]
+    within = [
+        p
+        for ring in (outer, *holes)
+        for p in ring
+        if p not in (a, v, b) and side(a, v, p) >= 0 and side(v, b, p) >= 0 and side(b, a, p) > 0
+    ]
     if not within:
         return (Fraction(a[0] + v[0] + b[0], 3), Fraction(a[1] + v[1] + b[1], 3))
     nearest = max(within, key=lambda p: side(b, a, p))

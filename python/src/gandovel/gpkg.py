@@ -4,6 +4,7 @@
 """
 from __future__ import annotations
 
+import datetime
 import os
 import sqlite3
 import struct
@@ -14,8 +15,8 @@ from typing import Any, Dict, List, Optional, Sequence, Set, Tuple, Union
 import fiona
 import geopandas as gpd
 import numpy as np
+import pandas as pd
 from fiona._err import CPLE_BaseError
-from geopandas.io.file import infer_schema
 
 from .errors import Refused
 from .shapes import POLYGON, bounds_of, kind_of, multipolygon_wkb, shapes_of, wkb_of
@@ -25,8 +26,12 @@ HEAD = 8
 COLUMN = "SELECT column_name FROM gpkg_geometry_columns WHERE table_name = ?"
 
 
-def write_layers(path: Union[str, Path], layers: Sequence[Tuple[str, gpd.GeoDataFrame]],
-                 styles: Optional[Dict[str, str]] = None, notes: Optional[Dict[str, str]] = None) -> None:
+def write_layers(
+    path: Union[str, Path],
+    layers: Sequence[Tuple[str, gpd.GeoDataFrame]],
+    styles: Optional[Dict[str, str]] = None,
+    notes: Optional[Dict[str, str]] = None,
+) -> None:
     """Writes layers, in order, as one GeoPackage: under another name, then renamed.
 
     `styles` are QGIS styles, and `notes` descriptions, by layer. Refused P14 where the disk does not take it.
@@ -43,8 +48,10 @@ def write_layers(path: Union[str, Path], layers: Sequence[Tuple[str, gpd.GeoData
                 connection.execute(f"PRAGMA {option}")
             for (name, frame), shapes in zip(layers, blobs):
                 _fill(connection, name, frame, shapes)
-            connection.executemany("UPDATE gpkg_contents SET description = ? WHERE table_name = ?",
-                                   [(text, name) for name, text in (notes or {}).items()])
+            connection.executemany(
+                "UPDATE gpkg_contents SET description = ? WHERE table_name = ?",
+                [(text, name) for name, text in (notes or {}).items()],
+            )
             if styles:
                 _put_styles(connection, styles)
             connection.commit()
@@ -57,35 +64,77 @@ def write_layers(path: Union[str, Path], layers: Sequence[Tuple[str, gpd.GeoData
                 left.unlink()
 
 
+def test_name(path: Union[str, Path]) -> None:
+    """Refuses (P14) a name that no GeoPackage has, since nothing else is written."""
+    if Path(path).suffix.lower() != ".gpkg":
+        raise Refused("P14", f"{path} would be a GeoPackage: give it a name that ends with .gpkg")
+
+
 def _make_table(path: Path, name: str, frame: gpd.GeoDataFrame, blobs: Sequence[Optional[bytes]]) -> None:
     crs = frame.crs.to_wkt("WKT1_GDAL") if frame.crs is not None else None
-    schema = {"properties": {column: "str" for column in frame.columns if column != frame.geometry.name}}
-    if len(frame):
-        schema = infer_schema(frame.iloc[:1])
     kinds = _kinds(blobs)
-    schema["geometry"] = "MultiPolygon" if kinds else "Unknown"
+    geometry = "MultiPolygon" if kinds else "Unknown"
     if len(kinds) == 1:
-        schema["geometry"] = frame.geometry.dropna().iloc[0].geom_type
+        geometry = frame.geometry.dropna().iloc[0].geom_type
+    columns = [column for column in frame.columns if column != frame.geometry.name]
+    names = _names(columns)
+    schema = {"geometry": geometry, "properties": {names[it]: type_of(frame[it]) for it in columns}}
     with fiona.open(str(path), "w", driver="GPKG", layer=name, schema=schema, crs_wkt=crs, SPATIAL_INDEX="NO"):
         pass
+
+
+def _names(columns: Sequence[Any]) -> Dict[Any, str]:
+    """The names of columns in a GeoPackage, in which those of the row and the shape are taken, whatever their case."""
+    taken, names = {"fid", "geom"}, {}
+    for column in columns:
+        name = str(column).replace('"', "'")
+        while name.lower() in taken:
+            name += "_"
+        taken.add(name.lower())
+        names[column] = name
+    return names
+
+
+def type_of(values: pd.Series) -> str:
+    """The type, as Fiona names it, of a column in a GeoPackage."""
+    kinds = {"b": "bool", "i": "int", "u": "int", "f": "float", "M": "datetime"}
+    if not isinstance(values.dtype, pd.CategoricalDtype) and values.dtype != object:
+        kind = "M" if isinstance(values.dtype, pd.DatetimeTZDtype) else getattr(values.dtype, "kind", "O")
+        return kinds.get(kind, "str")
+    known = [value for value in values if not _is_missing(value)]
+    for kind, name in ((bool, "bool"), (bytes, "bytes"), (datetime.datetime, "datetime"), (datetime.date, "date")):
+        if known and all(isinstance(value, kind) for value in known):
+            return name
+    if known and all(isinstance(value, (int, np.integer)) for value in known):
+        return "int" if all(abs(int(value)) < 2**63 for value in known) else "str"
+    return "float" if known and all(isinstance(value, (int, float, np.number)) for value in known) else "str"
 
 
 def _fill(connection: sqlite3.Connection, name: str, frame: gpd.GeoDataFrame, blobs: Sequence[Optional[bytes]]) -> None:
     if not len(frame):
         return
     geometry, srs = connection.execute(
-        "SELECT column_name, srs_id FROM gpkg_geometry_columns WHERE table_name = ?", (name,)).fetchone()
+        "SELECT column_name, srs_id FROM gpkg_geometry_columns WHERE table_name = ?", (name,)
+    ).fetchone()
     columns = [column for column in frame.columns if column != frame.geometry.name]
-    table = connection.execute(f'PRAGMA table_info("{name}")')
-    known = [row[1] for row in table if row[1] not in ("fid", geometry)]
-    names = ", ".join(f'"{column}"' for column in [geometry, *known[:len(columns)]])
+    known = _names(columns)
+    names = ", ".join(f'"{column}"' for column in [geometry, *(known[column] for column in columns)])
     marks = ", ".join("?" for _ in range(len(columns) + 1))
     head = b"GP\0\x01" + struct.pack("<i", srs)
-    values = [[_plain(value) for value in frame[column]] for column in columns]
+    values = [_plain_values(frame[column]) for column in columns]
     rows = zip((blob and head + blob for blob in _of_one_kind(blobs)), *values)
     connection.executemany(f'INSERT INTO "{name}" ({names}) VALUES ({marks})', rows)
-    connection.execute("UPDATE gpkg_contents SET min_x = ?, min_y = ?, max_x = ?, max_y = ? WHERE table_name = ?",
-                       (*bounds_of(frame.geometry.to_numpy()), name))
+    connection.execute(
+        "UPDATE gpkg_contents SET min_x = ?, min_y = ?, max_x = ?, max_y = ? WHERE table_name = ?",
+        (*bounds_of(frame.geometry.to_numpy()), name),
+    )
+
+
+def _plain_values(values: pd.Series) -> List[Any]:
+    """A column's values as SQLite takes them."""
+    text = type_of(values) == "str"
+    plain = (_plain(value) for value in values.tolist())
+    return [str(value) if text and value is not None else value for value in plain]
 
 
 def _kinds(blobs: Sequence[Optional[bytes]]) -> Set[int]:
@@ -96,15 +145,28 @@ def _of_one_kind(blobs: Sequence[Optional[bytes]]) -> Sequence[Optional[bytes]]:
     """The shapes, where they are of several kinds with polygons as multipolygons."""
     if len(_kinds(blobs)) < 2:
         return blobs
-    return [multipolygon_wkb([blob]) if blob is not None and kind_of(blob) & 0xFF == POLYGON else blob
-            for blob in blobs]
+    return [
+        multipolygon_wkb([blob]) if blob is not None and kind_of(blob) & 0xFF == POLYGON else blob for blob in blobs
+    ]
+
+
+def _is_missing(value: Any) -> bool:
+    return (
+        value is None
+        or value is pd.NA
+        or value is pd.NaT
+        or (isinstance(value, (float, np.floating)) and value != value)
+    )
 
 
 def _plain(value: Any) -> Any:
-    if value is None or value != value:
+    if _is_missing(value):
         return None
     if isinstance(value, np.generic):
         return value.item()
+    if isinstance(value, datetime.datetime):
+        moment = value.astimezone(datetime.timezone.utc) if value.tzinfo is not None else value
+        return f"{moment.strftime('%Y-%m-%dT%H:%M:%S')}.{moment.microsecond // 1000:03d}Z"
     if isinstance(value, (int, float, str, bytes)):
         return value
     return value.isoformat() if hasattr(value, "isoformat") else str(value)
@@ -116,9 +178,12 @@ def _put_styles(connection: sqlite3.Connection, styles: Dict[str, str]) -> None:
         "CREATE TABLE layer_styles (id INTEGER PRIMARY KEY AUTOINCREMENT, f_table_catalog TEXT(256),"
         " f_table_schema TEXT(256), f_table_name TEXT(256), f_geometry_column TEXT(256), styleName TEXT(30),"
         " styleQML TEXT, styleSLD TEXT, useAsDefault BOOLEAN, description TEXT, owner TEXT(30), ui TEXT(30),"
-        " update_time DATETIME DEFAULT CURRENT_TIMESTAMP)")
-    connection.execute("INSERT INTO gpkg_contents (table_name, data_type, identifier, srs_id) VALUES"
-                       " ('layer_styles', 'attributes', 'layer_styles', 0)")
+        " update_time DATETIME DEFAULT (strftime('%Y-%m-%dT%H:%M:%fZ', 'now')))"
+    )
+    connection.execute(
+        "INSERT INTO gpkg_contents (table_name, data_type, identifier, srs_id) VALUES"
+        " ('layer_styles', 'attributes', 'layer_styles', 0)"
+    )
     rows: List[Tuple[str, str, str]] = []
     for name, style in styles.items():
         found = connection.execute(COLUMN, (name,)).fetchone()
@@ -127,7 +192,9 @@ def _put_styles(connection: sqlite3.Connection, styles: Dict[str, str]) -> None:
     connection.executemany(
         "INSERT INTO layer_styles (f_table_catalog, f_table_schema, f_table_name, f_geometry_column, styleName,"
         " styleQML, styleSLD, useAsDefault, description, owner)"
-        " VALUES ('', '', ?1, ?2, ?1, ?3, '', 1, 'gandovel', '')", rows)
+        " VALUES ('', '', ?1, ?2, ?1, ?3, '', 1, 'gandovel', '')",
+        rows,
+    )
 
 
 def read_layer_of(path: Union[str, Path], name: str) -> gpd.GeoDataFrame:
@@ -135,7 +202,29 @@ def read_layer_of(path: Union[str, Path], name: str) -> gpd.GeoDataFrame:
     with closing(sqlite3.connect(f"{Path(path).resolve().as_uri()}?mode=ro", uri=True)) as connection:
         column = connection.execute(COLUMN, (name,)).fetchone()[0]
         rows = connection.execute(f'SELECT "{column}" FROM "{name}" ORDER BY fid').fetchall()
+        table = connection.execute(f'PRAGMA table_info("{name}")').fetchall()
     shapes = shapes_of(None if blob is None else blob[HEAD:] for blob, in rows)
+    with fiona.open(str(path), layer=name) as opened:
+        types = dict(opened.schema["properties"])
+    types.update({row[1]: "bool" for row in table if row[2] == "BOOLEAN"})
     attributes = gpd.read_file(str(path), layer=name, ignore_geometry=True)
     crs = gpd.read_file(str(path), layer=name, rows=1).crs
-    return gpd.GeoDataFrame(attributes, geometry=shapes, crs=crs)
+    return typed(gpd.GeoDataFrame(attributes, geometry=shapes, crs=crs), types)
+
+
+WHOLE = ("int", "int32", "int64")
+
+
+def typed(frame: gpd.GeoDataFrame, types: Dict[str, str]) -> gpd.GeoDataFrame:
+    """The frame with the types that its source has where pandas gave others: dates, whole numbers with gaps, truths."""
+    for column, kind in types.items():
+        if column not in frame.columns or column == frame.geometry.name:
+            continue
+        kind = kind.partition(":")[0]
+        if kind == "date":
+            frame[column] = pd.to_datetime(frame[column], errors="coerce").dt.date.astype(object)
+        elif kind in WHOLE and not pd.api.types.is_integer_dtype(frame[column].dtype):
+            frame[column] = frame[column].astype("Int64")
+        elif kind == "bool" and frame[column].dtype != bool:
+            frame[column] = frame[column].astype("boolean")
+    return frame

@@ -1,20 +1,22 @@
 """The layer on the grid of whole millimetres: outlines, clipped zones, cleaned loops, simple rings."""
 from __future__ import annotations
 
-from typing import Dict, List, Optional, Sequence, Tuple
+from typing import Dict, Iterator, List, Optional, Sequence, Tuple
 
 import numpy as np
 from shapely.geometry import LinearRing, MultiLineString, Polygon
 from shapely.ops import polygonize, unary_union
 from shapely.prepared import prep
 
+from .arrays import Array
 from .holes import cut_holes
+from .large.tiles import plain_loops
 from .sources import CITY, ZONES, Loops, loops_from
 
 Row = Tuple[int, int]
 
 
-def edges_left(start: np.ndarray, end: np.ndarray) -> Tuple[np.ndarray, np.ndarray, np.ndarray]:
+def edges_left(start: Array, end: Array) -> Tuple[Array, Array, Array]:
     """Directed edges (indices of points) that do not cancel with opposite ones: (low, high, net from low to high)."""
     low, high = np.minimum(start, end), np.maximum(start, end)
     sign = np.where(start < end, 1, -1)
@@ -26,7 +28,7 @@ def edges_left(start: np.ndarray, end: np.ndarray) -> Tuple[np.ndarray, np.ndarr
     return low[kept], high[kept], net[net != 0]
 
 
-def outlines(loops: Loops, points: np.ndarray) -> List[Polygon]:
+def outlines(loops: Loops, points: Array) -> List[Polygon]:
     """The parts of the area that loops (of point indices) cover, each without its holes, as polygons of these points.
 
     Gaps and overlaps inside do not show in it.
@@ -39,12 +41,14 @@ def outlines(loops: Loops, points: np.ndarray) -> List[Polygon]:
     return [Polygon(part.exterior) for part in parts if not part.is_empty]
 
 
-def clipped(zones: Loops, points: np.ndarray, city: Sequence[Polygon]) -> Tuple[Loops, Dict[int, int]]:
+def clipped(zones: Loops, points: Array, city: Sequence[Polygon]) -> Tuple[Loops, Dict[int, int]]:
     """Zones (loops of point indices) as loops of coordinates, each cut to every part of the city.
 
     The second answer says of a part of a zone, as numbered in the loops, in which part of the city it lies.
     """
-    arrays, tags, islands = [], [], {}
+    arrays: List[Array] = []
+    tags: List[Tuple[int, int, bool]] = []
+    islands: Dict[int, int] = {}
     ready = [prep(part) for part in city]
     for row, shape in _polygons(zones, points):
         for island, (part, fast) in enumerate(zip(city, ready)):
@@ -52,8 +56,9 @@ def clipped(zones: Loops, points: np.ndarray, city: Sequence[Polygon]) -> Tuple[
                 pieces = [shape]
             elif fast.intersects(shape):
                 cut = shape.intersection(part)
-                pieces = [piece for piece in getattr(cut, "geoms", [cut])
-                          if piece.geom_type == "Polygon" and piece.area > 0]
+                pieces = [
+                    piece for piece in getattr(cut, "geoms", [cut]) if piece.geom_type == "Polygon" and piece.area > 0
+                ]
             else:
                 continue
             for piece in pieces:
@@ -64,11 +69,13 @@ def clipped(zones: Loops, points: np.ndarray, city: Sequence[Polygon]) -> Tuple[
     return loops_from(arrays, tags, 1.0, ZONES), islands
 
 
-def _polygons(loops: Loops, points: np.ndarray):
+def _polygons(loops: Loops, points: Array) -> Iterator[Tuple[int, Polygon]]:
     """Yields (row, polygon) of loops of point indices, an outer loop and the holes behind it."""
-    shell, inner, row = None, [], 0
+    shell: Optional[Array] = None
+    inner: List[Array] = []
+    row = 0
     for i in range(len(loops)):
-        ring = points[loops.corners[loops.starts[i]:loops.starts[i + 1]]]
+        ring = points[loops.corners[loops.starts[i] : loops.starts[i + 1]]]
         if loops.hole[i]:
             inner.append(ring)
             continue
@@ -85,13 +92,14 @@ def city_loops(city: Sequence[Polygon]) -> Loops:
     return loops_from(arrays, [(row, 0, False) for row in range(len(arrays))], 1.0, CITY)
 
 
-def rings_of(loops: Loops, points: np.ndarray) -> Tuple[List[np.ndarray], List[Row], List[Tuple[Row, str]]]:
+def rings_of(loops: Loops, points: Array) -> Tuple[List[Array], List[Row], List[Tuple[Row, str]]]:
     """The simple rings of loops on the grid (point indices; points int64), the (row, part) of each, and what fails.
 
     Corners twice in a row and spikes without area are dropped. What fails is a part with no area left (`thin`), or
     one whose holes can't be cut (`holes`). A hole with no area left is no hole.
     """
     dirty = _dirty(loops)
+    plain, corners = plain_loops(loops, points, dirty), points[loops.corners]
     rings, tags, fails = [], [], []
     i = 0
     while i < len(loops):
@@ -99,6 +107,11 @@ def rings_of(loops: Loops, points: np.ndarray) -> Tuple[List[np.ndarray], List[R
         while stop < len(loops) and loops.hole[stop]:
             stop += 1
         tag = (int(loops.row[i]), int(loops.part[i]))
+        if plain[i]:
+            rings.append(corners[loops.starts[i] : loops.starts[i + 1]])
+            tags.append(tag)
+            i = stop
+            continue
         parts = [_ring(loops, points, it, dirty[it]) for it in range(i, stop)]
         if parts[0] is None:
             fails.append((tag, "thin"))
@@ -113,17 +126,17 @@ def rings_of(loops: Loops, points: np.ndarray) -> Tuple[List[np.ndarray], List[R
     return rings, tags, fails
 
 
-def _dirty(loops: Loops) -> np.ndarray:
+def _dirty(loops: Loops) -> Array:
     after = loops.nexts()
     twice = loops.corners == loops.corners[after]
     spike = loops.corners == loops.corners[after[after]]
     return np.add.reduceat((twice | spike).astype(np.int64), loops.starts[:-1]) > 0 if len(loops) else np.zeros(0, bool)
 
 
-def _ring(loops: Loops, points: np.ndarray, i: int, dirty: bool) -> Optional[np.ndarray]:
-    index = loops.corners[loops.starts[i]:loops.starts[i + 1]]
+def _ring(loops: Loops, points: Array, i: int, dirty: bool) -> Optional[Array]:
+    index = loops.corners[loops.starts[i] : loops.starts[i + 1]]
     if dirty:
-        index = without_spikes(index.tolist())
+        index = np.array(without_spikes(index.tolist()), dtype=np.int64)
     if len(index) < 3:
         return None
     ring = points[index]
@@ -150,16 +163,16 @@ def without_spikes(index: List[int]) -> List[int]:
     return []
 
 
-def without_straight(ring: np.ndarray) -> np.ndarray:
+def without_straight(ring: Array) -> Array:
     """A ring (k, 2) int64 without the corners that lie straight between their neighbours: exact."""
     before, after = ring - np.roll(ring, 1, axis=0), np.roll(ring, -1, axis=0) - ring
     if np.abs(before).max() >= 2**30:
         before, after = before.astype(object), after.astype(object)
     turns = before[:, 0] * after[:, 1] != before[:, 1] * after[:, 0]
-    return ring[turns.astype(bool)]
+    return np.asarray(ring[turns.astype(bool)])
 
 
-def twice_area(ring: np.ndarray) -> int:
+def twice_area(ring: Array) -> int:
     """Twice the signed area of a ring (k, 2) int64 in mm: exact."""
     near = ring - ring[0]
     kind = np.int64 if len(ring) * float(np.abs(near).max()) ** 2 < 2**61 else object
@@ -167,7 +180,7 @@ def twice_area(ring: np.ndarray) -> int:
     return int((x * np.roll(y, -1) - y * np.roll(x, -1)).sum())
 
 
-def frame_around(corners: np.ndarray, margin: int) -> LinearRing:
+def frame_around(corners: Array, margin: int) -> LinearRing:
     """The rectangle on the grid around corners (n, 2), with a margin in mm."""
     low, high = np.floor(corners.min(axis=0)) - margin, np.ceil(corners.max(axis=0)) + margin
     return LinearRing([(low[0], low[1]), (high[0], low[1]), (high[0], high[1]), (low[0], high[1])])

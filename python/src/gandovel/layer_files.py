@@ -4,24 +4,41 @@ from __future__ import annotations
 import os
 import struct
 from pathlib import Path
-from typing import List, Sequence, Tuple, Union
+from typing import Any, List, Sequence, Tuple, Union
 
 import numpy as np
 
+from .arrays import Array
 from .errors import Refused
 
 
 def _header(words: int, low: Sequence[float], high: Sequence[float]) -> bytes:
-    return (struct.pack(">7i", 9994, 0, 0, 0, 0, 0, words) + struct.pack("<2i", 1000, 5)
-            + struct.pack("<4d", *low, *high) + bytes(32))
+    return (
+        struct.pack(">7i", 9994, 0, 0, 0, 0, 0, words)
+        + struct.pack("<2i", 1000, 5)
+        + struct.pack("<4d", *low, *high)
+        + bytes(32)
+    )
 
 
-RECORD = np.dtype([("position", ">i4"), ("words", ">i4"), ("kind", "<i4"), ("box", "<f8", 4), ("parts", "<i4"),
-                   ("points", "<i4"), ("first", "<i4")])
+RECORD = np.dtype(
+    [
+        ("position", ">i4"),
+        ("words", ">i4"),
+        ("kind", "<i4"),
+        ("box", "<f8", 4),
+        ("parts", "<i4"),
+        ("points", "<i4"),
+        ("first", "<i4"),
+    ]
+)
 """What stands in front of a polygon's corners."""
 
 
-def write_rings(main: Union[str, Path], rings: Sequence[np.ndarray]) -> None:
+_ENDS: Tuple[Any, ...] = (np.minimum, np.maximum)
+
+
+def write_rings(main: Union[str, Path], rings: Sequence[Array]) -> None:
     """Writes counterclockwise rings, each (k, 2) int64 in mm without the first corner again, as `main` and its `.shx`.
 
     Both files are written under other names, then renamed. OSError where the disk does not take them.
@@ -30,7 +47,7 @@ def write_rings(main: Union[str, Path], rings: Sequence[np.ndarray]) -> None:
     heads = np.zeros(len(rings), dtype=RECORD)
     corners, begins = _closed(rings, counts)
     if len(rings):
-        heads["box"] = np.hstack([ends.reduceat(corners, begins, axis=0) for ends in (np.minimum, np.maximum)])
+        heads["box"] = np.hstack([ends.reduceat(corners, begins, axis=0) for ends in _ENDS])
     heads["position"], heads["words"] = np.arange(1, len(rings) + 1), 24 + 8 * counts
     heads["kind"], heads["parts"], heads["points"] = 5, 1, counts
     at = 50 + np.concatenate([[0], np.cumsum(heads["words"].astype(np.int64) + 4)])
@@ -39,15 +56,18 @@ def write_rings(main: Union[str, Path], rings: Sequence[np.ndarray]) -> None:
         low = high = np.zeros(2)
     front, back = heads.tobytes(), corners.tobytes()
     size = RECORD.itemsize
-    records = [piece for i, (begin, count) in enumerate(zip(begins.tolist(), counts.tolist()))
-               for piece in (front[size * i:size * (i + 1)], back[16 * begin:16 * (begin + count)])]
+    records = [
+        piece
+        for i, (begin, count) in enumerate(zip(begins.tolist(), counts.tolist()))
+        for piece in (front[size * i : size * (i + 1)], back[16 * begin : 16 * (begin + count)])
+    ]
     main = Path(main)
     _replace(main, _header(int(at[-1]), low, high) + b"".join(records))
     index = np.column_stack([at[:-1], heads["words"]]).astype(">i4").tobytes()
     _replace(main.with_suffix(".shx"), _header(50 + 4 * len(rings), low, high) + index)
 
 
-def _closed(rings: Sequence[np.ndarray], counts: np.ndarray) -> Tuple[np.ndarray, np.ndarray]:
+def _closed(rings: Sequence[Array], counts: Array) -> Tuple[Array, Array]:
     """The corners of all rings, each clockwise and with its first corner again, and where each ring begins."""
     begins = np.cumsum(counts) - counts
     step = np.arange(int(counts.sum())) - np.repeat(begins, counts)
@@ -66,12 +86,13 @@ def _replace(path: Path, content: bytes) -> None:
             aside.unlink()
 
 
-def read_rings(main: Union[str, Path]) -> List[np.ndarray]:
+def read_rings(main: Union[str, Path]) -> List[Array]:
     """The rings of a layer that the program wrote or that `write_rings` did: each (k, 2) int64, counterclockwise.
 
     Refused (P1) where the file is torn or its polygons have several parts; the program itself has the last word on it.
     """
-    data, rings, at = Path(main).read_bytes(), [], 100
+    data, at = Path(main).read_bytes(), 100
+    rings: List[Array] = []
     try:
         end = 2 * struct.unpack_from(">i", data, 24)[0]
         if end > len(data):

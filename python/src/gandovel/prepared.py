@@ -5,24 +5,27 @@ import csv
 import json
 import os
 import shutil
-from dataclasses import dataclass, field
+from dataclasses import asdict, dataclass, field
 from pathlib import Path
-from typing import Any, Dict, List, Optional, Sequence, Union
+from typing import Any, Dict, List, Optional, Sequence, Tuple, Union
 
 import geopandas as gpd
 import numpy as np
 from shapely.geometry import Polygon
 
+from .arrays import Array
 from . import notes
+from .city import OpenGap
 from .errors import Refused
 from .gpkg import read_layer_of, write_layers
 from .layer_files import read_rings, write_rings
 from .sources import ROLES
+from .units import Unit
 
 OUT = "OUT"
 OUT_ROW = -1
-MOVED, PUT_IN, GATHERED = range(3)
-CHANGES = ("moved", "put in", "gathered")
+MOVED, PUT_IN, GATHERED, TOUCHED = range(4)
+CHANGES = ("moved", "put in", "gathered", "touched")
 
 
 @dataclass
@@ -32,7 +35,7 @@ class Rows:
     A row of -1 is the area outside (`OUT`), which `frame` adds.
     """
 
-    rings: List[np.ndarray] = field(default_factory=list)
+    rings: List[Array] = field(default_factory=list)
     source: List[int] = field(default_factory=list)
     part: List[int] = field(default_factory=list)
 
@@ -41,9 +44,13 @@ class Rows:
 class Island:
     """A connected part of the register: the city's ring, and the rows of parcels and zones in it."""
 
-    city: np.ndarray
+    city: Array
     parcels: Rows
     zones: Optional[Rows] = None
+
+    def rows_of_zones(self) -> Rows:
+        """The rows of its zones; none where there are no zones."""
+        return self.zones if self.zones is not None else Rows()
 
 
 def _none(kind: type, *columns: int) -> Any:
@@ -55,18 +62,21 @@ def _none(kind: type, *columns: int) -> Any:
 class Changes:
     """Corners that `prepare` changed: one row of each array for each.
 
-    `change` is MOVED (to the grid), PUT_IN (into a neighbour's border) or GATHERED (made one with another corner, from
-    which it differed by the noise of floating point). `places` (n, 2) is where it was, in the layer's unit, and `to`
-    (n, 2) int64 the whole millimetre where it is. `distance` in mm, measured, is how far it moved, or how far off the
-    side it was that it was put into. `layer` and `row` are those of a ring that has it.
+    `change` is MOVED (to the grid), PUT_IN (into a border that it lies on), GATHERED (made one with another corner,
+    from which it differed by the noise of floating point) or TOUCHED (put into a border that it is off by no more than
+    the rounding of its layer, which goes through it now). `places` (n, 2) is where it was, in the layer's unit, and
+    `to` (n, 2) int64 the whole millimetre where it is. `distance` in mm, measured, is how far it moved, or how far off
+    the side it was that it was put into. `layer` and `row` are those of a ring that has it. `area` in mm2, measured, is
+    what the border went over that goes through it now, where this closed a gap or an overlap.
     """
 
-    change: np.ndarray = _none(int)
-    places: np.ndarray = _none(float, 2)
-    to: np.ndarray = _none(int, 2)
-    distance: np.ndarray = _none(float)
-    layer: np.ndarray = _none(int)
-    row: np.ndarray = _none(int)
+    change: Array = _none(int)
+    places: Array = _none(float, 2)
+    to: Array = _none(int, 2)
+    distance: Array = _none(float)
+    layer: Array = _none(int)
+    row: Array = _none(int)
+    area: Array = _none(float)
 
     @classmethod
     def joined(cls, several: Sequence["Changes"]) -> "Changes":
@@ -74,32 +84,68 @@ class Changes:
         return cls(*(np.concatenate([getattr(one, name) for one in several]) for name in cls.__dataclass_fields__))
 
     def told(self) -> Dict[str, Any]:
-        """For each kind of change how many corners, and the greatest distance, in mm."""
+        """For each kind of change how many corners, and the greatest distance, in mm; what touching closed, in m2."""
         kinds = [self.distance[self.change == kind] for kind in range(len(CHANGES))]
         counts = dict(zip(("moved", "put_in", "gathered"), map(len, kinds)))
+        names = ("largest_move", "largest_off", "largest_gathered", "largest_touch")
         farthest = (float(distances.max(initial=0.0)) for distances in kinds)
-        return {**counts, **dict(zip(("largest_move", "largest_off", "largest_gathered"), farthest)),
-                "measured": ["largest_move", "largest_off", "largest_gathered"]}
+        touched = len(np.unique(self.to[self.change == TOUCHED], axis=0))
+        closed = float(self.area[(self.change == TOUCHED) & (self.layer < len(ROLES) - 1)].sum()) / 1e6
+        return {
+            **counts,
+            "touched": touched,
+            "closed_m2": closed,
+            **dict(zip(names, farthest)),
+            "measured": [*names, "closed_m2"],
+        }
+
+
+@dataclass
+class Skipped:
+    """A row that is left out: its layer and position (from 0), its number, why, and where (in the layer's unit)."""
+
+    role: str
+    row: int
+    number: str
+    reason: str
+    x: Optional[float] = None
+    y: Optional[float] = None
+
+    @classmethod
+    def of(cls, row: int, refused: Refused) -> "Skipped":
+        """What `--skip-invalid` makes of a refusal."""
+        told = refused.record_of()
+        return cls(refused.role, row, refused.number or "", f"{refused.code} {told['text']}", told["x"], told["y"])
 
 
 @dataclass
 class Prepared:
-    """A register on the grid. `scale` is millimetres per unit of `parcels.crs`; areas and places of rows are exact.
+    """A register on the grid, in the unit of `parcels`; areas and places of its rows are exact.
 
     `parcels` and `zones` are the layers as they were given; `numbers` and `zone_names` their own numbers, row by row.
-    `changes` are the corners that were moved or put in, of which `told` has counts and distances; none once loaded.
+    `changes` are the corners that were changed, of which `told` has counts and distances; once loaded those alone that
+    were made to touch. `open_gaps` are notches and channels of the city that the parcels make, `skipped` the rows that
+    were left out, `lost` what the package makes no use of, in sentences.
     """
 
     parcels: gpd.GeoDataFrame
     numbers: List[str]
     number: str
-    scale: float
+    unit: Unit
     islands: List[Island]
     zones: Optional[gpd.GeoDataFrame] = None
     zone_names: List[str] = field(default_factory=list)
     zone: str = ""
     changes: Changes = field(default_factory=Changes)
     told: Dict[str, Any] = field(default_factory=dict)
+    open_gaps: List[OpenGap] = field(default_factory=list)
+    skipped: List[Skipped] = field(default_factory=list)
+    lost: List[str] = field(default_factory=list)
+
+    @property
+    def scale(self) -> float:
+        """Millimetres per unit of the layer."""
+        return self.unit.millimetres
 
     @property
     def crs(self) -> Any:
@@ -114,11 +160,11 @@ class Prepared:
         """The name of a row of the zones; `OUT` for the area outside."""
         return OUT if row < 0 else self.zone_names[row]
 
-    def polygon(self, ring: Sequence[Any], holes: Sequence[Any] = ()) -> Polygon:
+    def polygon(self, ring: Any, holes: Sequence[Any] = ()) -> Polygon:
         """A ring in mm, with holes, as a polygon in the layer's projection."""
         return Polygon(self.in_units(ring), [self.in_units(hole) for hole in holes])
 
-    def in_units(self, corners: Sequence[Any]) -> np.ndarray:
+    def in_units(self, corners: Any) -> Array:
         """Corners in mm (k, 2), whole or fractions, in the layer's unit."""
         return np.asarray(corners, dtype=float) / self.scale
 
@@ -134,25 +180,41 @@ class Prepared:
         return gpd.GeoDataFrame(table, geometry="geometry", crs=self.crs)
 
     def summary(self) -> str:
-        """One line: how many parcels gave how many rings, what was changed and how far, zones."""
+        """One line: islands, how many parcels gave how many rings, what was changed and how far, zones, losses."""
         rings = sum(row != OUT_ROW for island in self.islands for row in island.parcels.source)
-        count = len(self.numbers)
+        count = len(self.numbers) - sum(one.role == "parcels" for one in self.skipped)
         more = f" ({rings - count} more for holes and parts)" if rings != count else ""
-        texts = [f"{count} parcels -> {rings} rings{more}", *self._changes_told()]
+        texts = [f"{len(self.islands)} islands"] if len(self.islands) > 1 else []
+        texts += self.skipped_told()
+        texts += [f"{count} parcels -> {rings} rings{more}", *self._changes_told()]
         if self.zones is not None:
-            zone_rings = sum(len(island.zones.rings) for island in self.islands)
+            zone_rings = sum(len(island.zones.rings) for island in self.islands if island.zones is not None)
             texts.append(f"zones: {len(self.zone_names)} -> {zone_rings} rings")
-        if len(self.islands) > 1:
-            texts.append(f"{len(self.islands)} islands")
         return "; ".join(texts)
+
+    def skipped_told(self) -> List[str]:
+        """A text that says how many rows were left out, and which; none where none were."""
+        if not self.skipped:
+            return []
+        names = [f"{one.role[:-1]} {one.number}" for one in self.skipped]
+        return [f"without {_counted(len(names))} ({', '.join(names[:8])}{', ..' * (len(names) > 8)})"]
 
     def _changes_told(self) -> List[str]:
         told = self.told
-        texts = [f"{_corners(told['put_in'])} put in" + _at_most(told["put_in"], told["largest_off"], " off"),
-                 f"{_corners(told['moved'])} moved" + _at_most(told["moved"], told["largest_move"])]
+        texts = [f"{_corners(told['put_in'])} put in" + _at_most(told["put_in"], told["largest_off"], " off")]
+        if told["touched"]:
+            closed = f"which closed {told['closed_m2']:.2f} m2 (measured)"
+            texts.append(
+                f"{_corners(told['touched'])} made to touch a border"
+                + _at_most(told["touched"], told["largest_touch"], " off")
+                + f", {closed}"
+            )
+        texts.append(f"{_corners(told['moved'])} moved" + _at_most(told["moved"], told["largest_move"]))
         if told["gathered"]:
-            texts.append(f"{_corners(told['gathered'])} made one with others" +
-                         _at_most(told["gathered"], told["largest_gathered"], " off"))
+            texts.append(
+                f"{_corners(told['gathered'])} made one with others"
+                + _at_most(told["gathered"], told["largest_gathered"], " off")
+            )
         return texts
 
     def folders(self, work: Path) -> List[Path]:
@@ -186,32 +248,68 @@ class Prepared:
         write_layers(folder / "changes.gpkg", [("changes", self.changes_frame())], notes=notes.CHANGES)
         layers = [("parcels", self.parcels)] + ([("zones", self.zones)] if self.zones is not None else [])
         write_layers(folder / "register.gpkg", layers)
-        facts = {"number": self.number, "zone": self.zone, "scale": self.scale, "islands": len(self.islands),
-                 "zones": self.zones is not None, "crs": self.crs.to_wkt() if self.crs is not None else None,
-                 "numbers": self.numbers, "zone_names": self.zone_names, "told": self.told}
-        (folder / "prepared.json").write_text(json.dumps(facts))
+        (folder / "prepared.json").write_text(json.dumps(self._facts()))
+
+    def _facts(self) -> Dict[str, Any]:
+        """What `prepared.json` has: all that the layers of the folder have not."""
+        return {
+            "number": self.number,
+            "zone": self.zone,
+            "unit": asdict(self.unit),
+            "islands": len(self.islands),
+            "zones": self.zones is not None,
+            "crs": self.crs.to_wkt() if self.crs is not None else None,
+            "numbers": self.numbers,
+            "zone_names": self.zone_names,
+            "told": self.told,
+            "open_gaps": [gap.told() for gap in self.open_gaps],
+            "skipped": [asdict(one) for one in self.skipped],
+            "lost": self.lost,
+        }
 
     @staticmethod
     def _write_rows(path: Path, rows: Rows, number: str, named: Any) -> None:
         with open(path, "w", newline="", encoding="utf-8") as file:
             writer = csv.writer(file)
             writer.writerow(["record", number, "FID", "part"])
-            writer.writerows((record, named(source), source, part)
-                             for record, (source, part) in enumerate(zip(rows.source, rows.part), 1))
+            writer.writerows(
+                (record, named(source), source, part)
+                for record, (source, part) in enumerate(zip(rows.source, rows.part), 1)
+            )
 
     def changes_frame(self) -> gpd.GeoDataFrame:
-        """Each corner that was moved or put in, where it was: change, layer, number, distance_mm, x_mm and y_mm.
+        """Each corner that was changed, where it was: change, layer, number, distance_mm, closed_m2, x_mm and y_mm.
 
         `distance_mm` is how far it moved, or how far it was off the side that it was put into (`distance_how`:
-        measured); `x_mm` and `y_mm` are where it is now. Empty once loaded.
+        measured); `closed_m2` (measured) what was closed where it was made to touch; `x_mm` and `y_mm` are where it is
+        now. Once loaded, those alone that were made to touch.
         """
         it, names = self.changes, (self.numbers, self.zone_names)
         layers, rows = it.layer.tolist(), it.row.tolist()
         owners = [names[layer][row] if layer < len(names) and row >= 0 else None for layer, row in zip(layers, rows)]
-        table = {"change": [CHANGES[kind] for kind in it.change.tolist()], "layer": [ROLES[layer] for layer in layers],
-                 "number": owners, "distance_mm": it.distance, "distance_how": "measured", "x_mm": it.to[:, 0],
-                 "y_mm": it.to[:, 1]}
+        table = {
+            "change": [CHANGES[kind] for kind in it.change.tolist()],
+            "layer": [ROLES[layer] for layer in layers],
+            "number": owners,
+            "distance_mm": it.distance,
+            "distance_how": "measured",
+            "closed_m2": it.area / 1e6,
+            "x_mm": it.to[:, 0],
+            "y_mm": it.to[:, 1],
+        }
         return gpd.GeoDataFrame(table, geometry=gpd.points_from_xy(*it.places.T), crs=self.crs)
+
+    def touched_frame(self) -> gpd.GeoDataFrame:
+        """Of `changes_frame` the corners that were made to touch."""
+        kept = self.changes.change == TOUCHED
+        arrays = (getattr(self.changes, name)[kept] for name in Changes.__dataclass_fields__)
+        some = Prepared(self.parcels, self.numbers, self.number, self.unit, [], self.zones, self.zone_names)
+        some.changes = Changes(*arrays)
+        return some.changes_frame().drop(columns="change")
+
+
+def _counted(count: int) -> str:
+    return f"{count} invalid row{'' if count == 1 else 's'}"
 
 
 def _corners(count: int) -> str:
@@ -240,9 +338,25 @@ def load(work: Union[str, Path]) -> Prepared:
         register = work / "register.gpkg"
         parcels = read_layer_of(register, "parcels")
         zones = read_layer_of(register, "zones") if facts["zones"] else None
-        prepared = Prepared(parcels, facts["numbers"], facts["number"], facts["scale"], [None] * facts["islands"],
-                            zones, facts["zone_names"], facts["zone"], told=facts["told"])
-        prepared.islands = [_island(folder, facts["zones"]) for folder in prepared.folders(work)]
+        prepared = Prepared(
+            parcels,
+            facts["numbers"],
+            facts["number"],
+            Unit(**facts["unit"]),
+            [],
+            zones,
+            facts["zone_names"],
+            facts["zone"],
+            Changes(),
+            facts["told"],
+            [OpenGap.of(gap) for gap in facts["open_gaps"]],
+            [Skipped(**one) for one in facts["skipped"]],
+            facts["lost"],
+        )
+        folders = [work] if facts["islands"] == 1 else [work / f"island_{at + 1}" for at in range(facts["islands"])]
+        prepared.islands = [_island(folder, facts["zones"]) for folder in folders]
+        if facts["told"]["touched"]:
+            prepared.changes = _touched_of(work / "changes.gpkg", prepared)
         return prepared
     except Refused:
         raise
@@ -250,10 +364,34 @@ def load(work: Union[str, Path]) -> Prepared:
         raise Refused("P1", f"{work} is no folder that prepare made, or is torn: {fault}") from fault
 
 
+def _touched_of(path: Path, prepared: Prepared) -> Changes:
+    """The corners of `changes.gpkg` that were made to touch."""
+    frame = read_layer_of(path, "changes")
+    frame = frame[frame["change"] == CHANGES[TOUCHED]].reset_index(drop=True)
+    layer = np.array([ROLES.index(role) for role in frame["layer"]], dtype=np.int64)
+    names_of: List[List[str]] = [prepared.numbers, prepared.zone_names, []]
+    positions: List[Dict[str, int]] = [
+        {name: row for row, name in reversed(list(enumerate(names)))} for names in names_of
+    ]
+    row = [positions[at].get(number, -1) for at, number in zip(layer.tolist(), frame["number"])]
+    return Changes(
+        np.full(len(frame), TOUCHED),
+        np.column_stack([frame.geometry.x, frame.geometry.y]),
+        frame[["x_mm", "y_mm"]].to_numpy(dtype=np.int64),
+        frame["distance_mm"].to_numpy(dtype=float),
+        layer,
+        np.array(row, dtype=np.int64),
+        frame["closed_m2"].to_numpy(dtype=float) * 1e6,
+    )
+
+
 def _island(folder: Path, zones: bool) -> Island:
     city = read_rings(folder / "city.shp")
-    return Island(city[0], _rows(folder, "parcels.shp", "rows.csv"),
-                  _rows(folder, "zones.shp", "zone_rows.csv") if zones else None)
+    return Island(
+        city[0],
+        _rows(folder, "parcels.shp", "rows.csv"),
+        _rows(folder, "zones.shp", "zone_rows.csv") if zones else None,
+    )
 
 
 def _rows(folder: Path, main: str, table: str) -> Rows:

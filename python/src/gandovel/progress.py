@@ -17,8 +17,14 @@ class Progress:
     def __init__(self, steps: Optional[int] = None, shown: bool = False) -> None:
         self.begun = time.monotonic()
         self.lines = shown and not sys.stderr.isatty()
-        self.bar = tqdm(total=steps, delay=SHOWN_AFTER, file=sys.stderr, leave=False, disable=not shown or self.lines,
-                        bar_format="{desc} (step {n_fmt}, {elapsed})")
+        self.bar = tqdm(
+            total=steps,
+            delay=SHOWN_AFTER,
+            file=sys.stderr,
+            leave=False,
+            disable=not shown or self.lines,
+            bar_format="{desc} (step {n_fmt}, {elapsed})",
+        )
 
     def step(self, text: str) -> None:
         """The next step begins."""

@@ -6,24 +6,27 @@ import io
 import os
 import tempfile
 from collections import defaultdict
-from dataclasses import dataclass, field
+from dataclasses import dataclass
 from fractions import Fraction
 from pathlib import Path
-from typing import Any, Dict, List, Optional, Tuple, Union
+from typing import Any, Dict, Iterable, List, Optional, Sequence, Set, Tuple, Union
 
 import geopandas as gpd
 import numpy as np
 import pandas as pd
-from shapely.geometry import Polygon
+from shapely.geometry import Point, Polygon
 from shapely.ops import unary_union
 
+from .arrays import Array
 from . import notes
 from .errors import Refused
-from .gpkg import write_layers
-from .prepared import OUT_ROW, Prepared
+from .gpkg import test_name, write_layers
+from .noding import LEAST
+from .prepared import OUT_ROW, TOUCHED, Prepared, Rows
 from .progress import Progress
 from .shapes import multipolygon_wkb, polygon_wkb, polygons_of, rings_of, shapes_of, wkb_of
 from .styles import STYLES
+from .units import Unit
 from .verdicts import LayerFaults, checked, island_pairs, layer_faults, numbers_at, write_island
 
 SQUARE_METRE = 1_000_000
@@ -36,11 +39,13 @@ Pair = Tuple[int, int, int]
 class Report:
     """What the program says of a register.
 
-    Frames in the register's projection. `gaps`, `overlaps` (layer, area2_mm2, area_m2, area_how, depth, numbers,
-    numbers_how): exact, but for the numbers of overlaps, which GEOS measures. `split` (number, zones, zone_count,
-    sliver, sliver_how): exact, but for sliver. `parts` (number, zone, area_m2, area_how, share, sliver): measured, but
-    for which parts there are. `parcels` (number, records, status), `zones`, and `changes` where the register was
-    prepared just now.
+    Frames in the register's projection, the largest area first. `gaps`, `overlaps` (layer, area2_mm2, area_m2,
+    area_how, area, unit, depth, numbers, numbers_how, touched): exact, but for the numbers of overlaps, which GEOS
+    measures. `slivers` are gaps and overlaps that are nowhere wider than what touches (measured), `open_gaps` notches
+    and channels of the city that the parcels make (measured). `split` (number, zones, zone_count, sliver, sliver_how):
+    exact, but for sliver. `parts` (number, zone, area_m2, area_how, share, sliver): measured, but for which parts there
+    are. `parcels` (number, records, status), `zones`, `touched` (corners that were made to touch a border), `skipped`
+    (rows that were left out), and `changes` where the register was prepared just now.
     """
 
     gaps: gpd.GeoDataFrame
@@ -50,18 +55,48 @@ class Report:
     parcels: gpd.GeoDataFrame
     zones: Optional[gpd.GeoDataFrame]
     min_area: float
-    beyond: List[str] = field(default_factory=list)
-    changes: Optional[gpd.GeoDataFrame] = None
+    beyond: List[str]
+    changes: Optional[gpd.GeoDataFrame]
+    slivers: gpd.GeoDataFrame
+    open_gaps: gpd.GeoDataFrame
+    touched: gpd.GeoDataFrame
+    skipped: gpd.GeoDataFrame
+    prepared: Prepared
+
+    @property
+    def verdict(self) -> str:
+        """`tiles`, `does not tile`, or `open`: it tiles the city that it makes, which has open gaps."""
+        if len(self.gaps) or len(self.overlaps) or len(self.slivers):
+            return "does not tile"
+        return "open" if len(self.open_gaps) else "tiles"
+
+    def faults(self) -> gpd.GeoDataFrame:
+        """Gaps, overlaps, open gaps and slivers in one frame, of which `kind` says what they are; the largest first."""
+        kinds = (("gap", self.gaps), ("overlap", self.overlaps), ("open_gap", self.open_gaps), ("sliver", self.slivers))
+        frames = [frame.assign(kind=kind)[["kind", *FAULT_COLUMNS]] for kind, frame in kinds if len(frame)]
+        if not frames:
+            return gpd.GeoDataFrame(columns=["kind", *FAULT_COLUMNS], geometry="geometry", crs=self.gaps.crs)
+        both = pd.concat(frames, ignore_index=True)
+        both = both.iloc[_largest_first(both["area2_mm2"])].reset_index(drop=True)
+        return gpd.GeoDataFrame(both, geometry="geometry", crs=self.gaps.crs)
 
     def summary(self) -> str:
-        """One line: gaps and overlaps with their areas, and how many parcels are split."""
-        texts = [_told(self, "parcels")]
+        """One line: islands, what was left out, gaps and overlaps with their areas, how many parcels are split."""
+        count, unit = len(self.prepared.islands), self.prepared.unit
+        texts = [f"{count} islands"] if count > 1 else []
+        texts += [*self.prepared.skipped_told(), _told(self, "parcels")]
+        if len(self.open_gaps):
+            areas = _areas(self.open_gaps["area2_mm2"], unit)
+            texts.append(f"{_count(len(self.open_gaps), 'gap')} open to the outside ({areas}, measured)")
         if self.zones is not None:
             if (self.gaps["layer"] == "zones").any() or (self.overlaps["layer"] == "zones").any():
                 texts.append(f"zones: {_told(self, 'zones')}")
             slivers = int(self.split["sliver"].sum())
             few = f", {slivers} of them by less than {self.min_area:g} m2 (measured)" if slivers else ""
             texts.append(f"{_count(len(self.split), 'parcel')} split{few}")
+        if len(self.slivers):
+            wide = f"no wider than {self.prepared.told['touch']:.2f} mm (measured)"
+            texts.append(f"{_count(len(self.slivers), 'sliver')} {wide}, which `gandovel mend` closes")
         if self.beyond:
             texts.append(f"{_count(len(self.beyond), 'parcel')} beyond the city (measured), whose zones are not known")
         return "; ".join(texts)
@@ -69,13 +104,22 @@ class Report:
     def save(self, path: Union[str, Path]) -> None:
         """Writes the GeoPackage and `split.csv` beside it, each under another name first."""
         path = Path(path)
-        layers = [("parcels", self.parcels), ("gaps", self.gaps), ("overlaps", self.overlaps), ("split", self.split),
-                  ("split_parts", self.parts)]
+        layers = [
+            ("parcels", self.parcels),
+            ("gaps", self.gaps),
+            ("overlaps", self.overlaps),
+            ("split", self.split),
+            ("split_parts", self.parts),
+        ]
         if self.zones is not None:
             layers.insert(1, ("zones", self.zones))
+        for name in ("open_gaps", "slivers", "touched", "skipped"):
+            layers.append((name, getattr(self, name)))
         if self.changes is not None:
             layers.append(("changes", self.changes))
-        write_layers(path, layers, STYLES, {**notes.REPORT, **notes.CHANGES})
+        descriptions = {**notes.REPORT, **notes.CHANGES}
+        descriptions["parcels"] = f"{descriptions['parcels']} {notes.unit_text(self.prepared.unit)}"
+        write_layers(path, layers, STYLES, descriptions)
         if self.zones is not None:
             _write_text(path.with_name("split.csv"), self.table())
 
@@ -109,17 +153,33 @@ def _count(number: int, noun: str) -> str:
 def _told(report: Report, layer: str) -> str:
     texts = []
     for noun, frame in (("gap", report.gaps), ("overlap", report.overlaps)):
-        areas = [Fraction(text) / 2 for text in frame.loc[frame["layer"] == layer, "area2_mm2"]]
-        shown = ", ".join(map(area_text, areas[:SHOWN])) + (", .." if len(areas) > SHOWN else "")
-        texts.append(_count(len(areas), noun) + (f" ({shown})" if areas else ""))
+        doubled = frame.loc[frame["layer"] == layer, "area2_mm2"]
+        areas = f" ({_areas(doubled, report.prepared.unit)})" if len(doubled) else ""
+        texts.append(_count(len(doubled), noun) + areas)
     return ", ".join(texts)
 
 
-def area_text(area: Fraction) -> str:
-    """An area of square millimetres, in m2 with two decimals; a small one in mm2."""
+def _areas(doubled: Iterable[str], unit: Unit) -> str:
+    """The largest of doubled areas (mm2, as text), as they are printed."""
+    areas = sorted((Fraction(text) / 2 for text in doubled), reverse=True)
+    return ", ".join(area_text(area, unit) for area in areas[:SHOWN]) + (", .." if len(areas) > SHOWN else "")
+
+
+def _largest_first(doubled: Iterable[str]) -> List[int]:
+    """The order of doubled areas (mm2, as text) in which the largest is first: exact."""
+    areas = [Fraction(text) for text in doubled]
+    return sorted(range(len(areas)), key=lambda at: -areas[at])
+
+
+def area_text(area: Fraction, unit: Optional[Unit] = None) -> str:
+    """An area of square millimetres, in m2 with two decimals, a small one in mm2; and in a unit that is no metre."""
     if area >= SQUARE_METRE // 100:
-        return f"{float(area) / SQUARE_METRE:.2f} m2"
-    return f"{int(area)} mm2" if area == int(area) else f"{float(area):.3g} mm2"
+        text = f"{float(area) / SQUARE_METRE:.2f} m2"
+    else:
+        text = f"{int(area)} mm2" if area == int(area) else f"{float(area):.3g} mm2"
+    if unit is None or unit.is_metre or unit.millimetres in (1.0, 10.0, 100.0):
+        return text
+    return f"{float(area) / unit.millimetres**2:.2f} {unit.symbol}2 = {text}"
 
 
 def report(prepared: Prepared, min_area: float = 1.0, progress: Optional[Progress] = None) -> Report:
@@ -128,10 +188,11 @@ def report(prepared: Prepared, min_area: float = 1.0, progress: Optional[Progres
     Refused as the program refuses, by number; a layer that does not tile is no refusal, but what is told.
     """
     progress = progress or Progress()
-    faults: Dict[str, List[Dict[str, Any]]] = {"gaps": [], "overlaps": []}
+    faults: Dict[str, List[Dict[str, Any]]] = {"gaps": [], "overlaps": [], "slivers": []}
     pairs: Dict[Tuple[int, str], List[Pair]] = defaultdict(list)
     at_fault: Dict[int, str] = {}
     beyond: Dict[str, None] = {}
+    touched = {(x, y) for x, y in prepared.changes.to[prepared.changes.change == TOUCHED].tolist()}
     for at, island in enumerate(prepared.islands, 1):
         with tempfile.TemporaryDirectory() as folder:
             progress.step("checking the parcels")
@@ -140,7 +201,7 @@ def report(prepared: Prepared, min_area: float = 1.0, progress: Optional[Progres
             for role in ("parcels", "zones") if island.zones is not None else ("parcels",):
                 rows = getattr(island, role)
                 found[role] = layer_faults(checked(prepared, Path(folder), island, role), island.city, rows)
-                _tell(prepared, at, island, role, found[role], faults, at_fault)
+                _tell(prepared, at, role, rows, found[role], faults, at_fault, touched)
             standing_out = sorted(found["parcels"].beyond)
             beyond.update(dict.fromkeys(numbers_at(prepared, island.parcels, standing_out, "parcels")))
             if island.zones is not None:
@@ -153,27 +214,121 @@ def report(prepared: Prepared, min_area: float = 1.0, progress: Optional[Progres
     return _put_together(prepared, faults, pairs, at_fault, min_area, list(beyond))
 
 
-def _tell(prepared, at, island, role, found: LayerFaults, faults, at_fault) -> None:
-    rows = getattr(island, role)
+def _tell(
+    prepared: Prepared,
+    at: int,
+    role: str,
+    rows: Rows,
+    found: LayerFaults,
+    faults: Dict[str, List[Dict[str, Any]]],
+    at_fault: Dict[int, str],
+    touched: Set[Tuple[int, int]],
+) -> None:
+    """Adds the faults of a layer of island `at` to `faults`, and what they are to the parcels to `at_fault`."""
+    width = prepared.told["touch" if role == "parcels" else "touch_of_zones"]
     for fault, concerned in zip(found.faults, found.rows):
-        kind = "gaps" if fault.depth < 0 else "overlaps"
-        numbers = numbers_at(prepared, rows, concerned, role)
-        faults[kind].append({
-            "layer": role, "island": at, "area2_mm2": str(fault.area2),
-            "area_m2": float(fault.area2) / 2 / SQUARE_METRE,
-            "area_how": "exact" if isinstance(fault.area2, int) else "exact fraction", "depth": fault.depth,
-            "numbers": ",".join(numbers), "numbers_how": "exact" if kind == "gaps" else "measured",
-            "geometry": prepared.polygon(fault.outer, fault.holes)})
-        if role == "parcels":
+        kind = "gap" if fault.depth < 0 else "overlap"
+        is_sliver = width >= LEAST and fault.is_narrow(width)
+        corners = {corner for loop in (fault.outer, *fault.holes) for corner in loop}
+        faults["slivers" if is_sliver else f"{kind}s"].append(
+            {
+                "what": kind,
+                "layer": role,
+                "island": at,
+                **_area_columns(fault.area2, prepared.unit),
+                "area_how": "exact" if isinstance(fault.area2, int) else "exact fraction",
+                "depth": fault.depth,
+                "numbers": ",".join(numbers_at(prepared, rows, concerned, role)),
+                "numbers_how": "exact" if kind == "gap" else "measured",
+                "touched": len(corners & touched),
+                "geometry": prepared.polygon(fault.outer, fault.holes),
+            }
+        )
+        if role == "parcels" and not is_sliver:
             for row in concerned:
-                if kind == "overlaps" or rows.source[row] not in at_fault:
-                    at_fault[rows.source[row]] = "overlap" if kind == "overlaps" else "gap"
+                if kind == "overlap" or rows.source[row] not in at_fault:
+                    at_fault[rows.source[row]] = kind
 
 
-FAULT_COLUMNS = ["layer", "island", "area2_mm2", "area_m2", "area_how", "depth", "numbers", "numbers_how", "geometry"]
+def _area_columns(area2: Union[int, Fraction], unit: Unit) -> Dict[str, Any]:
+    """An area as a fault's columns have it: `area` is in the squares of the layer's unit."""
+    return {
+        "area2_mm2": str(area2),
+        "area_m2": float(area2) / 2 / SQUARE_METRE,
+        "area": float(area2) / 2 / unit.millimetres**2,
+        "unit": f"{unit.symbol}2",
+    }
 
 
-def _put_together(prepared, faults, pairs, at_fault, min_area, beyond) -> Report:
+FAULT_COLUMNS = [
+    "layer",
+    "island",
+    "area2_mm2",
+    "area_m2",
+    "area_how",
+    "area",
+    "unit",
+    "depth",
+    "numbers",
+    "numbers_how",
+    "touched",
+    "geometry",
+]
+
+
+def _open_gaps(prepared: Prepared) -> gpd.GeoDataFrame:
+    """The gaps that are open to the outside, with the parcels that lie at most 2 mm from them (measured)."""
+    rows = []
+    for gap in prepared.open_gaps:
+        shape = Polygon(gap.outer - gap.outer[0], [hole - gap.outer[0] for hole in gap.holes])
+        numbers: Dict[str, None] = {}
+        islands = []
+        for at, island in enumerate(prepared.islands, 1):
+            beside = _beside(shape, gap.outer, island.parcels)
+            numbers.update(dict.fromkeys(numbers_at(prepared, island.parcels, beside, "parcels")))
+            islands += [at] * bool(beside)
+        rows.append(
+            {
+                "layer": "parcels",
+                "island": min(islands, default=1),
+                **_area_columns(gap.area2, prepared.unit),
+                "area_how": "measured",
+                "depth": -1,
+                "numbers": ",".join(numbers),
+                "numbers_how": "measured",
+                "touched": 0,
+                "geometry": prepared.polygon(gap.outer, gap.holes),
+            }
+        )
+    return gpd.GeoDataFrame(rows, columns=FAULT_COLUMNS, geometry="geometry", crs=prepared.crs)
+
+
+def _beside(shape: Polygon, corners: Array, rows: Rows) -> List[int]:
+    """The rows (from 0) at most 2 mm from a shape, which is given from its first corner on."""
+    low, high = corners.min(axis=0) - 2, corners.max(axis=0) + 2
+    near = [
+        row
+        for row, ring in enumerate(rows.rings)
+        if (ring.min(axis=0) <= high).all() and (ring.max(axis=0) >= low).all()
+    ]
+    return [row for row in near if Polygon(rows.rings[row] - corners[0]).distance(shape) <= 2]
+
+
+def _skipped(prepared: Prepared) -> gpd.GeoDataFrame:
+    table = {name: [getattr(one, name) for one in prepared.skipped] for name in ("role", "number", "reason")}
+    places = [Point(one.x, one.y) if one.x is not None else None for one in prepared.skipped]
+    frame = pd.DataFrame(table).rename(columns={"role": "layer"})
+    return gpd.GeoDataFrame(frame, geometry=places, crs=prepared.crs)
+
+
+def _put_together(
+    prepared: Prepared,
+    faults: Dict[str, List[Dict[str, Any]]],
+    pairs: Dict[Tuple[int, str], List[Pair]],
+    at_fault: Dict[int, str],
+    min_area: float,
+    beyond: List[str],
+) -> Report:
     zones_of: Dict[int, List[str]] = defaultdict(list)
     order = {name: at for at, name in enumerate(dict.fromkeys(prepared.zone_names))}
     for row, zone in sorted(pairs, key=lambda pair: (pair[0], order.get(pair[1], len(order)))):
@@ -181,12 +336,30 @@ def _put_together(prepared, faults, pairs, at_fault, min_area, beyond) -> Report
     split_rows = sorted(row for row, zones in zones_of.items() if len(zones) > 1)
     parts = _parts(prepared, {key: rows for key, rows in pairs.items() if len(zones_of[key[0]]) > 1}, min_area)
     split = _split(prepared, split_rows, zones_of, parts)
-    frames = {kind: gpd.GeoDataFrame(rows, columns=FAULT_COLUMNS, geometry="geometry", crs=prepared.crs)
-              for kind, rows in faults.items()}
+    frames = {}
+    for kind, rows in faults.items():
+        ordered = [rows[at] for at in _largest_first(row["area2_mm2"] for row in rows)]
+        columns = ["what", *FAULT_COLUMNS] if kind == "slivers" else FAULT_COLUMNS
+        frames[kind] = gpd.GeoDataFrame(ordered, columns=columns, geometry="geometry", crs=prepared.crs)
     at_fault.update((row, "split") for row in split_rows if row not in at_fault)
-    changes = prepared.changes_frame() if len(prepared.changes.change) else None
-    return Report(frames["gaps"], frames["overlaps"], split, parts, _parcels(prepared, at_fault), _zones(prepared),
-                  min_area, beyond, changes)
+    at_fault.update((one.row, "skipped") for one in prepared.skipped if one.role == "parcels")
+    changes = prepared.changes_frame() if (prepared.changes.change != TOUCHED).any() else None
+    return Report(
+        frames["gaps"],
+        frames["overlaps"],
+        split,
+        parts,
+        _parcels(prepared, at_fault),
+        _zones(prepared),
+        min_area,
+        beyond,
+        changes,
+        frames["slivers"],
+        _open_gaps(prepared),
+        prepared.touched_frame(),
+        _skipped(prepared),
+        prepared,
+    )
 
 
 def _parts(prepared: Prepared, pairs: Dict[Tuple[int, str], List[Pair]], min_area: float) -> gpd.GeoDataFrame:
@@ -202,9 +375,16 @@ def _parts(prepared: Prepared, pairs: Dict[Tuple[int, str], List[Pair]], min_are
         pieces[at] += _in_place(prepared, island, cut, blob)
     rows = [row for row, _ in keys]
     share = areas / pd.Series(areas).groupby(rows).transform("sum").values if keys else areas
-    table = {"row": rows, "number": [prepared.number_of(row) for row in rows], "zone": [zone for _, zone in keys],
-             "area_m2": areas, "area_how": "measured", "share": share, "sliver": (areas < min_area).astype(np.int64),
-             "zone_row": [zone_rows.get(zone, -1) for _, zone in keys]}
+    table = {
+        "row": rows,
+        "number": [prepared.number_of(row) for row in rows],
+        "zone": [zone for _, zone in keys],
+        "area_m2": areas,
+        "area_how": "measured",
+        "share": share,
+        "sliver": (areas < min_area).astype(np.int64),
+        "zone_row": [zone_rows.get(zone, -1) for _, zone in keys],
+    }
     shapes = shapes_of(map(multipolygon_wkb, pieces))
     frame = gpd.GeoDataFrame(pd.DataFrame(table), geometry=shapes, crs=prepared.crs)
     frame = _with_attributes(frame, prepared.parcels, frame["row"], prepared.number, "")
@@ -212,7 +392,7 @@ def _parts(prepared: Prepared, pairs: Dict[Tuple[int, str], List[Pair]], min_are
     return frame.drop(columns=["row", "zone_row"])
 
 
-def _cuts(prepared: Prepared, members: List[Pair]) -> np.ndarray:
+def _cuts(prepared: Prepared, members: List[Pair]) -> Array:
     """What each parcel and zone have in common, measured by GEOS, from a corner of their island's city."""
     sides = []
     for role, column in (("parcels", 1), ("zones", 2)):
@@ -221,19 +401,23 @@ def _cuts(prepared: Prepared, members: List[Pair]) -> np.ndarray:
         rings = (getattr(island, role).rings[row] - island.city[0] for island, (_, row) in zip(islands, rows))
         shapes = dict(zip(rows, polygons_of(rings)))
         sides.append(gpd.GeoSeries([shapes[pair[0], pair[column]] for pair in members]))
-    return sides[0].intersection(sides[1], align=False).to_numpy()
+    return np.asarray(sides[0].intersection(sides[1], align=False).to_numpy())
 
 
-def _in_place(prepared: Prepared, island: int, cut: Any, blob: bytes) -> List[bytes]:
+def _in_place(prepared: Prepared, island: int, cut: Any, blob: Optional[bytes]) -> List[bytes]:
     """The polygons of a common part, in the layer's projection, as WKB; lines and points of it are left out."""
     if cut.geom_type not in ("Polygon", "MultiPolygon"):
         parts = [part for part in getattr(cut, "geoms", []) if part.geom_type == "Polygon" and not part.is_empty]
         blob = multipolygon_wkb([part for part in wkb_of(parts) if part is not None])
+    if blob is None:
+        return []
     shift = prepared.islands[island].city[0]
     return [polygon_wkb([prepared.in_units(ring + shift) for ring in rings]) for rings in rings_of(blob) if rings]
 
 
-def _with_attributes(frame, source, rows, number: str, prefix: str) -> gpd.GeoDataFrame:
+def _with_attributes(
+    frame: gpd.GeoDataFrame, source: Optional[gpd.GeoDataFrame], rows: Any, number: str, prefix: str
+) -> gpd.GeoDataFrame:
     """The frame with the attributes of rows of a layer behind its own columns, each once."""
     if source is None:
         return frame
@@ -252,13 +436,20 @@ def _with_attributes(frame, source, rows, number: str, prefix: str) -> gpd.GeoDa
     return gpd.GeoDataFrame(result, geometry="geometry", crs=frame.crs)
 
 
-def _split(prepared: Prepared, rows: List[int], zones_of, parts) -> gpd.GeoDataFrame:
+def _split(
+    prepared: Prepared, rows: List[int], zones_of: Dict[int, List[str]], parts: gpd.GeoDataFrame
+) -> gpd.GeoDataFrame:
     counts = pd.DataFrame(parts[["number", "sliver"]]).groupby("number")["sliver"].agg(["sum", "size"])
     slivers: Dict[str, bool] = dict(zip(counts.index, counts["sum"] >= counts["size"] - 1))
     numbers = [prepared.number_of(row) for row in rows]
-    table = {"number": numbers, "zones": [",".join(zones_of[row]) for row in rows],
-             "zone_count": [len(zones_of[row]) for row in rows], "sliver": [int(slivers[number]) for number in numbers],
-             "sliver_how": "measured", "geometry": list(prepared.parcels.geometry.iloc[rows])}
+    table = {
+        "number": numbers,
+        "zones": [",".join(zones_of[row]) for row in rows],
+        "zone_count": [len(zones_of[row]) for row in rows],
+        "sliver": [int(slivers[number]) for number in numbers],
+        "sliver_how": "measured",
+        "geometry": list(prepared.parcels.geometry.iloc[rows]),
+    }
     frame = gpd.GeoDataFrame(table, geometry="geometry", crs=prepared.crs)
     return _with_attributes(frame, prepared.parcels, rows, prepared.number, "")
 
@@ -270,8 +461,12 @@ def _parcels(prepared: Prepared, at_fault: Dict[int, str]) -> gpd.GeoDataFrame:
         for record, row in enumerate(island.parcels.source, 1):
             records[row].append(f"{at}:{record}" if several else str(record))
     count = len(prepared.numbers)
-    table = {"number": prepared.numbers, "records": [",".join(records[row]) for row in range(count)],
-             "status": [at_fault.get(row, "ok") for row in range(count)], "geometry": list(prepared.parcels.geometry)}
+    table = {
+        "number": prepared.numbers,
+        "records": [",".join(records[row]) for row in range(count)],
+        "status": [at_fault.get(row, "ok") for row in range(count)],
+        "geometry": list(prepared.parcels.geometry),
+    }
     frame = gpd.GeoDataFrame(table, geometry="geometry", crs=prepared.crs)
     return _with_attributes(frame, prepared.parcels, range(count), prepared.number, "")
 
@@ -281,10 +476,11 @@ def _zones(prepared: Prepared) -> Optional[gpd.GeoDataFrame]:
         return None
     shapes: Dict[int, List[Polygon]] = defaultdict(list)
     for island in prepared.islands:
-        for ring, row in zip(island.zones.rings, island.zones.source):
+        for ring, row in zip(island.rows_of_zones().rings, island.rows_of_zones().source):
             shapes[row].append(prepared.polygon(ring))
     rows = [row for row in range(len(prepared.zone_names)) if shapes[row]]
-    joined = [shapes[row][0] if len(shapes[row]) == 1 else unary_union([it.buffer(0) for it in shapes[row]])
-              for row in rows]
+    joined = [
+        shapes[row][0] if len(shapes[row]) == 1 else unary_union([it.buffer(0) for it in shapes[row]]) for row in rows
+    ]
     frame = gpd.GeoDataFrame({"number": [prepared.zone_of(row) for row in rows]}, geometry=joined, crs=prepared.crs)
     return _with_attributes(frame, prepared.zones, rows, prepared.zone, "")

@@ -7,10 +7,11 @@ rows that had to stay away. A row that stands out of the city takes part in no r
 from __future__ import annotations
 
 from pathlib import Path
-from typing import Dict, Iterable, List, Sequence, Set, Tuple
+from typing import Any, Dict, Iterable, List, Sequence, Set, Tuple
 
 import numpy as np
 
+from .arrays import Array
 from .faults import contains, point_inside, simple_loops, twice_area
 from .grid import edges_left
 from .holes import cut_holes, traced
@@ -27,7 +28,7 @@ def rounds_of(count: int, conflicts: Iterable[Set[int]], beyond: Set[int]) -> Li
             against.setdefault(row, set()).update(group - {row})
     waiting = [row for row in sorted(against, key=lambda row: len(against[row])) if row not in beyond]
     free = [row for row in range(count) if row not in against and row not in beyond]
-    rounds = []
+    rounds: List[List[int]] = []
     while waiting or not rounds:
         taken: Set[int] = set()
         for row in [*waiting, *(row for row in against if row not in beyond)]:
@@ -38,7 +39,7 @@ def rounds_of(count: int, conflicts: Iterable[Set[int]], beyond: Set[int]) -> Li
     return rounds
 
 
-def filled(city: np.ndarray, rings: Sequence[np.ndarray]) -> List[np.ndarray]:
+def filled(city: Array, rings: Sequence[Array]) -> List[Array]:
     """Rings, which do not overlap and lie in the city, with simple rings behind them that fill what they leave."""
     fillers = []
     for outer, holes in area_polygons([_with_corners(city, rings), *(ring[::-1] for ring in rings)]):
@@ -46,15 +47,15 @@ def filled(city: np.ndarray, rings: Sequence[np.ndarray]) -> List[np.ndarray]:
     return [*rings, *fillers]
 
 
-def _with_corners(city: np.ndarray, rings: Sequence[np.ndarray]) -> np.ndarray:
+def _with_corners(city: Array, rings: Sequence[Array]) -> Array:
     """The city's ring with the rings' corners that lie on its sides."""
     points, index = points_of(np.concatenate([city, *rings]).astype(float))
-    ring = index[:len(city)]
-    found = touches(points, ring, np.roll(ring, -1), np.unique(index), 0.0)
-    return points[np.insert(ring, found[:, 0] + 1, found[:, 1])].astype(np.int64)
+    ring = index[: len(city)]
+    found = touches(points, ring, np.roll(ring, -1), np.unique(index), 0.0, 0.0)
+    return np.asarray(points[np.insert(ring, found[:, 0] + 1, found[:, 1])], dtype=np.int64)
 
 
-def area_polygons(loops: Sequence[np.ndarray]) -> List[Tuple[np.ndarray, List[np.ndarray]]]:
+def area_polygons(loops: Sequence[Array]) -> List[Tuple[Array, List[Array]]]:
     """The area on the left of loops (k, 2) int64, whose opposite edges cancel, as polygons: outer ring and holes.
 
     No ring meets itself. Where the loops cover a place twice, or cross, the answer means nothing.
@@ -67,15 +68,17 @@ def area_polygons(loops: Sequence[np.ndarray]) -> List[Tuple[np.ndarray, List[np
     low, high, net = edges_left(index, index[after])
     used = np.unique(np.concatenate([low, high]))
     whole = dict(zip(used.tolist(), map(tuple, points[used].astype(np.int64).tolist())))
-    edges = [(whole[a], whole[b]) if n > 0 else (whole[b], whole[a])
-             for a, b, n in zip(low.tolist(), high.tolist(), net.tolist())]
+    edges = [
+        (whole[a], whole[b]) if n > 0 else (whole[b], whole[a])
+        for a, b, n in zip(low.tolist(), high.tolist(), net.tolist())
+    ]
     walks = traced(edges) or []
     return _nested([loop for walk in walks for loop in simple_loops(walk)])
 
 
-def _nested(loops: List[List[Tuple[int, int]]]) -> List[Tuple[np.ndarray, List[np.ndarray]]]:
+def _nested(loops: List[List[Tuple[Any, Any]]]) -> List[Tuple[Array, List[Array]]]:
     outers = sorted((loop for loop in loops if twice_area(loop) > 0), key=twice_area)
-    inner: List[List[np.ndarray]] = [[] for _ in outers]
+    inner: List[List[Array]] = [[] for _ in outers]
     for hole in (loop for loop in loops if twice_area(loop) < 0):
         within = point_inside(hole[::-1], [])
         for outer, holes in zip(outers, inner):
@@ -85,8 +88,14 @@ def _nested(loops: List[List[Tuple[int, int]]]) -> List[Tuple[np.ndarray, List[n
     return [(np.array(outer, dtype=np.int64), holes) for outer, holes in zip(outers, inner)]
 
 
-def overlaid(folder: Path, city: np.ndarray, parcels: Sequence[np.ndarray], zones: Sequence[np.ndarray],
-             parcel_rounds: List[List[int]], zone_rounds: List[List[int]]) -> np.ndarray:
+def overlaid(
+    folder: Path,
+    city: Array,
+    parcels: Sequence[Array],
+    zones: Sequence[Array],
+    parcel_rounds: List[List[int]],
+    zone_rounds: List[List[int]],
+) -> Array:
     """All pairs (parcel, zone), from 0, that overlap, by the program; its files are written to `folder`."""
     write_rings(folder / "city.shp", [city])
     for name, rings, rounds in (("parcels", parcels, parcel_rounds), ("zones", zones, zone_rounds)):

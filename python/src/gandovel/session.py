@@ -57,8 +57,9 @@ class Desk(Calls):
     def __enter__(self) -> "Desk":
         return self
 
-    def __exit__(self, kind: Optional[Type[BaseException]], fault: Optional[BaseException],
-                 trace: Optional[TracebackType]) -> None:
+    def __exit__(
+        self, kind: Optional[Type[BaseException]], fault: Optional[BaseException], trace: Optional[TracebackType]
+    ) -> None:
         self.close()
 
 
@@ -72,9 +73,18 @@ class Session(Calls):
     replayed: int
     """How many entries the journal had at the start."""
 
-    def __init__(self, city: PathLike, parcels: PathLike, unit: str = "mm", *, zones: Optional[PathLike] = None,
-                 journal: Optional[PathLike] = None, desks: Sequence[str] = (), workers: Optional[int] = None,
-                 timeout: Optional[float] = None) -> None:
+    def __init__(
+        self,
+        city: PathLike,
+        parcels: PathLike,
+        unit: str = "mm",
+        *,
+        zones: Optional[PathLike] = None,
+        journal: Optional[PathLike] = None,
+        desks: Sequence[str] = (),
+        workers: Optional[int] = None,
+        timeout: Optional[float] = None,
+    ) -> None:
         """Starts the program on a layer, whose files are in `unit` (mm, cm or m), and waits until it is ready.
 
         The edits of `journal` are made first, and each further edit is written to it; it is made where it isn't there.
@@ -185,8 +195,9 @@ class Session(Calls):
     def __enter__(self) -> "Session":
         return self
 
-    def __exit__(self, kind: Optional[Type[BaseException]], fault: Optional[BaseException],
-                 trace: Optional[TracebackType]) -> None:
+    def __exit__(
+        self, kind: Optional[Type[BaseException]], fault: Optional[BaseException], trace: Optional[TracebackType]
+    ) -> None:
         try:
             if fault is None:
                 self.close()
@@ -210,7 +221,7 @@ class Session(Calls):
             ended = self._ended()
             errors = [note for note in self.notes if note.startswith("error: ")]
             if self._process.returncode == 1 and errors:
-                raise start_refused(errors[-1][len("error: "):], self._journal) from None
+                raise start_refused(errors[-1][len("error: ") :], self._journal) from None
             raise ended from None
         return count_of(line.decode("utf-8", "backslashreplace"), "ready")
 
@@ -297,7 +308,7 @@ def _greeted(path: str, until: Optional[float], test_running: Callable[[], None]
         try:
             _greet(wire, until)
             return wire
-        except ProgramEnded:        # of the desk, for an earlier client: it opens its pipes anew
+        except ProgramEnded:  # of the desk, for an earlier client: it opens its pipes anew
             wire.close()
             pause(until)
         except BaseException:

@@ -8,6 +8,8 @@ import struct
 from typing import Any, Iterable, Iterator, List, Optional, Sequence, Tuple
 
 import numpy as np
+
+from .arrays import Array
 import shapely.wkb
 from shapely.geometry import GeometryCollection, Polygon
 
@@ -34,12 +36,18 @@ def shapes_of(blobs: Iterable[Optional[bytes]]) -> List[Any]:
     return [None if blob is None else shapely.wkb.loads(blob) for blob in blobs]
 
 
-def polygons_of(rings: Iterable[np.ndarray]) -> List[Polygon]:
+def polygons_of(rings: Iterable[Array]) -> List[Polygon]:
     """A polygon of each ring (k, 2), which is without its first corner again."""
     return shapes_of(polygon_wkb([np.concatenate([ring, ring[:1]])]) for ring in rings)
 
 
-def polygon_wkb(rings: Sequence[np.ndarray]) -> bytes:
+def valid_of(polygons: Iterable[Sequence[Array]]) -> List[bool]:
+    """Of polygons, each an outer ring and holes (k, 2) without the first corner again, whether GEOS says it is valid."""
+    closed = ([np.concatenate([ring, ring[:1]]) for ring in rings] for rings in polygons)
+    return [bool(shape.is_valid) for shape in shapes_of(polygon_wkb(rings) for rings in closed)]
+
+
+def polygon_wkb(rings: Sequence[Array]) -> bytes:
     """The WKB of a polygon: its outer ring and its holes, closed, each (k, 2)."""
     parts = [struct.pack("<BII", 1, POLYGON, len(rings))]
     for ring in rings:
@@ -55,10 +63,10 @@ def multipolygon_wkb(polygons: Sequence[bytes]) -> bytes:
 
 def kind_of(blob: bytes) -> int:
     """The kind of shape that a WKB says, with its marks for heights."""
-    return struct.unpack_from("<I", blob, 1)[0]
+    return int(struct.unpack_from("<I", blob, 1)[0])
 
 
-def rings_of(blob: bytes) -> Iterator[List[np.ndarray]]:
+def rings_of(blob: bytes) -> Iterator[List[Array]]:
     """The polygons of a WKB of a polygon or several, each the list of its closed rings (k, 2); heights are dropped."""
     kind, at = kind_of(blob), 5
     count = 1
@@ -72,7 +80,7 @@ def rings_of(blob: bytes) -> Iterator[List[np.ndarray]]:
         yield rings
 
 
-def _rings_at(blob: bytes, at: int, width: int) -> Tuple[List[np.ndarray], int]:
+def _rings_at(blob: bytes, at: int, width: int) -> Tuple[List[Array], int]:
     count, at = struct.unpack_from("<I", blob, at)[0], at + 4
     rings = []
     for _ in range(count):
@@ -85,4 +93,4 @@ def _rings_at(blob: bytes, at: int, width: int) -> Tuple[List[np.ndarray], int]:
 
 def bounds_of(shapes: Iterable[Any]) -> Tuple[float, ...]:
     """The box around shapes, of which one or more is not None or empty."""
-    return GeometryCollection([shape for shape in shapes if shape is not None]).bounds
+    return tuple(map(float, GeometryCollection([shape for shape in shapes if shape is not None]).bounds))

@@ -1,44 +1,24 @@
-"""Layers of a GIS: read, tested, and taken apart into loops of corners."""
+"""Layers of a GIS: tested, and taken apart into loops of corners."""
 from __future__ import annotations
 
-import os
 from dataclasses import dataclass
-from typing import Any, List, Optional, Tuple, Union
+from typing import Any, Dict, List, Optional, Sequence, Tuple
 
 import geopandas as gpd
 import numpy as np
+import pandas as pd
 from pyproj import CRS
 from shapely.geometry import Point
 from shapely.validation import explain_validity
 
-from .errors import Refused, place
+from .arrays import Array
+from .errors import Refused, place, raise_all
 from .shapes import rings_of, wkb_of
 
 PARCELS, ZONES, CITY = 0, 1, 2
 ROLES = ("parcels", "zones", "city")
-
-
-def read_layer(source: Union[str, "os.PathLike[str]"], role: str) -> gpd.GeoDataFrame:
-    """A layer in any format that GDAL reads. Refused (P1) where it can't be opened or is torn."""
-    if not os.path.exists(source):
-        raise Refused("P1", f"{source} is not there", role=role)
-    try:
-        frame = gpd.read_file(str(source))
-    except Exception as fault:
-        raise Refused("P1", f"{source} can't be read: {fault}", role=role) from fault
-    if not isinstance(frame, gpd.GeoDataFrame):
-        raise Refused("P1", f"{source} has no geometry", role=role)
-    return frame
-
-
-def millimetres_per_unit(crs: Any, role: str) -> float:
-    """How many millimetres a coordinate's unit is: 1000 for metres, and where none is named. Degrees are P7."""
-    if crs is None:
-        return 1000.0
-    system = CRS.from_user_input(crs)
-    if system.is_geographic or system.is_geocentric or not system.axis_info:
-        raise Refused("P7", f"the projection {system.name} is in degrees: project the layer first", role=role)
-    return system.axis_info[0].unit_conversion_factor * 1000.0
+ROW = "ROW"
+"""In place of a column's name: rows are numbered, from 1."""
 
 
 def same_projection(first: Any, second: Any) -> bool:
@@ -46,65 +26,78 @@ def same_projection(first: Any, second: Any) -> bool:
     if first is None or second is None:
         return first is None and second is None
     first, second = CRS.from_user_input(first), CRS.from_user_input(second)
-    return first == second or first.is_exact_same(second) or first.equals(second, ignore_axis_order=True)
+    return bool(first == second or first.is_exact_same(second) or first.equals(second, ignore_axis_order=True))
 
 
 def numbers_of(frame: gpd.GeoDataFrame, column: str, role: str, unique: bool) -> List[str]:
-    """A layer's own numbers as text. Refused: no such column (P2), a number that is missing or stands twice (P3)."""
-    if column not in frame.columns:
-        names = ", ".join(str(name) for name in frame.columns if name != frame.geometry.name)
-        raise Refused("P2", f"there is no column {column}; there are {names}", role=role)
-    texts = [_as_text(value) for value in frame[column]]
-    seen = {}
+    """A layer's own numbers as text; from 1 for the column `ROW`, unless there is one of that name.
+
+    Refused: no such column (P2), all numbers that are missing or stand twice (P3).
+    """
+    if column not in frame.columns and column == ROW:
+        return [str(row + 1) for row in range(len(frame))]
+    if column not in frame.columns or column == frame.geometry.name:
+        names = ", ".join(str(name) for name in frame.columns if name != frame.geometry.name) or "none"
+        option = "zone" if role == "zones" else "number"
+        what = f"there is no column {column}; there are {names}: name one by --{option}, or say --{option} {ROW}"
+        raise Refused("P2", what, role=role)
+    texts = list(map(_as_text, frame[column].tolist()))
+    seen: Dict[str, int] = {}
+    problems = []
     for row, text in enumerate(texts):
         if text is None:
-            raise Refused("P3", f"row {row} has no {column}{_where(frame, row)}", role=role)
-        if unique and text in seen:
-            raise Refused("P3", f"rows {seen[text]} and {row} have the same {column}{_where(frame, row)}", role=role,
-                          number=text)
-        seen[text] = row
-    return texts
+            problems.append(_at_row(frame, row, f"row {row + 1} has no {column}", role, None))
+        elif unique and text in seen:
+            twice = f"rows {seen[text] + 1} and {row + 1} have the same {column}"
+            problems.append(_at_row(frame, row, twice, role, text))
+        else:
+            seen[text] = row
+    raise_all(problems, f"give each row a {column} of its own, or say --number {ROW}")
+    return [text for text in texts if text is not None]
 
 
 def _as_text(value: Any) -> Optional[str]:
-    if value is None or value != value:
+    if pd.isna(value):
         return None
     if isinstance(value, float) and value.is_integer():
         return str(int(value))
     return str(value).strip() or None
 
 
-def _where(frame: gpd.GeoDataFrame, row: int) -> str:
+def _at_row(frame: gpd.GeoDataFrame, row: int, text: str, role: str, number: Optional[str]) -> Refused:
     geometry = frame.geometry.iloc[row]
     if geometry is None or geometry.is_empty:
-        return ""
-    point = geometry.representative_point()
-    return f" {place(point.x, point.y)} (measured)"
+        return Refused("P3", text, role=role, number=number)
+    point = Point(geometry.centroid if not geometry.is_valid else geometry.representative_point())
+    return Refused("P3", f"{text} {place(point.x, point.y)} (measured)", role=role, number=number, geometry=point)
 
 
-def test_geometries(frame: gpd.GeoDataFrame, numbers: List[str], role: str) -> None:
-    """Refuses, by number and place, what is no polygon (P5), is empty (P4) or crosses itself (P6)."""
-    if not len(frame):
-        raise Refused("P4", "the layer is empty", role=role)
-    for number, geometry in zip(numbers, frame.geometry):
+def bad_geometries(frame: gpd.GeoDataFrame, numbers: Sequence[str], role: str) -> Dict[int, Refused]:
+    """By row what is no polygon (P5), is empty (P4) or crosses itself (P6), each with its number and place."""
+    found: Dict[int, Refused] = {}
+    for row, (number, geometry) in enumerate(zip(numbers, frame.geometry)):
         if geometry is None or geometry.is_empty:
-            raise Refused("P4", "it has no geometry", role=role, number=number)
-        if geometry.geom_type not in ("Polygon", "MultiPolygon"):
-            raise Refused("P5", f"it is a {geometry.geom_type} and no polygon", role=role, number=number)
-        if not geometry.is_valid:
-            _refuse_invalid(geometry, number, role)
+            found[row] = Refused("P4", "it has no geometry", role=role, number=number)
+        elif geometry.geom_type not in ("Polygon", "MultiPolygon"):
+            point = geometry.representative_point()
+            text = f"it is a {geometry.geom_type} and no polygon {place(point.x, point.y)} (measured)"
+            found[row] = Refused("P5", text, role=role, number=number, geometry=point)
+        elif not geometry.is_valid:
+            found[row] = _invalid(geometry, number, role)
+    return found
 
 
-def _refuse_invalid(geometry: Any, number: str, role: str) -> None:
+def _invalid(geometry: Any, number: str, role: str) -> Refused:
     reason = explain_validity(geometry)
     text, _, rest = reason.partition("[")
     point = None
     try:
         x, y = (float(word) for word in rest.rstrip("]").split()[:2])
-        point, reason = Point(x, y), f"{text} {place(x, y)} (measured)"
+        if np.isfinite([x, y]).all():
+            point, reason = Point(x, y), f"{text.strip()} {place(x, y)} (measured)"
     except ValueError:
         pass
-    raise Refused("P6", f"its geometry is invalid: {reason}", role=role, number=number, geometry=point)
+    return Refused("P6", f"its geometry is invalid: {reason}", role=role, number=number, geometry=point)
 
 
 @dataclass
@@ -116,23 +109,23 @@ class Loops:
     counterclockwise and holes clockwise, so that the polygon is on the left.
     """
 
-    corners: np.ndarray
-    starts: np.ndarray
-    layer: np.ndarray
-    row: np.ndarray
-    part: np.ndarray
-    hole: np.ndarray
+    corners: Array
+    starts: Array
+    layer: Array
+    row: Array
+    part: Array
+    hole: Array
 
     def __len__(self) -> int:
         return len(self.starts) - 1
 
-    def nexts(self) -> np.ndarray:
+    def nexts(self) -> Array:
         """For each corner the position of the next one round its loop."""
         after = np.arange(1, len(self.corners) + 1)
         after[self.starts[1:] - 1] = self.starts[:-1]
         return after
 
-    def take(self, kept: np.ndarray) -> "Loops":
+    def take(self, kept: Array) -> "Loops":
         """The loops for which `kept` (a mask of loops) is true."""
         sizes = np.diff(self.starts)
         corners = self.corners[np.repeat(kept, sizes)]
@@ -149,8 +142,11 @@ def joined(several: List[Loops]) -> Loops:
 
 def loops_of(geometries: Any, scale: float, layer: int) -> Loops:
     """The loops of polygons and multipolygons, scaled to millimetres and turned so that the polygon is on the left."""
-    arrays, tags = [], []
+    arrays: List[Array] = []
+    tags: List[Tuple[int, int, bool]] = []
     for row, blob in enumerate(wkb_of(geometries)):
+        if blob is None:
+            continue
         for part, rings in enumerate(rings_of(blob)):
             for position, ring in enumerate(rings):
                 arrays.append(ring[:-1])
@@ -158,7 +154,7 @@ def loops_of(geometries: Any, scale: float, layer: int) -> Loops:
     return loops_from(arrays, tags, scale, layer)
 
 
-def loops_from(arrays: List[np.ndarray], tags: List[Tuple[int, int, bool]], scale: float, layer: int) -> Loops:
+def loops_from(arrays: List[Array], tags: List[Tuple[int, int, bool]], scale: float, layer: int) -> Loops:
     """Loops of arrays of corners (k, 2) with tags (row, part, hole)."""
     sizes = np.array([len(array) for array in arrays], dtype=np.int64)
     starts = np.concatenate([[0], np.cumsum(sizes)]).astype(np.int64)
@@ -168,7 +164,7 @@ def loops_from(arrays: List[np.ndarray], tags: List[Tuple[int, int, bool]], scal
     return _turned(loops)
 
 
-def signed_areas(corners: np.ndarray, loops: Loops) -> np.ndarray:
+def signed_areas(corners: Array, loops: Loops) -> Array:
     """Twice the signed area of each loop, as floats, of its corners (n, 2): good for the sign of what is not thin."""
     if not len(loops):
         return np.zeros(0)

@@ -5,7 +5,9 @@ import os
 import re
 import shutil
 import subprocess
+import sys
 from dataclasses import dataclass, field
+from functools import lru_cache
 from pathlib import Path
 from typing import TYPE_CHECKING, Dict, List, Optional, Sequence, Tuple, Union
 
@@ -14,7 +16,18 @@ from .errors import Refused
 if TYPE_CHECKING:  # elsewhere where it is used: `gandovel many` has to begin fast
     import numpy as np
 
+    from .arrays import Array
+
 PathLike = Union[str, "os.PathLike[str]"]
+
+
+def run_packed() -> None:
+    """The command `parcel_tool` of an installed wheel: the program that the wheel carries takes its place."""
+    packed = Path(__file__).with_name("bin") / "parcel_tool"
+    if not packed.is_file():
+        print("error: T1 this installation of gandovel carries no parcel_tool", file=sys.stderr)
+        raise SystemExit(1)
+    os.execv(packed, ["parcel_tool", *sys.argv[1:]])
 
 
 def find_tool() -> str:
@@ -28,19 +41,55 @@ def find_tool() -> str:
     raise Refused("T1", f"the program parcel_tool is not there: {where}")
 
 
+_VERSION = re.compile(r"parcel_tool (\d+)\.(\d+)\.(\d+)\b.*")
+WANTED = 1
+"""The first number of the versions that fit."""
+
+
+def program_version() -> str:
+    """The line that the program says of itself. Refused T1 without any, T2 where it is another program or version."""
+    path = find_tool()
+    return _version_of(path, os.stat(path).st_mtime_ns)
+
+
+@lru_cache(maxsize=None)
+def _version_of(path: str, changed: int) -> str:
+    """The version line of the program at a path, which was changed then: it is asked once."""
+    try:
+        ended = subprocess.run(
+            [path, "--version"], stdin=subprocess.DEVNULL, stdout=subprocess.PIPE, stderr=subprocess.PIPE, timeout=60
+        )
+    except (OSError, subprocess.TimeoutExpired) as fault:
+        raise Refused("T1", f"the program {path} can't be run: {' '.join(str(fault).split())}") from fault
+    line = ended.stdout.decode(errors="replace").strip()
+    found = _VERSION.fullmatch(line)
+    if ended.returncode != 0 or not found:
+        raise Refused("T2", f"{path} is no parcel_tool: --version says {line[:80]!r}, status {ended.returncode}")
+    if int(found[1]) != WANTED:
+        raise Refused("T2", f"{path} is {line}, and version {WANTED} is wanted: set GANDOVEL_TOOL")
+    return line
+
+
 def run_tool(arguments: Sequence[str], text: Optional[str] = None) -> Tuple[str, Optional[Refused]]:
     """Runs the program; what it printed, and its refusal (status 1) or None. Any other end is Refused T2."""
+    program_version()
     command = [find_tool(), *arguments]
     try:
-        ended = subprocess.run(command, input=text, stdout=subprocess.PIPE, stderr=subprocess.PIPE, text=True,
-                               **({} if text is not None else {"stdin": subprocess.DEVNULL}))
+        ended = subprocess.run(
+            command,
+            input=text,
+            stdin=None if text is not None else subprocess.DEVNULL,
+            stdout=subprocess.PIPE,
+            stderr=subprocess.PIPE,
+            text=True,
+        )
     except OSError as fault:
         raise Refused("T1", f"the program {command[0]} can't be run: {fault.strerror}") from fault
     if ended.returncode == 0:
         return ended.stdout, None
     errors = [line for line in ended.stderr.splitlines() if line.startswith("error: ")]
     if ended.returncode == 1 and errors:
-        return ended.stdout, refusal(errors[-1][len("error: "):])
+        return ended.stdout, refusal(errors[-1][len("error: ") :])
     last = ended.stderr.strip().splitlines()[-1:] or [""]
     raise Refused("T2", f"parcel_tool {arguments[0]} ended with status {ended.returncode}: {last[0]}")
 
@@ -73,7 +122,7 @@ def refusal(line: str) -> Refused:
     return Refused(code, rest, role=role, record=record)
 
 
-def _edges(rows: Sequence[Sequence[int]] = ()) -> np.ndarray:
+def _edges(rows: Sequence[Sequence[int]] = ()) -> Array:
     import numpy as np
 
     return np.array(rows, dtype=np.int64).reshape(-1, 5)
@@ -88,7 +137,7 @@ class CheckAnswer:
 
     count: int = 0
     area2: int = 0
-    edges: np.ndarray = field(default_factory=_edges)
+    edges: Array = field(default_factory=_edges)
     rings: Dict[int, str] = field(default_factory=dict)
     refused: Optional[Refused] = None
 
@@ -100,48 +149,91 @@ class CheckAnswer:
 
 def check_all(city: PathLike, layer: PathLike, unit: str = "mm") -> CheckAnswer:
     """Runs `check CITY LAYER --all`. A layer that does not tile is an answer; any other refusal is raised."""
-    printed, refused = run_tool(["check", str(city), str(layer), "--unit", unit, "--all"])
+    return answer_of_check(*run_tool(["check", str(city), str(layer), "--unit", unit, "--all"]), _records(layer))
+
+
+def answer_of_check(printed: str, refused: Optional[Refused], records: int) -> CheckAnswer:
+    """What `check --all` printed of a layer of so many records; a refusal that is not of the layer itself is raised."""
     answer = CheckAnswer(refused=refused)
     if refused is not None and refused.code not in ("H1", "H2"):
         raise refused
     edges = []
-    for line in printed.splitlines():
-        words = line.split()
-        if words[0] == "tiling":
-            answer.count, answer.area2 = int(words[1]), int(words[2])
-        elif words[0] == "edge":
-            edges.append([*map(int, words[1:5]), int(words[6])])
-        elif words[0] == "ring":
-            answer.rings[int(words[1])] = " ".join(words[2:])
+    try:
+        for line in printed.splitlines():
+            words = line.split()
+            if words[0] == "tiling":
+                answer.count, answer.area2 = int(words[1]), int(words[2])
+            elif words[0] == "edge":
+                edges.append([*map(int, words[1:5]), int(words[6])])
+            elif words[0] == "ring":
+                answer.rings[int(words[1])] = " ".join(words[2:])
+    except (IndexError, ValueError) as fault:
+        raise _no_answer("check", printed) from fault
     if edges:
         answer.edges = _edges(edges)
+    told = answer.count == records if refused is None else bool(edges or answer.rings)
+    if not told:
+        raise _no_answer("check", printed)
     return answer
 
 
-def overlay_pairs(city: PathLike, parcels: PathLike, zones: PathLike, workers: int = 0) -> np.ndarray:
-    """The pairs (record, zone's record), int64 of shape (n, 2), of `overlay`. Refused where a layer does not tile."""
+def _no_answer(command: str, printed: str) -> Refused:
+    """The refusal of an answer that is none."""
+    last = (printed.strip().splitlines() or ["nothing"])[-1][:80]
+    return Refused("T2", f"parcel_tool {command} gave no verdict that fits the layer; its last line: {last}")
+
+
+def _records(main: PathLike) -> int:
+    """How many records a layer has, by its index."""
+    return (os.path.getsize(Path(main).with_suffix(".shx")) - 100) // 8
+
+
+def overlay_pairs(city: PathLike, parcels: PathLike, zones: PathLike, workers: int = 0) -> Array:
+    """The pairs (record, zone's record), int64 of shape (n, 2), of `overlay`. Refused where a layer does not tile.
+
+    T2 where a record is in no pair, or the program says anything else than an overlay.
+    """
     import numpy as np
 
     threads = ["--workers", str(workers)] if workers else []
     printed = ask(["overlay", str(city), str(parcels), str(zones), "--unit", "mm", *threads])
-    pairs = [line.split()[1:] for line in printed.splitlines() if line.startswith("pair ")]
-    return np.array(pairs, dtype=np.int64).reshape(-1, 2)
+    try:
+        lines = [line.split()[1:] for line in printed.splitlines() if line.startswith("pair ")]
+        pairs = np.array(lines, dtype=np.int64).reshape(-1, 2)
+    except ValueError as fault:
+        raise _no_answer("overlay", printed) from fault
+    for column, main in ((0, parcels), (1, zones)):
+        if not np.array_equal(np.unique(pairs[:, column]), np.arange(1, _records(main) + 1)):
+            raise _no_answer("overlay", printed)
+    return pairs
 
 
 def areas(main: PathLike, unit: str = "mm") -> Dict[int, int]:
     """Twice the exact area, in mm2, by record."""
-    return {int(a): int(b) for a, b in (line.split() for line in ask(["area", str(main), "--unit", unit]).splitlines())}
+    printed = ask(["area", str(main), "--unit", unit])
+    try:
+        found = {int(a): int(b) for a, b in (line.split() for line in printed.splitlines())}
+    except ValueError as fault:
+        raise _no_answer("area", printed) from fault
+    if len(found) != _records(main):
+        raise _no_answer("area", printed)
+    return found
 
 
 def locate_points(city: PathLike, parcels: PathLike, points: Sequence[Tuple[int, int]]) -> List[Tuple[str, List[int]]]:
     """For each point (x, y) in mm: (`inside` | `edge` | `outside`, records)."""
     text = "".join(f"{x} {y}\n" for x, y in points)
-    lines = ask(["locate", str(city), str(parcels), "--unit", "mm", "--points", "-"], text).splitlines()
-    return [(words[2], [int(word) for word in words[3:]]) for words in map(str.split, lines)]
+    printed = ask(["locate", str(city), str(parcels), "--unit", "mm", "--points", "-"], text)
+    lines = [line.split() for line in printed.splitlines()]
+    if [words[:2] for words in lines] != [[str(x), str(y)] for x, y in points]:
+        raise _no_answer("locate", printed)
+    return [(words[2], [int(word) for word in words[3:]]) for words in lines]
 
 
 def export(city: PathLike, parcels: PathLike, base: PathLike, clerks: Sequence[PathLike] = ()) -> List[str]:
     """Runs `export` with clerks' files; the lines of their edits, as the program prints them."""
     options = [word for path in clerks for word in ("--clerk", str(path))]
     printed = ask(["export", str(city), str(parcels), "--unit", "mm", "--out", str(base), *options])
+    if not any(line.startswith("exported ") for line in printed.splitlines()):
+        raise _no_answer("export", printed)
     return [line for line in printed.splitlines() if line.startswith("clerk ")]

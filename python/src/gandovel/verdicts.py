@@ -4,15 +4,19 @@ from __future__ import annotations
 import tempfile
 from dataclasses import dataclass, field
 from pathlib import Path
-from typing import Dict, Iterable, List, Sequence, Set, Tuple
+from typing import Any, Dict, Iterable, List, Sequence, Set, Tuple
 
 import numpy as np
 from shapely.geometry import Point, Polygon
 from shapely.prepared import prep
 from shapely.validation import explain_validity
 
+from .arrays import Array
 from .errors import Refused, place
 from .faults import Edge, Fault, faults_of
+from .large import is_large
+from .large.cutting import boxes_of
+from .large.verdict import check_island, pairs_of_island
 from .layer_files import write_rings
 from .prepared import OUT_ROW, Island, Prepared, Rows
 from .rounds import overlaid, rounds_of
@@ -37,15 +41,19 @@ class LayerFaults:
 def write_island(folder: Path, island: Island) -> None:
     """An island's layers as the program reads them, in a folder."""
     write_rings(folder / "city.shp", [island.city])
-    write_rings(folder / "parcels.shp", island.parcels.rings)
-    if island.zones is not None:
+    if not is_large(island.parcels.rings):
+        write_rings(folder / "parcels.shp", island.parcels.rings)
+    if island.zones is not None and not is_large(island.zones.rings):
         write_rings(folder / "zones.shp", island.zones.rings)
 
 
 def checked(prepared: Prepared, folder: Path, island: Island, role: str = "parcels") -> CheckAnswer:
     """`check --all` of an island's layer in a folder; a ring that is refused is raised by its number (H1)."""
     try:
-        answer = check_all(folder / "city.shp", folder / f"{role}.shp")
+        if is_large(getattr(island, role).rings):
+            answer = check_island(island, role)
+        else:
+            answer = check_all(folder / "city.shp", folder / f"{role}.shp")
     except Refused as refused:
         raise named(prepared, island, refused, role) from refused
     if answer.rings:
@@ -59,8 +67,12 @@ def named(prepared: Prepared, island: Island, refused: Refused, role: str) -> Re
     rows: Rows = getattr(island, role, None) or Rows()
     if refused.code == "H2":
         ax, ay, bx, by = (int(word) for word in refused.text.split()[:4])
-        return Refused("H2", f"it does not tile the city: {refused.text} {place(*prepared.in_units((ax, ay)))}", role,
-                       geometry=Point(prepared.in_units((ax, ay))))
+        return Refused(
+            "H2",
+            f"it does not tile the city: {refused.text} {place(*prepared.in_units((ax, ay)))}",
+            role,
+            geometry=Point(prepared.in_units((ax, ay))),
+        )
     if refused.record is None or not 0 < refused.record <= len(rows.rings) or refused.role not in ("parcels", "zones"):
         return Refused(refused.code, refused.text, refused.role)
     ring, source = rows.rings[refused.record - 1], rows.source[refused.record - 1]
@@ -74,7 +86,7 @@ def named(prepared: Prepared, island: Island, refused: Refused, role: str) -> Re
     return Refused(refused.code, text, role, refused.record, number, Point(x, y))
 
 
-def layer_faults(answer: CheckAnswer, city: np.ndarray, rows: Rows) -> LayerFaults:
+def layer_faults(answer: CheckAnswer, city: Array, rows: Rows) -> LayerFaults:
     """The faults that the program's edges bound, and the rows at them (GEOS says which cover what, on the grid)."""
     if answer.tiles:
         return LayerFaults()
@@ -96,9 +108,9 @@ def layer_faults(answer: CheckAnswer, city: np.ndarray, rows: Rows) -> LayerFaul
 class _Cover:
     """Which rings have a part of their inside in common with something, near the origin and so without rounding."""
 
-    def __init__(self, rings: Sequence[np.ndarray], origin: np.ndarray) -> None:
+    def __init__(self, rings: Sequence[Array], origin: Array) -> None:
         self.rings, self.origin = rings, origin
-        self.boxes = np.array([[*ring.min(axis=0), *ring.max(axis=0)] for ring in rings]).reshape(-1, 4)
+        self.boxes = boxes_of(rings)
         self.polygons: Dict[int, Polygon] = {}
 
     def polygon(self, row: int) -> Polygon:
@@ -117,23 +129,28 @@ class _Cover:
     def overlapping(self, rows: List[int]) -> List[Set[int]]:
         boxes, found = self.boxes[rows], []
         for at, row in enumerate(rows):
-            box, later = boxes[at], boxes[at + 1:]
+            box, later = boxes[at], boxes[at + 1 :]
             near = (later[:, :2] < box[2:]).all(axis=1) & (later[:, 2:] > box[:2]).all(axis=1)
-            found += [{row, rows[at + 1 + it]} for it in np.flatnonzero(near).tolist()
-                      if self.polygon(row).relate(self.polygon(rows[at + 1 + it]))[0] == "2"]
+            found += [
+                {row, rows[at + 1 + it]}
+                for it in np.flatnonzero(near).tolist()
+                if self.polygon(row).relate(self.polygon(rows[at + 1 + it]))[0] == "2"
+            ]
         return found
 
 
-def _box(corners: Sequence[Tuple]) -> Tuple[float, float, float, float]:
+def _box(corners: Sequence[Tuple[Any, Any]]) -> Tuple[float, float, float, float]:
     xs, ys = zip(*corners)
     return float(min(xs)), float(min(ys)), float(max(xs)), float(max(ys))
 
 
-def _owners(rings: Sequence[np.ndarray], edges: Set[Edge]) -> Dict[Edge, Set[int]]:
+def _owners(rings: Sequence[Array], edges: Set[Edge]) -> Dict[Edge, Set[int]]:
     """For each edge the rows that have it, in either direction, as a side or a part of one."""
     starts = np.concatenate(rings)
-    ends = np.concatenate([np.roll(ring, -1, axis=0) for ring in rings])
-    row = np.repeat(np.arange(len(rings)), [len(ring) for ring in rings])
+    sizes = np.array([len(ring) for ring in rings])
+    after, stops = np.arange(1, len(starts) + 1), np.cumsum(sizes)
+    after[stops - 1] = stops - sizes
+    ends, row = starts[after], np.repeat(np.arange(len(rings)), sizes)
     wanted = np.array(list(edges), dtype=np.int64).reshape(-1, 4)
     hashes = np.concatenate([_hash(wanted[:, :2]), _hash(wanted[:, 2:])])
     kept = np.flatnonzero(np.isin(_hash(starts), hashes) & np.isin(_hash(ends), hashes))
@@ -145,18 +162,22 @@ def _owners(rings: Sequence[np.ndarray], edges: Set[Edge]) -> Dict[Edge, Set[int
     return owners
 
 
-def _hash(corners: np.ndarray) -> np.ndarray:
-    return corners[:, 0] * np.int64(1_000_003) + corners[:, 1]
+def _hash(corners: Array) -> Array:
+    return np.asarray(corners[:, 0] * np.int64(1_000_003) + corners[:, 1])
 
 
-def island_pairs(folder: Path, island: Island, parcels: LayerFaults, zones: LayerFaults) -> np.ndarray:
+def island_pairs(folder: Path, island: Island, parcels: LayerFaults, zones: LayerFaults) -> Array:
     """The pairs of rows (parcel, zone), from 0, whose interiors have a common point: all of them by the program."""
+    if island.zones is not None and (is_large(island.parcels.rings) or is_large(island.zones.rings)):
+        return pairs_of_island(island, parcels, zones)
     if not parcels.faults and not zones.faults:
         return overlay_pairs(folder / "city.shp", folder / "parcels.shp", folder / "zones.shp") - 1
-    rounds = [rounds_of(len(rows.rings), faults.conflicts, faults.beyond)
-              for rows, faults in ((island.parcels, parcels), (island.zones, zones))]
+    rounds = [
+        rounds_of(len(rows.rings), faults.conflicts, faults.beyond)
+        for rows, faults in ((island.parcels, parcels), (island.rows_of_zones(), zones))
+    ]
     with tempfile.TemporaryDirectory() as aside:
-        return overlaid(Path(aside), island.city, island.parcels.rings, island.zones.rings, *rounds)
+        return overlaid(Path(aside), island.city, island.parcels.rings, island.rows_of_zones().rings, *rounds)
 
 
 def numbers_at(prepared: Prepared, rows: Rows, at: Iterable[int], role: str) -> List[str]:

@@ -66,7 +66,7 @@ class Wire:
                 return found
             if self._has_ended:
                 raise ProgramEnded("T2", "the program ended, or the desk, without an answer")
-            if self._is_deaf and self._unsent:      # what was said before is read, and nothing else is waited for
+            if self._is_deaf and self._unsent:  # what was said before is read, and nothing else is waited for
                 self._receive()
                 self._has_ended = True
             elif self._is_ready(until):
@@ -82,7 +82,7 @@ class Wire:
         """Writes what the pipe takes."""
         try:
             while self._unsent and not self._is_deaf:
-                del self._unsent[:os.write(self._outward, self._unsent[:PART])]
+                del self._unsent[: os.write(self._outward, self._unsent[:PART])]
         except BlockingIOError:
             pass
         except BrokenPipeError:
@@ -95,7 +95,7 @@ class Wire:
             self._looked = len(self._unread)
             return None
         found, self._looked = bytes(self._unread[:end]), 0
-        del self._unread[:end + 1]
+        del self._unread[: end + 1]
         return found
 
     def _is_ready(self, until: Optional[float]) -> bool:

@@ -3,9 +3,12 @@ from __future__ import annotations
 
 import argparse
 import sys
-from typing import Any
+from typing import TYPE_CHECKING, Any, Optional
 
 from ..errors import Refused
+
+if TYPE_CHECKING:
+    from .summary import Summary
 
 SHOWN = 8
 
@@ -39,6 +42,9 @@ def add_command(commands: Any) -> None:
         "--retries", metavar="N", type=int, default=2, help="how often a task without a result is tried again (2)"
     )
     one.add_argument("--resume", action="store_true", help="do not do again what has a result of the same files")
+    one.add_argument(
+        "--verify", action="store_true", help="do that again, too, and name results that said something else"
+    )
 
 
 def _positive(word: str) -> int:
@@ -48,8 +54,11 @@ def _positive(word: str) -> int:
     return number
 
 
-def run_command(options: argparse.Namespace) -> None:
-    """Runs the command. Refused T8 where it is stopped, and T9 where a city is left without a verdict."""
+def run_command(options: argparse.Namespace) -> int:
+    """Runs the command; its status: 1 where a city does not tile, 2 where one is open or has no verdict.
+
+    Refused T8 where it is stopped.
+    """
     from .run import run_many
 
     try:
@@ -64,6 +73,7 @@ def run_command(options: argparse.Namespace) -> None:
             memory_mb=options.memory,
             retries=max(0, options.retries),
             resume=options.resume,
+            verify=options.verify,
             shown=True,
         )
     except KeyboardInterrupt as stopped:
@@ -74,6 +84,21 @@ def run_command(options: argparse.Namespace) -> None:
     without = summary.without
     for verdict in without[:SHOWN]:
         print(f"{verdict.name}: {verdict.code} {verdict.text}".rstrip(), file=sys.stderr)
+    fault = _fault_of(summary)
+    if fault is not None:
+        print(f"error: {fault}", file=sys.stderr)
+    return summary.status
+
+
+def _fault_of(summary: "Summary") -> Optional[Refused]:
+    """The last line of a run that left something open or unwritten."""
+    without, count = summary.without, len(summary.verdicts)
+    if summary.unwritten is not None:
+        return summary.unwritten
     if without:
         more = f"; {len(without) - SHOWN} more are in summary.csv" if len(without) > SHOWN else ""
-        raise Refused("T9", f"{len(without)} of {len(summary.verdicts)} cities have no verdict{more}")
+        return Refused("T9", f"{len(without)} of {count} cities have no verdict{more}")
+    left = [whole for whole in summary.wholes if whole.kind == "open"]
+    if left:
+        return Refused("T11", f"{left[0].name} is {left[0].said}")
+    return None

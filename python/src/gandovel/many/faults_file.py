@@ -17,15 +17,28 @@ from shapely.geometry import Polygon, shape
 from ..faults import faults_of
 from ..gpkg import write_layers
 from ..styles import STYLES
+from .layers import Cover
 from .manifest import Row
 from .results import Result
 
 SQUARE_METRE = 1_000_000
 MM_PER_UNIT = {"mm": 1, "cm": 10, "m": 1000}
+FAULT_COLUMNS = (
+    "city",
+    "layer",
+    "area2_mm2",
+    "area_m2",
+    "area_how",
+    "depth",
+    "records",
+    "numbers",
+    "numbers_how",
+    "geometry",
+)
 COLUMNS = {
-    "gaps": ("city", "layer", "area2_mm2", "area_m2", "area_how", "depth", "geometry"),
-    "overlaps": ("city", "layer", "area2_mm2", "area_m2", "area_how", "depth", "geometry"),
-    "rings": ("city", "layer", "record", "fault", "geometry"),
+    "gaps": FAULT_COLUMNS,
+    "overlaps": FAULT_COLUMNS,
+    "rings": ("city", "layer", "record", "number", "fault", "geometry"),
 }
 
 
@@ -49,8 +62,9 @@ class Faults:
         if not edges and not rings:
             return
         projection, unit = _place(Path(path))
-        layers = self.rows[projection]
+        layers, cover = self.rows[projection], Cover(row, path, role)
         for fault in faults_of(np.array(edges, dtype=np.int64).reshape(-1, 5)):
+            records = cover.of(fault.outer, fault.holes, fault.depth < 0)
             outer, *holes = (np.asarray(loop, dtype=float) / unit for loop in (fault.outer, *fault.holes))
             layers["gaps" if fault.depth < 0 else "overlaps"].append(
                 {
@@ -60,6 +74,9 @@ class Faults:
                     "area_m2": float(fault.area2) / 2 / SQUARE_METRE,
                     "area_how": "exact" if isinstance(fault.area2, int) else "exact fraction",
                     "depth": fault.depth,
+                    "records": ",".join(map(str, records)),
+                    "numbers": cover.told(records),
+                    "numbers_how": "measured",
                     "geometry": Polygon(outer, holes),
                 }
             )
@@ -67,7 +84,14 @@ class Faults:
             ring = _ring(Path(path), record, MM_PER_UNIT[row.unit] / unit)
             if ring is not None:
                 layers["rings"].append(
-                    {"city": row.name, "layer": role, "record": record, "fault": why, "geometry": ring}
+                    {
+                        "city": row.name,
+                        "layer": role,
+                        "record": record,
+                        "number": cover.told([record]),
+                        "fault": why,
+                        "geometry": ring,
+                    }
                 )
 
     def save(self, path: Path) -> bool:

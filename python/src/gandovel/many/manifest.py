@@ -11,7 +11,7 @@ from typing import Dict, List, Optional, Sequence, Set, Tuple, Union
 
 from ..errors import Refused
 
-COLUMNS = ("name", "city", "parcels", "zones", "unit", "edits", "part_of", "district")
+COLUMNS = ("name", "city", "parcels", "zones", "unit", "edits", "number", "part_of", "district")
 NEEDED = ("name", "city", "parcels", "unit")
 UNITS = ("mm", "cm", "m")
 LONGEST_NAME = 200
@@ -22,7 +22,8 @@ LONGEST_NAME = 200
 class Row:
     """A city of the manifest. Paths are absolute; the unit is that of all its layers: `mm`, `cm` or `m`.
 
-    A row with zones is overlaid, one without is checked. `edits` are clerks' files. A row that is a district has in
+    A row with zones is overlaid, one without is checked. `edits` are clerks' files; `number` is the column of the
+    parcels' own numbers in their .dbf. A row that is a district has in
     `part_of` the name of the row whose parcels are the districts, and in `district` its record there, from 1. Its
     `city` is None until its ring is cut out of that layer.
     """
@@ -35,12 +36,14 @@ class Row:
     edits: Tuple[str, ...] = ()
     part_of: Optional[str] = None
     district: Optional[int] = None
+    number: Optional[str] = None
 
 
 def read_manifest(path: Union[str, Path]) -> List[Row]:
     """The rows of a manifest, in order. Paths in it are relative to its folder; files of edits have `;` between.
 
-    Refused P1 where the file can't be read, P2 for a column that is missing or not known, P3 for a name that is missing
+    Columns may be in capitals; those with other names are left alone. Refused P1 where the file can't be read, P2 for a
+    column that is missing or stands twice, P3 for a name that is missing
     or stands twice, P15 for a row that is not understood.
     """
     path = Path(path)
@@ -50,7 +53,7 @@ def read_manifest(path: Union[str, Path]) -> List[Row]:
             table = [(reader.line_num, [cell.strip() for cell in line]) for line in reader if any(map(str.strip, line))]
     except (OSError, UnicodeDecodeError, csv.Error) as fault:
         raise Refused("P1", f"the manifest {path} can't be read: {fault}") from fault
-    header = table[0][1] if table else []
+    header = [name.lower() for name in table[0][1]] if table else []
     _test_header(path, header)
     folder = Path(os.path.abspath(path)).parent
     rows = [_row(folder, line, dict(zip(header, _full(line, cells, header)))) for line, cells in table[1:]]
@@ -63,13 +66,9 @@ def read_manifest(path: Union[str, Path]) -> List[Row]:
 
 def _test_header(path: Path, header: List[str]) -> None:
     missing = [name for name in NEEDED if name not in header]
-    unknown = [name for name in header if name not in COLUMNS or header.count(name) > 1]
-    if missing or unknown:
-        fault = (
-            f"has no column {missing[0]}"
-            if missing
-            else f"has a column {unknown[0]!r} that is not known or stands twice"
-        )
+    twice = [name for name in header if name in COLUMNS and header.count(name) > 1]
+    if missing or twice:
+        fault = f"has no column {missing[0]}" if missing else f"has the column {twice[0]!r} twice"
         raise Refused("P2", f"the manifest {path} {fault}; the columns are {', '.join(COLUMNS)}")
 
 
@@ -94,10 +93,10 @@ def _row(folder: Path, line: int, cells: Dict[str, str]) -> Row:
     if part_of is not None and cells["city"]:
         raise Refused("P15", f"{where}: a district has no city of its own: its ring is that of the layer of districts")
     for needed in ("city", "parcels") if part_of is None else ("parcels",):
-        if not cells[needed].endswith(".shp"):
+        if not cells[needed].lower().endswith(".shp"):
             raise Refused("P15", f"{where}: {needed} is to be a .shp file, and is {cells[needed]!r}")
     zones = cells.get("zones", "")
-    if zones and not zones.endswith(".shp"):
+    if zones and not zones.lower().endswith(".shp"):
         raise Refused("P15", f"{where}: zones is to be a .shp file, and is {zones!r}")
     if cells["unit"] not in UNITS:
         raise Refused("P15", f"{where}: unit is to be mm, cm or m, and is {cells['unit']!r}")
@@ -115,6 +114,7 @@ def _row(folder: Path, line: int, cells: Dict[str, str]) -> Row:
         edits,
         part_of,
         int(district) if district else None,
+        cells.get("number") or None,
     )
 
 

@@ -16,8 +16,11 @@ from ..errors import Refused
 from .tasks import Program, Task
 from .worker import checked
 
-KINDS = ("cities", "faults", "rings")
+KINDS = ("cities", "faults")
 """The folders of results, by what was asked."""
+
+RINGS = "rings"
+"""The folder of the districts' rings."""
 
 MARK = "many.json"
 """The file by which a folder is known as one that `gandovel many` made."""
@@ -31,8 +34,8 @@ class Result:
     """What the program said of a city, and of which files. `output` and `errors` are its words as they were.
 
     `inputs` has the SHA-256 by path, None of an index that was not there. `seconds` are by the clock, of the program
-    alone; `memory_kb` is the most memory that it had at once, in kB of 1,024 bytes. `ring` is the SHA-256 of the
-    district's ring, where the result has one.
+    alone; `memory_kb` is the most memory that it had at once, in kB of 1,024 bytes. `records` is how many parcels the
+    layer had, by its index; None where there was no index, or edits were applied.
     """
 
     name: str
@@ -45,7 +48,7 @@ class Result:
     memory_kb: int
     output: str
     errors: str
-    ring: Optional[str] = None
+    records: Optional[int] = None
 
 
 class ResultsFolder:
@@ -64,7 +67,7 @@ class ResultsFolder:
         try:
             if self.path.exists() and (not self.path.is_dir() or (any(self.path.iterdir()) and not mark.is_file())):
                 raise Refused("P14", f"{self.path} is there and no folder that gandovel many made")
-            for kind in KINDS:
+            for kind in (*KINDS, RINGS):
                 (self.path / kind).mkdir(parents=True, exist_ok=True)
             if not mark.is_file():
                 mark.write_text("{}")
@@ -98,7 +101,10 @@ class ResultsFolder:
 
     def begin(self, facts: Dict[str, Any]) -> None:
         """Clears away what an earlier run left half done or derived, and writes what this run is."""
-        for left in [*(path for kind in KINDS for path in self.path.glob(f"{kind}/.*")), self.path / "engine"]:
+        for left in [
+            *(path for kind in (*KINDS, RINGS) for path in self.path.glob(f"{kind}/.*")),
+            self.path / "engine",
+        ]:
             shutil.rmtree(left, ignore_errors=True)
         try:
             for name in DERIVED:
@@ -115,7 +121,7 @@ class ResultsFolder:
             aside.write_text(text, encoding="utf-8")
             os.replace(aside, self.path / name)
         except OSError as fault:
-            raise Refused("P14", f"{self.path / name} can't be written: {fault}") from fault
+            raise Refused("P14", f"{self.path / name} can't be written: {short(fault)}") from fault
         finally:
             if aside.exists():
                 aside.unlink()
@@ -123,7 +129,7 @@ class ResultsFolder:
     def run_of(self, kind: str, name: str) -> Optional[str]:
         """The run that made a result of a kind; None where there is none."""
         try:
-            return json.loads((self.path / kind / name / "result.json").read_text(encoding="utf-8"))["run"]
+            return str(json.loads((self.path / kind / name / "result.json").read_text(encoding="utf-8"))["run"])
         except (OSError, ValueError, KeyError, TypeError):
             return None
 
@@ -141,12 +147,7 @@ class ResultsFolder:
         try:
             told = json.loads((folder / "result.json").read_text(encoding="utf-8"))
             output, errors = ((folder / f"{part}.txt").read_bytes() for part in ("output", "errors"))
-            made = told.get("made", {})
-            files = [
-                (output, told["output"]),
-                (errors, told["errors"]),
-                *(((folder / name).read_bytes(), it) for name, it in made.items()),
-            ]
+            files = ((output, told["output"]), (errors, told["errors"]))
             if any(sha256(content).hexdigest() != it["sha256"] for content, it in files):
                 return None
             inputs = {path: it and it["sha256"] for path, it in told["inputs"].items()}
@@ -161,14 +162,14 @@ class ResultsFolder:
                 told["memory_kb"],
                 output.decode("utf-8", "replace"),
                 errors.decode("utf-8", "replace"),
-                made[told["ring"]]["sha256"] if "ring" in told else None,
+                _records(told),
             )
         except (OSError, ValueError, KeyError, TypeError):
             return None
 
-    def ring_of(self, name: str, unit: str) -> Path:
-        """The file of a district's ring in a unit."""
-        return self.path / "rings" / name / f"ring_{unit}.shp"
+    def rings_of(self, name: str) -> Path:
+        """The folder of a district's ring."""
+        return self.path / RINGS / name
 
     def kept(self, kind: str, tasks: Sequence[Task], program: Program, jobs: int) -> List[bool]:
         """For each task whether there is a whole result of the same program, question and inputs (their checksums)."""
@@ -183,8 +184,6 @@ class ResultsFolder:
             path for path, _ in task.inputs
         ]:
             return False
-        if result.status == 0 and task.ring_unit and not self.ring_of(task.name, task.ring_unit).is_file():
-            return False
         try:
             now = {path: checked(path) for path in result.inputs}
         except OSError:
@@ -192,11 +191,25 @@ class ResultsFolder:
         return result.inputs == {path: it and it.sha256 for path, it in now.items()}
 
 
+def _records(told: Dict[str, Any]) -> Optional[int]:
+    """How many records the layer of parcels had, by the length of its index, if there was one and nothing edits it."""
+    index = told["inputs"].get(f"{told['command'][3][:-4]}.shx")
+    return None if index is None or "--clerk" in told["command"] else int((index["bytes"] - 100) // 8)
+
+
+LONGEST = 200
+
+
+def short(fault: object) -> str:
+    """What a fault says, on one line and no longer than a line should be."""
+    text = " ".join(str(fault).split()) or type(fault).__name__
+    return text if len(text) <= LONGEST else f"{text[:LONGEST]} .."
+
+
 def asked(arguments: Sequence[str]) -> List[str]:
-    """The arguments without the number of threads, which changes no answer, and the place of what is written."""
+    """The arguments without the number of threads, which changes no answer."""
     words = list(arguments)
-    for option in ("--workers", "--out"):
-        if option in words:
-            at = words.index(option)
-            del words[at : at + 2]
+    if "--workers" in words:
+        at = words.index("--workers")
+        del words[at : at + 2]
     return words

@@ -1,6 +1,7 @@
 """A run: the rings of districts, the cities, every fault where an overlay told the first one alone, and the summary."""
 from __future__ import annotations
 
+import errno
 import os
 import signal
 import sys
@@ -11,18 +12,19 @@ from contextlib import contextmanager
 from dataclasses import replace
 from importlib import import_module
 from pathlib import Path
-from typing import TYPE_CHECKING, Any, Callable, Dict, Iterator, List, Optional, Sequence, Tuple, Union
+from typing import TYPE_CHECKING, Any, Callable, Dict, Iterator, List, Optional, Sequence, Set, Tuple, Union
 
 from tqdm import tqdm
 
 from ..errors import Refused
 from .engines import ENGINES, Engine, Lost, Settings
 from .engines.base import processors
-from .engines.slurm import refuse_earlier_jobs
+from .engines.slurm import end_earlier_jobs
 from .manifest import Row, by_depth, read_manifest
-from .results import KINDS, Result, ResultsFolder
-from .summary import Summary, Verdict, not_judged, verdict_of, wholes_of
-from .tasks import Batch, Limits, Program, Task, faults_task_of, find_program, ring_task_of, task_of
+from .results import KINDS, Result, ResultsFolder, short
+from .rings import DistrictLayer, NoRing, Ring
+from .summary import Layers, Summary, Verdict, not_judged, verdict_of, wholes_of
+from .tasks import Batch, Limits, Program, Task, faults_task_of, find_program, task_of
 
 if TYPE_CHECKING:
     from .faults_file import Faults
@@ -30,6 +32,11 @@ if TYPE_CHECKING:
 SHOWN_AFTER = 2.0
 LOOKED_AT = 1000
 """For so many results it is looked at a time, while an engine runs."""
+
+Shared, Crossing = Dict[str, List[str]], Dict[str, List[Tuple[str, str, str]]]
+
+OF_THE_DISK = (errno.ENOSPC, errno.EDQUOT, errno.EROFS, errno.EACCES, errno.EPERM, errno.EIO, errno.ENOENT, errno.EFBIG)
+"""Errors that say that a folder can't be written; any other one of an engine is the engine's."""
 
 LINES_APART = 30.0
 """Seconds between two lines of progress where there is no terminal."""
@@ -47,6 +54,7 @@ def run_many(
     memory_mb: Optional[int] = None,
     retries: int = 2,
     resume: bool = False,
+    verify: bool = False,
     shown: bool = False,
 ) -> Summary:
     """Asks the program about each city of a manifest, one process a city; results and summary go to the folder `out`.
@@ -54,7 +62,8 @@ def run_many(
     `engine` is `parallel`, `slurm` or `dask`; `scheduler` the address of Dask's. At most `jobs` tasks run at once, each
     by `threads` threads, for `timeout` seconds and with `memory_mb` MiB at most. A task without a result is tried again
     up to `retries` times. With `resume`, what has a result of the same program, question and checksums is not done
-    again. `shown` shows progress on standard error.
+    again; with `verify` it is done again, and results that said something else before are named (`Summary.differing`).
+    `shown` shows progress on standard error.
 
     A city that gets no result has the verdict `none`, with a code that says why. Refused P1, P2, P3, P15 (the
     manifest), P14 and P16 (the folder), T1 (the program), T7 (the engine).
@@ -65,15 +74,35 @@ def run_many(
     limits = Limits(timeout, None if memory_mb is None else memory_mb * 1024)
     settings = Settings(jobs, threads, retries, limits, scheduler)
     with ResultsFolder(Path(out)) as results, _ended_by_signals():
-        refuse_earlier_jobs(results.path / "engine")
-        run = _Run(results, program, settings, shown, resume)
+        end_earlier_jobs(results.path / "engine")
+        run = _Run(results, program, settings, shown, resume or verify, verify)
         with _engine(engine, settings, results.lock) as it:
             run.begin(manifest, engine)
-            rows = run.with_rings(it, rows)
+            rows = run.with_rings(rows)
             run.do(it, "cities", [task_of(row, threads) for row in rows if row.city is not None])
             asked = [(row, run.layer_of_first_fault(row)) for row in rows]
             run.do(it, "faults", [faults_task_of(row, role) for row, role in asked if role is not None])
         return run.summary(rows, begun)
+
+
+def tasks_done(
+    tasks: List[Task], out: Path, engine: str, jobs: Optional[int] = None, scheduler: Optional[str] = None
+) -> Dict[str, Tuple[Optional[Result], Optional[Tuple[str, str]]]]:
+    """Runs tasks by an engine, with results in a folder: for each, by its name, its result, or why there is none.
+
+    Refused P14 and P16 (the folder), T1 (the program), T7 (the engine).
+    """
+    settings = Settings(jobs, 1, 2, Limits(), scheduler)
+    with ResultsFolder(out) as results, _ended_by_signals():
+        run = _Run(results, find_program(), settings, False, False)
+        with _engine(engine, settings, results.lock) as it:
+            run.begin(out, engine)
+            run.do(it, "cities", tasks)
+        lost = run.lost["cities"]
+        return {
+            task.name: (None, lost[task.name]) if task.name in lost else (results.result("cities", task.name), None)
+            for task in tasks
+        }
 
 
 @contextmanager
@@ -107,13 +136,27 @@ def _ended_by_signals() -> Iterator[None]:
 class _Run:
     """What a run has so far: results by kind (`KINDS`) and name, and why there is none."""
 
-    def __init__(self, results: ResultsFolder, program: Program, settings: Settings, shown: bool, resume: bool) -> None:
+    def __init__(
+        self,
+        results: ResultsFolder,
+        program: Program,
+        settings: Settings,
+        shown: bool,
+        resume: bool,
+        verify: bool = False,
+    ) -> None:
         self.results, self.program, self.settings = results, program, settings
-        self.shown, self.resume, self.name = shown, resume, uuid.uuid4().hex
+        self.shown, self.resume, self.verify, self.name = shown, resume, verify, uuid.uuid4().hex
         self.found: Dict[str, Dict[str, Tuple[Result, Verdict]]] = {kind: {} for kind in KINDS}
         """The results and their verdicts."""
         self.lost: Dict[str, Dict[str, Tuple[str, str]]] = {kind: {} for kind in KINDS}
-        self.kept = self.batches = 0
+        self.rings: Dict[str, Ring] = {}
+        self.layers: Dict[str, DistrictLayer] = {}
+        """The rings of districts by their names, and the layers of districts by the names of the rows that have them."""
+        self.kept: Set[str] = set()
+        self.before: Dict[str, Optional[Tuple[int, str, str]]] = {}
+        """What results said that are asked for again, so as to be verified: status, output and errors."""
+        self.batches = 0
 
     def begin(self, manifest: Union[str, Path], engine: str) -> None:
         """Clears the folder of what an earlier run left half done."""
@@ -127,44 +170,42 @@ class _Run:
             }
         )
 
-    def with_rings(self, engine: Engine, rows: Sequence[Row]) -> List[Row]:
-        """The rows, each district with its ring as its city, cut out of the layer of districts; outer cities first.
+    def with_rings(self, rows: Sequence[Row]) -> List[Row]:
+        """The rows, each district with its ring as its city: its record in the layer of districts; outer cities first.
 
         A district without a ring has no city; why stands with the cities that have no result.
         """
         placed: Dict[str, Row] = {}
         for level in by_depth(rows):
-            above = {row.name: placed[row.part_of] for row in level if row.part_of is not None}
-            self.do(
-                engine,
-                "rings",
-                [
-                    ring_task_of(row, above[row.name])
-                    for row in level
-                    if row.name in above and above[row.name].city is not None
-                ],
-            )
             for row in level:
-                placed[row.name] = row if row.name not in above else replace(row, city=self._city_of(row))
+                placed[row.name] = row
+                if row.part_of is not None:
+                    placed[row.name] = replace(row, city=self._city_of(row, placed[row.part_of]))
         return [placed[row.name] for row in rows]
 
-    def _city_of(self, row: Row) -> Optional[str]:
+    def _city_of(self, row: Row, above: Row) -> Optional[str]:
         """The file of a district's ring; None, and the reason noted, where there is none."""
-        why = self.lost["rings"].get(row.name, ("", f"{row.part_of} has no ring"))
-        if row.name in self.found["rings"]:
-            result, verdict = self.found["rings"][row.name]
-            if result.ring is not None:
-                return str(self.results.ring_of(row.name, row.unit))
-            role = {"parcels": "districts: ", "city": "city: "}.get(verdict.layer, "")
-            why = (f"{role}{verdict.code}", verdict.text)
-        self.lost["cities"][row.name] = ("T10", f"its ring is not there: {' '.join(why).strip()}")
-        return None
+        try:
+            if above.name not in self.layers:
+                self.layers[above.name] = DistrictLayer(above.parcels)
+            folder = self.results.rings_of(row.name)
+            self.rings[row.name] = self.layers[above.name].write(row.district or 0, above.unit, row.unit, folder)
+        except NoRing as why:
+            self.lost["cities"][row.name] = ("T10", f"its ring is not there: {why}")
+            return None
+        except OSError as fault:
+            raise Refused("P14", f"{folder} can't be written: {short(fault)}") from fault
+        return self.rings[row.name].path
 
     def do(self, engine: Engine, kind: str, tasks: List[Task]) -> None:
         """Runs what has no result yet, and reads the results of all."""
         old: List[bool] = [False] * len(tasks)
         if self.resume:
             old = self.results.kept(kind, tasks, self.program, self.settings.jobs or processors())
+        if self.verify:
+            kept = [task.name for task, is_kept in zip(tasks, old) if is_kept]
+            self.before.update({f"{kind}/{name}": said_by(self.results.result(kind, name)) for name in kept})
+            old = [False] * len(tasks)
         to_do = [task for task, kept in zip(tasks, old) if not kept]
         self.batches += bool(to_do)
         batch = Batch(
@@ -181,7 +222,9 @@ class _Run:
                 with _progress(len(to_do), kind, self.shown) as told:
                     lost = engine.run(batch, early.then(told))
             except OSError as fault:
-                raise Refused("P14", f"{batch.folder} can't be written: {fault}") from fault
+                if fault.errno in OF_THE_DISK:
+                    raise Refused("P14", f"{batch.folder} can't be written: {short(fault)}") from fault
+                raise Refused("T7", f"the engine failed: {type(fault).__name__}: {short(fault)}") from fault
             finally:
                 early.close()
         numbers = {task.name: number for number, task in enumerate(to_do)}
@@ -193,7 +236,7 @@ class _Run:
             else:
                 self.lost[kind][task.name] = _why(batch, number, lost)
         if kind == "cities":
-            self.kept = sum(task.name not in numbers for task in tasks)
+            self.kept = {task.name for task in tasks if task.name not in numbers}
 
     def layer_of_first_fault(self, row: Row) -> Optional[str]:
         """The layer, `parcels` or `zones`, whose faults an overlay found and told the first of."""
@@ -215,12 +258,46 @@ class _Run:
             row.name: found[row.name][1] if row.name in found else not_judged(row.name, lost[row.name]) for row in rows
         }
         astray = {row.name for row in rows if row.part_of is not None and not self._has_its_ring(row)}
-        summary = Summary(list(verdicts.values()), wholes_of(rows, verdicts, astray), self.kept)
-        self._tell_faults(summary, [row for row in rows if verdicts[row.name].verdict == "refused"])
-        summary.seconds = time.monotonic() - begun
-        self.results.write("summary.csv", summary.table())
-        self.results.write("summary.json", summary.facts())
+        records = {name: len(layer) for name, layer in self.layers.items()}
+        layers = Layers(records, astray, *self._numbers(rows, verdicts))
+        summary = Summary(list(verdicts.values()), wholes_of(rows, verdicts, layers), len(self.kept))
+        summary.kept_names, summary.differing = frozenset(self.kept), self._differing()
+        refused = [row for row in rows if verdicts[row.name].verdict == "refused"]
+        for write in (
+            lambda: self._tell_faults(summary, refused),
+            lambda: self.results.write("summary.csv", summary.table()),
+            lambda: self.results.write("summary.json", summary.facts()),
+        ):
+            summary.seconds = time.monotonic() - begun
+            try:
+                write()
+            except Refused as why:  # the verdicts are there all the same: they are told, and then that
+                summary.unwritten = summary.unwritten or why
         return summary
+
+    def _numbers(self, rows: Sequence[Row], verdicts: Dict[str, Verdict]) -> "Tuple[Shared, Crossing]":
+        """By a city of districts: numbers that two of its districts share, and parcels that cross them."""
+        below: Dict[str, List[Row]] = {}
+        for row in rows:
+            if row.part_of is not None:
+                below.setdefault(row.part_of, []).append(row)
+        refused = {row.name for row in rows if verdicts[row.name].code == "H2"}
+        if not below or not (refused or any(_may_have_numbers(row) for row in rows)):
+            return {}, {}
+        from .layers import crossings, shared_numbers
+
+        bottom = {name: [row for row in some if row.name not in below] for name, some in below.items()}
+        shared = {name: shared_numbers(some) for name, some in bottom.items()}
+        return shared, {name: crossings(some, refused) for name, some in bottom.items() if name not in refused}
+
+    def _differing(self) -> List[str]:
+        """The results that were asked for again and say something else than before."""
+        found = []
+        for place, before in self.before.items():
+            kind, _, name = place.partition("/")
+            if name in self.found[kind] and said_by(self.results.result(kind, name)) != before:
+                found.append(name)
+        return found
 
     def _tell_faults(self, summary: Summary, refused: Sequence[Row]) -> None:
         """Writes the faults of refused cities, where there is one, and counts them. GeoPandas is imported for them alone."""
@@ -245,12 +322,13 @@ class _Run:
         return True
 
     def _has_its_ring(self, row: Row) -> bool:
-        """Whether a district was judged in its ring, cut out of the very files that the layer's verdict is of."""
-        places = (("cities", row.name), ("rings", row.name), ("cities", str(row.part_of)))
-        if not all(name in self.found[kind] for kind, name in places):
+        """Whether a district was judged in its ring: the record of the very file that the layer's verdict is of."""
+        above, ring, found = str(row.part_of), self.rings.get(row.name), self.found["cities"]
+        if ring is None or row.name not in found or above not in found:
             return False
-        judged, ring, above = (self.found[kind][name][0] for kind, name in places)
-        return ring.ring is not None and judged.inputs.get(str(row.city)) == ring.ring and _same_files(ring, above)
+        layer = self.layers[above].sums
+        judged, of_layer = found[row.name][0].inputs, found[above][0].inputs
+        return judged.get(ring.path) == ring.sha256 and all(of_layer.get(path) == it for path, it in layer.items())
 
 
 class _Early:
@@ -296,6 +374,17 @@ class _Early:
         """Waits until nothing is imported any more: the next engine's processes are forked from this one."""
         if self.importing is not None:
             self.importing.join()
+
+
+def _may_have_numbers(row: Row) -> bool:
+    """Whether a district's parcels have numbers beside them."""
+    path = Path(row.parcels)
+    return row.part_of is not None and (path.with_name("rows.csv").is_file() or path.with_suffix(".dbf").is_file())
+
+
+def said_by(result: Optional[Result]) -> Optional[Tuple[int, str, str]]:
+    """What the program said in a result: status, output and errors; None of none."""
+    return None if result is None else (result.status, result.output, result.errors)
 
 
 def _short(result: Result) -> Tuple[Result, Verdict]:

@@ -6,9 +6,10 @@ import io
 import json
 import re
 from collections import Counter, defaultdict
-from dataclasses import dataclass, field
-from typing import AbstractSet, Any, Dict, List, Mapping, Optional, Sequence, Tuple
+from dataclasses import dataclass, field, replace
+from typing import AbstractSet, Any, Dict, FrozenSet, List, Mapping, Optional, Sequence, Tuple
 
+from ..errors import Refused
 from ..tool import refusal
 from .manifest import Row, by_depth
 from .results import Result
@@ -34,8 +35,8 @@ SHOWN = 8
 class Verdict:
     """What is known of a city. `verdict` is `tiles`, `refused`, or `none` where there is no result.
 
-    `code`, `layer` and `text` say why it is refused (docs/cli.md), or why there is no result (docs/many.md). `parcels`
-    is how many tile, `area2` twice the city's area in mm2 (of a check), `pairs` and `split` are an overlay's; each is
+    Of a city of districts it is what they make up (`Whole`), and may be `open`, too. `code`, `layer` and `text` say why
+    it is refused (docs/cli.md), or why there is no result (docs/many.md). `parcels` is how many tile, `area2` twice the city's area in mm2 (of a check), `pairs` and `split` are an overlay's; each is
     None where it is not told. `seconds` and `memory_kb` are the program's.
     """
 
@@ -71,11 +72,20 @@ def verdict_of(result: Result) -> Verdict:
         return Verdict(result.name, "refused", refused.code, refused.role, refused.text, **costs)
     if result.command[1] == "overlay" and _lines(output, "entries"):
         split, within = _lines(output, "split"), _lines(output, "within")
+        if result.records not in (None, split + within):
+            return _unfit(result, split + within)
         return Verdict(result.name, "tiles", parcels=split + within, pairs=_lines(output, "pair"), split=split, **costs)
     tiling = re.search(r"^tiling (\d+) (\d+)$", output, re.MULTILINE)
     if result.command[1] == "check" and tiling:
+        if result.records not in (None, int(tiling[1])):
+            return _unfit(result, int(tiling[1]))
         return Verdict(result.name, "tiles", parcels=int(tiling[1]), area2=int(tiling[2]), **costs)
     return not_judged(result.name, ("T2", "the program ended with status 0 and told no verdict"))
+
+
+def _unfit(result: Result, parcels: int) -> Verdict:
+    text = f"the program told a verdict of {parcels} parcels, and the layer has {result.records}"
+    return not_judged(result.name, ("T2", text))
 
 
 def _lines(text: str, word: str) -> int:
@@ -89,65 +99,120 @@ def not_judged(name: str, why: Tuple[str, str]) -> Verdict:
 
 
 @dataclass(frozen=True)
-class Whole:
-    """What follows for a city from its districts.
+class Layers:
+    """What is known of layers of districts: how many records each has, by its row's name, and districts that are astray.
 
-    `tiles`: all parcels of its districts together tile it. That is a law (docs/guarantees.md) where the districts tile
-    the city, and each district's parcels tile the ring that the layer of districts has for it. Where `tiles` is False,
-    the law says nothing, and `said` tells why. `parcels` is how many the districts have together, `area2` twice the
-    city's area in mm2; each is None where it is not told.
+    Those were judged in another ring than the record that the layer's verdict is of, as where a file changed in between.
+    """
+
+    records: Mapping[str, int] = field(default_factory=dict)
+    astray: AbstractSet[str] = frozenset()
+    shared: Mapping[str, Sequence[str]] = field(default_factory=dict)
+    """Parcels' numbers that stand in two districts, by the city's name."""
+    crossing: Mapping[str, Sequence[Tuple[str, str, str]]] = field(default_factory=dict)
+    """Parcels that reach from one district into another, by the city's name."""
+
+
+@dataclass(frozen=True)
+class Whole:
+    """What follows for a city from its layer of districts, whose verdict is `layer`, and from the districts.
+
+    `kind` is `tiles`: all parcels of its districts together tile it. That is a law (docs/guarantees.md) where the
+    districts tile the city, and each district's parcels tile its ring. It is `refused` where the layer of districts or
+    the parcels of a district do not, and `open` where a district was not judged. `said` tells why. `parcels` is how
+    many the districts have together, `area2` twice the city's area in mm2; each is None where it is not told.
     """
 
     name: str
     districts: int
-    tiles: bool
+    kind: str
     said: str
     parcels: Optional[int] = None
     area2: Optional[int] = None
+    layer: Optional[Verdict] = None
+
+    @property
+    def tiles(self) -> bool:
+        """Whether all parcels together tile the city."""
+        return self.kind == "tiles"
 
     @property
     def verdict(self) -> Verdict:
-        """The same as a verdict of the city's parcels, for the city that it is a district of."""
-        if self.tiles:
-            return Verdict(self.name, "tiles", parcels=self.parcels, area2=self.area2)
-        return not_judged(self.name, ("open", self.said))
+        """The same as a verdict of the city, with what its layer of districts took."""
+        code = {"tiles": "", "open": "open"}.get(self.kind, "H2")
+        costs: Dict[str, Any] = {}
+        if self.layer is not None:
+            costs = {"seconds": self.layer.seconds, "memory_kb": self.layer.memory_kb}
+        text = "" if self.tiles else self.said.partition(": ")[2]
+        return Verdict(self.name, self.kind, code, "", text, self.parcels, self.area2, **costs)
 
 
-def whole_of(layer: Verdict, districts: Mapping[int, Verdict], astray: AbstractSet[str] = frozenset()) -> Whole:
+def whole_of(
+    layer: Verdict,
+    districts: Mapping[int, Verdict],
+    astray: AbstractSet[str] = frozenset(),
+    records: Optional[int] = None,
+) -> Whole:
     """What follows for a city from the verdicts of its layer of districts, and of the districts by their record there.
 
-    `astray` are districts that were judged in another ring than that layer's own, as where a file changed in between.
+    `records` is how many districts that layer has, where it does not tile and so tells none.
     """
-    why, listed = None, sorted(districts.items())
-    bad = [it for _, it in listed if not it.tiles]
-    elsewhere = [it.name for _, it in listed if it.name in astray]
-    if not layer.tiles:
-        why = (
-            f"the layer of districts {'has no verdict' if layer.verdict == 'none' else 'does not tile'} ({layer.code})"
-        )
-    elif layer.parcels != len(districts):
-        why = f"the layer has {_count(layer.parcels or 0, 'district', 'districts')}, and the manifest {len(districts)}"
-    elif bad:
+    count = len(districts)
+    unknown = _unknown(layer, districts, astray, records)
+    if unknown:
+        return Whole(layer.name, count, "open", f"open: {unknown}", layer=layer)
+    listed = [it for _, it in sorted(districts.items())]
+    bad = [it for it in listed if not it.tiles]
+    why = [] if layer.tiles else [f"the layer of districts does not ({layer.code})"]
+    if bad:
         names = _listed([f"{it.name} ({it.code})" for it in bad])
-        why = f"{len(districts) - len(bad)} of {len(districts)} districts tile; not {names}"
-    elif elsewhere:
-        why = f"the layer of districts changed between its check and the ring of {_listed(elsewhere)}"
-    if why is not None:
-        return Whole(layer.name, len(districts), False, f"open: {why}")
-    counts = [it.parcels for _, it in listed if it.parcels is not None]
+        why.append(f"{count - len(bad)} of {count} districts tile; not {names}")
+    if why:
+        return Whole(layer.name, count, "refused", f"does not tile: {'; '.join(why)}", layer=layer)
+    counts = [it.parcels for it in listed if it.parcels is not None]
     parcels = sum(counts) if len(counts) == len(listed) else None
     told = "all parcels" if parcels is None else _count(parcels, "parcel", "parcels")
-    said = f"tiles: {told} of {_count(len(districts), 'district', 'districts')}"
-    return Whole(layer.name, len(districts), True, said, parcels, layer.area2)
+    said = f"tiles: {told} of {_count(count, 'district', 'districts')}"
+    return Whole(layer.name, count, "tiles", said, parcels, layer.area2, layer)
+
+
+def _with_numbers(whole: Whole, shared: Sequence[str], crossing: Sequence[Tuple[str, str, str]]) -> Whole:
+    """The same with parcels that cross districts, which a city that does not tile may have; open where numbers are shared."""
+    if whole.kind == "refused" and crossing:
+        told = _listed([f"parcel {number} crosses districts {one} and {other}" for number, one, other in crossing])
+        return replace(whole, said=f"{whole.said}; {told}")
+    if whole.kind == "tiles" and shared:
+        return replace(whole, kind="open", said=f"open: parcels have the same number: {_listed(shared)}")
+    return whole
+
+
+def _unknown(
+    layer: Verdict, districts: Mapping[int, Verdict], astray: AbstractSet[str], records: Optional[int]
+) -> Optional[str]:
+    """Why nothing follows for a city; None where something does."""
+    there = layer.parcels if layer.tiles else records
+    missing = [number for number in range(1, (there or 0) + 1) if number not in districts]
+    without = [it for _, it in sorted(districts.items()) if it.verdict in ("none", "open")]
+    elsewhere = [it.name for _, it in sorted(districts.items()) if it.name in astray]
+    if layer.verdict == "none":
+        return f"the layer of districts has no verdict ({layer.code})"
+    if missing:
+        numbers = _listed([str(number) for number in missing])
+        return f"the manifest has no row for {'district' if len(missing) == 1 else 'districts'} {numbers} of {there}"
+    if without:
+        return f"not judged: {_listed([f'{it.name} ({it.code})' for it in without])}"
+    if layer.tiles and len(districts) != there:
+        return f"the layer has {_count(there or 0, 'district', 'districts')}, and the manifest {len(districts)}"
+    if elsewhere:
+        return f"the layer of districts changed between its check and the ring of {_listed(elsewhere)}"
+    return None
 
 
 def _listed(names: Sequence[str]) -> str:
     return ", ".join(names[:SHOWN]) + (", .." if len(names) > SHOWN else "")
 
 
-def wholes_of(
-    rows: Sequence[Row], verdicts: Mapping[str, Verdict], astray: AbstractSet[str] = frozenset()
-) -> List[Whole]:
+def wholes_of(rows: Sequence[Row], verdicts: Mapping[str, Verdict], layers: Layers = Layers()) -> List[Whole]:
     """The cities that have districts, in the manifest's order. A district of districts counts as what these make up."""
     found: Dict[str, Whole] = {}
     for level in reversed(by_depth(rows)):
@@ -156,7 +221,9 @@ def wholes_of(
             if row.part_of is not None and row.district is not None:
                 whole = found.get(row.name)
                 districts[row.part_of][row.district] = verdicts[row.name] if whole is None else whole.verdict
-        found.update({name: whole_of(verdicts[name], numbered, astray) for name, numbered in districts.items()})
+        for name, numbered in districts.items():
+            whole = whole_of(verdicts[name], numbered, layers.astray, layers.records.get(name))
+            found[name] = _with_numbers(whole, layers.shared.get(name, ()), layers.crossing.get(name, ()))
     return [found[row.name] for row in rows if row.name in found]
 
 
@@ -164,9 +231,10 @@ def wholes_of(
 class Summary:
     """The end of a run: verdicts in the manifest's order, and what they make up.
 
-    `kept` are the cities that `resume` did not do again, `seconds` the run's by the clock; `gaps`, `overlaps` and
-    `rings` count what `faults.gpkg` has, and `untold` are the refused cities whose faults it lacks, since that task had
-    no result.
+    Of a city of districts `verdicts` has what these make up. `kept` are the cities that `resume` did not do again, and
+    `differing` those that say something else now, where they were verified; `seconds` are the run's by the clock;
+    `gaps`, `overlaps` and `rings` count what `faults.gpkg` has, and `untold` are the refused cities whose faults it
+    lacks, since that task had no result. `unwritten` is why a file of these could not be written.
     """
 
     verdicts: List[Verdict]
@@ -178,6 +246,19 @@ class Summary:
     rings: int = 0
     untold: List[str] = field(default_factory=list)
     faults_file: Optional[str] = None
+    kept_names: FrozenSet[str] = frozenset()
+    differing: List[str] = field(default_factory=list)
+    unwritten: Optional[Refused] = None
+
+    def __post_init__(self) -> None:
+        whole = {it.name: it.verdict for it in self.wholes}
+        self.verdicts = [whole.get(it.name, it) for it in self.verdicts]
+
+    @property
+    def status(self) -> int:
+        """The command's: 0 where all tile, 1 where one does not, 2 where one is open or has no verdict."""
+        kinds = {it.verdict for it in self.verdicts}
+        return 2 if kinds & {"none", "open"} else 1 if "refused" in kinds or self.differing or self.unwritten else 0
 
     @property
     def without(self) -> List[Verdict]:
@@ -187,12 +268,11 @@ class Summary:
     def lines(self) -> List[str]:
         """What is printed: how many cities tile, each city of districts, and where the faults are."""
         texts = [f"{_count(len(self.verdicts), 'city', 'cities')}: {sum(it.tiles for it in self.verdicts)} tile"]
-        for verdict, words in (("refused", "refused"), ("none", "without a verdict")):
+        for verdict, words in (("refused", "refused"), ("open", "open"), ("none", "without a verdict")):
             codes = Counter(it.code for it in self.verdicts if it.verdict == verdict)
             if codes:
-                texts.append(
-                    f"{sum(codes.values())} {words} ({', '.join(f'{code} {n}' for code, n in sorted(codes.items()))})"
-                )
+                listed = ", ".join(f"{code} {n}" for code, n in sorted(codes.items()))
+                texts.append(f"{sum(codes.values())} {words}" + ("" if verdict == "open" else f" ({listed})"))
         lines = [", ".join(texts) + (f"; {self.kept} kept" if self.kept else "")]
         lines += [f"{whole.name}: {whole.said}" for whole in self.wholes]
         if self.faults_file is not None:
@@ -201,11 +281,13 @@ class Summary:
             lines.append(f"{told}: {self.faults_file}")
         if self.untold:
             lines.append(f"no faults are told of {_listed(self.untold)}: their check has no result")
+        if self.differing:
+            lines.append(f"kept results said something else than the program does now: {_listed(self.differing)}")
         return lines
 
     def costs(self) -> str:
         """The program's seconds, the run's, and the most memory of a city, as text."""
-        spent = sum(it.seconds or 0.0 for it in self.verdicts)
+        spent = sum(it.seconds or 0.0 for it in self.verdicts if it.name not in self.kept_names)
         most = max((it.memory_kb or 0 for it in self.verdicts), default=0)
         memory = f"{most / 1024:.0f} MiB the most for a city"
         return f"{self.seconds:.1f} s by the clock, {spent:.1f} s of the program; {memory}"
@@ -241,8 +323,10 @@ class Summary:
                 "cities": len(self.verdicts),
                 "tiles": counts["tiles"],
                 "refused": counts["refused"],
+                "open": counts["open"],
                 "none": counts["none"],
                 "kept": self.kept,
+                "differing": self.differing,
                 "seconds": round(self.seconds, 3),
                 "gaps": self.gaps,
                 "overlaps": self.overlaps,
@@ -252,7 +336,9 @@ class Summary:
                     {
                         "name": it.name,
                         "districts": it.districts,
+                        "verdict": it.kind,
                         "tiles": it.tiles,
+                        "layer": it.layer and it.layer.verdict,
                         "said": it.said,
                         "parcels": it.parcels,
                         "area2_mm2": it.area2,

@@ -3,6 +3,7 @@ from __future__ import annotations
 
 import json
 import subprocess
+import tempfile
 from dataclasses import dataclass
 from pathlib import Path
 from typing import Any, Callable, Dict, Iterable, List, Optional, Sequence, Tuple
@@ -10,6 +11,7 @@ from typing import Any, Callable, Dict, Iterable, List, Optional, Sequence, Tupl
 from ..errors import Refused
 from ..tool import find_tool
 from .manifest import Row
+from .rings import files_of, polygon_of
 from .worker import checked
 
 WORKER = Path(__file__).with_name("start.py")
@@ -27,15 +29,11 @@ class Program:
 
 @dataclass(frozen=True)
 class Task:
-    """One process of the program: its arguments, and the files it reads, each with whether it has to be there.
-
-    Where `ring_unit` is `mm`, `cm` or `m`, the program writes a district's ring, which the result has in that unit.
-    """
+    """One process of the program: its arguments, and the files it reads, each with whether it has to be there."""
 
     name: str
     arguments: Tuple[str, ...]
     inputs: Tuple[Tuple[str, bool], ...]
-    ring_unit: Optional[str] = None
 
 
 @dataclass(frozen=True)
@@ -47,7 +45,7 @@ class Limits:
 
 
 def find_program() -> Program:
-    """The program that `gandovel` finds. Refused T1 where there is none, or where it tells no version."""
+    """The program that `gandovel` finds. Refused T1 where there is none, it tells no version, or a trial ends wrongly."""
     path = find_tool()
     try:
         ended = subprocess.run(
@@ -63,7 +61,24 @@ def find_program() -> Program:
     version = ended.stdout.strip()
     if ended.returncode != 0 or not version or here is None:
         raise Refused("T1", f"the program {path} tells no version: status {ended.returncode}")
+    _try(path)
     return Program(path, version, here.sha256)
+
+
+def _try(path: str) -> None:
+    """Asks a program about a square that tiles itself, and about one with a gap. Refused T1 where it says anything else."""
+    with tempfile.TemporaryDirectory(prefix="gandovel-trial-") as name:
+        city, part = Path(name) / "city.shp", Path(name) / "part.shp"
+        for place, width in ((city, 10), (part, 9)):
+            main, index = files_of(polygon_of([0, 0, 0, 10, width, 10, width, 0, 0, 0]))
+            place.write_bytes(main)
+            place.with_suffix(".shx").write_bytes(index)
+        for layer, expected in ((city, (0, "tiling 1 200\n")), (part, (1, ""))):
+            words = [path, "check", str(city), str(layer), "--unit", "mm"]
+            ended = subprocess.run(words, stdin=subprocess.DEVNULL, stdout=subprocess.PIPE, stderr=subprocess.PIPE)
+            if (ended.returncode, ended.stdout.decode(errors="replace")) != expected:
+                kind = "tiles" if expected[1] else "has a gap"
+                raise Refused("T1", f"{path} is not parcel_tool: it does not say of a layer that {kind} that it does")
 
 
 def task_of(row: Row, threads: int = 1) -> Task:
@@ -87,22 +102,12 @@ def faults_task_of(row: Row, role: str) -> Task:
     return Task(row.name, ("check", city, layer, "--unit", row.unit, "--all", *clerks), _inputs([city, layer], edits))
 
 
-def ring_task_of(row: Row, above: Row) -> Task:
-    """What cuts a district's ring out of the layer of districts, which is the parcels of the row above it."""
-    city = str(above.city)
-    return Task(
-        row.name,
-        ("part", city, above.parcels, str(row.district), "--unit", above.unit),
-        _inputs([city, above.parcels], ()),
-        row.unit,
-    )
-
-
 def _inputs(layers: Sequence[str], edits: Sequence[str]) -> Tuple[Tuple[str, bool], ...]:
     found = {}
     for path in layers:
         found[path] = True
-        found[path[: -len(".shp")] + ".shx"] = False
+        if path.endswith(".shp"):  # the program looks for no index beside a name in capitals
+            found[path[: -len(".shp")] + ".shx"] = False
     found.update(dict.fromkeys(edits, True))
     return tuple(found.items())
 
@@ -137,7 +142,6 @@ class Batch:
                 "command": [program.path, *task.arguments],
                 "inputs": dict(task.inputs),
                 "program": {"version": program.version, "sha256": program.sha256},
-                "ring_unit": task.ring_unit,
                 "timeout": limits.timeout,
                 "memory_kb": limits.memory_kb,
             }

@@ -18,7 +18,6 @@ import json
 import os
 import resource
 import signal
-import struct
 import sys
 import time
 from typing import Any, Dict, List, NamedTuple, NoReturn, Optional, Sequence, Tuple
@@ -31,6 +30,8 @@ SETTLED = 2.0
 """Seconds after which a change of a file gets another time than the last, whatever the disk's clock."""
 ON_LINUX_DIE_WITH_PARENT = 1
 """`PR_SET_PDEATHSIG` of prctl(2)."""
+INIT = 1
+"""The process that takes over those whose parent has ended."""
 
 STATUS = {"P1": 11, "P14": 12, "T1": 13, "T2": 14, "T3": 15, "T4": 16, "T5": 17, "T6": 18}
 """The status of a task's process by the code of why there is no result."""
@@ -43,10 +44,6 @@ FINAL = ("T3", "T5")
 
 PASSING_WORDS = ("no memory", "S1", "S2", "K3", "O7")
 """Refusals of the program that say nothing of the inputs."""
-
-MM_PER_UNIT = {"mm": 1, "cm": 10, "m": 1000}
-FILE_BOX, RECORD_BOX, CORNERS = (36, 4), (112, 4), 156
-"""Where a shapefile of one ring has its boxes, each of four doubles, and where its corners begin, in bytes."""
 
 
 class Failed(Exception):
@@ -238,8 +235,8 @@ def run_program(task: Dict[str, Any], command: List[str], into: str) -> Ended:
     if task["timeout"]:
         signal.signal(signal.SIGALRM, _end_program)
         signal.setitimer(signal.ITIMER_REAL, task["timeout"])
-    for file in files:
-        os.close(file)
+    for number in files:
+        os.close(number)
     with open(reader, "rb") as file:
         errors = file.read()
     _, status, used = os.wait4(process, 0)
@@ -331,50 +328,12 @@ def answered(ended: Ended) -> int:
     return 1
 
 
-def command_of(task: Dict[str, Any], folder: str) -> List[str]:
-    """The program's command line; where it writes a ring, to this folder."""
-    return [*task["command"], *(["--out", os.path.join(folder, "ring_mm")] if task["ring_unit"] else [])]
-
-
-def put_in_unit(task: Dict[str, Any], folder: str) -> List[str]:
-    """Makes of the program's ring one in the unit of the district's layers; the names of all files of both.
-
-    Failed T2 where the program does not read it as the ring that it wrote, corner by corner.
-    """
-    unit, made = task["ring_unit"], ["ring_mm.shp", "ring_mm.shx"]
-    if unit == "mm":
-        return made
-    ring, back = os.path.join(folder, f"ring_{unit}.shp"), os.path.join(folder, "back")
-    for name in made:
-        with open(os.path.join(folder, name), "rb") as file, open(f"{ring[:-1]}{name[-1]}", "wb") as out:
-            out.write(divided(file.read(), MM_PER_UNIT[unit], name.endswith(".shp")))
-    command = [task["command"][0], "export", ring, ring, "--unit", unit, "--out", back]
-    ended = run_program(task, command, f"{back}.txt")
-    test_end(task, ended)
-    if answered(ended) != 0 or told_of(f"{back}.shp") != told_of(os.path.join(folder, made[0])):
-        raise Failed("T2", f"the ring in {unit} is not read as the one in mm")
-    for ending in ("shp", "shx", "txt"):
-        os.unlink(f"{back}.{ending}")
-    return [*made, f"ring_{unit}.shp", f"ring_{unit}.shx"]
-
-
-def divided(data: bytes, factor: int, is_main: bool) -> bytes:
-    """A shapefile of one ring, or its index, with each coordinate divided and rounded to the nearest double."""
-    changed, places = bytearray(data), [FILE_BOX]
-    if is_main:
-        places += [RECORD_BOX, (CORNERS, (len(data) - CORNERS) // 8)]
-    for at, count in places:
-        numbers = struct.unpack_from(f"<{count}d", data, at)
-        struct.pack_into(f"<{count}d", changed, at, *(number / factor for number in numbers))
-    return bytes(changed)
-
-
 def done(task: Dict[str, Any], folder: str) -> None:
     """Runs a task in an empty folder and writes its result there. Failed where there is none."""
     before = read_inputs(task)
     test_program(task)
     begun = time.strftime("%Y-%m-%dT%H:%M:%SZ", time.gmtime())
-    ended = run_program(task, command_of(task, folder), os.path.join(folder, "output.txt"))
+    ended = run_program(task, task["command"], os.path.join(folder, "output.txt"))
     test_end(task, ended)
     test_unchanged(before)
     status = answered(ended)
@@ -382,7 +341,7 @@ def done(task: Dict[str, Any], folder: str) -> None:
         "name": task["name"],
         "run": task["run"],
         "program": task["program"],
-        "command": command_of(task, os.path.join(task["folder"], task["name"])),
+        "command": task["command"],
         "inputs": {path: it.checked and it.checked.told() for path, it in before.items()},
         "status": status,
         "seconds": round(ended.seconds, 6),
@@ -390,9 +349,6 @@ def done(task: Dict[str, Any], folder: str) -> None:
         "begun": begun,
         "host": os.uname().nodename,
     }
-    if task["ring_unit"] and status == 0:
-        result["ring"] = f"ring_{task['ring_unit']}.shp"
-        result["made"] = {name: told_of(os.path.join(folder, name)) for name in put_in_unit(task, folder)}
     with open(os.path.join(folder, "errors.txt"), "wb") as out:
         out.write(ended.errors)
     for name in ("output", "errors"):
@@ -461,7 +417,7 @@ def _is_done(task: Dict[str, Any]) -> bool:
     """Whether an earlier try of the same run put its result in place, and the engine did not hear of it."""
     try:
         with open(os.path.join(task["folder"], task["name"], "result.json"), encoding="utf-8") as file:
-            return json.load(file)["run"] == task["run"]
+            return bool(json.load(file)["run"] == task["run"])
     except (OSError, ValueError, KeyError, TypeError):
         return False
 
@@ -552,7 +508,8 @@ def _become_tasks(paths: Sequence[str], parent: int, ended: int) -> NoReturn:
 
 def _read(path: str) -> Dict[str, Any]:
     with open(path, encoding="utf-8") as file:
-        return json.load(file)
+        task: Dict[str, Any] = json.load(file)
+        return task
 
 
 def _tell(task: Dict[str, Any], failed: Failed) -> None:
@@ -567,7 +524,10 @@ def _tell(task: Dict[str, Any], failed: Failed) -> None:
 def main(words: List[str]) -> int:
     """Runs the task that a file describes, or those of a job's list; the status."""
     if "--with-parent" in words:
-        die_with_parent(os.getppid())
+        parent = os.getppid()
+        if parent == INIT and os.environ.get("PARALLEL_PID", str(INIT)) != str(INIT):  # GNU parallel ended meanwhile
+            return STATUS["T4"]
+        die_with_parent(parent)
     paths = [words[0]]
     if words[0].endswith(".txt"):
         folder = os.path.join(os.path.dirname(os.path.dirname(os.path.abspath(words[0]))), "tasks")

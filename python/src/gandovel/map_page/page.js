@@ -1,240 +1,314 @@
 "use strict";
 (() => {
   const data = JSON.parse(document.getElementById("data").textContent);
-  const canvas = document.getElementById("map"), pen = canvas.getContext("2d");
-  const tip = document.getElementById("tip"), found = document.getElementById("found");
-  const KINDS = ["gap", "overlap", "split"], NAMES = { gap: "Gap", overlap: "Overlap", split: "Split parcel" };
-  const LISTED = 2000, CELLS = 96;
+  const byId = (id) => document.getElementById(id);
+  const field = byId("map"), tip = byId("tip"), details = byId("details"), found = byId("found"), list = byId("list");
+  const SHOWN = 100, FEW = 12;
+  const FAULTS = { gaps: "gap", overlaps: "overlap", open_gaps: "open gap", slivers: "sliver" };
+  const LAYERS = [
+    { name: "parcels", draw: "areas", look: (it) => (it.properties.zones ? "split" : "parcel"), text: "parcel" },
+    { name: "zones", draw: "borders", look: "zone", text: "zone's border" },
+    { name: "touched", draw: "points", look: "touched", text: "corner made to touch" },
+    { name: "skipped", draw: "faults", look: "skipped", text: "skipped record" },
+    { name: "faults", draw: "faults", look: (it) => it.properties.kind },
+  ];
+  const LOOKS = {
+    parcel: { fill: "ok", line: "edge" }, split: { fill: "ok", line: "split", hatch: "hatch", width: 1.6 },
+    zone: { line: "zone", width: 2.5 }, touched: { line: "touched", width: 1.5 },
+    skipped: { fill: "skipped", line: "skipped", width: 2 }, gaps: { fill: "gap", line: "gap", width: 2 },
+    open_gaps: { fill: "open-gap", line: "open-gap", width: 2 },
+    overlaps: { fill: "overlap", line: "overlap", width: 2 },
+    slivers: { fill: "sliver", line: "sliver", width: 2 },
+  };
 
-  // ---- shapes: rings as flat lists of x, y in millimetres from the lower left corner
-  function ringOf(steps) {
-    const ring = new Float64Array(steps.length);
-    let x = 0, y = 0;
-    for (let i = 0; i < steps.length; i += 2) { ring[i] = x += steps[i]; ring[i + 1] = y += steps[i + 1]; }
-    return ring;
+  // ---- the report's features
+  function numbersOf(text) {
+    const letters = atob(text), bytes = new Uint8Array(letters.length);
+    for (let i = 0; i < bytes.length; i++) bytes[i] = letters.charCodeAt(i);
+    return new Int32Array(bytes.buffer);
   }
-  function shapeOf(item, kind) {
-    const rings = item.rings.map(ringOf), box = [Infinity, Infinity, -Infinity, -Infinity];
-    for (const ring of rings) for (let i = 0; i < ring.length; i += 2) {
-      box[0] = Math.min(box[0], ring[i]); box[2] = Math.max(box[2], ring[i]);
-      box[1] = Math.min(box[1], ring[i + 1]); box[3] = Math.max(box[3], ring[i + 1]);
-    }
-    return Object.assign(item, { rings, box, kind });
-  }
-  const parcels = data.parcels.map((it) => shapeOf(it, it.status));
-  const zones = data.zones.map((it) => shapeOf(it, "zone"));
-  const faults = [...data.gaps.map((it) => shapeOf(it, "gap")), ...data.overlaps.map((it) => shapeOf(it, "overlap"))];
-  const byNumber = new Map();
-  for (const parcel of parcels) if (!byNumber.has(parcel.number)) byNumber.set(parcel.number, parcel);
-  const all = [0, 0, 1, 1];
-  for (const shape of [...parcels, ...faults])
-    for (const side of [2, 3]) all[side] = Math.max(all[side], shape.box[side]);
-
-  // ---- an index of parcels by cells
-  const cells = Array.from({ length: CELLS * CELLS }, () => []);
-  const cellX = (x) => Math.max(0, Math.min(CELLS - 1, Math.floor(x / all[2] * CELLS)));
-  const cellY = (y) => Math.max(0, Math.min(CELLS - 1, Math.floor(y / all[3] * CELLS)));
-  parcels.forEach((parcel, k) => {
-    for (let i = cellX(parcel.box[0]); i <= cellX(parcel.box[2]); i++)
-      for (let j = cellY(parcel.box[1]); j <= cellY(parcel.box[3]); j++) cells[j * CELLS + i].push(k);
-  });
-  function holds(shape, x, y) {
-    let inside = false;
-    for (const ring of shape.rings) for (let i = 0, j = ring.length - 2; i < ring.length; j = i, i += 2)
-      if ((ring[i + 1] > y) !== (ring[j + 1] > y) &&
-          x < (ring[j] - ring[i]) * (y - ring[i + 1]) / (ring[j + 1] - ring[i + 1]) + ring[i]) inside = !inside;
-    return inside;
-  }
-  function shapeAt(x, y) {
-    for (const fault of faults) if (holds(fault, x, y)) return fault;
-    if (x < 0 || y < 0 || x > all[2] || y > all[3]) return null;
-    for (const k of cells[cellY(y) * CELLS + cellX(x)]) if (holds(parcels[k], x, y)) return parcels[k];
-    return null;
-  }
-  function measured(shape) {
-    let twice = 0;
-    for (const ring of shape.rings) for (let i = 0, j = ring.length - 2; i < ring.length; j = i, i += 2)
-      twice += (ring[j] - ring[0]) * (ring[i + 1] - ring[1]) - (ring[i] - ring[0]) * (ring[j + 1] - ring[1]);
-    return Math.abs(twice) / 2e6;
-  }
-
-  // ---- the view: pixels = (x - left) * scale, (top - y) * scale
-  let scale = 1, left = 0, top_ = 0, picked = null, planned = false;
-  const size = () => [canvas.clientWidth || 1, canvas.clientHeight || 1];
-  function show(box, part) {
-    const [wide, high] = size(), w = Math.max(box[2] - box[0], 1), h = Math.max(box[3] - box[1], 1);
-    scale = Math.min(wide / w, high / h) * part;
-    left = (box[0] + box[2]) / 2 - wide / 2 / scale;
-    top_ = (box[1] + box[3]) / 2 + high / 2 / scale;
-    plan();
-  }
-  function zoom(by, px, py) {
-    const x = left + px / scale, y = top_ - py / scale;
-    scale = Math.min(Math.max(scale * by, 1e-6), 50);
-    left = x - px / scale; top_ = y + py / scale;
-    plan();
-  }
-  function plan() { if (!planned) { planned = true; requestAnimationFrame(() => { planned = false; draw(); }); } }
-
-  const colour = (name) => getComputedStyle(document.documentElement).getPropertyValue("--" + name).trim();
-  function trace(shape) {
-    for (const ring of shape.rings) {
-      pen.moveTo((ring[0] - left) * scale, (top_ - ring[1]) * scale);
-      for (let i = 2; i < ring.length; i += 2) pen.lineTo((ring[i] - left) * scale, (top_ - ring[i + 1]) * scale);
-      pen.closePath();
-    }
-  }
-  function draw() {
-    const dots = window.devicePixelRatio || 1, [wide, high] = size();
-    if (canvas.width !== Math.round(wide * dots) || canvas.height !== Math.round(high * dots)) {
-      canvas.width = Math.round(wide * dots); canvas.height = Math.round(high * dots);
-    }
-    pen.setTransform(dots, 0, 0, dots, 0, 0);
-    pen.fillStyle = colour("page"); pen.fillRect(0, 0, wide, high);
-    const seen = [left, top_ - high / scale, left + wide / scale, top_];
-    const visible = (it) => it.box[0] <= seen[2] && it.box[2] >= seen[0] &&
-      it.box[1] <= seen[3] && it.box[3] >= seen[1];
-    for (const isSplit of [false, true]) {
-      pen.beginPath();
-      for (const it of parcels) {
-        if (Boolean(it.zones) !== isSplit || !visible(it)) continue;
-        if ((it.box[2] - it.box[0]) * scale < 1.5 && (it.box[3] - it.box[1]) * scale < 1.5)
-          pen.rect((it.box[0] - left) * scale, (top_ - it.box[3]) * scale, 1, 1);
-        else trace(it);
+  function featuresOf(name) {
+    const layer = data.layers[name];
+    if (!layer) return [];
+    const rings = numbersOf(layer.rings), corners = numbersOf(layer.corners), places = numbersOf(layer.places);
+    const names = Object.keys(layer.columns);
+    let ring = 0, at = 0;
+    return Array.from(rings, (count, row) => {
+      const own = [];
+      for (const end = ring + count; ring < end; ring++) {
+        const xy = new Float64Array(2 * corners[ring]);
+        for (let i = 0; i < xy.length; i++) xy[i] = data.low[i % 2] + places[at++] / 1000;
+        own.push(xy);
       }
-      pen.fillStyle = colour(isSplit ? "split" : "ok"); pen.fill("evenodd");
-      pen.strokeStyle = colour("edge"); pen.lineWidth = 0.7; pen.stroke();
-    }
-    pen.beginPath(); zones.filter(visible).forEach(trace);
-    pen.strokeStyle = colour("zone"); pen.lineWidth = 2.5; pen.stroke();
-    for (const kind of ["gap", "overlap"]) {
-      pen.beginPath(); faults.filter((it) => it.kind === kind && visible(it)).forEach(trace);
-      pen.fillStyle = pen.strokeStyle = colour(kind); pen.fill("evenodd");
-      pen.lineWidth = kind === "gap" ? 3 : 1.5; pen.stroke();
-    }
-    if (picked && visible(picked)) {
-      pen.beginPath(); trace(picked); pen.strokeStyle = colour("mark"); pen.lineWidth = 3; pen.stroke();
-    }
-    document.body.dataset.drawn = String(Number(document.body.dataset.drawn || 0) + 1);
+      const properties = { kind: name };
+      for (const column of names) properties[column] = layer.columns[column][row];
+      return ParcelMap.feature(`${name} ${row}`, own, properties);
+    });
+  }
+  const parcels = featuresOf("parcels"), split = parcels.filter((it) => it.properties.zones);
+  const skipped = featuresOf("skipped");
+  const faults = Object.keys(FAULTS).flatMap(featuresOf).sort((a, b) => a.properties.order - b.properties.order);
+  const byNumber = new Map();
+  for (const it of parcels) if (!byNumber.has(it.properties.number)) byNumber.set(it.properties.number, it);
+  const faultsOf = new Map();
+  for (const fault of faults) if (fault.properties.layer !== "zones") for (const number of fault.properties.numbers) {
+    if (!faultsOf.has(number)) faultsOf.set(number, []);
+    faultsOf.get(number).push(fault);
   }
 
   // ---- texts
-  const plain = (number) => number.toLocaleString("en", { maximumFractionDigits: 2 });
-  function lines(shape) {
-    if (shape.area2_mm2 !== undefined) {
-      const texts = [`${NAMES[shape.kind]} between ${shape.numbers || "no parcel"}`,
-                     `twice its area: ${shape.area2_mm2} mm² (exact)`];
-      if (shape.kind === "overlap") texts.push("between which parcels: measured");
-      return texts;
+  const plain = (value) => value.toLocaleString("en", { maximumFractionDigits: 2 });
+  function areaText(metres) {
+    const own = data.unit.metres === 1 ? "" : ` = ${plain(metres / data.unit.metres ** 2)} ${data.unit.name}²`;
+    return metres >= 0.01 || metres === 0 ? `${plain(metres)} m²${own}` : `${plain(metres * 1e6)} mm²${own}`;
+  }
+  const few = (texts, most) =>
+    texts.slice(0, most).join(", ") + (texts.length > most ? ` and ${texts.length - most} more` : "");
+  function titleOf({ layer, properties: it }) {
+    if (layer === "faults") {
+      const kind = (it.layer === "zones" ? "zone " : "") + FAULTS[it.kind];
+      return kind[0].toUpperCase() + kind.slice(1) + (it.area2_mm2 ? `, ${areaText(it.square_metres)}` : "");
     }
-    const texts = [`Parcel ${shape.number}`, `${plain(measured(shape))} m² (measured)`];
-    if (shape.zones) texts.push(`zones ${shape.zones}`);
-    if (shape.status === "gap") texts.push("beside a gap");
-    if (shape.status === "overlap") texts.push("at an overlap (measured)");
+    return `${{ skipped: "Skipped parcel", zones: "Zone", touched: "Corner made to touch" }[layer] || "Parcel"} ` +
+      (it.number || "").trim();
+  }
+  function linesOf(feature, most = FEW) {
+    const it = feature.properties;
+    if (feature.layer === "faults") {
+      const who = it.layer === "zones" ? "zone" : "parcel", how = it.numbers_how === "measured" ? " (measured)" : "";
+      const between = it.numbers.length ? `at ${who}${it.numbers.length > 1 ? "s" : ""} ${few(it.numbers, most)}${how}`
+        : `at no ${who}`;
+      return it.area2_mm2 ? [between, `twice its area: ${it.area2_mm2} mm² (exact)`] : [between];
+    }
+    if (feature.layer === "skipped") return [it.reason || "not checked"];
+    if (feature.layer === "touched") return it.distance_mm ? [`by ${it.distance_mm} mm (measured)`] : [];
+    if (feature.layer === "zones") return [`${areaText(it.square_metres)} (measured)`];
+    const texts = [`${areaText(it.square_metres)} (measured)`];
+    if (it.parts) texts.push("split: " + it.parts.map(([zone, area]) => `zone ${zone} ${areaText(area)}`).join(", ") +
+                             " (measured)");
+    else if (it.zones) texts.push(`split between zones ${it.zones}`);
+    const own = faultsOf.get(it.number) || [];
+    if (own.length) texts.push(`at ${few(own.map((fault) => titleOf(fault).toLowerCase()), 3)}`);
+    else if (it.status === "gap") texts.push("beside a gap");
+    else if (it.status === "overlap") texts.push("at an overlap (measured)");
     return texts;
   }
-  function pick(shape, button) {
-    picked = shape;
-    document.querySelectorAll("#list [aria-current]").forEach((it) => it.removeAttribute("aria-current"));
-    if (button) button.setAttribute("aria-current", "true");
-    show(shape.box, 0.5);
+  function zoneOf(parcel) {
+    if (parcel.properties.zones || !data.layers.zones) return null;
+    const zones = drawing.featuresAt("zones", ...ParcelMap.placeOf(parcel)).map((it) => it.properties.number);
+    return zones.length ? `zone ${zones.join(", ")} (measured)` : "in no zone (measured)";
   }
 
-  const findings = [...faults, ...parcels.filter((it) => it.zones)];
-  const list = document.getElementById("list");
-  findings.slice(0, LISTED).forEach((shape) => {
-    const item = document.createElement("li"), button = document.createElement("button");
-    const title = document.createElement("b"), small = document.createElement("small"), texts = lines(shape);
-    button.type = "button";
-    title.textContent = texts[0]; small.textContent = texts.slice(1).join("; ");
-    button.append(title, small); item.append(button); list.append(item);
-    button.addEventListener("click", () => pick(shape, button));
+  // ---- the map
+  const drawing = new ParcelMap(field, {
+    layers: LAYERS, looks: LOOKS, onPick: tellOf, onHover: hover, onDrawn: drawn,
   });
-  const count = (kind) => (kind === "split" ? parcels.filter((it) => it.zones)
-    : faults.filter((it) => it.kind === kind)).length;
-  document.getElementById("summary").textContent =
-    `${parcels.length} parcels; ` + KINDS.map((kind) => `${NAMES[kind].toLowerCase()}s: ${count(kind)}`).join(", ");
-  document.getElementById("more").textContent =
-    findings.length > LISTED ? `and ${findings.length - LISTED} more: search by number` :
-    findings.length ? "" : "Nothing to show: no gap, no overlap, no split parcel.";
-  const legend = document.getElementById("legend");
-  for (const [name, text] of [["ok", "parcel"], ["split", "split between zones"], ["gap", "gap"],
-                              ["overlap", "overlap"], ["zone", "zone's border"]]) {
-    const item = document.createElement("li"), swatch = document.createElement("i");
-    swatch.style.background = name === "zone" ? "transparent" : `var(--${name})`;
-    if (name === "zone") swatch.style.border = "2.5px solid var(--zone)";
+  function drawn() {
+    drawScale();
+    document.body.dataset.drawn = String(Number(document.body.dataset.drawn || 0) + 1);
+  }
+  drawing.setLayer("parcels", parcels);
+  drawing.setLayer("zones", featuresOf("zones"));
+  drawing.setLayer("touched", featuresOf("touched"));
+  drawing.setLayer("skipped", skipped);
+  drawing.setLayer("faults", faults);
+
+  function element(name, text, attributes = {}) {
+    const made = document.createElement(name);
+    if (text) made.textContent = text;
+    for (const [key, value] of Object.entries(attributes)) made.setAttribute(key, value);
+    return made;
+  }
+
+  function roundScale(metres, most) {
+    const whole = 10 ** Math.floor(Math.log10(most / metres));
+    return [5, 2, 1].map((it) => it * whole).find((it) => it * metres <= most) || whole;
+  }
+  function drawScale() {
+    const scale = drawing.scale(), most = 130 / scale, bars = [];
+    const metres = roundScale(1, most);
+    const name = metres >= 1000 ? `${plain(metres / 1000)} km` : metres >= 1 ? `${metres} m`
+      : metres >= 0.01 ? `${Math.round(metres * 100)} cm` : `${plain(metres * 1000)} mm`;
+    bars.push([name, metres * scale]);
+    if (data.unit.metres !== 1) {
+      const units = roundScale(data.unit.metres, most);
+      bars.push([`${units.toLocaleString("en", { maximumSignificantDigits: 2 })} ${data.unit.name}`,
+                 units * data.unit.metres * scale]);
+    }
+    byId("scale").replaceChildren(...bars.map(([text, wide]) => {
+      const bar = element("span", text);
+      bar.style.width = `${wide}px`;
+      return bar;
+    }));
+  }
+
+  // ---- the list
+  const GROUPS = [
+    ["faults", "Faults", faults], ["skipped", "Skipped parcels", skipped], ["split", "Split parcels", split],
+    ["parcels", "All parcels", parcels],
+  ].filter(([name, , features]) => features.length || name === "faults");
+  const which = byId("which");
+  for (const [name, text, features] of GROUPS)
+    which.append(element("option", `${text} (${plain(features.length)})`, { value: name }));
+  which.value = (GROUPS.find(([name, , features]) => features.length && name !== "parcels") || GROUPS[0])[0];
+  let first = 0;
+  const listed = () => GROUPS.find(([name]) => name === which.value)[2];
+  function drawList() {
+    const features = listed();
+    list.replaceChildren(...features.slice(first, first + SHOWN).map((feature) => {
+      const item = element("li"), button = element("button", "", { type: "button" });
+      button.append(element("b", titleOf(feature)), element("small", linesOf(feature).join("; ")));
+      button.addEventListener("click", () => pick(feature));
+      if (drawing.selected === feature) button.setAttribute("aria-current", "true");
+      item.append(button);
+      return item;
+    }));
+    byId("pages").hidden = features.length <= SHOWN;
+    byId("shown").textContent =
+      `${plain(first + 1)} to ${plain(Math.min(first + SHOWN, features.length))} of ${plain(features.length)}`;
+    byId("pages").querySelectorAll("button").forEach((it) => {
+      it.disabled = it.dataset.step < 0 ? first === 0 : first + SHOWN >= features.length;
+    });
+    byId("more").textContent = features.length ? "" : split.length ? "No gap and no overlap."
+      : "Nothing to show: no gap, no overlap, no split parcel.";
+  }
+  byId("pages").addEventListener("click", (event) => {
+    const step = Number(event.target.dataset.step || 0);
+    if (!step) return;
+    first = Math.max(0, first + step * SHOWN);
+    drawList();
+    byId("which").scrollIntoView({ block: "nearest" });
+  });
+  which.addEventListener("change", () => { first = 0; drawList(); });
+  function mark(feature) {
+    drawing.select(feature);
+    list.querySelectorAll("[aria-current]").forEach((it) => it.removeAttribute("aria-current"));
+    const at = feature ? listed().indexOf(feature) - first : -1;
+    if (at >= 0 && at < list.children.length) list.children[at].firstChild.setAttribute("aria-current", "true");
+  }
+  function pick(feature) {
+    tip.hidden = details.hidden = true;
+    mark(feature);
+    drawing.show(feature);
+  }
+  /** Shows a feature's own line of the list. */
+  function showInList(feature) {
+    const group = GROUPS.find(([, , features]) => features.includes(feature));
+    which.value = group[0];
+    first = Math.floor(group[2].indexOf(feature) / SHOWN) * SHOWN;
+    drawing.select(feature);
+    drawList();
+    const button = list.querySelector("[aria-current]");
+    button.scrollIntoView({ block: "nearest" });
+    button.focus();
+  }
+
+  // ---- what is here
+  function tellOf(features) { tell(features, true); }
+  function tell(features, marked) {
+    tip.hidden = true;
+    const shown = features.filter((it) => it.layer !== "zones");
+    if (marked) mark(shown.find((it) => it.layer !== "touched") || null);
+    const close = element("button", "×", { type: "button", "aria-label": "Close", class: "close" });
+    close.addEventListener("click", () => { details.hidden = true; mark(null); });
+    const zones = shown.length ? [] : features;
+    const blocks = [...shown, ...zones].slice(0, FEW).map((feature) => {
+      const block = element("div"), zone = feature.layer === "parcels" ? zoneOf(feature) : null;
+      block.append(element("b", titleOf(feature)));
+      for (const line of [...linesOf(feature), ...(zone ? [zone] : [])]) block.append(element("p", line));
+      if (GROUPS.some(([, , all]) => all.includes(feature))) {
+        const link = element("a", "Show in the list", { href: "#list" });
+        link.addEventListener("click", (event) => { event.preventDefault(); showInList(feature); });
+        block.append(link);
+      }
+      return block;
+    });
+    const more = shown.length > FEW ? [element("p", `and ${shown.length - FEW} more here: zoom in`)] : [];
+    details.replaceChildren(close, ...blocks, ...more);
+    details.hidden = !blocks.length;
+  }
+  let touched = false, pointed = null;
+  document.addEventListener("pointerdown", (event) => { touched = event.pointerType === "touch"; }, true);
+  function hover(features, { left, top }) {
+    const shown = features.filter((it) => it.layer !== "zones").slice(0, 3);
+    tip.hidden = touched || !shown.length || details.contains(document.activeElement);
+    if (tip.hidden) return;
+    if (pointed !== shown[0] || tip.childElementCount === 0)
+      tip.textContent = shown.map((it) => [titleOf(it), ...linesOf(it, 4)].join("\n")).join("\n\n");
+    const wide = field.clientWidth, high = field.clientHeight;
+    tip.style.left = Math.max(0, Math.min(left + 14, wide - tip.offsetWidth - 4)) + "px";
+    tip.style.top = Math.max(0, Math.min(top + 14, high - tip.offsetHeight - 4)) + "px";
+    pointed = shown[0];
+  }
+  field.addEventListener("pointerleave", () => { tip.hidden = true; });
+
+  // ---- summary and legend
+  const kinds = new Map([["gap", 0], ["overlap", 0]]);
+  for (const { properties: it } of faults) {
+    const kind = (it.layer === "zones" ? "zone " : "") + FAULTS[it.kind];
+    kinds.set(kind, (kinds.get(kind) || 0) + 1);
+  }
+  byId("summary").textContent = `${parcels.length} parcels; ` +
+    [...kinds, ["split parcel", split.length], ...(skipped.length ? [["skipped parcel", skipped.length]] : [])]
+      .map(([kind, count]) => `${kind}s: ${count}`).join(", ");
+  const legend = byId("legend");
+  function explain(name, text) {
+    const item = element("li"), swatch = element("i", "", { class: `swatch ${name}` });
     item.append(swatch, text); legend.append(item);
   }
+  explain("parcel", "parcel");
+  explain("split", "split between zones");
+  for (const [name, kind] of Object.entries(FAULTS))
+    if (data.layers[name] && (name === "gaps" || name === "overlaps" || data.layers[name].columns.layer.length))
+      explain(name, kind);
+  for (const { name, look, text } of LAYERS.slice(1, 4))
+    if (data.layers[name] && drawing.features(name).length) explain(look, text);
   for (const text of ["exact: gaps and overlaps, their areas, and what is split",
-                      "measured: areas of parcels, and which of them overlap"]) {
-    const item = document.createElement("li");
-    item.className = "how"; item.textContent = text; legend.append(item);
-  }
+                      "measured: areas of parcels, and which of them overlap"])
+    legend.append(element("li", text, { class: "how" }));
 
-  // ---- search, pointer, keyboard
-  document.getElementById("search").addEventListener("submit", (event) => {
+  // ---- search, buttons, keyboard
+  byId("search").addEventListener("submit", (event) => {
     event.preventDefault();
-    const wanted = document.getElementById("number").value.trim();
-    const shape = byNumber.get(wanted) || parcels.find((it) => wanted && it.number.startsWith(wanted));
-    found.textContent = shape ? `parcel ${shape.number}` : wanted ? "no such parcel" : "";
-    if (shape) pick(shape);
+    const wanted = byId("number").value.trim();
+    const others = byNumber.has(wanted) || !wanted ? []
+      : parcels.filter((it) => it.properties.number.startsWith(wanted));
+    const feature = byNumber.get(wanted) || others[0];
+    const besides = others.length > 1 ? `, the first of ${others.length}` : "";
+    found.textContent = feature ? `parcel ${feature.properties.number}${besides}` : wanted ? "no such parcel" : "";
+    if (!feature) return;
+    pick(feature);
+    tell([feature], false);
   });
-  const pointers = new Map();
-  canvas.addEventListener("pointerdown", (event) => {
-    canvas.setPointerCapture(event.pointerId);
-    pointers.set(event.pointerId, [event.offsetX, event.offsetY]);
-  });
-  for (const name of ["pointerup", "pointercancel"])
-    canvas.addEventListener(name, (event) => pointers.delete(event.pointerId));
-  canvas.addEventListener("pointermove", (event) => {
-    const old = pointers.get(event.pointerId), now = [event.offsetX, event.offsetY];
-    if (!old) return hover(now);
-    const other = [...pointers].find(([id]) => id !== event.pointerId);
-    if (other) {
-      const far = (a, b) => Math.hypot(a[0] - b[0], a[1] - b[1]) || 1;
-      zoom(far(now, other[1]) / far(old, other[1]), (now[0] + other[1][0]) / 2, (now[1] + other[1][1]) / 2);
-    } else { left -= (now[0] - old[0]) / scale; top_ += (now[1] - old[1]) / scale; plan(); }
-    pointers.set(event.pointerId, now);
-  });
-  canvas.addEventListener("pointerleave", () => { tip.hidden = true; });
-  canvas.addEventListener("wheel", (event) => {
-    event.preventDefault();
-    zoom(Math.exp(-event.deltaY / 400), event.offsetX, event.offsetY);
-  }, { passive: false });
-  function hover([px, py]) {
-    const shape = shapeAt(left + px / scale, top_ - py / scale);
-    tip.hidden = !shape;
-    if (!shape) return;
-    tip.textContent = lines(shape).join("\n");
-    const [wide, high] = size();
-    tip.style.left = Math.max(0, Math.min(px + 14, wide - tip.offsetWidth - 4)) + "px";
-    tip.style.top = Math.max(0, Math.min(py + 14, high - tip.offsetHeight - 4)) + "px";
-  }
   document.querySelectorAll("#tools button").forEach((button) => button.addEventListener("click", () => {
-    const by = Number(button.dataset.zoom), [wide, high] = size();
-    if (by) zoom(by, wide / 2, high / 2); else show(all, 0.95);
+    const by = Number(button.dataset.zoom);
+    if (by) drawing.zoom(by); else drawing.showAll();
   }));
+  const STEP = 80;
+  const MOVES = { ArrowLeft: [-STEP, 0], ArrowRight: [STEP, 0], ArrowUp: [0, -STEP], ArrowDown: [0, STEP] };
+  const KEYS = { "+": () => drawing.zoom(2), "=": () => drawing.zoom(2), "-": () => drawing.zoom(0.5),
+                 "0": () => drawing.showAll(), "/": () => byId("number").focus() };
   document.addEventListener("keydown", (event) => {
-    const typing = event.target instanceof HTMLInputElement, [wide, high] = size();
+    const typing = event.target instanceof HTMLInputElement || event.target instanceof HTMLSelectElement;
     if (event.key === "Escape") {
-      picked = null; tip.hidden = true;
-      document.getElementById("number").value = ""; found.textContent = "";
-      canvas.focus(); plan();
+      mark(null); tip.hidden = details.hidden = true;
+      byId("number").value = ""; found.textContent = "";
+      field.focus();
       return;
     }
     if (typing || event.ctrlKey || event.metaKey || event.altKey) return;
-    const step = 80 / scale;
-    const moves = { ArrowLeft: [-step, 0], ArrowRight: [step, 0], ArrowUp: [0, step], ArrowDown: [0, -step] };
-    if (event.key === "/") document.getElementById("number").focus();
-    else if (event.key === "+" || event.key === "=") zoom(2, wide / 2, high / 2);
-    else if (event.key === "-") zoom(0.5, wide / 2, high / 2);
-    else if (event.key === "0") show(all, 0.95);
-    else if (moves[event.key]) { left += moves[event.key][0]; top_ += moves[event.key][1]; plan(); }
+    if (KEYS[event.key]) KEYS[event.key]();
+    else if (MOVES[event.key]) drawing.pan(...MOVES[event.key]);
+    else if (event.key === "Enter" && event.target === field) drawing.pickMiddle();
     else return;
     event.preventDefault();
   });
-  new ResizeObserver(plan).observe(canvas);
-  matchMedia("(prefers-color-scheme: dark)").addEventListener("change", plan);
-  show(all, 0.95);
-  window.gandovelView = () => ({ scale, left, top: top_, picked: picked && (picked.number || picked.kind) });
+
+  drawList();
+  drawing.showAll();
+  window.gandovelView = () => {
+    const { scale, left, top, selected } = drawing.view();
+    return { scale, left, top, picked: selected && (selected.properties.number || selected.properties.kind) };
+  };
+  window.gandovelMap = drawing;
 })();

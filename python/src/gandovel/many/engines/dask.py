@@ -5,7 +5,7 @@ import logging
 import subprocess
 import sys
 import threading
-from contextlib import contextmanager
+from contextlib import contextmanager, suppress
 from pathlib import Path
 from typing import Any, Dict, Iterator, List, Optional, Sequence
 
@@ -68,7 +68,8 @@ class DaskEngine(Engine):
 
         def keep() -> None:
             while not over.wait(OFTEN):
-                self.cluster.scale(self.settings.jobs_here)
+                with suppress(OSError):
+                    self.cluster.scale(self.settings.jobs_here)
 
         keeper = threading.Thread(target=keep, daemon=True)
         if self.cluster is not None:
@@ -100,7 +101,7 @@ class DaskEngine(Engine):
         done = len(batch.tasks) - sum(map(len, jobs))
         lost: Dict[int, Lost] = {}
         try:
-            with self.client.as_current():
+            with self.client.as_current(), _scheduler_is_there(lost, batch):
                 for future in as_completed(list(futures)):
                     what = _what(future)
                     if what is not None:
@@ -108,7 +109,8 @@ class DaskEngine(Engine):
                     done += len(futures[future])
                     told(done)
         finally:
-            self.client.cancel(list(futures))
+            with suppress(Exception):  # a scheduler that is gone needs no word
+                self.client.cancel(list(futures))
         return lost
 
     def _at_once(self) -> int:
@@ -118,8 +120,21 @@ class DaskEngine(Engine):
     def close(self) -> None:
         for it in (self.client, self.cluster):
             if it is not None:
-                it.close()
+                with suppress(OSError, TimeoutError):
+                    it.close()
         self.client = self.cluster = None
+
+
+@contextmanager
+def _scheduler_is_there(lost: Dict[int, Lost], batch: Batch) -> Iterator[None]:
+    """Notes tasks as lost where the scheduler goes away under them, which Dask tells by an error of files among others."""
+    try:
+        yield
+    except Exception as fault:
+        if type(fault).__module__.partition(".")[0] not in ("distributed", "tornado", "asyncio", "concurrent"):
+            raise
+        why = Lost("T7", f"Dask: the scheduler went away ({type(fault).__name__})")
+        lost.update(dict.fromkeys(batch.left(), why))
 
 
 def _what(future: Any) -> Optional[Lost]:

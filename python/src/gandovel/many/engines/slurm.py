@@ -1,4 +1,4 @@
-"""Slurm, by array jobs: one task, one element of an array. `sacct`, else `squeue`, tells what became of each."""
+"""Slurm, by array jobs, whose elements have several small cities each. `sacct`, else `squeue`, tells what became of them."""
 from __future__ import annotations
 
 import json
@@ -14,12 +14,16 @@ from typing import Dict, Iterable, List, Optional, Sequence, Tuple
 from ...errors import Refused
 from ..tasks import WORKER, Batch
 from .base import SPARE, Engine, Lost, Told
+from .jobs import jobs_of, run_jobs
 
 OFTEN, SELDOM = 2.0, 10.0
 """Seconds between two looks at the queue: at first, and after a minute."""
 
 PATIENCE = 900.0
 """Seconds that the controller may be away before the run is given up."""
+
+CANCELLED_WITHIN = 60.0
+"""Seconds that the jobs of an earlier run may take to end where they are cancelled."""
 
 LARGEST_ARRAY = 1001
 """Slurm's own setting where it does not tell one."""
@@ -38,15 +42,20 @@ OVER = {
     "TIMEOUT",
 }
 
+AT_ONCE = 16
+"""How many elements are taken to run at once where Slurm does not say how many processors it has."""
+
 SCRIPT = """#!/bin/sh
-number=$(sed -n "$((SLURM_ARRAY_TASK_ID + 1))p" "$GANDOVEL_LIST")
-exec "$GANDOVEL_PYTHON" -I -S "$GANDOVEL_WORKER" "$GANDOVEL_TASKS/$number.json"
+tasks=$(sed -n "$((SLURM_ARRAY_TASK_ID + 1))p" "$GANDOVEL_LIST")
+exec "$GANDOVEL_PYTHON" -I -S "$GANDOVEL_WORKER" "$GANDOVEL_JOBS/$tasks"
 """
-"""What each element of an array runs: the line of a list that is its own has its task's number."""
+"""What each element of an array runs: the line of a list that is its own names the list of its tasks."""
 
 
 class SlurmEngine(Engine):
-    """Tasks as array jobs, as many as the cluster's `MaxArraySize` asks for. What left no result is submitted again.
+    """Tasks as elements of array jobs, of which there are as many as `MaxArraySize` asks for.
+
+    An element has a share of the tasks, as another engine's job. What left no result is submitted again.
 
     Partition, account and the like are taken from sbatch's own variables (SBATCH_PARTITION, SBATCH_ACCOUNT ..).
     """
@@ -65,23 +74,35 @@ class SlurmEngine(Engine):
         found = re.search(r"^MaxArraySize\s*=\s*(\d+)", ended.stdout, re.MULTILINE)
         return max(1, int(found[1])) if found else LARGEST_ARRAY
 
+    def _at_once(self) -> int:
+        """How many elements may run at once."""
+        told = _ask("sinfo", "--noheader", "--format=%C").stdout if shutil.which("sinfo") else ""
+        found = re.search(r"/(\d+)\s*$", told)
+        return self.settings.jobs or max(1, int(found[1]) if found else AT_ONCE)
+
     def run(self, batch: Batch, told: Told) -> Dict[int, Lost]:
-        states: Dict[int, str] = {}
         record = batch.folder / RECORD
         record.write_text(json.dumps({"name": _name(batch)}))
-        try:
+
+        def run(jobs: Sequence[Sequence[int]], lists: List[Path]) -> Dict[int, Lost]:
+            states: Dict[int, str] = {}
+            self.jobs, self.lists = jobs, lists
             for _ in range(self.settings.retries + 1):
-                left = batch.left()
+                left = [at for at, numbers in enumerate(jobs) if batch.left(numbers)]
                 if left:
                     states.update(self._arrays(batch, left, told))
+            return {number: _what(states.get(at)) for at, numbers in enumerate(jobs) for number in batch.left(numbers)}
+
+        try:
+            lost = run_jobs(batch, jobs_of(batch.tasks, self._at_once()), run)
         except BaseException:
             _ask("scancel", f"--name={_name(batch)}")
             raise
         record.unlink()
-        return {number: _what(states.get(number)) for number in batch.left()}
+        return lost
 
     def _arrays(self, batch: Batch, numbers: Sequence[int], told: Told) -> Dict[int, str]:
-        """Runs tasks as array jobs, all at once where the cluster takes them; the last state that was seen of each."""
+        """Runs jobs as elements of arrays, all at once where the cluster takes them; the last state seen of each."""
         chunks = [list(numbers[at : at + self.largest]) for at in range(0, len(numbers), self.largest)]
         jobs: Dict[str, List[int]] = {}
         states: Dict[int, str] = {}
@@ -105,8 +126,14 @@ class SlurmEngine(Engine):
                         {jobs[job][at]: state for at, state in _accounted(job).items() if at < len(jobs[job])}
                     )
                     del jobs[job]
-                waiting = sum(map(len, chunks)) + sum(state not in OVER for job in jobs for state in seen[job].values())
-                told(len(batch.tasks) - waiting)
+                waiting = [at for chunk in chunks for at in chunk]
+                waiting += [
+                    jobs[job][at]
+                    for job in jobs
+                    for at, state in seen[job].items()
+                    if state not in OVER and at < len(jobs[job])
+                ]
+                told(len(batch.tasks) - sum(len(self.jobs[at]) for at in waiting))
             elif now - answered > PATIENCE:
                 raise Refused("T7", f"Slurm's controller is away, with jobs {', '.join(jobs)} under way: {why}")
             if jobs or chunks:
@@ -120,7 +147,7 @@ class SlurmEngine(Engine):
         script = batch.folder / "task.sh"
         script.write_text(SCRIPT)
         numbered = batch.folder / f"list-{len(list(batch.folder.glob('list-*.txt')))}.txt"
-        numbered.write_text("".join(f"{number}\n" for number in numbers))
+        numbered.write_text("".join(f"{self.lists[number].name}\n" for number in numbers))
         at_once = f"%{settings.jobs}" if settings.jobs else ""
         words = [
             "sbatch",
@@ -136,14 +163,15 @@ class SlurmEngine(Engine):
             f"--cpus-per-task={settings.threads}",
         ]
         if settings.limits.timeout is not None:
-            words.append(f"--time={max(1, -int(-(settings.limits.timeout + SPARE) // 60))}")
+            most = max(len(self.jobs[number]) for number in numbers)
+            words.append(f"--time={max(1, -int(-most * (settings.limits.timeout + SPARE) // 60))}")
         if settings.memory_mb is not None:
             words.append(f"--mem={settings.memory_mb}M")
         told = {
             "GANDOVEL_LIST": str(numbered),
             "GANDOVEL_PYTHON": sys.executable,
             "GANDOVEL_WORKER": str(WORKER),
-            "GANDOVEL_TASKS": str(batch.folder / "tasks"),
+            "GANDOVEL_JOBS": str(self.lists[0].parent),
         }
         ended = _ask(*words, str(script), more=told)
         if ended.returncode != 0:
@@ -193,18 +221,22 @@ def _accounted(job: str) -> Dict[int, str]:
 def _what(state: Optional[str]) -> Lost:
     """What a state tells of a task that left no result and no note."""
     if state is None:
-        return Lost("T4", "Slurm tells nothing of the task")
+        return Lost("T4", "Slurm tells nothing of the task", True)
     if state == "TIMEOUT":
         return Lost("T3", "Slurm: the task took longer than its limit")
     if state == "OUT_OF_MEMORY":
         return Lost("no memory", "Slurm: the task took more than its limit")
     if state == "NODE_FAIL":
-        return Lost("T4", "Slurm: the node went away")
-    return Lost("T4", f"Slurm: the task ended with the state {state}, and left nothing, as one that is killed")
+        return Lost("T4", "Slurm: the node went away", True)
+    return Lost("T4", f"Slurm: the task ended with the state {state}, and left nothing, as one that is killed", True)
 
 
-def refuse_earlier_jobs(engine_folder: Path) -> None:
-    """Refused P16 where an array job of an earlier, killed run on the same folder may still be in Slurm's queue."""
+def end_earlier_jobs(engine_folder: Path) -> None:
+    """Cancels the array jobs that an earlier, killed run on the same folder has in Slurm's queue, and waits for it.
+
+    That run's command is over: whoever calls this holds the folder's lock. Refused P16 where Slurm does not answer, or
+    does not end them.
+    """
     for record in engine_folder.glob(f"*/{RECORD}"):
         try:
             name = json.loads(record.read_text())["name"]
@@ -215,7 +247,10 @@ def refuse_earlier_jobs(engine_folder: Path) -> None:
             raise Refused(
                 "P16", f"Slurm does not say whether the job {name} of an earlier run is over; if it is, remove {record}"
             )
-        if ended.stdout.strip():
-            raise Refused(
-                "P16", f"the job {name} of an earlier run is in Slurm's queue: wait for it, or scancel --name={name}"
-            )
+        until = time.monotonic() + CANCELLED_WITHIN
+        while ended.stdout.strip():
+            if time.monotonic() > until:
+                raise Refused("P16", f"the job {name} of an earlier run stays in Slurm's queue: scancel --name={name}")
+            _ask("scancel", f"--name={name}")
+            time.sleep(OFTEN / 2)
+            ended = _ask("squeue", "--noheader", f"--name={name}", "--format=%i")

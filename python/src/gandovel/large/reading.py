@@ -1,0 +1,66 @@
+"""Large GeoPackages, read by SQLite: Fiona takes some 200 us a row, and a million rows are to be had in seconds."""
+from __future__ import annotations
+
+import os
+import sqlite3
+from contextlib import closing
+from pathlib import Path
+from typing import List, Optional, Tuple, Union
+
+import fiona
+import geopandas as gpd
+import pandas as pd
+
+from ..shapes import shapes_of
+
+MANY = 50_000
+"""From so many rows on a GeoPackage is read so."""
+
+ENVELOPES = (8, 40, 56, 56, 72)
+"""The length of a blob's head, in bytes, by its kind of envelope."""
+
+PLAIN = ("INT", "INTEGER", "MEDIUMINT", "SMALLINT", "TINYINT", "REAL", "DOUBLE", "FLOAT", "TEXT")
+"""The types of columns whose values are taken as they are. A layer with others is read by Fiona."""
+
+
+def read_large(source: Union[str, "os.PathLike[str]"], name: str) -> Optional[gpd.GeoDataFrame]:
+    """A layer of a GeoPackage with very many rows; None of any other source. sqlite3.Error where it is torn."""
+    path = Path(source)
+    if path.suffix.lower() != ".gpkg" or not path.is_file():
+        return None
+    with closing(sqlite3.connect(f"{path.resolve().as_uri()}?mode=ro", uri=True)) as connection:
+        found = _columns(connection, name)
+        if found is None:
+            return None
+        geometry, columns = found
+        listed = ", ".join(f'"{column}"' for column in [geometry, *columns])
+        rows = connection.execute(f'SELECT {listed} FROM "{name}" ORDER BY rowid').fetchall()
+    with fiona.open(str(path), layer=name) as layer:
+        crs = layer.crs_wkt or None
+    cells = list(zip(*rows))
+    shapes = shapes_of(None if blob is None else _wkb(blob) for blob in cells[0])
+    table = {column: pd.Series(list(values)) for column, values in zip(columns, cells[1:])}
+    return gpd.GeoDataFrame(table, geometry=shapes, crs=crs)
+
+
+def _columns(connection: sqlite3.Connection, name: str) -> Optional[Tuple[str, List[str]]]:
+    """A layer's column of geometries and the others; None where it has few rows, or columns that are not plain."""
+    found = connection.execute("SELECT column_name FROM gpkg_geometry_columns WHERE table_name = ?", (name,)).fetchone()
+    if found is None:
+        return None
+    geometry = found[0]
+    if connection.execute(f'SELECT count(*) FROM "{name}"').fetchone()[0] < MANY:
+        return None
+    columns = []
+    for _, column, kind, _, _, is_key in connection.execute(f'PRAGMA table_info("{name}")').fetchall():
+        if is_key or column == geometry:
+            continue
+        if kind.upper().partition("(")[0].strip() not in PLAIN:
+            return None
+        columns.append(column)
+    return geometry, columns
+
+
+def _wkb(blob: bytes) -> bytes:
+    """The WKB in a GeoPackage's geometry."""
+    return blob[ENVELOPES[(blob[3] >> 1) & 7] :]

@@ -1,0 +1,78 @@
+"""Copies of a register that may be open: the layer, the journal's whole lines, the server's own file, and digests."""
+from __future__ import annotations
+
+import hashlib
+import os
+import shutil
+from pathlib import Path
+from typing import Dict, List
+
+from ..errors import Refused
+
+JOURNAL, LAYER, SUMS = "register.journal", "layer", "SHA256SUMS"
+
+
+def back_up(folder: Path, journal: Path, out: Path) -> str:
+    """Copies the layer of `folder` and the journal to `out`, whole or not at all; a line that tells what there is.
+
+    The journal may be written to meanwhile: it is copied up to its last whole line. Refused P1, P14.
+    """
+    for path in (folder / "prepared.json", journal):
+        if not path.is_file():
+            raise Refused("P1", f"{path} is not there")
+    if out.exists():
+        raise Refused("P14", f"{out} is there: give the backup a new name")
+    aside = out.with_name(f".{os.getpid()}.{out.name}")
+    try:
+        aside.mkdir(parents=True, mode=0o700)
+        shutil.copytree(folder, aside / LAYER)
+        edits = _copy_lines(journal, aside / JOURNAL)
+        own = journal.with_name(journal.name + ".who")
+        if own.is_file():
+            _copy_lines(own, aside / (JOURNAL + ".who"))
+        _write_sums(aside)
+        os.replace(aside, out)
+    except OSError as fault:
+        raise Refused("P14", f"{out} can't be written: {fault.strerror}") from fault
+    finally:
+        shutil.rmtree(aside, ignore_errors=True)
+    return f"{edits} edits"
+
+
+def check_backup(folder: Path) -> str:
+    """Tests that all files of a backup are there as they were written; a line that tells so. Refused P1."""
+    try:
+        lines = (folder / SUMS).read_text(encoding="utf-8").splitlines()
+    except (OSError, UnicodeDecodeError):
+        raise Refused("P1", f"{folder} is no backup: it has no {SUMS}") from None
+    wanted = dict(reversed(line.split("  ", 1)) for line in lines if "  " in line)
+    found = _sums(folder)
+    wrong = sorted(name for name in {*wanted, *found} if wanted.get(name) != found.get(name))
+    if wrong:
+        raise Refused("P1", f"{folder / wrong[0]} is not as it was written, or {len(wrong)} files: take another backup")
+    return f"{len(found)} files as they were written"
+
+
+def _copy_lines(path: Path, out: Path) -> int:
+    """Copies the whole lines of a file that grows, to the disk; how many of them are edits."""
+    content = path.read_bytes()
+    whole = content[: content.rfind(b"\n") + 1]
+    with open(os.open(out, os.O_WRONLY | os.O_CREAT | os.O_EXCL, 0o600), "wb") as file:
+        file.write(whole)
+        file.flush()
+        os.fsync(file.fileno())
+    return sum(1 for line in whole.splitlines() if line and not line.startswith(b"#"))
+
+
+def _sums(folder: Path) -> Dict[str, str]:
+    """The digest of each file, but for the list of digests itself."""
+    files = sorted(path for path in folder.rglob("*") if path.is_file() and path.name != SUMS)
+    return {str(path.relative_to(folder)): hashlib.sha256(path.read_bytes()).hexdigest() for path in files}
+
+
+def _write_sums(folder: Path) -> None:
+    lines: List[str] = [f"{digest}  {name}\n" for name, digest in _sums(folder).items()]
+    with open(folder / SUMS, "w", encoding="utf-8") as file:
+        file.writelines(lines)
+        file.flush()
+        os.fsync(file.fileno())

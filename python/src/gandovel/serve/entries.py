@@ -1,0 +1,150 @@
+"""An entry of the journal as the server tells it, and the rows of all its versions."""
+from __future__ import annotations
+
+from dataclasses import dataclass
+from typing import Any, Dict, List, Optional, Sequence, Tuple
+
+import numpy as np
+
+NEVER = np.iinfo(np.int64).max
+"""The entry that takes out a row which is there still."""
+Box = Tuple[float, float, float, float]
+"""Least x and y, greatest x and y, in mm."""
+
+
+@dataclass(frozen=True)
+class Entry:
+    """An accepted edit: its number, its line, the ids that it took out and brought; who made it, why, when, its key.
+
+    `time` is UTC, as `2026-01-31T12:00:00.000Z`. Of an entry that another program made, the last four are None.
+    """
+
+    number: int
+    edit: str
+    out: Tuple[int, ...]
+    new: Tuple[int, ...]
+    who: Optional[str] = None
+    why: Optional[str] = None
+    time: Optional[str] = None
+    key: Optional[str] = None
+
+    def as_json(self) -> Dict[str, Any]:
+        """What an answer has of it; the key is its maker's alone."""
+        names = ("number", "time", "who", "why", "edit")
+        return {**{name: getattr(self, name) for name in names}, "out": list(self.out), "new": list(self.new)}
+
+
+@dataclass(frozen=True)
+class Row:
+    """A parcel from entry `born` on, until entry `died`: `ring` int64 (k, 2) in mm, `area2` in mm2, doubled, exact."""
+
+    id: int
+    born: int
+    died: int
+    area2: int
+    ring: np.ndarray
+
+
+class Versions:
+    """The rows of a register in each version that is kept: version N is what the first N entries leave."""
+
+    def __init__(self) -> None:
+        self.first = self.last = 0
+        self._count = 0
+        self._numbers = np.zeros((1024, 3), dtype=np.int64)
+        """Id, born, died of each row."""
+        self._boxes = np.zeros((1024, 4), dtype=np.int64)
+        self._rings: List[np.ndarray] = []
+        self._areas: List[int] = []
+        self._alive: Dict[int, int] = {}
+        self._found: Dict[int, np.ndarray] = {}
+
+    def begin(self, entries: int, rows: Sequence[Tuple[int, int, int, np.ndarray]]) -> None:
+        """Puts in the rows (id, born, area2, ring) of the version with so many entries; none before it is kept."""
+        self.__init__()  # type: ignore[misc]
+        self.first = self.last = entries
+        for row in rows:
+            self._add(*row)
+
+    def apply(self, entry: Entry, rows: Sequence[Tuple[int, int, np.ndarray]]) -> None:
+        """Puts in the next entry, with the rows (id, area2, ring) that it brought."""
+        for number in entry.out:
+            self._numbers[self._alive.pop(number), 2] = entry.number
+        for number, area2, ring in rows:
+            self._add(number, entry.number, area2, ring)
+        self.last = entry.number
+
+    def forget(self, first: int) -> None:
+        """Keeps no version before `first`. It takes time by how many rows there are, so call it now and then."""
+        kept = np.flatnonzero(self._numbers[: self._count, 2] > first)
+        self.first, self._found = max(first, self.first), {}
+        self._numbers, self._boxes = self._numbers[kept].copy(), self._boxes[kept].copy()
+        self._rings = [self._rings[at] for at in kept.tolist()]
+        self._areas = [self._areas[at] for at in kept.tolist()]
+        self._count = len(kept)
+        alive = np.flatnonzero(self._numbers[:, 2] == NEVER).tolist()
+        self._alive = {int(self._numbers[at, 0]): at for at in alive}
+
+    @property
+    def dead(self) -> int:
+        """How many rows are kept for older versions alone."""
+        return self._count - len(self._alive)
+
+    def bounds(self) -> Box:
+        """The box of all rows, in mm."""
+        boxes = self._boxes[: self._count]
+        low, high = boxes[:, :2].min(axis=0), boxes[:, 2:].max(axis=0)
+        return float(low[0]), float(low[1]), float(high[0]), float(high[1])
+
+    def places(self, entries: int, box: Optional[Box] = None) -> np.ndarray:
+        """Where the rows of a version are, by ascending ids: int64, for `row`. With a box those whose box meets it.
+
+        The version has to be kept (`first` to `last`).
+        """
+        found = self._found.get(entries)
+        if found is None:
+            numbers = self._numbers[: self._count]
+            found = np.flatnonzero((numbers[:, 1] <= entries) & (numbers[:, 2] > entries))
+            found = found[np.argsort(numbers[found, 0])]
+            while len(self._found) > 7:
+                self._found.pop(next(iter(self._found)))
+            self._found[entries] = found
+        if box is None:
+            return found
+        boxes = self._boxes[found]
+        low, high = np.array(box[:2]), np.array(box[2:])
+        return found[((boxes[:, :2] <= high) & (boxes[:, 2:] >= low)).all(axis=1)]
+
+    def within(self, places: np.ndarray, box: Box) -> np.ndarray:
+        """Of each of these rows whether its box lies in `box`: bool."""
+        boxes = self._boxes[places]
+        return ((boxes[:, :2] >= np.array(box[:2])) & (boxes[:, 2:] <= np.array(box[2:]))).all(axis=1)
+
+    def ids(self, places: np.ndarray) -> np.ndarray:
+        """The ids of the rows at these places: int64."""
+        return self._numbers[places, 0]
+
+    def row(self, place: int) -> Row:
+        """The row at a place that `places` found."""
+        number, born, died = self._numbers[place].tolist()
+        return Row(number, born, died, self._areas[place], self._rings[place])
+
+    def find(self, parcel: int, entries: int) -> Optional[Row]:
+        """The row of a parcel in a version; None where it has none."""
+        at = self._alive.get(parcel)
+        if at is not None and self._numbers[at, 1] <= entries:
+            return self.row(at)
+        numbers = self._numbers[: self._count]
+        places = np.flatnonzero((numbers[:, 0] == parcel) & (numbers[:, 1] <= entries) & (numbers[:, 2] > entries))
+        return self.row(int(places[0])) if len(places) else None
+
+    def _add(self, parcel: int, born: int, area2: int, ring: np.ndarray) -> None:
+        if self._count == len(self._numbers):
+            self._numbers = np.concatenate([self._numbers, np.zeros_like(self._numbers)])
+            self._boxes = np.concatenate([self._boxes, np.zeros_like(self._boxes)])
+        self._numbers[self._count] = parcel, born, NEVER
+        self._boxes[self._count] = *ring.min(axis=0), *ring.max(axis=0)
+        self._alive[parcel] = self._count
+        self._rings.append(ring)
+        self._areas.append(area2)
+        self._count += 1

@@ -1,0 +1,205 @@
+"""What each request goes through before it is answered: who asks, limits of size, rate and time; and what it took."""
+from __future__ import annotations
+
+import asyncio
+import logging
+import re
+import time
+from typing import Any, Awaitable, Callable, Dict, MutableMapping, Optional, Tuple
+
+from starlette.responses import JSONResponse
+
+from ..errors import Refused
+from .access import LOCAL, ROLES, Client, Tokens
+from .faults import as_json
+from .metrics import Metrics
+from .register import Register
+
+LOG = logging.getLogger("gandovel.serve")
+Message = MutableMapping[str, Any]
+Receive = Callable[[], Awaitable[Message]]
+Send = Callable[[Message], Awaitable[None]]
+App = Callable[[MutableMapping[str, Any], Receive, Send], Awaitable[None]]
+MOST_BODY = 1 << 20
+"""Bytes of a request's body: a line of a session has at most as many."""
+BODY_SECONDS = 20.0
+"""Seconds that a client has to send a body."""
+SEND_SECONDS = 30.0
+"""Seconds that a client may read nothing of what it is sent."""
+MOST_NAMES = 10_000
+"""How many clients' rates are known at once."""
+_OPEN = re.compile(r"/|/health|/page/[a-z_.]+|/page/leaflet/(images/)?[a-z0-9_.-]+")
+"""What anyone may ask for: the page itself, which has nothing of the register, and whether it serves."""
+_LOCATE = re.compile(rb"x=(-?[0-9]{1,11})&y=(-?[0-9]{1,11})")
+_LOOPBACK = re.compile(r"(localhost|127\.[0-9.]+|\[::1\])(:[0-9]+)?")
+
+
+class Rates:
+    """Requests a second of each client: so many at once, and as many again in each second."""
+
+    def __init__(self, each: float) -> None:
+        self._each = each
+        self._left: Dict[str, Tuple[float, float]] = {}
+
+    def takes(self, name: str) -> bool:
+        """Whether one more of this client's is taken now."""
+        if not self._each:
+            return True
+        now = time.monotonic()
+        left, then = self._left.get(name, (self._each, now))
+        left = min(self._each, left + (now - then) * self._each)
+        if name not in self._left and len(self._left) >= MOST_NAMES:
+            self._left.clear()
+        self._left[name] = (left - 1 if left >= 1 else left), now
+        return left >= 1
+
+
+class Gate:
+    """The application that uvicorn calls; what passes goes to the one within."""
+
+    def __init__(self, app: App, register: Register, tokens: Optional[Tokens], rate: float, metrics: Metrics) -> None:
+        self._app, self._register, self._tokens, self._metrics = app, register, tokens, metrics
+        self._rates = Rates(rate)
+
+    async def __call__(self, scope: MutableMapping[str, Any], receive: Receive, send: Send) -> None:
+        if scope["type"] != "http":
+            return
+        begun = time.perf_counter()
+        sent = _Sent(send, scope)
+        try:
+            await self._answer(scope, receive, sent)
+        except TimeoutError:
+            LOG.warning("a client that read nothing was cut off")
+            sent.cut_off()
+        except Exception:
+            LOG.exception("a request was not answered")
+            if not sent.status:
+                await _refuse(sent, scope, receive, 500, "fault", "the server has a fault here: tell its operator when")
+        self._metrics.answered(scope, sent.status, time.perf_counter() - begun)
+
+    async def _answer(self, scope: MutableMapping[str, Any], receive: Receive, send: "_Sent") -> None:
+        headers = dict(scope["headers"])
+        refusal = self._refusal(scope, headers)
+        if refusal is not None:
+            await _refuse(send, scope, receive, *refusal)
+            return
+        if scope["path"] == "/locate" and scope["method"] == "GET":
+            asked = _LOCATE.fullmatch(scope["query_string"])
+            if asked:
+                await self._locate(int(asked[1]), int(asked[2]), scope, receive, send)
+                return
+        await self._app(scope, receive if scope["method"] == "GET" else _Body(receive), send)
+
+    def _refusal(self, scope: MutableMapping[str, Any], headers: Dict[bytes, bytes]) -> Optional[Tuple[int, str, str]]:
+        """Why a request goes no further: status, code and text; else None, and `scope` has its client."""
+        if self._tokens is None and not _is_local(headers):
+            return (
+                403,
+                "host",
+                "without a file of tokens the server answers on this machine alone, by the name localhost",
+            )
+        if scope["method"] not in ("GET", "HEAD") and not _is_own(headers):
+            return 403, "origin", "a page of another site may not send this"
+        is_open = bool(_OPEN.fullmatch(scope["path"])) and scope["method"] in ("GET", "HEAD")
+        client: Optional[Client] = LOCAL
+        if self._tokens is not None:
+            client = self._tokens.client(headers.get(b"authorization", b"").decode("latin-1"))
+        address = (scope.get("client") or ("",))[0]
+        if not self._rates.takes(client.name if client else address):
+            return 429, "rate", "too many requests: send fewer in a second"
+        if client is None and not is_open:
+            return 401, "token", "a token is needed that the server knows: Authorization: Bearer TOKEN"
+        wanted = 0 if is_open else _role_for(scope["path"], scope["method"])
+        if client is not None and client.role < wanted:
+            return 403, "role", f"this is for the role {ROLES[wanted]}, and the token's is {ROLES[client.role]}"
+        length = headers.get(b"content-length", b"0")
+        if not length.isdigit() or int(length) > MOST_BODY:
+            return 413, "size", f"a body has at most {MOST_BODY} bytes"
+        scope.setdefault("state", {})["client"] = client
+        return None
+
+    async def _locate(self, x: int, y: int, scope: Any, receive: Receive, send: Send) -> None:
+        """The question that is asked most goes past the framework; what is unusual in it does not."""
+        try:
+            line = await self._register.locate_line(x, y)
+        except Refused as fault:
+            await _refuse(send, scope, receive, 503, fault.code, "the register can't answer now: try again")
+            return
+        words = line.split(b" ")
+        content = b'{"entries":%s,"x":%d,"y":%d,"where":"%s","parcels":[%s]}'
+        body = content % (words[1], x, y, words[4], b",".join(words[5:]))
+        await _plain(send, 200, body, words[1])
+
+
+class _Sent:
+    """Hands on what is sent, within a time; and knows the status."""
+
+    def __init__(self, send: Send, scope: MutableMapping[str, Any]) -> None:
+        self._send, self._scope = send, scope
+        self.status = 0
+
+    async def __call__(self, message: Message) -> None:
+        if message["type"] == "http.response.start":
+            self.status = message["status"]
+        async with asyncio.timeout(SEND_SECONDS):
+            await self._send(message)
+
+    def cut_off(self) -> None:
+        """Ends the connection without a wait for what it has not read."""
+        cut = self._scope.get("gandovel.cut_off")
+        if cut is not None:
+            cut()
+
+
+class _Body:
+    """Hands on what comes of a body, up to a size and a time; then it is as if the client had gone."""
+
+    def __init__(self, receive: Receive) -> None:
+        self._receive = receive
+        self._size, self._until, self._is_whole = 0, time.monotonic() + BODY_SECONDS, False
+
+    async def __call__(self) -> Message:
+        if self._is_whole:
+            return await self._receive()
+        try:
+            async with asyncio.timeout(max(0.0, self._until - time.monotonic())):
+                message = await self._receive()
+        except TimeoutError:
+            return {"type": "http.disconnect"}
+        self._size += len(message.get("body", b""))
+        self._is_whole = not message.get("more_body", False)
+        return message if self._size <= MOST_BODY else {"type": "http.disconnect"}
+
+
+def _is_local(headers: Dict[bytes, bytes]) -> bool:
+    """Whether the request is meant for this machine: a name that another server gave to it is none."""
+    return bool(_LOOPBACK.fullmatch(headers.get(b"host", b"").decode("latin-1")))
+
+
+def _is_own(headers: Dict[bytes, bytes]) -> bool:
+    """Whether no page of another site sent the request."""
+    origin = headers.get(b"origin")
+    return origin is None or origin.partition(b"://")[2] == headers.get(b"host")
+
+
+def _role_for(path: str, method: str) -> int:
+    if path.startswith("/metrics"):
+        return 2
+    return 1 if path.startswith("/edits") and method not in ("GET", "HEAD") else 0
+
+
+async def _refuse(send: Send, scope: Any, receive: Receive, status: int, code: str, text: str) -> None:
+    headers = {"connection": "close"} if status in (413, 500) else {}
+    if status == 401:
+        headers["www-authenticate"] = 'Bearer realm="register", Basic realm="register"'
+    if status == 429:
+        headers["retry-after"] = "1"
+    await JSONResponse(as_json(status, code, text), status, headers)(scope, receive, send)
+
+
+async def _plain(send: Send, status: int, body: bytes, entries: bytes) -> None:
+    headers = [(b"content-type", b"application/json"), (b"content-length", b"%d" % len(body))]
+    if entries:
+        headers.append((b"gandovel-entries", entries))
+    await send({"type": "http.response.start", "status": status, "headers": headers})
+    await send({"type": "http.response.body", "body": body})

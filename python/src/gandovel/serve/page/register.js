@@ -1,0 +1,339 @@
+"use strict";
+/** The page for clerks: the parcels, live; one of them, its history and zones; and edits, checked before they are sent. */
+const $ = (id) => document.getElementById(id);
+const NEAR = 14;
+const HINTS = {
+  split: "Click the corner where the cut begins, then its corners, and the corner where it ends.",
+  merge: "Click the neighbour that becomes one with this parcel.",
+  move: "Click the neighbour, and then the corners of the new border between its two ends.",
+  insert: "Click where the new corner comes, on a border of this parcel.",
+  straighten: "Click the corner that goes, where the borders go straight on.",
+};
+
+const register = {
+  entries: 0, parcels: new Map(), chosen: null, draft: null,
+
+  async ask(path, options = {}) {
+    const token = sessionStorage.getItem("token");
+    const headers = { Accept: "application/json", ...options.headers };
+    if (token) headers.Authorization = `Bearer ${token}`;
+    const response = await fetch(path, { ...options, headers });
+    if (response.status === 401) { $("login").hidden = false; throw new Error("The register asks for your token."); }
+    return response;
+  },
+
+  /** Loads all parcels of one version, page by page, and then follows the changes. */
+  async load() {
+    let more = "/parcels?limit=1000";
+    register.parcels.clear();
+    while (more) {
+      const page = await (await register.ask(more)).json();
+      register.entries = page.entries;
+      for (const parcel of page.parcels) register.parcels.set(parcel.id, parcel);
+      more = page.next;
+    }
+    drawing.all([...register.parcels.values()]);
+    register.tell();
+    register.follow();
+  },
+
+  /** Follows the published entries for as long as the page is open. */
+  async follow() {
+    for (;;) {
+      try {
+        const response = await register.ask(`/changes?after=${register.entries}`, { headers: { Accept: "text/event-stream" } });
+        const reader = response.body.pipeThrough(new TextDecoderStream()).getReader();
+        let rest = "";
+        for (let part = await reader.read(); !part.done; part = await reader.read()) {
+          const events = (rest + part.value).split("\n\n");
+          rest = events.pop();
+          for (const event of events) {
+            const data = event.split("\n").find((line) => line.startsWith("data: "));
+            if (data) await register.take(JSON.parse(data.slice(6)));
+          }
+        }
+      } catch (fault) {
+        $("state").textContent = `${fault.message || "no connection"}; trying again`;
+      }
+      await new Promise((go) => setTimeout(go, 1000));
+    }
+  },
+
+  /** Takes in an entry: its parcels go, and others come. */
+  async take(entry) {
+    const found = await Promise.all(entry.new.map((id) => register.ask(`/parcels/${id}?entries=${entry.number}`)));
+    for (const id of entry.out) { register.parcels.delete(id); drawing.remove(id); }
+    for (const response of found) if (response.ok) {
+      const parcel = await response.json();
+      register.parcels.set(parcel.id, parcel);
+      drawing.put(parcel);
+    }
+    register.entries = entry.number;
+    register.tell(entry);
+    if (register.chosen !== null && [...entry.out, ...entry.new].includes(register.chosen)) register.choose(register.chosen);
+    if (register.draft) drafts.check();
+  },
+
+  tell(entry) {
+    const last = entry ? `; last: ${entry.edit.split(" ")[0]} by ${entry.who || "another program"}` : "";
+    $("state").textContent = `${register.parcels.size} parcels after ${register.entries} entries${last}`;
+  },
+
+  /** Shows what a parcel is, its zones and its history. */
+  async choose(id) {
+    register.chosen = id;
+    drawing.mark(id);
+    const parcel = register.parcels.get(id), box = $("parcel");
+    const zonesOfIt = parcel ? register.ask(`/parcels/${id}/zones`) : null;
+    const [history, zones] = await Promise.all([register.ask(`/parcels/${id}/history`), zonesOfIt]);
+    if (register.chosen !== id) return;
+    box.replaceChildren(element("h2", parcel ? `Parcel ${parcel.number ?? `without a number (id ${id})`}` : `Parcel ${id} is gone`));
+    if (parcel) box.append(facts(parcel, zones && zones.ok ? (await zones.json()).zones : null));
+    if (history.ok) box.append(element("h2", "History"), list((await history.json()).history));
+  },
+
+  find(number) {
+    const wanted = number.trim();
+    const found = [...register.parcels.values()].find((it) => it.number === wanted || String(it.id) === wanted)
+      || [...register.parcels.values()].find((it) => it.came_from.split(",").includes(wanted));
+    if (!found) { $("answer").textContent = `No parcel has the number ${wanted}.`; return; }
+    $("answer").textContent = "";
+    drawing.show(found.id);
+    register.choose(found.id);
+  },
+};
+
+function element(name, text) { const it = document.createElement(name); it.textContent = text; return it; }
+
+function facts(parcel, zones) {
+  const told = document.createElement("dl");
+  const hidden = new Set(["ring_mm", "entries", "number", "area2_mm2", "area_m2"]);
+  const rows = [["area", `${(Number(BigInt(parcel.area2_mm2)) / 2e6).toFixed(3)} m²`], ["twice the area", `${parcel.area2_mm2} mm²`],
+    ...Object.entries(parcel).filter(([name, value]) => !hidden.has(name) && value !== null)];
+  if (zones) rows.push(["zones", zones.join(", ")]);
+  for (const [name, value] of rows) told.append(element("dt", name), element("dd", String(value)));
+  return told;
+}
+
+function list(history) {
+  if (!history.length) return element("p", "It is as it was read.");
+  const told = document.createElement("ol");
+  for (const it of history) {
+    const why = it.why ? `: ${it.why}` : "";
+    told.append(element("li", `entry ${it.number}, ${it.edit.split(" ")[0]}, ${it.who || "another program"}, ${it.time || ""}${why}`));
+  }
+  return told;
+}
+
+/** The map: whole millimetres, drawn by Leaflet from the south-western corner of all parcels. */
+const drawing = {
+  shapes: new Map(), origin: [0, 0], marked: null,
+
+  start() {
+    drawing.map = L.map("map", { crs: L.CRS.Simple, minZoom: -20, maxZoom: 6, zoomSnap: 0.25, preferCanvas: true, attributionControl: false });
+    drawing.map.setView([0, 0], 0);
+    drawing.draft = L.layerGroup().addTo(drawing.map);
+    drawing.map.on("click", (event) => drafts.click(drawing.place(event.latlng)));
+  },
+
+  style: (name) => getComputedStyle(document.documentElement).getPropertyValue(name).trim(),
+  latlng: ([x, y]) => [(y - drawing.origin[1]) / 1000, (x - drawing.origin[0]) / 1000],
+  place: ({ lat, lng }) => [Math.round(lng * 1000) + drawing.origin[0], Math.round(lat * 1000) + drawing.origin[1]],
+
+  all(parcels) {
+    for (const shape of drawing.shapes.values()) shape.remove();
+    drawing.shapes.clear();
+    if (!parcels.length) return;
+    drawing.origin = parcels.reduce((low, it) => it.ring_mm.reduce(([x, y], at) => [Math.min(x, at[0]), Math.min(y, at[1])], low), [Infinity, Infinity]);
+    parcels.forEach(drawing.put);
+    drawing.map.fitBounds(L.featureGroup([...drawing.shapes.values()]).getBounds());
+  },
+
+  put(parcel) {
+    drawing.remove(parcel.id);
+    const shape = L.polygon(parcel.ring_mm.map(drawing.latlng), { bubblingMouseEvents: false });
+    shape.on("click", (event) => drafts.click(drawing.place(event.latlng), parcel.id));
+    drawing.shapes.set(parcel.id, shape.addTo(drawing.map));
+    drawing.look(parcel.id);
+  },
+
+  remove(id) {
+    drawing.shapes.get(id)?.remove();
+    drawing.shapes.delete(id);
+  },
+
+  look(id) {
+    const is = id === drawing.marked;
+    drawing.shapes.get(id)?.setStyle({ color: drawing.style(is ? "--mark" : "--line"), weight: is ? 3 : 1, fillColor: drawing.style("--fill"), fillOpacity: is ? 0.9 : 0.6 });
+    if (is) drawing.shapes.get(id)?.bringToFront();
+  },
+
+  mark(id) {
+    const before = drawing.marked;
+    drawing.marked = id;
+    if (before !== null) drawing.look(before);
+    drawing.look(id);
+  },
+
+  show(id) { drawing.map.fitBounds(drawing.shapes.get(id).getBounds(), { maxZoom: 4, padding: [60, 60] }); },
+
+  /** How far two places are from each other, in pixels. */
+  pixels: (a, b) => drawing.map.latLngToLayerPoint(drawing.latlng(a)).distanceTo(drawing.map.latLngToLayerPoint(drawing.latlng(b))),
+
+  path(path) {
+    drawing.draft.clearLayers();
+    const colour = drawing.style("--other");
+    if (path.length > 1) drawing.draft.addLayer(L.polyline(path.map(drawing.latlng), { color: colour, weight: 3 }));
+    for (const place of path) drawing.draft.addLayer(L.circleMarker(drawing.latlng(place), { radius: 5, color: colour, interactive: false }));
+  },
+};
+
+/** An edit that is being drawn: `at` is the version that the clerk saw when it was begun. */
+const drafts = {
+  begin(kind) {
+    if (register.chosen === null || !register.parcels.has(register.chosen)) {
+      $("answer").textContent = "Choose a parcel first.";
+      return;
+    }
+    register.draft = { kind, at: register.entries, parcel: register.chosen, other: null, path: [], edge: null, key: crypto.getRandomValues(new Uint32Array(4)).join("-") };
+    $("draft").hidden = false;
+    $("hint").textContent = HINTS[kind];
+    $("answer").textContent = "";
+    drafts.check();
+  },
+
+  cancel() {
+    register.draft = null;
+    $("draft").hidden = true;
+    $("why").value = "";
+    drawing.path([]);
+    for (const button of $("tools").children) button.setAttribute("aria-pressed", "false");
+  },
+
+  /** A click: on a parcel, or beside all. Without a draft it chooses the parcel. */
+  click(place, id = null) {
+    const draft = register.draft;
+    if (!draft) { if (id !== null) register.choose(id); return; }
+    const ring = drafts.ring(draft.parcel);
+    if (!ring) return;
+    if ((draft.kind === "merge" || draft.kind === "move") && draft.other === null) {
+      if (id !== null && id !== draft.parcel) draft.other = id;
+    } else if (draft.kind === "insert") {
+      draft.edge = drafts.edge(ring, place);
+      draft.path = draft.edge && draft.edge.new ? [draft.edge.new] : [];
+    } else if (draft.kind !== "merge") {
+      const near = ring.filter((it) => drawing.pixels(it, place) < NEAR).sort((a, b) => drawing.pixels(a, place) - drawing.pixels(b, place))[0];
+      if (draft.kind === "straighten") draft.path = near ? [near] : [];
+      else draft.path.push(draft.kind === "split" && near ? near : place);
+    }
+    drafts.check();
+  },
+
+  ring: (id) => register.parcels.get(id)?.ring_mm,
+
+  /** The edge of a ring that is nearest to a place, and the whole place on it. */
+  edge(ring, place) {
+    const found = Checks.edges(ring).map((edge) => {
+      const [a, b] = edge, dx = b[0] - a[0], dy = b[1] - a[1];
+      const along = Math.max(0, Math.min(1, ((place[0] - a[0]) * dx + (place[1] - a[1]) * dy) / (dx * dx + dy * dy)));
+      return { edge, off: Math.hypot(a[0] + along * dx - place[0], a[1] + along * dy - place[1]) };
+    }).sort((a, b) => a.off - b.off)[0].edge;
+    return { first: found[0], last: found[1], new: Checks.between(found, place) };
+  },
+
+  /** The path with the ends that a moved border keeps. */
+  path(draft) {
+    if (draft.kind !== "move" || draft.other === null) return draft.path;
+    const ring = drafts.ring(draft.parcel), other = drafts.ring(draft.other);
+    const run = ring && other ? Checks.border(ring, other).run : null;
+    return run ? [run[0], ...draft.path, run[run.length - 1]] : draft.path;
+  },
+
+  reason(draft) {
+    const ring = drafts.ring(draft.parcel), other = draft.other === null ? null : drafts.ring(draft.other);
+    if (!ring) return "The parcel is gone: another clerk took it out.";
+    if (draft.other !== null && !other) return "The neighbour is gone: another clerk took it out.";
+    if (draft.kind === "split") return Checks.split(ring, draft.path);
+    if (draft.kind === "merge") return other ? Checks.merge(ring, other) : "Click the neighbour.";
+    if (draft.kind === "move") return other ? Checks.move(ring, other, drafts.path(draft)) : "Click the neighbour.";
+    if (draft.kind === "insert") {
+      if (!draft.edge) return "Click a border.";
+      return draft.edge.new ? "" : "This border has no whole millimetre between its ends: move the border instead.";
+    }
+    const rings = [...register.parcels.values()].map((it) => it.ring_mm);
+    return draft.path.length ? Checks.straighten(rings, draft.path[0]) : "Click a corner.";
+  },
+
+  check() {
+    const reason = drafts.reason(register.draft);
+    $("reason").textContent = reason || "It can be sent.";
+    $("send").disabled = Boolean(reason);
+    drawing.path(drafts.path(register.draft));
+  },
+
+  body(draft) {
+    const { kind, parcel, other, edge } = draft, path = drafts.path(draft), why = $("why").value;
+    if (kind === "split") return { kind, parcel, path, why };
+    if (kind === "merge") return { kind, one: parcel, other, why };
+    if (kind === "move") return { kind, one: parcel, other, path, why };
+    return kind === "insert" ? { kind, ...edge, why } : { kind, corner: path[0], why };
+  },
+
+  /** Sends the draft for the version that was seen at its begin. A lost answer is asked for again by the same key. */
+  async send() {
+    const draft = register.draft;
+    const headers = { "Content-Type": "application/json", "If-Match": String(draft.at), "Idempotency-Key": draft.key };
+    $("send").disabled = true;
+    for (let attempt = 0; ; attempt++) {
+      try {
+        const response = await register.ask("/edits", { method: "POST", headers, body: JSON.stringify(drafts.body(draft)) });
+        if (response.status === 503 && attempt < 5) throw new Error("the register is not open");
+        drafts.told(draft, response.status, await response.json());
+        return;
+      } catch (fault) {
+        $("answer").textContent = `${fault.message}; asking again`;
+        if (attempt >= 5) { $("send").disabled = false; return; }
+        await new Promise((go) => setTimeout(go, 1000));
+      }
+    }
+  },
+
+  told(draft, status, body) {
+    if (status === 200) {
+      $("answer").textContent = `Done: entry ${body.number}. New: ${body.new.join(", ")}.`;
+      drafts.cancel();
+      return;
+    }
+    if (status === 412) {
+      const last = body.last ? ` (${body.last.edit.split(" ")[0]} by ${body.last.who || "another program"})` : "";
+      $("answer").textContent = `The register has gone on to entry ${body.entries}${last}. Look at the map, and send again if it still fits.`;
+      draft.at = body.entries;
+      draft.key += "+";
+      if (register.draft === draft) drafts.check();
+      return;
+    }
+    $("answer").textContent = `Refused (${body.code}): ${body.description}`;
+    if (register.draft === draft) drafts.check();
+  },
+};
+
+$("tools").addEventListener("click", (event) => {
+  const kind = event.target.dataset.tool;
+  if (!kind) return;
+  drafts.cancel();
+  drafts.begin(kind);
+  if (register.draft) event.target.setAttribute("aria-pressed", "true");
+});
+$("send").addEventListener("click", drafts.send);
+$("cancel").addEventListener("click", drafts.cancel);
+$("undo").addEventListener("click", () => { register.draft.path.pop(); register.draft.edge = null; drafts.check(); });
+$("search").addEventListener("submit", (event) => { event.preventDefault(); register.find($("number").value); });
+$("login").addEventListener("submit", (event) => {
+  event.preventDefault();
+  sessionStorage.setItem("token", $("token").value);
+  $("token").value = "";
+  $("login").hidden = true;
+  register.load().catch((fault) => { $("state").textContent = fault.message; });
+});
+drawing.start();
+register.load().catch((fault) => { $("state").textContent = fault.message; });

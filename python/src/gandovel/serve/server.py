@@ -1,0 +1,201 @@
+"""Running the server: uvicorn with limits on connections, the register's start and end, and signals."""
+from __future__ import annotations
+
+import argparse
+import asyncio
+import ipaddress
+import logging
+import resource
+import socket
+import ssl
+import sys
+from pathlib import Path
+from typing import Any, Optional
+
+import uvicorn
+from uvicorn.protocols.http.httptools_impl import HttpToolsProtocol
+
+from ..errors import Refused
+from .access import Tokens
+from .app import Site, application
+from .gate import Gate
+from .layer import Layer
+from .metrics import Metrics
+from .register import Register
+
+LOG = logging.getLogger("gandovel.serve")
+HEAD_SECONDS = 10.0
+"""Seconds that a connection has until a request's head is whole, from its begin or since the last request."""
+END_SECONDS = 20.0
+"""Seconds that clients have to read their answers once the server is told to end."""
+BEYOND = 4
+"""Connections beyond this many times the limit are closed without an answer."""
+
+
+class Connection(HttpToolsProtocol):  # type: ignore[misc]
+    """uvicorn's connection, that is closed where no request comes of it in time, or there are far too many."""
+
+    def connection_made(self, transport: Any) -> None:
+        super().connection_made(transport)
+        self._waiting: Optional[asyncio.TimerHandle] = None
+        if self.limit_concurrency and len(self.connections) > BEYOND * self.limit_concurrency:
+            transport.abort()
+            return
+        self._waiting = self.loop.call_later(HEAD_SECONDS, self._too_slow)
+
+    def connection_lost(self, exc: Optional[Exception]) -> None:
+        self._in_time()
+        super().connection_lost(exc)
+
+    def data_received(self, data: bytes) -> None:
+        if self._waiting is None and (self.cycle is None or self.cycle.response_complete):
+            self._waiting = self.loop.call_later(HEAD_SECONDS, self._too_slow)
+        super().data_received(data)
+
+    def on_headers_complete(self) -> None:
+        self._in_time()
+        self.scope["gandovel.cut_off"] = self.transport.abort
+        super().on_headers_complete()
+
+    def _in_time(self) -> None:
+        if self._waiting is not None:
+            self._waiting.cancel()
+            self._waiting = None
+
+    def _too_slow(self) -> None:
+        self._waiting = None
+        self.transport.abort()
+
+
+class Server(uvicorn.Server):  # type: ignore[misc]
+    """uvicorn's server, that tells the register at once when it has to end, and says where it listens."""
+
+    def __init__(self, config: uvicorn.Config, register: Register, address: str) -> None:
+        super().__init__(config)
+        self._register, self._address = register, address
+        self._ending: Optional["asyncio.Task[None]"] = None
+
+    async def startup(self, sockets: Any = None) -> None:
+        await super().startup(sockets=sockets)
+        print(f"serving {len(self._register.entries)} entries at {self._address}", flush=True)
+
+    def handle_exit(self, sig: Any, frame: Any) -> None:
+        super().handle_exit(sig, frame)
+        loop = asyncio.get_running_loop()
+        if self._ending is None:
+            self._ending = loop.create_task(self._register.close())
+            loop.call_later(END_SECONDS, self._give_up)
+
+    async def ended(self) -> None:
+        """Once the register is closed."""
+        if self._ending is None:
+            await self._register.close()
+        else:
+            await self._ending
+
+    def _give_up(self) -> None:
+        self.force_exit = True
+
+
+def serve(options: argparse.Namespace) -> None:
+    """Serves a register until a signal. Refused W1 to W4, P1, and as a session's start is."""
+    logging.basicConfig(stream=sys.stderr, format="%(asctime)s %(message)s", level=logging.WARNING)
+    _raise_limit(options.clients)
+    tokens = None if options.tokens is None else Tokens(Path(options.tokens))
+    if tokens is None and not _is_loopback(options.host):
+        raise Refused(
+            "W4", f"without --tokens only this machine is answered: leave out --host {options.host}, or give --tokens"
+        )
+    _test_certificate(options.certfile, options.keyfile)
+    folder, journal = Path(options.folder), Path(options.journal).absolute()
+    if folder.resolve() in journal.resolve().parents:
+        raise Refused(
+            "W2", "the journal may not lie in the layer's folder, which prepare replaces: give it another folder"
+        )
+    layer = Layer(folder, options.island, options.crs)
+    listener = _listener(options.host, options.port)
+    try:
+        _loop()(_run(options, Register(layer, journal, options.keep), tokens, listener))
+    finally:
+        listener.close()
+
+
+async def _run(
+    options: argparse.Namespace, register: Register, tokens: Optional[Tokens], listener: socket.socket
+) -> None:
+    await register.start()
+    metrics = Metrics(register)
+    app = Gate(application(Site(register, metrics, options.url)), register, tokens, options.rate, metrics)
+    config = uvicorn.Config(
+        app,
+        http=Connection,
+        ws="none",
+        lifespan="off",
+        log_level="error",
+        access_log=False,
+        server_header=False,
+        timeout_keep_alive=30,
+        backlog=4096,
+        limit_concurrency=options.clients,
+        ssl_certfile=options.certfile,
+        ssl_keyfile=options.keyfile,
+    )
+    scheme = "https" if options.certfile else "http"
+    host, port = listener.getsockname()[:2]
+    server = Server(config, register, f"{scheme}://{f'[{host}]' if ':' in host else host}:{port}/")
+    try:
+        await server.serve(sockets=[listener])
+    finally:
+        await server.ended()
+
+
+def _loop() -> Any:
+    """What runs a coroutine: uvloop where it is there."""
+    try:
+        import uvloop
+    except ModuleNotFoundError:
+        return asyncio.run
+
+    def run(work: Any) -> None:
+        with asyncio.Runner(loop_factory=uvloop.new_event_loop) as runner:
+            runner.run(work)
+
+    return run
+
+
+def _listener(host: str, port: int) -> socket.socket:
+    try:
+        family = socket.getaddrinfo(host, port, type=socket.SOCK_STREAM)[0][0]
+        listener = socket.socket(family, socket.SOCK_STREAM)
+        listener.setsockopt(socket.SOL_SOCKET, socket.SO_REUSEADDR, 1)
+        listener.bind((host, port))
+    except (OSError, OverflowError) as fault:
+        raise Refused("W4", f"{host} port {port} can't be listened at: {getattr(fault, 'strerror', fault)}") from fault
+    return listener
+
+
+def _is_loopback(host: str) -> bool:
+    if host == "localhost":
+        return True
+    try:
+        return ipaddress.ip_address(host).is_loopback
+    except ValueError:
+        return False
+
+
+def _test_certificate(certificate: Optional[str], key: Optional[str]) -> None:
+    if certificate is None:
+        return
+    try:
+        ssl.create_default_context(ssl.Purpose.CLIENT_AUTH).load_cert_chain(certificate, key)
+    except (OSError, ssl.SSLError) as fault:
+        raise Refused("W4", f"the certificate, or its key, can't be read: {fault}") from None
+
+
+def _raise_limit(clients: int) -> None:
+    """Lets the process have as many files open as the clients need, where the system allows it."""
+    soft, hard = resource.getrlimit(resource.RLIMIT_NOFILE)
+    wanted = (BEYOND + 1) * clients + 200
+    if soft != resource.RLIM_INFINITY and soft < wanted:
+        most = wanted if hard == resource.RLIM_INFINITY else min(wanted, hard)
+        resource.setrlimit(resource.RLIMIT_NOFILE, (most, hard))

@@ -1,0 +1,366 @@
+"""Layers that are cut into districts say what one run of the whole layer does: verdict, faults, areas, numbers, pairs.
+
+GANDOVEL_LONG=1 takes 20,000 parcels in 9 districts and more random layers.
+"""
+from __future__ import annotations
+
+import os
+import random
+import signal
+from pathlib import Path
+from typing import Any, List, Tuple
+
+import geopandas as gpd
+import numpy as np
+import pytest
+from hypothesis import HealthCheck, given, settings
+from hypothesis import strategies as st
+from shapely.affinity import affine_transform, translate
+from shapely.geometry import Point, Polygon
+
+import gandovel
+from gandovel import Refused
+from gandovel.large import Cutting, cut_by, is_large
+from gandovel.large import compose, runs, tiles, verdict
+from gandovel.large.cutting import cut, partition_faults
+from gandovel.large.verdict import Open, check_island, districts_of
+from gandovel.noding import touches
+from gandovel.report import report
+from registers import register
+
+LONG = bool(os.environ.get("GANDOVEL_LONG"))
+SIDE = 10.0
+"""A parcel's side, in metres."""
+
+
+def grid(columns: int, rows: int, seed: int = 1, bend: float = 0.8) -> List[Polygon]:
+    """Bent parcels side by side that tile a rectangle, on whole millimetres."""
+    pick = np.random.default_rng(seed)
+    x, y = np.meshgrid(np.arange(columns + 1) * SIDE, np.arange(rows + 1) * SIDE)
+    nodes = np.round(np.stack([x, y], axis=2), 3)
+    nodes[1:-1, 1:-1] += np.round(pick.uniform(-bend, bend, (rows - 1, columns - 1, 2)), 3)
+    nodes = np.round(nodes, 3)
+    return [
+        Polygon([nodes[j, i], nodes[j, i + 1], nodes[j + 1, i + 1], nodes[j + 1, i]])
+        for j in range(rows)
+        for i in range(columns)
+    ]
+
+
+def frame(shapes: List[Polygon], column: str = "parcel_no", first: str = "P") -> gpd.GeoDataFrame:
+    """A layer of shapes, numbered `P1`, `P2` .."""
+    return gpd.GeoDataFrame({column: [f"{first}{at}" for at in range(1, len(shapes) + 1)]}, geometry=shapes, crs=25832)
+
+
+def turned(layer: gpd.GeoDataFrame) -> gpd.GeoDataFrame:
+    """The layer turned by 17 degrees, far from the origin."""
+    c, s = np.cos(np.radians(17)), np.sin(np.radians(17))
+    return layer.set_geometry(
+        [affine_transform(it, [c, -s, s, c, 561_234.567, 5_934_567.891]) for it in layer.geometry]
+    )
+
+
+def said(answer: Any) -> Tuple[Any, ...]:
+    """What a report says, in an order of its own."""
+
+    def faults(of: gpd.GeoDataFrame) -> List[Any]:
+        return sorted((it.layer, it.area2_mm2, it.depth, it.numbers) for it in of.itertuples())
+
+    parcels = sorted(zip(answer.parcels.number, answer.parcels.status))
+    pairs = sorted(zip(answer.split.number, answer.split.zones))
+    return faults(answer.gaps), faults(answer.overlaps), pairs, parcels, sorted(answer.beyond)
+
+
+def same(prepared: Any, most: int) -> Any:
+    """The report on a register that is cut, after it was compared with that on the whole; how many districts."""
+    whole = report(prepared)
+    with cut_by(Cutting(most, jobs=2)):
+        answer = report(prepared)
+        assert is_large(prepared.islands[0].parcels.rings)
+        count = sum(len(districts_of(island, "parcels")) for island in prepared.islands)
+    assert said(answer) == said(whole) and count > 1
+    return answer, count
+
+
+@pytest.mark.parametrize("faults", [False, True])
+def test_a_register_with_holes_enclaves_and_faults(faults):
+    prepared = gandovel.prepare(*register(faults))
+    answer, count = same(prepared, 40)
+    assert count >= 6 and bool(len(answer.gaps)) == faults
+
+
+PLANTED = (
+    "gap",
+    "overlap",
+    "a parcel across a border",
+    "a sliver along a border",
+    "a doubled parcel",
+    "a moved parcel",
+)
+
+
+def planted(shapes: List[Polygon], columns: int, kind: str) -> List[Polygon]:
+    """The shapes with a fault of a kind, over the middle, where borders of districts are."""
+    middle, shapes = (len(shapes) // columns // 2) * columns + columns // 2, list(shapes)
+    here = shapes[middle]
+    if kind == "gap":
+        del shapes[middle]
+    elif kind == "overlap":
+        shapes[middle] = here.union(shapes[middle - 1].intersection(here.buffer(1))).buffer(0)
+        shapes[middle] = Polygon(np.round(np.asarray(shapes[middle].exterior.coords), 3))
+    elif kind == "a parcel across a border":
+        shapes[middle] = here.union(shapes[middle - 1]).union(shapes[middle - columns])
+        for at in sorted((middle - 1, middle - columns), reverse=True):
+            del shapes[at]
+    elif kind == "a sliver along a border":
+        corners = np.asarray(here.exterior.coords)[:-1]
+        corners[0] += 0.01
+        shapes[middle] = Polygon(corners)
+    elif kind == "a doubled parcel":
+        shapes.append(here)
+    else:
+        shapes[middle] = translate(here, 0.25, 0.125)
+    return shapes
+
+
+@pytest.mark.parametrize("kind", PLANTED)
+def test_planted_faults(kind):
+    columns, rows, most = (160, 125, 2_600) if LONG else (16, 12, 30)
+    shapes = planted(grid(columns, rows), columns, kind)
+    zones = frame(grid(3, 3, 2, 0.0), "zone", "Z")
+    zones = zones.set_geometry([affine_transform(it, [columns / 3, 0, 0, rows / 3, 0, 0]) for it in zones.geometry])
+    prepared = gandovel.prepare(frame(shapes), zones)
+    answer, count = same(prepared, most)
+    assert count >= 7
+    assert (len(answer.gaps) + len(answer.overlaps) == 0) == (kind == "a parcel across a border")
+
+
+def test_corners_that_only_one_side_of_a_border_has():
+    shapes = grid(10, 10)
+    many = [Polygon(np.repeat(np.asarray(it.exterior.coords)[:-1], 1, axis=0)) for it in shapes]
+    for at, it in enumerate(many):
+        if at % 2:
+            corners = np.asarray(it.exterior.coords)
+            middles = (corners[:-1] + corners[1:]) / 2
+            many[at] = Polygon(np.stack([corners[:-1], middles], axis=1).reshape(-1, 2))
+    prepared = gandovel.prepare(turned(frame(many)), turned(frame(grid(10, 1), "zone", "Z")), touch=1.0)
+    answer, count = same(prepared, 20)
+    assert count > 4
+
+
+@settings(
+    max_examples=60 if LONG else 6,
+    deadline=None,
+    suppress_health_check=[HealthCheck.too_slow, HealthCheck.filter_too_much],
+)
+@given(st.integers(0, 10**6), st.integers(3, 8), st.integers(3, 8), st.integers(2, 20))
+def test_random_layers_and_cuts(seed, columns, rows, most):
+    pick, shapes = random.Random(seed), grid(columns, rows, seed)
+    for _ in range(pick.randint(0, 3)):
+        at, what = pick.randrange(len(shapes)), pick.randrange(3)
+        if what == 0:
+            del shapes[at]
+        elif what == 1:
+            shapes[at] = translate(shapes[at], pick.randint(-900, 900) / 1000, pick.randint(-900, 900) / 1000)
+        else:
+            shapes.append(shapes[at])
+    prepared = gandovel.prepare(frame(shapes), frame(grid(2, 2, seed), "zone", "Z"))
+    with cut_by(Cutting(most)):
+        if not all(is_large(island.parcels.rings) for island in prepared.islands):
+            return
+    whole = report(prepared)
+    with cut_by(Cutting(most, jobs=1)):
+        assert said(report(prepared)) == said(whole)
+
+
+def test_locating_overlaying_and_checking_a_cut_layer():
+    shapes = grid(9, 9)
+    parcels, zones = frame(shapes), frame(grid(3, 3, 5), "zone", "Z")
+    zones = zones.set_geometry([affine_transform(it, [3, 0, 0, 3, 0, 0]) for it in zones.geometry])
+    corners = [Point(it.exterior.coords[2]) for it in shapes[::7]]
+    inside = [it.representative_point() for it in shapes[::5]]
+    points = gpd.GeoDataFrame(geometry=[*corners, *inside, Point(-5, 5)], crs=25832)
+    plain = gandovel.locate(parcels, points), gandovel.overlay(parcels, zones), gandovel.check(parcels)
+    with cut_by(Cutting(12)):
+        parts = gandovel.locate(parcels, points), gandovel.overlay(parcels, zones), gandovel.check(parcels)
+    for one, other in zip(plain, parts):
+        assert one.drop(columns="geometry").equals(other.drop(columns="geometry"))
+    assert set(plain[0]["where"]) == {"inside", "edge", "outside"} and not len(plain[2])
+    with cut_by(Cutting(12)), pytest.raises(Refused, match="H2"):
+        gandovel.locate(frame(shapes[:40] + shapes[41:]), points)
+
+
+def island_of(columns: int = 8, rows: int = 8) -> Any:
+    """A small register that tiles, as an island."""
+    return gandovel.prepare(frame(grid(columns, rows))).islands[0]
+
+
+def test_every_ring_is_in_one_district_and_the_verdict_counts_them():
+    island = island_of()
+    districts = cut(island.parcels.rings, 10)
+    assert len(districts) >= 7 and not partition_faults(districts, 64)
+    assert all(len(rows) <= 10 for rows in districts.rows)
+    with cut_by(Cutting(10)):
+        answer = check_island(island)
+    assert (answer.tiles, answer.count, answer.area2) == (True, 64, 2 * 80_000**2)
+
+
+def broken_district(monkeypatch, change):
+    """Districts that a fault of the cutter's would make."""
+
+    def wrong(rings, most):
+        districts = cut(rings, most)
+        change(districts)
+        return districts
+
+    monkeypatch.setattr(verdict, "cut", wrong)
+
+
+def lacks_one(districts):
+    del districts.rows[2], districts.outlines[2]
+
+
+def has_one_twice(districts):
+    districts.rows.append(districts.rows[0])
+    districts.outlines.append(districts.outlines[0])
+
+
+def are_exchanged(districts):
+    districts.outlines[0], districts.outlines[1] = districts.outlines[1], districts.outlines[0]
+
+
+def is_moved(districts):
+    districts.outlines[1] = districts.outlines[1] + 10
+
+
+@pytest.mark.parametrize("change", [lacks_one, has_one_twice])
+def test_districts_that_do_not_have_every_ring_once(monkeypatch, change):
+    broken_district(monkeypatch, change)
+    with cut_by(Cutting(10)), pytest.raises(Open, match="T11 the verdict is open: row .* is in .* districts"):
+        check_island(island_of())
+
+
+@pytest.mark.parametrize("change", [are_exchanged, is_moved])
+def test_outlines_that_are_none_of_their_rings(monkeypatch, change):
+    """All parcels tile; in the wrong outlines no run says so, and what the runs say adds up to nothing: open, not tiles."""
+    broken_district(monkeypatch, change)
+    with cut_by(Cutting(10)), pytest.raises(Open, match="T11 .*parcels cross districts") as caught:
+        check_island(island_of())
+    assert caught.value.status == 2
+
+
+def test_a_run_in_another_outline_is_found(monkeypatch):
+    written = verdict._write
+
+    def write(folder: Path, *words: Any) -> Any:
+        sums = written(folder, *words)
+        (folder / "d2/city.shp").write_bytes((folder / "d1/city.shp").read_bytes())
+        return sums
+
+    monkeypatch.setattr(verdict, "_write", write)
+    with cut_by(Cutting(10)), pytest.raises(Open, match="district 2 was not judged in the outline"):
+        check_island(island_of())
+
+
+def test_a_run_without_an_answer_leaves_the_verdict_open(monkeypatch):
+    asked = runs.run_tool
+
+    def dies(arguments: List[str]) -> Any:
+        if "d3" in arguments[1]:
+            raise Refused("T2", "killed")
+        return asked(arguments)
+
+    monkeypatch.setattr(runs, "run_tool", dies)
+    with cut_by(Cutting(10)), pytest.raises(Open, match=r"not judged: district 3 \(T2 killed\)"):
+        check_island(island_of())
+
+
+def test_counts_that_differ_leave_the_verdict_open(monkeypatch):
+    answer_of = verdict.answer_of_check
+
+    def fewer(printed: str, refused: Any, records: int) -> Any:
+        answer = answer_of(printed, refused, records)
+        answer.area2 -= 2
+        return answer
+
+    monkeypatch.setattr(verdict, "answer_of_check", fewer)
+    with cut_by(Cutting(10)), pytest.raises(Open, match="the districts have"):
+        check_island(island_of())
+
+
+def test_a_full_disk(monkeypatch):
+    def full(path: Path, rings: Any) -> None:
+        if "d2" in str(path):
+            raise OSError(28, "No space left on device")
+        written(path, rings)
+
+    written = verdict.write_rings
+    monkeypatch.setattr(verdict, "write_rings", full)
+    with cut_by(Cutting(10)), pytest.raises(Refused, match="P14 .*No space left on device: set TMPDIR"):
+        check_island(island_of())
+
+
+@pytest.mark.parametrize("jobs", [1, 2])
+def test_processes_that_write_districts(monkeypatch, jobs):
+    monkeypatch.setattr(verdict, "FORKED", 0)
+    with cut_by(Cutting(20, jobs=jobs)):
+        assert check_island(island_of()).tiles
+
+
+def test_a_process_that_writes_districts_is_killed(monkeypatch):
+    parent = os.getpid()
+
+    def dies(path: Path, rings: Any) -> None:
+        if os.getpid() != parent:
+            os.kill(os.getpid(), signal.SIGKILL)
+
+    monkeypatch.setattr(verdict, "FORKED", 0)
+    written = verdict.write_rings
+    monkeypatch.setattr(verdict, "write_rings", lambda path, rings: (dies(path, rings), written(path, rings)))
+    with cut_by(Cutting(20, jobs=2)), pytest.raises(Open, match="a process that wrote districts was killed"):
+        check_island(island_of())
+
+
+@pytest.mark.parametrize("engine", ["parallel", "dask"])
+def test_engines_judge_districts(engine):
+    island = island_of()
+    with cut_by(Cutting(20, engine, 2)):
+        answer = check_island(island)
+    assert (answer.tiles, answer.count) == (True, 64)
+
+
+def test_noding_in_tiles_is_noding(monkeypatch):
+    pick = np.random.default_rng(3)
+    points = np.round(pick.uniform(0, 1000, (400, 2)), 0)
+    start, end = pick.integers(0, 400, 900), pick.integers(0, 400, 900)
+    wanted = np.arange(400)
+    plain = touches(points, start, end, wanted, 0.4, 0.3)
+    monkeypatch.setattr(tiles, "A_TILE", 60)
+    parts = tiles.touches_in_tiles(touches, points, start, end, wanted, 0.4, 0.3)
+    assert len(plain) > 100 and np.array_equal(plain, parts)
+
+
+def test_edges_that_cancel_in_parts():
+    long_side = np.array([[0, 0, 100, 0, 1]])
+    parts = np.array([[60, 0, 0, 0, 1], [100, 0, 60, 0, 1], [7, 7, 9, 9, 2]])
+    ring = np.array([(7, 7), (8, 8), (9, 9)])
+    assert compose.added_up([long_side, parts], [ring]).tolist() == [[7, 7, 8, 8, 2], [8, 8, 9, 9, 2]]
+    assert not len(compose.added_up([], [ring]))
+
+
+def test_a_large_geopackage_is_read_as_fiona_reads_it(tmp_path, monkeypatch):
+    from gandovel.large import reading
+    from gandovel.reading import frame_of
+
+    layer = frame(grid(6, 6)).assign(value=np.arange(36) / 7, count=range(36), text=[None, *"ab" * 17, "ä"])
+    layer.to_file(tmp_path / "layer.gpkg", layer="layer", driver="GPKG")
+    plain = frame_of(str(tmp_path / "layer.gpkg"), "parcels")
+    monkeypatch.setattr(reading, "MANY", 10)
+    fast = frame_of(str(tmp_path / "layer.gpkg"), "parcels")
+    assert list(plain.columns) == list(fast.columns) and plain.crs == fast.crs
+    assert plain.geometry.geom_equals_exact(fast.geometry, 0).all()
+    for column in plain.columns.drop("geometry"):
+        assert (
+            plain[column].where(plain[column].notna(), "-").tolist()
+            == fast[column].where(fast[column].notna(), "-").tolist()
+        )

@@ -1,0 +1,173 @@
+"""The page for clerks in a browser: one splits a parcel, a second sees it, a third whose number is old is told so."""
+from __future__ import annotations
+
+import pytest
+
+from served import Served, moved, prepared, replayed, until
+from session_register import grid_city
+
+CITY, RINGS = grid_city(4, 4, 3)
+
+
+@pytest.fixture(scope="module")
+def served(tmp_path_factory):
+    folder = tmp_path_factory.mktemp("page")
+    with Served(prepared(folder / "work", CITY, RINGS), folder / "register.txt") as served:
+        yield served
+
+
+@pytest.fixture(scope="module")
+def browser():
+    from selenium import webdriver
+    from selenium.webdriver.chrome.service import Service
+
+    options = webdriver.ChromeOptions()
+    for word in (
+        "--headless=new",
+        "--no-sandbox",
+        "--disable-gpu",
+        "--window-size=1200,900",
+        "--disable-dev-shm-usage",
+    ):
+        options.add_argument(word)
+    options.set_capability("goog:loggingPrefs", {"browser": "ALL"})
+    driver = webdriver.Chrome(service=Service("/usr/bin/chromedriver"), options=options)
+    yield driver
+    driver.quit()
+
+
+class Window:
+    """A tab of the browser with the page."""
+
+    def __init__(self, browser, address):
+        browser.switch_to.new_window("tab")
+        self.browser, self.handle = browser, browser.current_window_handle
+        browser.get(address + "/")
+        until(lambda: "parcels after" in self.text("state"))
+
+    def here(self):
+        self.browser.switch_to.window(self.handle)
+
+    def text(self, name):
+        self.here()
+        return self.browser.find_element("id", name).text
+
+    def press(self, selector):
+        self.here()
+        self.browser.find_element("css selector", selector).click()
+
+    def type(self, name, text):
+        self.here()
+        self.browser.find_element("id", name).send_keys(text)
+
+    def click_place(self, place):
+        """Clicks the map at a place in mm."""
+        from selenium.webdriver import ActionChains
+
+        self.here()
+        script = (
+            "const p = drawing.map.latLngToContainerPoint(drawing.latlng(arguments[0])), s = drawing.map.getSize();"
+            "return [p.x - s.x / 2, p.y - s.y / 2];"
+        )
+        x, y = self.browser.execute_script(script, list(place))
+        element = self.browser.find_element("id", "map")
+        ActionChains(self.browser).move_to_element_with_offset(element, round(x), round(y)).click().perform()
+
+    def choose(self, number):
+        self.here()
+        box = self.browser.find_element("id", "number")
+        box.clear()
+        box.send_keys(number)
+        self.press("#search button")
+        until(lambda: f"Parcel {number}" in self.text("parcel"))
+
+
+def test_three_windows(served, browser):
+    clerk, second, third = (Window(browser, served.address) for _ in range(3))
+    third.here()
+    browser.execute_script("register.take = async () => {};")
+    clerk.choose("A6")
+    assert "zones" in clerk.text("parcel") and "It is as it was read." in clerk.text("parcel")
+
+    clerk.press('[data-tool="split"]')
+    ring = moved(RINGS[5])
+    clerk.click_place(ring[0])
+    assert "has to" in clerk.text("reason") or "needs a corner" in clerk.text("reason")
+    assert not browser.find_element("id", "send").is_enabled()
+    clerk.click_place(ring[2])
+    until(lambda: clerk.text("reason") == "It can be sent.")
+    clerk.type("why", "sold")
+    clerk.press("#send")
+    until(lambda: clerk.text("answer").startswith("Done: entry 1"))
+    assert served.lines() == [f"split 6 {ring[0][0]} {ring[0][1]} {ring[2][0]} {ring[2][1]}"]
+
+    until(lambda: "17 parcels after 1 entries; last: split by local" in second.text("state"))
+    second.choose("A6")
+    until(lambda: "entry 1, split, local" in second.text("parcel"))
+    assert "sold" in second.text("parcel")
+
+    third.choose("A1")
+    third.press('[data-tool="merge"]')
+    third.click_place([sum(z) // 4 for z in zip(*moved(RINGS[1]))])
+    until(lambda: third.text("reason") == "It can be sent.")
+    third.press("#send")
+    until(lambda: "The register has gone on to entry 1 (split by local)" in third.text("answer"))
+    assert len(served.lines()) == 1
+    third.press("#send")
+    until(lambda: third.text("answer").startswith("Done: entry 2"))
+    assert served.lines()[1] == "merge 1 2"
+    replayed(CITY, RINGS, served.lines())
+    for window in (clerk, second, third):
+        window.here()
+        wrong = [it for it in browser.get_log("browser") if it["level"] == "SEVERE" and "favicon" not in it["message"]]
+        assert [it for it in wrong if "412" not in it["message"]] == []
+
+
+def test_checks_agree_with_the_program(served, browser):
+    """Drafts at random: what the page lets pass the program takes, and what it refuses the program refuses."""
+    import random
+
+    window = Window(browser, served.address)
+    window.here()
+    draw = random.Random(5)
+    model = replayed(CITY, RINGS, served.lines())
+    agreed = {True: 0, False: 0}
+    for _ in range(120):
+        one, other = draw.sample(sorted(model.rings), 2)
+        ring, theirs = model.rings[one], model.rings[other]
+        kind = draw.choice(["split", "merge", "move", "straighten"])
+        corners = [draw.choice(ring), draw.choice(ring if draw.random() < 0.7 else theirs)]
+        if draw.random() < 0.5:
+            corners.insert(1, tuple(sum(z) // len(ring) + draw.randrange(-900, 900) for z in zip(*ring)))
+        path = [list(it) for it in corners]
+        text = " ".join(f"{x} {y}" for x, y in corners)
+        call, line = {
+            "split": ("split(r, p)", f"split {one} {text}"),
+            "merge": ("merge(r, o)", f"merge {one} {other}"),
+            "move": ("move(r, o, p)", f"move {one} {other} {text}"),
+            "straighten": (
+                "straighten([...register.parcels.values()].map((it) => it.ring_mm), p[0])",
+                f"straighten {corners[0][0]} {corners[0][1]}",
+            ),
+        }[kind]
+        script = f"const [r, o, p] = arguments; return Checks.{call};"
+        reason = browser.execute_script(script, [list(it) for it in ring], [list(it) for it in theirs], path)
+        try:
+            model.change(line)
+            fits = True
+        except Exception:
+            fits = False
+        assert fits == (reason == ""), (line, reason)
+        agreed[fits] += 1
+    assert min(agreed.values()) > 5, agreed
+
+
+def test_on_a_phone_and_without_a_token(served, browser, tmp_path):
+    window = Window(browser, served.address)
+    window.here()
+    browser.set_window_size(390, 844)
+    window.choose("A11")
+    wide = browser.execute_script("return [document.documentElement.scrollWidth, innerWidth]")
+    assert wide[0] <= wide[1]
+    for name in ("map", "tools", "parcel"):
+        assert browser.find_element("id", name).size["width"] > 200
