@@ -133,7 +133,7 @@ class Cat:
 def make_pipes(desks):
     for desk in desks:
         for end in ("in", "out"):
-            os.mkfifo("%s.%s" % (desk, end))
+            os.mkfifo("%s.%s" % (desk, end), 0o600)
 
 
 def clients(client, how, desks, files, first):

@@ -8,10 +8,12 @@ The first word is a file of examples/ or says what is made:
     nulls N                  a main file of N null shapes
     index PLACE,LENGTH ..    an index file with these records, in words of 16 bits
     text LINE / LINE ..      these lines, each with a line feed
+    journal OUTLINE / .. ; LINE / ..   the journal of a layer with these lines, `0 X Y ..` of the city and `ID X Y ..` of each parcel, and of
+                             these edits, all by clerk 1
     moves N X,Y X,Y LINE ..  N lines of edits, each of which moves the border of the last two parcels, at first 1 and 2, to where it is, from
                              the one point straight to the other; and behind them these lines, with ` / ` between them
     folder                   no file, but a folder
-    pipe                     no file, but a named pipe
+    pipe [MODE]              no file, but a named pipe, of mode 600 or this one
     link NAME                no file, but a link to this name
 Then follow changes, from left to right:
     cut N                    only the first N bytes
@@ -19,6 +21,7 @@ Then follow changes, from left to right:
     long N                   zeros behind it, up to N bytes in all
 """
 
+import hashlib
 import os
 import struct
 
@@ -102,8 +105,23 @@ def begun(kind, words):
         return header(entries) + entries
     if kind == "text":
         return text(words)
+    if kind == "journal":
+        return journal(words)
     with open(os.path.join(EXAMPLES, kind), "rb") as file:
         return file.read()
+
+
+def journal(words):
+    """A journal: its header names the layer of the first lines, and each edit of the others has a record."""
+    split = words.index(";")
+    outlines, edits = text(words[:split]), text(words[split + 1 :]).splitlines(keepends=True)
+    digest = hashlib.sha256(outlines).hexdigest()
+    written = f"# gandovel journal 1 mm {digest}\n".encode()
+    for number, edit in enumerate(edits, 1):
+        stamp = f"# {number} 1 2026-01-01T00:00:00Z ".encode()
+        digest = hashlib.sha256(digest.encode() + stamp + edit).hexdigest()
+        written += stamp + digest.encode() + b"\n" + edit
+    return written
 
 
 CHANGES = ("cut", "put", "long")
@@ -115,8 +133,9 @@ def make(path, recipe):
     if words == ["folder"]:
         os.mkdir(path)
         return
-    if words == ["pipe"]:
+    if words[0] == "pipe":
         os.mkfifo(path)
+        os.chmod(path, int(words[1], 8) if words[1:] else 0o600)
         return
     if words[0] == "link":
         os.symlink(words[1], path)

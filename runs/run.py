@@ -20,6 +20,7 @@ $ WORDS               the command line, in which \\xFF is a byte; further ones r
 >* FIRST LAST TEXT    a line TEXT for each number, which stands for {}
 [N]                   the last one's status, 0 where it is left out; the others' is 0
 = NAME: RECIPE        a file that has to stand in the folder then, with these bytes
+=# NAME: LINE / ..    a journal that has to stand there then, with these lines, but for those that begin with `#`
 ~ NAME ..             all that stands in the folder then
 ! HOW                 standard output is `closed` or `full`, standard error is `silent` (closed), there are `N MiB` of memory, a file
                       can have `N bytes` at most, or there are `no threads`: the stack of each would take more memory than there is
@@ -53,7 +54,7 @@ class Row:
         self.title, self.files, self.lines, self.how = title, [], [], []
         self.stdin = []
         self.stdout, self.stderr, self.status = [], [], 0
-        self.left, self.names = [], None
+        self.left, self.journals, self.names = [], [], None
 
 
 def rows_of(path):
@@ -78,6 +79,8 @@ def rows_of(path):
                 rows[-1].how.append(text)
             elif mark == "=":
                 rows[-1].left.append(text.split(": ", 1))
+            elif mark == "=#":
+                rows[-1].journals.append(text.split(":", 1))
             elif mark == "~":
                 rows[-1].names = sorted(text.split())
             elif mark == "<":
@@ -198,6 +201,11 @@ def left_wrong(room, row):
             layers.make(wanted, recipe)
             if bytes_at(os.path.join(room, name)) != bytes_at(wanted):
                 wrong.append(f"{name} has other bytes")
+    for name, lines in row.journals:
+        wanted = [line.encode() for line in lines.strip().split(" / ") if line]
+        edits = [line for line in (bytes_at(os.path.join(room, name)) or b"").splitlines() if not line.startswith(b"#")]
+        if edits != wanted:
+            wrong.append(f"{name} has the edits {edits}")
     names = sorted(os.listdir(room))
     if row.names is not None and names != row.names:
         wrong.append(f"the folder has {names} and not {row.names}")
