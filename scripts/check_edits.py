@@ -2,7 +2,7 @@
 """Fails where a mutant (crates/NAME/must-fail/*.edit, crates/NAME/more-wrong-bodies/*.edit) cannot be applied: each `old:`
 line has to stand in its file exactly once, and each `new:` line has to change it. The gate tells of such an edit and passes
 all the same, and does not look at the second folder. It fails too where both folders have a mutant of one name, and where
-docs/promises.md marks one by `†` that is not in the second folder, or leaves the mark out.
+the README of a crate marks one by `†` that is not in the second folder, or leaves the mark out.
 
     scripts/check_edits.py [--mark]     with --mark it first puts the marks right
 """
@@ -12,7 +12,6 @@ from pathlib import Path
 
 ROOT = Path(__file__).resolve().parent.parent
 TIERS = ("must-fail", "more-wrong-bodies")
-PROMISES = ROOT / "docs/promises.md"
 MARK = "†"
 
 
@@ -43,21 +42,19 @@ def faults_of(edit):
         yield "no old text"
 
 
-def marked(text, tiers):
-    """The table of promises, with the mark behind each mutant of the second tier and no other.
+def marked(crate, text, tiers):
+    """A crate's page, with the mark behind each mutant of the second tier in its table of promises and no other.
 
-    `tiers` has, for the names of a crate and a mutant, the folder. A mutant is its section's crate's, or else of the one crate
-    that has a mutant of this name.
+    `tiers` has, for the names of a crate and a mutant, the folder. A mutant is this crate's, or else of the one crate that has a
+    mutant of this name.
     """
-    crates, lines = [], []
+    lines = []
     elsewhere = {name: tier for (_, name), tier in tiers.items()}
     for line in text.split("\n"):
-        if line.startswith("## "):
-            crates = re.findall(r"`(\w+)`", line)
         cells = line.split("|")
-        if len(cells) > 4 and crates:
+        if len(cells) > 4:
             def word(found):
-                tier = next((tiers[crate, found[1]] for crate in crates if (crate, found[1]) in tiers), elsewhere.get(found[1]))
+                tier = tiers.get((crate, found[1]), elsewhere.get(found[1]))
                 return f"`{found[1]}`{MARK if tier == TIERS[1] else ''}"
             cells[3:] = [re.sub(rf"`(\w+)`{MARK}?", word, cell) for cell in cells[3:]]
         lines.append("|".join(cells))
@@ -65,15 +62,17 @@ def marked(text, tiers):
 
 
 def mark_faults(mutants, mark):
-    """Where the table of promises has wrong marks; with `mark` they are put right, and there is no fault."""
-    text = PROMISES.read_text()
-    right = marked(text, {(edit.parent.parent.name, edit.stem): edit.parent.name for edit in mutants})
-    if mark and right != text:
-        PROMISES.write_text(right)
-        return []
-    both = enumerate(zip(text.split("\n"), right.split("\n")), 1)
-    return [f"docs/promises.md:{number}: marks of the second tier: scripts/check_edits.py --mark puts them right"
-            for number, (is_so, wanted) in both if is_so != wanted]
+    """Where a crate's table of promises has wrong marks; with `mark` they are put right, and there is no fault."""
+    tiers, faults = {(edit.parent.parent.name, edit.stem): edit.parent.name for edit in mutants}, []
+    for page in sorted(ROOT.glob("crates/*/README.md")):
+        text = page.read_text()
+        right = marked(page.parent.name, text, tiers)
+        if mark and right != text:
+            page.write_text(right)
+        both = enumerate(zip(text.split("\n"), right.split("\n")), 1)
+        faults += [f"{page.relative_to(ROOT)}:{number}: marks of the second tier: scripts/check_edits.py --mark puts them right"
+                   for number, (is_so, wanted) in both if is_so != wanted and not mark]
+    return faults
 
 
 def main():
