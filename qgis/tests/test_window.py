@@ -10,13 +10,14 @@ from pathlib import Path
 from typing import Any, Dict, Iterator
 
 import pytest
-from conftest import environment
+from conftest import ROOT, environment, make_zip, metadata
 from layers_made import STREET_AREAS, STREET_CORNER, make_street
+from models import OUTPUTS
 
 HERE = Path(__file__).resolve().parent
+MOST_SECONDS_OF_MANY = 2.0
 PROFILE = "profiles/default/QGIS/QGIS3.ini"
 SETTINGS = """[PythonPlugins]
-gandovel=true
 processing=true
 
 [qgis]
@@ -47,6 +48,7 @@ def seen(display: str, tmp_path_factory: pytest.TempPathFactory) -> Dict[str, An
     """What `window.py` saw."""
     folder = tmp_path_factory.mktemp("window")
     make_street(folder / "street.gpkg")
+    make_zip(folder / "gandovel.zip")
     settings = folder / PROFILE
     settings.parent.mkdir(parents=True)
     settings.write_text(SETTINGS)
@@ -64,6 +66,16 @@ def seen(display: str, tmp_path_factory: pytest.TempPathFactory) -> Dict[str, An
     for image in folder.glob("*.png") if keep else ():
         shutil.copy(image, str(keep))
     return found
+
+
+def test_the_zip_is_installed_in_a_fresh_profile(seen: Dict[str, Any]) -> None:
+    """By QGIS's own installer, with all algorithms, icons, and the part that the package's Python runs."""
+    assert seen["before"] is False
+    assert seen["installed"].endswith("profiles/default/python/plugins/gandovel") and str(ROOT) not in seen["installed"]
+    assert seen["version"] == metadata("version")
+    assert seen["algorithms"] == sorted(OUTPUTS)
+    assert seen["icons"] == [False] * (1 + len(OUTPUTS))
+    assert seen["prepared"] == 12
 
 
 def areas_of(rows: list[list[str]], kind: str) -> list[float]:
@@ -95,6 +107,13 @@ def test_the_missing_corner_is_an_edit_that_undo_takes_back(seen: Dict[str, Any]
     assert seen["commands"] == 1
     assert seen["mended"] == seen["first"][1:]
     assert seen["undone"] == seen["first"]
+    assert seen["gone"] == "Parcels at this fault are no longer there: check again."
+
+
+def test_2000_faults_are_listed_and_marked_at_once(seen: Dict[str, Any]) -> None:
+    """In less than two seconds of a processor."""
+    rows, seconds = seen["many"]
+    assert rows == 2000 and seconds < MOST_SECONDS_OF_MANY
 
 
 def test_a_plot_that_crosses_itself_is_refused_and_selected(seen: Dict[str, Any]) -> None:
