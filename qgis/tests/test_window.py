@@ -105,8 +105,9 @@ def test_the_missing_corner_is_an_edit_that_undo_takes_back(seen: Dict[str, Any]
     """The fault goes with it, nothing was saved, and it is back after undo."""
     assert seen["inserted"].startswith("1 corner inserted")
     assert seen["commands"] == 1
+    assert seen["changed"] == [STREET_CORNER[0]]
     assert seen["mended"] == seen["first"][1:]
-    assert seen["undone"] == seen["first"]
+    assert seen["undone"] is True
     assert seen["gone"] == "Parcels at this fault are no longer there: check again."
 
 

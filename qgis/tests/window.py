@@ -114,15 +114,17 @@ def drive() -> None:
     drawn()
     seen["zoomed"] = iface.mapCanvas().extent().width() < before / 2
     picture("street_fault")
+    shapes = shapes_in(layer)
     dock.corner_button.click()
     seen["inserted"] = dock.said.text()
+    seen["changed"] = sorted(number for number, shape in shapes_in(layer).items() if shape != shapes[number])
     seen["commands"] = layer.undoStack().count()
     seen["mended"] = checked(dock)
     iface.messageBar().clearWidgets()
     picture("street_mended")
     seen["saved"] = QgsVectorLayer(str(FOLDER / "street.gpkg"), "again", "ogr").featureCount()
     layer.undoStack().undo()
-    seen["undone"] = checked(dock)
+    seen["undone"] = shapes_in(layer) == shapes
     seen["gone"] = without_a_plot(dock, layer)
     spoil(layer)
     checked(dock)
@@ -131,17 +133,24 @@ def drive() -> None:
     seen["messages"] = len(iface.messageBar().items())
     picture("street_refused")
     layer.rollBack()
+    if "GANDOVEL_PICTURES" in os.environ:
+        picture_of_toolbox(layer)
     show_many(dock, layer)
     cancel(dock)
     QgsProject.instance().removeMapLayer(layer.id())
     seen["forgotten"] = dock.checked is None
 
 
+def shapes_in(layer: Any) -> Dict[str, str]:
+    """The plots as they are in the window, by their numbers."""
+    return {feature["parcel_no"]: feature.geometry().asWkt() for feature in layer.getFeatures()}
+
+
 def without_a_plot(dock: Any, layer: Any) -> str:
     """What the dock says where a plot of the first fault was taken out behind the check; then it is back."""
+    dock.table.selectRow(0)
     number = dock.faults[0].numbers[0]
     layer.deleteFeature(dock.owners[number][0])
-    dock.table.selectRow(0)
     dock.corner_button.click()
     layer.undoStack().undo()
     return str(dock.said.text())
@@ -160,6 +169,18 @@ def show_many(dock: Any, layer: Any) -> None:
     drawn()
     seen["many"] = [dock.table.rowCount(), time.process_time() - begun]
     dock._show([])
+
+
+def picture_of_toolbox(layer: Any) -> None:
+    """A picture of the window of an algorithm, with its help."""
+    import processing
+
+    dialog = processing.createAlgorithmDialog("gandovel:checkparcels", {"INPUT": layer, "NUMBER_FIELD": "parcel_no"})
+    dialog.resize(900, 560)
+    dialog.show()
+    drawn()
+    dialog.grab().save(str(FOLDER / "check_dialog.png"))
+    dialog.close()
 
 
 def spoil(layer: Any) -> None:
