@@ -230,7 +230,7 @@ def test_bad_layers_by_each_algorithm(qgis: Any, tmp_path: Path, name: str, make
     before = set(tmp_path.iterdir())
     outputs = {output: tmp_path / f"out_{output}.gpkg" for output in OUTPUTS[name]}
     text = refused(name, INPUT=tmp_path / "bad.gpkg", NUMBER_FIELD="parcel_no", **more.get(name, {}), **outputs)
-    assert said in text and "Traceback" not in text and "\n" not in text.strip()
+    assert said in text and "Traceback" not in text and len(text.splitlines()) <= 2  # QGIS puts a line of its own first
     assert {path for path in tmp_path.iterdir() if path.suffix != ".gpkg-shm"} <= before | {tmp_path / "bad.gpkg"}
 
 

@@ -19,6 +19,12 @@ MOST_SECONDS_OF_MANY = 2.0
 PROFILE = "profiles/default/QGIS/QGIS3.ini"
 SETTINGS = """[PythonPlugins]
 processing=true
+GdalTools=false
+MetaSearch=false
+db_manager=false
+grassprovider=false
+otbprovider=false
+sagaprovider=false
 
 [qgis]
 checkVersion=false
@@ -52,6 +58,8 @@ def seen(display: str, tmp_path_factory: pytest.TempPathFactory) -> Dict[str, An
     settings = folder / PROFILE
     settings.parent.mkdir(parents=True)
     settings.write_text(SETTINGS)
+    # QGIS looks for this folder when it starts: where it was not there then, a plugin is found after a restart alone.
+    (folder / "profiles/default/python/plugins").mkdir(parents=True)
     variables = environment(folder)
     variables.pop("QGIS_CUSTOM_CONFIG_PATH")
     variables.update(DISPLAY=display, QT_QPA_PLATFORM="xcb", GANDOVEL_WINDOW=str(folder), LIBGL_ALWAYS_SOFTWARE="1")
