@@ -13,7 +13,7 @@ from typing import Any, Dict, Iterator, List
 
 import geopandas as gpd
 import pytest
-from conftest import ROOT
+from conftest import ROOT, metadata
 from layers_made import BAD, CRS, make_bad
 from models import OUTPUTS
 from shapely.geometry import LineString, MultiPoint, Point, Polygon, box
@@ -146,6 +146,8 @@ def test_points_keep_their_columns_heights_and_kind(qgis: Any, tmp_path: Path) -
     ]
     assert [it.geometry().asMultiPoint()[0].x() for it in results["OUTPUT"].getFeatures()] == [5, 10]
     assert (results["INSIDE_COUNT"], results["EDGE_COUNT"], results["OUTSIDE_COUNT"]) == (1, 1, 0)
+    renderer = results["OUTPUT"].renderer()
+    assert [renderer.classAttribute(), len(renderer.categories())] == ["where", 3]
 
 
 def no_file(path: Path) -> None:
@@ -345,7 +347,10 @@ def test_the_zip_has_the_plugin_and_the_same_bytes_each_time(tmp_path: Path) -> 
     assert (tmp_path / "one.zip").read_bytes() == (tmp_path / "two.zip").read_bytes()
     with zipfile.ZipFile(tmp_path / "one.zip") as archive:
         names = archive.namelist()
-        metadata = archive.read("gandovel/metadata.txt").decode()
+        about = archive.read("gandovel/metadata.txt").decode()
     assert {"gandovel/__init__.py", "gandovel/package_side/answer.py", "gandovel/styles/faults.qml"} <= set(names)
-    assert "hasProcessingProvider=yes" in metadata and "qgisMinimumVersion=3.22" in metadata
-    assert not any("pycache" in name for name in names)
+    assert "hasProcessingProvider=yes" in about and "qgisMinimumVersion=3.22" in about
+    files = [path for path in (ROOT / "qgis/gandovel").rglob("*") if path.is_file() and path.suffix != ".pyc"]
+    assert sorted(names) == sorted(str(path.relative_to(ROOT / "qgis")) for path in files)
+    package = (ROOT / "python/pyproject.toml").read_text()
+    assert f'version = "{metadata("version")}"' in package
