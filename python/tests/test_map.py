@@ -265,6 +265,56 @@ def test_tells_what_lies_at_a_click(browser: WebDriver, tmp_path: Path) -> None:
     assert not details.is_displayed() and view(browser)["picked"] is None
 
 
+def zoned(path: Path, first: str) -> Path:
+    """A report on nine parcels in two zones, which overlap by 10 cm, have a gap at 109, and reach 5 m beyond 103."""
+    zones = [
+        {"number": first, "geometry": box(EAST, NORTH, EAST + 15, NORTH + 30)},
+        {"number": "E", "geometry": box(EAST + 14.9, NORTH, EAST + 35, NORTH + 20)},
+    ]
+    gap, overlap = box(EAST + 15, NORTH + 20, EAST + 30, NORTH + 30), box(EAST + 14.9, NORTH, EAST + 15, NORTH + 20)
+    gaps, overlaps = [fault("300000000", "E", gap, "zones")], [fault("4000000", f"{first},E", overlap, "zones")]
+    layers = [("parcels", parcels_of(3)), ("zones", zones), ("gaps", gaps), ("overlaps", overlaps)]
+    write_layers(path, [(name, frame(rows)) for name, rows in layers], {})
+    return path
+
+
+def test_names_zones_and_their_faults(browser: WebDriver, tmp_path: Path) -> None:
+    first = "<!--<script>"
+    opened(browser, zoned(tmp_path / "zones.gpkg", first))
+    assert [it.text for it in buttons(browser)] == [
+        "Zone gap, 150 m²\nat zone E; twice its area: 300000000 mm² (exact)",
+        f"Zone overlap, 2 m²\nat zones {first}, E; twice its area: 4000000 mm² (exact)",
+    ]
+    assert "zone gaps: 1, zone overlaps: 1" in one(browser, "#summary").text
+    assert "zone's border" in one(browser, "#legend").text
+    for x, y, said in (
+        (5, 5, ["Parcel 101", "100 m² (measured)", f"zone {first} (measured)", "Show in the list"]),
+        (25, 5, ["Parcel 103", "100 m² (measured)", "zone E (measured)", "Show in the list"]),
+        (33, 5, ["Zone E", "402 m² (measured)"]),
+    ):
+        click_at(browser, EAST + x, NORTH + y)
+        assert one(browser, "#details").text.split("\n")[1:] == said
+    click_at(browser, EAST + 25, NORTH + 25)
+    lines = one(browser, "#details").text.split("\n")[1:]
+    assert lines[0] == "Zone gap, 150 m²" and lines[-4:-1] == [
+        "Parcel 109",
+        "100 m² (measured)",
+        "in no zone (measured)",
+    ]
+
+
+def test_draws_the_borders_of_zones_over_parcels(browser: WebDriver, tmp_path: Path) -> None:
+    opened(browser, report(tmp_path / "town.gpkg", faults=False))
+    with_borders = pixels(browser)
+    browser.execute_script("gandovelMap.setShown('zones', false)")
+    changed = (pixels(browser) != with_borders).any(axis=2)
+    seen = view(browser)
+    border = round((EAST + 15 - seen["left"]) * seen["scale"])
+    inside = round((EAST + 8 - seen["left"]) * seen["scale"])
+    assert changed[:, border - 2 : border + 3].any(axis=1).mean() > 0.8
+    assert not changed[100:-100, inside - 9 : inside + 10].any()
+
+
 def test_tells_of_a_thin_fault_at_a_click_near_it(browser: WebDriver, tmp_path: Path) -> None:
     opened(browser, report(tmp_path / "town.gpkg"))
     click_at(browser, EAST + 29.9, NORTH + 4)

@@ -36,7 +36,7 @@ class Refusal:
     y: Optional[float] = None
 
     def __str__(self) -> str:
-        owner = "zone" if self.role == "zones" else "parcel"
+        owner = {"zones": "zone", "points": "point in row"}.get(self.role, "parcel")
         parts = [f"{self.role}: " if self.role else "", f"{self.code} "]
         parts.append(f"{owner} {self.number}: " if self.number is not None else "")
         where = f" at ({self.x:.3f}, {self.y:.3f})" if self.x is not None and self.y is not None else ""

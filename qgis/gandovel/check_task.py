@@ -2,9 +2,10 @@
 from __future__ import annotations
 
 import tempfile
-from dataclasses import dataclass
+from dataclasses import dataclass, field
+from fractions import Fraction
 from pathlib import Path
-from typing import Any, Callable, Dict, List, Optional
+from typing import Any, Callable, Collection, Dict, List, Optional
 
 from qgis.core import QgsGeometry, QgsProject, QgsTask, QgsVectorLayer, QgsVectorLayerFeatureSource
 
@@ -30,13 +31,18 @@ class Fault:
 
 @dataclass(frozen=True)
 class Outcome:
-    """What a check found; or why there is none, with the features that are refused."""
+    """What a check found; or why there is none.
+
+    `refused_features` are those that are refused, by the role of their layer (parcels, city); `owners` the features of
+    the parcels by their numbers.
+    """
 
     faults: List[Fault]
     verdict: str = ""
     notes: tuple[str, ...] = ()
     refused: str = ""
-    features: tuple[int, ...] = ()
+    refused_features: Dict[str, List[int]] = field(default_factory=dict)
+    owners: Dict[str, List[int]] = field(default_factory=dict)
     cancelled: bool = False
 
 
@@ -99,7 +105,7 @@ class CheckTask(QgsTask):
             try:
                 self.outcome = self._checked(folder, written)
             except Refused as refused:
-                self.outcome = Outcome([], refused=_line(refused), features=_concerned(refused, written))
+                self.outcome = Outcome([], refused=_line(refused), refused_features=_concerned(refused, written))
             except Cancelled:
                 return False
             except (NotFound, LayerFault) as fault:
@@ -117,8 +123,9 @@ class CheckTask(QgsTask):
             written["city"] = self._written(self.city, folder, "city", None)
             options["city"] = written["city"].path
         answer: Answer = answers.report(parcels.path, out, options, folder, self)
-        faults = sorted(faults_in(out), key=lambda fault: (-fault.area_m2, fault.kind, fault.numbers))
-        return Outcome(faults, answers.verdict_of(answer), tuple(answers.notes_of(answer)))
+        owners = parcels.features
+        faults = sorted(faults_in(out, owners), key=lambda it: (-Fraction(it.area2_mm2), it.kind, it.numbers))
+        return Outcome(faults, answers.verdict_of(answer), tuple(answers.notes_of(answer)), owners=owners)
 
     def _written(self, source: Snapshot, folder: str, name: str, number: Optional[str]) -> Written:
         return write_layer(source, folder, name, number, self.context, self.is_cancelled, False, self.unit)
@@ -133,21 +140,36 @@ def _line(refused: Refused) -> str:
     return f"{refused.refusals[0]}{f' (and {more} more)' if more else ''}"
 
 
-def _concerned(refused: Refused, written: Dict[str, Written]) -> tuple[int, ...]:
-    """The features of the parcels that are refused."""
-    parcels = written.get("parcels")
-    own = [refusal for refusal in refused.refusals if refusal.role in ("", "parcels")]
-    return tuple(one for refusal in own for one in parcels.concerned(refusal)) if parcels is not None else ()
+def _concerned(refused: Refused, written: Dict[str, Written]) -> Dict[str, List[int]]:
+    """The features that are refused, by the role of their layer."""
+    found: Dict[str, List[int]] = {}
+    for refusal in refused.refusals:
+        role = refusal.role or "parcels"
+        if role in written:
+            found.setdefault(role, []).extend(written[role].concerned(refusal))
+    return found
 
 
-def faults_in(path: str) -> List[Fault]:
-    """The faults of a report."""
+def numbers_of(text: str, known: Collection[str]) -> List[str]:
+    """The numbers of a text that separates them by commas, which some of the known ones have themselves."""
+    pieces, found, at = text.split(",") if text else [], [], 0
+    most = 1 + max((number.count(",") for number in known), default=0)
+    while at < len(pieces):
+        ends = range(min(len(pieces), at + most), at, -1)
+        end = next((end for end in ends if ",".join(pieces[at:end]) in known), at + 1)
+        found.append(",".join(pieces[at:end]))
+        at = end
+    return found
+
+
+def faults_in(path: str, known: Collection[str]) -> List[Fault]:
+    """The faults of a report on parcels of these numbers."""
     found = []
     for kind in KINDS:
         layer = read_layer(path, LAYERS[kind])
         for feature in layer.getFeatures() if layer is not None else ():
-            numbers = str(feature["numbers"] or "").split(",")
+            numbers = numbers_of(str(feature["numbers"] or ""), known)
             area, doubled = float(feature["area_m2"]), str(feature["area2_mm2"])
             shape = QgsGeometry(feature.geometry())
-            found.append(Fault(kind, str(feature["layer"]), [it for it in numbers if it], area, doubled, shape))
+            found.append(Fault(kind, str(feature["layer"]), numbers, area, doubled, shape))
     return found

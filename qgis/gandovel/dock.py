@@ -1,7 +1,7 @@
 """The dock: the faults of a layer, largest first, also of one that is being edited."""
 from __future__ import annotations
 
-from typing import Any, List, Optional
+from typing import Any, Dict, List, Optional
 
 from qgis.core import Qgis, QgsApplication, QgsMapLayerProxyModel, QgsProject, QgsVectorLayer
 from qgis.gui import QgsFieldComboBox, QgsMapLayerComboBox
@@ -22,9 +22,9 @@ from qgis.PyQt.QtWidgets import (
 )
 
 from .check_task import CheckTask, Fault, Outcome
-from .layers import UNITS, text_of
+from .layers import UNITS
 from .marks import Marks
-from .missing_corner import insert, missing_corners, near_of, shapes_by_number
+from .missing_corner import insert, missing_corners, near_of, shapes_of
 
 TITLE = "Faults of parcels"
 NAMES = {"gap": "Gap", "overlap": "Overlap", "open_gap": "Open gap", "sliver": "Sliver"}
@@ -42,8 +42,10 @@ class FaultDock(QDockWidget):
         self.setObjectName("GandovelFaults")
         self.iface = iface
         self.faults: List[Fault] = []
+        self.owners: Dict[str, List[int]] = {}
         self.task: Optional[CheckTask] = None
         self.checked: Optional[QgsVectorLayer] = None
+        self.city_id = ""
         self.marks = Marks(iface.mapCanvas())
         self._make_choices()
         self._make_buttons()
@@ -89,6 +91,7 @@ class FaultDock(QDockWidget):
         self.table.horizontalHeader().setStretchLastSection(True)
         self.table.itemSelectionChanged.connect(self._chosen)
         self.table.cellClicked.connect(self._show_row)
+        self.table.cellActivated.connect(self._show_row)
 
     def _lay_out(self) -> None:
         choices, buttons, all_of_it = QFormLayout(), QHBoxLayout(), QVBoxLayout()
@@ -117,14 +120,17 @@ class FaultDock(QDockWidget):
 
     def check(self) -> None:
         """Begins a check of the chosen layer, as it is in the window."""
-        layer = self.layers.currentLayer()
-        if self.task is not None or not isinstance(layer, QgsVectorLayer):
+        layer, city = self.layers.currentLayer(), self.cities.currentLayer()
+        if self.task is not None:
+            return
+        if not isinstance(layer, QgsVectorLayer):
+            self._say("There is no layer of polygons to check: add one to the project.")
             return
         self._show([])
-        self.checked = layer
+        self.checked, self.city_id = layer, city.id() if city is not None else ""
         self.said.setText("Checking ..")
         unit = "" if layer.crs().isValid() else self.units.currentText()
-        self.task = CheckTask(layer, self.numbers.currentField(), self.cities.currentLayer(), unit, self._done)
+        self.task = CheckTask(layer, self.numbers.currentField(), city, unit, self._done)
         self.task.progressChanged.connect(self._progressed)
         self._running(True)
         QgsApplication.taskManager().addTask(self.task)
@@ -151,12 +157,18 @@ class FaultDock(QDockWidget):
         elif outcome.refused:
             self.said.setText(outcome.refused)
             self.iface.messageBar().pushMessage("Gandovel", outcome.refused, Qgis.Critical, 0)
-            if self.checked is not None and outcome.features:
-                self.checked.selectByIds(list(outcome.features))
-                self.iface.mapCanvas().zoomToSelected(self.checked)
+            self._select(self.checked, outcome.refused_features.get("parcels", []))
+            self._select(QgsProject.instance().mapLayer(self.city_id), outcome.refused_features.get("city", []))
         else:
             self.said.setText("\n".join([outcome.verdict, *outcome.notes]))
+            self.owners = outcome.owners
             self._show(outcome.faults if self.checked is not None else [])
+
+    def _select(self, layer: Optional[QgsVectorLayer], features: List[int]) -> None:
+        """Selects features that were refused, and shows them."""
+        if layer is not None and features:
+            layer.selectByIds(features)
+            self.iface.mapCanvas().zoomToSelected(layer)
 
     def _show(self, faults: List[Fault]) -> None:
         """Lists faults, and marks them in the map."""
@@ -197,7 +209,11 @@ class FaultDock(QDockWidget):
             self._say("Start editing the layer first: the corner is an edit that undo takes back.")
             return
         fault = self.faults[row]
-        shapes = shapes_by_number(layer, self.numbers.currentField(), fault.numbers, text_of)
+        features = [one for number in fault.numbers for one in self.owners.get(number, [])]
+        shapes = shapes_of(layer, features)
+        if len(shapes) < len(features):
+            self._say("Parcels at this fault are no longer there: check again.")
+            return
         missing = missing_corners(fault.shape, shapes, near_of(layer))
         count = insert(layer, missing) if missing is not None else 0
         if count:

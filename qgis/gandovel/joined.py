@@ -90,11 +90,17 @@ class Joined:
         return {**values, "area_m2": area, "share": 1.0, "area_how": "measured"}, parcel, zone
 
     def _zone_at(self, shape: QgsGeometry) -> Optional[QgsFeature]:
+        """The zone at a point inside a shape; where that lies in a gap of the zones, the one that has most of the shape."""
         point = shape.pointOnSurface()
         for feature in self.index.intersects(point.boundingBox()):
             if self.zones[feature].geometry().intersects(point):
                 return self.zones[feature]
-        return None
+        areas = {
+            feature: self.zones[feature].geometry().intersection(shape).area()
+            for feature in self.index.intersects(shape.boundingBox())
+        }
+        largest = max(areas, key=lambda feature: areas[feature], default=None)
+        return self.zones[largest] if largest is not None and areas[largest] > 0.0 else None
 
 
 def _others(layer: QgsVectorLayer, prefix: str) -> Dict[str, Tuple[QgsField, str]]:

@@ -70,9 +70,11 @@ def write_layer(
 
     `number` is the field of the features' own numbers, "" for their rows, None for none. Without `attributes` it is the
     only column.
-    `unit` (mm, cm, m) is that of a source without a projection. Raises `LayerFault`, and `Cancelled`.
+    `unit` (mm, cm, m) is that of a source without a projection. Raises `LayerFault`, also where there is no feature, and
+    `Cancelled`.
     """
     path = str(Path(folder) / f"{name}.gpkg")
+    number = _field_of(source.fields(), number, name)
     kept, fields, column = _columns(source.fields(), number, attributes)
     options = QgsVectorFileWriter.SaveVectorOptions()
     options.driverName, options.layerName = "GPKG", name
@@ -95,8 +97,20 @@ def write_layer(
             )
         found[str(row) if at_number < 0 else text_of(values[at_number])].append(feature.id())
     del writer
+    if not found:
+        raise LayerFault(f"The layer {name} has no feature: choose another, or do not ask for the selected ones alone.")
     written.features = dict(found)
     return written
+
+
+def _field_of(fields: QgsFields, number: Optional[str], name: str) -> Optional[str]:
+    """The name of the field of the numbers as the layer writes it. Raises `LayerFault` where there is none."""
+    if not number:
+        return number
+    at = fields.lookupField(number)
+    if at < 0:
+        raise LayerFault(f"The layer {name} has no field {number}: choose one of {', '.join(fields.names())}.")
+    return str(fields[at].name())
 
 
 def _projection(source: Any, name: str, unit: str) -> QgsCoordinateReferenceSystem:

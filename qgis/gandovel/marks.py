@@ -39,9 +39,9 @@ class Marks:
         for kind, several in by_kind.items():
             area = self._band(QgsWkbTypes.PolygonGeometry, kind)
             sign = self._band(QgsWkbTypes.PointGeometry, kind)
-            for fault in several:
-                area.addGeometry(fault.shape, layer)
-                sign.addGeometry(fault.shape.pointOnSurface(), layer)
+            # All at once: a band looks through all that it has for each geometry that is added.
+            area.addGeometry(QgsGeometry.collectGeometry([fault.shape for fault in several]), layer)
+            sign.addGeometry(QgsGeometry.collectGeometry([fault.shape.pointOnSurface() for fault in several]), layer)
 
     def _band(self, kind: Any, name: str) -> QgsRubberBand:
         band = QgsRubberBand(self.canvas, kind)

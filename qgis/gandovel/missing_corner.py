@@ -2,9 +2,9 @@
 from __future__ import annotations
 
 from dataclasses import dataclass
-from typing import Any, Dict, List, Optional, Sequence, Tuple
+from typing import Dict, Iterable, List, Optional, Sequence, Tuple
 
-from qgis.core import QgsGeometry, QgsPointXY, QgsUnitTypes, QgsVectorLayer
+from qgis.core import QgsGeometry, QgsPoint, QgsPointXY, QgsUnitTypes, QgsVectorLayer
 
 NEAR_MM = 0.75
 """How far a corner of a fault, which is a whole millimetre, may be from the layer's own corner."""
@@ -13,10 +13,10 @@ COMMAND = "Insert missing corners"
 
 @dataclass(frozen=True)
 class Missing:
-    """A feature of the layer, and the corners of its neighbours that it lacks beside a fault."""
+    """A feature of the layer, and the corners of its neighbours that it lacks beside a fault, with their heights."""
 
     feature: int
-    corners: Tuple[QgsPointXY, ...]
+    corners: Tuple[QgsPoint, ...]
     farthest: float
 
 
@@ -46,7 +46,7 @@ def missing_corners(fault: QgsGeometry, shapes: Dict[int, QgsGeometry], near: fl
 def _missing_in(
     feature: int, shape: QgsGeometry, corners: Sequence[QgsPointXY], others: Sequence[QgsGeometry], near: float
 ) -> Optional[Missing]:
-    taken: List[QgsPointXY] = []
+    taken: List[QgsPoint] = []
     farthest = 0.0
     for corner in corners:
         square, place, _, _ = shape.closestSegmentWithContext(corner)
@@ -59,11 +59,11 @@ def _missing_in(
     return Missing(feature, tuple(taken), farthest) if taken else None
 
 
-def with_corners(shape: QgsGeometry, corners: Sequence[QgsPointXY]) -> QgsGeometry:
+def with_corners(shape: QgsGeometry, corners: Sequence[QgsPoint]) -> QgsGeometry:
     """The shape with corners put into its nearest edges, one after the other."""
     changed = QgsGeometry(shape)
     for corner in corners:
-        _, _, after, _ = changed.closestSegmentWithContext(corner)
+        _, _, after, _ = changed.closestSegmentWithContext(QgsPointXY(corner))
         changed.insertVertex(corner.x(), corner.y(), after)
     return changed
 
@@ -76,13 +76,13 @@ def _changes_within(fault: QgsGeometry, shape: QgsGeometry, changed: QgsGeometry
     return bool(difference.difference(fault).area() <= near * difference.length())
 
 
-def _corner_near(shapes: Sequence[QgsGeometry], place: QgsPointXY, near: float) -> Optional[QgsPointXY]:
+def _corner_near(shapes: Sequence[QgsGeometry], place: QgsPointXY, near: float) -> Optional[QgsPoint]:
     """The corner of shapes that is nearest to a place, if it is near."""
-    best: Tuple[float, Optional[QgsPointXY]] = (near * near, None)
+    best: Tuple[float, Optional[QgsPoint]] = (near * near, None)
     for shape in shapes:
-        corner, _, _, _, square = shape.closestVertex(place)
+        _, at, _, _, square = shape.closestVertex(place)
         if 0 <= square <= best[0]:
-            best = square, corner
+            best = square, shape.vertexAt(at)
     return best[1]
 
 
@@ -92,8 +92,8 @@ def insert(layer: QgsVectorLayer, missing: Missing) -> int:
     count = 0
     for corner in missing.corners:
         shape = layer.getGeometry(missing.feature)
-        _, _, after, _ = shape.closestSegmentWithContext(corner)
-        count += int(layer.insertVertex(corner.x(), corner.y(), missing.feature, after))
+        _, _, after, _ = shape.closestSegmentWithContext(QgsPointXY(corner))
+        count += int(layer.insertVertex(corner, missing.feature, after))
     if count:
         layer.endEditCommand()
     else:
@@ -101,10 +101,7 @@ def insert(layer: QgsVectorLayer, missing: Missing) -> int:
     return count
 
 
-def shapes_by_number(layer: QgsVectorLayer, field: str, numbers: Sequence[str], text_of: Any) -> Dict[int, QgsGeometry]:
-    """The shapes of the features with these numbers, unsaved edits included; without a field rows, from 1."""
-    wanted, found = set(numbers), {}
-    for row, feature in enumerate(layer.getFeatures(), 1):
-        if (text_of(feature[field]) if field else str(row)) in wanted:
-            found[feature.id()] = QgsGeometry(feature.geometry())
-    return found
+def shapes_of(layer: QgsVectorLayer, features: Iterable[int]) -> Dict[int, QgsGeometry]:
+    """The shapes of these features of the layer, unsaved edits included, without those that are gone."""
+    found = {one: layer.getFeature(one) for one in features}
+    return {one: QgsGeometry(feature.geometry()) for one, feature in found.items() if feature.hasGeometry()}

@@ -23,8 +23,9 @@ NO_PACKAGE = (
     f"name the Python that has it in {WHERE}."
 )
 NO_PROGRAM = f"The program parcel_tool was not found: install it from a release and name it in {WHERE}."
-TRIED_MODULES = ("geopandas", "tqdm")
-FIND = "import importlib.util as util, gandovel; print(all(map(util.find_spec, {modules!r})))"
+TRIED_MODULES = ("gandovel", "geopandas", "tqdm")
+FIND = "import importlib.util as util; print(all(map(util.find_spec, {modules!r})))"
+"""Looks for the modules without importing them, which would take seconds."""
 PAUSE = 0.1
 """Seconds between two looks at whether the user cancelled."""
 PATIENCE = 2.0

@@ -82,6 +82,13 @@ def read(folder: Path, name: str) -> gpd.GeoDataFrame:
     return gpd.read_file(folder / f"{name}.gpkg")
 
 
+def test_the_installed_plugin_lists_its_algorithms(place: Path) -> None:
+    """All of them, with the provider's name, by the command line too."""
+    listed = process(place, "--json", "list")
+    provider = json.loads(listed.stdout)["providers"]["gandovel"]
+    assert provider["name"] == "Gandovel" and set(provider["algorithms"]) == {f"gandovel:{name}" for name in OUTPUTS}
+
+
 def test_each_on_the_town(qgis: Any, place: Path, town_session: Path) -> None:
     """In centimetres, compared exactly, without a projection and without numbers, as the program's own example is."""
     folder = town_session

@@ -13,9 +13,10 @@ from typing import Any, Dict, Iterator, List
 
 import geopandas as gpd
 import pytest
-from conftest import ROOT
+from conftest import ROOT, metadata
 from layers_made import BAD, CRS, make_bad
-from shapely.geometry import Polygon, box
+from models import OUTPUTS
+from shapely.geometry import LineString, MultiPoint, Point, Polygon, box
 
 M = "TEMPORARY_OUTPUT"
 
@@ -98,6 +99,141 @@ def test_degrees_no_projection_and_no_unit(qgis: Any, tmp_path: Path) -> None:
     town = ROOT / "examples/town/parcels.shp"
     assert "no projection" in refused("checkparcels", INPUT=town, FAULTS=M)
     assert run("checkparcels", INPUT=town, UNIT="cm", FAULTS=M)["VERDICT"] == "tiles"
+
+
+def selected_in(layer: Any) -> List[Any]:
+    """The names of the features that are selected in a layer."""
+    return [layer.getFeature(one)["name"] for one in layer.selectedFeatureIds()]
+
+
+def test_bad_zones_city_and_points_are_selected_in_their_own_layers(project: Any, tmp_path: Path) -> None:
+    """Each feature that is refused, by its name; of points all, by their rows."""
+    from qgis.core import QgsVectorLayer
+
+    good = written(tmp_path / "good.gpkg", [box(0, 0, 10, 10), box(10, 0, 20, 10)], parcel_no=["1", "2"])
+    bow = Polygon([(0, 0), (10, 10), (10, 0), (0, 10)])
+    points = [Point(1, 1), None, MultiPoint([(2, 2), (3, 3)]), MultiPoint([(4, 4)]), Point(1e13, 0)]
+    layers = {
+        "OVERLAY": written(tmp_path / "zones.gpkg", [box(0, 0, 20, 5), bow], name=["A", "B"]),
+        "CITY": written(tmp_path / "city.gpkg", [bow], name=["city"]),
+        "POINTS": written(tmp_path / "points.gpkg", points, name=["a", "b", "c", "d", "e"]),
+    }
+    given = {name: QgsVectorLayer(str(path), name, "ogr") for name, path in layers.items()}
+    for layer in given.values():
+        project.addMapLayer(layer)
+    common = {"INPUT": good, "NUMBER_FIELD": "parcel_no"}
+    zones = {"OVERLAY": given["OVERLAY"].id(), "OVERLAY_FIELD": "name", "SPLIT": M, "PARTS": M, "TABLE": M}
+    assert "zones: P6 zone B: " in refused("overlayzones", **common, **zones)
+    assert selected_in(given["OVERLAY"]) == ["B"]
+    assert "city: P6" in refused("checkparcels", **common, CITY=given["CITY"].id(), FAULTS=M)
+    assert selected_in(given["CITY"]) == ["city"]
+    text = refused("locatepoints", **common, POINTS=given["POINTS"].id(), OUTPUT=M)
+    assert text.startswith("points: P4 point in row 2: it has no geometry") and "2 more" in text
+    assert sorted(selected_in(given["POINTS"])) == ["b", "c", "e"]
+
+
+def test_points_keep_their_columns_heights_and_kind(qgis: Any, tmp_path: Path) -> None:
+    """Columns that are named as those that are added, too."""
+    good = written(tmp_path / "good.gpkg", [box(0, 0, 10, 10), box(10, 0, 20, 10)], parcel_no=["1", "2"])
+    points = [MultiPoint([Point(5, 5)]), MultiPoint([Point(10, 5)])]
+    columns = {"Numbers": ["x", "y"], "where": ["here", "there"]}
+    source = written(tmp_path / "points.gpkg", points, **columns)
+    results = run("locatepoints", INPUT=good, NUMBER_FIELD="PARCEL_NO", POINTS=source, OUTPUT=M)
+    rows = [dict(zip(it.fields().names(), it.attributes())) for it in results["OUTPUT"].getFeatures()]
+    assert [(row["Numbers_"], row["where_"], row["where"], row["numbers"]) for row in rows] == [
+        ("x", "here", "inside", "1"),
+        ("y", "there", "edge", "1,2"),
+    ]
+    assert [it.geometry().asMultiPoint()[0].x() for it in results["OUTPUT"].getFeatures()] == [5, 10]
+    assert (results["INSIDE_COUNT"], results["EDGE_COUNT"], results["OUTSIDE_COUNT"]) == (1, 1, 0)
+    renderer = results["OUTPUT"].renderer()
+    assert [renderer.classAttribute(), len(renderer.categories())] == ["where", 3]
+
+
+def no_file(path: Path) -> None:
+    """Nothing."""
+
+
+def torn(path: Path) -> None:
+    """The first half of a layer."""
+    written(path, [box(0, 0, 10, 10)], parcel_no=["1"])
+    path.write_bytes(path.read_bytes()[: path.stat().st_size // 2])
+
+
+def other_fields(path: Path) -> None:
+    """A layer without the field of numbers."""
+    written(path, [box(0, 0, 10, 10)], other=["1"])
+
+
+def without_projection(path: Path) -> None:
+    """A layer that does not say where it lies."""
+    written(path, [box(0, 0, 10, 10)], crs=None, parcel_no=["1"])
+
+
+def without_features(path: Path) -> None:
+    """A layer of no feature."""
+    gpd.GeoDataFrame({"parcel_no": ["1"]}, geometry=[box(0, 0, 1, 1)], crs=CRS)[:0].to_file(
+        path, driver="GPKG", schema={"geometry": "Polygon", "properties": {"parcel_no": "str"}}
+    )
+
+
+def lines(path: Path) -> None:
+    """Lines in place of polygons."""
+    written(path, [LineString([(0, 0), (10, 10)])], parcel_no=["1"])
+
+
+def in_degrees(path: Path) -> None:
+    """A layer that is not projected."""
+    written(path, [box(9, 50, 9.1, 50.1)], crs=4326, parcel_no=["1"])
+
+
+def too_far_out(path: Path) -> None:
+    """Coordinates that no register has."""
+    written(path, [box(1e12, 0, 1e12 + 10, 10)], parcel_no=["1"])
+
+
+def number_twice(path: Path) -> None:
+    """Two parcels of one number."""
+    written(path, [box(0, 0, 10, 10), box(10, 0, 20, 10)], parcel_no=["1", "1"])
+
+
+def only_empty(path: Path) -> None:
+    """A feature without a shape."""
+    written(path, [box(0, 0, 10, 10), None], parcel_no=["1", "2"])
+
+
+SOON = [
+    (no_file, "Could not load source layer"),
+    (torn, "Could not load source layer"),
+    (other_fields, "has no field parcel_no: choose one of"),
+    (without_projection, "has no projection: give it one"),
+    (without_features, "has no feature: choose another"),
+]
+"""Layers that the plugin refuses itself."""
+LATER = [(lines, "P5"), (in_degrees, "P7"), (too_far_out, "P9"), (number_twice, "P3"), (only_empty, "P4")]
+"""Layers that the package refuses."""
+LONG = bool(os.environ.get("GANDOVEL_LONG"))
+
+
+@pytest.mark.parametrize("name", sorted(OUTPUTS) if LONG else ["checkparcels", "locatepoints"])
+@pytest.mark.parametrize("make, said", SOON + LATER if LONG else SOON)
+def test_bad_layers_by_each_algorithm(qgis: Any, tmp_path: Path, name: str, make: Any, said: str) -> None:
+    """One sentence that says what and where, and no output; with GANDOVEL_LONG by each algorithm, and each kind."""
+    make(tmp_path / "bad.gpkg")
+    good = written(tmp_path / "zones.gpkg", [box(0, 0, 10, 10)], name=["A"])
+    written(tmp_path / "points.gpkg", [Point(1, 1)], name=["a"])
+    (tmp_path / "edits.txt").write_text("merge 1 2\n")
+    more: Dict[str, Dict[str, Any]] = {
+        "overlayzones": {"OVERLAY": good, "OVERLAY_FIELD": "name"},
+        "locatepoints": {"POINTS": tmp_path / "points.gpkg"},
+        "applyedits": {"EDITS": tmp_path / "edits.txt"},
+        "comparesession": {"DESK": str(tmp_path / "nobody"), "TIMEOUT": 1},
+    }
+    before = set(tmp_path.iterdir())
+    outputs = {output: tmp_path / f"out_{output}.gpkg" for output in OUTPUTS[name]}
+    text = refused(name, INPUT=tmp_path / "bad.gpkg", NUMBER_FIELD="parcel_no", **more.get(name, {}), **outputs)
+    assert said in text and "Traceback" not in text and len(text.splitlines()) <= 2  # QGIS puts a line of its own first
+    assert {path for path in tmp_path.iterdir() if path.suffix != ".gpkg-shm"} <= before | {tmp_path / "bad.gpkg"}
 
 
 def test_fields_that_a_geopackage_has_of_its_own(qgis: Any, tmp_path: Path) -> None:
@@ -196,6 +332,10 @@ def test_a_missing_corner_is_found_and_no_other(qgis: Any) -> None:
     found = missing_corners(shape(Polygon([(0, 10), (5, 9.9), (10, 10)])), shapes, 0.00075)
     assert found is not None and found.feature == 3
     assert [(corner.x(), corner.y()) for corner in found.corners] == [(5, 9.9)]
+    high = {key: polygon for key, polygon in shapes.items()}
+    high[1] = QgsGeometry.fromWkt("PolygonZ((0 0 1, 5 0 2, 5 9.9 3, 0 10 4, 0 0 1))")
+    found = missing_corners(shape(Polygon([(0, 10), (5, 9.9), (10, 10)])), high, 0.00075)
+    assert found is not None and [corner.z() for corner in found.corners] == [3]
     strip = {1: shape(box(0, 0, 5, 10)), 2: shape(box(5.1, 0, 9, 10))}
     assert missing_corners(shape(box(5, 0, 5.1, 10)), strip, 0.00075) is None
 
@@ -207,7 +347,10 @@ def test_the_zip_has_the_plugin_and_the_same_bytes_each_time(tmp_path: Path) -> 
     assert (tmp_path / "one.zip").read_bytes() == (tmp_path / "two.zip").read_bytes()
     with zipfile.ZipFile(tmp_path / "one.zip") as archive:
         names = archive.namelist()
-        metadata = archive.read("gandovel/metadata.txt").decode()
+        about = archive.read("gandovel/metadata.txt").decode()
     assert {"gandovel/__init__.py", "gandovel/package_side/answer.py", "gandovel/styles/faults.qml"} <= set(names)
-    assert "hasProcessingProvider=yes" in metadata and "qgisMinimumVersion=3.22" in metadata
-    assert not any("pycache" in name for name in names)
+    assert "hasProcessingProvider=yes" in about and "qgisMinimumVersion=3.22" in about
+    files = [path for path in (ROOT / "qgis/gandovel").rglob("*") if path.is_file() and path.suffix != ".pyc"]
+    assert sorted(names) == sorted(str(path.relative_to(ROOT / "qgis")) for path in files)
+    package = (ROOT / "python/pyproject.toml").read_text()
+    assert f'version = "{metadata("version")}"' in package

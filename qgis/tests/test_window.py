@@ -10,14 +10,21 @@ from pathlib import Path
 from typing import Any, Dict, Iterator
 
 import pytest
-from conftest import environment
+from conftest import ROOT, environment, make_zip, metadata
 from layers_made import STREET_AREAS, STREET_CORNER, make_street
+from models import OUTPUTS
 
 HERE = Path(__file__).resolve().parent
+MOST_SECONDS_OF_MANY = 2.0
 PROFILE = "profiles/default/QGIS/QGIS3.ini"
 SETTINGS = """[PythonPlugins]
-gandovel=true
 processing=true
+GdalTools=false
+MetaSearch=false
+db_manager=false
+grassprovider=false
+otbprovider=false
+sagaprovider=false
 
 [qgis]
 checkVersion=false
@@ -47,9 +54,12 @@ def seen(display: str, tmp_path_factory: pytest.TempPathFactory) -> Dict[str, An
     """What `window.py` saw."""
     folder = tmp_path_factory.mktemp("window")
     make_street(folder / "street.gpkg")
+    make_zip(folder / "gandovel.zip")
     settings = folder / PROFILE
     settings.parent.mkdir(parents=True)
     settings.write_text(SETTINGS)
+    # QGIS looks for this folder when it starts: where it was not there then, a plugin is found after a restart alone.
+    (folder / "profiles/default/python/plugins").mkdir(parents=True)
     variables = environment(folder)
     variables.pop("QGIS_CUSTOM_CONFIG_PATH")
     variables.update(DISPLAY=display, QT_QPA_PLATFORM="xcb", GANDOVEL_WINDOW=str(folder), LIBGL_ALWAYS_SOFTWARE="1")
@@ -64,6 +74,16 @@ def seen(display: str, tmp_path_factory: pytest.TempPathFactory) -> Dict[str, An
     for image in folder.glob("*.png") if keep else ():
         shutil.copy(image, str(keep))
     return found
+
+
+def test_the_zip_is_installed_in_a_fresh_profile(seen: Dict[str, Any]) -> None:
+    """By QGIS's own installer, with all algorithms, icons, and the part that the package's Python runs."""
+    assert seen["before"] is False
+    assert seen["installed"].endswith("profiles/default/python/plugins/gandovel") and str(ROOT) not in seen["installed"]
+    assert seen["version"] == metadata("version")
+    assert seen["algorithms"] == sorted(OUTPUTS)
+    assert seen["icons"] == [False] * (1 + len(OUTPUTS))
+    assert seen["prepared"] == 12
 
 
 def areas_of(rows: list[list[str]], kind: str) -> list[float]:
@@ -93,8 +113,16 @@ def test_the_missing_corner_is_an_edit_that_undo_takes_back(seen: Dict[str, Any]
     """The fault goes with it, nothing was saved, and it is back after undo."""
     assert seen["inserted"].startswith("1 corner inserted")
     assert seen["commands"] == 1
+    assert seen["changed"] == [STREET_CORNER[0]]
     assert seen["mended"] == seen["first"][1:]
-    assert seen["undone"] == seen["first"]
+    assert seen["undone"] is True
+    assert seen["gone"] == "Parcels at this fault are no longer there: check again."
+
+
+def test_2000_faults_are_listed_and_marked_at_once(seen: Dict[str, Any]) -> None:
+    """In less than two seconds of a processor."""
+    rows, seconds = seen["many"]
+    assert rows == 2000 and seconds < MOST_SECONDS_OF_MANY
 
 
 def test_a_plot_that_crosses_itself_is_refused_and_selected(seen: Dict[str, Any]) -> None:

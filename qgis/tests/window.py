@@ -1,6 +1,6 @@
 """What the window's test does inside QGIS: run by `qgis --code window.py`, told by GANDOVEL_WINDOW what to use.
 
-A clerk opens a street, edits it, checks it unsaved, goes to the largest fault, inserts the missing corner, checks
+The plugin is installed from its zip. A clerk opens a street, edits it, checks it unsaved, goes to the largest fault, inserts the missing corner, checks
 again, takes it back, spoils a plot, and is told which. What was seen is written as JSON; pictures of the window beside it.
 """
 from __future__ import annotations
@@ -19,13 +19,14 @@ from qgis.core import (
     QgsPalLayerSettings,
     QgsPointXY,
     QgsProject,
+    QgsRectangle,
     QgsVectorLayer,
     QgsVectorLayerSimpleLabeling,
 )
 from qgis.PyQt.QtCore import QTimer
 from qgis.PyQt.QtGui import QColor
 from qgis.PyQt.QtWidgets import QApplication
-from qgis.utils import iface, plugins
+from qgis.utils import iface, pluginMetadata, plugins
 
 FOLDER = Path(os.environ["GANDOVEL_WINDOW"])
 WAIT = 300.0
@@ -71,8 +72,26 @@ def checked(dock: Any) -> list[list[str]]:
     return rows(dock)
 
 
+def install() -> None:
+    """Installs the plugin as "Install from ZIP" does, and runs an algorithm that has a part in the package's Python."""
+    import processing
+    import pyplugin_installer
+
+    seen["before"] = "gandovel" in plugins
+    pyplugin_installer.instance().installFromZipFile(str(FOLDER / "gandovel.zip"))
+    seen["installed"] = str(Path(sys.modules["gandovel"].__file__).parent)
+    seen["version"] = pluginMetadata("gandovel", "version")
+    provider = QgsApplication.processingRegistry().providerById("gandovel")
+    seen["algorithms"] = sorted(one.name() for one in provider.algorithms())
+    seen["icons"] = [provider.icon().isNull(), *(one.icon().isNull() for one in provider.algorithms())]
+    street = {"INPUT": str(FOLDER / "street.gpkg"), "NUMBER_FIELD": "parcel_no"}
+    prepared = processing.run("gandovel:prepare", {**street, "OUTPUT": "memory:", "CHANGES": "memory:"})
+    seen["prepared"] = prepared["OUTPUT"].featureCount()
+
+
 def drive() -> None:
     """The clerk's work."""
+    install()
     layer = QgsVectorLayer(str(FOLDER / "street.gpkg"), "street", "ogr")
     QgsProject.instance().addMapLayer(layer)
     iface.setActiveLayer(layer)
@@ -95,15 +114,18 @@ def drive() -> None:
     drawn()
     seen["zoomed"] = iface.mapCanvas().extent().width() < before / 2
     picture("street_fault")
+    shapes = shapes_in(layer)
     dock.corner_button.click()
     seen["inserted"] = dock.said.text()
+    seen["changed"] = sorted(number for number, shape in shapes_in(layer).items() if shape != shapes[number])
     seen["commands"] = layer.undoStack().count()
     seen["mended"] = checked(dock)
     iface.messageBar().clearWidgets()
     picture("street_mended")
     seen["saved"] = QgsVectorLayer(str(FOLDER / "street.gpkg"), "again", "ogr").featureCount()
     layer.undoStack().undo()
-    seen["undone"] = checked(dock)
+    seen["undone"] = shapes_in(layer) == shapes
+    seen["gone"] = without_a_plot(dock, layer)
     spoil(layer)
     checked(dock)
     seen["refused"] = dock.said.text()
@@ -111,9 +133,54 @@ def drive() -> None:
     seen["messages"] = len(iface.messageBar().items())
     picture("street_refused")
     layer.rollBack()
+    if "GANDOVEL_PICTURES" in os.environ:
+        picture_of_toolbox(layer)
+    show_many(dock, layer)
     cancel(dock)
     QgsProject.instance().removeMapLayer(layer.id())
     seen["forgotten"] = dock.checked is None
+
+
+def shapes_in(layer: Any) -> Dict[str, str]:
+    """The plots as they are in the window, by their numbers."""
+    return {feature["parcel_no"]: feature.geometry().asWkt() for feature in layer.getFeatures()}
+
+
+def without_a_plot(dock: Any, layer: Any) -> str:
+    """What the dock says where a plot of the first fault was taken out behind the check; then it is back."""
+    dock.table.selectRow(0)
+    number = dock.faults[0].numbers[0]
+    layer.deleteFeature(dock.owners[number][0])
+    dock.corner_button.click()
+    layer.undoStack().undo()
+    return str(dock.said.text())
+
+
+def show_many(dock: Any, layer: Any) -> None:
+    """Lists and marks 2,000 faults of a layer, and takes them away again."""
+    from gandovel.check_task import Fault
+
+    corner = layer.extent()
+    places = [(corner.xMinimum() + at % 50, corner.yMinimum() + at // 50) for at in range(2000)]
+    shapes = [QgsGeometry.fromRect(QgsRectangle(x, y, x + 0.5, y + 0.01)) for x, y in places]
+    begun = time.process_time()
+    dock.checked = layer
+    dock._show([Fault("gap", "parcels", ["1"], 0.005, "10000", shape) for shape in shapes])
+    drawn()
+    seen["many"] = [dock.table.rowCount(), time.process_time() - begun]
+    dock._show([])
+
+
+def picture_of_toolbox(layer: Any) -> None:
+    """A picture of the window of an algorithm, with its help."""
+    import processing
+
+    dialog = processing.createAlgorithmDialog("gandovel:checkparcels", {"INPUT": layer, "NUMBER_FIELD": "parcel_no"})
+    dialog.resize(900, 560)
+    dialog.show()
+    drawn()
+    dialog.grab().save(str(FOLDER / "check_dialog.png"))
+    dialog.close()
 
 
 def spoil(layer: Any) -> None:

@@ -29,6 +29,8 @@ from ..program import Cancelled, NotFound
 ICON = Path(__file__).parents[1] / "icon.svg"
 MOST_ERRORS = 20
 """How many refused features are told one by one."""
+PARAMETER_OF_ROLE = {"": "INPUT", "parcels": "INPUT", "zones": "OVERLAY", "city": "CITY", "points": "POINTS"}
+"""The parameter whose layer a refusal of the package is about."""
 STEPS = 12
 """About how many steps the package takes; more do not harm."""
 Parameters = Dict[str, Any]
@@ -264,10 +266,9 @@ class Job:
             raise QgsProcessingException(f"{refused.refusals[0]}{tail}") from refused
 
     def _select(self, refused: Refused) -> None:
-        roles = {"": "INPUT", "parcels": "INPUT", "zones": "OVERLAY", "city": "CITY"}
         concerned: Dict[str, List[int]] = {}
         for refusal in refused.refusals:
-            name = roles.get(refusal.role, "INPUT")
+            name = PARAMETER_OF_ROLE.get(refusal.role, "")
             if name in self.written:
                 concerned.setdefault(name, []).extend(self.written[name].concerned(refusal))
         for name, features in concerned.items():

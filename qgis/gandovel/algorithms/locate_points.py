@@ -23,6 +23,7 @@ class LocatePoints(Algorithm):
         "whole millimetre, <i>moved_mm</i> away (measured).</p>" + EXACT
     )
     TAGS = ("points", "point in polygon")
+    STYLED = {"OUTPUT": "located"}
 
     def initAlgorithm(self, configuration: Optional[Parameters] = None) -> None:
         """Its parameters and outputs."""

@@ -1,7 +1,7 @@
 """What the package answers where it has no command for it: run by the package's own Python, never by QGIS.
 
 `answer.py REQUEST.json`: the request has `do` (prepare, locate, apply, compare), paths of layers, and options of
-`gandovel.prepare`. One JSON object is printed; a refusal is `{"refused": [..]}` and one line `error: ..`, status 1.
+`gandovel.prepare`. One JSON object is printed; a refusal is `{"refused": [..]}`, status 1.
 """
 from __future__ import annotations
 
@@ -16,7 +16,7 @@ import gandovel as gv
 import geopandas as gpd
 import numpy as np
 import pandas as pd
-from gandovel.errors import Refused
+from gandovel.errors import Refused, raise_all
 from gandovel.gpkg import write_layers
 from gandovel.grid import without_straight
 from gandovel.prepared import Island, Prepared
@@ -31,6 +31,10 @@ Ring = Any
 """A ring's corners, int64 of shape (k, 2), in mm."""
 Canonical = Any
 """What two sets of rings have in common just if they cover the same: the corners of polygons, without straight ones."""
+LOCATED, PREPARED = ("where", "numbers", "moved_mm", "moved_how"), ("island", "records")
+"""Columns that are added to those of the user's points, and of the user's parcels."""
+FARTHEST = 1e12
+"""How far out (in the layer's unit) a point may lie: farther ones are in no layer, and in no 64 bits of millimetres."""
 MOST_TRIES = 3
 MOST_NEW_OF_AN_EDIT = 2
 
@@ -63,6 +67,7 @@ def with_corners(prepared: Prepared) -> gpd.GeoDataFrame:
             islands.setdefault(row, at)
     rows = [row for row in range(len(prepared.numbers)) if rings[row]]
     attributes = pd.DataFrame(prepared.parcels.drop(columns=prepared.parcels.geometry.name)).iloc[rows]
+    attributes = beside(attributes, PREPARED)
     attributes = attributes.reset_index(drop=True)
     attributes["island"] = [islands[row] for row in rows]
     attributes["records"] = [",".join(records[row]) for row in rows]
@@ -79,26 +84,57 @@ def shape_of(prepared: Prepared, rings: Sequence[Ring]) -> Any:
 def do_locate(request: Request, progress: Progress) -> Answer:
     """The layer `points` in `out`, and how many lie inside, on an edge and outside."""
     prepared = prepared_of(request, progress)
-    points = read_layer(request["points"], "points")
-    test_points(points)
+    points = beside(read_layer(request["points"], "points"), LOCATED)
+    singles = singles_of(points)
     progress.step("asking where the points lie")
-    located = gv.locate(prepared, points)
+    located = gv.locate(prepared, points.set_geometry(singles, crs=points.crs)).set_geometry(points.geometry)
     write_layers(request["out"], [("points", located)])
     counts = Counter(located["where"])
     return {"counts": {where: counts.get(where, 0) for where in ("inside", "edge", "outside")}}
 
 
-def test_points(points: gpd.GeoDataFrame) -> None:
-    """Refuses, by row, points that are none, or several in one."""
-    for row, point in enumerate(points.geometry):
-        if point is None or point.is_empty:
-            raise Refused("P4", f"row {row + 1} has no geometry", "points")
-        if point.geom_type != "Point":
-            raise Refused(
-                "P5", f"row {row + 1} is a {point.geom_type} and no point: make single points of it", "points"
-            )
-        if not np.isfinite([point.x, point.y]).all():
-            raise Refused("P6", f"row {row + 1} has a coordinate that is no number", "points")
+def singles_of(points: gpd.GeoDataFrame) -> List[Any]:
+    """Each row's one point. Refuses all rows that have none, each by its row: `number` is the row, from 1."""
+    problems = []
+    singles = [single_of(point) for point in points.geometry]
+    for row, point in enumerate(singles, 1):
+        code, text = fault_of_point(point)
+        if code:
+            problems.append(Refused(code, text, "points", number=str(row)))
+    raise_all(problems, "mend these points, or select the others and locate the selected ones alone")
+    return singles
+
+
+def single_of(point: Any) -> Any:
+    """The point of a multipoint that has only one; any other shape as it is."""
+    parts = getattr(point, "geoms", ())
+    return parts[0] if len(parts) == 1 else point
+
+
+def fault_of_point(point: Any) -> Tuple[str, str]:
+    """Code and text of what keeps a point from being looked for; both empty where nothing does."""
+    if point is None or point.is_empty:
+        return "P4", "it has no geometry"
+    if point.geom_type != "Point":
+        return "P5", f"it is a {point.geom_type} and no single point"
+    if not np.isfinite([point.x, point.y]).all():
+        return "P6", "it has a coordinate that is no number"
+    if max(abs(point.x), abs(point.y)) > FARTHEST:
+        return "P9", "it lies too far out"
+    return "", ""
+
+
+def beside(frame: gpd.GeoDataFrame, added: Sequence[str]) -> gpd.GeoDataFrame:
+    """The frame with an underscore behind those of its columns whose names are those of columns to be added."""
+    used = {str(name).lower() for name in frame.columns} | {name.lower() for name in added}
+    renamed = {}
+    for name in frame.columns:
+        if str(name).lower() in {one.lower() for one in added}:
+            renamed[name] = f"{name}_"
+            while renamed[name].lower() in used:
+                renamed[name] += "_"
+            used.add(renamed[name].lower())
+    return frame.rename(columns=renamed)
 
 
 def do_apply(request: Request, progress: Progress) -> Answer:
@@ -262,7 +298,6 @@ def main(path: str) -> int:
         return 0
     except Refused as refused:
         print(json.dumps({"refused": [one.record_of() for one in refused.all]}))
-        print(f"error: {refused}", file=sys.stderr)
         return int(refused.status)
     except MemoryError:
         print("error: no memory", file=sys.stderr)
