@@ -67,6 +67,7 @@ def _add_questions(commands: Any) -> None:
     where = locate.add_mutually_exclusive_group(required=True)
     where.add_argument("--at", nargs=2, type=float, metavar=("X", "Y"), help="a point, in the layer's unit")
     where.add_argument("--points", metavar="LAYER", help="a layer of points")
+    locate.add_argument("--points-layer", metavar="NAME", help="the layer, where the source of points has several")
 
 
 def parser() -> argparse.ArgumentParser:
@@ -128,6 +129,11 @@ def _prepared(options: argparse.Namespace, progress: Progress) -> Prepared:
     )
 
 
+def _read(options: argparse.Namespace) -> List[Optional[str]]:
+    """The layers that a command reads, as they were named."""
+    return [options.source, options.zones, options.city]
+
+
 def _lost(prepared: Prepared) -> None:
     """Says on standard error what no use is made of."""
     for text in prepared.lost:
@@ -161,7 +167,7 @@ def _report(options: argparse.Namespace) -> int:
     if options.command == "report" and out is None and not (options.json or options.csv):
         raise Refused("P14", "say where to write the report: --out REPORT.gpkg (or ask by --json or --csv)")
     if out is not None:
-        test_name(out)
+        test_name(out, _read(options))
     progress = Progress(shown=True)
     try:
         prepared = _prepared(options, progress)
@@ -206,20 +212,18 @@ def _overlay(options: argparse.Namespace) -> int:
 
 
 def _locate(options: argparse.Namespace) -> int:
-    import geopandas as gpd
-    from shapely.geometry import Point
-
     from .answer import csv_of, json_of
     from .api import locate
+    from .points import points_at
     from .progress import Progress
     from .reading import read_layer
     from .tool import program_version
 
     prepared = _prepared(options, Progress(shown=True))
     if options.points is not None:
-        points = read_layer(options.points, "points")
+        points = read_layer(options.points, "points", options.points_layer)
     else:
-        points = gpd.GeoDataFrame(geometry=[Point(*options.at)], crs=prepared.crs)
+        points = points_at([options.at], prepared.crs)
     frame = locate(prepared, points)
     columns = (frame.geometry.x, frame.geometry.y, frame["where"], frame["numbers"], frame["moved_mm"])
     rows = [
@@ -243,7 +247,7 @@ def _mend(options: argparse.Namespace) -> int:
     from .mend import mend
     from .progress import Progress
 
-    test_name(options.out)
+    test_name(options.out, _read(options))
     prepared = _prepared(options, Progress(shown=True))
     mended = mend(prepared, options.width)
     mended.save(options.out)

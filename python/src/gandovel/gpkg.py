@@ -64,10 +64,14 @@ def write_layers(
                 left.unlink()
 
 
-def test_name(path: Union[str, Path]) -> None:
-    """Refuses (P14) a name that no GeoPackage has, since nothing else is written."""
+def test_name(path: Union[str, Path], read: Sequence[Optional[str]] = ()) -> None:
+    """Refuses (P14) a name that no GeoPackage has, since nothing else is written, and that of a file that is `read`."""
     if Path(path).suffix.lower() != ".gpkg":
         raise Refused("P14", f"{path} would be a GeoPackage: give it a name that ends with .gpkg")
+    for source in read:
+        file = (source or "").partition("|")[0]
+        if file and os.path.exists(file) and os.path.exists(path) and os.path.samefile(file, path):
+            raise Refused("P14", f"{path} is a layer that is read, and would be written over: give another name")
 
 
 def _make_table(path: Path, name: str, frame: gpd.GeoDataFrame, blobs: Sequence[Optional[bytes]]) -> None:

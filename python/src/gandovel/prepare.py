@@ -20,7 +20,7 @@ from .big_rings import cut_ring
 from .city import OpenGap, open_gaps
 from .errors import Refused, place, raise_all
 from .holes import cut_holes
-from .limits import MOST_CORNERS, too_large
+from .limits import FARTHEST, MOST_CORNERS, too_large
 from .noding import noise_of, points_of, put_in, values_gathered
 from .prepared import GATHERED, MOVED, OUT, OUT_ROW, PUT_IN, TOUCHED, Changes, Island, Prepared, Rows, Skipped
 from .progress import Progress
@@ -30,7 +30,6 @@ from .touching import Reaches, reaches_of
 from .units import Unit, unit_of
 
 FRAME_MARGIN = 1_000
-FARTHEST = 100_000_000_000
 ADVICE = "mend them in the GIS, or go on without them by --skip-invalid"
 Labels = Tuple[List[str], List[str]]
 """The numbers of the parcels' rows and the names of the zones'."""

@@ -31,6 +31,12 @@ from .verdicts import LayerFaults, checked, island_pairs, layer_faults, numbers_
 
 SQUARE_METRE = 1_000_000
 SHOWN = 8
+CITIES = {
+    "parcels": "the city is what the parcels cover",
+    "layer": "the city is the layer that was given",
+    "frame": "the city is a frame around all",
+}
+"""Where the city's outline is from, as the verdict says it."""
 Pair = Tuple[int, int, int]
 """An island, from 0, and the rows of a parcel and a zone in it."""
 
@@ -81,7 +87,7 @@ class Report:
         return gpd.GeoDataFrame(both, geometry="geometry", crs=self.gaps.crs)
 
     def summary(self) -> str:
-        """One line: islands, what was left out, gaps and overlaps with their areas, how many parcels are split."""
+        """One line: islands, what was left out, gaps and overlaps with their areas, split parcels, whence the city is."""
         count, unit = len(self.prepared.islands), self.prepared.unit
         texts = [f"{count} islands"] if count > 1 else []
         texts += [*self.prepared.skipped_told(), _told(self, "parcels")]
@@ -99,7 +105,7 @@ class Report:
             texts.append(f"{_count(len(self.slivers), 'sliver')} {wide}, which `gandovel mend` closes")
         if self.beyond:
             texts.append(f"{_count(len(self.beyond), 'parcel')} beyond the city (measured), whose zones are not known")
-        return "; ".join(texts)
+        return "; ".join([*texts, CITIES[self.prepared.told["city"]]])
 
     def save(self, path: Union[str, Path]) -> None:
         """Writes the GeoPackage and `split.csv` beside it, each under another name first."""
