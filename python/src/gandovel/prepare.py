@@ -26,7 +26,7 @@ from .prepared import GATHERED, MOVED, OUT, OUT_ROW, PUT_IN, TOUCHED, Changes, I
 from .progress import Progress
 from .reading import Source, frame_of
 from .sources import CITY, PARCELS, ROLES, ROW, ZONES, Loops
-from .touching import Reaches, reaches_of
+from .touching import Reaches, reaches_of, test_distances
 from .units import Unit, unit_of
 
 FRAME_MARGIN = 1_000
@@ -145,6 +145,7 @@ def prepare(
 
     Refused P1 .. P14, by number and place; of what is invalid all at once.
     """
+    test_distances(grid=grid, touch=touch, max_move=max_move, narrow=narrow * 1000.0)
     progress = progress or Progress()
     progress.step("reading the layers")
     frames = (

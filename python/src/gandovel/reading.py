@@ -20,6 +20,8 @@ from .large.reading import read_large
 Source = Union[str, "os.PathLike[str]", gpd.GeoDataFrame, gpd.GeoSeries]
 """A layer: a path, or text that GDAL opens (`/vsizip/..`, `PG:..`, an URL of a file, `PATH|layername=NAME`), or frames."""
 LOG = logging.getLogger("gandovel")
+ANY_DRIVER = {"allow_unsupported_drivers": True}
+"""Fiona opens what GDAL does, and not those formats alone that its own tests try: PostgreSQL is none of them."""
 ANY = ("GeometryCollection", "3D GeometryCollection", "Unknown")
 AREAS = ("Polygon", "MultiPolygon", "3D Polygon", "3D MultiPolygon", *ANY)
 POINTS = ("Point", "3D Point", *ANY)
@@ -47,11 +49,11 @@ def read_layer(source: Union[str, "os.PathLike[str]"], role: str, layer: Optiona
         raise Refused("P1", f"{path} is not there", role=role)
     try:
         name = _layer_name(path, layer, role)
-        with fiona.open(path, layer=name) as opened:
+        with fiona.open(path, layer=name, **ANY_DRIVER) as opened:
             types = dict(opened.schema["properties"])
         frame = read_large(path, name)
         if frame is None:
-            frame = gpd.read_file(path, layer=name)
+            frame = gpd.read_file(path, layer=name, **ANY_DRIVER)
     except Refused:
         raise
     except fiona.errors.UnsupportedGeometryTypeError:
@@ -94,7 +96,7 @@ def _layer_name(path: str, layer: Optional[str], role: str) -> str:
 def _may_have(kinds: Tuple[str, ...], path: str, name: str) -> bool:
     """Whether a layer's shapes are of these kinds, as far as its source says. Curves, which Fiona can't open, are areas."""
     try:
-        with fiona.open(path, layer=name) as opened:
+        with fiona.open(path, layer=name, **ANY_DRIVER) as opened:
             return opened.schema["geometry"] in kinds and name != "layer_styles"
     except fiona.errors.UnsupportedGeometryTypeError:
         return kinds is AREAS

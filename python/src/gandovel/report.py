@@ -193,6 +193,8 @@ def report(prepared: Prepared, min_area: float = 1.0, progress: Optional[Progres
 
     Refused as the program refuses, by number; a layer that does not tile is no refusal, but what is told.
     """
+    if not min_area >= 0:
+        raise Refused("P8", f"a least area of {min_area} m2 is none: give square metres, 0 or more")
     progress = progress or Progress()
     faults: Dict[str, List[Dict[str, Any]]] = {"gaps": [], "overlaps": [], "slivers": []}
     pairs: Dict[Tuple[int, str], List[Pair]] = defaultdict(list)
