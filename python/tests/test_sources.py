@@ -133,13 +133,14 @@ def test_what_is_lost_is_told(tmp_path):
 
 
 def test_columns_of_any_name_and_kind(tmp_path):
-    frame = two(FID=[3, 4], Fid=[5, 6], pairs=[[1], {2: 3}], span=pd.to_timedelta([1, 2]))
+    columns = {"pairs": [[1], {2: 3}], "span": pd.to_timedelta([1, 2]), "range": pd.interval_range(0, 2)}
+    frame = two(FID=[3, 4], Fid=[5, 6], large=np.array([1, 2**64 - 1], dtype=np.uint64), **columns)
     frame[7], frame["shape"] = [1, 2], frame.geometry
     prepared = gv.prepare(frame)
     gv.report(prepared).save(tmp_path / "r.gpkg")
-    columns = gpd.read_file(tmp_path / "r.gpkg", layer="parcels").columns
-    assert {"7", "FID_", "Fid__", "pairs", "span"} <= set(columns)
-    for lost in ("geometries of the column shape", "type of the column pairs", "type of the column span"):
+    written = gpd.read_file(tmp_path / "r.gpkg", layer="parcels")
+    assert {"7", "FID_", "Fid__", *columns} <= set(written.columns) and written.large[1] == str(2**64 - 1)
+    for lost in ("geometries of the column shape", *(f"type of the column {name}" for name in columns)):
         assert any(lost in text for text in prepared.lost)
 
 
@@ -156,6 +157,8 @@ def test_a_map_of_what_is_no_report(tmp_path):
         ended = command("map", name, "--out", "m.html", cwd=tmp_path)
         (line,) = ended.stderr.splitlines()
         assert ended.returncode == 1 and line.startswith("error: P1 ") and not (tmp_path / "m.html").exists()
+    ended = command("map", "p.gpkg", "--out", "p.gpkg", cwd=tmp_path)
+    assert ended.returncode == 1 and "P14 p.gpkg is read, and would be written over" in ended.stderr
 
 
 def test_the_verdict_says_whence_the_city_is():

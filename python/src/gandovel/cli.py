@@ -266,8 +266,10 @@ def _mend(options: argparse.Namespace) -> int:
 
 
 def _map(options: argparse.Namespace) -> int:
+    from .gpkg import test_not_read
     from .map import write_map
 
+    test_not_read(options.out, [options.report])
     if not Path(options.report).is_file():
         raise Refused("P1", f"{options.report} is not there")
     write_map(options.report, options.out)

@@ -175,7 +175,7 @@ def _plain_column(values: pd.Series) -> Tuple[Optional[pd.Series], str]:
         return None, "the geometries"
     if isinstance(values.dtype, pd.CategoricalDtype):
         return values.astype(values.cat.categories.dtype if not values.isna().any() else object), ""
-    if isinstance(values.dtype, pd.PeriodDtype) or values.dtype.kind in "mc":
+    if isinstance(values.dtype, (pd.PeriodDtype, pd.IntervalDtype)) or values.dtype.kind in "mc":
         return values.astype(str).where(values.notna(), None), "the type"
     if values.dtype == object:
         known = values.dropna()
