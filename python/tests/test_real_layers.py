@@ -97,7 +97,9 @@ def shapely_says(frame, width):
     shapes = list(frame.geometry)
     gaps = [Polygon(ring) for part in polygons_of(unary_union(shapes)) for ring in part.interiors]
     tree, position = STRtree(shapes), {id(shape): at for at, shape in enumerate(shapes)}
-    pairs = [(shape, other) for shape in shapes for other in tree.query(shape) if position[id(other)] > position[id(shape)]]
+    pairs = [
+        (shape, other) for shape in shapes for other in tree.query(shape) if position[id(other)] > position[id(shape)]
+    ]
     overlaps = [part for one, other in pairs for part in polygons_of(one.intersection(other))]
     return [gap for gap in gaps if is_wide(gap, width)], [overlap for overlap in overlaps if is_wide(overlap, width)]
 

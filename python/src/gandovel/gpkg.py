@@ -233,7 +233,9 @@ def _typed_values(values: List[Any], kind: str) -> pd.Series:
     if kind == "DATETIME":
         return pd.to_datetime(pd.Series(values, dtype=object), errors="coerce", utc=True)
     if kind == "BOOLEAN":
-        return pd.Series([None if value is None else bool(value) for value in values], dtype=_with_gaps("bool", missing))
+        return pd.Series(
+            [None if value is None else bool(value) for value in values], dtype=_with_gaps("bool", missing)
+        )
     if "INT" in kind:
         return pd.Series(values, dtype=_with_gaps("int64", missing))
     return pd.Series(values, dtype=float if kind in ("REAL", "FLOAT", "DOUBLE") else object)
