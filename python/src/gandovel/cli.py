@@ -5,6 +5,7 @@ import argparse
 import logging
 import os
 import sys
+from importlib.util import find_spec
 from pathlib import Path
 from typing import TYPE_CHECKING, Any, Callable, Dict, List, Optional
 
@@ -304,10 +305,24 @@ def _begin_log() -> None:
     logging.getLogger("fiona").setLevel(logging.CRITICAL)
 
 
+def _find_projections() -> None:
+    """Shows the system's pyproj where the system's projections are, in a virtual environment.
+
+    It looks in the environment alone, and warns that it has found none; PROJ itself knows where they are.
+    """
+    if sys.prefix == sys.base_prefix or {"PROJ_DATA", "PROJ_LIB"} & set(os.environ):
+        return
+    found, data = find_spec("pyproj"), Path(sys.base_prefix, "share/proj")
+    is_own = found is not None and str(found.origin).startswith(sys.prefix)
+    if not is_own and (data / "proj.db").is_file():
+        os.environ["PROJ_DATA"] = str(data)
+
+
 def main(arguments: Optional[List[str]] = None) -> int:
     """Runs the command line; the status."""
     options = parser().parse_args(arguments)
     _begin_log()
+    _find_projections()
     commands: Dict[str, Callable[[argparse.Namespace], Optional[int]]] = {
         "prepare": _prepare,
         "check": _report,
