@@ -61,7 +61,8 @@ def journal_of(text: bytes) -> Journal:
     header = _HEADER.fullmatch(lines[0])
     if not header or len(lines) == 1:
         raise JournalRefused("no journal", "")
-    digest, records = header[1], []
+    digest = header[1]
+    records: List[JournalRecord] = []
     for at in range(1, len(lines) - 2, 2):
         said, digest = _record(digest, len(records) + 1, lines[at], lines[at + 1])
         if said is None:

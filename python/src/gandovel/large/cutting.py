@@ -8,7 +8,7 @@ answers, since what the districts' runs and that of the layer of outlines tell a
 from __future__ import annotations
 
 from dataclasses import dataclass
-from typing import Dict, List, Optional, Sequence, Tuple
+from typing import Any, Dict, List, Optional, Sequence, Tuple
 
 import numpy as np
 from shapely.geometry import MultiLineString, MultiPoint, Point, Polygon
@@ -25,6 +25,7 @@ FILLED = 0.9
 
 MOST_CORNERS = 4_096
 ROUNDS = 12
+ENDS: Tuple[Any, ...] = (np.minimum, np.maximum)
 
 
 @dataclass
@@ -87,7 +88,7 @@ def cut(rings: Sequence[Array], most: int) -> Districts:
     sizes = np.bincount(edges.ring, minlength=len(rings))
     begins = np.cumsum(sizes) - sizes
     corners = edges.points[edges.start]
-    low, high = (ends.reduceat(corners, begins, axis=0) for ends in (np.minimum, np.maximum))
+    low, high = (ends.reduceat(corners, begins, axis=0) for ends in ENDS)
     middles = (low + high) / 2.0
     count = max(_parts(len(rings), most * FILLED), _parts(int(sizes.sum()), MOST_IN_ALL * FILLED))
     label = np.zeros(len(rings), dtype=np.int64)
@@ -161,7 +162,7 @@ def _parts_of(edges: _Edges, label: Array) -> Dict[int, List[Polygon]]:
         faces = [Polygon(face.exterior) for face in polygonize(unary_union(lines))]
         whole = unary_union(faces)
         parts = [Polygon(part.exterior) for part in getattr(whole, "geoms", [whole]) if not part.is_empty]
-        found[int(of_side[begin])] = sorted(parts, key=lambda part: -part.area) or [_hull(points[low])]
+        found[int(of_side[begin])] = sorted(parts, key=lambda part: -float(part.area)) or [_hull(points[low])]
     return found
 
 
@@ -234,7 +235,7 @@ def _outline(shape: Polygon, origin: Array) -> Array:
     ring = ring if twice_area(ring) > 0 else ring[::-1]
     if len(ring) > MOST_CORNERS:
         ring = without_straight(ring)
-    return ring + origin
+    return np.asarray(ring + origin)
 
 
 def boxes_of(rings: Sequence[Array]) -> Array:
@@ -243,7 +244,7 @@ def boxes_of(rings: Sequence[Array]) -> Array:
         return np.zeros((0, 4), dtype=np.int64)
     sizes = np.array([len(ring) for ring in rings], dtype=np.int64)
     corners, begins = np.concatenate(rings), np.cumsum(sizes) - sizes
-    return np.hstack([ends.reduceat(corners, begins, axis=0) for ends in (np.minimum, np.maximum)])
+    return np.hstack([ends.reduceat(corners, begins, axis=0) for ends in ENDS])
 
 
 def partition_faults(districts: Districts, count: int) -> List[Tuple[int, int]]:

@@ -48,7 +48,7 @@ def touches_in_tiles(
 
     found = forked(found_in, len(bounds) - 1, jobs_of(how_cut()))
     rows = np.concatenate([*found, np.zeros((0, 2), dtype=np.int64)])
-    return rows[np.argsort(rows[:, 0], kind="stable")]
+    return np.asarray(rows[np.argsort(rows[:, 0], kind="stable")])
 
 
 def _tiles(points: Array, start: Array, end: Array) -> "tuple[Array, Array]":
@@ -73,4 +73,4 @@ def plain_loops(loops: Loops, points: Array, dirty: Array) -> Array:
     small = (width.max(axis=1) < NEAR) & (sizes <= 4_096) & (sizes > 2)
     has_holes = np.concatenate([loops.hole[1:], [False]])
     sure = np.abs(signed_areas(corners, loops)) > 0.5
-    return small & sure & ~dirty & ~loops.hole & ~has_holes
+    return np.asarray(small & sure & ~dirty & ~loops.hole & ~has_holes)

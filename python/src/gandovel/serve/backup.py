@@ -45,7 +45,7 @@ def check_backup(folder: Path) -> str:
         lines = (folder / SUMS).read_text(encoding="utf-8").splitlines()
     except (OSError, UnicodeDecodeError):
         raise Refused("P1", f"{folder} is no backup: it has no {SUMS}") from None
-    wanted = dict(reversed(line.split("  ", 1)) for line in lines if "  " in line)
+    wanted = {name: digest for digest, name in (line.split("  ", 1) for line in lines if "  " in line)}
     found = _sums(folder)
     wrong = sorted(name for name in {*wanted, *found} if wanted.get(name) != found.get(name))
     if wrong:
