@@ -143,7 +143,7 @@ class Chain:
         if not found or int(found[1]) != self.count + 1 or found[5].decode() != digest or not _is_edit(edit):
             raise self._changed()
         try:
-            time = datetime.strptime(found[3].decode(), "%Y-%m-%dT%H:%M:%SZ").replace(tzinfo=timezone.utc)
+            time = datetime.fromisoformat(found[3].decode()[:-1]).replace(tzinfo=timezone.utc)
             who = (found[4] or b"").decode("utf-8")
         except ValueError:
             raise self._changed() from None

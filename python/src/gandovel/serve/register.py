@@ -15,7 +15,7 @@ from typing import Any, Dict, List, Optional, Sequence, Set, Tuple
 import numpy as np
 
 from ..answers import Accepted, Overlaps, Place, accepted_of, count_of, overlaps_of, place_of, test_error
-from ..errors import BadAnswer, JournalBroken, JournalInUse, NoMemory, NoZones, ProgramEnded, Refused
+from ..errors import BadAnswer, JournalBroken, JournalInUse, JournalRefused, NoMemory, NoZones, ProgramEnded, Refused
 from ..journals import JournalRecord
 from .entries import Asked, Entry, Versions
 from .faults import KeyReused, NotServing, Stale, Unknown
@@ -268,7 +268,7 @@ class Register:
             test_error(answer)
             made = accepted_of(answer)
             self._accept(made.number)
-        except (ProgramEnded, JournalBroken, NoMemory, BadAnswer, asyncio.TimeoutError) as fault:
+        except (ProgramEnded, JournalBroken, JournalRefused, NoMemory, BadAnswer, asyncio.TimeoutError) as fault:
             if fate is None:
                 raise
             return await self._fate_of(fate, fault)
@@ -489,7 +489,7 @@ class Register:
             "entries": len(self.entries),
             "kept_from": self.versions.first,
             "restarts": self.restarts,
-            "trouble": self.trouble if self.state != "serving" else "",
+            "trouble": self.trouble if self.state != "serving" or time.monotonic() < self._rests_until else "",
         }
 
     def memory(self) -> Dict[str, int]:
