@@ -280,11 +280,11 @@ class Register:
     async def _fate_of(self, fate: Fate, fault: BaseException) -> Entry:
         """The entry of an edit without an answer, as the journal tells it once the session is started anew."""
         self._fates.add(fate)
+        if not isinstance(fault, ProgramEnded) and self._session is not None and self.state == "serving":
+            self._session.kill()
         if isinstance(fault, JournalBroken):
             self.trouble = "the journal can't be written: see that its disk has room"
             self._rests_until = time.monotonic() + REST
-        if not isinstance(fault, ProgramEnded) and self._session is not None and self.state == "serving":
-            self._session.kill()
         number = await fate.number
         if number is None:
             if isinstance(fault, JournalBroken):
