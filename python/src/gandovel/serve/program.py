@@ -24,7 +24,7 @@ START = 600.0
 """Seconds that a start may take: a long journal is applied then."""
 MOST_NOTES = 1 << 20
 """How many bytes of standard error are looked at."""
-OPENING = 10.0
+OPENING = 60.0
 """Seconds until a desk's pipes are open, once the program is ready."""
 _SET_PARENT_DEATH_SIGNAL = 1
 
@@ -143,7 +143,7 @@ class Room:
             path.mkdir(mode=0o700, exist_ok=True)
             self._lock = os.open(path, os.O_RDONLY | os.O_DIRECTORY | os.O_CLOEXEC)
         except OSError as fault:
-            raise _no_pipes(fault) from fault
+            raise self._refusal(fault) from fault
         try:
             fcntl.flock(self._lock, fcntl.LOCK_EX | fcntl.LOCK_NB)
             is_there = os.path.samestat(os.fstat(self._lock), os.stat(path))
@@ -162,7 +162,7 @@ class Room:
                 os.mkfifo(f"{name}.in", 0o600)
                 os.mkfifo(f"{name}.out", 0o600)
         except OSError as fault:
-            raise _no_pipes(fault) from fault
+            raise self._refusal(fault) from fault
         return names
 
     def close(self) -> None:
@@ -174,15 +174,15 @@ class Room:
             pass  # it has something that is not the server's
         os.close(self._lock)
 
+    def _refusal(self, fault: OSError) -> Refused:
+        advice = "see that the journal's folder is there, and may be written to"
+        return Refused("P14", f"{self._path}, for the server's pipes, can't be made: {fault.strerror}: {advice}")
+
     def _clear(self) -> None:
         """Takes away what servers make there, and nothing else."""
         for path in self._path.iterdir():
             if re.fullmatch(r"desk[1-8]\.(in|out|lock)", path.name):
                 path.unlink()
-
-
-def _no_pipes(fault: OSError) -> Refused:
-    return Refused("P14", f"the pipes beside the journal can't be made: {fault.strerror}")
 
 
 _LIBC = ctypes.CDLL(None, use_errno=True)
