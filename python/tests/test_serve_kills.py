@@ -19,7 +19,7 @@ from gandovel.serve.entries import Asked
 from gandovel.serve.register import Fate, Register
 from gandovel.serve.tail import Tail
 from gandovel.tool import find_tool
-from served import LONG, Served, environment, moved, prepared, replayed, until
+from served import LONG, SECONDS, Served, environment, moved, prepared, replayed, until
 from session_register import grid_city
 
 CITY, RINGS = grid_city(8, 8, 1)
@@ -66,7 +66,8 @@ class Clerk(threading.Thread):
 
     def sent(self, line, key):
         """The first answer that says what became of the line; after the end only what was sent is asked for."""
-        for _ in range(600):
+        end = time.monotonic() + SECONDS
+        while time.monotonic() < end:
             try:
                 answer = self.session.post(
                     self.served.address + "/edits",
