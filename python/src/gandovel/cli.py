@@ -1,4 +1,4 @@
-"""The command `gandovel`: prepare, check, report, overlay, locate, mend, map, back, many."""
+"""The command `gandovel`: prepare, check, report, overlay, locate, mend, map, back, many, serve, backup, journal."""
 from __future__ import annotations
 
 import argparse
@@ -11,6 +11,7 @@ from typing import TYPE_CHECKING, Any, Callable, Dict, List, Optional
 
 from . import __version__
 from .errors import Refused
+from .journal_command import add_journal, run_journal
 from .large.options import add_options, cut_as_told
 from .many.command import add_command, run_command
 from .serve.command import add_commands, run_backup, run_serve
@@ -100,6 +101,7 @@ def parser() -> argparse.ArgumentParser:
     back.add_argument("--out", required=True, metavar="NEW.gpkg", help="the GeoPackage to write")
     add_command(commands)
     add_commands(commands)
+    add_journal(commands)
     return top
 
 
@@ -335,6 +337,7 @@ def main(arguments: Optional[List[str]] = None) -> int:
         "many": run_command,
         "serve": run_serve,
         "backup": run_backup,
+        "journal": run_journal,
     }
     try:
         with cut_as_told(options):

@@ -7,6 +7,7 @@ from typing import Any, Dict, List, Optional, Sequence, Tuple
 import numpy as np
 
 from ..arrays import Array
+from ..journals import JournalRecord, Said
 
 NEVER = np.iinfo(np.int64).max
 """The entry that takes out a row which is there still."""
@@ -15,20 +16,43 @@ Box = Tuple[float, float, float, float]
 
 
 @dataclass(frozen=True)
-class Entry:
-    """An accepted edit: its number, its line, the ids that it took out and brought; who made it, why, when, its key.
+class Asked:
+    """An edit that a client sent: its line, as a journal has it, and who sends it, why and by which key."""
 
-    `time` is UTC, as `2026-01-31T12:00:00.000Z`. Of an entry that another program made, the last four are None.
+    edit: str
+    said: Said
+
+    @property
+    def line(self) -> bytes:
+        """What the session is asked for."""
+        return f"by {self.said.word}: {self.edit}".encode()
+
+    def is_of(self, record: JournalRecord) -> bool:
+        """Whether this may be what became the record."""
+        return (record.who, record.edit) == (self.said.word, self.edit)
+
+
+@dataclass(frozen=True)
+class Entry:
+    """An accepted edit, as the journal's record has it, and the ids that it took out and brought.
+
+    `time` is UTC, as `2026-01-31T12:00:00Z`. `who` is None where the record has no word of its client.
     """
 
     number: int
     edit: str
     out: Tuple[int, ...]
     new: Tuple[int, ...]
-    who: Optional[str] = None
-    why: Optional[str] = None
-    time: Optional[str] = None
-    key: Optional[str] = None
+    who: Optional[str]
+    why: str
+    time: str
+    key: Optional[str]
+
+    @classmethod
+    def of(cls, record: JournalRecord, out: Tuple[int, ...] = (), new: Tuple[int, ...] = ()) -> "Entry":
+        """The entry of a record."""
+        said = record.said
+        return cls(record.number, record.edit, out, new, said.name or None, said.why, record.moment, said.key)
 
     def as_json(self) -> Dict[str, Any]:
         """What an answer has of it; the key is its maker's alone."""
