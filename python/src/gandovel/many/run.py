@@ -219,7 +219,7 @@ class _Run:
         early = _Early(self.results, kind, to_do, self.name)
         if to_do:
             try:
-                batch.write(self.results.path / kind, self.program, self.settings.limits)
+                batch.write(self.results.path / kind, self.program, self.settings.limits, self.verify)
                 with _progress(len(to_do), kind, self.shown) as told:
                     lost = engine.run(batch, early.then(told))
             except OSError as fault:
