@@ -12,6 +12,8 @@ ghost use Rattle.geo_exact.specs.Segments.{IsOnSegment};
 ghost use Rattle.geo_exact.specs.Turn.{turn, turn_at, IsOnEdge, IsOnRing, IsOnSome};
 ghost use Rattle.geo_exact.specs.Winding.{winding, IsInterior};
 ghost use Rattle.geo_exact.specs.Area.{area2};
+ghost use Rattle.geo_exact.specs.declared.limits.TheConstants.{COUNTED_EDGES, FILE_BYTES, LAYER_CORNERS, LAYER_RECORDS};
+ghost use Rattle.geo_exact.specs.declared.limits.TheConstants.{LIMIT, LIST_CORNERS, RING_CORNERS};
 
 /// A ring has no first corner: begun at another corner it has the same edges, begun there too, and so the same winding
 /// number round every point, the same signed area and the same boundary.
@@ -99,4 +101,15 @@ pub fn a_ring_does_not_go_round_what_its_least_corner_sees_outside()
 pub fn a_place_beyond_a_box_is_off_the_rings_in_it()
     ensures { (p : Point) (bounds : Bounds) (ring : List Corner) → All (HoldsCorner bounds) ring → IsBeyondBox p bounds
         → (¬ IsOnRing p ring) × (winding p ring ≡ pos 0) }
+{}
+
+/// The limits are these numbers, and not one more or less: a definition that names a constant means its number.
+pub fn the_limits_are_these_numbers()
+    ensures coordinate { LIMIT ≡ pos 100000000000 }
+    ensures ring { RING_CORNERS ≡ 4096 }
+    ensures layer { LAYER_CORNERS ≡ 1000000 }
+    ensures records { LAYER_RECORDS ≡ 65536 }
+    ensures file { FILE_BYTES ≡ 67108864 }
+    ensures list { LIST_CORNERS ≡ 10000000 }
+    ensures edges { COUNTED_EDGES ≡ 1000000000000 }
 {}

@@ -34,7 +34,7 @@ pub use laws::{
     a_ring_does_not_go_round_what_its_least_corner_sees_outside, a_ring_has_no_first_corner,
     a_ring_is_begun_at_a_corner_of_it, a_ring_turned_round_has_the_opposite_orientation,
     a_triangle_winds_once_round_its_inside, a_way_off_the_ring_keeps_its_winding_number,
-    the_interior_of_a_triangle_is_left_of_its_edges,
+    the_interior_of_a_triangle_is_left_of_its_edges, the_limits_are_these_numbers,
 };
 pub use limits::{
     COUNTED_EDGES, FILE_BYTES, LAYER_CORNERS, LAYER_RECORDS, LIMIT, LIST_CORNERS, RING_CORNERS,

@@ -14,5 +14,7 @@ pub use edit_words::read_edit;
 pub use grids::Grid;
 pub use points::{PointsFault, read_points};
 pub use text_lines::{is_skipped, split_line};
-pub use text_numbers::{MOST_DIGITS, read_corner, read_number};
+pub use text_numbers::{
+    MOST_DIGITS, a_number_has_at_most_so_many_digits, read_corner, read_number,
+};
 pub use words::Words;

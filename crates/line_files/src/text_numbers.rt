@@ -15,6 +15,11 @@ use geo_exact::{Corner, LIMIT};
 /// The most digits of a number in a text.
 pub const MOST_DIGITS: usize = 19;
 
+/// A number in a text has at most 19 digits, and not one fewer.
+pub fn a_number_has_at_most_so_many_digits()
+    ensures { MOST_DIGITS ≡ 19 }
+{}
+
 /// The corner with these two coordinates, in whole millimetres; `None` where one is no number or beyond the limit.
 pub fn read_corner(x: &[u8], y: &[u8]) -> Option<Corner>
     ensures found { IfSome result (IsCornerText Millimetres x.now y.now) }

@@ -19,6 +19,6 @@ pub use gate::Gate;
 pub use hand::{Hand, Step};
 pub use job_threads::OwnThreads;
 pub use overlay_claims::Claimant;
-pub use round::{MOST_HANDS, Round, RoundFault};
+pub use round::{MOST_HANDS, Round, RoundFault, an_overlay_has_at_most_so_many_workers};
 pub use run::run_round;
 pub use zone_tables::{Table, write_report};

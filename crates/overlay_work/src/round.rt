@@ -2,6 +2,7 @@
 
 ghost use Rattle.std.specs.Prelude.{◌≡◌, ◌⊎◌, ◌↔◌, [], ℕ, map, flat_map, length, IsTrue, IfOk, IfErr, OnOk, IsErrAnd, IsPermutation};
 ghost use Rattle.fabric_core.specs.Rows.{numbers};
+ghost use Rattle.overlay_work.specs.declared.round.TheConstants.{MOST_HANDS};
 ghost use Rattle.overlay_work.specs.declared.round.RoundFault.{RoundFault};
 ghost use Rattle.overlay_work.specs.declared.round.RoundFault.TheVariants.{NoMemory};
 ghost use Rattle.overlay_work.specs.declared.close.CloseFault.{CloseFault};
@@ -33,6 +34,11 @@ use zone_tables::Table;
 
 /// The most hands that a round has.
 pub const MOST_HANDS: usize = 64;
+
+/// An overlay is shared among at most 64 workers, and not one fewer.
+pub fn an_overlay_has_at_most_so_many_workers()
+    ensures { MOST_HANDS ≡ 64 }
+{}
 
 /// Why a round is not begun: the first that applies, in this order.
 #[derive(Clone, Copy, Debug, PartialEq, Eq)]
