@@ -1,0 +1,9 @@
+//! The codes of refusals in words: what each means, what usually causes it, and what to do. The pages and the program
+//! take them from here.
+#![tactic(auto)]
+
+mod codes;
+mod words;
+
+pub use codes::CODES;
+pub use words::{CodeWords, words_in, words_of};
