@@ -50,7 +50,7 @@ module _ {A : Type 0} (city districts : Files) (unit : LengthUnit) (tiles : Tile
         is_told = h.is_told;
       }
 
-  abbrev IsPartOf : NumberedRing → WrittenPart A → Type 0
+  abbrev pub IsPartOf : NumberedRing → WrittenPart A → Type 0
   IsPartOf row part = (part.id ≡ row.number)
       × IsPart city districts unit row.number part.main.items part.index.items part.line.items
 

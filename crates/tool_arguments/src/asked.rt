@@ -215,7 +215,7 @@ fn wanted_of(words: &Words<'_, '_>) -> Option<Wanted>
     match (words.id, words.all) {
         (Some(id), false) => Some(Wanted::One(id)),
         (None, true) => Some(Wanted::All),
-        _ => None,
+        (Some(_), true) | (None, false) => None,
     }
 }
 

@@ -13,8 +13,8 @@ returns-in_err-layer-clause-refuses g c = λ fault h.
     passed_on _ _ (λ told. (told ≡ fault) ⊎ (told ≡ NoMemory)) c.from_residual.ensures.1
     (c.in_err-layer.ensures.refuses fault h)
 
-pub parts_of-parts-requires : goal.parts_of-parts-requires
-parts_of-parts-requires g c =
+pub parts_of-requires : goal.parts_of-requires
+parts_of-requires g c =
     let rows = c.in_ok-layer.layer.rows in
     each_short (λ shape. shape.1.ring.corners) c.shapes.result rows (lists_of_shapes c.shapes.result rows c.shapes.ensures)
     c.use_invariant.ensures.within.each
