@@ -20,11 +20,11 @@ _parcel_tool() {
   case "${COMP_WORDS[1]}" in
     help) COMPREPLY=($(compgen -W 'area check export locate overlay part session' -- "$word")); return ;;
     area) options='--unit -h --help' ;;
-    check) options='--unit --all --clerk -h --help' ;;
-    export) options='--unit --out --clerk -h --help' ;;
-    locate) options='--unit --at --points --clerk -h --help' ;;
+    check) options='--unit --all --clerk --workers -h --help' ;;
+    export) options='--unit --out --clerk --workers -h --help' ;;
+    locate) options='--unit --at --points --clerk --workers -h --help' ;;
     overlay) options='--unit --clerk --workers -h --help' ;;
-    part) options='--unit --out -h --help' ;;
+    part) options='--all --unit --out --workers -h --help' ;;
     session) options='--unit --zones --journal --desk --workers -h --help' ;;
   esac
   case "$word" in

@@ -1,10 +1,12 @@
 #!/usr/bin/env python3
 """Runs the built program on each row of the tables beside this script, and compares what it writes and its status.
 
-    runs/run.py [PROGRAM ..]
+    runs/run.py [--all-workers] [PROGRAM ..]
 
 With no word it takes the programs that `rt ci` leaves, one by each compiler, and the static one (scripts/static_program) where
-it is there. A program whose name ends in `.static` runs with no environment and no /proc. A table has rows such as
+it is there. A program whose name ends in `.static` runs with no environment and no /proc. Each row whose commands can share
+their work among threads runs once more with `--workers 3`, and with `--all-workers` with 1 and 64, too: what comes out must be the
+same. A table has rows such as
 
     == A layer without an index
     + square.shp: square.shp
@@ -27,6 +29,7 @@ $ WORDS               the command line, in which \\xFF is a byte; further ones r
 # ..                  a comment
 """
 
+import copy
 import ctypes
 import os
 import re
@@ -45,6 +48,8 @@ BUILT = os.path.join(HERE, "..", "crates", "parcel_tool", "out", "parcel_tool")
 STATIC = ".static"
 SECONDS = 60
 THREAD_STACK = 1 << 30
+SHARED = {b"check", b"export", b"locate", b"overlay", b"part"}  # the commands that take --workers
+ONE_NUMBER, ALL_NUMBERS = (3,), (1, 3, 64)  # of workers: none, some and the most
 NEW_MOUNTS, NEW_USERS = 0x00020000, 0x10000000  # of unshare
 PRIVATE_BELOW = 0x44000  # of mount: recursively private
 
@@ -97,6 +102,21 @@ def rows_of(path):
             else:
                 sys.exit(f"{path}:{number}: this line begins with no mark of a table")
     return rows
+
+
+def with_workers(row, count):
+    """The row with so many workers in each command line that takes a number. Nothing where there is no such line or one has a number,
+    where the row's is no command line, or where it limits memory, since each thread takes some for its stack."""
+    shares = [bool(words) and words[0] in SHARED for words in row.lines]
+    named = any(word.startswith(b"--workers") for words in row.lines for word in words)
+    limited = any(it.endswith(" MiB") or it == "no threads" for it in row.how)
+    if not any(shares) or named or limited or row.status == 2:
+        return None
+    again = copy.copy(row)
+    again.title = f"{row.title} (--workers {count})"
+    number = [b"--workers", str(count).encode()]
+    again.lines = [[words[0], *number, *words[1:]] if it else words for words, it in zip(row.lines, shares)]
+    return again
 
 
 def plain(word):
@@ -235,11 +255,13 @@ def run(program, row):
 
 def main():
     built = [it for it in (BUILT, BUILT + ".by-rattle", BUILT + STATIC) if os.path.isfile(it)]
-    programs = [Program(os.path.abspath(it)) for it in sys.argv[1:] or built]
+    numbers = ALL_NUMBERS if "--all-workers" in sys.argv else ONE_NUMBER
+    programs = [Program(os.path.abspath(it)) for it in [it for it in sys.argv[1:] if it != "--all-workers"] or built]
     if not programs:
         sys.exit("no program is built: rt ci builds it, or rt run in crates/parcel_tool")
     tables = sorted(it for it in os.listdir(HERE) if it.endswith(".table"))
     rows = [(table, row) for table in tables for row in rows_of(os.path.join(HERE, table))]
+    rows += [(table, again) for table, row in rows for again in [with_workers(row, it) for it in numbers] if again]
     any_failed = not rows
     for program in programs:
         name, failed = program.name(), 0

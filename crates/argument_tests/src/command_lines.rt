@@ -6,7 +6,7 @@ use std::test::Fail;
 use tool_arguments::{Points, Request, parse};
 
 /// Command lines, and what each asks for.
-const REQUESTS: [(&str, &str); 9] = [
+const REQUESTS: [(&str, &str); 12] = [
     (
         "parcel_tool area city.shp --unit mm",
         "Area { main: \"city.shp\", unit: Mm }",
@@ -17,34 +17,49 @@ const REQUESTS: [(&str, &str); 9] = [
     ),
     (
         "parcel_tool check --unit m a.shp b.shp",
-        "Check { inputs: Inputs { city: \"a.shp\", parcels: \"b.shp\", unit: M, clerks: [] }, all: false }",
+        "Check { inputs: Inputs { city: \"a.shp\", parcels: \"b.shp\", unit: M, clerks: [], workers: None }, all: false }",
     ),
     (
-        "parcel_tool check a --clerk d --all b --unit cm --clerk c",
-        "Check { inputs: Inputs { city: \"a\", parcels: \"b\", unit: Cm, clerks: [\"d\", \"c\"] }, all: true }",
+        "parcel_tool check a --clerk d --all b --unit cm --clerk c --workers 3",
+        "Check { inputs: Inputs { city: \"a\", parcels: \"b\", unit: Cm, clerks: [\"d\", \"c\"], workers: Some(Workers { count: 3 }) }, all: true }",
     ),
     (
         "parcel_tool export a b --unit mm --out new/town --clerk c",
-        "Export { inputs: Inputs { city: \"a\", parcels: \"b\", unit: Mm, clerks: [\"c\"] }, base: \"new/town\" }",
+        "Export { inputs: Inputs { city: \"a\", parcels: \"b\", unit: Mm, clerks: [\"c\"], workers: None }, base: \"new/town\" }",
     ),
     (
         "parcel_tool locate --points - a b --unit m --clerk c --clerk c",
-        "Locate { inputs: Inputs { city: \"a\", parcels: \"b\", unit: M, clerks: [\"c\", \"c\"] }, points: File(\"-\") }",
+        "Locate { inputs: Inputs { city: \"a\", parcels: \"b\", unit: M, clerks: [\"c\", \"c\"], workers: None }, points: File(\"-\") }",
     ),
     (
         "parcel_tool overlay a b c --unit cm --clerk d",
-        "Overlay { inputs: Inputs { city: \"a\", parcels: \"b\", unit: Cm, clerks: [\"d\"] }, \
-         zones: \"c\", workers: Workers { count: 4 } }",
+        "Overlay { inputs: Inputs { city: \"a\", parcels: \"b\", unit: Cm, clerks: [\"d\"], workers: None }, \
+         zones: \"c\" }",
     ),
     (
         "parcel_tool overlay a --workers 64 b c --unit m",
-        "Overlay { inputs: Inputs { city: \"a\", parcels: \"b\", unit: M, clerks: [] }, \
-         zones: \"c\", workers: Workers { count: 64 } }",
+        "Overlay { inputs: Inputs { city: \"a\", parcels: \"b\", unit: M, clerks: [], workers: Some(Workers { count: 64 }) }, \
+         zones: \"c\" }",
     ),
     (
         "parcel_tool part a b --out c/d 18446744073709551615 --unit cm",
-        "Part { district: District { city: \"a\", districts: \"b\", unit: Cm, id: 18446744073709551615 }, \
-         base: \"c/d\" }",
+        "Part { districts: Districts { city: \"a\", districts: \"b\", unit: Cm, wanted: One(18446744073709551615), \
+         workers: None }, base: \"c/d\" }",
+    ),
+    (
+        "parcel_tool part a b --all --out c/d --unit m --workers 1",
+        "Part { districts: Districts { city: \"a\", districts: \"b\", unit: M, wanted: All, \
+         workers: Some(Workers { count: 1 }) }, base: \"c/d\" }",
+    ),
+    (
+        "parcel_tool export a b --workers=2 --unit mm --out c",
+        "Export { inputs: Inputs { city: \"a\", parcels: \"b\", unit: Mm, clerks: [], \
+         workers: Some(Workers { count: 2 }) }, base: \"c\" }",
+    ),
+    (
+        "parcel_tool locate a b --workers 64 --unit mm --points p",
+        "Locate { inputs: Inputs { city: \"a\", parcels: \"b\", unit: Mm, clerks: [], \
+         workers: Some(Workers { count: 64 }) }, points: File(\"p\") }",
     ),
 ];
 
@@ -153,7 +168,7 @@ fn reads_points(rt: HostRuntime) -> Result<(), Fail> {
 }
 
 /// Command lines that are refused: the kind of error, and what its text says.
-const REFUSED: [(&str, ErrorKind, &str); 15] = [
+const REFUSED: [(&str, ErrorKind, &str); 18] = [
     (
         "parcel_tool",
         ErrorKind::DisplayHelpOnMissingArgumentOrSubcommand,
@@ -192,7 +207,22 @@ const REFUSED: [(&str, ErrorKind, &str); 15] = [
     (
         "parcel_tool part a.shp b.shp --unit mm --out c",
         ErrorKind::MissingRequiredArgument,
-        "<ID>",
+        "<ID|--all>",
+    ),
+    (
+        "parcel_tool part a.shp b.shp 1 --all --unit mm --out c",
+        ErrorKind::ArgumentConflict,
+        "cannot be used with '--all'",
+    ),
+    (
+        "parcel_tool part a.shp b.shp --all --unit mm --out c --workers 0",
+        ErrorKind::ValueValidation,
+        "0 is not in 1..=64",
+    ),
+    (
+        "parcel_tool check a.shp b.shp --unit mm --workers 65",
+        ErrorKind::ValueValidation,
+        "65 is not in 1..=64",
     ),
     (
         "parcel_tool part a.shp b.shp 18446744073709551616 --unit mm --out c",
@@ -266,7 +296,7 @@ fn shows_help_and_version(rt: HostRuntime) -> Result<(), Fail> {
         ),
         (
             "parcel_tool part --help",
-            "Usage: parcel_tool part --unit <UNIT> --out <BASE> <CITY> <DISTRICTS> <ID>",
+            "Usage: parcel_tool part [OPTIONS] --unit <UNIT> --out <BASE> <ID|--all> <CITY> <DISTRICTS>",
         ),
         (
             "parcel_tool --version",

@@ -16,6 +16,7 @@ use fabric_core::{Asked, City, Layer, LoadFault, LoadRefusal};
 use geo_exact::Unit;
 use shp_files::a_layer_file_is_within_the_limits;
 use std::alloc::Allocator;
+use std::thread::Threads;
 
 /// A fault that ends a run, and the lines of all faults of its kind that come before it, where there may be some.
 #[derive(Debug)]
@@ -82,6 +83,36 @@ pub(crate) fn read_told<'h, H: Allocator, A: Allocator>(
     }
 }
 
+/// As [`read_told`], by so many threads at the most.
+pub(crate) fn read_told_by<'h, R: Threads + Sync, H: Allocator + Send + Sync, A: Allocator>(
+    rt: &R,
+    workers: usize,
+    heap: &'h H,
+    city: &City<'h, H>,
+    role: Role,
+    files: &Source<A>,
+    unit: Unit,
+    asked: Asked,
+) -> Result<Layer<'h, H>, LayerRefusal<&'h H>>
+    ensures layer { IfOk result (λ layer. IsTiledBy (files_of files.now) unit city.now.ring.corners layer) }
+    ensures fault { IfErr result (λ refusal. (IsFaultOfLayer role (files_of files.now) unit city.now.ring.corners refusal.fault
+        × (asked ≡ Asked.All → (of_city : Files) → IsCityOf of_city unit city.now.ring.corners
+        → AreLinesBefore of_city (files_of files.now) unit refusal.fault (text_or_none refusal.lines)))
+        ⊎ ((refusal.fault ≡ ToolFault.NoMemory) × (text_or_none refusal.lines ≡ []))) }
+    // Files whose rings tile the city are loaded, unless memory runs out.
+    ensures loads { (tiles : Tiles) → IsTiledBy (files_of files.now) unit city.now.ring.corners tiles
+        → IfErr result (λ refusal. refusal.fault ≡ ToolFault.NoMemory) }
+    ensures refuses { (fault : ToolFaultValue) → IsFaultOfLayer role (files_of files.now) unit city.now.ring.corners fault
+        → IsErrAnd result (λ refusal. (refusal.fault ≡ fault) ⊎ (refusal.fault ≡ ToolFault.NoMemory)) }
+{
+    let records = layer_rings(heap, role, files.main.as_slice(), files.index_bytes(), unit)?;
+    a_layer_file_is_within_the_limits();
+    match Layer::load_or_all_by(rt, workers, heap, city, records, asked) {
+        Ok(layer) => Ok(layer),
+        Err(refusal) => Err(refusal_of(heap, role, &refusal)),
+    }
+}
+
 /// What the fault of a layer's rings is to the user; the layer has this role in the run.
 fn told_of_load(role: Role, fault: LoadFault) -> ToolFault<'static>
     ensures { result ≡ told_of_load_fault role fault }
@@ -137,6 +168,40 @@ pub(crate) fn load_told<'h, H: Allocator, A: Allocator>(
     read_told(heap, &city, Role::Parcels, parcels, unit, asked)
 }
 
+/// As [`load_told`], by so many threads at the most.
+pub(crate) fn load_told_by<'h, R: Threads + Sync, H: Allocator + Send + Sync, A: Allocator>(
+    rt: &R,
+    workers: usize,
+    heap: &'h H,
+    city: &Source<A>,
+    parcels: &Source<A>,
+    unit: Unit,
+    asked: Asked,
+) -> Result<Layer<'h, H>, LayerRefusal<&'h H>>
+    ensures tiles { IfOk result (AreTiles (files_of city.now) (files_of parcels.now) unit) }
+    ensures fault { IfErr result (λ refusal. (IsTilesFault (files_of city.now) (files_of parcels.now) unit refusal.fault
+        × (asked ≡ Asked.All
+        → AreLinesBefore (files_of city.now) (files_of parcels.now) unit refusal.fault (text_or_none refusal.lines)))
+        ⊎ ((refusal.fault ≡ ToolFault.NoMemory) × (text_or_none refusal.lines ≡ []))) }
+    // Files that tile their city are loaded, unless memory runs out.
+    ensures loads { (tiles : Tiles) → AreTiles (files_of city.now) (files_of parcels.now) unit tiles
+        → IfErr result (λ refusal. refusal.fault ≡ ToolFault.NoMemory) }
+    ensures refuses { (fault : ToolFaultValue) → IsTilesFault (files_of city.now) (files_of parcels.now) unit fault
+        → IsErrAnd result (λ refusal. (refusal.fault ≡ fault) ⊎ (refusal.fault ≡ ToolFault.NoMemory)) }
+{
+    let city = read_city(heap, city, unit)?;
+    read_told_by(
+        rt,
+        workers,
+        heap,
+        &city,
+        Role::Parcels,
+        parcels,
+        unit,
+        asked,
+    )
+}
+
 /// The layer of the parcels' files, which tiles the city of the city's files, or all faults of the
 /// parcels of the first's kind.
 ///
@@ -160,4 +225,30 @@ pub fn load_tiles_or_lines<'h, H: Allocator, A: Allocator>(
         → IsErrAnd result (λ refusal. (refusal.fault ≡ fault) ⊎ (refusal.fault ≡ ToolFault.NoMemory)) }
 {
     load_told(heap, city, parcels, unit, Asked::All)
+}
+
+/// As [`load_tiles_or_lines`], by so many threads at the most, as in [`load_tiles_by`](crate::load_tiles_by).
+///
+/// # Errors
+///
+/// Those of [`load_tiles_or_lines`].
+pub fn load_tiles_or_lines_by<'h, R: Threads + Sync, H: Allocator + Send + Sync, A: Allocator>(
+    rt: &R,
+    workers: usize,
+    heap: &'h H,
+    city: &Source<A>,
+    parcels: &Source<A>,
+    unit: Unit,
+) -> Result<Layer<'h, H>, LayerRefusal<&'h H>>
+    ensures tiles { IfOk result (AreTiles (files_of city.now) (files_of parcels.now) unit) }
+    ensures fault { IfErr result (λ refusal. (IsTilesFault (files_of city.now) (files_of parcels.now) unit refusal.fault
+        × AreLinesBefore (files_of city.now) (files_of parcels.now) unit refusal.fault (text_or_none refusal.lines))
+        ⊎ ((refusal.fault ≡ ToolFault.NoMemory) × (text_or_none refusal.lines ≡ []))) }
+    // Files that tile their city are loaded, unless memory runs out.
+    ensures loads { (tiles : Tiles) → AreTiles (files_of city.now) (files_of parcels.now) unit tiles
+        → IfErr result (λ refusal. refusal.fault ≡ ToolFault.NoMemory) }
+    ensures refuses { (fault : ToolFaultValue) → IsTilesFault (files_of city.now) (files_of parcels.now) unit fault
+        → IsErrAnd result (λ refusal. (refusal.fault ≡ fault) ⊎ (refusal.fault ≡ ToolFault.NoMemory)) }
+{
+    load_told_by(rt, workers, heap, city, parcels, unit, Asked::All)
 }

@@ -15,9 +15,9 @@ mod sources;
 mod tiles;
 mod zones;
 
-pub use all_tiles::{LayerRefusal, load_tiles_or_lines};
+pub use all_tiles::{LayerRefusal, load_tiles_or_lines, load_tiles_or_lines_by};
 pub use fault::{Role, ToolFault};
 pub use replace::replace_layer;
 pub use sources::{Disk, Folder, PathFault, Source, StandardInput, read_source, read_text};
-pub use tiles::load_tiles;
-pub use zones::{Layers, load_layers};
+pub use tiles::{load_tiles, load_tiles_by};
+pub use zones::{Layers, load_layers, load_layers_by};

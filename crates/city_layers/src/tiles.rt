@@ -8,13 +8,14 @@ ghost use Rattle.city_layers.specs.TilingFiles.{told_of_city as told_of_city_fau
 ghost use Rattle.city_layers.specs.TilingFiles.{files_of, IsCityOf, IsFaultOfCity, IsTiledBy, IsFaultOfLayer, AreTiles};
 ghost use Rattle.city_layers.specs.TilingFiles.{IsTilesFault};
 
-use crate::all_tiles::{load_told, read_told};
+use crate::all_tiles::{load_told, load_told_by, read_told, read_told_by};
 use crate::fault::{Role, ToolFault};
 use crate::layers::layer_rings;
 use crate::sources::Source;
 use fabric_core::{Asked, City, CityFault, Layer};
 use geo_exact::Unit;
 use std::alloc::Allocator;
+use std::thread::Threads;
 
 /// The city of a city's files: their one ring.
 pub fn read_city<'h, H: Allocator, A: Allocator>(
@@ -82,6 +83,31 @@ pub fn read_tiles<'h, H: Allocator, A: Allocator>(
     }
 }
 
+/// As [`read_tiles`], by so many threads at the most.
+pub fn read_tiles_by<'h, R: Threads + Sync, H: Allocator + Send + Sync, A: Allocator>(
+    rt: &R,
+    workers: usize,
+    heap: &'h H,
+    city: &City<'h, H>,
+    role: Role,
+    files: &Source<A>,
+    unit: Unit,
+) -> Result<Layer<'h, H>, ToolFault<'static>>
+    ensures layer { IfOk result (λ layer. IsTiledBy (files_of files.now) unit city.now.ring.corners layer) }
+    ensures fault { IfErr result (λ fault. IsFaultOfLayer role (files_of files.now) unit city.now.ring.corners fault
+        ⊎ (fault ≡ ToolFault.NoMemory)) }
+    // Files whose rings tile the city are loaded, unless memory runs out.
+    ensures loads { (tiles : Tiles) → IsTiledBy (files_of files.now) unit city.now.ring.corners tiles
+        → IfErr result (λ fault. fault ≡ ToolFault.NoMemory) }
+    ensures refuses { (fault : ToolFaultValue) → IsFaultOfLayer role (files_of files.now) unit city.now.ring.corners fault
+        → IsErrAnd result (λ told. (told ≡ fault) ⊎ (told ≡ ToolFault.NoMemory)) }
+{
+    match read_told_by(rt, workers, heap, city, role, files, unit, Asked::First) {
+        Ok(layer) => Ok(layer),
+        Err(refusal) => Err(refusal.fault),
+    }
+}
+
 /// The layer of the parcels' files, which tiles the city of the city's files.
 ///
 /// # Errors
@@ -104,6 +130,37 @@ pub fn load_tiles<'h, H: Allocator, A: Allocator>(
         → IsErrAnd result (λ told. (told ≡ fault) ⊎ (told ≡ ToolFault.NoMemory)) }
 {
     match load_told(heap, city, parcels, unit, Asked::First) {
+        Ok(layer) => Ok(layer),
+        Err(refusal) => Err(refusal.fault),
+    }
+}
+
+/// As [`load_tiles`], by so many threads at the most.
+///
+/// What comes out is that of `load_tiles`, whatever the number is and however the threads take turns. What the system
+/// refuses a thread is done by the caller.
+///
+/// # Errors
+///
+/// Those of [`load_tiles`].
+pub fn load_tiles_by<'h, R: Threads + Sync, H: Allocator + Send + Sync, A: Allocator>(
+    rt: &R,
+    workers: usize,
+    heap: &'h H,
+    city: &Source<A>,
+    parcels: &Source<A>,
+    unit: Unit,
+) -> Result<Layer<'h, H>, ToolFault<'static>>
+    ensures tiles { IfOk result (AreTiles (files_of city.now) (files_of parcels.now) unit) }
+    ensures fault { IfErr result (λ fault. IsTilesFault (files_of city.now) (files_of parcels.now) unit fault
+        ⊎ (fault ≡ ToolFault.NoMemory)) }
+    // Files that tile their city are loaded, unless memory runs out.
+    ensures loads { (tiles : Tiles) → AreTiles (files_of city.now) (files_of parcels.now) unit tiles
+        → IfErr result (λ fault. fault ≡ ToolFault.NoMemory) }
+    ensures refuses { (fault : ToolFaultValue) → IsTilesFault (files_of city.now) (files_of parcels.now) unit fault
+        → IsErrAnd result (λ told. (told ≡ fault) ⊎ (told ≡ ToolFault.NoMemory)) }
+{
+    match load_told_by(rt, workers, heap, city, parcels, unit, Asked::First) {
         Ok(layer) => Ok(layer),
         Err(refusal) => Err(refusal.fault),
     }

@@ -8,10 +8,11 @@ ghost use Rattle.city_layers.specs.ZonedFiles.{AreZoned, IsLayersFault};
 
 use crate::fault::{Role, ToolFault};
 use crate::sources::Source;
-use crate::tiles::{read_city, read_tiles};
+use crate::tiles::{read_city, read_tiles, read_tiles_by};
 use fabric_core::Layer;
 use geo_exact::Unit;
 use std::alloc::Allocator;
+use std::thread::Threads;
 
 /// Parcels and zones that tile one city.
 #[derive(Drop)]
@@ -51,5 +52,38 @@ pub fn load_layers<'h, H: Allocator, A: Allocator>(
     let city = read_city(heap, city, unit)?;
     let parcels = read_tiles(heap, &city, Role::Parcels, parcels, unit)?;
     let zones = read_tiles(heap, &city, Role::Zones, zones, unit)?;
+    Ok(Layers { parcels, zones })
+}
+
+/// As [`load_layers`], by so many threads at the most, as in [`load_tiles_by`](crate::load_tiles_by).
+///
+/// # Errors
+///
+/// Those of [`load_layers`].
+pub fn load_layers_by<'h, R: Threads + Sync, H: Allocator + Send + Sync, A: Allocator>(
+    rt: &R,
+    workers: usize,
+    heap: &'h H,
+    city: &Source<A>,
+    parcels: &Source<A>,
+    zones: &Source<A>,
+    unit: Unit,
+) -> Result<Layers<'h, H>, ToolFault<'static>>
+    ensures layers { IfOk result (λ layers.
+        AreZoned (files_of city.now) (files_of parcels.now) (files_of zones.now) unit layers.parcels layers.zones) }
+    ensures fault { IfErr result (λ fault.
+        IsLayersFault (files_of city.now) (files_of parcels.now) (files_of zones.now) unit fault
+        ⊎ (fault ≡ ToolFault.NoMemory)) }
+    // Files that tile their city are loaded, unless memory runs out.
+    ensures loads { (tiles regions : Tiles)
+        → AreZoned (files_of city.now) (files_of parcels.now) (files_of zones.now) unit tiles regions
+        → IfErr result (λ fault. fault ≡ ToolFault.NoMemory) }
+    ensures refuses { (fault : ToolFaultValue)
+        → IsLayersFault (files_of city.now) (files_of parcels.now) (files_of zones.now) unit fault
+        → IsErrAnd result (λ told. (told ≡ fault) ⊎ (told ≡ ToolFault.NoMemory)) }
+{
+    let city = read_city(heap, city, unit)?;
+    let parcels = read_tiles_by(rt, workers, heap, &city, Role::Parcels, parcels, unit)?;
+    let zones = read_tiles_by(rt, workers, heap, &city, Role::Zones, zones, unit)?;
     Ok(Layers { parcels, zones })
 }

@@ -1,6 +1,8 @@
 //! Layers that are loaded from files without a run: of parcels, and of parcels and zones, and why they are not.
 
-use city_layers::{Layers, load_layers, load_tiles, load_tiles_or_lines};
+use city_layers::{
+    Layers, load_layers, load_layers_by, load_tiles, load_tiles_or_lines, load_tiles_or_lines_by,
+};
 use geo_exact::Unit;
 use std::alloc::{AllocError, Global};
 use std::test::Fail;
@@ -80,5 +82,81 @@ fn loads_parcels_and_zones(rt: HostRuntime) -> Result<(), Fail> {
     assert_eq!(rt; both.as_str(), "2 parcels, 2 zones");
     let gap = told_of_both(rt.alloc(), &[&WEST, &BEYOND])?;
     assert_eq!(rt; gap.as_str(), "zones: H2 60 0 60 100 net 1");
+    Ok(())
+}
+
+/// Layers in the city, some of which do not tile it.
+const LAYERS: [&[&[Place]]; 5] = [
+    &[&WEST, &EAST],
+    &[&LOW, &HIGH, &[]],
+    &[&WEST, &BEYOND],
+    &[&LOW],
+    &[],
+];
+
+/// How many threads load a layer.
+const WORKERS: [usize; 4] = [0, 1, 3, 64];
+
+#[test]
+fn threads_load_what_one_loads(rt: HostRuntime) -> Result<(), Fail> {
+    let alloc = rt.alloc();
+    let city = alone(layer(alloc, &[&CITY])?);
+    let parcels = alone(layer(alloc, &[&WEST, &EAST])?);
+    for rings in LAYERS {
+        let rings = alone(layer(alloc, rings)?);
+        let one = match load_layers(&alloc, &city, &rings, &parcels, Unit::Mm) {
+            Ok(layers) => format!(in alloc; "{}", layers.parcels.ids().len())?,
+            Err(fault) => format!(in alloc; "{fault}")?,
+        };
+        for workers in WORKERS {
+            let some = match load_layers_by(
+                &rt,
+                workers,
+                &alloc,
+                &city,
+                &rings,
+                &parcels,
+                Unit::Mm,
+            ) {
+                Ok(layers) => format!(in alloc; "{}", layers.parcels.ids().len())?,
+                Err(fault) => format!(in alloc; "{fault}")?,
+            };
+            assert_eq!(rt; some.as_str(), one.as_str());
+        }
+    }
+    Ok(())
+}
+
+#[test]
+fn threads_tell_all_faults_that_one_tells(rt: HostRuntime) -> Result<(), Fail> {
+    let alloc = rt.alloc();
+    let city = alone(layer(alloc, &[&CITY])?);
+    for rings in LAYERS {
+        let parcels = alone(layer(alloc, rings)?);
+        let one = match load_tiles_or_lines(&alloc, &city, &parcels, Unit::Mm) {
+            Ok(_) => format!(in alloc; "a tiling")?,
+            Err(refusal) => {
+                let lines = String::from_utf8_lossy(alloc, refusal.lines())?;
+                format!(in alloc; "{lines}{}", refusal.fault)?
+            }
+        };
+        for workers in WORKERS {
+            let some = match load_tiles_or_lines_by(
+                &rt,
+                workers,
+                &alloc,
+                &city,
+                &parcels,
+                Unit::Mm,
+            ) {
+                Ok(_) => format!(in alloc; "a tiling")?,
+                Err(refusal) => {
+                    let lines = String::from_utf8_lossy(alloc, refusal.lines())?;
+                    format!(in alloc; "{lines}{}", refusal.fault)?
+                }
+            };
+            assert_eq!(rt; some.as_str(), one.as_str());
+        }
+    }
     Ok(())
 }

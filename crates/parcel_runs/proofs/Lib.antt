@@ -3,6 +3,7 @@ pub mod SimpleRings
 pub mod RowLimits
 pub mod BegunTwice
 pub mod PartRings
+pub mod WrittenParts
 pub mod OneTiling
 pub mod Places
 pub mod EditedRuns

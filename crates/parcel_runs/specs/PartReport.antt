@@ -1,7 +1,7 @@
--- What a part writes and prints: one parcel of a layer that tiles its city, as the city of a layer of its own (this
--- product's own; the two files are those of the Technical Description, July 1998).
+-- What a part writes and prints: one parcel of a layer that tiles its city, or each of them, as the city of a layer of
+-- its own (this product's own; the two files are those of the Technical Description, July 1998).
 use Rattle.std.specs.Prelude.{◌≡◌, ◌≢◌, ◌⊎◌, ℕ, List, [], ◌∷◌, ◌++◌, Some, codes}
-use Rattle.std.specs.List.{Contains}
+use Rattle.std.specs.List.{AllZip, Contains}
 use Rattle.geo_exact.specs.declared.coord.Unit.{Unit as LengthUnit}
 use Rattle.geo_exact.specs.declared.coord.Unit.TheVariants.{Mm}
 use Rattle.geo_exact.specs.Layers.{NumberedRing}
@@ -11,6 +11,7 @@ use Rattle.city_layers.specs.AreaReport.{area_line}
 use Rattle.city_layers.specs.declared.fault.ToolFault.{ToolFault}
 use Rattle.city_layers.specs.declared.fault.ToolFault.TheVariants.{NoParcel}
 use Rattle.city_layers.specs.TilingFiles.{Files, AreTiles, IsCityOf, IsTilesFault}
+use Rattle.parcel_runs.specs.declared.part.WrittenPart.{WrittenPart}
 
 -- `part ID AREA2`, twice the area of the row's ring
 abbrev pub part_line : NumberedRing → List ℕ
@@ -40,3 +41,11 @@ pub record IsNoParcel (city districts : Files) (unit : LengthUnit) (id : ℕ) (f
 abbrev pub IsPartFault : Files → Files → LengthUnit → ℕ → ToolFault → Type 0
 IsPartFault city districts unit id fault =
     IsTilesFault city districts unit fault ⊎ IsNoParcel city districts unit id fault
+
+-- the districts' files tile the city of the city's files; there is one part for each row, in the rows' order (which is
+-- by ascending number), under the row's number, and what is written and printed of it is that row's part
+pub record AreAllParts {A : Type 0} (city districts : Files) (unit : LengthUnit) (parts : List (WrittenPart A)) : Type 0 where
+  pub tiles : Tiles
+  pub are_tiles : AreTiles city districts unit tiles
+  pub are_parts : AllZip (λ row part. (part.id ≡ row.number)
+      × IsPart city districts unit row.number part.main.items part.index.items part.line.items) tiles.rows parts

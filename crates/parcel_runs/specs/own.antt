@@ -3,3 +3,4 @@ pub mod Dealing
 pub mod LinesAndReports
 pub mod PlaceTexts
 pub mod Registers
+pub mod WrittenParts

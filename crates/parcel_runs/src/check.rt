@@ -29,7 +29,7 @@ use text_pieces::{Piece, Sink, push_pieces, put_all};
 /// the city's area in square millimetres. Before that the edits of clerks' files are made at one
 /// office, each file's by a thread of its own, line by line, and a line for each is written, by
 /// clerk and line; clerk K is that of file K, from 1. All files are checked whole before the first
-/// edit is made.
+/// edit is made. So many threads share the load of the layer at the most; what is written is the same for any number.
 ///
 /// # Errors
 ///
@@ -39,6 +39,7 @@ use text_pieces::{Piece, Sink, push_pieces, put_all};
 /// [`ToolFault::Output`] where a write failed.
 pub fn check<'h, R: Threads + Wait + Sync, H: Allocator + Send + Sync, A: Allocator, W: ByteOut>(
     rt: &R,
+    workers: usize,
     heap: &'h H,
     files: &RunFiles<A>,
     out: &mut W,
@@ -57,7 +58,7 @@ pub fn check<'h, R: Threads + Wait + Sync, H: Allocator + Send + Sync, A: Alloca
     ensures failed { IsErrOf result ToolFault.Output → W.failure_count out.new ≡ raised (W.failure_count out.old) }
     ensures no_failure { OnOk result (W.failure_count out.new ≡ W.failure_count out.old) }
 {
-    let inputs = load_inputs(heap, files)?;
+    let inputs = load_inputs(rt, workers, heap, files)?;
     a_layer_file_is_within_the_limits();
     let text = checked_text(rt, heap, inputs)?;
     put_all(text.as_slice(), out)?;
@@ -80,7 +81,13 @@ pub fn check_all<
     H: Allocator + Send + Sync,
     A: Allocator,
     W: ByteOut,
->(rt: &R, heap: &'h H, files: &RunFiles<A>, out: &mut W) -> Result<(), ToolFault<'static>>
+>(
+    rt: &R,
+    workers: usize,
+    heap: &'h H,
+    files: &RunFiles<A>,
+    out: &mut W,
+) -> Result<(), ToolFault<'static>>
     ensures ok { OnOk result
         (WritesTiling (Bor H) (parcel_run_of files.now) (W.written out.old) (W.written out.new)) }
     // The lines of all faults are written before the first is answered.
@@ -99,7 +106,7 @@ pub fn check_all<
     ensures failed { IsErrOf result ToolFault.Output → W.failure_count out.new ≡ raised (W.failure_count out.old) }
     ensures no_failure { OnOk result (W.failure_count out.new ≡ W.failure_count out.old) }
 {
-    match load_inputs_or_lines(heap, files) {
+    match load_inputs_or_lines(rt, workers, heap, files) {
         Ok(inputs) => {
             a_layer_file_is_within_the_limits();
             let text = checked_text(rt, heap, inputs)?;

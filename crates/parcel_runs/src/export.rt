@@ -40,7 +40,7 @@ pub struct Exported<A: Allocator> {
 /// numbered anew from 1. Coordinates are in millimetres, whatever the unit that was read. Before
 /// that the edits of clerks' files are made at one office, each file's by a thread of its own, line
 /// by line; clerk K is that of file K, from 1. An edit that is refused changes nothing, and its
-/// line says why.
+/// line says why. So many threads share the load of the layer at the most; what is written is the same for any number.
 ///
 /// # Errors
 ///
@@ -49,6 +49,7 @@ pub struct Exported<A: Allocator> {
 /// [`ToolFault::NoWindow`] and [`ToolFault::NoMemory`].
 pub fn export<'h, R: Threads + Wait + Sync, H: Allocator + Send + Sync, A: Allocator>(
     rt: &R,
+    workers: usize,
     heap: &'h H,
     files: &RunFiles<A>,
 ) -> Result<Exported<&'h H>, ToolFault<'static>>
@@ -59,7 +60,7 @@ pub fn export<'h, R: Threads + Wait + Sync, H: Allocator + Send + Sync, A: Alloc
     ensures refuses { (fault : ToolFaultValue) → IsRunFault (parcel_run_of files.now) fault
         → IsErrAnd result (λ told. (told ≡ fault) ⊎ (told ≡ ToolFault.NoMemory)) }
 {
-    let inputs = load_inputs(heap, files)?;
+    let inputs = load_inputs(rt, workers, heap, files)?;
     a_layer_file_is_within_the_limits();
     let outcome = edit_layer(rt, heap, inputs, &[])?;
     let count = outcome.parcels.count();

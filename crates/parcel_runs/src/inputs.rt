@@ -11,10 +11,11 @@ ghost use Rattle.desk_lock.specs.declared.opening.TheConstants.{MOST_PLACES};
 
 use crate::clerks::{read_clerk_files, refuse_many_clerks};
 use crate::run_files::RunFiles;
-use city_layers::{LayerRefusal, ToolFault, load_tiles, load_tiles_or_lines};
+use city_layers::{LayerRefusal, ToolFault, load_tiles_by, load_tiles_or_lines_by};
 use clerk_runs::ClerkEdits;
 use fabric_core::Layer;
 use std::alloc::Allocator;
+use std::thread::Threads;
 
 /// A layer of parcels, and the edits of clerks' files, which are still to be made.
 #[derive(Drop)]
@@ -25,7 +26,8 @@ pub struct RunInputs<'h, H: Allocator> {
     pub clerks: Vec<ClerkEdits<&'h H>, &'h H>,
 }
 
-/// The layer of the parcels' files, which tiles the city of the city's files, and the edits of clerks' files.
+/// The layer of the parcels' files, which tiles the city of the city's files, and the edits of clerks' files. So many
+/// threads load the layer at the most.
 ///
 /// # Errors
 ///
@@ -33,7 +35,9 @@ pub struct RunInputs<'h, H: Allocator> {
 /// the number of their rings, or the ring's fault; then the first fault of the parcels' files, or
 /// of their rings as a layer; then the first bad line of the clerks' files; and
 /// [`ToolFault::NoMemory`].
-pub fn load_inputs<'h, H: Allocator, A: Allocator>(
+pub fn load_inputs<'h, R: Threads + Sync, H: Allocator + Send + Sync, A: Allocator>(
+    rt: &R,
+    workers: usize,
     heap: &'h H,
     files: &RunFiles<A>,
 ) -> Result<RunInputs<'h, H>, ToolFault<'static>>
@@ -46,7 +50,7 @@ pub fn load_inputs<'h, H: Allocator, A: Allocator>(
         → IsErrAnd result (λ told. (told ≡ fault) ⊎ (told ≡ ToolFault.NoMemory)) }
 {
     refuse_many_clerks(files.clerks.len())?;
-    let layer = load_tiles(heap, &files.city, &files.parcels, files.unit)?;
+    let layer = load_tiles_by(rt, workers, heap, &files.city, &files.parcels, files.unit)?;
     let clerks = read_clerk_files(heap, files)?;
     Ok(RunInputs { layer, clerks })
 }
@@ -57,7 +61,9 @@ pub fn load_inputs<'h, H: Allocator, A: Allocator>(
 /// # Errors
 ///
 /// Those of [`load_inputs`], each with the lines that come before it.
-pub fn load_inputs_or_lines<'h, H: Allocator, A: Allocator>(
+pub fn load_inputs_or_lines<'h, R: Threads + Sync, H: Allocator + Send + Sync, A: Allocator>(
+    rt: &R,
+    workers: usize,
     heap: &'h H,
     files: &RunFiles<A>,
 ) -> Result<RunInputs<'h, H>, LayerRefusal<&'h H>>
@@ -74,7 +80,7 @@ pub fn load_inputs_or_lines<'h, H: Allocator, A: Allocator>(
         → IsErrAnd result (λ refusal. (refusal.fault ≡ fault) ⊎ (refusal.fault ≡ ToolFault.NoMemory)) }
 {
     refuse_many_clerks(files.clerks.len())?;
-    let layer = load_tiles_or_lines(heap, &files.city, &files.parcels, files.unit)?;
+    let layer = load_tiles_or_lines_by(rt, workers, heap, &files.city, &files.parcels, files.unit)?;
     let clerks = read_clerk_files(heap, files)?;
     Ok(RunInputs { layer, clerks })
 }

@@ -42,6 +42,7 @@ use text_pieces::{push_corner, put_all};
 /// [`ToolFault::Output`] where a write failed.
 pub fn locate<'h, R: Threads + Wait + Sync, H: Allocator + Send + Sync, A: Allocator, W: ByteOut>(
     rt: &R,
+    workers: usize,
     heap: &'h H,
     files: &RunFiles<A>,
     points: &[Corner],
@@ -61,7 +62,7 @@ pub fn locate<'h, R: Threads + Wait + Sync, H: Allocator + Send + Sync, A: Alloc
     ensures failed { IsErrOf result ToolFault.Output → W.failure_count out.new ≡ raised (W.failure_count out.old) }
     ensures no_failure { OnOk result (W.failure_count out.new ≡ W.failure_count out.old) }
 {
-    let inputs = load_inputs(heap, files)?;
+    let inputs = load_inputs(rt, workers, heap, files)?;
     let lines = located_text(rt, heap, inputs, points)?;
     put_all(lines.as_slice(), out)?;
     Ok(())
@@ -82,6 +83,7 @@ pub fn locate_text<
     W: ByteOut,
 >(
     rt: &R,
+    workers: usize,
     heap: &'h H,
     files: &RunFiles<A>,
     text: &[u8],
@@ -101,7 +103,7 @@ pub fn locate_text<
     ensures failed { IsErrOf result ToolFault.Output → W.failure_count out.new ≡ raised (W.failure_count out.old) }
     ensures no_failure { OnOk result (W.failure_count out.new ≡ W.failure_count out.old) }
 {
-    let inputs = load_inputs(heap, files)?;
+    let inputs = load_inputs(rt, workers, heap, files)?;
     let points = points_of_text(heap, text)?;
     let lines = located_text(rt, heap, inputs, &points)?;
     put_all(lines.as_slice(), out)?;

@@ -32,7 +32,7 @@ use text_pieces::put_all;
 /// common point; `split ID` for each parcel that overlaps two zones or more; and `within ID ZONE`
 /// for each other parcel. Before that the edits of clerks' files are made at one office, each
 /// file's by a thread of its own, line by line, and a line for each is written, by clerk and line;
-/// clerk K is that of file K, from 1. So many workers share the parcels. All files are checked
+/// clerk K is that of file K, from 1. So many workers share the load of the layers and then the parcels. All files are checked
 /// whole before the first edit is made.
 ///
 /// # Errors
@@ -43,10 +43,10 @@ use text_pieces::put_all;
 /// before anything is written. [`ToolFault::Output`] where a write failed.
 pub fn overlay<'h, R: Threads + Wait + Sync, H: Allocator + Send + Sync, A: Allocator, W: ByteOut>(
     rt: &R,
+    workers: usize,
     heap: &'h H,
     files: &RunFiles<A>,
     zones: &Source<A>,
-    workers: usize,
     out: &mut W,
 ) -> Result<(), ToolFault<'static>>
     requires some { 0 < workers }
@@ -66,7 +66,7 @@ pub fn overlay<'h, R: Threads + Wait + Sync, H: Allocator + Send + Sync, A: Allo
     ensures failed { IsErrOf result ToolFault.Output → W.failure_count out.new ≡ raised (W.failure_count out.old) }
     ensures no_failure { OnOk result (W.failure_count out.new ≡ W.failure_count out.old) }
 {
-    let OverlayInputs { run, zones } = load_overlay_inputs(heap, files, zones)?;
+    let OverlayInputs { run, zones } = load_overlay_inputs(rt, workers, heap, files, zones)?;
     let (sheet, lines) = edited_sheet(rt, heap, run)?;
     let table = overlay_table(rt, heap, &sheet, &zones, workers)?;
     write_both(lines.as_slice(), &table, out)

@@ -12,9 +12,10 @@ ghost use Rattle.desk_lock.specs.declared.opening.TheConstants.{MOST_PLACES};
 use crate::clerks::{read_clerk_files, refuse_many_clerks};
 use crate::inputs::RunInputs;
 use crate::run_files::RunFiles;
-use city_layers::{Layers, Source, ToolFault, load_layers};
+use city_layers::{Layers, Source, ToolFault, load_layers_by};
 use fabric_core::Layer;
 use std::alloc::Allocator;
+use std::thread::Threads;
 
 /// Parcels with the edits of clerks' files, which are still to be made, and the zones of their city.
 #[derive(Drop)]
@@ -25,14 +26,17 @@ pub struct OverlayInputs<'h, H: Allocator> {
     pub zones: Layer<'h, H>,
 }
 
-/// The parcels and the zones that tile one city, and the edits of clerks' files.
+/// The parcels and the zones that tile one city, and the edits of clerks' files. So many threads load the layers at the
+/// most.
 ///
 /// # Errors
 ///
 /// [`ToolFault::ClerkCount`] for more clerks' files than [`MOST_PLACES`]; the first fault of the city's files and
 /// ring, then of the parcels' files and rings, then of the zones'; then the first bad line of the
 /// clerks' files; and [`ToolFault::NoMemory`].
-pub fn load_overlay_inputs<'h, H: Allocator, A: Allocator>(
+pub fn load_overlay_inputs<'h, R: Threads + Sync, H: Allocator + Send + Sync, A: Allocator>(
+    rt: &R,
+    workers: usize,
     heap: &'h H,
     files: &RunFiles<A>,
     zones: &Source<A>,
@@ -48,7 +52,15 @@ pub fn load_overlay_inputs<'h, H: Allocator, A: Allocator>(
         → IsErrAnd result (λ told. (told ≡ fault) ⊎ (told ≡ ToolFault.NoMemory)) }
 {
     refuse_many_clerks(files.clerks.len())?;
-    let layers = load_layers(heap, &files.city, &files.parcels, zones, files.unit)?;
+    let layers = load_layers_by(
+        rt,
+        workers,
+        heap,
+        &files.city,
+        &files.parcels,
+        zones,
+        files.unit,
+    )?;
     let clerks = read_clerk_files(heap, files)?;
     let Layers { parcels, zones } = layers;
     let run = RunInputs {

@@ -1,16 +1,20 @@
 //! `parcel_tool`: exact answers about the parcel layers of a land registry.
 #![tactic(auto)]
 
+ghost use Rattle.std.specs.Prelude.{◌≡◌, ◌<◌, ◌≤◌, IfSome};
+ghost use Rattle.overlay_work.specs.declared.round.TheConstants.{MOST_HANDS};
+
 use city_layers::area::area;
 use city_layers::{Disk, StandardInput, ToolFault, read_source, read_text, replace_layer};
 use clap::Error;
 use clap::error::ErrorKind;
 use geo_exact::{ByteOut, Counted, Unit};
+use overlay_work::MOST_HANDS;
 use parcel_runs::check::{check, check_all};
 use parcel_runs::export::export;
 use parcel_runs::locate::{locate, locate_text};
 use parcel_runs::overlay::overlay;
-use parcel_runs::part::part;
+use parcel_runs::part::{WrittenPart, part, parts};
 use parcel_runs::{RunFiles, refuse_many_clerks};
 use register_sessions::{Exports, Machine, Pipes, Plan, serve_session};
 use std::alloc::Global;
@@ -21,9 +25,9 @@ use std::process::ExitCode;
 use std::rt::{Env, Files};
 use std::sync::Wait;
 use std::thread::Threads;
-use std::{env, io};
+use std::{env, io, thread};
 use text_pieces::put_all;
-use tool_arguments::{District, Inputs, Points, Request, Session, Workers};
+use tool_arguments::{Districts, Inputs, Points, Request, Session, Wanted, Workers};
 
 /// The status of a run that a fault ended.
 const FAULT: u8 = 1;
@@ -63,12 +67,11 @@ fn answer<
         Request::Check { inputs, all } => answer_check(rt, &inputs, all, &mut out),
         Request::Export { inputs, base } => answer_export(rt, &inputs, base, &mut out),
         Request::Locate { inputs, points } => answer_locate(rt, &inputs, &points, &mut out),
-        Request::Overlay {
-            inputs,
-            zones,
-            workers,
-        } => answer_overlay(rt, &inputs, zones, workers, &mut out),
-        Request::Part { district, base } => answer_part(rt, &district, base, &mut out),
+        Request::Overlay { inputs, zones } => answer_overlay(rt, &inputs, zones, &mut out),
+        Request::Part { districts, base } => match districts.wanted {
+            Wanted::One(id) => answer_part(rt, &districts, id, base, &mut out),
+            Wanted::All => return answer_all_parts(rt, &districts, base, &mut out),
+        },
         Request::Session(session) => return answer_session(rt, disk, session),
     };
     match done {
@@ -98,10 +101,11 @@ fn answer_check<'a, R: Files + Threads + Wait + Sync + AllocGlobal, W: ByteOut>(
 ) -> Result<(), ToolFault<'a>> {
     let heap = rt.alloc();
     let files = read_inputs(rt, inputs)?;
+    let workers = worker_count(rt, inputs.workers);
     if all {
-        check_all(rt, &heap, &files, out)
+        check_all(rt, workers, &heap, &files, out)
     } else {
-        check(rt, &heap, &files, out)
+        check(rt, workers, &heap, &files, out)
     }
 }
 
@@ -114,7 +118,7 @@ fn answer_export<'a, R: Files + Threads + Wait + Sync + AllocGlobal, W: ByteOut>
 ) -> Result<(), ToolFault<'a>> {
     let heap = rt.alloc();
     let files = read_inputs(rt, inputs)?;
-    let exported = export(rt, &heap, &files)?;
+    let exported = export(rt, worker_count(rt, inputs.workers), &heap, &files)?;
     replace_layer(rt, heap, base, &exported.main, &exported.index)?;
     put_all(&exported.lines, out)?;
     Ok(())
@@ -150,11 +154,12 @@ fn answer_locate<'a, R: Files + Input + Threads + Wait + Sync + AllocGlobal, W: 
 ) -> Result<(), ToolFault<'a>> {
     let heap = rt.alloc();
     let files = read_inputs(rt, inputs)?;
+    let workers = worker_count(rt, inputs.workers);
     match points {
-        Points::At(corners) => locate(rt, &heap, &files, corners.as_slice(), out),
+        Points::At(corners) => locate(rt, workers, &heap, &files, corners.as_slice(), out),
         Points::File(path) => {
             let text = read_points(rt, *path)?;
-            locate_text(rt, &heap, &files, &text, out)
+            locate_text(rt, workers, &heap, &files, &text, out)
         }
     }
 }
@@ -164,7 +169,6 @@ fn answer_overlay<'a, R: Files + Threads + Wait + Sync + AllocGlobal, W: ByteOut
     rt: &R,
     inputs: &Inputs<'a>,
     zones: &'a str,
-    workers: Workers,
     out: &mut W,
 ) -> Result<(), ToolFault<'a>> {
     let heap = rt.alloc();
@@ -178,23 +182,91 @@ fn answer_overlay<'a, R: Files + Threads + Wait + Sync + AllocGlobal, W: ByteOut
         unit: inputs.unit,
         clerks: read_clerks(rt, inputs)?,
     };
-    overlay(rt, &heap, &files, &zones, workers.count, out)
+    let workers = worker_count(rt, inputs.workers);
+    overlay(rt, workers, &heap, &files, &zones, out)
 }
 
 /// Writes one district as a layer of its own.
-fn answer_part<'a, R: Files + AllocGlobal, W: ByteOut>(
+fn answer_part<'a, R: Files + Threads + Sync + AllocGlobal, W: ByteOut>(
     rt: &R,
-    district: &District<'a>,
+    asked: &Districts<'a>,
+    id: u64,
     base: &'a str,
     out: &mut W,
 ) -> Result<(), ToolFault<'a>> {
     let heap = rt.alloc();
-    let city = read_source(&Disk(rt), heap, district.city)?;
-    let districts = read_source(&Disk(rt), heap, district.districts)?;
-    let written = part(&heap, &city, &districts, district.unit, district.id)?;
+    let city = read_source(&Disk(rt), heap, asked.city)?;
+    let districts = read_source(&Disk(rt), heap, asked.districts)?;
+    let workers = worker_count(rt, asked.workers);
+    let written = part(rt, workers, &heap, &city, &districts, asked.unit, id)?;
     replace_layer(rt, heap, base, &written.main, &written.index)?;
     put_all(&written.line, out)?;
     Ok(())
+}
+
+/// Writes each district as a layer of its own, by ascending number, with its line once its files are there. The
+/// first that can't be written ends the run, and is named.
+fn answer_all_parts<'a, R: Files + Eprint + Threads + Sync + AllocGlobal, W: ByteOut>(
+    rt: &R,
+    asked: &Districts<'a>,
+    base: &'a str,
+    out: &mut W,
+) -> ExitCode {
+    let heap = rt.alloc();
+    let parts = match all_parts(rt, &heap, asked) {
+        Ok(parts) => parts,
+        Err(fault) => return end_by_fault(rt, &fault),
+    };
+    for part in parts.as_slice() {
+        if let Err(fault) = write_part(rt, part, base) {
+            let id = part.id;
+            let _ = eprintln!(rt; "error: {fault} district {id}");
+            return ExitCode::from(FAULT);
+        }
+        if put_all(&part.line, out).is_err() {
+            return end_by_fault(rt, &ToolFault::Output);
+        }
+    }
+    ExitCode::SUCCESS
+}
+
+/// What is written of each district.
+fn all_parts<'a, 'h, R: Files + Threads + Sync + AllocGlobal>(
+    rt: &R,
+    heap: &'h Global,
+    asked: &Districts<'a>,
+) -> Result<Vec<WrittenPart<&'h Global>, &'h Global>, ToolFault<'a>> {
+    let city = read_source(&Disk(rt), *heap, asked.city)?;
+    let districts = read_source(&Disk(rt), *heap, asked.districts)?;
+    let workers = worker_count(rt, asked.workers);
+    parts(rt, workers, heap, &city, &districts, asked.unit)
+}
+
+/// Writes the files of one district of all, BASE-ID.shp and BASE-ID.shx.
+fn write_part<'h, R: Files + AllocGlobal>(
+    rt: &R,
+    part: &WrittenPart<&'h Global>,
+    base: &str,
+) -> Result<(), ToolFault<'static>> {
+    let heap = rt.alloc();
+    let id = part.id;
+    let path = format!(in heap; "{base}-{id}")?;
+    replace_layer(rt, heap, path.as_str(), &part.main, &part.index)
+}
+
+/// How many threads share the work: so many as were asked for, else one for each processor, at most 64.
+fn worker_count(rt: &impl Threads, asked: Option<Workers>) -> usize
+    ensures asked { IfSome asked (λ workers. result ≡ workers.count) }
+    ensures some { 0 < result }
+    ensures few { result ≤ MOST_HANDS }
+{
+    if let Some(workers) = asked {
+        return workers.count;
+    }
+    match thread::available_parallelism(rt) {
+        Ok(count) => count.get().min(MOST_HANDS),
+        Err(_) => 1,
+    }
 }
 
 /// Reads the files of a run about parcels: the city's, the parcels', and the clerks'. None is

@@ -59,7 +59,7 @@ fn told<R: Threads + Wait + Sync>(
     let city = alone(layer(alloc, &[&CITY])?);
     let files = run_files(alloc, city, parcels(alloc, bay)?, texts)?;
     let mut out = Counted::new(Vec::new(alloc));
-    match check(rt, &alloc, &files, &mut out) {
+    match check(rt, 2, &alloc, &files, &mut out) {
         Ok(()) => String::from_utf8_lossy(alloc, out.into_inner().as_slice()),
         Err(fault) => format!(in alloc; "error: {fault}"),
     }
@@ -218,7 +218,7 @@ fn exports_what_edits_lead_to(rt: HostRuntime) -> Result<(), Fail> {
     let alloc = rt.alloc();
     let city = alone(layer(alloc, &[&CITY])?);
     let files = run_files(alloc, city, parcels(alloc, false)?, &[FIVE])?;
-    let Ok(exported) = export(&rt, &alloc, &files) else {
+    let Ok(exported) = export(&rt, 2, &alloc, &files) else {
         return Err(Fail::new("no export"));
     };
     let want = format!(in alloc; "{FIVE_TOLD}exported 2\n")?;
@@ -245,7 +245,7 @@ fn locates_in_what_edits_lead_to(rt: HostRuntime) -> Result<(), Fail> {
         ("60 50\n\n60", "points: L1 3"),
     ] {
         let mut out = Counted::new(Vec::new(alloc));
-        let answer = locate_text(&rt, &alloc, &files, text.as_bytes(), &mut out);
+        let answer = locate_text(&rt, 2, &alloc, &files, text.as_bytes(), &mut out);
         let printed = match answer {
             Ok(()) => String::from_utf8_lossy(alloc, out.into_inner().as_slice())?,
             Err(fault) => format!(in alloc; "{fault}")?,
@@ -262,7 +262,7 @@ fn locates_a_corner_in_what_edits_lead_to(rt: HostRuntime) -> Result<(), Fail> {
     let files = run_files(alloc, city, parcels(alloc, false)?, &["merge 1 2"])?;
     let mut out = Counted::new(Vec::new(alloc));
     let points = [Corner { x: 60, y: 50 }];
-    let answer = locate(&rt, &alloc, &files, &points, &mut out);
+    let answer = locate(&rt, 2, &alloc, &files, &points, &mut out);
     assert_eq!(rt; answer, Ok(()));
     let want = b"clerk 1 line 1 ok 1\n60 50 inside 3\n".as_slice();
     assert_eq!(rt; out.into_inner().as_slice(), want);
@@ -290,7 +290,7 @@ fn checks_all_before_the_clerks(rt: HostRuntime) -> Result<(), Fail> {
         let parcels = alone(layer(alloc, parcels)?);
         let files = run_files(alloc, city, parcels, &[text])?;
         let mut out = Counted::new(Vec::new(alloc));
-        let told = match check_all(&rt, &alloc, &files, &mut out) {
+        let told = match check_all(&rt, 2, &alloc, &files, &mut out) {
             Ok(()) => String::new(alloc),
             Err(fault) => format!(in alloc; "{fault}")?,
         };

@@ -20,7 +20,7 @@ fn told<R: Threads + Wait + Sync>(
     parcels: Vec<u8>,
 ) -> Result<String, AllocError> {
     let files = run_files(alloc, alone(city), alone(parcels), &[])?;
-    match export(rt, &alloc, &files) {
+    match export(rt, 2, &alloc, &files) {
         Ok(exported) => {
             let again = Source {
                 main: Vec::from_slice(alloc, &exported.main)?,
@@ -99,7 +99,7 @@ fn writes_rings_with_the_corners_of_their_neighbours(rt: HostRuntime) -> Result<
     let city = alone(layer(alloc, &[&CITY])?);
     let parcels = alone(layer(alloc, &[&WEST, &LOWER, &UPPER])?);
     let files = run_files(alloc, city, parcels, &[])?;
-    match export(&rt, &alloc, &files) {
+    match export(&rt, 2, &alloc, &files) {
         Ok(exported) => {
             // Clockwise, from the least corner.
             let ring: [Place; 5] = [(0, 0), (0, 100), (60, 100), (60, 50), (60, 0)];

@@ -22,7 +22,7 @@ pub fn told<R: Threads + Wait + Sync>(
 ) -> Result<String, AllocError> {
     let files = run_files(alloc, alone(city), alone(parcels), &[])?;
     let mut out = Counted::new(Vec::new(alloc));
-    match locate_text(rt, &alloc, &files, points, &mut out) {
+    match locate_text(rt, 2, &alloc, &files, points, &mut out) {
         Ok(()) => String::from_utf8_lossy(alloc, out.into_inner().as_slice()),
         Err(fault) => {
             let printed = String::from_utf8_lossy(alloc, out.into_inner().as_slice())?;
@@ -141,7 +141,7 @@ fn told_of_corners<R: Threads + Wait + Sync>(
     let mut files = run_files(alloc, city, parcels, &[])?;
     files.unit = unit;
     let mut out = Counted::new(Vec::new(alloc));
-    match locate(rt, &alloc, &files, corners, &mut out) {
+    match locate(rt, 2, &alloc, &files, corners, &mut out) {
         Ok(()) => String::from_utf8_lossy(alloc, out.into_inner().as_slice()),
         Err(fault) => format!(in alloc; "error: {fault}"),
     }
@@ -180,7 +180,7 @@ fn tells_each_failed_write_of_lines(rt: HostRuntime) -> Result<(), Fail> {
     for call in 1..=length + 1 {
         let writer = Counted::new(ByteByByte(Vec::new(alloc)));
         let mut out = FailAt::new(writer, call);
-        let answer = locate_text(&rt, &alloc, &files, b"61 50\n0 0", &mut out);
+        let answer = locate_text(&rt, 2, &alloc, &files, b"61 50\n0 0", &mut out);
         let held = out.into_inner().into_inner().0;
         let want = if call <= length {
             Err(ToolFault::Output)

@@ -28,7 +28,7 @@ fn told<R: Threads + Wait + Sync>(
     let zones = alone(layer(alloc, zones)?);
     let files = run_files(alloc, city, parcels, texts)?;
     let mut out = Counted::new(Vec::new(alloc));
-    match overlay(rt, &alloc, &files, &zones, 4, &mut out) {
+    match overlay(rt, 4, &alloc, &files, &zones, &mut out) {
         Ok(()) => String::from_utf8_lossy(alloc, out.into_inner().as_slice()),
         Err(fault) => format!(in alloc; "error: {fault}"),
     }

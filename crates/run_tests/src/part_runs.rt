@@ -1,10 +1,11 @@
-//! Runs of `part`: what one district is written as, that it is the city of its own parcels, and what is refused.
+//! Runs of `part`: what one district is written as, that it is the city of its own parcels, what is refused, and that
+//! all districts are written as each alone is.
 
 use crate::edit_runs::run_files;
 use city_layers::Source;
 use geo_exact::{Counted, Unit};
 use parcel_runs::check::check;
-use parcel_runs::part::{WrittenPart, part};
+use parcel_runs::part::{WrittenPart, part, parts};
 use std::alloc::{AllocError, Global};
 use std::sync::Wait;
 use std::test::Fail;
@@ -43,7 +44,7 @@ fn checked<R: Threads + Wait + Sync>(
     let parcels = alone(layer(alloc, parcels)?);
     let files = run_files(alloc, city, parcels, &[])?;
     let mut out = Counted::new(Vec::new(alloc));
-    match check(rt, &alloc, &files, &mut out) {
+    match check(rt, 1, &alloc, &files, &mut out) {
         Ok(()) => String::from_utf8_lossy(alloc, out.into_inner().as_slice()),
         Err(fault) => format!(in alloc; "error: {fault}"),
     }
@@ -88,7 +89,7 @@ fn tells_the_area_or_why_not(rt: HostRuntime) -> Result<(), Fail> {
     for (city, districts, id, want) in &ROWS {
         let city = alone(layer(alloc, &[*city])?);
         let districts = alone(layer(alloc, districts)?);
-        let told = match part(&alloc, &city, &districts, Unit::Mm, *id) {
+        let told = match part(&rt, 2, &alloc, &city, &districts, Unit::Mm, *id) {
             Ok(written) => String::from_utf8_lossy(alloc, &written.line)?,
             Err(fault) => format!(in alloc; "error: {fault}")?,
         };
@@ -102,7 +103,7 @@ fn writes_the_ring_that_tiled(rt: HostRuntime) -> Result<(), Fail> {
     let alloc = rt.alloc();
     let city = alone(layer(alloc, &[&CITY])?);
     let districts = alone(layer(alloc, &[&TURNED_LOWER, &UPPER, &WEST])?);
-    match part(&alloc, &city, &districts, Unit::Mm, 3) {
+    match part(&rt, 1, &alloc, &city, &districts, Unit::Mm, 3) {
         Ok(written) => {
             // Clockwise, from the least corner.
             let ring: [Place; 5] = [(0, 0), (0, 100), (60, 100), (60, 50), (60, 0)];
@@ -131,7 +132,7 @@ fn is_the_city_of_its_own_parcels(rt: HostRuntime) -> Result<(), Fail> {
     let alloc = rt.alloc();
     let city = alone(layer(alloc, &[&CITY])?);
     let districts = alone(layer(alloc, &[&WEST, &LOWER, &UPPER])?);
-    match part(&alloc, &city, &districts, Unit::Mm, 1) {
+    match part(&rt, 3, &alloc, &city, &districts, Unit::Mm, 1) {
         Ok(written) => {
             for (parcels, want) in CHECKS {
                 let told = checked(&rt, alloc, &written, parcels)?;
@@ -141,4 +142,58 @@ fn is_the_city_of_its_own_parcels(rt: HostRuntime) -> Result<(), Fail> {
         }
         Err(fault) => Err(Fail::new(fault)),
     }
+}
+
+/// Layers of districts, some with null shapes, and the numbers of those that there are.
+const LAYERS: [(&[&[Place]], &[u64]); 4] = [
+    (&[&WEST, &LOWER, &UPPER], &[1, 2, 3]),
+    (&BAY, &[1, 2, 3]),
+    (&[&[], &EAST, &[], &WEST], &[2, 4]),
+    (&[&CITY], &[1]),
+];
+
+#[test]
+fn writes_all_as_each_alone(rt: HostRuntime) -> Result<(), Fail> {
+    let alloc = rt.alloc();
+    let city = alone(layer(alloc, &[&CITY])?);
+    for (districts, numbers) in LAYERS {
+        let districts = alone(layer(alloc, districts)?);
+        for workers in [1, 2, 64] {
+            let Ok(all) = parts(&rt, workers, &alloc, &city, &districts, Unit::Mm) else {
+                return Err(Fail::new("districts that tile their city"));
+            };
+            assert_eq!(rt; all.len(), numbers.len());
+            for (written, number) in all.iter().zip(numbers) {
+                let Ok(single) = part(&rt, 1, &alloc, &city, &districts, Unit::Mm, *number) else {
+                    return Err(Fail::new("a district that there is"));
+                };
+                assert_eq!(rt; written.id, *number);
+                assert_eq!(rt; written.main.as_slice(), single.main.as_slice());
+                assert_eq!(rt; written.index.as_slice(), single.index.as_slice());
+                assert_eq!(rt; written.line.as_slice(), single.line.as_slice());
+            }
+        }
+    }
+    Ok(())
+}
+
+/// Layers of which no district is written, and why.
+const NO_LAYERS: [(&[Place], &[&[Place]], &str); 3] = [
+    (&[], &[&CITY], "city: S3 0"),
+    (&CITY, &[&WEST, &BEYOND], "parcels: H2 60 0 60 100 net 1"),
+    (&CITY, &[&WEST], "parcels: H2 60 0 60 100 net 1"),
+];
+
+#[test]
+fn writes_none_of_no_tiling(rt: HostRuntime) -> Result<(), Fail> {
+    let alloc = rt.alloc();
+    for (city, districts, want) in &NO_LAYERS {
+        let city = alone(layer(alloc, &[*city])?);
+        let districts = alone(layer(alloc, districts)?);
+        let Err(fault) = parts(&rt, 2, &alloc, &city, &districts, Unit::Mm) else {
+            return Err(Fail::new(*want));
+        };
+        assert_eq!(rt; format!(in alloc; "{fault}")?.as_str(), *want);
+    }
+    Ok(())
 }

@@ -1,17 +1,18 @@
 -- What the words of a command line ask for, each word under its name (this product's own).
-use Rattle.std.specs.Prelude.{◌≡◌, ◌⊎◌, List, [], map, Option, None, Some}
+use Rattle.std.specs.Prelude.{◌≡◌, ◌⊎◌, ℕ, true, false, List, [], map, Option, None, Some}
 use Rattle.std.specs.Borrow.{Bor}
 use Rattle.geo_exact.specs.declared.corner.Corner.{Corner}
 use Rattle.line_files.specs.TextNumbers.{AreCornerWords}
 use Rattle.line_files.specs.declared.grids.Grid.TheVariants.{Millimetres}
-use Rattle.tool_arguments.specs.Arguments.{IsUnit, IsNoUnit, IsNoWorkerCount}
-use Rattle.tool_arguments.specs.declared.requests.District.{District}
+use Rattle.tool_arguments.specs.Arguments.{IsUnit, IsNoUnit, AreWorkers, IsNoWorkerCount, IsBeyondWorkers}
+use Rattle.tool_arguments.specs.declared.requests.Districts.{Districts}
 use Rattle.tool_arguments.specs.declared.requests.Inputs.{Inputs}
 use Rattle.tool_arguments.specs.declared.requests.Points.{Points}
 use Rattle.tool_arguments.specs.declared.requests.Points.TheVariants.{At, File}
 use Rattle.tool_arguments.specs.declared.requests.Request.{Request}
 use Rattle.tool_arguments.specs.declared.requests.Request.TheVariants.{Area, Check, Export, Locate, Overlay, Part, Session}
 use Rattle.tool_arguments.specs.declared.requests.Session.{Session as SessionValue}
+use Rattle.tool_arguments.specs.declared.requests.Wanted.{Wanted}
 use Rattle.tool_arguments.specs.declared.words.Verb.{Verb}
 use Rattle.tool_arguments.specs.declared.words.Words.{Words}
 
@@ -20,19 +21,31 @@ abbrev pub given : {X : Type 0} → Option (Bor (List X)) → List X
 given None = []
 given (Some words) = words.now
 
--- what is read of parcels: the words of these names, and every clerk's
+-- what is read of parcels: the words of these names, every clerk's, and how many share the work
 pub record AreInputs (words : Words) (inputs : Inputs) : Type 0 where
   pub is_city : words.city ≡ Some inputs.city
   pub is_parcels : words.parcels ≡ Some inputs.parcels
   pub is_unit : IsUnit words.unit inputs.unit
   pub are_clerks : inputs.clerks.items ≡ given words.clerks
+  pub are_workers : AreWorkers words.workers inputs.workers
 
--- what is read of one district
-pub record AreDistrictWords (words : Words) (district : District) : Type 0 where
-  pub is_city : words.city ≡ Some district.city
-  pub is_districts : words.districts ≡ Some district.districts
-  pub is_unit : IsUnit words.unit district.unit
-  pub is_number : words.id ≡ Some district.id
+-- one district was asked for by its number, or all
+abbrev pub AreWanted : Words → Wanted → Type 0
+AreWanted words (Wanted.One id) = (words.id ≡ Some id) × (words.all ≡ false)
+AreWanted words Wanted.All = (words.id ≡ None) × (words.all ≡ true)
+
+-- neither was, or both were
+abbrev pub IsNoChoice : Words → Type 0
+IsNoChoice words = ((words.id ≡ None) × (words.all ≡ false))
+    ⊎ ((id : ℕ) × (words.id ≡ Some id) × (words.all ≡ true))
+
+-- what is read of districts
+pub record AreDistrictWords (words : Words) (districts : Districts) : Type 0 where
+  pub is_city : words.city ≡ Some districts.city
+  pub is_districts : words.districts ≡ Some districts.districts
+  pub is_unit : IsUnit words.unit districts.unit
+  pub are_wanted : AreWanted words districts.wanted
+  pub are_workers : AreWorkers words.workers districts.workers
 
 -- what a session is of: the words of these names, with zones and journal where they were given, and every desk's
 pub record AreSession (words : Words) (session : SessionValue) : Type 0 where
@@ -56,9 +69,8 @@ IsRequest words (Area main unit) = (words.main ≡ Some main) × IsUnit words.un
 IsRequest words (Check inputs all) = AreInputs words inputs × (all ≡ words.all)
 IsRequest words (Export inputs base) = AreInputs words inputs × (words.out ≡ Some base)
 IsRequest words (Locate inputs points) = AreInputs words inputs × ArePoints words points
-IsRequest words (Overlay inputs zones workers) =
-    AreInputs words inputs × (words.zones ≡ Some zones) × (words.workers ≡ Some workers.count)
-IsRequest words (Part district base) = AreDistrictWords words district × (words.out ≡ Some base)
+IsRequest words (Overlay inputs zones) = AreInputs words inputs × (words.zones ≡ Some zones)
+IsRequest words (Part districts base) = AreDistrictWords words districts × (words.out ≡ Some base)
 IsRequest words (Session session) = AreSession words session
 
 -- what a request is to do
@@ -67,16 +79,22 @@ verb_of (Area main unit) = Verb.Area
 verb_of (Check inputs all) = Verb.Check
 verb_of (Export inputs base) = Verb.Export
 verb_of (Locate inputs points) = Verb.Locate
-verb_of (Overlay inputs zones workers) = Verb.Overlay
-verb_of (Part district base) = Verb.Part
+verb_of (Overlay inputs zones) = Verb.Overlay
+verb_of (Part districts base) = Verb.Part
 verb_of (Session session) = Verb.Session
 
 -- a word is missing, or is none that there may be
 abbrev pub HasNoInputs : Words → Type 0
-HasNoInputs words = (words.city ≡ None) ⊎ (words.parcels ≡ None) ⊎ IsNoUnit words.unit
+HasNoInputs words =
+    (words.city ≡ None) ⊎ (words.parcels ≡ None) ⊎ IsNoUnit words.unit ⊎ IsBeyondWorkers words.workers
 
-abbrev pub HasNoDistrict : Words → Type 0
-HasNoDistrict words = (words.city ≡ None) ⊎ (words.districts ≡ None) ⊎ IsNoUnit words.unit ⊎ (words.id ≡ None)
+abbrev pub HasNoSession : Words → Type 0
+HasNoSession words =
+    (words.city ≡ None) ⊎ (words.parcels ≡ None) ⊎ IsNoUnit words.unit ⊎ IsNoWorkerCount words.workers
+
+abbrev pub HasNoDistricts : Words → Type 0
+HasNoDistricts words = (words.city ≡ None) ⊎ (words.districts ≡ None) ⊎ IsNoUnit words.unit ⊎ IsNoChoice words
+    ⊎ IsBeyondWorkers words.workers
 
 abbrev pub HasNoPoints : Words → Type 0
 HasNoPoints words = (words.points ≡ None)
@@ -88,6 +106,6 @@ IsMissing Verb.Area words = (words.main ≡ None) ⊎ IsNoUnit words.unit
 IsMissing Verb.Check words = HasNoInputs words
 IsMissing Verb.Export words = HasNoInputs words ⊎ (words.out ≡ None)
 IsMissing Verb.Locate words = HasNoInputs words ⊎ HasNoPoints words
-IsMissing Verb.Overlay words = HasNoInputs words ⊎ (words.zones ≡ None) ⊎ IsNoWorkerCount words.workers
-IsMissing Verb.Part words = HasNoDistrict words ⊎ (words.out ≡ None)
-IsMissing Verb.Session words = HasNoInputs words ⊎ IsNoWorkerCount words.workers
+IsMissing Verb.Overlay words = HasNoInputs words ⊎ (words.zones ≡ None)
+IsMissing Verb.Part words = HasNoDistricts words ⊎ (words.out ≡ None)
+IsMissing Verb.Session words = HasNoSession words

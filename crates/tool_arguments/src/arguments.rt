@@ -109,7 +109,8 @@ fn check_command<'a>(alloc: Global) -> Result<Command<'a>, AllocError> {
         ))?
         .arg(unit(alloc, "The unit of the files' coordinates"))?
         .arg(all(alloc))?
-        .arg(clerk(alloc))
+        .arg(clerk(alloc))?
+        .arg(worker_count(alloc))
 }
 
 /// Whether all faults are told.
@@ -132,8 +133,9 @@ fn export_command<'a>(alloc: Global) -> Result<Command<'a>, AllocError> {
             "The main file of the parcels' layer, .shp",
         ))?
         .arg(unit(alloc, "The unit of the files' coordinates"))?
-        .arg(base(alloc))?
-        .arg(clerk(alloc))
+        .arg(base(alloc, "The files that are written: BASE.shp and BASE.shx"))?
+        .arg(clerk(alloc))?
+        .arg(worker_count(alloc))
 }
 
 fn locate_command<'a>(alloc: Global) -> Result<Command<'a>, AllocError> {
@@ -149,6 +151,7 @@ fn locate_command<'a>(alloc: Global) -> Result<Command<'a>, AllocError> {
         .arg(at(alloc))?
         .arg(points_file(alloc))?
         .arg(clerk(alloc))?
+        .arg(worker_count(alloc))?
         .group(asked(alloc)?)
 }
 
@@ -166,13 +169,13 @@ fn overlay_command<'a>(alloc: Global) -> Result<Command<'a>, AllocError> {
         .arg(file(alloc, "ZONES", "The main file of the zones' layer, .shp"))?
         .arg(unit(alloc, "The unit of the files' coordinates"))?
         .arg(clerk(alloc))?
-        .arg(worker_count(alloc, "How many threads share the parcels, from 1 to 64"))
+        .arg(worker_count(alloc))
 }
 
 fn part_command<'a>(alloc: Global) -> Result<Command<'a>, AllocError> {
     Command::new(alloc, "part")
         .about(
-            "Writes, where districts tile their city, one of them as a city of its own, and prints twice its area",
+            "Writes, where districts tile their city, one of them or each as a city of its own, and prints twice its area",
         )
         .arg(file(alloc, "CITY", "The main file of the city's layer, .shp"))?
         .arg(file(
@@ -181,14 +184,33 @@ fn part_command<'a>(alloc: Global) -> Result<Command<'a>, AllocError> {
             "The main file of the layer of all districts, .shp",
         ))?
         .arg(record_number(alloc))?
+        .arg(all_districts(alloc))?
         .arg(unit(alloc, "The unit of the files' coordinates"))?
-        .arg(base(alloc))
+        .arg(base(
+            alloc,
+            "The files that are written: BASE.shp and BASE.shx, or with --all BASE-ID.shp and BASE-ID.shx of each",
+        ))?
+        .arg(worker_count(alloc))?
+        .group(districts(alloc)?)
 }
 
-/// The number of a record, which has to be given.
+/// Which districts are written, which has to be said in one way.
+fn districts<'a>(alloc: Global) -> Result<ArgGroup<'a>, AllocError> {
+    let group = ArgGroup::new(alloc, "districts").required(true);
+    group.arg("ID")?.arg("all")
+}
+
+/// Whether all districts are written.
+fn all_districts<'a>(alloc: Global) -> Arg<'a> {
+    Arg::new(alloc, "all")
+        .long("all")
+        .action(ArgAction::SetTrue)
+        .help("Writes every district, by ascending number")
+}
+
+/// The number of a record.
 fn record_number<'a>(alloc: Global) -> Arg<'a> {
     Arg::new(alloc, "ID")
-        .required(true)
         .action(ArgAction::Set)
         .value_parser(value_parser!(u64))
         .help("The number of the district's record, from 1")
@@ -209,10 +231,7 @@ fn session_command<'a>(alloc: Global) -> Result<Command<'a>, AllocError> {
         .arg(zones_option(alloc))?
         .arg(journal(alloc))?
         .arg(desk(alloc))?
-        .arg(worker_count(
-            alloc,
-            "Has no effect in a session, whose overlays are found in one thread; from 1 to 64",
-        ))
+        .arg(session_workers(alloc))
 }
 
 /// The zones, where overlays are asked for.
@@ -244,15 +263,25 @@ fn desk<'a>(alloc: Global) -> Arg<'a> {
         .help("A desk, with the named pipes NAME.in and NAME.out; up to 8, all at the same time")
 }
 
-/// How many threads share the parcels, where several do.
-fn worker_count<'a>(alloc: Global, help: &'a str) -> Arg<'a> {
+/// How many threads share the work.
+fn worker_count<'a>(alloc: Global) -> Arg<'a> {
+    Arg::new(alloc, "workers")
+        .long("workers")
+        .action(ArgAction::Set)
+        .value_name("N")
+        .value_parser(value_parser!(usize).range(1..=64))
+        .help("How many threads share the work, from 1 to 64 [default: one for each processor]")
+}
+
+/// How many threads share a session's overlays, where several did.
+fn session_workers<'a>(alloc: Global) -> Arg<'a> {
     Arg::new(alloc, "workers")
         .long("workers")
         .action(ArgAction::Set)
         .value_name("N")
         .value_parser(value_parser!(usize).range(1..=64))
         .default_value("4")
-        .help(help)
+        .help("Has no effect in a session, whose overlays are found in one thread; from 1 to 64")
 }
 
 /// The points, which have to be given in one way.
@@ -296,13 +325,13 @@ fn clerk<'a>(alloc: Global) -> Arg<'a> {
 }
 
 /// Where a layer is written, which has to be given.
-fn base<'a>(alloc: Global) -> Arg<'a> {
+fn base<'a>(alloc: Global, help: &'a str) -> Arg<'a> {
     Arg::new(alloc, "out")
         .long("out")
         .required(true)
         .action(ArgAction::Set)
         .value_name("BASE")
-        .help("The files that are written: BASE.shp and BASE.shx")
+        .help(help)
 }
 
 /// A layer's main file, which has to be given.

@@ -1,15 +1,16 @@
 //! What the words of a command line ask for.
 
-ghost use Rattle.std.specs.Prelude.{◌≡◌, List, map, IfOk, IfSome, IfNone};
+ghost use Rattle.std.specs.Prelude.{◌≡◌, List, map, IfOk, IfErr, IfSome, IfNone};
 ghost use Rattle.geo_exact.specs.declared.corner.Corner.{Corner};
 ghost use Rattle.geo_exact.specs.declared.coord.Unit.{Unit as LengthUnit};
 ghost use Rattle.line_files.specs.TextNumbers.{AreCornerWords};
 ghost use Rattle.line_files.specs.declared.grids.Grid.TheVariants.{Millimetres};
-ghost use Rattle.tool_arguments.specs.Arguments.{IsUnit, IsNoUnit, IsNoWorkerCount};
-ghost use Rattle.tool_arguments.specs.Requests.{AreInputs, HasNoInputs, AreDistrictWords, HasNoDistrict, ArePoints, HasNoPoints};
+ghost use Rattle.tool_arguments.specs.Arguments.{IsUnit, IsNoUnit, AreWorkers, IsNoWorkerCount, IsBeyondWorkers};
+ghost use Rattle.tool_arguments.specs.Requests.{AreInputs, HasNoInputs, AreDistrictWords, HasNoDistricts, AreWanted, IsNoChoice};
+ghost use Rattle.tool_arguments.specs.Requests.{ArePoints, HasNoPoints};
 ghost use Rattle.tool_arguments.specs.Requests.{IsRequest, IsMissing, verb_of};
 
-use crate::requests::{District, Inputs, Points, Request, Session, Workers};
+use crate::requests::{Districts, Inputs, Points, Request, Session, Wanted, Workers};
 use crate::words::{Verb, Words};
 use geo_exact::{Corners, Unit};
 use line_files::read_corner;
@@ -114,17 +115,13 @@ fn overlay_request<'a>(
     ensures words { IfOk result (λ found. IfSome found (IsRequest words.now)) }
     ensures none { IfOk result (λ found. IfNone found (IsMissing Verb.Overlay words.now)) }
 {
-    let (Some(zones), Some(workers)) = (words.zones, workers_of(words.workers)) else {
+    let Some(zones) = words.zones else {
         return Ok(None);
     };
     let Some(inputs) = inputs_of(alloc, words)? else {
         return Ok(None);
     };
-    Ok(Some(Request::Overlay {
-        inputs,
-        zones,
-        workers,
-    }))
+    Ok(Some(Request::Overlay { inputs, zones }))
 }
 
 /// What the words of `part` ask for.
@@ -133,10 +130,10 @@ fn part_request<'a>(words: &Words<'_, 'a>) -> Option<Request<'a>>
     ensures words { IfSome result (IsRequest words.now) }
     ensures none { IfNone result (IsMissing Verb.Part words.now) }
 {
-    let (Some(district), Some(base)) = (district_of(words), words.out) else {
+    let (Some(districts), Some(base)) = (districts_of(words), words.out) else {
         return None;
     };
-    Some(Request::Part { district, base })
+    Some(Request::Part { districts, base })
 }
 
 /// What the words of `session` ask for.
@@ -174,7 +171,7 @@ fn inputs_of<'a>(alloc: Global, words: &Words<'_, 'a>) -> Result<Option<Inputs<'
     let (Some(city), Some(parcels)) = (words.city, words.parcels) else {
         return Ok(None);
     };
-    let Some(unit) = unit_of(words.unit) else {
+    let (Some(unit), Ok(workers)) = (unit_of(words.unit), workers_or_none(words.workers)) else {
         return Ok(None);
     };
     let clerks = Vec::from_slice(alloc, words.clerks.unwrap_or(&[]))?;
@@ -183,26 +180,43 @@ fn inputs_of<'a>(alloc: Global, words: &Words<'_, 'a>) -> Result<Option<Inputs<'
         parcels,
         unit,
         clerks,
+        workers,
     }))
 }
 
-/// What a request about one district reads; `None` where a word is missing.
-fn district_of<'a>(words: &Words<'_, 'a>) -> Option<District<'a>>
+/// What a request about districts reads; `None` where a word is missing.
+fn districts_of<'a>(words: &Words<'_, 'a>) -> Option<Districts<'a>>
     ensures found { IfSome result (AreDistrictWords words.now) }
-    ensures none { IfNone result (HasNoDistrict words.now) }
+    ensures none { IfNone result (HasNoDistricts words.now) }
 {
     let (Some(city), Some(districts)) = (words.city, words.districts) else {
         return None;
     };
-    let (Some(unit), Some(id)) = (unit_of(words.unit), words.id) else {
+    let (Some(unit), Some(wanted)) = (unit_of(words.unit), wanted_of(words)) else {
         return None;
     };
-    Some(District {
+    let Ok(workers) = workers_or_none(words.workers) else {
+        return None;
+    };
+    Some(Districts {
         city,
         districts,
         unit,
-        id,
+        wanted,
+        workers,
     })
+}
+
+/// Which districts were asked for; `None` where neither a number was given nor all were asked for, or both.
+fn wanted_of(words: &Words<'_, '_>) -> Option<Wanted>
+    ensures found { IfSome result (AreWanted words.now) }
+    ensures none { IfNone result (IsNoChoice words.now) }
+{
+    match (words.id, words.all) {
+        (Some(id), false) => Some(Wanted::One(id)),
+        (None, true) => Some(Wanted::All),
+        (Some(_), true) | (None, false) => None,
+    }
 }
 
 /// The points that were given; `None` where there is no file of them, and the words of `--at` are none.
@@ -252,6 +266,24 @@ fn workers_of(count: Option<usize>) -> Option<Workers>
         return None;
     }
     Some(Workers { count })
+}
+
+/// How many workers were asked for, where a number was given.
+///
+/// # Errors
+///
+/// The number, where it is not from 1 to 64.
+fn workers_or_none(count: Option<usize>) -> Result<Option<Workers>, usize>
+    ensures found { IfOk result (AreWorkers count) }
+    ensures none { IfErr result (λ given. IsBeyondWorkers count) }
+{
+    let Some(given) = count else {
+        return Ok(None);
+    };
+    match workers_of(count) {
+        Some(workers) => Ok(Some(workers)),
+        None => Err(given),
+    }
 }
 
 /// The unit that was given.

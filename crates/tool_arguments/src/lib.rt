@@ -8,5 +8,5 @@ mod words;
 
 pub use arguments::parse;
 pub use asked::request_of;
-pub use requests::{District, Inputs, Points, Request, Session, Workers};
+pub use requests::{Districts, Inputs, Points, Request, Session, Wanted, Workers};
 pub use words::{Verb, Words};

@@ -44,14 +44,13 @@ pub enum Request<'a> {
         inputs: Inputs<'a>,
         /// The path of the main file of the zones' layer.
         zones: &'a str,
-        /// How many share the work.
-        workers: Workers,
     },
-    /// One district of those that tile their city, written as a layer of its own.
+    /// Districts of those that tile their city, each written as a layer of its own.
     Part {
         /// What is read.
-        district: District<'a>,
-        /// The path of the files that are written, without their endings .shp and .shx.
+        districts: Districts<'a>,
+        /// The path of the files that are written, without their endings .shp and .shx; of all districts, without what
+        /// comes behind it of each, too.
         base: &'a str,
     },
     /// A register that stays open, at whose desks edits and questions are answered.
@@ -77,7 +76,7 @@ pub struct Session<'a> {
     pub workers: Workers,
 }
 
-/// How many workers share the parcels: 1 to 64.
+/// How many threads share the work: 1 to 64.
 #[derive(Clone, Copy, Debug, PartialEq, Eq)]
 pub struct Workers {
     /// Their number.
@@ -97,19 +96,32 @@ pub struct Inputs<'a> {
     pub unit: Unit,
     /// The paths of the files of clerks' edits; clerk K's is the K-th.
     pub clerks: Vec<&'a str>,
+    /// How many threads share the work, where a number was given.
+    pub workers: Option<Workers>,
 }
 
-/// What a request about one district reads.
+/// What a request about districts reads.
 #[derive(Debug, Drop)]
-pub struct District<'a> {
+pub struct Districts<'a> {
     /// The path of the main file of the city's layer.
     pub city: &'a str,
     /// The path of the main file of the layer of all districts.
     pub districts: &'a str,
     /// The unit of the coordinates of both.
     pub unit: Unit,
-    /// The number of the district's record.
-    pub id: u64,
+    /// Which of them are written.
+    pub wanted: Wanted,
+    /// How many threads share the work, where a number was given.
+    pub workers: Option<Workers>,
+}
+
+/// Which districts are written.
+#[derive(Clone, Copy, Debug, PartialEq, Eq)]
+pub enum Wanted {
+    /// That of the record of this number.
+    One(u64),
+    /// All.
+    All,
 }
 
 /// The points that a command line asks for.
