@@ -4,6 +4,9 @@
 ghost use Rattle.std.specs.Prelude.{◌≡◌, ◌<◌, ◌≤◌, IfSome};
 ghost use Rattle.overlay_work.specs.declared.round.TheConstants.{MOST_HANDS};
 
+mod explain;
+
+use crate::explain::{ExplainFault, explain, hint_of};
 use city_layers::area::area;
 use city_layers::{Disk, StandardInput, ToolFault, read_source, read_text, replace_layer};
 use clap::Error;
@@ -20,14 +23,14 @@ use register_sessions::{Exports, Machine, Pipes, Plan, serve_session};
 use std::alloc::Global;
 use std::fmt::Display;
 use std::fs::File;
-use std::io::Input;
+use std::io::{Input, IsTerminal};
 use std::process::ExitCode;
 use std::rt::{Env, Files};
 use std::sync::Wait;
 use std::thread::Threads;
 use std::{env, io, thread};
 use text_pieces::put_all;
-use tool_arguments::{Districts, Inputs, Points, Request, Session, Wanted, Workers};
+use tool_arguments::{Districts, Inputs, Points, Request, Session, Wanted, Workers, wants_hints};
 
 /// The status of a run that a fault ended.
 const FAULT: u8 = 1;
@@ -40,8 +43,9 @@ fn main(rt: HostRuntime) -> ExitCode {
         Ok(words) => words,
         Err(error) => return end_unread(&rt, &error),
     };
+    let hints = wants_hints(words.as_slice()) || rt.stderr().is_terminal();
     match tool_arguments::parse(rt.alloc(), words.as_slice()) {
-        Ok(request) => answer(&rt, &Disk(&rt), request),
+        Ok(request) => answer(&rt, &Disk(&rt), request, hints),
         Err(error) => end_by_refusal(&rt, &error),
     }
 }
@@ -60,7 +64,7 @@ fn answer<
     'a,
     R: Files<File = File> + Input + Print + Eprint + Threads + Wait + Sync + AllocGlobal,
     P: Pipes + Exports + Machine + Sync,
->(rt: &R, disk: &P, request: Request<'a>) -> ExitCode {
+>(rt: &R, disk: &P, request: Request<'a>, hints: bool) -> ExitCode {
     let mut out = Counted::new(io::writer(rt));
     let done = match request {
         Request::Area { main, unit } => answer_area(rt, main, unit, &mut out),
@@ -70,13 +74,14 @@ fn answer<
         Request::Overlay { inputs, zones } => answer_overlay(rt, &inputs, zones, &mut out),
         Request::Part { districts, base } => match districts.wanted {
             Wanted::One(id) => answer_part(rt, &districts, id, base, &mut out),
-            Wanted::All => return answer_all_parts(rt, &districts, base, &mut out),
+            Wanted::All => return answer_all_parts(rt, &districts, base, &mut out, hints),
         },
-        Request::Session(session) => return answer_session(rt, disk, session),
+        Request::Session(session) => return answer_session(rt, disk, session, hints),
+        Request::Explain { code } => return answer_explain(rt, code.as_slice(), &mut out),
     };
     match done {
         Ok(()) => ExitCode::SUCCESS,
-        Err(fault) => end_by_fault(rt, &fault),
+        Err(fault) => end_by_fault(rt, &fault, hints),
     }
 }
 
@@ -129,7 +134,7 @@ fn answer_session<
     'a,
     R: Files<File = File> + Input + Print + Eprint + Threads + Wait + Sync + AllocGlobal,
     P: Pipes + Exports + Machine + Sync,
->(rt: &R, disk: &P, session: Session<'a>) -> ExitCode {
+>(rt: &R, disk: &P, session: Session<'a>, hints: bool) -> ExitCode {
     let heap = rt.alloc();
     let plan = Plan {
         city: session.city,
@@ -141,7 +146,7 @@ fn answer_session<
     };
     match serve_session(rt, disk, &heap, &plan) {
         Ok(()) => ExitCode::SUCCESS,
-        Err(fault) => end_by_fault(rt, &fault),
+        Err(fault) => end_by_fault(rt, &fault, hints),
     }
 }
 
@@ -211,11 +216,12 @@ fn answer_all_parts<'a, R: Files + Eprint + Threads + Sync + AllocGlobal, W: Byt
     asked: &Districts<'a>,
     base: &'a str,
     out: &mut W,
+    hints: bool,
 ) -> ExitCode {
     let heap = rt.alloc();
     let parts = match all_parts(rt, &heap, asked) {
         Ok(parts) => parts,
-        Err(fault) => return end_by_fault(rt, &fault),
+        Err(fault) => return end_by_fault(rt, &fault, hints),
     };
     for part in parts.as_slice() {
         if let Err(fault) = write_part(rt, part, base) {
@@ -224,7 +230,7 @@ fn answer_all_parts<'a, R: Files + Eprint + Threads + Sync + AllocGlobal, W: Byt
             return ExitCode::from(FAULT);
         }
         if put_all(&part.line, out).is_err() {
-            return end_by_fault(rt, &ToolFault::Output);
+            return end_by_fault(rt, &ToolFault::Output, hints);
         }
     }
     ExitCode::SUCCESS
@@ -313,17 +319,44 @@ fn read_points<'a, R: Files + Input + AllocGlobal>(
     }
 }
 
-/// Ends a run early, and says why.
-fn end_by_fault<F: Display>(rt: &impl Eprint, fault: &F) -> ExitCode {
+/// Says what a code means; without one, lists all.
+fn answer_explain<R: Eprint + Files + AllocGlobal, W: ByteOut>(
+    rt: &R,
+    words: &[&str],
+    out: &mut W,
+) -> ExitCode {
+    match explain(rt.alloc(), words, out) {
+        Ok(()) => ExitCode::SUCCESS,
+        Err(ExplainFault::Output) => end_by_fault(rt, &ToolFault::Output, false),
+        Err(ExplainFault::Unknown) => {
+            let _ = eprintln!(rt; "error: there is no such code; `parcel_tool explain` lists all");
+            ExitCode::from(REFUSED)
+        }
+    }
+}
+
+/// Ends a run early, and says why; in words, too, where hints are wanted.
+fn end_by_fault<R: Eprint + Files + AllocGlobal, F: Display>(
+    rt: &R,
+    fault: &F,
+    hints: bool,
+) -> ExitCode {
     // Where standard error fails too there is nobody left to tell.
     let _ = eprintln!(rt; "error: {fault}");
+    if hints {
+        if let Ok(text) = format!(in rt.alloc(); "{fault}") {
+            if let Some(hint) = hint_of(rt, rt.alloc(), text.as_str()) {
+                let _ = eprintln!(rt; "hint: {hint}");
+            }
+        }
+    }
     ExitCode::from(FAULT)
 }
 
 /// Ends a run whose words ask for nothing to be done: prints the help or the version, or why the words are refused.
-fn end_by_refusal<R: Print + Eprint>(rt: &R, error: &Error) -> ExitCode {
+fn end_by_refusal<R: Print + Eprint + Files + AllocGlobal>(rt: &R, error: &Error) -> ExitCode {
     if error.kind() == ErrorKind::OutOfMemory {
-        return end_by_fault(rt, &ToolFault::NoMemory);
+        return end_by_fault(rt, &ToolFault::NoMemory, false);
     }
     let printed = error.print(rt);
     if error.use_stderr() {
@@ -331,14 +364,14 @@ fn end_by_refusal<R: Print + Eprint>(rt: &R, error: &Error) -> ExitCode {
     } else if printed.is_ok() {
         ExitCode::SUCCESS
     } else {
-        end_by_fault(rt, &ToolFault::Output)
+        end_by_fault(rt, &ToolFault::Output, false)
     }
 }
 
 /// Ends a run whose words could not be read.
-fn end_unread(rt: &impl Eprint, error: &io::Error) -> ExitCode {
+fn end_unread<R: Eprint + Files + AllocGlobal>(rt: &R, error: &io::Error) -> ExitCode {
     if error.kind() == io::ErrorKind::OutOfMemory {
-        return end_by_fault(rt, &ToolFault::NoMemory);
+        return end_by_fault(rt, &ToolFault::NoMemory, false);
     }
     let _ = eprintln!(rt; "error: a word of the command line is not UTF-8 text");
     ExitCode::from(REFUSED)

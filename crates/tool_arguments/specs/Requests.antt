@@ -1,5 +1,5 @@
 -- What the words of a command line ask for, each word under its name (this product's own).
-use Rattle.std.specs.Prelude.{◌≡◌, ◌⊎◌, ℕ, true, false, List, [], map, Option, None, Some}
+use Rattle.std.specs.Prelude.{◌≡◌, ◌⊎◌, ⊥, ℕ, true, false, List, [], map, Option, None, Some}
 use Rattle.std.specs.Borrow.{Bor}
 use Rattle.geo_exact.specs.declared.corner.Corner.{Corner}
 use Rattle.line_files.specs.TextNumbers.{AreCornerWords}
@@ -10,7 +10,7 @@ use Rattle.tool_arguments.specs.declared.requests.Inputs.{Inputs}
 use Rattle.tool_arguments.specs.declared.requests.Points.{Points}
 use Rattle.tool_arguments.specs.declared.requests.Points.TheVariants.{At, File}
 use Rattle.tool_arguments.specs.declared.requests.Request.{Request}
-use Rattle.tool_arguments.specs.declared.requests.Request.TheVariants.{Area, Check, Export, Locate, Overlay, Part, Session}
+use Rattle.tool_arguments.specs.declared.requests.Request.TheVariants.{Area, Check, Explain, Export, Locate, Overlay, Part, Session}
 use Rattle.tool_arguments.specs.declared.requests.Session.{Session as SessionValue}
 use Rattle.tool_arguments.specs.declared.requests.Wanted.{Wanted}
 use Rattle.tool_arguments.specs.declared.words.Verb.{Verb}
@@ -72,6 +72,7 @@ IsRequest words (Locate inputs points) = AreInputs words inputs × ArePoints wor
 IsRequest words (Overlay inputs zones) = AreInputs words inputs × (words.zones ≡ Some zones)
 IsRequest words (Part districts base) = AreDistrictWords words districts × (words.out ≡ Some base)
 IsRequest words (Session session) = AreSession words session
+IsRequest words (Explain code) = code.items ≡ given words.code
 
 -- what a request is to do
 abbrev pub verb_of : Request → Verb
@@ -82,6 +83,7 @@ verb_of (Locate inputs points) = Verb.Locate
 verb_of (Overlay inputs zones) = Verb.Overlay
 verb_of (Part districts base) = Verb.Part
 verb_of (Session session) = Verb.Session
+verb_of (Explain code) = Verb.Explain
 
 -- a word is missing, or is none that there may be
 abbrev pub HasNoInputs : Words → Type 0
@@ -109,3 +111,4 @@ IsMissing Verb.Locate words = HasNoInputs words ⊎ HasNoPoints words
 IsMissing Verb.Overlay words = HasNoInputs words ⊎ (words.zones ≡ None)
 IsMissing Verb.Part words = HasNoDistricts words ⊎ (words.out ≡ None)
 IsMissing Verb.Session words = HasNoSession words
+IsMissing Verb.Explain words = ⊥

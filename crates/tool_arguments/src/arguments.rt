@@ -26,6 +26,7 @@ pub fn parse<'a, S: AsStr>(alloc: Global, words: &'a [S]) -> Result<Request<'a>,
         Some(("overlay", given)) => (Verb::Overlay, given),
         Some(("part", given)) => (Verb::Part, given),
         Some(("session", given)) => (Verb::Session, given),
+        Some(("explain", given)) => (Verb::Explain, given),
         _ => return Err(no_subcommand(&mut command)?),
     };
     if let Some(request) = request_of(alloc, verb, &words_of(given))? {
@@ -35,6 +36,14 @@ pub fn parse<'a, S: AsStr>(alloc: Global, words: &'a [S]) -> Result<Request<'a>,
         return Err(command.error(ErrorKind::ValueValidation, AT_HELP)?);
     }
     Err(no_subcommand(&mut command)?)
+}
+
+/// Whether the words ask for hints wherever standard error goes. What stands behind `--` is no option.
+pub fn wants_hints<S: AsStr>(words: &[S]) -> bool {
+    words
+        .iter()
+        .take_while(|word| word.as_str() != "--")
+        .any(|word| word.as_str() == "--hints")
 }
 
 /// The error of a command line that names no command, or too few words of one.
@@ -63,14 +72,15 @@ fn words_of<'g, 'a>(given: &'g ArgMatches<'a>) -> Words<'g, 'a> {
         all: given.get_flag("all"),
         clerks: given.get_strs("clerk"),
         desks: given.get_strs("desk"),
+        code: given.get_strs("CODE"),
         at: given.get_strs("at"),
     }
 }
 
-/// What stands below the help: what a run may end with, and where refusals are told in words.
+/// What stands below the help: what a run may end with, and where refusals are explained.
 const STATUSES: &str =
-    "Status 0: all is done. Status 1: a refusal, one line `error: ..`, each of which docs/cli.md tells in words.\n\
-     Status 2: a command line that is not understood.";
+    "Status 0: done. Status 1: refused; one `error:` line on stderr (see `parcel_tool explain`).\n\
+     Status 2: the command line was not understood.";
 
 fn tool_command<'a>(alloc: Global) -> Result<Command<'a>, AllocError> {
     Command::new(alloc, "parcel_tool")
@@ -86,7 +96,9 @@ fn tool_command<'a>(alloc: Global) -> Result<Command<'a>, AllocError> {
         .subcommand(locate_command(alloc)?)?
         .subcommand(overlay_command(alloc)?)?
         .subcommand(part_command(alloc)?)?
-        .subcommand(session_command(alloc)?)
+        .subcommand(session_command(alloc)?)?
+        .subcommand(explain_command(alloc)?)?
+        .arg(hints(alloc))
 }
 
 fn area_command<'a>(alloc: Global) -> Result<Command<'a>, AllocError> {
@@ -232,6 +244,30 @@ fn session_command<'a>(alloc: Global) -> Result<Command<'a>, AllocError> {
         .arg(journal(alloc))?
         .arg(desk(alloc))?
         .arg(session_workers(alloc))
+}
+
+fn explain_command<'a>(alloc: Global) -> Result<Command<'a>, AllocError> {
+    Command::new(alloc, "explain")
+        .about(
+            "Says what a code of a refusal means, what usually causes it, and what to do; without one, lists all codes",
+        )
+        .arg(
+            Arg::new(alloc, "CODE")
+                .action(ArgAction::Append)
+                .num_args(0..)
+                .help("The code as it was printed: `F9 C2`, `H2`, `no memory`"),
+        )
+}
+
+/// Whether a hint stands behind a refusal wherever standard error goes.
+fn hints<'a>(alloc: Global) -> Arg<'a> {
+    Arg::new(alloc, "hints")
+        .long("hints")
+        .global(true)
+        .action(ArgAction::SetTrue)
+        .help(
+            "Prints a line `hint: ..` behind a refusal, as it does where standard error is a terminal",
+        )
 }
 
 /// The zones, where overlays are asked for.

@@ -39,6 +39,7 @@ pub fn request_of<'a>(
         Verb::Overlay => overlay_request(alloc, words),
         Verb::Part => Ok(part_request(words)),
         Verb::Session => session_request(alloc, words),
+        Verb::Explain => explain_request(alloc, words),
     }
 }
 
@@ -161,6 +162,19 @@ fn session_request<'a>(
         desks,
         workers,
     })))
+}
+
+/// What the words of `explain` ask for.
+fn explain_request<'a>(
+    alloc: Global,
+    words: &Words<'_, 'a>,
+) -> Result<Option<Request<'a>>, AllocError>
+    ensures verb { IfOk result (λ found. IfSome found (λ request. verb_of request ≡ Verb.Explain)) }
+    ensures words { IfOk result (λ found. IfSome found (IsRequest words.now)) }
+    ensures none { IfOk result (λ found. IfNone found (IsMissing Verb.Explain words.now)) }
+{
+    let code = Vec::from_slice(alloc, words.code.unwrap_or(&[]))?;
+    Ok(Some(Request::Explain { code }))
 }
 
 /// What a request about parcels reads; `None` where a word is missing.

@@ -6,7 +6,7 @@ mod asked;
 mod requests;
 mod words;
 
-pub use arguments::parse;
+pub use arguments::{parse, wants_hints};
 pub use asked::request_of;
 pub use requests::{Districts, Inputs, Points, Request, Session, Wanted, Workers};
 pub use words::{Verb, Words};

@@ -55,6 +55,11 @@ pub enum Request<'a> {
     },
     /// A register that stays open, at whose desks edits and questions are answered.
     Session(Session<'a>),
+    /// What codes of refusals mean: the words of one code, or none for all of them.
+    Explain {
+        /// The words, as they were given.
+        code: Vec<&'a str>,
+    },
 }
 
 /// What a session is of.

@@ -17,6 +17,8 @@ pub enum Verb {
     Part,
     /// Keep a register open.
     Session,
+    /// Say what a code means.
+    Explain,
 }
 
 /// The words of a command line, each under the name by which it is given; `None` or `false` where it is not.
@@ -50,6 +52,8 @@ pub struct Words<'g, 'a> {
     pub clerks: Option<&'g [&'a str]>,
     /// Each `--desk`.
     pub desks: Option<&'g [&'a str]>,
+    /// CODE, one or more words.
+    pub code: Option<&'g [&'a str]>,
     /// The words behind each `--at`.
     pub at: Option<&'g [&'a str]>,
 }

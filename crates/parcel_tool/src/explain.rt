@@ -1,0 +1,130 @@
+//! Codes of refusals, in words.
+
+use code_words::{CODES, CodeWords, words_in, words_of};
+use geo_exact::{ByteOut, FILE_BYTES, Failed};
+use std::alloc::{AllocError, Global};
+use std::fmt::Write;
+use std::io::ErrorKind;
+use std::rt::Files;
+use text_pieces::put_all;
+
+/// Why a code is not explained.
+pub(crate) enum ExplainFault {
+    /// There is no such code.
+    Unknown,
+    /// Memory was refused for the text, or it could not be written.
+    Output,
+}
+
+impl From<AllocError> for ExplainFault {
+    fn from(_: AllocError) -> ExplainFault {
+        ExplainFault::Output
+    }
+}
+
+impl From<Failed> for ExplainFault {
+    fn from(_: Failed) -> ExplainFault {
+        ExplainFault::Output
+    }
+}
+
+/// Prints what a code means, what usually causes it, and what to do; of several that begin with these words, as `F9`, each;
+/// without words a line for every code.
+pub(crate) fn explain<W: ByteOut>(
+    alloc: Global,
+    words: &[&str],
+    out: &mut W,
+) -> Result<(), ExplainFault> {
+    if words.is_empty() {
+        return list_all(alloc, out);
+    }
+    let asked = joined(alloc, words)?;
+    if let Some(found) = words_of(&CODES, asked.as_str()) {
+        return explain_one(alloc, &found, out);
+    }
+    let mut some = false;
+    for code in &CODES {
+        if is_of(code.code, asked.as_str()) {
+            explain_one(alloc, code, out)?;
+            some = true;
+        }
+    }
+    if some {
+        Ok(())
+    } else {
+        Err(ExplainFault::Unknown)
+    }
+}
+
+/// The words with a space between two of them.
+fn joined(alloc: Global, words: &[&str]) -> Result<String, AllocError> {
+    let mut text = String::new(alloc);
+    for word in words {
+        if !text.is_empty() {
+            text.push(' ')?;
+        }
+        text.push_str(word)?;
+    }
+    Ok(text)
+}
+
+/// Whether a code is one of several that share their first word, as `F9 C2` of `F9`.
+fn is_of(code: &str, first: &str) -> bool {
+    match code.strip_prefix(first) {
+        Some(rest) => rest.starts_with(' '),
+        None => false,
+    }
+}
+
+/// Prints one code.
+fn explain_one<W: ByteOut>(
+    alloc: Global,
+    words: &CodeWords,
+    out: &mut W,
+) -> Result<(), ExplainFault> {
+    let (code, meaning, cause, remedy) = (words.code, words.meaning, words.cause, words.remedy);
+    let text = if cause.is_empty() {
+        format!(in alloc; "{code}: {meaning}\nwhat to do: {remedy}\n")?
+    } else {
+        format!(in alloc; "{code}: {meaning}\nusual cause: {cause}\nwhat to do: {remedy}\n")?
+    };
+    put_all(text.as_bytes(), out)?;
+    Ok(())
+}
+
+/// Prints a line for each code.
+fn list_all<W: ByteOut>(alloc: Global, out: &mut W) -> Result<(), ExplainFault> {
+    for words in &CODES {
+        let (code, meaning) = (words.code, words.meaning);
+        let line = format!(in alloc; "{code}: {meaning}\n")?;
+        put_all(line.as_bytes(), out)?;
+    }
+    Ok(())
+}
+
+/// What stands behind `hint: ` for the text of a refusal; `None` where no code is known in it, or memory is refused.
+pub(crate) fn hint_of<R: Files>(rt: &R, alloc: Global, text: &str) -> Option<String> {
+    let words = words_in(&CODES, text)?;
+    let (meaning, remedy) = (words.meaning, words.remedy);
+    let known = match text.strip_prefix("S1 ") {
+        Some(path) => state_of(rt, path),
+        None => words.cause,
+    };
+    let hint = if known.is_empty() {
+        format!(in alloc; "{meaning}; {remedy}")
+    } else {
+        format!(in alloc; "{meaning} ({known}); {remedy}")
+    };
+    hint.ok()
+}
+
+/// Why the file at a path is not read, as far as the system says.
+fn state_of<R: Files>(rt: &R, path: &str) -> &'static str {
+    match rt.metadata(path) {
+        Ok(metadata) if metadata.is_dir() => "it is a folder",
+        Ok(metadata) if metadata.len() > FILE_BYTES as u64 => "it is longer than 64 MiB",
+        Ok(_) => "there is no right to read it",
+        Err(error) if error.kind() == ErrorKind::NotFound => "there is no such file",
+        Err(_) => "the system does not give it",
+    }
+}
