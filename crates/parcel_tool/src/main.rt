@@ -143,6 +143,7 @@ fn answer_session<
         unit: session.unit,
         journal: session.journal,
         desks: session.desks,
+        workers: worker_count(rt, session.workers),
     };
     match serve_session(rt, disk, &heap, &plan) {
         Ok(()) => ExitCode::SUCCESS,

@@ -14,7 +14,7 @@ use crate::reports::{Exports, Ground};
 use crate::room::Room;
 use crate::serving::{Counter, serve};
 use crate::start_fault::StartFault;
-use city_layers::{Disk, Layers, Source, ToolFault, load_layers, load_tiles, read_source};
+use city_layers::{Disk, Layers, Source, ToolFault, load_layers_by, load_tiles_by, read_source};
 use clerk_runs::push_refusal;
 use desk_lock::{Name, Naming, Office, OpenFault};
 use fabric_core::{Fabric, Layer};
@@ -48,6 +48,8 @@ pub struct Plan<'a> {
     pub journal: Option<&'a str>,
     /// The names of the desks: each has the pipes NAME.in and NAME.out.
     pub desks: Vec<&'a str>,
+    /// How many threads share the load of the layers.
+    pub workers: usize,
 }
 
 /// Starts a session, serves its desks, and returns once it is closed. Its pipes and its exports are of the disk, which
@@ -86,7 +88,13 @@ struct Register<'h, H: Allocator, K: Synchroniser> {
 }
 
 /// Reads and loads a register's files. All are read before the first is looked at.
-fn open_register<'a, 'h, R: Files<File = File> + Eprint, P: Machine, H: Allocator>(
+fn open_register<
+    'a,
+    'h,
+    R: Files<File = File> + Eprint + Threads + Sync,
+    P: Machine,
+    H: Allocator + Send + Sync,
+>(
     rt: &R,
     disk: &'a P,
     heap: &'h H,
@@ -97,7 +105,7 @@ fn open_register<'a, 'h, R: Files<File = File> + Eprint, P: Machine, H: Allocato
         Some(path) => Some(find_journal(rt, heap, path)?),
         None => None,
     };
-    let (layer, zones) = load(heap, &sources, plan.unit)?;
+    let (layer, zones) = load(rt, plan.workers, heap, &sources, plan.unit)?;
     let Ok(mut fabric) = Fabric::open(layer) else {
         return Err(StartFault::Run(ToolFault::NoMemory));
     };
@@ -140,14 +148,18 @@ fn read_sources<'a, F: Files, A: Allocator + Copy>(
 }
 
 /// The parcels, and the zones where there are some: both tile the city.
-fn load<'h, H: Allocator, A: Allocator>(
+fn load<'h, R: Threads + Sync, H: Allocator + Send + Sync, A: Allocator>(
+    rt: &R,
+    workers: usize,
     heap: &'h H,
     sources: &Sources<A>,
     unit: Unit,
 ) -> Result<(Layer<'h, H>, Option<Layer<'h, H>>), ToolFault<'static>> {
     match &sources.zones {
         Some(zones) => {
-            let Layers { parcels, zones } = load_layers(
+            let Layers { parcels, zones } = load_layers_by(
+                rt,
+                workers,
                 heap,
                 &sources.city,
                 &sources.parcels,
@@ -157,7 +169,7 @@ fn load<'h, H: Allocator, A: Allocator>(
             Ok((parcels, Some(zones)))
         }
         None => {
-            let parcels = load_tiles(heap, &sources.city, &sources.parcels, unit)?;
+            let parcels = load_tiles_by(rt, workers, heap, &sources.city, &sources.parcels, unit)?;
             Ok((parcels, None))
         }
     }

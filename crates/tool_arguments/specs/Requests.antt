@@ -55,7 +55,7 @@ pub record AreSession (words : Words) (session : SessionValue) : Type 0 where
   pub is_zones : session.zones ≡ words.zones
   pub is_journal : session.journal ≡ words.journal
   pub are_desks : session.desks.items ≡ given words.desks
-  pub are_workers : words.workers ≡ Some session.workers.count
+  pub are_workers : AreWorkers words.workers session.workers
 
 -- the points: those of the file, where one was given, and else those whose coordinates the words of `--at` are
 abbrev pub ArePoints : Words → Points → Type 0
@@ -92,7 +92,7 @@ HasNoInputs words =
 
 abbrev pub HasNoSession : Words → Type 0
 HasNoSession words =
-    (words.city ≡ None) ⊎ (words.parcels ≡ None) ⊎ IsNoUnit words.unit ⊎ IsNoWorkerCount words.workers
+    (words.city ≡ None) ⊎ (words.parcels ≡ None) ⊎ IsNoUnit words.unit ⊎ IsBeyondWorkers words.workers
 
 abbrev pub HasNoDistricts : Words → Type 0
 HasNoDistricts words = (words.city ≡ None) ⊎ (words.districts ≡ None) ⊎ IsNoUnit words.unit ⊎ IsNoChoice words

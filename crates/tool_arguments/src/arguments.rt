@@ -243,7 +243,7 @@ fn session_command<'a>(alloc: Global) -> Result<Command<'a>, AllocError> {
         .arg(zones_option(alloc))?
         .arg(journal(alloc))?
         .arg(desk(alloc))?
-        .arg(session_workers(alloc))
+        .arg(worker_count(alloc))
 }
 
 fn explain_command<'a>(alloc: Global) -> Result<Command<'a>, AllocError> {
@@ -307,17 +307,6 @@ fn worker_count<'a>(alloc: Global) -> Arg<'a> {
         .value_name("N")
         .value_parser(value_parser!(usize).range(1..=64))
         .help("How many threads share the work, from 1 to 64 [default: one for each processor]")
-}
-
-/// How many threads share a session's overlays, where several did.
-fn session_workers<'a>(alloc: Global) -> Arg<'a> {
-    Arg::new(alloc, "workers")
-        .long("workers")
-        .action(ArgAction::Set)
-        .value_name("N")
-        .value_parser(value_parser!(usize).range(1..=64))
-        .default_value("4")
-        .help("Has no effect in a session, whose overlays are found in one thread; from 1 to 64")
 }
 
 /// The points, which have to be given in one way.

@@ -149,7 +149,7 @@ fn session_request<'a>(
     let (Some(city), Some(parcels)) = (words.city, words.parcels) else {
         return Ok(None);
     };
-    let (Some(unit), Some(workers)) = (unit_of(words.unit), workers_of(words.workers)) else {
+    let (Some(unit), Ok(workers)) = (unit_of(words.unit), workers_or_none(words.workers)) else {
         return Ok(None);
     };
     let desks = Vec::from_slice(alloc, words.desks.unwrap_or(&[]))?;

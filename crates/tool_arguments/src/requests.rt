@@ -77,8 +77,8 @@ pub struct Session<'a> {
     pub journal: Option<&'a str>,
     /// The names of the desks; desk K's is the K-th.
     pub desks: Vec<&'a str>,
-    /// How many share an overlay.
-    pub workers: Workers,
+    /// How many threads share the load of the layers, where a number was given.
+    pub workers: Option<Workers>,
 }
 
 /// How many threads share the work: 1 to 64.
