@@ -6,7 +6,7 @@ use std::test::Fail;
 use tool_arguments::{Points, Request, parse};
 
 /// Command lines, and what each asks for.
-const REQUESTS: [(&str, &str); 12] = [
+const REQUESTS: [(&str, &str); 15] = [
     (
         "parcel_tool area city.shp --unit mm",
         "Area { main: \"city.shp\", unit: Mm }",
@@ -61,6 +61,15 @@ const REQUESTS: [(&str, &str); 12] = [
         "Locate { inputs: Inputs { city: \"a\", parcels: \"b\", unit: Mm, clerks: [], \
          workers: Some(Workers { count: 64 }) }, points: File(\"p\") }",
     ),
+    ("parcel_tool explain", "Explain { code: [] }"),
+    (
+        "parcel_tool explain F9 C2",
+        "Explain { code: [\"F9\", \"C2\"] }",
+    ),
+    (
+        "parcel_tool area --hints a --unit mm",
+        "Area { main: \"a\", unit: Mm }",
+    ),
 ];
 
 /// Command lines of sessions, and what each asks for.
@@ -68,12 +77,12 @@ const SESSIONS: [(&str, &str); 2] = [
     (
         "parcel_tool session a b --unit mm",
         "Session(Session { city: \"a\", parcels: \"b\", unit: Mm, zones: None, journal: None, desks: [], \
-         workers: Workers { count: 4 } })",
+         workers: None })",
     ),
     (
         "parcel_tool session --desk d a --journal j b --workers 64 --zones z --desk c --unit m --desk d",
         "Session(Session { city: \"a\", parcels: \"b\", unit: M, zones: Some(\"z\"), journal: Some(\"j\"), \
-         desks: [\"d\", \"c\", \"d\"], workers: Workers { count: 64 } })",
+         desks: [\"d\", \"c\", \"d\"], workers: Some(Workers { count: 64 }) })",
     ),
 ];
 

@@ -4,7 +4,7 @@ use Rattle.std.specs.Borrow.{Bor}
 use Rattle.geo_exact.specs.declared.corner.Corner.{Corner}
 use Rattle.line_files.specs.TextNumbers.{AreCornerWords}
 use Rattle.line_files.specs.declared.grids.Grid.TheVariants.{Millimetres}
-use Rattle.tool_arguments.specs.Arguments.{IsUnit, IsNoUnit, AreWorkers, IsNoWorkerCount, IsBeyondWorkers}
+use Rattle.tool_arguments.specs.Arguments.{IsUnit, IsNoUnit, AreWorkers, IsBeyondWorkers}
 use Rattle.tool_arguments.specs.declared.requests.Districts.{Districts}
 use Rattle.tool_arguments.specs.declared.requests.Inputs.{Inputs}
 use Rattle.tool_arguments.specs.declared.requests.Points.{Points}
