@@ -10,22 +10,24 @@ pub loop-district-preserved : goal.loop-district-preserved
 loop-district-preserved g c =
     let part = c.in_ok-part_of.field-0 in (
       (subst (AllByRecursion (λ shape. length shape.1.ring.corners ≤ RING_CORNERS)) c.in-Some.ensures.steps
-      c.loop-district.invariant.0).1,
+          c.loop-district.invariant.0).1,
       λ more h.
-      subst (λ parts. AllZip (λ shape part. IsWrittenPart (numbered shape.0 shape.1.ring.corners) part) c.args.shapes (parts ++ more))
-      (sym c.in_ok-push.ensures.items)
-      (subst (AllZip (λ shape part. IsWrittenPart (numbered shape.0 shape.1.ring.corners) part) c.args.shapes)
-      (sym (append_assoc c.loop-district.parts.items (part ∷ []) more))
-      (c.loop-district.invariant.1 (part ∷ more)
-      (subst (λ rest. AllZip (λ shape part. IsWrittenPart (numbered shape.0 shape.1.ring.corners) part) rest (part ∷ more))
-      (sym c.in-Some.ensures.steps)
-      (record {
-        has_number = c.in_ok-part_of.ensures.number;
-        is_main = c.in_ok-part_of.ensures.main;
-        is_index = c.in_ok-part_of.ensures.index;
-        is_read_back = c.in_ok-part_of.ensures.read_back;
-        is_told = c.in_ok-part_of.ensures.line;
-      }, h)))),
+          subst (λ parts. AllZip (λ shape part. IsWrittenPart (numbered shape.0 shape.1.ring.corners) part) c.args.shapes (parts ++ more))
+          (sym c.in_ok-push.ensures.items)
+          (subst (AllZip (λ shape part. IsWrittenPart (numbered shape.0 shape.1.ring.corners) part) c.args.shapes)
+          (sym (append_assoc c.loop-district.parts.items (part ∷ []) more))
+          (c.loop-district.invariant.1 (part ∷ more)
+          (subst (λ rest. AllZip (λ shape part. IsWrittenPart (numbered shape.0 shape.1.ring.corners) part) rest (part ∷ more))
+          (sym c.in-Some.ensures.steps) (
+            record {
+              has_number = c.in_ok-part_of.ensures.number;
+              is_main = c.in_ok-part_of.ensures.main;
+              is_index = c.in_ok-part_of.ensures.index;
+              is_read_back = c.in_ok-part_of.ensures.read_back;
+              is_told = c.in_ok-part_of.ensures.line;
+            },
+            h,
+          )))),
     )
 
 pub returns : goal.returns
