@@ -7,7 +7,8 @@ Parcels as those of `gencity.py --size L`, 14 corners each, on whole centimetres
 are 16 cities L side by side. Zones are blocks of other corners, some --zone-side parcels wide. --gaps moves the corner of
 so many parcels by 10 cm, away from its neighbours. FOLDER gets parcels.gpkg and zones.gpkg; what is planted is printed.
 --report runs `gandovel report` on them (the program is what GANDOVEL_TOOL names), and prints its seconds by the clock, the
-processor's seconds, the most memory that one process of it had, and the verdict. Say it for three sizes, for the growth.
+processors' seconds, the most memory that all its processes had at once and one of them alone, and the verdict. Say it
+for three sizes, for the growth.
 """
 import argparse
 import json
@@ -17,8 +18,9 @@ import sqlite3
 import struct
 import subprocess
 import sys
+import tempfile
 import time
-from contextlib import closing
+from contextlib import closing, suppress
 
 import fiona
 import numpy as np
@@ -96,13 +98,49 @@ def measure(folder):
     words = [sys.executable, "-m", "gandovel", "report", os.path.join(folder, "parcels.gpkg")]
     words += ["--zones", os.path.join(folder, "zones.gpkg"), "--out", os.path.join(folder, "report.gpkg"), "--json"]
     begun = time.monotonic()
-    ended = subprocess.run(words, stdout=subprocess.PIPE, text=True, env={**os.environ, "PYTHONPATH": sources})
-    took, used = time.monotonic() - begun, resource.getrusage(resource.RUSAGE_CHILDREN)
-    said = json.loads(ended.stdout) if ended.returncode == 0 else {}
+    with tempfile.TemporaryFile("w+") as out:
+        process = subprocess.Popen(words, stdout=out, env={**os.environ, "PYTHONPATH": sources})
+        most = most_memory(process)
+        took, used = time.monotonic() - begun, resource.getrusage(resource.RUSAGE_CHILDREN)
+        out.seek(0)
+        said = json.load(out) if process.returncode == 0 else {}
     print(
-        f"{took:.1f} s by the clock, {used.ru_utime + used.ru_stime:.1f} s of processors, "
-        f"{used.ru_maxrss / 1048576:.2f} GiB; status {ended.returncode}, {said.get('verdict')}, {said.get('counts')}"
+        f"{took:.1f} s by the clock, {used.ru_utime + used.ru_stime:.1f} s of processors, {most:.2f} GiB at once, "
+        f"{used.ru_maxrss / 1048576:.2f} of one process; status {process.returncode}, {said.get('verdict')}, "
+        f"{said.get('counts')}"
     )
+
+
+def most_memory(process):
+    """Waits for a process: the most memory, in GiB, that it and those that it started had at once, looked at each second.
+
+    What several share is counted once.
+    """
+    most = 0
+    while process.poll() is None:
+        most = max(most, sum(map(share_of_memory, family(process.pid))))
+        time.sleep(1.0)
+    return most / 1048576
+
+
+def family(first):
+    """A process and all that it started, by their numbers."""
+    children = {}
+    for name in filter(str.isdigit, os.listdir("/proc")):
+        with suppress(OSError, IndexError), open(f"/proc/{name}/stat") as file:
+            children.setdefault(int(file.read().rpartition(")")[2].split()[1]), []).append(int(name))
+    found, waiting = [], [first]
+    while waiting:
+        found.append(waiting.pop())
+        waiting += children.get(found[-1], [])
+    return found
+
+
+def share_of_memory(number):
+    """The memory of a process in kB, of what it shares with others its part; 0 of one that has ended."""
+    with suppress(OSError), open(f"/proc/{number}/smaps_rollup") as file:
+        return next((int(line.split()[1]) for line in file if line.startswith("Pss:")), 0)
+    return 0
 
 
 def main():

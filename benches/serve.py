@@ -1,13 +1,14 @@
 #!/usr/bin/env python3
 """serve.py - `gandovel serve` under load, over loopback with keep-alive.
 
-  serve.py [--size S|M|L] [--seconds N] [--readers N] [--clerks N]
+  serve.py [--size S|M|L] [--seconds N] [--mixed N] [--readers N] [--clerks N]
 
 GANDOVEL_TOOL is the built parcel_tool. It makes a city by gencity.py, prepares it, and prints one line for each:
 
 edits    edits a second of the clerks, each with a connection and a key, and of as many clerks at the pipes of a session
 locate   `locate` a second by wrk on 16 connections, and its 99th percentile, while eight clerks edit
-mixed    readers (pages of features, parcels, locate) and clerks at once for N seconds: answers by status, and memory
+mixed    readers (pages of features, parcels, locate) and clerks at once for --mixed seconds (600 for a figure): answers
+         by status, and memory. Status 1 where one is neither 200 nor a reason that docs/serve.md tells
 
 Debian's wrk, python3-requests and python3-geopandas; processors are shared with the clients, so pin both for a figure:
 `taskset -c 0,1` before this script pins all of it.
@@ -203,13 +204,27 @@ def located(served: Served, rings: Any, seconds: int, folder: Path) -> str:
     rate = re.search(r"Requests/sec:\s+(\S+)", ended.stdout)
     slowest = re.search(r"99%\s+(\S+)", ended.stdout)
     wrong = re.search(r"Non-2xx.*", ended.stdout)
-    return f"{rate[1] if rate else '?'} a second, p99 {slowest[1] if slowest else '?'}, beside {told['edit', 200] / seconds:.0f} edits a second{'; ' + wrong[0] if wrong else ''}"
+    found = f"{rate[1] if rate else '?'} a second, p99 {slowest[1] if slowest else '?'}"
+    return f"{found}, beside {told['edit', 200] / seconds:.0f} edits a second{'; ' + wrong[0] if wrong else ''}"
+
+
+def mixed(served: Served, rings: Any, seconds: float, clerks: int, readers: int) -> Counter[Any]:
+    """How many answers of each kind and status clerks and readers had that asked at once."""
+    told: Counter[Any] = collections.Counter()
+    until, parcels = time.monotonic() + seconds, [it[0] for it in rings]
+    threads = [
+        threading.Thread(target=clerk, args=(served, rings[k + 40][1], until, told, 200 + k)) for k in range(clerks)
+    ]
+    threads += [threading.Thread(target=reader, args=(served, parcels, until, told, k)) for k in range(readers)]
+    all_at_once(threads)
+    return told
 
 
 def main() -> None:
     options = argparse.ArgumentParser(description=__doc__, formatter_class=argparse.RawDescriptionHelpFormatter)
     options.add_argument("--size", default="M", choices="SML")
     options.add_argument("--seconds", type=int, default=20)
+    options.add_argument("--mixed", type=int, default=20)
     options.add_argument("--readers", type=int, default=100)
     options.add_argument("--clerks", type=int, default=20)
     given = options.parse_args()
@@ -225,19 +240,11 @@ def main() -> None:
             flush=True,
         )
         print(f"locate   {located(served, rings, given.seconds, folder)}", flush=True)
-        told: Counter[Any] = collections.Counter()
-        until = time.monotonic() + given.seconds
-        threads = [
-            threading.Thread(target=clerk, args=(served, rings[k + 40][1], until, told, 200 + k))
-            for k in range(given.clerks)
-        ]
-        threads += [
-            threading.Thread(target=reader, args=(served, [it[0] for it in rings], until, told, k))
-            for k in range(given.readers)
-        ]
-        all_at_once(threads)
+        told = mixed(served, rings, given.mixed, given.clerks, given.readers)
         print(f"mixed    {dict(told)}, {served.memory()} MiB", flush=True)
         served.end()
+    if set(status for _, status in told) - {200, 429, 503}:
+        sys.exit("an answer has no reason")
 
 
 if __name__ == "__main__":

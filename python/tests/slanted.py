@@ -9,7 +9,7 @@ from __future__ import annotations
 import math
 import random
 from dataclasses import dataclass
-from typing import Dict, List, Tuple
+from typing import Dict, List, Optional, Tuple
 
 import geopandas as gpd
 import numpy as np
@@ -29,11 +29,12 @@ class Planted:
 
 
 def slanted(
-    seed: int, bands: int, cells: int, decimals: int, faults: Dict[int, float]
+    seed: int, bands: int, cells: int, decimals: Optional[int], faults: Dict[int, float]
 ) -> Tuple[gpd.GeoDataFrame, List[Planted]]:
     """A register of bands times cells parcels; `faults` maps a parcel's position to how far its right side is moved (m).
 
-    The last parcel of a band has none. A move to the left is a gap, one to the right an overlap.
+    The last parcel of a band has none. A move to the left is a gap, one to the right an overlap. Without `decimals` the
+    coordinates are floats as they were computed.
     """
     pick = random.Random(seed)
     angle = math.radians(pick.uniform(5, 85))
@@ -51,7 +52,7 @@ def slanted(
                 strip = Polygon(_corners(lines[band], lines[band + 1], right, right + moved))
                 kind = "gap" if moved < 0 else "overlap"
                 planted.append(Planted(kind, (f"n{number}", f"n{number + 1}"), strip.area, strip.length))
-    rounded = [Polygon(np.round(corners, decimals)) for corners in shapes]
+    rounded = [Polygon(corners if decimals is None else np.round(corners, decimals)) for corners in shapes]
     numbers = [f"n{at}" for at in range(len(shapes))]
     return gpd.GeoDataFrame({"parcel_no": numbers}, geometry=rounded, crs=25832), planted
 

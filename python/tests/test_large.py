@@ -20,8 +20,9 @@ from shapely.geometry import Point, Polygon
 
 import gandovel
 from gandovel import Refused
+from gandovel.cli import main
 from gandovel.large import Cutting, cut_by, is_large
-from gandovel.large import compose, runs, tiles, verdict
+from gandovel.large import compose, cutting, runs, tiles, verdict
 from gandovel.large.cutting import cut, partition_faults
 from gandovel.large.verdict import Open, check_island, districts_of
 from gandovel.noding import touches
@@ -148,6 +149,43 @@ def test_corners_that_only_one_side_of_a_border_has():
     assert count > 4
 
 
+@pytest.mark.parametrize("kind", [None, "gap", "a sliver along a border"])
+def test_districts_of_districts(monkeypatch, kind):
+    """Where the outlines have more corners than a layer may, they are cut in turn, and the law is used twice."""
+    columns, rows = 16, 12
+    shapes = grid(columns, rows)
+    prepared = gandovel.prepare(frame(planted(shapes, columns, kind) if kind else shapes))
+    whole = report(prepared)
+    monkeypatch.setattr(cutting, "MOST_IN_ALL", 130)
+    with cut_by(Cutting(12, jobs=2)):
+        assert said(report(prepared)) == said(whole)
+        levels = verdict._levels_of(prepared.islands[0], "parcels")
+    assert len(levels) > 1 and len(levels[-1]) < len(levels[0]) and (kind is None) == (whole.verdict == "tiles")
+
+
+def test_groups_of_districts_that_are_exchanged(monkeypatch):
+    monkeypatch.setattr(cutting, "MOST_IN_ALL", 130)
+    made = cutting.levels_of
+
+    def exchanged(rings: Any, most: int) -> Any:
+        levels = made(rings, most)
+        are_exchanged(levels[1])
+        return levels
+
+    monkeypatch.setattr(verdict, "levels_of", exchanged)
+    with cut_by(Cutting(12)), pytest.raises(Open):
+        check_island(island_of(16, 12))
+
+
+def test_an_outline_that_is_walked_is_the_one_that_lines_make(monkeypatch):
+    rings = [*island_of(9, 7).parcels.rings]
+    plain = cut(rings, 9)
+    monkeypatch.setattr(cutting, "_one_loop", lambda *_: None)
+    assert len(plain) > 6
+    for outline, same_outline in zip(plain.outlines, cut(rings, 9).outlines):
+        assert Polygon(outline).equals(Polygon(same_outline))
+
+
 @settings(
     max_examples=60 if LONG else 6,
     deadline=None,
@@ -213,7 +251,7 @@ def broken_district(monkeypatch, change):
         change(districts)
         return districts
 
-    monkeypatch.setattr(verdict, "cut", wrong)
+    monkeypatch.setattr(cutting, "cut", wrong)
 
 
 def lacks_one(districts):
@@ -273,6 +311,37 @@ def test_a_run_without_an_answer_leaves_the_verdict_open(monkeypatch):
     monkeypatch.setattr(runs, "run_tool", dies)
     with cut_by(Cutting(10)), pytest.raises(Open, match=r"not judged: district 3 \(T2 killed\)"):
         check_island(island_of())
+
+
+def test_an_open_verdict_is_status_2_and_one_line(tmp_path, monkeypatch, capsys):
+    frame(grid(8, 8)).to_file(tmp_path / "parcels.gpkg", driver="GPKG")
+    asked = runs.run_tool
+
+    def dies(arguments: List[str]) -> Any:
+        if "/d3/" in arguments[1]:
+            raise Refused("T2", "killed")
+        return asked(arguments)
+
+    monkeypatch.setattr(runs, "run_tool", dies)
+    words = ["--number", "parcel_no", "--parcels-a-district", "10"]
+    assert main(["check", str(tmp_path / "parcels.gpkg"), *words]) == 2
+    assert capsys.readouterr().err.splitlines()[-1].startswith("error: parcels: T11 the verdict is open: not judged")
+
+
+@pytest.mark.parametrize("place", ["/d2/", "/all/"])
+def test_a_ring_that_is_too_long_is_told_as_the_whole_layers(monkeypatch, place):
+    """A record of a district is no record of the layer, and an outline is no parcel."""
+    asked, island = runs.run_tool, island_of()
+    row = int(cut(island.parcels.rings, 10).rows[1][2])
+
+    def too_long(arguments: List[str]) -> Any:
+        return ("", Refused("H3", "3", "parcels", 3)) if place in arguments[1] else asked(arguments)
+
+    monkeypatch.setattr(runs, "run_tool", too_long)
+    with cut_by(Cutting(10)), pytest.raises(Refused) as caught:
+        check_island(island)
+    told = (caught.value.code, caught.value.record, caught.value.text)
+    assert told == ("H3", row + 1, f"{row + 1}") if place == "/d2/" else "layer of districts (parcels: H3 3)" in told[2]
 
 
 def test_counts_that_differ_leave_the_verdict_open(monkeypatch):

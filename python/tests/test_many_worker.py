@@ -6,13 +6,14 @@ import os
 import signal
 import subprocess
 import sys
+import time
 from contextlib import suppress
 from pathlib import Path
 
 import pytest
 
 import gandovel
-from gandovel.many import read_manifest, worker
+from gandovel.many import read_manifest, results, worker
 from gandovel.many.engines import Settings
 from gandovel.many.engines import dask as dask_engine
 from gandovel.many.engines.base import worker_words
@@ -65,9 +66,24 @@ def test_a_file_is_compared_by_all_its_bytes(tmp_path, how, room):
 def test_a_file_that_was_not_there(tmp_path):
     path = tmp_path / "file"
     before = worker.read_input(str(path), worker.HELD)
-    assert before == (None, None) and worker.is_unchanged(str(path), before)
+    assert before == worker.Input(None) and worker.is_unchanged(str(path), before)
     path.write_bytes(b"")
     assert not worker.is_unchanged(str(path), before)
+
+
+@pytest.mark.parametrize("how", sorted(CHANGES))
+def test_a_settled_file_is_compared_by_its_stamp(tmp_path, monkeypatch, how):
+    path = tmp_path / "file"
+    path.write_bytes(TEXT)
+    assert not worker.read_input(str(path), worker.HELD, False).settled, "it was written just now"
+    monkeypatch.setattr(worker, "SETTLED", -60.0)
+    before = worker.read_input(str(path), worker.HELD, False)
+    told = before.told()
+    assert before.settled and before.content is None and told["stamp"] == worker.stamp_of(path.stat())
+    time.sleep(0.05)
+    assert worker.is_unchanged(str(path), before) and results._is_same(str(path), "another", told["stamp"])
+    CHANGES[how](path)
+    assert not worker.is_unchanged(str(path), before) and not results._is_same(str(path), "another", told["stamp"])
 
 
 def test_a_program_is_read_once_and_again_when_it_changed(tmp_path, monkeypatch):

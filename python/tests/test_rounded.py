@@ -19,9 +19,13 @@ FEW = settings(max_examples=25 if LONG else 4, deadline=None, suppress_health_ch
 EAST, NORTH = 561_000, 5_934_000
 
 
+DRAWN = [None, 3, 2, 1]
+"""How a register is kept: as floats, or rounded to mm, cm or dm."""
+
+
 def touch_of(decimals):
-    """How far, in m, a corner touches in a layer of so many decimals."""
-    return 1.42 * 10.0**-decimals
+    """How far, in m, a corner touches in a layer of so many decimals; of floats how far the grid moves two apart."""
+    return 1.42 * 10.0 ** -(3 if decimals is None else decimals)
 
 
 def told_as_planted(report, planted, touch):
@@ -39,7 +43,7 @@ def told_as_planted(report, planted, touch):
 
 
 @FEW
-@given(st.integers(0, 10**6), st.sampled_from([1, 2, 3]), st.data())
+@given(st.integers(0, 10**6), st.sampled_from(DRAWN), st.data())
 def test_exactly_the_planted_faults_of_200_parcels(seed, decimals, data):
     touch = touch_of(decimals)
     places = data.draw(st.lists(st.integers(5, 44), max_size=6, unique=True))
@@ -47,11 +51,12 @@ def test_exactly_the_planted_faults_of_200_parcels(seed, decimals, data):
     faults = {4 * at + 1: way * wide * touch for at, (way, wide) in ((at, data.draw(sides)) for at in places)}
     frame, planted = slanted(seed, 10, 20, decimals, faults)
     prepared = gv.prepare(frame)
-    assert abs(prepared.told["grid_mm"] - 1000 * 10.0**-decimals) < 1e-9
+    step = prepared.told["grid_mm"]
+    assert step is None if decimals is None else abs(step - 1000 * 10.0**-decimals) < 1e-9
     told_as_planted(gv.report(prepared), planted, touch)
 
 
-@pytest.mark.parametrize("decimals", [1, 2, 3])
+@pytest.mark.parametrize("decimals", DRAWN)
 def test_exactly_the_planted_faults_of_2000_parcels(decimals):
     wide = 3.5 * touch_of(decimals)
     frame, planted = slanted(7, 40, 50, decimals, {at: wide * (-1) ** (at // 100) for at in range(10, 2000, 100)})
@@ -59,7 +64,7 @@ def test_exactly_the_planted_faults_of_2000_parcels(decimals):
 
 
 @pytest.mark.skipif(not LONG, reason="20,000 parcels take a minute each: GANDOVEL_LONG=1")
-@pytest.mark.parametrize("decimals", [1, 2, 3])
+@pytest.mark.parametrize("decimals", DRAWN)
 def test_exactly_the_planted_faults_of_20000_parcels(decimals):
     wide = 3.5 * touch_of(decimals)
     frame, planted = slanted(8, 100, 200, decimals, {at: wide * (-1) ** (at // 500) for at in range(10, 20_000, 500)})
@@ -99,9 +104,19 @@ def test_touch_0_compares_exactly_on_the_grid_too():
 
 def test_a_grid_that_is_told():
     assert len(gv.check(two(0.008), grid=10)) == 0 and len(gv.check(two(0.008))) == 1
-    for bad in (-1, float("nan"), float("inf")):
-        with pytest.raises(gv.Refused, match="P8 a touch of .* is none"):
-            gv.prepare(two(0.008), touch=bad)
+
+
+@pytest.mark.parametrize("name", ["grid", "touch", "max_move", "narrow"])
+@pytest.mark.parametrize("bad", [-1.0, float("nan"), float("inf")])
+def test_what_is_no_distance_is_refused(name, bad):
+    with pytest.raises(gv.Refused, match=f"P8 a {name.replace('_', '-')} of .* is none: give millimetres"):
+        gv.prepare(two(0.0), **{name: bad})
+
+
+def test_what_is_no_area_is_refused():
+    for bad in (-1.0, float("nan")):
+        with pytest.raises(gv.Refused, match="P8 a least area of .* is none"):
+            gv.report(gv.prepare(two(0.0)), bad)
 
 
 def test_a_thin_parcel_is_no_rounding():

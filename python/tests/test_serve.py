@@ -4,6 +4,7 @@ from __future__ import annotations
 import json
 import os
 import re
+import resource
 import socket
 import subprocess
 import time
@@ -13,7 +14,7 @@ import requests
 from hypothesis import HealthCheck, given, settings
 from hypothesis import strategies as st
 
-from served import EAST, NORTH, Served, moved, prepared, pretty, replayed, tokens, until
+from served import EAST, LONG, NORTH, Served, moved, prepared, pretty, put_in_and_out, replayed, tokens, until
 from session_register import grid_city
 
 CITY, RINGS = grid_city(8, 8, 1)
@@ -310,8 +311,27 @@ def test_versions_and_keys(read):
     assert read.lines()[entries:] == ["merge 25 26"]
     (record,) = read.ask(f"/entries?after={entries}").json()["records"]
     assert (record["why"], record["who"]) == ("sold, 12/2026 äöü", "local") and record["time"].endswith("Z")
-    for name, value in (("If-Match", "x"), ("Idempotency-Key", "a b")):
+    for name, value in (("If-Match", "x"), ("Idempotency-Key", "a b"), ("Idempotency-Key", "k" * 101)):
         assert read.edit("merge 27 28", **{name: value}).status_code == 400
+
+
+def test_name_key_and_reason_fit_into_the_record(read):
+    """A word of the journal has 200 bytes: what does not fit is refused, and what fits is told as it was sent."""
+    left = 200 - len("local #" + "k" * 40 + ", ")
+    body = {"kind": "merge", "one": 41, "other": 42}
+    for why, status in (("w" * (left + 1), 400), ("ä" * (left // 2) + "w" * (left % 2), 200)):
+        answer = read.ask("/edits", "POST", json={**body, "why": why}, headers={"Idempotency-Key": "k" * 40})
+        assert answer.status_code == status, pretty(answer)
+    assert answer.json()["why"] == why
+    for why in ("a: b: ", ": ", "#k, x", ", ,", "merge 1 2: merge 3 4"):
+        made = read.ask("/edits", "POST", json={"kind": "line", "line": ring_line(read), "why": why}).json()
+        assert (made["who"], made["why"]) == ("local", why.strip())
+
+
+def ring_line(served: Served) -> str:
+    """An edit that fits again and again: a corner put in, or taken out."""
+    lines = put_in_and_out(replayed(CITY, RINGS, []).rings[64])
+    return lines[served.lines().count(lines[0]) - served.lines().count(lines[1])]
 
 
 def test_changes_tell_each_entry(read):
@@ -346,7 +366,7 @@ def test_metrics(read):
     assert f"gandovel_journal_bytes {read.journal.stat().st_size}.0" in text
 
 
-@settings(max_examples=250, deadline=None, suppress_health_check=list(HealthCheck))
+@settings(max_examples=1000 if LONG else 100, deadline=None, suppress_health_check=list(HealthCheck))
 @given(data=st.data())
 def test_random_requests_get_no_fault(read, data):
     """Requests at random, near to what there is: never status 500, and always a reason."""
@@ -444,9 +464,14 @@ def test_refused_starts(layer, tmp_path, monkeypatch):
     refused("--tokens", str(tmp_path / "tokens"))
     assert main(["serve", str(tmp_path), "--journal", str(tmp_path / "j")]) == 1
     assert main(["serve", str(layer), "--journal", str(layer / "j")]) == 1
-    (tmp_path / "j.who").write_text("not ours\n")
+    (tmp_path / "j").write_text("not ours\n")
     refused()
-    assert (tmp_path / "j.who").read_text() == "not ours\n"
+    assert (tmp_path / "j").read_text() == "not ours\n" and not (tmp_path / "j.desks").exists()
+    (tmp_path / "j.desks").write_text("a file of the user's\n")
+    refused()
+    assert (tmp_path / "j.desks").read_text() == "a file of the user's\n"
+    for words in (["--certfile", str(tmp_path / "tokens")], ["--certfile", str(tmp_path / "none")]):
+        refused(*words)
 
 
 def test_slow_and_large_clients(layer, tmp_path):
@@ -475,3 +500,41 @@ def test_slow_and_large_clients(layer, tmp_path):
         for one in (*slow, *deaf, declared, stream):
             one.close()
         assert served.end() == 0
+
+
+def test_many_connections(layer, tmp_path):
+    """Connections that ask nothing keep nobody out; those beyond the limit are told so, or cut off."""
+    count = 10_000 if LONG else 1_000
+    with Served(layer, tmp_path / "register.txt", "--clients", "100") as served:
+        host, port = re.fullmatch(r"http://(.*):(\d+)", served.address).groups()
+        soft, hard = resource.getrlimit(resource.RLIMIT_NOFILE)
+        resource.setrlimit(resource.RLIMIT_NOFILE, (min(hard, count + 1000), hard))
+        idle, edits = [], 0
+        for at in range(count):
+            idle.append(socket.create_connection((host, int(port)), 60))
+            if at % 100 == 99:
+                answer = requests.get(f"{served.address}/health", timeout=60)
+                assert answer.status_code in (200, 503) and answer.json(), answer.text
+                edits += served.edit(ring_line(served)).status_code == 200
+        assert edits == count // 100
+        for one in idle:
+            one.close()
+        assert served.ask("/health").json()["state"] == "serving" and served.end() == 0
+        resource.setrlimit(resource.RLIMIT_NOFILE, (soft, hard))
+
+
+def test_tls(layer, tmp_path):
+    """By a certificate of its own: HTTPS, and nothing in clear text."""
+    files = [str(tmp_path / name) for name in ("key.pem", "cert.pem")]
+    words = "openssl req -x509 -newkey rsa:2048 -nodes -days 2 -subj /CN=localhost -addext subjectAltName=IP:127.0.0.1"
+    subprocess.run([*words.split(), "-keyout", files[0], "-out", files[1]], check=True, stderr=subprocess.DEVNULL)
+    with Served(layer, tmp_path / "register.txt", "--keyfile", files[0], "--certfile", files[1]) as served:
+        assert served.address.startswith("https://")
+        served.session.verify = files[1]
+        assert served.edit("merge 1 2").status_code == 200
+        assert all(it["href"].startswith("https://") for it in served.ask("/").json()["links"])
+        with pytest.raises(requests.exceptions.SSLError):
+            requests.get(served.address + "/health", timeout=60)
+        with pytest.raises(requests.exceptions.ConnectionError):
+            requests.get(served.address.replace("https:", "http:") + "/health", timeout=60)
+        assert served.ask("/health").json()["state"] == "serving" and served.end() == 0

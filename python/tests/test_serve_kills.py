@@ -1,10 +1,10 @@
 """The program and the server are killed under load: no answered edit is lost, none is made twice."""
 from __future__ import annotations
 
-import json
+import asyncio
+import hashlib
 import os
 import random
-import shutil
 import subprocess
 import sys
 import threading
@@ -14,13 +14,19 @@ import pytest
 import requests
 
 import gandovel
-from served import LONG, Served, environment, moved, prepared, replayed, until
+from gandovel.journals import Said
+from gandovel.serve.entries import Asked
+from gandovel.serve.register import Fate, Register
+from gandovel.serve.tail import Tail
+from gandovel.tool import find_tool
+from served import LONG, SECONDS, Served, environment, moved, prepared, replayed, until
 from session_register import grid_city
 
 CITY, RINGS = grid_city(8, 8, 1)
 KILLS = int(os.environ.get("GANDOVEL_KILLS", 200 if LONG else 20))
-"""How often something is killed; every fourth time it is the server."""
+"""How often something is killed; every fourth time it is the server, which every other time ends by SIGTERM."""
 CLERKS = 6
+KEYED = {"Idempotency-Key": "one", "Content-Type": "text/plain"}
 
 
 def lines_of_clerk(number: int) -> list:
@@ -60,7 +66,8 @@ class Clerk(threading.Thread):
 
     def sent(self, line, key):
         """The first answer that says what became of the line; after the end only what was sent is asked for."""
-        for _ in range(600):
+        end = time.monotonic() + SECONDS
+        while time.monotonic() < end:
             try:
                 answer = self.session.post(
                     self.served.address + "/edits",
@@ -88,7 +95,10 @@ def test_kills(tmp_path):
             before = sum(len(clerk.answers) for clerk in clerks)
             time.sleep(draw.random() * 0.3)
             if at % 4 == 3:
-                served.kill()
+                if at % 8 == 7:
+                    assert served.end() == 0
+                else:
+                    served.kill()
                 served.start()
             else:
                 for process in draw.sample(served.programs, 1):
@@ -103,6 +113,8 @@ def test_kills(tmp_path):
         told = sorted(it for clerk in clerks for it in clerk.answers)
         assert [number for number, _ in told] == list(range(1, len(lines) + 1)), "an edit was made twice, or lost"
         assert [line for _, line in told] == lines
+        keys = [it.said.key for it in gandovel.read_journal(served.journal).records]
+        assert len(set(keys)) == len(keys) and None not in keys
         replayed(CITY, RINGS, lines)
         records = served.ask("/entries?limit=10000").json()["records"]
         assert all(it["who"] == "local" for it in records)
@@ -110,48 +122,70 @@ def test_kills(tmp_path):
         assert served.end() == 0
 
 
-def test_a_key_outlives_a_restart_and_a_lost_record(tmp_path):
-    """The answer comes by the key, though the server ended before it wrote what became of the edit."""
+def test_a_key_outlives_a_restart(tmp_path):
+    """Who, why and key stand in the journal alone, which another program may have gone on with."""
     with Served(prepared(tmp_path / "work", CITY, RINGS), tmp_path / "register.txt") as served:
-        first = served.edit("merge 1 2", **{"Idempotency-Key": "one"}).json()
-        served.edit("merge 9 10", **{"Idempotency-Key": "two"})
+        first = served.ask("/edits?why=sold, deed 17", "POST", data="merge 01 2", headers=KEYED).json()
+        assert (first["edit"], first["who"], first["why"]) == ("merge 1 2", "local", "sold, deed 17")
         assert served.edit("merge 1 9", **{"Idempotency-Key": "three"}).status_code == 409
-        assert served.end() == 0
-        own = tmp_path / "register.txt.who"
-        kept = [
-            line
-            for line in own.read_text().splitlines(True)
-            if '"entry"' not in line and json.loads(line) != {"asked": 3}
+        assert sorted(it.name for it in tmp_path.iterdir() if it.name.startswith("register")) == [
+            "register.txt",
+            "register.txt.desks",
         ]
-        own.write_text("".join(kept) + '{"asked":4,"ed')
-        served.start()
-        again = served.edit("merge 1 2", **{"Idempotency-Key": "one"})
-        assert again.json() == first and again.headers["gandovel-repeated"] == "true"
-        assert [it["who"] for it in served.ask("/entries").json()["records"]] == ["local", "local"]
-        assert served.edit("merge 1 9", **{"Idempotency-Key": "three"}).status_code == 409
-        assert len(served.lines()) == 2
-        # the journal is the truth: what another program adds has no maker here, and what it lacks is forgotten
         assert served.end() == 0
-        served.journal.unlink()
+        (record,) = gandovel.read_journal(served.journal).records
+        assert (record.who, record.moment) == ("local #one, sold, deed 17", first["time"])
         layers = served.folder / "city.shp", served.folder / "parcels.shp"
-        with gandovel.Session(*layers, journal=served.journal, timeout=120) as session:
-            session.merge(1, 2)
+        with gandovel.Session(*layers, journal=served.journal, timeout=600) as session:
             session.merge(3, 4)
-        journal = served.journal.read_text()
+            session.edit(gandovel.Merge(5, 6), who="Anna Müller, deed 18")
         served.start()
-        assert [(it["edit"], it["who"]) for it in served.ask("/entries").json()["records"]] == [
-            ("merge 1 2", "local"),
-            ("merge 3 4", None),
+        again = served.ask("/edits", "POST", data="merge 1 2", headers=KEYED)
+        assert again.json() == first and again.headers["gandovel-repeated"] == "true"
+        records = served.ask("/entries?after=1").json()["records"]
+        assert [(it["edit"], it["who"], it["why"]) for it in records] == [
+            ("merge 3 4", None, ""),
+            ("merge 5 6", "Anna Müller", "deed 18"),
         ]
+        assert served.edit("merge 9 10", **{"Idempotency-Key": "one"}).status_code == 422
+        journal = served.journal.read_bytes()
         with pytest.raises(AssertionError):
             Served(served.folder, served.journal)
         assert "another server" in served.journal.with_name("serve.log").read_text()
+        assert served.edit("merge 9 10").status_code == 200 and served.ask("/health").json()["restarts"] == 0
         assert served.end() == 0
-        shutil.copytree(served.folder, tmp_path / "other")
-        (tmp_path / "other" / "parcels.shp").write_bytes((served.folder / "parcels.shp").read_bytes()[:-8] + bytes(8))
+        assert not served.journal.with_name("register.txt.desks").exists()
+        other = prepared(tmp_path / "other", *grid_city(8, 8, 2))
         with pytest.raises(AssertionError):
-            Served(tmp_path / "other", served.journal)
-        assert served.journal.read_text() == journal
+            Served(other, served.journal)
+        assert "another layer" in served.journal.with_name("serve.log").read_text()
+        assert served.journal.read_bytes().startswith(journal)
+
+
+def test_a_disk_that_is_full(tmp_path, monkeypatch):
+    """What the disk did not take is refused by its reason, readers go on, and with room the edit is made once."""
+    limit, tool = tmp_path / "full", tmp_path / "limited"
+    text = f"if [ -e {limit} ]; then trap '' XFSZ; ulimit -f 1; fi"
+    tool.write_text(f'#!/bin/bash\n{text}\nexec "{find_tool()}" "$@"\n')
+    tool.chmod(0o755)
+    limit.touch()
+    layer = prepared(tmp_path / "work", CITY, RINGS)
+    monkeypatch.setenv("GANDOVEL_TOOL", str(tool))
+    with Served(layer, tmp_path / "register.txt") as served:
+        lines = [line for line in lines_of_clerk(0)]
+        answers = []
+        while not answers or answers[-1].status_code == 200:
+            answers.append(served.edit(lines[len(answers)], **{"Idempotency-Key": f"k{len(answers)}"}))
+        accepted = len(answers) - 1
+        assert accepted > 1 and (answers[-1].status_code, answers[-1].json()["code"]) == (503, "journal")
+        assert served.edit("merge 60 61").json()["code"] == "journal"
+        assert served.ask("/parcels/60").status_code == 200
+        assert served.ask("/entries").json()["entries"] == accepted
+        limit.unlink()
+        line, key = lines[accepted], {"Idempotency-Key": f"k{accepted}"}
+        answer = until(lambda: [it for it in [served.edit(line, **key)] if it.status_code == 200 or time.sleep(1)])[0]
+        assert answer.json()["number"] == accepted + 1
+        assert served.lines() == lines[: accepted + 1] and served.end() == 0
 
 
 def test_backup_and_restore(tmp_path):
@@ -182,40 +216,25 @@ def test_backup_and_restore(tmp_path):
     assert subprocess.run([*command, str(out), "--check"], env=environment(), stderr=subprocess.PIPE).returncode == 1
 
 
-def test_records_follow_the_journal(tmp_path):
-    """A record becomes an entry's only where the line is the same, and the entry came after it was asked for."""
-    import asyncio
+def test_an_answer_is_found_in_the_journal(tmp_path):
+    """An edit without an answer is the first record behind those known when it was sent that has its words."""
+    layer, records = "0" * 64, [("anna #a, why", "merge 1 2"), ("bert", "merge 3 4"), ("bert", "merge 1 2")]
+    digest, text = layer, f"# gandovel journal 1 mm {layer}\n"
+    for number, (who, line) in enumerate(records, 1):
+        stamp = f"# {number} 2 2026-01-01T00:00:00Z {who} "
+        digest = hashlib.sha256(f"{digest}{stamp}{line}\n".encode()).hexdigest()
+        text += f"{stamp}{digest}\n{line}\n"
+    (tmp_path / "journal").write_text(text)
 
-    from gandovel.errors import JournalBroken, Refused
-    from gandovel.serve.records import Asked, Records
+    async def fates():
+        register = Register(None, tmp_path / "journal")
+        register._tail = Tail(tmp_path / "journal")
+        asked = [("bert", "merge 3 4", 0), ("bert", "merge 3 4", 2), ("anna", "merge 1 2", 0), ("bert", "merge 1 2", 1)]
+        sent = [Fate(Asked(line, Said(who)), after) for who, line, after in asked]
+        sent.append(Fate(Asked("merge 1 2", Said("anna", "why", "a")), 0))
+        register._fates = set(sent)
+        register._accept(3)  # an answer to the third is the first that comes
+        register._take_in(register._tail.records)
+        return [await fate.number for fate in sent]
 
-    path = tmp_path / "journal.who"
-
-    def asked(edit, key):
-        return Asked(edit, "anna", "why", "2026-01-01T00:00:00.000Z", key)
-
-    async def write(records):
-        await asyncio.gather(records.ask(asked("merge 1 2", "a"), 0), records.ask(asked("merge 3 4", "b"), 0))
-        assert await records.ask(asked("merge 1 2", "c"), 2) == 3
-        records.settle(1, 1)
-
-    records = Records(path, "layer")
-    asyncio.run(write(records))
-    before = records.synchronisations
-    records.close()
-    assert before <= 4
-    found = Records(path, "layer")
-    assert {at: it.key for at, it in found.matched(["merge 1 2", "merge 3 4"]).items()} == {1: "a", 2: "b"}
-    found.close()
-    again = Records(path, "layer")
-    assert {at: it.key for at, it in again.matched(["merge 1 2", "merge 5 6"]).items()} == {1: "a"}
-
-    again._append = lambda lines: (_ for _ in ()).throw(OSError(28, "No space left on device"))
-    with pytest.raises(JournalBroken):
-        asyncio.run(again.ask(asked("merge 7 8", "d"), 2))
-    again.close()
-    with pytest.raises(Refused, match="another layer"):
-        Records(path, "other")
-    path.write_text(path.read_text() + "[]\n")
-    with pytest.raises(Refused, match="is no record"):
-        Records(path, "layer")
+    assert asyncio.run(fates()) == [2, None, None, 3, 1]

@@ -132,6 +132,45 @@ def test_what_is_lost_is_told(tmp_path):
     assert json.loads(ended.stdout)["lost"] == lost[:0] + [text for text in lost if "heights" in text]
 
 
+def test_columns_of_any_name_and_kind(tmp_path):
+    columns = {"pairs": [[1], {2: 3}], "span": pd.to_timedelta([1, 2]), "range": pd.interval_range(0, 2)}
+    frame = two(FID=[3, 4], Fid=[5, 6], large=np.array([1, 2**64 - 1], dtype=np.uint64), **columns)
+    frame[7], frame["shape"] = [1, 2], frame.geometry
+    prepared = gv.prepare(frame)
+    gv.report(prepared).save(tmp_path / "r.gpkg")
+    written = gpd.read_file(tmp_path / "r.gpkg", layer="parcels")
+    assert {"7", "FID_", "Fid__", *columns} <= set(written.columns) and written.large[1] == str(2**64 - 1)
+    for lost in ("geometries of the column shape", *(f"type of the column {name}" for name in columns)):
+        assert any(lost in text for text in prepared.lost)
+
+
+def test_zones_without_names_are_told():
+    zones = gpd.GeoDataFrame({"height": [1.5]}, geometry=[cell(0, 0, 20, 10)], crs=25832)
+    prepared = gv.prepare(two(), zones)
+    assert prepared.zone_names == ["1"] and "named by their rows" in prepared.lost[0]
+
+
+def test_a_map_of_what_is_no_report(tmp_path):
+    two().to_file(tmp_path / "p.gpkg", driver="GPKG")
+    (tmp_path / "text.gpkg").write_text("no GeoPackage")
+    for name in ("p.gpkg", "text.gpkg", "none.gpkg"):
+        ended = command("map", name, "--out", "m.html", cwd=tmp_path)
+        (line,) = ended.stderr.splitlines()
+        assert ended.returncode == 1 and line.startswith("error: P1 ") and not (tmp_path / "m.html").exists()
+    ended = command("map", "p.gpkg", "--out", "p.gpkg", cwd=tmp_path)
+    assert ended.returncode == 1 and "P14 p.gpkg is read, and would be written over" in ended.stderr
+
+
+def test_the_verdict_says_whence_the_city_is():
+    whole = gpd.GeoDataFrame(geometry=[cell(0, 0, 20, 10)], crs=25832)
+    for options, said in (
+        ({}, "the city is what the parcels cover"),
+        ({"city": whole}, "the city is the layer that was given"),
+        ({"frame": True}, "the city is a frame around all"),
+    ):
+        assert gv.report(gv.prepare(two(), **options)).summary() == f"no gaps, no overlaps; {said}"
+
+
 def test_curves_and_measures(tmp_path):
     arc = 'id,WKT\n1,"CURVEPOLYGON(CIRCULARSTRING(561000 5934000,561010 5934010,561020 5934000,561010 5933990,561000 5934000))"\n'
     (tmp_path / "arc.csv").write_text(arc)

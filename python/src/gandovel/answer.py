@@ -6,7 +6,6 @@ import io
 import json
 from typing import Any, Dict, List, Sequence
 
-import geopandas as gpd
 import numpy as np
 
 from .errors import Refused
@@ -14,7 +13,20 @@ from .prepared import OUT_ROW, Prepared
 from .report import Report
 from .tool import program_version
 
-FAULT_KEYS = ("kind", "layer", "island", "area2_mm2", "area_m2", "area_how", "depth", "numbers", "numbers_how")
+FAULT_KEYS = (
+    "kind",
+    "layer",
+    "island",
+    "area2_mm2",
+    "area_m2",
+    "area_how",
+    "area",
+    "unit",
+    "depth",
+    "numbers",
+    "numbers_how",
+    "touched",
+)
 
 
 def answer_of(report: Report, prepared: Prepared) -> Dict[str, Any]:
@@ -103,15 +115,3 @@ def csv_of(columns: Sequence[str], rows: Sequence[Sequence[Any]]) -> str:
     writer.writerow(columns)
     writer.writerows(rows)
     return text.getvalue()
-
-
-def rows_of(frame: gpd.GeoDataFrame) -> List[Dict[str, Any]]:
-    """A frame's rows as dictionaries, the shapes as x, y of a place in or on them."""
-    places = [
-        shape.representative_point() if shape is not None and not shape.is_empty else None for shape in frame.geometry
-    ]
-    records = frame.drop(columns=frame.geometry.name).to_dict("records")
-    return [
-        {**record, "x": None if at is None else at.x, "y": None if at is None else at.y}
-        for record, at in zip(records, places)
-    ]

@@ -8,7 +8,6 @@ from pathlib import Path
 from typing import Any, Dict, Iterator, List, Optional, Sequence, Tuple, Union
 
 import geopandas as gpd
-import numpy as np
 import pandas as pd
 
 from .arrays import Array
@@ -21,7 +20,8 @@ from .large.verdict import areas_of_island, locate_in_island, overlaid_island, t
 from .layer_files import read_rings
 from .prepare import prepare
 from .prepared import OUT_ROW, Island, Prepared
-from .reading import Source
+from .points import on_grid
+from .reading import Source, frame_of
 from .report import report
 from .verdicts import named, numbers_at, write_island
 
@@ -201,7 +201,7 @@ def _pairs(prepared: Prepared, folder: Path, island: Island) -> Array:
 
 def locate(
     parcels: Register,
-    points: gpd.GeoDataFrame,
+    points: Source,
     *,
     zones: Optional[Source] = None,
     number: str = "parcel_no",
@@ -217,8 +217,9 @@ def locate(
 ) -> gpd.GeoDataFrame:
     """The points with `where` (`inside` | `edge` | `outside`), `numbers` (text, comma separated), `moved_mm`.
 
-    A point is asked for at the whole millimetre nearest to it, `moved_mm` away (`moved_how`: measured). Refused H2
-    where the parcels do not tile the city, P7 where the points have another projection.
+    `points` is a layer as `prepare` takes it, with a point in each row. A point is asked for at the whole millimetre
+    nearest to it, `moved_mm` away (`moved_how`: measured). Refused H2 where the parcels do not tile the city, P7 where
+    the points have another projection, P4, P5, P9 what is no point, all at once.
     """
     prepared = (
         parcels
@@ -238,11 +239,9 @@ def locate(
             narrow=narrow,
         )
     )
-    if points.crs is not None and prepared.crs is not None and points.crs != prepared.crs:
-        raise Refused("P7", "their projection is not that of the parcels", "points")
-    places = np.column_stack([points.geometry.x, points.geometry.y]) * prepared.scale
-    whole = np.floor(places + 0.5)
-    where, numbers = ["outside"] * len(points), [""] * len(points)
+    frame_of_points = frame_of(points, "points")
+    whole, moved = on_grid(frame_of_points, prepared)
+    where, numbers = ["outside"] * len(whole), [""] * len(whole)
     with _islands(prepared) as folders:
         for folder, island in folders:
             for at, (kind, records) in enumerate(_located(prepared, folder, island, whole)):
@@ -250,14 +249,15 @@ def locate(
                     where[at] = kind
                     known = numbers_at(prepared, island.parcels, [record - 1 for record in records], "parcels")
                     numbers[at] = ",".join([*filter(None, [numbers[at]]), *known])
-    return points.assign(where=where, numbers=numbers, moved_mm=np.hypot(*(whole - places).T), moved_how="measured")
+    table = points if isinstance(points, gpd.GeoDataFrame) else frame_of_points
+    return table.assign(where=where, numbers=numbers, moved_mm=moved, moved_how="measured")
 
 
 def _located(prepared: Prepared, folder: Path, island: Island, whole: Array) -> List[Tuple[str, List[int]]]:
     try:
         if is_large(island.parcels.rings):
-            return locate_in_island(island, whole.astype(np.int64).tolist())
-        return tool.locate_points(folder / "city.shp", folder / "parcels.shp", whole.astype(np.int64).tolist())
+            return locate_in_island(island, whole.tolist())
+        return tool.locate_points(folder / "city.shp", folder / "parcels.shp", whole.tolist())
     except Refused as refused:
         raise named(prepared, island, refused, "parcels") from refused
 

@@ -1,15 +1,17 @@
-"""The command `gandovel`: prepare, check, report, overlay, locate, mend, map, back, many."""
+"""The command `gandovel`: prepare, check, report, overlay, locate, mend, map, back, many, serve, backup, journal."""
 from __future__ import annotations
 
 import argparse
 import logging
 import os
 import sys
+from importlib.util import find_spec
 from pathlib import Path
 from typing import TYPE_CHECKING, Any, Callable, Dict, List, Optional
 
 from . import __version__
 from .errors import Refused
+from .journal_command import add_journal, run_journal
 from .large.options import add_options, cut_as_told
 from .many.command import add_command, run_command
 from .serve.command import add_commands, run_backup, run_serve
@@ -67,6 +69,7 @@ def _add_questions(commands: Any) -> None:
     where = locate.add_mutually_exclusive_group(required=True)
     where.add_argument("--at", nargs=2, type=float, metavar=("X", "Y"), help="a point, in the layer's unit")
     where.add_argument("--points", metavar="LAYER", help="a layer of points")
+    locate.add_argument("--points-layer", metavar="NAME", help="the layer, where the source of points has several")
 
 
 def parser() -> argparse.ArgumentParser:
@@ -98,6 +101,7 @@ def parser() -> argparse.ArgumentParser:
     back.add_argument("--out", required=True, metavar="NEW.gpkg", help="the GeoPackage to write")
     add_command(commands)
     add_commands(commands)
+    add_journal(commands)
     return top
 
 
@@ -126,6 +130,11 @@ def _prepared(options: argparse.Namespace, progress: Progress) -> Prepared:
         zones_layer=options.zones_layer,
         city_layer=options.city_layer,
     )
+
+
+def _read(options: argparse.Namespace) -> List[Optional[str]]:
+    """The layers that a command reads, as they were named."""
+    return [options.source, options.zones, options.city]
 
 
 def _lost(prepared: Prepared) -> None:
@@ -161,7 +170,7 @@ def _report(options: argparse.Namespace) -> int:
     if options.command == "report" and out is None and not (options.json or options.csv):
         raise Refused("P14", "say where to write the report: --out REPORT.gpkg (or ask by --json or --csv)")
     if out is not None:
-        test_name(out)
+        test_name(out, _read(options))
     progress = Progress(shown=True)
     try:
         prepared = _prepared(options, progress)
@@ -206,20 +215,18 @@ def _overlay(options: argparse.Namespace) -> int:
 
 
 def _locate(options: argparse.Namespace) -> int:
-    import geopandas as gpd
-    from shapely.geometry import Point
-
     from .answer import csv_of, json_of
     from .api import locate
+    from .points import points_at
     from .progress import Progress
     from .reading import read_layer
     from .tool import program_version
 
     prepared = _prepared(options, Progress(shown=True))
     if options.points is not None:
-        points = read_layer(options.points, "points")
+        points = read_layer(options.points, "points", options.points_layer)
     else:
-        points = gpd.GeoDataFrame(geometry=[Point(*options.at)], crs=prepared.crs)
+        points = points_at([options.at], prepared.crs)
     frame = locate(prepared, points)
     columns = (frame.geometry.x, frame.geometry.y, frame["where"], frame["numbers"], frame["moved_mm"])
     rows = [
@@ -243,7 +250,7 @@ def _mend(options: argparse.Namespace) -> int:
     from .mend import mend
     from .progress import Progress
 
-    test_name(options.out)
+    test_name(options.out, _read(options))
     prepared = _prepared(options, Progress(shown=True))
     mended = mend(prepared, options.width)
     mended.save(options.out)
@@ -262,8 +269,10 @@ def _mend(options: argparse.Namespace) -> int:
 
 
 def _map(options: argparse.Namespace) -> int:
+    from .gpkg import test_not_read
     from .map import write_map
 
+    test_not_read(options.out, [options.report])
     if not Path(options.report).is_file():
         raise Refused("P1", f"{options.report} is not there")
     write_map(options.report, options.out)
@@ -298,10 +307,24 @@ def _begin_log() -> None:
     logging.getLogger("fiona").setLevel(logging.CRITICAL)
 
 
+def _find_projections() -> None:
+    """Shows the system's pyproj where the system's projections are, in a virtual environment.
+
+    It looks in the environment alone, and warns that it has found none; PROJ itself knows where they are.
+    """
+    if sys.prefix == sys.base_prefix or {"PROJ_DATA", "PROJ_LIB"} & set(os.environ):
+        return
+    found, data = find_spec("pyproj"), Path(sys.base_prefix, "share/proj")
+    is_own = found is not None and str(found.origin).startswith(sys.prefix)
+    if not is_own and (data / "proj.db").is_file():
+        os.environ["PROJ_DATA"] = str(data)
+
+
 def main(arguments: Optional[List[str]] = None) -> int:
     """Runs the command line; the status."""
     options = parser().parse_args(arguments)
     _begin_log()
+    _find_projections()
     commands: Dict[str, Callable[[argparse.Namespace], Optional[int]]] = {
         "prepare": _prepare,
         "check": _report,
@@ -314,6 +337,7 @@ def main(arguments: Optional[List[str]] = None) -> int:
         "many": run_command,
         "serve": run_serve,
         "backup": run_backup,
+        "journal": run_journal,
     }
     try:
         with cut_as_told(options):

@@ -39,8 +39,8 @@ class Refused(Exception):
 
     @property
     def status(self) -> int:
-        """The exit status: 1, as the program's."""
-        return 1
+        """The exit status: 1, as the program's; 2 where the verdict is open (T11)."""
+        return 2 if self.code == "T11" else 1
 
     @property
     def all(self) -> "List[Refused]":

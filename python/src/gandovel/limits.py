@@ -9,6 +9,8 @@ from .errors import Refused, place
 from .prepared import OUT, Island, Prepared, Rows
 
 MOST_CORNERS = 4_096
+FARTHEST = 100_000_000_000
+"""How far from the origin, in mm, a coordinate may lie."""
 
 
 def too_large(prepared: Prepared) -> Optional[Refused]:

@@ -20,17 +20,16 @@ from .big_rings import cut_ring
 from .city import OpenGap, open_gaps
 from .errors import Refused, place, raise_all
 from .holes import cut_holes
-from .limits import MOST_CORNERS, too_large
+from .limits import FARTHEST, MOST_CORNERS, too_large
 from .noding import noise_of, points_of, put_in, values_gathered
 from .prepared import GATHERED, MOVED, OUT, OUT_ROW, PUT_IN, TOUCHED, Changes, Island, Prepared, Rows, Skipped
 from .progress import Progress
 from .reading import Source, frame_of
 from .sources import CITY, PARCELS, ROLES, ROW, ZONES, Loops
-from .touching import Reaches, reaches_of
+from .touching import Reaches, reaches_of, test_distances
 from .units import Unit, unit_of
 
 FRAME_MARGIN = 1_000
-FARTHEST = 100_000_000_000
 ADVICE = "mend them in the GIS, or go on without them by --skip-invalid"
 Labels = Tuple[List[str], List[str]]
 """The numbers of the parcels' rows and the names of the zones'."""
@@ -146,6 +145,7 @@ def prepare(
 
     Refused P1 .. P14, by number and place; of what is invalid all at once.
     """
+    test_distances(grid=grid, touch=touch, max_move=max_move, narrow=narrow * 1000.0)
     progress = progress or Progress()
     progress.step("reading the layers")
     frames = (

@@ -366,8 +366,7 @@ def load(work: Union[str, Path]) -> Prepared:
 
 def _touched_of(path: Path, prepared: Prepared) -> Changes:
     """The corners of `changes.gpkg` that were made to touch."""
-    frame = read_layer_of(path, "changes")
-    frame = frame[frame["change"] == CHANGES[TOUCHED]].reset_index(drop=True)
+    frame = read_layer_of(path, "changes", CHANGES[TOUCHED])
     layer = np.array([ROLES.index(role) for role in frame["layer"]], dtype=np.int64)
     names_of: List[List[str]] = [prepared.numbers, prepared.zone_names, []]
     positions: List[Dict[str, int]] = [

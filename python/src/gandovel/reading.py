@@ -20,15 +20,11 @@ from .large.reading import read_large
 Source = Union[str, "os.PathLike[str]", gpd.GeoDataFrame, gpd.GeoSeries]
 """A layer: a path, or text that GDAL opens (`/vsizip/..`, `PG:..`, an URL of a file, `PATH|layername=NAME`), or frames."""
 LOG = logging.getLogger("gandovel")
-AREAS = (
-    "Polygon",
-    "MultiPolygon",
-    "3D Polygon",
-    "3D MultiPolygon",
-    "GeometryCollection",
-    "3D GeometryCollection",
-    "Unknown",
-)
+ANY_DRIVER = {"allow_unsupported_drivers": True}
+"""Fiona opens what GDAL does, and not those formats alone that its own tests try: PostgreSQL is none of them."""
+ANY = ("GeometryCollection", "3D GeometryCollection", "Unknown")
+AREAS = ("Polygon", "MultiPolygon", "3D Polygon", "3D MultiPolygon", *ANY)
+POINTS = ("Point", "3D Point", *ANY)
 
 
 def frame_of(source: Source, role: str, layer: Optional[str] = None) -> gpd.GeoDataFrame:
@@ -53,11 +49,11 @@ def read_layer(source: Union[str, "os.PathLike[str]"], role: str, layer: Optiona
         raise Refused("P1", f"{path} is not there", role=role)
     try:
         name = _layer_name(path, layer, role)
-        with fiona.open(path, layer=name) as opened:
+        with fiona.open(path, layer=name, **ANY_DRIVER) as opened:
             types = dict(opened.schema["properties"])
         frame = read_large(path, name)
         if frame is None:
-            frame = gpd.read_file(path, layer=name)
+            frame = gpd.read_file(path, layer=name, **ANY_DRIVER)
     except Refused:
         raise
     except fiona.errors.UnsupportedGeometryTypeError:
@@ -79,7 +75,7 @@ def _address(text: str, layer: Optional[str]) -> Tuple[str, Optional[str]]:
 
 
 def _layer_name(path: str, layer: Optional[str], role: str) -> str:
-    """The layer that is told, or the only one that has areas. Refused P1 where there is none, or a choice."""
+    """The layer that is told, or the only one that has areas (points, for points). Refused P1 where there is a choice."""
     names = fiona.listlayers(path)
     if layer is not None:
         if layer not in names:
@@ -87,21 +83,23 @@ def _layer_name(path: str, layer: Optional[str], role: str) -> str:
         return layer
     if len(names) == 1:
         return str(names[0])
-    areas = [name for name in names if _has_areas(path, name)]
-    if len(areas) != 1:
+    fitting = [name for name in names if _may_have(POINTS if role == "points" else AREAS, path, name)]
+    if len(fitting) != 1:
         option = "--layer" if role == "parcels" else f"--{role}-layer"
         text = f"{path} has {len(names)} layers: name one by {option} NAME, or as PATH|layername=NAME"
-        raise Refused("P1", f"{text}; there are {', '.join(areas or names)}", role=role)
-    LOG.info("%s: the layer %s of %s, the only one with areas", role, areas[0], path)
-    return str(areas[0])
+        raise Refused("P1", f"{text}; there are {', '.join(fitting or names)}", role=role)
+    what = "points" if role == "points" else "areas"
+    LOG.info("%s: the layer %s of %s, the only one with %s", role, fitting[0], path, what)
+    return str(fitting[0])
 
 
-def _has_areas(path: str, name: str) -> bool:
+def _may_have(kinds: Tuple[str, ...], path: str, name: str) -> bool:
+    """Whether a layer's shapes are of these kinds, as far as its source says. Curves, which Fiona can't open, are areas."""
     try:
-        with fiona.open(path, layer=name) as opened:
-            return opened.schema["geometry"] in AREAS and name != "layer_styles"
+        with fiona.open(path, layer=name, **ANY_DRIVER) as opened:
+            return opened.schema["geometry"] in kinds and name != "layer_styles"
     except fiona.errors.UnsupportedGeometryTypeError:
-        return True
+        return kinds is AREAS
 
 
 def _straightened(path: str, layer: Optional[str], role: str) -> gpd.GeoDataFrame:
@@ -177,7 +175,7 @@ def _plain_column(values: pd.Series) -> Tuple[Optional[pd.Series], str]:
         return None, "the geometries"
     if isinstance(values.dtype, pd.CategoricalDtype):
         return values.astype(values.cat.categories.dtype if not values.isna().any() else object), ""
-    if isinstance(values.dtype, pd.PeriodDtype) or values.dtype.kind in "mc":
+    if isinstance(values.dtype, (pd.PeriodDtype, pd.IntervalDtype)) or values.dtype.kind in "mc":
         return values.astype(str).where(values.notna(), None), "the type"
     if values.dtype == object:
         known = values.dropna()

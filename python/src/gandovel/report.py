@@ -31,6 +31,12 @@ from .verdicts import LayerFaults, checked, island_pairs, layer_faults, numbers_
 
 SQUARE_METRE = 1_000_000
 SHOWN = 8
+CITIES = {
+    "parcels": "the city is what the parcels cover",
+    "layer": "the city is the layer that was given",
+    "frame": "the city is a frame around all",
+}
+"""Where the city's outline is from, as the verdict says it."""
 Pair = Tuple[int, int, int]
 """An island, from 0, and the rows of a parcel and a zone in it."""
 
@@ -81,7 +87,7 @@ class Report:
         return gpd.GeoDataFrame(both, geometry="geometry", crs=self.gaps.crs)
 
     def summary(self) -> str:
-        """One line: islands, what was left out, gaps and overlaps with their areas, how many parcels are split."""
+        """One line: islands, what was left out, gaps and overlaps with their areas, split parcels, whence the city is."""
         count, unit = len(self.prepared.islands), self.prepared.unit
         texts = [f"{count} islands"] if count > 1 else []
         texts += [*self.prepared.skipped_told(), _told(self, "parcels")]
@@ -99,7 +105,7 @@ class Report:
             texts.append(f"{_count(len(self.slivers), 'sliver')} {wide}, which `gandovel mend` closes")
         if self.beyond:
             texts.append(f"{_count(len(self.beyond), 'parcel')} beyond the city (measured), whose zones are not known")
-        return "; ".join(texts)
+        return "; ".join([*texts, CITIES[self.prepared.told["city"]]])
 
     def save(self, path: Union[str, Path]) -> None:
         """Writes the GeoPackage and `split.csv` beside it, each under another name first."""
@@ -187,6 +193,8 @@ def report(prepared: Prepared, min_area: float = 1.0, progress: Optional[Progres
 
     Refused as the program refuses, by number; a layer that does not tile is no refusal, but what is told.
     """
+    if not min_area >= 0:
+        raise Refused("P8", f"a least area of {min_area} m2 is none: give square metres, 0 or more")
     progress = progress or Progress()
     faults: Dict[str, List[Dict[str, Any]]] = {"gaps": [], "overlaps": [], "slivers": []}
     pairs: Dict[Tuple[int, str], List[Pair]] = defaultdict(list)

@@ -17,6 +17,7 @@ COARSEST, COARSEST_OF_FEW = 100.0, 10.0
 """The coarsest grid, in mm, that is found: a decimetre; a centimetre where a layer has few corners."""
 FEW = 64
 DECIMALS = 9
+FARTHEST_TOLD = 100_000
 
 
 @dataclass
@@ -53,17 +54,19 @@ class Reaches:
 
 
 def reaches_of(loops: Loops, scale: float, noise: float, grid: Optional[float], touch: Optional[float]) -> Reaches:
-    """The reaches of layers, whose loops are of coordinates in mm, `scale` mm a unit; `grid` and `touch` if told, in mm.
-
-    Refused P8 where what is told is no distance.
-    """
-    for name, told in (("grid", grid), ("touch", touch)):
-        if told is not None and not 0 <= told <= 100_000:
-            raise Refused("P8", f"a {name} of {told} mm is none: give millimetres, from 0 to 100,000")
+    """The reaches of layers, whose loops are of coordinates in mm, `scale` mm a unit; `grid` and `touch` if told, in mm."""
     layer = np.repeat(loops.layer, np.diff(loops.starts))
     steps = [grid or step_of(loops.corners[layer == at], scale, noise) for at in range(len(ROLES))]
     reaches = [(DIAGONAL * (step or 0.0) if touch is None else touch) / 2 for step in steps]
     return Reaches(np.maximum(reaches, noise / 2), steps, noise)
+
+
+def test_distances(**told: Optional[float]) -> None:
+    """Refuses (P8) what is told and is no distance in mm."""
+    for name, distance in told.items():
+        if distance is not None and not 0 <= distance <= FARTHEST_TOLD:
+            what = name.replace("_", "-")
+            raise Refused("P8", f"a {what} of {distance} mm is none: give millimetres, from 0 to {FARTHEST_TOLD:,}")
 
 
 def step_of(corners: Array, scale: float, noise: float) -> Optional[float]:

@@ -35,7 +35,7 @@ def _corners_near(ends: Array, rings: Sequence[Array]) -> Array:
     """The rings' corners in the box around ends of edges."""
     corners = np.concatenate([*rings, np.zeros((0, 2), dtype=np.int64)])
     low, high = ends.min(axis=0), ends.max(axis=0)
-    return corners[((corners >= low) & (corners <= high)).all(axis=1)]
+    return np.asarray(corners[((corners >= low) & (corners <= high)).all(axis=1)])
 
 
 def _cut(start: Array, end: Array, net: Array, found: Array) -> List[Array]:

@@ -4,11 +4,13 @@ Rings are assigned by recursive bisection of their boxes' middles, at a right an
 connected with the rest of its district, or lies enclosed in another, goes to a neighbour. Any simple outline gives right
 answers, since what the districts' runs and that of the layer of outlines tell adds up to what the whole layer's would
 (`compose`); outlines of the rings' own edges are those with which each district of a layer without faults tiles.
+
+Where the outlines are more than a layer has, they are cut in turn, into districts of districts (`levels_of`).
 """
 from __future__ import annotations
 
 from dataclasses import dataclass
-from typing import Dict, List, Optional, Sequence, Tuple
+from typing import Dict, List, Optional, Sequence, Set, Tuple
 
 import numpy as np
 from shapely.geometry import MultiLineString, MultiPoint, Point, Polygon
@@ -18,7 +20,8 @@ from shapely.prepared import prep
 from ..arrays import Array
 from ..grid import edges_left, twice_area, without_straight
 from ..noding import points_of
-from . import MOST_IN_ALL
+from ..shapes import polygons_of
+from . import MOST_IN_ALL, MOST_RINGS
 
 FILLED = 0.9
 """So full a district is made at first: what is not connected may still be added to it."""
@@ -40,13 +43,17 @@ class Districts:
 
 @dataclass
 class _Edges:
-    """The sides of all rings: points' indices, the ring on the left, and the side that runs the other way (or -1)."""
+    """The sides of all rings: points' indices, the ring on the left, and the side that runs the other way (or -1).
+
+    Ring i has the sides `begins[i]:begins[i + 1]`.
+    """
 
     points: Array
     start: Array
     end: Array
     ring: Array
     partner: Array
+    begins: Array
 
     @classmethod
     def of(cls, rings: Sequence[Array]) -> "_Edges":
@@ -56,12 +63,23 @@ class _Edges:
         after = np.arange(1, len(start) + 1)
         after[stops - 1] = stops - sizes
         end, ring = start[after], np.repeat(np.arange(len(rings)), sizes)
-        return cls(points, start, end, ring, _partners(start, end, len(points)))
+        begins = np.concatenate([[0], stops])
+        return cls(points, start, end, ring, _partners(start, end, len(points)), begins)
 
-    def border(self, label: Array) -> Array:
-        """The sides that do not run along another ring of the same district."""
+    def border(self, label: Array, of: Optional[Set[int]]) -> Array:
+        """The sides, of districts or of all, that do not run along another ring of the same district."""
         of_side = label[self.ring]
-        return np.flatnonzero((self.partner < 0) | (of_side[self.partner] != of_side))
+        kept = (self.partner < 0) | (of_side[self.partner] != of_side)
+        if of is not None:
+            wanted = np.zeros(int(label.max()) + 1, dtype=bool)
+            wanted[[at for at in of if at < len(wanted)]] = True
+            kept &= wanted[of_side]
+        return np.flatnonzero(kept)
+
+    def sides_of(self, rows: Array) -> Array:
+        """The sides of some rings."""
+        begins, sizes = self.begins[rows], self.begins[rows + 1] - self.begins[rows]
+        return np.arange(int(sizes.sum())) + np.repeat(begins - (np.cumsum(sizes) - sizes), sizes)
 
 
 def _partners(start: Array, end: Array, points: int) -> Array:
@@ -81,26 +99,57 @@ def _partners(start: Array, end: Array, points: int) -> Array:
     return partner
 
 
+def levels_of(rings: Sequence[Array], most: int) -> List[Districts]:
+    """The districts of a layer; then, where their outlines are more than a layer has, districts of these; and so on."""
+    levels = [cut(rings, most)]
+    while _is_beyond(levels[-1].outlines):
+        above = cut(levels[-1].outlines, MOST_RINGS)
+        if len(above) >= len(levels[-1]):
+            break
+        levels.append(above)
+    return levels
+
+
+def _is_beyond(rings: Sequence[Array]) -> bool:
+    """Whether rings are more than a layer has."""
+    return len(rings) > MOST_RINGS or sum(map(len, rings)) > MOST_IN_ALL
+
+
 def cut(rings: Sequence[Array], most: int) -> Districts:
     """Cuts a layer, (k, 2) int64 rings in mm, into districts of at most `most` rings as far as they are connected so."""
     edges = _Edges.of(rings)
-    sizes = np.bincount(edges.ring, minlength=len(rings))
-    begins = np.cumsum(sizes) - sizes
+    sizes = np.diff(edges.begins)
     corners = edges.points[edges.start]
-    low, high = (ends.reduceat(corners, begins, axis=0) for ends in (np.minimum, np.maximum))
+    low, high = (ends.reduceat(corners, edges.begins[:-1], axis=0) for ends in (np.minimum, np.maximum))
     middles = (low + high) / 2.0
     count = max(_parts(len(rings), most * FILLED), _parts(int(sizes.sum()), MOST_IN_ALL * FILLED))
     label = np.zeros(len(rings), dtype=np.int64)
     _bisect(middles, np.arange(len(rings)), count, 0, label)
-    for left in reversed(range(2 * count + ROUNDS)):
-        outlines = _connected(edges, label, middles)
+    parts: Dict[int, List[Polygon]] = {}
+    outlines: Dict[int, Array] = {}
+    changed: Optional[Set[int]] = None
+    for left in reversed(range(count.bit_length() + ROUNDS)):
+        for at in _connected(edges, label, middles, parts, changed):
+            outlines[at] = _outline(parts[at][0], edges.points[0])
+        outlines = {at: outline for at, outline in outlines.items() if at in parts}
         large = _too_large(label, outlines, most, sizes)
-        if large is None or not left:
+        if not large or not left:
             break
-        rows = np.flatnonzero(label == large)
-        _bisect(middles, rows, 2, int(label.max()) + 1, label, keep=large)
+        rows, first = _rows_of(label), int(label.max()) + 1
+        for fresh, at in enumerate(large, first):
+            _bisect(middles, rows[at], 2, fresh, label, keep=at)
+        changed = {*large, *range(first, first + len(large))}
     present = sorted(outlines)
-    return Districts([np.flatnonzero(label == at) for at in present], [outlines[at] for at in present])
+    rows = _rows_of(label)
+    return Districts([rows[at] for at in present], [outlines[at] for at in present])
+
+
+def _rows_of(label: Array) -> Dict[int, Array]:
+    """The rows of each label, ascending."""
+    order = np.argsort(label, kind="stable")
+    ordered = label[order]
+    begins = np.flatnonzero(np.concatenate([[True], ordered[1:] != ordered[:-1]]))
+    return dict(zip(ordered[begins].tolist(), np.split(order, begins[1:])))
 
 
 def _parts(count: int, most: float) -> int:
@@ -125,84 +174,136 @@ def _bisect(middles: Array, rows: Array, parts: int, first: int, label: Array, k
         waiting += [(these[order[:stop]], less), (these[order[stop:]], count - less)]
 
 
-def _too_large(label: Array, outlines: Dict[int, Array], most: int, sizes: Array) -> Optional[int]:
-    """A district with too many rings, corners, or corners in its outline."""
+def _too_large(label: Array, outlines: Dict[int, Array], most: int, sizes: Array) -> List[int]:
+    """The districts with too many rings, corners, or corners in their outline."""
     rings = np.bincount(label)
     corners = np.bincount(label, weights=sizes)
-    for at, outline in outlines.items():
-        if rings[at] > 1 and (rings[at] > most or corners[at] > MOST_IN_ALL or len(outline) > MOST_CORNERS):
-            return at
-    return None
+    return [
+        at
+        for at, outline in outlines.items()
+        if rings[at] > 1 and (rings[at] > most or corners[at] > MOST_IN_ALL or len(outline) > MOST_CORNERS)
+    ]
 
 
-def _connected(edges: _Edges, label: Array, middles: Array) -> Dict[int, Array]:
-    """The outline of each district, by its label. Rows that are not connected with their district change theirs."""
+def _connected(
+    edges: _Edges, label: Array, middles: Array, parts: Dict[int, List[Polygon]], changed: Optional[Set[int]]
+) -> Set[int]:
+    """Brings `parts` up to date for districts that changed (None: for all), and answers which districts these are.
+
+    Rows that are not connected with their district change theirs, so that others change, too.
+    """
+    found: Set[int] = set()
+    not_compared: Set[int] = set()
     for left in reversed(range(ROUNDS)):
-        parts = _parts_of(edges, label)
-        if not left or not _moved(edges, label, middles, parts):
+        now = _parts_of(edges, label, changed)
+        for at in changed or ():
+            parts.pop(at, None)
+        parts.update(now)
+        found, not_compared = (found | set(now)) & set(parts), (not_compared | set(now)) & set(parts)
+        if not left:
             break
-    return {at: _outline(shapes[0], edges.points[0]) for at, shapes in parts.items()}
-
-
-def _parts_of(edges: _Edges, label: Array) -> Dict[int, List[Polygon]]:
-    """The connected parts of each district without their holes, largest first, measured from the first point."""
-    border = edges.border(label)
-    of_side = label[edges.ring[border]]
-    order = np.argsort(of_side, kind="stable")
-    border, of_side = border[order], of_side[order]
-    bounds = np.flatnonzero(np.concatenate([[True], of_side[1:] != of_side[:-1], [True]]))
-    points, found = (edges.points - edges.points[0]).astype(float), {}
-    for begin, end in zip(bounds[:-1], bounds[1:]):
-        side = border[begin:end]
-        low, high, _ = edges_left(edges.start[side], edges.end[side])
-        if not len(low):
-            low, high = edges.start[side], edges.end[side]
-        lines = MultiLineString(list(np.stack([points[low], points[high]], axis=1)))
-        faces = [Polygon(face.exterior) for face in polygonize(unary_union(lines))]
-        whole = unary_union(faces)
-        parts = [Polygon(part.exterior) for part in getattr(whole, "geoms", [whole]) if not part.is_empty]
-        found[int(of_side[begin])] = sorted(parts, key=lambda part: -part.area) or [_hull(points[low])]
+        changed = _lesser_moved(edges, label, middles, parts, set(now))
+        if not changed:
+            changed, not_compared = _enclosed_moved(label, parts, not_compared), set()
+        if not changed:
+            break
     return found
 
 
-def _moved(edges: _Edges, label: Array, middles: Array, parts: Dict[int, List[Polygon]]) -> bool:
-    """Gives rows of the lesser parts of districts, and districts that lie in others, to neighbours; whether any."""
-    moved = False
-    for at, shapes in parts.items():
-        for shape in shapes[1:]:
-            rows = _rows_in(edges, label, middles, at, shape)
+def _parts_of(edges: _Edges, label: Array, of: Optional[Set[int]]) -> Dict[int, List[Polygon]]:
+    """The connected parts of districts without their holes, largest first, measured from the first point."""
+    border = edges.border(label, of)
+    of_side = label[edges.ring[border]]
+    order = np.argsort(of_side, kind="stable")
+    border, of_side = border[order], of_side[order]
+    bounds = np.flatnonzero(np.concatenate([[True], of_side[1:] != of_side[:-1], [True]])) if len(border) else []
+    points, found = edges.points, {}
+    for begin, end in zip(bounds[:-1], bounds[1:]):
+        side = border[begin:end]
+        start, stop, net = edges_left(edges.start[side], edges.end[side])
+        if not len(start):
+            start, stop = edges.start[side], edges.end[side]
+        around = _one_loop(points, np.where(net > 0, start, stop), np.where(net > 0, stop, start)) if len(net) else None
+        found[int(of_side[begin])] = [around] if around is not None else _parts_by_lines(points, start, stop)
+    return found
+
+
+def _one_loop(points: Array, start: Array, end: Array) -> Optional[Polygon]:
+    """The outer loop of edges with the district on their left, where there is only one, and it is simple; else None."""
+    if len(np.unique(start)) < len(start) or len(np.unique(end)) < len(end):
+        return None
+    following, outer = dict(zip(start.tolist(), end.tolist())), []
+    while following:
+        first, at = following.popitem()
+        loop = [first]
+        while at != first:
+            loop.append(at)
+            if at not in following:
+                return None
+            at = following.pop(at)
+        ring = points[loop] - points[0]
+        if twice_area(ring) > 0:
+            outer.append(ring)
+    polygon = polygons_of([outer[0].astype(float)])[0] if len(outer) == 1 else None
+    return polygon if polygon is not None and polygon.is_valid else None
+
+
+def _parts_by_lines(points: Array, low: Array, high: Array) -> List[Polygon]:
+    """The same of any edges, as GEOS nodes them."""
+    near = [(points[it] - points[0]).astype(float) for it in (low, high)]
+    lines = MultiLineString(list(np.stack(near, axis=1)))
+    whole = unary_union([Polygon(face.exterior) for face in polygonize(unary_union(lines))])
+    parts = [Polygon(part.exterior) for part in getattr(whole, "geoms", [whole]) if not part.is_empty]
+    return sorted(parts, key=lambda part: -part.area) or [_hull(near[0])]
+
+
+def _lesser_moved(
+    edges: _Edges, label: Array, middles: Array, parts: Dict[int, List[Polygon]], changed: Set[int]
+) -> Set[int]:
+    """Gives rows of the lesser parts of districts to neighbours; which districts change so."""
+    moved: Set[int] = set()
+    several = [at for at in changed if len(parts[at]) > 1]
+    rows_of = _rows_of(label) if several else {}
+    for at in several:
+        for shape in parts[at][1:]:
+            rows = _rows_in(edges, rows_of[at], middles, shape)
+            rows = rows[label[rows] == at]
             to = _neighbour(edges, label, rows, at)
             if len(rows) and to is not None:
-                label[rows], moved = to, True
-    return moved or _enclosed_moved(label, parts)
-
-
-def _enclosed_moved(label: Array, parts: Dict[int, List[Polygon]]) -> bool:
-    """Gives districts that lie within another one's outline to that one; whether any does."""
-    moved = False
-    for at, shapes in parts.items():
-        around = shapes[0]
-        box, fast = around.bounds, prep(around)
-        for other, (inner, *_) in parts.items():
-            low = inner.bounds
-            if other != at and inner.area < around.area and low[0] >= box[0] and low[1] >= box[1]:
-                if low[2] <= box[2] and low[3] <= box[3] and fast.covers(inner):
-                    label[label == other], moved = at, True
+                label[rows] = to
+                moved |= {at, to}
     return moved
 
 
-def _rows_in(edges: _Edges, label: Array, middles: Array, at: int, shape: Polygon) -> Array:
-    """The rows of a district that have a corner strictly in a part of it, or all corners on its border."""
+def _enclosed_moved(label: Array, parts: Dict[int, List[Polygon]], changed: Set[int]) -> Set[int]:
+    """Gives districts that lie within another one's outline, where one of both changed, to that one; which change so."""
+    names = sorted(parts, key=lambda at: float(parts[at][0].bounds[0]))
+    boxes = np.array([parts[at][0].bounds for at in names]).reshape(-1, 4)
+    moved: Set[int] = set()
+    for box, at in zip(boxes, names):
+        around, fast = parts[at][0], None
+        begin, end = np.searchsorted(boxes[:, 0], [box[0], box[2]], side="left")
+        some = boxes[begin:end]
+        within = (some[:, 1] >= box[1]) & (some[:, 2] <= box[2]) & (some[:, 3] <= box[3])
+        for other in (names[begin + place] for place in np.flatnonzero(within).tolist()):
+            inner = parts[other][0]
+            if other == at or not {at, other} & changed or inner.area >= around.area:
+                continue
+            fast = fast or prep(around)
+            if fast.covers(inner):
+                label[label == other] = at
+                moved |= {at, other}
+    return moved
+
+
+def _rows_in(edges: _Edges, rows: Array, middles: Array, shape: Polygon) -> Array:
+    """Those of a district's rows that have a corner strictly in a part of it, or all corners on its border."""
     x0, y0, x1, y1 = shape.bounds
-    near = middles - edges.points[0]
-    rows = np.flatnonzero(
-        (label == at) & (near[:, 0] >= x0) & (near[:, 0] <= x1) & (near[:, 1] >= y0) & (near[:, 1] <= y1)
-    )
-    fast, begins = prep(shape.buffer(0.25)), np.searchsorted(edges.ring, rows)
-    ends = np.searchsorted(edges.ring, rows, side="right")
-    kept = []
-    for row, begin, end in zip(rows.tolist(), begins.tolist(), ends.tolist()):
-        corners = edges.points[edges.start[begin:end]] - edges.points[0]
+    near = middles[rows] - edges.points[0]
+    rows = rows[(near[:, 0] >= x0) & (near[:, 0] <= x1) & (near[:, 1] >= y0) & (near[:, 1] <= y1)]
+    fast, kept = prep(shape.buffer(0.25)), []
+    for row in rows.tolist():
+        corners = edges.points[edges.start[edges.begins[row] : edges.begins[row + 1]]] - edges.points[0]
         if fast.contains(MultiPoint(corners.astype(float))):
             kept.append(row)
     return np.array(kept, dtype=np.int64)
@@ -210,8 +311,7 @@ def _rows_in(edges: _Edges, label: Array, middles: Array, at: int, shape: Polygo
 
 def _neighbour(edges: _Edges, label: Array, rows: Array, at: int) -> Optional[int]:
     """The other district that rows have the most sides in common with; None where there is none."""
-    side = np.flatnonzero(np.isin(edges.ring, rows)) if len(rows) else np.zeros(0, dtype=np.int64)
-    partner = edges.partner[side]
+    partner = edges.partner[edges.sides_of(rows)]
     others = label[edges.ring[partner[partner >= 0]]]
     others = others[others != at]
     return int(np.bincount(others).argmax()) if len(others) else None

@@ -1,6 +1,7 @@
 """Runs of the program for districts: by processes of this machine, or by an engine of `gandovel many`."""
 from __future__ import annotations
 
+import gc
 import os
 import tempfile
 from concurrent.futures import ProcessPoolExecutor, ThreadPoolExecutor
@@ -97,10 +98,12 @@ def forked(work: Callable[[int], Any], count: int, jobs: int) -> List[Any]:
     if jobs < 2 or count < 2 or not hasattr(os, "fork"):
         return [work(at) for at in range(count)]
     _work.append(work)
+    gc.freeze()  # else a collection in a forked process writes into all the memory that it shares with this one
     try:
         with ProcessPoolExecutor(min(jobs, count), mp_context=get_context("fork")) as pool:
             return list(pool.map(_done, range(count)))
     finally:
+        gc.unfreeze()
         _work.pop()
 
 

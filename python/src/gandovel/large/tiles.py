@@ -35,12 +35,15 @@ def touches_in_tiles(
     places = points[wanted]
     of_sides, of_points = np.broadcast_to(side_reach, len(start)), np.broadcast_to(point_reach, len(points))
     reach = float(of_sides.max() + of_points.max()) + 1.0
+    by_x = np.argsort(places[:, 0], kind="stable")
+    xs = places[by_x, 0]
 
     def found_in(tile: int) -> Array:
         sides = order[bounds[tile] : bounds[tile + 1]]
         ends = np.concatenate([points[start[sides]], points[end[sides]]])
         low, high = ends.min(axis=0) - reach, ends.max(axis=0) + reach
-        near = wanted[((places >= low) & (places <= high)).all(axis=1)]
+        strip = by_x[np.searchsorted(xs, low[0], side="left") : np.searchsorted(xs, high[0], side="right")]
+        near = np.sort(wanted[strip[(places[strip, 1] >= low[1]) & (places[strip, 1] <= high[1])]])
         used = np.unique(np.concatenate([start[sides], end[sides], near]))
         at = [np.searchsorted(used, it) for it in (start[sides], end[sides], near)]
         rows = touches(points[used], at[0], at[1], at[2], of_sides[sides], of_points[used])
@@ -48,7 +51,7 @@ def touches_in_tiles(
 
     found = forked(found_in, len(bounds) - 1, jobs_of(how_cut()))
     rows = np.concatenate([*found, np.zeros((0, 2), dtype=np.int64)])
-    return rows[np.argsort(rows[:, 0], kind="stable")]
+    return np.asarray(rows[np.argsort(rows[:, 0], kind="stable")])
 
 
 def _tiles(points: Array, start: Array, end: Array) -> "tuple[Array, Array]":
@@ -73,4 +76,4 @@ def plain_loops(loops: Loops, points: Array, dirty: Array) -> Array:
     small = (width.max(axis=1) < NEAR) & (sizes <= 4_096) & (sizes > 2)
     has_holes = np.concatenate([loops.hole[1:], [False]])
     sure = np.abs(signed_areas(corners, loops)) > 0.5
-    return small & sure & ~dirty & ~loops.hole & ~has_holes
+    return np.asarray(small & sure & ~dirty & ~loops.hole & ~has_holes)

@@ -2,11 +2,12 @@
 from __future__ import annotations
 
 import tempfile
-from concurrent.futures import BrokenExecutor
+from concurrent.futures import BrokenExecutor, ThreadPoolExecutor
 from contextlib import contextmanager
+from dataclasses import dataclass
 from hashlib import sha256
 from pathlib import Path
-from typing import Any, Dict, Iterator, List, Optional, Sequence, Set, Tuple
+from typing import Any, Dict, Iterator, List, Sequence, Set, Tuple
 
 import numpy as np
 
@@ -18,11 +19,11 @@ from ..rounds import filled, rounds_of
 from ..tool import CheckAnswer, answer_of_check, areas
 from . import A_DISTRICT, how_cut, is_large
 from .compose import added_up
-from .cutting import Districts, boxes_of, cut, partition_faults
+from .cutting import Districts, boxes_of, levels_of, partition_faults
 from .runs import Run, Said, forked, jobs_of, said_of
 
 HEAD = 108
-"""Where the content of a shapefile's first record begins, in bytes."""
+"""Where the content of a shapefile's first record begins, in bytes: behind the file's head and its own."""
 MARGIN = 1_000
 SHOWN = 8
 FORKED = 10_000
@@ -31,11 +32,6 @@ FORKED = 10_000
 
 class Open(Refused):
     """A verdict that is open: a district was not judged, or what was judged does not fit together. `status` is 2."""
-
-    @property
-    def status(self) -> int:
-        """The exit status: 2."""
-        return 2
 
     def __init__(self, text: str, role: str = "") -> None:
         super().__init__("T11", f"the verdict is open: {text}", role)
@@ -54,14 +50,68 @@ def _folder() -> Iterator[Path]:
         raise Refused("P14", f"{where} can't be written: {why}: set TMPDIR to a folder with room") from fault
 
 
-def districts_of(island: Island, role: str) -> Districts:
-    """The districts of an island's layer; made once."""
-    kept: Dict[str, Districts] = island.__dict__.setdefault("_districts", {})
+@dataclass(frozen=True)
+class _Piece:
+    """One check of a cut layer: rings of a level, by their places, in an outline of the level above, or in the city.
+
+    Level 0 are the layer's own rings, level 1 the districts' outlines, level 2 those of districts of districts.
+    """
+
+    name: str
+    told: str
+    level: int
+    rows: Array
+    city: Array
+
+    @property
+    def layer(self) -> str:
+        """The name of its file of rings."""
+        return "districts" if self.level else "parcels"
+
+
+@dataclass(frozen=True)
+class _Plan:
+    """The checks of a cut layer, that of the last level in the city first, and the rings of each level."""
+
+    pieces: List[_Piece]
+    layers: List[Sequence[Array]]
+
+    @classmethod
+    def of(cls, city: Array, rings: Sequence[Array], levels: Sequence[Districts]) -> "_Plan":
+        """The checks of rings in a city by levels of districts."""
+        pieces = [_Piece("all", "the layer of districts", len(levels), np.arange(len(levels[-1])), city)]
+        for level, districts in reversed(list(enumerate(levels))):
+            for number, (rows, outline) in enumerate(zip(districts.rows, districts.outlines), 1):
+                name = f"g{level}-{number}" if level else f"d{number}"
+                told = f"group {level}-{number} of districts" if level else f"district {number}"
+                pieces.append(_Piece(name, told, level, rows, outline))
+        return cls(pieces, [rings, *(districts.outlines for districts in levels)])
+
+    def below(self, piece: _Piece) -> List[int]:
+        """The checks, by their places, of the rings that a piece has; none where these are the layer's own."""
+        if not piece.level:
+            return []
+        first = next(at for at, it in enumerate(self.pieces) if it.level == piece.level - 1)
+        return [first + row for row in piece.rows.tolist()]
+
+    def rings(self, piece: _Piece) -> List[Array]:
+        """The rings of a piece."""
+        return [self.layers[piece.level][row] for row in piece.rows.tolist()]
+
+
+def _levels_of(island: Island, role: str) -> List[Districts]:
+    """The districts of an island's layer, and districts of these where they are more than a layer has; made once."""
+    kept: Dict[str, List[Districts]] = island.__dict__.setdefault("_districts", {})
     how = how_cut()
     key = f"{role} {how.most}"
     if key not in kept:
-        kept[key] = cut(getattr(island, role).rings, how.most or A_DISTRICT)
+        kept[key] = levels_of(getattr(island, role).rings, how.most or A_DISTRICT)
     return kept[key]
+
+
+def districts_of(island: Island, role: str) -> Districts:
+    """The districts of an island's layer; made once."""
+    return _levels_of(island, role)[0]
 
 
 def check_island(island: Island, role: str = "parcels") -> CheckAnswer:
@@ -69,85 +119,120 @@ def check_island(island: Island, role: str = "parcels") -> CheckAnswer:
 
     Refused as the program refuses; `Open` where a district has no answer, or the pieces do not fit together.
     """
-    rings, districts = getattr(island, role).rings, districts_of(island, role)
-    _test_partition(districts, len(rings))
+    rings, levels = getattr(island, role).rings, _levels_of(island, role)
+    plan = _Plan.of(island.city, rings, levels)
+    _test_partitions(plan, levels)
     with _folder() as folder:
-        sums = _write(folder, island.city, rings, districts)
-        counts = [len(districts), *map(len, districts.rows)]
-        answers = _answers(said_of(_checks(folder, len(districts)), how_cut()), counts, role)
-        _test_outlines(folder, sums)
-    layer, *each = answers
-    refused = {int(rows[at - 1]): why for rows, it in zip(districts.rows, each) for at, why in it.rings.items()}
+        sums = _write(folder, plan)
+        answers = _answers(said_of(_checks(folder, plan), how_cut()), plan, role)
+        _test_outlines(folder, plan, sums)
+    refused = _refused_rings(plan, answers, role)
     if refused:
         return _with_refused_rings(refused)
-    if layer.rings:
-        at, why = min(layer.rings.items())
-        raise Open(f"the outline of district {at} is no simple ring ({why}): give --parcels-a-district", role)
     if all(it.tiles for it in answers):
-        return _tiling(layer, each, len(rings), role)
+        return _tiling(plan, answers, role)
     edges = added_up([it.edges for it in answers], rings)
     if not len(edges):
-        names = [str(at) for at, it in enumerate(each, 1) if not it.tiles]
+        names = [piece.name[1:] for piece, it in zip(plan.pieces, answers) if not it.tiles and not piece.level]
         raise Open(f"parcels cross districts ({_listed(names)}), which fit together: give --parcels-a-district", role)
     first = " ".join(map(str, edges[0, :4].tolist()))
     return CheckAnswer(edges=edges, refused=Refused("H2", f"{first} net {edges[0, 4]}", role))
 
 
-def _test_partition(districts: Districts, count: int) -> None:
-    wrong = partition_faults(districts, count)
-    if wrong:
-        raise Open(f"row {wrong[0][0] + 1} is in {wrong[0][1]} districts")
+def _test_partitions(plan: _Plan, levels: Sequence[Districts]) -> None:
+    """Open where a ring of a level is not in exactly one of the districts that the level is cut into."""
+    for level, (rings, districts) in enumerate(zip(plan.layers, levels)):
+        wrong = partition_faults(districts, len(rings))
+        if wrong:
+            what = f"district {wrong[0][0] + 1}" if level else f"row {wrong[0][0] + 1}"
+            raise Open(f"{what} is in {wrong[0][1]} {'groups' if level else 'districts'}")
 
 
-def _write(folder: Path, city: Array, rings: Sequence[Array], districts: Districts) -> List[str]:
-    """Writes the layer of districts in the city, and each district in its outline; the outlines' checksums."""
-    for name, whole in (("city", [city]), ("districts", districts.outlines)):
-        write_rings(_made(folder / "all") / f"{name}.shp", whole)
+def _write(folder: Path, plan: _Plan) -> List[str]:
+    """Writes the rings of each piece and the outline around them; the outlines' checksums."""
 
     def write(at: int) -> str:
-        here = _made(folder / f"d{at + 1}")
-        write_rings(here / "city.shp", [districts.outlines[at]])
-        write_rings(here / "parcels.shp", [rings[row] for row in districts.rows[at].tolist()])
-        return _record_sum((here / "city.shp").read_bytes(), HEAD)
+        piece = plan.pieces[at]
+        here = folder / piece.name
+        here.mkdir()
+        write_rings(here / "city.shp", [piece.city])
+        write_rings(here / f"{piece.layer}.shp", plan.rings(piece))
+        return _record_sums((here / "city.shp").read_bytes())[0]
 
-    return forked(write, len(districts), jobs_of(how_cut()) if len(rings) > FORKED else 1)
-
-
-def _made(folder: Path) -> Path:
-    folder.mkdir(exist_ok=True)
-    return folder
+    return forked(write, len(plan.pieces), jobs_of(how_cut()) if len(plan.layers[0]) > FORKED else 1)
 
 
-def _record_sum(data: bytes, begin: int) -> str:
-    """The SHA-256 of a record's content, of which the first byte is given."""
-    words = int.from_bytes(data[begin - 4 : begin], "big")
-    return sha256(data[begin : begin + 2 * words]).hexdigest()
+def _record_sums(data: bytes) -> List[str]:
+    """The SHA-256 of the content of each record of a shapefile."""
+    sums, begin = [], HEAD
+    while begin < len(data):
+        words = int.from_bytes(data[begin - 4 : begin], "big")
+        sums.append(sha256(data[begin : begin + 2 * words]).hexdigest())
+        begin += 8 + 2 * words
+    return sums
 
 
-def _test_outlines(folder: Path, sums: Sequence[str]) -> None:
-    """Open where a run's city is another ring than the record of the layer of districts that was judged."""
-    data, at = (folder / "all/districts.shp").read_bytes(), HEAD
-    for number, before in enumerate(sums, 1):
-        now = _record_sum((folder / f"d{number}/city.shp").read_bytes(), HEAD)
-        if not before == now == _record_sum(data, at):
-            raise Open(f"district {number} was not judged in the outline that the layer of districts has")
-        at += 8 + 2 * int.from_bytes(data[at - 4 : at], "big")
+def _test_outlines(folder: Path, plan: _Plan, sums: Sequence[str]) -> None:
+    """Open where a run's city is another ring than the record of the layer above that was judged."""
+    for piece in plan.pieces:
+        if not piece.level:
+            continue
+        judged = _record_sums((folder / piece.name / "districts.shp").read_bytes())
+        for at, record in zip(plan.below(piece), judged):
+            below = plan.pieces[at]
+            now = _record_sums((folder / below.name / "city.shp").read_bytes())
+            if not [sums[at]] == now == [record]:
+                raise Open(f"{below.told} was not judged in the outline that the layer of districts has")
+        if len(judged) != len(piece.rows):
+            raise Open(f"{piece.told} has {len(judged)} records, and {len(piece.rows)} were written")
 
 
-def _checks(folder: Path, count: int) -> List[Run]:
+def _checks(folder: Path, plan: _Plan) -> List[Run]:
     runs = []
-    for name, layer in [("all", "districts"), *((f"d{at}", "parcels") for at in range(1, count + 1))]:
-        layers = str(folder / name / "city.shp"), str(folder / name / f"{layer}.shp")
-        runs.append(Run(name, ("check", *layers, "--unit", "mm", "--all"), layers))
+    for piece in plan.pieces:
+        layers = str(folder / piece.name / "city.shp"), str(folder / piece.name / f"{piece.layer}.shp")
+        runs.append(Run(piece.name, ("check", *layers, "--unit", "mm", "--all"), layers))
     return runs
 
 
-def _answers(said: Sequence[Said], counts: Sequence[int], role: str) -> List[CheckAnswer]:
-    """The runs' answers; `counts` are the records of their layers. Open where a run has none."""
-    lost = [f"district {at} ({it.lost})" if at else f"their layer ({it.lost})" for at, it in enumerate(said) if it.lost]
+def _answers(said: Sequence[Said], plan: _Plan, role: str) -> List[CheckAnswer]:
+    """The runs' answers. Open where a run has none; a ring that a district refuses is told as the whole layer's."""
+    lost = [f"{piece.told} ({it.lost})" for piece, it in zip(plan.pieces, said) if it.lost]
     if lost:
         raise Open(f"not judged: {_listed(lost)}", role)
-    return [answer_of_check(it.printed, it.refused, count) for it, count in zip(said, counts)]
+    answers = []
+    for piece, it in zip(plan.pieces, said):
+        try:
+            answers.append(answer_of_check(it.printed, it.refused, len(piece.rows)))
+        except Refused as refused:
+            if piece.level:
+                raise Open(f"not judged: {piece.told} ({refused}): give --parcels-a-district", role) from refused
+            raise _of_whole(refused, piece.rows, role) from refused
+    return answers
+
+
+def _of_whole(refused: Refused, rows: Array, role: str) -> Refused:
+    """A refusal of a district's record, by the record of the whole layer."""
+    if refused.record is None or refused.code not in ("H1", "H3"):
+        return refused
+    record = int(rows[refused.record - 1]) + 1
+    return Refused(refused.code, " ".join([str(record), *refused.text.split()[1:]]), role, record)
+
+
+def _refused_rings(plan: _Plan, answers: Sequence[CheckAnswer], role: str) -> Dict[int, str]:
+    """The layer's own rings, from 0, that are refused, each with why. Open where an outline is."""
+    refused: Dict[int, str] = {}
+    outlines: List[Tuple[str, str]] = []
+    for piece, it in zip(plan.pieces, answers):
+        for at, why in it.rings.items():
+            if piece.level:
+                outlines.append((plan.pieces[plan.below(piece)[at - 1]].told, why))
+            else:
+                refused[int(piece.rows[at - 1])] = why
+    if outlines and not refused:
+        told, why = outlines[0]
+        raise Open(f"the outline of {told} is no simple ring ({why}): give --parcels-a-district", role)
+    return refused
 
 
 def _listed(names: Sequence[str]) -> str:
@@ -161,13 +246,18 @@ def _with_refused_rings(refused: Dict[int, str]) -> CheckAnswer:
     return CheckAnswer(rings=records, refused=Refused("H1", f"{record} {why}", "parcels", record))
 
 
-def _tiling(layer: CheckAnswer, each: Sequence[CheckAnswer], count: int, role: str) -> CheckAnswer:
+def _tiling(plan: _Plan, answers: Sequence[CheckAnswer], role: str) -> CheckAnswer:
     """All tile, so by the law all rings do; what is counted twice is compared."""
-    rings, area2 = sum(it.count for it in each), sum(it.area2 for it in each)
-    if layer.count != len(each) or rings != count or area2 != layer.area2:
-        told = f"{layer.count} districts, {rings} rings and twice {area2} mm2"
-        raise Open(f"the districts have {told}, and the layer {len(each)}, {count} and {layer.area2}", role)
-    return CheckAnswer(count=rings, area2=area2)
+    for piece, it in zip(plan.pieces, answers):
+        below = [answers[at] for at in plan.below(piece)]
+        area2 = sum(one.area2 for one in below)
+        if below and (it.count, it.area2) != (len(below), area2):
+            told = f"the districts have {len(below)} outlines and twice {area2} mm2"
+            raise Open(f"{told}, and {piece.told} {it.count} and {it.area2}", role)
+    count = sum(it.count for piece, it in zip(plan.pieces, answers) if not piece.level)
+    if count != len(plan.layers[0]):
+        raise Open(f"the districts have {count} rings, and the layer {len(plan.layers[0])}", role)
+    return CheckAnswer(count=count, area2=answers[0].area2)
 
 
 def pairs_of_island(island: Island, parcels: Any, zones: Any) -> Array:
@@ -285,27 +375,33 @@ def locate_in_island(island: Island, points: Sequence[Sequence[int]]) -> List[Tu
     answer = check_island(island)
     if answer.refused is not None:
         raise answer.refused
-    districts, rings = districts_of(island, "parcels"), island.parcels.rings
+    levels, rings = _levels_of(island, "parcels"), island.parcels.rings
+    plan = _Plan.of(island.city, rings, levels)
     places = np.array(points, dtype=np.int64).reshape(-1, 2)
     with _folder() as folder:
-        sums = _write(folder, island.city, rings, districts)
-        told = _located(folder, districts, places)
-        _test_outlines(folder, sums)
+        sums = _write(folder, plan)
+        told = _located(folder, levels[0], places)
+        _test_outlines(folder, plan, sums)
     return told
 
 
 def _located(folder: Path, districts: Districts, places: Array) -> List[Tuple[str, List[int]]]:
     from ..tool import locate_points
 
+    boxes = boxes_of(districts.outlines)
+    near = [np.flatnonzero(((places >= box[:2]) & (places <= box[2:])).all(axis=1)) for box in boxes]
+    asked = [at for at, some in enumerate(near) if len(some)]
+
+    def told_in(at: int) -> List[Tuple[str, List[int]]]:
+        here = folder / f"d{at + 1}"
+        points: List[Tuple[int, int]] = [(x, y) for x, y in places[near[at]].tolist()]
+        return locate_points(here / "city.shp", here / "parcels.shp", points)
+
     records: List[List[int]] = [[] for _ in places]
     where = ["outside"] * len(places)
-    for at, box in enumerate(boxes_of(districts.outlines)):
-        near = np.flatnonzero(((places >= box[:2]) & (places <= box[2:])).all(axis=1))
-        if len(near):
-            here = folder / f"d{at + 1}"
-            asked: List[Tuple[int, int]] = [(x, y) for x, y in places[near].tolist()]
-            told = locate_points(here / "city.shp", here / "parcels.shp", asked)
-            for point, (kind, found) in zip(near.tolist(), told):
+    with ThreadPoolExecutor(max_workers=jobs_of(how_cut())) as pool:
+        for at, told in zip(asked, pool.map(told_in, asked)):
+            for point, (kind, found) in zip(near[at].tolist(), told):
                 if kind != "outside":
                     where[point] = kind
                     records[point] += [int(districts.rows[at][record - 1]) + 1 for record in found]

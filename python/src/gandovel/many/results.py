@@ -7,14 +7,14 @@ import os
 import shutil
 import time
 from concurrent.futures import ThreadPoolExecutor
-from dataclasses import dataclass
+from dataclasses import dataclass, field
 from hashlib import sha256
 from pathlib import Path
 from typing import Any, Dict, List, Optional, Sequence, Tuple
 
 from ..errors import Refused
 from .tasks import Program, Task
-from .worker import checked
+from .worker import checked, has_stamp
 
 KINDS = ("cities", "faults")
 """The folders of results, by what was asked."""
@@ -33,7 +33,8 @@ DERIVED = ("summary.csv", "summary.json", "faults.gpkg")
 class Result:
     """What the program said of a city, and of which files. `output` and `errors` are its words as they were.
 
-    `inputs` has the SHA-256 by path, None of an index that was not there. `seconds` are by the clock, of the program
+    `inputs` has the SHA-256 by path, None of an index that was not there, and `stamps` what a change of a file would
+    change, of those that were old enough to tell by it. `seconds` are by the clock, of the program
     alone; `memory_kb` is the most memory that it had at once, in kB of 1,024 bytes. `records` is how many parcels the
     layer had, by its index; None where there was no index, or edits were applied.
     """
@@ -49,6 +50,7 @@ class Result:
     output: str
     errors: str
     records: Optional[int] = None
+    stamps: Dict[str, List[int]] = field(default_factory=dict)
 
 
 class ResultsFolder:
@@ -163,6 +165,7 @@ class ResultsFolder:
                 output.decode("utf-8", "replace"),
                 errors.decode("utf-8", "replace"),
                 _records(told),
+                {path: it["stamp"] for path, it in told["inputs"].items() if it and "stamp" in it},
             )
         except (OSError, ValueError, KeyError, TypeError):
             return None
@@ -185,10 +188,17 @@ class ResultsFolder:
         ]:
             return False
         try:
-            now = {path: checked(path) for path in result.inputs}
+            return all(_is_same(path, before, result.stamps.get(path)) for path, before in result.inputs.items())
         except OSError:
             return False
-        return result.inputs == {path: it and it.sha256 for path, it in now.items()}
+
+
+def _is_same(path: str, before: Optional[str], stamp: Optional[Sequence[int]]) -> bool:
+    """Whether a file has the stamp that it had, else the checksum. OSError where it can't be read."""
+    if stamp is not None and has_stamp(path, stamp):
+        return True
+    now = checked(path)
+    return (now and now.sha256) == before
 
 
 def _records(told: Dict[str, Any]) -> Optional[int]:

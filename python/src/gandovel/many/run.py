@@ -33,7 +33,8 @@ SHOWN_AFTER = 2.0
 LOOKED_AT = 1000
 """For so many results it is looked at a time, while an engine runs."""
 
-Shared, Crossing = Dict[str, List[str]], Dict[str, List[Tuple[str, str, str]]]
+Shared = Dict[str, List[str]]
+Crossing = Dict[str, List[Tuple[str, str, str]]]
 
 OF_THE_DISK = (errno.ENOSPC, errno.EDQUOT, errno.EROFS, errno.EACCES, errno.EPERM, errno.EIO, errno.ENOENT, errno.EFBIG)
 """Errors that say that a folder can't be written; any other one of an engine is the engine's."""
@@ -218,7 +219,7 @@ class _Run:
         early = _Early(self.results, kind, to_do, self.name)
         if to_do:
             try:
-                batch.write(self.results.path / kind, self.program, self.settings.limits)
+                batch.write(self.results.path / kind, self.program, self.settings.limits, self.verify)
                 with _progress(len(to_do), kind, self.shown) as told:
                     lost = engine.run(batch, early.then(told))
             except OSError as fault:
@@ -263,11 +264,12 @@ class _Run:
         summary = Summary(list(verdicts.values()), wholes_of(rows, verdicts, layers), len(self.kept))
         summary.kept_names, summary.differing = frozenset(self.kept), self._differing()
         refused = [row for row in rows if verdicts[row.name].verdict == "refused"]
-        for write in (
+        writes: Sequence[Callable[[], object]] = (
             lambda: self._tell_faults(summary, refused),
             lambda: self.results.write("summary.csv", summary.table()),
             lambda: self.results.write("summary.json", summary.facts()),
-        ):
+        )
+        for write in writes:
             summary.seconds = time.monotonic() - begun
             try:
                 write()
@@ -402,7 +404,7 @@ def _why(batch: Batch, number: Optional[int], lost: Dict[int, Lost]) -> Tuple[st
     if number is None:
         return "P14", "its result was there when the run began, and is no longer"
     said = batch.note(number)
-    return said or lost.get(number) or ("T4", "the task left no result and said nothing")
+    return said or (lost[number][:2] if number in lost else ("T4", "the task left no result and said nothing"))
 
 
 @contextmanager

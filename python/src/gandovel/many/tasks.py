@@ -128,8 +128,11 @@ class Batch:
         """The file that the worker is given for a task."""
         return self.folder / "tasks" / f"{number}.json"
 
-    def write(self, results: Path, program: Program, limits: Limits) -> None:
-        """Makes the folder and writes a file for each task. `results` is the folder that has their results."""
+    def write(self, results: Path, program: Program, limits: Limits, by_bytes: bool = False) -> None:
+        """Makes the folder and writes a file for each task. `results` is the folder that has their results.
+
+        With `by_bytes` a task compares its files by all their bytes, and not by their times, where these say as much.
+        """
         notes = self.folder / "failed"
         for folder in (self.folder / "tasks", notes):
             folder.mkdir(parents=True)
@@ -144,6 +147,7 @@ class Batch:
                 "program": {"version": program.version, "sha256": program.sha256},
                 "timeout": limits.timeout,
                 "memory_kb": limits.memory_kb,
+                "by_bytes": by_bytes,
             }
             self.file_of(number).write_text(json.dumps(told), encoding="utf-8")
 

@@ -15,6 +15,7 @@ from __future__ import annotations
 import errno
 import hashlib
 import json
+import mmap
 import os
 import resource
 import signal
@@ -60,13 +61,16 @@ class Failed(Exception):
         return STATUS.get(self.code, PASSING)
 
 
+Stamp = Tuple[int, int, int, int]
+
+
 class Checked(NamedTuple):
     """A file as it was: its checksum (64 hexadecimal digits), its length in bytes, and what a change of it changes."""
 
     sha256: str
     size: int
-    stamp: Tuple[int, int]
-    """The file's number on its disk, and when it was changed, in nanoseconds."""
+    stamp: Stamp
+    """The file's number on its disk, its length, and when it and what is noted of it were changed, in nanoseconds."""
 
     def told(self) -> Dict[str, Any]:
         """As a result tells it."""
@@ -74,10 +78,20 @@ class Checked(NamedTuple):
 
 
 class Input(NamedTuple):
-    """A file as it was before the program ran: None where there was none; its bytes, where there is room for them."""
+    """A file as it was before the program ran: None where there was none.
+
+    It is `settled` where a change of it would give it another stamp; else its bytes are held, where there is room.
+    """
 
     checked: Optional[Checked]
-    content: Optional[bytes]
+    content: Optional[bytes] = None
+    settled: bool = False
+
+    def told(self) -> Optional[Dict[str, Any]]:
+        """As a result tells it: with its stamp, where that says as much as its checksum."""
+        if self.checked is None:
+            return None
+        return {**self.checked.told(), "stamp": self.checked.stamp} if self.settled else self.checked.told()
 
 
 class Ended(NamedTuple):
@@ -95,14 +109,19 @@ def checked(path: str) -> Optional[Checked]:
     return read_input(path, BLOCK).checked
 
 
-def read_input(path: str, room: int) -> Input:
-    """A file with its checksum, and its bytes where it is no longer than `room`. OSError where it can't be read."""
+def read_input(path: str, room: int, by_bytes: bool = True) -> Input:
+    """A file with its checksum, and its bytes where it is no longer than `room`. OSError where it can't be read.
+
+    With `by_bytes` no file is taken to be settled.
+    """
     try:
         with open(path, "rb", buffering=0) as file:
             begun = os.fstat(file.fileno())
-            if begun.st_size <= room:
+            settled = not by_bytes and time.time() - begun.st_ctime > SETTLED
+            if begun.st_size <= max(room, BLOCK):
                 content = file.readall()
-                return Input(Checked(hashlib.sha256(content).hexdigest(), len(content), stamp_of(begun)), content)
+                here = Checked(hashlib.sha256(content).hexdigest(), len(content), stamp_of(begun))
+                return Input(here, content if len(content) <= room and not settled else None, settled)
             digest, size, block = hashlib.sha256(), 0, bytearray(BLOCK)
             while True:
                 count = file.readinto(block)
@@ -111,17 +130,30 @@ def read_input(path: str, room: int) -> Input:
                 digest.update(memoryview(block)[:count])
                 size += count
     except (FileNotFoundError, NotADirectoryError):
-        return Input(None, None)
-    return Input(Checked(digest.hexdigest(), size, stamp_of(begun)), None)
+        return Input(None)
+    return Input(Checked(digest.hexdigest(), size, stamp_of(begun)), None, settled)
 
 
-def stamp_of(facts: os.stat_result) -> Tuple[int, int]:
-    """What a change of a file changes."""
-    return facts.st_ino, facts.st_mtime_ns
+def stamp_of(facts: os.stat_result) -> Stamp:
+    """What a change of a file changes. (Its time may be set back; the time at which that was done may not.)"""
+    return facts.st_ino, facts.st_size, facts.st_mtime_ns, facts.st_ctime_ns
+
+
+def has_stamp(path: str, stamp: Sequence[int]) -> bool:
+    """Whether a file is there with a stamp. OSError where that can't be known."""
+    try:
+        return list(stamp_of(os.stat(path))) == list(stamp)
+    except (FileNotFoundError, NotADirectoryError):
+        return False
 
 
 def is_unchanged(path: str, before: Input) -> bool:
-    """Whether a file is what it was: the same file, with the same time and bytes. OSError where it can't be read."""
+    """Whether a file is what it was: the same file, with the same times, and bytes where these say too little.
+
+    OSError where it can't be read.
+    """
+    if before.checked is not None and before.settled:
+        return has_stamp(path, before.checked.stamp)
     if before.checked is None or before.content is None:
         return checked(path) == before.checked
     try:
@@ -152,7 +184,7 @@ def read_inputs(task: Dict[str, Any]) -> Dict[str, Input]:
     room = HELD
     for path, needed in task["inputs"].items():
         try:
-            found[path] = read_input(path, room)
+            found[path] = read_input(path, room, task["by_bytes"])
         except OSError as fault:
             raise Failed("P1", f"{path} can't be read: {fault.strerror}") from fault
         if needed and found[path].checked is None:
@@ -195,6 +227,11 @@ def _checksum_of_program(path: str) -> str:
 _running: List[int] = []
 """The program that runs, by its process; 0 while it is being started."""
 
+NOBODY = bytes(8)
+
+_shared: List[Any] = []
+"""Memory that this process of a list shares with its parent: the number of the program that runs, or `NOBODY`."""
+
 _asked_to_stop: List[int] = []
 """The signals by which this process was asked to stop."""
 
@@ -219,16 +256,22 @@ def _end_program(*_: Any) -> None:
 def run_program(task: Dict[str, Any], command: List[str], into: str) -> Ended:
     """Runs the program once within the task's limits, with its output into a file. OSError where the disk is full.
 
-    Its error text goes to memory first: a full disk would lose it, which is what it tells of.
+    Its error text goes to memory first: a full disk would lose it, which is what it tells of. In a list of tasks it is
+    spawned, in half of the time that a fork takes, and ended by `run_tasks` where this process is killed. (Where both are
+    killed at once it runs to its end, and holds the results' lock until then.) Else it dies with this process.
     """
     output = os.open(into, os.O_WRONLY | os.O_CREAT | os.O_TRUNC, 0o644)
     reader, writer = os.pipe()
     files = os.open(os.devnull, os.O_RDONLY), output, writer
-    begun, parent, die = time.monotonic(), os.getpid(), _prctl()
+    begun = time.monotonic()
     _running.append(0)
-    process = os.fork()
-    if process == 0:
-        _become_program(command, task["memory_kb"], parent, die, files)
+    if _shared and not task["memory_kb"]:
+        process = _spawned(command, files)
+    else:
+        parent, die = os.getpid(), _prctl()
+        process = os.fork()
+        if process == 0:
+            _become_program(command, task["memory_kb"], parent, die, files)
     _running[0] = process
     if _asked_to_stop:
         _end_program()
@@ -240,12 +283,22 @@ def run_program(task: Dict[str, Any], command: List[str], into: str) -> Ended:
     with open(reader, "rb") as file:
         errors = file.read()
     _, status, used = os.wait4(process, 0)
+    if _shared:
+        _shared[0][:] = NOBODY
     _running.clear()
     if task["timeout"]:
         signal.setitimer(signal.ITIMER_REAL, 0)
     seconds = time.monotonic() - begun
     timed_out = bool(task["timeout"]) and seconds >= task["timeout"] and os.WIFSIGNALED(status)
     return Ended(status, seconds, used.ru_maxrss, timed_out, errors)
+
+
+def _spawned(command: List[str], files: Sequence[int]) -> int:
+    """Starts the program in a group of its own, and leaves its number where `run_tasks` finds it. OSError."""
+    places = [(os.POSIX_SPAWN_DUP2, number, place) for place, number in enumerate(files)]
+    process = os.posix_spawn(command[0], command, os.environ, file_actions=places, setpgroup=0)
+    _shared[0][:] = process.to_bytes(len(NOBODY), "little")
+    return process
 
 
 def _become_program(
@@ -342,7 +395,7 @@ def done(task: Dict[str, Any], folder: str) -> None:
         "run": task["run"],
         "program": task["program"],
         "command": task["command"],
-        "inputs": {path: it.checked and it.checked.told() for path, it in before.items()},
+        "inputs": {path: it.told() for path, it in before.items()},
         "status": status,
         "seconds": round(ended.seconds, 6),
         "memory_kb": ended.memory_kb,
@@ -351,8 +404,8 @@ def done(task: Dict[str, Any], folder: str) -> None:
     }
     with open(os.path.join(folder, "errors.txt"), "wb") as out:
         out.write(ended.errors)
-    for name in ("output", "errors"):
-        result[name] = told_of(os.path.join(folder, f"{name}.txt"))
+    result["output"] = told_of(os.path.join(folder, "output.txt"))
+    result["errors"] = {"sha256": hashlib.sha256(ended.errors).hexdigest(), "bytes": len(ended.errors)}
     with open(os.path.join(folder, "result.json"), "w", encoding="utf-8") as out:
         out.write(written(result))
 
@@ -464,7 +517,7 @@ def run_tasks(paths: Sequence[str]) -> int:
             except ProcessLookupError:
                 pass
 
-    at, status, parent = 0, 0, os.getpid()
+    at, status, parent, shared = 0, 0, os.getpid(), mmap.mmap(-1, len(NOBODY))
     signal.signal(signal.SIGTERM, stop)
     while at < len(paths):
         reader, writer = os.pipe()
@@ -473,6 +526,7 @@ def run_tasks(paths: Sequence[str]) -> int:
             return STATUS["T4"]
         child = os.fork()
         if child == 0:
+            _shared.append(shared)
             _become_tasks(paths[at:], parent, writer)
         running.append(child)
         signal.pthread_sigmask(signal.SIG_UNBLOCK, [signal.SIGTERM])
@@ -480,6 +534,7 @@ def run_tasks(paths: Sequence[str]) -> int:
         with open(reader, "rb") as file:
             ended = file.read()
         killed_by = os.WTERMSIG(os.waitpid(child, 0)[1])
+        _end_left(shared)
         running.clear()
         at, status = at + len(ended), next((it for it in reversed(ended) if it), status)
         if stopped or at == len(paths):
@@ -487,6 +542,17 @@ def run_tasks(paths: Sequence[str]) -> int:
         _tell(_read(paths[at]), Failed("T4", f"the task was killed by signal {killed_by}"))
         at, status = at + 1, STATUS["T4"]
     return STATUS["T4"] if stopped else status
+
+
+def _end_left(shared: Any) -> None:
+    """Ends the program of a task's process that was killed."""
+    left = int.from_bytes(shared[:], "little")
+    shared[:] = NOBODY
+    if left:
+        try:
+            os.killpg(left, signal.SIGKILL)
+        except (ProcessLookupError, PermissionError):
+            pass
 
 
 def _become_tasks(paths: Sequence[str], parent: int, ended: int) -> NoReturn:

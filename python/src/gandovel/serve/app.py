@@ -16,15 +16,15 @@ from starlette.requests import ClientDisconnect
 from starlette.staticfiles import StaticFiles
 
 from ..errors import JournalBroken, NoMemory, NoSuchLine, NoZones, Refused, RefusedEdit, SessionError
+from ..journals import MOST_WORD, Said
 from .changes import told_as_events
 from .crs import CRS84
 from .edit_bodies import EditBody, edit_of
-from .entries import Entry
+from .entries import Asked, Entry
 from .faults import BadRequest, Fault, Gone, NoSuchThing, NotServing, as_json, parcel_of, words_of
-from .features import CONFORMANCE, DEFAULT_LIMIT, MOST_LIMIT, Collections, Page, link, now, only, whole
+from .features import CONFORMANCE, DEFAULT_LIMIT, MOST_LIMIT, Collections, Page, link, only, whole
 from .metrics import Metrics
 from .pages import HERE, html_of, openapi_html
-from .records import Asked
 from .register import Register
 
 PATIENCE = 60.0
@@ -380,7 +380,7 @@ def _add_edits(app: FastAPI, site: Site) -> None:
         """An edit as JSON, or a line of a clerk's file as text/plain. 200 comes once the journal has it on the disk."""
         only(request.query_params, {"why"})
         line, reason = edit_of(await request.body(), request.headers.get("content-type", "application/json"), why)
-        asked = Asked(line, request.state.client.name, reason, now(), _key(idempotency_key))
+        asked = Asked(line, _said(request.state.client.name, reason, _key(idempotency_key)))
         try:
             entry, is_repeated = await asyncio.wait_for(register.submit(asked, _at(if_match)), PATIENCE)
         except asyncio.TimeoutError:
@@ -409,6 +409,16 @@ def _key(text: Optional[str]) -> Optional[str]:
     if text is None or _KEY.fullmatch(text):
         return text
     raise BadRequest("Idempotency-Key", "a key is 1 to 100 signs of ASCII without a space")
+
+
+def _said(name: str, why: str, key: Optional[str]) -> Said:
+    """What the journal's record has of a client."""
+    said = Said(name, why, key)
+    size = len(said.word.encode())
+    if size > MOST_WORD:
+        text = f"name, key and reason have {size} bytes in the journal, and {MOST_WORD} is the most: shorten the reason"
+        raise BadRequest("why", text)
+    return said
 
 
 def _at(text: Optional[str]) -> Optional[int]:

@@ -1,4 +1,4 @@
-"""Copies of a register that may be open: the layer, the journal's whole lines, the server's own file, and digests."""
+"""Copies of a register that may be open: the layer, the journal's whole records, and digests."""
 from __future__ import annotations
 
 import hashlib
@@ -8,6 +8,7 @@ from pathlib import Path
 from typing import Dict, List
 
 from ..errors import Refused
+from ..journals import journal_of
 
 JOURNAL, LAYER, SUMS = "register.journal", "layer", "SHA256SUMS"
 
@@ -15,7 +16,8 @@ JOURNAL, LAYER, SUMS = "register.journal", "layer", "SHA256SUMS"
 def back_up(folder: Path, journal: Path, out: Path) -> str:
     """Copies the layer of `folder` and the journal to `out`, whole or not at all; a line that tells what there is.
 
-    The journal may be written to meanwhile: it is copied up to its last whole line. Refused P1, P14.
+    The journal may be written to meanwhile: it is copied up to its last whole record, each of which is checked. Refused
+    P1, P14, and as `read_journal` does.
     """
     for path in (folder / "prepared.json", journal):
         if not path.is_file():
@@ -26,10 +28,7 @@ def back_up(folder: Path, journal: Path, out: Path) -> str:
     try:
         aside.mkdir(parents=True, mode=0o700)
         shutil.copytree(folder, aside / LAYER)
-        edits = _copy_lines(journal, aside / JOURNAL)
-        own = journal.with_name(journal.name + ".who")
-        if own.is_file():
-            _copy_lines(own, aside / (JOURNAL + ".who"))
+        edits = _copy_records(journal, aside / JOURNAL)
         _write_sums(aside)
         os.replace(aside, out)
     except OSError as fault:
@@ -45,7 +44,7 @@ def check_backup(folder: Path) -> str:
         lines = (folder / SUMS).read_text(encoding="utf-8").splitlines()
     except (OSError, UnicodeDecodeError):
         raise Refused("P1", f"{folder} is no backup: it has no {SUMS}") from None
-    wanted = dict(reversed(line.split("  ", 1)) for line in lines if "  " in line)
+    wanted = {name: digest for digest, name in (line.split("  ", 1) for line in lines if "  " in line)}
     found = _sums(folder)
     wrong = sorted(name for name in {*wanted, *found} if wanted.get(name) != found.get(name))
     if wrong:
@@ -53,15 +52,15 @@ def check_backup(folder: Path) -> str:
     return f"{len(found)} files as they were written"
 
 
-def _copy_lines(path: Path, out: Path) -> int:
-    """Copies the whole lines of a file that grows, to the disk; how many of them are edits."""
+def _copy_records(path: Path, out: Path) -> int:
+    """Copies the whole records of a journal that grows, to the disk; how many they are."""
     content = path.read_bytes()
-    whole = content[: content.rfind(b"\n") + 1]
+    journal = journal_of(content)
     with open(os.open(out, os.O_WRONLY | os.O_CREAT | os.O_EXCL, 0o600), "wb") as file:
-        file.write(whole)
+        file.write(content[: len(content) - journal.torn])
         file.flush()
         os.fsync(file.fileno())
-    return sum(1 for line in whole.splitlines() if line and not line.startswith(b"#"))
+    return len(journal.records)
 
 
 def _sums(folder: Path) -> Dict[str, str]:

@@ -8,6 +8,7 @@ from pyproj import CRS, Transformer
 from shapely.geometry import MultiPolygon, Polygon
 from shapely.geometry.base import BaseGeometry
 
+from ..arrays import Array
 from .faults import BadRequest
 
 CRS84 = "http://www.opengis.net/def/crs/OGC/1.3/CRS84"
@@ -45,7 +46,7 @@ class Projection:
                 return known
         raise BadRequest(what, f"{what} has to be one of {', '.join(self.uris)}")
 
-    def coordinates(self, corners: np.ndarray, uri: str) -> np.ndarray:
+    def coordinates(self, corners: Array, uri: str) -> Array:
         """Corners in mm (k, 2) as coordinates in the axes' order of a projection: degrees are rounded."""
         places = np.asarray(corners, dtype=float) / self.scale
         if uri == CRS84:
@@ -104,5 +105,5 @@ class Projection:
         return [Polygon(places).buffer(0)] if np.isfinite(places).all() else []
 
 
-def _rectangle(low: np.ndarray, high: np.ndarray) -> Polygon:
+def _rectangle(low: Array, high: Array) -> Polygon:
     return Polygon([(low[0], low[1]), (high[0], low[1]), (high[0], high[1]), (low[0], high[1])])

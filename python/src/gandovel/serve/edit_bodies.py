@@ -8,12 +8,11 @@ from typing import TYPE_CHECKING, Annotated, Any, List, Literal, Optional, Tuple
 from pydantic import BaseModel, Extra, Field, ValidationError, conint, parse_obj_as
 
 from .. import edits
+from ..journals import FARTHEST, MOST_WORD
 from .faults import BadRequest
 
-MOST_WHY = 200
+MOST_WHY = MOST_WORD
 """Bytes of a reason."""
-FARTHEST = 100_000_000_000
-"""How far from 0 a coordinate may lie, in mm."""
 _PATH = r"(?: -?[0-9]{1,19} -?[0-9]{1,19})"
 LINE = re.compile(
     rf"split [0-9]{{1,19}}{_PATH}+|merge [0-9]{{1,19}} [0-9]{{1,19}}|move [0-9]{{1,19}} [0-9]{{1,19}}{_PATH}+"
@@ -118,14 +117,17 @@ def _text(value: Any) -> str:
 
 
 def _line(line: str) -> str:
+    """The line as a journal has it: each number in its one form."""
     if LINE.fullmatch(line):
-        return line
+        name, *words = line.split(" ")
+        return " ".join([name, *(str(int(word)) for word in words)])
     raise BadRequest(
         "L1", "the line is no edit: split, merge, move, insert or straighten, whole numbers, one space between"
     )
 
 
 def _reason(why: str) -> str:
+    why = why.strip()
     if len(why.encode("utf-8", "replace")) > MOST_WHY or not why.isprintable():
         raise BadRequest("why", f"the reason has at most {MOST_WHY} bytes, in one line")
     return why

@@ -6,6 +6,9 @@ from typing import Any, Dict, List, Optional, Sequence, Tuple
 
 import numpy as np
 
+from ..arrays import Array
+from ..journals import JournalRecord, Said
+
 NEVER = np.iinfo(np.int64).max
 """The entry that takes out a row which is there still."""
 Box = Tuple[float, float, float, float]
@@ -13,20 +16,43 @@ Box = Tuple[float, float, float, float]
 
 
 @dataclass(frozen=True)
-class Entry:
-    """An accepted edit: its number, its line, the ids that it took out and brought; who made it, why, when, its key.
+class Asked:
+    """An edit that a client sent: its line, as a journal has it, and who sends it, why and by which key."""
 
-    `time` is UTC, as `2026-01-31T12:00:00.000Z`. Of an entry that another program made, the last four are None.
+    edit: str
+    said: Said
+
+    @property
+    def line(self) -> bytes:
+        """What the session is asked for."""
+        return f"by {self.said.word}: {self.edit}".encode()
+
+    def is_of(self, record: JournalRecord) -> bool:
+        """Whether this may be what became the record."""
+        return (record.who, record.edit) == (self.said.word, self.edit)
+
+
+@dataclass(frozen=True)
+class Entry:
+    """An accepted edit, as the journal's record has it, and the ids that it took out and brought.
+
+    `time` is UTC, as `2026-01-31T12:00:00Z`. `who` is None where the record has no word of its client.
     """
 
     number: int
     edit: str
     out: Tuple[int, ...]
     new: Tuple[int, ...]
-    who: Optional[str] = None
-    why: Optional[str] = None
-    time: Optional[str] = None
-    key: Optional[str] = None
+    who: Optional[str]
+    why: str
+    time: str
+    key: Optional[str]
+
+    @classmethod
+    def of(cls, record: JournalRecord, out: Tuple[int, ...] = (), new: Tuple[int, ...] = ()) -> "Entry":
+        """The entry of a record."""
+        said = record.said
+        return cls(record.number, record.edit, out, new, said.name or None, said.why, record.moment, said.key)
 
     def as_json(self) -> Dict[str, Any]:
         """What an answer has of it; the key is its maker's alone."""
@@ -42,7 +68,7 @@ class Row:
     born: int
     died: int
     area2: int
-    ring: np.ndarray
+    ring: Array
 
 
 class Versions:
@@ -54,19 +80,19 @@ class Versions:
         self._numbers = np.zeros((1024, 3), dtype=np.int64)
         """Id, born, died of each row."""
         self._boxes = np.zeros((1024, 4), dtype=np.int64)
-        self._rings: List[np.ndarray] = []
+        self._rings: List[Array] = []
         self._areas: List[int] = []
         self._alive: Dict[int, int] = {}
-        self._found: Dict[int, np.ndarray] = {}
+        self._found: Dict[int, Array] = {}
 
-    def begin(self, entries: int, rows: Sequence[Tuple[int, int, int, np.ndarray]]) -> None:
+    def begin(self, entries: int, rows: Sequence[Tuple[int, int, int, Array]]) -> None:
         """Puts in the rows (id, born, area2, ring) of the version with so many entries; none before it is kept."""
         self.__init__()  # type: ignore[misc]
         self.first = self.last = entries
         for row in rows:
             self._add(*row)
 
-    def apply(self, entry: Entry, rows: Sequence[Tuple[int, int, np.ndarray]]) -> None:
+    def apply(self, entry: Entry, rows: Sequence[Tuple[int, int, Array]]) -> None:
         """Puts in the next entry, with the rows (id, area2, ring) that it brought."""
         for number in entry.out:
             self._numbers[self._alive.pop(number), 2] = entry.number
@@ -96,7 +122,7 @@ class Versions:
         low, high = boxes[:, :2].min(axis=0), boxes[:, 2:].max(axis=0)
         return float(low[0]), float(low[1]), float(high[0]), float(high[1])
 
-    def places(self, entries: int, box: Optional[Box] = None) -> np.ndarray:
+    def places(self, entries: int, box: Optional[Box] = None) -> Array:
         """Where the rows of a version are, by ascending ids: int64, for `row`. With a box those whose box meets it.
 
         The version has to be kept (`first` to `last`).
@@ -113,16 +139,16 @@ class Versions:
             return found
         boxes = self._boxes[found]
         low, high = np.array(box[:2]), np.array(box[2:])
-        return found[((boxes[:, :2] <= high) & (boxes[:, 2:] >= low)).all(axis=1)]
+        return np.asarray(found[((boxes[:, :2] <= high) & (boxes[:, 2:] >= low)).all(axis=1)])
 
-    def within(self, places: np.ndarray, box: Box) -> np.ndarray:
+    def within(self, places: Array, box: Box) -> Array:
         """Of each of these rows whether its box lies in `box`: bool."""
         boxes = self._boxes[places]
-        return ((boxes[:, :2] >= np.array(box[:2])) & (boxes[:, 2:] <= np.array(box[2:]))).all(axis=1)
+        return np.asarray(((boxes[:, :2] >= np.array(box[:2])) & (boxes[:, 2:] <= np.array(box[2:]))).all(axis=1))
 
-    def ids(self, places: np.ndarray) -> np.ndarray:
+    def ids(self, places: Array) -> Array:
         """The ids of the rows at these places: int64."""
-        return self._numbers[places, 0]
+        return np.asarray(self._numbers[places, 0])
 
     def row(self, place: int) -> Row:
         """The row at a place that `places` found."""
@@ -138,7 +164,7 @@ class Versions:
         places = np.flatnonzero((numbers[:, 0] == parcel) & (numbers[:, 1] <= entries) & (numbers[:, 2] > entries))
         return self.row(int(places[0])) if len(places) else None
 
-    def _add(self, parcel: int, born: int, area2: int, ring: np.ndarray) -> None:
+    def _add(self, parcel: int, born: int, area2: int, ring: Array) -> None:
         if self._count == len(self._numbers):
             self._numbers = np.concatenate([self._numbers, np.zeros_like(self._numbers)])
             self._boxes = np.concatenate([self._boxes, np.zeros_like(self._boxes)])

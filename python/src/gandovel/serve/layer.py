@@ -1,7 +1,6 @@
 """The layer of a register: what `gandovel prepare` wrote, its attributes, and which of its parcels a row comes from."""
 from __future__ import annotations
 
-import hashlib
 import math
 from pathlib import Path
 from typing import Any, Dict, List, Optional, Tuple
@@ -47,14 +46,6 @@ class Layer:
         """The layer as the program's command line has it."""
         zones = [] if self.zones is None else ["--zones", str(self.zones)]
         return [*map(str, self._files), "--unit", "mm", *zones]
-
-    @property
-    def digest(self) -> str:
-        """SHA-256 of city and parcels, as hexadecimal text: a journal belongs to one layer."""
-        found = hashlib.sha256()
-        for path in self._files:
-            found.update(hashlib.sha256(path.read_bytes()).digest())
-        return found.hexdigest()
 
     def follow(self, entry: Entry) -> None:
         """Takes in where the parcels of an entry come from. Of a moved border each new parcel comes from one old."""

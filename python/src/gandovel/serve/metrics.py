@@ -38,7 +38,6 @@ class Metrics:
         for name, text, value in (
             ("entries", "Published entries", lambda: len(register.entries)),
             ("journal_bytes", "Bytes of the journal", lambda: _size(register)),
-            ("record_synchronisations", "Synchronisations of the server's own file", lambda: register.synchronisations),
             ("session_restarts", "How often the session was started anew", lambda: register.restarts),
             ("serving", "1 where the register is open", lambda: int(register.state == "serving")),
         ):

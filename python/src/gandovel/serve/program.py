@@ -3,8 +3,9 @@ from __future__ import annotations
 
 import asyncio
 import ctypes
+import fcntl
 import os
-import shutil
+import re
 import signal
 import subprocess
 import tempfile
@@ -12,7 +13,7 @@ from pathlib import Path
 from typing import IO, List, Optional, Sequence, Tuple
 
 from ..answers import count_of, start_refused, test_error
-from ..errors import ProgramEnded, Refused, TimedOut
+from ..errors import JournalInUse, ProgramEnded, Refused, TimedOut
 from ..tool import find_tool
 from ..wires import limit_of, open_pipes
 from .lines import Lines
@@ -23,7 +24,7 @@ START = 600.0
 """Seconds that a start may take: a long journal is applied then."""
 MOST_NOTES = 1 << 20
 """How many bytes of standard error are looked at."""
-OPENING = 10.0
+OPENING = 60.0
 """Seconds until a desk's pipes are open, once the program is ready."""
 _SET_PARENT_DEATH_SIGNAL = 1
 
@@ -34,23 +35,22 @@ class Program:
     It gets SIGTERM where this process ends in any way, so that it never holds a journal that nobody reads.
     """
 
-    def __init__(self, process: "subprocess.Popen[bytes]", operator: Lines, room: Path, errors: IO[bytes]) -> None:
-        self.process, self.operator, self.room = process, operator, room
+    def __init__(self, process: "subprocess.Popen[bytes]", operator: Lines, errors: IO[bytes]) -> None:
+        self.process, self.operator = process, operator
         self.desks: List[Lines] = []
         self.replayed = 0
         self._errors = errors
 
     @classmethod
-    async def start(cls, words: Sequence[str], room: Path, desks: int = 0, journal: Optional[str] = None) -> "Program":
-        """Runs `session WORDS`, with so many desks whose pipes lie in the folder `room`, and waits until it is ready.
+    async def start(cls, words: Sequence[str], names: Sequence[str] = (), journal: Optional[str] = None) -> "Program":
+        """Runs `session WORDS`, with desks whose pipes have these names (`Room.pipes`), and waits until it is ready.
 
-        A folder that an earlier process left is replaced. Refused as a session's start is; `ProgramEnded`; `TimedOut`.
+        Refused as a session's start is; `ProgramEnded`; `TimedOut`.
         """
-        names = _make_pipes(room, desks)
         command = [find_tool(), "session", *words, *(word for name in names for word in ("--desk", name))]
         command += [] if journal is None else ["--journal", journal]
         errors = tempfile.TemporaryFile()
-        program = cls(*_begun(command, errors), room, errors)
+        program = cls(*_begun(command, errors), errors)
         try:
             await program._make_ready(journal)
             for name in names:
@@ -101,7 +101,6 @@ class Program:
         for lines in (self.operator, *self.desks):
             lines.close()
         self._errors.close()
-        shutil.rmtree(self.room, ignore_errors=True)
 
     @property
     def notes(self) -> List[str]:
@@ -118,20 +117,6 @@ class Program:
         return pages * os.sysconf("SC_PAGE_SIZE")
 
 
-def _make_pipes(room: Path, desks: int) -> List[str]:
-    """The names of so many desks, whose pipes are made in a folder that only this user may look into. Refused P14."""
-    names = [str(room / f"desk{number}") for number in range(1, desks + 1)]
-    try:
-        shutil.rmtree(room, ignore_errors=True)
-        room.mkdir(mode=0o700)
-        for name in names:
-            os.mkfifo(f"{name}.in", 0o600)
-            os.mkfifo(f"{name}.out", 0o600)
-    except OSError as fault:
-        raise Refused("P14", f"the pipes beside the journal can't be made: {fault.strerror}") from fault
-    return names
-
-
 def _begun(command: Sequence[str], errors: IO[bytes]) -> "Tuple[subprocess.Popen[bytes], Lines]":
     """Runs the program: its process, and the lines of its standard input and output. Refused T1."""
     lines, outward = os.pipe()
@@ -146,6 +131,58 @@ def _begun(command: Sequence[str], errors: IO[bytes]) -> "Tuple[subprocess.Popen
         os.close(lines)
         os.close(answers)
     return process, Lines(outward, inward)
+
+
+class Room:
+    """The folder of a server's pipes, which only its user may look into. It is locked: a journal has one server."""
+
+    def __init__(self, path: Path) -> None:
+        """Makes the folder, or takes one that a server left that was killed. Raises `JournalInUse`; refused P14."""
+        self._path = path
+        try:
+            path.mkdir(mode=0o700, exist_ok=True)
+            self._lock = os.open(path, os.O_RDONLY | os.O_DIRECTORY | os.O_CLOEXEC)
+        except OSError as fault:
+            raise self._refusal(fault) from fault
+        try:
+            fcntl.flock(self._lock, fcntl.LOCK_EX | fcntl.LOCK_NB)
+            is_there = os.path.samestat(os.fstat(self._lock), os.stat(path))
+        except OSError:  # another has it, or has just taken it away
+            is_there = False
+        if not is_there:
+            os.close(self._lock)
+            raise JournalInUse("in use", "another server has this journal: stop it first")
+
+    def pipes(self, desks: int) -> List[str]:
+        """Makes the pipes of so many desks anew: their names. Refused P14."""
+        try:
+            self._clear()
+            names = [str(self._path / f"desk{number}") for number in range(1, desks + 1)]
+            for name in names:
+                os.mkfifo(f"{name}.in", 0o600)
+                os.mkfifo(f"{name}.out", 0o600)
+        except OSError as fault:
+            raise self._refusal(fault) from fault
+        return names
+
+    def close(self) -> None:
+        """Takes the folder away."""
+        try:
+            self._clear()
+            self._path.rmdir()
+        except OSError:
+            pass  # it has something that is not the server's
+        os.close(self._lock)
+
+    def _refusal(self, fault: OSError) -> Refused:
+        advice = "see that the journal's folder is there, and may be written to"
+        return Refused("P14", f"{self._path}, for the server's pipes, can't be made: {fault.strerror}: {advice}")
+
+    def _clear(self) -> None:
+        """Takes away what servers make there, and nothing else."""
+        for path in self._path.iterdir():
+            if re.fullmatch(r"desk[1-8]\.(in|out|lock)", path.name):
+                path.unlink()
 
 
 _LIBC = ctypes.CDLL(None, use_errno=True)

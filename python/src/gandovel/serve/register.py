@@ -7,6 +7,7 @@ from __future__ import annotations
 
 import asyncio
 import logging
+import time
 from dataclasses import replace
 from pathlib import Path
 from typing import Any, Dict, List, Optional, Sequence, Set, Tuple
@@ -14,13 +15,14 @@ from typing import Any, Dict, List, Optional, Sequence, Set, Tuple
 import numpy as np
 
 from ..answers import Accepted, Overlaps, Place, accepted_of, count_of, overlaps_of, place_of, test_error
-from ..errors import BadAnswer, JournalBroken, JournalInUse, NoMemory, NoZones, ProgramEnded, Refused
-from .entries import Entry, Versions
+from ..errors import BadAnswer, JournalBroken, JournalInUse, JournalRefused, NoMemory, NoZones, ProgramEnded, Refused
+from ..journals import JournalRecord
+from .entries import Asked, Entry, Versions
 from .faults import KeyReused, NotServing, Stale, Unknown
 from .layer import Layer
 from .lines import Lines
-from .program import Program
-from .records import Asked, Records
+from .program import Program, Room
+from .tail import Tail
 from .turns import Turns
 
 LOG = logging.getLogger("gandovel.serve")
@@ -38,7 +40,17 @@ IN_USE = 20
 """How often a journal that is in use is tried again, each half a second."""
 PACES = (0.0, 0.5, 1.0, 2.0, 5.0)
 """Seconds between two tries to start a session anew; the last one for all further ones."""
-Fate = Tuple[Asked, "asyncio.Future[Optional[Entry]]"]
+REST = 10.0
+"""Seconds that no edit is taken behind one that the disk did not take: readers have no session that begins each moment."""
+
+
+class Fate:
+    """An edit that went to the session: `after` so many records that were known then; its entry's number comes later."""
+
+    def __init__(self, asked: Asked, after: int) -> None:
+        self.asked, self.after = asked, after
+        self.number: "asyncio.Future[Optional[int]]" = asyncio.get_running_loop().create_future()
+        """None where the journal does not have it."""
 
 
 class Register:
@@ -56,7 +68,8 @@ class Register:
         self.state, self.restarts, self.trouble = "starting", 0, ""
         self.acknowledged = 0
         self._is_new = True
-        self._records: Optional[Records] = None
+        self._room: Optional[Room] = None
+        self._tail: Optional[Tail] = None
         self._session: Optional[Program] = None
         self._follower: Optional[Program] = None
         self._turns = Turns()
@@ -64,8 +77,9 @@ class Register:
         self._by_parcel: Dict[int, List[int]] = {}
         self._flying: Dict[Tuple[str, str], Tuple[str, "asyncio.Task[Entry]"]] = {}
         self._tasks: Set["asyncio.Task[Any]"] = set()
-        self._fates: Dict[int, Fate] = {}
-        self._alike: Dict[str, "asyncio.Future[None]"] = {}
+        self._fates: Set[Fate] = set()
+        self._alike: Dict[Asked, "asyncio.Future[None]"] = {}
+        self._rests_until = 0.0
         self._accepted: Dict[int, Entry] = {}
         self._overlaps: Dict[int, "asyncio.Task[Overlaps]"] = {}
         self._running, self._news = asyncio.Event(), asyncio.Event()
@@ -75,13 +89,11 @@ class Register:
     # its life
 
     async def start(self) -> None:
-        """Starts the session and reads its journal. Refused as a session's start and `Records` are."""
-        self._records = Records(self.journal.with_name(self.journal.name + ".who"), self.layer.digest)
+        """Starts the session and reads its journal. Refused as a session's start, `Room` and `Tail` are."""
         try:
             await self._open_soon()
         except BaseException:
             self._kill()
-            self._records.close()
             raise
 
     async def _open_soon(self) -> None:
@@ -102,22 +114,21 @@ class Register:
         if self._session is not None and was == "serving":
             await self._session.close()
         self._kill()
-        if self._records is not None:
-            self._records.close()
 
     async def _open(self) -> None:
         """Starts the programs that do not run, and takes in what the journal has beyond what is known."""
         if self._session is not None:
             self._session.kill()
-        words, near = self.layer.words, self.journal.name
-        self._session = await Program.start(words, self.journal.with_name(near + ".desks"), DESKS, str(self.journal))
-        edits = self._journal_edits(self._session.replayed)
+        if self._room is None:
+            self._room = Room(self.journal.with_name(self.journal.name + ".desks"))
+        names, words = self._room.pipes(DESKS), self.layer.words
+        self._session = await Program.start(words, names, str(self.journal))
+        records = await self._read_journal(self._session.replayed)
         if self._follower is None or self._follower.operator.has_ended:
-            self._follower = await Program.start(words, self.journal.with_name(near + ".follower"))
-            await self._begin(edits if self._is_new else edits[: len(self.entries)])
-        self._take_in(edits)
+            self._follower = await Program.start(words)
+            await self._begin(records if self._is_new else records[: len(self.entries)])
+        self._take_in(records)
         await self._follow()
-        self.acknowledged = len(edits)
         for lines in (self._session.operator, *self._session.desks, self._follower.operator):
             lines.when_ended = self._ended
             if lines.has_ended:
@@ -128,23 +139,26 @@ class Register:
         self._turns.renew(self._session.desks[1:])
         self._tell()
 
-    def _journal_edits(self, count: int) -> List[str]:
-        """The edits of the journal; they have to be as many as the session has, and begin with those that are known."""
-        text = self.journal.read_bytes().decode("ascii", "backslashreplace")
-        edits = [line.rstrip("\r") for line in text.split("\n")]
-        edits = [line for line in edits if line and not line.startswith("#") and line != "grid cm"]
-        if len(edits) != count:
-            raise BadAnswer("T3", f"the journal has {len(edits)} edits, and the session {count}")
-        known = [entry.edit for entry in self.entries]
-        if edits[: len(known)] != known or len(edits) < max(self._accepted, default=0):
+    async def _read_journal(self, count: int) -> List[JournalRecord]:
+        """The journal's records; they have to be as many as the session has, and begin with those that are known."""
+        tail = await asyncio.get_running_loop().run_in_executor(None, Tail, self.journal)
+        if self._tail is not None:
+            self._tail.close()
+        self._tail = tail
+        if len(tail.records) != count:
+            raise BadAnswer("T3", f"the journal has {len(tail.records)} edits, and the session {count}")
+        known = [*self.entries, *(self._accepted[number] for number in sorted(self._accepted))]
+        if any((it.edit, it.time) != (record.edit, record.moment) for it, record in zip(known, tail.records)) or (
+            count < max(self.acknowledged, len(known))
+        ):
             raise BadAnswer("journal", "edits that were answered are not in the journal any more")
-        return edits
+        return list(tail.records)
 
-    async def _begin(self, edits: Sequence[str]) -> None:
+    async def _begin(self, records: Sequence[JournalRecord]) -> None:
         """Makes the edits by the follower, and takes its rows as the version that they lead to."""
-        assert self._follower is not None and self._records is not None
+        assert self._follower is not None
         lines, first = self._follower.operator, self.layer.count
-        answers = [lines.put(edit.encode()) for edit in edits]
+        answers = [lines.put(record.edit.encode()) for record in records]
         accepted = [accepted_of((await answer)[0].decode()) for answer in answers]
         born: Dict[int, int] = {parcel: 0 for parcel in range(1, first + 1)}
         for made in accepted:
@@ -152,27 +166,21 @@ class Register:
                 del born[parcel]
             born.update(dict.fromkeys(made.new, made.number))
         rows = await self._rows(list(born))
-        self.versions.begin(len(edits), [(it[0], born[it[0]], *it[1:]) for it in rows])
+        self.versions.begin(len(records), [(it[0], born[it[0]], *it[1:]) for it in rows])
         if self._is_new:
-            asked = self._records.matched(edits)
-            for edit, made in zip(edits, accepted):
-                self._enter(_entry(edit, made, asked.get(made.number)))
+            for record, made in zip(records, accepted):
+                self._enter(Entry.of(record, made.out, made.new))
         self._is_new = False
 
-    def _take_in(self, edits: Sequence[str]) -> None:
-        """Gives the entries of a journal that nobody was told of to those who wait for an answer; others get none."""
-        for number in range(len(self.entries) + 1, len(edits) + 1):
-            if number not in self._accepted:
-                edit = edits[number - 1]
-                whose = next((at for at, (asked, _) in self._fates.items() if asked.edit == edit), None)
-                asked, fate = self._fates.pop(whose) if whose is not None else (None, None)
-                self._accepted[number] = _entry(edit, Accepted(number, (), ()), asked)
-                if fate is not None and not fate.done():
-                    fate.set_result(self._accepted[number])
-        for asked, fate in self._fates.values():
-            if not fate.done():
-                fate.set_result(None)
-        self._fates = {}
+    def _take_in(self, records: Sequence[JournalRecord]) -> None:
+        """Takes in the records of a session's start, and says what became of edits that got no answer."""
+        self._accept(len(records))
+        for fate in self._fates:
+            behind = records[fate.after :]
+            number = next((record.number for record in behind if fate.asked.is_of(record)), None)
+            if not fate.number.done():
+                fate.number.set_result(number)
+        self._fates = set()
 
     def _ended(self) -> None:
         """One of the programs has ended: both are looked after."""
@@ -201,6 +209,11 @@ class Register:
         for program in (self._session, self._follower):
             if program is not None:
                 program.kill()
+        if self._tail is not None:
+            self._tail.close()
+        if self._room is not None:
+            self._room.close()
+            self._room = None
 
     # edits
 
@@ -212,9 +225,9 @@ class Register:
         An edit whose key was seen before is not made again. Raises `RefusedEdit`, `Stale`, `KeyReused`, `TooBusy`,
         `NotServing`, `JournalBroken`.
         """
-        if asked.key is None:
+        if asked.said.key is None:
             return await asyncio.shield(self._keep_task(self._make(asked, at))), False
-        key = (asked.who, asked.key)
+        key = (asked.said.name, asked.said.key)
         known = self._keys.get(key)
         edit, flying = self._flying.get(key, ("", None))
         if known is not None or flying is not None:
@@ -222,84 +235,92 @@ class Register:
                 raise KeyReused(
                     "key", "this Idempotency-Key came with another edit before: use a new one for each edit"
                 )
-            return (known if known is not None else await asyncio.shield(flying)), True  # type: ignore[arg-type]
+            return (await self._published(known) if known else await asyncio.shield(flying)), True  # type: ignore
         task = self._keep_task(self._make(asked, at))
         self._flying[key] = asked.edit, task
         task.add_done_callback(lambda _: self._flying.pop(key, None))
         return await asyncio.shield(task), False
 
     async def _make(self, asked: Asked, at: Optional[int]) -> Entry:
-        """Writes down who asks, and lets the session make the edit; of edits with the same line one at a time."""
+        """Lets the session make the edit; of those that a record would not tell apart one at a time."""
         self._test_at(at)
         await self._test_serving()
-        assert self._records is not None
-        while asked.edit in self._alike:
-            await asyncio.shield(self._alike[asked.edit])
-        done = self._alike[asked.edit] = asyncio.get_running_loop().create_future()
+        self._test_rest()
+        while asked in self._alike:
+            await asyncio.shield(self._alike[asked])
+        done = self._alike[asked] = asyncio.get_running_loop().create_future()
         try:
-            return await self._recorded(asked, at)
+            return await self._made(asked, at)
         finally:
-            del self._alike[asked.edit]
+            del self._alike[asked]
             done.set_result(None)
 
-    async def _recorded(self, asked: Asked, at: Optional[int]) -> Entry:
-        assert self._records is not None
-        number = await self._records.ask(asked, self.acknowledged)
-        fate: Fate = asked, asyncio.get_running_loop().create_future()
-        try:
-            entry = await self._made(number, fate, at)
-        except (Unknown, asyncio.CancelledError):
-            raise  # the next start finds it in the journal, or not
-        except BaseException:
-            self._records.settle(number, None)
-            raise
-        finally:
-            self._fates.pop(number, None)
-        self._records.settle(number, entry.number)
-        return entry
-
-    async def _made(self, number: int, fate: Fate, at: Optional[int]) -> Entry:
-        asked = fate[0]
-        desk = await self._turns.take(asked.who, at is not None)
+    async def _made(self, asked: Asked, at: Optional[int]) -> Entry:
+        desk = await self._turns.take(asked.said.name, at is not None)
+        fate = None
         try:
             self._test_at(at)
             if self.state == "closed":
                 raise NotServing("closed", "the server ends")
-            self._fates[number] = fate
-            answer = (await asyncio.wait_for(desk.ask(asked.edit.encode()), ANSWER)).decode()
+            fate = Fate(asked, self.acknowledged)
+            self._fates.add(fate)
+            answer = (await asyncio.wait_for(desk.ask(asked.line), ANSWER)).decode()
             test_error(answer)
-            entry = _entry(asked.edit, accepted_of(answer), asked)
-        except (ProgramEnded, JournalBroken, NoMemory, BadAnswer, asyncio.TimeoutError) as fault:
-            entry = await self._fate_of(fate, fault)
+            made = accepted_of(answer)
+            self._accept(made.number)
+        except (ProgramEnded, JournalBroken, JournalRefused, NoMemory, BadAnswer, asyncio.TimeoutError) as fault:
+            if fate is None:
+                raise
+            return await self._fate_of(fate, fault)
         finally:
+            self._fates.discard(fate)  # type: ignore[arg-type]
             self._turns.give_back(desk)
-        self._accept(entry)
-        return entry
+        return self._known(made.number, made)
 
     async def _fate_of(self, fate: Fate, fault: BaseException) -> Entry:
         """The entry of an edit without an answer, as the journal tells it once the session is started anew."""
+        self._fates.add(fate)
         if not isinstance(fault, ProgramEnded) and self._session is not None and self.state == "serving":
             self._session.kill()
         if isinstance(fault, JournalBroken):
             self.trouble = "the journal can't be written: see that its disk has room"
-        entry = await fate[1]
-        if entry is None:
+            self._rests_until = time.monotonic() + REST
+        number = await fate.number
+        if number is None:
+            if isinstance(fault, JournalBroken):
+                raise fault
             raise NotServing("not made", "the program ended before the edit was made: send it again")
+        return await self._published(self._known(number))
+
+    async def _published(self, entry: Entry) -> Entry:
+        """The entry as it is published: with the ids that it took out and brought."""
         while len(self.entries) < entry.number:
             if self.state == "closed":
                 raise Unknown("unknown", "the server ends: send the edit again with the same key")
             await self.news(len(self.entries), WAITING)
         return self.entries[entry.number - 1]
 
-    def _accept(self, entry: Entry) -> None:
-        """Hands an entry on to the follower, once it is its turn."""
-        self.acknowledged = max(self.acknowledged, entry.number)
-        if entry.number > len(self.entries):
-            self._accepted.setdefault(entry.number, entry)
-        if entry.key is not None and entry.who is not None:
-            self._keys[entry.who, entry.key] = entry
+    def _known(self, number: int, made: Optional[Accepted] = None) -> Entry:
+        """The entry of a record that was taken in."""
+        entry = self.entries[number - 1] if number <= len(self.entries) else self._accepted[number]
+        return entry if made is None else replace(entry, out=made.out, new=made.new)
+
+    def _accept(self, number: int) -> None:
+        """Takes the journal's records up to one that was answered, which all are on the disk; the follower goes on."""
+        assert self._tail is not None
+        self._tail.read_to(number)
+        for record in self._tail.records[max(self.acknowledged, len(self.entries)) : number]:
+            entry = self._accepted[record.number] = Entry.of(record)
+            if entry.key is not None and entry.who is not None:
+                self._keys[entry.who, entry.key] = entry
+        self.acknowledged = max(self.acknowledged, number)
         if self._following is None or self._following.done():
             self._following = self._keep_task(self._follow_and_tell())
+
+    def _test_rest(self) -> None:
+        """Tests that the disk did not refuse an edit a moment ago. Raises `JournalBroken`."""
+        if time.monotonic() < self._rests_until:
+            raise JournalBroken("journal", "the disk did not take an edit a moment ago")
 
     def _test_at(self, at: Optional[int]) -> None:
         newest = max(self.acknowledged, len(self.entries))
@@ -345,7 +366,7 @@ class Register:
         assert self._follower is not None
         made = accepted_of((await self._follower.operator.ask(entry.edit.encode())).decode())
         rows = await self._rows(made.new)
-        if made.number != entry.number or ((entry.out or entry.new) and (made.out, made.new) != (entry.out, entry.new)):
+        if made.number != entry.number:
             raise BadAnswer("T3", f"entry {entry.number} came out otherwise")
         del self._accepted[entry.number]
         whole = replace(entry, out=made.out, new=made.new)
@@ -461,11 +482,6 @@ class Register:
         """The published entries that took the parcel out or brought it, in order."""
         return [self.entries[number - 1] for number in self._by_parcel.get(parcel, [])]
 
-    @property
-    def synchronisations(self) -> int:
-        """How often the server's own file was synchronised."""
-        return self._records.synchronisations if self._records is not None else 0
-
     def health(self) -> Dict[str, Any]:
         """State, entries, and how often the session was started anew."""
         return {
@@ -473,7 +489,7 @@ class Register:
             "entries": len(self.entries),
             "kept_from": self.versions.first,
             "restarts": self.restarts,
-            "trouble": self.trouble if self.state != "serving" else "",
+            "trouble": self.trouble if self.state != "serving" or time.monotonic() < self._rests_until else "",
         }
 
     def memory(self) -> Dict[str, int]:
@@ -495,9 +511,3 @@ def _row_of(line: bytes, parcel: int) -> Tuple[int, int, np.ndarray]:
     if len(words) != 5 or words[0] != b"parcel" or int(words[2]) != parcel:
         raise BadAnswer("T3", f"parcel {parcel} is not there")
     return parcel, int(words[3]), np.fromstring(words[4].decode(), dtype=np.int64, sep=" ").reshape(-1, 2)
-
-
-def _entry(edit: str, made: Accepted, asked: Optional[Asked]) -> Entry:
-    if asked is None:
-        return Entry(made.number, edit, made.out, made.new)
-    return Entry(made.number, edit, made.out, made.new, asked.who, asked.why, asked.time, asked.key)

@@ -10,7 +10,7 @@ import socket
 import ssl
 import sys
 from pathlib import Path
-from typing import Any, Optional
+from typing import Any, ClassVar, Dict, Optional
 
 import uvicorn
 from uvicorn.protocols.http.httptools_impl import HttpToolsProtocol
@@ -33,15 +33,24 @@ BEYOND = 4
 
 
 class Connection(HttpToolsProtocol):  # type: ignore[misc]
-    """uvicorn's connection, that is closed where no request comes of it in time, or there are far too many."""
+    """uvicorn's connection, that is closed where no request comes of it in time.
+
+    Where there are more than the limit, the one that has asked nothing for longest goes; where each has, the new one is
+    told so, and far beyond the limit it is closed.
+    """
+
+    _silent: ClassVar[Dict["Connection", None]] = {}
+    """Those that a request's head is awaited of, the oldest first."""
 
     def connection_made(self, transport: Any) -> None:
         super().connection_made(transport)
         self._waiting: Optional[asyncio.TimerHandle] = None
+        if self.limit_concurrency and len(self.connections) >= self.limit_concurrency and self._silent:
+            next(iter(self._silent))._too_slow()
         if self.limit_concurrency and len(self.connections) > BEYOND * self.limit_concurrency:
             transport.abort()
             return
-        self._waiting = self.loop.call_later(HEAD_SECONDS, self._too_slow)
+        self._wait()
 
     def connection_lost(self, exc: Optional[Exception]) -> None:
         self._in_time()
@@ -49,7 +58,7 @@ class Connection(HttpToolsProtocol):  # type: ignore[misc]
 
     def data_received(self, data: bytes) -> None:
         if self._waiting is None and (self.cycle is None or self.cycle.response_complete):
-            self._waiting = self.loop.call_later(HEAD_SECONDS, self._too_slow)
+            self._wait()
         super().data_received(data)
 
     def on_headers_complete(self) -> None:
@@ -57,13 +66,19 @@ class Connection(HttpToolsProtocol):  # type: ignore[misc]
         self.scope["gandovel.cut_off"] = self.transport.abort
         super().on_headers_complete()
 
+    def _wait(self) -> None:
+        self._waiting = self.loop.call_later(HEAD_SECONDS, self._too_slow)
+        self._silent[self] = None
+
     def _in_time(self) -> None:
         if self._waiting is not None:
             self._waiting.cancel()
             self._waiting = None
+        self._silent.pop(self, None)
 
     def _too_slow(self) -> None:
-        self._waiting = None
+        self._in_time()
+        self.connections.discard(self)  # it counts no more, though it is closed a moment later
         self.transport.abort()
 
 

@@ -115,7 +115,7 @@ class DaskEngine(Engine):
 
     def _at_once(self) -> int:
         """How many calls the workers take at once; where there is none yet, as if there were one."""
-        return max(1, sum(self.client.nthreads().values()))
+        return max(1, int(sum(self.client.nthreads().values())))
 
     def close(self) -> None:
         for it in (self.client, self.cluster):
