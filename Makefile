@@ -2,11 +2,11 @@
 .POSIX:
 
 help:
-	@echo 'make demo     the overlay of the town in examples/town, built without proofs: a minute or three'
-	@echo 'make quick    the tests without proofs: some 10 to 20 minutes; not the gate'
+	@echo 'make demo     the overlay of the town in examples/town, built without proofs'
+	@echo 'make quick    the tests without proofs; not the gate'
 	@echo 'make test     the gate: every proof, mutant, test and run (.ci/run)'
 	@echo 'make mutants  tries every mutant of both tiers; goes on where it was stopped; hours from nothing'
-	@echo 'make release  the program to hand out, in dist/: static, .tar.gz, wheel and .deb, of a commit that passed the gate here'
+	@echo 'make release  what is handed out, in dist/: static program, .tar.gz, wheel, .deb, QGIS plugin, of a commit that passed the gate here'
 	@echo 'make bench    measures speed and memory (benches/all.sh)'
 
 demo:

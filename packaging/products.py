@@ -45,7 +45,7 @@ def tarball(root: Path, parts: Files, relink: Files, name: str, seconds: int) ->
 
 
 OVERRIDES = """# One file that needs no library of the system, so that a verdict does not depend on one: see PROOF.txt and relink in the .tar.gz.
-parcel-tool: statically-linked-binary [usr/bin/parcel_tool]
+parcel-tool: shared-library-lacks-prerequisites [usr/bin/parcel_tool]
 """
 """What lintian would say of the `.deb` and is meant so."""
 
