@@ -309,7 +309,7 @@ fn shows_help_and_version(rt: HostRuntime) -> Result<(), Fail> {
         ),
         (
             "parcel_tool --version",
-            "parcel_tool 1.0.0 (rattle-kit-13f)",
+            "parcel_tool 1.1.0 (rattle-kit-13f)",
         ),
     ] {
         let words: Vec<&str> = line.split(' ').collect(rt.alloc())?;

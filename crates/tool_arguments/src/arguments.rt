@@ -85,7 +85,7 @@ const STATUSES: &str =
 fn tool_command<'a>(alloc: Global) -> Result<Command<'a>, AllocError> {
     Command::new(alloc, "parcel_tool")
         .bin_name("parcel_tool")?
-        .version("1.0.0 (rattle-kit-13f)")
+        .version("1.1.0 (rattle-kit-13f)")
         .about("Exact answers about parcel layers in shapefiles, in whole millimetres")
         .after_help(STATUSES)
         .subcommand_required(true)

@@ -94,7 +94,7 @@ __all__ = [
     "read_journal",
     "report",
 ]
-__version__ = "1.0.0"
+__version__ = "1.1.0"
 
 _NAMES = {
     "answers": "Accepted Outline Overlaps Place Tiling",

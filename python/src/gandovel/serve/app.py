@@ -53,7 +53,7 @@ def application(site: Site) -> FastAPI:
     """The application of a register."""
     app = FastAPI(
         title="A parcel register",
-        version="1.0.0",
+        version="1.1.0",
         description="Parcels that tile a city, exactly, by a formally verified program. Coordinates of edits and of "
         "`/locate` are whole millimetres.",
         openapi_url=None,
