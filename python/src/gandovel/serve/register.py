@@ -15,6 +15,7 @@ from typing import Any, Dict, List, Optional, Sequence, Set, Tuple
 import numpy as np
 
 from ..answers import Accepted, Overlaps, Place, accepted_of, count_of, overlaps_of, place_of, test_error
+from ..arrays import Array
 from ..errors import BadAnswer, JournalBroken, JournalInUse, JournalRefused, NoMemory, NoZones, ProgramEnded, Refused
 from ..journals import JournalRecord
 from .entries import Asked, Entry, Versions
@@ -395,7 +396,7 @@ class Register:
         if self.versions.dead > 2 * self._keep + 1000:
             self.versions.forget(entry.number - self._keep)
 
-    async def _rows(self, parcels: Sequence[int]) -> List[Tuple[int, int, np.ndarray]]:
+    async def _rows(self, parcels: Sequence[int]) -> List[Tuple[int, int, Array]]:
         """Parcels as the follower has them now: id, twice the area in mm2, ring int64 (k, 2) in mm."""
         assert self._follower is not None
         answers = [self._follower.operator.put(b"parcel %d" % parcel) for parcel in parcels]
@@ -528,7 +529,7 @@ def _unknown() -> Unknown:
     return Unknown("unknown", "the server ends: send the edit again with the same key")
 
 
-def _row_of(line: bytes, parcel: int) -> Tuple[int, int, np.ndarray]:
+def _row_of(line: bytes, parcel: int) -> Tuple[int, int, Array]:
     """The answer to `parcel ID`: id, twice the area in mm2, ring int64 (k, 2) in mm. Raises `BadAnswer`."""
     words = line.split(b" ", 4)
     if len(words) != 5 or words[0] != b"parcel" or int(words[2]) != parcel:
