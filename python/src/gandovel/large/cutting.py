@@ -10,7 +10,7 @@ Where the outlines are more than a layer has, they are cut in turn, into distric
 from __future__ import annotations
 
 from dataclasses import dataclass
-from typing import Dict, List, Optional, Sequence, Set, Tuple
+from typing import Any, Dict, List, Optional, Sequence, Set, Tuple
 
 import numpy as np
 from shapely.geometry import MultiLineString, MultiPoint, Point, Polygon
@@ -212,12 +212,15 @@ def _connected(
 
 def _parts_of(edges: _Edges, label: Array, of: Optional[Set[int]]) -> Dict[int, List[Polygon]]:
     """The connected parts of districts without their holes, largest first, measured from the first point."""
+    found: Dict[int, List[Polygon]] = {}
     border = edges.border(label, of)
+    if not len(border):
+        return found
     of_side = label[edges.ring[border]]
     order = np.argsort(of_side, kind="stable")
     border, of_side = border[order], of_side[order]
-    bounds = np.flatnonzero(np.concatenate([[True], of_side[1:] != of_side[:-1], [True]])) if len(border) else []
-    points, found = edges.points, {}
+    bounds = np.flatnonzero(np.concatenate([[True], of_side[1:] != of_side[:-1], [True]]))
+    points = edges.points
     for begin, end in zip(bounds[:-1], bounds[1:]):
         side = border[begin:end]
         start, stop, net = edges_left(edges.start[side], edges.end[side])
@@ -232,7 +235,8 @@ def _one_loop(points: Array, start: Array, end: Array) -> Optional[Polygon]:
     """The outer loop of edges with the district on their left, where there is only one, and it is simple; else None."""
     if len(np.unique(start)) < len(start) or len(np.unique(end)) < len(end):
         return None
-    following, outer = dict(zip(start.tolist(), end.tolist())), []
+    following: Dict[int, int] = dict(zip(start.tolist(), end.tolist()))
+    outer: List[Array] = []
     while following:
         first, at = following.popitem()
         loop = [first]
@@ -281,7 +285,8 @@ def _enclosed_moved(label: Array, parts: Dict[int, List[Polygon]], changed: Set[
     boxes = np.array([parts[at][0].bounds for at in names]).reshape(-1, 4)
     moved: Set[int] = set()
     for box, at in zip(boxes, names):
-        around, fast = parts[at][0], None
+        around = parts[at][0]
+        fast: Any = None
         begin, end = np.searchsorted(boxes[:, 0], [box[0], box[2]], side="left")
         some = boxes[begin:end]
         within = (some[:, 1] >= box[1]) & (some[:, 2] <= box[2]) & (some[:, 3] <= box[3])
