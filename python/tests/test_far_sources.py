@@ -1,13 +1,11 @@
 """Layers that are no files here: a database of PostgreSQL, and files behind a URL."""
 from __future__ import annotations
 
-import functools
-import http.server
 import os
 import shutil
 import subprocess
+import sys
 import tempfile
-import threading
 import zipfile
 from pathlib import Path
 
@@ -21,6 +19,7 @@ from test_register import command
 from test_sources import two
 
 POSTGRES = max(Path("/usr/lib/postgresql").glob("*/bin"), default=Path("/usr/bin"))
+SERVER = Path(__file__).with_name("range_server.py")
 PLAIN = {"PATH": os.environ["PATH"], "LC_ALL": "C"}
 
 
@@ -69,21 +68,13 @@ def test_a_database_that_is_not_there(tmp_path):
     assert line.startswith("error: parcels: P1 PG:host=") and "can't be read" in line
 
 
-class Quiet(http.server.SimpleHTTPRequestHandler):
-    """A server of files that writes no log."""
-
-    def log_message(self, *words):
-        """Nothing."""
-
-
 @pytest.fixture
 def served(tmp_path):
     """A folder of files and the address that they are served at."""
-    handler = functools.partial(Quiet, directory=str(tmp_path))
-    with http.server.ThreadingHTTPServer(("127.0.0.1", 0), handler) as server:
-        threading.Thread(target=server.serve_forever, daemon=True).start()
-        yield tmp_path, f"http://127.0.0.1:{server.server_address[1]}"
-        server.shutdown()
+    words = [sys.executable, SERVER, tmp_path]
+    with subprocess.Popen(words, stdout=subprocess.PIPE, stderr=subprocess.DEVNULL, text=True) as server:
+        yield tmp_path, f"http://127.0.0.1:{server.stdout.readline().strip()}"
+        server.kill()
 
 
 def test_files_behind_a_url(served):

@@ -251,9 +251,33 @@ def small_disk(tmp_path):
     """A disk of a megabyte, in memory."""
     folder = tmp_path / "disk"
     folder.mkdir()
-    subprocess.check_call(["mount", "-t", "tmpfs", "-o", "size=1m", "tmpfs", str(folder)])
+    if subprocess.call(["mount", "-t", "tmpfs", "-o", "size=1m", "tmpfs", str(folder)], stderr=subprocess.DEVNULL):
+        pytest.skip("no disk can be mounted here")
     yield folder
     subprocess.check_call(["umount", "--lazy", str(folder)])
+
+
+def test_a_disk_that_is_full_for_a_while(tmp_path, monkeypatch, small_disk):
+    """One city after the other: the one that finds no room has no result, the next one has."""
+    script = 'case "$city" in */c1) head -c 3000000 /dev/zero || { echo "error: S2" >&2; exit 1; };; esac'
+    program(tmp_path, monkeypatch, script)
+    manifest, out = write_cities(tmp_path, 3, [2]), small_disk / "out"
+    summary = run_many(manifest, out, jobs=1, retries=0)
+    assert verdicts(summary) == {"c0": ("tiles", ""), "c1": ("none", "S2"), "c2": ("refused", "H2")}
+    assert names_in(out / "cities") == {"c0", "c2"} and summary.status == 2 and summary.unwritten is None
+
+
+def test_a_disk_that_stays_full(tmp_path, monkeypatch, small_disk):
+    """What was done is told all the same, and in one line why there is no summary.csv; and it goes on from there."""
+    program(tmp_path, monkeypatch, f'case "$city" in */c2) cat /dev/zero > "{small_disk}/filled" 2> /dev/null;; esac')
+    manifest, words = write_cities(tmp_path, 3), ["manifest.csv", "--out", small_disk / "out", "--jobs", "1"]
+    ended = command(tmp_path, *words, "--retries", "0")
+    assert (ended.returncode, ended.stdout[:19]) == (2, "3 cities: 2 tile, 1")
+    assert "error: P14" in ended.stderr and "No space left" in ended.stderr and "Traceback" not in ended.stderr
+    assert not (small_disk / "out/summary.csv").exists()
+    (small_disk / "filled").unlink()
+    program(tmp_path, monkeypatch, "")
+    assert all(it.tiles for it in run_many(manifest, small_disk / "out", jobs=1, resume=True).verdicts)
 
 
 @pytest.mark.skipif(

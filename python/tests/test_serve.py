@@ -530,7 +530,7 @@ def test_tls(layer, tmp_path):
     subprocess.run([*words.split(), "-keyout", files[0], "-out", files[1]], check=True, stderr=subprocess.DEVNULL)
     with Served(layer, tmp_path / "register.txt", "--keyfile", files[0], "--certfile", files[1]) as served:
         assert served.address.startswith("https://")
-        served.session.verify = files[1]
+        served.session.verify, served.session.trust_env = files[1], False  # else the system's certificates count
         assert served.edit("merge 1 2").status_code == 200
         assert all(it["href"].startswith("https://") for it in served.ask("/").json()["links"])
         with pytest.raises(requests.exceptions.SSLError):

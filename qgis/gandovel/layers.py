@@ -35,6 +35,8 @@ LOOK_EVERY = 1000
 
 UNITS = {"mm": ("millimetres", 0.001), "cm": ("centimetres", 0.01), "m": ("metres", 1.0)}
 """The units of layers without a projection, in metres."""
+UNDEFINED = "Undefined "
+"""So the two entries are called by which a GeoPackage says that a layer has no projection."""
 
 
 class LayerFault(Exception):
@@ -115,8 +117,9 @@ def _field_of(fields: QgsFields, number: Optional[str], name: str) -> Optional[s
 
 def _projection(source: Any, name: str, unit: str) -> QgsCoordinateReferenceSystem:
     """A source's projection; without one a plane in the unit that is named. Raises `LayerFault`."""
-    if source.sourceCrs().isValid():
-        return source.sourceCrs()
+    crs = source.sourceCrs()
+    if crs.isValid() and not crs.description().startswith(UNDEFINED):
+        return crs
     if unit not in UNITS:
         raise LayerFault(f"The layer {name} has no projection: give it one, or name the unit of its coordinates.")
     title, metres = UNITS[unit]

@@ -77,12 +77,13 @@ def _changes_within(fault: QgsGeometry, shape: QgsGeometry, changed: QgsGeometry
 
 
 def _corner_near(shapes: Sequence[QgsGeometry], place: QgsPointXY, near: float) -> Optional[QgsPoint]:
-    """The corner of shapes that is nearest to a place, if it is near."""
+    """The corner of shapes that is nearest to a place, if it is near; of two at one place, one that has a height."""
     best: Tuple[float, Optional[QgsPoint]] = (near * near, None)
     for shape in shapes:
         _, at, _, _, square = shape.closestVertex(place)
-        if 0 <= square <= best[0]:
-            best = square, shape.vertexAt(at)
+        corner = shape.vertexAt(at)
+        if 0 <= square < best[0] or square == best[0] and (best[1] is None or corner.is3D()):
+            best = square, corner
     return best[1]
 
 

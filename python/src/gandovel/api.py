@@ -174,9 +174,9 @@ def overlay(
     found: Dict[Tuple[int, str], None] = {}
     with _islands(prepared) as folders:
         for folder, island in folders:
-            for parcel, zone in _pairs(prepared, folder, island).tolist():
+            for parcel, part in _pairs(prepared, folder, island).tolist():
                 if island.parcels.source[parcel] != OUT_ROW:
-                    found[island.parcels.source[parcel], prepared.zone_of(island.rows_of_zones().source[zone])] = None
+                    found[island.parcels.source[parcel], prepared.zone_of(island.rows_of_zones().source[part])] = None
     count: Dict[int, int] = defaultdict(int)
     for row, _ in found:
         count[row] += 1

@@ -112,7 +112,7 @@ def type_of(values: pd.Series) -> str:
     if not isinstance(values.dtype, pd.CategoricalDtype) and values.dtype != object:
         kind = "M" if isinstance(values.dtype, pd.DatetimeTZDtype) else getattr(values.dtype, "kind", "O")
         return kinds.get(kind, "str")
-    known = [value for value in values if not _is_missing(value)]
+    known = values.dropna().tolist()
     for kind, name in ((bool, "bool"), (bytes, "bytes"), (datetime.datetime, "datetime"), (datetime.date, "date")):
         if known and all(isinstance(value, kind) for value in known):
             return name
@@ -143,9 +143,11 @@ def _fill(connection: sqlite3.Connection, name: str, frame: gpd.GeoDataFrame, bl
 
 def _plain_values(values: pd.Series) -> List[Any]:
     """A column's values as SQLite takes them."""
-    text = type_of(values) == "str"
-    plain = (_plain(value) for value in values.tolist())
-    return [str(value) if text and value is not None else value for value in plain]
+    kind = type_of(values)
+    if isinstance(values.dtype, np.dtype) and values.dtype.kind in "bif":
+        return [None if value != value else value for value in values.tolist()]
+    plain = [value if type(value) is str else _plain(value) for value in values.tolist()]
+    return [str(value) if value is not None else None for value in plain] if kind == "str" else plain
 
 
 def _kinds(blobs: Sequence[Optional[bytes]]) -> Set[int]:

@@ -1,7 +1,7 @@
 """Points that are asked for: tested, and put on the grid of whole millimetres."""
 from __future__ import annotations
 
-from typing import Any, List, Optional, Sequence, Tuple
+from typing import Any, Optional, Sequence, Tuple
 
 import geopandas as gpd
 import numpy as np
@@ -41,9 +41,8 @@ def _fault(row: int, shape: Any, scale: float) -> Optional[Refused]:
         return Refused("P4", f"row {row} has no geometry", "points")
     if shape.geom_type != "Point":
         return Refused("P5", f"row {row} is a {shape.geom_type} and no point", "points")
-    place: List[float] = [shape.x, shape.y]
-    if not np.isfinite(place).all():
+    if not np.isfinite([shape.x, shape.y]).all():
         return Refused("P9", f"row {row} has the coordinates ({shape.x}, {shape.y}), which are no numbers", "points")
-    if max(map(abs, place)) * scale > FARTHEST:
+    if max(abs(shape.x), abs(shape.y)) * scale > FARTHEST:
         return Refused("P9", f"row {row} lies more than 100,000 km from the origin", "points")
     return None

@@ -330,4 +330,4 @@ def _greet(wire: Wire, until: Optional[float]) -> None:
 
 
 def _text(value: Any) -> str:
-    return os.fspath(value) if isinstance(value, os.PathLike) else str(value)
+    return str(os.fspath(value)) if isinstance(value, os.PathLike) else str(value)

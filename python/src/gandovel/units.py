@@ -29,6 +29,9 @@ MILLIMETRES: Dict[str, float] = {
 MOST_DISTORTION = 0.01
 TOLD = "say its unit by --unit: m, mm, cm, dm, km, ft, us-ft, yd, in, or how many metres it is"
 
+UNDEFINED = "Undefined "
+"""So the two entries are called by which a GeoPackage says that a layer has no projection (OGC 12-128r18, srs_id 0, -1)."""
+
 
 @dataclass(frozen=True)
 class Unit:
@@ -62,6 +65,8 @@ def unit_of(crs: Any, told: Union[str, float, None], bounds: Sequence[float], ro
     is none.
     """
     system = CRS.from_user_input(crs) if crs is not None else None
+    if system is not None and str(system.name).startswith(UNDEFINED):
+        system = None
     if system is not None and (system.is_geographic or system.is_geocentric or not system.axis_info):
         if told is None or np.abs(np.asarray(bounds)).max() <= 400:
             text = f"the projection {system.name} is in degrees: project the layer first (a UTM zone, say)"

@@ -10,7 +10,7 @@ Where the outlines are more than a layer has, they are cut in turn, into distric
 from __future__ import annotations
 
 from dataclasses import dataclass
-from typing import Dict, List, Optional, Sequence, Set, Tuple
+from typing import Any, Dict, List, Optional, Sequence, Set, Tuple
 
 import numpy as np
 from shapely.geometry import MultiLineString, MultiPoint, Point, Polygon
@@ -23,6 +23,8 @@ from ..noding import points_of
 from ..shapes import polygons_of
 from . import MOST_IN_ALL, MOST_RINGS
 
+ENDS: Tuple[Any, ...] = (np.minimum, np.maximum)
+"""What gives the two ends of boxes."""
 FILLED = 0.9
 """So full a district is made at first: what is not connected may still be added to it."""
 
@@ -79,7 +81,8 @@ class _Edges:
     def sides_of(self, rows: Array) -> Array:
         """The sides of some rings."""
         begins, sizes = self.begins[rows], self.begins[rows + 1] - self.begins[rows]
-        return np.arange(int(sizes.sum())) + np.repeat(begins - (np.cumsum(sizes) - sizes), sizes)
+        rows_of: Array = np.arange(int(sizes.sum())) + np.repeat(begins - (np.cumsum(sizes) - sizes), sizes)
+        return rows_of
 
 
 def _partners(start: Array, end: Array, points: int) -> Array:
@@ -120,7 +123,7 @@ def cut(rings: Sequence[Array], most: int) -> Districts:
     edges = _Edges.of(rings)
     sizes = np.diff(edges.begins)
     corners = edges.points[edges.start]
-    low, high = (ends.reduceat(corners, edges.begins[:-1], axis=0) for ends in (np.minimum, np.maximum))
+    low, high = (ends.reduceat(corners, edges.begins[:-1], axis=0) for ends in ENDS)
     middles = (low + high) / 2.0
     count = max(_parts(len(rings), most * FILLED), _parts(int(sizes.sum()), MOST_IN_ALL * FILLED))
     label = np.zeros(len(rings), dtype=np.int64)
@@ -212,12 +215,15 @@ def _connected(
 
 def _parts_of(edges: _Edges, label: Array, of: Optional[Set[int]]) -> Dict[int, List[Polygon]]:
     """The connected parts of districts without their holes, largest first, measured from the first point."""
+    found: Dict[int, List[Polygon]] = {}
     border = edges.border(label, of)
+    if not len(border):
+        return found
     of_side = label[edges.ring[border]]
     order = np.argsort(of_side, kind="stable")
     border, of_side = border[order], of_side[order]
-    bounds = np.flatnonzero(np.concatenate([[True], of_side[1:] != of_side[:-1], [True]])) if len(border) else []
-    points, found = edges.points, {}
+    bounds = np.flatnonzero(np.concatenate([[True], of_side[1:] != of_side[:-1], [True]]))
+    points = edges.points
     for begin, end in zip(bounds[:-1], bounds[1:]):
         side = border[begin:end]
         start, stop, net = edges_left(edges.start[side], edges.end[side])
@@ -232,7 +238,8 @@ def _one_loop(points: Array, start: Array, end: Array) -> Optional[Polygon]:
     """The outer loop of edges with the district on their left, where there is only one, and it is simple; else None."""
     if len(np.unique(start)) < len(start) or len(np.unique(end)) < len(end):
         return None
-    following, outer = dict(zip(start.tolist(), end.tolist())), []
+    following: Dict[int, int] = dict(zip(start.tolist(), end.tolist()))
+    outer: List[Array] = []
     while following:
         first, at = following.popitem()
         loop = [first]
@@ -254,7 +261,7 @@ def _parts_by_lines(points: Array, low: Array, high: Array) -> List[Polygon]:
     lines = MultiLineString(list(np.stack(near, axis=1)))
     whole = unary_union([Polygon(face.exterior) for face in polygonize(unary_union(lines))])
     parts = [Polygon(part.exterior) for part in getattr(whole, "geoms", [whole]) if not part.is_empty]
-    return sorted(parts, key=lambda part: -part.area) or [_hull(near[0])]
+    return sorted(parts, key=lambda part: -float(part.area)) or [_hull(near[0])]
 
 
 def _lesser_moved(
@@ -281,7 +288,8 @@ def _enclosed_moved(label: Array, parts: Dict[int, List[Polygon]], changed: Set[
     boxes = np.array([parts[at][0].bounds for at in names]).reshape(-1, 4)
     moved: Set[int] = set()
     for box, at in zip(boxes, names):
-        around, fast = parts[at][0], None
+        around = parts[at][0]
+        fast: Any = None
         begin, end = np.searchsorted(boxes[:, 0], [box[0], box[2]], side="left")
         some = boxes[begin:end]
         within = (some[:, 1] >= box[1]) & (some[:, 2] <= box[2]) & (some[:, 3] <= box[3])
@@ -334,7 +342,8 @@ def _outline(shape: Polygon, origin: Array) -> Array:
     ring = ring if twice_area(ring) > 0 else ring[::-1]
     if len(ring) > MOST_CORNERS:
         ring = without_straight(ring)
-    return ring + origin
+    moved: Array = ring + origin
+    return moved
 
 
 def boxes_of(rings: Sequence[Array]) -> Array:
@@ -343,7 +352,7 @@ def boxes_of(rings: Sequence[Array]) -> Array:
         return np.zeros((0, 4), dtype=np.int64)
     sizes = np.array([len(ring) for ring in rings], dtype=np.int64)
     corners, begins = np.concatenate(rings), np.cumsum(sizes) - sizes
-    return np.hstack([ends.reduceat(corners, begins, axis=0) for ends in (np.minimum, np.maximum)])
+    return np.hstack([ends.reduceat(corners, begins, axis=0) for ends in ENDS])
 
 
 def partition_faults(districts: Districts, count: int) -> List[Tuple[int, int]]:

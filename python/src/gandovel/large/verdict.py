@@ -281,8 +281,9 @@ def pairs_of_island(island: Island, parcels: Any, zones: Any) -> Array:
 
         def write(at: int) -> List[Tuple[Run, List[int], List[int]]]:
             rows = [districts.rows[at].tolist(), near(at).tolist()]
-            layers = [[it.rings[row] for row in some] for it, some in zip((island.parcels, island.zones), rows)]
-            rounds = [_rounds(some, *facts) for some, *facts in zip(rows, conflicts, beyond)]
+            both = (island.parcels, island.rows_of_zones())
+            layers = [[it.rings[row] for row in some] for it, some in zip(both, rows)]
+            rounds = [_rounds(some, against, out) for some, against, out in zip(rows, conflicts, beyond)]
             return _write_overlay(folder / f"d{at + 1}", layers, rows, rounds)
 
         jobs = jobs_of(how_cut()) if len(island.parcels.rings) > FORKED else 1
@@ -338,7 +339,8 @@ def _pairs(runs: Sequence[Tuple[Run, List[int], List[int]]], said: Sequence[Said
         pairs = pairs.reshape(-1, 2) - 1
         pairs = pairs[(pairs[:, 0] < len(parcels)) & (pairs[:, 1] < len(zones))]
         found.append(np.column_stack([np.array(parcels, dtype=np.int64)[pairs[:, 0]], np.array(zones)[pairs[:, 1]]]))
-    return np.unique(np.concatenate([*found, np.zeros((0, 2), dtype=np.int64)]), axis=0).astype(np.int64)
+    every = np.concatenate([*found, np.zeros((0, 2), dtype=np.int64)])
+    return np.asarray(np.unique(every, axis=0), dtype=np.int64)
 
 
 def overlaid_island(island: Island) -> Array:
@@ -405,4 +407,4 @@ def _located(folder: Path, districts: Districts, places: Array) -> List[Tuple[st
                 if kind != "outside":
                     where[point] = kind
                     records[point] += [int(districts.rows[at][record - 1]) + 1 for record in found]
-    return list(zip(where, map(sorted, records)))
+    return [(kind, sorted(some)) for kind, some in zip(where, records)]

@@ -15,7 +15,6 @@ from __future__ import annotations
 import errno
 import hashlib
 import json
-import mmap
 import os
 import resource
 import signal
@@ -227,11 +226,6 @@ def _checksum_of_program(path: str) -> str:
 _running: List[int] = []
 """The program that runs, by its process; 0 while it is being started."""
 
-NOBODY = bytes(8)
-
-_shared: List[Any] = []
-"""Memory that this process of a list shares with its parent: the number of the program that runs, or `NOBODY`."""
-
 _asked_to_stop: List[int] = []
 """The signals by which this process was asked to stop."""
 
@@ -256,22 +250,16 @@ def _end_program(*_: Any) -> None:
 def run_program(task: Dict[str, Any], command: List[str], into: str) -> Ended:
     """Runs the program once within the task's limits, with its output into a file. OSError where the disk is full.
 
-    Its error text goes to memory first: a full disk would lose it, which is what it tells of. In a list of tasks it is
-    spawned, in half of the time that a fork takes, and ended by `run_tasks` where this process is killed. (Where both are
-    killed at once it runs to its end, and holds the results' lock until then.) Else it dies with this process.
+    Its error text goes to memory first: a full disk would lose it, which is what it tells of.
     """
     output = os.open(into, os.O_WRONLY | os.O_CREAT | os.O_TRUNC, 0o644)
     reader, writer = os.pipe()
     files = os.open(os.devnull, os.O_RDONLY), output, writer
-    begun = time.monotonic()
+    begun, parent, die = time.monotonic(), os.getpid(), _prctl()
     _running.append(0)
-    if _shared and not task["memory_kb"]:
-        process = _spawned(command, files)
-    else:
-        parent, die = os.getpid(), _prctl()
-        process = os.fork()
-        if process == 0:
-            _become_program(command, task["memory_kb"], parent, die, files)
+    process = os.fork()  # to spawn takes half as long, but what is spawned outlives this process where that is killed
+    if process == 0:
+        _become_program(command, task["memory_kb"], parent, die, files)
     _running[0] = process
     if _asked_to_stop:
         _end_program()
@@ -283,22 +271,12 @@ def run_program(task: Dict[str, Any], command: List[str], into: str) -> Ended:
     with open(reader, "rb") as file:
         errors = file.read()
     _, status, used = os.wait4(process, 0)
-    if _shared:
-        _shared[0][:] = NOBODY
     _running.clear()
     if task["timeout"]:
         signal.setitimer(signal.ITIMER_REAL, 0)
     seconds = time.monotonic() - begun
     timed_out = bool(task["timeout"]) and seconds >= task["timeout"] and os.WIFSIGNALED(status)
     return Ended(status, seconds, used.ru_maxrss, timed_out, errors)
-
-
-def _spawned(command: List[str], files: Sequence[int]) -> int:
-    """Starts the program in a group of its own, and leaves its number where `run_tasks` finds it. OSError."""
-    places = [(os.POSIX_SPAWN_DUP2, number, place) for place, number in enumerate(files)]
-    process = os.posix_spawn(command[0], command, os.environ, file_actions=places, setpgroup=0)
-    _shared[0][:] = process.to_bytes(len(NOBODY), "little")
-    return process
 
 
 def _become_program(
@@ -517,7 +495,7 @@ def run_tasks(paths: Sequence[str]) -> int:
             except ProcessLookupError:
                 pass
 
-    at, status, parent, shared = 0, 0, os.getpid(), mmap.mmap(-1, len(NOBODY))
+    at, status, parent = 0, 0, os.getpid()
     signal.signal(signal.SIGTERM, stop)
     while at < len(paths):
         reader, writer = os.pipe()
@@ -526,7 +504,6 @@ def run_tasks(paths: Sequence[str]) -> int:
             return STATUS["T4"]
         child = os.fork()
         if child == 0:
-            _shared.append(shared)
             _become_tasks(paths[at:], parent, writer)
         running.append(child)
         signal.pthread_sigmask(signal.SIG_UNBLOCK, [signal.SIGTERM])
@@ -534,7 +511,6 @@ def run_tasks(paths: Sequence[str]) -> int:
         with open(reader, "rb") as file:
             ended = file.read()
         killed_by = os.WTERMSIG(os.waitpid(child, 0)[1])
-        _end_left(shared)
         running.clear()
         at, status = at + len(ended), next((it for it in reversed(ended) if it), status)
         if stopped or at == len(paths):
@@ -542,17 +518,6 @@ def run_tasks(paths: Sequence[str]) -> int:
         _tell(_read(paths[at]), Failed("T4", f"the task was killed by signal {killed_by}"))
         at, status = at + 1, STATUS["T4"]
     return STATUS["T4"] if stopped else status
-
-
-def _end_left(shared: Any) -> None:
-    """Ends the program of a task's process that was killed."""
-    left = int.from_bytes(shared[:], "little")
-    shared[:] = NOBODY
-    if left:
-        try:
-            os.killpg(left, signal.SIGKILL)
-        except (ProcessLookupError, PermissionError):
-            pass
 
 
 def _become_tasks(paths: Sequence[str], parent: int, ended: int) -> NoReturn:

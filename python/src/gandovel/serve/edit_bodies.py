@@ -20,7 +20,8 @@ LINE = re.compile(
 )
 
 if TYPE_CHECKING:
-    Id = Whole = int
+    Id = int
+    Whole = int
 else:
     Id = conint(strict=True, ge=0, lt=10**18)
     Whole = conint(strict=True, ge=-FARTHEST, le=FARTHEST)

@@ -12,6 +12,7 @@ import numpy as np
 from shapely.geometry import Polygon, box
 from shapely.prepared import prep
 
+from ..arrays import Array
 from .crs import CRS84
 from .entries import Row, Versions
 from .faults import BadRequest, Gone, NoSuchThing, NotServing
@@ -37,9 +38,9 @@ class View:
     version: int
     entries: int
     properties: Callable[[Row], Dict[str, Any]]
-    only: Optional[np.ndarray] = None
+    only: Optional[Array] = None
 
-    def places(self, bounds: Any = None) -> np.ndarray:
+    def places(self, bounds: Any = None) -> Array:
         """Where its rows are in `versions`, by ascending ids."""
         found = self.versions.places(self.version, bounds)
         if self.only is None:
@@ -200,7 +201,7 @@ class Collections:
         ]
         return Page(found, view.entries, asked.crs)
 
-    def _matching(self, view: View, asked: "Asked") -> np.ndarray:
+    def _matching(self, view: View, asked: "Asked") -> Array:
         """The rows whose shape meets the box: exact but for the edge of the box, where GEOS measures."""
         if asked.area is None:
             return view.places()
@@ -216,7 +217,7 @@ class Collections:
             sure or meets.intersects(Polygon(versions.row(at).ring))
             for at, sure in zip(places.tolist(), is_sure.tolist())
         ]
-        return places[np.array(kept, dtype=bool)]
+        return np.asarray(places[np.array(kept, dtype=bool)])
 
     def _features(self, rows: Sequence[Row], view: View, crs: str) -> List[Dict[str, Any]]:
         if not rows:

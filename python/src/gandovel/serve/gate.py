@@ -88,7 +88,10 @@ class Gate:
             if asked:
                 await self._locate(int(asked[1]), int(asked[2]), scope, receive, send)
                 return
-        await self._app(scope, receive if scope["method"] == "GET" else _Body(receive), send)
+        body: Receive = receive
+        if scope["method"] != "GET":
+            body = _Body(receive)
+        await self._app(scope, body, send)
 
     def _refusal(self, scope: MutableMapping[str, Any], headers: Dict[bytes, bytes]) -> Optional[Tuple[int, str, str]]:
         """Why a request goes no further: status, code and text; else None, and `scope` has its client."""

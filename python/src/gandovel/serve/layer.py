@@ -5,10 +5,10 @@ import math
 from pathlib import Path
 from typing import Any, Dict, List, Optional, Tuple
 
-import numpy as np
 from pyproj import CRS
 from pyproj.exceptions import CRSError
 
+from ..arrays import Array
 from ..errors import Refused
 from ..prepared import OUT, OUT_ROW, Prepared, load
 from .crs import Projection
@@ -106,7 +106,7 @@ class Layer:
         return list(self.attributes[0]) if self.attributes else []
 
 
-def twice_area(ring: np.ndarray) -> int:
+def twice_area(ring: Array) -> int:
     """Twice the area of a ring (k, 2) int64, exact."""
     corners = [(int(x), int(y)) for x, y in ring.tolist()]
     return sum(a[0] * b[1] - b[0] * a[1] for a, b in zip(corners, corners[1:] + corners[:1]))

@@ -1,6 +1,7 @@
 """What is counted, in the text that Prometheus reads."""
 from __future__ import annotations
 
+from functools import partial
 from typing import Any, MutableMapping
 
 from prometheus_client import CollectorRegistry, Counter, Gauge, Histogram, generate_latest
@@ -44,7 +45,7 @@ class Metrics:
             Gauge(f"gandovel_{name}", text, registry=self._all).set_function(value)
         memory = Gauge("gandovel_program_bytes", "Memory of the program's two runs", ["run"], registry=self._all)
         for run in ("session", "follower"):
-            memory.labels(run).set_function(lambda run=run: register.memory().get(run, 0))
+            memory.labels(run).set_function(partial(_memory_of, register, run))
 
     def answered(self, scope: MutableMapping[str, Any], status: int, seconds: float) -> None:
         """One more request was answered; those to be told of changes are not timed."""
@@ -64,3 +65,8 @@ def _size(register: Register) -> int:
         return register.journal.stat().st_size
     except OSError:
         return 0
+
+
+def _memory_of(register: Register, run: str) -> float:
+    """Bytes of memory that one of the program's runs has; 0 of none."""
+    return register.memory().get(run, 0)

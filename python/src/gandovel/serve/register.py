@@ -15,6 +15,7 @@ from typing import Any, Dict, List, Optional, Sequence, Set, Tuple
 import numpy as np
 
 from ..answers import Accepted, Overlaps, Place, accepted_of, count_of, overlaps_of, place_of, test_error
+from ..arrays import Array
 from ..errors import BadAnswer, JournalBroken, JournalInUse, JournalRefused, NoMemory, NoZones, ProgramEnded, Refused
 from ..journals import JournalRecord
 from .entries import Asked, Entry, Versions
@@ -84,6 +85,7 @@ class Register:
         self._overlaps: Dict[int, "asyncio.Task[Overlaps]"] = {}
         self._running, self._news = asyncio.Event(), asyncio.Event()
         self._following: Optional["asyncio.Task[None]"] = None
+        self._restarting: Optional["asyncio.Task[None]"] = None
         self._follows = asyncio.Lock()
 
     # its life
@@ -109,11 +111,24 @@ class Register:
         """Ends in order: edits that were taken are answered, no other is, and the session is closed."""
         was, self.state = self.state, "closed"
         self._tell()
+        if self._restarting is not None:
+            self._restarting.cancel()
+            await asyncio.wait([self._restarting])
+        if was != "serving":
+            self._give_up()
         if self._tasks:
-            await asyncio.wait(self._tasks, timeout=ANSWER if was == "serving" else 0)
+            await asyncio.wait(self._tasks, timeout=ANSWER)
         if self._session is not None and was == "serving":
             await self._session.close()
         self._kill()
+
+    def _give_up(self) -> None:
+        """Answers those who wait for a session that none comes any more."""
+        self._running.set()
+        self._turns.end()
+        for fate in self._fates:
+            if not fate.number.done():
+                fate.number.set_exception(_unknown())
 
     async def _open(self) -> None:
         """Starts the programs that do not run, and takes in what the journal has beyond what is known."""
@@ -189,7 +204,7 @@ class Register:
             self._running.clear()
             self._turns.renew([])
             self._tell()
-            self._keep_task(self._restart())
+            self._restarting = self._keep_task(self._restart())
 
     async def _restart(self) -> None:
         for attempt in range(1_000_000):
@@ -256,6 +271,8 @@ class Register:
             done.set_result(None)
 
     async def _made(self, asked: Asked, at: Optional[int]) -> Entry:
+        if self.state == "closed":
+            raise NotServing("closed", "the server ends")
         desk = await self._turns.take(asked.said.name, at is not None)
         fate = None
         try:
@@ -279,6 +296,8 @@ class Register:
 
     async def _fate_of(self, fate: Fate, fault: BaseException) -> Entry:
         """The entry of an edit without an answer, as the journal tells it once the session is started anew."""
+        if self.state == "closed":
+            raise _unknown()
         self._fates.add(fate)
         if not isinstance(fault, ProgramEnded) and self._session is not None and self.state == "serving":
             self._session.kill()
@@ -296,7 +315,7 @@ class Register:
         """The entry as it is published: with the ids that it took out and brought."""
         while len(self.entries) < entry.number:
             if self.state == "closed":
-                raise Unknown("unknown", "the server ends: send the edit again with the same key")
+                raise _unknown()
             await self.news(len(self.entries), WAITING)
         return self.entries[entry.number - 1]
 
@@ -340,7 +359,8 @@ class Register:
         if self.state != "closed":
             try:
                 await asyncio.wait_for(self._running.wait(), WAITING)
-                return
+                if self.state != "closed":
+                    return
             except asyncio.TimeoutError:
                 pass
         raise NotServing(self.state, self.trouble or "the register is not open: try again")
@@ -376,7 +396,7 @@ class Register:
         if self.versions.dead > 2 * self._keep + 1000:
             self.versions.forget(entry.number - self._keep)
 
-    async def _rows(self, parcels: Sequence[int]) -> List[Tuple[int, int, np.ndarray]]:
+    async def _rows(self, parcels: Sequence[int]) -> List[Tuple[int, int, Array]]:
         """Parcels as the follower has them now: id, twice the area in mm2, ring int64 (k, 2) in mm."""
         assert self._follower is not None
         answers = [self._follower.operator.put(b"parcel %d" % parcel) for parcel in parcels]
@@ -505,7 +525,11 @@ class Register:
         return task
 
 
-def _row_of(line: bytes, parcel: int) -> Tuple[int, int, np.ndarray]:
+def _unknown() -> Unknown:
+    return Unknown("unknown", "the server ends: send the edit again with the same key")
+
+
+def _row_of(line: bytes, parcel: int) -> Tuple[int, int, Array]:
     """The answer to `parcel ID`: id, twice the area in mm2, ring int64 (k, 2) in mm. Raises `BadAnswer`."""
     words = line.split(b" ", 4)
     if len(words) != 5 or words[0] != b"parcel" or int(words[2]) != parcel:

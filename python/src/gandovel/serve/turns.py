@@ -5,7 +5,7 @@ import asyncio
 from collections import deque
 from typing import Deque, Dict, List, Optional, Sequence, Tuple
 
-from .faults import TooBusy
+from .faults import NotServing, TooBusy
 from .lines import Lines
 
 MOST_WAITING = 64
@@ -54,6 +54,13 @@ class Turns:
         self._is_alone = False
         self._idle.append(desk)
         self._hand_out()
+
+    def end(self) -> None:
+        """Nobody who waits gets a desk any more."""
+        for queue in self._queues.values():
+            for ticket, _ in queue:
+                if not ticket.done():
+                    ticket.set_exception(NotServing("closed", "the server ends"))
 
     def _hand_out(self) -> None:
         while self._idle and not self._is_alone:
