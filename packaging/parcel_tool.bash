@@ -3,7 +3,7 @@ _parcel_tool() {
   local word="${COMP_WORDS[COMP_CWORD]}" before="${COMP_WORDS[COMP_CWORD-1]}" options=
   COMPREPLY=()
   if [ "$COMP_CWORD" -eq 1 ]; then
-    COMPREPLY=($(compgen -W 'area check export locate overlay part session help -h --help -V --version' -- "$word"))
+    COMPREPLY=($(compgen -W 'area check export locate overlay part session explain help --hints -h --help -V --version' -- "$word"))
     return
   fi
   case "$before" in
@@ -18,14 +18,15 @@ _parcel_tool() {
     --zones) COMPREPLY=(); return ;;
   esac
   case "${COMP_WORDS[1]}" in
-    help) COMPREPLY=($(compgen -W 'area check export locate overlay part session' -- "$word")); return ;;
-    area) options='--unit -h --help' ;;
-    check) options='--unit --all --clerk --workers -h --help' ;;
-    export) options='--unit --out --clerk --workers -h --help' ;;
-    locate) options='--unit --at --points --clerk --workers -h --help' ;;
-    overlay) options='--unit --clerk --workers -h --help' ;;
-    part) options='--all --unit --out --workers -h --help' ;;
-    session) options='--unit --zones --journal --desk --workers -h --help' ;;
+    help) COMPREPLY=($(compgen -W 'area check export locate overlay part session explain' -- "$word")); return ;;
+    area) options='--unit --hints -h --help' ;;
+    check) options='--unit --all --clerk --workers --hints -h --help' ;;
+    export) options='--unit --out --clerk --workers --hints -h --help' ;;
+    locate) options='--unit --at --points --clerk --workers --hints -h --help' ;;
+    overlay) options='--unit --clerk --workers --hints -h --help' ;;
+    part) options='--all --unit --out --workers --hints -h --help' ;;
+    session) options='--unit --zones --journal --desk --workers --hints -h --help' ;;
+    explain) options='--hints -h --help' ;;
   esac
   case "$word" in
     -*) COMPREPLY=($(compgen -W "$options" -- "$word")) ;;

@@ -112,7 +112,7 @@ fn area_command<'a>(alloc: Global) -> Result<Command<'a>, AllocError> {
 
 fn check_command<'a>(alloc: Global) -> Result<Command<'a>, AllocError> {
     Command::new(alloc, "check")
-        .about("Prints, where parcels tile their city, their number and twice the city's area")
+        .about("Checks that parcels tile the city; prints `tiling COUNT TWICE_AREA`")
         .arg(file(alloc, "CITY", "The main file of the city's layer, .shp"))?
         .arg(file(
             alloc,
@@ -285,9 +285,7 @@ fn journal<'a>(alloc: Global) -> Arg<'a> {
         .long("journal")
         .action(ArgAction::Set)
         .value_name("FILE")
-        .help(
-            "The file of accepted edits, which are made first, and behind which further ones are written",
-        )
+        .help("Journal file: its edits are replayed, new ones are appended")
 }
 
 /// The desks. How many they may be is asked before the first is opened, and not here.
