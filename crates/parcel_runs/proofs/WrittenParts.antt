@@ -1,9 +1,9 @@
 -- What is written of a row of a tiling is its part.
 use Rattle.std.proofs.Common.{◌≡◌, refl, subst, List, [], ◌∷◌, map}
 use Rattle.std.specs.List.{AllZip, Contains}
+use Rattle.std.proofs.lemmas.List.Elements.{Contains-append_left, Contains-append_right, Contains-push}
 use Rattle.geo_exact.specs.declared.coord.Unit.{Unit as LengthUnit}
 use Rattle.geo_exact.specs.Layers.{NumberedRing, numbered}
-use Rattle.edge_chains.proofs.nodings.NodedEdges.{Contains-here, Contains-there}
 use Rattle.fabric_core.specs.Tiling.{IsTiling}
 use Rattle.fabric_core.specs.Faults.{AreSimple}
 use Rattle.fabric_core.specs.Rows.{Tiles, corners_of_layer}
@@ -61,8 +61,8 @@ module _ {A : Type 0} (city districts : Files) (unit : LengthUnit) (tiles : Tile
   some_parts [] (part ∷ parts) within h = absurd h
   some_parts (row ∷ rows) [] within h = absurd h
   some_parts (row ∷ rows) (part ∷ parts) within h = (
-    (h.0.has_number, part_of_row row part (within row (Contains-here row rows)) h.0),
-    some_parts rows parts (λ other c. within other (Contains-there row rows other c)) h.1,
+    (h.0.has_number, part_of_row row part (within row (Contains-append_left (row ∷ []) rows row (Contains-push [] row))) h.0),
+    some_parts rows parts (λ other c. within other (Contains-append_right (row ∷ []) rows other c)) h.1,
   )
 
   pub all_parts : (parts : List (WrittenPart A)) → AllZip IsWrittenPart tiles.rows parts → AllZip IsPartOf tiles.rows parts

@@ -189,21 +189,21 @@ fn answer<'h, R: Threads + Wait + Sync>(
     };
     match row.which {
         Which::Areas => area(heap, &inputs.square, Unit::Mm, out),
-        Which::Check => check(rt, 2, heap, files, out),
-        Which::AllFaults => check_all(rt, 2, heap, &inputs.gap, out),
-        Which::NoFaults => check_all(rt, 2, heap, files, out),
+        Which::Check => check(rt, 1, heap, files, out),
+        Which::AllFaults => check_all(rt, 1, heap, &inputs.gap, out),
+        Which::NoFaults => check_all(rt, 1, heap, files, out),
         Which::Export => {
-            let exported = export(rt, 2, heap, files)?;
+            let exported = export(rt, 1, heap, files)?;
             put_all(exported.lines.as_slice(), out)?;
             Ok(())
         }
         Which::Places => {
             let points = b"0 0\n1 1\n1 0\n-1 0\n62 2";
-            locate_text(rt, 2, heap, files, points, out)
+            locate_text(rt, 1, heap, files, points, out)
         }
         Which::Overlay => overlay(rt, 2, heap, files, &inputs.zones, out),
         Which::Part => {
-            let written = part(rt, 2, heap, &files.city, &files.parcels, files.unit, 2)?;
+            let written = part(rt, 1, heap, &files.city, &files.parcels, files.unit, 2)?;
             put_all(written.line.as_slice(), out)?;
             Ok(())
         }
