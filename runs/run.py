@@ -46,7 +46,7 @@ import layers  # noqa: E402
 HERE = os.path.dirname(os.path.abspath(__file__))
 BUILT = os.path.join(HERE, "..", "crates", "parcel_tool", "out", "parcel_tool")
 STATIC = ".static"
-SECONDS = 60
+SECONDS = 300  # a full journal takes half a minute, and several times as long beside other work
 THREAD_STACK = 1 << 30
 SHARED = {b"check", b"export", b"locate", b"overlay", b"part"}  # the commands that take --workers
 ONE_NUMBER, ALL_NUMBERS = (3,), (1, 3, 64)  # of workers: none, some and the most

@@ -2,8 +2,12 @@
 
 use crate::words::CodeWords;
 
-/// Every code that a refusal may begin with, in words.
-pub const CODES: [CodeWords; 55] = [
+/// Every code that a refusal may begin with, in words. A call of its own, so that no proof elsewhere unfolds the list.
+pub fn all_codes() -> &'static [CodeWords] {
+    &CODES
+}
+
+const CODES: [CodeWords; 55] = [
     CodeWords {
         code: "F1",
         meaning: "the file ends too early",

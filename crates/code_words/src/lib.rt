@@ -5,5 +5,5 @@
 mod codes;
 mod words;
 
-pub use codes::CODES;
+pub use codes::all_codes;
 pub use words::{CodeWords, words_in, words_of};

@@ -16,10 +16,10 @@ pub struct CodeWords {
     pub remedy: &'static str,
 }
 
-/// The words of a code, in a list as [`CODES`](crate::CODES); `None` where none of them has that code.
+/// The words of a code, in a list as that of [`all_codes`](crate::all_codes); `None` where none of them has that code.
 ///
 /// ```
-/// if let Some(words) = words_of(&CODES, "F9 C2") {
+/// if let Some(words) = words_of(all_codes(), "F9 C2") {
 ///     // words.meaning is "a coordinate that is off the millimetre grid"
 /// }
 /// ```

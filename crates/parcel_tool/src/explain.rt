@@ -1,6 +1,6 @@
 //! Codes of refusals, in words.
 
-use code_words::{CODES, CodeWords, words_in, words_of};
+use code_words::{CodeWords, all_codes, words_in, words_of};
 use geo_exact::{ByteOut, FILE_BYTES, Failed};
 use std::alloc::{AllocError, Global};
 use std::fmt::Write;
@@ -39,11 +39,11 @@ pub(crate) fn explain<W: ByteOut>(
         return list_all(alloc, out);
     }
     let asked = joined(alloc, words)?;
-    if let Some(found) = words_of(&CODES, asked.as_str()) {
+    if let Some(found) = words_of(all_codes(), asked.as_str()) {
         return explain_one(alloc, &found, out);
     }
     let mut some = false;
-    for code in &CODES {
+    for code in all_codes() {
         if is_of(code.code, asked.as_str()) {
             explain_one(alloc, code, out)?;
             some = true;
@@ -94,7 +94,7 @@ fn explain_one<W: ByteOut>(
 
 /// Prints a line for each code.
 fn list_all<W: ByteOut>(alloc: Global, out: &mut W) -> Result<(), ExplainFault> {
-    for words in &CODES {
+    for words in all_codes() {
         let (code, meaning) = (words.code, words.meaning);
         let line = format!(in alloc; "{code}: {meaning}\n")?;
         put_all(line.as_bytes(), out)?;
@@ -104,7 +104,7 @@ fn list_all<W: ByteOut>(alloc: Global, out: &mut W) -> Result<(), ExplainFault> 
 
 /// What stands behind `hint: ` for the text of a refusal; `None` where no code is known in it, or memory is refused.
 pub(crate) fn hint_of<R: Files>(rt: &R, alloc: Global, text: &str) -> Option<String> {
-    let words = words_in(&CODES, text)?;
+    let words = words_in(all_codes(), text)?;
     let (meaning, remedy) = (words.meaning, words.remedy);
     let known = match text.strip_prefix("S1 ") {
         Some(path) => state_of(rt, path),
