@@ -64,7 +64,7 @@ impl<'a, H: Allocator, J: Naming<H>, R: Wait + Drop> Model for Desk<'a, H, J, R>
 impl<'a, H: Allocator, J: Naming<H>, R: Wait + Drop> Desk<'a, H, J, R> {
     /// The desk's fabric tiles its city, its index and journal agree with its rows, and it comes of
     /// the fabric that was handed to the office, with entries of the office's clerks alone behind
-    /// those of that fabric. What is published begins its journal.
+    /// those of that fabric. What is published begins its journal, and has the entries of that fabric.
     pub fn use_invariant(&self)
         ensures tiling { IsTiling self.now.book.now.rows self.now.book.city }
         ensures simple { AreSimple self.now.book.now.rows }
@@ -76,6 +76,7 @@ impl<'a, H: Allocator, J: Naming<H>, R: Wait + Drop> Desk<'a, H, J, R> {
         ensures entries { self.now.book.journal ≡ J.office.origin.journal ++ self.now.entries }
         ensures of_clerks { AreOfClerks J.office.clerks self.now.entries }
         ensures published { IsPrefix self.now.published self.now.book.journal }
+        ensures shows { IsPrefix J.office.origin.journal self.now.published }
     {
         self.fabric.use_invariant();
         self.publisher.use_invariant();

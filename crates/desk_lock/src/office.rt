@@ -147,7 +147,9 @@ impl<'a, H: Allocator, J: Naming<H>, R: Wait + Drop> Office<'a, H, J, R> {
         ensures refusal { IfErr result (λ refusal. IsRefusedWhenMet J.office card.new edit.now refusal ⊎ (refusal ≡ NoMemory)) }
     {
         let mut desk = self.desk.lock(rt);
-        desk.edit(card, edit)
+        let entry = desk.edit(card, edit)?;
+        desk.use_invariant();
+        Ok(entry)
     }
 
     /// Takes the lock, and publishes all entries that are not published yet; it adds none. `None`

@@ -17,6 +17,8 @@ mod clerks;
 #[cfg(test)]
 mod drawn;
 #[cfg(test)]
+mod firsts;
+#[cfg(test)]
 mod growths;
 #[cfg(test)]
 mod halves;

@@ -6,6 +6,7 @@ ghost use Rattle.desk_lock.specs.Offices.{origin_of};
 use crate::answers::{Cards, Windows};
 use crate::asked::{ask_parcels, parcel_with_memory};
 use crate::clerks::{Task, work_all};
+use crate::firsts::{firsts_with_memory, publish_firsts};
 use crate::growths::{cut_with_memory, locate_with_memory, sheet_with_memory, was_refused};
 use crate::halves::{ask_late, learn_halves, learn_unasked};
 use crate::opened::Refuses;
@@ -34,6 +35,8 @@ pub enum Play {
     Straight,
     /// Clerk 1 cuts the first parcel in halves, and the first window shows parcels before and after.
     Parcels,
+    /// Clerk 1 cuts the first parcel in halves, and the edits are published later, the first so many at a time.
+    Firsts,
     /// Each clerk puts 100 corners into a side of the city.
     Sides,
     /// Two clerks merge the same two parcels.
@@ -51,6 +54,8 @@ pub enum Play {
     Locate(u64),
     /// A growth is refused for the ring of a parcel.
     Parcel(u64),
+    /// A growth is refused for the publishing of the first three entries.
+    First(u64),
 }
 
 /// What came of it.
@@ -175,6 +180,7 @@ fn played_alone<'a, H: Refuses, J: Naming<H>, R: Wait + Drop, W: Wait>(
         Play::Late => learn_unasked(rt, heap, office, &mut cards[0], &mut windows[0]),
         Play::Straight => learn_straight(rt, heap, office, &mut cards[0], windows),
         Play::Parcels => ask_parcels(rt, heap, office, &mut cards[0], &mut windows[0]),
+        Play::Firsts => publish_firsts(rt, heap, office, &mut cards[0], windows),
         Play::Cut(number, later) => cut_with_memory(
             rt,
             heap,
@@ -189,6 +195,9 @@ fn played_alone<'a, H: Refuses, J: Naming<H>, R: Wait + Drop, W: Wait>(
         }
         Play::Parcel(number) => {
             parcel_with_memory(rt, heap, office, &mut cards[0], &mut windows[0], number)
+        }
+        Play::First(number) => {
+            firsts_with_memory(rt, heap, office, &mut cards[0], &mut windows[0], number)
         }
         _ => Ok(Told::Done),
     }

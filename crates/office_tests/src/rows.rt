@@ -85,10 +85,12 @@ pub fn told_of_opening<H: Refuses + Send + Sync, R: Threads + Wait + Copy + Send
 /// Places for clerks and windows, a play there, what comes of it, and what the fabric has then.
 type Row = ((usize, usize), Play, Told, Tally);
 
-static ROWS: [Row; 13] = [
+static ROWS: [Row; 15] = [
     ((1, 1), Play::Halves, Told::Done, HALVED),
     ((1, 2), Play::Halves, Told::Done, HALVED),
     ((1, 1), Play::Parcels, Told::Done, HALVED),
+    ((1, 1), Play::Firsts, Told::Done, HALVED),
+    ((1, 2), Play::Firsts, Told::Done, HALVED),
     ((1, 1), Play::Straight, Told::Done, STRAIGHT),
     ((2, 2), Play::Straight, Told::Done, STRAIGHT),
     ((2, 1), Play::Merges, Told::Done, MERGED),
