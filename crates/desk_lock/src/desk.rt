@@ -259,25 +259,8 @@ impl<'a, H: Allocator, J: Naming<H>, R: Wait + Drop> Desk<'a, H, J, R> {
         self.fabric.sheet()
     }
 
-    /// The fabric, where each clerk's card is handed in; else the desk and the cards come back as they were.
-    pub(crate) fn close<A: Allocator>(
-        self,
-        clerks: usize,
-        cards: Vec<Card<'a, H, J>, A>,
-    ) -> Result<Fabric<'a, H>, (Desk<'a, H, J, R>, Vec<Card<'a, H, J>, A>)>
-        requires { clerks ≡ J.office.clerks }
-        ensures closes { IsOk result ↔ (length cards.entry.items ≡ J.office.clerks) }
-        ensures total { IfOk result (λ fabric. IsTotal J.office cards.entry.items fabric) }
-        ensures back { IfErr result (λ back. (back.0 ≡ self.entry) × (back.1.items ≡ cards.entry.items)) }
-    {
-        if cards.len() != clerks {
-            return Err((self, cards));
-        }
-        Ok(self.settle(cards))
-    }
-
     /// The fabric, where all cards are handed in.
-    fn settle<A: Allocator>(self, cards: Vec<Card<'a, H, J>, A>) -> Fabric<'a, H>
+    pub(crate) fn close<A: Allocator>(self, cards: Vec<Card<'a, H, J>, A>) -> Fabric<'a, H>
         requires { length cards.items ≡ J.office.clerks }
         ensures { IsTotal J.office cards.entry.items result }
     {
