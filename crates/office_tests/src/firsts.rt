@@ -117,6 +117,39 @@ pub fn publish_firsts<'a, H: Allocator, J: Naming<H>, R: Wait + Drop, W: Wait>(
     Ok(Told::Done)
 }
 
+/// A clerk's three edits are made, and none is published.
+pub fn enter_unshown<'a, H: Allocator, J: Naming<H>, R: Wait + Drop, W: Wait>(
+    rt: &W,
+    heap: &'a H,
+    office: &Office<'a, H, J, R>,
+    card: &mut Card<'a, H, J>,
+    windows: &mut [Window<'a, H, J>],
+) -> Result<Told, Fail> {
+    enter_from(rt, heap, office, card, (0, 3))?;
+    if !all_answer(windows, 0, 1)? {
+        return Err(Fail::new("an edit is seen that is not published"));
+    }
+    Ok(Told::Done)
+}
+
+/// A close with no card is refused, and then nobody sees the edits either that were not published: the office.
+pub fn close_unshown<'a, H: Allocator, J: Naming<H>, R: Wait + Drop, W: Wait>(
+    rt: &W,
+    heap: &'a H,
+    office: Office<'a, H, J, R>,
+    windows: &mut [Window<'a, H, J>],
+) -> Result<Office<'a, H, J, R>, Fail> {
+    match office.close(rt, Vec::new(heap)) {
+        Ok(_) => Err(Fail::new("closed with no card")),
+        Err((office, _, _)) => {
+            if !all_answer(windows, 0, 1)? {
+                return Err(Fail::new("a refused close publishes"));
+            }
+            Ok(office)
+        }
+    }
+}
+
 /// Where three entries were not published for want of memory: they are not seen, nor where two are
 /// asked for, and they are published when they are asked for again.
 fn publish_again<'a, H: Allocator, J: Naming<H>, R: Wait + Drop, W: Wait>(
