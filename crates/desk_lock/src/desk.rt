@@ -187,8 +187,11 @@ impl<'a, H: Allocator, J: Naming<H>, R: Wait + Drop> Desk<'a, H, J, R> {
         ensures whole { IfSome result (λ told. told ≡ self.old.book.journal) }
         ensures shown { IfSome result (λ told. self.new.published ≡ told) }
         ensures none { IfNone result (self.new ≡ self.old) }
+        // It is not refused where all is published already.
+        ensures already { self.old.published ≡ self.old.book.journal → IsSome result }
     {
-        self.publish_to(self.fabric.entries())
+        let number = self.fabric.entries();
+        self.publish_to(number)
     }
 
     /// Publishes the journal's first so many entries, and no entry behind them: a notice of the
