@@ -2,7 +2,7 @@
 
 use crate::journal_file::Synchroniser;
 use crate::lines::Came;
-use crate::room::{EditFault, Room};
+use crate::room::{EditFault, Made, Room};
 use desk_lock::{Card, LocateFault, Naming, Window};
 use geo_exact::{Corner, LIST_CORNERS};
 use journal_records::split_word;
@@ -129,11 +129,11 @@ fn answer_edit<'h, H: Allocator, J: Naming<H>, R: Wait, K: Synchroniser>(
         return push_error(text, SessionFault::NoCard);
     };
     match room.submit(card, who, edit) {
-        Ok(receipt) => {
-            if let Some(window) = &mut chair.window {
-                window.learn(&receipt);
+        Ok(Made { entry, notice }) => {
+            if let (Some(window), Some(notice)) = (&mut chair.window, &notice) {
+                window.learn_notice(notice);
             }
-            push_accepted(text, receipt.entry())
+            push_accepted(text, &entry)
         }
         Err(EditFault::Refused(refusal)) => push_refused(text, refusal),
         Err(EditFault::Journal) => push_error(text, SessionFault::JournalFailed),

@@ -1,5 +1,6 @@
 //! Desks, each served by a thread of its own.
 
+use crate::answer_pipe::AnswerPipe;
 use crate::answers::{Chair, answer};
 use crate::journal_file::Synchroniser;
 use crate::lines::Came;
@@ -45,7 +46,7 @@ fn serve_next<'p, 'h, P: Pipes, H: Allocator, J: Naming<H>, R: Wait, K: Synchron
     if !room.door.step_in(room.rt) {
         return false;
     }
-    let opened = open_both(pipes, room.heap, desk.paths);
+    let opened = open_both(room, pipes, desk.paths);
     room.door.pass(room.rt);
     match opened {
         Ok((mut reader, writer)) => {
@@ -100,13 +101,17 @@ impl<'s, 'r, 'h, H: Allocator, J: Naming<H>, R: Wait, K: Synchroniser, W: ByteOu
     }
 }
 
+/// A desk's pipes that were opened: the lines that come in, and where the answers go out.
+type Opened<'s, 'h, P, H> = (BufReader<File, &'h H>, AnswerPipe<'s, P>);
+
 /// Opens a desk's pipes: waits for a client.
-fn open_both<'h, P: Pipes, H: Allocator>(
-    pipes: &P,
-    heap: &'h H,
+fn open_both<'s, 'h, P: Pipes, H: Allocator, J: Naming<H>, R: Wait, K: Synchroniser>(
+    room: &'s Room<'_, 'h, H, J, R, K>,
+    pipes: &'s P,
     paths: &Paths<&'h H>,
-) -> io::Result<(BufReader<File, &'h H>, File)> {
+) -> io::Result<Opened<'s, 'h, P, H>> {
     let lines = pipes.open_to_read(paths.lines.as_str())?;
     let answers = pipes.open_to_write(paths.answers.as_str())?;
-    Ok((BufReader::new(heap, lines)?, answers))
+    let answers = AnswerPipe::new(answers, pipes, &room.door)?;
+    Ok((BufReader::new(room.heap, lines)?, answers))
 }

@@ -3,6 +3,7 @@
 //! answered `ok` stands in the journal on the disk.
 #![tactic(auto)]
 
+mod answer_pipe;
 mod answers;
 mod desks;
 mod door;
@@ -12,6 +13,7 @@ mod journal_file;
 mod lines;
 mod offices;
 mod operator;
+mod own_files;
 mod pipes;
 mod post;
 mod reports;

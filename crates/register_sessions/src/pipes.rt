@@ -4,20 +4,23 @@ use crate::start_fault::StartFault;
 use city_layers::Disk;
 use std::alloc::{AllocError, Allocator};
 use std::fs::{File, OpenOptions};
-use std::io;
 use std::io::Write;
+use std::os::fd::OwnedFd;
 use std::os::unix::fs::{FileTypeExt, MetadataExt, OpenOptionsExt};
-use std::rt::Files;
+use std::os::unix::net::UnixStream;
+use std::rt::{Clock, Files};
+use std::time::Duration;
+use std::{io, thread};
 
 /// How the path of the pipe ends at which a desk is asked.
-const LINES: &str = ".in";
+pub(crate) const LINES: &str = ".in";
 
 /// How the path of the pipe ends at which it answers.
-const ANSWERS: &str = ".out";
+pub(crate) const ANSWERS: &str = ".out";
 
 /// How the path of the file ends that a session holds as long as it serves a desk. A pipe has no place for a lock: whoever
 /// holds one open is its client's other end.
-const LOCK: &str = ".lock";
+pub(crate) const LOCK: &str = ".lock";
 
 /// What of a pipe's mode lets every user read or write it.
 const EVERY_USER: u32 = 0o006;
@@ -36,9 +39,12 @@ pub trait Pipes {
 
     /// Opens the pipe at this path for both, and waits for nobody.
     fn open_for_both(&self, path: &str) -> io::Result<File>;
+
+    /// Waits so many milliseconds.
+    fn pause(&self, milliseconds: u64);
 }
 
-impl<'a, R: Files<File = File>> Pipes for Disk<'a, R> {
+impl<'a, R: Files<File = File> + Clock> Pipes for Disk<'a, R> {
     fn open_to_read(&self, path: &str) -> io::Result<File> {
         pipe(OpenOptions::new().read(true).open(self.0, path)?)
     }
@@ -55,6 +61,10 @@ impl<'a, R: Files<File = File>> Pipes for Disk<'a, R> {
                 .open(self.0, path)?,
         )
     }
+
+    fn pause(&self, milliseconds: u64) {
+        thread::sleep(self.0, Duration::from_millis(milliseconds));
+    }
 }
 
 /// An opened file that is a pipe; any other is an error.
@@ -66,9 +76,16 @@ fn pipe(file: File) -> io::Result<File> {
     }
 }
 
-/// Wakes who waits to read a pipe, by an empty line. Where the pipe is full, its desk has lines to read before that
-/// one.
+/// Has reads and writes of an open pipe fail where they would wait. Who else has opened the pipe waits as before.
+pub(crate) fn refuse_to_wait(pipe: &File) -> io::Result<()> {
+    // A file has no call for it, and a socket's does the same to whatever is open; the copy shares what is open.
+    let copy = OwnedFd::from(pipe.try_clone()?);
+    UnixStream::from(copy).set_nonblocking(true)
+}
+
+/// Wakes who waits to read a pipe, by an empty line, without waiting. Where the pipe is full nobody waits to read it.
 pub(crate) fn wake(pipe: &File) -> io::Result<()> {
+    refuse_to_wait(pipe)?;
     let mut pipe = pipe;
     pipe.write_all(b"\n")
 }

@@ -2,7 +2,7 @@
 
 use crate::answers::Chair;
 use crate::desks::{Desk, serve_desk};
-use crate::journal_file::Synchroniser;
+use crate::journal_file::{Machine, Synchroniser};
 use crate::operator::{Operator, serve_operator};
 use crate::pipes::{Paths, Pipes, wake};
 use crate::post::write_out;
@@ -63,7 +63,7 @@ impl<
     's,
     'r,
     'h,
-    P: Pipes + Exports,
+    P: Pipes + Exports + Machine,
     H: Allocator,
     J: Naming<H>,
     R: Wait,
@@ -119,7 +119,7 @@ pub(crate) fn serve<
     'r,
     'p,
     'h,
-    P: Pipes + Exports + Sync,
+    P: Pipes + Exports + Machine + Sync,
     R: Threads + Wait + Sync,
     H: Allocator + Send + Sync,
     J: Naming<H> + Send + Sync,
@@ -143,9 +143,15 @@ pub(crate) fn serve<
     if let Some(desk) = refused {
         return Err(StartFault::Run(ToolFault::NoThread(desk)));
     }
-    let Room { office, rt, .. } = room;
+    let Room {
+        office,
+        journal,
+        rt,
+        ..
+    } = room;
+    let kept = journal.map(|journal| journal.synced(rt));
     text.clear();
-    push_end_of(rt, office, cards, &mut text)?;
+    push_end_of(rt, office, cards, kept, &mut text)?;
     match put_all(text.as_slice(), &mut out) {
         Ok(()) => Ok(()),
         Err(_) => Err(StartFault::Run(ToolFault::Output)),
@@ -156,7 +162,7 @@ pub(crate) fn serve<
 fn serve_all<
     'p,
     'h,
-    P: Pipes + Exports + Sync,
+    P: Pipes + Exports + Machine + Sync,
     R: Threads + Wait + Sync,
     H: Allocator + Send + Sync,
     J: Naming<H> + Send + Sync,
@@ -223,15 +229,17 @@ fn keep_card<'h, H: Allocator, J: Naming<H>>(
     }
 }
 
-/// Closes an office, and adds what the operator is told of it.
+/// Closes an office, and adds what the operator is told of it: of entries only those that the disk has, where so many are
+/// kept there.
 fn push_end_of<'h, H: Allocator, J: Naming<H>, R: Wait>(
     rt: &R,
     office: Office<'h, H, J, &R>,
     cards: Vec<Card<'h, H, J>, &'h H>,
+    kept: Option<u64>,
     text: &mut Vec<u8, &'h H>,
 ) -> Result<(), AllocError> {
     match office.close(rt, cards) {
-        Ok(fabric) => push_closed(text, fabric.entries()),
+        Ok(fabric) => push_closed(text, kept.unwrap_or(fabric.entries())),
         Err((_, _, CloseFault::CardsMissing(clerks, cards))) => {
             push_error(text, SessionFault::CardsMissing(clerks, cards))
         }

@@ -9,6 +9,7 @@ use crate::journal::Journal;
 use crate::journal_file::{DiskFile, DiskSynchroniser, Machine, Synchroniser};
 use crate::offices::{Seats, clerks_of, seat_all, windows_of};
 use crate::operator::Operator;
+use crate::own_files::OwnFiles;
 use crate::pipes::{Paths, Pipes, find_pipes};
 use crate::reports::{Exports, Ground};
 use crate::room::Room;
@@ -65,6 +66,7 @@ pub fn serve_session<
 >(rt: &R, disk: &'a P, heap: &'h H, plan: &Plan<'a>) -> Result<(), StartFault<'a, &'h H>> {
     refuse_many_clerks(plan.desks.len())?;
     let paths = find_pipes(rt, heap, plan.desks.as_slice())?;
+    let own_files = OwnFiles::of_plan(heap, plan)?;
     let register = open_register(rt, disk, heap, plan)?;
     let name = Name::new(heap)?;
     at_office::<R, P, H, DiskSynchroniser<'a, P>, Brand>(
@@ -73,6 +75,7 @@ pub fn serve_session<
         heap,
         name,
         register,
+        own_files,
         paths.as_slice(),
     )
 }
@@ -238,7 +241,7 @@ fn at_office<
     'a,
     'h,
     R: Input + Print + Threads + Wait + Sync,
-    P: Pipes + Exports + Sync,
+    P: Pipes + Exports + Machine + Sync,
     H: Allocator + Send + Sync,
     K: Synchroniser + Sync,
     J: Naming<H> + Send + Sync,
@@ -248,6 +251,7 @@ fn at_office<
     heap: &'h H,
     name: Name<&'h H>,
     register: Register<'h, H, K>,
+    own_files: OwnFiles<&'h H>,
     paths: &[Paths<&'h H>],
 ) -> Result<(), StartFault<'a, &'h H>>
     requires book { name.book ≡ J.book }
@@ -280,6 +284,7 @@ fn at_office<
     };
     let ground = Ground {
         zones,
+        own_files,
         of: PhantomData,
     };
     let operator = Operator { chair, ground };
