@@ -1,6 +1,6 @@
 //! What lies under the lock.
-ghost use Rattle.std.specs.Prelude.{◌≡◌, ◌≢◌, ◌⊎◌, ◌↔◌, ◌+◌, ◌≤◌, [], ◌∷◌, ◌++◌, map, length, drop, All, true, IfOk, IfErr, IfSome};
-ghost use Rattle.std.specs.Prelude.{IfNone, IsOk, IsErrAnd, OnErr, MatchBool};
+ghost use Rattle.std.specs.Prelude.{◌≡◌, ◌≢◌, ◌⊎◌, ◌↔◌, ◌+◌, ◌≤◌, [], ◌∷◌, ◌++◌, map, length, drop, take, max, All, true, IfOk, IfErr, IfSome};
+ghost use Rattle.std.specs.Prelude.{◌<◌, None, IfNone, IsSome, IsOk, IsErrAnd, OnErr, MatchBool};
 ghost use mathlib.Core.List.{IsPrefix};
 ghost use Rattle.ring_edits.specs.Edits.{CoversAlike};
 ghost use Rattle.fabric_core.specs.declared.refusal.Refusal.{Refusal};
@@ -187,13 +187,54 @@ impl<'a, H: Allocator, J: Naming<H>, R: Wait + Drop> Desk<'a, H, J, R> {
         ensures shown { IfSome result (λ told. self.new.published ≡ told) }
         ensures none { IfNone result (self.new ≡ self.old) }
     {
-        let all = hand_on(self.fabric.journal(), self.opened_with, &mut self.publisher);
+        self.publish_to(self.fabric.entries())
+    }
+
+    /// Publishes the journal's first so many entries, and no entry behind them: a notice of the
+    /// published version's journal. What is published stays so: where it has as many entries already,
+    /// or more, it is what the notice tells, and nothing is done.
+    ///
+    /// `None` where the journal has fewer entries, where it is refused, or where the publishing of
+    /// more entries was refused before, so that they would be published along with these: the
+    /// journal and the published version stay. It waits for those who read at this moment.
+    pub fn publish_to(&mut self, number: u64) -> Option<Notice<'a, H, J>>
+        ensures same { (self.new.book ≡ self.old.book) × (self.new.entries ≡ self.old.entries) }
+        // The published version has the journal's first so many entries, or those that it had, where they are more.
+        ensures first { IfSome result (λ told. told ≡ take (max number (length self.old.published)) self.old.book.journal) }
+        ensures shown { IfSome result (λ told. self.new.published ≡ told) }
+        ensures none { IfNone result (self.new ≡ self.old) }
+        // It is refused where the journal is shorter, and not where so many entries are published already.
+        ensures beyond { length self.old.book.journal < number → result ≡ None }
+        ensures already { number ≤ length self.old.published → IsSome result }
+    {
+        let shown = self.publisher.shown().again();
+        self.publisher.use_invariant();
+        let before = self.opened_with as u64;
+        let published = before + shown.front().len();
+        if number <= published {
+            return Some(Notice {
+                number: published,
+                shown,
+            });
+        }
+        if number > self.fabric.entries() {
+            return None;
+        }
+        let count = number - before;
+        if self.publisher.front().len() > count {
+            return None;
+        }
+        let all = hand_on(
+            self.fabric.journal(),
+            self.opened_with,
+            count,
+            &mut self.publisher,
+        );
         if !all {
             return None;
         }
-        let front = self.publisher.publish()?;
-        let number = self.fabric.entries();
-        Some(Notice { number, front })
+        let shown = self.publisher.publish()?;
+        Some(Notice { number, shown })
     }
 
     /// Compares cards with the journal: the entries that were accepted with each are all of its clerk
@@ -299,21 +340,23 @@ fn take_all_in<'a, H: Allocator, J: Naming<H>, A: Allocator>(
     gathering
 }
 
-/// Hands on the entries of a journal that are not handed on yet, in order; whether all are then.
+/// Hands on the first so many entries of a journal behind a place, those of them that are not handed
+/// on yet, in order; whether all are then.
 fn hand_on<'a, H: Allocator, J: Naming<H>, R: Wait + Drop>(
     journal: &[Entry<&'a H>],
     from: usize,
+    count: u64,
     publisher: &mut Copies<'a, H, J, R>,
 ) -> bool
     requires begins { IsPrefix publisher.old.handed (drop from journal.now) }
-    requires from { from ≤ length journal.now }
+    requires from { from + count ≤ length journal.now }
+    requires few { length publisher.old.handed ≤ count }
     ensures begins { IsPrefix publisher.new.handed (drop from journal.now) }
-    ensures all { MatchBool result (publisher.new.handed ≡ drop from journal.now) (Unit {0}) }
+    ensures all { MatchBool result (publisher.new.handed ≡ take count (drop from journal.now)) (Unit {0}) }
     ensures shown { publisher.new.shown ≡ publisher.old.shown }
 {
-    let count = journal.len() - from;
     let first = publisher.front().len() as usize;
-    for place in first..count {
+    for place in first..count as usize {
         let Ok(entry) = journal[from + place].clone() else {
             return false;
         };

@@ -97,7 +97,7 @@ impl<'a, H: Allocator, J: Naming<H>> Window<'a, H, J> {
     pub fn learn_notice(&mut self, notice: &Notice<'a, H, J>)
         ensures { Learns self.old notice.now self.new }
     {
-        self.front.learn(&notice.front);
+        self.front.learn(notice.shown.front());
     }
 
     /// How many entries the newest version has that this window finds: all that it had seen or was
