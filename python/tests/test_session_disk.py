@@ -42,10 +42,10 @@ def accepted_until_broken(desk: gv.Desk) -> List[str]:
     """Edits until the journal is broken: what was accepted. The desk sees these edits, then and later, and no other."""
     accepted: List[str] = []
     for number, line in enumerate(FIRST, 1):
-        answer = desk.ask(line)
-        if answer == "error: journal":
+        try:
+            assert desk.ask(line).startswith(f"ok {number} ")
+        except gv.JournalBroken:
             break
-        assert answer.startswith(f"ok {number} ")
         accepted.append(line)
         assert desk.entries() == number
     return accepted

@@ -143,7 +143,8 @@ with gv.Session(city, parcels, journal=journal, desks=["anna"]) as session:
 def test_a_parent_that_ends_closes_its_session(town, number):
     """Whatever ends the process that began a session, the program lets the journal go."""
     words = [sys.executable, "-c", PARENT, str(town.city), str(town.parcels), str(town.journal)]
-    parent = subprocess.Popen(words, stdout=subprocess.PIPE, stderr=subprocess.DEVNULL)
+    places = {**os.environ, "PYTHONPATH": os.pathsep.join(sys.path)}
+    parent = subprocess.Popen(words, stdout=subprocess.PIPE, stderr=subprocess.DEVNULL, env=places)
     pid, path = parent.stdout.readline().split()
     try:
         with gv.Desk.at(path.decode(), SECONDS) as desk:

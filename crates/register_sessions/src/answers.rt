@@ -130,8 +130,10 @@ fn answer_edit<'h, H: Allocator, J: Naming<H>, R: Wait, K: Synchroniser>(
     };
     match room.submit(card, who, edit) {
         Ok(Made { entry, notice }) => {
-            if let (Some(window), Some(notice)) = (&mut chair.window, &notice) {
-                window.learn_notice(notice);
+            if let Some(notice) = &notice {
+                if let Some(window) = &mut chair.window {
+                    window.learn_notice(notice);
+                }
             }
             push_accepted(text, &entry)
         }

@@ -117,7 +117,9 @@ impl<K: Synchroniser> Journal<K> {
 
     /// Waits until the disk has all records that were written, and answers how many they are; `None` where it has not.
     pub(crate) fn sync_all<R: Wait>(&self, rt: &R) -> Option<u64> {
-        let records = self.take(rt)?.records();
+        let writer = self.take(rt)?;
+        let records = writer.records();
+        drop(writer);
         if self.sync_to(rt, records) {
             Some(records)
         } else {

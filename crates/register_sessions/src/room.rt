@@ -1,7 +1,9 @@
 //! What all desks of a session share.
 
-ghost use Rattle.std.specs.Prelude.{◌≡◌, OnErr, IfOk};
-ghost use Rattle.desk_lock.specs.Offices.{with_made};
+ghost use Rattle.std.specs.Prelude.{◌≡◌, ◌⊎◌, ◌≤◌, length, IfOk, IfErr, IfSome};
+ghost use Rattle.fabric_core.specs.EditResults.{IsLawful};
+ghost use Rattle.desk_lock.specs.Offices.{with_made, with_met, journal_met, EndsWith, IsSometime, IsRefusedWhenMet};
+ghost use Rattle.register_sessions.specs.Rooms.{IfRefused, UnlessJournalFails};
 
 use crate::door::Door;
 use crate::journal::Journal;
@@ -35,12 +37,22 @@ pub(crate) enum EditFault {
 }
 
 impl From<AllocError> for EditFault {
+    ghost use Rattle.std.specs.Prelude.{◌≡◌};
+    ghost use Rattle.register_sessions.specs.declared.room.EditFault.TheVariants.{NoMemory};
+
+    ghost from_gives = { λ _ fault. fault ≡ NoMemory };
+
     fn from(_: AllocError) -> EditFault {
         EditFault::NoMemory
     }
 }
 
 impl From<Refusal> for EditFault {
+    ghost use Rattle.std.specs.Prelude.{◌≡◌};
+    ghost use Rattle.register_sessions.specs.declared.room.EditFault.TheVariants.{Refused};
+
+    ghost from_gives = { λ refusal fault. fault ≡ Refused refusal };
+
     fn from(refusal: Refusal) -> EditFault {
         EditFault::Refused(refusal)
     }
@@ -66,6 +78,16 @@ impl<'r, 'h, H: Allocator, J: Naming<H>, R: Wait, K: Synchroniser> Room<'r, 'h, 
         ensures edit { IfOk result (λ made. made.entry.edit ≡ edit.now) }
         ensures clerk { IfOk result (λ made. made.entry.clerk ≡ card.old.clerk) }
         ensures made { IfOk result (λ made. card.new ≡ with_made card.old made.entry card.new.met) }
+        // The card has met the journal as it is then, which ends with the entry.
+        ensures ends { IfOk result (λ made. EndsWith made.entry made.entry.number (journal_met J.office card.new)) }
+        ensures after { IfOk result (λ made. IsSometime J.office card.new (journal_met J.office card.new)) }
+        // What the notice tells is valid, and reaches the entry.
+        ensures told { IfOk result (λ made. IfSome made.notice (λ told. made.entry.number ≤ length told)) }
+        ensures lawful { IfOk result (λ made. IfSome made.notice (IsLawful J.office.origin.opening)) }
+        // A refused edit changes nothing, but that the card has met the journal, after which it is refused for this.
+        ensures unchanged { IfErr result (λ fault. UnlessJournalFails fault (card.new ≡ with_met card.old card.new.met)) }
+        ensures refusal { IfErr result (λ fault. IfRefused fault (λ refusal.
+            IsRefusedWhenMet J.office card.new edit.now refusal ⊎ (refusal ≡ Refusal.NoMemory))) }
     {
         let entry = match &self.journal {
             Some(journal) => self.keep(journal, card, who, edit)?,
@@ -87,6 +109,11 @@ impl<'r, 'h, H: Allocator, J: Naming<H>, R: Wait, K: Synchroniser> Room<'r, 'h, 
         ensures edit { IfOk result (λ entry. entry.edit ≡ edit.now) }
         ensures clerk { IfOk result (λ entry. entry.clerk ≡ card.old.clerk) }
         ensures made { IfOk result (λ entry. card.new ≡ with_made card.old entry card.new.met) }
+        ensures ends { IfOk result (λ entry. EndsWith entry entry.number (journal_met J.office card.new)) }
+        ensures after { IfOk result (λ entry. IsSometime J.office card.new (journal_met J.office card.new)) }
+        ensures unchanged { IfErr result (λ fault. UnlessJournalFails fault (card.new ≡ with_met card.old card.new.met)) }
+        ensures refusal { IfErr result (λ fault. IfRefused fault (λ refusal.
+            IsRefusedWhenMet J.office card.new edit.now refusal ⊎ (refusal ≡ Refusal.NoMemory))) }
     {
         let Some(mut writer) = journal.take(self.rt) else {
             return Err(EditFault::Journal);
@@ -118,7 +145,10 @@ impl<'r, 'h, H: Allocator, J: Naming<H>, R: Wait, K: Synchroniser> Room<'r, 'h, 
             }
             None => self.office.publish(self.rt),
         };
-        notice.ok_or(SessionFault::NoMemory)
+        match notice {
+            Some(notice) => Ok(notice),
+            None => Err(SessionFault::NoMemory),
+        }
     }
 
     /// The parcels as they are now, with the entries that led there. Where there is a journal, the disk has all of them. The

@@ -149,7 +149,10 @@ pub(crate) fn serve<
         rt,
         ..
     } = room;
-    let kept = journal.map(|journal| journal.synced(rt));
+    let kept = match &journal {
+        Some(journal) => Some(journal.synced(rt)),
+        None => None,
+    };
     text.clear();
     push_end_of(rt, office, cards, kept, &mut text)?;
     match put_all(text.as_slice(), &mut out) {
