@@ -84,7 +84,7 @@ module _ {A : Type 0} where
   }
 
   -- what is refused after the desk's journal is refused after that which the card has met then
-  pub refused_when_met : (office : OfficeId A) (card after : CardState A) (edit : Edit A) (answer : Result (ReceiptState A) Refusal)
+  pub refused_when_met : (office : OfficeId A) {B : Type 0} (card after : CardState A) (edit : Edit A) (answer : Result B Refusal)
       (old new : DeskState A) → IsSometime office card old.book.journal
       → replay office.origin.opening old.book.journal ≡ old.book.now → journal_met office after ≡ new.book.journal
       → OnErr answer ((new ≡ old) × (after ≡ with_met card after.met))

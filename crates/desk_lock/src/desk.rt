@@ -64,7 +64,7 @@ impl<'a, H: Allocator, J: Naming<H>, R: Wait + Drop> Model for Desk<'a, H, J, R>
 impl<'a, H: Allocator, J: Naming<H>, R: Wait + Drop> Desk<'a, H, J, R> {
     /// The desk's fabric tiles its city, its index and journal agree with its rows, and it comes of
     /// the fabric that was handed to the office, with entries of the office's clerks alone behind
-    /// those of that fabric. What is published begins its journal.
+    /// those of that fabric. What is published begins its journal, and has the entries of that fabric.
     pub fn use_invariant(&self)
         ensures tiling { IsTiling self.now.book.now.rows self.now.book.city }
         ensures simple { AreSimple self.now.book.now.rows }
@@ -76,6 +76,7 @@ impl<'a, H: Allocator, J: Naming<H>, R: Wait + Drop> Desk<'a, H, J, R> {
         ensures entries { self.now.book.journal ≡ J.office.origin.journal ++ self.now.entries }
         ensures of_clerks { AreOfClerks J.office.clerks self.now.entries }
         ensures published { IsPrefix self.now.published self.now.book.journal }
+        ensures shows { IsPrefix J.office.origin.journal self.now.published }
     {
         self.fabric.use_invariant();
         self.publisher.use_invariant();
@@ -186,8 +187,11 @@ impl<'a, H: Allocator, J: Naming<H>, R: Wait + Drop> Desk<'a, H, J, R> {
         ensures whole { IfSome result (λ told. told ≡ self.old.book.journal) }
         ensures shown { IfSome result (λ told. self.new.published ≡ told) }
         ensures none { IfNone result (self.new ≡ self.old) }
+        // It is not refused where all is published already.
+        ensures already { self.old.published ≡ self.old.book.journal → IsSome result }
     {
-        self.publish_to(self.fabric.entries())
+        let number = self.fabric.entries();
+        self.publish_to(number)
     }
 
     /// Publishes the journal's first so many entries, and no entry behind them: a notice of the
@@ -258,25 +262,8 @@ impl<'a, H: Allocator, J: Naming<H>, R: Wait + Drop> Desk<'a, H, J, R> {
         self.fabric.sheet()
     }
 
-    /// The fabric, where each clerk's card is handed in; else the desk and the cards come back as they were.
-    pub(crate) fn close<A: Allocator>(
-        self,
-        clerks: usize,
-        cards: Vec<Card<'a, H, J>, A>,
-    ) -> Result<Fabric<'a, H>, (Desk<'a, H, J, R>, Vec<Card<'a, H, J>, A>)>
-        requires { clerks ≡ J.office.clerks }
-        ensures closes { IsOk result ↔ (length cards.entry.items ≡ J.office.clerks) }
-        ensures total { IfOk result (λ fabric. IsTotal J.office cards.entry.items fabric) }
-        ensures back { IfErr result (λ back. (back.0 ≡ self.entry) × (back.1.items ≡ cards.entry.items)) }
-    {
-        if cards.len() != clerks {
-            return Err((self, cards));
-        }
-        Ok(self.settle(cards))
-    }
-
     /// The fabric, where all cards are handed in.
-    fn settle<A: Allocator>(self, cards: Vec<Card<'a, H, J>, A>) -> Fabric<'a, H>
+    pub(crate) fn close<A: Allocator>(self, cards: Vec<Card<'a, H, J>, A>) -> Fabric<'a, H>
         requires { length cards.items ≡ J.office.clerks }
         ensures { IsTotal J.office cards.entry.items result }
     {

@@ -147,7 +147,9 @@ impl<'a, H: Allocator, J: Naming<H>, R: Wait + Drop> Office<'a, H, J, R> {
         ensures refusal { IfErr result (λ refusal. IsRefusedWhenMet J.office card.new edit.now refusal ⊎ (refusal ≡ NoMemory)) }
     {
         let mut desk = self.desk.lock(rt);
-        desk.edit(card, edit)
+        let entry = desk.edit(card, edit)?;
+        desk.use_invariant();
+        Ok(entry)
     }
 
     /// Takes the lock, and publishes all entries that are not published yet; it adds none. `None`
@@ -228,19 +230,18 @@ impl<'a, H: Allocator, J: Naming<H>, R: Wait + Drop> Office<'a, H, J, R> {
     ) -> Result<Fabric<'a, H>, (Office<'a, H, J, R>, Vec<Card<'a, H, J>, A>, CloseFault)>
         ensures closes { IsOk result ↔ (length cards.entry.items ≡ J.office.clerks) }
         ensures total { IfOk result (λ fabric. IsTotal J.office cards.entry.items fabric) }
+        // Where a card is missing, the office comes back as it was: nobody has looked behind its lock.
+        ensures same { IfErr result (λ back. back.0 ≡ self.entry) }
         ensures back { IfErr result (λ back. back.1.items ≡ cards.entry.items) }
         ensures fault { IfErr result (λ back. back.2 ≡ CardsMissing J.office.clerks (length cards.entry.items)) }
     {
-        let Office { desk, clerks } = self;
         let count = cards.len();
-        match desk.into_inner().close(clerks, cards) {
-            Ok(fabric) => Ok(fabric),
-            Err((desk, cards)) => {
-                let desk = Mutex::new(desk);
-                let fault = CloseFault::CardsMissing(clerks, count);
-                Err((Office { desk, clerks }, cards, fault))
-            }
+        if count != self.clerks {
+            let fault = CloseFault::CardsMissing(self.clerks, count);
+            return Err((self, cards, fault));
         }
+        let Office { desk, clerks: _ } = self;
+        Ok(desk.into_inner().close(cards))
     }
 }
 

@@ -17,9 +17,15 @@ mod clerks;
 #[cfg(test)]
 mod drawn;
 #[cfg(test)]
+mod each;
+#[cfg(test)]
+mod firsts;
+#[cfg(test)]
 mod growths;
 #[cfg(test)]
 mod halves;
+#[cfg(test)]
+mod long;
 #[cfg(test)]
 mod opened;
 #[cfg(test)]

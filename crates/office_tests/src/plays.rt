@@ -6,8 +6,11 @@ ghost use Rattle.desk_lock.specs.Offices.{origin_of};
 use crate::answers::{Cards, Windows};
 use crate::asked::{ask_parcels, parcel_with_memory};
 use crate::clerks::{Task, work_all};
+use crate::each::edit_each;
+use crate::firsts::{close_unshown, enter_unshown, firsts_with_memory, publish_firsts};
 use crate::growths::{cut_with_memory, locate_with_memory, sheet_with_memory, was_refused};
 use crate::halves::{ask_late, learn_halves, learn_unasked};
+use crate::long::make_long;
 use crate::opened::Refuses;
 use crate::readers::read_meanwhile;
 use crate::straightens::learn_straight;
@@ -34,6 +37,14 @@ pub enum Play {
     Straight,
     /// Clerk 1 cuts the first parcel in halves, and the first window shows parcels before and after.
     Parcels,
+    /// Clerk 1 cuts the first parcel in halves, and the edits are published later, the first so many at a time.
+    Firsts,
+    /// Clerk 1 makes the same edits, and none is published, nor by a close that is refused.
+    Unshown,
+    /// Clerk 1 puts a corner in and takes it out, more often than 16 bits count.
+    Long,
+    /// Each of eight clerks makes an edit.
+    Each,
     /// Each clerk puts 100 corners into a side of the city.
     Sides,
     /// Two clerks merge the same two parcels.
@@ -51,6 +62,8 @@ pub enum Play {
     Locate(u64),
     /// A growth is refused for the ring of a parcel.
     Parcel(u64),
+    /// A growth is refused for the publishing of the first three entries.
+    First(u64),
 }
 
 /// What came of it.
@@ -110,6 +123,11 @@ fn opened_as<
             let is_refused = was_refused(heap);
             let told = played(rt, heap, &office, &mut cards, &mut windows, play)?;
             let told = if is_refused { Told::Refused } else { told };
+            let office = if play == Play::Unshown {
+                close_unshown(&rt, heap, office, windows.as_mut_slice())?
+            } else {
+                office
+            };
             let fabric = closed(&rt, heap, office, clerks, cards)?;
             if play == Play::Late {
                 return Ok((fabric, ask_late(windows)?));
@@ -175,21 +193,35 @@ fn played_alone<'a, H: Refuses, J: Naming<H>, R: Wait + Drop, W: Wait>(
         Play::Late => learn_unasked(rt, heap, office, &mut cards[0], &mut windows[0]),
         Play::Straight => learn_straight(rt, heap, office, &mut cards[0], windows),
         Play::Parcels => ask_parcels(rt, heap, office, &mut cards[0], &mut windows[0]),
-        Play::Cut(number, later) => cut_with_memory(
-            rt,
-            heap,
-            office,
-            &mut cards[0],
-            &mut windows[0],
-            (number, later),
-        ),
+        Play::Unshown => enter_unshown(rt, heap, office, &mut cards[0], windows),
+        Play::Long => make_long(rt, heap, office, &mut cards[0], windows),
+        Play::Each => edit_each(rt, heap, office, cards, windows),
+        Play::Firsts => publish_firsts(rt, heap, office, &mut cards[0], windows),
+        _ => played_with_memory(rt, heap, office, cards, windows, play),
+    }
+}
+
+/// Plays at an office with growths refused: what came of it.
+fn played_with_memory<'a, H: Refuses, J: Naming<H>, R: Wait + Drop, W: Wait>(
+    rt: &W,
+    heap: &'a H,
+    office: &Office<'a, H, J, R>,
+    cards: &mut [Card<'a, H, J>],
+    windows: &mut [Window<'a, H, J>],
+    play: Play,
+) -> Result<Told, Fail> {
+    if cards.is_empty() || windows.is_empty() {
+        return Err(Fail::new("no card and no window"));
+    }
+    let (card, window) = (&mut cards[0], &mut windows[0]);
+    match play {
+        Play::Cut(number, later) => {
+            cut_with_memory(rt, heap, office, card, window, (number, later))
+        }
         Play::Sheet(number) => sheet_with_memory(rt, heap, office, cards, number),
-        Play::Locate(number) => {
-            locate_with_memory(rt, heap, office, &mut cards[0], &mut windows[0], number)
-        }
-        Play::Parcel(number) => {
-            parcel_with_memory(rt, heap, office, &mut cards[0], &mut windows[0], number)
-        }
+        Play::Locate(number) => locate_with_memory(rt, heap, office, card, window, number),
+        Play::Parcel(number) => parcel_with_memory(rt, heap, office, card, window, number),
+        Play::First(number) => firsts_with_memory(rt, heap, office, card, window, number),
         _ => Ok(Told::Done),
     }
 }

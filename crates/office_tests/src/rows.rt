@@ -2,6 +2,7 @@
 
 use crate::changes::{Change, edit_of};
 use crate::city_of_many::large_city;
+use crate::long::ENTRIES;
 use crate::opened::{Refuses, town};
 use crate::plays::{NONE, Play, Told, at_office};
 use crate::readers::EDITS;
@@ -85,10 +86,14 @@ pub fn told_of_opening<H: Refuses + Send + Sync, R: Threads + Wait + Copy + Send
 /// Places for clerks and windows, a play there, what comes of it, and what the fabric has then.
 type Row = ((usize, usize), Play, Told, Tally);
 
-static ROWS: [Row; 13] = [
+static ROWS: [Row; 17] = [
     ((1, 1), Play::Halves, Told::Done, HALVED),
     ((1, 2), Play::Halves, Told::Done, HALVED),
     ((1, 1), Play::Parcels, Told::Done, HALVED),
+    ((1, 1), Play::Firsts, Told::Done, HALVED),
+    ((1, 2), Play::Firsts, Told::Done, HALVED),
+    ((1, 2), Play::Unshown, Told::Done, HALVED),
+    ((8, 2), Play::Each, Told::Done, (8, 2, 2)),
     ((1, 1), Play::Straight, Told::Done, STRAIGHT),
     ((2, 2), Play::Straight, Told::Done, STRAIGHT),
     ((2, 1), Play::Merges, Told::Done, MERGED),
@@ -138,6 +143,15 @@ fn loses_nothing_at_the_close(rt: HostRuntime) -> Result<(), Fail> {
     let heap = Refusing::new(rt.alloc(), 0);
     let told = told_of(rt, &heap, (1, 1), NONE, Play::Late, HALVED)?;
     assert!(rt; told == Told::NoVersion || told == Told::Done);
+    Ok(())
+}
+
+/// Windows tell of each entry about the number that 16 bits count to.
+#[test]
+fn tells_of_a_long_journal(rt: HostRuntime) -> Result<(), Fail> {
+    let heap = Refusing::new(rt.alloc(), 0);
+    let told = told_of(rt, &heap, (1, 2), NONE, Play::Long, (ENTRIES, 2, 2))?;
+    assert_eq!(rt; told, Told::Done);
     Ok(())
 }
 

@@ -53,6 +53,8 @@ enum Growing {
     Locate,
     /// The ring of a parcel.
     Parcel,
+    /// The publishing of the first three entries.
+    First,
     /// The publishing of a cut in whose submit the growth of this number is refused.
     Publish(u64),
 }
@@ -63,6 +65,7 @@ fn play_of(growing: Growing, number: u64) -> Play {
         Growing::Sheet => Play::Sheet(number),
         Growing::Locate => Play::Locate(number),
         Growing::Parcel => Play::Parcel(number),
+        Growing::First => Play::First(number),
         Growing::Publish(before) => Play::Cut(before, number),
     }
 }
@@ -89,6 +92,7 @@ fn answers_with_memory(rt: HostRuntime) -> Result<(), Fail> {
     assert!(rt; count_refused(rt, &heap, Growing::Sheet)? > 20);
     assert!(rt; count_refused(rt, &heap, Growing::Locate)? > 0);
     assert!(rt; count_refused(rt, &heap, Growing::Parcel)? > 0);
+    assert!(rt; count_refused(rt, &heap, Growing::First)? > 3);
     Ok(())
 }
 
