@@ -12,7 +12,7 @@ use desk_lock::{Card, Naming, Notice, Office};
 use fabric_core::{Entry, Refusal, Sheet};
 use ring_edits::Edit;
 use session_lines::SessionFault;
-use std::alloc::{AllocError, Allocator};
+use std::alloc::Allocator;
 use std::sync::Wait;
 
 /// What all desks share: the office, the journal, if there is one, and the door.
@@ -34,28 +34,6 @@ pub(crate) enum EditFault {
     Journal,
     /// Memory was refused for its line, and nothing has changed.
     NoMemory,
-}
-
-impl From<AllocError> for EditFault {
-    ghost use Rattle.std.specs.Prelude.{◌≡◌};
-    ghost use Rattle.register_sessions.specs.declared.room.EditFault.TheVariants.{NoMemory};
-
-    ghost from_gives = { λ _ fault. fault ≡ NoMemory };
-
-    fn from(_: AllocError) -> EditFault {
-        EditFault::NoMemory
-    }
-}
-
-impl From<Refusal> for EditFault {
-    ghost use Rattle.std.specs.Prelude.{◌≡◌};
-    ghost use Rattle.register_sessions.specs.declared.room.EditFault.TheVariants.{Refused};
-
-    ghost from_gives = { λ refusal fault. fault ≡ Refused refusal };
-
-    fn from(refusal: Refusal) -> EditFault {
-        EditFault::Refused(refusal)
-    }
 }
 
 /// An edit that was made, and that the disk has, where there is a journal.
@@ -89,12 +67,38 @@ impl<'r, 'h, H: Allocator, J: Naming<H>, R: Wait, K: Synchroniser> Room<'r, 'h, 
         ensures refusal { IfErr result (λ fault. IfRefused fault (λ refusal.
             IsRefusedWhenMet J.office card.new edit.now refusal ⊎ (refusal ≡ Refusal.NoMemory))) }
     {
-        let entry = match &self.journal {
-            Some(journal) => self.keep(journal, card, who, edit)?,
-            None => self.office.enter(self.rt, card, edit)?,
+        let made = match &self.journal {
+            Some(journal) => self.keep(journal, card, who, edit),
+            None => self.enter(card, edit),
         };
-        let notice = self.office.publish_to(self.rt, entry.number());
-        Ok(Made { entry, notice })
+        match made {
+            Ok(entry) => {
+                let notice = self.office.publish_to(self.rt, entry.number());
+                Ok(Made { entry, notice })
+            }
+            Err(fault) => Err(fault),
+        }
+    }
+
+    /// Makes an edit at the office, and shows it to nobody.
+    fn enter(
+        &self,
+        card: &mut Card<'h, H, J>,
+        edit: &Edit<&'h H>,
+    ) -> Result<Entry<&'h H>, EditFault>
+        ensures edit { IfOk result (λ entry. entry.edit ≡ edit.now) }
+        ensures clerk { IfOk result (λ entry. entry.clerk ≡ card.old.clerk) }
+        ensures made { IfOk result (λ entry. card.new ≡ with_made card.old entry card.new.met) }
+        ensures ends { IfOk result (λ entry. EndsWith entry entry.number (journal_met J.office card.new)) }
+        ensures after { IfOk result (λ entry. IsSometime J.office card.new (journal_met J.office card.new)) }
+        ensures unchanged { IfErr result (λ fault. UnlessJournalFails fault (card.new ≡ with_met card.old card.new.met)) }
+        ensures refusal { IfErr result (λ fault. IfRefused fault (λ refusal.
+            IsRefusedWhenMet J.office card.new edit.now refusal ⊎ (refusal ≡ Refusal.NoMemory))) }
+    {
+        match self.office.enter(self.rt, card, edit) {
+            Ok(entry) => Ok(entry),
+            Err(refusal) => Err(EditFault::Refused(refusal)),
+        }
     }
 
     /// Makes an edit at the office, and has the disk hold its record. Nobody else makes one between the two, but others
@@ -118,10 +122,15 @@ impl<'r, 'h, H: Allocator, J: Naming<H>, R: Wait, K: Synchroniser> Room<'r, 'h, 
         let Some(mut writer) = journal.take(self.rt) else {
             return Err(EditFault::Journal);
         };
-        let Some(draft) = journal.draft(self.heap, &writer, card.clerk(), who, edit)? else {
-            return Err(EditFault::Journal);
+        let draft = match journal.draft(self.heap, &writer, card.clerk(), who, edit) {
+            Ok(Some(draft)) => draft,
+            Ok(None) => return Err(EditFault::Journal),
+            Err(_) => return Err(EditFault::NoMemory),
         };
-        let entry = self.office.enter(self.rt, card, edit)?;
+        let entry = match self.enter(card, edit) {
+            Ok(entry) => entry,
+            Err(fault) => return Err(fault),
+        };
         if entry.number() != draft.number || !journal.add(&mut writer, &draft) {
             writer.give_up();
             return Err(EditFault::Journal);
