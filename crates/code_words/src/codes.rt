@@ -1,13 +1,33 @@
-//! The codes, in the order of the pages.
+//! The codes, in the order of the pages. They stand in groups, each behind a call of its own: a list of all is more than the
+//! prover takes in one declaration.
 
 use crate::words::CodeWords;
 
-/// Every code that a refusal may begin with, in words. A call of its own, so that no proof elsewhere unfolds the list.
-pub fn all_codes() -> &'static [CodeWords] {
-    &CODES
+/// How many groups there are.
+pub const GROUPS: usize = 9;
+
+/// The codes of a group, from 0, in words; none past the last.
+pub fn group(place: usize) -> &'static [CodeWords] {
+    match place {
+        0 => file_codes(),
+        1 => coordinate_codes(),
+        2 => ring_codes(),
+        3 => run_codes(),
+        4 => system_codes(),
+        5 => journal_codes(),
+        6 => session_codes(),
+        7 => edit_codes(),
+        8 => later_edit_codes(),
+        _ => &[],
+    }
 }
 
-const CODES: [CodeWords; 55] = [
+/// The codes of what a file may have wrong.
+fn file_codes() -> &'static [CodeWords] {
+    &FILES
+}
+
+const FILES: [CodeWords; 8] = [
     CodeWords {
         code: "F1",
         meaning: "the file ends too early",
@@ -56,6 +76,14 @@ const CODES: [CodeWords; 55] = [
         cause: "a polygon that shrank to a line or a point",
         remedy: "remove the polygon, or mend it",
     },
+];
+
+/// The codes of a coordinate, an index, or the size of a file.
+fn coordinate_codes() -> &'static [CodeWords] {
+    &COORDINATES
+}
+
+const COORDINATES: [CodeWords; 5] = [
     CodeWords {
         code: "F9 C1",
         meaning: "a coordinate that is infinite or no number",
@@ -86,6 +114,14 @@ const CODES: [CodeWords; 55] = [
         cause: "a layer of more than 65,536 polygons or 1,000,000 corners",
         remedy: "check it by the Python package, which cuts it into districts",
     },
+];
+
+/// The codes of the rings of a layer.
+fn ring_codes() -> &'static [CodeWords] {
+    &RINGS
+}
+
+const RINGS: [CodeWords; 9] = [
     CodeWords {
         code: "S3",
         meaning: "the file of the city has several polygons, or none",
@@ -140,6 +176,14 @@ const CODES: [CodeWords; 55] = [
         cause: "a number that was counted from 0",
         remedy: "count from 1: the FID of GDAL is one less",
     },
+];
+
+/// The codes of clerks, lines and threads of a run.
+fn run_codes() -> &'static [CodeWords] {
+    &RUNS
+}
+
+const RUNS: [CodeWords; 6] = [
     CodeWords {
         code: "K1",
         meaning: "more than eight clerks' files, or desks",
@@ -176,6 +220,14 @@ const CODES: [CodeWords; 55] = [
         cause: "a limit on threads, or memory that ran out",
         remedy: "try again, or with fewer --workers or desks",
     },
+];
+
+/// The codes of what the system refuses.
+fn system_codes() -> &'static [CodeWords] {
+    &SYSTEM
+}
+
+const SYSTEM: [CodeWords; 4] = [
     CodeWords {
         code: "S1",
         meaning: "a file that cannot be opened or read, or is longer than 64 MiB",
@@ -200,6 +252,14 @@ const CODES: [CodeWords; 55] = [
         cause: "a layer that is too large for this machine, or a limit on memory",
         remedy: "close other programs, or cut the layer into several",
     },
+];
+
+/// The codes of the journal of a session.
+fn journal_codes() -> &'static [CodeWords] {
+    &JOURNALS
+}
+
+const JOURNALS: [CodeWords; 5] = [
     CodeWords {
         code: "in use",
         meaning: "another session holds the journal",
@@ -230,6 +290,14 @@ const CODES: [CodeWords; 55] = [
         cause: "another version of the layer",
         remedy: "start with the layer that the journal began with",
     },
+];
+
+/// The codes of lines of a session.
+fn session_codes() -> &'static [CodeWords] {
+    &SESSIONS
+}
+
+const SESSIONS: [CodeWords; 6] = [
     CodeWords {
         code: "operator",
         meaning: "the line is one of the operator's",
@@ -266,6 +334,14 @@ const CODES: [CodeWords; 55] = [
         cause: "",
         remedy: "start it anew",
     },
+];
+
+/// The codes of edits of parcels, the first.
+fn edit_codes() -> &'static [CodeWords] {
+    &EDITS
+}
+
+const EDITS: [CodeWords; 6] = [
     CodeWords {
         code: "E1",
         meaning: "there was never a parcel with this id",
@@ -302,6 +378,14 @@ const CODES: [CodeWords; 55] = [
         cause: "a path that leaves the parcel, or crosses itself or a border",
         remedy: "draw the path inside the parcel",
     },
+];
+
+/// The codes of edits of parcels, the rest.
+fn later_edit_codes() -> &'static [CodeWords] {
+    &LATER_EDITS
+}
+
+const LATER_EDITS: [CodeWords; 6] = [
     CodeWords {
         code: "E7",
         meaning: "no parcel has this edge",

@@ -5,5 +5,5 @@
 mod codes;
 mod words;
 
-pub use codes::all_codes;
-pub use words::{CodeWords, words_in, words_of};
+pub use codes::{GROUPS, group};
+pub use words::{CodeWords, begun_by, words_of};

@@ -16,10 +16,10 @@ pub struct CodeWords {
     pub remedy: &'static str,
 }
 
-/// The words of a code, in a list as that of [`all_codes`](crate::all_codes); `None` where none of them has that code.
+/// The words of a code, in a list as those of [`group`](crate::group); `None` where none of them has that code.
 ///
 /// ```
-/// if let Some(words) = words_of(all_codes(), "F9 C2") {
+/// if let Some(words) = words_of(group(1), "F9 C2") {
 ///     // words.meaning is "a coordinate that is off the millimetre grid"
 /// }
 /// ```
@@ -31,17 +31,11 @@ pub fn words_of(codes: &[CodeWords], code: &str) -> Option<CodeWords>
     codes.iter().find(|words| words.code == code).copied()
 }
 
-/// The words of the code that the text of a refusal has, as `parcels: F9 C2 main record 7 at 960`: it begins the text, or
-/// what stands behind a colon and a space. `None` where no code does.
-pub fn words_in(codes: &[CodeWords], text: &str) -> Option<CodeWords>
+/// The words of the code that a text begins with, as `F9 C2 main record 7 at 960`; `None` where none of the list does.
+pub fn begun_by(codes: &[CodeWords], text: &str) -> Option<CodeWords>
     ensures listed { IfSome result (Contains codes.now) }
 {
-    for part in text.split(": ") {
-        if let Some(words) = codes.iter().find(|words| begins(words.code, part)) {
-            return Some(*words);
-        }
-    }
-    None
+    codes.iter().find(|words| begins(words.code, text)).copied()
 }
 
 /// Whether a text begins with a code, which is a word of its own.

@@ -1,6 +1,6 @@
 //! Codes of refusals, in words.
 
-use code_words::{CodeWords, all_codes, words_in, words_of};
+use code_words::{CodeWords, GROUPS, begun_by, group, words_of};
 use geo_exact::{ByteOut, FILE_BYTES, Failed};
 use std::alloc::{AllocError, Global};
 use std::fmt::Write;
@@ -39,14 +39,16 @@ pub(crate) fn explain<W: ByteOut>(
         return list_all(alloc, out);
     }
     let asked = joined(alloc, words)?;
-    if let Some(found) = words_of(all_codes(), asked.as_str()) {
-        return explain_one(alloc, &found, out);
-    }
     let mut some = false;
-    for code in all_codes() {
-        if is_of(code.code, asked.as_str()) {
-            explain_one(alloc, code, out)?;
-            some = true;
+    for place in 0..GROUPS {
+        if let Some(found) = words_of(group(place), asked.as_str()) {
+            return explain_one(alloc, &found, out);
+        }
+        for code in group(place) {
+            if is_of(code.code, asked.as_str()) {
+                explain_one(alloc, code, out)?;
+                some = true;
+            }
         }
     }
     if some {
@@ -94,17 +96,19 @@ fn explain_one<W: ByteOut>(
 
 /// Prints a line for each code.
 fn list_all<W: ByteOut>(alloc: Global, out: &mut W) -> Result<(), ExplainFault> {
-    for words in all_codes() {
-        let (code, meaning) = (words.code, words.meaning);
-        let line = format!(in alloc; "{code}: {meaning}\n")?;
-        put_all(line.as_bytes(), out)?;
+    for place in 0..GROUPS {
+        for words in group(place) {
+            let (code, meaning) = (words.code, words.meaning);
+            let line = format!(in alloc; "{code}: {meaning}\n")?;
+            put_all(line.as_bytes(), out)?;
+        }
     }
     Ok(())
 }
 
 /// What stands behind `hint: ` for the text of a refusal; `None` where no code is known in it, or memory is refused.
 pub(crate) fn hint_of<R: Files>(rt: &R, alloc: Global, text: &str) -> Option<String> {
-    let words = words_in(all_codes(), text)?;
+    let words = words_in(text)?;
     let (meaning, remedy) = (words.meaning, words.remedy);
     let known = match text.strip_prefix("S1 ") {
         Some(path) => state_of(rt, path),
@@ -116,6 +120,18 @@ pub(crate) fn hint_of<R: Files>(rt: &R, alloc: Global, text: &str) -> Option<Str
         format!(in alloc; "{meaning} ({known}); {remedy}")
     };
     hint.ok()
+}
+
+/// The words of the code that the text of a refusal has: it begins the text, or what stands behind a colon and a space.
+fn words_in(text: &str) -> Option<CodeWords> {
+    for part in text.split(": ") {
+        for place in 0..GROUPS {
+            if let Some(words) = begun_by(group(place), part) {
+                return Some(words);
+            }
+        }
+    }
+    None
 }
 
 /// Why the file at a path is not read, as far as the system says.
