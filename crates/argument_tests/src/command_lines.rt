@@ -181,7 +181,7 @@ const REFUSED: [(&str, ErrorKind, &str); 18] = [
     (
         "parcel_tool",
         ErrorKind::DisplayHelpOnMissingArgumentOrSubcommand,
-        "Usage: parcel_tool <COMMAND>",
+        "Usage: parcel_tool [OPTIONS] <COMMAND>",
     ),
     (
         "parcel_tool measure",
@@ -290,10 +290,13 @@ fn refuses_command_lines(rt: HostRuntime) -> Result<(), Fail> {
 #[test]
 fn shows_help_and_version(rt: HostRuntime) -> Result<(), Fail> {
     for (line, text) in [
-        ("parcel_tool --help", "Usage: parcel_tool <COMMAND>"),
+        (
+            "parcel_tool --help",
+            "Usage: parcel_tool [OPTIONS] <COMMAND>",
+        ),
         (
             "parcel_tool area --help",
-            "Usage: parcel_tool area --unit <UNIT> <MAIN>",
+            "Usage: parcel_tool area [OPTIONS] --unit <UNIT> <MAIN>",
         ),
         (
             "parcel_tool export --help",
