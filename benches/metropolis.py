@@ -103,7 +103,8 @@ def measure(folder):
         most = most_memory(process)
         took, used = time.monotonic() - begun, resource.getrusage(resource.RUSAGE_CHILDREN)
         out.seek(0)
-        said = json.load(out) if process.returncode == 0 else {}
+        text = out.read()
+        said = json.loads(text) if text.strip() else {}
     print(
         f"{took:.1f} s by the clock, {used.ru_utime + used.ru_stime:.1f} s of processors, {most:.2f} GiB at once, "
         f"{used.ru_maxrss / 1048576:.2f} of one process; status {process.returncode}, {said.get('verdict')}, "

@@ -1,5 +1,5 @@
 #!/usr/bin/python3
-"""python_package.py - `gandovel prepare` and `gandovel report` on registers of 2,000, 10,000 and 40,000 parcels.
+"""python_package.py - `gandovel prepare` and `gandovel report` on registers of 2,000 to 200,000 parcels.
 
   python_package.py [PROGRAM] [--sizes N[,N..]] [--keep FOLDER] [--profile]
 
@@ -29,6 +29,7 @@ SIZES = {  # parcels: columns, rows, columns and rows of zones
     2_000: (50, 40, 10, 10),
     10_000: (100, 100, 25, 20),
     40_000: (200, 200, 50, 40),
+    200_000: (500, 400, 125, 80),
 }
 ANGLE, EAST, NORTH = math.radians(17.0), 561_234.567, 5_934_567.891
 

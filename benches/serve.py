@@ -6,7 +6,8 @@
 GANDOVEL_TOOL is the built parcel_tool. It makes a city by gencity.py, prepares it, and prints one line for each:
 
 edits    edits a second of the clerks, each with a connection and a key, and of as many clerks at the pipes of a session
-locate   `locate` a second by wrk on 16 connections, and its 99th percentile, while eight clerks edit
+alone    `locate` a second by wrk on 16 connections, and its 99th percentile, while nobody edits
+locate   the same while eight clerks edit
 mixed    readers (pages of features, parcels, locate) and clerks at once for --mixed seconds (600 for a figure): answers
          by status, and memory. Status 1 where one is neither 200 nor a reason that docs/serve.md tells
 
@@ -20,6 +21,7 @@ import collections
 import os
 import random
 import re
+import socket
 import subprocess
 import sys
 import tempfile
@@ -36,6 +38,14 @@ ROOT = Path(__file__).resolve().parents[1]
 sys.path.insert(0, str(ROOT / "python/src"))
 import gandovel  # noqa: E402
 
+CORNER = ("--x0", "60000000", "--y0", "550000000")
+"""Where the city begins, in cm: where its projection is true."""
+WRK = {
+    "count": r"(\d+) requests in",
+    "rate": r"Requests/sec:\s+(\S+)",
+    "slowest": r"99%\s+(\S+)",
+    "wrong": r"Non-2xx.*",
+}
 LUA = """
 math.randomseed(7)
 request = function()
@@ -48,7 +58,7 @@ def prepared(size: str, folder: Path) -> Path:
     """A city of gencity.py as `gandovel prepare` has it."""
     raw = folder / "raw"
     subprocess.run(
-        [sys.executable, str(ROOT / "benches/gencity.py"), "--size", size, str(raw)],
+        [sys.executable, str(ROOT / "benches/gencity.py"), "--size", size, *CORNER, str(raw)],
         check=True,
         stdout=subprocess.DEVNULL,
     )
@@ -60,8 +70,27 @@ def prepared(size: str, folder: Path) -> Path:
             {"parcel_no": [str(at) for at in range(1, len(shapes) + 1)]}, geometry=shapes, crs=25832
         )
     out = folder / "layer"
-    gandovel.prepare(layers["parcels"], layers["zones"], city=layers["city"]).save(out)
+    gandovel.prepare(layers["parcels"], layers["zones"], city=layers["city"], touch=0).save(out)
     return out
+
+
+def seconds_of(process: int) -> float:
+    """Processors' seconds of a process so far, without its children's."""
+    words = Path(f"/proc/{process}/stat").read_text().rpartition(")")[2].split()
+    return (int(words[11]) + int(words[12])) / os.sysconf("SC_CLK_TCK")
+
+
+class Cost:
+    """What a part of a run takes of the processors: `told(count)` for each of so many answers."""
+
+    def __init__(self, served: Served) -> None:
+        self._served, self._before = served, served.seconds()
+
+    def told(self, count: float) -> str:
+        """Microseconds an answer."""
+        spent = [after - before for before, after in zip(self._before, self._served.seconds())]
+        server, runs = (1e6 * it / max(count, 1) for it in spent)
+        return f"{server:.0f} us of a processor each in the server, {runs:.0f} in the program"
 
 
 class Served:
@@ -103,6 +132,12 @@ class Served:
             found[name] += int(size) // 1024
         return dict(found)
 
+    def seconds(self) -> Tuple[float, float]:
+        """Processors' seconds of the server, and of the program's two runs, so far."""
+        words = ["ps", "-o", "pid=", "--ppid", str(self.process.pid)]
+        runs = subprocess.run(words, stdout=subprocess.PIPE, text=True).stdout.split()
+        return seconds_of(self.process.pid), sum(seconds_of(int(run)) for run in runs)
+
     def end(self) -> None:
         self.process.terminate()
         self.process.wait()
@@ -123,14 +158,42 @@ def lines_of(ring: List[List[int]]) -> Tuple[str, str]:
     sys.exit("no edge has a middle")
 
 
+class Wire:
+    """A connection of a clerk, that sends what is ready and reads the status and the body: it takes little of a processor."""
+
+    def __init__(self, served: Served) -> None:
+        self._host, port = re.fullmatch(r"http://(.*):(\d+)", served.address).groups()  # type: ignore[union-attr]
+        self._host = f"{self._host}:{port}"
+        self._socket = socket.create_connection((self._host.split(":")[0], int(port)), 60)
+        self._socket.setsockopt(socket.IPPROTO_TCP, socket.TCP_NODELAY, 1)
+
+    def edit(self, line: str, key: str) -> int:
+        """The status of an edit's answer."""
+        head = f"POST /edits HTTP/1.1\r\nHost: {self._host}\r\nContent-Type: text/plain\r\nIdempotency-Key: {key}\r\n"
+        self._socket.sendall(f"{head}Content-Length: {len(line)}\r\n\r\n{line}".encode())
+        heard = b""
+        while b"\r\n\r\n" not in heard:
+            heard += self._read()
+        head_, _, body = heard.partition(b"\r\n\r\n")
+        size = re.search(rb"content-length: (\d+)", head_, re.I)
+        while size and len(body) < int(size[1]):
+            body += self._read()
+        return int(heard[9:12])
+
+    def _read(self) -> bytes:
+        part = self._socket.recv(1 << 16)
+        if not part:
+            raise ConnectionError("the server closed the connection")
+        return part
+
+
 def clerk(served: Served, ring: List[List[int]], until: float, told: Counter[Any], number: int) -> None:
     """Edits one by one, each with a key."""
-    session, pair, at = requests.Session(), lines_of(ring), 0
+    wire, pair, at = Wire(served), lines_of(ring), 0
     while time.monotonic() < until:
-        headers = {"Content-Type": "text/plain", "Idempotency-Key": f"bench-{number}-{at}"}
-        answer = session.post(served.address + "/edits", data=pair[at % 2], headers=headers, timeout=60)
-        told["edit", answer.status_code] += 1
-        at += answer.status_code == 200
+        status = wire.edit(pair[at % 2], f"bench-{number}-{at}")
+        told["edit", status] += 1
+        at += status == 200
 
 
 def reader(served: Served, parcels: List[int], until: float, told: Counter[Any], number: int) -> None:
@@ -145,7 +208,10 @@ def reader(served: Served, parcels: List[int], until: float, told: Counter[Any],
                 "/entries?limit=5",
             ]
         )
-        told["read", session.get(served.address + path, timeout=60).status_code] += 1
+        try:
+            told["read", session.get(served.address + path, timeout=60).status_code] += 1
+        except requests.RequestException:
+            told["read", "no answer"] += 1
 
 
 def all_at_once(threads: List[threading.Thread]) -> None:
@@ -156,13 +222,14 @@ def all_at_once(threads: List[threading.Thread]) -> None:
         thread.join()
 
 
-def edits(served: Served, rings: Any, count: int, seconds: float) -> float:
-    """Edits a second."""
+def edits(served: Served, rings: Any, count: int, seconds: float) -> str:
+    """Edits a second, and what they cost."""
     told: Counter[Any] = collections.Counter()
+    cost = Cost(served)
     until = time.monotonic() + seconds
     threads = [threading.Thread(target=clerk, args=(served, rings[k][1], until, told, k)) for k in range(count)]
     all_at_once(threads)
-    return told["edit", 200] / seconds
+    return f"{told['edit', 200] / seconds:.0f} a second by {count} clerks ({cost.told(told['edit', 200])})"
 
 
 def piped(layer: Path, journal: Path, rings: Any, seconds: float) -> float:
@@ -186,26 +253,29 @@ def piped(layer: Path, journal: Path, rings: Any, seconds: float) -> float:
     return sum(made) / seconds
 
 
-def located(served: Served, rings: Any, seconds: int, folder: Path) -> str:
-    """What wrk says of `locate` while eight clerks edit."""
+def located(served: Served, rings: Any, seconds: int, folder: Path, clerks: int) -> str:
+    """What wrk says of `locate` while so many clerks edit, and what it costs with their edits."""
     corners = [corner for _, ring in rings for corner in ring]
     xs, ys = [x for x, _ in corners], [y for _, y in corners]
     script = folder / "locate.lua"
     script.write_text(LUA % (min(xs), max(xs), min(ys), max(ys)))
     told: Counter[Any] = collections.Counter()
-    until = time.monotonic() + seconds + 1
-    for k in range(8):
-        threading.Thread(target=clerk, args=(served, rings[k + 20][1], until, told, 100 + k), daemon=True).start()
-    ended = subprocess.run(
-        ["wrk", "-t1", "-c16", f"-d{seconds}s", "--latency", "-s", str(script), served.address],
-        stdout=subprocess.PIPE,
-        text=True,
-    )
-    rate = re.search(r"Requests/sec:\s+(\S+)", ended.stdout)
-    slowest = re.search(r"99%\s+(\S+)", ended.stdout)
-    wrong = re.search(r"Non-2xx.*", ended.stdout)
-    found = f"{rate[1] if rate else '?'} a second, p99 {slowest[1] if slowest else '?'}"
-    return f"{found}, beside {told['edit', 200] / seconds:.0f} edits a second{'; ' + wrong[0] if wrong else ''}"
+    until, cost = time.monotonic() + seconds + 1, Cost(served)
+    threads = [
+        threading.Thread(target=clerk, args=(served, rings[k + 20][1], until, told, 100 + k)) for k in range(clerks)
+    ]
+    for thread in threads:
+        thread.start()
+    words = ["wrk", "-t1", "-c16", f"-d{seconds}s", "--latency", "-s", str(script), served.address]
+    ended = subprocess.run(words, stdout=subprocess.PIPE, text=True)
+    found = {name: re.search(text, ended.stdout) for name, text in WRK.items()}
+    spent = cost.told(int(found["count"][1]) if found["count"] else 0)
+    for thread in threads:
+        thread.join()
+    rate, slowest = (found[name][1] if found[name] else "?" for name in ("rate", "slowest"))  # type: ignore[index]
+    beside = f", beside {told['edit', 200] / (seconds + 1):.0f} edits a second" if clerks else ""
+    wrong = f"; {found['wrong'][0]}" if found["wrong"] else ""
+    return f"{rate} a second, p99 {slowest}{beside} ({spent}{', edits in it' if clerks else ''}){wrong}"
 
 
 def mixed(served: Served, rings: Any, seconds: float, clerks: int, readers: int) -> Counter[Any]:
@@ -235,11 +305,12 @@ def main() -> None:
         rings = rings_of(served)
         print(f"start    {served.memory()} MiB", flush=True)
         print(
-            f"edits    {edits(served, rings, 8, given.seconds):.0f} a second by 8 clerks, "
+            f"edits    {edits(served, rings, 8, given.seconds)}, "
             f"{piped(layer, folder / 'pipes.txt', rings, given.seconds):.0f} at the pipes",
             flush=True,
         )
-        print(f"locate   {located(served, rings, given.seconds, folder)}", flush=True)
+        print(f"alone    {located(served, rings, given.seconds, folder, 0)}", flush=True)
+        print(f"locate   {located(served, rings, given.seconds, folder, 8)}", flush=True)
         told = mixed(served, rings, given.mixed, given.clerks, given.readers)
         print(f"mixed    {dict(told)}, {served.memory()} MiB", flush=True)
         served.end()

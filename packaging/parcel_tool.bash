@@ -1,24 +1,36 @@
 # Made by scripts/help_pages from what parcel_tool --help prints.
+_parcel_tool_words() { COMPREPLY=($(compgen -W "$1" -- "$word")); }
+_parcel_tool_files() {
+  local name plain="${word//\\/}"
+  plain="${plain#[\"\']}"
+  compopt -o filenames 2> /dev/null
+  while IFS= read -r name; do COMPREPLY+=("$name"); done < <(
+    { compgen -f ${1:+-X "$1"} -- "$plain"; compgen -d -- "$plain"; } | sort -u)
+}
 _parcel_tool() {
   local word="${COMP_WORDS[COMP_CWORD]}" before="${COMP_WORDS[COMP_CWORD-1]}" options=
   COMPREPLY=()
+  case "$word:$before" in
+    =:*) word= ;;
+    *:=) before="${COMP_WORDS[COMP_CWORD-2]}" ;;
+  esac
   if [ "$COMP_CWORD" -eq 1 ]; then
-    COMPREPLY=($(compgen -W 'area check export locate overlay part session explain help --hints -h --help -V --version' -- "$word"))
+    _parcel_tool_words 'area check export locate overlay part session explain help --hints -h --help -V --version'
     return
   fi
   case "$before" in
-    --at) COMPREPLY=(); return ;;
-    --clerk) COMPREPLY=($(compgen -f -- "$word")); return ;;
-    --desk) COMPREPLY=(); return ;;
-    --journal) COMPREPLY=($(compgen -f -- "$word")); return ;;
-    --out) COMPREPLY=($(compgen -f -- "$word")); return ;;
-    --points) COMPREPLY=($(compgen -f -- "$word")); return ;;
-    --unit) COMPREPLY=($(compgen -W 'mm cm m' -- "$word")); return ;;
-    --workers) COMPREPLY=(); return ;;
-    --zones) COMPREPLY=(); return ;;
+    --unit) _parcel_tool_words 'mm cm m'; return ;;
+    --clerk) _parcel_tool_files ''; return ;;
+    --workers) :; return ;;
+    --out) _parcel_tool_files ''; return ;;
+    --at) :; return ;;
+    --points) _parcel_tool_files ''; return ;;
+    --zones) _parcel_tool_files '!*.[sS][hH][pP]'; return ;;
+    --journal) _parcel_tool_files ''; return ;;
+    --desk) :; return ;;
   esac
   case "${COMP_WORDS[1]}" in
-    help) COMPREPLY=($(compgen -W 'area check export locate overlay part session explain' -- "$word")); return ;;
+    help) _parcel_tool_words 'area check export locate overlay part session explain'; return ;;
     area) options='--unit --hints -h --help' ;;
     check) options='--unit --all --clerk --workers --hints -h --help' ;;
     export) options='--unit --out --clerk --workers --hints -h --help' ;;
@@ -29,8 +41,8 @@ _parcel_tool() {
     explain) options='--hints -h --help' ;;
   esac
   case "$word" in
-    -*) COMPREPLY=($(compgen -W "$options" -- "$word")) ;;
-    *) COMPREPLY=($(compgen -f -X '!*.[sS][hH][pP]' -- "$word") $(compgen -d -- "$word")) ;;
+    -*) _parcel_tool_words "$options" ;;
+    *) _parcel_tool_files '!*.[sS][hH][pP]' ;;
   esac
 }
-complete -o filenames -F _parcel_tool parcel_tool
+complete -F _parcel_tool parcel_tool

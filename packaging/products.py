@@ -12,6 +12,8 @@ from archives import Files, ar, packed, tar_gz, zip_file
 
 PLATFORM = "manylinux2014_x86_64.musllinux_1_1_x86_64"
 """Where a static program runs: with any C library."""
+COMPLETIONS = {"bash": "parcel_tool.bash", "zsh": "_parcel_tool", "fish": "parcel_tool.fish"}
+"""The completion of each shell."""
 
 
 def read_tree(folder: Path, to: str) -> Files:
@@ -25,7 +27,7 @@ def plain(root: Path, program: bytes, proof: str, bill: bytes) -> Files:
     """What each of the packages has: by its role, the file's bytes."""
     folder = root / "packaging"
     return {"program": (program, True), "man": ((folder / "parcel_tool.1").read_bytes(), False),
-            "completion": ((folder / "parcel_tool.bash").read_bytes(), False), "proof": (proof.encode(), False),
+            **{shell: ((folder / name).read_bytes(), False) for shell, name in COMPLETIONS.items()}, "proof": (proof.encode(), False),
             "licence": ((folder / "LICENCE-STATE.txt").read_bytes(), False), "bill": (bill, False)}
 
 
@@ -38,9 +40,9 @@ def documents(root: Path, to: str) -> Files:
 def tarball(root: Path, parts: Files, relink: Files, name: str, seconds: int) -> bytes:
     """The `.tar.gz`: all lies in one folder of its name."""
     files = {"bin/parcel_tool": parts["program"], "man/man1/parcel_tool.1": parts["man"],
-             "completion/parcel_tool.bash": parts["completion"], "PROOF.txt": parts["proof"], "parcel_tool.spdx.json": parts["bill"],
-             "LICENCE-STATE.txt": parts["licence"], **documents(root, "."), **read_tree(root / "examples/town", "examples/town"),
-             **{f"relink/{path}": it for path, it in relink.items()}}
+             **{f"completion/{name}": parts[shell] for shell, name in COMPLETIONS.items()}, "PROOF.txt": parts["proof"],
+             "parcel_tool.spdx.json": parts["bill"], "LICENCE-STATE.txt": parts["licence"], **documents(root, "."),
+             **read_tree(root / "examples/town", "examples/town"), **{f"relink/{path}": it for path, it in relink.items()}}
     return tar_gz({path.removeprefix("./"): it for path, it in files.items()}, seconds, f"{name}/")
 
 
@@ -57,11 +59,13 @@ def debian_changelog(version: str, maintainer: str, seconds: int) -> bytes:
 
 
 def deb(root: Path, parts: Files, version: str, maintainer: str, seconds: int) -> bytes:
-    """The `.deb`, which installs the program with its man page, completion, documents, example, proof, bill and licence state."""
+    """The `.deb`, which installs the program with its man page, completions, documents, example, proof, bill and licence state."""
     share, doc = "./usr/share", "./usr/share/doc/parcel-tool"
     files = {"./usr/bin/parcel_tool": parts["program"],
              f"{share}/man/man1/parcel_tool.1.gz": (packed(parts["man"][0]), False),
-             f"{share}/bash-completion/completions/parcel_tool": parts["completion"],
+             f"{share}/bash-completion/completions/parcel_tool": parts["bash"],
+             f"{share}/zsh/vendor-completions/_parcel_tool": parts["zsh"],
+             f"{share}/fish/vendor_completions.d/parcel_tool.fish": parts["fish"],
              f"{share}/lintian/overrides/parcel-tool": (OVERRIDES.encode(), False),
              f"{doc}/copyright": parts["licence"], f"{doc}/PROOF.txt": parts["proof"], f"{doc}/parcel_tool.spdx.json": parts["bill"],
              f"{doc}/changelog.gz": (packed(debian_changelog(version, maintainer, seconds)), False),

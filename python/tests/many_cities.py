@@ -57,7 +57,7 @@ def write_cities(folder: Path, count: int, gaps: Sequence[int] = (), zones: bool
 
 
 def program(folder: Path, monkeypatch: Any, lines: str) -> Path:
-    """A program in place of the built one, a shell script that ends with it; `calls` has a line for each run of it.
+    """A program in place of the built one, a shell script that ends with it; `calls` has a line for each city's run.
 
     `lines` are run before it. In them `$city` is the folder of the city, and `once NAME` holds the first time alone.
     """
@@ -65,7 +65,7 @@ def program(folder: Path, monkeypatch: Any, lines: str) -> Path:
     script.write_text(
         f"""#!/bin/sh
 [ "$1" = --version ] && exec "{TOOL}" --version
-case "$2" in */gandovel-trial-*) exec "{TOOL}" "$@";; esac
+case "$1 $2" in part*|*/gandovel-trial-*) exec "{TOOL}" "$@";; esac
 city=$(dirname "$2")
 once() {{ mkdir "$city/$1" 2> /dev/null; }}
 echo "$(basename "$city") $1" >> "{folder}/calls"

@@ -39,6 +39,8 @@ BAD = {
     "mixed": (layer([ONE]), {"zones": layer([ONE], crs=25833)}, "P7", None, "UTM zone 33N"),
     "apart": (layer([ONE]), {"zones": layer([box(50, 50, 60, 60)])}, "P11", None, "(50.000, 50.000)"),
     "move": (layer([box(0.0004, 0, 10, 10)]), {"max_move": 0.1}, "P8", "p0", "0.40 mm (measured)"),
+    "far": (layer([box(1e12, 0, 1e12 + 10, 10)]), {"zones": layer([ONE]), "unit": 1.0}, "P9", None, "parcels: "),
+    "far zones": (layer([ONE]), {"zones": layer([box(1e12, 0, 1e12 + 10, 10)])}, "P9", None, "zones: "),
     "thin": (layer([ONE, box(10, 0, 10.0001, 10)]), {}, "P9", "p1", "nothing is left"),
 }
 

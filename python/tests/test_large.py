@@ -1,6 +1,6 @@
 """Layers that are cut into districts say what one run of the whole layer does: verdict, faults, areas, numbers, pairs.
 
-GANDOVEL_LONG=1 takes 20,000 parcels in 9 districts and more random layers.
+GANDOVEL_LONG=1 takes 20,000 parcels in 9 districts, else a tenth of them, and more random layers.
 """
 from __future__ import annotations
 
@@ -21,12 +21,14 @@ from shapely.geometry import Point, Polygon
 import gandovel
 from gandovel import Refused
 from gandovel.cli import main
+from gandovel.faults import twice_area
 from gandovel.large import Cutting, cut_by, is_large
 from gandovel.large import compose, cutting, runs, tiles, verdict
 from gandovel.large.cutting import cut, partition_faults
 from gandovel.large.verdict import Open, check_island, districts_of
 from gandovel.noding import touches
 from gandovel.report import report
+from gandovel.rounds import filled
 from registers import register
 
 LONG = bool(os.environ.get("GANDOVEL_LONG"))
@@ -126,13 +128,13 @@ def planted(shapes: List[Polygon], columns: int, kind: str) -> List[Polygon]:
 
 @pytest.mark.parametrize("kind", PLANTED)
 def test_planted_faults(kind):
-    columns, rows, most = (160, 125, 2_600) if LONG else (16, 12, 30)
+    columns, rows, most = (160, 125, 2_600) if LONG else (50, 40, 260)
     shapes = planted(grid(columns, rows), columns, kind)
     zones = frame(grid(3, 3, 2, 0.0), "zone", "Z")
     zones = zones.set_geometry([affine_transform(it, [columns / 3, 0, 0, rows / 3, 0, 0]) for it in zones.geometry])
     prepared = gandovel.prepare(frame(shapes), zones)
     answer, count = same(prepared, most)
-    assert count >= 7
+    assert count >= 9
     assert (len(answer.gaps) + len(answer.overlaps) == 0) == (kind == "a parcel across a border")
 
 
@@ -288,16 +290,41 @@ def test_outlines_that_are_none_of_their_rings(monkeypatch, change):
 
 
 def test_a_run_in_another_outline_is_found(monkeypatch):
-    written = verdict._write
+    written = verdict._with_parts
 
     def write(folder: Path, *words: Any) -> Any:
         sums = written(folder, *words)
         (folder / "d2/city.shp").write_bytes((folder / "d1/city.shp").read_bytes())
         return sums
 
-    monkeypatch.setattr(verdict, "_write", write)
+    monkeypatch.setattr(verdict, "_with_parts", write)
     with cut_by(Cutting(10)), pytest.raises(Open, match="district 2 was not judged in the outline"):
         check_island(island_of())
+
+
+def test_outlines_are_the_programs(monkeypatch):
+    """Each district is judged in the outline that `part --all` wrote, where the outlines tile; else in that of its record."""
+    asked: List[List[str]] = []
+    ask = verdict.ask
+    monkeypatch.setattr(verdict, "ask", lambda words: (asked.append(words), ask(words))[1])
+    tests, outlines = verdict._test_outlines, []
+
+    def kept(folder: Path, plan: Any, sums: Any) -> None:
+        outlines.extend((folder / piece.name / "city.shp").read_bytes() for piece in plan.pieces)
+        tests(folder, plan, sums)
+
+    monkeypatch.setattr(verdict, "_test_outlines", kept)
+    island, moved = island_of(), cut(island_of().parcels.rings, 10)
+    with cut_by(Cutting(10)):
+        assert check_island(island).tiles
+    assert [words[0] for words in asked] == ["part"] and asked[0][3] == "--all" and len(outlines) == len(moved) + 1
+    for outline, ring in zip(outlines[1:], moved.outlines):
+        assert Polygon(read_content(outline)).equals(Polygon(ring))
+
+
+def read_content(data: bytes) -> Any:
+    """The corners of the one ring of a shapefile."""
+    return np.frombuffer(data, "<f8", offset=156).reshape(-1, 2)
 
 
 def test_a_run_without_an_answer_leaves_the_verdict_open(monkeypatch):
@@ -326,6 +353,24 @@ def test_an_open_verdict_is_status_2_and_one_line(tmp_path, monkeypatch, capsys)
     words = ["--number", "parcel_no", "--parcels-a-district", "10"]
     assert main(["check", str(tmp_path / "parcels.gpkg"), *words]) == 2
     assert capsys.readouterr().err.splitlines()[-1].startswith("error: parcels: T11 the verdict is open: not judged")
+
+
+def with_a_slit(shapes: List[Polygon]) -> List[Polygon]:
+    """The shapes of 2 by 2, the second one half a metre narrower: a slit that is open to the outside."""
+    corners = np.asarray(shapes[1].exterior.coords)[:-1] + np.array([(0.5, 0), (0, 0), (0, 0), (0.5, 0)])
+    return [shapes[0], Polygon(corners), *shapes[2:]]
+
+
+@pytest.mark.parametrize("cut_at", [None, "2"])
+@pytest.mark.parametrize("change, status", [(list, 0), (lambda it: it[:4] + it[5:], 1), (with_a_slit, 2)])
+def test_a_status_by_the_verdict(tmp_path, capsys, change, status, cut_at):
+    shapes = change(grid(2, 2, bend=0.0) if change is with_a_slit else grid(3, 3))
+    frame(shapes).to_file(tmp_path / "parcels.gpkg", driver="GPKG")
+    more = ["--parcels-a-district", cut_at] if cut_at else []
+    words = ["--number", "parcel_no", *more]
+    assert main(["check", str(tmp_path / "parcels.gpkg"), *words]) == status
+    assert main(["report", str(tmp_path / "parcels.gpkg"), "--out", str(tmp_path / "r.gpkg"), *words]) == status
+    assert "error: " not in capsys.readouterr().err and (tmp_path / "r.gpkg").is_file()
 
 
 @pytest.mark.parametrize("place", ["/d2/", "/all/"])
@@ -433,3 +478,13 @@ def test_a_large_geopackage_is_read_as_fiona_reads_it(tmp_path, monkeypatch):
             plain[column].where(plain[column].notna(), "-").tolist()
             == fast[column].where(fast[column].notna(), "-").tolist()
         )
+
+
+def test_what_fills_an_area_has_room_for_its_neighbours_corners():
+    """Of a parcel of 4,000 corners, the area around it is cut into rings of half as many as the program takes."""
+    angles = np.linspace(0, 2 * np.pi, 4000, endpoint=False)
+    ring = np.rint(np.column_stack([np.cos(angles), np.sin(angles)]) * 10**7).astype(np.int64)
+    frame = np.array([(-2, -2), (2, -2), (2, 2), (-2, 2)], dtype=np.int64) * 10**7
+    rings = filled(frame, [ring])
+    assert len(rings) > 2 and max(map(len, rings[1:])) <= 2048
+    assert sum(map(twice_area, rings)) == twice_area(frame)

@@ -57,11 +57,11 @@ def test_many_small_cities(run, tmp_path):
 
 def test_a_result_is_what_the_program_said(run, tmp_path):
     write_cities(tmp_path, 2, [1])
-    run(tmp_path / "manifest.csv", tmp_path / "out")
+    run(tmp_path / "manifest.csv", tmp_path / "out", verify=True)
     for name in ("c0", "c1"):
         folder, facts = tmp_path / "out/cities" / name, told(tmp_path / "out", name)
         city, parcels = (str(tmp_path / "in" / name / f"{layer}.shp") for layer in ("city", "parcels"))
-        assert facts["command"] == [TOOL, "check", city, parcels, "--unit", "mm", "--all"]
+        assert facts["command"] == [TOOL, "check", city, parcels, "--unit", "mm", "--all", "--workers", "1"]
         asked = subprocess.run(facts["command"], stdout=subprocess.PIPE, stderr=subprocess.PIPE)
         assert (folder / "output.txt").read_bytes() == asked.stdout and (
             folder / "errors.txt"
@@ -130,6 +130,9 @@ def test_another_program_does_all_again(run, tmp_path, monkeypatch):
 
 PARENT = '"$(sed -n "s/^PPid:.//p" "/proc/$PPID/status")"'
 """In a program of `program`: the process that has started the task's."""
+
+JOB_OF = '"$(ps -o ppid= -p ' + PARENT + ' | tr -d " ")"'
+"""The process of the engine that has started that one: GNU parallel, or a worker of Dask."""
 
 KILLED = {"the program": "kill -9 $$", "the task's process": "kill -9 $PPID; sleep 5"}
 
@@ -389,11 +392,50 @@ def test_the_command_says_which_cities_have_no_verdict(run, tmp_path, monkeypatc
 
 def test_workers_of_dask_that_are_killed(dask_cluster, tmp_path, monkeypatch):
     # The nanny of a worker starts another one; the task that it had goes to any of them.
-    program(tmp_path, monkeypatch, f'case "$city" in */c[27]) once killed && {{ kill -9 {PARENT}; sleep 600; }};; esac')
+    program(tmp_path, monkeypatch, f'case "$city" in */c[27]) once killed && {{ kill -9 {JOB_OF}; sleep 600; }};; esac')
     summary = run_many(write_cities(tmp_path, 12), tmp_path / "out", "dask", scheduler=dask_cluster.scheduler_address)
     assert all(it.tiles for it in summary.verdicts)
     assert sorted(calls(tmp_path)) == sorted([f"c{at}" for at in range(12)] + ["c2", "c7"])
     until(lambda: not processes_of(tmp_path))
+
+
+def test_a_scheduler_of_dask_that_is_killed(tmp_path, monkeypatch):
+    """What was done is told, what was not is named, and the run goes on from there by another engine."""
+    first = 'mkdir "$city/../../first" 2> /dev/null'
+    program(tmp_path, monkeypatch, f'{first} || [ -e "$city/../../go" ] || sleep 600')
+    (tmp_path / "dask").mkdir()
+    started_by = [
+        sys.executable,
+        "-m",
+        "distributed.cli.dask_scheduler",
+        "--scheduler-file",
+        "dask/file",
+        "--port",
+        "0",
+    ]
+    workers = [sys.executable, "-m", "distributed.cli.dask_worker", "--scheduler-file", "dask/file", "--nthreads", "1"]
+    quiet = {"cwd": str(tmp_path), "stdout": subprocess.DEVNULL, "stderr": subprocess.DEVNULL}
+    own = [subprocess.Popen([*started_by, "--host", "127.0.0.1", "--no-dashboard"], **quiet)]
+    try:
+        address = until(lambda: (tmp_path / "dask/file").is_file() and (tmp_path / "dask/file").read_text())
+        own.append(subprocess.Popen([*workers, "--no-dashboard", "--death-timeout", "120"], **quiet))
+        write_cities(tmp_path, 3)
+        scheduler = json.loads(address)["address"]
+        one = started(tmp_path, "manifest.csv", "--out", "out", "--engine", "dask", "--scheduler", scheduler)
+        until(lambda: have_results(tmp_path / "out", 1) and len(calls(tmp_path)) > 1, 400)
+        own[0].kill()
+        out, errors = one.communicate(timeout=300)
+    finally:
+        for process in own[::-1]:
+            process.kill()
+            process.wait()
+    assert (one.returncode, out) == (2, "3 cities: 1 tile, 2 without a verdict (T7 2)\n"), errors
+    assert errors.splitlines()[-1] == "error: T9 2 of 3 cities have no verdict" and "Traceback" not in errors
+    assert errors.count(": T7 Dask: the scheduler went away") == 2
+    until(lambda: not processes_of(tmp_path / "in"))
+    (tmp_path / "go").touch()
+    summary = run_many(tmp_path / "manifest.csv", tmp_path / "out", resume=True)
+    assert summary.kept == 1 and all(it.tiles for it in summary.verdicts)
 
 
 @pytest.mark.parametrize("engine", ["parallel", "dask"])
@@ -402,7 +444,7 @@ def test_tasks_that_share_a_job(tmp_path, monkeypatch, engine):
     program(
         tmp_path,
         monkeypatch,
-        f'case "$city" in */c1) kill -9 $PPID; sleep 600;; */c7) once killed && kill -9 {PARENT};; '
+        f'case "$city" in */c1) kill -9 $PPID; sleep 600;; */c7) once killed && {{ kill -9 {PARENT}; sleep 600; }};; '
         "*/c9) kill -9 $$;; esac",
     )
     manifest = write_cities(tmp_path, 12, [3])
@@ -437,6 +479,17 @@ def test_a_job_that_is_killed_on_its_last_try(tmp_path, monkeypatch, engine):
     assert names_in(tmp_path / "out/engine/1-cities/alone") >= {f"{at}.txt" for at in range(4)}
 
 
+def test_lists_that_nobody_took(tmp_path, monkeypatch):
+    """Both processes that run tasks are killed on their last try: what they had is named, what they had not is done."""
+    monkeypatch.setattr(sys.modules["gandovel.many.engines.parallel"], "jobs_of", lambda *_: [[at] for at in range(4)])
+    once = '{ mkdir "$city/../one" || mkdir "$city/../two"; } 2> /dev/null'
+    program(tmp_path, monkeypatch, f"{once} && {{ kill -9 {PARENT}; sleep 600; }}")
+    summary = run_many(write_cities(tmp_path, 4), tmp_path / "out", "parallel", jobs=2, retries=0)
+    assert sorted(it.code for it in summary.verdicts) == ["", "", "T4", "T4"]
+    assert len(list((tmp_path / "out/engine/1-cities/alone").glob("?.txt"))) == 2
+    until(lambda: not processes_of(tmp_path / "in"))
+
+
 def sizes_of_jobs(folder, sizes, at_once):
     """How many tasks each job has, of tasks with files of so many bytes."""
     tasks = []
@@ -465,7 +518,7 @@ def test_large_cities_do_not_share_a_job(tmp_path):
 
 
 def test_a_parallel_that_is_killed(tmp_path, monkeypatch):
-    program(tmp_path, monkeypatch, f'case "$city" in */c0) kill -9 {PARENT}; sleep 600;; */c1) sleep 600;; esac')
+    program(tmp_path, monkeypatch, f'case "$city" in */c0) kill -9 {JOB_OF}; sleep 600;; */c1) sleep 600;; esac')
     summary = run_many(write_cities(tmp_path, 3), tmp_path / "out", "parallel", jobs=2)
     assert {it.code for it in summary.verdicts} == {"T7"}
     until(lambda: not processes_of(tmp_path))

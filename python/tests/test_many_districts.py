@@ -18,6 +18,7 @@ from shapely.geometry import Polygon
 from gandovel.layer_files import read_rings, write_rings
 from gandovel.many import run_many
 from gandovel.many.rings import DistrictLayer, NoRing
+from gandovel.many.summary import Verdict, whole_of
 from many_cities import GAP, SIDE, TOOL, box, calls, names_in, program, told, verdicts, write_city
 
 LARGE = int(os.environ.get("GANDOVEL_MANY", "100")) >= 1000
@@ -218,6 +219,33 @@ def test_numbers_of_districts(tmp_path):
     assert frame[["city", "records", "numbers"]].values.tolist() == [["d0", "2", "b"]]
     gaps = gpd.read_file(tmp_path / "out/faults.gpkg", layer="gaps")
     assert gaps[["city", "numbers"]].values.tolist() == [["d1", "e,g"]]
+
+
+def test_rings_are_the_programs_where_the_layer_tiles(tmp_path):
+    """`part` puts in the neighbours' corners; of a layer that does not tile each ring is its record, byte for byte."""
+    rows = row_of_districts(tmp_path / "in", 2)
+    bent = [
+        np.array([(0, 0), (2 * SIDE, 0), (2 * SIDE, 2 * SIDE), (0, 2 * SIDE)], dtype=np.int64),
+        np.array([(2 * SIDE, 0), (4 * SIDE, 0), (4 * SIDE, 2 * SIDE), (2 * SIDE, 2 * SIDE), (2 * SIDE, SIDE)]),
+    ]
+    write_rings(tmp_path / "in/districts.shp", bent)
+    summary = run_many(write_manifest(tmp_path, rows), tmp_path / "out")
+    (ring,) = read_rings(tmp_path / "out/rings/d0/ring_mm.shp")
+    assert summary.wholes[0].tiles and len(ring) == 5 and (2 * SIDE, SIDE) in map(tuple, ring.tolist())
+    bent[1][4] += 3
+    write_rings(tmp_path / "in/districts.shp", bent)
+    summary = run_many(tmp_path / "manifest.csv", tmp_path / "out")
+    (ring,) = read_rings(tmp_path / "out/rings/d0/ring_mm.shp")
+    assert len(ring) == 4 and summary.wholes[0].kind == "refused" and verdicts(summary)["d0"] == ("tiles", "")
+    assert names_in(tmp_path / "out/rings") == {"d0", "d1"}
+
+
+def test_areas_that_do_not_add_up_leave_a_city_open():
+    layer = Verdict("all", "tiles", parcels=2, area2=20)
+    districts = {at: Verdict(f"d{at}", "tiles", parcels=3, area2=10) for at in (1, 2)}
+    assert whole_of(layer, districts).tiles
+    whole = whole_of(layer, {**districts, 2: Verdict("d2", "tiles", parcels=3, area2=12)})
+    assert (whole.kind, whole.said) == ("open", "open: the districts have twice 22 mm2, and the city 20")
 
 
 def test_a_country_of_cities_of_districts(tmp_path):

@@ -46,7 +46,7 @@ def folder(tmp_path_factory):
     assert one.returncode == 0, one.stderr
     assert one.stdout.startswith("202 parcels -> 226 rings (24 more for holes and parts); ")
     two = command("report", "work", "--out", "report.gpkg", cwd=place)
-    assert two.returncode == 0, two.stderr
+    assert two.returncode == 1, two.stderr
     (place / "prepared.txt").write_text(one.stdout)
     (place / "said.txt").write_text(two.stdout)
     return place
@@ -171,7 +171,7 @@ def test_layers_say_what_is_measured(folder):
 
 def test_the_layers_themselves_are_reported_at_once(folder):
     told = command("report", "parcels.gpkg", "--zones", "zones.gpkg", "--frame", "--out", "framed.gpkg", cwd=folder)
-    assert told.returncode == 0, told.stderr
+    assert told.returncode == 1, told.stderr
     prepared, found = told.stdout.splitlines()
     assert prepared.startswith("202 parcels -> 226 rings ")
     assert found.startswith("1 gap (7.09 m2), 2 overlaps (762.27 m2, 0.46 m2); ")

@@ -63,8 +63,7 @@ def test_exactly_the_planted_faults_of_2000_parcels(decimals):
     told_as_planted(gv.report(gv.prepare(frame)), planted, touch_of(decimals))
 
 
-@pytest.mark.skipif(not LONG, reason="20,000 parcels take a minute each: GANDOVEL_LONG=1")
-@pytest.mark.parametrize("decimals", DRAWN)
+@pytest.mark.parametrize("decimals", DRAWN if LONG else [2])
 def test_exactly_the_planted_faults_of_20000_parcels(decimals):
     wide = 3.5 * touch_of(decimals)
     frame, planted = slanted(8, 100, 200, decimals, {at: wide * (-1) ** (at // 500) for at in range(10, 20_000, 500)})
@@ -102,6 +101,14 @@ def test_touch_0_compares_exactly_on_the_grid_too():
     assert len(gv.check(two(0.001))) == 0 and len(gv.check(two(0.05), touch=51, max_move=1)) == 0
 
 
+def test_no_side_is_bent_away_from_its_neighbour():
+    """A zone's corner on the outline, near the end of a slanted side: one of its two parcels can't go through it."""
+    parcels = [Polygon([(0, 0), (10, 0), (8, 10), (0, 10)]), Polygon([(10, 0), (20, 0), (20, 10), (8, 10)])]
+    zones = [box(0, 0, 9.99, 10), box(9.99, 0, 20, 10)]
+    frames = [gpd.GeoDataFrame({"parcel_no": list("12")}, geometry=some, crs=25832) for some in (parcels, zones)]
+    assert len(gv.report(gv.prepare(*frames, grid=10)).faults()) == 0
+
+
 def test_a_grid_that_is_told():
     assert len(gv.check(two(0.008), grid=10)) == 0 and len(gv.check(two(0.008))) == 1
 
@@ -111,6 +118,11 @@ def test_a_grid_that_is_told():
 def test_what_is_no_distance_is_refused(name, bad):
     with pytest.raises(gv.Refused, match=f"P8 a {name.replace('_', '-')} of .* is none: give millimetres"):
         gv.prepare(two(0.0), **{name: bad})
+
+
+def test_a_grid_of_nothing_is_refused():
+    with pytest.raises(gv.Refused, match="P8 a grid of 0 mm is none: give millimetres, above 0 and up to"):
+        gv.prepare(two(0.0), grid=0)
 
 
 def test_what_is_no_area_is_refused():

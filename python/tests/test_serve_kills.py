@@ -9,13 +9,16 @@ import subprocess
 import sys
 import threading
 import time
+from types import SimpleNamespace
 
+import numpy as np
 import pytest
 import requests
 
 import gandovel
 from gandovel.journals import Said
-from gandovel.serve.entries import Asked
+from gandovel.answers import Accepted
+from gandovel.serve.entries import Asked, Entry
 from gandovel.serve.register import Fate, Register
 from gandovel.serve.tail import Tail
 from gandovel.tool import find_tool
@@ -238,3 +241,68 @@ def test_an_answer_is_found_in_the_journal(tmp_path):
         return [await fate.number for fate in sent]
 
     assert asyncio.run(fates()) == [2, None, None, 3, 1]
+
+
+class Follower:
+    """The lines that a follower got, and the answers to come."""
+
+    def __init__(self):
+        self.operator, self.lines, self.answers = self, [], []
+
+    def put(self, line):
+        self.lines.append(line.decode())
+        self.answers.append(asyncio.get_running_loop().create_future())
+        return self.answers[-1]
+
+
+def opened(journal, told):
+    """A register whose follower has parcels 1 to 6, and that took three merges; the session told the ids of these."""
+    register, square = Register(SimpleNamespace(follow=lambda entry: None), journal), np.array([[0, 0], [1, 0], [1, 1]])
+    register.state, register._follower = "serving", Follower()
+    register.versions.begin(0, [(parcel, 0, 1, square) for parcel in range(1, 7)])
+    register._accepted = {
+        at: Entry(at, f"merge {at} {at + 3}", (), (), "anna", "", "2026-01-01T00:00:00Z", None) for at in (1, 2, 3)
+    }
+    register._told = {at: Accepted(at, (at, at + 3), (at + 6,)) for at in told}
+    register.acknowledged = 3
+    return register, register._follower
+
+
+def test_the_follower_is_not_waited_for_edit_by_edit(tmp_path):
+    """All edits whose ids the session told go to it at once; behind one that was not told nothing is sent before its answer."""
+
+    async def followed():
+        register, follower = opened(tmp_path, (1, 2))
+        task, shown = asyncio.create_task(register._follow()), asyncio.create_task(register.shown())
+        await asyncio.sleep(0)
+        sent = ["merge 1 4", "parcel 7", "merge 2 5", "parcel 8", "merge 3 6"]
+        assert follower.lines == sent
+        for at, line in enumerate([*sent, "parcel 9"]):
+            kind, number = line.split()[:2]
+            await asyncio.sleep(0.01)
+            assert not task.done() and not shown.done()
+            ok = f"ok {number} out {number} {int(number) + 3} new {int(number) + 6}"
+            text = ok if kind == "merge" else f"parcel 3 {number} 2 0 0 1 0 1 1"
+            follower.answers[at].set_result([text.encode()])
+        await task
+        assert follower.lines == [*sent, "parcel 9"] and await shown == 3 and not register._told
+        assert [(it.number, it.out, it.new) for it in register.entries] == [
+            (k, (k, k + 3), (k + 6,)) for k in (1, 2, 3)
+        ]
+        assert register.versions.find(7, 0) is None and register.versions.find(7, 1).born == 1
+        assert register.versions.find(1, 0).died == 1 and register.versions.find(1, 1) is None
+
+    asyncio.run(followed())
+
+
+def test_a_follower_that_tells_other_ids_is_not_believed(tmp_path):
+    async def followed():
+        register, follower = opened(tmp_path, (1,))
+        task = asyncio.create_task(register._follow())
+        await asyncio.sleep(0)
+        follower.answers[0].set_result([b"ok 1 out 1 4 new 8"])
+        with pytest.raises(gandovel.BadAnswer):
+            await task
+        assert register.entries == []
+
+    asyncio.run(followed())

@@ -315,6 +315,7 @@ def test_a_full_disk(town, tmp_path, monkeypatch, kind):
         read = journal_of(journal)
         assert [record.edit for record in read.records] == accepted
         town.journal.write_bytes(journal)
+    assert session.close() == len(accepted)
     monkeypatch.undo()
     with town.session("anna") as session, session.desk("anna", SECONDS) as desk:
         assert session.replayed == len(accepted) and len(session.notes) == (1 if read.torn else 0)
@@ -342,7 +343,11 @@ def until_full(session: gv.Session) -> List[str]:
             assert it.locate(1, 1).ids == (1,) and it.parcel(3) is not None
             with pytest.raises(gv.JournalBroken):
                 it.merge(3, 3)
-        assert session.check().count == 64
+            assert it.entries() == len(accepted)
+        for call in (session.check, session.publish, lambda: session.export(session.path("anna") + "new")):
+            with pytest.raises(gv.JournalBroken):
+                call()
+    assert session.entries() == len(accepted)
     return accepted
 
 

@@ -136,11 +136,19 @@ def test_columns_of_any_name_and_kind(tmp_path):
     columns = {"pairs": [[1], {2: 3}], "span": pd.to_timedelta([1, 2]), "range": pd.interval_range(0, 2)}
     frame = two(FID=[3, 4], Fid=[5, 6], large=np.array([1, 2**64 - 1], dtype=np.uint64), **columns)
     frame[7], frame["shape"] = [1, 2], frame.geometry
-    prepared = gv.prepare(frame)
+    frame["sparse"], frame["long"] = pd.arrays.SparseArray([0, 9]), np.array([1, 2.5], dtype=np.longdouble)
+    frame["nul\0"] = ["x", "y"]
+    prepared = gv.prepare(frame, number=7)
+    assert prepared.numbers == ["1", "2"]
     gv.report(prepared).save(tmp_path / "r.gpkg")
     written = gpd.read_file(tmp_path / "r.gpkg", layer="parcels")
-    assert {"7", "FID_", "Fid__", *columns} <= set(written.columns) and written.large[1] == str(2**64 - 1)
-    for lost in ("geometries of the column shape", *(f"type of the column {name}" for name in columns)):
+    assert {"parcel_no", "FID_", "Fid__", "nul", *columns} <= set(written.columns)
+    assert [written[name][1] for name in ("large", "sparse", "long")] == [str(2**64 - 1), 9, 2.5]
+    for lost in (
+        "geometries of the column shape",
+        "last digits of the column long",
+        *(f"type of the column {name}" for name in columns),
+    ):
         assert any(lost in text for text in prepared.lost)
 
 
@@ -229,6 +237,23 @@ def test_skip_invalid_goes_on_and_says_so(tmp_path):
     assert [(one["code"], one["number"]) for one in told["refused"]] == [("P6", "tie")]
 
 
+def test_what_is_skipped_may_be_no_shape_or_a_line_or_infinite(tmp_path):
+    far = Polygon([(EAST, NORTH), (np.inf, NORTH), (EAST, NORTH + 1)])
+    numbers, shapes = [*bad().parcel_no, "far", "missing"], [*bad().geometry, far, None]
+    frame = gpd.GeoDataFrame({"parcel_no": numbers}, geometry=shapes, crs=25832)
+    report = gv.report(gv.prepare(frame, skip_invalid=True))
+    report.save(tmp_path / "r.gpkg")
+    skipped = gpd.read_file(tmp_path / "r.gpkg", layer="skipped")
+    assert list(skipped.number) == ["tie", "none", "line", "far", "missing"]
+    written = gpd.read_file(tmp_path / "r.gpkg", layer="parcels")
+    assert list(written.status) == ["ok", *["skipped"] * 5] and written.geometry[3].geom_type == "LineString"
+    with pytest.raises(gv.Refused, match="P6 .*parcel far: .*Invalid Coordinate"):
+        gv.prepare(frame)
+    frame = frame.iloc[[0, 5]]
+    gv.report(gv.prepare(frame, skip_invalid=True)).save(tmp_path / "r.gpkg")
+    assert list(gpd.read_file(tmp_path / "r.gpkg", layer="skipped").number) == ["missing"]
+
+
 def test_numbers_that_are_missing_or_twice_are_all_told():
     frame = two().assign(parcel_no=pd.array([1, None], dtype="Int64"))
     with pytest.raises(gv.Refused, match="P3 row 2 has no parcel_no"):
@@ -238,11 +263,40 @@ def test_numbers_that_are_missing_or_twice_are_all_told():
         gv.prepare(two(), number="nr")
 
 
-@pytest.mark.parametrize("name", ["r.shp", "r.geojson", "r"])
+def test_what_sqlite_can_not_take_is_refused(tmp_path):
+    report = gv.report(gv.prepare(two(owner=["x", "\ud800"])))
+    with pytest.raises(gv.Refused, match="P14 .*r.gpkg can't be written: .*surrogates"):
+        report.save(tmp_path / "r.gpkg")
+    assert not list(tmp_path.iterdir())
+
+
+def test_heights_stay_as_they_were_given(tmp_path):
+    high = [Polygon([(x, y, 5.0) for x, y in shape.exterior.coords]) for shape in two().geometry]
+    gv.report(gv.prepare(gpd.GeoDataFrame({"parcel_no": ["a", "b"]}, geometry=high, crs=25832))).save(
+        tmp_path / "r.gpkg"
+    )
+    with fiona.open(tmp_path / "r.gpkg", layer="parcels") as opened:
+        assert opened.schema["geometry"] == "3D Polygon"
+    assert gpd.read_file(tmp_path / "r.gpkg", layer="parcels").geometry[0].exterior.coords[0][2] == 5.0
+
+
+def test_many_rows_are_read_as_few_are(tmp_path, monkeypatch):
+    frame = two(whole=pd.array([3, None], dtype="Int64"), real=[0.5, None], text=["x", None])
+    frame.to_file(tmp_path / "p.gpkg", driver="GPKG")
+    few = read_layer(tmp_path / "p.gpkg", "parcels")
+    monkeypatch.setattr("gandovel.large.reading.MANY", 1)
+    many = read_layer(tmp_path / "p.gpkg", "parcels")
+    assert few.dtypes.to_dict() == many.dtypes.to_dict() and few.crs == many.crs
+    assert few.geometry.equals(many.geometry) and few.drop(columns="geometry").equals(many.drop(columns="geometry"))
+
+
+@pytest.mark.parametrize("name", ["r.shp", "r.geojson", "r", "none/r.gpkg"])
 def test_a_report_is_a_geopackage(tmp_path, name):
     two().to_file(tmp_path / "p.gpkg", driver="GPKG")
     ended = command("report", "p.gpkg", "--out", name, cwd=tmp_path)
     assert ended.returncode == 1 and "error: P14" in ended.stderr and not (tmp_path / name).exists()
+    with pytest.raises(gv.Refused, match="P14"):
+        gv.report(gv.prepare(two())).save(tmp_path / name)
 
 
 def test_a_program_that_says_nothing_is_not_believed(tmp_path, monkeypatch):

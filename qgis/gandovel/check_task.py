@@ -81,7 +81,8 @@ class CheckTask(QgsTask):
         unit: str,
         done: Callable[[Outcome], None],
     ) -> None:
-        super().__init__(f"Gandovel: check of {layer.name()}", QgsTask.CanCancel)
+        self.title = f"Gandovel: check of {layer.name()}"
+        super().__init__(self.title, QgsTask.CanCancel)
         self.parcels, self.number, self.unit, self.done = Snapshot(layer), number, unit, done
         self.city = Snapshot(city) if city is not None else None
         self.context = QgsProject.instance().transformContext()
@@ -112,6 +113,7 @@ class CheckTask(QgsTask):
                 self.outcome = Outcome([], refused=str(fault))
             except Exception as fault:  # pylint: disable=broad-except
                 self.outcome = Outcome([], refused=f"The check failed: {type(fault).__name__}: {fault}")
+        self.setDescription(self.title)
         return True  # a refusal is an outcome, too: QGIS says nothing of its own then
 
     def _checked(self, folder: str, written: Dict[str, Written]) -> Outcome:

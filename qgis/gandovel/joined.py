@@ -24,12 +24,18 @@ Row = Tuple[Dict[str, Any], QgsFeature, Optional[QgsFeature]]
 
 
 class Joined:
-    """The table of a report's layers. `square_metres` is the area of a square of the layers' unit."""
+    """The table of a report's layers and its pairs (parcel, zone). `square_metres` has a square of the layers' unit."""
 
     def __init__(
-        self, parcels: QgsVectorLayer, zones: QgsVectorLayer, parts: QgsVectorLayer, square_metres: float
+        self,
+        parcels: QgsVectorLayer,
+        zones: QgsVectorLayer,
+        parts: QgsVectorLayer,
+        pairs: List[Dict[str, Any]],
+        square_metres: float,
     ) -> None:
         self.parcels, self.square_metres = parcels, square_metres
+        self.zone_of = {str(pair["number"]): str(pair["zone"]) for pair in pairs if not pair["split"]}
         self.zones = {feature.id(): feature for feature in zones.getFeatures()}
         self.by_name = {str(feature["number"]): feature for feature in reversed(list(self.zones.values()))}
         self.index = QgsSpatialIndex(zones.getFeatures())
@@ -78,12 +84,13 @@ class Joined:
                 yield self._whole(number, parcel)
 
     def _whole(self, number: str, parcel: QgsFeature) -> Row:
-        """The row of a parcel that no two zones share; in which one it lies is measured at a point inside."""
-        zone = self._zone_at(parcel.geometry())
+        """The row of a parcel that no two zones share; that of one that the program was not asked of is measured."""
+        told = self.zone_of.get(number)
+        zone = self.by_name.get(told) if told is not None else self._zone_at(parcel.geometry())
         values = {
             "number": number,
-            "zone": zone["number"] if zone is not None else None,
-            "zone_how": "measured",
+            "zone": told if told is not None or zone is None else zone["number"],
+            "zone_how": "measured" if told is None else "exact",
             "split": 0,
         }
         area = parcel.geometry().area() * self.square_metres

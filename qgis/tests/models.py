@@ -9,7 +9,7 @@ FAULTY, WHOLE = "parcels", "whole"
 OUTPUTS: Dict[str, List[str]] = {
     "checkparcels": ["FAULTS"],
     "districts": ["FAULTS"],
-    "overlayzones": ["SPLIT", "PARTS", "TABLE", "FAULTS"],
+    "overlayzones": ["SPLIT", "PARTS", "TABLE", "PAIRS", "FAULTS"],
     "prepare": ["OUTPUT", "CHANGES"],
     "locatepoints": ["OUTPUT"],
     "applyedits": ["OUTPUT", "ANSWERS"],

@@ -108,6 +108,11 @@ def test_each_on_the_town(qgis: Any, place: Path, town_session: Path) -> None:
     table = read(folder, "overlayzones_TABLE")
     pairs = ((1, 1), (2, 1), (2, 2), (3, 1), (4, 1), (4, 2), (5, 2))
     assert list(zip(table["number"], table["zone"])) == [(str(parcel), str(zone)) for parcel, zone in pairs]
+    assert set(table["zone_how"]) == {"exact"}
+    found = read(folder, "overlayzones_PAIRS")
+    assert list(zip(found["number"], found["zone"], found["split"])) == [
+        (str(parcel), str(zone), int(parcel in (2, 4))) for parcel, zone in pairs
+    ]
     assert read(folder, "prepare_OUTPUT")["records"].tolist() == ["1", "2", "3", "4", "5"]
     assert read(folder, "locatepoints_OUTPUT")["numbers"].tolist() == ["1", "4,5"]
     assert read(folder, "applyedits_ANSWERS")["made"].tolist() == [1, 1, 0]
@@ -145,7 +150,11 @@ def test_each_on_2000_parcels_with_planted_faults(
     split, parts = read(tmp_path, "overlayzones_SPLIT"), read(tmp_path, "overlayzones_PARTS")
     assert set(split["number"]) == set(parts["number"]) and len(split) > 30
     assert parts.groupby("number")["share"].sum().tolist() == pytest.approx([1.0] * len(split))
-    assert len(read(tmp_path, "overlayzones_TABLE")) == 2000 + len(split)
+    table, pairs = read(tmp_path, "overlayzones_TABLE"), read(tmp_path, "overlayzones_PAIRS")
+    assert len(table) == 2000 + len(split)
+    exact = table[table["zone_how"] == "exact"]
+    assert sorted(zip(exact["number"], exact["zone"])) == sorted(zip(pairs["number"], pairs["zone"]))
+    assert pairs.groupby("number").size().gt(1).sum() == len(split) and len(exact) >= 1990
     assert len(read(tmp_path, "prepare_OUTPUT")) == 2000
     assert read(tmp_path, "locatepoints_OUTPUT")["where"].tolist() == ["inside", "inside", "outside"]
     assert len(read(tmp_path, "applyedits_OUTPUT")) == 1999

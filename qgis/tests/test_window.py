@@ -71,8 +71,10 @@ def seen(display: str, tmp_path_factory: pytest.TempPathFactory) -> Dict[str, An
     found: Dict[str, Any] = json.loads(path.read_text())
     assert "failed" not in found, found["failed"]
     keep = os.environ.get("GANDOVEL_PICTURES")
-    for image in folder.glob("*.png") if keep else ():
-        shutil.copy(image, str(keep))
+    if keep:
+        Path(keep).mkdir(parents=True, exist_ok=True)
+        for image in folder.glob("*.png"):
+            shutil.copy(image, keep)
     return found
 
 

@@ -29,13 +29,13 @@ module _ {A X : Type 0} (run : Run) (card : X → CardState A) (edits : X → Li
   one_told : (journal : List (JournalEntry A)) (clerk : ℕ) (old new : X) → Works old new
       → card old ≡ record { clerk = clerk; made = []; met = [] }
       → refused new ≡ false → Agrees journal (card new) → HasMet journal (card new)
-      → AreTold run journal clerk [] (edits old) (of_clerk clerk journal) (lines new)
+      → AreTold run journal clerk [] [] (edits old) (of_clerk clerk journal) (lines new)
   one_told journal clerk old new works fresh not_refused agrees met =
       let old_clerk : (card old).clerk ≡ clerk = ap (λ (c : CardState A). c.clerk) fresh in
       let said = works.said (ap (λ (c : CardState A). c.made) fresh) not_refused in
       let made : (card new).made ≡ of_clerk clerk journal = agrees ∙ ap (λ k. of_clerk k journal) (works.same_clerk ∙ old_clerk) in
-      subst (λ made. AreTold run journal clerk [] (edits old) made (lines new)) made
-      (subst (λ k. AreTold run journal k [] (edits old) (card new).made (lines new)) old_clerk (said.are_told journal met))
+      subst (λ made. AreTold run journal clerk [] [] (edits old) made (lines new)) made
+      (subst (λ k. AreTold run journal k [] [] (edits old) (card new).made (lines new)) old_clerk (said.are_told journal met))
 
   -- and so of all clerks
   pub each_told : (journal : List (JournalEntry A)) (before n : ℕ) (olds news : List X) → AllZip Works olds news
@@ -56,7 +56,7 @@ module _ {A X : Type 0} (run : Run) (card : X → CardState A) (edits : X → Li
         lines new,
         flat_map lines news,
         refl,
-        subst (λ k. AreTold run journal k [] (edits old) (of_clerk k journal) (lines new)) next told,
+        subst (λ k. AreTold run journal k [] [] (edits old) (of_clerk k journal) (lines new)) next told,
         subst (λ k. AreEachTold run (k + 1) (map edits olds) journal (flat_map lines news)) next others,
       )
 

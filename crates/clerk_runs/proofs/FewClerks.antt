@@ -56,9 +56,9 @@ module _ {A : Type 0} where
       let rest = all_his journal (All-tail (λ (e : JournalEntry A). IsClerk 1 e.clerk) entry journal are) in
       ap (λ b. cond b (entry ∷ of_clerk 1 journal) (of_clerk 1 journal)) is ∙ ap (λ l. entry ∷ l) rest
 
-  pub due_after_his : (run : Run) (whole made : List (JournalEntry A)) (edit : Edit A) (refusal : Refusal) → run.clerks ≡ 1
-      → IsRefusalDue run whole 1 made edit refusal → IsRefusal (replay run.opening made) made edit refusal
-  due_after_his run whole made edit refusal one due =
-      let are = subst (λ n. All (λ entry. IsClerk n entry.clerk) due.journal) one due.is_journal.of_clerks in
-      let same : due.journal ≡ made = sym (all_his due.journal are) ∙ due.has_made in
+  pub due_after_his : (run : Run) (journal made : List (JournalEntry A)) (edit : Edit A) (refusal : Refusal) → run.clerks ≡ 1
+      → IsRefusalDue run journal 1 made edit refusal → IsRefusal (replay run.opening made) made edit refusal
+  due_after_his run journal made edit refusal one due =
+      let are = subst (λ n. All (λ entry. IsClerk n entry.clerk) journal) one due.is_journal.of_clerks in
+      let same : journal ≡ made = sym (all_his journal are) ∙ due.has_made in
       subst (λ l. IsRefusal (replay run.opening l) l edit refusal) same due.is_refusal

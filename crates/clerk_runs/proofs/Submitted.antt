@@ -5,14 +5,15 @@ use Rattle.std.specs.Prelude.{All}
 use Rattle.std.proofs.lemmas.List.{map-append}
 use Rattle.std.proofs.lemmas.List.Elements.{All-nil, All-push, All-same}
 use mathlib.Core.List.{IsPrefix}
-use Rattle.entry_history.proofs.Beginnings.{begins_itself, begins_whole}
+use Rattle.entry_history.proofs.Beginnings.{begins_whole}
 use Rattle.ring_edits.specs.declared.edit.Edit.{Edit}
 use Rattle.entry_cards.specs.Cards.{IsClerk}
 use Rattle.fabric_core.specs.declared.refusal.Refusal.{Refusal}
 use Rattle.fabric_core.specs.declared.refusal.Refusal.TheVariants.{NoMemory}
 use Rattle.fabric_core.specs.Journal.{JournalEntry, replay}
 use Rattle.fabric_core.specs.Refusals.{IsRefusal}
-use Rattle.desk_lock.specs.Offices.{OfficeId, CardState, ReceiptState, IsRefusedWhenMet, IsSometime, behind, of_clerk, journal_met, with_met}
+use Rattle.desk_lock.specs.Offices.{OfficeId, CardState, ReceiptState, EndsWith, IsRefusedWhenMet, IsSometime, behind, of_clerk, journal_met}
+use Rattle.desk_lock.specs.Offices.{with_met}
 use Rattle.clerk_runs.specs.ClerkLines.{ok_line, refused_line}
 use Rattle.clerk_runs.specs.ClerkRuns.{Run, IsRefusalDue, AreTold}
 use Rattle.clerk_runs.specs.own.Working.{run_at, Tells, IsAccepted, IsRefused, HasSaid}
@@ -35,8 +36,6 @@ module _ {A : Type 0} where
       let all_behind = behind_none office journal none in
       let his : of_clerk after.clerk journal ≡ after.made = sym (rw all_behind at sometime.agrees) in
       inl (record {
-        journal = journal;
-        begins = begins_itself journal;
         is_journal = record {
           lawful = sometime.lawful;
           of_clerks = All-same (λ (entry : JournalEntry A). IsClerk office.clerks entry.clerk) journal
@@ -47,25 +46,24 @@ module _ {A : Type 0} where
       })
   refused_is_due office card after edit refusal none same (inr is) = inr is
 
-  -- what is due after a beginning of a beginning is due after one of the whole
-  still_due : (run : Run) (met whole : List (JournalEntry A)) (clerk : ℕ) (made : List (JournalEntry A)) (edit : Edit A)
-      (refusal : Refusal) → IsPrefix met whole → IsRefusalDue run met clerk made edit refusal ⊎ (refusal ≡ NoMemory)
-      → IsRefusalDue run whole clerk made edit refusal ⊎ (refusal ≡ NoMemory)
-  still_due run met whole clerk made edit refusal begins (inl due) = inl (record {
-    journal = due.journal;
-    begins = begins_whole due.journal met whole due.begins begins;
-    is_journal = due.is_journal;
-    has_made = due.has_made;
-    is_refusal = due.is_refusal;
-  })
-  still_due run met whole clerk made edit refusal begins (inr none) = inr none
+  -- an accepted edit's entry ends what the card has met then
+  pub ends_met : (office : OfficeId A) (after : CardState A) (entry : JournalEntry A) → office.origin.journal ≡ []
+      → EndsWith entry entry.number (journal_met office after) → EndsWith entry entry.number after.met
+  ends_met office after entry none ends = subst (EndsWith entry entry.number) (ap (λ l. l ++ after.met) none) ends
+
+  -- what may be told behind a beginning may be told behind nothing
+  told_from_nothing : (run : Run) (whole : List (JournalEntry A)) (clerk : ℕ) (made met : List (JournalEntry A))
+      (edits : List (ℕ × Edit A)) (entries : List (JournalEntry A)) (text : List ℕ)
+      → AreTold run whole clerk made met edits entries text → AreTold run whole clerk made [] edits entries text
+  told_from_nothing run whole clerk made met [] entries text told = told
+  told_from_nothing run whole clerk made met (first ∷ rest) entries text told = (told.0, (told.0, refl), told.2, told.3)
 
   -- ---- what is said so far
   -- the edits that are left may be told behind those that were, in each journal that begins with what the card has met
   pub record HaveSaid (run : Run) (met : List (JournalEntry A)) (clerk : ℕ) (all left : List (ℕ × Edit A))
       (made : List (JournalEntry A)) (lines : List ℕ) (receipts : List (ReceiptState A)) : Type 0 where
     pub adds : (whole : List (JournalEntry A)) → IsPrefix met whole → (entries : List (JournalEntry A)) (text : List ℕ)
-        → AreTold run whole clerk made left entries text → AreTold run whole clerk [] all (made ++ entries) (lines ++ text)
+        → AreTold run whole clerk made met left entries text → AreTold run whole clerk [] [] all (made ++ entries) (lines ++ text)
     pub are_all : made ≡ map (λ receipt. receipt.entry) receipts
     pub tell : All Tells receipts
 
@@ -81,7 +79,7 @@ module _ {A : Type 0} where
       (receipts : List (ReceiptState A)) → made ≡ [] → lines ≡ [] → receipts ≡ []
       → HaveSaid run met clerk all all made lines receipts
   none_said run met clerk all made lines receipts none no_lines no_receipts = rw (none, no_lines, no_receipts) (record {
-    adds = λ whole begins entries text told. told;
+    adds = λ whole begins entries text told. told_from_nothing run whole clerk [] met all entries text told;
     are_all = refl;
     tell = All-nil Tells;
   })
@@ -95,9 +93,9 @@ module _ {A : Type 0} where
   accepted_more run card after all left told lines lines_after receipts receipts_after h is = record {
     adds = λ whole begins entries text rest.
         let line = ok_line card.clerk told.0 is.receipt.entry.number in
-        let more : AreTold run whole card.clerk (card.made ++ is.receipt.entry ∷ []) left entries text = rw is.made at rest in
+        let more : AreTold run whole card.clerk (card.made ++ is.receipt.entry ∷ []) after.met left entries text = rw is.made at rest in
         rw (is.made, is.line, append_assoc card.made (is.receipt.entry ∷ []) entries, append_assoc lines line text)
-        (h.adds whole (begins_whole card.met after.met whole is.met begins) (is.receipt.entry ∷ entries) (line ++ text) (inl (is.receipt.entry, entries, text, refl, is.has_edit, refl, more)));
+        (h.adds whole (begins_whole card.met after.met whole is.met begins) (is.receipt.entry ∷ entries) (line ++ text) (after.met, is.met, begins, inl (is.receipt.entry, entries, text, refl, is.has_edit, is.ends, refl, more)));
     are_all = is.made
         ∙ (ap (λ made. made ++ is.receipt.entry ∷ []) h.are_all
         ∙ (sym (map-append (λ (receipt : ReceiptState A). receipt.entry) receipts (is.receipt ∷ []))
@@ -114,11 +112,10 @@ module _ {A : Type 0} where
   refused_more run card after all left told lines lines_after receipts receipts_after h is = record {
     adds = λ whole begins entries text rest.
         let line = refused_line card.clerk told.0 is.refusal in
-        let more : AreTold run whole card.clerk card.made left entries text = rw is.made at rest in
-        let due = still_due run after.met whole card.clerk card.made told.1 is.refusal begins is.is_due in
+        let more : AreTold run whole card.clerk card.made after.met left entries text = rw is.made at rest in
         rw (is.made, is.line, append_assoc lines line text)
         (h.adds whole (begins_whole card.met after.met whole is.met begins) entries (line ++ text)
-        (inr (is.refusal, text, due, refl, more)));
+        (after.met, is.met, begins, inr (is.refusal, text, is.is_due, refl, more)));
     are_all = is.made ∙ (h.are_all ∙ ap (map (λ (receipt : ReceiptState A). receipt.entry)) (sym is.kept));
     tell = All-same Tells receipts_after receipts is.kept h.tell;
   }

@@ -16,7 +16,7 @@ use Rattle.fabric_core.specs.Journal.{State, JournalEntry, Book, opening_state, 
 use Rattle.fabric_core.specs.EditResults.{IsLawful}
 use Rattle.fabric_core.specs.Refusals.{IsRefusal}
 use Rattle.fabric_core.specs.Locate.{IsLocatedAt}
-use Rattle.desk_lock.specs.Offices.{of_clerk, AreOfClerks}
+use Rattle.desk_lock.specs.Offices.{of_clerk, AreOfClerks, EndsWith}
 use Rattle.clerk_runs.specs.ClerkFiles.{AreClerkFiles}
 use Rattle.clerk_runs.specs.ClerkLines.{ok_line, refused_line}
 
@@ -44,35 +44,33 @@ module _ {A : Type 0} where
     pub lawful : IsLawful run.opening journal
     pub of_clerks : AreOfClerks run.clerks journal
 
-  -- the refusal is due after such a list that begins another one, as the run's journal, and in which the clerk's entries are those that were
-  -- accepted of him before
-  pub record IsRefusalDue (run : Run) (whole : List (JournalEntry A)) (clerk : ℕ) (made : List (JournalEntry A)) (edit : Edit A)
+  -- the refusal is due after such a list, in which the clerk's entries are those that were accepted of the clerk before
+  pub record IsRefusalDue (run : Run) (journal : List (JournalEntry A)) (clerk : ℕ) (made : List (JournalEntry A)) (edit : Edit A)
       (refusal : Refusal) : Type 0 where
-    pub journal : List (JournalEntry A)
-    pub begins : IsPrefix journal whole
     pub is_journal : IsJournal run journal
     pub has_made : of_clerk clerk journal ≡ made
     pub is_refusal : IsRefusal (replay run.opening journal) journal edit refusal
 
-  -- a clerk's edits, each behind its line's number, are reported in order: `ok` under the number of the next of the
-  -- clerk's entries, which has the edit, or `refused` for a reason that was due after a beginning of the run's journal,
-  -- `whole`, or because memory ran out; the clerk has no other entries, and `made` are those from before
-  abbrev pub AreTold : Run → List (JournalEntry A) → ℕ → List (JournalEntry A) → List (ℕ × Edit A) → List (JournalEntry A) → List ℕ
-      → Type 0
-  AreTold run whole clerk made [] entries text = (entries ≡ []) × (text ≡ [])
-  AreTold run whole clerk made (told ∷ rest) entries text =
-      ((entry : JournalEntry A) × (others : List (JournalEntry A)) × (more : List ℕ) × (entries ≡ entry ∷ others)
-      × (entry.edit ≡ told.1)
-      × (text ≡ ok_line clerk told.0 entry.number ++ more) × AreTold run whole clerk (made ++ entry ∷ []) rest others more)
-      ⊎ ((refusal : Refusal) × (more : List ℕ) × (IsRefusalDue run whole clerk made told.1 refusal ⊎ (refusal ≡ NoMemory))
-      × (text ≡ refused_line clerk told.0 refusal ++ more) × AreTold run whole clerk made rest entries more)
+  -- a clerk's edits, each behind its line's number, are reported in order, and judged in that order: each after a beginning of the run's
+  -- journal, `whole`, that begins with the one after which the edit before was judged, `met`. It is `ok` under the number of the next of the
+  -- clerk's entries, which has the edit and ends that beginning, or `refused` for a reason that was due after it, or because memory ran
+  -- out; the clerk has no other entries, and `made` are those from before
+  abbrev pub AreTold : Run → List (JournalEntry A) → ℕ → List (JournalEntry A) → List (JournalEntry A) → List (ℕ × Edit A)
+      → List (JournalEntry A) → List ℕ → Type 0
+  AreTold run whole clerk made met [] entries text = (entries ≡ []) × (text ≡ [])
+  AreTold run whole clerk made met (told ∷ rest) entries text = (now : List (JournalEntry A)) × IsPrefix met now × IsPrefix now whole
+      × (((entry : JournalEntry A) × (others : List (JournalEntry A)) × (more : List ℕ) × (entries ≡ entry ∷ others)
+      × (entry.edit ≡ told.1) × EndsWith entry entry.number now
+      × (text ≡ ok_line clerk told.0 entry.number ++ more) × AreTold run whole clerk (made ++ entry ∷ []) now rest others more)
+      ⊎ ((refusal : Refusal) × (more : List ℕ) × (IsRefusalDue run now clerk made told.1 refusal ⊎ (refusal ≡ NoMemory))
+      × (text ≡ refused_line clerk told.0 refusal ++ more) × AreTold run whole clerk made now rest entries more))
 
   -- the lines of each clerk, one clerk's after the other's, report the clerk's edits and the journal's entries of that
   -- clerk; clerks are numbered on from a first one
   abbrev pub AreEachTold : Run → ℕ → List (List (ℕ × Edit A)) → List (JournalEntry A) → List ℕ → Type 0
   AreEachTold run clerk [] journal text = text ≡ []
   AreEachTold run clerk (edits ∷ others) journal text = (lines : List ℕ) × (more : List ℕ) × (text ≡ lines ++ more)
-      × AreTold run journal clerk [] edits (of_clerk clerk journal) lines × AreEachTold run (clerk + 1) others journal more
+      × AreTold run journal clerk [] [] edits (of_clerk clerk journal) lines × AreEachTold run (clerk + 1) others journal more
 
   -- the run of these clerks' edits on a layer
   abbrev pub run_of : Tiles → List (List (ℕ × Edit A)) → Run

@@ -227,7 +227,7 @@ fn system_codes() -> &'static [CodeWords] {
     &SYSTEM
 }
 
-const SYSTEM: [CodeWords; 4] = [
+const SYSTEM: [CodeWords; 5] = [
     CodeWords {
         code: "S1",
         meaning: "a file that cannot be opened or read, or is longer than 64 MiB",
@@ -245,6 +245,12 @@ const SYSTEM: [CodeWords; 4] = [
         meaning: "a desk's pipe that cannot be served",
         cause: "no named pipe, one that others may read or write, or one that another session serves",
         remedy: "make it by mkfifo -m 600 before the session; give each desk pipes of its own",
+    },
+    CodeWords {
+        code: "S5",
+        meaning: "the export would replace a file that the session itself uses",
+        cause: "a BASE that is the session's layer, journal, pipe or lock, perhaps under another name",
+        remedy: "export to another BASE",
     },
     CodeWords {
         code: "no memory",

@@ -1,4 +1,5 @@
 pub mod Behind
 pub mod Clerks
+pub mod FirstEntries
 pub mod Told
 pub mod Totals

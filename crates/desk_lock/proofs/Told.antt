@@ -1,18 +1,23 @@
 -- What notices and receipts tell.
 use Rattle.std.proofs.Common.{◌≡◌, ◌≢◌, ◌⊎◌, inl, inr, Some, None, Option, Ok, Err, Result, true, ◌+◌}
-use Rattle.std.proofs.Common.{List, [], ◌∷◌, ◌++◌, drop, length, refl, ap, sym, ◌∙◌, subst, arith, length-append}
+use Rattle.std.proofs.Common.{ℕ, ◌≤◌, max, List, [], ◌∷◌, ◌++◌, take, drop, length, refl, ap, sym, ◌∙◌, subst, arith, length-append}
 use Rattle.std.specs.Prelude.{is_some, IfSome, IfNone, IfOk, IfErr, OnErr}
 use mathlib.Core.List.{IsPrefix}
-use Rattle.entry_history.proofs.Beginnings.{begins_itself}
+use Rattle.std.proofs.lemmas.List.Elements.{All-same}
+use Rattle.entry_cards.specs.Cards.{IsClerk}
+use Rattle.entry_history.proofs.Beginnings.{begins_itself, begins_shorter}
+use Rattle.fabric_core.specs.EditResults.{IsLawful}
 use Rattle.ring_edits.specs.declared.edit.Edit.{Edit}
 use Rattle.fabric_core.specs.declared.refusal.Refusal.{Refusal}
 use Rattle.fabric_core.specs.declared.refusal.Refusal.TheVariants.{NoMemory}
-use Rattle.fabric_core.specs.Journal.{State, JournalEntry, Book, replay}
+use Rattle.fabric_core.specs.Journal.{State, JournalEntry, replay}
 use Rattle.fabric_core.specs.Refusals.{IsRefusal}
 use Rattle.desk_lock.specs.Offices.{Origin, OfficeId, CardState, DeskState, ReceiptState, EndsWith, IsSometime, IsRefusedWhenMet}
-use Rattle.desk_lock.specs.Offices.{behind, journal_met, with_met}
+use Rattle.desk_lock.specs.Offices.{IsOfOrigin, AreOfClerks, behind, journal_met, with_made, with_met}
 use Rattle.desk_lock.specs.own.Keeping.{told_by}
 use Rattle.desk_lock.proofs.Behind.{behind_it, more_behind, still_begins}
+use Rattle.desk_lock.proofs.Clerks.{is_sometime_after}
+use Rattle.desk_lock.proofs.FirstEntries.{first_lawful, first_has_origin, first_of_clerks}
 
 module _ {A : Type 0} where
   -- ---- a notice that may be there
@@ -84,7 +89,7 @@ module _ {A : Type 0} where
   }
 
   -- what is refused after the desk's journal is refused after that which the card has met then
-  pub refused_when_met : (office : OfficeId A) (card after : CardState A) (edit : Edit A) (answer : Result (ReceiptState A) Refusal)
+  pub refused_when_met : (office : OfficeId A) {B : Type 0} (card after : CardState A) (edit : Edit A) (answer : Result B Refusal)
       (old new : DeskState A) → IsSometime office card old.book.journal
       → replay office.origin.opening old.book.journal ≡ old.book.now → journal_met office after ≡ new.book.journal
       → OnErr answer ((new ≡ old) × (after ≡ with_met card after.met))
@@ -104,37 +109,76 @@ module _ {A : Type 0} where
         | inr none ↦ inr none
       ]
 
-  -- what a card had met begins what it has met after a submit
-  pub met_on : (office : OfficeId A) (card after : CardState A) (answer : Result (ReceiptState A) Refusal) (old new : DeskState A)
-      → IsSometime office card old.book.journal → journal_met office after ≡ new.book.journal
-      → IfOk answer (λ receipt. new.book.journal ≡ old.book.journal ++ receipt.entry ∷ [])
-      → OnErr answer ((new ≡ old) × (after ≡ with_met card after.met)) → IsPrefix card.met after.met
-  met_on office card after (Ok receipt) old new sometime met journal same =
-      let origin : Origin A = office.origin in
-      let is : behind origin new.book.journal ≡ after.met = behind_it origin new.book.journal after.met (sym met) in
-      let more : behind origin new.book.journal ≡ behind origin old.book.journal ++ receipt.entry ∷ [] =
-      ap (drop (length origin.journal)) journal
-      ∙ more_behind origin.journal old.book.journal (receipt.entry ∷ []) sometime.begins in
-      subst (IsPrefix card.met) (sym more ∙ is) (still_begins card.met (behind origin old.book.journal) (receipt.entry ∷ []) sometime.met)
-  met_on office card after (Err refusal) old new sometime met journal same =
-      let origin : Origin A = office.origin in
-      let is : behind origin new.book.journal ≡ after.met = behind_it origin new.book.journal after.met (sym met) in
-      let stays : behind origin new.book.journal ≡ behind origin old.book.journal =
-      ap (λ (desk : DeskState A). behind origin desk.book.journal) same.0 in
-      subst (IsPrefix card.met) (sym stays ∙ is) sometime.met
+  -- an answer that has an entry: a receipt, or the entry itself
+  module _ {B : Type 0} (entry_of : B → JournalEntry A) where
+    -- what a card had met begins what it has met after the edit
+    pub met_on : (office : OfficeId A) (card after : CardState A) (answer : Result B Refusal) (old new : DeskState A)
+        → IsSometime office card old.book.journal → journal_met office after ≡ new.book.journal
+        → IfOk answer (λ accepted. new.book.journal ≡ old.book.journal ++ entry_of accepted ∷ [])
+        → OnErr answer ((new ≡ old) × (after ≡ with_met card after.met)) → IsPrefix card.met after.met
+    met_on office card after (Ok accepted) old new sometime met journal same =
+        let origin : Origin A = office.origin in
+        let entry : JournalEntry A = entry_of accepted in
+        let is : behind origin new.book.journal ≡ after.met = behind_it origin new.book.journal after.met (sym met) in
+        let more : behind origin new.book.journal ≡ behind origin old.book.journal ++ entry ∷ [] =
+        ap (drop (length origin.journal)) journal ∙ more_behind origin.journal old.book.journal (entry ∷ []) sometime.begins in
+        subst (IsPrefix card.met) (sym more ∙ is) (still_begins card.met (behind origin old.book.journal) (entry ∷ []) sometime.met)
+    met_on office card after (Err refusal) old new sometime met journal same =
+        let origin : Origin A = office.origin in
+        let is : behind origin new.book.journal ≡ after.met = behind_it origin new.book.journal after.met (sym met) in
+        let stays : behind origin new.book.journal ≡ behind origin old.book.journal =
+        ap (λ (desk : DeskState A). behind origin desk.book.journal) same.0 in
+        subst (IsPrefix card.met) (sym stays ∙ is) sometime.met
 
-  -- the journal that a card has met ends with the entry of its receipt
-  pub met_ends : (office : OfficeId A) (after : CardState A) (answer : Result (ReceiptState A) Refusal) (before : List (JournalEntry A))
-      (new : DeskState A) → journal_met office after ≡ new.book.journal
-      → IfOk answer (λ receipt. receipt.entry.number ≡ length before + 1)
-      → IfOk answer (λ receipt. new.book.journal ≡ before ++ receipt.entry ∷ [])
-      → IfOk answer (λ receipt. EndsWith receipt.entry receipt.entry.number (journal_met office after))
-  met_ends office after (Err refusal) before new met number journal = tt
-  met_ends office after (Ok receipt) before new met number journal = ends_with receipt.entry before _ number (met ∙ journal)
+    -- the journal that a card has met ends with the edit's entry
+    pub met_ends : (office : OfficeId A) (after : CardState A) (answer : Result B Refusal) (before : List (JournalEntry A))
+        (new : DeskState A) → journal_met office after ≡ new.book.journal
+        → IfOk answer (λ accepted. (entry_of accepted).number ≡ length before + 1)
+        → IfOk answer (λ accepted. new.book.journal ≡ before ++ entry_of accepted ∷ [])
+        → IfOk answer (λ accepted. EndsWith (entry_of accepted) (entry_of accepted).number (journal_met office after))
+    met_ends office after (Err refusal) before new met number journal = tt
+    met_ends office after (Ok accepted) before new met number journal =
+        ends_with (entry_of accepted) before (journal_met office after) number (met ∙ journal)
 
-  pub met_is_sometime : (office : OfficeId A) (after : CardState A) (answer : Result (ReceiptState A) Refusal)
-      (new : DeskState A) → journal_met office after ≡ new.book.journal
-      → IfOk answer (λ receipt. IsSometime office after new.book.journal)
-      → IfOk answer (λ receipt. IsSometime office after (journal_met office after))
-  met_is_sometime office after (Err refusal) new met is = tt
-  met_is_sometime office after (Ok receipt) new met is = subst (IsSometime office after) (sym met) is
+    -- and it is one of the office then
+    pub met_is_sometime : (office : OfficeId A) (after : CardState A) (answer : Result B Refusal)
+        (new : DeskState A) → journal_met office after ≡ new.book.journal
+        → IfOk answer (λ accepted. IsSometime office after new.book.journal)
+        → IfOk answer (λ accepted. IsSometime office after (journal_met office after))
+    met_is_sometime office after (Err refusal) new met is = tt
+    met_is_sometime office after (Ok accepted) new met is = subst (IsSometime office after) (sym met) is
+
+  -- and so where an edit is entered that is not published yet
+  pub entered_is_sometime : (office : OfficeId A) (card after : CardState A) (answer : Result (JournalEntry A) Refusal)
+      (old new : DeskState A) → journal_met office after ≡ new.book.journal → IsSometime office card old.book.journal
+      → IfOk answer (λ entry. entry.clerk ≡ card.clerk) → IfOk answer (λ entry. new.book.journal ≡ old.book.journal ++ entry ∷ [])
+      → IfOk answer (λ entry. after ≡ with_made card entry after.met) → IsLawful new.book.opening new.book.journal
+      → IsOfOrigin office.origin new.book → new.book.journal ≡ office.origin.journal ++ new.entries
+      → AreOfClerks office.clerks new.entries → IfOk answer (λ entry. IsSometime office after (journal_met office after))
+  entered_is_sometime office card after (Err refusal) old new met sometime clerk journal made lawful of whole of_clerks = tt
+  entered_is_sometime office card after (Ok entry) old new met sometime clerk journal made lawful of whole of_clerks =
+      subst (IsSometime office after) (sym met) (subst (λ c. IsSometime office c new.book.journal) (sym made)
+      (is_sometime_after office card old.book.journal entry new.book new.entries after.met met sometime clerk journal lawful of whole
+      of_clerks))
+
+  -- ---- a notice of a journal's first entries
+  pub told_lawful : (office : OfficeId A) (notice : Option (List (JournalEntry A))) (n : ℕ) (desk : DeskState A)
+      → IfSome notice (λ told. told ≡ take n desk.book.journal) → IsLawful desk.book.opening desk.book.journal
+      → IsOfOrigin office.origin desk.book → IfSome notice (IsLawful office.origin.opening)
+  told_lawful office None n desk first lawful of = tt
+  told_lawful office (Some told) n desk first lawful of = first_lawful office.origin desk.book n told first lawful of
+
+  pub told_of_clerks : (office : OfficeId A) (notice : Option (List (JournalEntry A))) (n : ℕ) (desk : DeskState A)
+      → IfSome notice (λ told. told ≡ take (max n (length desk.published)) desk.book.journal)
+      → IsOfOrigin office.origin desk.book → IsPrefix office.origin.journal desk.published
+      → desk.book.journal ≡ office.origin.journal ++ desk.entries → AreOfClerks office.clerks desk.entries
+      → IfSome notice (λ told. AreOfClerks office.clerks (behind office.origin told))
+  told_of_clerks office None n desk first of shows whole of_clerks = tt
+  told_of_clerks office (Some told) n desk first of shows whole of_clerks =
+      let origin : Origin A = office.origin in
+      let P = λ (entry : JournalEntry A). IsClerk office.clerks entry.clerk in
+      let long : length origin.journal ≤ max n (length desk.published) =
+      omega (arith, begins_shorter origin.journal desk.published shows) in
+      first_of_clerks origin desk.book (max n (length desk.published)) told first office.clerks
+      (All-same P (behind origin desk.book.journal) desk.entries (behind_it origin desk.book.journal desk.entries whole) of_clerks)
+      (first_has_origin origin desk.book (max n (length desk.published)) told first of long)

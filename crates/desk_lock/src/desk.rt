@@ -1,6 +1,6 @@
 //! What lies under the lock.
-ghost use Rattle.std.specs.Prelude.{◌≡◌, ◌≢◌, ◌⊎◌, ◌↔◌, ◌+◌, ◌≤◌, [], ◌∷◌, ◌++◌, map, length, drop, All, true, IfOk, IfErr, IfSome};
-ghost use Rattle.std.specs.Prelude.{IfNone, IsOk, IsErrAnd, OnErr, MatchBool};
+ghost use Rattle.std.specs.Prelude.{◌≡◌, ◌≢◌, ◌⊎◌, ◌↔◌, ◌+◌, ◌≤◌, [], ◌∷◌, ◌++◌, map, length, drop, take, max, All, true, IfOk, IfErr, IfSome};
+ghost use Rattle.std.specs.Prelude.{◌<◌, None, IfNone, IsSome, IsOk, IsErrAnd, OnErr, MatchBool};
 ghost use mathlib.Core.List.{IsPrefix};
 ghost use Rattle.ring_edits.specs.Edits.{CoversAlike};
 ghost use Rattle.fabric_core.specs.declared.refusal.Refusal.{Refusal};
@@ -64,7 +64,7 @@ impl<'a, H: Allocator, J: Naming<H>, R: Wait + Drop> Model for Desk<'a, H, J, R>
 impl<'a, H: Allocator, J: Naming<H>, R: Wait + Drop> Desk<'a, H, J, R> {
     /// The desk's fabric tiles its city, its index and journal agree with its rows, and it comes of
     /// the fabric that was handed to the office, with entries of the office's clerks alone behind
-    /// those of that fabric. What is published begins its journal.
+    /// those of that fabric. What is published begins its journal, and has the entries of that fabric.
     pub fn use_invariant(&self)
         ensures tiling { IsTiling self.now.book.now.rows self.now.book.city }
         ensures simple { AreSimple self.now.book.now.rows }
@@ -76,6 +76,7 @@ impl<'a, H: Allocator, J: Naming<H>, R: Wait + Drop> Desk<'a, H, J, R> {
         ensures entries { self.now.book.journal ≡ J.office.origin.journal ++ self.now.entries }
         ensures of_clerks { AreOfClerks J.office.clerks self.now.entries }
         ensures published { IsPrefix self.now.published self.now.book.journal }
+        ensures shows { IsPrefix J.office.origin.journal self.now.published }
     {
         self.fabric.use_invariant();
         self.publisher.use_invariant();
@@ -186,14 +187,59 @@ impl<'a, H: Allocator, J: Naming<H>, R: Wait + Drop> Desk<'a, H, J, R> {
         ensures whole { IfSome result (λ told. told ≡ self.old.book.journal) }
         ensures shown { IfSome result (λ told. self.new.published ≡ told) }
         ensures none { IfNone result (self.new ≡ self.old) }
+        // It is not refused where all is published already.
+        ensures already { self.old.published ≡ self.old.book.journal → IsSome result }
     {
-        let all = hand_on(self.fabric.journal(), self.opened_with, &mut self.publisher);
+        let number = self.fabric.entries();
+        self.publish_to(number)
+    }
+
+    /// Publishes the journal's first so many entries, and no entry behind them: a notice of the
+    /// published version's journal. What is published stays so: where it has as many entries already,
+    /// or more, it is what the notice tells, and nothing is done.
+    ///
+    /// `None` where the journal has fewer entries, where it is refused, or where the publishing of
+    /// more entries was refused before, so that they would be published along with these: the
+    /// journal and the published version stay. It waits for those who read at this moment.
+    pub fn publish_to(&mut self, number: u64) -> Option<Notice<'a, H, J>>
+        ensures same { (self.new.book ≡ self.old.book) × (self.new.entries ≡ self.old.entries) }
+        // The published version has the journal's first so many entries, or those that it had, where they are more.
+        ensures first { IfSome result (λ told. told ≡ take (max number (length self.old.published)) self.old.book.journal) }
+        ensures shown { IfSome result (λ told. self.new.published ≡ told) }
+        ensures none { IfNone result (self.new ≡ self.old) }
+        // It is refused where the journal is shorter, and not where so many entries are published already.
+        ensures beyond { length self.old.book.journal < number → result ≡ None }
+        ensures already { number ≤ length self.old.published → IsSome result }
+    {
+        let shown = self.publisher.shown().again();
+        self.publisher.use_invariant();
+        let entries = self.fabric.entries();
+        let before = self.opened_with as u64;
+        let published = before + shown.front().len();
+        if number <= published {
+            return Some(Notice {
+                number: published,
+                shown,
+            });
+        }
+        if number > entries {
+            return None;
+        }
+        let count = number - before;
+        if self.publisher.front().len() > count {
+            return None;
+        }
+        let all = hand_on(
+            self.fabric.journal(),
+            self.opened_with,
+            count,
+            &mut self.publisher,
+        );
         if !all {
             return None;
         }
-        let front = self.publisher.publish()?;
-        let number = self.fabric.entries();
-        Some(Notice { number, front })
+        let shown = self.publisher.publish()?;
+        Some(Notice { number, shown })
     }
 
     /// Compares cards with the journal: the entries that were accepted with each are all of its clerk
@@ -217,25 +263,8 @@ impl<'a, H: Allocator, J: Naming<H>, R: Wait + Drop> Desk<'a, H, J, R> {
         self.fabric.sheet()
     }
 
-    /// The fabric, where each clerk's card is handed in; else the desk and the cards come back as they were.
-    pub(crate) fn close<A: Allocator>(
-        self,
-        clerks: usize,
-        cards: Vec<Card<'a, H, J>, A>,
-    ) -> Result<Fabric<'a, H>, (Desk<'a, H, J, R>, Vec<Card<'a, H, J>, A>)>
-        requires { clerks ≡ J.office.clerks }
-        ensures closes { IsOk result ↔ (length cards.entry.items ≡ J.office.clerks) }
-        ensures total { IfOk result (λ fabric. IsTotal J.office cards.entry.items fabric) }
-        ensures back { IfErr result (λ back. (back.0 ≡ self.entry) × (back.1.items ≡ cards.entry.items)) }
-    {
-        if cards.len() != clerks {
-            return Err((self, cards));
-        }
-        Ok(self.settle(cards))
-    }
-
     /// The fabric, where all cards are handed in.
-    fn settle<A: Allocator>(self, cards: Vec<Card<'a, H, J>, A>) -> Fabric<'a, H>
+    pub(crate) fn close<A: Allocator>(self, cards: Vec<Card<'a, H, J>, A>) -> Fabric<'a, H>
         requires { length cards.items ≡ J.office.clerks }
         ensures { IsTotal J.office cards.entry.items result }
     {
@@ -299,21 +328,23 @@ fn take_all_in<'a, H: Allocator, J: Naming<H>, A: Allocator>(
     gathering
 }
 
-/// Hands on the entries of a journal that are not handed on yet, in order; whether all are then.
+/// Hands on the first so many entries of a journal behind a place, those of them that are not handed
+/// on yet, in order; whether all are then.
 fn hand_on<'a, H: Allocator, J: Naming<H>, R: Wait + Drop>(
     journal: &[Entry<&'a H>],
     from: usize,
+    count: u64,
     publisher: &mut Copies<'a, H, J, R>,
 ) -> bool
     requires begins { IsPrefix publisher.old.handed (drop from journal.now) }
-    requires from { from ≤ length journal.now }
+    requires from { from + count ≤ length journal.now }
+    requires few { length publisher.old.handed ≤ count }
     ensures begins { IsPrefix publisher.new.handed (drop from journal.now) }
-    ensures all { MatchBool result (publisher.new.handed ≡ drop from journal.now) (Unit {0}) }
+    ensures all { MatchBool result (publisher.new.handed ≡ take count (drop from journal.now)) (Unit {0}) }
     ensures shown { publisher.new.shown ≡ publisher.old.shown }
 {
-    let count = journal.len() - from;
     let first = publisher.front().len() as usize;
-    for place in first..count {
+    for place in first..count as usize {
         let Ok(entry) = journal[from + place].clone() else {
             return false;
         };

@@ -1,5 +1,5 @@
 //! An office.
-ghost use Rattle.std.specs.Prelude.{◌≡◌, ◌≢◌, ◌⊎◌, ℕ, [], length, replicate, true, IfOk, IfErr, IfSome, IsErrAnd, OnErr, IsOk, ◌↔◌};
+ghost use Rattle.std.specs.Prelude.{◌≡◌, ◌≢◌, ◌⊎◌, ◌≤◌, ℕ, [], length, replicate, true, IfOk, IfErr, IfSome, IsErrAnd, OnErr, IsOk, ◌↔◌};
 ghost use mathlib.Core.List.{IsPrefix};
 ghost use Rattle.fabric_core.specs.EditResults.{IsLawful};
 ghost use Rattle.fabric_core.specs.declared.refusal.Refusal.TheVariants.{NoMemory};
@@ -117,6 +117,41 @@ impl<'a, H: Allocator, J: Naming<H>, R: Wait + Drop> Office<'a, H, J, R> {
         desk.submit(card, edit)
     }
 
+    /// Takes the lock, and makes an edit by the card's clerk; nothing is published by it. Whoever has
+    /// kept the entry where it is not lost publishes it by [`Office::publish_to`].
+    ///
+    /// # Errors
+    ///
+    /// As [`Fabric::edit`]; card and fabric are unchanged then, but that the card has met the journal.
+    ///
+    /// ```
+    /// let entry = office.enter(rt, &mut card, &edit)?;
+    /// if let Some(notice) = office.publish_to(rt, entry.number()) {
+    ///     window.learn_notice(&notice);
+    /// }
+    /// ```
+    pub fn enter<W: Wait>(
+        &self,
+        rt: &W,
+        card: &mut Card<'a, H, J>,
+        edit: &Edit<&'a H>,
+    ) -> Result<Entry<&'a H>, Refusal>
+        ensures edit { IfOk result (λ entry. entry.edit ≡ edit.now) }
+        ensures clerk { IfOk result (λ entry. entry.clerk ≡ card.old.clerk) }
+        ensures made { IfOk result (λ entry. card.new ≡ with_made card.old entry card.new.met) }
+        // The card has met the journal as it is then: what it had met before begins it, and an entry ends it.
+        ensures met { IsPrefix card.old.met card.new.met }
+        ensures ends { IfOk result (λ entry. EndsWith entry entry.number (journal_met J.office card.new)) }
+        ensures after { IfOk result (λ entry. IsSometime J.office card.new (journal_met J.office card.new)) }
+        ensures unchanged { OnErr result (card.new ≡ with_met card.old card.new.met) }
+        ensures refusal { IfErr result (λ refusal. IsRefusedWhenMet J.office card.new edit.now refusal ⊎ (refusal ≡ NoMemory)) }
+    {
+        let mut desk = self.desk.lock(rt);
+        let entered = desk.edit(card, edit);
+        desk.use_invariant();
+        entered
+    }
+
     /// Takes the lock, and publishes all entries that are not published yet; it adds none. `None`
     /// where that is refused.
     ///
@@ -133,6 +168,27 @@ impl<'a, H: Allocator, J: Naming<H>, R: Wait + Drop> Office<'a, H, J, R> {
         let mut desk = self.desk.lock(rt);
         desk.use_invariant();
         desk.publish()
+    }
+
+    /// Takes the lock, and publishes the journal's first so many entries, and no entry behind them, as
+    /// [`Desk::publish_to`]; it adds none. Where as many are published already, or more, that is what
+    /// the notice tells. `None` where the journal has fewer, or where it is refused; what is
+    /// published stays then.
+    ///
+    /// ```
+    /// if let Some(notice) = office.publish_to(rt, entry.number()) {
+    ///     window.learn_notice(&notice);
+    /// }
+    /// ```
+    pub fn publish_to<W: Wait>(&self, rt: &W, number: u64) -> Option<Notice<'a, H, J>>
+        ensures lawful { IfSome result (IsLawful J.office.origin.opening) }
+        ensures begins { IfSome result (IsPrefix J.office.origin.journal) }
+        ensures of_clerks { IfSome result (λ told. AreOfClerks J.office.clerks (behind J.office.origin told)) }
+        ensures reaches { IfSome result (λ told. number ≤ length told) }
+    {
+        let mut desk = self.desk.lock(rt);
+        desk.use_invariant();
+        desk.publish_to(number)
     }
 
     /// Takes the lock, and copies the fabric: the sheet has of each given card's clerk, behind the
@@ -174,19 +230,18 @@ impl<'a, H: Allocator, J: Naming<H>, R: Wait + Drop> Office<'a, H, J, R> {
     ) -> Result<Fabric<'a, H>, (Office<'a, H, J, R>, Vec<Card<'a, H, J>, A>, CloseFault)>
         ensures closes { IsOk result ↔ (length cards.entry.items ≡ J.office.clerks) }
         ensures total { IfOk result (λ fabric. IsTotal J.office cards.entry.items fabric) }
+        // Where a card is missing, the office comes back as it was: nobody has looked behind its lock.
+        ensures same { IfErr result (λ back. back.0 ≡ self.entry) }
         ensures back { IfErr result (λ back. back.1.items ≡ cards.entry.items) }
         ensures fault { IfErr result (λ back. back.2 ≡ CardsMissing J.office.clerks (length cards.entry.items)) }
     {
-        let Office { desk, clerks } = self;
         let count = cards.len();
-        match desk.into_inner().close(clerks, cards) {
-            Ok(fabric) => Ok(fabric),
-            Err((desk, cards)) => {
-                let desk = Mutex::new(desk);
-                let fault = CloseFault::CardsMissing(clerks, count);
-                Err((Office { desk, clerks }, cards, fault))
-            }
+        if count != self.clerks {
+            let fault = CloseFault::CardsMissing(self.clerks, count);
+            return Err((self, cards, fault));
         }
+        let Office { desk, clerks: _ } = self;
+        Ok(desk.into_inner().close(cards))
     }
 }
 

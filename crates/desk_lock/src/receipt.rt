@@ -2,8 +2,8 @@
 ghost use Rattle.std.specs.Prelude.{◌≡◌, length};
 
 use crate::name::Naming;
-use entry_history::Front;
 use fabric_core::Entry;
+use published_copies::Shown;
 use std::alloc::Allocator;
 use std::marker::Model;
 
@@ -70,7 +70,7 @@ impl<'a, H: Allocator, J: Naming<H>> Receipt<'a, H, J> {
 /// A notice that all entries up to a number were published. Contracts see these entries.
 pub struct Notice<'a, H: Allocator, J: Naming<H>> {
     pub(crate) number: u64,
-    pub(crate) front: Front<Entry<&'a H>, J>,
+    pub(crate) shown: Shown<Entry<&'a H>, J>,
 }
 
 // Not derived: whoever drops it makes one call, and what that does is proved once, here.
@@ -78,7 +78,7 @@ impl<'a, H: Allocator, J: Naming<H>> Drop for Notice<'a, H, J> {
     fn drop(self) {
         let Notice {
             number: _,
-            front: _,
+            shown: _,
         } = self;
     }
 }
@@ -90,9 +90,9 @@ impl<'a, H: Allocator, J: Naming<H>> Model for Notice<'a, H, J> {
 
     ghost Value = { List (JournalEntry (Bor H)) };
 
-    ghost view = { λ notice. J.office.origin.journal ++ notice.front };
+    ghost view = { λ notice. J.office.origin.journal ++ notice.shown };
 
-    ghost invariant = { λ notice. notice.number ≡ length (J.office.origin.journal ++ notice.front) };
+    ghost invariant = { λ notice. notice.number ≡ length (J.office.origin.journal ++ notice.shown) };
 }
 
 impl<'a, H: Allocator, J: Naming<H>> Notice<'a, H, J> {

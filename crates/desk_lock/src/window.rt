@@ -1,9 +1,11 @@
 //! Windows, at which it is asked where a place lies, and which ring a parcel has.
-ghost use Rattle.std.specs.Prelude.{◌≡◌, ◌≢◌, ◌<◌, ◌≤◌, ◌++◌, length, IfOk, IfErr, MatchBool, MatchOption};
+ghost use Rattle.std.specs.Prelude.{◌≡◌, ◌≢◌, ◌<◌, ◌≤◌, ◌++◌, length, IfOk, IfErr, IfSome, MatchBool, MatchOption};
 ghost use Rattle.std.specs.List.{Contains};
 ghost use mathlib.Core.List.{IsPrefix};
 ghost use Rattle.geo_exact.specs.Point.{corner_point};
 ghost use Rattle.geo_exact.specs.Layers.{NumberedRing, numbered};
+ghost use Rattle.geo_exact.specs.declared.limits.TheConstants.{RING_CORNERS};
+ghost use Rattle.fabric_core.specs.Limits.{AreWithinLimits};
 ghost use Rattle.fabric_core.specs.Locate.{IsLocatedAt};
 ghost use Rattle.fabric_core.specs.Tiling.{IsTiling};
 ghost use Rattle.fabric_core.specs.Journal.{replay};
@@ -97,7 +99,7 @@ impl<'a, H: Allocator, J: Naming<H>> Window<'a, H, J> {
     pub fn learn_notice(&mut self, notice: &Notice<'a, H, J>)
         ensures { Learns self.old notice.now self.new }
     {
-        self.front.learn(&notice.front);
+        self.front.learn(notice.shown.front());
     }
 
     /// How many entries the newest version has that this window finds: all that it had seen or was
@@ -151,6 +153,7 @@ impl<'a, H: Allocator, J: Naming<H>> Window<'a, H, J> {
         ensures parcel { IfOk result (λ answer. MatchOption answer.1
             ((row : NumberedRing) → Contains (replay self.new.opening self.new.seen).rows row → row.number ≢ id)
             (λ ring. Contains (replay self.new.opening self.new.seen).rows (numbered id ring))) }
+        ensures few { IfOk result (λ answer. IfSome answer.1 (λ ring. length ring ≤ RING_CORNERS)) }
         ensures no_version { IfErr result (λ fault. fault ≡ NoVersion → self.new ≡ self.old) }
     {
         let Some(version) = enter(&mut self.reader, &mut self.front) else {
@@ -231,20 +234,24 @@ fn fabric_of<'v, 'a, H: Allocator, J: Naming<H>>(
     ensures of_clerks { AreOfClerks J.office.clerks (behind J.office.origin (J.office.origin.journal ++ version.now)) }
     ensures now { result.now.now ≡ replay J.office.origin.opening (J.office.origin.journal ++ version.now) }
     ensures tiling { IsTiling result.now.now.rows J.office.origin.city }
+    ensures within { AreWithinLimits result.now.now.rows }
 {
     let fabric = version.value().fabric();
     fabric.use_invariant();
     fabric
 }
 
-/// A copy of the ring of the parcel with this id; `None` where the id is no parcel's.
+/// A copy of the ring of the parcel with this id; `None` where the id is no parcel's. It has no more
+/// corners than a ring of a layer within its limits.
 fn copied_ring<'a, H: Allocator>(
     fabric: &Fabric<'a, H>,
     id: u64,
 ) -> Result<Option<Corners<&'a H>>, AllocError>
-    ensures { IfOk result (λ ring. MatchOption ring
+    requires within { AreWithinLimits fabric.now.now.rows }
+    ensures found { IfOk result (λ ring. MatchOption ring
         ((row : NumberedRing) → Contains fabric.now.now.rows row → row.number ≢ id)
         (λ corners. Contains fabric.now.now.rows (numbered id corners))) }
+    ensures few { IfOk result (λ ring. IfSome ring (λ corners. length corners ≤ RING_CORNERS)) }
 {
     let Some(ring) = fabric.ring(id) else {
         return Ok(None);

@@ -116,7 +116,8 @@ impl<'h, H: Allocator> RunParcels<'h, H> {
         area2(self.city()).unsigned_abs()
     }
 
-    /// A sheet of the parcels, with the journal of the edits that led there. Nothing is copied.
+    /// A sheet of the parcels, with the journal of the edits that led there. Of parcels that no clerk edited the rings are
+    /// copied once, as [`Fabric::open`] does; a sheet of edits is handed on as it is.
     pub fn into_sheet(self) -> Result<Sheet<'h, H>, AllocError>
         ensures now { IfOk result (λ sheet. sheet.now ≡ (register_of_parcels self.entry).now) }
         ensures journal { IfOk result (λ sheet. sheet.journal ≡ (register_of_parcels self.entry).journal) }

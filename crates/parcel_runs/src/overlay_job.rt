@@ -73,7 +73,7 @@ fn begin<'t, 'h, H: Allocator>(
     }
 }
 
-/// What it is to the user that a round was not begun.
+/// The user-facing error for a round that could not start.
 fn fault_of_round(fault: RoundFault) -> ToolFault<'static>
     requires { fault ≡ RoundMemory }
     ensures { result ≡ ToolFault.NoMemory }
@@ -87,7 +87,7 @@ fn fault_of_round(fault: RoundFault) -> ToolFault<'static>
     }
 }
 
-/// What it is to the user that a round with all its hands gave no table.
+/// The user-facing error for a round that gave no table, though all its hands were handed in.
 fn fault_of_close(fault: CloseFault) -> ToolFault<'static>
     requires { (fault ≡ CloseMemory) ⊎ ((hand : ℕ) × (fault ≡ NoThread hand)) }
     ensures { ((fault ≡ CloseMemory) × (result ≡ ToolFault.NoMemory))

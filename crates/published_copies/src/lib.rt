@@ -3,7 +3,9 @@
 
 mod copies;
 mod publisher;
+mod shown;
 mod version;
 
 pub use publisher::Publisher;
+pub use shown::Shown;
 pub use version::{Enqueued, Follows, Version};

@@ -5,6 +5,7 @@ ghost use mathlib.Core.List.{IsPrefix};
 ghost use Rattle.published_copies.specs.own.Keeping.{waiting_list};
 
 use crate::copies::Copies;
+use crate::shown::Shown;
 use crate::version::{Enqueued, Follows, Version};
 use entry_history::{Front, History, Naming, Opened};
 use left_right::ReadHandle;
@@ -22,6 +23,8 @@ pub struct Publisher<F: Follows<E>, E: Drop, J: Naming, R: Wait + Drop, A: Alloc
     // The last entry, as long as the writer has no memory for it.
     waiting: Option<Enqueued<E, J>>,
     copies: Copies<Version<F, E, J>, Enqueued<E, J>, R, A>,
+    // What the copy that readers take has followed.
+    shown: Shown<E, J>,
 }
 
 impl<F: Follows<E>, E: Drop, J: Naming, R: Wait + Drop, A: Allocator> Model
@@ -34,8 +37,8 @@ impl<F: Follows<E>, E: Drop, J: Naming, R: Wait + Drop, A: Allocator> Model
 
     ghost view = { λ publisher. record { handed = publisher.front; shown = publisher.copies.shown } };
 
-    ghost invariant = { λ publisher. (publisher.copies.shown ++ publisher.copies.pending)
-        ++ waiting_list publisher.waiting ≡ publisher.front };
+    ghost invariant = { λ publisher. ((publisher.copies.shown ++ publisher.copies.pending)
+        ++ waiting_list publisher.waiting ≡ publisher.front) × (publisher.shown ≡ publisher.copies.shown) };
 }
 
 impl<F: Follows<E>, E: Drop, J: Naming, R: Wait + Drop, A: Allocator> Publisher<F, E, J, R, A> {
@@ -63,11 +66,13 @@ impl<F: Follows<E>, E: Drop, J: Naming, R: Wait + Drop, A: Allocator> Publisher<
         let first = Version::new(first, front.again());
         let second = Version::new(second, front.again());
         let copies = Copies::new(alloc, rt, first, second, readers)?;
+        let shown = Shown::of(&copies, &front);
         Ok(Publisher {
             history,
             front,
             waiting: None,
             copies,
+            shown,
         })
     }
 
@@ -85,6 +90,13 @@ impl<F: Follows<E>, E: Drop, J: Naming, R: Wait + Drop, A: Allocator> Publisher<
         ensures { result.now ≡ self.now.handed }
     {
         &self.front
+    }
+
+    /// The list that is shown: what the published copy has followed.
+    pub fn shown(&self) -> &Shown<E, J>
+        ensures { result.now ≡ self.now.shown }
+    {
+        &self.shown
     }
 
     /// Hands an entry on, which copies follow at the next publishing.
@@ -112,12 +124,11 @@ impl<F: Follows<E>, E: Drop, J: Naming, R: Wait + Drop, A: Allocator> Publisher<
         Ok(())
     }
 
-    /// Publishes: the list of all entries that were handed on, which the published copy has followed
-    /// then. `None` where a copy had no memory for it: what is published stays, and the next call
+    /// Publishes: the list that is shown then, which is that of all entries that were handed on. `None` where a copy had no memory for it: what is published stays, and the next call
     /// goes on from there. It waits for those who read at this moment.
-    pub fn publish(&mut self) -> Option<Front<E, J>>
+    pub fn publish(&mut self) -> Option<Shown<E, J>>
         ensures handed { self.new.handed ≡ self.old.handed }
-        ensures some { IfSome result (λ front. (front ≡ self.old.handed) × (self.new.shown ≡ self.old.handed)) }
+        ensures some { IfSome result (λ shown. (shown ≡ self.old.handed) × (self.new.shown ≡ self.old.handed)) }
         ensures none { IfNone result (self.new.shown ≡ self.old.shown) }
     {
         if !flush(&mut self.waiting, &mut self.copies) {
@@ -126,7 +137,8 @@ impl<F: Follows<E>, E: Drop, J: Naming, R: Wait + Drop, A: Allocator> Publisher<
         let Ok(()) = self.copies.publish() else {
             return None;
         };
-        Some(self.front.again())
+        self.shown = Shown::of(&self.copies, &self.front);
+        Some(self.shown.again())
     }
 
     /// What the published copy has followed begins what was handed on.

@@ -1,10 +1,16 @@
 //! What is answered to the lines that any desk may be asked.
 
+ghost use Rattle.std.specs.Prelude.{◌≡◌, ◌≤◌, length, OnOk, IfOk};
+ghost use Rattle.geo_exact.specs.declared.limits.TheConstants.{LIST_CORNERS};
+ghost use Rattle.session_lines.specs.declared.faults.SessionFault.TheVariants.{NoCard};
+ghost use Rattle.register_sessions.specs.DeskAnswers.{GoesOnBy, HasGoneOn, IsPlaceLine, IsRingLine, IsCountLine, IsEditLine};
+ghost use Rattle.register_sessions.specs.DeskAnswers.{window_fault};
+
 use crate::journal_file::Synchroniser;
 use crate::lines::Came;
-use crate::room::{EditFault, Room};
-use desk_lock::{Card, LocateFault, Naming, Window};
-use geo_exact::{Corner, LIST_CORNERS};
+use crate::room::{EditFault, Made, Room};
+use desk_lock::{Card, LocateFault, Naming, Notice, Window};
+use geo_exact::Corner;
 use journal_records::split_word;
 use ring_edits::Edit;
 use session_lines::{
@@ -125,19 +131,44 @@ fn answer_edit<'h, H: Allocator, J: Naming<H>, R: Wait, K: Synchroniser>(
     edit: &Edit<&'h H>,
     text: &mut Vec<u8, &'h H>,
 ) -> Result<(), AllocError> {
-    let Some(card) = &mut chair.card else {
-        return push_error(text, SessionFault::NoCard);
-    };
+    let Chair { card, window } = chair;
+    match card {
+        Some(card) => answer_clerk(room, card, window, who, edit, text),
+        None => push_error(text, SessionFault::NoCard),
+    }
+}
+
+/// Adds the answer to a clerk's edit, which the window sees then.
+fn answer_clerk<'h, H: Allocator, J: Naming<H>, R: Wait, K: Synchroniser>(
+    room: &Room<'_, 'h, H, J, R, K>,
+    card: &mut Card<'h, H, J>,
+    window: &mut Option<Window<'h, H, J>>,
+    who: &[u8],
+    edit: &Edit<&'h H>,
+    text: &mut Vec<u8, &'h H>,
+) -> Result<(), AllocError>
+    ensures answered { OnOk result (GoesOnBy (IsEditLine J.office card.old card.new edit.now) text.old.items text.new.items) }
+{
     match room.submit(card, who, edit) {
-        Ok(receipt) => {
-            if let Some(window) = &mut chair.window {
-                window.learn(&receipt);
-            }
-            push_accepted(text, receipt.entry())
+        Ok(Made { entry, notice }) => {
+            learn(window, &notice);
+            push_accepted(text, &entry)
         }
         Err(EditFault::Refused(refusal)) => push_refused(text, refusal),
         Err(EditFault::Journal) => push_error(text, SessionFault::JournalFailed),
         Err(EditFault::NoMemory) => push_error(text, SessionFault::NoMemory),
+    }
+}
+
+/// Tells a window what was shown, where there are both.
+fn learn<'h, H: Allocator, J: Naming<H>>(
+    window: &mut Option<Window<'h, H, J>>,
+    notice: &Option<Notice<'h, H, J>>,
+) {
+    if let Some(notice) = notice {
+        if let Some(window) = window {
+            window.learn_notice(notice);
+        }
     }
 }
 
@@ -146,7 +177,10 @@ fn answer_locate<'h, H: Allocator, J: Naming<H>>(
     window: &mut Window<'h, H, J>,
     corner: Corner,
     text: &mut Vec<u8, &'h H>,
-) -> Result<(), AllocError> {
+) -> Result<(), AllocError>
+    ensures window { HasGoneOn window.old window.new }
+    ensures answered { OnOk result (GoesOnBy (IsPlaceLine window.new corner) text.old.items text.new.items) }
+{
     match window.locate(corner) {
         Ok((entries, at)) => push_located(text, entries, corner, &at),
         Err(fault) => push_error(text, fault_of_window(fault)),
@@ -158,33 +192,25 @@ fn answer_parcel<'h, H: Allocator, J: Naming<H>>(
     window: &mut Window<'h, H, J>,
     id: u64,
     text: &mut Vec<u8, &'h H>,
-) -> Result<(), AllocError> {
+) -> Result<(), AllocError>
+    ensures window { HasGoneOn window.old window.new }
+    ensures answered { OnOk result (GoesOnBy (IsRingLine window.new id) text.old.items text.new.items) }
+{
     match window.parcel(id) {
-        Ok((entries, Some(ring))) => push_ring(text, entries, id, ring.as_slice()),
+        Ok((entries, Some(ring))) => push_parcel(text, entries, id, ring.as_slice()),
         Ok((entries, None)) => push_no_parcel(text, entries, id),
         Err(fault) => push_error(text, fault_of_window(fault)),
     }
-}
-
-/// Adds the ring of a parcel that there is.
-fn push_ring<A: Allocator>(
-    text: &mut Vec<u8, A>,
-    entries: u64,
-    id: u64,
-    ring: &[Corner],
-) -> Result<(), AllocError> {
-    // A parcel's ring has fewer corners by far. No contract of a window repeats it.
-    if ring.len() > LIST_CORNERS {
-        return push_error(text, SessionFault::NoMemory);
-    }
-    push_parcel(text, entries, id, ring)
 }
 
 /// Adds how many entries there are.
 fn answer_entries<'h, H: Allocator, J: Naming<H>>(
     window: &mut Window<'h, H, J>,
     text: &mut Vec<u8, &'h H>,
-) -> Result<(), AllocError> {
+) -> Result<(), AllocError>
+    ensures window { HasGoneOn window.old window.new }
+    ensures answered { OnOk result (GoesOnBy (IsCountLine window.new) text.old.items text.new.items) }
+{
     match window.entries() {
         Ok(entries) => push_entries(text, entries),
         Err(fault) => push_error(text, fault_of_window(fault)),
@@ -192,7 +218,9 @@ fn answer_entries<'h, H: Allocator, J: Naming<H>>(
 }
 
 /// Why a window does not answer, as a desk is told.
-fn fault_of_window(fault: LocateFault) -> SessionFault {
+fn fault_of_window(fault: LocateFault) -> SessionFault
+    ensures { result ≡ window_fault fault }
+{
     match fault {
         LocateFault::NoVersion => SessionFault::NoVersion,
         LocateFault::NoMemory => SessionFault::NoMemory,

@@ -3,6 +3,7 @@
 use crate::answers::{Chair, answer};
 use crate::journal_file::Synchroniser;
 use crate::lines::Came;
+use crate::lines_pipe::LinesPipe;
 use crate::pipes::{Paths, Pipes};
 use crate::post::{Attendant, Next, Served, Trouble, serve_lines};
 use crate::room::Room;
@@ -13,6 +14,7 @@ use std::fs::File;
 use std::io;
 use std::io::{BufReader, ErrorKind, Read};
 use std::sync::Wait;
+use std::sync::atomic::Ordering;
 
 /// A desk: its pipes, and who sits there.
 #[derive(Drop)]
@@ -45,9 +47,11 @@ fn serve_next<'p, 'h, P: Pipes, H: Allocator, J: Naming<H>, R: Wait, K: Synchron
     if !room.door.step_in(room.rt) {
         return false;
     }
-    let opened = open_both(pipes, room.heap, desk.paths);
+    let paths = desk.paths;
+    paths.serves.store(true, Ordering::SeqCst);
+    let opened = open_both(room, pipes, paths);
     room.door.pass(room.rt);
-    match opened {
+    let goes_on = match opened {
         Ok((mut reader, writer)) => {
             let mut out = Counted::new(writer);
             let served = serve_client(room, &mut desk.chair, &mut reader, &mut out);
@@ -58,7 +62,9 @@ fn serve_next<'p, 'h, P: Pipes, H: Allocator, J: Naming<H>, R: Wait, K: Synchron
             served == Served::Gone
         }
         Err(error) => error.kind() == ErrorKind::OutOfMemory,
-    }
+    };
+    paths.serves.store(false, Ordering::SeqCst);
+    goes_on
 }
 
 /// Answers a client's lines until no further one is taken.
@@ -100,13 +106,21 @@ impl<'s, 'r, 'h, H: Allocator, J: Naming<H>, R: Wait, K: Synchroniser, W: ByteOu
     }
 }
 
+/// A desk's pipes that were opened: the lines that come in, and where the answers go out.
+type Opened<'s, 'h, H> = (BufReader<LinesPipe<'s>, &'h H>, File);
+
 /// Opens a desk's pipes: waits for a client.
-fn open_both<'h, P: Pipes, H: Allocator>(
+fn open_both<'s, 'h, P: Pipes, H: Allocator, J: Naming<H>, R: Wait, K: Synchroniser>(
+    room: &'s Room<'_, 'h, H, J, R, K>,
     pipes: &P,
-    heap: &'h H,
-    paths: &Paths<&'h H>,
-) -> io::Result<(BufReader<File, &'h H>, File)> {
-    let lines = pipes.open_to_read(paths.lines.as_str())?;
+    paths: &'s Paths<&'h H>,
+) -> io::Result<Opened<'s, 'h, H>> {
+    let pipe = pipes.open_to_read(paths.lines.as_str())?;
     let answers = pipes.open_to_write(paths.answers.as_str())?;
-    Ok((BufReader::new(heap, lines)?, answers))
+    let lines = LinesPipe {
+        pipe,
+        door: &room.door,
+        asks: &paths.asks,
+    };
+    Ok((BufReader::new(room.heap, lines)?, answers))
 }

@@ -112,11 +112,28 @@ impl<K: Synchroniser> Journal<K> {
         }
         synced.is_busy = true;
         drop(synced);
-        self.sync_all(rt)
+        self.synchronise(rt)
+    }
+
+    /// Waits until the disk has all records that were written, and answers how many they are; `None` where it has not.
+    pub(crate) fn sync_all<R: Wait>(&self, rt: &R) -> Option<u64> {
+        let writer = self.take(rt)?;
+        let records = writer.records();
+        drop(writer);
+        if self.sync_to(rt, records) {
+            Some(records)
+        } else {
+            None
+        }
+    }
+
+    /// How many records the disk has for certain.
+    pub(crate) fn synced<R: Wait>(&self, rt: &R) -> u64 {
+        self.synced.lock(rt).records
     }
 
     /// Synchronises all records that were written, and wakes those that wait for it; whether the disk has them.
-    fn sync_all<R: Wait>(&self, rt: &R) -> bool {
+    fn synchronise<R: Wait>(&self, rt: &R) -> bool {
         let records = self.records.load(Ordering::SeqCst);
         let is_there = self.synchroniser.synchronise().is_ok();
         if !is_there {

@@ -6,12 +6,15 @@
 mod answers;
 mod desks;
 mod door;
+mod ends;
 mod found_journal;
 mod journal;
 mod journal_file;
 mod lines;
+mod lines_pipe;
 mod offices;
 mod operator;
+mod own_files;
 mod pipes;
 mod post;
 mod reports;

@@ -1,15 +1,14 @@
 //! The operator's desk.
 
 use crate::answers::{Asked, Chair, answer_asked, read_asked};
-use crate::journal_file::Synchroniser;
+use crate::journal_file::{Machine, Synchroniser};
 use crate::lines::Came;
 use crate::post::{Attendant, Next, Served, Trouble, serve_lines};
 use crate::reports::{Exports, Ground, report_check, report_export, report_overlay};
 use crate::room::Room;
 use desk_lock::Naming;
-use fabric_core::Sheet;
 use geo_exact::ByteOut;
-use session_lines::{Line, SessionFault, push_error, push_published};
+use session_lines::{Line, SessionFault, push_error, push_failure, push_published};
 use std::alloc::{AllocError, Allocator};
 use std::io::{BufReader, Read};
 use std::sync::Wait;
@@ -24,7 +23,7 @@ pub(crate) struct Operator<'h, H: Allocator, J: Naming<H>> {
 /// Answers the operator's lines until no further one is taken.
 pub(crate) fn serve_operator<
     'h,
-    P: Exports,
+    P: Exports + Machine,
     H: Allocator,
     J: Naming<H>,
     R: Wait,
@@ -58,7 +57,7 @@ impl<
     's,
     'r,
     'h,
-    P: Exports,
+    P: Exports + Machine,
     H: Allocator,
     J: Naming<H>,
     R: Wait,
@@ -82,16 +81,25 @@ impl<
             }
         };
         match line {
-            Line::Check => report_check(sheet_of(room)?, text)?,
+            Line::Check => answer_check(room, text)?,
             Line::Overlay => answer_overlay(room, ground, text, out)?,
-            Line::Export(base) => {
-                report_export(self.disk, room.heap, sheet_of(room)?, base, text)?;
-            }
+            Line::Export(base) => answer_export(room, self.disk, ground, base, text)?,
             Line::Publish => answer_publish(room, chair, text)?,
             Line::Close => return Ok(Next::End),
             line => answer_asked(room, chair, Asked { who, line }, text)?,
         }
         Ok(Next::Line)
+    }
+}
+
+/// Adds whether the parcels tile the city.
+fn answer_check<'h, H: Allocator, J: Naming<H>, R: Wait, K: Synchroniser>(
+    room: &Room<'_, 'h, H, J, R, K>,
+    text: &mut Vec<u8, &'h H>,
+) -> Result<(), AllocError> {
+    match room.sheet() {
+        Ok(sheet) => report_check(sheet, text),
+        Err(fault) => push_error(text, fault),
     }
 }
 
@@ -102,12 +110,30 @@ fn answer_overlay<'h, H: Allocator, J: Naming<H>, R: Wait, K: Synchroniser, W: B
     text: &mut Vec<u8, &'h H>,
     out: &mut W,
 ) -> Result<(), Trouble> {
-    match &ground.zones {
-        Some(zones) => {
-            let sheet = sheet_of(room)?;
-            report_overlay(room.heap, &sheet, zones, text, out)
-        }
-        None => Ok(push_error(text, SessionFault::NoZones)?),
+    let Some(zones) = &ground.zones else {
+        return Ok(push_error(text, SessionFault::NoZones)?);
+    };
+    match room.sheet() {
+        Ok(sheet) => report_overlay(room.heap, &sheet, zones, text, out),
+        Err(fault) => Ok(push_error(text, fault)?),
+    }
+}
+
+/// Replaces the layer at BASE by the parcels, unless that is one of the session's own files.
+fn answer_export<'h, P: Exports + Machine, H: Allocator, J: Naming<H>, R: Wait, K: Synchroniser>(
+    room: &Room<'_, 'h, H, J, R, K>,
+    disk: &P,
+    ground: &Ground<'h, H, J>,
+    base: &str,
+    text: &mut Vec<u8, &'h H>,
+) -> Result<(), AllocError> {
+    if let Some(path) = ground.own_files.find_in_export(disk, room.heap, base)? {
+        let why = format!(in room.heap; "S5 {path}")?;
+        return push_failure(text, why.as_str());
+    }
+    match room.sheet() {
+        Ok(sheet) => report_export(disk, room.heap, sheet, base, text),
+        Err(fault) => push_error(text, fault),
     }
 }
 
@@ -117,21 +143,13 @@ fn answer_publish<'h, H: Allocator, J: Naming<H>, R: Wait, K: Synchroniser>(
     chair: &mut Chair<'h, H, J>,
     text: &mut Vec<u8, &'h H>,
 ) -> Result<(), AllocError> {
-    match room.office.publish(room.rt) {
-        Some(notice) => {
+    match room.publish() {
+        Ok(notice) => {
             if let Some(window) = &mut chair.window {
                 window.learn_notice(&notice);
             }
             push_published(text, notice.number())
         }
-        None => push_error(text, SessionFault::NoMemory),
+        Err(fault) => push_error(text, fault),
     }
-}
-
-/// The parcels as they are now, with the journal that led there. The office is held no longer than they are copied.
-fn sheet_of<'h, H: Allocator, J: Naming<H>, R: Wait, K: Synchroniser>(
-    room: &Room<'_, 'h, H, J, R, K>,
-) -> Result<Sheet<'h, H>, AllocError> {
-    let mut none = Vec::new(room.heap);
-    room.office.sheet(room.rt, none.as_mut_slice())
 }

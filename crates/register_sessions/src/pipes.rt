@@ -4,20 +4,21 @@ use crate::start_fault::StartFault;
 use city_layers::Disk;
 use std::alloc::{AllocError, Allocator};
 use std::fs::{File, OpenOptions};
-use std::io;
-use std::io::Write;
 use std::os::unix::fs::{FileTypeExt, MetadataExt, OpenOptionsExt};
-use std::rt::Files;
+use std::rt::{Clock, Files};
+use std::sync::atomic::AtomicBool;
+use std::time::Duration;
+use std::{io, thread};
 
 /// How the path of the pipe ends at which a desk is asked.
-const LINES: &str = ".in";
+pub(crate) const LINES: &str = ".in";
 
 /// How the path of the pipe ends at which it answers.
-const ANSWERS: &str = ".out";
+pub(crate) const ANSWERS: &str = ".out";
 
 /// How the path of the file ends that a session holds as long as it serves a desk. A pipe has no place for a lock: whoever
 /// holds one open is its client's other end.
-const LOCK: &str = ".lock";
+pub(crate) const LOCK: &str = ".lock";
 
 /// What of a pipe's mode lets every user read or write it.
 const EVERY_USER: u32 = 0o006;
@@ -36,9 +37,12 @@ pub trait Pipes {
 
     /// Opens the pipe at this path for both, and waits for nobody.
     fn open_for_both(&self, path: &str) -> io::Result<File>;
+
+    /// Waits so many milliseconds.
+    fn pause(&self, milliseconds: u64);
 }
 
-impl<'a, R: Files<File = File>> Pipes for Disk<'a, R> {
+impl<'a, R: Files<File = File> + Clock> Pipes for Disk<'a, R> {
     fn open_to_read(&self, path: &str) -> io::Result<File> {
         pipe(OpenOptions::new().read(true).open(self.0, path)?)
     }
@@ -55,6 +59,10 @@ impl<'a, R: Files<File = File>> Pipes for Disk<'a, R> {
                 .open(self.0, path)?,
         )
     }
+
+    fn pause(&self, milliseconds: u64) {
+        thread::sleep(self.0, Duration::from_millis(milliseconds));
+    }
 }
 
 /// An opened file that is a pipe; any other is an error.
@@ -66,13 +74,6 @@ fn pipe(file: File) -> io::Result<File> {
     }
 }
 
-/// Wakes who waits to read a pipe, by an empty line. Where the pipe is full, its desk has lines to read before that
-/// one.
-pub(crate) fn wake(pipe: &File) -> io::Result<()> {
-    let mut pipe = pipe;
-    pipe.write_all(b"\n")
-}
-
 /// The paths of a desk's pipes: the lines that are asked come in at the one, and the answers go out at the other.
 #[derive(Drop)]
 pub(crate) struct Paths<A: Allocator> {
@@ -80,6 +81,10 @@ pub(crate) struct Paths<A: Allocator> {
     pub(crate) answers: String<A>,
     /// Held as long as the desk is served.
     pub(crate) lock: File,
+    /// Whether the desk waits for a line.
+    pub(crate) asks: AtomicBool,
+    /// Whether the desk has a client, or waits for one.
+    pub(crate) serves: AtomicBool,
 }
 
 /// The pipes of desks with these names: NAME.in and NAME.out of each. None is opened; NAME.lock is held.
@@ -112,6 +117,8 @@ pub(crate) fn find_pipes<'a, F: Files<File = File>, A: Allocator + Copy>(
             lines,
             answers,
             lock,
+            asks: AtomicBool::new(false),
+            serves: AtomicBool::new(false),
         })?;
     }
     Ok(all)

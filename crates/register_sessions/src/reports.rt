@@ -3,6 +3,7 @@
 ghost use Rattle.std.specs.Prelude.{◌≡◌, length, IfOk};
 ghost use Rattle.zone_tables.specs.Overlap.{IsOverlapTable};
 
+use crate::own_files::OwnFiles;
 use crate::post::{Trouble, write_out};
 use city_layers::{Disk, ToolFault, replace_layer};
 use desk_lock::Naming;
@@ -16,10 +17,12 @@ use std::marker::PhantomData;
 use std::rt::Files;
 use zone_tables::write_report;
 
-/// What reports need beside the office's sheet: the zones of its city, where there are some.
+/// What reports need beside the office's sheet: the zones of its city, where there are some, and which files no export
+/// replaces.
 #[derive(Drop)]
 pub(crate) struct Ground<'h, H: Allocator, J: Naming<H>> {
     pub(crate) zones: Option<Layer<'h, H>>,
+    pub(crate) own_files: OwnFiles<&'h H>,
     pub(crate) of: PhantomData<J>,
 }
 

@@ -2,9 +2,10 @@
 
 use crate::answers::Chair;
 use crate::desks::{Desk, serve_desk};
-use crate::journal_file::Synchroniser;
+use crate::ends::close_desks;
+use crate::journal_file::{Machine, Synchroniser};
 use crate::operator::{Operator, serve_operator};
-use crate::pipes::{Paths, Pipes, wake};
+use crate::pipes::{Paths, Pipes};
 use crate::post::write_out;
 use crate::reports::Exports;
 use crate::room::Room;
@@ -63,7 +64,7 @@ impl<
     's,
     'r,
     'h,
-    P: Pipes + Exports,
+    P: Pipes + Exports + Machine,
     H: Allocator,
     J: Naming<H>,
     R: Wait,
@@ -90,7 +91,8 @@ impl<
         if is_whole && write_out(&mut text, &mut out).is_ok() {
             let _ = serve_operator(with.room, with.disk, &mut operator, &mut reader, &mut out);
         }
-        close_all(with.room, with.disk, with.paths);
+        let room = with.room;
+        close_desks(room.rt, room.heap, &room.door, with.disk, with.paths);
         Reception {
             operator,
             counter: Counter { reader, text, out },
@@ -119,7 +121,7 @@ pub(crate) fn serve<
     'r,
     'p,
     'h,
-    P: Pipes + Exports + Sync,
+    P: Pipes + Exports + Machine + Sync,
     R: Threads + Wait + Sync,
     H: Allocator + Send + Sync,
     J: Naming<H> + Send + Sync,
@@ -143,9 +145,18 @@ pub(crate) fn serve<
     if let Some(desk) = refused {
         return Err(StartFault::Run(ToolFault::NoThread(desk)));
     }
-    let Room { office, rt, .. } = room;
+    let Room {
+        office,
+        journal,
+        rt,
+        ..
+    } = room;
+    let kept = match &journal {
+        Some(journal) => Some(journal.synced(rt)),
+        None => None,
+    };
     text.clear();
-    push_end_of(rt, office, cards, &mut text)?;
+    push_end_of(rt, office, cards, kept, &mut text)?;
     match put_all(text.as_slice(), &mut out) {
         Ok(()) => Ok(()),
         Err(_) => Err(StartFault::Run(ToolFault::Output)),
@@ -156,7 +167,7 @@ pub(crate) fn serve<
 fn serve_all<
     'p,
     'h,
-    P: Pipes + Exports + Sync,
+    P: Pipes + Exports + Machine + Sync,
     R: Threads + Wait + Sync,
     H: Allocator + Send + Sync,
     J: Naming<H> + Send + Sync,
@@ -223,40 +234,19 @@ fn keep_card<'h, H: Allocator, J: Naming<H>>(
     }
 }
 
-/// Closes an office, and adds what the operator is told of it.
+/// Closes an office, and adds what the operator is told of it: of entries only those that the disk has, where so many are
+/// kept there.
 fn push_end_of<'h, H: Allocator, J: Naming<H>, R: Wait>(
     rt: &R,
     office: Office<'h, H, J, &R>,
     cards: Vec<Card<'h, H, J>, &'h H>,
+    kept: Option<u64>,
     text: &mut Vec<u8, &'h H>,
 ) -> Result<(), AllocError> {
     match office.close(rt, cards) {
-        Ok(fabric) => push_closed(text, fabric.entries()),
+        Ok(fabric) => push_closed(text, kept.unwrap_or(fabric.entries())),
         Err((_, _, CloseFault::CardsMissing(clerks, cards))) => {
             push_error(text, SessionFault::CardsMissing(clerks, cards))
         }
     }
-}
-
-/// Has all desks take no further line, and wakes those that wait for a client or for a line.
-fn close_all<'h, P: Pipes, R: Wait, H: Allocator, J: Naming<H>, K: Synchroniser>(
-    room: &Room<'_, 'h, H, J, R, K>,
-    pipes: &P,
-    paths: &[Paths<&'h H>],
-) {
-    room.door.close(room.rt);
-    let (mut asked, mut answered) = (Vec::new(room.heap), Vec::new(room.heap));
-    // A pipe that is gone by now wakes nobody.
-    for pair in paths {
-        if let Ok(answers) = pipes.open_for_both(pair.answers.as_str()) {
-            let _ = answered.push(answers);
-        }
-        if let Ok(lines) = pipes.open_for_both(pair.lines.as_str()) {
-            let _ = asked.push(lines);
-        }
-    }
-    for lines in asked.iter() {
-        let _ = wake(lines);
-    }
-    room.door.wait_for_all(room.rt);
 }

@@ -5,10 +5,11 @@ ghost use Rattle.desk_lock.specs.Offices.{origin_of};
 
 use crate::door::Door;
 use crate::found_journal::{FoundJournal, find_journal};
-use crate::journal::Journal;
+use crate::journal::{Journal, Writer};
 use crate::journal_file::{DiskFile, DiskSynchroniser, Machine, Synchroniser};
 use crate::offices::{Seats, clerks_of, seat_all, windows_of};
 use crate::operator::Operator;
+use crate::own_files::OwnFiles;
 use crate::pipes::{Paths, Pipes, find_pipes};
 use crate::reports::{Exports, Ground};
 use crate::room::Room;
@@ -19,7 +20,7 @@ use clerk_runs::push_refusal;
 use desk_lock::{Name, Naming, Office, OpenFault};
 use fabric_core::{Fabric, Layer};
 use geo_exact::{Counted, Unit};
-use journal_records::JournalFault;
+use journal_records::{JournalFault, Seal};
 use journal_replays::{ReplayFault, Replayed, replay, seal_of_layer};
 use journal_writers::JournalWriter;
 use parcel_runs::refuse_many_clerks;
@@ -67,6 +68,7 @@ pub fn serve_session<
 >(rt: &R, disk: &'a P, heap: &'h H, plan: &Plan<'a>) -> Result<(), StartFault<'a, &'h H>> {
     refuse_many_clerks(plan.desks.len())?;
     let paths = find_pipes(rt, heap, plan.desks.as_slice())?;
+    let own_files = OwnFiles::of_plan(heap, plan)?;
     let register = open_register(rt, disk, heap, plan)?;
     let name = Name::new(heap)?;
     at_office::<R, P, H, DiskSynchroniser<'a, P>, Brand>(
@@ -75,6 +77,7 @@ pub fn serve_session<
         heap,
         name,
         register,
+        own_files,
         paths.as_slice(),
     )
 }
@@ -194,21 +197,37 @@ fn begin_journal<'a, 'h, R: Eprint, P: Machine, H: Allocator>(
     };
     let layer = seal_of_layer(heap, fabric)?;
     let file = DiskFile { file };
-    let (begun, torn) = if text.is_empty() {
-        (JournalWriter::begin(heap, file, &layer), 0)
+    let writer = if text.is_empty() {
+        match JournalWriter::begin(heap, file, &layer) {
+            Ok(writer) => writer,
+            Err(_) => return Err(StartFault::JournalUnreadable(path)),
+        }
     } else {
-        let Replayed {
-            records,
-            seal,
-            torn,
-        } = match replay(heap, fabric, &layer, text.as_slice()) {
-            Ok(replayed) => replayed,
-            Err(fault) => return Err(fault_of_replay(heap, path, fault)),
-        };
-        let whole = text.len().saturating_sub(torn);
-        (JournalWriter::go_on(file, records, seal, whole, torn), torn)
+        go_on(rt, heap, fabric, path, file, &layer, text.as_slice())?
     };
-    let Ok(writer) = begun else {
+    Ok(Journal::new(writer, synchroniser))
+}
+
+/// Makes the edits of a journal that has begun, and goes on behind them. A torn record is cut off, and told.
+fn go_on<'a, 'h, R: Eprint, H: Allocator>(
+    rt: &R,
+    heap: &'h H,
+    fabric: &mut Fabric<'h, H>,
+    path: &'a str,
+    file: DiskFile,
+    layer: &Seal,
+    text: &[u8],
+) -> Result<Writer, StartFault<'a, &'h H>> {
+    let Replayed {
+        records,
+        seal,
+        torn,
+    } = match replay(heap, fabric, layer, text) {
+        Ok(replayed) => replayed,
+        Err(fault) => return Err(fault_of_replay(heap, path, fault)),
+    };
+    let whole = text.len().saturating_sub(torn);
+    let Ok(writer) = JournalWriter::go_on(file, records, seal, whole, torn) else {
         return Err(StartFault::JournalUnreadable(path));
     };
     if torn > 0 {
@@ -217,10 +236,10 @@ fn begin_journal<'a, 'h, R: Eprint, P: Machine, H: Allocator>(
             "note: {path}: a last record of {torn} bytes without its end is cut off"
         );
     }
-    Ok(Journal::new(writer, synchroniser))
+    Ok(writer)
 }
 
-/// What it is to the user that a journal's edits are not made again.
+/// The user-facing error for a journal whose edits are not made again.
 fn fault_of_replay<'a, A: Allocator>(
     alloc: A,
     path: &'a str,
@@ -250,7 +269,7 @@ fn at_office<
     'a,
     'h,
     R: Input + Print + Threads + Wait + Sync,
-    P: Pipes + Exports + Sync,
+    P: Pipes + Exports + Machine + Sync,
     H: Allocator + Send + Sync,
     K: Synchroniser + Sync,
     J: Naming<H> + Send + Sync,
@@ -260,6 +279,7 @@ fn at_office<
     heap: &'h H,
     name: Name<&'h H>,
     register: Register<'h, H, K>,
+    own_files: OwnFiles<&'h H>,
     paths: &[Paths<&'h H>],
 ) -> Result<(), StartFault<'a, &'h H>>
     requires book { name.book ≡ J.book }
@@ -292,6 +312,7 @@ fn at_office<
     };
     let ground = Ground {
         zones,
+        own_files,
         of: PhantomData,
     };
     let operator = Operator { chair, ground };

@@ -49,7 +49,7 @@ class Calls:
         return self.edit(Insert(first, last, new))
 
     def straighten(self, corner: Corner) -> Accepted:
-        """Takes a corner out of every parcel that has it, where it bends none. Raises as `edit` does."""
+        """Removes the corner from every parcel that contains it, provided no ring bends there. Raises as `edit` does."""
         return self.edit(Straighten(corner))
 
     def edit(self, edit: Edit, who: Optional[str] = None) -> Accepted:

@@ -23,6 +23,9 @@ if TYPE_CHECKING:
 ENDED_BY_USER = 130
 """The status of a command that its user interrupted."""
 
+STATUS = {"tiles": 0, "does not tile": 1, "open": 2}
+"""The status of `check` and `report` by their verdict."""
+
 
 def _preparing(command: argparse.ArgumentParser) -> None:
     """The options of a command that prepares layers."""
@@ -61,7 +64,7 @@ def _add_questions(commands: Any) -> None:
         add_options(command)
         _answering(command)
     for command in (check, report):
-        command.add_argument("--strict", action="store_true", help="status 1 where the parcels do not tile")
+        command.add_argument("--strict", action="store_true", help=argparse.SUPPRESS)  # what is always so by now
     report.add_argument("--out", metavar="REPORT.gpkg", help="the GeoPackage to write; split.csv beside it")
     report.add_argument(
         "--min-area", metavar="M2", type=float, default=1.0, help="parts of less, as measured, are slivers (1)"
@@ -77,7 +80,8 @@ def parser() -> argparse.ArgumentParser:
     top = argparse.ArgumentParser(
         prog="gandovel",
         description="Parcel layers of a GIS to the proved verdict and back.",
-        epilog="Status: 0 done, 1 refused (one line `error: ..`), 2 a command line not understood.",
+        epilog="Status: 0 done; 1 refused (one line `error: ..`), or what does not tile; 2 a command line not "
+        "understood, or an open verdict.",
     )
     top.add_argument("--version", action="version", version=f"gandovel {__version__}")
     commands = top.add_subparsers(dest="command", required=True)
@@ -144,8 +148,10 @@ def _lost(prepared: Prepared) -> None:
 
 
 def _prepare(options: argparse.Namespace) -> int:
+    from .prepared import test_own
     from .progress import Progress
 
+    test_own(Path(options.out))
     progress = Progress(6, shown=True)
     try:
         prepared = _prepared(options, progress)
@@ -190,7 +196,7 @@ def _report(options: argparse.Namespace) -> int:
             print(prepared.summary())
         print(answer.summary())
     print(progress.end(), file=sys.stderr)
-    return 1 if options.strict and answer.verdict == "does not tile" else 0
+    return STATUS[answer.verdict]
 
 
 def _overlay(options: argparse.Namespace) -> int:

@@ -49,7 +49,7 @@ class Insert:
 
 @dataclass(frozen=True)
 class Straighten:
-    """The corner is taken out of every parcel that has it, where it bends none."""
+    """Removes the corner from every parcel that contains it, provided no ring bends there."""
 
     corner: Tuple[float, float]
 

@@ -5,10 +5,12 @@
 from __future__ import annotations
 
 import datetime
+import math
 import os
 import sqlite3
 import struct
 from contextlib import closing
+from dataclasses import dataclass
 from pathlib import Path
 from typing import Any, Dict, List, Optional, Sequence, Set, Tuple, Union
 
@@ -19,8 +21,54 @@ import pandas as pd
 from fiona._err import CPLE_BaseError
 
 from .errors import Refused
-from .shapes import POLYGON, bounds_of, kind_of, multipolygon_wkb, shapes_of, wkb_of
+from .shapes import MULTIPOLYGON, POLYGON, array_of, bounds_of, kind_of, multipolygon_wkb, shapes_of, wkb_of
 
+
+@dataclass
+class Table:
+    """A layer as it is written: its columns, the WKB of its shapes, their projection, and the box around them.
+
+    `shapes` are its shapes where they are there already.
+    """
+
+    columns: pd.DataFrame
+    blobs: Sequence[Optional[bytes]]
+    crs: Any
+    bounds: Tuple[float, ...]
+    shapes: Optional[Sequence[Any]] = None
+
+    @classmethod
+    def of(cls, frame: Union[gpd.GeoDataFrame, "Table"]) -> "Table":
+        """A frame as a table."""
+        if isinstance(frame, Table):
+            return frame
+        shapes = frame.geometry.to_numpy()
+        columns = pd.DataFrame(frame.drop(columns=frame.geometry.name))
+        return cls(columns, wkb_of(shapes), frame.crs, bounds_of(shapes))
+
+    def frame(self) -> gpd.GeoDataFrame:
+        """It as a frame."""
+        shapes = self.shapes if self.shapes is not None else shapes_of(self.blobs)
+        return gpd.GeoDataFrame(self.columns, geometry=array_of(shapes, self.crs))
+
+    @property
+    def kinds(self) -> Set[int]:
+        """The kinds of its shapes."""
+        return {kind_of(blob) & 0xFF for blob in self.blobs if blob is not None}
+
+    @property
+    def geometry(self) -> str:
+        """The kind of its shapes as Fiona names it: of polygons and multipolygons the latter."""
+        kinds = self.kinds
+        if not kinds or not (kinds <= {POLYGON, MULTIPOLYGON} or len(kinds) == 1):
+            return "Unknown"
+        has_heights = any(blob is not None and kind_of(blob) & HEIGHTS for blob in self.blobs)
+        return ("3D " if has_heights else "") + NAMES[max(kinds) - 1]
+
+
+NAMES = "Point LineString Polygon MultiPoint MultiLineString MultiPolygon GeometryCollection".split()
+HEIGHTS = 0x80000000
+"""The mark of heights in the kind of a WKB, as GEOS writes it."""
 HEAD = 8
 """The bytes in front of a shape's WKB, as they are written here: no box."""
 COLUMN = "SELECT column_name FROM gpkg_geometry_columns WHERE table_name = ?"
@@ -28,7 +76,7 @@ COLUMN = "SELECT column_name FROM gpkg_geometry_columns WHERE table_name = ?"
 
 def write_layers(
     path: Union[str, Path],
-    layers: Sequence[Tuple[str, gpd.GeoDataFrame]],
+    layers: Sequence[Tuple[str, Union[gpd.GeoDataFrame, Table]]],
     styles: Optional[Dict[str, str]] = None,
     notes: Optional[Dict[str, str]] = None,
 ) -> None:
@@ -39,15 +87,15 @@ def write_layers(
     path = Path(path)
     aside = path.with_name(f".{os.getpid()}.{path.name}")
     try:
-        blobs = [wkb_of(frame.geometry.to_numpy()) for _, frame in layers]
-        for (name, frame), shapes in zip(layers, blobs):
-            _make_table(aside, name, frame, shapes)
+        tables = [(name, Table.of(frame)) for name, frame in layers]
+        for name, table in tables:
+            _make_table(aside, name, table)
         with closing(sqlite3.connect(str(aside))) as connection:
             # The file has another name until it is whole: nothing is lost where a journal and its waiting are left out.
             for option in ("synchronous = OFF", "journal_mode = OFF", "cache_size = -65536"):
                 connection.execute(f"PRAGMA {option}")
-            for (name, frame), shapes in zip(layers, blobs):
-                _fill(connection, name, frame, shapes)
+            for name, table in tables:
+                _fill(connection, name, table)
             connection.executemany(
                 "UPDATE gpkg_contents SET description = ? WHERE table_name = ?",
                 [(text, name) for name, text in (notes or {}).items()],
@@ -56,7 +104,7 @@ def write_layers(
                 _put_styles(connection, styles)
             connection.commit()
         os.replace(aside, path)
-    except (OSError, sqlite3.Error, fiona.errors.FionaError, CPLE_BaseError, RuntimeError) as fault:
+    except (OSError, sqlite3.Error, fiona.errors.FionaError, CPLE_BaseError, RuntimeError, UnicodeError) as fault:
         raise Refused("P14", f"{path} can't be written: {fault}") from fault
     finally:
         for left in (aside, Path(f"{aside}-journal"), Path(f"{aside}-wal"), Path(f"{aside}-shm")):
@@ -69,6 +117,13 @@ def test_name(path: Union[str, Path], read: Sequence[Optional[str]] = ()) -> Non
     if Path(path).suffix.lower() != ".gpkg":
         raise Refused("P14", f"{path} would be a GeoPackage: give it a name that ends with .gpkg")
     test_not_read(path, read)
+    test_folder(path)
+
+
+def test_folder(path: Union[str, Path]) -> None:
+    """Refuses (P14) what would lie in a folder that is not there."""
+    if not Path(path).absolute().parent.is_dir():
+        raise Refused("P14", f"{path} can't be written: there is no folder {Path(path).parent}")
 
 
 def test_not_read(path: Union[str, Path], read: Sequence[Optional[str]]) -> None:
@@ -79,15 +134,11 @@ def test_not_read(path: Union[str, Path], read: Sequence[Optional[str]]) -> None
             raise Refused("P14", f"{path} is read, and would be written over: give another name")
 
 
-def _make_table(path: Path, name: str, frame: gpd.GeoDataFrame, blobs: Sequence[Optional[bytes]]) -> None:
-    crs = frame.crs.to_wkt("WKT1_GDAL") if frame.crs is not None else None
-    kinds = _kinds(blobs)
-    geometry = "MultiPolygon" if kinds else "Unknown"
-    if len(kinds) == 1:
-        geometry = frame.geometry.dropna().iloc[0].geom_type
-    columns = [column for column in frame.columns if column != frame.geometry.name]
-    names = _names(columns)
-    schema = {"geometry": geometry, "properties": {names[it]: type_of(frame[it]) for it in columns}}
+def _make_table(path: Path, name: str, table: Table) -> None:
+    crs = table.crs.to_wkt("WKT1_GDAL") if table.crs is not None else None
+    columns = table.columns
+    names = _names(columns.columns)
+    schema = {"geometry": table.geometry, "properties": {names[it]: type_of(columns[it]) for it in columns.columns}}
     with fiona.open(str(path), "w", driver="GPKG", layer=name, schema=schema, crs_wkt=crs, SPATIAL_INDEX="NO"):
         pass
 
@@ -96,7 +147,7 @@ def _names(columns: Sequence[Any]) -> Dict[Any, str]:
     """The names of columns in a GeoPackage, in which those of the row and the shape are taken, whatever their case."""
     taken, names = {"fid", "geom"}, {}
     for column in columns:
-        name = str(column).replace('"', "'")
+        name = str(column).replace('"', "'").replace("\0", "")
         while name.lower() in taken:
             name += "_"
         taken.add(name.lower())
@@ -121,24 +172,25 @@ def type_of(values: pd.Series) -> str:
     return "float" if known and all(isinstance(value, (int, float, np.number)) for value in known) else "str"
 
 
-def _fill(connection: sqlite3.Connection, name: str, frame: gpd.GeoDataFrame, blobs: Sequence[Optional[bytes]]) -> None:
-    if not len(frame):
+def _fill(connection: sqlite3.Connection, name: str, table: Table) -> None:
+    if not len(table.blobs):
         return
     geometry, srs = connection.execute(
         "SELECT column_name, srs_id FROM gpkg_geometry_columns WHERE table_name = ?", (name,)
     ).fetchone()
-    columns = [column for column in frame.columns if column != frame.geometry.name]
-    known = _names(columns)
-    names = ", ".join(f'"{column}"' for column in [geometry, *(known[column] for column in columns)])
-    marks = ", ".join("?" for _ in range(len(columns) + 1))
+    columns = table.columns
+    known = _names(columns.columns)
+    names = ", ".join(f'"{column}"' for column in [geometry, *(known[column] for column in columns.columns)])
+    marks = ", ".join("?" for _ in range(len(columns.columns) + 1))
     head = b"GP\0\x01" + struct.pack("<i", srs)
-    values = [_plain_values(frame[column]) for column in columns]
-    rows = zip((blob and head + blob for blob in _of_one_kind(blobs)), *values)
+    values = [_plain_values(columns[column]) for column in columns.columns]
+    rows = zip((blob and head + blob for blob in _of_one_kind(table)), *values)
     connection.executemany(f'INSERT INTO "{name}" ({names}) VALUES ({marks})', rows)
-    connection.execute(
-        "UPDATE gpkg_contents SET min_x = ?, min_y = ?, max_x = ?, max_y = ? WHERE table_name = ?",
-        (*bounds_of(frame.geometry.to_numpy()), name),
-    )
+    if not math.isnan(table.bounds[0]):
+        connection.execute(
+            "UPDATE gpkg_contents SET min_x = ?, min_y = ?, max_x = ?, max_y = ? WHERE table_name = ?",
+            (*table.bounds, name),
+        )
 
 
 def _plain_values(values: pd.Series) -> List[Any]:
@@ -150,16 +202,13 @@ def _plain_values(values: pd.Series) -> List[Any]:
     return [str(value) if value is not None else None for value in plain] if kind == "str" else plain
 
 
-def _kinds(blobs: Sequence[Optional[bytes]]) -> Set[int]:
-    return {kind_of(blob) & 0xFF for blob in blobs if blob is not None}
-
-
-def _of_one_kind(blobs: Sequence[Optional[bytes]]) -> Sequence[Optional[bytes]]:
-    """The shapes, where they are of several kinds with polygons as multipolygons."""
-    if len(_kinds(blobs)) < 2:
-        return blobs
+def _of_one_kind(table: Table) -> Sequence[Optional[bytes]]:
+    """The shapes, where they are polygons and multipolygons the former as the latter."""
+    if table.kinds != {POLYGON, MULTIPOLYGON}:
+        return table.blobs
     return [
-        multipolygon_wkb([blob]) if blob is not None and kind_of(blob) & 0xFF == POLYGON else blob for blob in blobs
+        multipolygon_wkb([blob]) if blob is not None and kind_of(blob) & 0xFF == POLYGON else blob
+        for blob in table.blobs
     ]
 
 
@@ -224,7 +273,7 @@ def read_layer_of(path: Union[str, Path], name: str, change: Optional[str] = Non
     values = {column: _typed_values(list(cell), kind) for (column, kind), cell in zip(kinds.items(), cells)}
     with fiona.open(str(path), layer=name) as opened:
         crs = opened.crs_wkt or None
-    return gpd.GeoDataFrame(values, geometry=shapes, crs=crs)
+    return gpd.GeoDataFrame(values, geometry=array_of(shapes, crs))
 
 
 def _typed_values(values: List[Any], kind: str) -> pd.Series:

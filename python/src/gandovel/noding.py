@@ -208,23 +208,35 @@ def put_in(
     """Loops (of point indices) with each wanted point put into the sides that it touches, and which these are.
 
     A point that is off a side by more than noise is not put into a polygon of its own, nor into one that it would make
-    invalid.
+    invalid; and then into no polygon with the same side, so that none is bent away from its neighbour.
     """
     ends = loops.corners[loops.nexts()]
     found = touches(points, loops.corners, ends, wanted, side_reach, point_reach)
     loop = np.searchsorted(loops.starts, found[:, 0], side="right") - 1
     off = _off(points, loops.corners[found[:, 0]], ends[found[:, 0]], found[:, 1])
     owners = np.cumsum(~loops.hole) - 1
-    far = off > noise
-    kept = ~far | ~_among_own(loops, owners, len(points), loop, found[:, 1])
+    far, same = off > noise, _same_sides(loops, ends, found)
+    kept = _all_or_none(same, ~far | ~_among_own(loops, owners, len(points), loop, found[:, 1]))
     result = _inserted(loops, found[kept])
     if far[kept].any():
         broken = _broken(result, points, owners, np.unique(owners[loop[kept & far]]))
         if len(broken):
-            kept &= ~far | ~np.isin(owners[loop], broken)
+            kept = _all_or_none(same, kept & (~far | ~np.isin(owners[loop], broken)))
             result = _inserted(loops, found[kept])
     told = _told(points, loops, ends, found[kept], loop[kept], off[kept])
     return result, told
+
+
+def _same_sides(loops: Loops, ends: Array, found: Array) -> Array:
+    """A number for each point that touches a side: the same for the same point at the same side, whichever way it runs."""
+    a, b = loops.corners[found[:, 0]], ends[found[:, 0]]
+    keys = np.column_stack([found[:, 1], np.minimum(a, b), np.maximum(a, b)])
+    return np.asarray(np.unique(keys, axis=0, return_inverse=True)[1]).reshape(-1)
+
+
+def _all_or_none(same: Array, kept: Array) -> Array:
+    """What is kept, where all with the same number are."""
+    return np.asarray(kept & ~np.isin(same, same[~kept]))
 
 
 def _among_own(loops: Loops, owners: Array, count: int, loop: Array, point: Array) -> Array:

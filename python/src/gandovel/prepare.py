@@ -25,6 +25,7 @@ from .noding import noise_of, points_of, put_in, values_gathered
 from .prepared import GATHERED, MOVED, OUT, OUT_ROW, PUT_IN, TOUCHED, Changes, Island, Prepared, Rows, Skipped
 from .progress import Progress
 from .reading import Source, frame_of
+from .shapes import bounds_of
 from .sources import CITY, PARCELS, ROLES, ROW, ZONES, Loops
 from .touching import Reaches, reaches_of, test_distances
 from .units import Unit, unit_of
@@ -155,7 +156,8 @@ def prepare(
     )
     if isinstance(parcels, gpd.GeoSeries) and number not in frames[0].columns:
         number = ROW
-    layers = _tested(*frames, number, zone, unit, skip_invalid)
+    names = str(number), None if zone is None else str(zone)
+    layers = _tested(*frames, *names, unit, skip_invalid)
     return _prepared(layers, frame, max_move, (grid, touch), narrow * 1000.0, progress)
 
 
@@ -227,13 +229,14 @@ def _tested(
     zone, zone_names = _zone_names(zones, zone, number)
     if zones is not None and zone == ROW and ROW not in zones.columns:
         lost.append("zones: they are named by their rows, from 1, since no column has their names (--zone)")
-    if len(parcels.geometry.dropna()) and not np.isfinite(parcels.total_bounds).all():
-        raise Refused("P6", "the layer has coordinates that are no numbers, or no geometry at all", role="parcels")
-    told = unit_of(parcels.crs, unit, parcels.total_bounds, "parcels")
+    around = _box(parcels)
+    told = unit_of(parcels.crs, unit, around.tolist(), "parcels")
+    _test_far(around, told, "parcels")
     skipped: List[Skipped] = []
     for frame, role, labels in ((parcels, "parcels", names), (zones, "zones", zone_names), (city, "city", None)):
         if frame is not None:
-            _test_beside(frame, role, parcels, told)
+            if frame is not parcels:
+                _test_beside(frame, role, parcels, around, told)
             rows = labels or [str(row + 1) for row in range(len(frame))]
             skipped += _skipped(frame, rows, role, skip_invalid and role != "city")
     return _Layers(parcels, zones, city, number, zone, (names, zone_names), told, skipped, lost)
@@ -249,13 +252,32 @@ def _skipped(frame: gpd.GeoDataFrame, labels: Sequence[str], role: str, skip_inv
     return [Skipped.of(row, refused) for row, refused in bad.items()]
 
 
-def _test_beside(frame: gpd.GeoDataFrame, role: str, parcels: gpd.GeoDataFrame, unit: Unit) -> None:
-    """Refuses a layer whose projection is not that of the parcels (P7), and one that lies elsewhere (P11)."""
+def _box(frame: gpd.GeoDataFrame) -> Array:
+    """The box (x, y, x, y) around the shapes of a layer whose coordinates are numbers; NaN where there are none."""
+    box = np.array(bounds_of(frame.geometry))
+    if np.isfinite(box).all():
+        return box
+    boxes = frame.bounds.to_numpy()
+    boxes = boxes[np.isfinite(boxes).all(axis=1)]
+    if not len(boxes):
+        return np.full(4, np.nan)
+    return np.concatenate([boxes[:, :2].min(axis=0), boxes[:, 2:].max(axis=0)])
+
+
+def _test_far(around: Array, unit: Unit, role: str) -> None:
+    """Refuses a layer that lies too far out (P9), by the box around it."""
+    if np.abs(around).max() * unit.millimetres > FARTHEST:
+        raise Refused("P9", "the layer lies more than 100,000 km from the origin", role=role)
+
+
+def _test_beside(frame: gpd.GeoDataFrame, role: str, parcels: gpd.GeoDataFrame, around: Array, unit: Unit) -> None:
+    """Refuses a layer whose projection is not that of the parcels (P7), or that lies too far out (P9) or elsewhere (P11)."""
     unnamed = unit.how == "told" and (frame.crs is None or parcels.crs is None)
     if not unnamed and not sources.same_projection(parcels.crs, frame.crs):
         names = f"{_name(frame.crs)}, {_name(parcels.crs)}"
         raise Refused("P7", f"its projection is not that of the parcels: {names}", role=role)
-    here, there = parcels.total_bounds, frame.total_bounds
+    here, there = around, _box(frame)
+    _test_far(there, unit, role)
     if (here[:2] > there[2:]).any() or (there[:2] > here[2:]).any():
         places = f"{place(*there[:2])}, they {place(*here[:2])}"
         raise Refused("P11", f"it lies elsewhere than the parcels: {places}", role=role)
@@ -398,8 +420,12 @@ def _islands(
 
 
 def _add(rows: Rows, ring: Array, row: int, part: int) -> None:
-    """Adds a ring to the rows: as several where it has more corners than the program takes."""
-    pieces = cut_ring(ring, MOST_CORNERS) if len(ring) > MOST_CORNERS else [ring]
+    """Adds a ring to the rows: as several where it has more corners than the program takes.
+
+    Each has half as many at most, since its neighbours' corners are put into its borders; so has what is outside.
+    """
+    most = MOST_CORNERS // 2
+    pieces = cut_ring(ring, most) if len(ring) > (most if row == OUT_ROW else MOST_CORNERS) else [ring]
     for piece in pieces or [ring]:
         rows.rings.append(piece)
         same = len(rows.source) > 0 and rows.source[-1] == row

@@ -6,19 +6,22 @@ import json
 import os
 import shutil
 from dataclasses import asdict, dataclass, field
+from functools import cached_property
 from pathlib import Path
 from typing import Any, Dict, List, Optional, Sequence, Tuple, Union
 
 import geopandas as gpd
 import numpy as np
+import pandas as pd
 from shapely.geometry import Polygon
 
 from .arrays import Array
 from . import notes
 from .city import OpenGap
 from .errors import Refused
-from .gpkg import read_layer_of, write_layers
+from .gpkg import Table, read_layer_of, write_layers
 from .layer_files import read_rings, write_rings
+from .shapes import bounds_of, point_wkb, wkb_of
 from .sources import ROLES
 from .units import Unit
 
@@ -152,6 +155,11 @@ class Prepared:
         """The layer's projection."""
         return self.parcels.crs
 
+    @cached_property
+    def parcels_wkb(self) -> List[Optional[bytes]]:
+        """The WKB of the parcels, as they were given."""
+        return wkb_of(self.parcels.geometry)
+
     def number_of(self, row: int) -> str:
         """The number of a row of the parcels; `OUT` for the area outside."""
         return OUT if row < 0 else self.numbers[row]
@@ -224,8 +232,7 @@ class Prepared:
     def save(self, work: Union[str, Path]) -> None:
         """Writes the folder whole or not at all. One that was there is replaced where `prepare` made it, else P14."""
         work = Path(work)
-        if work.exists() and (not work.is_dir() or (any(work.iterdir()) and not (work / "prepared.json").is_file())):
-            raise Refused("P14", f"{work} is there and no folder that prepare made")
+        test_own(work)
         aside = work.with_name(f".{os.getpid()}.{work.name}")
         try:
             aside.mkdir(parents=True)
@@ -245,10 +252,17 @@ class Prepared:
             if island.zones is not None:
                 write_rings(place / "zones.shp", island.zones.rings)
                 self._write_rows(place / "zone_rows.csv", island.zones, self.zone or "zone", self.zone_of)
-        write_layers(folder / "changes.gpkg", [("changes", self.changes_frame())], notes=notes.CHANGES)
-        layers = [("parcels", self.parcels)] + ([("zones", self.zones)] if self.zones is not None else [])
+        write_layers(folder / "changes.gpkg", [("changes", self.changes_table())], notes=notes.CHANGES)
+        layers: List[Tuple[str, Union[gpd.GeoDataFrame, Table]]] = [("parcels", self._parcels_table())]
+        if self.zones is not None:
+            layers.append(("zones", self.zones))
         write_layers(folder / "register.gpkg", layers)
         (folder / "prepared.json").write_text(json.dumps(self._facts()))
+
+    def _parcels_table(self) -> Table:
+        geometry = self.parcels.geometry
+        columns = pd.DataFrame(self.parcels.drop(columns=geometry.name))
+        return Table(columns, self.parcels_wkb, self.crs, bounds_of(geometry))
 
     def _facts(self) -> Dict[str, Any]:
         """What `prepared.json` has: all that the layers of the folder have not."""
@@ -284,10 +298,14 @@ class Prepared:
         measured); `closed_m2` (measured) what was closed where it was made to touch; `x_mm` and `y_mm` are where it is
         now. Once loaded, those alone that were made to touch.
         """
+        return self.changes_table().frame()
+
+    def changes_table(self) -> Table:
+        """`changes_frame`, as it is written."""
         it, names = self.changes, (self.numbers, self.zone_names)
         layers, rows = it.layer.tolist(), it.row.tolist()
         owners = [names[layer][row] if layer < len(names) and row >= 0 else None for layer, row in zip(layers, rows)]
-        table = {
+        columns = {
             "change": [CHANGES[kind] for kind in it.change.tolist()],
             "layer": [ROLES[layer] for layer in layers],
             "number": owners,
@@ -297,7 +315,8 @@ class Prepared:
             "x_mm": it.to[:, 0],
             "y_mm": it.to[:, 1],
         }
-        return gpd.GeoDataFrame(table, geometry=gpd.points_from_xy(*it.places.T), crs=self.crs)
+        ends = (it.places.min(axis=0), it.places.max(axis=0)) if len(it.places) else (np.full(2, np.nan),) * 2
+        return Table(pd.DataFrame(columns), point_wkb(it.places), self.crs, tuple(np.concatenate(ends).tolist()))
 
     def touched_frame(self) -> gpd.GeoDataFrame:
         """Of `changes_frame` the corners that were made to touch."""
@@ -306,6 +325,12 @@ class Prepared:
         some = Prepared(self.parcels, self.numbers, self.number, self.unit, [], self.zones, self.zone_names)
         some.changes = Changes(*arrays)
         return some.changes_frame().drop(columns="change")
+
+
+def test_own(work: Path) -> None:
+    """Refuses (P14) a folder to write that is there, and that `prepare` did not make."""
+    if work.exists() and (not work.is_dir() or (any(work.iterdir()) and not (work / "prepared.json").is_file())):
+        raise Refused("P14", f"{work} is there and no folder that prepare made")
 
 
 def _counted(count: int) -> str:

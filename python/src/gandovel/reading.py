@@ -11,6 +11,7 @@ from typing import Dict, List, Optional, Tuple, Union
 
 import fiona
 import geopandas as gpd
+import numpy as np
 import pandas as pd
 
 from .errors import Refused
@@ -173,6 +174,10 @@ def _plain_column(values: pd.Series) -> Tuple[Optional[pd.Series], str]:
     """A column as a GeoPackage takes it, or None; and what is lost of it."""
     if isinstance(values.dtype, gpd.array.GeometryDtype):
         return None, "the geometries"
+    if isinstance(values.dtype, pd.SparseDtype):
+        values = values.sparse.to_dense()
+    if isinstance(values.dtype, np.dtype) and values.dtype.kind == "f" and values.dtype.itemsize > 8:
+        return values.astype(float), "the last digits"
     if isinstance(values.dtype, pd.CategoricalDtype):
         return values.astype(values.cat.categories.dtype if not values.isna().any() else object), ""
     if isinstance(values.dtype, (pd.PeriodDtype, pd.IntervalDtype)) or values.dtype.kind in "mc":

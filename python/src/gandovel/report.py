@@ -3,11 +3,13 @@ from __future__ import annotations
 
 import csv
 import io
+import math
 import os
 import tempfile
 from collections import defaultdict
 from dataclasses import dataclass
 from fractions import Fraction
+from functools import cached_property
 from pathlib import Path
 from typing import Any, Dict, Iterable, List, Optional, Sequence, Set, Tuple, Union
 
@@ -20,11 +22,13 @@ from shapely.ops import unary_union
 from .arrays import Array
 from . import notes
 from .errors import Refused
-from .gpkg import test_name, write_layers
+from .gpkg import Table, test_name, write_layers
+from .large.cutting import boxes_of
 from .noding import LEAST
 from .prepared import OUT_ROW, TOUCHED, Prepared, Rows
 from .progress import Progress
-from .shapes import multipolygon_wkb, polygon_wkb, polygons_of, rings_of, shapes_of, wkb_of
+from .shapes import PLAIN, PLAIN_HEAD, array_of, bounds_of, multipolygon_wkb, plain_wkb, polygon_wkb, polygons_of
+from .shapes import rings_of, wkb_of
 from .styles import STYLES
 from .units import Unit
 from .verdicts import LayerFaults, checked, island_pairs, layer_faults, numbers_at, write_island
@@ -50,24 +54,25 @@ class Report:
     measures. `slivers` are gaps and overlaps that are nowhere wider than what touches (measured), `open_gaps` notches
     and channels of the city that the parcels make (measured). `split` (number, zones, zone_count, sliver, sliver_how):
     exact, but for sliver. `parts` (number, zone, area_m2, area_how, share, sliver): measured, but for which parts there
-    are. `parcels` (number, records, status), `zones`, `touched` (corners that were made to touch a border), `skipped`
-    (rows that were left out), and `changes` where the register was prepared just now.
+    are. `pairs`: (number, zone, whether the parcel is split) of each parcel and zone that overlap, exact. `parcels`
+    (number, records, status), `zones`, `touched` (corners that were made to touch a border), `skipped` (rows that were
+    left out). `split_table`, `parts_table` and `parcels_table` are what the frames are made of once they are asked for.
     """
 
     gaps: gpd.GeoDataFrame
     overlaps: gpd.GeoDataFrame
-    split: gpd.GeoDataFrame
-    parts: gpd.GeoDataFrame
-    parcels: gpd.GeoDataFrame
+    split_table: Table
+    parts_table: Table
+    parcels_table: Table
     zones: Optional[gpd.GeoDataFrame]
     min_area: float
     beyond: List[str]
-    changes: Optional[gpd.GeoDataFrame]
     slivers: gpd.GeoDataFrame
     open_gaps: gpd.GeoDataFrame
     touched: gpd.GeoDataFrame
     skipped: gpd.GeoDataFrame
     prepared: Prepared
+    pairs: List[Tuple[str, str, bool]]
 
     @property
     def verdict(self) -> str:
@@ -75,6 +80,30 @@ class Report:
         if len(self.gaps) or len(self.overlaps) or len(self.slivers):
             return "does not tile"
         return "open" if len(self.open_gaps) else "tiles"
+
+    @cached_property
+    def split(self) -> gpd.GeoDataFrame:
+        """The parcels in two zones or more."""
+        return self.split_table.frame()
+
+    @cached_property
+    def parts(self) -> gpd.GeoDataFrame:
+        """The parts of these parcels in zones."""
+        return self.parts_table.frame()
+
+    @cached_property
+    def parcels(self) -> gpd.GeoDataFrame:
+        """The parcels with what is said of each."""
+        return self.parcels_table.frame()
+
+    @property
+    def changes(self) -> Optional[gpd.GeoDataFrame]:
+        """The corners that were changed, where the register was prepared just now."""
+        return self.prepared.changes_frame() if self._has_changes else None
+
+    @property
+    def _has_changes(self) -> bool:
+        return bool((self.prepared.changes.change != TOUCHED).any())
 
     def faults(self) -> gpd.GeoDataFrame:
         """Gaps, overlaps, open gaps and slivers in one frame, of which `kind` says what they are; the largest first."""
@@ -97,9 +126,10 @@ class Report:
         if self.zones is not None:
             if (self.gaps["layer"] == "zones").any() or (self.overlaps["layer"] == "zones").any():
                 texts.append(f"zones: {_told(self, 'zones')}")
-            slivers = int(self.split["sliver"].sum())
+            split = self.split_table.columns
+            slivers = int(split["sliver"].sum())
             few = f", {slivers} of them by less than {self.min_area:g} m2 (measured)" if slivers else ""
-            texts.append(f"{_count(len(self.split), 'parcel')} split{few}")
+            texts.append(f"{_count(len(split), 'parcel')} split{few}")
         if len(self.slivers):
             wide = f"no wider than {self.prepared.told['touch']:.2f} mm (measured)"
             texts.append(f"{_count(len(self.slivers), 'sliver')} {wide}, which `gandovel mend` closes")
@@ -108,21 +138,22 @@ class Report:
         return "; ".join([*texts, CITIES[self.prepared.told["city"]]])
 
     def save(self, path: Union[str, Path]) -> None:
-        """Writes the GeoPackage and `split.csv` beside it, each under another name first."""
+        """Writes the GeoPackage and `split.csv` beside it, each under another name first. Refused P14 for other names."""
         path = Path(path)
-        layers = [
-            ("parcels", self.parcels),
+        test_name(path)
+        layers: List[Tuple[str, Union[gpd.GeoDataFrame, Table]]] = [
+            ("parcels", self.parcels_table),
             ("gaps", self.gaps),
             ("overlaps", self.overlaps),
-            ("split", self.split),
-            ("split_parts", self.parts),
+            ("split", self.split_table),
+            ("split_parts", self.parts_table),
         ]
         if self.zones is not None:
             layers.insert(1, ("zones", self.zones))
         for name in ("open_gaps", "slivers", "touched", "skipped"):
             layers.append((name, getattr(self, name)))
-        if self.changes is not None:
-            layers.append(("changes", self.changes))
+        if self._has_changes:
+            layers.append(("changes", self.prepared.changes_table()))
         descriptions = {**notes.REPORT, **notes.CHANGES}
         descriptions["parcels"] = f"{descriptions['parcels']} {notes.unit_text(self.prepared.unit)}"
         write_layers(path, layers, STYLES, descriptions)
@@ -134,7 +165,8 @@ class Report:
         text = io.StringIO()
         writer = csv.writer(text, lineterminator="\n")
         writer.writerow(["parcel_no", "zone", "area_m2", "share", "sliver", "areas"])
-        columns = (self.parts[name] for name in ("number", "zone", "area_m2", "share", "sliver"))
+        parts = self.parts_table.columns
+        columns = (parts[name] for name in ("number", "zone", "area_m2", "share", "sliver"))
         for number, zone, area, share, sliver in zip(*columns):
             writer.writerow([number, zone, f"{area:.6f}", f"{share:.6f}", sliver, "measured"])
         return text.getvalue()
@@ -287,12 +319,13 @@ FAULT_COLUMNS = [
 def _open_gaps(prepared: Prepared) -> gpd.GeoDataFrame:
     """The gaps that are open to the outside, with the parcels that lie at most 2 mm from them (measured)."""
     rows = []
+    boxes = [boxes_of(island.parcels.rings) for island in prepared.islands] if prepared.open_gaps else []
     for gap in prepared.open_gaps:
         shape = Polygon(gap.outer - gap.outer[0], [hole - gap.outer[0] for hole in gap.holes])
         numbers: Dict[str, None] = {}
         islands = []
         for at, island in enumerate(prepared.islands, 1):
-            beside = _beside(shape, gap.outer, island.parcels)
+            beside = _beside(shape, gap.outer, island.parcels, boxes[at - 1])
             numbers.update(dict.fromkeys(numbers_at(prepared, island.parcels, beside, "parcels")))
             islands += [at] * bool(beside)
         rows.append(
@@ -311,15 +344,11 @@ def _open_gaps(prepared: Prepared) -> gpd.GeoDataFrame:
     return gpd.GeoDataFrame(rows, columns=FAULT_COLUMNS, geometry="geometry", crs=prepared.crs)
 
 
-def _beside(shape: Polygon, corners: Array, rows: Rows) -> List[int]:
-    """The rows (from 0) at most 2 mm from a shape, which is given from its first corner on."""
+def _beside(shape: Polygon, corners: Array, rows: Rows, boxes: Array) -> List[int]:
+    """The rows (from 0; their boxes) at most 2 mm from a shape, which is given from its first corner on."""
     low, high = corners.min(axis=0) - 2, corners.max(axis=0) + 2
-    near = [
-        row
-        for row, ring in enumerate(rows.rings)
-        if (ring.min(axis=0) <= high).all() and (ring.max(axis=0) >= low).all()
-    ]
-    return [row for row in near if Polygon(rows.rings[row] - corners[0]).distance(shape) <= 2]
+    near = np.flatnonzero((boxes[:, :2] <= high).all(axis=1) & (boxes[:, 2:] >= low).all(axis=1))
+    return [row for row in near.tolist() if Polygon(rows.rings[row] - corners[0]).distance(shape) <= 2]
 
 
 def _skipped(prepared: Prepared) -> gpd.GeoDataFrame:
@@ -343,7 +372,7 @@ def _put_together(
         zones_of[row].append(zone)
     split_rows = sorted(row for row, zones in zones_of.items() if len(zones) > 1)
     parts = _parts(prepared, {key: rows for key, rows in pairs.items() if len(zones_of[key[0]]) > 1}, min_area)
-    split = _split(prepared, split_rows, zones_of, parts)
+    split = _split(prepared, split_rows, zones_of, parts.columns)
     frames = {}
     for kind, rows in faults.items():
         ordered = [rows[at] for at in _largest_first(row["area2_mm2"] for row in rows)]
@@ -351,7 +380,6 @@ def _put_together(
         frames[kind] = gpd.GeoDataFrame(ordered, columns=columns, geometry="geometry", crs=prepared.crs)
     at_fault.update((row, "split") for row in split_rows if row not in at_fault)
     at_fault.update((one.row, "skipped") for one in prepared.skipped if one.role == "parcels")
-    changes = prepared.changes_frame() if (prepared.changes.change != TOUCHED).any() else None
     return Report(
         frames["gaps"],
         frames["overlaps"],
@@ -361,16 +389,16 @@ def _put_together(
         _zones(prepared),
         min_area,
         beyond,
-        changes,
         frames["slivers"],
         _open_gaps(prepared),
         prepared.touched_frame(),
         _skipped(prepared),
         prepared,
+        [(prepared.numbers[row], zone, len(zones_of[row]) > 1) for row in sorted(zones_of) for zone in zones_of[row]],
     )
 
 
-def _parts(prepared: Prepared, pairs: Dict[Tuple[int, str], List[Pair]], min_area: float) -> gpd.GeoDataFrame:
+def _parts(prepared: Prepared, pairs: Dict[Tuple[int, str], List[Pair]], min_area: float) -> Table:
     """The parts of split parcels in zones, measured by GEOS on the grid, near the origin."""
     zone_rows = {name: row for row, name in reversed(list(enumerate(prepared.zone_names)))}
     keys = sorted(pairs, key=lambda key: (key[0], zone_rows.get(key[1], -1)))
@@ -379,25 +407,25 @@ def _parts(prepared: Prepared, pairs: Dict[Tuple[int, str], List[Pair]], min_are
     cuts = _cuts(prepared, members)
     areas = np.bincount(owner, weights=[cut.area for cut in cuts], minlength=len(keys)) / SQUARE_METRE
     pieces: List[List[bytes]] = [[] for _ in keys]
-    for at, (island, _, _), cut, blob in zip(owner.tolist(), members, cuts, wkb_of(cuts)):
-        pieces[at] += _in_place(prepared, island, cut, blob)
+    for at, polygons in zip(owner.tolist(), _in_place(prepared, members, cuts)):
+        pieces[at] += polygons
     rows = [row for row, _ in keys]
     share = areas / pd.Series(areas).groupby(rows).transform("sum").values if keys else areas
-    table = {
-        "row": rows,
-        "number": [prepared.number_of(row) for row in rows],
-        "zone": [zone for _, zone in keys],
-        "area_m2": areas,
-        "area_how": "measured",
-        "share": share,
-        "sliver": (areas < min_area).astype(np.int64),
-        "zone_row": [zone_rows.get(zone, -1) for _, zone in keys],
-    }
-    shapes = shapes_of(map(multipolygon_wkb, pieces))
-    frame = gpd.GeoDataFrame(pd.DataFrame(table), geometry=shapes, crs=prepared.crs)
-    frame = _with_attributes(frame, prepared.parcels, frame["row"], prepared.number, "")
-    frame = _with_attributes(frame, prepared.zones, frame["zone_row"], prepared.zone, "zone_")
-    return frame.drop(columns=["row", "zone_row"])
+    columns = pd.DataFrame(
+        {
+            "number": [prepared.number_of(row) for row in rows],
+            "zone": [zone for _, zone in keys],
+            "area_m2": areas,
+            "area_how": "measured",
+            "share": share,
+            "sliver": (areas < min_area).astype(np.int64),
+        }
+    )
+    columns = _with_attributes(columns, prepared.parcels, rows, prepared.number, "")
+    of_zones = [zone_rows.get(zone, -1) for _, zone in keys]
+    columns = _with_attributes(columns, prepared.zones, of_zones, prepared.zone, "zone_")
+    around = bounds_of(prepared.parcels.geometry) if keys else (math.nan,) * 4
+    return Table(columns, [multipolygon_wkb(some) for some in pieces], prepared.crs, around)
 
 
 def _cuts(prepared: Prepared, members: List[Pair]) -> Array:
@@ -406,34 +434,48 @@ def _cuts(prepared: Prepared, members: List[Pair]) -> Array:
     for role, column in (("parcels", 1), ("zones", 2)):
         rows = list(dict.fromkeys((pair[0], pair[column]) for pair in members))
         islands = (prepared.islands[island] for island, _ in rows)
-        rings = (getattr(island, role).rings[row] - island.city[0] for island, (_, row) in zip(islands, rows))
+        rings = [getattr(island, role).rings[row] - island.city[0] for island, (_, row) in zip(islands, rows)]
         shapes = dict(zip(rows, polygons_of(rings)))
-        sides.append(gpd.GeoSeries([shapes[pair[0], pair[column]] for pair in members]))
+        sides.append(gpd.GeoSeries(array_of([shapes[pair[0], pair[column]] for pair in members], None)))
     return np.asarray(sides[0].intersection(sides[1], align=False).to_numpy())
 
 
-def _in_place(prepared: Prepared, island: int, cut: Any, blob: Optional[bytes]) -> List[bytes]:
-    """The polygons of a common part, in the layer's projection, as WKB; lines and points of it are left out."""
+def _in_place(prepared: Prepared, members: List[Pair], cuts: Array) -> List[List[bytes]]:
+    """The polygons of each common part, in the layer's projection, as WKB; lines and points of it are left out."""
+    blobs, origins = wkb_of(cuts), [island.city[0] for island in prepared.islands]
+    plain = [at for at, blob in enumerate(blobs) if blob is not None and blob.startswith(PLAIN)]
+    bodies = [(blobs[at] or b"")[PLAIN_HEAD:] for at in plain]
+    sizes = np.array([len(body) // 16 for body in bodies], dtype=np.int64)
+    shifts = np.array([origins[members[at][0]] for at in plain], dtype=np.int64).reshape(-1, 2)
+    corners = np.frombuffer(b"".join(bodies), "<f8").reshape(-1, 2) + np.repeat(shifts, sizes, axis=0)
+    placed = dict(zip(plain, plain_wkb(prepared.in_units(corners), np.concatenate([[0], np.cumsum(sizes)]))))
+    return [
+        [placed[at]] if at in placed else _polygons_in_place(prepared, origins[members[at][0]], cut, blob)
+        for at, (cut, blob) in enumerate(zip(cuts, blobs))
+    ]
+
+
+def _polygons_in_place(prepared: Prepared, origin: Array, cut: Any, blob: Optional[bytes]) -> List[bytes]:
+    """As `_in_place`, of a common part of any kind."""
     if cut.geom_type not in ("Polygon", "MultiPolygon"):
         parts = [part for part in getattr(cut, "geoms", []) if part.geom_type == "Polygon" and not part.is_empty]
         blob = multipolygon_wkb([part for part in wkb_of(parts) if part is not None])
     if blob is None:
         return []
-    shift = prepared.islands[island].city[0]
-    return [polygon_wkb([prepared.in_units(ring + shift) for ring in rings]) for rings in rings_of(blob) if rings]
+    return [polygon_wkb([prepared.in_units(ring + origin) for ring in rings]) for rings in rings_of(blob) if rings]
 
 
 def _with_attributes(
-    frame: gpd.GeoDataFrame, source: Optional[gpd.GeoDataFrame], rows: Any, number: str, prefix: str
-) -> gpd.GeoDataFrame:
-    """The frame with the attributes of rows of a layer behind its own columns, each once."""
+    columns: pd.DataFrame, source: Optional[gpd.GeoDataFrame], rows: Any, number: str, prefix: str
+) -> pd.DataFrame:
+    """Columns with the attributes of rows of a layer behind them, each once."""
     if source is None:
-        return frame
+        return columns
     attributes = pd.DataFrame(source.drop(columns=source.geometry.name)).drop(columns=[number], errors="ignore")
     rows = np.asarray(rows, dtype=np.int64)
     taken = attributes.take(np.where(rows < 0, 0, rows)) if len(attributes) else attributes
-    used = {str(column).lower() for column in frame.columns} | {"fid", "geom", "ogc_fid"}
-    result = frame.copy()
+    used = {str(column).lower() for column in columns.columns} | {"fid", "geom", "ogc_fid", "geometry"}
+    result = columns.copy()
     for column in taken.columns:
         name = f"{prefix}{column}"
         while name.lower() in used:
@@ -441,42 +483,45 @@ def _with_attributes(
         used.add(name.lower())
         values = taken[column].reset_index(drop=True)
         result[name] = values.where(pd.Series(rows >= 0), None).values if (rows < 0).any() else values.values
-    return gpd.GeoDataFrame(result, geometry="geometry", crs=frame.crs)
+    return result
 
 
-def _split(
-    prepared: Prepared, rows: List[int], zones_of: Dict[int, List[str]], parts: gpd.GeoDataFrame
-) -> gpd.GeoDataFrame:
-    counts = pd.DataFrame(parts[["number", "sliver"]]).groupby("number")["sliver"].agg(["sum", "size"])
+def _split(prepared: Prepared, rows: List[int], zones_of: Dict[int, List[str]], parts: pd.DataFrame) -> Table:
+    counts = parts[["number", "sliver"]].groupby("number")["sliver"].agg(["sum", "size"])
     slivers: Dict[str, bool] = dict(zip(counts.index, counts["sum"] >= counts["size"] - 1))
     numbers = [prepared.number_of(row) for row in rows]
-    table = {
-        "number": numbers,
-        "zones": [",".join(zones_of[row]) for row in rows],
-        "zone_count": [len(zones_of[row]) for row in rows],
-        "sliver": [int(slivers[number]) for number in numbers],
-        "sliver_how": "measured",
-        "geometry": list(prepared.parcels.geometry.iloc[rows]),
-    }
-    frame = gpd.GeoDataFrame(table, geometry="geometry", crs=prepared.crs)
-    return _with_attributes(frame, prepared.parcels, rows, prepared.number, "")
+    columns = pd.DataFrame(
+        {
+            "number": numbers,
+            "zones": [",".join(zones_of[row]) for row in rows],
+            "zone_count": [len(zones_of[row]) for row in rows],
+            "sliver": [int(slivers[number]) for number in numbers],
+            "sliver_how": "measured",
+        }
+    )
+    shapes = prepared.parcels.geometry.to_numpy()[rows]
+    blobs = [prepared.parcels_wkb[row] for row in rows]
+    columns = _with_attributes(columns, prepared.parcels, rows, prepared.number, "")
+    return Table(columns, blobs, prepared.crs, bounds_of(shapes), shapes)
 
 
-def _parcels(prepared: Prepared, at_fault: Dict[int, str]) -> gpd.GeoDataFrame:
+def _parcels(prepared: Prepared, at_fault: Dict[int, str]) -> Table:
     records: Dict[int, List[str]] = defaultdict(list)
     several = len(prepared.islands) > 1
     for at, island in enumerate(prepared.islands, 1):
         for record, row in enumerate(island.parcels.source, 1):
             records[row].append(f"{at}:{record}" if several else str(record))
     count = len(prepared.numbers)
-    table = {
-        "number": prepared.numbers,
-        "records": [",".join(records[row]) for row in range(count)],
-        "status": [at_fault.get(row, "ok") for row in range(count)],
-        "geometry": list(prepared.parcels.geometry),
-    }
-    frame = gpd.GeoDataFrame(table, geometry="geometry", crs=prepared.crs)
-    return _with_attributes(frame, prepared.parcels, range(count), prepared.number, "")
+    columns = pd.DataFrame(
+        {
+            "number": prepared.numbers,
+            "records": [",".join(records[row]) for row in range(count)],
+            "status": [at_fault.get(row, "ok") for row in range(count)],
+        }
+    )
+    shapes = prepared.parcels.geometry.to_numpy()
+    columns = _with_attributes(columns, prepared.parcels, range(count), prepared.number, "")
+    return Table(columns, prepared.parcels_wkb, prepared.crs, bounds_of(shapes), shapes)
 
 
 def _zones(prepared: Prepared) -> Optional[gpd.GeoDataFrame]:
@@ -490,5 +535,6 @@ def _zones(prepared: Prepared) -> Optional[gpd.GeoDataFrame]:
     joined = [
         shapes[row][0] if len(shapes[row]) == 1 else unary_union([it.buffer(0) for it in shapes[row]]) for row in rows
     ]
-    frame = gpd.GeoDataFrame({"number": [prepared.zone_of(row) for row in rows]}, geometry=joined, crs=prepared.crs)
-    return _with_attributes(frame, prepared.zones, rows, prepared.zone, "")
+    columns = pd.DataFrame({"number": [prepared.zone_of(row) for row in rows]})
+    columns = _with_attributes(columns, prepared.zones, rows, prepared.zone, "")
+    return gpd.GeoDataFrame(columns, geometry=array_of(joined, prepared.crs))

@@ -12,10 +12,12 @@ from typing import Any, Dict, Iterable, List, Sequence, Set, Tuple
 import numpy as np
 
 from .arrays import Array
+from .big_rings import cut_ring
 from .faults import contains, point_inside, simple_loops, twice_area
 from .grid import edges_left
 from .holes import cut_holes, traced
 from .layer_files import write_rings
+from .limits import MOST_CORNERS
 from .noding import points_of, touches
 from .tool import overlay_pairs
 
@@ -40,10 +42,14 @@ def rounds_of(count: int, conflicts: Iterable[Set[int]], beyond: Set[int]) -> Li
 
 
 def filled(city: Array, rings: Sequence[Array]) -> List[Array]:
-    """Rings, which do not overlap and lie in the city, with simple rings behind them that fill what they leave."""
-    fillers = []
+    """Rings, which do not overlap and lie in the city, with simple rings behind them that fill what they leave.
+
+    These have half as many corners at most as the program takes, since their neighbours' are put into their borders.
+    """
+    fillers: List[Array] = []
     for outer, holes in area_polygons([_with_corners(city, rings), *(ring[::-1] for ring in rings)]):
-        fillers += cut_holes(outer, holes) or []
+        for piece in cut_holes(outer, holes) or []:
+            fillers += cut_ring(piece, MOST_CORNERS // 2) or [piece]
     return [*rings, *fillers]
 
 

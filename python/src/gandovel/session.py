@@ -28,7 +28,7 @@ LINE_END = b"#\n"
 MOST_NOTES = 1 << 20
 """How many bytes of standard error are looked at."""
 PATIENCE = 5.0
-"""Seconds that a program has to end by SIGTERM, before it is killed."""
+"""Seconds that a program has to end by `close`, and then by SIGTERM, before it is killed."""
 
 
 class Desk(Calls):
@@ -67,7 +67,8 @@ class Session(Calls):
     """A running `parcel_tool session`, and its operator's desk; a context manager, which closes it.
 
     Without named desks all calls of `Calls` are made here. With desks no edit is, and with eight no question. A context
-    that is left by an exception ends the program as `terminate` does.
+    that is left by an exception ends the program as `terminate` does. Where this process ends, however that is, the
+    program finds the end of its input, and closes.
     """
 
     replayed: int
@@ -157,7 +158,8 @@ class Session(Calls):
     def export(self, base: PathLike) -> int:
         """Writes the parcels of now to `base`.shp and `base`.shx, in mm, and answers how many they are.
 
-        Records are numbered anew, by ascending ids. Raises `SessionError` with code S2 where they can't be written.
+        Records are numbered anew, by ascending ids. Raises `SessionError` with code S2 where they can't be written, and
+        with S5 where `base` names files of the session's own: a layer that it read, its journal, a pipe.
         """
         return count_of("\n".join(self._reported(f"export {_text(base)}")), "exported")
 
@@ -169,8 +171,8 @@ class Session(Calls):
         """Closes the session, and answers how many entries there are; None where it was ended by `terminate`.
 
         No further line is taken at any desk, and the program ends. Desks that were opened here are left first. A client
-        of another process that never reads its answers keeps the program from ending: `TimedOut`, and `terminate` is
-        left. Raises `CardsMissing` where a clerk's card did not come back. A second call does nothing.
+        of another process that does not read its answers is cut off. Where the journal failed, only the entries count
+        that the disk has. Raises `CardsMissing` where a clerk's card did not come back. A second call does nothing.
         """
         if self._notes is not None:
             return self._last
@@ -187,7 +189,10 @@ class Session(Calls):
         return self._last
 
     def terminate(self) -> None:
-        """Ends the program by SIGTERM. No edit that was answered is lost. A second call does nothing."""
+        """Ends the program by `close`; by SIGTERM where it does not take that in time. Nothing is raised.
+
+        No edit that was answered is lost. A second call does nothing.
+        """
         for desk in self._opened:
             desk.close()
         self._end()
@@ -270,14 +275,28 @@ class Session(Calls):
         """Ends the program where it runs, and takes away what the session has of its own."""
         if self._notes is not None:
             return
-        self._process.terminate()
-        try:
-            self._process.wait(PATIENCE)
-        except subprocess.TimeoutExpired:
-            self._process.kill()
-            self._process.wait()
+        self._ask_to_end()
         self._wire.close()
+        for end in (lambda: None, self._process.terminate, self._process.kill):
+            end()
+            try:
+                self._process.wait(PATIENCE)
+                break
+            except subprocess.TimeoutExpired:
+                pass
         self._forget()
+
+    def _ask_to_end(self) -> None:
+        """Sends `close`, and reads what the program answers until it closes its output, or for as long as it has."""
+        until = limit_of(PATIENCE)
+        try:
+            if not self._is_closing:
+                self._is_closing = True
+                self._wire.put(b"close\n")
+            while True:
+                self._wire.line(until)
+        except (ProgramEnded, SessionClosed, TimedOut):
+            pass
 
     def _forget(self) -> None:
         self._notes = self.notes

@@ -64,9 +64,9 @@ def reaches_of(loops: Loops, scale: float, noise: float, grid: Optional[float], 
 def test_distances(**told: Optional[float]) -> None:
     """Refuses (P8) what is told and is no distance in mm."""
     for name, distance in told.items():
-        if distance is not None and not 0 <= distance <= FARTHEST_TOLD:
-            what = name.replace("_", "-")
-            raise Refused("P8", f"a {what} of {distance} mm is none: give millimetres, from 0 to {FARTHEST_TOLD:,}")
+        if distance is not None and not (0 <= distance <= FARTHEST_TOLD and (distance > 0 or name != "grid")):
+            what, least = name.replace("_", "-"), "above 0 and" if name == "grid" else "from 0"
+            raise Refused("P8", f"a {what} of {distance} mm is none: give millimetres, {least} up to {FARTHEST_TOLD:,}")
 
 
 def step_of(corners: Array, scale: float, noise: float) -> Optional[float]:

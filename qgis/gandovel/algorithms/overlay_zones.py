@@ -1,7 +1,7 @@
 """Overlay zones: which parcels lie in which zones, and the parts of those that are split."""
 from __future__ import annotations
 
-from typing import Any, Dict, Optional
+from typing import Any, Dict, List, Optional
 
 from qgis.core import (
     QgsProcessing,
@@ -12,10 +12,11 @@ from qgis.core import (
     QgsUnitTypes,
     QgsWkbTypes,
 )
+from qgis.PyQt.QtCore import QVariant
 
 from ..faults import fault_fields, fill_faults
 from ..joined import Joined
-from ..layers import fill, layer_of, own_fields
+from ..layers import add, fields_of, fill, layer_of, own_fields
 from .base import EXACT, Algorithm, Job, Parameters
 from .check_parcels import COUNTS, VERDICT, add_skip_invalid, results_of, skipping
 
@@ -33,9 +34,10 @@ class OverlayZones(Algorithm):
         "<p>Which parcels lie in which zones, also where the layers do not tile.</p><p><b>Split parcels</b> are those "
         "in two zones or more, with the zones' names. <b>Parts</b> are what each has in each zone, with its area "
         "(measured). The <b>joined table</b> has a row for each parcel and zone that overlap, with the attributes of "
-        "both. <b>Faults</b> are those of parcels and zones.</p><p>That a parcel and a zone overlap is exact. Those "
-        "that only touch are not told. In the table, in which zone a parcel lies that is not split is "
-        "measured at a point inside it (<i>zone_how</i>).</p>" + EXACT
+        "both. <b>Pairs</b> are the table without attributes. <b>Faults</b> are those of parcels and zones.</p><p>That a "
+        "parcel and a zone overlap is exact; those that only touch are not told. Where a parcel overlaps no zone, or "
+        "lies beyond the city, the table has a zone that is measured at a point inside it, or none "
+        "(<i>zone_how</i>).</p>" + EXACT
     )
     TAGS = ("zones", "intersection", "split")
     STYLED = {"FAULTS": "faults", "SPLIT": "split", "PARTS": "split_parts"}
@@ -62,6 +64,10 @@ class OverlayZones(Algorithm):
         for name, text, _, kind in OUTPUTS:
             self.addParameter(QgsProcessingParameterFeatureSink(name, text, kind))
         self.addParameter(QgsProcessingParameterFeatureSink("TABLE", "Joined table", QgsProcessing.TypeVector))
+        pairs = QgsProcessingParameterFeatureSink(
+            "PAIRS", "Pairs of parcel and zone", QgsProcessing.TypeVector, optional=True, createByDefault=False
+        )
+        self.addParameter(pairs)
         faults = QgsProcessingParameterFeatureSink(
             "FAULTS", "Faults", QgsProcessing.TypeVectorPolygon, optional=True, createByDefault=False
         )
@@ -77,19 +83,32 @@ class OverlayZones(Algorithm):
         counts = {}
         for name, _, layer, _ in OUTPUTS:
             results[name], counts[name] = _copied(job, name, path, layer)
-        results["TABLE"], pairs = self._table(job, path)
+        results["TABLE"] = self._table(job, path, answer["pairs"])
+        results["PAIRS"] = _pairs(job, answer["pairs"])
         sink, results["FAULTS"] = job.sink("FAULTS", fault_fields(), QgsWkbTypes.MultiPolygon)
         if sink is not None:
             fill_faults(sink, path)
-        return {**results, "SPLIT_COUNT": counts["SPLIT"], "PAIR_COUNT": pairs}
+        return {**results, "SPLIT_COUNT": counts["SPLIT"], "PAIR_COUNT": len(answer["pairs"])}
 
-    def _table(self, job: Job, path: str) -> Any:
-        """The joined table, and how many rows it has."""
+    def _table(self, job: Job, path: str, pairs: List[Dict[str, Any]]) -> Any:
+        """The joined table."""
         parcels, zones, parts = (layer_of(path, name) for name in ("parcels", "zones", "split_parts"))
         metre = QgsUnitTypes.fromUnitToUnitFactor(parcels.crs().mapUnits(), QgsUnitTypes.DistanceMeters)
-        joined = Joined(parcels, zones, parts, metre * metre)
+        joined = Joined(parcels, zones, parts, pairs, metre * metre)
         sink, name = job.sink("TABLE", joined.fields(), QgsWkbTypes.NoGeometry)
-        return name, joined.fill(sink) if sink is not None else 0
+        if sink is not None:
+            joined.fill(sink)
+        return name
+
+
+def _pairs(job: Job, pairs: List[Dict[str, Any]]) -> Any:
+    """The table of pairs, where it is asked for."""
+    fields = fields_of((("number", QVariant.String), ("zone", QVariant.String), ("split", QVariant.Int)))
+    sink, name = job.sink("PAIRS", fields, QgsWkbTypes.NoGeometry)
+    if sink is not None:
+        for pair in pairs:
+            add(sink, fields, {**pair, "split": int(pair["split"])})
+    return name
 
 
 def _copied(job: Job, output: str, path: str, layer: str) -> Any:

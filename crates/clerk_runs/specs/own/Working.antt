@@ -27,6 +27,7 @@ module _ {A : Type 0} where
     pub has_edit : receipt.entry.edit ≡ told.1
     pub made : after.made ≡ card.made ++ receipt.entry ∷ []
     pub met : IsPrefix card.met after.met
+    pub ends : EndsWith receipt.entry receipt.entry.number after.met
     pub line : lines_after ≡ lines ++ ok_line card.clerk told.0 receipt.entry.number
     pub kept : receipts_after ≡ receipts ++ receipt ∷ []
 
@@ -44,7 +45,7 @@ module _ {A : Type 0} where
   -- receipt for each entry, in order
   pub record HasSaid (run : Run) (met : List (JournalEntry A)) (clerk : ℕ) (edits : List (ℕ × Edit A)) (made : List (JournalEntry A))
       (lines : List ℕ) (receipts : List (ReceiptState A)) : Type 0 where
-    pub are_told : (whole : List (JournalEntry A)) → IsPrefix met whole → AreTold run whole clerk [] edits made lines
+    pub are_told : (whole : List (JournalEntry A)) → IsPrefix met whole → AreTold run whole clerk [] [] edits made lines
     pub are_all : made ≡ map (λ receipt. receipt.entry) receipts
     pub tell : All Tells receipts
 

@@ -6,7 +6,7 @@ use Rattle.logbook.specs.Pages.{Book as Pages}
 use Rattle.entry_cards.specs.declared.view.Card.{Card}
 use Rattle.entry_cards.specs.Cards.{Kept, HasAll, HasMet}
 use Rattle.fabric_core.specs.Journal.{JournalEntry, Book}
-use Rattle.desk_lock.specs.Offices.{Origin, OfficeId, CardState, IsOfOrigin, behind, AreOfClerks}
+use Rattle.desk_lock.specs.Offices.{OfficeId, CardState, IsOfOrigin, behind, AreOfClerks}
 
 -- the names that an office's cards and its list of entries have
 pub record NameId : Type 0 where

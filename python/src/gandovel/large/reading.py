@@ -10,10 +10,11 @@ from typing import List, Optional, Tuple, Union
 import fiona
 import geopandas as gpd
 import pandas as pd
+from shapely.errors import ShapelyError
 
-from ..shapes import shapes_of
+from ..shapes import array_of, shapes_of
 
-MANY = 50_000
+MANY = 2_000
 """From so many rows on a GeoPackage is read so."""
 
 ENVELOPES = (8, 40, 56, 56, 72)
@@ -24,10 +25,17 @@ PLAIN = ("INT", "INTEGER", "MEDIUMINT", "SMALLINT", "TINYINT", "REAL", "DOUBLE",
 
 
 def read_large(source: Union[str, "os.PathLike[str]"], name: str) -> Optional[gpd.GeoDataFrame]:
-    """A layer of a GeoPackage with very many rows; None of any other source. sqlite3.Error where it is torn."""
+    """A layer of a GeoPackage with many rows; None of any other source, and where Fiona has to say what is wrong."""
     path = Path(source)
     if path.suffix.lower() != ".gpkg" or not path.is_file():
         return None
+    try:
+        return _read(path, name)
+    except (sqlite3.Error, ShapelyError, IndexError):
+        return None
+
+
+def _read(path: Path, name: str) -> Optional[gpd.GeoDataFrame]:
     with closing(sqlite3.connect(f"{path.resolve().as_uri()}?mode=ro", uri=True)) as connection:
         found = _columns(connection, name)
         if found is None:
@@ -40,7 +48,7 @@ def read_large(source: Union[str, "os.PathLike[str]"], name: str) -> Optional[gp
     cells = list(zip(*rows))
     shapes = shapes_of(None if blob is None else _wkb(blob) for blob in cells[0])
     table = {column: pd.Series(list(values)) for column, values in zip(columns, cells[1:])}
-    return gpd.GeoDataFrame(table, geometry=shapes, crs=crs)
+    return gpd.GeoDataFrame(table, geometry=array_of(shapes, crs))
 
 
 def _columns(connection: sqlite3.Connection, name: str) -> Optional[Tuple[str, List[str]]]:

@@ -38,6 +38,11 @@ def jobs_of(how: Cutting) -> int:
     return how.jobs or (len(os.sched_getaffinity(0)) if hasattr(os, "sched_getaffinity") else os.cpu_count() or 1)
 
 
+def threads_of(how: Cutting, runs: int) -> str:
+    """How many threads each of so many runs has, as a word: they share this machine's processors, or have one each."""
+    return str(max(1, jobs_of(how) // max(1, runs))) if how.engine == "processes" else "1"
+
+
 def said_of(runs: Sequence[Run], how: Cutting) -> List[Said]:
     """What the program says in each run. A run that ends without an answer, as one that is killed, has `lost`."""
     find_tool()

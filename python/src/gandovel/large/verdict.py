@@ -1,6 +1,7 @@
 """The program's verdicts on a layer that is cut into districts, in the form that a small layer's have."""
 from __future__ import annotations
 
+import os
 import tempfile
 from concurrent.futures import BrokenExecutor, ThreadPoolExecutor
 from contextlib import contextmanager
@@ -16,11 +17,11 @@ from ..errors import Refused
 from ..layer_files import write_rings
 from ..prepared import Island
 from ..rounds import filled, rounds_of
-from ..tool import CheckAnswer, answer_of_check, areas
+from ..tool import CheckAnswer, answer_of_check, areas, ask
 from . import A_DISTRICT, how_cut, is_large
 from .compose import added_up
 from .cutting import Districts, boxes_of, levels_of, partition_faults
-from .runs import Run, Said, forked, jobs_of, said_of
+from .runs import Run, Said, forked, jobs_of, said_of, threads_of
 
 HEAD = 108
 """Where the content of a shapefile's first record begins, in bytes: behind the file's head and its own."""
@@ -123,7 +124,7 @@ def check_island(island: Island, role: str = "parcels") -> CheckAnswer:
     plan = _Plan.of(island.city, rings, levels)
     _test_partitions(plan, levels)
     with _folder() as folder:
-        sums = _write(folder, plan)
+        sums = _with_parts(folder, plan, _write(folder, plan))
         answers = _answers(said_of(_checks(folder, plan), how_cut()), plan, role)
         _test_outlines(folder, plan, sums)
     refused = _refused_rings(plan, answers, role)
@@ -162,6 +163,30 @@ def _write(folder: Path, plan: _Plan) -> List[str]:
     return forked(write, len(plan.pieces), jobs_of(how_cut()) if len(plan.layers[0]) > FORKED else 1)
 
 
+def _with_parts(folder: Path, plan: _Plan, sums: List[str]) -> List[Tuple[str, str]]:
+    """Has the program write the outlines of each layer of them that tiles (`part --all`).
+
+    Where a layer does not, the outlines stay as they were written, so that its districts are judged all the same. Answers
+    the checksums of each outline as it stands in its layer, and as its district has it.
+    """
+    handed = list(sums)
+    for piece in plan.pieces:
+        if not piece.level:
+            continue
+        here = folder / piece.name
+        layers = str(here / "city.shp"), str(here / f"{piece.layer}.shp")
+        try:
+            ask(["part", *layers, "--all", "--unit", "mm", "--out", str(here / "part")])
+        except Refused:  # its `check` says why, or has no answer either
+            continue
+        for number, at in enumerate(plan.below(piece), 1):
+            city = folder / plan.pieces[at].name / "city.shp"
+            for suffix in (".shp", ".shx"):
+                os.replace(here / f"part-{number}{suffix}", city.with_suffix(suffix))
+            handed[at] = _record_sums(city.read_bytes())[0]
+    return list(zip(sums, handed))
+
+
 def _record_sums(data: bytes) -> List[str]:
     """The SHA-256 of the content of each record of a shapefile."""
     sums, begin = [], HEAD
@@ -172,8 +197,8 @@ def _record_sums(data: bytes) -> List[str]:
     return sums
 
 
-def _test_outlines(folder: Path, plan: _Plan, sums: Sequence[str]) -> None:
-    """Open where a run's city is another ring than the record of the layer above that was judged."""
+def _test_outlines(folder: Path, plan: _Plan, sums: Sequence[Tuple[str, str]]) -> None:
+    """Open where a run's city is another ring than the one that was cut out of the layer above that was judged."""
     for piece in plan.pieces:
         if not piece.level:
             continue
@@ -181,7 +206,7 @@ def _test_outlines(folder: Path, plan: _Plan, sums: Sequence[str]) -> None:
         for at, record in zip(plan.below(piece), judged):
             below = plan.pieces[at]
             now = _record_sums((folder / below.name / "city.shp").read_bytes())
-            if not [sums[at]] == now == [record]:
+            if now != [sums[at][1]] or record != sums[at][0]:
                 raise Open(f"{below.told} was not judged in the outline that the layer of districts has")
         if len(judged) != len(piece.rows):
             raise Open(f"{piece.told} has {len(judged)} records, and {len(piece.rows)} were written")
@@ -191,7 +216,8 @@ def _checks(folder: Path, plan: _Plan) -> List[Run]:
     runs = []
     for piece in plan.pieces:
         layers = str(folder / piece.name / "city.shp"), str(folder / piece.name / f"{piece.layer}.shp")
-        runs.append(Run(piece.name, ("check", *layers, "--unit", "mm", "--all"), layers))
+        words = ("check", *layers, "--unit", "mm", "--all", "--workers", threads_of(how_cut(), len(plan.pieces)))
+        runs.append(Run(piece.name, words, layers))
     return runs
 
 
@@ -381,7 +407,7 @@ def locate_in_island(island: Island, points: Sequence[Sequence[int]]) -> List[Tu
     plan = _Plan.of(island.city, rings, levels)
     places = np.array(points, dtype=np.int64).reshape(-1, 2)
     with _folder() as folder:
-        sums = _write(folder, plan)
+        sums = _with_parts(folder, plan, _write(folder, plan))
         told = _located(folder, levels[0], places)
         _test_outlines(folder, plan, sums)
     return told

@@ -31,7 +31,7 @@ def add_command(commands: Any) -> None:
     one.add_argument(
         "--jobs", metavar="N", type=_positive, help="tasks at once (the processors; Slurm and a scheduler: theirs)"
     )
-    one.add_argument("--threads", metavar="N", type=_positive, default=1, help="threads of an overlay (1)")
+    one.add_argument("--threads", metavar="N", type=_positive, default=1, help="threads of a run of the program (1)")
     one.add_argument(
         "--timeout", metavar="SECONDS", type=float, help="the longest that the program may take for a city"
     )

@@ -14,7 +14,7 @@ from typing import Any, Dict, List, Optional, Sequence, Tuple
 
 from ..errors import Refused
 from .tasks import Program, Task
-from .worker import checked, has_stamp
+from .worker import Checked, checked, has_stamp
 
 KINDS = ("cities", "faults")
 """The folders of results, by what was asked."""
@@ -33,8 +33,8 @@ DERIVED = ("summary.csv", "summary.json", "faults.gpkg")
 class Result:
     """What the program said of a city, and of which files. `output` and `errors` are its words as they were.
 
-    `inputs` has the SHA-256 by path, None of an index that was not there, and `stamps` what a change of a file would
-    change, of those that were old enough to tell by it. `seconds` are by the clock, of the program
+    `inputs` has the SHA-256 by path, None of an index that was not there, and empty of a file that was not read; `stamps`
+    has what a change of a file would change, of those that were old enough to tell by it. `seconds` are by the clock, of the program
     alone; `memory_kb` is the most memory that it had at once, in kB of 1,024 bytes. `records` is how many parcels the
     layer had, by its index; None where there was no index, or edits were applied.
     """
@@ -51,6 +51,20 @@ class Result:
     errors: str
     records: Optional[int] = None
     stamps: Dict[str, List[int]] = field(default_factory=dict)
+
+    def has_read(self, path: str, it: Checked) -> bool:
+        """Whether a file that the program read was this one, by its checksum or by its stamp."""
+        stamp, sha = self.stamps.get(path), self.inputs.get(path)
+        return bool(sha and sha == it.sha256) or (stamp is not None and tuple(stamp) == it.stamp)
+
+    def has_read_as(self, other: "Result", path: str) -> bool:
+        """Whether both have read the same file there, or both none."""
+        one, two = self.inputs.get(path), other.inputs.get(path)
+        if one and two:
+            return one == two
+        if one is None or two is None:
+            return one == two
+        return path in self.stamps and self.stamps[path] == other.stamps.get(path)
 
 
 class ResultsFolder:
@@ -152,7 +166,7 @@ class ResultsFolder:
             files = ((output, told["output"]), (errors, told["errors"]))
             if any(sha256(content).hexdigest() != it["sha256"] for content, it in files):
                 return None
-            inputs = {path: it and it["sha256"] for path, it in told["inputs"].items()}
+            inputs = {path: it and it.get("sha256", "") for path, it in told["inputs"].items()}
             return Result(
                 told["name"],
                 told["run"],
@@ -175,7 +189,7 @@ class ResultsFolder:
         return self.path / RINGS / name
 
     def kept(self, kind: str, tasks: Sequence[Task], program: Program, jobs: int) -> List[bool]:
-        """For each task whether there is a whole result of the same program, question and inputs (their checksums)."""
+        """For each task whether there is a whole result of the same program, question and inputs."""
         with ThreadPoolExecutor(max_workers=jobs) as pool:
             return list(pool.map(lambda task: self._is_kept(kind, task, program), tasks))
 
@@ -194,9 +208,11 @@ class ResultsFolder:
 
 
 def _is_same(path: str, before: Optional[str], stamp: Optional[Sequence[int]]) -> bool:
-    """Whether a file has the stamp that it had, else the checksum. OSError where it can't be read."""
+    """Whether a file has the stamp that it had, else the checksum, where that is known. OSError where it can't be read."""
     if stamp is not None and has_stamp(path, stamp):
         return True
+    if before == "":
+        return False
     now = checked(path)
     return (now and now.sha256) == before
 

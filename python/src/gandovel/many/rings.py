@@ -1,18 +1,22 @@
-"""The rings of districts: each record of a layer of districts, as it stands there, as a city of its own.
+"""The rings of districts: each record of a layer of districts as a city of its own.
 
-A shapefile's record is copied byte for byte. In another unit its coordinates are those of the same millimetres. Nothing is
-asked of the program for it: it checks the layer of districts, and each district in its ring; that both are of the same
-record is compared behind them (`DistrictLayer.sums`, `Ring.sha256`).
+The program writes them all in one run (`part --all`), where the layer tiles its city. Where it does not, so that its
+districts are judged all the same, each record is copied byte for byte. In another unit a ring's coordinates are those of
+the same millimetres. That the layer which the program judges is the one that was cut, and a district's ring the one that
+was cut out of it, is compared behind the runs (`DistrictLayer.sums`, `Ring.here`).
 """
 from __future__ import annotations
 
 import os
+import re
+import shutil
 import struct
+import subprocess
 from dataclasses import dataclass
 from pathlib import Path
 from typing import Dict, List, Optional, Sequence, Tuple
 
-from .worker import checked, put_in_place, remove
+from .worker import Checked, checked, put_in_place, remove
 
 MM_PER_UNIT = {"mm": 1, "cm": 10, "m": 1000}
 POLYGON, HEADER, BOX, CORNERS = 5, 100, 4, 48
@@ -25,14 +29,14 @@ class NoRing(Exception):
 
 @dataclass(frozen=True)
 class Ring:
-    """A district's ring: the file, and its SHA-256."""
+    """A district's ring: the file, and what it was when it was written."""
 
     path: str
-    sha256: str
+    here: Checked
 
 
 class DistrictLayer:
-    """A layer of districts as it was read once. `sums` has the SHA-256 of its file by path.
+    """A layer of districts as it was read once. `sums` has what its file was, by path.
 
     NoRing where it can't be read, or is no shapefile.
     """
@@ -47,8 +51,27 @@ class DistrictLayer:
             raise NoRing(f"P1 {path} can't be read: {fault.strerror}") from fault
         if before is None or not self.same:
             raise NoRing(f"T5 {path} changed while it was read")
-        self.sums: Dict[str, str] = {path: before.sha256}
+        self.sums: Dict[str, Checked] = {path: before}
         self.records = _records(self.data)
+        self.parts: Dict[int, bytes] = {}
+        """The districts as the program wrote them, in mm, by their records."""
+
+    def cut_by(self, program: str, city: str, unit: str, aside: Path) -> None:
+        """Has the program write every district, through a folder that is not there. Where it writes none, nothing changes.
+
+        NoRing where the layer changes meanwhile; OSError where the disk does not take the folder.
+        """
+        aside.mkdir()
+        try:
+            words = [program, "part", city, self.path, "--all", "--unit", unit, "--out", str(aside / "part")]
+            ended = subprocess.run(words, stdin=subprocess.DEVNULL, stdout=subprocess.PIPE, stderr=subprocess.DEVNULL)
+            if ended.returncode == 0:
+                told = map(int, re.findall(rb"^part (\d+) \d+$", ended.stdout, re.MULTILINE))
+                self.parts = {at: (aside / f"part-{at}.shp").read_bytes()[HEADER + 8 :] for at in told}
+        finally:
+            shutil.rmtree(aside, ignore_errors=True)
+        if checked(self.path) != self.sums[self.path]:
+            raise NoRing(f"T5 {self.path} changed while it was cut")
 
     def __len__(self) -> int:
         return len(self.records)
@@ -69,9 +92,11 @@ class DistrictLayer:
 
     def write(self, record: int, unit: str, wanted: str, folder: Path) -> Ring:
         """Writes a record as `ring_UNIT.shp` of a folder, which it makes or replaces. NoRing; OSError."""
-        content = self.content(record)
-        if unit != wanted:
-            content = in_unit(content, MM_PER_UNIT[unit], MM_PER_UNIT[wanted])
+        content, of = self.content(record), unit
+        if record in self.parts:
+            content, of = self.parts[record], "mm"
+        if of != wanted:
+            content = in_unit(content, MM_PER_UNIT[of], MM_PER_UNIT[wanted])
         main, index = files_of(content)
         path = folder / f"ring_{wanted}.shp"
         if not _has(path, main) or not _has(path.with_suffix(".shx"), index):
@@ -86,7 +111,7 @@ class DistrictLayer:
         here = checked(str(path))
         if here is None:
             raise NoRing(f"T5 {path} is gone")
-        return Ring(str(path), here.sha256)
+        return Ring(str(path), here)
 
 
 def _has(path: Path, content: bytes) -> bool:

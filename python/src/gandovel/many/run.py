@@ -82,7 +82,7 @@ def run_many(
             rows = run.with_rings(rows)
             run.do(it, "cities", [task_of(row, threads) for row in rows if row.city is not None])
             asked = [(row, run.layer_of_first_fault(row)) for row in rows]
-            run.do(it, "faults", [faults_task_of(row, role) for row, role in asked if role is not None])
+            run.do(it, "faults", [faults_task_of(row, role, threads) for row, role in asked if role is not None])
         return run.summary(rows, begun)
 
 
@@ -187,9 +187,12 @@ class _Run:
     def _city_of(self, row: Row, above: Row) -> Optional[str]:
         """The file of a district's ring; None, and the reason noted, where there is none."""
         try:
-            if above.name not in self.layers:
-                self.layers[above.name] = DistrictLayer(above.parcels)
             folder = self.results.rings_of(row.name)
+            if above.name not in self.layers:
+                layer = self.layers[above.name] = DistrictLayer(above.parcels)
+                if above.city is not None:
+                    aside = folder.with_name(f".{folder.name}.{os.getpid()}.parts")
+                    layer.cut_by(self.program.path, above.city, above.unit, aside)
             self.rings[row.name] = self.layers[above.name].write(row.district or 0, above.unit, row.unit, folder)
         except NoRing as why:
             self.lost["cities"][row.name] = ("T10", f"its ring is not there: {why}")
@@ -219,7 +222,9 @@ class _Run:
         early = _Early(self.results, kind, to_do, self.name)
         if to_do:
             try:
-                batch.write(self.results.path / kind, self.program, self.settings.limits, self.verify)
+                batch.write(
+                    self.results.path / kind, self.program, self.settings.limits, self.verify or kind == "faults"
+                )
                 with _progress(len(to_do), kind, self.shown) as told:
                     lost = engine.run(batch, early.then(told))
             except OSError as fault:
@@ -328,9 +333,9 @@ class _Run:
         above, ring, found = str(row.part_of), self.rings.get(row.name), self.found["cities"]
         if ring is None or row.name not in found or above not in found:
             return False
-        layer = self.layers[above].sums
-        judged, of_layer = found[row.name][0].inputs, found[above][0].inputs
-        return judged.get(ring.path) == ring.sha256 and all(of_layer.get(path) == it for path, it in layer.items())
+        judged, of_layer = found[row.name][0], found[above][0]
+        same_layer = all(of_layer.has_read(path, it) for path, it in self.layers[above].sums.items())
+        return same_layer and judged.has_read(ring.path, ring.here)
 
 
 class _Early:
@@ -396,7 +401,7 @@ def _short(result: Result) -> Tuple[Result, Verdict]:
 
 def _same_files(one: Result, other: Result) -> bool:
     """Whether what both have read was the same."""
-    return all(one.inputs[path] == sha for path, sha in other.inputs.items() if path in one.inputs)
+    return all(one.has_read_as(other, path) for path in other.inputs if path in one.inputs)
 
 
 def _why(batch: Batch, number: Optional[int], lost: Dict[int, Lost]) -> Tuple[str, str]:

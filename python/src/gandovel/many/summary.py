@@ -203,6 +203,9 @@ def _unknown(
         return f"not judged: {_listed([f'{it.name} ({it.code})' for it in without])}"
     if layer.tiles and len(districts) != there:
         return f"the layer has {_count(there or 0, 'district', 'districts')}, and the manifest {len(districts)}"
+    areas = [it.area2 for it in districts.values() if it.tiles and it.area2 is not None]
+    if layer.tiles and len(areas) == there and sum(areas) != layer.area2:
+        return f"the districts have twice {sum(areas)} mm2, and the city {layer.area2}"
     if elsewhere:
         return f"the layer of districts changed between its check and the ring of {_listed(elsewhere)}"
     return None

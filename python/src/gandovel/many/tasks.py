@@ -4,7 +4,8 @@ from __future__ import annotations
 import json
 import subprocess
 import tempfile
-from dataclasses import dataclass
+import time
+from dataclasses import dataclass, field
 from pathlib import Path
 from typing import Any, Callable, Dict, Iterable, List, Optional, Sequence, Tuple
 
@@ -12,28 +13,33 @@ from ..errors import Refused
 from ..tool import find_tool
 from .manifest import Row
 from .rings import files_of, polygon_of
-from .worker import checked
+from .worker import SETTLED, checked
 
 WORKER = Path(__file__).with_name("start.py")
-"""What an engine starts for a task, with the task's file as its word."""
+"""What an engine starts for a list of tasks, with the list's file as its word."""
 
 
 @dataclass(frozen=True)
 class Program:
-    """The proved program: its path, what `--version` prints, and its file's SHA-256."""
+    """The proved program: its path, what `--version` prints, and its file's SHA-256; what a change of the file changes."""
 
     path: str
     version: str
     sha256: str
+    stamp: Optional[Tuple[int, ...]] = None
 
 
 @dataclass(frozen=True)
 class Task:
-    """One process of the program: its arguments, and the files it reads, each with whether it has to be there."""
+    """One process of the program: its arguments, and the files it reads, each with whether it has to be there.
+
+    Of the files in `by_bytes` the checksum is taken however old they are: a run writes them anew where they are damaged.
+    """
 
     name: str
     arguments: Tuple[str, ...]
     inputs: Tuple[Tuple[str, bool], ...]
+    by_bytes: Tuple[str, ...] = ()
 
 
 @dataclass(frozen=True)
@@ -59,10 +65,12 @@ def find_program() -> Program:
     except (OSError, UnicodeDecodeError) as fault:
         raise Refused("T1", f"the program {path} can't be run: {fault}") from fault
     version = ended.stdout.strip()
-    if ended.returncode != 0 or not version or here is None:
+    if ended.returncode != 0 or not version or here is None or here.sha256 is None:
         raise Refused("T1", f"the program {path} tells no version: status {ended.returncode}")
     _try(path)
-    return Program(path, version, here.sha256)
+    return Program(
+        path, version, here.sha256, here.stamp if time.time() * 1e9 - here.stamp[3] > 1e9 * SETTLED else None
+    )
 
 
 def _try(path: str) -> None:
@@ -82,24 +90,31 @@ def _try(path: str) -> None:
 
 
 def task_of(row: Row, threads: int = 1) -> Task:
-    """What a row with a city asks: an overlay by so many threads where it has zones, else a check with every fault."""
+    """What a row with a city asks, by so many threads: an overlay where it has zones, else a check with every fault."""
     if row.zones is None:
-        return faults_task_of(row, "parcels")
+        return faults_task_of(row, "parcels", threads)
     city, clerks = str(row.city), [word for path in row.edits for word in ("--clerk", path)]
     return Task(
         row.name,
         ("overlay", city, row.parcels, row.zones, "--unit", row.unit, *clerks, "--workers", str(threads)),
         _inputs([city, row.parcels, row.zones], row.edits),
+        _ring_of(row),
     )
 
 
-def faults_task_of(row: Row, role: str) -> Task:
+def faults_task_of(row: Row, role: str, threads: int = 1) -> Task:
     """The check that tells every fault of a layer, `parcels` or `zones`, of a row with a city."""
     city, layer, edits = str(row.city), row.parcels, row.edits
     if role == "zones" and row.zones is not None:
         layer, edits = row.zones, ()
     clerks = [word for path in edits for word in ("--clerk", path)]
-    return Task(row.name, ("check", city, layer, "--unit", row.unit, "--all", *clerks), _inputs([city, layer], edits))
+    words = ("check", city, layer, "--unit", row.unit, "--all", *clerks, "--workers", str(threads))
+    return Task(row.name, words, _inputs([city, layer], edits), _ring_of(row))
+
+
+def _ring_of(row: Row) -> Tuple[str, ...]:
+    """The files of a district's ring, which the run writes."""
+    return () if row.part_of is None or row.city is None else tuple(dict(_inputs([row.city], ())))
 
 
 def _inputs(layers: Sequence[str], edits: Sequence[str]) -> Tuple[Tuple[str, bool], ...]:
@@ -114,7 +129,7 @@ def _inputs(layers: Sequence[str], edits: Sequence[str]) -> Tuple[Tuple[str, boo
 
 @dataclass
 class Batch:
-    """Tasks that an engine runs, numbered from 0; their files and the engine's own are in a folder.
+    """Tasks that an engine runs, numbered from 0; their lists and the engine's own files are in a folder.
 
     `has_result` tells whether this run has put a task's result in place.
     """
@@ -123,33 +138,34 @@ class Batch:
     tasks: List[Task]
     run: str
     has_result: Callable[[Task], bool]
+    common: Dict[str, Any] = field(default_factory=dict)
+    """What the worker is told of each task."""
 
-    def file_of(self, number: int) -> Path:
-        """The file that the worker is given for a task."""
-        return self.folder / "tasks" / f"{number}.json"
+    def line_of(self, number: int) -> str:
+        """What the worker is told of a task, as a line of a list."""
+        task = self.tasks[number]
+        command = [self.common["command"], *task.arguments]
+        told = {"name": task.name, "command": command, "inputs": dict(task.inputs), "read": list(task.by_bytes)}
+        return json.dumps({**self.common, **told}) + "\n"
 
     def write(self, results: Path, program: Program, limits: Limits, by_bytes: bool = False) -> None:
-        """Makes the folder and writes a file for each task. `results` is the folder that has their results.
+        """Makes the folder, and says what holds of each task. `results` is the folder that has their results.
 
         With `by_bytes` a task compares its files by all their bytes, and not by their times, where these say as much.
         """
         notes = self.folder / "failed"
-        for folder in (self.folder / "tasks", notes):
-            folder.mkdir(parents=True)
-        for number, task in enumerate(self.tasks):
-            told: Dict[str, Any] = {
-                "name": task.name,
-                "run": self.run,
-                "folder": str(results),
-                "notes": str(notes),
-                "command": [program.path, *task.arguments],
-                "inputs": dict(task.inputs),
-                "program": {"version": program.version, "sha256": program.sha256},
-                "timeout": limits.timeout,
-                "memory_kb": limits.memory_kb,
-                "by_bytes": by_bytes,
-            }
-            self.file_of(number).write_text(json.dumps(told), encoding="utf-8")
+        notes.mkdir(parents=True)
+        self.common = {
+            "run": self.run,
+            "folder": str(results),
+            "notes": str(notes),
+            "command": program.path,
+            "program": {"version": program.version, "sha256": program.sha256},
+            "program_stamp": program.stamp,
+            "timeout": limits.timeout,
+            "memory_kb": limits.memory_kb,
+            "by_bytes": by_bytes,
+        }
 
     def left(self, numbers: Optional[Iterable[int]] = None) -> List[int]:
         """The tasks, of these or of all, that have no result of this run."""

@@ -1,11 +1,12 @@
 """One task of `gandovel many`: one process of the program, and its result moved into place whole or not at all.
 
-    python3 -I -S start.py tasks/NUMBER.json|jobs/JOB.txt [--with-parent]
+    python3 -I -S start.py jobs/JOB.txt [--with-parent]
+    python3 -I -S start.py jobs --shared NAME [--with-parent]
 
-jobs/JOB.txt lists numbers of tasks, one a line, whose files are tasks/NUMBER.json in the folder beside. They are run one
-behind the other. Each engine starts start.py, by its path, in the same way. This file needs nothing but Python's own
-modules, and few of them, so that a task begins fast, on any node that has Python 3.8. (`subprocess` alone would double
-the time to start.)
+jobs/JOB.txt is a list of tasks, a line of JSON each, that are run one behind the other. With --shared a process takes
+lists of the folder until none is left, beside others that do; NAME is its own, also when it is started again. Each
+engine starts start.py, by its path, in the same way. This file needs nothing but Python's own modules, and few of them,
+so that a task begins fast, on any node that has Python 3.8. (`subprocess` alone would double the time to start.)
 
 The status is 0 where the result is in place. Any other end leaves no result, a note in the folder `failed` where the
 disk takes it, and one line on standard error; the status tells the code, too (`STATUS`).
@@ -18,9 +19,10 @@ import json
 import os
 import resource
 import signal
+import stat
 import sys
 import time
-from typing import Any, Dict, List, NamedTuple, NoReturn, Optional, Sequence, Tuple
+from typing import Any, Dict, Iterator, List, NamedTuple, NoReturn, Optional, Sequence, Tuple
 
 BLOCK = 1 << 20
 HELD = 64 << 20
@@ -28,8 +30,8 @@ HELD = 64 << 20
 
 SETTLED = 2.0
 """Seconds after which a change of a file gets another time than the last, whatever the disk's clock."""
-ON_LINUX_DIE_WITH_PARENT = 1
-"""`PR_SET_PDEATHSIG` of prctl(2)."""
+ON_LINUX_DIE_WITH_PARENT, ON_LINUX_TAKE_ORPHANS = 1, 36
+"""`PR_SET_PDEATHSIG` and `PR_SET_CHILD_SUBREAPER` of prctl(2)."""
 INIT = 1
 """The process that takes over those whose parent has ended."""
 
@@ -64,33 +66,37 @@ Stamp = Tuple[int, int, int, int]
 
 
 class Checked(NamedTuple):
-    """A file as it was: its checksum (64 hexadecimal digits), its length in bytes, and what a change of it changes."""
+    """A file as it was: its checksum (64 hexadecimal digits; None where it was not read), its length in bytes, and what
+    a change of it changes.
+    """
 
-    sha256: str
+    sha256: Optional[str]
     size: int
     stamp: Stamp
     """The file's number on its disk, its length, and when it and what is noted of it were changed, in nanoseconds."""
 
     def told(self) -> Dict[str, Any]:
         """As a result tells it."""
-        return {"sha256": self.sha256, "bytes": self.size}
+        return {"bytes": self.size} if self.sha256 is None else {"sha256": self.sha256, "bytes": self.size}
 
 
 class Input(NamedTuple):
     """A file as it was before the program ran: None where there was none.
 
-    It is `settled` where a change of it would give it another stamp; else its bytes are held, where there is room.
+    It is `old` where a change of it would give it another stamp. Where that is enough it is `settled`, and not read;
+    else its bytes are held, where there is room.
     """
 
     checked: Optional[Checked]
     content: Optional[bytes] = None
     settled: bool = False
+    old: bool = False
 
     def told(self) -> Optional[Dict[str, Any]]:
         """As a result tells it: with its stamp, where that says as much as its checksum."""
         if self.checked is None:
             return None
-        return {**self.checked.told(), "stamp": self.checked.stamp} if self.settled else self.checked.told()
+        return {**self.checked.told(), "stamp": self.checked.stamp} if self.old else self.checked.told()
 
 
 class Ended(NamedTuple):
@@ -109,18 +115,22 @@ def checked(path: str) -> Optional[Checked]:
 
 
 def read_input(path: str, room: int, by_bytes: bool = True) -> Input:
-    """A file with its checksum, and its bytes where it is no longer than `room`. OSError where it can't be read.
+    """A file as it is: with its checksum, and its bytes where it is no longer than `room`. OSError where it can't be read.
 
-    With `by_bytes` no file is taken to be settled.
+    Without `by_bytes` a file that is old is settled: it is told by its stamp, and has no checksum.
     """
     try:
         with open(path, "rb", buffering=0) as file:
-            begun = os.fstat(file.fileno())
-            settled = not by_bytes and time.time() - begun.st_ctime > SETTLED
-            if begun.st_size <= max(room, BLOCK):
+            facts = os.fstat(file.fileno())
+            if not stat.S_ISREG(facts.st_mode):
+                raise IsADirectoryError(errno.EISDIR, "it is no file")
+            old = time.time() - facts.st_ctime > SETTLED
+            if old and not by_bytes:
+                return Input(Checked(None, facts.st_size, stamp_of(facts)), None, True, True)
+            if facts.st_size <= max(room, BLOCK):
                 content = file.readall()
-                here = Checked(hashlib.sha256(content).hexdigest(), len(content), stamp_of(begun))
-                return Input(here, content if len(content) <= room and not settled else None, settled)
+                here = Checked(hashlib.sha256(content).hexdigest(), len(content), stamp_of(facts))
+                return Input(here, content if len(content) <= room else None, False, old)
             digest, size, block = hashlib.sha256(), 0, bytearray(BLOCK)
             while True:
                 count = file.readinto(block)
@@ -130,7 +140,7 @@ def read_input(path: str, room: int, by_bytes: bool = True) -> Input:
                 size += count
     except (FileNotFoundError, NotADirectoryError):
         return Input(None)
-    return Input(Checked(digest.hexdigest(), size, stamp_of(begun)), None, settled)
+    return Input(Checked(digest.hexdigest(), size, stamp_of(facts)), None, False, old)
 
 
 def stamp_of(facts: os.stat_result) -> Stamp:
@@ -183,7 +193,7 @@ def read_inputs(task: Dict[str, Any]) -> Dict[str, Input]:
     room = HELD
     for path, needed in task["inputs"].items():
         try:
-            found[path] = read_input(path, room, task["by_bytes"])
+            found[path] = read_input(path, room, task["by_bytes"] or path in task["read"])
         except OSError as fault:
             raise Failed("P1", f"{path} can't be read: {fault.strerror}") from fault
         if needed and found[path].checked is None:
@@ -196,6 +206,9 @@ def test_program(task: Dict[str, Any]) -> None:
     """Failed T6 where the program is another than the one that the run began with, T1 where it is not there."""
     path = task["command"][0]
     try:
+        stamp = None if task.get("by_bytes") else task.get("program_stamp")
+        if stamp is not None and has_stamp(path, stamp):
+            return
         here = _checksum_of_program(path)
     except FileNotFoundError as fault:
         raise Failed("T1", f"the program {path} is not there") from fault
@@ -205,11 +218,11 @@ def test_program(task: Dict[str, Any]) -> None:
         raise Failed("T6", f"{path} is not the program that the run began with")
 
 
-_programs: Dict[Tuple[Any, ...], str] = {}
+_programs: Dict[Tuple[Any, ...], Optional[str]] = {}
 """The checksums that this process has taken of a program, by what a change of it changes."""
 
 
-def _checksum_of_program(path: str) -> str:
+def _checksum_of_program(path: str) -> Optional[str]:
     """A program's checksum; it is read once for all tasks of a list, and again where it changed. OSError without it."""
     facts = os.stat(path)
     state = path, facts.st_dev, facts.st_ino, facts.st_size, facts.st_mtime_ns, facts.st_ctime_ns
@@ -254,20 +267,19 @@ def run_program(task: Dict[str, Any], command: List[str], into: str) -> Ended:
     """
     output = os.open(into, os.O_WRONLY | os.O_CREAT | os.O_TRUNC, 0o644)
     reader, writer = os.pipe()
-    files = os.open(os.devnull, os.O_RDONLY), output, writer
-    begun, parent, die = time.monotonic(), os.getpid(), _prctl()
+    begun = time.monotonic()
     _running.append(0)
-    process = os.fork()  # to spawn takes half as long, but what is spawned outlives this process where that is killed
-    if process == 0:
-        _become_program(command, task["memory_kb"], parent, die, files)
-    _running[0] = process
+    try:
+        process = _running[0] = _started(command, (output, writer), task["memory_kb"])
+    finally:
+        os.close(output)
+        os.close(writer)
+    _say(RUNS, process)
     if _asked_to_stop:
         _end_program()
     if task["timeout"]:
         signal.signal(signal.SIGALRM, _end_program)
         signal.setitimer(signal.ITIMER_REAL, task["timeout"])
-    for number in files:
-        os.close(number)
     with open(reader, "rb") as file:
         errors = file.read()
     _, status, used = os.wait4(process, 0)
@@ -279,22 +291,32 @@ def run_program(task: Dict[str, Any], command: List[str], into: str) -> Ended:
     return Ended(status, seconds, used.ru_maxrss, timed_out, errors)
 
 
-def _become_program(
-    command: List[str], memory_kb: Optional[int], parent: int, die: Optional[Any], files: Sequence[int]
-) -> NoReturn:
-    """The child: its files and limits, then the program. It dies with the task's process."""
+def _started(command: List[str], files: Sequence[int], memory_kb: Optional[int]) -> int:
+    """The program's process, in a group of its own, which is spawned: a fork would take three times as long.
+
+    It has the limit of memory from this process, which has it while it spawns. Failed T1 where it can't be run.
+    """
+    actions: List[Any] = [(os.POSIX_SPAWN_OPEN, 0, os.devnull, os.O_RDONLY, 0)]
+    actions += [(os.POSIX_SPAWN_DUP2, place, number) for number, place in enumerate(files, 1)]
+    former = resource.getrlimit(resource.RLIMIT_AS)
+    if memory_kb:
+        resource.setrlimit(resource.RLIMIT_AS, (memory_kb * 1024, former[1]))
     try:
-        for number, place in enumerate(files):
-            os.dup2(place, number)
-        os.setpgid(0, 0)
-        _die_with_parent(parent, die)
-        if memory_kb:
-            resource.setrlimit(resource.RLIMIT_AS, (memory_kb * 1024,) * 2)
-        os.execv(command[0], command)
-    except BaseException as fault:  # whatever it is, the child may not go on as a second task
-        os.write(2, f"{fault}\n".encode("utf-8", "replace"))
+        return os.posix_spawn(
+            command[0],
+            command,
+            os.environ,
+            file_actions=actions,
+            setpgroup=0,
+            setsigmask=[],
+            setsigdef=[signal.SIGTERM],
+        )
+    except MemoryError as fault:
+        raise Failed("no memory", "") from fault
+    except OSError as fault:
+        raise Failed("T1", f"the program {command[0]} can't be run: {fault.strerror}") from fault
     finally:
-        os._exit(127)
+        resource.setrlimit(resource.RLIMIT_AS, former)
 
 
 _found: List[Optional[Any]] = []
@@ -313,16 +335,38 @@ def _prctl() -> Optional[Any]:
     return _found[0]
 
 
-def die_with_parent(parent: int) -> None:
-    """From now on this process is killed where the thread that started it ends. Linux alone; elsewhere nothing."""
-    _die_with_parent(parent, _prctl())
-
-
-def _die_with_parent(parent: int, die: Optional[Any]) -> None:
+def die_with_parent(parent: int, number: int = signal.SIGKILL) -> None:
+    """From now on this process gets a signal where the thread that started it ends. Linux alone; elsewhere nothing."""
+    die = _prctl()
     if die is not None:
-        die(ON_LINUX_DIE_WITH_PARENT, 9, 0, 0, 0)
+        die(ON_LINUX_DIE_WITH_PARENT, int(number), 0, 0, 0)
         if os.getppid() != parent:
             os._exit(STATUS["T4"])
+
+
+RUNS, ENDED = b"r", b"e"
+"""What a process that runs tasks says to the one beside it: a program's process runs; a task ended, with a status."""
+
+_ear: List[int] = []
+"""Where that is said."""
+
+_parent: List[int] = []
+"""The process beside."""
+
+
+def _say(what: bytes, number: int) -> None:
+    try:
+        if _ear:
+            os.write(_ear[0], what + number.to_bytes(4, "big"))
+    except OSError:  # nobody listens any more: this process is about to be told
+        pass
+
+
+def _heard(said: bytes) -> Tuple[List[int], Optional[int]]:
+    """The statuses of the tasks that ended, and the program's process that ran last, where its task did not end."""
+    words = [(said[at : at + 1], int.from_bytes(said[at + 1 : at + 5], "big")) for at in range(0, len(said), 5)]
+    running = words[-1][1] if words and words[-1][0] == RUNS else None
+    return [number for what, number in words if what == ENDED], running
 
 
 def test_end(task: Dict[str, Any], ended: Ended) -> None:
@@ -453,9 +497,8 @@ def _is_done(task: Dict[str, Any]) -> bool:
         return False
 
 
-def run_task(path: str) -> int:
-    """Runs the task that a file describes; the status. It comes back with SIGTERM held up, since its end is decided."""
-    task = _read(path)
+def run_task(task: Dict[str, Any]) -> int:
+    """Runs a task; the status. It comes back with SIGTERM held up, since its end is decided."""
     aside = os.path.join(task["folder"], f".{task['name']}.{os.uname().nodename}.{os.getpid()}.new")
     signal.signal(signal.SIGTERM, _ask_to_stop)
     try:
@@ -475,72 +518,123 @@ def run_task(path: str) -> int:
         signal.pthread_sigmask(signal.SIG_BLOCK, [signal.SIGTERM])
         failed = fault if isinstance(fault, Failed) else Failed("P14", f"the result can't be written: {fault}")
         remove(aside)
-        _tell(task, failed)
+        if not _parent or os.getppid() == _parent[0]:  # else the engine is gone, and it is for the command to say so
+            _tell(task, failed)
         return failed.status
 
 
-def run_tasks(paths: Sequence[str]) -> int:
+def run_tasks(tasks: Sequence[Dict[str, Any]]) -> int:
     """Runs tasks one behind the other in a process beside this one; the status of the last that failed, else 0.
 
-    Where that process is killed, the task at hand has no result, and another process goes on behind it.
+    Where that process is killed, the program that it ran is, too; the task at hand has no result, and another process
+    goes on behind it.
     """
     running: List[int] = []
-    stopped: List[int] = []
 
     def stop(number: int, _: Any) -> None:
-        stopped.append(number)
+        _asked_to_stop.append(number)
         for child in running:
             try:
                 os.kill(child, signal.SIGTERM)
             except ProcessLookupError:
                 pass
 
-    at, status, parent = 0, 0, os.getpid()
+    at, status = 0, 0
     signal.signal(signal.SIGTERM, stop)
-    while at < len(paths):
-        reader, writer = os.pipe()
+    while at < len(tasks):
         signal.pthread_sigmask(signal.SIG_BLOCK, [signal.SIGTERM])
-        if stopped:
+        if _asked_to_stop:
             return STATUS["T4"]
-        child = os.fork()
-        if child == 0:
-            _become_tasks(paths[at:], parent, writer)
+        child, reader = _beside(tasks[at:])
         running.append(child)
         signal.pthread_sigmask(signal.SIG_UNBLOCK, [signal.SIGTERM])
-        os.close(writer)
         with open(reader, "rb") as file:
-            ended = file.read()
+            ended, program = _heard(file.read())
         killed_by = os.WTERMSIG(os.waitpid(child, 0)[1])
         running.clear()
+        _end_orphan(program)
         at, status = at + len(ended), next((it for it in reversed(ended) if it), status)
-        if stopped or at == len(paths):
+        if _asked_to_stop or at == len(tasks):
             break
-        _tell(_read(paths[at]), Failed("T4", f"the task was killed by signal {killed_by}"))
+        _tell(tasks[at], Failed("T4", f"the task was killed by signal {killed_by}"))
         at, status = at + 1, STATUS["T4"]
-    return STATUS["T4"] if stopped else status
+    return STATUS["T4"] if _asked_to_stop else status
 
 
-def _become_tasks(paths: Sequence[str], parent: int, ended: int) -> NoReturn:
-    """The child: tasks until it is asked to stop, each one's status into a pipe. It dies with its parent."""
+def _beside(tasks: Sequence[Dict[str, Any]]) -> Tuple[int, int]:
+    """A process beside this one that runs tasks, and the end of the pipe into which it says what it does."""
+    parent = os.getpid()
+    reader, writer = os.pipe()
+    child = os.fork()
+    if child == 0:
+        os.close(reader)
+        _become_tasks(tasks, parent, writer)
+    os.close(writer)
+    return child, reader
+
+
+def _end_orphan(program: Optional[int]) -> None:
+    """Kills a program whose task's process is gone, where it runs: then it is this process's child by now."""
     try:
-        die_with_parent(parent)
-        for path in paths:
+        if program is not None and os.waitpid(program, os.WNOHANG)[0] == 0:
+            os.killpg(program, signal.SIGKILL)
+            os.waitpid(program, 0)
+    except (ProcessLookupError, ChildProcessError):
+        pass
+
+
+def _become_tasks(tasks: Sequence[Dict[str, Any]], parent: int, ear: int) -> NoReturn:
+    """The child: tasks until it is asked to stop, what it does into a pipe. It stops where its parent ends."""
+    try:
+        _ear.append(ear)
+        _parent.append(parent)
+        signal.signal(signal.SIGTERM, _ask_to_stop)
+        die_with_parent(parent, signal.SIGTERM)
+        for task in tasks:
             status = STATUS["T2"]
             try:
-                status = run_task(path)
+                status = run_task(task)
             except Exception as fault:  # whatever it is, it is this task's end alone
-                print(f"error: {path}: {type(fault).__name__}: {fault}", file=sys.stderr)
-            os.write(ended, bytes([status]))
-            if _asked_to_stop or signal.SIGTERM in signal.sigpending():
+                print(f"error: {task['name']}: {type(fault).__name__}: {fault}", file=sys.stderr)
+            _say(ENDED, status)
+            if _asked_to_stop or signal.SIGTERM in signal.sigpending() or os.getppid() != parent:
                 break
     finally:
         os._exit(0)
 
 
-def _read(path: str) -> Dict[str, Any]:
+def tasks_of(path: str) -> List[Dict[str, Any]]:
+    """The tasks of a list."""
     with open(path, encoding="utf-8") as file:
-        task: Dict[str, Any] = json.load(file)
-        return task
+        return [json.loads(line) for line in file]
+
+
+def lists_taken(folder: str, name: str) -> Iterator[str]:
+    """The lists of a folder that nobody else takes, one by one; first those that this name took when it was started before.
+
+    A list that was done to its end gets a mark, which tells how far all are.
+    """
+    numbers = sorted(int(it[:-4]) for it in os.listdir(folder) if it.endswith(".txt"))
+    for number in numbers:
+        taken = os.path.join(folder, f"{number}.taken")
+        try:
+            os.symlink(name, taken)  # which is there with its content, or not at all
+        except FileExistsError:
+            if os.readlink(taken) != name:
+                continue
+        yield os.path.join(folder, f"{number}.txt")
+        with open(os.path.join(folder, f"{number}.done"), "w", encoding="utf-8"):
+            pass
+
+
+def run_shared(folder: str, name: str) -> int:
+    """Runs lists of a folder until none is left; the status of the last task that failed, else 0."""
+    status = 0
+    for path in lists_taken(folder, name):
+        status = run_tasks(tasks_of(path)) or status
+        if _asked_to_stop:
+            return STATUS["T4"]
+    return status
 
 
 def _tell(task: Dict[str, Any], failed: Failed) -> None:
@@ -553,15 +647,15 @@ def _tell(task: Dict[str, Any], failed: Failed) -> None:
 
 
 def main(words: List[str]) -> int:
-    """Runs the task that a file describes, or those of a job's list; the status."""
+    """Runs the tasks of a list, or those of a folder's lists that nobody else takes; the status."""
     if "--with-parent" in words:
         parent = os.getppid()
         if parent == INIT and os.environ.get("PARALLEL_PID", str(INIT)) != str(INIT):  # GNU parallel ended meanwhile
             return STATUS["T4"]
         die_with_parent(parent)
-    paths = [words[0]]
-    if words[0].endswith(".txt"):
-        folder = os.path.join(os.path.dirname(os.path.dirname(os.path.abspath(words[0]))), "tasks")
-        with open(words[0], encoding="utf-8") as file:
-            paths = [os.path.join(folder, f"{number}.json") for number in file.read().split()]
-    return run_task(paths[0]) if len(paths) == 1 else run_tasks(paths)
+    take_orphans = _prctl()
+    if take_orphans is not None:
+        take_orphans(ON_LINUX_TAKE_ORPHANS, 1, 0, 0, 0)
+    if "--shared" in words:
+        return run_shared(words[0], words[words.index("--shared") + 1])
+    return run_tasks(tasks_of(words[0]))

@@ -11,6 +11,7 @@ from typing import Any, AsyncIterator, Dict, List, Optional
 from fastapi import FastAPI, Header, Query, Request
 from fastapi.exceptions import RequestValidationError
 from fastapi.responses import HTMLResponse, JSONResponse, Response, StreamingResponse
+from starlette.datastructures import Headers
 from starlette.exceptions import HTTPException
 from starlette.requests import ClientDisconnect
 from starlette.staticfiles import StaticFiles
@@ -33,6 +34,7 @@ LEAFLET = (HERE.parents[1] / "map_page", Path("/usr/share/javascript/leaflet"))
 """Where Leaflet may be: with the package's own map, or as Debian has it (libjs-leaflet)."""
 MOST_ENTRIES, MOST_POINTS = 10_000, 10_000
 _KEY = re.compile(r"[\x21-\x7e]{1,100}")
+_ENCODE = json.JSONEncoder(ensure_ascii=False, separators=(",", ":")).encode
 OPENAPI = "application/vnd.oai.openapi+json;version=3.0"
 GEOJSON = "application/geo+json"
 
@@ -61,10 +63,10 @@ def application(site: Site) -> FastAPI:
         redoc_url=None,
     )
     _add_faults(app)
+    _add_edits(app, site)  # the first ones are found soonest
+    _add_questions(app, site)
     _add_pages(app, site)
     _add_features(app, site)
-    _add_questions(app, site)
-    _add_edits(app, site)
     _add_state(app, site)
     return app
 
@@ -365,44 +367,60 @@ def _missing(register: Register, parcel: int, entries: int) -> Fault:
 
 
 def _add_edits(app: FastAPI, site: Site) -> None:
-    register, metrics = site.register, site.metrics
-    body = {"content": {"application/json": {"schema": _schema()}, "text/plain": {"schema": {"type": "string"}}}}
-
-    @app.post(
-        "/edits", summary="Makes an edit", tags=["Register"], openapi_extra={"requestBody": {**body, "required": True}}
-    )
-    async def edit(
-        request: Request,
-        why: Optional[str] = None,
-        if_match: Optional[str] = Header(None),
-        idempotency_key: Optional[str] = Header(None),
-    ) -> Response:
+    @app.post("/edits", summary="Makes an edit", tags=["Register"], openapi_extra=_edit_told())
+    async def edit(request: Request) -> Response:
         """An edit as JSON, or a line of a clerk's file as text/plain. 200 comes once the journal has it on the disk."""
         only(request.query_params, {"why"})
-        line, reason = edit_of(await request.body(), request.headers.get("content-type", "application/json"), why)
-        asked = Asked(line, _said(request.state.client.name, reason, _key(idempotency_key)))
-        try:
-            entry, is_repeated = await asyncio.wait_for(register.submit(asked, _at(if_match)), PATIENCE)
-        except asyncio.TimeoutError:
-            metrics.refused.labels("unknown").inc()
-            raise NotServing(
-                "unknown", "whether the edit was made is not known yet: send it again with the same key"
-            ) from None
-        except Refused as fault:
-            metrics.refused.labels(fault.code).inc()
-            raise
-        headers = {"gandovel-entries": str(entry.number), "etag": f'"{entry.number}"'}
-        if is_repeated:
-            headers["gandovel-repeated"] = "true"
-        else:
-            metrics.accepted.inc()
-        return JSONResponse(entry.as_json(), headers=headers)
+        why = request.query_params.get("why")
+        return await _made(site, request.state.client.name, request.headers, why, await request.body())
 
 
-def _schema() -> Dict[str, Any]:
+async def answered_edit(site: Site, name: str, headers: Headers, body: bytes) -> Response:
+    """The answer to an edit of this client's without a query, also where it is refused."""
+    try:
+        return await _made(site, name, headers, None, body)
+    except Refused as fault:
+        return _answer_of(fault)
+
+
+async def _made(site: Site, name: str, given: Headers, why: Optional[str], body: bytes) -> Response:
+    line, reason = edit_of(body, given.get("content-type", "application/json"), why)
+    asked = Asked(line, _said(name, reason, _key(given.get("idempotency-key"))))
+    at, refused = _at(given.get("if-match")), site.metrics.refused
+    try:
+        async with asyncio.timeout(PATIENCE):
+            entry, is_repeated = await site.register.submit(asked, at)
+    except TimeoutError:
+        refused.labels("unknown").inc()
+        text = "whether the edit was made is not known yet: send it again with the same key"
+        raise NotServing("unknown", text) from None
+    except Refused as fault:
+        refused.labels(fault.code).inc()
+        raise
+    headers = {"gandovel-entries": str(entry.number), "etag": f'"{entry.number}"'}
+    if is_repeated:
+        headers["gandovel-repeated"] = "true"
+    else:
+        site.metrics.accepted.inc()
+    return Response(_ENCODE(entry.as_json()).encode(), headers=headers, media_type="application/json")
+
+
+def _edit_told() -> Dict[str, Any]:
+    """What the OpenAPI document says of an edit's body and headers, which the server reads itself."""
     from pydantic import schema_of
 
-    return dict(schema_of(EditBody, title="Edit", ref_template="#/components/schemas/{model}"))
+    schema = dict(schema_of(EditBody, title="Edit", ref_template="#/components/schemas/{model}"))
+    content = {"application/json": {"schema": schema}, "text/plain": {"schema": {"type": "string"}}}
+    texts = (
+        ("query", "why", "the reason, where the body is text/plain"),
+        ("header", "If-Match", "the edit is made only where this entry is the newest"),
+        ("header", "Idempotency-Key", "an edit with this key is made once: 1 to 100 signs of ASCII, no space"),
+    )
+    told = [
+        {"in": place, "name": name, "description": text, "required": False, "schema": {"type": "string"}}
+        for place, name, text in texts
+    ]
+    return {"requestBody": {"content": content, "required": True}, "parameters": told}
 
 
 def _key(text: Optional[str]) -> Optional[str]:

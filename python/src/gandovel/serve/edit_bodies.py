@@ -71,7 +71,7 @@ class InsertBody(_Body):
 
 
 class StraightenBody(_Body):
-    """The corner is taken out of every parcel that has it, where it bends none."""
+    """Removes the corner from every parcel that contains it, provided no ring bends there."""
 
     kind: Literal["straighten"]
     corner: Corner

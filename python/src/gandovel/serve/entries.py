@@ -54,10 +54,21 @@ class Entry:
         said = record.said
         return cls(record.number, record.edit, out, new, said.name or None, said.why, record.moment, said.key)
 
+    def with_ids(self, out: Tuple[int, ...], new: Tuple[int, ...]) -> "Entry":
+        """The same with the ids that it took out and brought."""
+        return Entry(self.number, self.edit, out, new, self.who, self.why, self.time, self.key)
+
     def as_json(self) -> Dict[str, Any]:
         """What an answer has of it; the key is its maker's alone."""
-        names = ("number", "time", "who", "why", "edit")
-        return {**{name: getattr(self, name) for name in names}, "out": list(self.out), "new": list(self.new)}
+        return {
+            "number": self.number,
+            "time": self.time,
+            "who": self.who,
+            "why": self.why,
+            "edit": self.edit,
+            "out": list(self.out),
+            "new": list(self.new),
+        }
 
 
 @dataclass(frozen=True)
@@ -169,7 +180,8 @@ class Versions:
             self._numbers = np.concatenate([self._numbers, np.zeros_like(self._numbers)])
             self._boxes = np.concatenate([self._boxes, np.zeros_like(self._boxes)])
         self._numbers[self._count] = parcel, born, NEVER
-        self._boxes[self._count] = *ring.min(axis=0), *ring.max(axis=0)
+        xs, ys = ring.T.tolist()
+        self._boxes[self._count] = min(xs), min(ys), max(xs), max(ys)
         self._alive[parcel] = self._count
         self._rings.append(ring)
         self._areas.append(area2)

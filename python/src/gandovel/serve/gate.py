@@ -5,9 +5,12 @@ import asyncio
 import logging
 import re
 import time
+from functools import lru_cache
 from typing import Any, Awaitable, Callable, Dict, MutableMapping, Optional, Tuple
 
-from starlette.responses import JSONResponse
+from starlette.datastructures import Headers
+from starlette.responses import JSONResponse, Response
+from uvicorn.middleware.proxy_headers import ProxyHeadersMiddleware
 
 from ..errors import Refused
 from .access import LOCAL, ROLES, Client, Tokens
@@ -20,6 +23,8 @@ Message = MutableMapping[str, Any]
 Receive = Callable[[], Awaitable[Message]]
 Send = Callable[[Message], Awaitable[None]]
 App = Callable[[MutableMapping[str, Any], Receive, Send], Awaitable[None]]
+Edits = Callable[[str, Headers, bytes], Awaitable[Response]]
+"""The answer to an edit: the client's name, the headers and the body."""
 MOST_BODY = 1 << 20
 """Bytes of a request's body: a line of a session has at most as many."""
 BODY_SECONDS = 20.0
@@ -32,6 +37,7 @@ _OPEN = re.compile(r"/|/health|/page/[a-z_.]+|/page/leaflet/(images/)?[a-z0-9_.-
 """What anyone may ask for: the page itself, which has nothing of the register, and whether it serves."""
 _LOCATE = re.compile(rb"x=(-?[0-9]{1,11})&y=(-?[0-9]{1,11})")
 _LOOPBACK = re.compile(r"(localhost|127\.[0-9.]+|\[::1\])(:[0-9]+)?")
+_FORWARDED = frozenset((b"x-forwarded-for", b"x-forwarded-proto"))
 
 
 class Rates:
@@ -57,13 +63,31 @@ class Rates:
 class Gate:
     """The application that uvicorn calls; what passes goes to the one within."""
 
-    def __init__(self, app: App, register: Register, tokens: Optional[Tokens], rate: float, metrics: Metrics) -> None:
-        self._app, self._register, self._tokens, self._metrics = app, register, tokens, metrics
+    def __init__(
+        self,
+        app: App,
+        edits: Edits,
+        register: Register,
+        tokens: Optional[Tokens],
+        rate: float,
+        metrics: Metrics,
+        proxies: str,
+    ) -> None:
+        """`app` is the application within, `proxies` the addresses of those whose word on their client is taken."""
+        self._app, self._edits = app, edits
+        self._register, self._tokens, self._metrics = register, tokens, metrics
         self._rates = Rates(rate)
+        self._forwarded: Any = ProxyHeadersMiddleware(self._take, proxies)
 
     async def __call__(self, scope: MutableMapping[str, Any], receive: Receive, send: Send) -> None:
         if scope["type"] != "http":
             return
+        if _FORWARDED.isdisjoint(name for name, _ in scope["headers"]):
+            await self._take(scope, receive, send)
+        else:
+            await self._forwarded(scope, receive, send)
+
+    async def _take(self, scope: MutableMapping[str, Any], receive: Receive, send: Send) -> None:
         begun = time.perf_counter()
         sent = _Sent(send, scope)
         try:
@@ -75,23 +99,26 @@ class Gate:
             LOG.exception("a request was not answered")
             if not sent.status:
                 await _refuse(sent, scope, receive, 500, "fault", "the server has a fault here: tell its operator when")
-        self._metrics.answered(scope, sent.status, time.perf_counter() - begun)
+        self._metrics.answered(scope["path"], sent.status, time.perf_counter() - begun)
 
     async def _answer(self, scope: MutableMapping[str, Any], receive: Receive, send: "_Sent") -> None:
-        headers = dict(scope["headers"])
-        refusal = self._refusal(scope, headers)
+        refusal = self._refusal(scope, dict(scope["headers"]))
         if refusal is not None:
             await _refuse(send, scope, receive, *refusal)
             return
-        if scope["path"] == "/locate" and scope["method"] == "GET":
+        is_get = scope["method"] == "GET"
+        if is_get and scope["path"] == "/locate":
             asked = _LOCATE.fullmatch(scope["query_string"])
             if asked:
                 await self._locate(int(asked[1]), int(asked[2]), scope, receive, send)
                 return
         body: Receive = receive
-        if scope["method"] != "GET":
+        if not is_get:
             body = _Body(receive)
-        await self._app(scope, body, send)
+        if scope["path"] == "/edits" and scope["method"] == "POST" and not scope["query_string"]:
+            await self._edit(scope, body, send)
+        else:
+            await self._app(scope, body, send)
 
     def _refusal(self, scope: MutableMapping[str, Any], headers: Dict[bytes, bytes]) -> Optional[Tuple[int, str, str]]:
         """Why a request goes no further: status, code and text; else None, and `scope` has its client."""
@@ -103,12 +130,11 @@ class Gate:
             )
         if scope["method"] not in ("GET", "HEAD") and not _is_own(headers):
             return 403, "origin", "a page of another site may not send this"
-        is_open = bool(_OPEN.fullmatch(scope["path"])) and scope["method"] in ("GET", "HEAD")
+        is_open = scope["method"] in ("GET", "HEAD") and _is_open(scope["path"])
         client: Optional[Client] = LOCAL
         if self._tokens is not None:
             client = self._tokens.client(headers.get(b"authorization", b"").decode("latin-1"))
-        address = (scope.get("client") or ("",))[0]
-        if not self._rates.takes(client.name if client else address):
+        if not self._rates.takes(client.name if client else (scope.get("client") or ("",))[0]):
             return 429, "rate", "too many requests: send fewer in a second"
         if client is None and not is_open:
             return 401, "token", "a token is needed that the server knows: Authorization: Bearer TOKEN"
@@ -120,6 +146,20 @@ class Gate:
             return 413, "size", f"a body has at most {MOST_BODY} bytes"
         scope.setdefault("state", {})["client"] = client
         return None
+
+    async def _edit(self, scope: MutableMapping[str, Any], receive: Receive, send: Send) -> None:
+        """An edit goes past the framework, too."""
+        body, is_whole = b"", False
+        while not is_whole:
+            message = await receive()
+            if message["type"] == "http.disconnect":
+                text = f"a body has at most {MOST_BODY} bytes, and comes within {BODY_SECONDS:.0f} seconds"
+                await _refuse(send, scope, receive, 413, "size", text)
+                return
+            body += message.get("body", b"")
+            is_whole = not message.get("more_body", False)
+        response = await self._edits(scope["state"]["client"].name, Headers(raw=scope["headers"]), body)
+        await response(scope, receive, send)
 
     async def _locate(self, x: int, y: int, scope: Any, receive: Receive, send: Send) -> None:
         """The question that is asked most goes past the framework; what is unusual in it does not."""
@@ -138,20 +178,22 @@ class _Sent:
     """Hands on what is sent, within a time; and knows the status."""
 
     def __init__(self, send: Send, scope: MutableMapping[str, Any]) -> None:
-        self._send, self._scope = send, scope
+        self._send, self._connection = send, scope.get("gandovel.connection")
         self.status = 0
 
     async def __call__(self, message: Message) -> None:
         if message["type"] == "http.response.start":
             self.status = message["status"]
+        if self._connection is not None and not self._connection.flow.write_paused:
+            await self._send(message)  # it waits for nothing then
+            return
         async with asyncio.timeout(SEND_SECONDS):
             await self._send(message)
 
     def cut_off(self) -> None:
         """Ends the connection without a wait for what it has not read."""
-        cut = self._scope.get("gandovel.cut_off")
-        if cut is not None:
-            cut()
+        if self._connection is not None:
+            self._connection.transport.abort()
 
 
 class _Body:
@@ -176,7 +218,17 @@ class _Body:
 
 def _is_local(headers: Dict[bytes, bytes]) -> bool:
     """Whether the request is meant for this machine: a name that another server gave to it is none."""
-    return bool(_LOOPBACK.fullmatch(headers.get(b"host", b"").decode("latin-1")))
+    return _is_loopback(headers.get(b"host", b""))
+
+
+@lru_cache(maxsize=1000)
+def _is_loopback(host: bytes) -> bool:
+    return bool(_LOOPBACK.fullmatch(host.decode("latin-1")))
+
+
+@lru_cache(maxsize=1000)
+def _is_open(path: str) -> bool:
+    return bool(_OPEN.fullmatch(path))
 
 
 def _is_own(headers: Dict[bytes, bytes]) -> bool:

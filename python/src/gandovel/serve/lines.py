@@ -36,7 +36,7 @@ class Lines:
         self._asked: Deque[_Asked] = deque()
         self._said: Deque[bytes] = deque(maxlen=16)
         """Lines that came while nothing was asked for."""
-        self._is_flushing = False
+        self._is_flushing = self._is_held_up = False
         self.has_ended = False
         self.when_ended: Optional[Callable[[], None]] = None
         """Is called once no answer can come any more."""
@@ -72,6 +72,7 @@ class Lines:
         answer: "asyncio.Future[List[bytes]]" = self._loop.create_future()
         if self.has_ended:
             answer.set_exception(_ended())
+            answer.exception()  # one that nobody waits for is no news
             return answer
         self._asked.append(_Asked(answer, is_report))
         self._unsent += line + b"\n"
@@ -98,13 +99,15 @@ class Lines:
             while self._unsent:
                 del self._unsent[: os.write(self._outward, self._unsent[:PART])]
         except BlockingIOError:
+            self._is_held_up = True
             self._loop.add_writer(self._outward, self._flush)
             return
         except OSError:
             self.close()
             return
-        self._loop.remove_writer(self._outward)
-        self._is_flushing = False
+        if self._is_held_up:
+            self._loop.remove_writer(self._outward)
+        self._is_flushing = self._is_held_up = False
 
     def _receive(self) -> None:
         try:

@@ -1,10 +1,14 @@
 """What is counted, in the text that Prometheus reads."""
 from __future__ import annotations
 
+from bisect import bisect_left
 from functools import partial
-from typing import Any, MutableMapping
+from itertools import accumulate
+from typing import Any, Dict, Iterator, List, Tuple
 
-from prometheus_client import CollectorRegistry, Counter, Gauge, Histogram, generate_latest
+from prometheus_client import CollectorRegistry, Counter, Gauge, generate_latest
+from prometheus_client.core import CounterMetricFamily, HistogramMetricFamily
+from prometheus_client.registry import Collector
 
 from .register import Register
 
@@ -31,11 +35,8 @@ class Metrics:
         self._register, self._all = register, CollectorRegistry()
         self.accepted = Counter("gandovel_edits_accepted", "Edits that became an entry", registry=self._all)
         self.refused = Counter("gandovel_edits_refused", "Edits that were refused", ["code"], registry=self._all)
-        names = ["path", "status"]
-        self._requests = Counter("gandovel_requests", "Requests that were answered", names, registry=self._all)
-        self._seconds = Histogram(
-            "gandovel_request_seconds", "Seconds to an answer", ["path"], registry=self._all, buckets=_SECONDS
-        )
+        self._requests = _Requests(register)
+        self._all.register(self._requests)
         for name, text, value in (
             ("entries", "Published entries", lambda: len(register.entries)),
             ("journal_bytes", "Bytes of the journal", lambda: _size(register)),
@@ -47,17 +48,58 @@ class Metrics:
         for run in ("session", "follower"):
             memory.labels(run).set_function(partial(_memory_of, register, run))
 
-    def answered(self, scope: MutableMapping[str, Any], status: int, seconds: float) -> None:
-        """One more request was answered; those to be told of changes are not timed."""
-        first = f"{scope['path']}/".split("/", 2)[1]
-        path = first if first in _PATHS else "page" if first in ("", "page") else "other"
-        self._requests.labels(path, status).inc()
-        if path != "changes":
-            self._seconds.labels(path).observe(seconds)
+    def answered(self, path: str, status: int, seconds: float) -> None:
+        """One more request was answered."""
+        self._requests.add(path, status, seconds)
 
     def text(self) -> bytes:
         """All of it."""
         return generate_latest(self._all)
+
+
+class _Requests(Collector):
+    """Requests by their path's first part and status, and how long they took; those of `/changes` are not timed.
+
+    And the register's own counts.
+    """
+
+    def __init__(self, register: Register) -> None:
+        self._register = register
+        self._counts: Dict[Tuple[str, int], int] = {}
+        self._times: Dict[str, List[int]] = {}
+        self._sums: Dict[str, float] = {}
+
+    def add(self, path: str, status: int, seconds: float) -> None:
+        """Counts one."""
+        name = _NAMES.get(path) or _name_of(path)
+        self._counts[name, status] = self._counts.get((name, status), 0) + 1
+        if name != "changes":
+            if name not in self._times:
+                self._times[name], self._sums[name] = [0] * (len(_SECONDS) + 1), 0.0
+            self._times[name][bisect_left(_SECONDS, seconds)] += 1
+            self._sums[name] += seconds
+
+    def collect(self) -> Iterator[Any]:
+        """What `prometheus_client` asks for."""
+        counts = CounterMetricFamily("gandovel_requests", "Requests that were answered", labels=["path", "status"])
+        for (name, status), count in self._counts.items():
+            counts.add_metric([name, str(status)], count)
+        yield counts
+        text = "Synchronisations of the journal that answers told of: there were as many or more"
+        yield CounterMetricFamily("gandovel_synchronisations", text, value=self._register.synchronised)
+        times = HistogramMetricFamily("gandovel_request_seconds", "Seconds to an answer", labels=["path"])
+        for name, found in self._times.items():
+            buckets = list(zip([*map(str, _SECONDS), "+Inf"], accumulate(found)))
+            times.add_metric([name], buckets, self._sums[name])
+        yield times
+
+
+def _name_of(path: str) -> str:
+    first = path.split("/", 2)[1] if path.startswith("/") else "other"
+    return first if first in _PATHS else "page" if first in ("", "page") else "other"
+
+
+_NAMES = {f"/{name}": name for name in _PATHS}
 
 
 def _size(register: Register) -> int:

@@ -8,9 +8,9 @@ from __future__ import annotations
 import asyncio
 import logging
 import time
-from dataclasses import replace
+from collections import deque
 from pathlib import Path
-from typing import Any, Dict, List, Optional, Sequence, Set, Tuple
+from typing import Any, Deque, Dict, List, Optional, Sequence, Set, Tuple
 
 import numpy as np
 
@@ -45,6 +45,16 @@ REST = 10.0
 """Seconds that no edit is taken behind one that the disk did not take: readers have no session that begins each moment."""
 
 
+AskedRow = Tuple[int, "asyncio.Future[List[bytes]]"]
+"""A parcel, and the answer to come of it."""
+Followed = Tuple[Entry, "asyncio.Future[List[bytes]]", Optional[Accepted], List[AskedRow]]
+"""An edit that went to the follower: the answer to come, what the session said of it, and the rows that were asked for."""
+AHEAD = 64
+"""How many edits are sent to the follower before the first of them is answered."""
+MOST_UNPUBLISHED = 256
+"""How many entries may wait to be published, before no further edit is taken: who asks waits for as many."""
+
+
 class Fate:
     """An edit that went to the session: `after` so many records that were known then; its entry's number comes later."""
 
@@ -68,6 +78,7 @@ class Register:
         self.versions = Versions()
         self.state, self.restarts, self.trouble = "starting", 0, ""
         self.acknowledged = 0
+        self._synchronised = 0
         self._is_new = True
         self._room: Optional[Room] = None
         self._tail: Optional[Tail] = None
@@ -82,8 +93,12 @@ class Register:
         self._alike: Dict[Asked, "asyncio.Future[None]"] = {}
         self._rests_until = 0.0
         self._accepted: Dict[int, Entry] = {}
+        self._told: Dict[int, Accepted] = {}
+        """What the session answered to edits that are not published yet."""
         self._overlaps: Dict[int, "asyncio.Task[Overlaps]"] = {}
         self._running, self._news = asyncio.Event(), asyncio.Event()
+        self._awaited: Deque[Tuple[int, "asyncio.Future[None]"]] = deque()
+        """Who waits until so many entries are published, the least number first."""
         self._following: Optional["asyncio.Task[None]"] = None
         self._restarting: Optional["asyncio.Task[None]"] = None
         self._follows = asyncio.Lock()
@@ -158,6 +173,7 @@ class Register:
         """The journal's records; they have to be as many as the session has, and begin with those that are known."""
         tail = await asyncio.get_running_loop().run_in_executor(None, Tail, self.journal)
         if self._tail is not None:
+            self._synchronised += self._tail.grown
             self._tail.close()
         self._tail = tail
         if len(tail.records) != count:
@@ -180,7 +196,7 @@ class Register:
             for parcel in made.out:
                 del born[parcel]
             born.update(dict.fromkeys(made.new, made.number))
-        rows = await self._rows(list(born))
+        rows = await _rows_of(self._asked_rows(list(born)))
         self.versions.begin(len(records), [(it[0], born[it[0]], *it[1:]) for it in rows])
         if self._is_new:
             for record, made in zip(records, accepted):
@@ -273,6 +289,8 @@ class Register:
     async def _made(self, asked: Asked, at: Optional[int]) -> Entry:
         if self.state == "closed":
             raise NotServing("closed", "the server ends")
+        if self.acknowledged - len(self.entries) > MOST_UNPUBLISHED:
+            await self._until_published(self.acknowledged - MOST_UNPUBLISHED)
         desk = await self._turns.take(asked.said.name, at is not None)
         fate = None
         try:
@@ -281,9 +299,12 @@ class Register:
                 raise NotServing("closed", "the server ends")
             fate = Fate(asked, self.acknowledged)
             self._fates.add(fate)
-            answer = (await asyncio.wait_for(desk.ask(asked.line), ANSWER)).decode()
+            async with asyncio.timeout(ANSWER):
+                answer = (await desk.ask(asked.line)).decode()
             test_error(answer)
             made = accepted_of(answer)
+            if made.number > len(self.entries):
+                self._told[made.number] = made
             self._accept(made.number)
         except (ProgramEnded, JournalBroken, JournalRefused, NoMemory, BadAnswer, asyncio.TimeoutError) as fault:
             if fate is None:
@@ -322,7 +343,7 @@ class Register:
     def _known(self, number: int, made: Optional[Accepted] = None) -> Entry:
         """The entry of a record that was taken in."""
         entry = self.entries[number - 1] if number <= len(self.entries) else self._accepted[number]
-        return entry if made is None else replace(entry, out=made.out, new=made.new)
+        return entry if made is None else entry.with_ids(made.out, made.new)
 
     def _accept(self, number: int) -> None:
         """Takes the journal's records up to one that was answered, which all are on the disk; the follower goes on."""
@@ -378,29 +399,44 @@ class Register:
 
     async def _follow(self) -> None:
         """Makes the accepted edits by the follower, in order, and publishes each with its rows."""
+        sent: Deque[Followed] = deque()
         async with self._follows:
-            while len(self.entries) + 1 in self._accepted:
-                await self._follow_one(self._accepted[len(self.entries) + 1])
+            while self._send_ahead(sent):
+                entry, answer, told, rows = sent.popleft()
+                made = accepted_of((await answer)[0].decode())
+                if made.number != entry.number or made != (told or made):
+                    raise BadAnswer("T3", f"entry {entry.number} came out otherwise")
+                rows = rows if told else self._asked_rows(made.new)
+                self._publish(entry.with_ids(made.out, made.new), await _rows_of(rows))
 
-    async def _follow_one(self, entry: Entry) -> None:
+    def _send_ahead(self, sent: Deque[Followed]) -> bool:
+        """Sends the next edits to the follower, each with the question for its rows, where the session has told their ids.
+
+        Behind one whose ids are not known nothing is sent. Whether there is an answer to wait for.
+        """
         assert self._follower is not None
-        made = accepted_of((await self._follower.operator.ask(entry.edit.encode())).decode())
-        rows = await self._rows(made.new)
-        if made.number != entry.number:
-            raise BadAnswer("T3", f"entry {entry.number} came out otherwise")
+        lines, number = self._follower.operator, len(self.entries) + len(sent) + 1
+        while number in self._accepted and len(sent) < AHEAD and (not sent or sent[-1][2] is not None):
+            entry, told = self._accepted[number], self._told.get(number)
+            answer = lines.put(entry.edit.encode())
+            sent.append((entry, answer, told, self._asked_rows(told.new) if told else []))
+            number += 1
+        return bool(sent)
+
+    def _publish(self, entry: Entry, rows: Sequence[Tuple[int, int, Array]]) -> None:
+        """Publishes the next entry with the rows that it brought."""
         del self._accepted[entry.number]
-        whole = replace(entry, out=made.out, new=made.new)
-        self.versions.apply(whole, rows)
-        self._enter(whole)
+        self._told.pop(entry.number, None)
+        self.versions.apply(entry, rows)
+        self._enter(entry)
         self._tell()
         if self.versions.dead > 2 * self._keep + 1000:
             self.versions.forget(entry.number - self._keep)
 
-    async def _rows(self, parcels: Sequence[int]) -> List[Tuple[int, int, Array]]:
-        """Parcels as the follower has them now: id, twice the area in mm2, ring int64 (k, 2) in mm."""
+    def _asked_rows(self, parcels: Sequence[int]) -> List[AskedRow]:
+        """Asks the follower for parcels as it has them then."""
         assert self._follower is not None
-        answers = [self._follower.operator.put(b"parcel %d" % parcel) for parcel in parcels]
-        return [_row_of((await answer)[0], parcel) for answer, parcel in zip(answers, parcels)]
+        return [(parcel, self._follower.operator.put(b"parcel %d" % parcel)) for parcel in parcels]
 
     def _enter(self, entry: Entry) -> None:
         self.entries.append(entry)
@@ -413,6 +449,10 @@ class Register:
     def _tell(self) -> None:
         news, self._news = self._news, asyncio.Event()
         news.set()
+        while self._awaited and (self._awaited[0][0] <= len(self.entries) or self.state == "closed"):
+            future = self._awaited.popleft()[1]
+            if not future.done():
+                future.set_result(None)
 
     # questions
 
@@ -427,15 +467,23 @@ class Register:
 
     async def shown(self) -> int:
         """The newest published entry, once all that was answered before this call is published. Raises `NotServing`."""
-        wanted = self.acknowledged
-        while len(self.entries) < wanted:
-            news = self._news
-            if len(self.entries) < wanted:
-                try:
-                    await asyncio.wait_for(news.wait(), WAITING)
-                except asyncio.TimeoutError:
-                    raise NotServing(self.state, "the register is behind: try again") from None
+        if len(self.entries) < self.acknowledged:
+            await self._until_published(self.acknowledged)
         return len(self.entries)
+
+    async def _until_published(self, number: int) -> None:
+        """Waits until entry `number` is published. Raises `NotServing`."""
+        if self.state == "closed":
+            raise NotServing("closed", "the server ends")
+        if not self._awaited or self._awaited[-1][0] < number:
+            self._awaited.append((number, asyncio.get_running_loop().create_future()))
+        try:
+            async with asyncio.timeout(WAITING):
+                await asyncio.shield(self._awaited[-1][1])
+        except TimeoutError:
+            pass
+        if len(self.entries) < number:
+            raise NotServing(self.state, "the register is behind: try again")
 
     async def locate(self, x: int, y: int) -> Place:
         """Where a point (mm) lies, by the session. Raises `NotServing`."""
@@ -512,6 +560,11 @@ class Register:
             "trouble": self.trouble if self.state != "serving" or time.monotonic() < self._rests_until else "",
         }
 
+    @property
+    def synchronised(self) -> int:
+        """How many synchronisations of the journal answers told of since the server began: there were as many or more."""
+        return self._synchronised + (self._tail.grown if self._tail is not None else 0)
+
     def memory(self) -> Dict[str, int]:
         """Bytes of memory that each program has now."""
         programs = {"session": self._session, "follower": self._follower}
@@ -529,9 +582,13 @@ def _unknown() -> Unknown:
     return Unknown("unknown", "the server ends: send the edit again with the same key")
 
 
+async def _rows_of(asked: Sequence[AskedRow]) -> List[Tuple[int, int, Array]]:
+    """Id, twice the area in mm2, ring int64 (k, 2) in mm of each parcel that was asked for. Raises `BadAnswer`."""
+    return [_row_of((await answer)[0], parcel) for parcel, answer in asked]
+
+
 def _row_of(line: bytes, parcel: int) -> Tuple[int, int, Array]:
-    """The answer to `parcel ID`: id, twice the area in mm2, ring int64 (k, 2) in mm. Raises `BadAnswer`."""
-    words = line.split(b" ", 4)
-    if len(words) != 5 or words[0] != b"parcel" or int(words[2]) != parcel:
+    words = line.split()
+    if len(words) < 10 or words[0] != b"parcel" or int(words[2]) != parcel:
         raise BadAnswer("T3", f"parcel {parcel} is not there")
-    return parcel, int(words[3]), np.fromstring(words[4].decode(), dtype=np.int64, sep=" ").reshape(-1, 2)
+    return parcel, int(words[3]), np.array(list(map(int, words[4:])), dtype=np.int64).reshape(-1, 2)

@@ -5,10 +5,12 @@ import argparse
 import asyncio
 import ipaddress
 import logging
+import os
 import resource
 import socket
 import ssl
 import sys
+from functools import partial
 from pathlib import Path
 from typing import Any, ClassVar, Dict, Optional
 
@@ -17,7 +19,7 @@ from uvicorn.protocols.http.httptools_impl import HttpToolsProtocol
 
 from ..errors import Refused
 from .access import Tokens
-from .app import Site, application
+from .app import Site, answered_edit, application
 from .gate import Gate
 from .layer import Layer
 from .metrics import Metrics
@@ -26,6 +28,8 @@ from .register import Register
 LOG = logging.getLogger("gandovel.serve")
 HEAD_SECONDS = 10.0
 """Seconds that a connection has until a request's head is whole, from its begin or since the last request."""
+WATCH_SECONDS = 1.0
+"""How often it is looked for connections that are late."""
 END_SECONDS = 20.0
 """Seconds that clients have to read their answers once the server is told to end."""
 BEYOND = 4
@@ -39,12 +43,13 @@ class Connection(HttpToolsProtocol):  # type: ignore[misc]
     told so, and far beyond the limit it is closed.
     """
 
-    _silent: ClassVar[Dict["Connection", None]] = {}
-    """Those that a request's head is awaited of, the oldest first."""
+    _silent: ClassVar[Dict["Connection", float]] = {}
+    """Those that a request's head is awaited of, and since when, the oldest first."""
+    _watch: ClassVar[Optional[asyncio.TimerHandle]] = None
+    """It looks for those that are late, where there are any."""
 
     def connection_made(self, transport: Any) -> None:
         super().connection_made(transport)
-        self._waiting: Optional[asyncio.TimerHandle] = None
         if self.limit_concurrency and len(self.connections) >= self.limit_concurrency and self._silent:
             next(iter(self._silent))._too_slow()
         if self.limit_concurrency and len(self.connections) > BEYOND * self.limit_concurrency:
@@ -53,31 +58,35 @@ class Connection(HttpToolsProtocol):  # type: ignore[misc]
         self._wait()
 
     def connection_lost(self, exc: Optional[Exception]) -> None:
-        self._in_time()
+        self._silent.pop(self, None)
         super().connection_lost(exc)
 
     def data_received(self, data: bytes) -> None:
-        if self._waiting is None and (self.cycle is None or self.cycle.response_complete):
-            self._wait()
         super().data_received(data)
+        if self.cycle is None or self.cycle.response_complete:  # the begin of a head
+            self._wait()
 
     def on_headers_complete(self) -> None:
-        self._in_time()
-        self.scope["gandovel.cut_off"] = self.transport.abort
+        self._silent.pop(self, None)
+        self.scope["gandovel.connection"] = self
         super().on_headers_complete()
 
     def _wait(self) -> None:
-        self._waiting = self.loop.call_later(HEAD_SECONDS, self._too_slow)
-        self._silent[self] = None
+        if self not in self._silent and not self.transport.is_closing():
+            self._silent[self] = self.loop.time()
+            if Connection._watch is None:
+                Connection._watch = self.loop.call_later(WATCH_SECONDS, self._look, self.loop)
 
-    def _in_time(self) -> None:
-        if self._waiting is not None:
-            self._waiting.cancel()
-            self._waiting = None
-        self._silent.pop(self, None)
+    @classmethod
+    def _look(cls, loop: asyncio.AbstractEventLoop) -> None:
+        """Closes those that are late; it is done again while a head of any is awaited."""
+        late = loop.time() - HEAD_SECONDS
+        while cls._silent and next(iter(cls._silent.values())) < late:
+            next(iter(cls._silent))._too_slow()
+        cls._watch = loop.call_later(WATCH_SECONDS, cls._look, loop) if cls._silent else None
 
     def _too_slow(self) -> None:
-        self._in_time()
+        self._silent.pop(self, None)
         self.connections.discard(self)  # it counts no more, though it is closed a moment later
         self.transport.abort()
 
@@ -140,7 +149,9 @@ async def _run(
 ) -> None:
     await register.start()
     metrics = Metrics(register)
-    app = Gate(application(Site(register, metrics, options.url)), register, tokens, options.rate, metrics)
+    site, proxies = Site(register, metrics, options.url), os.environ.get("FORWARDED_ALLOW_IPS", "127.0.0.1")
+    edits = partial(answered_edit, site)
+    app = Gate(application(site), edits, register, tokens, options.rate, metrics, proxies)
     config = uvicorn.Config(
         app,
         http=Connection,
@@ -149,6 +160,7 @@ async def _run(
         log_level="error",
         access_log=False,
         server_header=False,
+        proxy_headers=False,  # the gate sees to them
         timeout_keep_alive=30,
         backlog=4096,
         limit_concurrency=options.clients,

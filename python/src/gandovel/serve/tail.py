@@ -21,6 +21,8 @@ class Tail:
     def __init__(self, path: Path) -> None:
         """Reads what is there. Raises `JournalRefused` as `read_journal` does."""
         self.records: List[JournalRecord] = []
+        self.grown = 0
+        """How often it had to be read on for an edit that was answered: each time stands for a synchronisation of its own."""
         self._chain = Chain()
         try:
             self._file = os.open(path, os.O_RDONLY | os.O_CLOEXEC)
@@ -36,16 +38,16 @@ class Tail:
         """Reads on until there is a record with this number, which was answered. Raises `BadAnswer`, `JournalRefused`."""
         if len(self.records) < number:
             self._read_on()
+            self.grown += 1
         if len(self.records) < number:
             raise BadAnswer("journal", f"entry {number} was answered, and is not in the journal")
 
     def _read_on(self) -> None:
         try:
-            while True:
-                part = os.read(self._file, PART)
-                if not part:
-                    return
+            part = os.read(self._file, PART)
+            while part:
                 self.records += self._chain.feed(part)
+                part = os.read(self._file, PART) if len(part) == PART else b""
         except OSError as fault:
             raise JournalRefused("S1", f"the journal can't be read: {fault.strerror}") from fault
 

@@ -47,11 +47,14 @@ class Settings:
 
 
 class Lost(NamedTuple):
-    """What an engine says of a task that left no result: a code (docs/many.md), a text, and whether its job was killed."""
+    """What an engine says of a task that left no result: a code (docs/many.md), a text, whether its job was killed, and
+    whether that had begun it.
+    """
 
     code: str
     text: str
     killed: bool = False
+    began: bool = True
 
 
 Told = Callable[[int], None]
@@ -81,9 +84,9 @@ class Engine(ABC):
         """Lets go what the engine holds."""
 
 
-def worker_words(task: str) -> List[str]:
-    """The command line that runs a task's file."""
-    return [sys.executable, "-I", "-S", str(WORKER), task]
+def worker_words(tasks: str) -> List[str]:
+    """The command line that runs a list of tasks."""
+    return [sys.executable, "-I", "-S", str(WORKER), tasks]
 
 
 def of_status(status: int, who: str) -> Lost:

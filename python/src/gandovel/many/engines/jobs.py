@@ -18,6 +18,10 @@ EACH, LITTLE = 128 << 10, 2 << 20
 """What a task takes beside the reading of its files, and what is too little for a job, in bytes of files read as long."""
 
 
+ALONE = "alone"
+"""The folder of the lists of tasks that are run once more, each alone."""
+
+
 def jobs_of(tasks: Sequence[Task], at_once: int) -> List[List[int]]:
     """The numbers of the tasks of each job, in order. Jobs get smaller, so that all processors end together."""
     costs = [EACH + sum(_size(path) for path, needed in task.inputs if needed) for task in tasks]
@@ -47,10 +51,11 @@ def run_jobs(
     A job that is killed on its last try takes down tasks that had none. They are run once more, each alone.
     """
     lost = run(jobs, write_jobs(batch, jobs))
-    shared = [number for job in jobs if len(job) > 1 for number in job if number in lost and lost[number].killed]
-    alone = [[number] for number in batch.left(shared)]
+    killed = [(number, len(job) > 1) for job in jobs for number in job if number in lost and lost[number].killed]
+    again = [number for number, is_shared in killed if is_shared or not lost[number].began]
+    alone = [[number] for number in batch.left(again)]
     if alone:
-        lost.update(run(alone, write_jobs(batch, alone, "alone")))
+        lost.update(run(alone, write_jobs(batch, alone, ALONE)))
     return lost
 
 
@@ -60,7 +65,7 @@ def write_jobs(batch: Batch, jobs: Sequence[Sequence[int]], name: str = "jobs") 
     folder.mkdir()
     paths = [folder / f"{at}.txt" for at in range(len(jobs))]
     for path, numbers in zip(paths, jobs):
-        path.write_text("".join(f"{number}\n" for number in numbers))
+        path.write_text("".join(map(batch.line_of, numbers)), encoding="utf-8")
     return paths
 
 

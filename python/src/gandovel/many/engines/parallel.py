@@ -14,7 +14,7 @@ from typing import Any, Dict, List, Sequence, Tuple
 from ...errors import Refused
 from ..tasks import WORKER, Batch
 from .base import SPARE, Engine, Lost, Told, of_status
-from .jobs import jobs_of, run_jobs
+from .jobs import ALONE, jobs_of, run_jobs
 
 OFTEN = 0.5
 """Seconds between two looks at the job log."""
@@ -23,7 +23,7 @@ SCRIPT = (b"Ole Tange", b"GNU parallel")
 """What stands in GNU parallel, which is a script. To ask it for its version takes a tenth of a second."""
 
 PR_SET_PDEATHSIG = 1
-JOB = 'exec "$GANDOVEL_PYTHON" -I -S "$GANDOVEL_WORKER" {} --with-parent'
+JOB = 'exec "$GANDOVEL_PYTHON" -I -S "$GANDOVEL_WORKER" . --shared {} --with-parent'
 """What parallel runs, in the folder of the jobs' lists. No path stands in it: parallel has a use for some of their characters."""
 
 
@@ -63,11 +63,12 @@ class ParallelEngine(Engine):
     def _run(self, batch: Batch, jobs: Sequence[Sequence[int]], lists: List[Path], told: Told) -> Dict[int, Lost]:
         before = len(batch.tasks) - sum(map(len, jobs))
         folder = lists[0].parent
-        (folder / "lists").write_text("".join(f"{path.name}\n" for path in lists))
+        names = list(map(str, range(len(jobs) if folder.name == ALONE else min(len(jobs), self.settings.jobs_here))))
+        (folder / "names").write_text("".join(f"{name}\n" for name in names))
         log, said = folder / "job.log", folder / "parallel.log"
         with open(said, "wb") as out:
             process = subprocess.Popen(
-                self._command(max(map(len, jobs))),
+                self._command(sum(map(len, jobs)) if len(names) < len(jobs) else max(map(len, jobs))),
                 cwd=str(folder),
                 stdin=subprocess.DEVNULL,
                 stdout=out,
@@ -83,12 +84,12 @@ class ParallelEngine(Engine):
                         process.wait(OFTEN)
                         break
                     except subprocess.TimeoutExpired:
-                        told(before + sum(len(jobs[at]) for at in _ended(log) if at < len(jobs)))
+                        told(before + sum(len(jobs[int(it.stem)]) for it in folder.glob("*.done")))
             except BaseException:
                 process.terminate()
                 process.wait()
                 raise
-        return self._lost(jobs, _ended(log), process.returncode, said)
+        return self._lost(jobs, *_by_list(folder, _ended(log)), process.returncode, said)
 
     def _command(self, most: int) -> List[str]:
         settings = self.settings
@@ -108,7 +109,7 @@ class ParallelEngine(Engine):
             words += ["--timeout", f"{most * (settings.limits.timeout + SPARE):g}"]
         if settings.memory_mb is not None:
             words += ["--memfree", f"{settings.memory_mb}M"]
-        return [*words, "--arg-file", "lists", JOB]
+        return [*words, "--arg-file", "names", JOB]
 
     @staticmethod
     def _environment(folder: Path) -> Dict[str, str]:
@@ -122,13 +123,19 @@ class ParallelEngine(Engine):
 
     @staticmethod
     def _lost(
-        jobs: Sequence[Sequence[int]], ended: Dict[int, Tuple[int, int]], status: int, said: Path
+        jobs: Sequence[Sequence[int]],
+        ended: Dict[int, Tuple[int, int]],
+        killed: bool,
+        status: int,
+        said: Path,
     ) -> Dict[int, Lost]:
         last = said.read_text(encoding="utf-8", errors="replace").strip().splitlines()[-1:] or [""]
         lost = {}
         for at, numbers in enumerate(jobs):
             value, killed_by = ended.get(at, (None, 0))
-            if value is None:
+            if value is None and killed:
+                why = Lost("T4", "GNU parallel: the processes that ran tasks were killed", True, False)
+            elif value is None:
                 why = Lost("T7", f"GNU parallel ended with status {status} before this task did: {last[0]}")
             elif killed_by or value < 0:
                 why = Lost("T4", f"GNU parallel: the task was killed by signal {killed_by}", True)
@@ -150,6 +157,13 @@ def _ended(log: Path) -> Dict[int, Tuple[int, int]]:
     except (OSError, ValueError, KeyError, TypeError):
         pass
     return ended
+
+
+def _by_list(folder: Path, ended: Dict[int, Tuple[int, int]]) -> Tuple[Dict[int, Tuple[int, int]], bool]:
+    """How the processes ended that took lists, by list, where these ended; and whether any was killed."""
+    by_name = {int(path.stem): int(os.readlink(path)) for path in folder.glob("*.taken")}
+    found = {at: ended[name] for at, name in by_name.items() if name in ended}
+    return found, any(number or value < 0 for value, number in ended.values())
 
 
 def _end_with_parent(*_: Any) -> None:

@@ -13,7 +13,7 @@ returns-clause-parcel g c =
     (λ ring. Contains state.rows (numbered c.args.id ring)))
     (c.fabric_of-fabric.ensures.now
     ∙ ap (λ entries. replay origin.opening (origin.journal ++ entries)) (c.deref.ensures ∙ c.in-Some.ensures.entered))
-    c.in_ok-ring.ensures
+    c.in_ok-ring.ensures.found
 
 pub returns-clause-tiling : goal.returns-clause-tiling
 returns-clause-tiling g c =

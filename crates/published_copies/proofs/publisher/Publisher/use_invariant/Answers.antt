@@ -6,5 +6,5 @@ pub returns : goal.returns
 returns g c = rw (← c.self.view_is)
     (let own = c.self.inside in (
       own.copies.pending ++ waiting_list own.waiting,
-      sym (append_assoc own.copies.shown own.copies.pending (waiting_list own.waiting)) ∙ c.self.invariant,
+      sym (append_assoc own.copies.shown own.copies.pending (waiting_list own.waiting)) ∙ c.self.invariant.0,
     ))

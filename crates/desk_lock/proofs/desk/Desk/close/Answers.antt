@@ -3,7 +3,7 @@ use Rattle.entry_cards.specs.Cards.{Gathered}
 use Rattle.fabric_core.specs.Journal.{JournalEntry}
 use Rattle.desk_lock.specs.own.Keeping.{as_known}
 use Rattle.desk_lock.proofs.Totals.{total_of}
-use Rattle.desk_lock.proofs.desk.Desk.settle.Goals as goal
+use Rattle.desk_lock.proofs.desk.Desk.close.Goals as goal
 
 pub returns : goal.returns
 returns g c =

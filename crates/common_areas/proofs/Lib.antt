@@ -1,0 +1,13 @@
+pub mod Numbers
+pub mod Symmetry
+pub mod Scaled
+pub mod Rows
+pub mod Pieces
+pub mod EdgeRows
+pub mod Pairs
+pub mod Cells
+pub mod FineGrids
+pub mod OffEdges
+pub mod Areas
+pub mod Counted
+pub mod Near

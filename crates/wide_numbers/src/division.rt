@@ -1,0 +1,65 @@
+//! Quotients of wide numbers, rounded down.
+
+ghost use Rattle.std.specs.Prelude.{◌≡◌, ◌+◌, ◌*◌, ◌^◌, ◌<◌, ◌/◌};
+ghost use Rattle.wide_numbers.specs.Value.{value};
+
+use crate::wide::Wide;
+
+/// How many numbers half a word has, 2 ^ 32.
+const HALF: u64 = 4_294_967_296;
+
+/// A part of a quotient, and what is left to divide.
+#[derive(Clone, Copy)]
+struct Shared {
+    quotient: u64,
+    rest: u128,
+}
+
+/// Divides what is left and the next half word.
+fn half_shared(rest: u128, half: u64, divisor: u128) -> Shared
+    requires left { rest < divisor }
+    requires half { half < 2 ^ 32 }
+    requires divisor { divisor < 2 ^ 96 }
+    ensures exact { rest * 2 ^ 32 + half ≡ result.quotient * divisor + result.rest }
+    ensures left { result.rest < divisor }
+    ensures half { result.quotient < 2 ^ 32 }
+{
+    let whole = rest * u128::from(HALF) + u128::from(half);
+    Shared {
+        quotient: (whole / divisor) as u64,
+        rest: whole % divisor,
+    }
+}
+
+/// Divides what is left and the next word.
+fn word_shared(rest: u128, word: u64, divisor: u128) -> Shared
+    requires left { rest < divisor }
+    requires divisor { divisor < 2 ^ 96 }
+    ensures exact { rest * 2 ^ 64 + word ≡ result.quotient * divisor + result.rest }
+    ensures left { result.rest < divisor }
+{
+    let high = half_shared(rest, word / HALF, divisor);
+    let low = half_shared(high.rest, word % HALF, divisor);
+    Shared {
+        quotient: high.quotient * HALF + low.quotient,
+        rest: low.rest,
+    }
+}
+
+/// The quotient of a wide number, rounded down, by a divisor of up to 96 bits.
+pub fn divided(dividend: Wide, divisor: u128) -> Wide
+    requires some { 0 < divisor }
+    requires small { divisor < 2 ^ 96 }
+    ensures { value result ≡ value dividend / divisor }
+{
+    let d = word_shared(0, dividend.d, divisor);
+    let c = word_shared(d.rest, dividend.c, divisor);
+    let b = word_shared(c.rest, dividend.b, divisor);
+    let a = word_shared(b.rest, dividend.a, divisor);
+    Wide {
+        a: a.quotient,
+        b: b.quotient,
+        c: c.quotient,
+        d: d.quotient,
+    }
+}
