@@ -14,7 +14,7 @@ from shapely.geometry import LineString, Polygon, box
 import gandovel as gv
 from gandovel.large import is_large
 from gandovel.grid import twice_area
-from gandovel.limits import too_large
+from gandovel.limits import MOST_CORNERS, too_large
 from gandovel.prepared import Island, Rows
 from test_register import SOURCES, command
 
@@ -55,16 +55,17 @@ def test_refused_by_name_and_place(name):
 
 
 def test_a_ring_past_4096_corners_is_cut():
+    """Into several, none past the limit, that together cover what it did: the program tells no fault."""
     angles = np.linspace(0, 2 * np.pi, 4098)[:-1]
     round_one = Polygon(np.column_stack([np.cos(angles), np.sin(angles)]) * 10_000)
+    whole = twice_area(np.floor(np.asarray(round_one.exterior.coords)[:-1] * 1000 + 0.5).astype(np.int64))
     prepared = gv.prepare(layer([round_one]))
-    assert all(len(ring) <= 4096 for island in prepared.islands for ring in island.parcels.rings)
-    assert prepared.islands[0].parcels.source.count(0) == 2 and len(gv.check(prepared)) == 0
-    assert gv.area(prepared).area2_mm2[0] == sum(
-        twice_area(ring)
-        for ring, row in zip(prepared.islands[0].parcels.rings, prepared.islands[0].parcels.source)
-        if row == 0
-    )
+    island = prepared.islands[0]
+    pieces = [ring for ring, row in zip(island.parcels.rings, island.parcels.source) if row == 0]
+    assert len(pieces) > 1 and all(len(ring) <= MOST_CORNERS for ring in [island.city, *island.parcels.rings])
+    assert len({tuple(corner) for ring in pieces for corner in ring.tolist()}) == 4097
+    assert sum(map(twice_area, pieces)) == whole == gv.area(prepared).area2_mm2[0]
+    assert len(gv.check(prepared)) == 0 and gv.report(prepared).verdict == "tiles"
 
 
 def test_65537_rings():
