@@ -19,9 +19,10 @@ import geopandas as gpd
 import numpy as np
 import pandas as pd
 from fiona._err import CPLE_BaseError
+from pyproj import CRS
 
 from .errors import Refused
-from .shapes import MULTIPOLYGON, POLYGON, array_of, bounds_of, kind_of, multipolygon_wkb, shapes_of, wkb_of
+from .shapes import MULTIPOLYGON, POLYGON, array_of, bounds_of, heads_of, kind_of, multipolygon_wkb, shapes_of, wkb_of
 
 
 @dataclass
@@ -44,7 +45,7 @@ class Table:
             return frame
         shapes = frame.geometry.to_numpy()
         columns = pd.DataFrame(frame.drop(columns=frame.geometry.name))
-        return cls(columns, wkb_of(shapes), frame.crs, bounds_of(shapes))
+        return cls(columns, wkb_of(shapes), frame.crs, bounds_of(shapes), shapes)
 
     def frame(self) -> gpd.GeoDataFrame:
         """It as a frame."""
@@ -54,7 +55,7 @@ class Table:
     @property
     def kinds(self) -> Set[int]:
         """The kinds of its shapes."""
-        return {kind_of(blob) & 0xFF for blob in self.blobs if blob is not None}
+        return {kind_of(head) & 0xFF for head in heads_of(self.blobs)}
 
     @property
     def geometry(self) -> str:
@@ -62,7 +63,7 @@ class Table:
         kinds = self.kinds
         if not kinds or not (kinds <= {POLYGON, MULTIPOLYGON} or len(kinds) == 1):
             return "Unknown"
-        has_heights = any(blob is not None and kind_of(blob) & HEIGHTS for blob in self.blobs)
+        has_heights = any(kind_of(head) & HEIGHTS for head in heads_of(self.blobs))
         return ("3D " if has_heights else "") + NAMES[max(kinds) - 1]
 
 
@@ -72,6 +73,7 @@ HEIGHTS = 0x80000000
 HEAD = 8
 """The bytes in front of a shape's WKB, as they are written here: no box."""
 COLUMN = "SELECT column_name FROM gpkg_geometry_columns WHERE table_name = ?"
+BOX = "SELECT min_x, min_y, max_x, max_y FROM gpkg_contents WHERE table_name = ?"
 
 
 def write_layers(
@@ -206,10 +208,8 @@ def _of_one_kind(table: Table) -> Sequence[Optional[bytes]]:
     """The shapes, where they are polygons and multipolygons the former as the latter."""
     if table.kinds != {POLYGON, MULTIPOLYGON}:
         return table.blobs
-    return [
-        multipolygon_wkb([blob]) if blob is not None and kind_of(blob) & 0xFF == POLYGON else blob
-        for blob in table.blobs
-    ]
+    single = {head for head in heads_of(table.blobs) if kind_of(head) & 0xFF == POLYGON}
+    return [multipolygon_wkb([blob]) if blob is not None and blob[:5] in single else blob for blob in table.blobs]
 
 
 def _is_missing(value: Any) -> bool:
@@ -261,19 +261,26 @@ def _put_styles(connection: sqlite3.Connection, styles: Dict[str, str]) -> None:
 
 def read_layer_of(path: Union[str, Path], name: str, change: Optional[str] = None) -> gpd.GeoDataFrame:
     """A layer that `write_layers` wrote, by SQLite, in a tenth of the time that GeoPandas takes; or its rows of a `change`."""
+    return read_table_of(path, name, change).frame()
+
+
+def read_table_of(path: Union[str, Path], name: str, change: Optional[str] = None) -> Table:
+    """As `read_layer_of`, with shapes that are not made yet. The box is that of the whole layer."""
     with closing(sqlite3.connect(f"{Path(path).resolve().as_uri()}?mode=ro", uri=True)) as connection:
         geometry = connection.execute(COLUMN, (name,)).fetchone()[0]
+        box = connection.execute(BOX, (name,)).fetchone()
         table = connection.execute(f'PRAGMA table_info("{name}")').fetchall()
         kinds = {column: kind for _, column, kind, _, _, is_key in table if not is_key and column != geometry}
         listed = ", ".join(f'"{column}"' for column in (geometry, *kinds))
         chosen = ("", ()) if change is None else ("WHERE change = ?", (change,))
         rows = connection.execute(f'SELECT {listed} FROM "{name}" {chosen[0]} ORDER BY fid', chosen[1]).fetchall()
-    blobs, *cells = zip(*rows) if rows else [()] * (1 + len(kinds))
-    shapes = shapes_of(None if blob is None else blob[HEAD:] for blob in blobs)
+    found, *cells = zip(*rows) if rows else [()] * (1 + len(kinds))
+    blobs = [None if blob is None else blob[HEAD:] for blob in found]
     values = {column: _typed_values(list(cell), kind) for (column, kind), cell in zip(kinds.items(), cells)}
     with fiona.open(str(path), layer=name) as opened:
-        crs = opened.crs_wkt or None
-    return gpd.GeoDataFrame(values, geometry=array_of(shapes, crs))
+        crs = CRS.from_user_input(opened.crs_wkt) if opened.crs_wkt else None
+    bounds = (math.nan,) * 4 if None in box else box
+    return Table(pd.DataFrame(values, index=pd.RangeIndex(len(blobs))), blobs, crs, bounds)
 
 
 def _typed_values(values: List[Any], kind: str) -> pd.Series:

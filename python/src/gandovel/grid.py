@@ -20,7 +20,7 @@ def edges_left(start: Array, end: Array) -> Tuple[Array, Array, Array]:
     """Directed edges (indices of points) that do not cancel with opposite ones: (low, high, net from low to high)."""
     low, high = np.minimum(start, end), np.maximum(start, end)
     sign = np.where(start < end, 1, -1)
-    order = np.lexsort((high, low))
+    order = np.argsort(low.astype(np.int64) * (int(high.max(initial=0)) + 1) + high, kind="stable")
     low, high, sign = low[order], high[order], sign[order]
     fresh = np.flatnonzero(np.concatenate([[True], (np.diff(low) != 0) | (np.diff(high) != 0)]))
     net = np.add.reduceat(sign, fresh)

@@ -33,6 +33,8 @@ RECORD = np.dtype(
     ]
 )
 """What stands in front of a polygon's corners."""
+FRONT, HEAD = struct.Struct(">4xi"), struct.Struct("<i32x2i")
+"""Of it the words of the record; and its kind, parts and points."""
 
 
 _ENDS: Tuple[Any, ...] = (np.minimum, np.maximum)
@@ -92,22 +94,36 @@ def read_rings(main: Union[str, Path]) -> List[Array]:
     Refused (P1) where the file is torn or its polygons have several parts; the program itself has the last word on it.
     """
     data, at = Path(main).read_bytes(), 100
-    rings: List[Array] = []
+    counts: List[int] = []
+    bodies: List[bytes] = []
     try:
         end = 2 * struct.unpack_from(">i", data, 24)[0]
         if end > len(data):
             raise ValueError("it ends too early")
         while at < end:
-            words = struct.unpack_from(">i", data, at + 4)[0]
-            kind, parts, count = struct.unpack_from("<i32x2i", data, at + 8)
+            words = FRONT.unpack_from(data, at)[0]
+            kind, parts, count = HEAD.unpack_from(data, at + 8)
             if kind != 5 or parts != 1 or words < 24:
-                raise ValueError(f"record {len(rings) + 1} is no polygon of one ring")
-            corners = np.frombuffer(data, "<f8", 2 * count, at + 56).reshape(-1, 2)
-            whole = np.rint(corners).astype(np.int64)
-            if not np.array_equal(whole, corners):
-                raise ValueError(f"record {len(rings) + 1} is not in whole millimetres")
-            rings.append(whole[:0:-1])
+                raise ValueError(f"record {len(counts) + 1} is no polygon of one ring")
+            body = data[at + 56 : at + 56 + 16 * count]
+            if count < 0 or len(body) != 16 * count:
+                raise ValueError(f"record {len(counts) + 1} ends too early")
+            counts.append(count)
+            bodies.append(body)
             at += 8 + 2 * words
+        return _whole_rings(np.array(counts, dtype=np.int64), b"".join(bodies))
     except (ValueError, struct.error) as fault:
         raise Refused("P1", f"{main} is no layer of whole millimetres: {fault}") from fault
-    return rings
+
+
+def _whole_rings(counts: Array, bodies: bytes) -> List[Array]:
+    """The rings of closed, clockwise rings of so many corners, whose coordinates stand one behind the other."""
+    corners = np.frombuffer(bodies, "<f8").reshape(-1, 2)
+    whole = np.rint(corners).astype(np.int64)
+    off = (whole != corners).any(axis=1)
+    stops = np.cumsum(counts)
+    if off.any():
+        record = int(np.searchsorted(stops, int(off.argmax()), side="right")) + 1
+        raise ValueError(f"record {record} is not in whole millimetres")
+    ends = zip((stops - counts).tolist(), stops.tolist())
+    return [whole[begin + 1 : stop][::-1] for begin, stop in ends]

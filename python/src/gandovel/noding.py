@@ -8,7 +8,7 @@ grid, the test is exact.
 from __future__ import annotations
 
 from dataclasses import dataclass
-from typing import Iterator, Tuple, Union
+from typing import Iterator, Optional, Tuple, Union
 
 import numpy as np
 
@@ -51,10 +51,27 @@ def values_gathered(values: Array, noise: float) -> Tuple[Array, Array]:
 
 def points_of(corners: Array) -> Tuple[Array, Array]:
     """The distinct points (p, 2) of corners (n, 2), and for each corner its point's index."""
+    found = _whole_points_of(corners)
+    if found is not None:
+        return found
     xs, x_index = np.unique(corners[:, 0], return_inverse=True)
     ys, y_index = np.unique(corners[:, 1], return_inverse=True)
     keys, index = np.unique(x_index.astype(np.int64) * len(ys) + y_index, return_inverse=True)
     return np.column_stack([xs[keys // len(ys)], ys[keys % len(ys)]]), index.reshape(-1).astype(np.int64)
+
+
+def _whole_points_of(corners: Array) -> Optional[Tuple[Array, Array]]:
+    """As `points_of`, sorted once, where all coordinates are whole and their box has less than 2^62 places; else None."""
+    if not len(corners) or not (np.abs(corners) < 2.0**52).all() or not (corners == np.rint(corners)).all():
+        return None
+    whole = corners.astype(np.int64)
+    low, high = whole.min(axis=0), whole.max(axis=0)
+    wide, tall = (int(extent) + 1 for extent in high - low)
+    if wide * tall >= 2**62:
+        return None
+    keys, index = np.unique((whole[:, 0] - low[0]) * tall + (whole[:, 1] - low[1]), return_inverse=True)
+    points = np.column_stack([keys // tall + low[0], keys % tall + low[1]]).astype(corners.dtype)
+    return points, index.reshape(-1).astype(np.int64)
 
 
 @dataclass

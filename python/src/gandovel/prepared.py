@@ -19,9 +19,9 @@ from .arrays import Array
 from . import notes
 from .city import OpenGap
 from .errors import Refused
-from .gpkg import Table, read_layer_of, write_layers
+from .gpkg import Table, read_layer_of, read_table_of, write_layers
 from .layer_files import read_rings, write_rings
-from .shapes import bounds_of, point_wkb, wkb_of
+from .shapes import point_wkb
 from .sources import ROLES
 from .units import Unit
 
@@ -153,12 +153,13 @@ class Prepared:
     @property
     def crs(self) -> Any:
         """The layer's projection."""
-        return self.parcels.crs
+        return self.__dict__["parcels"].crs
 
     @cached_property
-    def parcels_wkb(self) -> List[Optional[bytes]]:
-        """The WKB of the parcels, as they were given."""
-        return wkb_of(self.parcels.geometry)
+    def parcels_table(self) -> Table:
+        """The parcels as they were given, as they are written: once loaded no shape is made for it."""
+        layer = self.__dict__["parcels"]
+        return layer if isinstance(layer, Table) else Table.of(layer)
 
     def number_of(self, row: int) -> str:
         """The number of a row of the parcels; `OUT` for the area outside."""
@@ -253,16 +254,11 @@ class Prepared:
                 write_rings(place / "zones.shp", island.zones.rings)
                 self._write_rows(place / "zone_rows.csv", island.zones, self.zone or "zone", self.zone_of)
         write_layers(folder / "changes.gpkg", [("changes", self.changes_table())], notes=notes.CHANGES)
-        layers: List[Tuple[str, Union[gpd.GeoDataFrame, Table]]] = [("parcels", self._parcels_table())]
+        layers: List[Tuple[str, Union[gpd.GeoDataFrame, Table]]] = [("parcels", self.parcels_table)]
         if self.zones is not None:
             layers.append(("zones", self.zones))
         write_layers(folder / "register.gpkg", layers)
         (folder / "prepared.json").write_text(json.dumps(self._facts()))
-
-    def _parcels_table(self) -> Table:
-        geometry = self.parcels.geometry
-        columns = pd.DataFrame(self.parcels.drop(columns=geometry.name))
-        return Table(columns, self.parcels_wkb, self.crs, bounds_of(geometry))
 
     def _facts(self) -> Dict[str, Any]:
         """What `prepared.json` has: all that the layers of the folder have not."""
@@ -322,9 +318,29 @@ class Prepared:
         """Of `changes_frame` the corners that were made to touch."""
         kept = self.changes.change == TOUCHED
         arrays = (getattr(self.changes, name)[kept] for name in Changes.__dataclass_fields__)
-        some = Prepared(self.parcels, self.numbers, self.number, self.unit, [], self.zones, self.zone_names)
+        some = Prepared(self.__dict__["parcels"], self.numbers, self.number, self.unit, [], self.zones, self.zone_names)
         some.changes = Changes(*arrays)
         return some.changes_frame().drop(columns="change")
+
+
+class _Made:
+    """The field `parcels`: a table that was read becomes a frame once it is asked for."""
+
+    def __get__(self, it: Optional[Prepared], _: Any = None) -> Any:
+        if it is None:
+            return self
+        layer = it.__dict__["parcels"]
+        if isinstance(layer, Table):
+            it.__dict__["parcels_table"] = layer
+            layer = it.__dict__["parcels"] = layer.frame()
+        return layer
+
+    def __set__(self, it: Prepared, layer: Any) -> None:
+        it.__dict__.pop("parcels_table", None)
+        it.__dict__["parcels"] = layer
+
+
+Prepared.parcels = _Made()
 
 
 def test_own(work: Path) -> None:
@@ -361,7 +377,7 @@ def load(work: Union[str, Path]) -> Prepared:
     try:
         facts = json.loads((work / "prepared.json").read_text())
         register = work / "register.gpkg"
-        parcels = read_layer_of(register, "parcels")
+        parcels = read_table_of(register, "parcels")
         zones = read_layer_of(register, "zones") if facts["zones"] else None
         prepared = Prepared(
             parcels,

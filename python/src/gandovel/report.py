@@ -27,8 +27,8 @@ from .large.cutting import boxes_of
 from .noding import LEAST
 from .prepared import OUT_ROW, TOUCHED, Prepared, Rows
 from .progress import Progress
-from .shapes import PLAIN, PLAIN_HEAD, array_of, bounds_of, multipolygon_wkb, plain_wkb, polygon_wkb, polygons_of
-from .shapes import rings_of, wkb_of
+from .shapes import MULTIPOLYGON, PLAIN, PLAIN_HEAD, POLYGON, array_of, box_of, common_parts, kind_of, multipolygon_wkb
+from .shapes import plain_wkb, polygon_wkb, rings_of, rings_wkb, shapes_of, wkb_of
 from .styles import STYLES
 from .units import Unit
 from .verdicts import LayerFaults, checked, island_pairs, layer_faults, numbers_at, write_island
@@ -404,8 +404,8 @@ def _parts(prepared: Prepared, pairs: Dict[Tuple[int, str], List[Pair]], min_are
     keys = sorted(pairs, key=lambda key: (key[0], zone_rows.get(key[1], -1)))
     owner = np.repeat(np.arange(len(keys)), [len(pairs[key]) for key in keys])
     members = [pair for key in keys for pair in pairs[key]]
-    cuts = _cuts(prepared, members)
-    areas = np.bincount(owner, weights=[cut.area for cut in cuts], minlength=len(keys)) / SQUARE_METRE
+    cuts, measured = _cuts(prepared, members)
+    areas = np.bincount(owner, weights=measured, minlength=len(keys)) / SQUARE_METRE
     pieces: List[List[bytes]] = [[] for _ in keys]
     for at, polygons in zip(owner.tolist(), _in_place(prepared, members, cuts)):
         pieces[at] += polygons
@@ -421,57 +421,61 @@ def _parts(prepared: Prepared, pairs: Dict[Tuple[int, str], List[Pair]], min_are
             "sliver": (areas < min_area).astype(np.int64),
         }
     )
-    columns = _with_attributes(columns, prepared.parcels, rows, prepared.number, "")
+    columns = _with_attributes(columns, prepared.parcels_table, rows, prepared.number, "")
     of_zones = [zone_rows.get(zone, -1) for _, zone in keys]
     columns = _with_attributes(columns, prepared.zones, of_zones, prepared.zone, "zone_")
-    around = bounds_of(prepared.parcels.geometry) if keys else (math.nan,) * 4
+    around = prepared.parcels_table.bounds if keys else (math.nan,) * 4
     return Table(columns, [multipolygon_wkb(some) for some in pieces], prepared.crs, around)
 
 
-def _cuts(prepared: Prepared, members: List[Pair]) -> Array:
-    """What each parcel and zone have in common, measured by GEOS, from a corner of their island's city."""
-    sides = []
+def _cuts(prepared: Prepared, members: List[Pair]) -> Tuple[List[bytes], Array]:
+    """What each parcel and zone have in common, as WKB from a corner of their island's city, and its area, by GEOS."""
+    sides, at = [], []
     for role, column in (("parcels", 1), ("zones", 2)):
         rows = list(dict.fromkeys((pair[0], pair[column]) for pair in members))
         islands = (prepared.islands[island] for island, _ in rows)
         rings = [getattr(island, role).rings[row] - island.city[0] for island, (_, row) in zip(islands, rows)]
-        shapes = dict(zip(rows, polygons_of(rings)))
-        sides.append(gpd.GeoSeries(array_of([shapes[pair[0], pair[column]] for pair in members], None)))
-    return np.asarray(sides[0].intersection(sides[1], align=False).to_numpy())
+        position = {row: at for at, row in enumerate(rows)}
+        sides.append(rings_wkb(rings))
+        at.append([position[pair[0], pair[column]] for pair in members])
+    return common_parts(sides[0], sides[1], zip(at[0], at[1]))
 
 
-def _in_place(prepared: Prepared, members: List[Pair], cuts: Array) -> List[List[bytes]]:
+def _in_place(prepared: Prepared, members: List[Pair], blobs: List[bytes]) -> List[List[bytes]]:
     """The polygons of each common part, in the layer's projection, as WKB; lines and points of it are left out."""
-    blobs, origins = wkb_of(cuts), [island.city[0] for island in prepared.islands]
-    plain = [at for at, blob in enumerate(blobs) if blob is not None and blob.startswith(PLAIN)]
-    bodies = [(blobs[at] or b"")[PLAIN_HEAD:] for at in plain]
+    origins = [island.city[0] for island in prepared.islands]
+    plain = [at for at, blob in enumerate(blobs) if blob.startswith(PLAIN)]
+    bodies = [blobs[at][PLAIN_HEAD:] for at in plain]
     sizes = np.array([len(body) // 16 for body in bodies], dtype=np.int64)
     shifts = np.array([origins[members[at][0]] for at in plain], dtype=np.int64).reshape(-1, 2)
     corners = np.frombuffer(b"".join(bodies), "<f8").reshape(-1, 2) + np.repeat(shifts, sizes, axis=0)
     placed = dict(zip(plain, plain_wkb(prepared.in_units(corners), np.concatenate([[0], np.cumsum(sizes)]))))
     return [
-        [placed[at]] if at in placed else _polygons_in_place(prepared, origins[members[at][0]], cut, blob)
-        for at, (cut, blob) in enumerate(zip(cuts, blobs))
+        [placed[at]] if at in placed else _polygons_in_place(prepared, origins[members[at][0]], blob)
+        for at, blob in enumerate(blobs)
     ]
 
 
-def _polygons_in_place(prepared: Prepared, origin: Array, cut: Any, blob: Optional[bytes]) -> List[bytes]:
+def _polygons_in_place(prepared: Prepared, origin: Array, blob: bytes) -> List[bytes]:
     """As `_in_place`, of a common part of any kind."""
-    if cut.geom_type not in ("Polygon", "MultiPolygon"):
-        parts = [part for part in getattr(cut, "geoms", []) if part.geom_type == "Polygon" and not part.is_empty]
-        blob = multipolygon_wkb([part for part in wkb_of(parts) if part is not None])
-    if blob is None:
-        return []
+    if kind_of(blob) not in (POLYGON, MULTIPOLYGON):
+        parts = getattr(shapes_of([blob])[0], "geoms", [])
+        kept = wkb_of(part for part in parts if part.geom_type == "Polygon" and not part.is_empty)
+        blob = multipolygon_wkb([part for part in kept if part is not None])
     return [polygon_wkb([prepared.in_units(ring + origin) for ring in rings]) for rings in rings_of(blob) if rings]
 
 
 def _with_attributes(
-    columns: pd.DataFrame, source: Optional[gpd.GeoDataFrame], rows: Any, number: str, prefix: str
+    columns: pd.DataFrame, source: Union[gpd.GeoDataFrame, Table, None], rows: Any, number: str, prefix: str
 ) -> pd.DataFrame:
     """Columns with the attributes of rows of a layer behind them, each once."""
     if source is None:
         return columns
-    attributes = pd.DataFrame(source.drop(columns=source.geometry.name)).drop(columns=[number], errors="ignore")
+    if isinstance(source, Table):
+        known = source.columns
+    else:
+        known = pd.DataFrame(source.drop(columns=source.geometry.name))
+    attributes = known.drop(columns=[number], errors="ignore")
     rows = np.asarray(rows, dtype=np.int64)
     taken = attributes.take(np.where(rows < 0, 0, rows)) if len(attributes) else attributes
     used = {str(column).lower() for column in columns.columns} | {"fid", "geom", "ogc_fid", "geometry"}
@@ -499,10 +503,11 @@ def _split(prepared: Prepared, rows: List[int], zones_of: Dict[int, List[str]], 
             "sliver_how": "measured",
         }
     )
-    shapes = prepared.parcels.geometry.to_numpy()[rows]
-    blobs = [prepared.parcels_wkb[row] for row in rows]
-    columns = _with_attributes(columns, prepared.parcels, rows, prepared.number, "")
-    return Table(columns, blobs, prepared.crs, bounds_of(shapes), shapes)
+    parcels = prepared.parcels_table
+    blobs = [parcels.blobs[row] for row in rows]
+    columns = _with_attributes(columns, parcels, rows, prepared.number, "")
+    shapes = None if parcels.shapes is None else [parcels.shapes[row] for row in rows]
+    return Table(columns, blobs, prepared.crs, box_of(blobs), shapes)
 
 
 def _parcels(prepared: Prepared, at_fault: Dict[int, str]) -> Table:
@@ -519,9 +524,9 @@ def _parcels(prepared: Prepared, at_fault: Dict[int, str]) -> Table:
             "status": [at_fault.get(row, "ok") for row in range(count)],
         }
     )
-    shapes = prepared.parcels.geometry.to_numpy()
-    columns = _with_attributes(columns, prepared.parcels, range(count), prepared.number, "")
-    return Table(columns, prepared.parcels_wkb, prepared.crs, bounds_of(shapes), shapes)
+    parcels = prepared.parcels_table
+    columns = _with_attributes(columns, parcels, range(count), prepared.number, "")
+    return Table(columns, parcels.blobs, prepared.crs, parcels.bounds, parcels.shapes)
 
 
 def _zones(prepared: Prepared) -> Optional[gpd.GeoDataFrame]:

@@ -107,11 +107,16 @@ def overlaid(
     for name, rings, rounds in (("parcels", parcels, parcel_rounds), ("zones", zones, zone_rounds)):
         for at, rows in enumerate(rounds):
             write_rings(folder / f"{name}_{at}.shp", filled(city, [rings[row] for row in rows]))
-    found: Set[Tuple[int, int]] = set()
+    found = [np.zeros((0, 2), dtype=np.int64)]
     for i, some in enumerate(parcel_rounds):
         for j, others in enumerate(zone_rounds):
             pairs = overlay_pairs(folder / "city.shp", folder / f"parcels_{i}.shp", folder / f"zones_{j}.shp") - 1
-            for parcel, zone in pairs.tolist():
-                if parcel < len(some) and zone < len(others):
-                    found.add((some[parcel], others[zone]))
-    return np.array(sorted(found), dtype=np.int64).reshape(-1, 2)
+            kept = pairs[(pairs[:, 0] < len(some)) & (pairs[:, 1] < len(others))]
+            found.append(np.column_stack([_rows(some)[kept[:, 0]], _rows(others)[kept[:, 1]]]))
+    several = max(len(zones), 1)
+    keys = np.unique(np.concatenate(found) @ np.array([several, 1], dtype=np.int64))
+    return np.column_stack([keys // several, keys % several])
+
+
+def _rows(rows: List[int]) -> Array:
+    return np.array(rows, dtype=np.int64)

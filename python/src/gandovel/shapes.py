@@ -4,9 +4,10 @@
 """
 from __future__ import annotations
 
+import ctypes
 import math
 import struct
-from typing import Any, Iterable, Iterator, List, Optional, Sequence, Tuple
+from typing import Any, Iterable, Iterator, List, Optional, Sequence, Set, Tuple
 
 import numpy as np
 
@@ -53,6 +54,58 @@ def _loads() -> Any:
     return WKBReader(lgeos).read
 
 
+def common_parts(
+    first: Sequence[bytes], second: Sequence[bytes], pairs: Iterable[Tuple[int, int]]
+) -> Tuple[List[bytes], Array]:
+    """For each pair (i, j) what `first[i]` and `second[j]`, WKB both, have in common, as WKB, and its area: by GEOS.
+
+    In Shapely 1.8 GEOS is called with its own pointers: a shape of Python's takes as long as to cut it.
+    """
+    try:
+        from shapely.geos import WKBReader, WKBWriter, lgeos
+    except ImportError:
+        return _common_parts(first, second, pairs)
+    reader, writer = WKBReader(lgeos), WKBWriter(lgeos)
+    owned: List[Any] = []
+
+    def read(blobs: Sequence[bytes]) -> List[Any]:
+        """Pointers to the shapes of these WKB."""
+        for blob in blobs:
+            owned.append(lgeos.GEOSWKBReader_read(reader._reader, blob, len(blob)))
+        return owned[-len(blobs) :] if blobs else []
+
+    parts, areas, area, size = [], [], ctypes.c_double(), ctypes.c_size_t()
+    area_at, size_at = ctypes.byref(area), ctypes.pointer(size)
+    try:
+        ones, others = read(first), read(second)
+        for i, j in pairs:
+            cut = lgeos.GEOSIntersection(ones[i], others[j])
+            if not cut:  # Shapely says why
+                (part,), (one_area,) = _common_parts([first[i]], [second[j]], [(0, 0)])
+                parts.append(part)
+                areas.append(float(one_area))
+                continue
+            lgeos.GEOSArea(cut, area_at)
+            written = lgeos.GEOSWKBWriter_write(writer._writer, cut, size_at)
+            parts.append(ctypes.string_at(written, size.value))
+            areas.append(area.value)
+            lgeos.GEOSFree(written)
+            lgeos.GEOSGeom_destroy(cut)
+    finally:
+        for shape in owned:
+            lgeos.GEOSGeom_destroy(shape)
+    return parts, np.array(areas, dtype=float)
+
+
+def _common_parts(
+    first: Sequence[bytes], second: Sequence[bytes], pairs: Iterable[Tuple[int, int]]
+) -> Tuple[List[bytes], Array]:
+    """As `common_parts`, by Shapely's shapes."""
+    ones, others = shapes_of(first), shapes_of(second)
+    cuts = [ones[i].intersection(others[j]) for i, j in pairs]
+    return [blob for blob in wkb_of(cuts) if blob is not None], np.array([cut.area for cut in cuts], dtype=float)
+
+
 def array_of(shapes: Sequence[Any], crs: Any) -> GeometryArray:
     """Shapes as a column of a frame. (GeoPandas 0.12 takes 0.2 ms for a point, since NumPy takes it for an array.)"""
     return GeometryArray(np.fromiter(shapes, dtype=object, count=len(shapes)), crs=crs)
@@ -68,9 +121,14 @@ def point_wkb(places: Array) -> List[bytes]:
 
 def polygons_of(rings: Sequence[Array]) -> List[Polygon]:
     """A polygon of each ring (k, 2), which is without its first corner again."""
+    return shapes_of(rings_wkb(rings))
+
+
+def rings_wkb(rings: Sequence[Array]) -> List[bytes]:
+    """The WKB of a polygon of each ring (k, 2), which is without its first corner again."""
     ends = np.cumsum([0, *(len(ring) + 1 for ring in rings)])
     closed = [part for ring in rings for part in (ring, ring[:1])]
-    return shapes_of(plain_wkb(np.concatenate([*closed, np.zeros((0, 2))]), ends))
+    return plain_wkb(np.concatenate([*closed, np.zeros((0, 2))]), ends)
 
 
 def plain_wkb(corners: Array, ends: Array) -> List[bytes]:
@@ -130,6 +188,23 @@ def _rings_at(blob: bytes, at: int, width: int) -> Tuple[List[Array], int]:
         rings.append(values[:, :2])
         at += 8 * size * width
     return rings, at
+
+
+def heads_of(blobs: Iterable[Optional[bytes]]) -> Set[bytes]:
+    """The first bytes of these WKB, byte order and kind, each once."""
+    return {blob[:5] for blob in blobs if blob is not None}
+
+
+def box_of(blobs: Iterable[Optional[bytes]]) -> Tuple[float, ...]:
+    """The box around the polygons of these WKB (x, y, x, y), as `bounds_of` says it."""
+    known = [blob for blob in blobs if blob is not None]
+    bodies = [blob[PLAIN_HEAD:] for blob in known if blob.startswith(PLAIN)]
+    corners = [np.frombuffer(b"".join(bodies), "<f8").reshape(-1, 2)]
+    corners += [rings[0] for blob in known if not blob.startswith(PLAIN) for rings in rings_of(blob) if rings]
+    xy = np.concatenate(corners)
+    if not len(xy):
+        return (math.nan,) * 4
+    return tuple(map(float, (*np.fmin.reduce(xy), *np.fmax.reduce(xy))))
 
 
 def bounds_of(shapes: Iterable[Any]) -> Tuple[float, ...]:

@@ -198,9 +198,12 @@ def overlay_pairs(city: PathLike, parcels: PathLike, zones: PathLike, workers: i
     threads = ["--workers", str(workers)] if workers else []
     printed = ask(["overlay", str(city), str(parcels), str(zones), "--unit", "mm", *threads])
     try:
-        lines = [line.split()[1:] for line in printed.splitlines() if line.startswith("pair ")]
-        pairs = np.array(lines, dtype=np.int64).reshape(-1, 2)
-    except ValueError as fault:
+        lines = [line for line in printed.splitlines() if line.startswith("pair ")]
+        if any(line.count(" ") != 2 for line in lines):
+            raise ValueError("a pair of more or fewer")
+        words = " ".join(lines).split()
+        pairs = np.array([*map(int, words[1::3]), *map(int, words[2::3])], dtype=np.int64).reshape(2, -1).T
+    except (ValueError, OverflowError) as fault:
         raise _no_answer("overlay", printed) from fault
     for column, main in ((0, parcels), (1, zones)):
         if not np.array_equal(np.unique(pairs[:, column]), np.arange(1, _records(main) + 1)):
