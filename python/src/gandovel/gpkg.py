@@ -73,6 +73,11 @@ HEIGHTS = 0x80000000
 HEAD = 8
 """The bytes in front of a shape's WKB, as they are written here: no box."""
 COLUMN = "SELECT column_name FROM gpkg_geometry_columns WHERE table_name = ?"
+TRIGGERS = (
+    "SELECT name, sql FROM sqlite_master WHERE type = 'trigger' AND tbl_name = ? AND name LIKE 'trigger_insert_feat%'"
+)
+COUNTED = "UPDATE gpkg_ogr_contents SET feature_count = feature_count + ? WHERE lower(table_name) = lower(?)"
+"""As GDAL's trigger counts: from a count that is not known (NULL) on it stays so, and is taken when it is asked for."""
 BOX = "SELECT min_x, min_y, max_x, max_y FROM gpkg_contents WHERE table_name = ?"
 
 
@@ -187,7 +192,14 @@ def _fill(connection: sqlite3.Connection, name: str, table: Table) -> None:
     head = b"GP\0\x01" + struct.pack("<i", srs)
     values = [_plain_values(columns[column]) for column in columns.columns]
     rows = zip((blob and head + blob for blob in _of_one_kind(table)), *values)
+    # GDAL's trigger counts row by row, which takes as long as the rows; it is left out until they are in.
+    triggers = connection.execute(TRIGGERS, (name,)).fetchall()
+    for trigger, _ in triggers:
+        connection.execute(f'DROP TRIGGER "{trigger}"')
     connection.executemany(f'INSERT INTO "{name}" ({names}) VALUES ({marks})', rows)
+    for _, text in triggers:
+        connection.execute(text)
+    connection.execute(COUNTED, (len(table.blobs), name))
     if not math.isnan(table.bounds[0]):
         connection.execute(
             "UPDATE gpkg_contents SET min_x = ?, min_y = ?, max_x = ?, max_y = ? WHERE table_name = ?",

@@ -47,18 +47,28 @@ def filled(city: Array, rings: Sequence[Array]) -> List[Array]:
     These have half as many corners at most as the program takes, since their neighbours' are put into their borders.
     """
     fillers: List[Array] = []
-    for outer, holes in area_polygons([_with_corners(city, rings), *(ring[::-1] for ring in rings)]):
+    for outer, holes in _left_by(city, rings):
         for piece in cut_holes(outer, holes) or []:
             fillers += cut_ring(piece, MOST_CORNERS // 2) or [piece]
     return [*rings, *fillers]
 
 
-def _with_corners(city: Array, rings: Sequence[Array]) -> Array:
-    """The city's ring with the rings' corners that lie on its sides."""
+def _left_by(city: Array, rings: Sequence[Array]) -> List[Tuple[Array, List[Array]]]:
+    """What rings leave of the city, as polygons; the rings' corners that lie on its sides are put into it."""
     points, index = points_of(np.concatenate([city, *rings]).astype(float))
-    ring = index[: len(city)]
+    ring, others = index[: len(city)], index[len(city) :]
     found = touches(points, ring, np.roll(ring, -1), np.unique(index), 0.0, 0.0)
-    return np.asarray(points[np.insert(ring, found[:, 0] + 1, found[:, 1])], dtype=np.int64)
+    around = np.insert(ring, found[:, 0] + 1, found[:, 1])
+    starts, ends = others[_after([len(ring) for ring in rings])], others  # backwards
+    return _polygons(points, np.concatenate([around, starts]), np.concatenate([np.roll(around, -1), ends]))
+
+
+def _after(sizes: Sequence[int]) -> Array:
+    """For each corner of loops of these sizes, one behind the other, the position of the next one of its loop."""
+    counts = np.array(sizes, dtype=np.int64)
+    stops, after = np.cumsum(counts), np.arange(1, int(counts.sum()) + 1)
+    after[stops - 1] = stops - counts
+    return after
 
 
 def area_polygons(loops: Sequence[Array]) -> List[Tuple[Array, List[Array]]]:
@@ -66,12 +76,13 @@ def area_polygons(loops: Sequence[Array]) -> List[Tuple[Array, List[Array]]]:
 
     No ring meets itself. Where the loops cover a place twice, or cross, the answer means nothing.
     """
-    sizes = np.array([len(loop) for loop in loops])
     points, index = points_of(np.concatenate(loops).astype(float))
-    stops = np.cumsum(sizes)
-    after = np.arange(1, len(index) + 1)
-    after[stops - 1] = stops - sizes
-    low, high, net = edges_left(index, index[after])
+    return _polygons(points, index, index[_after([len(loop) for loop in loops])])
+
+
+def _polygons(points: Array, starts: Array, ends: Array) -> List[Tuple[Array, List[Array]]]:
+    """As `area_polygons`, of edges between points, which their indices say."""
+    low, high, net = edges_left(starts, ends)
     used = np.unique(np.concatenate([low, high]))
     whole = dict(zip(used.tolist(), map(tuple, points[used].astype(np.int64).tolist())))
     edges = [
