@@ -156,6 +156,20 @@ def test_mend_leaves_what_is_wider():
     assert [one["area2_mm2"] for one in gv.mend(gv.prepare(two(0.05)), 50).closed] == ["500000"]
 
 
+def test_what_mending_leaves_open_is_told():
+    """A slit of 3 mm that is open to the outside is no sliver that is closed: the verdict has it, however wide --width."""
+    strips = [box(EAST, NORTH, EAST + 10, NORTH + 10), box(EAST + 10.003, NORTH, EAST + 20, NORTH + 10)]
+    base = box(EAST, NORTH - 10, EAST + 20, NORTH)
+    frame = gpd.GeoDataFrame({"parcel_no": ["left", "right", "base"]}, geometry=[*strips, base], crs=25832)
+    for width in (1.0, 5.0):
+        mended = gv.mend(gv.prepare(frame), width)
+        assert mended.closed == [] and mended.verdict == "open" and "1 gap open to the outside" in mended.summary()
+        assert (
+            gv.report(gv.prepare(mended.frame)).open_gaps.area2_mm2.tolist()
+            == mended.report.open_gaps.area2_mm2.tolist()
+        )
+
+
 def test_steps_are_found():
     corners = np.arange(200, dtype=float).reshape(-1, 2) * 10 + 10**9
     assert step_of(corners, 1000.0, 1e-6) == 10 and step_of(corners + 0.5, 1000.0, 1e-6) == pytest.approx(0.1)

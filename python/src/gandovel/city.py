@@ -15,6 +15,8 @@ from .grid import twice_area
 MITRE = 2
 SHARPEST = 10.0
 """Corners sharper than some 11 degrees are blunted when borders are moved apart."""
+LEAST_OPEN = 1.0
+"""An open gap that is narrower, in mm, is none."""
 
 
 @dataclass

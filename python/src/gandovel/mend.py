@@ -18,6 +18,7 @@ from shapely.geometry import MultiPolygon, Polygon
 from shapely.ops import transform, unary_union
 
 from .arrays import Array
+from .city import LEAST_OPEN, OpenGap, open_gaps
 from .errors import Refused
 from .faults import Fault
 from .gpkg import test_name, write_layers
@@ -190,6 +191,7 @@ def _checked(
         unit=prepared.unit.millimetres / 1000,
         narrow=prepared.told["narrow_mm"] / 1000,
     )
+    again.open_gaps = _still_open(prepared, again)
     answer = report(again)
     left = len(answer.slivers)
     if len(answer.gaps) + len(answer.overlaps) > wide:
@@ -200,6 +202,19 @@ def _checked(
     result = frame.copy()
     result["geometry"] = [shapes.get(number) for number in prepared.numbers]
     return Mended(result, closed, left, answer.verdict, answer)
+
+
+def _still_open(prepared: Prepared, again: Prepared) -> List[OpenGap]:
+    """The open gaps of what comes of it, down to those that the register as it was told: none is closed by mending.
+
+    What comes of it is prepared with a touch of the width, and an open gap that is narrower would not be told.
+    """
+    if prepared.told["city"] != "parcels":
+        return again.open_gaps
+    if any(OUT_ROW in island.parcels.source for island in again.islands):  # its outline was too long for the program
+        return prepared.open_gaps
+    parts = [Polygon(island.city) for island in again.islands]
+    return open_gaps(parts, prepared.told["narrow_mm"], max(LEAST_OPEN, prepared.told["touch"]))
 
 
 def _city(prepared: Prepared) -> Optional[gpd.GeoDataFrame]:

@@ -17,7 +17,7 @@ from .arrays import Array
 from . import grid as on_grid
 from . import sources
 from .big_rings import cut_ring
-from .city import OpenGap, open_gaps
+from .city import LEAST_OPEN, OpenGap, open_gaps
 from .errors import Refused, place, raise_all
 from .holes import cut_holes
 from .limits import FARTHEST, MOST_CORNERS, too_large
@@ -318,7 +318,7 @@ def _outlines_and_zones(
     """The city's parts, put among the loops; where zones were cut to them, in which of them a zone's part lies; gaps."""
     layer = work.loops.layer
     parts = on_grid.outlines(work.loops.take(layer == (PARCELS if layers.city is None else CITY)), work.points)
-    gaps = [] if layers.city is not None else open_gaps(parts, narrow, max(1.0, work.reaches.touch))
+    gaps = [] if layers.city is not None else open_gaps(parts, narrow, max(LEAST_OPEN, work.reaches.touch))
     if frame:
         parts = [Polygon(on_grid.frame_around(work.points, FRAME_MARGIN))]
     several = [work.loops.take(layer == PARCELS)]

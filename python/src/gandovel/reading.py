@@ -47,7 +47,7 @@ def read_layer(source: Union[str, "os.PathLike[str]"], role: str, layer: Optiona
     """A layer of what GDAL opens. Refused (P1) where it can't be opened or is torn, or where a layer is to be named."""
     path, layer = _address(os.fspath(source), layer)
     if not re.match(r"/vsi|[A-Za-z][A-Za-z0-9+]+:", path) and not os.path.exists(path):
-        raise Refused("P1", f"{path} is not there", role=role)
+        raise Refused("P1", f"{path or 'a layer without a name'} is not there", role=role)
     try:
         name = _layer_name(path, layer, role)
         with fiona.open(path, layer=name, **ANY_DRIVER) as opened:
