@@ -13,7 +13,7 @@ from gandovel import Refused
 from gandovel.many import run_many
 from gandovel.many.engines import slurm
 from many_cities import calls, program, processes_of, until, write_cities
-from slurm_cluster import NODES, Cluster
+from slurm_cluster import Cluster
 
 LARGEST = 8
 
@@ -58,20 +58,24 @@ def test_no_more_at_once_than_jobs(cluster, tmp_path, monkeypatch):
 
 
 def test_a_node_that_goes_away(cluster, tmp_path, monkeypatch):
-    program(tmp_path, monkeypatch, 'echo "$SLURMD_NODENAME" >> "$city/node"; once slow && sleep 30')
+    """All four cities run, two on each node, when one node goes away; they end only then."""
+    waits = 'once slow && until [ -e "$city/../../go" ]; do sleep 0.2; done'
+    program(tmp_path, monkeypatch, f'echo "$SLURMD_NODENAME" >> "$city/node"; {waits}')
 
-    def on(name):
-        return [path for path in (tmp_path / "in").glob("*/node") if path.read_text().split() == [name]]
+    def nodes():
+        return [path.read_text().split() for path in (tmp_path / "in").glob("*/node")]
 
     def go_away():
-        until(lambda: all(map(on, NODES)))
+        until(lambda: len(calls(tmp_path)) == 4 and len(nodes()) == 4)
         cluster.kill("one")
+        (tmp_path / "go").touch()
 
     joined = beside(go_away)
     summary = run_many(write_cities(tmp_path, 4), tmp_path / "out", "slurm", retries=0)
     assert not joined()
     assert all(it.tiles for it in summary.verdicts), "Slurm itself gives them to the other node"
-    assert sum(path.read_text().split() == ["one", "two"] for path in (tmp_path / "in").glob("*/node")) == 2
+    begun_there = [seen for seen in nodes() if seen[0] == "one"]
+    assert len(begun_there) == 2 and all(seen[-1] == "two" for seen in begun_there), nodes()
 
 
 def test_a_controller_that_goes_away_for_a_while(cluster, tmp_path, monkeypatch):
