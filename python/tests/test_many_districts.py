@@ -221,6 +221,99 @@ def test_numbers_of_districts(tmp_path):
     assert gaps[["city", "numbers"]].values.tolist() == [["d1", "e,g"]]
 
 
+def with_zones(folder: Path, count: int) -> List[Dict[str, Any]]:
+    """A city of districts in a row with three zones, whose borders lie within districts, and slant; none of theirs."""
+    rows = row_of_districts(folder, count)
+    wide, high = 2 * SIDE * count, 2 * SIDE
+    one, other = wide // 3, 2 * wide // 3 - 1_234
+    corners = [(0, 0), (one, 0), (one + 777, high), (0, high)], [(one, 0), (other, 0), (other, high), (one + 777, high)]
+    zones = [*corners, [(other, 0), (wide, 0), (wide, high), (other, high)]]
+    shapes = [Polygon(it) for it in zones]
+    gpd.GeoDataFrame({"zone": ["A", "B", "C"]}, geometry=shapes).to_file(folder / "zones.shp")
+    write_rings(folder / "zones.shp", [np.array(it, dtype=np.int64) for it in zones])
+    rows[0]["zones"] = folder / "zones.shp"
+    for at in range(count):
+        number_them(folder / f"d{at}/parcels.shp", [f"{at}-{number}" for number in "abcd"])
+    return rows
+
+
+def pairs_of_one_layer(folder: Path, count: int) -> Any:
+    """The pairs that the program says of all parcels in one layer, as the table has them."""
+    files = [folder / f"d{at}/parcels.shp" for at in range(count)]
+    write_rings(folder / "all.shp", [ring for path in files for ring in read_rings(path)])
+    words = [TOOL, "overlay", folder / "city.shp", folder / "all.shp", folder / "zones.shp", "--unit", "mm"]
+    text = subprocess.check_output(list(map(str, words)), universal_newlines=True)
+    pairs = [tuple(map(int, line.split()[1:])) for line in text.splitlines() if line.startswith("pair ")]
+    return {(f"{(a - 1) // 4}-{'abcd'[(a - 1) % 4]}", "ABC"[b - 1]) for a, b in pairs}
+
+
+def table_of(out: Path) -> List[Dict[str, str]]:
+    with open(out / "pairs.csv", newline="") as file:
+        return list(csv.DictReader(file))
+
+
+def test_pairs_across_districts_are_one_table(run, tmp_path):
+    """Whole zones, parcels of districts: as one run of all parcels says."""
+    rows, out = with_zones(tmp_path / "in", 4), tmp_path / "out"
+    manifest = write_manifest(tmp_path, rows)
+    summary = run(manifest, out)
+    expected, table = pairs_of_one_layer(tmp_path / "in", 4), table_of(out)
+    assert {(it["number"], it["zone"]) for it in table} == expected and len(table) == len(expected) > 16
+    split = {number for number, _ in expected if sum(it == number for it, _ in expected) > 1}
+    assert {it["number"] for it in table if it["split"]} == split and split
+    assert {(it["city"], it["district"]) for it in table} == {("metropolis", f"d{at}") for at in range(4)}
+    (whole,) = summary.wholes
+    assert (whole.kind, whole.pairs, whole.split) == ("tiles", len(expected), len(split))
+    assert whole.said == (
+        f"tiles: 16 parcels of 4 districts; {len(expected)} pairs with zones, {len(split)} parcels split"
+    )
+    assert not (out / "frames").exists()
+    again = run(manifest, out, resume=True)
+    assert again.wholes == summary.wholes and table_of(out) == table
+    assert told(out, "0-d1", "overlays")["run"] == told(out, "d1")["run"], "what is kept is not overlaid again"
+    write_city(tmp_path / "in/d2", gap=True, at=4 * SIDE)
+    refused = run(manifest, out, resume=True)
+    assert refused.wholes[0].kind == "refused" and refused.wholes[0].pairs is None
+    assert {it["district"] for it in table_of(out)} == {"d0", "d1", "d3"}
+
+
+def test_an_overlay_that_has_no_answer_leaves_the_city_open(tmp_path, monkeypatch):
+    program(tmp_path, monkeypatch, 'case "$1 $2" in overlay*/frames/d1/*) kill -9 $$;; esac')
+    summary = run_many(write_manifest(tmp_path, with_zones(tmp_path / "in", 3)), tmp_path / "out", retries=0)
+    assert summary.wholes[0].said == "open: not overlaid: d1 (T4 the program was killed by signal 9)"
+    assert summary.status == 2 and verdicts(summary)["d1"] == ("tiles", "")
+    monkeypatch.undo()
+    summary = run_many(tmp_path / "manifest.csv", tmp_path / "out", resume=True)
+    assert summary.wholes[0].tiles and summary.wholes[0].pairs == len(pairs_of_one_layer(tmp_path / "in", 3))
+
+
+def cut_zones(folder: Path, count: int) -> List[Dict[str, Any]]:
+    """The same, with zones cut along the districts, each piece under its zone's number."""
+    rows = with_zones(folder, count)
+    whole = [Polygon(ring) for ring in read_rings(folder / "zones.shp")]
+    for at, row in enumerate(rows[1:]):
+        ring = Polygon(box(2 * at * SIDE, 0, 2 * (at + 1) * SIDE, 2 * SIDE))
+        pieces = [(name, zone.intersection(ring)) for name, zone in zip("ABC", whole)]
+        some = [(name, piece) for name, piece in pieces if piece.area]
+        row["zones"] = folder / f"d{at}/pieces.shp"
+        gpd.GeoDataFrame({"zone": [name for name, _ in some]}, geometry=[it for _, it in some]).to_file(row["zones"])
+        write_rings(row["zones"], [np.rint(np.asarray(it.exterior.coords)[:-1]).astype(np.int64) for _, it in some])
+    return rows
+
+
+def test_zones_that_were_cut_make_up_their_zone(tmp_path):
+    rows, out = cut_zones(tmp_path / "in", 3), tmp_path / "out"
+    summary = run_many(write_manifest(tmp_path, rows), out)
+    expected = pairs_of_one_layer(tmp_path / "in", 3)
+    assert summary.wholes[0].tiles and {(it["number"], it["zone"]) for it in table_of(out)} == expected
+    frame = gpd.read_file(tmp_path / "in/d1/pieces.shp")
+    frame.assign(zone=frame.zone.tolist()[::-1]).to_file(tmp_path / "other.shp")
+    (tmp_path / "other.dbf").rename(tmp_path / "in/d1/pieces.dbf")
+    summary = run_many(tmp_path / "manifest.csv", out)
+    assert summary.wholes[0].kind == "open" and summary.status == 2
+    assert summary.wholes[0].said.startswith("open: the pieces in its districts do not make up zones: A, C")
+
+
 def test_rings_are_the_programs_where_the_layer_tiles(tmp_path):
     """`part` puts in the neighbours' corners; of a layer that does not tile each ring is its record, byte for byte."""
     rows = row_of_districts(tmp_path / "in", 2)

@@ -155,3 +155,20 @@ def by_depth(rows: Sequence[Row]) -> List[List[Row]]:
         levels.append(level)
         level = [row for above in level for row in below[above.name]]
     return levels
+
+
+def bottom_of(rows: Sequence[Row]) -> List[Row]:
+    """The districts that have no districts."""
+    above = {row.part_of for row in rows}
+    return [row for row in rows if row.part_of is not None and row.name not in above]
+
+
+def cities_above(rows: Sequence[Row]) -> Dict[str, List[Row]]:
+    """For each row of a manifest the rows that it is part of, the nearest first."""
+    by_name = {row.name: row for row in rows}
+    found: Dict[str, List[Row]] = {}
+    for level in by_depth(rows):
+        for row in level:
+            above = by_name.get(row.part_of or "")
+            found[row.name] = [] if above is None else [above, *found[above.name]]
+    return found

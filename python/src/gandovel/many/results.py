@@ -7,25 +7,26 @@ import os
 import shutil
 import time
 from concurrent.futures import ThreadPoolExecutor
+from contextlib import contextmanager
 from dataclasses import dataclass, field
 from hashlib import sha256
 from pathlib import Path
-from typing import Any, Dict, List, Optional, Sequence, Tuple
+from typing import Any, Dict, Iterator, List, Optional, Sequence, TextIO, Tuple
 
 from ..errors import Refused
 from .tasks import Program, Task
 from .worker import Checked, checked, has_stamp
 
-KINDS = ("cities", "faults")
+KINDS = ("cities", "faults", "overlays")
 """The folders of results, by what was asked."""
 
-RINGS = "rings"
-"""The folder of the districts' rings."""
+RINGS, FRAMES = "rings", "frames"
+"""The folders of the districts' rings, and of what they are overlaid with."""
 
 MARK = "many.json"
 """The file by which a folder is known as one that `gandovel many` made."""
 
-DERIVED = ("summary.csv", "summary.json", "faults.gpkg")
+DERIVED = ("summary.csv", "summary.json", "faults.gpkg", "pairs.csv")
 """What a run makes of the results; an earlier run's goes when a run begins."""
 
 
@@ -120,6 +121,7 @@ class ResultsFolder:
         for left in [
             *(path for kind in (*KINDS, RINGS) for path in self.path.glob(f"{kind}/.*")),
             self.path / "engine",
+            self.path / FRAMES,
         ]:
             shutil.rmtree(left, ignore_errors=True)
         try:
@@ -132,9 +134,16 @@ class ResultsFolder:
 
     def write(self, name: str, text: str) -> None:
         """Writes a file of the folder under another name, then renames it."""
+        with self.written(name) as file:
+            file.write(text)
+
+    @contextmanager
+    def written(self, name: str) -> Iterator[TextIO]:
+        """A file of the folder under another name, which is renamed when it is full. Refused P14."""
         aside = self.path / f".{os.getpid()}.{name}"
         try:
-            aside.write_text(text, encoding="utf-8")
+            with open(aside, "w", encoding="utf-8", newline="") as file:
+                yield file
             os.replace(aside, self.path / name)
         except OSError as fault:
             raise Refused("P14", f"{self.path / name} can't be written: {short(fault)}") from fault
@@ -183,6 +192,14 @@ class ResultsFolder:
             )
         except (OSError, ValueError, KeyError, TypeError):
             return None
+
+    def frames_of(self, name: str) -> Path:
+        """The folder of what a district is overlaid with."""
+        return self.path / FRAMES / name
+
+    def without_frames(self) -> None:
+        """Removes what districts were overlaid with."""
+        shutil.rmtree(self.path / FRAMES, ignore_errors=True)
 
     def rings_of(self, name: str) -> Path:
         """The folder of a district's ring."""

@@ -111,6 +111,12 @@ class Layers:
     """Parcels' numbers that stand in two districts, by the city's name."""
     crossing: Mapping[str, Sequence[Tuple[str, str, str]]] = field(default_factory=dict)
     """Parcels that reach from one district into another, by the city's name."""
+    area2: Mapping[str, int] = field(default_factory=dict)
+    """Twice the area, in mm2, of cities whose verdict tells none, as that of an overlay."""
+    pairs: Mapping[str, Tuple[int, int]] = field(default_factory=dict)
+    """How many pairs of a parcel and a zone a city's districts have together, and how many parcels are split."""
+    not_overlaid: Mapping[str, str] = field(default_factory=dict)
+    """Why pairs of a city are not known, by its name."""
 
 
 @dataclass(frozen=True)
@@ -130,6 +136,8 @@ class Whole:
     parcels: Optional[int] = None
     area2: Optional[int] = None
     layer: Optional[Verdict] = None
+    pairs: Optional[int] = None
+    split: Optional[int] = None
 
     @property
     def tiles(self) -> bool:
@@ -144,7 +152,7 @@ class Whole:
         if self.layer is not None:
             costs = {"seconds": self.layer.seconds, "memory_kb": self.layer.memory_kb}
         text = "" if self.tiles else self.said.partition(": ")[2]
-        return Verdict(self.name, self.kind, code, "", text, self.parcels, self.area2, **costs)
+        return Verdict(self.name, self.kind, code, "", text, self.parcels, self.area2, self.pairs, self.split, **costs)
 
 
 def whole_of(
@@ -165,7 +173,7 @@ def whole_of(
     bad = [it for it in listed if not it.tiles]
     why = [] if layer.tiles else [f"the layer of districts does not ({layer.code})"]
     if bad:
-        names = _listed([f"{it.name} ({it.code})" for it in bad])
+        names = shortened([f"{it.name} ({it.code})" for it in bad])
         why.append(f"{count - len(bad)} of {count} districts tile; not {names}")
     if why:
         return Whole(layer.name, count, "refused", f"does not tile: {'; '.join(why)}", layer=layer)
@@ -176,13 +184,23 @@ def whole_of(
     return Whole(layer.name, count, "tiles", said, parcels, layer.area2, layer)
 
 
-def _with_numbers(whole: Whole, shared: Sequence[str], crossing: Sequence[Tuple[str, str, str]]) -> Whole:
-    """The same with parcels that cross districts, which a city that does not tile may have; open where numbers are shared."""
+def _with_numbers(whole: Whole, layers: Layers) -> Whole:
+    """The same with parcels that cross districts, which a city that does not tile may have, and its pairs with zones.
+
+    Open where numbers are shared, or pairs are not known.
+    """
+    shared, crossing = layers.shared.get(whole.name, ()), layers.crossing.get(whole.name, ())
     if whole.kind == "refused" and crossing:
-        told = _listed([f"parcel {number} crosses districts {one} and {other}" for number, one, other in crossing])
+        told = shortened([f"parcel {number} crosses districts {one} and {other}" for number, one, other in crossing])
         return replace(whole, said=f"{whole.said}; {told}")
     if whole.kind == "tiles" and shared:
-        return replace(whole, kind="open", said=f"open: parcels have the same number: {_listed(shared)}")
+        return replace(whole, kind="open", said=f"open: parcels have the same number: {shortened(shared)}")
+    if whole.kind == "tiles" and whole.name in layers.not_overlaid:
+        return replace(whole, kind="open", said=f"open: {layers.not_overlaid[whole.name]}")
+    if whole.name in layers.pairs:
+        pairs, split = layers.pairs[whole.name]
+        told = f"{whole.said}; {_count(pairs, 'pair', 'pairs')} with zones, {_count(split, 'parcel', 'parcels')} split"
+        return replace(whole, said=told, pairs=pairs, split=split)
     return whole
 
 
@@ -197,21 +215,22 @@ def _unknown(
     if layer.verdict == "none":
         return f"the layer of districts has no verdict ({layer.code})"
     if missing:
-        numbers = _listed([str(number) for number in missing])
+        numbers = shortened([str(number) for number in missing])
         return f"the manifest has no row for {'district' if len(missing) == 1 else 'districts'} {numbers} of {there}"
     if without:
-        return f"not judged: {_listed([f'{it.name} ({it.code})' for it in without])}"
+        return f"not judged: {shortened([f'{it.name} ({it.code})' for it in without])}"
     if layer.tiles and len(districts) != there:
         return f"the layer has {_count(there or 0, 'district', 'districts')}, and the manifest {len(districts)}"
     areas = [it.area2 for it in districts.values() if it.tiles and it.area2 is not None]
-    if layer.tiles and len(areas) == there and sum(areas) != layer.area2:
+    if layer.tiles and layer.area2 is not None and len(areas) == there and sum(areas) != layer.area2:
         return f"the districts have twice {sum(areas)} mm2, and the city {layer.area2}"
     if elsewhere:
-        return f"the layer of districts changed between its check and the ring of {_listed(elsewhere)}"
+        return f"the layer of districts changed between its check and the ring of {shortened(elsewhere)}"
     return None
 
 
-def _listed(names: Sequence[str]) -> str:
+def shortened(names: Sequence[str]) -> str:
+    """The first names, with commas between."""
     return ", ".join(names[:SHOWN]) + (", .." if len(names) > SHOWN else "")
 
 
@@ -225,8 +244,10 @@ def wholes_of(rows: Sequence[Row], verdicts: Mapping[str, Verdict], layers: Laye
                 whole = found.get(row.name)
                 districts[row.part_of][row.district] = verdicts[row.name] if whole is None else whole.verdict
         for name, numbered in districts.items():
-            whole = whole_of(verdicts[name], numbered, layers.astray, layers.records.get(name))
-            found[name] = _with_numbers(whole, layers.shared.get(name, ()), layers.crossing.get(name, ()))
+            verdict = verdicts[name]
+            if verdict.area2 is None:
+                verdict = replace(verdict, area2=layers.area2.get(name))
+            found[name] = _with_numbers(whole_of(verdict, numbered, layers.astray, layers.records.get(name)), layers)
     return [found[row.name] for row in rows if row.name in found]
 
 
@@ -283,9 +304,9 @@ class Summary:
             told = ", ".join(_count(number, noun, f"{noun}s") for number, noun in counts if number)
             lines.append(f"{told}: {self.faults_file}")
         if self.untold:
-            lines.append(f"no faults are told of {_listed(self.untold)}: their check has no result")
+            lines.append(f"no faults are told of {shortened(self.untold)}: their check has no result")
         if self.differing:
-            lines.append(f"kept results said something else than the program does now: {_listed(self.differing)}")
+            lines.append(f"kept results said something else than the program does now: {shortened(self.differing)}")
         return lines
 
     def costs(self) -> str:
@@ -345,6 +366,8 @@ class Summary:
                         "said": it.said,
                         "parcels": it.parcels,
                         "area2_mm2": it.area2,
+                        "pairs": it.pairs,
+                        "split": it.split,
                     }
                     for it in self.wholes
                 ],
