@@ -213,12 +213,70 @@ def test_numbers_of_districts(tmp_path):
     write_rings(tmp_path / "in/d1/parcels.shp", beside)
     summary = run_many(manifest, tmp_path / "out")
     assert summary.wholes[0].said == (
-        "does not tile: 0 of 2 districts tile; not d0 (H2), d1 (H2); parcel b crosses districts d0 and d1"
+        "does not tile: 0 of 2 districts tile; not d0 (H2), d1 (H2); parcel b crosses districts d0 and d1; "
+        "parcels have the same number: a (d0, d1)"
     )
     frame = gpd.read_file(tmp_path / "out/faults.gpkg", layer="overlaps")
     assert frame[["city", "records", "numbers"]].values.tolist() == [["d0", "2", "b"]]
     gaps = gpd.read_file(tmp_path / "out/faults.gpkg", layer="gaps")
     assert gaps[["city", "numbers"]].values.tolist() == [["d1", "e,g"]]
+    (crossing,) = gpd.read_file(tmp_path / "out/faults.gpkg", layer="crossings").itertuples()
+    assert (crossing.city, crossing.district, crossing.other, crossing.number) == ("metropolis", "d0", "d1", "b")
+    assert crossing.geometry.equals(Polygon(parcels[1] / 1000))
+    assert summary.lines()[-1].startswith("1 gap, 1 overlap, 1 parcel across districts: ")
+
+
+PLANTED = {
+    "exchanged": ("does not tile: 1 of 3 districts tile; not d1 (H2), d0 (H2); parcel record 1 crosses", 1),
+    "moved": ("does not tile: 2 of 3 districts tile; not d1 (H2); parcel record 2 crosses districts d1 and d2", 1),
+    "a centimetre in the layer of districts": ("does not tile: the layer of districts does not (H2); 2 of 3", 1),
+    "doubled": ("does not tile: 2 of 3 districts tile; not d1 (H2); parcel record 1 crosses districts d1 and d0", 1),
+    "missing": ("open: the manifest has no row for district 2 of 3", 2),
+    "a T junction at a border": ("tiles: 13 parcels of 3 districts", 0),
+}
+
+
+@pytest.mark.parametrize("kind", sorted(PLANTED))
+def test_planted_faults_of_districts(tmp_path, kind):
+    rows = row_of_districts(tmp_path / "in", 3)
+    here = tmp_path / "in/d1/parcels.shp"
+    if kind == "exchanged":
+        rows[1]["district"], rows[2]["district"] = 2, 1
+    elif kind == "moved":
+        write_rings(here, [ring + 10 for ring in read_rings(here)])
+    elif kind == "doubled":
+        rows[2]["parcels"] = rows[1]["parcels"]
+    elif kind == "missing":
+        del rows[2]
+    elif kind == "a T junction at a border":
+        rings = read_rings(here)
+        rings[0] = box(2 * SIDE, 0, 3 * SIDE, SIDE - 7)
+        rings.append(box(2 * SIDE, SIDE - 7, 3 * SIDE, SIDE))
+        write_rings(here, rings)
+    else:
+        rings = [box(2 * i * SIDE, 0, 2 * (i + 1) * SIDE - 10 * (i == 1), 2 * SIDE) for i in range(3)]
+        write_rings(tmp_path / "in/districts.shp", rings)
+    summary = run_many(write_manifest(tmp_path, rows), tmp_path / "out", retries=0)
+    (whole,) = summary.wholes
+    said, status = PLANTED[kind]
+    assert whole.said.startswith(said) and summary.status == status, whole.said
+    assert (summary.gaps + summary.overlaps > 0) == (status == 1)
+    assert (summary.crossings > 0) == ("crosses" in said)
+
+
+def test_numbers_are_unique_over_all_levels(tmp_path):
+    rows = row_of_districts(tmp_path / "in", 2, "country")
+    quarters = [box(2 * SIDE, 0, 3 * SIDE, 2 * SIDE), box(3 * SIDE, 0, 4 * SIDE, 2 * SIDE)]
+    rows[2].update(parcels=tmp_path / "in/quarters.shp")
+    write_rings(tmp_path / "in/quarters.shp", quarters)
+    number_them(tmp_path / "in/d0/parcels.shp", ["a", "b", "c", "d"])
+    for at, ring in enumerate(quarters):
+        write_rings(tmp_path / f"in/q{at}.shp", [ring])
+        number_them(tmp_path / f"in/q{at}.shp", ["bx"[at]])
+        rows.append({"name": f"q{at}", "parcels": tmp_path / f"in/q{at}.shp", "part_of": "d1", "district": at + 1})
+    summary = run_many(write_manifest(tmp_path, rows), tmp_path / "out")
+    said = {whole.name: whole.said for whole in summary.wholes}
+    assert said["country"] == "open: parcels have the same number: b (d0, q0)" and said["d1"].startswith("tiles: 2")
 
 
 def with_zones(folder: Path, count: int) -> List[Dict[str, Any]]:

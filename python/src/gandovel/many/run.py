@@ -29,6 +29,7 @@ from .worker import checked
 
 if TYPE_CHECKING:
     from .faults_file import Faults
+    from .layers import Crossing
     from .pairs import Overlay, ZonesOf
 
 SHOWN_AFTER = 2.0
@@ -36,7 +37,6 @@ LOOKED_AT = 1000
 """For so many results it is looked at a time, while an engine runs."""
 
 Shared = Dict[str, List[str]]
-Crossing = Dict[str, List[Tuple[str, str, str]]]
 
 OF_THE_DISK = (errno.ENOSPC, errno.EDQUOT, errno.EROFS, errno.EACCES, errno.EPERM, errno.EIO, errno.ENOENT, errno.EFBIG)
 """Errors that say that a folder can't be written; any other one of an engine is the engine's."""
@@ -311,7 +311,7 @@ class _Run:
         summary.unwritten = unwritten
         refused = [row for row in rows if verdicts[row.name].verdict == "refused"]
         writes: Sequence[Callable[[], object]] = (
-            lambda: self._tell_faults(summary, refused),
+            lambda: self._tell_faults(summary, rows, refused, layers),
             lambda: self.results.write("summary.csv", summary.table()),
             lambda: self.results.write("summary.json", summary.facts()),
         )
@@ -323,20 +323,20 @@ class _Run:
                 summary.unwritten = summary.unwritten or why
         return summary
 
-    def _numbers(self, rows: Sequence[Row], verdicts: Dict[str, Verdict]) -> "Tuple[Shared, Crossing]":
+    def _numbers(self, rows: Sequence[Row], verdicts: Dict[str, Verdict]) -> "Tuple[Shared, Dict[str, List[Crossing]]]":
         """By a city of districts: numbers that two of its districts share, and parcels that cross them."""
-        below: Dict[str, List[Row]] = {}
-        for row in rows:
-            if row.part_of is not None:
-                below.setdefault(row.part_of, []).append(row)
+        above = cities_above(rows)
+        below: Dict[str, List[Row]] = {row.part_of: [] for row in rows if row.part_of is not None}
+        for row in bottom_of(rows):
+            for city in above[row.name]:
+                below[city.name].append(row)
         refused = {row.name for row in rows if verdicts[row.name].code == "H2"}
         if not below or not (refused or any(_may_have_numbers(row) for row in rows)):
             return {}, {}
         from .layers import crossings, shared_numbers
 
-        bottom = {name: [row for row in some if row.name not in below] for name, some in below.items()}
-        shared = {name: shared_numbers(some) for name, some in bottom.items()}
-        return shared, {name: crossings(some, refused) for name, some in bottom.items() if name not in refused}
+        shared = {name: shared_numbers(some) for name, some in below.items()}
+        return shared, {name: crossings(some, refused) for name, some in below.items() if name not in refused}
 
     def _areas(self, rows: Sequence[Row]) -> Dict[str, int]:
         """Twice the areas in mm2 of the cities of districts that are overlaid, since an overlay tells none."""
@@ -414,7 +414,7 @@ class _Run:
                 found.append(name)
         return found
 
-    def _tell_faults(self, summary: Summary, refused: Sequence[Row]) -> None:
+    def _tell_faults(self, summary: Summary, rows: Sequence[Row], refused: Sequence[Row], layers: Layers) -> None:
         """Writes the faults of refused cities, where there is one, and counts them. GeoPandas is imported for them alone."""
         if not refused:
             return
@@ -422,7 +422,12 @@ class _Run:
 
         faults = Faults()
         summary.untold = [row.name for row in refused if not self._add_faults(faults, row)]
+        by_name = {row.name: row for row in rows} if layers.crossing else {}
+        for city, several in layers.crossing.items():
+            for it in several if by_name[city].part_of is None else ():  # a city within it has none that this one lacks
+                faults.add_crossing(city, by_name[it.district], it)
         summary.gaps, summary.overlaps, summary.rings = map(faults.count, ("gaps", "overlaps", "rings"))
+        summary.crossings = faults.count("crossings")
         if faults.save(self.results.path / "faults.gpkg"):
             summary.faults_file = str(self.results.path / "faults.gpkg")
 

@@ -7,12 +7,15 @@ import json
 import re
 from collections import Counter, defaultdict
 from dataclasses import dataclass, field, replace
-from typing import AbstractSet, Any, Dict, FrozenSet, List, Mapping, Optional, Sequence, Tuple
+from typing import TYPE_CHECKING, AbstractSet, Any, Dict, FrozenSet, List, Mapping, Optional, Sequence, Tuple
 
 from ..errors import Refused
 from ..tool import refusal
 from .manifest import Row, by_depth
 from .results import Result
+
+if TYPE_CHECKING:
+    from .layers import Crossing
 
 COLUMNS = (
     "name",
@@ -109,7 +112,7 @@ class Layers:
     astray: AbstractSet[str] = frozenset()
     shared: Mapping[str, Sequence[str]] = field(default_factory=dict)
     """Parcels' numbers that stand in two districts, by the city's name."""
-    crossing: Mapping[str, Sequence[Tuple[str, str, str]]] = field(default_factory=dict)
+    crossing: "Mapping[str, Sequence[Crossing]]" = field(default_factory=dict)
     """Parcels that reach from one district into another, by the city's name."""
     area2: Mapping[str, int] = field(default_factory=dict)
     """Twice the area, in mm2, of cities whose verdict tells none, as that of an overlay."""
@@ -190,11 +193,12 @@ def _with_numbers(whole: Whole, layers: Layers) -> Whole:
     Open where numbers are shared, or pairs are not known.
     """
     shared, crossing = layers.shared.get(whole.name, ()), layers.crossing.get(whole.name, ())
-    if whole.kind == "refused" and crossing:
-        told = shortened([f"parcel {number} crosses districts {one} and {other}" for number, one, other in crossing])
-        return replace(whole, said=f"{whole.said}; {told}")
+    same = f"parcels have the same number: {shortened(shared)}" if shared else ""
+    if whole.kind == "refused":
+        names = [f"parcel {it.number} crosses districts {it.district} and {it.other}" for it in crossing]
+        return replace(whole, said="; ".join(filter(None, [whole.said, shortened(names), same])))
     if whole.kind == "tiles" and shared:
-        return replace(whole, kind="open", said=f"open: parcels have the same number: {shortened(shared)}")
+        return replace(whole, kind="open", said=f"open: {same}")
     if whole.kind == "tiles" and whole.name in layers.not_overlaid:
         return replace(whole, kind="open", said=f"open: {layers.not_overlaid[whole.name]}")
     if whole.name in layers.pairs:
@@ -257,7 +261,7 @@ class Summary:
 
     Of a city of districts `verdicts` has what these make up. `kept` are the cities that `resume` did not do again, and
     `differing` those that say something else now, where they were verified; `seconds` are the run's by the clock;
-    `gaps`, `overlaps` and `rings` count what `faults.gpkg` has, and `untold` are the refused cities whose faults it
+    `gaps`, `overlaps`, `rings` and `crossings` count what `faults.gpkg` has, and `untold` are the refused cities whose faults it
     lacks, since that task had no result. `unwritten` is why a file of these could not be written.
     """
 
@@ -268,6 +272,7 @@ class Summary:
     gaps: int = 0
     overlaps: int = 0
     rings: int = 0
+    crossings: int = 0
     untold: List[str] = field(default_factory=list)
     faults_file: Optional[str] = None
     kept_names: FrozenSet[str] = frozenset()
@@ -300,8 +305,10 @@ class Summary:
         lines = [", ".join(texts) + (f"; {self.kept} kept" if self.kept else "")]
         lines += [f"{whole.name}: {whole.said}" for whole in self.wholes]
         if self.faults_file is not None:
-            counts = ((self.gaps, "gap"), (self.overlaps, "overlap"), (self.rings, "refused ring"))
-            told = ", ".join(_count(number, noun, f"{noun}s") for number, noun in counts if number)
+            counts = [(self.gaps, "gap", "gaps"), (self.overlaps, "overlap", "overlaps")]
+            counts += [(self.crossings, "parcel across districts", "parcels across districts")]
+            counts += [(self.rings, "refused ring", "refused rings")]
+            told = ", ".join(_count(*it) for it in counts if it[0])
             lines.append(f"{told}: {self.faults_file}")
         if self.untold:
             lines.append(f"no faults are told of {shortened(self.untold)}: their check has no result")
@@ -355,6 +362,7 @@ class Summary:
                 "gaps": self.gaps,
                 "overlaps": self.overlaps,
                 "rings": self.rings,
+                "crossings": self.crossings,
                 "untold": self.untold,
                 "wholes": [
                     {
