@@ -11,7 +11,8 @@ import pytest
 
 from gandovel import Refused
 from gandovel.many import run_many
-from gandovel.many.engines import slurm
+from gandovel.many.engines import Settings, slurm
+from gandovel.many.tasks import Batch
 from many_cities import calls, program, processes_of, until, write_cities
 from slurm_cluster import Cluster
 
@@ -83,7 +84,7 @@ def test_a_controller_that_goes_away_for_a_while(cluster, tmp_path, monkeypatch)
 
     def go_away():
         until(lambda: len(calls(tmp_path)) == 4)
-        cluster.kill("slurmctld")
+        cluster.end("slurmctld")
         until(lambda: subprocess.run(["squeue"], stdout=subprocess.PIPE, stderr=subprocess.PIPE).returncode)
         cluster.start_controller()
         (tmp_path / "go").touch()
@@ -100,7 +101,7 @@ def test_a_controller_that_stays_away(cluster, tmp_path, monkeypatch):
 
     def go_away():
         until(lambda: len(calls(tmp_path)) == 4)
-        cluster.kill("slurmctld")
+        cluster.end("slurmctld")
 
     joined = beside(go_away)
     with pytest.raises(Refused, match="T7 Slurm's controller is away, with jobs 1 under way"):
@@ -113,6 +114,24 @@ def test_a_controller_that_stays_away(cluster, tmp_path, monkeypatch):
     until(lambda: subprocess.run(["squeue", "-h"], stdout=subprocess.PIPE, stderr=subprocess.PIPE).stdout == b"")
     summary = run_many(tmp_path / "manifest.csv", tmp_path / "out", "slurm", resume=True)
     assert summary.kept == 6 and all(it.tiles for it in summary.verdicts)
+
+
+def test_an_element_that_slurm_holds_is_given_up_and_tried_again(tmp_path, monkeypatch):
+    """Slurm holds what it could not launch, and would for ever."""
+    asked, states = [], iter(["0|PENDING|launch failed requeued held\n1|RUNNING|None\n", "1|COMPLETED|None\n"])
+
+    def ask(*words, more=None):
+        asked.append(words)
+        text = next(states) if words[0] == "squeue" else "7\n" if words[0] == "sbatch" else ""
+        return subprocess.CompletedProcess(words, 0, text, "")
+
+    monkeypatch.setattr(slurm, "_ask", ask)
+    monkeypatch.setattr(slurm, "OFTEN", 0.0)
+    monkeypatch.setattr(slurm.shutil, "which", lambda _: None)
+    engine, batch = slurm.SlurmEngine(Settings()), Batch(tmp_path, [], "run", lambda _: False)
+    engine.jobs, engine.lists, engine.largest = [[0], [1]], [tmp_path / "0.txt", tmp_path / "1.txt"], 10
+    assert engine._arrays(batch, [0, 1], lambda _: None) == {0: slurm.HELD, 1: "COMPLETED"}
+    assert ("scancel", "7_0") in asked and slurm._what(slurm.HELD).killed
 
 
 @pytest.mark.parametrize("retries", [0, 1])
