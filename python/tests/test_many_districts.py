@@ -345,6 +345,29 @@ def test_an_overlay_that_has_no_answer_leaves_the_city_open(tmp_path, monkeypatc
     assert summary.wholes[0].tiles and summary.wholes[0].pairs == len(pairs_of_one_layer(tmp_path / "in", 3))
 
 
+def test_a_disk_that_has_no_room_for_overlays(tmp_path, monkeypatch):
+    """The verdicts of districts are told all the same, and why the city is open."""
+    from gandovel.many import pairs
+
+    def full(*words: Any) -> Any:
+        raise OSError(28, "No space left on device")
+
+    monkeypatch.setattr(pairs, "write_overlay", full)
+    summary = run_many(write_manifest(tmp_path, with_zones(tmp_path / "in", 2)), tmp_path / "out", retries=0)
+    assert verdicts(summary) == {"metropolis": ("open", "open"), "d0": ("tiles", ""), "d1": ("tiles", "")}
+    said = summary.wholes[0].said
+    assert said.startswith("open: not overlaid: d0 (P14 ") and "No space left on device" in said
+    assert (tmp_path / "out/summary.csv").is_file()
+
+
+def test_a_layer_that_changes_before_it_is_overlaid(tmp_path, monkeypatch):
+    rows = with_zones(tmp_path / "in", 2)
+    changes = f'"{TOOL}" "$@"; echo >> {tmp_path}/in/d0/parcels.shp; exit'
+    program(tmp_path, monkeypatch, f'case "$1 $3" in "check "*/d1/*) {changes};; esac')
+    summary = run_many(write_manifest(tmp_path, rows), tmp_path / "out", retries=0, jobs=1)
+    assert summary.wholes[0].said == "open: not overlaid: d0 (T5 a layer changed)"
+
+
 def cut_zones(folder: Path, count: int) -> List[Dict[str, Any]]:
     """The same, with zones cut along the districts, each piece under its zone's number."""
     rows = with_zones(folder, count)

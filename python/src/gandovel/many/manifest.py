@@ -55,7 +55,7 @@ def read_manifest(path: Union[str, Path]) -> List[Row]:
         raise Refused("P1", f"the manifest {path} can't be read: {fault}") from fault
     header = [name.lower() for name in table[0][1]] if table else []
     _test_header(path, header)
-    folder = Path(os.path.abspath(path)).parent
+    folder = os.path.dirname(os.path.abspath(path))
     rows = [_row(folder, line, dict(zip(header, _full(line, cells, header)))) for line, cells in table[1:]]
     if not rows:
         raise Refused("P15", f"the manifest {path} has no city")
@@ -78,7 +78,7 @@ def _full(line: int, cells: List[str], header: List[str]) -> List[str]:
     return cells + [""] * (len(header) - len(cells))
 
 
-def _row(folder: Path, line: int, cells: Dict[str, str]) -> Row:
+def _row(folder: str, line: int, cells: Dict[str, str]) -> Row:
     where = f"line {line} of the manifest"
     name = cells["name"]
     if not name:
@@ -102,7 +102,7 @@ def _row(folder: Path, line: int, cells: Dict[str, str]) -> Row:
         raise Refused("P15", f"{where}: unit is to be mm, cm or m, and is {cells['unit']!r}")
 
     def absolute(cell: str) -> str:
-        return os.path.abspath(folder / cell)
+        return os.path.normpath(os.path.join(folder, cell))
 
     edits = tuple(absolute(cell.strip()) for cell in cells.get("edits", "").split(";") if cell.strip())
     return Row(

@@ -154,24 +154,24 @@ class ResultsFolder:
     def run_of(self, kind: str, name: str) -> Optional[str]:
         """The run that made a result of a kind; None where there is none."""
         try:
-            return str(json.loads((self.path / kind / name / "result.json").read_text(encoding="utf-8"))["run"])
+            return str(json.loads(_read(f"{self.path}/{kind}/{name}/result.json"))["run"])
         except (OSError, ValueError, KeyError, TypeError):
             return None
 
     def stamp_of(self, kind: str, name: str) -> Optional[Tuple[int, int]]:
         """What another result in a result's place changes; None where there is none."""
         try:
-            facts = (self.path / kind / name / "result.json").stat()
+            facts = os.stat(f"{self.path}/{kind}/{name}/result.json")
         except OSError:
             return None
         return facts.st_ino, facts.st_mtime_ns
 
     def result(self, kind: str, name: str) -> Optional[Result]:
         """A whole result, with output and error text; None where there is none, or one that the disk has torn."""
-        folder = self.path / kind / name
+        folder = f"{self.path}/{kind}/{name}"
         try:
-            told = json.loads((folder / "result.json").read_text(encoding="utf-8"))
-            output, errors = ((folder / f"{part}.txt").read_bytes() for part in ("output", "errors"))
+            told = json.loads(_read(f"{folder}/result.json"))
+            output, errors = (_read(f"{folder}/{part}.txt") for part in ("output", "errors"))
             files = ((output, told["output"]), (errors, told["errors"]))
             if any(sha256(content).hexdigest() != it["sha256"] for content, it in files):
                 return None
@@ -222,6 +222,11 @@ class ResultsFolder:
             return all(_is_same(path, before, result.stamps.get(path)) for path, before in result.inputs.items())
         except OSError:
             return False
+
+
+def _read(path: str) -> bytes:
+    with open(path, "rb", buffering=0) as file:
+        return file.read()
 
 
 def _is_same(path: str, before: Optional[str], stamp: Optional[Sequence[int]]) -> bool:

@@ -84,8 +84,9 @@ def run_many(
             rows = run.with_rings(rows)
             run.do(it, "cities", [task_of(row, threads) for row in rows if row.city is not None])
             asked = [(row, run.layer_of_first_fault(row)) for row in rows]
-            run.do(it, "faults", [faults_task_of(row, role, threads) for row, role in asked if role is not None])
-            run.do(it, "overlays", run.overlays_of(rows, threads))
+            more = [faults_task_of(row, role, threads) for row, role in asked if role is not None]
+            run.do_more(it, "faults", more)
+            run.do_more(it, "overlays", run.overlays_of(rows, threads))
             run.results.without_frames()
         return run.summary(rows, begun)
 
@@ -162,6 +163,8 @@ class _Run:
         self.before: Dict[str, Optional[Tuple[int, str, str]]] = {}
         """What results said that are asked for again, so as to be verified: status, output and errors."""
         self.batches = 0
+        self.stopped: Optional[Refused] = None
+        """Why something behind the cities could not be asked."""
         self.overlays: Dict[str, Optional[List[Overlay]]] = {}
         """The overlays of districts with the zones of their cities; None of one whose files changed meanwhile."""
 
@@ -250,6 +253,13 @@ class _Run:
         if kind == "cities":
             self.kept = {task.name for task in tasks if task.name not in numbers}
 
+    def do_more(self, engine: Engine, kind: str, tasks: List[Task]) -> None:
+        """The same of what is asked behind the cities. Where it can't be done, their verdicts are told, and then why."""
+        try:
+            self.do(engine, kind, tasks)
+        except Refused as why:
+            self.stopped = self.stopped or why
+
     def layer_of_first_fault(self, row: Row) -> Optional[str]:
         """The layer, `parcels` or `zones`, whose faults an overlay found and told the first of."""
         if row.name not in self.found["cities"]:
@@ -279,9 +289,10 @@ class _Run:
             try:
                 made = overlays_of(row, known[zoned.name], folder, threads)
                 judged = self._was_judged(row, row.parcels) and self._was_judged(zoned, str(zoned.zones))
+                self.overlays[row.name] = made if judged else None
             except OSError as fault:
-                raise Refused("P14", f"{folder} can't be written: {short(fault)}") from fault
-            self.overlays[row.name] = made if judged else None
+                self.overlays[row.name] = None
+                self.lost["overlays"][row.name] = "P14", f"{folder} can't be written: {short(fault)}"
         return [overlay.task for made in self.overlays.values() for overlay in made or ()]
 
     def _tiles(self, row: Row) -> bool:
@@ -302,9 +313,9 @@ class _Run:
         astray = {row.name for row in rows if row.part_of is not None and not self._has_its_ring(row)}
         records = {name: len(layer) for name, layer in self.layers.items()}
         try:
-            pairs, unwritten = self._pairs(rows), None
+            pairs, unwritten = self._pairs(rows), self.stopped
         except Refused as why:
-            pairs, unwritten = ({}, {}), why
+            pairs, unwritten = ({}, {}), self.stopped or why
         layers = Layers(records, astray, *self._numbers(rows, verdicts), self._areas(rows), *pairs)
         summary = Summary(list(verdicts.values()), wholes_of(rows, verdicts, layers), len(self.kept))
         summary.kept_names, summary.differing = frozenset(self.kept), self._differing()
@@ -394,16 +405,13 @@ class _Run:
 
     def _why_not(self, row: Row) -> str:
         """Why the pairs of a district are not known, in brackets."""
-        made = self.overlays.get(row.name)
-        if row.name in self.overlays and made is None:
-            return " (T5 a layer changed)"
-        for name in (it.task.name for it in made or ()):
-            if name in self.lost["overlays"]:
-                return f" ({' '.join(self.lost['overlays'][name])})"
-            verdict = self.found["overlays"][name][1]
-            if not verdict.tiles:
-                return f" ({verdict.code} {verdict.text})"
-        return ""
+        made, lost, found = self.overlays.get(row.name), self.lost["overlays"], self.found["overlays"]
+        for name in (row.name, *(it.task.name for it in made or ())):
+            if name in lost:
+                return f" ({' '.join(lost[name])})"
+            if name in found and not found[name][1].tiles:
+                return f" ({found[name][1].code} {found[name][1].text})"
+        return " (T5 a layer changed)" if row.name in self.overlays and made is None else ""
 
     def _differing(self) -> List[str]:
         """The results that were asked for again and say something else than before."""
