@@ -118,6 +118,12 @@ class Cluster:
                 except (OSError, IndexError):
                     pass
 
+    def end(self, name: str) -> None:
+        """Ends a daemon as an administrator does: the controller notes first which jobs run."""
+        process = self.started.pop(name)
+        process.terminate()
+        process.wait(WAIT)
+
     def _steps(self, name: str) -> Set[int]:
         """The sessions of the steps that run on a node: their daemon has the node's log open."""
         found = set()

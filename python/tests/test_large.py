@@ -23,7 +23,7 @@ from gandovel import Refused
 from gandovel.cli import main
 from gandovel.faults import twice_area
 from gandovel.large import Cutting, cut_by, is_large
-from gandovel.large import compose, cutting, runs, tiles, verdict
+from gandovel.large import compose, cutting, frames, runs, tiles, verdict
 from gandovel.large.cutting import cut, partition_faults
 from gandovel.large.verdict import Open, check_island, districts_of
 from gandovel.noding import touches
@@ -228,6 +228,38 @@ def test_locating_overlaying_and_checking_a_cut_layer():
     assert set(plain[0]["where"]) == {"inside", "edge", "outside"} and not len(plain[2])
     with cut_by(Cutting(12)), pytest.raises(Refused, match="H2"):
         gandovel.locate(frame(shapes[:40] + shapes[41:]), points)
+
+
+@pytest.mark.parametrize("kind", [None, "gap", "a moved parcel"])
+@pytest.mark.parametrize("most", [(20, 10**6), (10**6, 150)])
+def test_more_zones_than_a_layer_has_are_taken_in_shares(monkeypatch, most, kind):
+    """Fine zones under few parcels, and parcels with many corners: no run has more than what one takes."""
+    shapes = planted(grid(6, 6), 6, kind) if kind else grid(6, 6)
+    zones = frame(grid(20, 20, 2), "zone", "Z")
+    zones = zones.set_geometry([affine_transform(it, [0.3, 0, 0, 0.3, 0, 0]) for it in zones.geometry])
+    prepared = gandovel.prepare(frame(shapes), zones, touch=1.0)
+    whole = report(prepared)
+    monkeypatch.setattr(frames, "A_SHARE", most[0])
+    monkeypatch.setattr(frames, "CORNERS_OF_A_SHARE", most[1])
+    sizes, written = [], frames.write_overlay
+
+    def write(folder: Path, layers: Any, *words: Any) -> Any:
+        sizes.extend((len(it), sum(map(len, it))) for it in layers)
+        return written(folder, layers, *words)
+
+    monkeypatch.setattr(frames, "write_overlay", write)
+    with cut_by(Cutting(12, jobs=2)):
+        assert said(report(prepared)) == said(whole)
+    assert len(sizes) > 30 and max(rings for rings, _ in sizes) <= most[0] and max(all_ for _, all_ in sizes) <= most[1]
+
+
+def test_no_district_is_larger_than_a_layer(monkeypatch, capsys):
+    assert is_large([np.zeros((4, 2))] * 65_537) and not is_large([np.zeros((4, 2))] * 65_536)
+    with cut_by(Cutting(100_000)):
+        assert is_large([np.zeros((4, 2))] * 65_537)
+    with pytest.raises(SystemExit):
+        main(["check", "parcels.gpkg", "--parcels-a-district", "50001"])
+    assert "a whole number from 1 to 50000" in capsys.readouterr().err
 
 
 def island_of(columns: int = 8, rows: int = 8) -> Any:

@@ -7,10 +7,12 @@ from __future__ import annotations
 
 import json
 import os
+import re
 import shutil
 import signal
 import subprocess
 import sys
+from contextlib import contextmanager
 from pathlib import Path
 
 import geopandas as gpd
@@ -23,6 +25,7 @@ from gandovel.many.tasks import Program, Task
 from many_cities import (
     GAP,
     SIDE,
+    SOURCES,
     TOOL,
     calls,
     command,
@@ -356,7 +359,10 @@ def test_resume_after_the_command_is_killed(run, tmp_path, monkeypatch):
     done = {name for name in names_in(tmp_path / "out/cities") if not name.startswith(".")}
     runs = {name: told(tmp_path / "out", name)["run"] for name in done}
     ended = command(tmp_path, *words_of(run, "--resume"))  # Slurm's jobs of the run that was killed are cancelled first
-    assert (ended.returncode, ended.stdout) == (0, f"30 cities: 30 tile; {len(done)} kept\n"), ended.stderr
+    told_of = re.fullmatch(r"30 cities: 30 tile; (\d+) kept\n", ended.stdout)
+    assert ended.returncode == 0 and told_of, ended.stderr
+    kept = int(told_of[1])
+    assert kept == len(done) or (run.engine == "slurm" and kept > len(done)), "until then its jobs go on"
     assert {name: told(tmp_path / "out", name)["run"] for name in done} == runs
     assert all(calls(tmp_path).count(name) == 1 for name in done)
     assert names_in(tmp_path / "out/cities") == {f"c{at}" for at in range(30)}
@@ -364,7 +370,7 @@ def test_resume_after_the_command_is_killed(run, tmp_path, monkeypatch):
 
 @pytest.mark.parametrize("number", [signal.SIGTERM, signal.SIGINT])
 def test_a_command_that_is_stopped_leaves_nothing_running(run, tmp_path, monkeypatch, number):
-    program(tmp_path, monkeypatch, 'case "$city" in */c0) ;; *) sleep 600;; esac')
+    program(tmp_path, monkeypatch, 'case "$city" in */c0) ;; *) sleep 600; exit 1;; esac')
     write_cities(tmp_path, 6)
     one = started(tmp_path, *words_of(run))
     until(lambda: len(calls(tmp_path)) > 1 and have_results(tmp_path / "out", 1))
@@ -399,43 +405,73 @@ def test_workers_of_dask_that_are_killed(dask_cluster, tmp_path, monkeypatch):
     until(lambda: not processes_of(tmp_path))
 
 
+@contextmanager
+def scheduler_of_dask(folder):
+    """A scheduler of Dask: its process and its address. It is killed at the end."""
+    words = [sys.executable, "-m", "distributed.cli.dask_scheduler", "--scheduler-file", "dask", "--port", "0"]
+    with ended_at_last([*words, "--host", "127.0.0.1", "--no-dashboard"], folder) as process:
+        file = folder / "dask"
+        text = until(lambda: file.is_file() and file.read_text().rstrip().endswith("}") and file.read_text(), 400)
+        yield process, json.loads(text)["address"]
+
+
+@contextmanager
+def ended_at_last(words, folder):
+    """A process that says nothing, and is killed at the end."""
+    process = subprocess.Popen(words, cwd=str(folder), stdout=subprocess.DEVNULL, stderr=subprocess.DEVNULL)
+    try:
+        yield process
+    finally:
+        process.kill()
+        process.wait()
+
+
 def test_a_scheduler_of_dask_that_is_killed(tmp_path, monkeypatch):
     """What was done is told, what was not is named, and the run goes on from there by another engine."""
     first = 'mkdir "$city/../../first" 2> /dev/null'
     program(tmp_path, monkeypatch, f'{first} || [ -e "$city/../../go" ] || sleep 600')
-    (tmp_path / "dask").mkdir()
-    started_by = [
-        sys.executable,
-        "-m",
-        "distributed.cli.dask_scheduler",
-        "--scheduler-file",
-        "dask/file",
-        "--port",
-        "0",
-    ]
-    workers = [sys.executable, "-m", "distributed.cli.dask_worker", "--scheduler-file", "dask/file", "--nthreads", "1"]
-    quiet = {"cwd": str(tmp_path), "stdout": subprocess.DEVNULL, "stderr": subprocess.DEVNULL}
-    own = [subprocess.Popen([*started_by, "--host", "127.0.0.1", "--no-dashboard"], **quiet)]
-    try:
-        address = until(lambda: (tmp_path / "dask/file").is_file() and (tmp_path / "dask/file").read_text())
-        own.append(subprocess.Popen([*workers, "--no-dashboard", "--death-timeout", "120"], **quiet))
-        write_cities(tmp_path, 3)
-        scheduler = json.loads(address)["address"]
-        one = started(tmp_path, "manifest.csv", "--out", "out", "--engine", "dask", "--scheduler", scheduler)
-        until(lambda: have_results(tmp_path / "out", 1) and len(calls(tmp_path)) > 1, 400)
-        own[0].kill()
-        out, errors = one.communicate(timeout=300)
-    finally:
-        for process in own[::-1]:
-            process.kill()
-            process.wait()
+    write_cities(tmp_path, 3)
+    workers = [sys.executable, "-m", "distributed.cli.dask_worker", "--scheduler-file", "dask", "--nthreads", "1"]
+    with scheduler_of_dask(tmp_path) as (scheduler, address):
+        with ended_at_last([*workers, "--no-dashboard", "--death-timeout", "120"], tmp_path):
+            one = started(tmp_path, "manifest.csv", "--out", "out", "--engine", "dask", "--scheduler", address)
+            until(lambda: have_results(tmp_path / "out", 1) and len(calls(tmp_path)) > 1, 400)
+            scheduler.kill()
+            out, errors = one.communicate(timeout=300)
     assert (one.returncode, out) == (2, "3 cities: 1 tile, 2 without a verdict (T7 2)\n"), errors
-    assert errors.splitlines()[-1] == "error: T9 2 of 3 cities have no verdict" and "Traceback" not in errors
+    assert errors.splitlines()[-1] == "error: T9 2 of 3 cities have no verdict" and "Traceback" not in errors, errors
     assert errors.count(": T7 Dask: the scheduler went away") == 2
     until(lambda: not processes_of(tmp_path / "in"))
     (tmp_path / "go").touch()
     summary = run_many(tmp_path / "manifest.csv", tmp_path / "out", resume=True)
     assert summary.kept == 1 and all(it.tiles for it in summary.verdicts)
+
+
+CLOSED_WHILE_IT_RECONNECTS = """
+import os, sys, time
+from gandovel.many.engines import DaskEngine, Settings
+engine = DaskEngine(Settings(scheduler=sys.argv[1]))
+engine.test()
+os.kill(int(sys.argv[2]), 9)
+while engine.client.status == "running":
+    time.sleep(0.01)
+engine.close()
+"""
+
+
+def test_a_client_of_dask_that_reconnects_tells_nothing_of_it(tmp_path):
+    """The library logs a traceback of its own where a reconnection is given up; a user is told in our words alone."""
+    with scheduler_of_dask(tmp_path) as (scheduler, address):
+        ended = subprocess.run(
+            [sys.executable, "-c", CLOSED_WHILE_IT_RECONNECTS, address, str(scheduler.pid)],
+            stdout=subprocess.PIPE,
+            stderr=subprocess.PIPE,
+            universal_newlines=True,
+            env={**os.environ, "PYTHONPATH": os.pathsep.join([str(SOURCES), os.environ.get("PYTHONPATH", "")])},
+            timeout=300,
+        )
+    assert ended.returncode == 0 and not ended.stdout
+    assert [line.partition(":")[0] for line in ended.stderr.splitlines()] == ["dashboard"], ended.stderr
 
 
 @pytest.mark.parametrize("engine", ["parallel", "dask"])

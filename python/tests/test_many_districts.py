@@ -213,12 +213,186 @@ def test_numbers_of_districts(tmp_path):
     write_rings(tmp_path / "in/d1/parcels.shp", beside)
     summary = run_many(manifest, tmp_path / "out")
     assert summary.wholes[0].said == (
-        "does not tile: 0 of 2 districts tile; not d0 (H2), d1 (H2); parcel b crosses districts d0 and d1"
+        "does not tile: 0 of 2 districts tile; not d0 (H2), d1 (H2); parcel b crosses districts d0 and d1; "
+        "parcels have the same number: a (d0, d1)"
     )
     frame = gpd.read_file(tmp_path / "out/faults.gpkg", layer="overlaps")
     assert frame[["city", "records", "numbers"]].values.tolist() == [["d0", "2", "b"]]
     gaps = gpd.read_file(tmp_path / "out/faults.gpkg", layer="gaps")
     assert gaps[["city", "numbers"]].values.tolist() == [["d1", "e,g"]]
+    (crossing,) = gpd.read_file(tmp_path / "out/faults.gpkg", layer="crossings").itertuples()
+    assert (crossing.city, crossing.district, crossing.other, crossing.number) == ("metropolis", "d0", "d1", "b")
+    assert crossing.geometry.equals(Polygon(parcels[1] / 1000))
+    assert summary.lines()[-1].startswith("1 gap, 1 overlap, 1 parcel across districts: ")
+
+
+PLANTED = {
+    "exchanged": ("does not tile: 1 of 3 districts tile; not d1 (H2), d0 (H2); parcel record 1 crosses", 1),
+    "moved": ("does not tile: 2 of 3 districts tile; not d1 (H2); parcel record 2 crosses districts d1 and d2", 1),
+    "a centimetre in the layer of districts": ("does not tile: the layer of districts does not (H2); 2 of 3", 1),
+    "doubled": ("does not tile: 2 of 3 districts tile; not d1 (H2); parcel record 1 crosses districts d1 and d0", 1),
+    "missing": ("open: the manifest has no row for district 2 of 3", 2),
+    "a T junction at a border": ("tiles: 13 parcels of 3 districts", 0),
+}
+
+
+@pytest.mark.parametrize("kind", sorted(PLANTED))
+def test_planted_faults_of_districts(tmp_path, kind):
+    rows = row_of_districts(tmp_path / "in", 3)
+    here = tmp_path / "in/d1/parcels.shp"
+    if kind == "exchanged":
+        rows[1]["district"], rows[2]["district"] = 2, 1
+    elif kind == "moved":
+        write_rings(here, [ring + 10 for ring in read_rings(here)])
+    elif kind == "doubled":
+        rows[2]["parcels"] = rows[1]["parcels"]
+    elif kind == "missing":
+        del rows[2]
+    elif kind == "a T junction at a border":
+        rings = read_rings(here)
+        rings[0] = box(2 * SIDE, 0, 3 * SIDE, SIDE - 7)
+        rings.append(box(2 * SIDE, SIDE - 7, 3 * SIDE, SIDE))
+        write_rings(here, rings)
+    else:
+        rings = [box(2 * i * SIDE, 0, 2 * (i + 1) * SIDE - 10 * (i == 1), 2 * SIDE) for i in range(3)]
+        write_rings(tmp_path / "in/districts.shp", rings)
+    summary = run_many(write_manifest(tmp_path, rows), tmp_path / "out", retries=0)
+    (whole,) = summary.wholes
+    said, status = PLANTED[kind]
+    assert whole.said.startswith(said) and summary.status == status, whole.said
+    assert (summary.gaps + summary.overlaps > 0) == (status == 1)
+    assert (summary.crossings > 0) == ("crosses" in said)
+
+
+def test_numbers_are_unique_over_all_levels(tmp_path):
+    rows = row_of_districts(tmp_path / "in", 2, "country")
+    quarters = [box(2 * SIDE, 0, 3 * SIDE, 2 * SIDE), box(3 * SIDE, 0, 4 * SIDE, 2 * SIDE)]
+    rows[2].update(parcels=tmp_path / "in/quarters.shp")
+    write_rings(tmp_path / "in/quarters.shp", quarters)
+    number_them(tmp_path / "in/d0/parcels.shp", ["a", "b", "c", "d"])
+    for at, ring in enumerate(quarters):
+        write_rings(tmp_path / f"in/q{at}.shp", [ring])
+        number_them(tmp_path / f"in/q{at}.shp", ["bx"[at]])
+        rows.append({"name": f"q{at}", "parcels": tmp_path / f"in/q{at}.shp", "part_of": "d1", "district": at + 1})
+    summary = run_many(write_manifest(tmp_path, rows), tmp_path / "out")
+    said = {whole.name: whole.said for whole in summary.wholes}
+    assert said["country"] == "open: parcels have the same number: b (d0, q0)" and said["d1"].startswith("tiles: 2")
+
+
+def with_zones(folder: Path, count: int) -> List[Dict[str, Any]]:
+    """A city of districts in a row with three zones, whose borders lie within districts, and slant; none of theirs."""
+    rows = row_of_districts(folder, count)
+    wide, high = 2 * SIDE * count, 2 * SIDE
+    one, other = wide // 3, 2 * wide // 3 - 1_234
+    corners = [(0, 0), (one, 0), (one + 777, high), (0, high)], [(one, 0), (other, 0), (other, high), (one + 777, high)]
+    zones = [*corners, [(other, 0), (wide, 0), (wide, high), (other, high)]]
+    shapes = [Polygon(it) for it in zones]
+    gpd.GeoDataFrame({"zone": ["A", "B", "C"]}, geometry=shapes).to_file(folder / "zones.shp")
+    write_rings(folder / "zones.shp", [np.array(it, dtype=np.int64) for it in zones])
+    rows[0]["zones"] = folder / "zones.shp"
+    for at in range(count):
+        number_them(folder / f"d{at}/parcels.shp", [f"{at}-{number}" for number in "abcd"])
+    return rows
+
+
+def pairs_of_one_layer(folder: Path, count: int) -> Any:
+    """The pairs that the program says of all parcels in one layer, as the table has them."""
+    files = [folder / f"d{at}/parcels.shp" for at in range(count)]
+    write_rings(folder / "all.shp", [ring for path in files for ring in read_rings(path)])
+    words = [TOOL, "overlay", folder / "city.shp", folder / "all.shp", folder / "zones.shp", "--unit", "mm"]
+    text = subprocess.check_output(list(map(str, words)), universal_newlines=True)
+    pairs = [tuple(map(int, line.split()[1:])) for line in text.splitlines() if line.startswith("pair ")]
+    return {(f"{(a - 1) // 4}-{'abcd'[(a - 1) % 4]}", "ABC"[b - 1]) for a, b in pairs}
+
+
+def table_of(out: Path) -> List[Dict[str, str]]:
+    with open(out / "pairs.csv", newline="") as file:
+        return list(csv.DictReader(file))
+
+
+def test_pairs_across_districts_are_one_table(run, tmp_path):
+    """Whole zones, parcels of districts: as one run of all parcels says."""
+    rows, out = with_zones(tmp_path / "in", 4), tmp_path / "out"
+    manifest = write_manifest(tmp_path, rows)
+    summary = run(manifest, out)
+    expected, table = pairs_of_one_layer(tmp_path / "in", 4), table_of(out)
+    assert {(it["number"], it["zone"]) for it in table} == expected and len(table) == len(expected) > 16
+    split = {number for number, _ in expected if sum(it == number for it, _ in expected) > 1}
+    assert {it["number"] for it in table if it["split"]} == split and split
+    assert {(it["city"], it["district"]) for it in table} == {("metropolis", f"d{at}") for at in range(4)}
+    (whole,) = summary.wholes
+    assert (whole.kind, whole.pairs, whole.split) == ("tiles", len(expected), len(split))
+    assert whole.said == (
+        f"tiles: 16 parcels of 4 districts; {len(expected)} pairs with zones, {len(split)} parcels split"
+    )
+    assert not (out / "frames").exists()
+    again = run(manifest, out, resume=True)
+    assert again.wholes == summary.wholes and table_of(out) == table
+    assert told(out, "0-d1", "overlays")["run"] == told(out, "d1")["run"], "what is kept is not overlaid again"
+    write_city(tmp_path / "in/d2", gap=True, at=4 * SIDE)
+    refused = run(manifest, out, resume=True)
+    assert refused.wholes[0].kind == "refused" and refused.wholes[0].pairs is None
+    assert {it["district"] for it in table_of(out)} == {"d0", "d1", "d3"}
+
+
+def test_an_overlay_that_has_no_answer_leaves_the_city_open(tmp_path, monkeypatch):
+    program(tmp_path, monkeypatch, 'case "$1 $2" in overlay*/frames/d1/*) kill -9 $$;; esac')
+    summary = run_many(write_manifest(tmp_path, with_zones(tmp_path / "in", 3)), tmp_path / "out", retries=0)
+    assert summary.wholes[0].said == "open: not overlaid: d1 (T4 the program was killed by signal 9)"
+    assert summary.status == 2 and verdicts(summary)["d1"] == ("tiles", "")
+    monkeypatch.undo()
+    summary = run_many(tmp_path / "manifest.csv", tmp_path / "out", resume=True)
+    assert summary.wholes[0].tiles and summary.wholes[0].pairs == len(pairs_of_one_layer(tmp_path / "in", 3))
+
+
+def test_a_disk_that_has_no_room_for_overlays(tmp_path, monkeypatch):
+    """The verdicts of districts are told all the same, and why the city is open."""
+    from gandovel.many import pairs
+
+    def full(*words: Any) -> Any:
+        raise OSError(28, "No space left on device")
+
+    monkeypatch.setattr(pairs, "write_overlay", full)
+    summary = run_many(write_manifest(tmp_path, with_zones(tmp_path / "in", 2)), tmp_path / "out", retries=0)
+    assert verdicts(summary) == {"metropolis": ("open", "open"), "d0": ("tiles", ""), "d1": ("tiles", "")}
+    said = summary.wholes[0].said
+    assert said.startswith("open: not overlaid: d0 (P14 ") and "No space left on device" in said
+    assert (tmp_path / "out/summary.csv").is_file()
+
+
+def test_a_layer_that_changes_before_it_is_overlaid(tmp_path, monkeypatch):
+    rows = with_zones(tmp_path / "in", 2)
+    changes = f'"{TOOL}" "$@"; echo >> {tmp_path}/in/d0/parcels.shp; exit'
+    program(tmp_path, monkeypatch, f'case "$1 $3" in "check "*/d1/*) {changes};; esac')
+    summary = run_many(write_manifest(tmp_path, rows), tmp_path / "out", retries=0, jobs=1)
+    assert summary.wholes[0].said == "open: not overlaid: d0 (T5 a layer changed)"
+
+
+def cut_zones(folder: Path, count: int) -> List[Dict[str, Any]]:
+    """The same, with zones cut along the districts, each piece under its zone's number."""
+    rows = with_zones(folder, count)
+    whole = [Polygon(ring) for ring in read_rings(folder / "zones.shp")]
+    for at, row in enumerate(rows[1:]):
+        ring = Polygon(box(2 * at * SIDE, 0, 2 * (at + 1) * SIDE, 2 * SIDE))
+        pieces = [(name, zone.intersection(ring)) for name, zone in zip("ABC", whole)]
+        some = [(name, piece) for name, piece in pieces if piece.area]
+        row["zones"] = folder / f"d{at}/pieces.shp"
+        gpd.GeoDataFrame({"zone": [name for name, _ in some]}, geometry=[it for _, it in some]).to_file(row["zones"])
+        write_rings(row["zones"], [np.rint(np.asarray(it.exterior.coords)[:-1]).astype(np.int64) for _, it in some])
+    return rows
+
+
+def test_zones_that_were_cut_make_up_their_zone(tmp_path):
+    rows, out = cut_zones(tmp_path / "in", 3), tmp_path / "out"
+    summary = run_many(write_manifest(tmp_path, rows), out)
+    expected = pairs_of_one_layer(tmp_path / "in", 3)
+    assert summary.wholes[0].tiles and {(it["number"], it["zone"]) for it in table_of(out)} == expected
+    frame = gpd.read_file(tmp_path / "in/d1/pieces.shp")
+    frame.assign(zone=frame.zone.tolist()[::-1]).to_file(tmp_path / "other.shp")
+    (tmp_path / "other.dbf").rename(tmp_path / "in/d1/pieces.dbf")
+    summary = run_many(tmp_path / "manifest.csv", out)
+    assert summary.wholes[0].kind == "open" and summary.status == 2
+    assert summary.wholes[0].said.startswith("open: the pieces in its districts do not make up zones: A, C")
 
 
 def test_rings_are_the_programs_where_the_layer_tiles(tmp_path):

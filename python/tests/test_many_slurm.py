@@ -11,9 +11,10 @@ import pytest
 
 from gandovel import Refused
 from gandovel.many import run_many
-from gandovel.many.engines import slurm
+from gandovel.many.engines import Settings, slurm
+from gandovel.many.tasks import Batch
 from many_cities import calls, program, processes_of, until, write_cities
-from slurm_cluster import NODES, Cluster
+from slurm_cluster import Cluster
 
 LARGEST = 8
 
@@ -58,20 +59,24 @@ def test_no_more_at_once_than_jobs(cluster, tmp_path, monkeypatch):
 
 
 def test_a_node_that_goes_away(cluster, tmp_path, monkeypatch):
-    program(tmp_path, monkeypatch, 'echo "$SLURMD_NODENAME" >> "$city/node"; once slow && sleep 30')
+    """All four cities run, two on each node, when one node goes away; they end only then."""
+    waits = 'once slow && until [ -e "$city/../../go" ]; do sleep 0.2; done'
+    program(tmp_path, monkeypatch, f'echo "$SLURMD_NODENAME" >> "$city/node"; {waits}')
 
-    def on(name):
-        return [path for path in (tmp_path / "in").glob("*/node") if path.read_text().split() == [name]]
+    def nodes():
+        return [path.read_text().split() for path in (tmp_path / "in").glob("*/node")]
 
     def go_away():
-        until(lambda: all(map(on, NODES)))
+        until(lambda: len(calls(tmp_path)) == 4 and len(nodes()) == 4)
         cluster.kill("one")
+        (tmp_path / "go").touch()
 
     joined = beside(go_away)
     summary = run_many(write_cities(tmp_path, 4), tmp_path / "out", "slurm", retries=0)
     assert not joined()
     assert all(it.tiles for it in summary.verdicts), "Slurm itself gives them to the other node"
-    assert sum(path.read_text().split() == ["one", "two"] for path in (tmp_path / "in").glob("*/node")) == 2
+    begun_there = [seen for seen in nodes() if seen[0] == "one"]
+    assert len(begun_there) == 2 and all(seen[-1] == "two" for seen in begun_there), nodes()
 
 
 def test_a_controller_that_goes_away_for_a_while(cluster, tmp_path, monkeypatch):
@@ -79,7 +84,7 @@ def test_a_controller_that_goes_away_for_a_while(cluster, tmp_path, monkeypatch)
 
     def go_away():
         until(lambda: len(calls(tmp_path)) == 4)
-        cluster.kill("slurmctld")
+        cluster.end("slurmctld")
         until(lambda: subprocess.run(["squeue"], stdout=subprocess.PIPE, stderr=subprocess.PIPE).returncode)
         cluster.start_controller()
         (tmp_path / "go").touch()
@@ -96,7 +101,7 @@ def test_a_controller_that_stays_away(cluster, tmp_path, monkeypatch):
 
     def go_away():
         until(lambda: len(calls(tmp_path)) == 4)
-        cluster.kill("slurmctld")
+        cluster.end("slurmctld")
 
     joined = beside(go_away)
     with pytest.raises(Refused, match="T7 Slurm's controller is away, with jobs 1 under way"):
@@ -109,6 +114,24 @@ def test_a_controller_that_stays_away(cluster, tmp_path, monkeypatch):
     until(lambda: subprocess.run(["squeue", "-h"], stdout=subprocess.PIPE, stderr=subprocess.PIPE).stdout == b"")
     summary = run_many(tmp_path / "manifest.csv", tmp_path / "out", "slurm", resume=True)
     assert summary.kept == 6 and all(it.tiles for it in summary.verdicts)
+
+
+def test_an_element_that_slurm_holds_is_given_up_and_tried_again(tmp_path, monkeypatch):
+    """Slurm holds what it could not launch, and would for ever."""
+    asked, states = [], iter(["0|PENDING|launch failed requeued held\n1|RUNNING|None\n", "1|COMPLETED|None\n"])
+
+    def ask(*words, more=None):
+        asked.append(words)
+        text = next(states) if words[0] == "squeue" else "7\n" if words[0] == "sbatch" else ""
+        return subprocess.CompletedProcess(words, 0, text, "")
+
+    monkeypatch.setattr(slurm, "_ask", ask)
+    monkeypatch.setattr(slurm, "OFTEN", 0.0)
+    monkeypatch.setattr(slurm.shutil, "which", lambda _: None)
+    engine, batch = slurm.SlurmEngine(Settings()), Batch(tmp_path, [], "run", lambda _: False)
+    engine.jobs, engine.lists, engine.largest = [[0], [1]], [tmp_path / "0.txt", tmp_path / "1.txt"], 10
+    assert engine._arrays(batch, [0, 1], lambda _: None) == {0: slurm.HELD, 1: "COMPLETED"}
+    assert ("scancel", "7_0") in asked and slurm._what(slurm.HELD).killed
 
 
 @pytest.mark.parametrize("retries", [0, 1])

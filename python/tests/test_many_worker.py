@@ -129,7 +129,9 @@ def test_a_list_of_tasks_that_is_asked_to_stop(tmp_path, monkeypatch):
 
 def test_workers_of_dask_that_are_gone_for_good(tmp_path, monkeypatch):
     import dask
+    import distributed  # its own settings would go with those that are set below
 
+    assert dask.config.get("distributed.comm")
     monkeypatch.setattr(dask_engine, "OFTEN", 0.5)
     engine = dask_engine.DaskEngine(Settings(jobs=2))
     with dask.config.set({"distributed.deploy.lost-worker-timeout": "1s"}):

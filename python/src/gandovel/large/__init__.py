@@ -55,5 +55,5 @@ def how_cut() -> Cutting:
 
 def is_large(rings: "Sequence[Array]") -> bool:
     """Whether a layer of these rings is cut."""
-    most = how_cut().most
-    return len(rings) > (most or MOST_RINGS) or sum(map(len, rings)) > MOST_IN_ALL
+    most = how_cut().most or MOST_RINGS
+    return len(rings) > min(most, MOST_RINGS) or sum(map(len, rings)) > MOST_IN_ALL

@@ -16,7 +16,7 @@ def add_options(command: argparse.ArgumentParser) -> None:
     group.add_argument(
         "--parcels-a-district",
         metavar="N",
-        type=_positive,
+        type=_rings,
         help=f"the most rings of a district ({A_DISTRICT}); a smaller layer is cut, too, where this is given",
     )
     group.add_argument("--engine", choices=ENGINES, default="processes", help="what judges districts (processes)")
@@ -28,6 +28,13 @@ def _positive(word: str) -> int:
     number = int(word)
     if number < 1:
         raise argparse.ArgumentTypeError("a whole number from 1")
+    return number
+
+
+def _rings(word: str) -> int:
+    number = _positive(word)
+    if number > A_DISTRICT:
+        raise argparse.ArgumentTypeError(f"a whole number from 1 to {A_DISTRICT}")
     return number
 
 

@@ -16,16 +16,16 @@ from ..arrays import Array
 from ..errors import Refused
 from ..layer_files import write_rings
 from ..prepared import Island
-from ..rounds import filled, rounds_of
+from ..rounds import rounds_of
 from ..tool import CheckAnswer, answer_of_check, areas, ask
-from . import A_DISTRICT, how_cut, is_large
+from . import A_DISTRICT, frames, how_cut, is_large
 from .compose import added_up
 from .cutting import Districts, boxes_of, levels_of, partition_faults
+from .frames import near_rows, shares_of
 from .runs import Run, Said, forked, jobs_of, said_of, threads_of
 
 HEAD = 108
 """Where the content of a shapefile's first record begins, in bytes: behind the file's head and its own."""
-MARGIN = 1_000
 SHOWN = 8
 FORKED = 10_000
 """From so many rings on, districts are written by several processes."""
@@ -106,7 +106,7 @@ def _levels_of(island: Island, role: str) -> List[Districts]:
     how = how_cut()
     key = f"{role} {how.most}"
     if key not in kept:
-        kept[key] = levels_of(getattr(island, role).rings, how.most or A_DISTRICT)
+        kept[key] = levels_of(getattr(island, role).rings, min(how.most or A_DISTRICT, A_DISTRICT))
     return kept[key]
 
 
@@ -290,27 +290,31 @@ def pairs_of_island(island: Island, parcels: Any, zones: Any) -> Array:
     """The pairs of rows (parcel, zone), from 0, whose interiors have a common point: all of them by the program.
 
     Each district's parcels are overlaid with the whole zones near it, in a rectangle around all of them, which rows of
-    no one fill. So no zone is cut. `parcels` and `zones` are the layers' `LayerFaults`, or None of layers that tile.
+    no one fill. So no zone is cut; more zones than a layer has are taken in shares. `parcels` and `zones` are the layers' `LayerFaults`, or None of layers that tile.
     """
     assert island.zones is not None
-    districts, boxes = districts_of(island, "parcels"), boxes_of(island.zones.rings)
+    districts, rings = districts_of(island, "parcels"), (island.parcels.rings, island.rows_of_zones().rings)
+    boxes, corners = [boxes_of(it) for it in rings], [np.array([len(ring) for ring in it]) for it in rings]
     conflicts = [_neighbours(it.conflicts if it else []) for it in (parcels, zones)]
     beyond: List[Set[int]] = [it.beyond if it else set() for it in (parcels, zones)]
 
-    def near(at: int) -> Array:
-        box = boxes_of([districts.outlines[at]])[0]
-        some = boxes_of([island.parcels.rings[row] for row in districts.rows[at].tolist()])
-        low, high = np.minimum(box[:2], some[:, :2].min(axis=0)), np.maximum(box[2:], some[:, 2:].max(axis=0))
-        return np.flatnonzero((boxes[:, :2] < high).all(axis=1) & (boxes[:, 2:] > low).all(axis=1))
+    def shares(at: int) -> Iterator[List[Array]]:
+        """The parcels and zones of each of a district's overlays."""
+        near = near_rows(np.arange(len(boxes[1])), boxes[1], boxes[0][districts.rows[at]])
+        for others in shares_of(near, boxes[1], corners[1]):
+            for some in shares_of(near_rows(districts.rows[at], boxes[0], boxes[1][others]), boxes[0], corners[0]):
+                yield [some, near_rows(others, boxes[1], boxes[0][some])]
 
     with _folder() as folder:
 
         def write(at: int) -> List[Tuple[Run, List[int], List[int]]]:
-            rows = [districts.rows[at].tolist(), near(at).tolist()]
-            both = (island.parcels, island.rows_of_zones())
-            layers = [[it.rings[row] for row in some] for it, some in zip(both, rows)]
-            rounds = [_rounds(some, against, out) for some, against, out in zip(rows, conflicts, beyond)]
-            return _write_overlay(folder / f"d{at + 1}", layers, rows, rounds)
+            written = []
+            for number, both in enumerate(shares(at)):
+                rows = [it.tolist() for it in both]
+                layers = [[it[row] for row in some] for it, some in zip(rings, rows)]
+                rounds = [_rounds(some, against, out) for some, against, out in zip(rows, conflicts, beyond)]
+                written += frames.write_overlay(folder / f"d{at + 1}-{number}", layers, rows, rounds)
+            return written
 
         jobs = jobs_of(how_cut()) if len(island.parcels.rings) > FORKED else 1
         runs = [it for several in forked(write, len(districts), jobs) for it in several]
@@ -332,33 +336,11 @@ def _rounds(rows: List[int], against: Dict[int, Set[int]], beyond: Set[int]) -> 
     return rounds_of(len(rows), groups, {where[row] for row in beyond if row in where})
 
 
-def _write_overlay(
-    folder: Path, layers: List[List[Array]], rows: List[List[int]], rounds: List[List[List[int]]]
-) -> List[Tuple[Run, List[int], List[int]]]:
-    """Writes a district's rounds; its runs, each with the rows of its first parcels and zones."""
-    folder.mkdir()
-    corners = boxes_of([ring for layer in layers for ring in layer])
-    (x0, y0), (x1, y1) = corners[:, :2].min(axis=0) - MARGIN, corners[:, 2:].max(axis=0) + MARGIN
-    frame = np.array([(x0, y0), (x1, y0), (x1, y1), (x0, y1)], dtype=np.int64)
-    write_rings(folder / "city.shp", [frame])
-    for name, rings, several in zip(("parcels", "zones"), layers, rounds):
-        for at, some in enumerate(several):
-            write_rings(folder / f"{name}_{at}.shp", filled(frame, [rings[row] for row in some]))
-    runs = []
-    for i, some in enumerate(rounds[0]):
-        for j, others in enumerate(rounds[1]):
-            files = (str(folder / name) for name in ("city.shp", f"parcels_{i}.shp", f"zones_{j}.shp"))
-            paths = tuple(files)
-            run = Run(f"{folder.name}-{i}-{j}", ("overlay", *paths, "--unit", "mm", "--workers", "1"), paths)
-            runs.append((run, [rows[0][at] for at in some], [rows[1][at] for at in others]))
-    return runs
-
-
 def _pairs(runs: Sequence[Tuple[Run, List[int], List[int]]], said: Sequence[Said]) -> Array:
     found: List[Array] = []
     for (run, parcels, zones), it in zip(runs, said):
         if it.lost or it.refused is not None:
-            raise Open(f"{run.name.partition('-')[0]} was not overlaid ({it.lost or it.refused})")
+            raise Open(f"district {run.name[1:].partition('-')[0]} was not overlaid ({it.lost or it.refused})")
         pairs = np.array(
             [line.split()[1:] for line in it.printed.splitlines() if line.startswith("pair ")], dtype=np.int64
         )

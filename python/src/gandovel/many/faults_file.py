@@ -1,4 +1,4 @@
-"""The faults of all cities as one GeoPackage: gaps and overlaps as polygons, and the rings that are refused."""
+"""The faults of all cities as one GeoPackage: gaps, overlaps, parcels across districts, and rings that are refused."""
 from __future__ import annotations
 
 import json
@@ -17,7 +17,7 @@ from shapely.geometry import Polygon, shape
 from ..faults import faults_of
 from ..gpkg import write_layers
 from ..styles import STYLES
-from .layers import Cover
+from .layers import Cover, Crossing
 from .manifest import Row
 from .results import Result
 
@@ -39,6 +39,7 @@ COLUMNS = {
     "gaps": FAULT_COLUMNS,
     "overlaps": FAULT_COLUMNS,
     "rings": ("city", "layer", "record", "number", "fault", "geometry"),
+    "crossings": ("city", "district", "other", "record", "number", "geometry"),
 }
 
 
@@ -49,7 +50,7 @@ class Faults:
         self.rows: Dict[Optional[str], Dict[str, List[Dict[str, Any]]]] = defaultdict(lambda: defaultdict(list))
 
     def count(self, kind: str) -> int:
-        """How many `gaps`, `overlaps` or `rings` there are."""
+        """How many `gaps`, `overlaps`, `rings` or `crossings` there are."""
         return sum(len(layers[kind]) for layers in self.rows.values())
 
     def add(self, row: Row, result: Result) -> None:
@@ -93,6 +94,14 @@ class Faults:
                         "geometry": ring,
                     }
                 )
+
+    def add_crossing(self, city: str, row: Row, it: Crossing) -> None:
+        """Takes a parcel of a city's district that reaches into another one."""
+        projection, unit = _place(Path(row.parcels))
+        ring = _ring(Path(row.parcels), it.record, MM_PER_UNIT[row.unit] / unit)
+        if ring is not None:
+            told = {"city": city, "district": it.district, "other": it.other, "record": it.record, "number": it.number}
+            self.rows[projection]["crossings"].append({**told, "geometry": ring})
 
     def save(self, path: Path) -> bool:
         """Writes the GeoPackage; False where there is no fault, and no file. Refused P14 where the disk is full."""

@@ -3,7 +3,7 @@ from __future__ import annotations
 
 import csv
 from pathlib import Path
-from typing import Any, Dict, List, Optional, Sequence, Set, Tuple
+from typing import Any, Dict, List, NamedTuple, Optional, Sequence, Set
 
 import fiona
 import numpy as np
@@ -95,8 +95,17 @@ def shared_numbers(districts: Sequence[Row]) -> List[str]:
     return [f"{number} ({', '.join(dict.fromkeys(names))})" for number, names in where.items() if len(names) > 1]
 
 
-def crossings(districts: Sequence[Row], refused: Set[str]) -> List[Tuple[str, str, str]]:
-    """Parcels of refused districts that reach into other districts: number, its district, and that other one.
+class Crossing(NamedTuple):
+    """A parcel, by its number and its record from 1, that reaches from its district into another one."""
+
+    number: str
+    district: str
+    other: str
+    record: int = 0
+
+
+def crossings(districts: Sequence[Row], refused: Set[str]) -> List[Crossing]:
+    """Parcels of refused districts that reach into other districts.
 
     Measured by GEOS: a part of the parcel's inside lies outside its district's ring and within the other's.
     """
@@ -105,7 +114,7 @@ def crossings(districts: Sequence[Row], refused: Set[str]) -> List[Tuple[str, st
         some = rings_of(row.city, row.unit) if row.city else None
         if some:
             rings[row.name] = some[0]
-    boxes = boxes_of(list(rings.values()))
+    names, boxes = list(rings), boxes_of(list(rings.values()))
     found = []
     for row in districts:
         if row.name not in refused or row.name not in rings:
@@ -118,8 +127,8 @@ def crossings(districts: Sequence[Row], refused: Set[str]) -> List[Tuple[str, st
                 continue
             mine = cover.boxes[at]
             near = (boxes[:, :2] < mine[2:]).all(axis=1) & (boxes[:, 2:] > mine[:2]).all(axis=1)
-            for name, is_near in zip(rings, near.tolist()):
+            for name in (names[place] for place in np.flatnonzero(near).tolist()):
                 other = Polygon((rings[name] - cover.origin).astype(float))
-                if is_near and name != row.name and parcel.relate(other)[0] == "2":
-                    found.append((cover.told([at + 1]), row.name, name))
+                if name != row.name and parcel.relate(other)[0] == "2":
+                    found.append(Crossing(cover.told([at + 1]), row.name, name, at + 1))
     return found

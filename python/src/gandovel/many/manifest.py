@@ -55,7 +55,7 @@ def read_manifest(path: Union[str, Path]) -> List[Row]:
         raise Refused("P1", f"the manifest {path} can't be read: {fault}") from fault
     header = [name.lower() for name in table[0][1]] if table else []
     _test_header(path, header)
-    folder = Path(os.path.abspath(path)).parent
+    folder = os.path.dirname(os.path.abspath(path))
     rows = [_row(folder, line, dict(zip(header, _full(line, cells, header)))) for line, cells in table[1:]]
     if not rows:
         raise Refused("P15", f"the manifest {path} has no city")
@@ -78,7 +78,7 @@ def _full(line: int, cells: List[str], header: List[str]) -> List[str]:
     return cells + [""] * (len(header) - len(cells))
 
 
-def _row(folder: Path, line: int, cells: Dict[str, str]) -> Row:
+def _row(folder: str, line: int, cells: Dict[str, str]) -> Row:
     where = f"line {line} of the manifest"
     name = cells["name"]
     if not name:
@@ -102,7 +102,7 @@ def _row(folder: Path, line: int, cells: Dict[str, str]) -> Row:
         raise Refused("P15", f"{where}: unit is to be mm, cm or m, and is {cells['unit']!r}")
 
     def absolute(cell: str) -> str:
-        return os.path.abspath(folder / cell)
+        return os.path.normpath(os.path.join(folder, cell))
 
     edits = tuple(absolute(cell.strip()) for cell in cells.get("edits", "").split(";") if cell.strip())
     return Row(
@@ -155,3 +155,20 @@ def by_depth(rows: Sequence[Row]) -> List[List[Row]]:
         levels.append(level)
         level = [row for above in level for row in below[above.name]]
     return levels
+
+
+def bottom_of(rows: Sequence[Row]) -> List[Row]:
+    """The districts that have no districts."""
+    above = {row.part_of for row in rows}
+    return [row for row in rows if row.part_of is not None and row.name not in above]
+
+
+def cities_above(rows: Sequence[Row]) -> Dict[str, List[Row]]:
+    """For each row of a manifest the rows that it is part of, the nearest first."""
+    by_name = {row.name: row for row in rows}
+    found: Dict[str, List[Row]] = {}
+    for level in by_depth(rows):
+        for row in level:
+            above = by_name.get(row.part_of or "")
+            found[row.name] = [] if above is None else [above, *found[above.name]]
+    return found

@@ -7,25 +7,26 @@ import os
 import shutil
 import time
 from concurrent.futures import ThreadPoolExecutor
+from contextlib import contextmanager
 from dataclasses import dataclass, field
 from hashlib import sha256
 from pathlib import Path
-from typing import Any, Dict, List, Optional, Sequence, Tuple
+from typing import Any, Dict, Iterator, List, Optional, Sequence, TextIO, Tuple
 
 from ..errors import Refused
 from .tasks import Program, Task
 from .worker import Checked, checked, has_stamp
 
-KINDS = ("cities", "faults")
+KINDS = ("cities", "faults", "overlays")
 """The folders of results, by what was asked."""
 
-RINGS = "rings"
-"""The folder of the districts' rings."""
+RINGS, FRAMES = "rings", "frames"
+"""The folders of the districts' rings, and of what they are overlaid with."""
 
 MARK = "many.json"
 """The file by which a folder is known as one that `gandovel many` made."""
 
-DERIVED = ("summary.csv", "summary.json", "faults.gpkg")
+DERIVED = ("summary.csv", "summary.json", "faults.gpkg", "pairs.csv")
 """What a run makes of the results; an earlier run's goes when a run begins."""
 
 
@@ -120,6 +121,7 @@ class ResultsFolder:
         for left in [
             *(path for kind in (*KINDS, RINGS) for path in self.path.glob(f"{kind}/.*")),
             self.path / "engine",
+            self.path / FRAMES,
         ]:
             shutil.rmtree(left, ignore_errors=True)
         try:
@@ -132,9 +134,16 @@ class ResultsFolder:
 
     def write(self, name: str, text: str) -> None:
         """Writes a file of the folder under another name, then renames it."""
+        with self.written(name) as file:
+            file.write(text)
+
+    @contextmanager
+    def written(self, name: str) -> Iterator[TextIO]:
+        """A file of the folder under another name, which is renamed when it is full. Refused P14."""
         aside = self.path / f".{os.getpid()}.{name}"
         try:
-            aside.write_text(text, encoding="utf-8")
+            with open(aside, "w", encoding="utf-8", newline="") as file:
+                yield file
             os.replace(aside, self.path / name)
         except OSError as fault:
             raise Refused("P14", f"{self.path / name} can't be written: {short(fault)}") from fault
@@ -145,24 +154,24 @@ class ResultsFolder:
     def run_of(self, kind: str, name: str) -> Optional[str]:
         """The run that made a result of a kind; None where there is none."""
         try:
-            return str(json.loads((self.path / kind / name / "result.json").read_text(encoding="utf-8"))["run"])
+            return str(json.loads(_read(f"{self.path}/{kind}/{name}/result.json"))["run"])
         except (OSError, ValueError, KeyError, TypeError):
             return None
 
     def stamp_of(self, kind: str, name: str) -> Optional[Tuple[int, int]]:
         """What another result in a result's place changes; None where there is none."""
         try:
-            facts = (self.path / kind / name / "result.json").stat()
+            facts = os.stat(f"{self.path}/{kind}/{name}/result.json")
         except OSError:
             return None
         return facts.st_ino, facts.st_mtime_ns
 
     def result(self, kind: str, name: str) -> Optional[Result]:
         """A whole result, with output and error text; None where there is none, or one that the disk has torn."""
-        folder = self.path / kind / name
+        folder = f"{self.path}/{kind}/{name}"
         try:
-            told = json.loads((folder / "result.json").read_text(encoding="utf-8"))
-            output, errors = ((folder / f"{part}.txt").read_bytes() for part in ("output", "errors"))
+            told = json.loads(_read(f"{folder}/result.json"))
+            output, errors = (_read(f"{folder}/{part}.txt") for part in ("output", "errors"))
             files = ((output, told["output"]), (errors, told["errors"]))
             if any(sha256(content).hexdigest() != it["sha256"] for content, it in files):
                 return None
@@ -183,6 +192,14 @@ class ResultsFolder:
             )
         except (OSError, ValueError, KeyError, TypeError):
             return None
+
+    def frames_of(self, name: str) -> Path:
+        """The folder of what a district is overlaid with."""
+        return self.path / FRAMES / name
+
+    def without_frames(self) -> None:
+        """Removes what districts were overlaid with."""
+        shutil.rmtree(self.path / FRAMES, ignore_errors=True)
 
     def rings_of(self, name: str) -> Path:
         """The folder of a district's ring."""
@@ -205,6 +222,11 @@ class ResultsFolder:
             return all(_is_same(path, before, result.stamps.get(path)) for path, before in result.inputs.items())
         except OSError:
             return False
+
+
+def _read(path: str) -> bytes:
+    with open(path, "rb", buffering=0) as file:
+        return file.read()
 
 
 def _is_same(path: str, before: Optional[str], stamp: Optional[Sequence[int]]) -> bool:

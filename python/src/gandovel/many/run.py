@@ -20,21 +20,23 @@ from ..errors import Refused
 from .engines import ENGINES, Engine, Lost, Settings
 from .engines.base import processors
 from .engines.slurm import end_earlier_jobs
-from .manifest import Row, by_depth, read_manifest
+from .manifest import Row, bottom_of, by_depth, cities_above, read_manifest
 from .results import KINDS, Result, ResultsFolder, short
 from .rings import DistrictLayer, NoRing, Ring
-from .summary import Layers, Summary, Verdict, not_judged, verdict_of, wholes_of
+from .summary import Layers, Summary, Verdict, not_judged, shortened, verdict_of, wholes_of
 from .tasks import Batch, Limits, Program, Task, faults_task_of, find_program, task_of
+from .worker import checked
 
 if TYPE_CHECKING:
     from .faults_file import Faults
+    from .layers import Crossing
+    from .pairs import Overlay, ZonesOf
 
 SHOWN_AFTER = 2.0
 LOOKED_AT = 1000
 """For so many results it is looked at a time, while an engine runs."""
 
 Shared = Dict[str, List[str]]
-Crossing = Dict[str, List[Tuple[str, str, str]]]
 
 OF_THE_DISK = (errno.ENOSPC, errno.EDQUOT, errno.EROFS, errno.EACCES, errno.EPERM, errno.EIO, errno.ENOENT, errno.EFBIG)
 """Errors that say that a folder can't be written; any other one of an engine is the engine's."""
@@ -82,7 +84,10 @@ def run_many(
             rows = run.with_rings(rows)
             run.do(it, "cities", [task_of(row, threads) for row in rows if row.city is not None])
             asked = [(row, run.layer_of_first_fault(row)) for row in rows]
-            run.do(it, "faults", [faults_task_of(row, role, threads) for row, role in asked if role is not None])
+            more = [faults_task_of(row, role, threads) for row, role in asked if role is not None]
+            run.do_more(it, "faults", more)
+            run.do_more(it, "overlays", run.overlays_of(rows, threads))
+            run.results.without_frames()
         return run.summary(rows, begun)
 
 
@@ -158,6 +163,10 @@ class _Run:
         self.before: Dict[str, Optional[Tuple[int, str, str]]] = {}
         """What results said that are asked for again, so as to be verified: status, output and errors."""
         self.batches = 0
+        self.stopped: Optional[Refused] = None
+        """Why something behind the cities could not be asked."""
+        self.overlays: Dict[str, Optional[List[Overlay]]] = {}
+        """The overlays of districts with the zones of their cities; None of one whose files changed meanwhile."""
 
     def begin(self, manifest: Union[str, Path], engine: str) -> None:
         """Clears the folder of what an earlier run left half done."""
@@ -223,7 +232,7 @@ class _Run:
         if to_do:
             try:
                 batch.write(
-                    self.results.path / kind, self.program, self.settings.limits, self.verify or kind == "faults"
+                    self.results.path / kind, self.program, self.settings.limits, self.verify or kind != "cities"
                 )
                 with _progress(len(to_do), kind, self.shown) as told:
                     lost = engine.run(batch, early.then(told))
@@ -244,6 +253,13 @@ class _Run:
         if kind == "cities":
             self.kept = {task.name for task in tasks if task.name not in numbers}
 
+    def do_more(self, engine: Engine, kind: str, tasks: List[Task]) -> None:
+        """The same of what is asked behind the cities. Where it can't be done, their verdicts are told, and then why."""
+        try:
+            self.do(engine, kind, tasks)
+        except Refused as why:
+            self.stopped = self.stopped or why
+
     def layer_of_first_fault(self, row: Row) -> Optional[str]:
         """The layer, `parcels` or `zones`, whose faults an overlay found and told the first of."""
         if row.name not in self.found["cities"]:
@@ -257,20 +273,56 @@ class _Run:
             return None
         return verdict.layer
 
+    def overlays_of(self, rows: Sequence[Row], threads: int) -> List[Task]:
+        """Writes what districts without zones are overlaid with, where they tile, and a city above has zones that do."""
+        known: Dict[str, ZonesOf] = {}
+        above = cities_above(rows)
+        for row in bottom_of(rows):
+            zoned = next((it for it in above[row.name] if it.zones is not None), None)
+            if row.zones is not None or row.edits or zoned is None or not (self._tiles(row) and self._tiles(zoned)):
+                continue
+            from .pairs import ZonesOf, overlays_of
+
+            if zoned.name not in known:
+                known[zoned.name] = ZonesOf(zoned)
+            folder = self.results.frames_of(row.name)
+            try:
+                made = overlays_of(row, known[zoned.name], folder, threads)
+                judged = self._was_judged(row, row.parcels) and self._was_judged(zoned, str(zoned.zones))
+                self.overlays[row.name] = made if judged else None
+            except OSError as fault:
+                self.overlays[row.name] = None
+                self.lost["overlays"][row.name] = "P14", f"{folder} can't be written: {short(fault)}"
+        return [overlay.task for made in self.overlays.values() for overlay in made or ()]
+
+    def _tiles(self, row: Row) -> bool:
+        found = self.found["cities"]
+        return row.name in found and found[row.name][1].tiles
+
+    def _was_judged(self, row: Row, path: str) -> bool:
+        """Whether a file is the one that a row's verdict is of. OSError where it can't be read."""
+        here = checked(path)
+        return here is not None and self.found["cities"][row.name][0].has_read(path, here)
+
     def summary(self, rows: Sequence[Row], begun: float) -> Summary:
-        """Puts together what the run says, and writes `summary.csv`, `summary.json` and `faults.gpkg`."""
+        """Puts together what the run says, and writes `summary.csv`, `summary.json`, `faults.gpkg` and `pairs.csv`."""
         found, lost = self.found["cities"], self.lost["cities"]
         verdicts = {
             row.name: found[row.name][1] if row.name in found else not_judged(row.name, lost[row.name]) for row in rows
         }
         astray = {row.name for row in rows if row.part_of is not None and not self._has_its_ring(row)}
         records = {name: len(layer) for name, layer in self.layers.items()}
-        layers = Layers(records, astray, *self._numbers(rows, verdicts))
+        try:
+            pairs, unwritten = self._pairs(rows), self.stopped
+        except Refused as why:
+            pairs, unwritten = ({}, {}), self.stopped or why
+        layers = Layers(records, astray, *self._numbers(rows, verdicts), self._areas(rows), *pairs)
         summary = Summary(list(verdicts.values()), wholes_of(rows, verdicts, layers), len(self.kept))
         summary.kept_names, summary.differing = frozenset(self.kept), self._differing()
+        summary.unwritten = unwritten
         refused = [row for row in rows if verdicts[row.name].verdict == "refused"]
         writes: Sequence[Callable[[], object]] = (
-            lambda: self._tell_faults(summary, refused),
+            lambda: self._tell_faults(summary, rows, refused, layers),
             lambda: self.results.write("summary.csv", summary.table()),
             lambda: self.results.write("summary.json", summary.facts()),
         )
@@ -282,20 +334,84 @@ class _Run:
                 summary.unwritten = summary.unwritten or why
         return summary
 
-    def _numbers(self, rows: Sequence[Row], verdicts: Dict[str, Verdict]) -> "Tuple[Shared, Crossing]":
+    def _numbers(self, rows: Sequence[Row], verdicts: Dict[str, Verdict]) -> "Tuple[Shared, Dict[str, List[Crossing]]]":
         """By a city of districts: numbers that two of its districts share, and parcels that cross them."""
-        below: Dict[str, List[Row]] = {}
-        for row in rows:
-            if row.part_of is not None:
-                below.setdefault(row.part_of, []).append(row)
+        above = cities_above(rows)
+        below: Dict[str, List[Row]] = {row.part_of: [] for row in rows if row.part_of is not None}
+        for row in bottom_of(rows):
+            for city in above[row.name]:
+                below[city.name].append(row)
         refused = {row.name for row in rows if verdicts[row.name].code == "H2"}
         if not below or not (refused or any(_may_have_numbers(row) for row in rows)):
             return {}, {}
         from .layers import crossings, shared_numbers
 
-        bottom = {name: [row for row in some if row.name not in below] for name, some in below.items()}
-        shared = {name: shared_numbers(some) for name, some in bottom.items()}
-        return shared, {name: crossings(some, refused) for name, some in bottom.items() if name not in refused}
+        shared = {name: shared_numbers(some) for name, some in below.items()}
+        return shared, {name: crossings(some, refused) for name, some in below.items() if name not in refused}
+
+    def _areas(self, rows: Sequence[Row]) -> Dict[str, int]:
+        """Twice the areas in mm2 of the cities of districts that are overlaid, since an overlay tells none."""
+        above = {row.part_of for row in rows}
+        zoned = [row for row in rows if row.name in above and row.zones is not None and row.city is not None]
+        if not zoned:
+            return {}
+        from ..grid import twice_area
+        from .layers import rings_of
+
+        rings = {row.name: rings_of(str(row.city), row.unit) for row in zoned}
+        return {name: abs(twice_area(some[0])) for name, some in rings.items() if some}
+
+    def _pairs(self, rows: Sequence[Row]) -> Tuple[Dict[str, Tuple[int, int]], Dict[str, str]]:
+        """Writes `pairs.csv`, where cities of districts have zones: by city its pairs and split parcels, or why not."""
+        above = cities_above(rows)
+        bottom = [row for row in bottom_of(rows) if row.zones is not None or row.name in self.overlays]
+        if not bottom:
+            return {}, {}
+        from .pairs import Table, unlike_zones
+
+        there = {row.name for row in bottom}
+        lacking = {it.name for row in bottom_of(rows) if row.name not in there for it in above[row.name]}
+        why: Dict[str, str] = {}
+        with self.results.written("pairs.csv") as file:
+            table = Table(file)
+            for row in bottom:
+                found = self._pairs_of(row)
+                if found is None:
+                    lacking |= {it.name for it in above[row.name]}
+                    told = f"not overlaid: {row.name}{self._why_not(row)}"
+                    why.update({it.name: told for it in above[row.name] if it.name not in why})
+                else:
+                    zones = next(it for it in (row, *above[row.name]) if it.zones is not None)
+                    table.add([it.name for it in above[row.name]], row, zones, found)
+        for city in (row for row in rows if row.zones is not None and row.name not in there):
+            pieces = unlike_zones(city, [row for row in bottom if city in above[row.name]])
+            if pieces:
+                why.setdefault(city.name, f"the pieces in its districts do not make up zones: {shortened(pieces)}")
+        return {name: it for name, it in table.counts.items() if name not in lacking}, why
+
+    def _pairs_of(self, row: Row) -> Optional[Any]:
+        """The pairs of a district, by the records of its parcels and of zones, from 1; None where they are not known."""
+        from .pairs import all_pairs, pairs_in, pairs_of_overlay
+
+        if row.zones is not None:
+            result = self.results.result("cities", row.name) if self._tiles(row) else None
+            return None if result is None else pairs_in(result.output)
+        made = self.overlays[row.name]
+        results = [self.results.result("overlays", it.task.name) for it in made or ()]
+        if made is None or any(result is None or result.status for result in results):
+            return None
+        found = [pairs_of_overlay(it, result.output) for it, result in zip(made, results) if result is not None]
+        return all_pairs(found)
+
+    def _why_not(self, row: Row) -> str:
+        """Why the pairs of a district are not known, in brackets."""
+        made, lost, found = self.overlays.get(row.name), self.lost["overlays"], self.found["overlays"]
+        for name in (row.name, *(it.task.name for it in made or ())):
+            if name in lost:
+                return f" ({' '.join(lost[name])})"
+            if name in found and not found[name][1].tiles:
+                return f" ({found[name][1].code} {found[name][1].text})"
+        return " (T5 a layer changed)" if row.name in self.overlays and made is None else ""
 
     def _differing(self) -> List[str]:
         """The results that were asked for again and say something else than before."""
@@ -306,7 +422,7 @@ class _Run:
                 found.append(name)
         return found
 
-    def _tell_faults(self, summary: Summary, refused: Sequence[Row]) -> None:
+    def _tell_faults(self, summary: Summary, rows: Sequence[Row], refused: Sequence[Row], layers: Layers) -> None:
         """Writes the faults of refused cities, where there is one, and counts them. GeoPandas is imported for them alone."""
         if not refused:
             return
@@ -314,7 +430,12 @@ class _Run:
 
         faults = Faults()
         summary.untold = [row.name for row in refused if not self._add_faults(faults, row)]
+        by_name = {row.name: row for row in rows} if layers.crossing else {}
+        for city, several in layers.crossing.items():
+            for it in several if by_name[city].part_of is None else ():  # a city within it has none that this one lacks
+                faults.add_crossing(city, by_name[it.district], it)
         summary.gaps, summary.overlaps, summary.rings = map(faults.count, ("gaps", "overlaps", "rings"))
+        summary.crossings = faults.count("crossings")
         if faults.save(self.results.path / "faults.gpkg"):
             summary.faults_file = str(self.results.path / "faults.gpkg")
 

@@ -7,12 +7,15 @@ import json
 import re
 from collections import Counter, defaultdict
 from dataclasses import dataclass, field, replace
-from typing import AbstractSet, Any, Dict, FrozenSet, List, Mapping, Optional, Sequence, Tuple
+from typing import TYPE_CHECKING, AbstractSet, Any, Dict, FrozenSet, List, Mapping, Optional, Sequence, Tuple
 
 from ..errors import Refused
 from ..tool import refusal
 from .manifest import Row, by_depth
 from .results import Result
+
+if TYPE_CHECKING:
+    from .layers import Crossing
 
 COLUMNS = (
     "name",
@@ -109,8 +112,14 @@ class Layers:
     astray: AbstractSet[str] = frozenset()
     shared: Mapping[str, Sequence[str]] = field(default_factory=dict)
     """Parcels' numbers that stand in two districts, by the city's name."""
-    crossing: Mapping[str, Sequence[Tuple[str, str, str]]] = field(default_factory=dict)
+    crossing: "Mapping[str, Sequence[Crossing]]" = field(default_factory=dict)
     """Parcels that reach from one district into another, by the city's name."""
+    area2: Mapping[str, int] = field(default_factory=dict)
+    """Twice the area, in mm2, of cities whose verdict tells none, as that of an overlay."""
+    pairs: Mapping[str, Tuple[int, int]] = field(default_factory=dict)
+    """How many pairs of a parcel and a zone a city's districts have together, and how many parcels are split."""
+    not_overlaid: Mapping[str, str] = field(default_factory=dict)
+    """Why pairs of a city are not known, by its name."""
 
 
 @dataclass(frozen=True)
@@ -130,6 +139,8 @@ class Whole:
     parcels: Optional[int] = None
     area2: Optional[int] = None
     layer: Optional[Verdict] = None
+    pairs: Optional[int] = None
+    split: Optional[int] = None
 
     @property
     def tiles(self) -> bool:
@@ -144,7 +155,7 @@ class Whole:
         if self.layer is not None:
             costs = {"seconds": self.layer.seconds, "memory_kb": self.layer.memory_kb}
         text = "" if self.tiles else self.said.partition(": ")[2]
-        return Verdict(self.name, self.kind, code, "", text, self.parcels, self.area2, **costs)
+        return Verdict(self.name, self.kind, code, "", text, self.parcels, self.area2, self.pairs, self.split, **costs)
 
 
 def whole_of(
@@ -165,7 +176,7 @@ def whole_of(
     bad = [it for it in listed if not it.tiles]
     why = [] if layer.tiles else [f"the layer of districts does not ({layer.code})"]
     if bad:
-        names = _listed([f"{it.name} ({it.code})" for it in bad])
+        names = shortened([f"{it.name} ({it.code})" for it in bad])
         why.append(f"{count - len(bad)} of {count} districts tile; not {names}")
     if why:
         return Whole(layer.name, count, "refused", f"does not tile: {'; '.join(why)}", layer=layer)
@@ -176,13 +187,24 @@ def whole_of(
     return Whole(layer.name, count, "tiles", said, parcels, layer.area2, layer)
 
 
-def _with_numbers(whole: Whole, shared: Sequence[str], crossing: Sequence[Tuple[str, str, str]]) -> Whole:
-    """The same with parcels that cross districts, which a city that does not tile may have; open where numbers are shared."""
-    if whole.kind == "refused" and crossing:
-        told = _listed([f"parcel {number} crosses districts {one} and {other}" for number, one, other in crossing])
-        return replace(whole, said=f"{whole.said}; {told}")
+def _with_numbers(whole: Whole, layers: Layers) -> Whole:
+    """The same with parcels that cross districts, which a city that does not tile may have, and its pairs with zones.
+
+    Open where numbers are shared, or pairs are not known.
+    """
+    shared, crossing = layers.shared.get(whole.name, ()), layers.crossing.get(whole.name, ())
+    same = f"parcels have the same number: {shortened(shared)}" if shared else ""
+    if whole.kind == "refused":
+        names = [f"parcel {it.number} crosses districts {it.district} and {it.other}" for it in crossing]
+        return replace(whole, said="; ".join(filter(None, [whole.said, shortened(names), same])))
     if whole.kind == "tiles" and shared:
-        return replace(whole, kind="open", said=f"open: parcels have the same number: {_listed(shared)}")
+        return replace(whole, kind="open", said=f"open: {same}")
+    if whole.kind == "tiles" and whole.name in layers.not_overlaid:
+        return replace(whole, kind="open", said=f"open: {layers.not_overlaid[whole.name]}")
+    if whole.name in layers.pairs:
+        pairs, split = layers.pairs[whole.name]
+        told = f"{whole.said}; {_count(pairs, 'pair', 'pairs')} with zones, {_count(split, 'parcel', 'parcels')} split"
+        return replace(whole, said=told, pairs=pairs, split=split)
     return whole
 
 
@@ -197,21 +219,22 @@ def _unknown(
     if layer.verdict == "none":
         return f"the layer of districts has no verdict ({layer.code})"
     if missing:
-        numbers = _listed([str(number) for number in missing])
+        numbers = shortened([str(number) for number in missing])
         return f"the manifest has no row for {'district' if len(missing) == 1 else 'districts'} {numbers} of {there}"
     if without:
-        return f"not judged: {_listed([f'{it.name} ({it.code})' for it in without])}"
+        return f"not judged: {shortened([f'{it.name} ({it.code})' for it in without])}"
     if layer.tiles and len(districts) != there:
         return f"the layer has {_count(there or 0, 'district', 'districts')}, and the manifest {len(districts)}"
     areas = [it.area2 for it in districts.values() if it.tiles and it.area2 is not None]
-    if layer.tiles and len(areas) == there and sum(areas) != layer.area2:
+    if layer.tiles and layer.area2 is not None and len(areas) == there and sum(areas) != layer.area2:
         return f"the districts have twice {sum(areas)} mm2, and the city {layer.area2}"
     if elsewhere:
-        return f"the layer of districts changed between its check and the ring of {_listed(elsewhere)}"
+        return f"the layer of districts changed between its check and the ring of {shortened(elsewhere)}"
     return None
 
 
-def _listed(names: Sequence[str]) -> str:
+def shortened(names: Sequence[str]) -> str:
+    """The first names, with commas between."""
     return ", ".join(names[:SHOWN]) + (", .." if len(names) > SHOWN else "")
 
 
@@ -225,8 +248,10 @@ def wholes_of(rows: Sequence[Row], verdicts: Mapping[str, Verdict], layers: Laye
                 whole = found.get(row.name)
                 districts[row.part_of][row.district] = verdicts[row.name] if whole is None else whole.verdict
         for name, numbered in districts.items():
-            whole = whole_of(verdicts[name], numbered, layers.astray, layers.records.get(name))
-            found[name] = _with_numbers(whole, layers.shared.get(name, ()), layers.crossing.get(name, ()))
+            verdict = verdicts[name]
+            if verdict.area2 is None:
+                verdict = replace(verdict, area2=layers.area2.get(name))
+            found[name] = _with_numbers(whole_of(verdict, numbered, layers.astray, layers.records.get(name)), layers)
     return [found[row.name] for row in rows if row.name in found]
 
 
@@ -236,7 +261,7 @@ class Summary:
 
     Of a city of districts `verdicts` has what these make up. `kept` are the cities that `resume` did not do again, and
     `differing` those that say something else now, where they were verified; `seconds` are the run's by the clock;
-    `gaps`, `overlaps` and `rings` count what `faults.gpkg` has, and `untold` are the refused cities whose faults it
+    `gaps`, `overlaps`, `rings` and `crossings` count what `faults.gpkg` has, and `untold` are the refused cities whose faults it
     lacks, since that task had no result. `unwritten` is why a file of these could not be written.
     """
 
@@ -247,6 +272,7 @@ class Summary:
     gaps: int = 0
     overlaps: int = 0
     rings: int = 0
+    crossings: int = 0
     untold: List[str] = field(default_factory=list)
     faults_file: Optional[str] = None
     kept_names: FrozenSet[str] = frozenset()
@@ -279,13 +305,15 @@ class Summary:
         lines = [", ".join(texts) + (f"; {self.kept} kept" if self.kept else "")]
         lines += [f"{whole.name}: {whole.said}" for whole in self.wholes]
         if self.faults_file is not None:
-            counts = ((self.gaps, "gap"), (self.overlaps, "overlap"), (self.rings, "refused ring"))
-            told = ", ".join(_count(number, noun, f"{noun}s") for number, noun in counts if number)
+            counts = [(self.gaps, "gap", "gaps"), (self.overlaps, "overlap", "overlaps")]
+            counts += [(self.crossings, "parcel across districts", "parcels across districts")]
+            counts += [(self.rings, "refused ring", "refused rings")]
+            told = ", ".join(_count(*it) for it in counts if it[0])
             lines.append(f"{told}: {self.faults_file}")
         if self.untold:
-            lines.append(f"no faults are told of {_listed(self.untold)}: their check has no result")
+            lines.append(f"no faults are told of {shortened(self.untold)}: their check has no result")
         if self.differing:
-            lines.append(f"kept results said something else than the program does now: {_listed(self.differing)}")
+            lines.append(f"kept results said something else than the program does now: {shortened(self.differing)}")
         return lines
 
     def costs(self) -> str:
@@ -334,6 +362,7 @@ class Summary:
                 "gaps": self.gaps,
                 "overlaps": self.overlaps,
                 "rings": self.rings,
+                "crossings": self.crossings,
                 "untold": self.untold,
                 "wholes": [
                     {
@@ -345,6 +374,8 @@ class Summary:
                         "said": it.said,
                         "parcels": it.parcels,
                         "area2_mm2": it.area2,
+                        "pairs": it.pairs,
+                        "split": it.split,
                     }
                     for it in self.wholes
                 ],

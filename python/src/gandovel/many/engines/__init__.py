@@ -10,4 +10,4 @@ from .slurm import SlurmEngine
 
 ENGINES: Dict[str, Type[Engine]] = {"parallel": ParallelEngine, "slurm": SlurmEngine, "dask": DaskEngine}
 
-__all__ = ["ENGINES", "Engine", "Lost", "Settings"]
+__all__ = ["ENGINES", "DaskEngine", "Engine", "Lost", "Settings"]

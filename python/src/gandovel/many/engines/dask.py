@@ -7,7 +7,7 @@ import sys
 import threading
 from contextlib import contextmanager, suppress
 from pathlib import Path
-from typing import Any, Dict, Iterator, List, Optional, Sequence
+from typing import Any, Callable, Dict, Iterator, List, Optional, Sequence
 
 from ...errors import Refused
 from ..tasks import Batch
@@ -19,6 +19,12 @@ PATIENCE = "30s"
 
 OFTEN = 5.0
 """Seconds after which workers on this machine that are gone for good are started anew."""
+
+LOGGERS = ("distributed", "tornado", "asyncio")
+"""Who logs what a client meets, as a scheduler that is gone. What became of the tasks is told by this package."""
+
+THEIRS = (*LOGGERS, "concurrent")
+"""The packages whose errors say that a scheduler is gone."""
 
 
 class DaskEngine(Engine):
@@ -36,6 +42,7 @@ class DaskEngine(Engine):
             import distributed
         except ImportError as fault:
             raise Refused("T7", f"Dask's distributed is not there: {fault}") from fault
+        _quiet()
         address = self.settings.scheduler
         try:
             if address is None:
@@ -68,7 +75,7 @@ class DaskEngine(Engine):
 
         def keep() -> None:
             while not over.wait(OFTEN):
-                with suppress(OSError):
+                with suppress(Exception):  # it is asked again
                     self.cluster.scale(self.settings.jobs_here)
 
         keeper = threading.Thread(target=keep, daemon=True)
@@ -82,9 +89,20 @@ class DaskEngine(Engine):
                 keeper.join()
 
     def _run(self, batch: Batch, jobs: Sequence[Sequence[int]], lists: List[Path], told: Told) -> Dict[int, Lost]:
-        from distributed import as_completed
+        futures: Dict[Any, Sequence[int]] = {}
+        lost: Dict[int, Lost] = {}
+        try:
+            with _told_if_gone(lambda fault: lost.update(dict.fromkeys(batch.left(), _gone(fault)))):
+                futures = self._submitted(batch, jobs, lists)
+                self._wait(futures, lost, len(batch.tasks) - sum(map(len, jobs)), told)
+        finally:
+            with suppress(Exception):  # a scheduler that is gone needs no word
+                self.client.cancel(list(futures))
+        return lost
 
-        futures = {
+    def _submitted(self, batch: Batch, jobs: Sequence[Sequence[int]], lists: List[Path]) -> Dict[Any, Sequence[int]]:
+        """The calls for jobs, each with the numbers of its tasks."""
+        return {
             self.client.submit(
                 subprocess.run,
                 [*worker_words(str(path)), "--with-parent"],
@@ -98,43 +116,53 @@ class DaskEngine(Engine):
             ): numbers
             for path, numbers in zip(lists, jobs)
         }
-        done = len(batch.tasks) - sum(map(len, jobs))
-        lost: Dict[int, Lost] = {}
-        try:
-            with self.client.as_current(), _scheduler_is_there(lost, batch):
-                for future in as_completed(list(futures)):
-                    what = _what(future)
-                    if what is not None:
-                        lost.update(dict.fromkeys(futures[future], what))
-                    done += len(futures[future])
-                    told(done)
-        finally:
-            with suppress(Exception):  # a scheduler that is gone needs no word
-                self.client.cancel(list(futures))
-        return lost
+
+    def _wait(self, futures: Dict[Any, Sequence[int]], lost: Dict[int, Lost], done: int, told: Told) -> None:
+        """Waits for calls, and notes the tasks of those that ended badly."""
+        from distributed import as_completed
+
+        with self.client.as_current():
+            for future in as_completed(list(futures)):
+                what = _what(future)
+                if what is not None:
+                    lost.update(dict.fromkeys(futures[future], what))
+                done += len(futures[future])
+                told(done)
 
     def _at_once(self) -> int:
         """How many calls the workers take at once; where there is none yet, as if there were one."""
-        return max(1, int(sum(self.client.nthreads().values())))
+        with suppress(OSError), _told_if_gone(lambda _: None):  # what is submitted meets it again
+            return max(1, int(sum(self.client.nthreads().values())))
+        return 1
 
     def close(self) -> None:
         for it in (self.client, self.cluster):
             if it is not None:
-                with suppress(OSError, TimeoutError):
+                with suppress(Exception), _told_if_gone(lambda _: None):  # there is nothing left to be done about it
                     it.close()
         self.client = self.cluster = None
 
 
+def _quiet() -> None:
+    """Has the library's loggers tell nothing here: a reconnection that is given up is a traceback of theirs."""
+    for name in [*LOGGERS, *logging.root.manager.loggerDict]:
+        if name.partition(".")[0] in LOGGERS:
+            logging.getLogger(name).setLevel(logging.CRITICAL)
+
+
 @contextmanager
-def _scheduler_is_there(lost: Dict[int, Lost], batch: Batch) -> Iterator[None]:
-    """Notes tasks as lost where the scheduler goes away under them, which Dask tells by an error of files among others."""
+def _told_if_gone(then: Callable[[BaseException], object]) -> Iterator[None]:
+    """Calls `then` where the scheduler goes away, which Dask tells by errors of files and cancellations among others."""
     try:
         yield
-    except Exception as fault:
-        if type(fault).__module__.partition(".")[0] not in ("distributed", "tornado", "asyncio", "concurrent"):
+    except BaseException as fault:
+        if type(fault).__module__.partition(".")[0] not in THEIRS:
             raise
-        why = Lost("T7", f"Dask: the scheduler went away ({type(fault).__name__})")
-        lost.update(dict.fromkeys(batch.left(), why))
+        then(fault)
+
+
+def _gone(fault: BaseException) -> Lost:
+    return Lost("T7", f"Dask: the scheduler went away ({type(fault).__name__})")
 
 
 def _what(future: Any) -> Optional[Lost]:

@@ -42,6 +42,9 @@ OVER = {
     "TIMEOUT",
 }
 
+HELD = "launch failed requeued held"
+"""Slurm's reason for an element that it could not launch, and holds until an administrator lets it go."""
+
 AT_ONCE = 16
 """How many elements are taken to run at once where Slurm does not say how many processors it has."""
 
@@ -121,6 +124,8 @@ class SlurmEngine(Engine):
                 answered = now
                 for job, elements in seen.items():
                     states.update({jobs[job][at]: state for at, state in elements.items() if at < len(jobs[job])})
+                for job, at in [(job, at) for job, some in seen.items() for at, state in some.items() if state == HELD]:
+                    _ask("scancel", f"{job}_{at}")
                 for job in [job for job in jobs if all(state in OVER for state in seen.get(job, {}).values())]:
                     states.update(
                         {jobs[job][at]: state for at, state in _accounted(job).items() if at < len(jobs[job])}
@@ -199,12 +204,16 @@ def _look(jobs: Iterable[str]) -> Tuple[Optional[Dict[str, Dict[int, str]]], str
     """The states of array jobs by job and index; a forgotten job has none. None and why without an answer."""
     found: Dict[str, Dict[int, str]] = {}
     for job in jobs:
-        ended = _ask("squeue", "--noheader", "--array", "--states=all", f"--jobs={job}", "--format=%K|%T")
+        ended = _ask("squeue", "--noheader", "--array", "--states=all", f"--jobs={job}", "--format=%K|%T|%r")
         if ended.returncode != 0 and "Invalid job id" not in ended.stderr:
             return None, ended.stderr.strip()
-        lines = [line.strip().partition("|") for line in ended.stdout.splitlines()]
-        found[job] = {int(index): state for index, _, state in lines if index.isdigit()}
+        lines = [line.strip().split("|", 2) for line in ended.stdout.splitlines()]
+        found[job] = {int(it[0]): _state_of(*it[1:]) for it in lines if len(it) == 3 and it[0].isdigit()}
     return found, ""
+
+
+def _state_of(state: str, reason: str) -> str:
+    return HELD if state == "PENDING" and reason == HELD else state
 
 
 def _accounted(job: str) -> Dict[int, str]:
