@@ -537,4 +537,6 @@ def test_tls(layer, tmp_path):
             requests.get(served.address + "/health", timeout=60)
         with pytest.raises(requests.exceptions.ConnectionError):
             requests.get(served.address.replace("https:", "http:") + "/health", timeout=60)
-        assert served.ask("/health").json()["state"] == "serving" and served.end() == 0
+        assert served.ask("/health").json()["state"] == "serving"
+        begun = time.monotonic()
+        assert served.end() == 0 and time.monotonic() - begun < 15  # though a client's connection is open

@@ -5,7 +5,6 @@ import asyncio
 import json
 import math
 import re
-from pathlib import Path
 from typing import Any, AsyncIterator, Dict, List, Optional
 
 from fastapi import FastAPI, Header, Query, Request
@@ -30,8 +29,8 @@ from .register import Register
 
 PATIENCE = 60.0
 """Seconds until an edit whose answer does not come is left to its key."""
-LEAFLET = (HERE.parents[1] / "map_page", Path("/usr/share/javascript/leaflet"))
-"""Where Leaflet may be: with the package's own map, or as Debian has it (libjs-leaflet)."""
+MAP = HERE.parents[1] / "map_page"
+"""The drawing of parcels, with Leaflet."""
 MOST_ENTRIES, MOST_POINTS = 10_000, 10_000
 _KEY = re.compile(r"[\x21-\x7e]{1,100}")
 _ENCODE = json.JSONEncoder(ensure_ascii=False, separators=(",", ":")).encode
@@ -163,9 +162,7 @@ def _add_pages(app: FastAPI, site: Site) -> None:
             return HTMLResponse(openapi_html(document))
         return Response(json.dumps(document).encode(), media_type=OPENAPI)
 
-    leaflet = next((folder for folder in LEAFLET if (folder / "leaflet.min.js").is_file()), None)
-    if leaflet is not None:
-        app.mount("/page/leaflet", StaticFiles(directory=leaflet), name="leaflet")
+    app.mount("/page/map", StaticFiles(directory=MAP), name="map")
     app.mount("/page", StaticFiles(directory=HERE), name="page")
 
 

@@ -33,7 +33,7 @@ SEND_SECONDS = 30.0
 """Seconds that a client may read nothing of what it is sent."""
 MOST_NAMES = 10_000
 """How many clients' rates are known at once."""
-_OPEN = re.compile(r"/|/health|/page/[a-z_.]+|/page/leaflet/(images/)?[a-z0-9_.-]+")
+_OPEN = re.compile(r"/|/health|/page/(map/)?[a-z_.]+")
 """What anyone may ask for: the page itself, which has nothing of the register, and whether it serves."""
 _LOCATE = re.compile(rb"x=(-?[0-9]{1,11})&y=(-?[0-9]{1,11})")
 _LOOPBACK = re.compile(r"(localhost|127\.[0-9.]+|\[::1\])(:[0-9]+)?")

@@ -32,6 +32,8 @@ WATCH_SECONDS = 1.0
 """How often it is looked for connections that are late."""
 END_SECONDS = 20.0
 """Seconds that clients have to read their answers once the server is told to end."""
+CLOSE_SECONDS = 1.0
+"""Seconds that a client that was sent all has to answer the end of TLS then."""
 BEYOND = 4
 """Connections beyond this many times the limit are closed without an answer."""
 
@@ -70,6 +72,12 @@ class Connection(HttpToolsProtocol):  # type: ignore[misc]
         self._silent.pop(self, None)
         self.scope["gandovel.connection"] = self
         super().on_headers_complete()
+
+    def shutdown(self) -> None:
+        """The server ends: a client that says nothing holds it up no longer than it has something to read."""
+        super().shutdown()
+        if self.transport.is_closing() and not self.transport.get_write_buffer_size():
+            self.loop.call_later(CLOSE_SECONDS, self.transport.abort)
 
     def _wait(self) -> None:
         if self not in self._silent and not self.transport.is_closing():
