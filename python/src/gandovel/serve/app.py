@@ -27,13 +27,10 @@ from .metrics import Metrics
 from .pages import HERE, html_of, openapi_html
 from .register import Register
 
-PATIENCE = 60.0
-"""Seconds until an edit whose answer does not come is left to its key."""
 MAP = HERE.parents[1] / "map_page"
 """The drawing of parcels, with Leaflet."""
 MOST_ENTRIES, MOST_POINTS = 10_000, 10_000
 _KEY = re.compile(r"[\x21-\x7e]{1,100}")
-_ENCODE = json.JSONEncoder(ensure_ascii=False, separators=(",", ":")).encode
 OPENAPI = "application/vnd.oai.openapi+json;version=3.0"
 GEOJSON = "application/geo+json"
 
@@ -385,8 +382,7 @@ async def _made(site: Site, name: str, given: Headers, why: Optional[str], body:
     asked = Asked(line, _said(name, reason, _key(given.get("idempotency-key"))))
     at, refused = _at(given.get("if-match")), site.metrics.refused
     try:
-        async with asyncio.timeout(PATIENCE):
-            entry, is_repeated = await site.register.submit(asked, at)
+        entry, is_repeated = await site.register.submit(asked, at)
     except TimeoutError:
         refused.labels("unknown").inc()
         text = "whether the edit was made is not known yet: send it again with the same key"
@@ -399,7 +395,7 @@ async def _made(site: Site, name: str, given: Headers, why: Optional[str], body:
         headers["gandovel-repeated"] = "true"
     else:
         site.metrics.accepted.inc()
-    return Response(_ENCODE(entry.as_json()).encode(), headers=headers, media_type="application/json")
+    return Response(entry.text.encode(), headers=headers, media_type="application/json")
 
 
 def _edit_told() -> Dict[str, Any]:

@@ -113,7 +113,7 @@ class Gate:
                 await self._locate(int(asked[1]), int(asked[2]), scope, receive, send)
                 return
         body: Receive = receive
-        if not is_get:
+        if not is_get and not _is_here(scope):
             body = _Body(receive)
         if scope["path"] == "/edits" and scope["method"] == "POST" and not scope["query_string"]:
             await self._edit(scope, body, send)
@@ -214,6 +214,12 @@ class _Body:
         self._size += len(message.get("body", b""))
         self._is_whole = not message.get("more_body", False)
         return message if self._size <= MOST_BODY else {"type": "http.disconnect"}
+
+
+def _is_here(scope: MutableMapping[str, Any]) -> bool:
+    """Whether the whole body is here, and small: nothing of it is waited for then."""
+    cycle = scope.get("gandovel.cycle")
+    return cycle is not None and not cycle.more_body and len(cycle.body) <= MOST_BODY
 
 
 def _is_local(headers: Dict[bytes, bytes]) -> bool:

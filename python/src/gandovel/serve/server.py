@@ -3,6 +3,7 @@ from __future__ import annotations
 
 import argparse
 import asyncio
+import gc
 import ipaddress
 import logging
 import os
@@ -70,8 +71,11 @@ class Connection(HttpToolsProtocol):  # type: ignore[misc]
 
     def on_headers_complete(self) -> None:
         self._silent.pop(self, None)
-        self.scope["gandovel.connection"] = self
+        scope = self.scope
+        scope["gandovel.connection"] = self
         super().on_headers_complete()
+        if self.cycle is not None and self.cycle.scope is scope:
+            scope["gandovel.cycle"] = self.cycle
 
     def shutdown(self) -> None:
         """The server ends: a client that says nothing holds it up no longer than it has something to read."""
@@ -156,6 +160,7 @@ async def _run(
     options: argparse.Namespace, register: Register, tokens: Optional[Tokens], listener: socket.socket
 ) -> None:
     await register.start()
+    gc.freeze()  # what is there now stays: no search for what is lost goes through it
     metrics = Metrics(register)
     site, proxies = Site(register, metrics, options.url), os.environ.get("FORWARDED_ALLOW_IPS", "127.0.0.1")
     edits = partial(answered_edit, site)
