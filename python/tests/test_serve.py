@@ -9,10 +9,14 @@ import socket
 import subprocess
 import time
 
+import geopandas as gpd
+import pandas as pd
 import pytest
 import requests
+from gandovel.serve.layer import attributes_of
 from hypothesis import HealthCheck, given, settings
 from hypothesis import strategies as st
+from shapely.geometry import Point
 
 from served import EAST, LONG, NORTH, Served, moved, prepared, pretty, put_in_and_out, replayed, tokens, until
 from session_register import grid_city
@@ -87,6 +91,24 @@ def test_pages_are_of_one_version(read):
         assert features[number]["properties"]["area2_mm2"] == model.parcel(number).split()[0]
     newest = read.ask("/collections/parcels/items").json()
     assert newest["numberMatched"] == 63 - version
+
+
+def test_attributes_as_json_has_them():
+    """Dates, what is missing, numbers of any kind, and names that an answer has of its own, or that stand twice."""
+    columns = {
+        "parcel_no": ["1", "2"],
+        "ID": [5, 6],
+        "layer_ID": ["a", None],
+        "day": pd.to_datetime(["2020-01-31", None]),
+        "Ring_mm": pd.array([1, None], dtype="Int64"),
+        "share": [0.5, float("nan")],
+    }
+    frame = gpd.GeoDataFrame(columns, geometry=[Point(0, 0), Point(1, 0)], crs=25832)
+    assert attributes_of(frame, "parcel_no") == [
+        {"layer_ID": 5, "layer_ID_": "a", "day": "2020-01-31 00:00:00", "layer_Ring_mm": 1, "share": 0.5},
+        {"layer_ID": 6, "layer_ID_": None, "day": None, "layer_Ring_mm": None, "share": None},
+    ]
+    assert attributes_of(frame[["parcel_no", "geometry"]], "parcel_no") == [{}, {}]
 
 
 def test_box_and_number(read):

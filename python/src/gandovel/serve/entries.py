@@ -14,7 +14,7 @@ NEVER = np.iinfo(np.int64).max
 """The entry that takes out a row which is there still."""
 Box = Tuple[float, float, float, float]
 """Least x and y, greatest x and y, in mm."""
-_QUOTED = json.encoder.encode_basestring
+_QUOTED = json.JSONEncoder(ensure_ascii=False).encode
 
 
 class Asked(NamedTuple):
