@@ -466,7 +466,7 @@ def test_tokens_and_roles(layer, tmp_path):
         assert served.ask("/health").status_code in (200, 429)
 
 
-def test_refused_starts(layer, tmp_path, monkeypatch):
+def test_refused_starts(layer, tmp_path, capsys):
     from gandovel.cli import main
 
     def refused(*words):
@@ -487,7 +487,12 @@ def test_refused_starts(layer, tmp_path, monkeypatch):
     assert main(["serve", str(tmp_path), "--journal", str(tmp_path / "j")]) == 1
     assert main(["serve", str(layer), "--journal", str(layer / "j")]) == 1
     (tmp_path / "j").write_text("not ours\n")
+    capsys.readouterr()
     refused()
+    advice = "its first line is no journal's: name the file that a session wrote by --journal"
+    assert capsys.readouterr().err == f"error: no journal {tmp_path / 'j'}: {advice}\n"
+    words = ["backup", str(layer), "--journal", str(tmp_path / "j"), "--out", str(tmp_path / "backup")]
+    assert main(words) == 1 and capsys.readouterr().err == f"error: no journal {tmp_path / 'j'}: {advice}\n"
     assert (tmp_path / "j").read_text() == "not ours\n" and not (tmp_path / "j.desks").exists()
     (tmp_path / "j.desks").write_text("a file of the user's\n")
     refused()
