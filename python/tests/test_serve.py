@@ -16,7 +16,9 @@ import requests
 from gandovel.serve.layer import attributes_of
 from hypothesis import HealthCheck, given, settings
 from hypothesis import strategies as st
-from shapely.geometry import Point
+from shapely.geometry import Point, Polygon
+
+import gandovel
 
 from served import EAST, LONG, NORTH, Served, moved, prepared, pretty, put_in_and_out, replayed, tokens, until
 from session_register import grid_city
@@ -499,6 +501,18 @@ def test_refused_starts(layer, tmp_path, capsys):
     assert (tmp_path / "j.desks").read_text() == "a file of the user's\n"
     for words in (["--certfile", str(tmp_path / "tokens")], ["--certfile", str(tmp_path / "none")]):
         refused(*words)
+
+
+def test_a_register_of_several_islands_says_which_is_served(tmp_path):
+    rings = [
+        [(x, y), (x + 9, y), (x + 9, y + 9), (x, y + 9)] for x in (EAST // 1000, EAST // 1000 + 50) for y in (9, 18)
+    ]
+    frame = gpd.GeoDataFrame({"parcel_no": list("abcd")}, geometry=[Polygon(ring) for ring in rings], crs=25832)
+    gandovel.prepare(frame, number="parcel_no").save(tmp_path / "work")
+    with Served(tmp_path / "work", tmp_path / "register.txt", "--island", "2") as served:
+        assert served.ask("/collections/parcels/items").json()["numberMatched"] == 2 and served.end() == 0
+    told = "note: island 2 of 2 is served, with 2 parcels: name another by --island"
+    assert (tmp_path / "serve.log").read_text().splitlines()[0] == told
 
 
 def test_slow_and_large_clients(layer, tmp_path):

@@ -307,7 +307,12 @@ class Register:
     async def _waited(self, task: "asyncio.Task[Entry]") -> Entry:
         """What a task answers; where it takes longer than a client waits it goes on."""
         waiting: "asyncio.Future[None]" = asyncio.get_running_loop().create_future()
-        task.add_done_callback(lambda _: waiting.done() or waiting.set_result(None))
+
+        def come(_: Any) -> None:
+            if not waiting.done():
+                waiting.set_result(None)
+
+        task.add_done_callback(come)
         self._patience.watch(waiting)
         await waiting
         return task.result()

@@ -149,6 +149,10 @@ def serve(options: argparse.Namespace) -> None:
             "W2", "the journal may not lie in the layer's folder, which prepare replaces: give it another folder"
         )
     layer = Layer(folder, options.island, options.crs)
+    islands = len(layer.prepared.islands)
+    if islands > 1:
+        text = f"island {options.island} of {islands} is served, with {layer.count} parcels: name another by --island"
+        print(f"note: {text}", file=sys.stderr, flush=True)
     listener = _listener(options.host, options.port)
     try:
         _loop()(_run(options, Register(layer, journal, options.keep), tokens, listener))
