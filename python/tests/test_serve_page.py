@@ -119,7 +119,7 @@ def test_three_windows(served, browser):
     replayed(CITY, RINGS, served.lines())
     for window in (clerk, second, third):
         window.here()
-        wrong = [it for it in browser.get_log("browser") if it["level"] == "SEVERE" and "favicon" not in it["message"]]
+        wrong = [it for it in browser.get_log("browser") if it["level"] == "SEVERE"]
         assert [it for it in wrong if "412" not in it["message"]] == []
 
 
