@@ -1,14 +1,15 @@
 #!/usr/bin/env python3
 """serve.py - `gandovel serve` under load, over loopback with keep-alive.
 
-  serve.py [--size S|M|L] [--seconds N] [--mixed N] [--readers N] [--clerks N]
+  serve.py [--size S|M|L] [--layer FOLDER] [--seconds N] [--connections N] [--mixed N] [--readers N] [--clerks N]
 
-GANDOVEL_TOOL is the built parcel_tool. It makes a city by gencity.py, prepares it, and prints one line for each:
+GANDOVEL_TOOL is the built parcel_tool. It makes a city by gencity.py, prepares it (or takes FOLDER, which an earlier run of
+`gandovel prepare` wrote), and prints one line for each:
 
 edits    edits a second of the clerks, each with a connection and a key, and of as many clerks at the pipes of a session
-alone    `locate` a second by wrk on 16 connections, and its 99th percentile, while nobody edits
+alone    `locate` a second by wrk on --connections (16), and its 99th percentile, while nobody edits
 locate   the same while eight clerks edit
-mixed    readers (pages of features, parcels, locate) and clerks at once for --mixed seconds (600 for a figure): answers
+mixed    readers (pages of features, parcels, locate) and clerks at once for --mixed seconds (600 for a figure, 0 for none): answers
          by status, and memory. Status 1 where one is neither 200 nor a reason that docs/serve.md tells
 
 Debian's wrk, python3-requests and python3-geopandas; processors are shared with the clients, so pin both for a figure:
@@ -253,7 +254,7 @@ def piped(layer: Path, journal: Path, rings: Any, seconds: float) -> float:
     return sum(made) / seconds
 
 
-def located(served: Served, rings: Any, seconds: int, folder: Path, clerks: int) -> str:
+def located(served: Served, rings: Any, seconds: int, folder: Path, clerks: int, connections: int) -> str:
     """What wrk says of `locate` while so many clerks edit, and what it costs with their edits."""
     corners = [corner for _, ring in rings for corner in ring]
     xs, ys = [x for x, _ in corners], [y for _, y in corners]
@@ -266,7 +267,7 @@ def located(served: Served, rings: Any, seconds: int, folder: Path, clerks: int)
     ]
     for thread in threads:
         thread.start()
-    words = ["wrk", "-t1", "-c16", f"-d{seconds}s", "--latency", "-s", str(script), served.address]
+    words = ["wrk", "-t1", f"-c{connections}", f"-d{seconds}s", "--latency", "-s", str(script), served.address]
     ended = subprocess.run(words, stdout=subprocess.PIPE, text=True)
     found = {name: re.search(text, ended.stdout) for name, text in WRK.items()}
     spent = cost.told(int(found["count"][1]) if found["count"] else 0)
@@ -293,14 +294,16 @@ def mixed(served: Served, rings: Any, seconds: float, clerks: int, readers: int)
 def main() -> None:
     options = argparse.ArgumentParser(description=__doc__, formatter_class=argparse.RawDescriptionHelpFormatter)
     options.add_argument("--size", default="M", choices="SML")
+    options.add_argument("--layer", type=Path)
     options.add_argument("--seconds", type=int, default=20)
+    options.add_argument("--connections", type=int, default=16)
     options.add_argument("--mixed", type=int, default=20)
     options.add_argument("--readers", type=int, default=100)
     options.add_argument("--clerks", type=int, default=20)
     given = options.parse_args()
     with tempfile.TemporaryDirectory() as name:
         folder = Path(name)
-        layer = prepared(given.size, folder)
+        layer = given.layer or prepared(given.size, folder)
         served = Served(layer, folder / "register.txt")
         rings = rings_of(served)
         print(f"start    {served.memory()} MiB", flush=True)
@@ -309,8 +312,11 @@ def main() -> None:
             f"{piped(layer, folder / 'pipes.txt', rings, given.seconds):.0f} at the pipes",
             flush=True,
         )
-        print(f"alone    {located(served, rings, given.seconds, folder, 0)}", flush=True)
-        print(f"locate   {located(served, rings, given.seconds, folder, 8)}", flush=True)
+        print(f"alone    {located(served, rings, given.seconds, folder, 0, given.connections)}", flush=True)
+        print(f"locate   {located(served, rings, given.seconds, folder, 8, given.connections)}", flush=True)
+        if not given.mixed:
+            served.end()
+            return
         told = mixed(served, rings, given.mixed, given.clerks, given.readers)
         print(f"mixed    {dict(told)}, {served.memory()} MiB", flush=True)
         served.end()

@@ -515,6 +515,8 @@ def test_tells_areas_in_the_layers_unit_too(browser: WebDriver, tmp_path: Path) 
     wide = [it.size["width"] for it in browser.find_elements(By.CSS_SELECTOR, "#scale span")]
     metres = [float(bars[0].split()[0]), float(bars[1].split()[0]) * 0.3048006]
     assert wide[0] / metres[0] == pytest.approx(wide[1] / metres[1], rel=0.03)
+    sides = "return Array.from(document.querySelectorAll('#scale span'), (it) => getComputedStyle(it).borderRightWidth)"
+    assert browser.execute_script(sides) == ["0px", "0px"]  # no end crosses a text that is longer than its bar
 
 
 # ---- a large layer

@@ -9,10 +9,16 @@ import socket
 import subprocess
 import time
 
+import geopandas as gpd
+import pandas as pd
 import pytest
 import requests
+from gandovel.serve.layer import attributes_of
 from hypothesis import HealthCheck, given, settings
 from hypothesis import strategies as st
+from shapely.geometry import Point, Polygon
+
+import gandovel
 
 from served import EAST, LONG, NORTH, Served, moved, prepared, pretty, put_in_and_out, replayed, tokens, until
 from session_register import grid_city
@@ -87,6 +93,24 @@ def test_pages_are_of_one_version(read):
         assert features[number]["properties"]["area2_mm2"] == model.parcel(number).split()[0]
     newest = read.ask("/collections/parcels/items").json()
     assert newest["numberMatched"] == 63 - version
+
+
+def test_attributes_as_json_has_them():
+    """Dates, what is missing, numbers of any kind, and names that an answer has of its own, or that stand twice."""
+    columns = {
+        "parcel_no": ["1", "2"],
+        "ID": [5, 6],
+        "layer_ID": ["a", None],
+        "day": pd.to_datetime(["2020-01-31", None]),
+        "Ring_mm": pd.array([1, None], dtype="Int64"),
+        "share": [0.5, float("nan")],
+    }
+    frame = gpd.GeoDataFrame(columns, geometry=[Point(0, 0), Point(1, 0)], crs=25832)
+    assert attributes_of(frame, "parcel_no") == [
+        {"layer_ID": 5, "layer_ID_": "a", "day": "2020-01-31 00:00:00", "layer_Ring_mm": 1, "share": 0.5},
+        {"layer_ID": 6, "layer_ID_": None, "day": None, "layer_Ring_mm": None, "share": None},
+    ]
+    assert attributes_of(frame[["parcel_no", "geometry"]], "parcel_no") == [{}, {}]
 
 
 def test_box_and_number(read):
@@ -444,7 +468,7 @@ def test_tokens_and_roles(layer, tmp_path):
         assert served.ask("/health").status_code in (200, 429)
 
 
-def test_refused_starts(layer, tmp_path, monkeypatch):
+def test_refused_starts(layer, tmp_path, capsys):
     from gandovel.cli import main
 
     def refused(*words):
@@ -465,13 +489,30 @@ def test_refused_starts(layer, tmp_path, monkeypatch):
     assert main(["serve", str(tmp_path), "--journal", str(tmp_path / "j")]) == 1
     assert main(["serve", str(layer), "--journal", str(layer / "j")]) == 1
     (tmp_path / "j").write_text("not ours\n")
+    capsys.readouterr()
     refused()
+    advice = "its first line is no journal's: name the file that a session wrote by --journal"
+    assert capsys.readouterr().err == f"error: no journal {tmp_path / 'j'}: {advice}\n"
+    words = ["backup", str(layer), "--journal", str(tmp_path / "j"), "--out", str(tmp_path / "backup")]
+    assert main(words) == 1 and capsys.readouterr().err == f"error: no journal {tmp_path / 'j'}: {advice}\n"
     assert (tmp_path / "j").read_text() == "not ours\n" and not (tmp_path / "j.desks").exists()
     (tmp_path / "j.desks").write_text("a file of the user's\n")
     refused()
     assert (tmp_path / "j.desks").read_text() == "a file of the user's\n"
     for words in (["--certfile", str(tmp_path / "tokens")], ["--certfile", str(tmp_path / "none")]):
         refused(*words)
+
+
+def test_a_register_of_several_islands_says_which_is_served(tmp_path):
+    rings = [
+        [(x, y), (x + 9, y), (x + 9, y + 9), (x, y + 9)] for x in (EAST // 1000, EAST // 1000 + 50) for y in (9, 18)
+    ]
+    frame = gpd.GeoDataFrame({"parcel_no": list("abcd")}, geometry=[Polygon(ring) for ring in rings], crs=25832)
+    gandovel.prepare(frame, number="parcel_no").save(tmp_path / "work")
+    with Served(tmp_path / "work", tmp_path / "register.txt", "--island", "2") as served:
+        assert served.ask("/collections/parcels/items").json()["numberMatched"] == 2 and served.end() == 0
+    told = "note: island 2 of 2 is served, with 2 parcels: name another by --island"
+    assert (tmp_path / "serve.log").read_text().splitlines()[0] == told
 
 
 def test_slow_and_large_clients(layer, tmp_path):
@@ -537,4 +578,6 @@ def test_tls(layer, tmp_path):
             requests.get(served.address + "/health", timeout=60)
         with pytest.raises(requests.exceptions.ConnectionError):
             requests.get(served.address.replace("https:", "http:") + "/health", timeout=60)
-        assert served.ask("/health").json()["state"] == "serving" and served.end() == 0
+        assert served.ask("/health").json()["state"] == "serving"
+        begun = time.monotonic()
+        assert served.end() == 0 and time.monotonic() - begun < 15  # though a client's connection is open

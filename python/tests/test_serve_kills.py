@@ -3,6 +3,7 @@ from __future__ import annotations
 
 import asyncio
 import hashlib
+import json
 import os
 import random
 import subprocess
@@ -14,12 +15,14 @@ from types import SimpleNamespace
 import numpy as np
 import pytest
 import requests
+from hypothesis import given, settings
+from hypothesis import strategies as st
 
 import gandovel
 from gandovel.journals import Said
 from gandovel.answers import Accepted
 from gandovel.serve.entries import Asked, Entry
-from gandovel.serve.register import Fate, Register
+from gandovel.serve.register import Deadline, Fate, Register
 from gandovel.serve.tail import Tail
 from gandovel.tool import find_tool
 from served import LONG, SECONDS, Served, environment, moved, prepared, replayed, until
@@ -243,6 +246,31 @@ def test_an_answer_is_found_in_the_journal(tmp_path):
     assert asyncio.run(fates()) == [2, None, None, 3, 1]
 
 
+@settings(deadline=None)
+@given(st.text(st.characters(blacklist_categories=["Cs"])), st.none() | st.text('ab"\\é'), st.lists(st.integers(0)))
+def test_an_entry_as_text_is_its_json(why, who, ids):
+    entry = Entry(7, "merge 1 2", tuple(ids), (3,), who, why, "2026-01-01T00:00:00Z", "key")
+    assert json.loads(entry.text) == entry.as_json()
+
+
+def test_a_deadline_ends_what_is_late_and_nothing_else():
+    async def watched():
+        loop, deadline = asyncio.get_running_loop(), Deadline(0.05)
+        early, late, soon = (loop.create_future() for _ in range(3))
+        for future in (early, late):
+            deadline.watch(future)
+        early.set_result(1)
+        await asyncio.sleep(0.03)
+        deadline.watch(soon)
+        with pytest.raises(TimeoutError):
+            await late
+        assert early.result() == 1 and not soon.done()
+        with pytest.raises(TimeoutError):
+            await soon
+
+    asyncio.run(watched())
+
+
 class Follower:
     """The lines that a follower got, and the answers to come."""
 
@@ -263,7 +291,9 @@ def opened(journal, told):
     register._accepted = {
         at: Entry(at, f"merge {at} {at + 3}", (), (), "anna", "", "2026-01-01T00:00:00Z", None) for at in (1, 2, 3)
     }
-    register._told = {at: Accepted(at, (at, at + 3), (at + 6,)) for at in told}
+    register._told = {
+        at: (Accepted(at, (at, at + 3), (at + 6,)), f"ok {at} out {at} {at + 3} new {at + 6}".encode()) for at in told
+    }
     register.acknowledged = 3
     return register, register._follower
 

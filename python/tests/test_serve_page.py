@@ -60,6 +60,12 @@ class Window:
         self.here()
         self.browser.find_element("id", name).send_keys(text)
 
+    def drawn(self):
+        """The ids of the parcels that the map draws."""
+        self.here()
+        ids = self.browser.execute_script("return drawing.parcels.features('parcels').map((it) => it.properties.id)")
+        return sorted(ids)
+
     def click_place(self, place):
         """Clicks the map at a place in mm."""
         from selenium.webdriver import ActionChains
@@ -105,11 +111,17 @@ def test_three_windows(served, browser):
     second.choose("A6")
     until(lambda: "entry 1, split, local" in second.text("parcel"))
     assert "sold" in second.text("parcel")
+    assert second.drawn() == sorted(replayed(CITY, RINGS, served.lines()).rings)
 
     third.choose("A1")
     third.press('[data-tool="merge"]')
-    third.click_place([sum(z) // 4 for z in zip(*moved(RINGS[1]))])
-    until(lambda: third.text("reason") == "It can be sent.")
+    assert third.text("reason") == "Click the neighbour."
+    for said in ("It can be sent.", "Click the neighbour.", "It can be sent."):
+        if said.startswith("It"):
+            third.click_place([sum(z) // 4 for z in zip(*moved(RINGS[1]))])
+        else:
+            third.press("#undo")
+        until(lambda: third.text("reason") == said)
     third.press("#send")
     until(lambda: "The register has gone on to entry 1 (split by local)" in third.text("answer"))
     assert len(served.lines()) == 1
@@ -119,7 +131,7 @@ def test_three_windows(served, browser):
     replayed(CITY, RINGS, served.lines())
     for window in (clerk, second, third):
         window.here()
-        wrong = [it for it in browser.get_log("browser") if it["level"] == "SEVERE" and "favicon" not in it["message"]]
+        wrong = [it for it in browser.get_log("browser") if it["level"] == "SEVERE"]
         assert [it for it in wrong if "412" not in it["message"]] == []
 
 

@@ -5,7 +5,6 @@ import asyncio
 import json
 import math
 import re
-from pathlib import Path
 from typing import Any, AsyncIterator, Dict, List, Optional
 
 from fastapi import FastAPI, Header, Query, Request
@@ -28,13 +27,10 @@ from .metrics import Metrics
 from .pages import HERE, html_of, openapi_html
 from .register import Register
 
-PATIENCE = 60.0
-"""Seconds until an edit whose answer does not come is left to its key."""
-LEAFLET = (HERE.parents[1] / "map_page", Path("/usr/share/javascript/leaflet"))
-"""Where Leaflet may be: with the package's own map, or as Debian has it (libjs-leaflet)."""
+MAP = HERE.parents[1] / "map_page"
+"""The drawing of parcels, with Leaflet."""
 MOST_ENTRIES, MOST_POINTS = 10_000, 10_000
 _KEY = re.compile(r"[\x21-\x7e]{1,100}")
-_ENCODE = json.JSONEncoder(ensure_ascii=False, separators=(",", ":")).encode
 OPENAPI = "application/vnd.oai.openapi+json;version=3.0"
 GEOJSON = "application/geo+json"
 
@@ -163,9 +159,7 @@ def _add_pages(app: FastAPI, site: Site) -> None:
             return HTMLResponse(openapi_html(document))
         return Response(json.dumps(document).encode(), media_type=OPENAPI)
 
-    leaflet = next((folder for folder in LEAFLET if (folder / "leaflet.min.js").is_file()), None)
-    if leaflet is not None:
-        app.mount("/page/leaflet", StaticFiles(directory=leaflet), name="leaflet")
+    app.mount("/page/map", StaticFiles(directory=MAP), name="map")
     app.mount("/page", StaticFiles(directory=HERE), name="page")
 
 
@@ -388,8 +382,7 @@ async def _made(site: Site, name: str, given: Headers, why: Optional[str], body:
     asked = Asked(line, _said(name, reason, _key(given.get("idempotency-key"))))
     at, refused = _at(given.get("if-match")), site.metrics.refused
     try:
-        async with asyncio.timeout(PATIENCE):
-            entry, is_repeated = await site.register.submit(asked, at)
+        entry, is_repeated = await site.register.submit(asked, at)
     except TimeoutError:
         refused.labels("unknown").inc()
         text = "whether the edit was made is not known yet: send it again with the same key"
@@ -402,7 +395,7 @@ async def _made(site: Site, name: str, given: Headers, why: Optional[str], body:
         headers["gandovel-repeated"] = "true"
     else:
         site.metrics.accepted.inc()
-    return Response(_ENCODE(entry.as_json()).encode(), headers=headers, media_type="application/json")
+    return Response(entry.text.encode(), headers=headers, media_type="application/json")
 
 
 def _edit_told() -> Dict[str, Any]:

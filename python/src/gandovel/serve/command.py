@@ -2,10 +2,19 @@
 from __future__ import annotations
 
 import argparse
+import re
 from pathlib import Path
 from typing import Any
 
-from ..errors import Refused
+from ..errors import JournalRefused, Refused
+
+_WORDS = {
+    "no journal": "its first line is no journal's: name the file that a session wrote by --journal",
+    "changed": "this line, or the one behind it, is not as a session wrote it: take the file from a backup",
+    "another layer": "it was begun with other parcels: name the folder of its own layer, or another journal",
+}
+"""What is wrong with a journal, by the code of its refusal."""
+_NO_FIT = "this edit does not fit the layer: name the folder of the journal's own layer, or take the file from a backup"
 
 
 def add_commands(commands: Any) -> None:
@@ -50,7 +59,10 @@ def run_serve(options: argparse.Namespace) -> None:
     except ModuleNotFoundError as fault:
         text = f"{fault.name} is not there: install python3-fastapi, uvicorn, python3-jinja2, python3-prometheus-client"
         raise Refused("W5", text) from None
-    serve(options)
+    try:
+        serve(options)
+    except JournalRefused as fault:
+        raise _in_words(fault, options.journal) from None
 
 
 def run_backup(options: argparse.Namespace) -> None:
@@ -62,4 +74,16 @@ def run_backup(options: argparse.Namespace) -> None:
         return
     if options.journal is None or options.out is None:
         raise Refused("W6", "name the journal by --journal, and the folder to write by --out")
-    print(back_up(Path(options.folder), Path(options.journal), Path(options.out)))
+    try:
+        print(back_up(Path(options.folder), Path(options.journal), Path(options.out)))
+    except JournalRefused as fault:
+        raise _in_words(fault, options.journal) from None
+
+
+def _in_words(fault: JournalRefused, journal: str) -> Refused:
+    """Why a journal is not taken: which, where in it, and what to do."""
+    words = _WORDS.get(fault.code) or (_NO_FIT if re.fullmatch("E[0-9]+", fault.code) else "")
+    if not words:
+        return fault
+    where = journal if fault.line is None else f"{journal} line {fault.line}"
+    return Refused(fault.code, f"{where}: {words}")

@@ -1,8 +1,9 @@
 """An entry of the journal as the server tells it, and the rows of all its versions."""
 from __future__ import annotations
 
+import json
 from dataclasses import dataclass
-from typing import Any, Dict, List, Optional, Sequence, Tuple
+from typing import Any, Dict, List, NamedTuple, Optional, Sequence, Tuple
 
 import numpy as np
 
@@ -13,10 +14,10 @@ NEVER = np.iinfo(np.int64).max
 """The entry that takes out a row which is there still."""
 Box = Tuple[float, float, float, float]
 """Least x and y, greatest x and y, in mm."""
+_QUOTED = json.JSONEncoder(ensure_ascii=False).encode
 
 
-@dataclass(frozen=True)
-class Asked:
+class Asked(NamedTuple):
     """An edit that a client sent: its line, as a journal has it, and who sends it, why and by which key."""
 
     edit: str
@@ -32,8 +33,7 @@ class Asked:
         return (record.who, record.edit) == (self.said.word, self.edit)
 
 
-@dataclass(frozen=True)
-class Entry:
+class Entry(NamedTuple):
     """An accepted edit, as the journal's record has it, and the ids that it took out and brought.
 
     `time` is UTC, as `2026-01-31T12:00:00Z`. `who` is None where the record has no word of its client.
@@ -51,8 +51,8 @@ class Entry:
     @classmethod
     def of(cls, record: JournalRecord, out: Tuple[int, ...] = (), new: Tuple[int, ...] = ()) -> "Entry":
         """The entry of a record."""
-        said = record.said
-        return cls(record.number, record.edit, out, new, said.name or None, said.why, record.moment, said.key)
+        said, moment = record.said, record.time.isoformat()[:19] + "Z"
+        return cls(record.number, record.edit, out, new, said.name or None, said.why, moment, said.key)
 
     def with_ids(self, out: Tuple[int, ...], new: Tuple[int, ...]) -> "Entry":
         """The same with the ids that it took out and brought."""
@@ -69,6 +69,14 @@ class Entry:
             "out": list(self.out),
             "new": list(self.new),
         }
+
+    @property
+    def text(self) -> str:
+        """`as_json` as text: each edit is answered by it."""
+        who, why = "null" if self.who is None else _QUOTED(self.who), _QUOTED(self.why)
+        out, new = ",".join(map(str, self.out)), ",".join(map(str, self.new))
+        head = f'{{"number":{self.number},"time":"{self.time}","who":{who},"why":{why}'
+        return f'{head},"edit":"{self.edit}","out":[{out}],"new":[{new}]}}'
 
 
 @dataclass(frozen=True)

@@ -33,7 +33,7 @@ SEND_SECONDS = 30.0
 """Seconds that a client may read nothing of what it is sent."""
 MOST_NAMES = 10_000
 """How many clients' rates are known at once."""
-_OPEN = re.compile(r"/|/health|/page/[a-z_.]+|/page/leaflet/(images/)?[a-z0-9_.-]+")
+_OPEN = re.compile(r"/|/health|/page/(map/)?[a-z_.]+")
 """What anyone may ask for: the page itself, which has nothing of the register, and whether it serves."""
 _LOCATE = re.compile(rb"x=(-?[0-9]{1,11})&y=(-?[0-9]{1,11})")
 _LOOPBACK = re.compile(r"(localhost|127\.[0-9.]+|\[::1\])(:[0-9]+)?")
@@ -113,7 +113,7 @@ class Gate:
                 await self._locate(int(asked[1]), int(asked[2]), scope, receive, send)
                 return
         body: Receive = receive
-        if not is_get:
+        if not is_get and not _is_here(scope):
             body = _Body(receive)
         if scope["path"] == "/edits" and scope["method"] == "POST" and not scope["query_string"]:
             await self._edit(scope, body, send)
@@ -214,6 +214,12 @@ class _Body:
         self._size += len(message.get("body", b""))
         self._is_whole = not message.get("more_body", False)
         return message if self._size <= MOST_BODY else {"type": "http.disconnect"}
+
+
+def _is_here(scope: MutableMapping[str, Any]) -> bool:
+    """Whether the whole body is here, and small: nothing of it is waited for then."""
+    cycle = scope.get("gandovel.cycle")
+    return cycle is not None and not cycle.more_body and len(cycle.body) <= MOST_BODY
 
 
 def _is_local(headers: Dict[bytes, bytes]) -> bool:

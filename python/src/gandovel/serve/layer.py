@@ -5,6 +5,8 @@ import math
 from pathlib import Path
 from typing import Any, Dict, List, Optional, Tuple
 
+import numpy as np
+import pandas as pd
 from pyproj import CRS
 from pyproj.exceptions import CRSError
 
@@ -13,6 +15,22 @@ from ..errors import Refused
 from ..prepared import OUT, OUT_ROW, Prepared, load
 from .crs import Projection
 from .entries import Entry, Versions
+
+
+TAKEN = {
+    "id",
+    "number",
+    "came_from",
+    "entry",
+    "area2_mm2",
+    "area_m2",
+    "name",
+    "zones",
+    "zone_count",
+    "ring_mm",
+    "entries",
+}
+"""Names that an answer has of its own: an attribute of the layer that is named so gets `layer_` before its name."""
 
 
 class Layer:
@@ -38,8 +56,8 @@ class Layer:
         for parcel, row in enumerate(self.island.parcels.source, 1):
             self._from_row.setdefault(row, []).append(parcel)
         number, zone = self.prepared.number, self.prepared.zone
-        self.attributes = _attributes(self.prepared.parcels, number)
-        self.zone_attributes = [] if self.prepared.zones is None else _attributes(self.prepared.zones, zone)
+        self.attributes = attributes_of(self.prepared.parcels, number)
+        self.zone_attributes = [] if self.prepared.zones is None else attributes_of(self.prepared.zones, zone)
 
     @property
     def words(self) -> List[str]:
@@ -123,19 +141,25 @@ def _crs_of(prepared: Prepared, given: Optional[str]) -> CRS:
         raise Refused("W3", f"{given} is no projection that is known: write it as EPSG:25832") from None
 
 
-def _attributes(frame: Any, number: str) -> List[Dict[str, Any]]:
+def attributes_of(frame: Any, number: str) -> List[Dict[str, Any]]:
     """The columns of a layer, row by row, as JSON has them; but for the geometry and the number."""
     names = [name for name in frame.columns if name not in (frame.geometry.name, number)]
-    taken = {"id", "number", "came_from", "entry", "area2_mm2", "area_m2", "name", "zones", "zone_count"}
-    shown = [f"layer_{name}" if str(name).lower() in taken else str(name) for name in names]
+    shown: List[str] = []
+    for name in names:
+        own = f"layer_{name}" if str(name).lower() in TAKEN else str(name)
+        while own in shown:
+            own += "_"
+        shown.append(own)
     return [dict(zip(shown, map(_plain, row))) for row in zip(*(frame[name].tolist() for name in names))] or [
         {} for _ in range(len(frame))
     ]
 
 
 def _plain(value: Any) -> Any:
+    """A value as JSON has it; null for one that is missing, text for one that JSON has no kind of."""
+    value = value.item() if isinstance(value, np.generic) else value
     if value is None or isinstance(value, (bool, int, str)):
         return value
     if isinstance(value, float):
         return value if math.isfinite(value) else None
-    return str(value)
+    return None if value is pd.NaT or value is pd.NA else str(value)

@@ -31,6 +31,8 @@ DESKS = 8
 """Desks of a session: the first one is for questions, the others are for edits."""
 ANSWER = 60.0
 """Seconds that the program has for a line, before it is taken to be stuck and is started anew."""
+PATIENCE = 60.0
+"""Seconds until an edit whose answer does not come is left to its key."""
 WAITING = 30.0
 """Seconds that a request waits for a session that is started anew."""
 BEHIND = 0.001
@@ -47,7 +49,9 @@ REST = 10.0
 
 AskedRow = Tuple[int, "asyncio.Future[List[bytes]]"]
 """A parcel, and the answer to come of it."""
-Followed = Tuple[Entry, "asyncio.Future[List[bytes]]", Optional[Accepted], List[AskedRow]]
+Told = Tuple[Accepted, bytes]
+"""What the session answered to an edit: as it is read, and its line."""
+Followed = Tuple[Entry, "asyncio.Future[List[bytes]]", Optional[Told], List[AskedRow]]
 """An edit that went to the follower: the answer to come, what the session said of it, and the rows that were asked for."""
 AHEAD = 64
 """How many edits are sent to the follower before the first of them is answered."""
@@ -62,6 +66,33 @@ class Fate:
         self.asked, self.after = asked, after
         self.number: "asyncio.Future[Optional[int]]" = asyncio.get_running_loop().create_future()
         """None where the journal does not have it."""
+
+
+class Deadline:
+    """Futures that end with `TimeoutError` where they are not done within so many seconds: one timer for all of them."""
+
+    def __init__(self, seconds: float) -> None:
+        self._seconds = seconds
+        self._watched: Deque[Tuple[float, "asyncio.Future[Any]"]] = deque()
+        self._timer: Optional[asyncio.TimerHandle] = None
+
+    def watch(self, future: "asyncio.Future[Any]") -> None:
+        """Watches one more."""
+        while self._watched and self._watched[0][1].done():
+            self._watched.popleft()
+        loop = future.get_loop()
+        self._watched.append((loop.time() + self._seconds, future))
+        if self._timer is None:
+            self._timer = loop.call_later(self._seconds, self._look, loop)
+
+    def _look(self, loop: asyncio.AbstractEventLoop) -> None:
+        now, self._timer = loop.time(), None
+        while self._watched and (self._watched[0][0] <= now or self._watched[0][1].done()):
+            future = self._watched.popleft()[1]
+            if not future.done():
+                future.set_exception(TimeoutError())
+        if self._watched:
+            self._timer = loop.call_later(self._watched[0][0] - now, self._look, loop)
 
 
 class Register:
@@ -93,7 +124,7 @@ class Register:
         self._alike: Dict[Asked, "asyncio.Future[None]"] = {}
         self._rests_until = 0.0
         self._accepted: Dict[int, Entry] = {}
-        self._told: Dict[int, Accepted] = {}
+        self._told: Dict[int, Told] = {}
         """What the session answered to edits that are not published yet."""
         self._overlaps: Dict[int, "asyncio.Task[Overlaps]"] = {}
         self._running, self._news = asyncio.Event(), asyncio.Event()
@@ -102,6 +133,7 @@ class Register:
         self._following: Optional["asyncio.Task[None]"] = None
         self._restarting: Optional["asyncio.Task[None]"] = None
         self._follows = asyncio.Lock()
+        self._answers, self._patience = Deadline(ANSWER), Deadline(PATIENCE)
 
     # its life
 
@@ -254,10 +286,10 @@ class Register:
         With `at` it is made only where that is the number of the newest entry.
 
         An edit whose key was seen before is not made again. Raises `RefusedEdit`, `Stale`, `KeyReused`, `TooBusy`,
-        `NotServing`, `JournalBroken`.
+        `NotServing`, `JournalBroken`; `TimeoutError` where what became of it is not known after `PATIENCE`.
         """
         if asked.said.key is None:
-            return await asyncio.shield(self._keep_task(self._make(asked, at))), False
+            return await self._waited(self._keep_task(self._make(asked, at))), False
         key = (asked.said.name, asked.said.key)
         known = self._keys.get(key)
         edit, flying = self._flying.get(key, ("", None))
@@ -266,11 +298,24 @@ class Register:
                 raise KeyReused(
                     "key", "this Idempotency-Key came with another edit before: use a new one for each edit"
                 )
-            return (await self._published(known) if known else await asyncio.shield(flying)), True  # type: ignore
+            return await self._waited(flying or self._keep_task(self._published(known))), True  # type: ignore[arg-type]
         task = self._keep_task(self._make(asked, at))
         self._flying[key] = asked.edit, task
         task.add_done_callback(lambda _: self._flying.pop(key, None))
-        return await asyncio.shield(task), False
+        return await self._waited(task), False
+
+    async def _waited(self, task: "asyncio.Task[Entry]") -> Entry:
+        """What a task answers; where it takes longer than a client waits it goes on."""
+        waiting: "asyncio.Future[None]" = asyncio.get_running_loop().create_future()
+
+        def come(_: Any) -> None:
+            if not waiting.done():
+                waiting.set_result(None)
+
+        task.add_done_callback(come)
+        self._patience.watch(waiting)
+        await waiting
+        return task.result()
 
     async def _make(self, asked: Asked, at: Optional[int]) -> Entry:
         """Lets the session make the edit; of those that a record would not tell apart one at a time."""
@@ -299,12 +344,14 @@ class Register:
                 raise NotServing("closed", "the server ends")
             fate = Fate(asked, self.acknowledged)
             self._fates.add(fate)
-            async with asyncio.timeout(ANSWER):
-                answer = (await desk.ask(asked.line)).decode()
+            asking = desk.put(asked.line)
+            self._answers.watch(asking)
+            line = (await asking)[0]
+            answer = line.decode()
             test_error(answer)
             made = accepted_of(answer)
             if made.number > len(self.entries):
-                self._told[made.number] = made
+                self._told[made.number] = made, line
             self._accept(made.number)
         except (ProgramEnded, JournalBroken, JournalRefused, NoMemory, BadAnswer, asyncio.TimeoutError) as fault:
             if fate is None:
@@ -403,8 +450,9 @@ class Register:
         async with self._follows:
             while self._send_ahead(sent):
                 entry, answer, told, rows = sent.popleft()
-                made = accepted_of((await answer)[0].decode())
-                if made.number != entry.number or made != (told or made):
+                line = (await answer)[0]
+                made = told[0] if told and told[1] == line else accepted_of(line.decode())
+                if made.number != entry.number or told and made != told[0]:
                     raise BadAnswer("T3", f"entry {entry.number} came out otherwise")
                 rows = rows if told else self._asked_rows(made.new)
                 self._publish(entry.with_ids(made.out, made.new), await _rows_of(rows))
@@ -419,7 +467,7 @@ class Register:
         while number in self._accepted and len(sent) < AHEAD and (not sent or sent[-1][2] is not None):
             entry, told = self._accepted[number], self._told.get(number)
             answer = lines.put(entry.edit.encode())
-            sent.append((entry, answer, told, self._asked_rows(told.new) if told else []))
+            sent.append((entry, answer, told, self._asked_rows(told[0].new) if told else []))
             number += 1
         return bool(sent)
 
@@ -443,7 +491,7 @@ class Register:
         self.layer.follow(entry)
         if entry.key is not None and entry.who is not None:
             self._keys[entry.who, entry.key] = entry
-        for parcel in sorted({*entry.out, *entry.new}):
+        for parcel in {*entry.out, *entry.new}:
             self._by_parcel.setdefault(parcel, []).append(entry.number)
 
     def _tell(self) -> None:
@@ -493,11 +541,15 @@ class Register:
         """The session's line on a point (mm), of a version with all that was answered before this call."""
         wanted, line = self.acknowledged, b"locate %d %d" % (x, y)
         for _ in range(3):
-            desk = await self._question_desk()
+            if self.state != "serving":
+                await self._test_serving()
+            assert self._session is not None
+            desk = self._session.desks[0]
             try:
                 for _ in range(MOST_BEHIND):
-                    answer = await desk.ask(line)
-                    test_error(answer.decode())
+                    answer = (await desk.put(line))[0]
+                    if answer.startswith(b"error"):
+                        test_error(answer.decode())
                     if int(answer.split(b" ", 2)[1]) >= wanted:
                         return answer
                     await asyncio.sleep(BEHIND)
@@ -505,11 +557,6 @@ class Register:
                 continue
             raise NotServing("behind", "the register is behind: try again")
         raise NotServing("restarting", "the session ends again and again: look at /health")
-
-    async def _question_desk(self) -> Lines:
-        await self._test_serving()
-        assert self._session is not None
-        return self._session.desks[0]
 
     async def overlaps(self) -> Overlaps:
         """Which parcels and zones overlap, with all edits that were answered before; shared by those who ask at once."""
@@ -588,7 +635,10 @@ async def _rows_of(asked: Sequence[AskedRow]) -> List[Tuple[int, int, Array]]:
 
 
 def _row_of(line: bytes, parcel: int) -> Tuple[int, int, Array]:
-    words = line.split()
-    if len(words) < 10 or words[0] != b"parcel" or int(words[2]) != parcel:
+    words = line.split(b" ", 4)
+    if len(words) < 5 or words[0] != b"parcel" or int(words[2]) != parcel:
         raise BadAnswer("T3", f"parcel {parcel} is not there")
-    return parcel, int(words[3]), np.array(list(map(int, words[4:])), dtype=np.int64).reshape(-1, 2)
+    ring = np.fromstring(words[4], dtype=np.int64, sep=" ")
+    if len(ring) < 6 or len(ring) % 2 or len(ring) != words[4].count(b" ") + 1:
+        raise BadAnswer("T3", f"parcel {parcel} has no ring")
+    return parcel, int(words[3]), ring.reshape(-1, 2)

@@ -3,6 +3,7 @@ from __future__ import annotations
 
 import argparse
 import asyncio
+import gc
 import ipaddress
 import logging
 import os
@@ -32,6 +33,8 @@ WATCH_SECONDS = 1.0
 """How often it is looked for connections that are late."""
 END_SECONDS = 20.0
 """Seconds that clients have to read their answers once the server is told to end."""
+CLOSE_SECONDS = 1.0
+"""Seconds that a client that was sent all has to answer the end of TLS then."""
 BEYOND = 4
 """Connections beyond this many times the limit are closed without an answer."""
 
@@ -68,8 +71,17 @@ class Connection(HttpToolsProtocol):  # type: ignore[misc]
 
     def on_headers_complete(self) -> None:
         self._silent.pop(self, None)
-        self.scope["gandovel.connection"] = self
+        scope = self.scope
+        scope["gandovel.connection"] = self
         super().on_headers_complete()
+        if self.cycle is not None and self.cycle.scope is scope:
+            scope["gandovel.cycle"] = self.cycle
+
+    def shutdown(self) -> None:
+        """The server ends: a client that says nothing holds it up no longer than it has something to read."""
+        super().shutdown()
+        if self.transport.is_closing() and not self.transport.get_write_buffer_size():
+            self.loop.call_later(CLOSE_SECONDS, self.transport.abort)
 
     def _wait(self) -> None:
         if self not in self._silent and not self.transport.is_closing():
@@ -137,6 +149,10 @@ def serve(options: argparse.Namespace) -> None:
             "W2", "the journal may not lie in the layer's folder, which prepare replaces: give it another folder"
         )
     layer = Layer(folder, options.island, options.crs)
+    islands = len(layer.prepared.islands)
+    if islands > 1:
+        text = f"island {options.island} of {islands} is served, with {layer.count} parcels: name another by --island"
+        print(f"note: {text}", file=sys.stderr, flush=True)
     listener = _listener(options.host, options.port)
     try:
         _loop()(_run(options, Register(layer, journal, options.keep), tokens, listener))
@@ -148,6 +164,7 @@ async def _run(
     options: argparse.Namespace, register: Register, tokens: Optional[Tokens], listener: socket.socket
 ) -> None:
     await register.start()
+    gc.freeze()  # what is there now stays: no search for what is lost goes through it
     metrics = Metrics(register)
     site, proxies = Site(register, metrics, options.url), os.environ.get("FORWARDED_ALLOW_IPS", "127.0.0.1")
     edits = partial(answered_edit, site)

@@ -61,13 +61,11 @@ const register = {
 
   /** Takes in an entry: its parcels go, and others come. */
   async take(entry) {
-    const found = await Promise.all(entry.new.map((id) => register.ask(`/parcels/${id}?entries=${entry.number}`)));
-    for (const id of entry.out) { register.parcels.delete(id); drawing.remove(id); }
-    for (const response of found) if (response.ok) {
-      const parcel = await response.json();
-      register.parcels.set(parcel.id, parcel);
-      drawing.put(parcel);
-    }
+    const answers = await Promise.all(entry.new.map((id) => register.ask(`/parcels/${id}?entries=${entry.number}`)));
+    const parcels = await Promise.all(answers.filter((it) => it.ok).map((it) => it.json()));
+    for (const id of entry.out) register.parcels.delete(id);
+    for (const parcel of parcels) register.parcels.set(parcel.id, parcel);
+    drawing.change(entry.out, parcels);
     register.entries = entry.number;
     register.tell(entry);
     if (register.chosen !== null && [...entry.out, ...entry.new].includes(register.chosen)) register.choose(register.chosen);
@@ -125,66 +123,50 @@ function list(history) {
   return told;
 }
 
-/** The map: whole millimetres, drawn by Leaflet from the south-western corner of all parcels. */
+/** The map (`ParcelMap`, as a report's): metres from the south-western corner of all parcels, so that millimetres stay. */
 const drawing = {
-  shapes: new Map(), origin: [0, 0], marked: null,
+  origin: [0, 0],
 
   start() {
-    drawing.map = L.map("map", { crs: L.CRS.Simple, minZoom: -20, maxZoom: 6, zoomSnap: 0.25, preferCanvas: true, attributionControl: false });
-    drawing.map.setView([0, 0], 0);
+    drawing.parcels = new ParcelMap($("map"), {
+      layers: [{ name: "parcels", draw: "areas", look: "parcel" }], looks: { parcel: { fill: "fill", line: "line" } },
+      onPick: ([feature], { x, y }) => drafts.click(drawing.place({ lat: y, lng: x }), feature ? feature.properties.id : null),
+    });
+    drawing.map = drawing.parcels.map;
+    drawing.map.keyboard.enable();
+    L.control.zoom().addTo(drawing.map);
     drawing.draft = L.layerGroup().addTo(drawing.map);
-    drawing.map.on("click", (event) => drafts.click(drawing.place(event.latlng)));
   },
 
   style: (name) => getComputedStyle(document.documentElement).getPropertyValue(name).trim(),
   latlng: ([x, y]) => [(y - drawing.origin[1]) / 1000, (x - drawing.origin[0]) / 1000],
   place: ({ lat, lng }) => [Math.round(lng * 1000) + drawing.origin[0], Math.round(lat * 1000) + drawing.origin[1]],
+  feature: ({ id, ring_mm: ring }) => ParcelMap.feature(String(id),
+    [Float64Array.from(ring.flatMap(([x, y]) => [(x - drawing.origin[0]) / 1000, (y - drawing.origin[1]) / 1000]))], { id }),
+  featureOf: (id) => drawing.parcels.layers.get("parcels").features.get(String(id)) || null,
 
   all(parcels) {
-    for (const shape of drawing.shapes.values()) shape.remove();
-    drawing.shapes.clear();
-    if (!parcels.length) return;
-    drawing.origin = parcels.reduce((low, it) => it.ring_mm.reduce(([x, y], at) => [Math.min(x, at[0]), Math.min(y, at[1])], low), [Infinity, Infinity]);
-    parcels.forEach(drawing.put);
-    drawing.map.fitBounds(L.featureGroup([...drawing.shapes.values()]).getBounds());
+    drawing.origin = [Infinity, Infinity];
+    for (const { ring_mm: ring } of parcels) for (const corner of ring)
+      for (const side of [0, 1]) drawing.origin[side] = Math.min(drawing.origin[side], corner[side]);
+    drawing.parcels.setLayer("parcels", parcels.map(drawing.feature));
+    drawing.parcels.showAll();
   },
 
-  put(parcel) {
-    drawing.remove(parcel.id);
-    const shape = L.polygon(parcel.ring_mm.map(drawing.latlng), { bubblingMouseEvents: false });
-    shape.on("click", (event) => drafts.click(drawing.place(event.latlng), parcel.id));
-    drawing.shapes.set(parcel.id, shape.addTo(drawing.map));
-    drawing.look(parcel.id);
-  },
+  /** Takes parcels out, by their ids, and puts others in. */
+  change(out, parcels) { drawing.parcels.replace("parcels", out, parcels.map(drawing.feature)); },
 
-  remove(id) {
-    drawing.shapes.get(id)?.remove();
-    drawing.shapes.delete(id);
-  },
-
-  look(id) {
-    const is = id === drawing.marked;
-    drawing.shapes.get(id)?.setStyle({ color: drawing.style(is ? "--mark" : "--line"), weight: is ? 3 : 1, fillColor: drawing.style("--fill"), fillOpacity: is ? 0.9 : 0.6 });
-    if (is) drawing.shapes.get(id)?.bringToFront();
-  },
-
-  mark(id) {
-    const before = drawing.marked;
-    drawing.marked = id;
-    if (before !== null) drawing.look(before);
-    drawing.look(id);
-  },
-
-  show(id) { drawing.map.fitBounds(drawing.shapes.get(id).getBounds(), { maxZoom: 4, padding: [60, 60] }); },
+  mark(id) { drawing.parcels.select(drawing.featureOf(id)); },
+  show(id) { drawing.parcels.show(drawing.featureOf(id)); },
 
   /** How far two places are from each other, in pixels. */
   pixels: (a, b) => drawing.map.latLngToLayerPoint(drawing.latlng(a)).distanceTo(drawing.map.latLngToLayerPoint(drawing.latlng(b))),
 
   path(path) {
     drawing.draft.clearLayers();
-    const colour = drawing.style("--other");
-    if (path.length > 1) drawing.draft.addLayer(L.polyline(path.map(drawing.latlng), { color: colour, weight: 3 }));
-    for (const place of path) drawing.draft.addLayer(L.circleMarker(drawing.latlng(place), { radius: 5, color: colour, interactive: false }));
+    const look = { color: drawing.style("--other"), interactive: false };
+    if (path.length > 1) drawing.draft.addLayer(L.polyline(path.map(drawing.latlng), { ...look, weight: 3 }));
+    for (const place of path) drawing.draft.addLayer(L.circleMarker(drawing.latlng(place), { ...look, radius: 5 }));
   },
 };
 
@@ -208,6 +190,14 @@ const drafts = {
     $("why").value = "";
     drawing.path([]);
     for (const button of $("tools").children) button.setAttribute("aria-pressed", "false");
+  },
+
+  /** Takes the last click back: a corner, else the neighbour. */
+  undo() {
+    const draft = register.draft;
+    if (draft.path.length) draft.path.pop(); else draft.other = null;
+    draft.edge = null;
+    drafts.check();
   },
 
   /** A click: on a parcel, or beside all. Without a draft it chooses the parcel. */
@@ -301,7 +291,7 @@ const drafts = {
   told(draft, status, body) {
     if (status === 200) {
       $("answer").textContent = `Done: entry ${body.number}. New: ${body.new.join(", ")}.`;
-      drafts.cancel();
+      if (register.draft === draft) drafts.cancel();
       return;
     }
     if (status === 412) {
@@ -326,7 +316,7 @@ $("tools").addEventListener("click", (event) => {
 });
 $("send").addEventListener("click", drafts.send);
 $("cancel").addEventListener("click", drafts.cancel);
-$("undo").addEventListener("click", () => { register.draft.path.pop(); register.draft.edge = null; drafts.check(); });
+$("undo").addEventListener("click", drafts.undo);
 $("search").addEventListener("submit", (event) => { event.preventDefault(); register.find($("number").value); });
 $("login").addEventListener("submit", (event) => {
   event.preventDefault();
