@@ -3,14 +3,14 @@
 
   serve.py [--size S|M|L] [--layer FOLDER] [--seconds N] [--connections N] [--mixed N] [--readers N] [--clerks N]
 
-GANDOVEL_TOOL is the built parcel_tool. It makes a city by gencity.py, prepares it (or takes FOLDER, which an earlier run of
-`gandovel prepare` wrote), and prints one line for each:
+GANDOVEL_TOOL is the built parcel_tool. It makes a city by gencity.py, prepares it (or takes FOLDER, which `gandovel
+prepare` wrote), and prints one line for each:
 
 edits    edits a second of the clerks, each with a connection and a key, and of as many clerks at the pipes of a session
 alone    `locate` a second by wrk on --connections (16), and its 99th percentile, while nobody edits
 locate   the same while eight clerks edit
-mixed    readers (pages of features, parcels, locate) and clerks at once for --mixed seconds (600 for a figure, 0 for none): answers
-         by status, and memory. Status 1 where one is neither 200 nor a reason that docs/serve.md tells
+mixed    readers (pages of features, parcels, locate) and clerks at once for --mixed seconds (600 for a figure, 0: not):
+         answers by status, and memory. Status 1 where one is neither 200 nor a reason that docs/serve.md tells
 
 Debian's wrk, python3-requests and python3-geopandas; processors are shared with the clients, so pin both for a figure:
 `taskset -c 0,1` before this script pins all of it.

@@ -69,7 +69,7 @@ class Fate:
 
 
 class Deadline:
-    """Futures that end with `TimeoutError` where they are not done within so many seconds: one timer for all of them."""
+    """Futures that end with `TimeoutError` where they are not done within so many seconds, by one timer."""
 
     def __init__(self, seconds: float) -> None:
         self._seconds = seconds
