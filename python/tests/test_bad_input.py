@@ -12,8 +12,10 @@ import pytest
 from shapely.geometry import LineString, Polygon, box
 
 import gandovel as gv
+from gandovel import tool
 from gandovel.large import is_large
 from gandovel.grid import twice_area
+from gandovel.layer_files import read_rings, write_rings
 from gandovel.limits import MOST_CORNERS, too_large
 from gandovel.prepared import Island, Rows
 from test_register import SOURCES, command
@@ -94,6 +96,35 @@ def test_a_program_that_is_not_there(tmp_path, monkeypatch):
     monkeypatch.setenv("GANDOVEL_TOOL", str(tmp_path / "none"))
     with pytest.raises(gv.Refused, match="T1 the program parcel_tool is not there"):
         gv.check(gv.prepare(layer([ONE])))
+
+
+@pytest.mark.parametrize("printed", ["", "pair 1\n", "pair 1 1 1\n", "pair x 1\n", "pair 1 1\npair 1\n", "pair 1 2\n"])
+def test_an_overlay_that_fits_no_layer_is_not_believed(printed, tmp_path, monkeypatch):
+    for name in ("city", "parcels", "zones"):
+        write_rings(tmp_path / f"{name}.shp", [np.array([[0, 0], [1, 0], [0, 1]])])
+    monkeypatch.setattr(tool, "ask", lambda _: printed)
+    paths = [tmp_path / f"{name}.shp" for name in ("city", "parcels", "zones")]
+    with pytest.raises(gv.Refused, match="T2 parcel_tool overlay gave no verdict that fits the layer"):
+        tool.overlay_pairs(*paths)
+    monkeypatch.setattr(tool, "ask", lambda _: "entries 0\npair 1 1\n")
+    assert tool.overlay_pairs(*paths).tolist() == [[1, 1]]
+
+
+def test_a_layer_of_the_folder_that_is_torn_is_refused(tmp_path):
+    whole = np.array([[0, 0], [9, 0], [0, 9]])
+    write_rings(tmp_path / "layer.shp", [whole, whole + 20])
+    assert [ring.tolist() for ring in read_rings(tmp_path / "layer.shp")] == [whole.tolist(), (whole + 20).tolist()]
+    data = (tmp_path / "layer.shp").read_bytes()
+    off = data[:-8] + np.array([0.5]).tobytes()
+    many = data[:148] + np.array([1000], "<i4").tobytes() + data[152:]
+    for torn, words in (
+        (data[:-8], "ends too early"),
+        (off, "record 2 is not in whole"),
+        (many, "record 1 ends too early"),
+    ):
+        (tmp_path / "torn.shp").write_bytes(torn)
+        with pytest.raises(gv.Refused, match=f"P1 .*torn.shp is no layer of whole millimetres: .*{words}"):
+            read_rings(tmp_path / "torn.shp")
 
 
 def test_a_full_disk_leaves_nothing_half_written(tmp_path):

@@ -5,13 +5,17 @@ from fractions import Fraction
 
 import geopandas as gpd
 import numpy as np
+import pytest
 from hypothesis import HealthCheck, given, settings, strategies as st
-from shapely.geometry import Polygon
+from shapely.errors import TopologicalError
+from shapely.geometry import MultiPoint, Polygon
 
 import gandovel as gv
 from gandovel.faults import faults_of, twice_area
 from gandovel.grid import twice_area as ring_area
 from gandovel.holes import cut_holes
+from gandovel.noding import points_of
+from gandovel.shapes import _common_parts, bounds_of, box_of, common_parts, shapes_of
 
 FEW = settings(max_examples=12, deadline=None, suppress_health_check=list(HealthCheck))
 MANY = settings(max_examples=60, deadline=None, suppress_health_check=list(HealthCheck))
@@ -140,3 +144,41 @@ def from_least(ring):
     """The ring from its least corner on."""
     at = ring.index(min(ring))
     return ring[at:] + ring[:at]
+
+
+@MANY
+@given(
+    st.lists(
+        st.lists(st.tuples(st.integers(0, 40), st.integers(0, 40)), min_size=3, max_size=7), min_size=2, max_size=5
+    )
+)
+def test_common_parts_are_those_of_shapely(corners):
+    """By GEOS' own pointers as by Shapely's shapes, lines and points and nothing in common too; and so the box around."""
+    shapes = [MultiPoint(some).convex_hull for some in corners]
+    blobs = [shape.wkb for shape in shapes]
+    pairs = [(i, j) for i in range(len(shapes)) for j in range(len(shapes))]
+    parts, areas = common_parts(blobs, blobs, pairs)
+    expected, expected_areas = _common_parts(blobs, blobs, pairs)
+    assert parts == expected and areas.tolist() == expected_areas.tolist()
+    assert [shape.area for shape in shapes_of(parts)] == areas.tolist()
+    polygons = [shape for shape in shapes if shape.geom_type == "Polygon"]
+    assert not polygons or box_of(shape.wkb for shape in polygons) == bounds_of(polygons)
+
+
+def test_a_shape_that_can_not_be_cut_is_told_by_shapely():
+    bowtie = Polygon([(0, 0), (2, 2), (2, 0), (0, 2)]).wkb
+    with pytest.raises(TopologicalError):
+        common_parts([bowtie], [Polygon([(0, 1), (3, 1), (3, 3)]).wkb], [(0, 0)])
+
+
+@MANY
+@given(st.lists(st.tuples(st.integers(-5, 5), st.integers(-5, 5)), min_size=1, max_size=40), st.booleans())
+def test_places_are_sorted_whether_they_are_whole_or_not(corners, far):
+    """Whole coordinates are sorted at once where their box is small; the answer is as that of any coordinates."""
+    spread = np.array(corners, dtype=float) * (10.0**10 if far else 1.0)
+    whole, index = points_of(spread)
+    halves, other = points_of(spread + 0.5)
+    assert (whole + 0.5).tolist() == halves.tolist() and index.tolist() == other.tolist()
+    assert whole[index].tolist() == spread.tolist() and whole.tolist() == sorted(
+        map(list, {tuple(it) for it in spread})
+    )

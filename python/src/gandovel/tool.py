@@ -41,6 +41,7 @@ def find_tool() -> str:
     raise Refused("T1", f"the program parcel_tool is not there: {where}")
 
 
+_PAIR = re.compile(r"^pair (\d+) (\d+)$", re.MULTILINE)
 _VERSION = re.compile(r"parcel_tool (\d+)\.(\d+)\.(\d+)\b.*")
 WANTED = 1
 """The first number of the versions that fit."""
@@ -198,11 +199,9 @@ def overlay_pairs(city: PathLike, parcels: PathLike, zones: PathLike, workers: i
     threads = ["--workers", str(workers)] if workers else []
     printed = ask(["overlay", str(city), str(parcels), str(zones), "--unit", "mm", *threads])
     try:
-        lines = [line for line in printed.splitlines() if line.startswith("pair ")]
-        if any(line.count(" ") != 2 for line in lines):
-            raise ValueError("a pair of more or fewer")
-        words = " ".join(lines).split()
-        pairs = np.array([*map(int, words[1::3]), *map(int, words[2::3])], dtype=np.int64).reshape(2, -1).T
+        pairs = np.array(_PAIR.findall(printed), dtype=np.int64).reshape(-1, 2)
+        if len(pairs) != printed.count("\npair ") + printed.startswith("pair "):
+            raise ValueError("a line that is no pair")
     except (ValueError, OverflowError) as fault:
         raise _no_answer("overlay", printed) from fault
     for column, main in ((0, parcels), (1, zones)):
