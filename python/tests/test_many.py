@@ -21,7 +21,7 @@ import pytest
 from gandovel import Refused
 from gandovel.many import run_many, worker
 from gandovel.many.engines import jobs
-from gandovel.many.tasks import Program, Task
+from gandovel.many.tasks import Batch, Program, Task
 from many_cities import (
     GAP,
     SIDE,
@@ -284,6 +284,22 @@ def test_a_disk_that_stays_full(tmp_path, monkeypatch, small_disk):
     (small_disk / "filled").unlink()
     program(tmp_path, monkeypatch, "")
     assert all(it.tiles for it in run_many(manifest, small_disk / "out", jobs=1, resume=True).verdicts)
+
+
+def test_a_disk_that_is_full_when_every_fault_is_asked_for(tmp_path, monkeypatch):
+    """The cities' verdicts are there by then: they are told, and why their faults are not."""
+    write = Batch.write
+
+    def full(self, results, *words):
+        if results.name == "faults":
+            raise OSError(28, "No space left on device")
+        write(self, results, *words)
+
+    monkeypatch.setattr(Batch, "write", full)
+    summary = run_many(write_cities(tmp_path, 3, [1], zones=True), tmp_path / "out", retries=0)
+    assert verdicts(summary) == {"c0": ("tiles", ""), "c1": ("refused", "H2"), "c2": ("tiles", "")}
+    assert summary.unwritten.code == "P14" and "No space left" in summary.unwritten.text and summary.untold == ["c1"]
+    assert (tmp_path / "out/summary.csv").is_file() and summary.status == 1
 
 
 @pytest.mark.skipif(
