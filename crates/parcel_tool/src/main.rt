@@ -6,6 +6,7 @@ ghost use Rattle.overlay_work.specs.declared.round.TheConstants.{MOST_HANDS};
 
 mod doubles;
 mod ended;
+mod ends;
 mod explain;
 mod extents;
 mod file_hints;
@@ -13,17 +14,22 @@ mod flaws;
 mod hints;
 mod named;
 mod outputs;
+mod progress;
 mod sizes;
 mod unitless;
 mod units;
 
 use crate::ended::Ended;
+use crate::ends::{
+    FAULT, REFUSED, end_by_fault, end_by_folder, end_by_refusal, end_run, end_unread, tell_hint,
+    tell_layers,
+};
 use crate::explain::{ExplainFault, explain};
-use crate::hints::{hint_of, hint_with};
+use crate::hints::hint_of;
 use crate::named::word_of;
 use crate::outputs::{is_folder, write_layer};
-use crate::sizes::size_of;
-use crate::unitless::{other_unit, why_no_unit, with_unit};
+use crate::progress::{Run, run_told};
+use crate::unitless::{why_no_unit, with_unit};
 use crate::units::{Stated, stated_beside};
 use city_layers::area::area;
 use city_layers::{Disk, StandardInput, ToolFault, read_source, read_text};
@@ -39,33 +45,39 @@ use parcel_runs::part::{WrittenPart, part, parts};
 use parcel_runs::{RunFiles, refuse_many_clerks};
 use register_sessions::{Exports, Machine, Pipes, Plan, StartFault, serve_session};
 use std::alloc::Global;
-use std::fmt::Display;
 use std::fs::File;
 use std::io::{Input, IsTerminal};
 use std::process::ExitCode;
-use std::rt::{Env, Files};
+use std::rt::{Clock, Env, Files};
 use std::sync::Wait;
 use std::thread::Threads;
 use std::{env, io, thread};
 use text_pieces::put_all;
 use tool_arguments::{Districts, Inputs, Points, Request, Session, Wanted, Workers, wants_hints};
 
-/// The status of a run that a fault ended.
-const FAULT: u8 = 1;
-
-/// The status of a run whose command line was refused.
-const REFUSED: u8 = 2;
+/// What is told beside the answers of a run, on standard error.
+#[derive(Clone, Copy)]
+struct Told {
+    /// Hints.
+    hints: bool,
+    /// That a run goes on.
+    progress: bool,
+}
 
 fn main(rt: HostRuntime) -> ExitCode {
     let words = match command_line(&rt) {
         Ok(words) => words,
         Err(error) => return end_unread(&rt, &error),
     };
-    let hints = wants_hints(words.as_slice()) || rt.stderr().is_terminal();
+    let progress = rt.stderr().is_terminal();
+    let told = Told {
+        hints: wants_hints(words.as_slice()) || progress,
+        progress,
+    };
     match tool_arguments::parse(rt.alloc(), words.as_slice()) {
-        Ok(request) => answer(&rt, &Disk(&rt), &request, hints),
+        Ok(request) => answer(&rt, &Disk(&rt), &request, told),
         Err(error) if error.kind() == ErrorKind::MissingRequiredArgument => {
-            answer_unitless(&rt, &Disk(&rt), words.as_slice(), &error, hints)
+            answer_unitless(&rt, &Disk(&rt), words.as_slice(), &error, told)
         }
         Err(error) => end_by_refusal(&rt, &error),
     }
@@ -83,24 +95,28 @@ fn command_line<R: Env + AllocGlobal>(rt: &R) -> io::Result<Vec<String>> {
 /// Answers a command line in which a word is missing. Where that is the unit alone, it is what the projection beside a
 /// layer says.
 fn answer_unitless<
-    R: Files<File = File> + Input + Print + Eprint + Threads + Wait + Sync + AllocGlobal,
+    R: Files<File = File> + Clock + Input + Print + Eprint + Threads + Wait + Sync + AllocGlobal,
     P: Pipes + Exports + Machine + Sync,
->(rt: &R, disk: &P, words: &[String], error: &Error, hints: bool) -> ExitCode {
+>(rt: &R, disk: &P, words: &[String], error: &Error, told: Told) -> ExitCode {
     let heap = rt.alloc();
     let Ok(metres) = with_unit(heap, words, word_of(Unit::M)) else {
-        return end_by_fault(rt, &ToolFault::NoMemory, hints);
+        return end_by_fault(rt, &ToolFault::NoMemory, told.hints);
     };
     let Ok(request) = tool_arguments::parse(heap, metres.as_slice()) else {
         return end_by_refusal(rt, error);
     };
     let Ok(stated) = stated_beside(rt, heap, &request) else {
-        return end_by_fault(rt, &ToolFault::NoMemory, hints);
+        return end_by_fault(rt, &ToolFault::NoMemory, told.hints);
     };
-    if let Some((Stated::Length(unit), _)) = stated {
-        return answer_in(rt, disk, words, unit, hints);
+    if let Some((Stated::Length(unit), stem)) = stated {
+        if told.hints {
+            let word = word_of(unit);
+            let _ = eprintln!(rt; "hint: --unit {word} is taken from {stem}.prj");
+        }
+        return answer_in(rt, disk, words, unit, told);
     }
     let status = end_by_refusal(rt, error);
-    if hints {
+    if told.hints {
         tell_hint(rt, why_no_unit(heap, stated));
     }
     status
@@ -108,44 +124,100 @@ fn answer_unitless<
 
 /// Answers a command line whose unit is this.
 fn answer_in<
-    R: Files<File = File> + Input + Print + Eprint + Threads + Wait + Sync + AllocGlobal,
+    R: Files<File = File> + Clock + Input + Print + Eprint + Threads + Wait + Sync + AllocGlobal,
     P: Pipes + Exports + Machine + Sync,
->(rt: &R, disk: &P, words: &[String], unit: Unit, hints: bool) -> ExitCode {
+>(rt: &R, disk: &P, words: &[String], unit: Unit, told: Told) -> ExitCode {
     let heap = rt.alloc();
     let Ok(all) = with_unit(heap, words, word_of(unit)) else {
-        return end_by_fault(rt, &ToolFault::NoMemory, hints);
+        return end_by_fault(rt, &ToolFault::NoMemory, told.hints);
     };
     match tool_arguments::parse(heap, all.as_slice()) {
-        Ok(request) => answer(rt, disk, &request, hints),
+        Ok(request) => answer(rt, disk, &request, told),
         Err(error) => end_by_refusal(rt, &error),
     }
 }
 
 /// Does what the command line asks for. A session's pipes and exports are of the disk.
 fn answer<
-    R: Files<File = File> + Input + Print + Eprint + Threads + Wait + Sync + AllocGlobal,
+    R: Files<File = File> + Clock + Input + Print + Eprint + Threads + Wait + Sync + AllocGlobal,
     P: Pipes + Exports + Machine + Sync,
->(rt: &R, disk: &P, request: &Request<'_>, hints: bool) -> ExitCode {
+>(rt: &R, disk: &P, request: &Request<'_>, told: Told) -> ExitCode {
     match request {
-        Request::Session(session) => answer_session(rt, disk, request, session, hints),
+        Request::Session(session) => answer_session(rt, disk, request, session, told.hints),
         Request::Explain { code } => answer_explain(rt, code.as_slice()),
         Request::Export { base, .. } | Request::Part { base, .. } if is_folder(rt, *base) => {
             end_by_folder(rt, *base)
         }
         Request::Part { districts, .. } if districts.wanted == Wanted::All => {
-            answer_all_parts(rt, request, districts, hints)
+            let job = AllParts {
+                rt,
+                request,
+                districts,
+                hints: told.hints,
+            };
+            if told.progress {
+                run_told(rt, job)
+            } else {
+                job.run()
+            }
         }
         _ => {
-            let mut out = Counted::new(io::writer(rt));
-            let status = match answer_run(rt, request, &mut out) {
-                Ok(()) => ExitCode::SUCCESS,
-                Err(ended) => return end_run(rt, request, &ended, hints),
+            let job = OneRun { rt, request };
+            let done = if told.progress {
+                run_told(rt, job)
+            } else {
+                job.run()
             };
-            if hints {
-                tell_layers(rt, request);
-            }
-            status
+            end_of(rt, request, done, told.hints)
         }
+    }
+}
+
+/// Ends a run that was done, or not.
+fn end_of<R: Eprint + Files + AllocGlobal>(
+    rt: &R,
+    request: &Request<'_>,
+    done: Result<(), Ended<'_>>,
+    hints: bool,
+) -> ExitCode {
+    if let Err(ended) = done {
+        return end_run(rt, request, &ended, hints);
+    }
+    if hints {
+        tell_layers(rt, request);
+    }
+    ExitCode::SUCCESS
+}
+
+/// A run that reads files and ends.
+#[derive(Clone, Copy)]
+struct OneRun<'r, 'a, R> {
+    rt: &'r R,
+    request: &'r Request<'a>,
+}
+
+impl<'r, 'a, R: Files + Input + Print + Threads + Wait + Sync + AllocGlobal> Run<
+    Result<(), Ended<'a>>,
+> for OneRun<'r, 'a, R> {
+    fn run(self) -> Result<(), Ended<'a>> {
+        let mut out = Counted::new(io::writer(self.rt));
+        answer_run(self.rt, self.request, &mut out)
+    }
+}
+
+/// A run that writes all districts.
+#[derive(Clone, Copy)]
+struct AllParts<'r, 'a, R> {
+    rt: &'r R,
+    request: &'r Request<'a>,
+    districts: &'r Districts<'a>,
+    hints: bool,
+}
+
+impl<'r, 'a, R: Files + Print + Eprint + Threads + Sync + AllocGlobal> Run<ExitCode>
+    for AllParts<'r, 'a, R> {
+    fn run(self) -> ExitCode {
+        answer_all_parts(self.rt, self.request, self.districts, self.hints)
     }
 }
 
@@ -443,83 +515,4 @@ fn answer_explain<R: Print + Eprint + AllocGlobal>(rt: &R, words: &[&str]) -> Ex
             ExitCode::from(REFUSED)
         }
     }
-}
-
-/// Ends a run early, and says why; where hints are wanted, with what the files of the request tell of it.
-fn end_run<R: Eprint + Files + AllocGlobal>(
-    rt: &R,
-    request: &Request<'_>,
-    ended: &Ended<'_>,
-    hints: bool,
-) -> ExitCode {
-    // Where standard error fails too there is nobody left to tell.
-    let _ = eprintln!(rt; "error: {ended}");
-    if hints {
-        tell_hint(rt, hint_of(rt, rt.alloc(), request, ended));
-        tell_hint(rt, other_unit(rt, rt.alloc(), request));
-    }
-    ExitCode::from(FAULT)
-}
-
-/// Ends a run early, and says why; in words, too, where hints are wanted.
-fn end_by_fault<R: Eprint + AllocGlobal, F: Display>(rt: &R, fault: &F, hints: bool) -> ExitCode {
-    let _ = eprintln!(rt; "error: {fault}");
-    if hints {
-        if let Ok(text) = format!(in rt.alloc(); "{fault}") {
-            tell_hint(rt, hint_with(rt.alloc(), text.as_str(), None));
-        }
-    }
-    ExitCode::from(FAULT)
-}
-
-/// Tells what a run that was done says nothing of: the size of a city that was checked, and a unit that a projection
-/// gainsays.
-fn tell_layers<R: Eprint + Files + AllocGlobal>(rt: &R, request: &Request<'_>) {
-    if let Request::Check { inputs, .. } = request {
-        if let Ok(source) = read_source(&Disk(rt), rt.alloc(), inputs.city) {
-            if let Ok(size) = size_of(rt.alloc(), &source, inputs.unit) {
-                tell_hint(rt, size);
-            }
-        }
-    }
-    tell_hint(rt, other_unit(rt, rt.alloc(), request));
-}
-
-/// Prints a hint, where there is one.
-fn tell_hint<R: Eprint>(rt: &R, hint: Option<String>) {
-    if let Some(hint) = hint {
-        let _ = eprintln!(rt; "hint: {hint}");
-    }
-}
-
-/// Ends a run that would write beside a folder of the name that was given.
-fn end_by_folder<R: Eprint>(rt: &R, base: &str) -> ExitCode {
-    let _ = eprintln!(rt;
-        "error: --out takes a path to which .shp and .shx are added, and {base} is a folder"
-    );
-    ExitCode::from(REFUSED)
-}
-
-/// Ends a run whose words ask for nothing to be done: prints the help or the version, or why the words are refused.
-fn end_by_refusal<R: Print + Eprint + AllocGlobal>(rt: &R, error: &Error) -> ExitCode {
-    if error.kind() == ErrorKind::OutOfMemory {
-        return end_by_fault(rt, &ToolFault::NoMemory, false);
-    }
-    let printed = error.print(rt);
-    if error.use_stderr() {
-        ExitCode::from(REFUSED)
-    } else if printed.is_ok() {
-        ExitCode::SUCCESS
-    } else {
-        end_by_fault(rt, &ToolFault::Output, false)
-    }
-}
-
-/// Ends a run whose words could not be read.
-fn end_unread<R: Eprint + AllocGlobal>(rt: &R, error: &io::Error) -> ExitCode {
-    if error.kind() == io::ErrorKind::OutOfMemory {
-        return end_by_fault(rt, &ToolFault::NoMemory, false);
-    }
-    let _ = eprintln!(rt; "error: a word of the command line is not UTF-8 text");
-    ExitCode::from(REFUSED)
 }

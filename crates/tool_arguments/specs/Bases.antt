@@ -1,6 +1,5 @@
 -- Where a layer is written (this product's own).
-use Rattle.std.specs.Prelude.{◌≡◌, ◌⊎◌, ℕ, ◌-◌, List, [], length, map, codes}
-use Rattle.std.specs.List.{drop}
+use Rattle.std.specs.Prelude.{◌≡◌, ◌⊎◌, ℕ, ◌-◌, List, [], length, map, drop, codes}
 use Rattle.std.specs.Char.{to_ascii_lowercase}
 
 -- a path that ends in `.shp`, in capitals or not: that of a main file
