@@ -10,20 +10,22 @@ use tool_arguments::Request;
 pub(crate) fn with_unit<'w>(
     alloc: Global,
     words: &'w [String],
-    unit: &'static str,
+    unit: &'w str,
 ) -> Result<Vec<&'w str>, AllocError> {
+    let option: &'w str = "--unit";
     let mut all = Vec::new(alloc);
     let mut given = false;
     for word in words {
-        if !given && word.as_str() == "--" {
-            all.push("--unit")?;
+        let word = word.as_str();
+        if !given && word == "--" {
+            all.push(option)?;
             all.push(unit)?;
             given = true;
         }
-        all.push(word.as_str())?;
+        all.push(word)?;
     }
     if !given {
-        all.push("--unit")?;
+        all.push(option)?;
         all.push(unit)?;
     }
     Ok(all)
