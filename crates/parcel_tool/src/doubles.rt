@@ -56,7 +56,8 @@ pub(crate) fn is_latitude(bits: u64) -> bool {
     bits & 0x7FFF_FFFF_FFFF_FFFF <= QUARTER_TURN
 }
 
-/// A double as a decimal, with all its digits; `None` for one that is whole, or smaller than any that is off the grid.
+/// A double as a decimal, with all its digits; `None` for one that is larger than 2 to the 52, or smaller than any that
+/// is off the grid.
 pub(crate) fn exact_decimal(alloc: Global, bits: u64) -> Result<Option<String>, AllocError> {
     let exponent = (bits >> 52) & 0x7FF;
     if !(1003..1075).contains(&exponent) {
@@ -67,13 +68,17 @@ pub(crate) fn exact_decimal(alloc: Global, bits: u64) -> Result<Option<String>, 
     let scaled = u128::from(significand) << shift;
     let whole = scaled / ONE;
     let sign = if bits >> 63 == 0 { "" } else { "-" };
-    let mut text = format!(in alloc; "{sign}{whole}.")?;
+    let mut text = format!(in alloc; "{sign}{whole}")?;
     push_fraction(&mut text, scaled % ONE)?;
     Ok(Some(text))
 }
 
-/// Puts the digits of a fraction behind a text, up to the last that is not 0.
+/// Puts a point and the digits of a fraction behind a text, up to the last that is not 0; nothing where there is none.
 fn push_fraction(text: &mut String, fraction: u128) -> Result<(), AllocError> {
+    if fraction == 0 {
+        return Ok(());
+    }
+    text.push('.')?;
     let mut rest = fraction;
     for _ in 0..FRACTION_BITS {
         let ten = (rest % ONE) * 10;

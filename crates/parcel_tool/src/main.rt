@@ -190,7 +190,7 @@ fn end_of<R: Eprint + Files + AllocGlobal>(
 }
 
 /// A run that reads files and ends.
-#[derive(Clone, Copy)]
+#[derive(Drop)]
 struct OneRun<'r, 'a, R> {
     rt: &'r R,
     request: &'r Request<'a>,
@@ -206,7 +206,7 @@ impl<'r, 'a, R: Files + Input + Print + Threads + Wait + Sync + AllocGlobal> Run
 }
 
 /// A run that writes all districts.
-#[derive(Clone, Copy)]
+#[derive(Drop)]
 struct AllParts<'r, 'a, R> {
     rt: &'r R,
     request: &'r Request<'a>,
