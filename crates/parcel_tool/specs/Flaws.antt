@@ -1,5 +1,6 @@
 -- What a line has that no edit, question or point has (this product's own).
-use Rattle.std.specs.Prelude.{◌≡◌, ℕ, Bool, false, ◌&&◌, ◌||◌, ◌==◌, nat_eq, nat_lt, List, [], ◌∷◌, Option, None, Some, if◌then◌else◌}
+use Rattle.std.specs.Prelude.{ℕ, Bool, false, ◌&&◌, ◌||◌, ◌==◌, nat_eq, nat_lt, List, [], ◌∷◌, Option, None, Some}
+use Rattle.std.specs.Prelude.{if◌then◌else◌}
 use Rattle.std.specs.List.{list_any, starts_with, ends_with}
 use Rattle.parcel_tool.specs.declared.flaws.Flaw.{Flaw}
 use Rattle.parcel_tool.specs.declared.flaws.Flaw.TheVariants.{Mark, Tab, Return, Comma, Point, Capital, Spaces, Edge}
@@ -30,8 +31,8 @@ later_flaw line =
     else (if two_spaces line then Some Spaces
     else (if starts_with nat_eq line (32 ∷ []) || ends_with nat_eq line (32 ∷ []) then Some Edge else None))
 
--- the first flaw of a line: a byte order mark at its beginning, a tab (9), a carriage return (13), a comma (44), a decimal
--- point (46), or one of those above
+-- the first flaw of a line: a byte order mark at its beginning, a tab (9), a carriage return (13), a comma (44), a
+-- decimal point (46), or one of those above
 abbrev pub flaw : List ℕ → Option Flaw
 flaw line =
     if starts_with nat_eq line (239 ∷ 187 ∷ 191 ∷ []) then Some Mark

@@ -67,10 +67,12 @@ ArePoints words (At corners) =
 abbrev pub IsRequest : Words → Request → Type 0
 IsRequest words (Area main unit) = (words.main ≡ Some main) × IsUnit words.unit unit
 IsRequest words (Check inputs all) = AreInputs words inputs × (all ≡ words.all)
-IsRequest words (Export inputs base force) = AreInputs words inputs × (words.out ≡ Some base) × (force ≡ words.force)
+IsRequest words (Export inputs base force) =
+    AreInputs words inputs × (words.out ≡ Some base) × (force ≡ words.force)
 IsRequest words (Locate inputs points) = AreInputs words inputs × ArePoints words points
 IsRequest words (Overlay inputs zones) = AreInputs words inputs × (words.zones ≡ Some zones)
-IsRequest words (Part districts base force) = AreDistrictWords words districts × (words.out ≡ Some base) × (force ≡ words.force)
+IsRequest words (Part districts base force) =
+    AreDistrictWords words districts × (words.out ≡ Some base) × (force ≡ words.force)
 IsRequest words (Session session) = AreSession words session
 IsRequest words (Explain code) = code.items ≡ given words.code
 
