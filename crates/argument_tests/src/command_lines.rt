@@ -25,7 +25,7 @@ const REQUESTS: [(&str, &str); 15] = [
     ),
     (
         "parcel_tool export a b --unit mm --out new/town --clerk c",
-        "Export { inputs: Inputs { city: \"a\", parcels: \"b\", unit: Mm, clerks: [\"c\"], workers: None }, base: \"new/town\" }",
+        "Export { inputs: Inputs { city: \"a\", parcels: \"b\", unit: Mm, clerks: [\"c\"], workers: None }, base: \"new/town\", force: false }",
     ),
     (
         "parcel_tool locate --points - a b --unit m --clerk c --clerk c",
@@ -44,17 +44,17 @@ const REQUESTS: [(&str, &str); 15] = [
     (
         "parcel_tool part a b --out c/d 18446744073709551615 --unit cm",
         "Part { districts: Districts { city: \"a\", districts: \"b\", unit: Cm, wanted: One(18446744073709551615), \
-         workers: None }, base: \"c/d\" }",
+         workers: None }, base: \"c/d\", force: false }",
     ),
     (
         "parcel_tool part a b --all --out c/d --unit m --workers 1",
         "Part { districts: Districts { city: \"a\", districts: \"b\", unit: M, wanted: All, \
-         workers: Some(Workers { count: 1 }) }, base: \"c/d\" }",
+         workers: Some(Workers { count: 1 }) }, base: \"c/d\", force: false }",
     ),
     (
-        "parcel_tool export a b --workers=2 --unit mm --out c",
+        "parcel_tool export a b --workers=2 --unit mm --force --out shp",
         "Export { inputs: Inputs { city: \"a\", parcels: \"b\", unit: Mm, clerks: [], \
-         workers: Some(Workers { count: 2 }) }, base: \"c\" }",
+         workers: Some(Workers { count: 2 }) }, base: \"shp\", force: true }",
     ),
     (
         "parcel_tool locate a b --workers 64 --unit mm --points p",
@@ -177,7 +177,7 @@ fn reads_points(rt: HostRuntime) -> Result<(), Fail> {
 }
 
 /// Command lines that are refused: the kind of error, and what its text says.
-const REFUSED: [(&str, ErrorKind, &str); 18] = [
+const REFUSED: [(&str, ErrorKind, &str); 21] = [
     (
         "parcel_tool",
         ErrorKind::DisplayHelpOnMissingArgumentOrSubcommand,
@@ -262,6 +262,21 @@ const REFUSED: [(&str, ErrorKind, &str); 18] = [
         "parcel_tool area a.shp --unit mm --fast",
         ErrorKind::UnknownArgument,
         "'--fast'",
+    ),
+    (
+        "parcel_tool export a.shp b.shp --unit mm --out ",
+        ErrorKind::ValueValidation,
+        "--out takes a path without its ending",
+    ),
+    (
+        "parcel_tool export a.shp b.shp --unit mm --out new.Shp",
+        ErrorKind::ValueValidation,
+        "--out takes a path without its ending",
+    ),
+    (
+        "parcel_tool part a.shp b.shp --all --unit mm --out .SHP",
+        ErrorKind::ValueValidation,
+        "--out takes a path without its ending",
     ),
     (
         "parcel_tool area a.shp --unit mm --unit mm",

@@ -227,7 +227,7 @@ fn system_codes() -> &'static [CodeWords] {
     &SYSTEM
 }
 
-const SYSTEM: [CodeWords; 5] = [
+const SYSTEM: [CodeWords; 6] = [
     CodeWords {
         code: "S1",
         meaning: "a file that cannot be opened or read, or is longer than 64 MiB",
@@ -251,6 +251,12 @@ const SYSTEM: [CodeWords; 5] = [
         meaning: "the export would replace a file that the session itself uses",
         cause: "a BASE that is the session's layer, journal, pipe or lock, perhaps under another name",
         remedy: "export to another BASE",
+    },
+    CodeWords {
+        code: "S6",
+        meaning: "a table or a projection stands beside the layer that would be written, and would name the wrong parcels",
+        cause: "an export over an older layer",
+        remedy: "write under another BASE, or remove both by --force",
     },
     CodeWords {
         code: "no memory",

@@ -1,11 +1,9 @@
 //! Codes of refusals, in words.
 
 use code_words::{CodeWords, GROUPS, begun_by, group, words_of};
-use geo_exact::{ByteOut, FILE_BYTES, Failed};
+use geo_exact::{ByteOut, Failed};
 use std::alloc::{AllocError, Global};
 use std::fmt::Write;
-use std::io::ErrorKind;
-use std::rt::Files;
 use text_pieces::put_all;
 
 /// Why a code is not explained.
@@ -106,24 +104,8 @@ fn list_all<W: ByteOut>(alloc: Global, out: &mut W) -> Result<(), ExplainFault> 
     Ok(())
 }
 
-/// What stands behind `hint: ` for the text of a refusal; `None` where no code is known in it, or memory is refused.
-pub(crate) fn hint_of<R: Files>(rt: &R, alloc: Global, text: &str) -> Option<String> {
-    let words = words_in(text)?;
-    let (meaning, remedy) = (words.meaning, words.remedy);
-    let known = match text.strip_prefix("S1 ") {
-        Some(path) => state_of(rt, path),
-        None => words.cause,
-    };
-    let hint = if known.is_empty() {
-        format!(in alloc; "{meaning}; {remedy}")
-    } else {
-        format!(in alloc; "{meaning} ({known}); {remedy}")
-    };
-    hint.ok()
-}
-
 /// The words of the code that the text of a refusal has: it begins the text, or what stands behind a colon and a space.
-fn words_in(text: &str) -> Option<CodeWords> {
+pub(crate) fn words_in(text: &str) -> Option<CodeWords> {
     for part in text.split(": ") {
         for place in 0..GROUPS {
             if let Some(words) = begun_by(group(place), part) {
@@ -132,15 +114,4 @@ fn words_in(text: &str) -> Option<CodeWords> {
         }
     }
     None
-}
-
-/// Why the file at a path is not read, as far as the system says.
-fn state_of<R: Files>(rt: &R, path: &str) -> &'static str {
-    match rt.metadata(path) {
-        Ok(metadata) if metadata.is_dir() => "it is a folder",
-        Ok(metadata) if metadata.len() > FILE_BYTES as u64 => "it is longer than 64 MiB",
-        Ok(_) => "there is no right to read it",
-        Err(error) if error.kind() == ErrorKind::NotFound => "there is no such file",
-        Err(_) => "the system does not give it",
-    }
 }

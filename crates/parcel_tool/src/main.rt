@@ -4,11 +4,35 @@
 ghost use Rattle.std.specs.Prelude.{◌≡◌, ◌<◌, ◌≤◌, IfSome};
 ghost use Rattle.overlay_work.specs.declared.round.TheConstants.{MOST_HANDS};
 
+mod doubles;
+mod ended;
+mod ends;
 mod explain;
+mod extents;
+mod file_hints;
+mod flaws;
+mod hints;
+mod named;
+mod outputs;
+mod progress;
+mod sizes;
+mod unitless;
+mod units;
 
-use crate::explain::{ExplainFault, explain, hint_of};
+use crate::ended::Ended;
+use crate::ends::{
+    FAULT, REFUSED, end_by_fault, end_by_folder, end_by_refusal, end_run, end_unread, tell_hint,
+    tell_layers,
+};
+use crate::explain::{ExplainFault, explain};
+use crate::hints::hint_of;
+use crate::named::word_of;
+use crate::outputs::{is_folder, write_layer};
+use crate::progress::{Run, run_told};
+use crate::unitless::{why_no_unit, with_unit};
+use crate::units::{Stated, stated_beside};
 use city_layers::area::area;
-use city_layers::{Disk, StandardInput, ToolFault, read_source, read_text, replace_layer};
+use city_layers::{Disk, StandardInput, ToolFault, read_source, read_text};
 use clap::Error;
 use clap::error::ErrorKind;
 use geo_exact::{ByteOut, Counted, Unit};
@@ -19,33 +43,42 @@ use parcel_runs::locate::{locate, locate_text};
 use parcel_runs::overlay::overlay;
 use parcel_runs::part::{WrittenPart, part, parts};
 use parcel_runs::{RunFiles, refuse_many_clerks};
-use register_sessions::{Exports, Machine, Pipes, Plan, serve_session};
+use register_sessions::{Exports, Machine, Pipes, Plan, StartFault, serve_session};
 use std::alloc::Global;
-use std::fmt::Display;
 use std::fs::File;
 use std::io::{Input, IsTerminal};
 use std::process::ExitCode;
-use std::rt::{Env, Files};
+use std::rt::{Clock, Env, Files};
 use std::sync::Wait;
 use std::thread::Threads;
 use std::{env, io, thread};
 use text_pieces::put_all;
 use tool_arguments::{Districts, Inputs, Points, Request, Session, Wanted, Workers, wants_hints};
 
-/// The status of a run that a fault ended.
-const FAULT: u8 = 1;
-
-/// The status of a run whose command line was refused.
-const REFUSED: u8 = 2;
+/// What is told beside the answers of a run, on standard error.
+#[derive(Clone, Copy)]
+struct Told {
+    /// Hints.
+    hints: bool,
+    /// That a run goes on.
+    progress: bool,
+}
 
 fn main(rt: HostRuntime) -> ExitCode {
     let words = match command_line(&rt) {
         Ok(words) => words,
         Err(error) => return end_unread(&rt, &error),
     };
-    let hints = wants_hints(words.as_slice()) || rt.stderr().is_terminal();
+    let progress = rt.stderr().is_terminal();
+    let told = Told {
+        hints: wants_hints(words.as_slice()) || progress,
+        progress,
+    };
     match tool_arguments::parse(rt.alloc(), words.as_slice()) {
-        Ok(request) => answer(&rt, &Disk(&rt), request, hints),
+        Ok(request) => answer(&rt, &Disk(&rt), &request, told),
+        Err(error) if error.kind() == ErrorKind::MissingRequiredArgument => {
+            answer_unitless(&rt, &Disk(&rt), words.as_slice(), &error, told)
+        }
         Err(error) => end_by_refusal(&rt, &error),
     }
 }
@@ -59,30 +92,162 @@ fn command_line<R: Env + AllocGlobal>(rt: &R) -> io::Result<Vec<String>> {
     Ok(words)
 }
 
+/// Answers a command line in which a word is missing. Where that is the unit alone, it is what the projection beside a
+/// layer says.
+fn answer_unitless<
+    R: Files<File = File> + Clock + Input + Print + Eprint + Threads + Wait + Sync + AllocGlobal,
+    P: Pipes + Exports + Machine + Sync,
+>(rt: &R, disk: &P, words: &[String], error: &Error, told: Told) -> ExitCode {
+    let heap = rt.alloc();
+    let Ok(metres) = with_unit(heap, words, word_of(Unit::M)) else {
+        return end_by_fault(rt, &ToolFault::NoMemory, told.hints);
+    };
+    let Ok(request) = tool_arguments::parse(heap, metres.as_slice()) else {
+        return end_by_refusal(rt, error);
+    };
+    let Ok(stated) = stated_beside(rt, heap, &request) else {
+        return end_by_fault(rt, &ToolFault::NoMemory, told.hints);
+    };
+    if let Some((Stated::Length(unit), stem)) = stated {
+        if told.hints {
+            let word = word_of(unit);
+            let _ = eprintln!(rt; "hint: --unit {word} is taken from {stem}.prj");
+        }
+        return answer_in(rt, disk, words, unit, told);
+    }
+    let status = end_by_refusal(rt, error);
+    if told.hints {
+        tell_hint(rt, why_no_unit(heap, stated));
+    }
+    status
+}
+
+/// Answers a command line whose unit is this.
+fn answer_in<
+    R: Files<File = File> + Clock + Input + Print + Eprint + Threads + Wait + Sync + AllocGlobal,
+    P: Pipes + Exports + Machine + Sync,
+>(rt: &R, disk: &P, words: &[String], unit: Unit, told: Told) -> ExitCode {
+    let heap = rt.alloc();
+    let Ok(all) = with_unit(heap, words, word_of(unit)) else {
+        return end_by_fault(rt, &ToolFault::NoMemory, told.hints);
+    };
+    match tool_arguments::parse(heap, all.as_slice()) {
+        Ok(request) => answer(rt, disk, &request, told),
+        Err(error) => end_by_refusal(rt, &error),
+    }
+}
+
 /// Does what the command line asks for. A session's pipes and exports are of the disk.
 fn answer<
-    'a,
-    R: Files<File = File> + Input + Print + Eprint + Threads + Wait + Sync + AllocGlobal,
+    R: Files<File = File> + Clock + Input + Print + Eprint + Threads + Wait + Sync + AllocGlobal,
     P: Pipes + Exports + Machine + Sync,
->(rt: &R, disk: &P, request: Request<'a>, hints: bool) -> ExitCode {
-    let mut out = Counted::new(io::writer(rt));
-    let done = match request {
-        Request::Area { main, unit } => answer_area(rt, main, unit, &mut out),
-        Request::Check { inputs, all } => answer_check(rt, &inputs, all, &mut out),
-        Request::Export { inputs, base } => answer_export(rt, &inputs, base, &mut out),
-        Request::Locate { inputs, points } => answer_locate(rt, &inputs, &points, &mut out),
-        Request::Overlay { inputs, zones } => answer_overlay(rt, &inputs, zones, &mut out),
-        Request::Part { districts, base } => match districts.wanted {
-            Wanted::One(id) => answer_part(rt, &districts, id, base, &mut out),
-            Wanted::All => return answer_all_parts(rt, &districts, base, &mut out, hints),
-        },
-        Request::Session(session) => return answer_session(rt, disk, session, hints),
-        Request::Explain { code } => return answer_explain(rt, code.as_slice(), &mut out),
-    };
-    match done {
-        Ok(()) => ExitCode::SUCCESS,
-        Err(fault) => end_by_fault(rt, &fault, hints),
+>(rt: &R, disk: &P, request: &Request<'_>, told: Told) -> ExitCode {
+    match request {
+        Request::Session(session) => answer_session(rt, disk, request, session, told.hints),
+        Request::Explain { code } => answer_explain(rt, code.as_slice()),
+        Request::Export { base, .. } | Request::Part { base, .. } if is_folder(rt, *base) => {
+            end_by_folder(rt, *base)
+        }
+        Request::Part { districts, .. } if districts.wanted == Wanted::All => {
+            let job = AllParts {
+                rt,
+                request,
+                districts,
+                hints: told.hints,
+            };
+            if told.progress {
+                run_told(rt, job)
+            } else {
+                job.run()
+            }
+        }
+        _ => {
+            let job = OneRun { rt, request };
+            let done = if told.progress {
+                run_told(rt, job)
+            } else {
+                job.run()
+            };
+            end_of(rt, request, done, told.hints)
+        }
     }
+}
+
+/// Ends a run that was done, or not.
+fn end_of<R: Eprint + Files + AllocGlobal>(
+    rt: &R,
+    request: &Request<'_>,
+    done: Result<(), Ended<'_>>,
+    hints: bool,
+) -> ExitCode {
+    if let Err(ended) = done {
+        return end_run(rt, request, &ended, hints);
+    }
+    if hints {
+        tell_layers(rt, request);
+    }
+    ExitCode::SUCCESS
+}
+
+/// A run that reads files and ends.
+#[derive(Drop)]
+struct OneRun<'r, 'a, R> {
+    rt: &'r R,
+    request: &'r Request<'a>,
+}
+
+impl<'r, 'a, R: Files + Input + Print + Threads + Wait + Sync + AllocGlobal> Run<
+    Result<(), Ended<'a>>,
+> for OneRun<'r, 'a, R> {
+    fn run(self) -> Result<(), Ended<'a>> {
+        let mut out = Counted::new(io::writer(self.rt));
+        answer_run(self.rt, self.request, &mut out)
+    }
+}
+
+/// A run that writes all districts.
+#[derive(Drop)]
+struct AllParts<'r, 'a, R> {
+    rt: &'r R,
+    request: &'r Request<'a>,
+    districts: &'r Districts<'a>,
+    hints: bool,
+}
+
+impl<'r, 'a, R: Files + Print + Eprint + Threads + Sync + AllocGlobal> Run<ExitCode>
+    for AllParts<'r, 'a, R> {
+    fn run(self) -> ExitCode {
+        answer_all_parts(self.rt, self.request, self.districts, self.hints)
+    }
+}
+
+/// Does a run that reads files and ends.
+fn answer_run<'a, R: Files + Input + Threads + Wait + Sync + AllocGlobal, W: ByteOut>(
+    rt: &R,
+    request: &Request<'a>,
+    out: &mut W,
+) -> Result<(), Ended<'a>> {
+    match request {
+        Request::Area { main, unit } => answer_area(rt, *main, *unit, out)?,
+        Request::Check { inputs, all } => answer_check(rt, inputs, *all, out)?,
+        Request::Export {
+            inputs,
+            base,
+            force,
+        } => answer_export(rt, inputs, (*base, *force), out)?,
+        Request::Locate { inputs, points } => answer_locate(rt, inputs, points, out)?,
+        Request::Overlay { inputs, zones } => answer_overlay(rt, inputs, *zones, out)?,
+        Request::Part {
+            districts,
+            base,
+            force,
+        } => match districts.wanted {
+            Wanted::One(id) => answer_part(rt, districts, id, (*base, *force), out)?,
+            Wanted::All => {}
+        },
+        Request::Session(_) | Request::Explain { .. } => {}
+    }
+    Ok(())
 }
 
 /// Tells the areas of a layer's rings.
@@ -118,14 +283,15 @@ fn answer_check<'a, R: Files + Threads + Wait + Sync + AllocGlobal, W: ByteOut>(
 fn answer_export<'a, R: Files + Threads + Wait + Sync + AllocGlobal, W: ByteOut>(
     rt: &R,
     inputs: &Inputs<'a>,
-    base: &'a str,
+    written: (&'a str, bool),
     out: &mut W,
-) -> Result<(), ToolFault<'a>> {
+) -> Result<(), Ended<'a>> {
     let heap = rt.alloc();
+    let (base, force) = written;
     let files = read_inputs(rt, inputs)?;
     let exported = export(rt, worker_count(rt, inputs.workers), &heap, &files)?;
-    replace_layer(rt, heap, base, &exported.main, &exported.index)?;
-    put_all(&exported.lines, out)?;
+    write_layer(rt, heap, base, force, (&exported.main, &exported.index))?;
+    put_all(&exported.lines, out).map_err(ToolFault::from)?;
     Ok(())
 }
 
@@ -134,19 +300,23 @@ fn answer_session<
     'a,
     R: Files<File = File> + Input + Print + Eprint + Threads + Wait + Sync + AllocGlobal,
     P: Pipes + Exports + Machine + Sync,
->(rt: &R, disk: &P, session: Session<'a>, hints: bool) -> ExitCode {
+>(rt: &R, disk: &P, request: &Request<'a>, session: &Session<'a>, hints: bool) -> ExitCode {
     let heap = rt.alloc();
+    let Ok(desks) = Vec::from_slice(heap, session.desks.as_slice()) else {
+        return end_by_fault(rt, &ToolFault::NoMemory, hints);
+    };
     let plan = Plan {
         city: session.city,
         parcels: session.parcels,
         zones: session.zones,
         unit: session.unit,
         journal: session.journal,
-        desks: session.desks,
+        desks,
         workers: worker_count(rt, session.workers),
     };
     match serve_session(rt, disk, &heap, &plan) {
         Ok(()) => ExitCode::SUCCESS,
+        Err(StartFault::Run(fault)) => end_run(rt, request, &Ended::Fault(fault), hints),
         Err(fault) => end_by_fault(rt, &fault, hints),
     }
 }
@@ -197,41 +367,40 @@ fn answer_part<'a, R: Files + Threads + Sync + AllocGlobal, W: ByteOut>(
     rt: &R,
     asked: &Districts<'a>,
     id: u64,
-    base: &'a str,
+    written: (&'a str, bool),
     out: &mut W,
-) -> Result<(), ToolFault<'a>> {
+) -> Result<(), Ended<'a>> {
     let heap = rt.alloc();
+    let (base, force) = written;
     let city = read_source(&Disk(rt), heap, asked.city)?;
     let districts = read_source(&Disk(rt), heap, asked.districts)?;
     let workers = worker_count(rt, asked.workers);
-    let written = part(rt, workers, &heap, &city, &districts, asked.unit, id)?;
-    replace_layer(rt, heap, base, &written.main, &written.index)?;
-    put_all(&written.line, out)?;
+    let done = part(rt, workers, &heap, &city, &districts, asked.unit, id)?;
+    write_layer(rt, heap, base, force, (&done.main, &done.index))?;
+    put_all(&done.line, out).map_err(ToolFault::from)?;
     Ok(())
 }
 
 /// Writes each district as a layer of its own, by ascending number, with its line once its files are there. The
 /// first that can't be written ends the run, and is named.
-fn answer_all_parts<'a, R: Files + Eprint + Threads + Sync + AllocGlobal, W: ByteOut>(
+fn answer_all_parts<'a, R: Files + Print + Eprint + Threads + Sync + AllocGlobal>(
     rt: &R,
+    request: &Request<'a>,
     asked: &Districts<'a>,
-    base: &'a str,
-    out: &mut W,
     hints: bool,
 ) -> ExitCode {
     let heap = rt.alloc();
+    let mut out = Counted::new(io::writer(rt));
     let parts = match all_parts(rt, &heap, asked) {
         Ok(parts) => parts,
-        Err(fault) => return end_by_fault(rt, &fault, hints),
+        Err(fault) => return end_run(rt, request, &Ended::Fault(fault), hints),
     };
     for part in parts.as_slice() {
-        if let Err(fault) = write_part(rt, part, base) {
-            let id = part.id;
-            let _ = eprintln!(rt; "error: {fault} district {id}");
-            return ExitCode::from(FAULT);
+        if let Err(status) = write_part(rt, request, part, hints) {
+            return status;
         }
-        if put_all(&part.line, out).is_err() {
-            return end_by_fault(rt, &ToolFault::Output, hints);
+        if put_all(&part.line, &mut out).is_err() {
+            return end_run(rt, request, &Ended::Fault(ToolFault::Output), hints);
         }
     }
     ExitCode::SUCCESS
@@ -249,16 +418,31 @@ fn all_parts<'a, 'h, R: Files + Threads + Sync + AllocGlobal>(
     parts(rt, workers, heap, &city, &districts, asked.unit)
 }
 
-/// Writes the files of one district of all, BASE-ID.shp and BASE-ID.shx.
-fn write_part<'h, R: Files + AllocGlobal>(
+/// Writes the files of one district of all, BASE-ID.shp and BASE-ID.shx. Where that fails it is told, and the status is
+/// answered.
+fn write_part<'h, R: Files + Eprint + AllocGlobal>(
     rt: &R,
+    request: &Request<'_>,
     part: &WrittenPart<&'h Global>,
-    base: &str,
-) -> Result<(), ToolFault<'static>> {
+    hints: bool,
+) -> Result<(), ExitCode> {
     let heap = rt.alloc();
+    let Request::Part { base, force, .. } = request else {
+        return Ok(());
+    };
     let id = part.id;
-    let path = format!(in heap; "{base}-{id}")?;
-    replace_layer(rt, heap, path.as_str(), &part.main, &part.index)
+    let Ok(path) = format!(in heap; "{base}-{id}") else {
+        let _ = eprintln!(rt; "error: no memory district {id}");
+        return Err(ExitCode::from(FAULT));
+    };
+    let Err(ended) = write_layer(rt, heap, path.as_str(), *force, (&part.main, &part.index)) else {
+        return Ok(());
+    };
+    let _ = eprintln!(rt; "error: {ended} district {id}");
+    if hints {
+        tell_hint(rt, hint_of(rt, heap, request, &ended));
+    }
+    Err(ExitCode::from(FAULT))
 }
 
 /// How many threads share the work: so many as were asked for, else one for each processor, at most 64.
@@ -321,12 +505,9 @@ fn read_points<'a, R: Files + Input + AllocGlobal>(
 }
 
 /// Says what a code means; without one, lists all.
-fn answer_explain<R: Eprint + Files + AllocGlobal, W: ByteOut>(
-    rt: &R,
-    words: &[&str],
-    out: &mut W,
-) -> ExitCode {
-    match explain(rt.alloc(), words, out) {
+fn answer_explain<R: Print + Eprint + AllocGlobal>(rt: &R, words: &[&str]) -> ExitCode {
+    let mut out = Counted::new(io::writer(rt));
+    match explain(rt.alloc(), words, &mut out) {
         Ok(()) => ExitCode::SUCCESS,
         Err(ExplainFault::Output) => end_by_fault(rt, &ToolFault::Output, false),
         Err(ExplainFault::Unknown) => {
@@ -334,46 +515,4 @@ fn answer_explain<R: Eprint + Files + AllocGlobal, W: ByteOut>(
             ExitCode::from(REFUSED)
         }
     }
-}
-
-/// Ends a run early, and says why; in words, too, where hints are wanted.
-fn end_by_fault<R: Eprint + Files + AllocGlobal, F: Display>(
-    rt: &R,
-    fault: &F,
-    hints: bool,
-) -> ExitCode {
-    // Where standard error fails too there is nobody left to tell.
-    let _ = eprintln!(rt; "error: {fault}");
-    if hints {
-        if let Ok(text) = format!(in rt.alloc(); "{fault}") {
-            if let Some(hint) = hint_of(rt, rt.alloc(), text.as_str()) {
-                let _ = eprintln!(rt; "hint: {hint}");
-            }
-        }
-    }
-    ExitCode::from(FAULT)
-}
-
-/// Ends a run whose words ask for nothing to be done: prints the help or the version, or why the words are refused.
-fn end_by_refusal<R: Print + Eprint + Files + AllocGlobal>(rt: &R, error: &Error) -> ExitCode {
-    if error.kind() == ErrorKind::OutOfMemory {
-        return end_by_fault(rt, &ToolFault::NoMemory, false);
-    }
-    let printed = error.print(rt);
-    if error.use_stderr() {
-        ExitCode::from(REFUSED)
-    } else if printed.is_ok() {
-        ExitCode::SUCCESS
-    } else {
-        end_by_fault(rt, &ToolFault::Output, false)
-    }
-}
-
-/// Ends a run whose words could not be read.
-fn end_unread<R: Eprint + Files + AllocGlobal>(rt: &R, error: &io::Error) -> ExitCode {
-    if error.kind() == io::ErrorKind::OutOfMemory {
-        return end_by_fault(rt, &ToolFault::NoMemory, false);
-    }
-    let _ = eprintln!(rt; "error: a word of the command line is not UTF-8 text");
-    ExitCode::from(REFUSED)
 }

@@ -67,10 +67,12 @@ ArePoints words (At corners) =
 abbrev pub IsRequest : Words → Request → Type 0
 IsRequest words (Area main unit) = (words.main ≡ Some main) × IsUnit words.unit unit
 IsRequest words (Check inputs all) = AreInputs words inputs × (all ≡ words.all)
-IsRequest words (Export inputs base) = AreInputs words inputs × (words.out ≡ Some base)
+IsRequest words (Export inputs base force) =
+    AreInputs words inputs × (words.out ≡ Some base) × (force ≡ words.force)
 IsRequest words (Locate inputs points) = AreInputs words inputs × ArePoints words points
 IsRequest words (Overlay inputs zones) = AreInputs words inputs × (words.zones ≡ Some zones)
-IsRequest words (Part districts base) = AreDistrictWords words districts × (words.out ≡ Some base)
+IsRequest words (Part districts base force) =
+    AreDistrictWords words districts × (words.out ≡ Some base) × (force ≡ words.force)
 IsRequest words (Session session) = AreSession words session
 IsRequest words (Explain code) = code.items ≡ given words.code
 
@@ -78,10 +80,10 @@ IsRequest words (Explain code) = code.items ≡ given words.code
 abbrev pub verb_of : Request → Verb
 verb_of (Area main unit) = Verb.Area
 verb_of (Check inputs all) = Verb.Check
-verb_of (Export inputs base) = Verb.Export
+verb_of (Export inputs base force) = Verb.Export
 verb_of (Locate inputs points) = Verb.Locate
 verb_of (Overlay inputs zones) = Verb.Overlay
-verb_of (Part districts base) = Verb.Part
+verb_of (Part districts base force) = Verb.Part
 verb_of (Session session) = Verb.Session
 verb_of (Explain code) = Verb.Explain
 

@@ -1,6 +1,7 @@
 //! The command line: its words, and its help.
 
 use crate::asked::request_of;
+use crate::bases::is_refused_base;
 use crate::requests::Request;
 use crate::words::{Verb, Words};
 use clap::error::ErrorKind;
@@ -12,6 +13,10 @@ use std::convert::AsStr;
 /// What the words of `--at` have to be.
 const AT_HELP: &str =
     "--at takes the coordinates X Y of a point, whole millimetres at most 100000000000 away from 0";
+
+/// What the word of `--out` has to be.
+const OUT_HELP: &str =
+    "--out takes a path without its ending, to which .shp and .shx are added, as in new/town";
 
 /// Reads a command line, the program's own name first. A refused one is an error whose text helps; `--help` and
 /// `--version` are answered as errors too, with the status 0.
@@ -29,13 +34,25 @@ pub fn parse<'a, S: AsStr>(alloc: Global, words: &'a [S]) -> Result<Request<'a>,
         Some(("explain", given)) => (Verb::Explain, given),
         _ => return Err(no_subcommand(&mut command)?),
     };
+    let refused = is_refused_out(given);
     if let Some(request) = request_of(alloc, verb, &words_of(given))? {
+        if refused {
+            return Err(command.error(ErrorKind::ValueValidation, OUT_HELP)?);
+        }
         return Ok(request);
     }
     if verb == Verb::Locate {
         return Err(command.error(ErrorKind::ValueValidation, AT_HELP)?);
     }
     Err(no_subcommand(&mut command)?)
+}
+
+/// Whether the word of `--out` is none that names a layer.
+fn is_refused_out(given: &ArgMatches<'_>) -> bool {
+    match given.get_str("out") {
+        Some(base) => is_refused_base(base),
+        None => false,
+    }
 }
 
 /// Whether the words ask for hints wherever standard error goes. What stands behind `--` is no option.
@@ -70,6 +87,7 @@ fn words_of<'g, 'a>(given: &'g ArgMatches<'a>) -> Words<'g, 'a> {
         journal: given.get_str("journal"),
         workers: given.get_one("workers"),
         all: given.get_flag("all"),
+        force: given.get_flag("force"),
         clerks: given.get_strs("clerk"),
         desks: given.get_strs("desk"),
         code: given.get_strs("CODE"),
@@ -146,6 +164,7 @@ fn export_command<'a>(alloc: Global) -> Result<Command<'a>, AllocError> {
         ))?
         .arg(unit(alloc, "The unit of the files' coordinates"))?
         .arg(base(alloc, "The files that are written: BASE.shp and BASE.shx"))?
+        .arg(force(alloc))?
         .arg(clerk(alloc))?
         .arg(worker_count(alloc))
 }
@@ -202,6 +221,7 @@ fn part_command<'a>(alloc: Global) -> Result<Command<'a>, AllocError> {
             alloc,
             "The files that are written: BASE.shp and BASE.shx, or with --all BASE-ID.shp and BASE-ID.shx of each",
         ))?
+        .arg(force(alloc))?
         .arg(worker_count(alloc))?
         .group(districts(alloc)?)
 }
@@ -355,6 +375,16 @@ fn base<'a>(alloc: Global, help: &'a str) -> Arg<'a> {
         .action(ArgAction::Set)
         .value_name("BASE")
         .help(help)
+}
+
+/// Whether what goes with the layer that stood there is removed.
+fn force<'a>(alloc: Global) -> Arg<'a> {
+    Arg::new(alloc, "force")
+        .long("force")
+        .action(ArgAction::SetTrue)
+        .help(
+            "Removes BASE.dbf and BASE.prj, which would name other parcels; without it, they are refused",
+        )
 }
 
 /// A layer's main file, which has to be given.

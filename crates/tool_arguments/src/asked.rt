@@ -86,7 +86,12 @@ fn export_request<'a>(
     let Some(inputs) = inputs_of(alloc, words)? else {
         return Ok(None);
     };
-    Ok(Some(Request::Export { inputs, base }))
+    let force = words.force;
+    Ok(Some(Request::Export {
+        inputs,
+        base,
+        force,
+    }))
 }
 
 /// What the words of `locate` ask for.
@@ -134,7 +139,12 @@ fn part_request<'a>(words: &Words<'_, 'a>) -> Option<Request<'a>>
     let (Some(districts), Some(base)) = (districts_of(words), words.out) else {
         return None;
     };
-    Some(Request::Part { districts, base })
+    let force = words.force;
+    Some(Request::Part {
+        districts,
+        base,
+        force,
+    })
 }
 
 /// What the words of `session` ask for.

@@ -30,6 +30,8 @@ pub enum Request<'a> {
         inputs: Inputs<'a>,
         /// The path of the files that are written, without their endings .shp and .shx.
         base: &'a str,
+        /// Whether the table and the projection that stand beside are removed, and not refused.
+        force: bool,
     },
     /// Where points lie among parcels.
     Locate {
@@ -52,6 +54,8 @@ pub enum Request<'a> {
         /// The path of the files that are written, without their endings .shp and .shx; of all districts, without what
         /// comes behind it of each, too.
         base: &'a str,
+        /// Whether the tables and projections that stand beside are removed, and not refused.
+        force: bool,
     },
     /// A register that stays open, at whose desks edits and questions are answered.
     Session(Session<'a>),

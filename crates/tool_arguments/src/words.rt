@@ -48,6 +48,8 @@ pub struct Words<'g, 'a> {
     pub workers: Option<usize>,
     /// `--all`.
     pub all: bool,
+    /// `--force`.
+    pub force: bool,
     /// Each `--clerk`.
     pub clerks: Option<&'g [&'a str]>,
     /// Each `--desk`.
