@@ -33,10 +33,10 @@ _parcel_tool() {
     help) _parcel_tool_words 'area check export locate overlay part session explain'; return ;;
     area) options='--unit --hints -h --help' ;;
     check) options='--unit --all --clerk --workers --hints -h --help' ;;
-    export) options='--unit --out --clerk --workers --hints -h --help' ;;
+    export) options='--unit --out --force --clerk --workers --hints -h --help' ;;
     locate) options='--unit --at --points --clerk --workers --hints -h --help' ;;
     overlay) options='--unit --clerk --workers --hints -h --help' ;;
-    part) options='--all --unit --out --workers --hints -h --help' ;;
+    part) options='--all --unit --out --force --workers --hints -h --help' ;;
     session) options='--unit --zones --journal --desk --workers --hints -h --help' ;;
     explain) options='--hints -h --help' ;;
   esac
