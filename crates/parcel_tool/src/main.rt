@@ -142,6 +142,7 @@ fn answer_session<
         zones: session.zones,
         unit: session.unit,
         journal: session.journal,
+        clerk: session.clerk,
         desks: session.desks,
         workers: worker_count(rt, session.workers),
     };
