@@ -5,6 +5,7 @@
 //! Each call answers from the bytes of the files, and says to which layer a fault belongs.
 #![tactic(auto)]
 
+mod all_inputs;
 pub mod check;
 mod clerks;
 mod dealing;
@@ -13,7 +14,6 @@ mod inputs;
 pub mod locate;
 mod outcome;
 pub mod overlay;
-mod overlay_inputs;
 mod overlay_job;
 pub mod part;
 mod run_files;

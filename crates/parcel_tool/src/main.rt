@@ -14,10 +14,10 @@ use clap::error::ErrorKind;
 use geo_exact::{ByteOut, Counted, Unit};
 use overlay_work::MOST_HANDS;
 use parcel_runs::check::{check, check_all};
-use parcel_runs::export::export;
+use parcel_runs::export::{Exported, export};
 use parcel_runs::locate::{locate, locate_text};
 use parcel_runs::overlay::overlay;
-use parcel_runs::part::{WrittenPart, part, parts};
+use parcel_runs::part::{part, parts};
 use parcel_runs::{RunFiles, refuse_many_clerks};
 use register_sessions::{Exports, Machine, Pipes, Plan, serve_session};
 use std::alloc::Global;
@@ -206,7 +206,7 @@ fn answer_part<'a, R: Files + Threads + Sync + AllocGlobal, W: ByteOut>(
     let workers = worker_count(rt, asked.workers);
     let written = part(rt, workers, &heap, &city, &districts, asked.unit, id)?;
     replace_layer(rt, heap, base, &written.main, &written.index)?;
-    put_all(&written.line, out)?;
+    put_all(&written.lines, out)?;
     Ok(())
 }
 
@@ -224,13 +224,12 @@ fn answer_all_parts<'a, R: Files + Eprint + Threads + Sync + AllocGlobal, W: Byt
         Ok(parts) => parts,
         Err(fault) => return end_by_fault(rt, &fault, hints),
     };
-    for part in parts.as_slice() {
-        if let Err(fault) = write_part(rt, part, base) {
-            let id = part.id;
+    for (id, part) in parts.as_slice() {
+        if let Err(fault) = write_part(rt, *id, part, base) {
             let _ = eprintln!(rt; "error: {fault} district {id}");
             return ExitCode::from(FAULT);
         }
-        if put_all(&part.line, out).is_err() {
+        if put_all(&part.lines, out).is_err() {
             return end_by_fault(rt, &ToolFault::Output, hints);
         }
     }
@@ -242,7 +241,7 @@ fn all_parts<'a, 'h, R: Files + Threads + Sync + AllocGlobal>(
     rt: &R,
     heap: &'h Global,
     asked: &Districts<'a>,
-) -> Result<Vec<WrittenPart<&'h Global>, &'h Global>, ToolFault<'a>> {
+) -> Result<Vec<(u64, Exported<&'h Global>), &'h Global>, ToolFault<'a>> {
     let city = read_source(&Disk(rt), *heap, asked.city)?;
     let districts = read_source(&Disk(rt), *heap, asked.districts)?;
     let workers = worker_count(rt, asked.workers);
@@ -252,11 +251,11 @@ fn all_parts<'a, 'h, R: Files + Threads + Sync + AllocGlobal>(
 /// Writes the files of one district of all, BASE-ID.shp and BASE-ID.shx.
 fn write_part<'h, R: Files + AllocGlobal>(
     rt: &R,
-    part: &WrittenPart<&'h Global>,
+    id: u64,
+    part: &Exported<&'h Global>,
     base: &str,
 ) -> Result<(), ToolFault<'static>> {
     let heap = rt.alloc();
-    let id = part.id;
     let path = format!(in heap; "{base}-{id}")?;
     replace_layer(rt, heap, path.as_str(), &part.main, &part.index)
 }

@@ -8,7 +8,7 @@ use Rattle.parcel_runs.proofs.outcome.places_in.Goals as goal
 
 pub loop-corner-preserved : goal.loop-corner-preserved
 loop-corner-preserved g c =
-    let rows = c.args.layer.now.rows in
+    let rows = c.args.sheet.now.now.rows in
     let corners = c.args.corners.now in
     let i = c.loop-corner.corner-index in
     let corner = c.corner-item.result in

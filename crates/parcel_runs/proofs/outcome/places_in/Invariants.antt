@@ -3,4 +3,4 @@ use Rattle.clerk_runs.specs.ClerkRuns.{AreLocated}
 use Rattle.parcel_runs.proofs.outcome.places_in.Given as goal
 
 abbrev pub invariant-loop-corner : goal.invariant-loop-corner
-invariant-loop-corner g l = AreLocated l.layer.rows (take l.corner-index l.corners) l.places.items
+invariant-loop-corner g l = AreLocated l.sheet.now.rows (take l.corner-index l.corners) l.places.items

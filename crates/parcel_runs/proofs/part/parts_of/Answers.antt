@@ -8,7 +8,7 @@ use Rattle.parcel_runs.proofs.part.parts_of.Goals as goal
 
 pub loop-district-preserved : goal.loop-district-preserved
 loop-district-preserved g c =
-    let part = c.in_ok-part_of.field-0 in (
+    let part = (c.in-Some.district.0, c.in_ok-part_of.field-0) in (
       (subst (AllByRecursion (λ shape. length shape.1.ring.corners ≤ RING_CORNERS)) c.in-Some.ensures.steps
           c.loop-district.invariant.0).1,
       λ more h.
@@ -20,11 +20,11 @@ loop-district-preserved g c =
           (subst (λ rest. AllZip (λ shape part. IsWrittenPart (numbered shape.0 shape.1.ring.corners) part) rest (part ∷ more))
           (sym c.in-Some.ensures.steps) (
             record {
-              has_number = c.in_ok-part_of.ensures.number;
+              has_number = refl;
               is_main = c.in_ok-part_of.ensures.main;
               is_index = c.in_ok-part_of.ensures.index;
               is_read_back = c.in_ok-part_of.ensures.read_back;
-              is_told = c.in_ok-part_of.ensures.line;
+              is_told = c.in_ok-part_of.ensures.lines;
             },
             h,
           )))),

@@ -1,0 +1,34 @@
+-- What a run loads before its edits: the parcels' layer, and the zones' layer where the run has zones' files.
+use Rattle.std.specs.Prelude.{List, Option, None, Some}
+use Rattle.geo_exact.specs.declared.coord.Unit.{Unit as LengthUnit}
+use Rattle.geo_exact.specs.declared.corner.Corner.{Corner}
+use Rattle.fabric_core.specs.Rows.{Tiles}
+use Rattle.city_layers.specs.declared.fault.ToolFault.{ToolFault}
+use Rattle.city_layers.specs.declared.sources.Source.{Source}
+use Rattle.city_layers.specs.TilingFiles.{Files, files_of, IsTiledBy, IsTilesFault}
+use Rattle.city_layers.specs.ZonedFiles.{IsLayersFault}
+use Rattle.parcel_runs.specs.RunFiles.{ParcelRun}
+use Rattle.parcel_runs.specs.RunFaults.{IsRunFault}
+use Rattle.parcel_runs.specs.OverlayReport.{IsOverlayFault}
+
+-- the zones' files, where there are any
+abbrev pub files_of_zones : {A : Type 0} → Option (Source A) → Option Files
+files_of_zones None = None
+files_of_zones (Some zones) = Some (files_of zones)
+
+-- zones are loaded where there are zones' files, and tile the city; else there are none
+abbrev pub AreRegions : Option Files → LengthUnit → List Corner → Option Tiles → Type 0
+AreRegions None unit city None = Unit {0}
+AreRegions None unit city (Some regions) = ⊥
+AreRegions (Some files) unit city None = ⊥
+AreRegions (Some files) unit city (Some regions) = IsTiledBy files unit city regions
+
+-- the fault is the first of the layers' files
+abbrev pub IsGroundFault : ParcelRun → Option Files → ToolFault → Type 0
+IsGroundFault run None fault = IsTilesFault run.city run.parcels run.unit fault
+IsGroundFault run (Some zones) fault = IsLayersFault run.city run.parcels zones run.unit fault
+
+-- the fault is the first of all files, those of the clerks too
+abbrev pub IsInputFault : ParcelRun → Option Files → ToolFault → Type 0
+IsInputFault run None fault = IsRunFault run fault
+IsInputFault run (Some zones) fault = IsOverlayFault run zones fault
