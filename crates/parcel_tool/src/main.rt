@@ -28,7 +28,7 @@ use crate::explain::{ExplainFault, explain};
 use crate::hints::hint_of;
 use crate::named::word_of;
 use crate::outputs::{is_folder, write_layer};
-use crate::progress::{Run, run_told};
+use crate::progress::tell;
 use crate::unitless::{why_no_unit, with_unit};
 use crate::units::{Stated, stated_beside};
 use city_layers::area::area;
@@ -50,7 +50,8 @@ use std::io::{Input, IsTerminal};
 use std::process::ExitCode;
 use std::rt::{Clock, Env, Files};
 use std::sync::Wait;
-use std::thread::Threads;
+use std::sync::atomic::{AtomicBool, Ordering};
+use std::thread::{Scope, Threads};
 use std::{env, io, thread};
 use text_pieces::put_all;
 use tool_arguments::{Districts, Inputs, Points, Request, Session, Wanted, Workers, wants_hints};
@@ -149,24 +150,14 @@ fn answer<
             end_by_folder(rt, *base)
         }
         Request::Part { districts, .. } if districts.wanted == Wanted::All => {
-            let job = AllParts {
-                rt,
-                request,
-                districts,
-                hints: told.hints,
-            };
-            if told.progress {
-                run_told(rt, job)
-            } else {
-                job.run()
-            }
+            // The lines of the districts tell that it goes on.
+            answer_all_parts(rt, request, districts, told.hints)
         }
         _ => {
-            let job = OneRun { rt, request };
             let done = if told.progress {
-                run_told(rt, job)
+                answer_told(rt, request)
             } else {
-                job.run()
+                answer_once(rt, request)
             };
             end_of(rt, request, done, told.hints)
         }
@@ -189,36 +180,46 @@ fn end_of<R: Eprint + Files + AllocGlobal>(
     ExitCode::SUCCESS
 }
 
-/// A run that reads files and ends.
-#[derive(Drop)]
-struct OneRun<'r, 'a, R> {
-    rt: &'r R,
-    request: &'r Request<'a>,
+/// Does a run that reads files and ends, and tells meanwhile that it goes on.
+fn answer_told<'a, R: Files + Clock + Input + Print + Eprint + Threads + Wait + Sync + AllocGlobal>(
+    rt: &R,
+    request: &Request<'a>,
+) -> Result<(), Ended<'a>> {
+    let done = AtomicBool::new(false);
+    let told = &done;
+    thread::scope(thread::scope_env(), rt, move |scope| {
+        answer_in_scope(scope, rt, told, request)
+    })
 }
 
-impl<'r, 'a, R: Files + Input + Print + Threads + Wait + Sync + AllocGlobal> Run<
-    Result<(), Ended<'a>>,
-> for OneRun<'r, 'a, R> {
-    fn run(self) -> Result<(), Ended<'a>> {
-        let mut out = Counted::new(io::writer(self.rt));
-        answer_run(self.rt, self.request, &mut out)
+/// The same in a scope. Where the system refuses a thread, nothing is told.
+fn answer_in_scope<
+    's,
+    'a,
+    E,
+    R: Files + Clock + Input + Print + Eprint + Threads + Wait + Sync + AllocGlobal,
+>(
+    scope: &'s Scope<'s, E>,
+    rt: &'s R,
+    done: &'s AtomicBool,
+    request: &Request<'a>,
+) -> Result<(), Ended<'a>> {
+    let teller = scope.spawn(move || tell(rt, done));
+    let answer = answer_once(rt, request);
+    done.store(true, Ordering::SeqCst);
+    if let Ok(handle) = teller {
+        handle.join(rt);
     }
+    answer
 }
 
-/// A run that writes all districts.
-#[derive(Drop)]
-struct AllParts<'r, 'a, R> {
-    rt: &'r R,
-    request: &'r Request<'a>,
-    districts: &'r Districts<'a>,
-    hints: bool,
-}
-
-impl<'r, 'a, R: Files + Print + Eprint + Threads + Sync + AllocGlobal> Run<ExitCode>
-    for AllParts<'r, 'a, R> {
-    fn run(self) -> ExitCode {
-        answer_all_parts(self.rt, self.request, self.districts, self.hints)
-    }
+/// Does a run that reads files and ends, and writes what it says to standard output.
+fn answer_once<'a, R: Files + Input + Print + Threads + Wait + Sync + AllocGlobal>(
+    rt: &R,
+    request: &Request<'a>,
+) -> Result<(), Ended<'a>> {
+    let mut out = Counted::new(io::writer(rt));
+    answer_run(rt, request, &mut out)
 }
 
 /// Does a run that reads files and ends.
@@ -291,8 +292,10 @@ fn answer_export<'a, R: Files + Threads + Wait + Sync + AllocGlobal, W: ByteOut>
     let files = read_inputs(rt, inputs)?;
     let exported = export(rt, worker_count(rt, inputs.workers), &heap, &files)?;
     write_layer(rt, heap, base, force, (&exported.main, &exported.index))?;
-    put_all(&exported.lines, out).map_err(ToolFault::from)?;
-    Ok(())
+    match put_all(&exported.lines, out) {
+        Ok(()) => Ok(()),
+        Err(failed) => Err(Ended::Fault(ToolFault::from(failed))),
+    }
 }
 
 /// Keeps a register open until it is closed.
@@ -300,7 +303,7 @@ fn answer_session<
     'a,
     R: Files<File = File> + Input + Print + Eprint + Threads + Wait + Sync + AllocGlobal,
     P: Pipes + Exports + Machine + Sync,
->(rt: &R, disk: &P, request: &Request<'a>, session: &Session<'a>, hints: bool) -> ExitCode {
+>(rt: &R, disk: &P, request: &'a Request<'a>, session: &'a Session<'a>, hints: bool) -> ExitCode {
     let heap = rt.alloc();
     let Ok(desks) = Vec::from_slice(heap, session.desks.as_slice()) else {
         return end_by_fault(rt, &ToolFault::NoMemory, hints);
@@ -377,8 +380,10 @@ fn answer_part<'a, R: Files + Threads + Sync + AllocGlobal, W: ByteOut>(
     let workers = worker_count(rt, asked.workers);
     let done = part(rt, workers, &heap, &city, &districts, asked.unit, id)?;
     write_layer(rt, heap, base, force, (&done.main, &done.index))?;
-    put_all(&done.line, out).map_err(ToolFault::from)?;
-    Ok(())
+    match put_all(&done.line, out) {
+        Ok(()) => Ok(()),
+        Err(failed) => Err(Ended::Fault(ToolFault::from(failed))),
+    }
 }
 
 /// Writes each district as a layer of its own, by ascending number, with its line once its files are there. The
