@@ -61,7 +61,7 @@ class _Layers:
         if frame is None:
             return None
         gone = {one.row for one in self.skipped if one.role == ROLES[layer]}
-        return [None if row in gone else shape for row, shape in enumerate(frame.geometry)]
+        return [None if row in gone else shape for row, shape in enumerate(frame.geometry.to_numpy())]
 
 
 @dataclass
@@ -333,8 +333,9 @@ def _outlines_and_zones(
             coordinates.append(cut)
     loops = sources.joined(coordinates)
     known, noise = work.points, work.noise
-    corners = np.column_stack([_near_known(loops.corners[:, axis], known[:, axis], noise) for axis in (0, 1)])
-    work.points, loops.corners = points_of(corners)
+    own = len(coordinates[0].corners)  # the parcels' corners are points that are known, as they are
+    others = [_near_known(loops.corners[own:, axis], known[:, axis], noise) for axis in (0, 1)]
+    work.points, loops.corners = points_of(np.concatenate([loops.corners[:own], np.column_stack(others)]))
     work.loops = loops
     if not frame:
         work.put_in(np.flatnonzero(~_among(work.points, known)), noise / 2, noise / 2)

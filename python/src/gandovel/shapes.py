@@ -7,11 +7,13 @@ from __future__ import annotations
 import ctypes
 import math
 import struct
+from itertools import chain
 from typing import Any, Iterable, Iterator, List, Optional, Sequence, Set, Tuple
 
 import numpy as np
 
 from .arrays import Array
+from .large.shares import in_shares
 import shapely.wkb
 from geopandas.array import GeometryArray
 from shapely.geometry import GeometryCollection, Polygon
@@ -26,8 +28,13 @@ PLACE = np.dtype([("order", "u1"), ("kind", "<u4"), ("place", "<f8", 2)])
 
 def wkb_of(shapes: Iterable[Any]) -> List[Optional[bytes]]:
     """The WKB of each shape; None of None."""
-    dumps = _dumps()
-    return [None if shape is None else dumps(shape) for shape in shapes]
+    every = shapes if isinstance(shapes, (list, np.ndarray)) else list(shapes)
+
+    def written(begin: int, end: int) -> List[Optional[bytes]]:
+        dumps = _dumps()
+        return [None if shape is None else dumps(shape) for shape in every[begin:end]]
+
+    return list(chain.from_iterable(in_shares(written, len(every), len(every))))
 
 
 def _dumps() -> Any:
