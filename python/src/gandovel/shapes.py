@@ -53,22 +53,12 @@ def shapes_of(blobs: Iterable[Optional[bytes]]) -> List[Any]:
 
 
 def _loads() -> Any:
-    """What makes a shape of WKB: in Shapely 1.8 one reader for all, and a plain polygon without looking at what it is."""
+    """What makes a shape of WKB: in Shapely 1.8 one reader for all, since making it takes longer than to read."""
     try:
         from shapely.geos import WKBReader, lgeos
     except ImportError:
         return shapely.wkb.loads
-    reader = WKBReader(lgeos)
-
-    def loads(blob: bytes) -> Any:
-        pointer = lgeos.GEOSWKBReader_read(reader._reader, blob, len(blob)) if blob.startswith(PLAIN) else None
-        if not pointer:  # Shapely makes it, or says what is wrong
-            return reader.read(blob)
-        shape = Polygon.__new__(Polygon)
-        shape.__dict__.update(__geom__=pointer, _ndim=2, _is_empty=False)
-        return shape
-
-    return loads
+    return WKBReader(lgeos).read
 
 
 def common_parts(
