@@ -61,7 +61,7 @@ class _Layers:
         if frame is None:
             return None
         gone = {one.row for one in self.skipped if one.role == ROLES[layer]}
-        return [None if row in gone else shape for row, shape in enumerate(frame.geometry)]
+        return [None if row in gone else shape for row, shape in enumerate(frame.geometry.to_numpy())]
 
 
 @dataclass
@@ -254,7 +254,7 @@ def _skipped(frame: gpd.GeoDataFrame, labels: Sequence[str], role: str, skip_inv
 
 def _box(frame: gpd.GeoDataFrame) -> Array:
     """The box (x, y, x, y) around the shapes of a layer whose coordinates are numbers; NaN where there are none."""
-    box = np.array(bounds_of(frame.geometry))
+    box = np.array(bounds_of(frame.geometry.to_numpy()))
     if np.isfinite(box).all():
         return box
     boxes = frame.bounds.to_numpy()
@@ -333,11 +333,16 @@ def _outlines_and_zones(
             coordinates.append(cut)
     loops = sources.joined(coordinates)
     known, noise = work.points, work.noise
-    corners = np.column_stack([_near_known(loops.corners[:, axis], known[:, axis], noise) for axis in (0, 1)])
-    work.points, loops.corners = points_of(corners)
+    own = len(coordinates[0].corners)  # the parcels' corners are points that are known, as they are
+    moved = [_near_known(loops.corners[own:, axis], known[:, axis], noise) for axis in (0, 1)]
+    work.points, loops.corners = points_of(np.concatenate([loops.corners[:own], np.column_stack(moved)]))
     work.loops = loops
     if not frame:
-        work.put_in(np.flatnonzero(~_among(work.points, known)), noise / 2, noise / 2)
+        of_parcels = np.zeros(len(work.points), dtype=bool)
+        of_parcels[loops.corners[:own]] = True
+        others = np.flatnonzero(~of_parcels)
+        beside = known[np.isin(known[:, 0], work.points[others, 0])]
+        work.put_in(others[~_among(work.points[others], beside)], noise / 2, noise / 2)
     return parts, islands, gaps
 
 

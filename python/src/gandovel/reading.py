@@ -164,7 +164,7 @@ def plain(frame: gpd.GeoDataFrame, role: str, lost: List[str]) -> gpd.GeoDataFra
         if values is not None:
             columns[str(name)] = values
     result = gpd.GeoDataFrame(columns, geometry=geometry.reset_index(drop=True).rename("geometry"), crs=frame.crs)
-    if any(shape is not None and shape.has_z for shape in result.geometry):
+    if any(shape is not None and shape.has_z for shape in result.geometry.to_numpy()):
         lost = [*lost, "heights (Z), which stay in the layers as they were given"]
     result.attrs["lost"] = [f"{role}: no use is made of {it}" for it in lost]
     return result

@@ -24,6 +24,7 @@ from . import notes
 from .errors import Refused
 from .gpkg import Table, test_name, write_layers
 from .large.cutting import boxes_of
+from .large.shares import in_shares
 from .noding import LEAST
 from .prepared import OUT_ROW, TOUCHED, Prepared, Rows
 from .progress import Progress
@@ -404,10 +405,10 @@ def _parts(prepared: Prepared, pairs: Dict[Tuple[int, str], List[Pair]], min_are
     keys = sorted(pairs, key=lambda key: (key[0], zone_rows.get(key[1], -1)))
     owner = np.repeat(np.arange(len(keys)), [len(pairs[key]) for key in keys])
     members = [pair for key in keys for pair in pairs[key]]
-    cuts, measured = _cuts(prepared, members)
+    placed, measured = _cuts(prepared, members)
     areas = np.bincount(owner, weights=measured, minlength=len(keys)) / SQUARE_METRE
     pieces: List[List[bytes]] = [[] for _ in keys]
-    for at, polygons in zip(owner.tolist(), _in_place(prepared, members, cuts)):
+    for at, polygons in zip(owner.tolist(), placed):
         pieces[at] += polygons
     rows = [row for row, _ in keys]
     share = areas / pd.Series(areas).groupby(rows).transform("sum").values if keys else areas
@@ -428,7 +429,19 @@ def _parts(prepared: Prepared, pairs: Dict[Tuple[int, str], List[Pair]], min_are
     return Table(columns, [multipolygon_wkb(some) for some in pieces], prepared.crs, around)
 
 
-def _cuts(prepared: Prepared, members: List[Pair]) -> Tuple[List[bytes], Array]:
+def _cuts(prepared: Prepared, members: List[Pair]) -> Tuple[List[List[bytes]], Array]:
+    """What each parcel and zone have in common, as `_in_place` says it, and its area in mm2, by GEOS."""
+
+    def cut(begin: int, end: int) -> Tuple[List[List[bytes]], Array]:
+        some = members[begin:end]
+        parts, areas = _common(prepared, some)
+        return _in_place(prepared, some, parts), areas
+
+    shares = in_shares(cut, len(members), len(prepared.numbers))
+    return [placed for some, _ in shares for placed in some], np.concatenate([areas for _, areas in shares])
+
+
+def _common(prepared: Prepared, members: List[Pair]) -> Tuple[List[bytes], Array]:
     """What each parcel and zone have in common, as WKB from a corner of their island's city, and its area, by GEOS."""
     sides, at = [], []
     for role, column in (("parcels", 1), ("zones", 2)):

@@ -7,11 +7,13 @@ from __future__ import annotations
 import ctypes
 import math
 import struct
+from itertools import chain
 from typing import Any, Iterable, Iterator, List, Optional, Sequence, Set, Tuple
 
 import numpy as np
 
 from .arrays import Array
+from .large.shares import in_shares
 import shapely.wkb
 from geopandas.array import GeometryArray
 from shapely.geometry import GeometryCollection, Polygon
@@ -26,8 +28,13 @@ PLACE = np.dtype([("order", "u1"), ("kind", "<u4"), ("place", "<f8", 2)])
 
 def wkb_of(shapes: Iterable[Any]) -> List[Optional[bytes]]:
     """The WKB of each shape; None of None."""
-    dumps = _dumps()
-    return [None if shape is None else dumps(shape) for shape in shapes]
+    every = shapes if isinstance(shapes, (list, np.ndarray)) else list(shapes)
+
+    def written(begin: int, end: int) -> List[Optional[bytes]]:
+        dumps = _dumps()
+        return [None if shape is None else dumps(shape) for shape in every[begin:end]]
+
+    return list(chain.from_iterable(in_shares(written, len(every), len(every))))
 
 
 def _dumps() -> Any:
@@ -46,7 +53,7 @@ def shapes_of(blobs: Iterable[Optional[bytes]]) -> List[Any]:
 
 
 def _loads() -> Any:
-    """What makes a shape of WKB: in Shapely 1.8 one reader for all."""
+    """What makes a shape of WKB: in Shapely 1.8 one reader for all, since making it takes longer than to read."""
     try:
         from shapely.geos import WKBReader, lgeos
     except ImportError:
@@ -209,5 +216,11 @@ def box_of(blobs: Iterable[Optional[bytes]]) -> Tuple[float, ...]:
 
 def bounds_of(shapes: Iterable[Any]) -> Tuple[float, ...]:
     """The box around shapes (x, y, x, y); no numbers (NaN) where all are None or empty."""
-    box = GeometryCollection([shape for shape in shapes if shape is not None]).bounds
-    return tuple(map(float, box)) if box else (math.nan,) * 4
+    every = [shape for shape in shapes if shape is not None]
+    boxes = in_shares(lambda begin, end: GeometryCollection(every[begin:end]).bounds, len(every), len(every))
+    known = np.array([box for box in boxes if box]).reshape(-1, 4)
+    if len(boxes) > 1 and not np.isfinite(known).all():  # what GEOS makes of them depends on their order
+        known = np.array(GeometryCollection(every).bounds).reshape(-1, 4)
+    if not len(known):
+        return (math.nan,) * 4
+    return tuple(map(float, (*known[:, :2].min(axis=0), *known[:, 2:].max(axis=0))))

@@ -2,6 +2,7 @@
 from __future__ import annotations
 
 from dataclasses import dataclass
+from itertools import chain
 from typing import Any, Dict, List, Optional, Sequence, Tuple
 
 import geopandas as gpd
@@ -13,10 +14,12 @@ from shapely.validation import explain_validity
 
 from .arrays import Array
 from .errors import Refused, place, raise_all
+from .large.shares import in_shares
 from .shapes import rings_of, wkb_of
 
 PARCELS, ZONES, CITY = 0, 1, 2
 ROLES = ("parcels", "zones", "city")
+AREAS = ("Polygon", "MultiPolygon")
 ROW = "ROW"
 """In place of a column's name: rows are numbered, from 1."""
 
@@ -74,17 +77,28 @@ def _at_row(frame: gpd.GeoDataFrame, row: int, text: str, role: str, number: Opt
 
 def bad_geometries(frame: gpd.GeoDataFrame, numbers: Sequence[str], role: str) -> Dict[int, Refused]:
     """By row what is no polygon (P5), is empty (P4) or crosses itself (P6), each with its number and place."""
+    shapes = frame.geometry.to_numpy()
+
+    def unsound(begin: int, end: int) -> List[int]:
+        return [row for row in range(begin, end) if not _is_sound(shapes[row])]
+
     found: Dict[int, Refused] = {}
-    for row, (number, geometry) in enumerate(zip(numbers, frame.geometry)):
+    for row in chain.from_iterable(in_shares(unsound, len(shapes), len(shapes))):
+        number, geometry = numbers[row], shapes[row]
         if geometry is None or geometry.is_empty:
             found[row] = Refused("P4", "it has no geometry", role=role, number=number)
-        elif geometry.geom_type not in ("Polygon", "MultiPolygon"):
+        elif geometry.geom_type not in AREAS:
             point = geometry.representative_point()
             text = f"it is a {geometry.geom_type} and no polygon {place(point.x, point.y)} (measured)"
             found[row] = Refused("P5", text, role=role, number=number, geometry=point)
-        elif not geometry.is_valid:
+        else:
             found[row] = _invalid(geometry, number, role)
     return found
+
+
+def _is_sound(geometry: Any) -> bool:
+    """Whether it is a polygon, or several, with some corners, and GEOS says that it is valid."""
+    return bool(geometry is not None and not geometry.is_empty and geometry.geom_type in AREAS and geometry.is_valid)
 
 
 def _invalid(geometry: Any, number: str, role: str) -> Refused:
@@ -140,18 +154,23 @@ def joined(several: List[Loops]) -> Loops:
     return Loops(np.concatenate([loops.corners for loops in several]), np.concatenate([[0], np.cumsum(sizes)]), *fields)
 
 
-def loops_of(geometries: Any, scale: float, layer: int) -> Loops:
+def loops_of(geometries: Sequence[Any], scale: float, layer: int) -> Loops:
     """The loops of polygons and multipolygons, scaled to millimetres and turned so that the polygon is on the left."""
-    arrays: List[Array] = []
-    tags: List[Tuple[int, int, bool]] = []
-    for row, blob in enumerate(wkb_of(geometries)):
-        if blob is None:
-            continue
-        for part, rings in enumerate(rings_of(blob)):
-            for position, ring in enumerate(rings):
-                arrays.append(ring[:-1])
-                tags.append((row, part, position > 0))
-    return loops_from(arrays, tags, scale, layer)
+
+    def loops_in(begin: int, end: int) -> Loops:
+        arrays: List[Array] = []
+        tags: List[Tuple[int, int, bool]] = []
+        for row, blob in enumerate(wkb_of(geometries[begin:end]), begin):
+            if blob is None:
+                continue
+            for part, rings in enumerate(rings_of(blob)):
+                for position, ring in enumerate(rings):
+                    arrays.append(ring[:-1])
+                    tags.append((row, part, position > 0))
+        return loops_from(arrays, tags, scale, layer)
+
+    shares: List[Loops] = in_shares(loops_in, len(geometries), len(geometries))
+    return joined(shares) if len(shares) > 1 else shares[0]
 
 
 def loops_from(arrays: List[Array], tags: List[Tuple[int, int, bool]], scale: float, layer: int) -> Loops:

@@ -3,6 +3,7 @@ from __future__ import annotations
 
 import gc
 import os
+import signal
 import tempfile
 from concurrent.futures import ProcessPoolExecutor, ThreadPoolExecutor
 from dataclasses import dataclass
@@ -105,7 +106,9 @@ def forked(work: Callable[[int], Any], count: int, jobs: int) -> List[Any]:
     _work.append(work)
     gc.freeze()  # else a collection in a forked process writes into all the memory that it shares with this one
     try:
-        with ProcessPoolExecutor(min(jobs, count), mp_context=get_context("fork")) as pool:
+        # An interruption is this process' to tell; the others end with what they are at.
+        context, workers = get_context("fork"), min(jobs, count)
+        with ProcessPoolExecutor(workers, context, signal.signal, (signal.SIGINT, signal.SIG_IGN)) as pool:
             return list(pool.map(_done, range(count)))
     finally:
         gc.unfreeze()
