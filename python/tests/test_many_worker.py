@@ -164,3 +164,25 @@ def test_the_names_of_the_package():
     assert gandovel.report is sys.modules["gandovel.report"].report
     with pytest.raises(AttributeError, match="no attribute 'nothing'"):
         gandovel.nothing
+
+
+ORPHAN = """
+import os, signal
+from gandovel.many import worker
+worker._prctl()(worker.ON_LINUX_TAKE_ORPHANS, 1, 0, 0, 0)
+child = os.fork()
+if child == 0:
+    os.posix_spawn("/bin/sleep", ["sleep", "600"], os.environ, setpgroup=0)
+    os.kill(os.getpid(), signal.SIGKILL)
+os.waitpid(child, 0)
+assert len(worker._children()) == 1
+worker._end_orphans(None)
+assert worker._children() == []
+"""
+
+
+def test_a_program_that_nobody_named_ends():
+    """Its task's process was killed before it could say which program it had started."""
+    subprocess.run(
+        [sys.executable, "-c", ORPHAN], check=True, timeout=60, env={**os.environ, "PYTHONPATH": str(SOURCES)}
+    )

@@ -552,7 +552,7 @@ def run_tasks(tasks: Sequence[Dict[str, Any]]) -> int:
             ended, program = _heard(file.read())
         killed_by = os.WTERMSIG(os.waitpid(child, 0)[1])
         running.clear()
-        _end_orphan(program)
+        _end_orphans(program)
         at, status = at + len(ended), next((it for it in reversed(ended) if it), status)
         if _asked_to_stop or at == len(tasks):
             break
@@ -573,14 +573,27 @@ def _beside(tasks: Sequence[Dict[str, Any]]) -> Tuple[int, int]:
     return child, reader
 
 
-def _end_orphan(program: Optional[int]) -> None:
-    """Kills a program whose task's process is gone, where it runs: then it is this process's child by now."""
+def _end_orphans(program: Optional[int]) -> None:
+    """Kills the program of a task whose process is gone: it is this process's child by now.
+
+    A process that was killed before it could say which program it had started leaves one that is known to the system alone.
+    """
+    for orphan in {*_children(), *(() if program is None else (program,))}:
+        try:
+            if os.waitpid(orphan, os.WNOHANG)[0] == 0:
+                os.killpg(orphan, signal.SIGKILL)
+                os.waitpid(orphan, 0)
+        except (ProcessLookupError, ChildProcessError):
+            pass
+
+
+def _children() -> List[int]:
+    """The children of this process, where the system lists them."""
     try:
-        if program is not None and os.waitpid(program, os.WNOHANG)[0] == 0:
-            os.killpg(program, signal.SIGKILL)
-            os.waitpid(program, 0)
-    except (ProcessLookupError, ChildProcessError):
-        pass
+        with open(f"/proc/self/task/{os.getpid()}/children") as file:
+            return [int(it) for it in file.read().split()]
+    except OSError:
+        return []
 
 
 def _become_tasks(tasks: Sequence[Dict[str, Any]], parent: int, ear: int) -> NoReturn:
