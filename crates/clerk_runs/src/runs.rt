@@ -127,8 +127,9 @@ fn edit_at_office<
         Ok(opened) => opened,
         Err((_, fault)) => return Err(fault_of(fault)),
     };
+    // The office was opened with one window.
     let Some(mut window) = windows.pop() else {
-        return Err(RunFault::NoMemory);
+        unreachable!()
     };
     let counter = Counter { office, rt };
     let jobs = jobs_of(heap, cards, clerks)?;

@@ -1,6 +1,6 @@
 //! What lies under the lock.
 ghost use Rattle.std.specs.Prelude.{◌≡◌, ◌≢◌, ◌⊎◌, ◌↔◌, ◌+◌, ◌≤◌, [], ◌∷◌, ◌++◌, map, length, drop, take, max, All, true, IfOk, IfErr, IfSome};
-ghost use Rattle.std.specs.Prelude.{◌<◌, None, IfNone, IsSome, IsOk, IsErrAnd, OnErr, MatchBool};
+ghost use Rattle.std.specs.Prelude.{◌<◌, None, IfNone, IsSome, IsOk, IsErrAnd, IsErrOf, OnErr, MatchBool};
 ghost use mathlib.Core.List.{IsPrefix};
 ghost use Rattle.ring_edits.specs.Edits.{CoversAlike};
 ghost use Rattle.fabric_core.specs.declared.refusal.Refusal.{Refusal};
@@ -10,7 +10,7 @@ ghost use Rattle.fabric_core.specs.Faults.{AreSimple};
 ghost use Rattle.fabric_core.specs.GridIndex.{IsIndexed};
 ghost use Rattle.fabric_core.specs.Journal.{after_entry, replay};
 ghost use Rattle.fabric_core.specs.EditResults.{IsEntryOf, IsLawful};
-ghost use Rattle.fabric_core.specs.Refusals.{IsRefusal};
+ghost use Rattle.fabric_core.specs.Refusals.{IsRefusal, NeedsNoMemory};
 ghost use Rattle.desk_lock.specs.Offices.{AreOfClerks, IsOfOrigin, Agrees, HasMet, IsSometime, IsTotal, journal_met};
 ghost use Rattle.desk_lock.specs.Offices.{with_made, with_met, behind};
 ghost use Rattle.desk_lock.specs.own.Keeping.{as_known, IsKnown};
@@ -117,6 +117,9 @@ impl<'a, H: Allocator, J: Naming<H>, R: Wait + Drop> Desk<'a, H, J, R> {
             IsRefusal self.old.book.now self.old.book.journal edit.now refusal ⊎ (refusal ≡ NoMemory)) }
         ensures refuses { (refusal : Refusal) → IsRefusal self.old.book.now self.old.book.journal edit.now refusal
             → IsErrAnd result (λ e. (e ≡ refusal) ⊎ (e ≡ NoMemory)) }
+        // E9 and E1 to E5 are told before any memory is asked for.
+        ensures exact { (refusal : Refusal) → IsRefusal self.old.book.now self.old.book.journal edit.now refusal
+            → NeedsNoMemory refusal → IsErrOf result refusal }
     {
         self.fabric.use_invariant();
         self.keeper.meet(&mut card.stub);
@@ -166,6 +169,9 @@ impl<'a, H: Allocator, J: Naming<H>, R: Wait + Drop> Desk<'a, H, J, R> {
             IsRefusal self.old.book.now self.old.book.journal edit.now refusal ⊎ (refusal ≡ NoMemory)) }
         ensures refuses { (refusal : Refusal) → IsRefusal self.old.book.now self.old.book.journal edit.now refusal
             → IsErrAnd result (λ e. (e ≡ refusal) ⊎ (e ≡ NoMemory)) }
+        // E9 and E1 to E5 are told before any memory is asked for.
+        ensures exact { (refusal : Refusal) → IsRefusal self.old.book.now self.old.book.journal edit.now refusal
+            → NeedsNoMemory refusal → IsErrOf result refusal }
     {
         let entry = self.edit(card, edit)?;
         let heap = card.heap;

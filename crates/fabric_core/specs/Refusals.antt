@@ -145,3 +145,13 @@ IsRefusal {A} state journal edit refusal =
     ⊎ ((length journal < JOURNAL_ENTRIES) × (IsIdRefusal state journal edit refusal
     ⊎ (AreParcels state.rows (named_ids edit) × (IsOwnRefusal state edit refusal
     ⊎ ((out : List ℕ) × (rows : List NumberedRing) × IsChange state edit out rows × IsChangeRefusal state out rows refusal)))))
+
+-- a refusal that is told before any memory is asked for: where one of these is due, memory cannot run out instead
+abbrev pub NeedsNoMemory : Refusal → Type 0
+NeedsNoMemory JournalFull = ⊤
+NeedsNoMemory (Unknown id) = ⊤
+NeedsNoMemory (Retired id by) = ⊤
+NeedsNoMemory BadPath = ⊤
+NeedsNoMemory NotNeighbours = ⊤
+NeedsNoMemory SharedTwice = ⊤
+NeedsNoMemory other = ⊥

@@ -1,6 +1,6 @@
 //! The faults of rings that are no layer of a city: the first, or all of its kind.
 
-ghost use Rattle.std.specs.Prelude.{◌≡◌, ◌⊎◌, length, None, IfOk, IfErr};
+ghost use Rattle.std.specs.Prelude.{◌≡◌, ◌⊎◌, ◌≤◌, length, None, IfOk, IfErr};
 ghost use Rattle.std.specs.List.Sorted.{IsStrictlyIncreasing};
 ghost use Rattle.geo_exact.specs.Bounds.{IsLeastBox};
 ghost use Rattle.fabric_core.specs.Tiling.{IsTiling};
@@ -8,6 +8,7 @@ ghost use Rattle.fabric_core.specs.GridIndex.{IsIndexed};
 ghost use Rattle.fabric_core.specs.Faults.{IsOutOfMemory};
 ghost use Rattle.fabric_core.specs.own.Checks.{HaveNoFault, IsChecked, IsRefinedCity, IsTold};
 ghost use Rattle.fabric_core.specs.own.Lists.{numbered_rows, corners_of_rings};
+ghost use Rattle.geo_exact.specs.declared.limits.TheConstants.{LAYER_RECORDS};
 
 use crate::clipped::{clip_each, clip_shared};
 use crate::gaps::check_nets;
@@ -98,6 +99,7 @@ fn without_fault<A: Allocator + Copy>(
 ) -> Result<Faultless<A>, LoadRefusal<A>>
     requires numbered { length refined.numbers.items ≡ length refined.rings.items }
     requires rising { IsStrictlyIncreasing refined.numbers.items }
+    requires few { length refined.numbers.items ≤ LAYER_RECORDS }
     requires city { IsRefinedCity refined.city refined.refined }
     ensures checked { IfOk result (λ found.
         IsChecked found.numbers.items (corners_of_rings found.rings.items) found.city found.refined) }
@@ -137,6 +139,7 @@ pub(crate) fn load_refined<'a, H: Allocator>(
 ) -> Result<Layer<'a, H>, LoadRefusal<&'a H>>
     requires numbered { length refined.numbers.items ≡ length refined.rings.items }
     requires rising { IsStrictlyIncreasing refined.numbers.items }
+    requires few { length refined.numbers.items ≤ LAYER_RECORDS }
     requires city { IsRefinedCity refined.city refined.refined }
     requires area { IsLeastBox area refined.city }
     ensures rows { IfOk result (λ layer. layer.rows ≡ numbered_rows refined.entry.numbers.items refined.entry.rings.items) }
@@ -172,6 +175,7 @@ pub(crate) fn load_refined_by<'a, H: Allocator + Send + Sync, R: Threads + Sync>
 ) -> Result<Layer<'a, H>, LoadRefusal<&'a H>>
     requires numbered { length refined.numbers.items ≡ length refined.rings.items }
     requires rising { IsStrictlyIncreasing refined.numbers.items }
+    requires few { length refined.numbers.items ≤ LAYER_RECORDS }
     requires city { IsRefinedCity refined.city refined.refined }
     requires area { IsLeastBox area refined.city }
     ensures rows { IfOk result (λ layer. layer.rows ≡ numbered_rows refined.entry.numbers.items refined.entry.rings.items) }

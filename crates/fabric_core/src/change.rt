@@ -1,18 +1,20 @@
 //! What an edit takes out of a fabric and what it brings, or why it is refused.
 
-ghost use Rattle.std.specs.Prelude.{◌≡◌, ◌+◌, ◌^◌, ◌<◌, ◌∷◌, [], map, IfOk, IfErr, IfSome, IfNone};
+ghost use Rattle.std.specs.Prelude.{◌≡◌, ◌+◌, ◌^◌, ◌<◌, ◌∷◌, [], map, List, IfOk, IfErr, IfSome, IfNone};
+ghost use Rattle.std.specs.Prelude.{IsErrOf};
+ghost use Rattle.geo_exact.specs.declared.corner.Corner.{Corner as CornerValue};
 ghost use Rattle.std.specs.List.{All, AllByRecursion, Contains};
 ghost use Rattle.geo_exact.specs.Bounds.{HoldsCorner};
 ghost use Rattle.geo_exact.specs.Layers.{numbered};
-ghost use Rattle.fabric_core.specs.declared.refusal.Refusal.TheVariants.{BadPath};
+ghost use Rattle.fabric_core.specs.declared.refusal.Refusal.TheVariants.{BadPath, NoMemory};
 ghost use Rattle.fabric_core.specs.EditResults.{IsChange, IsSplitOf, IsMergeOf, IsMoveOf, IsInsertOf, IsStraightenOf};
 ghost use Rattle.fabric_core.specs.EditResults.{rows_at_corner};
 ghost use Rattle.fabric_core.specs.own.EntryRows.{rows_of_entry};
 ghost use Rattle.fabric_core.specs.Refusals.{named_ids, IsBadCutPath, IsFirstBent, IsOwnRefusal};
 ghost use Rattle.fabric_core.specs.Rows.{numbers};
-ghost use Rattle.ring_edits.specs.Edits.{BendsAt};
+ghost use Rattle.ring_edits.specs.Edits.{BendsAt, IsBorderPath, IsPathAcross, ShareOneRun};
 ghost use Rattle.fabric_core.specs.own.Changes.{state_of, IsGone, IsTold, IsStopped, IsBorderRefusal, IsMoveRefusal, IsInsertRefusal};
-ghost use Rattle.fabric_core.specs.own.Changes.{IsStraightenRefusal};
+ghost use Rattle.fabric_core.specs.own.Changes.{AsksMemory, IsStraightenRefusal};
 
 use crate::edges::renewed_rows;
 use crate::journal::Row;
@@ -122,6 +124,8 @@ fn split_change<'a, H: Allocator>(
         IsSplitOf (state_of tiled.now) id path.now change.out.items (rows_of_entry change.rows.items)) }
     ensures err { IfErr result (λ refusal.
         IsStopped tiled.now (id ∷ []) ((refusal ≡ BadPath) × IsBadCutPath (state_of tiled.now) id path.now) refusal) }
+    ensures memory { IsErrOf result NoMemory → (ring : List CornerValue) × Contains tiled.now.rows (numbered id ring)
+        × IsPathAcross ring path.now }
 {
     let shape = here(tiled, id)?;
     let (left, right) = match split(alloc, shape.ring.corners.as_slice(), path) {
@@ -147,6 +151,8 @@ fn merge_change<'a, H: Allocator>(
         IsMergeOf (state_of tiled.now) a b change.out.items (rows_of_entry change.rows.items)) }
     ensures err { IfErr result (λ refusal.
         IsStopped tiled.now (a ∷ b ∷ []) (IsBorderRefusal (state_of tiled.now) a b refusal) refusal) }
+    ensures memory { IsErrOf result NoMemory → (ring_a : List CornerValue) × (ring_b : List CornerValue)
+        × Contains tiled.now.rows (numbered a ring_a) × Contains tiled.now.rows (numbered b ring_b) × ShareOneRun ring_a ring_b }
 {
     let first = here(tiled, a)?;
     let second = here(tiled, b)?;
@@ -175,6 +181,9 @@ fn move_change<'a, H: Allocator>(
         IsMoveOf (state_of tiled.now) a b path.now change.out.items (rows_of_entry change.rows.items)) }
     ensures err { IfErr result (λ refusal.
         IsStopped tiled.now (a ∷ b ∷ []) (IsMoveRefusal (state_of tiled.now) a b path.now refusal) refusal) }
+    ensures memory { IsErrOf result NoMemory → (ring_a : List CornerValue) × (ring_b : List CornerValue)
+        × Contains tiled.now.rows (numbered a ring_a) × Contains tiled.now.rows (numbered b ring_b)
+        × IsBorderPath ring_a ring_b path.now }
 {
     let first = here(tiled, a)?;
     let second = here(tiled, b)?;
@@ -284,6 +293,7 @@ pub(crate) fn change_of<'a, H: Allocator>(
         IsChange (state_of tiled.now) edit.now change.out.items (rows_of_entry change.rows.items)) }
     ensures err { IfErr result (λ refusal.
         IsStopped tiled.now (named_ids edit.now) (IsOwnRefusal (state_of tiled.now) edit.now refusal) refusal) }
+    ensures memory { IsErrOf result NoMemory → AsksMemory (state_of tiled.now) edit.now }
 {
     match edit {
         Edit::Split { id, path } => split_change(alloc, tiled, next, *id, path.as_slice()),

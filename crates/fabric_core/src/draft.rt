@@ -1,6 +1,6 @@
 //! The draft of an edit: all that it needs, before anything is changed.
 
-ghost use Rattle.std.specs.Prelude.{◌≡◌, ◌⊎◌, ◌+◌, ◌<◌, ◌≤◌, ◌^◌, IfOk, IfErr};
+ghost use Rattle.std.specs.Prelude.{◌≡◌, ◌⊎◌, ◌+◌, ◌<◌, ◌≤◌, ◌^◌, IfOk, IfErr, IsErrOf};
 ghost use Rattle.geo_exact.specs.Layers.{corner_count};
 ghost use Rattle.fabric_core.specs.declared.journal.TheConstants.{JOURNAL_ENTRIES};
 ghost use Rattle.fabric_core.specs.declared.refusal.Refusal.TheVariants.{NoMemory};
@@ -8,7 +8,7 @@ ghost use Rattle.fabric_core.specs.EditResults.{IsEntryOf};
 ghost use Rattle.fabric_core.specs.Journal.{after_entry};
 ghost use Rattle.fabric_core.specs.Refusals.{AreParcels, named_ids};
 ghost use Rattle.fabric_core.specs.Tiling.{corner_lists};
-ghost use Rattle.fabric_core.specs.own.Changes.{IsDraftRefusal, rings_of_shapes, state_of};
+ghost use Rattle.fabric_core.specs.own.Changes.{AsksMemory, IsDraftRefusal, rings_of_shapes, state_of};
 
 use crate::change::{Change, change_of};
 use crate::journal::Entry;
@@ -50,6 +50,7 @@ pub(crate) fn draft_of<'a, H: Allocator>(
     ensures shapes { IfOk result (λ draft. rings_of_shapes draft.shapes.items ≡ corner_lists draft.entry.rows) }
     ensures corners { IfOk result (λ draft. draft.corners ≡ corner_count (after_entry (state_of tiled.now) draft.entry).rows) }
     ensures err { IfErr result (λ refusal. IsDraftRefusal tiled.now edit.now refusal ⊎ (refusal ≡ NoMemory)) }
+    ensures memory { IsErrOf result NoMemory → AsksMemory (state_of tiled.now) edit.now }
 {
     tiled.use_invariant();
     let heap = tiled.allocator();

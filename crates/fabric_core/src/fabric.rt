@@ -1,7 +1,7 @@
 //! The fabric: a layer that clerks edit, with its journal.
 
-ghost use Rattle.std.specs.Prelude.{◌≡◌, ◌≢◌, ◌⊎◌, ◌↔◌, ◌+◌, ◌≤ℤ◌, ℕ, List, [], ◌∷◌, ◌++◌, length, map, IfOk, IfErr};
-ghost use Rattle.std.specs.Prelude.{IsErrAnd, OnOk, OnErr, MatchOption};
+ghost use Rattle.std.specs.Prelude.{◌≡◌, ◌≢◌, ◌⊎◌, ◌↔◌, ◌+◌, ◌≤◌, ◌≤ℤ◌, ℕ, List, [], ◌∷◌, ◌++◌, length, map, IfOk, IfErr};
+ghost use Rattle.std.specs.Prelude.{IsErrAnd, IsErrOf, OnOk, OnErr, MatchOption};
 ghost use Rattle.std.specs.List.{All, Contains};
 ghost use Rattle.std.specs.List.Sorted.{IsStrictlyIncreasing};
 ghost use Rattle.geo_exact.specs.declared.corner.Corner.{Corner};
@@ -9,6 +9,7 @@ ghost use Rattle.geo_exact.specs.Point.{corner_point};
 ghost use Rattle.geo_exact.specs.Bounds.{HoldsCorner};
 ghost use Rattle.geo_exact.specs.Interiors.{InteriorsMeet};
 ghost use Rattle.geo_exact.specs.Layers.{NumberedRing, numbered};
+ghost use Rattle.geo_exact.specs.declared.limits.TheConstants.{LAYER_RECORDS, RING_CORNERS};
 ghost use Rattle.ring_edits.specs.Edits.{CoversAlike};
 ghost use Rattle.fabric_core.specs.declared.refusal.Refusal.{Refusal};
 ghost use Rattle.fabric_core.specs.declared.refusal.Refusal.TheVariants.{NoMemory};
@@ -21,7 +22,7 @@ ghost use Rattle.fabric_core.specs.Locate.{IsLocatedAt};
 ghost use Rattle.fabric_core.specs.Journal.{opening_state, after_entry, replay};
 ghost use Rattle.fabric_core.specs.EditResults.{IsEntryOf, IsLawful, IsDue};
 ghost use Rattle.fabric_core.specs.declared.follow.FollowFault.TheVariants.{NotDue, NoMemory as NoRoom};
-ghost use Rattle.fabric_core.specs.Refusals.{IsRefusal};
+ghost use Rattle.fabric_core.specs.Refusals.{IsRefusal, NeedsNoMemory};
 ghost use Rattle.geo_exact.specs.declared.corner.Corner.{Corner as CornerValue};
 ghost use Rattle.scaled_rings.specs.Tenfold.{IsLeastFar, IsLeastFarOf};
 ghost use Rattle.fabric_core.specs.declared.tenfold.ScaleFault.TheVariants.{TooFar, NoMemory as NoScaleMemory};
@@ -208,13 +209,15 @@ impl<'a, H: Allocator> Fabric<'a, H> {
         least_far_of_entries(self.journal(), found)
     }
 
-    /// The parcels are simple rings that tile the city, and are within the limits of a layer; in the
-    /// cells of the grid index stand exactly the parcels; the city's refined ring covers what the
+    /// The parcels are simple rings that tile the city, and are within the limits of a layer, in their number
+    /// too; the city is no longer than a ring may be; in the cells of the grid index stand exactly the parcels; the city's refined ring covers what the
     /// city's ring covers; and the journal is lawful, and leads from the opening to what is now.
     pub fn use_invariant(&self)
         ensures tiling { IsTiling self.now.now.rows self.now.city }
         ensures simple { AreSimple self.now.now.rows }
         ensures within { AreWithinLimits self.now.now.rows }
+        ensures number { length self.now.now.rows ≤ LAYER_RECORDS }
+        ensures city { length self.now.city ≤ RING_CORNERS }
         ensures indexed { IsIndexed self.now.now.rows self.now.city self.now.index }
         ensures ground { CoversAlike self.now.city self.now.now.refined }
         ensures lawful { IsLawful self.now.opening self.now.journal }
@@ -351,6 +354,9 @@ impl<'a, H: Allocator> Fabric<'a, H> {
         ensures refusal { IfErr result (λ refusal. IsRefusal self.old.now self.old.journal edit.now refusal ⊎ (refusal ≡ NoMemory)) }
         ensures refuses { (refusal : Refusal) → IsRefusal self.old.now self.old.journal edit.now refusal
             → IsErrAnd result (λ e. (e ≡ refusal) ⊎ (e ≡ NoMemory)) }
+        // E9 and E1 to E5 are told before any memory is asked for.
+        ensures exact { (refusal : Refusal) → IsRefusal self.old.now self.old.journal edit.now refusal → NeedsNoMemory refusal
+            → IsErrOf result refusal }
     {
         if self.journal.len() >= JOURNAL_ENTRIES {
             return Err(Refusal::JournalFull);

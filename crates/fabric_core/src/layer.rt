@@ -1,6 +1,6 @@
 //! The layer: parcels that tile a city.
 
-ghost use Rattle.std.specs.Prelude.{◌≡◌, ◌≢◌, ◌⊎◌, ◌↔◌, ◌≤◌, ◌≤ℤ◌, ℕ, ℤ, map, List, IfOk, IfErr, IsErrOf};
+ghost use Rattle.std.specs.Prelude.{◌≡◌, ◌≢◌, ◌⊎◌, ◌↔◌, ◌≤◌, ◌≤ℤ◌, ℕ, ℤ, length, map, List, IfOk, IfErr, IsErrOf};
 ghost use Rattle.std.specs.Prelude.{IsErrAnd, MatchResult, MatchOption};
 ghost use Rattle.std.specs.List.{All, Contains};
 ghost use Rattle.std.specs.List.Sorted.{IsStrictlyIncreasing};
@@ -9,7 +9,7 @@ ghost use Rattle.geo_exact.specs.Point.{corner_point};
 ghost use Rattle.geo_exact.specs.Bounds.{HoldsCorner, IsLeastBox};
 ghost use Rattle.geo_exact.specs.Interiors.{InteriorsMeet};
 ghost use Rattle.geo_exact.specs.Layers.{NumberedRing, numbered, rings_of, corner_count, NumbersRise};
-ghost use Rattle.geo_exact.specs.declared.limits.TheConstants.{LAYER_CORNERS, LAYER_RECORDS};
+ghost use Rattle.geo_exact.specs.declared.limits.TheConstants.{LAYER_CORNERS, LAYER_RECORDS, RING_CORNERS};
 ghost use Rattle.fabric_core.specs.declared.layer.LoadFault.{LoadFault};
 ghost use Rattle.fabric_core.specs.declared.layer.LoadFault.TheVariants.{Gap, NoMemory};
 ghost use Rattle.fabric_core.specs.Tiling.{IsTiling};
@@ -194,12 +194,14 @@ impl<'a, H: Allocator> Layer<'a, H> {
         tiled
     }
 
-    /// The rows are simple rings that tile the city, and are within the limits of a layer; and in the
-    /// cells of the grid index stand exactly the rows.
+    /// The rows are simple rings that tile the city, and are within the limits of a layer, in their number
+    /// too; the city is no longer than a ring may be; and in the cells of the grid index stand exactly the rows.
     pub fn use_invariant(&self)
         ensures tiling { IsTiling self.now.rows self.now.city }
         ensures simple { AreSimple self.now.rows }
         ensures within { AreWithinLimits self.now.rows }
+        ensures number { length self.now.rows ≤ LAYER_RECORDS }
+        ensures city { length self.now.city ≤ RING_CORNERS }
         ensures indexed { IsIndexed self.now.rows self.now.city self.now.index }
     {
         self.tiled.use_invariant();

@@ -125,6 +125,10 @@ pub record IsMerge (a b out : List Corner) : Type 0 where
 abbrev pub IsBadBorder : List Corner → List Corner → List Corner → Type 0
 IsBadBorder a b corners = (u : Corner) × (v : Corner) × IsSharedRun a b u v × ((between : List Corner) → ¬ IsPath corners u between v)
 
+-- the path goes from where the shared run begins to where it ends
+abbrev pub IsBorderPath : List Corner → List Corner → List Corner → Type 0
+IsBorderPath a b corners = (u : Corner) × (v : Corner) × (between : List Corner) × IsSharedRun a b u v × IsPath corners u between v
+
 -- a and b with the shared run exchanged for the path: for a the path and then a's walk from v on to u, for b the path backwards
 -- and then b's walk from u on to v
 pub record IsMove (a b corners out_a out_b : List Corner) : Type 0 where

@@ -1,11 +1,11 @@
 //! Two neighbours' rings made one.
 
-ghost use Rattle.std.specs.Prelude.{◌≡◌, ◌≢◌, ◌⊎◌, ◌<◌, ◌++◌, ◌∷◌, length, IfOk, IfErr};
+ghost use Rattle.std.specs.Prelude.{◌≡◌, ◌≢◌, ◌⊎◌, ◌<◌, ◌++◌, ◌∷◌, length, IfOk, IfErr, IsErrOf};
 ghost use Rattle.geo_exact.specs.Places.{corner_at};
 ghost use Rattle.geo_exact.specs.Rings.{begun_at_least};
 ghost use Rattle.ring_core.specs.Simple.{IsSimpleRing};
 ghost use Rattle.ring_edits.specs.declared.fault.EditFault.TheVariants.{NoMemory};
-ghost use Rattle.ring_edits.specs.Edits.{IsBorderFault, IsMerge};
+ghost use Rattle.ring_edits.specs.Edits.{IsBorderFault, IsMerge, ShareOneRun};
 ghost use Rattle.ring_edits.specs.own.Between.{between};
 
 use crate::border::border_of;
@@ -32,6 +32,8 @@ pub fn merge<A: Allocator + Copy>(
     requires { IsSimpleRing a.now }
     ensures ring { IfOk result (λ ring. IsMerge a.now b.now ring) }
     ensures err { IfErr result (λ fault. (fault ≡ NoMemory) ⊎ IsBorderFault a.now b.now fault) }
+    // Memory is asked for only where nothing else refuses it.
+    ensures memory { IsErrOf result NoMemory → ShareOneRun a.now b.now }
 {
     let border = border_of(a, b)?;
     let ring = two_runs(

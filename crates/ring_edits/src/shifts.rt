@@ -1,11 +1,11 @@
 //! The border of two neighbours exchanged for a path.
 
-ghost use Rattle.std.specs.Prelude.{◌≡◌, ◌≢◌, ◌⊎◌, ◌↔◌, ◌<◌, List, length, reverse, IfOk, IfErr, IsTrue};
+ghost use Rattle.std.specs.Prelude.{◌≡◌, ◌≢◌, ◌⊎◌, ◌↔◌, ◌<◌, List, length, reverse, IfOk, IfErr, IsErrOf, IsTrue};
 ghost use Rattle.geo_exact.specs.declared.corner.Corner.{Corner};
 ghost use Rattle.geo_exact.specs.Places.{corner_at};
 ghost use Rattle.ring_core.specs.Simple.{IsSimpleRing};
 ghost use Rattle.ring_edits.specs.declared.fault.EditFault.TheVariants.{BadPath, NoMemory};
-ghost use Rattle.ring_edits.specs.Edits.{IsBorderFault, IsMove, IsBadBorder, IsPath};
+ghost use Rattle.ring_edits.specs.Edits.{IsBorderFault, IsBorderPath, IsMove, IsBadBorder, IsPath};
 
 use crate::border::border_of;
 use crate::fault::EditFault;
@@ -35,6 +35,8 @@ pub fn shift<A: Allocator + Copy>(
     ensures rings { IfOk result (λ rings. IsMove a.now b.now path.now rings.0 rings.1) }
     ensures err { IfErr result (λ fault. (fault ≡ NoMemory) ⊎ IsBorderFault a.now b.now fault
         ⊎ ((fault ≡ BadPath) × IsBadBorder a.now b.now path.now)) }
+    // Memory is asked for only where nothing else refuses it.
+    ensures memory { IsErrOf result NoMemory → IsBorderPath a.now b.now path.now }
 {
     let border = border_of(a, b)?;
     if !joins(path, a, border.from_in_a, border.to_in_a) {

@@ -5,17 +5,18 @@ use Rattle.std.proofs.lemmas.List.{length-append}
 use Rattle.geo_exact.specs.Layers.{NumberedRing, corner_count}
 use Rattle.ring_edits.specs.declared.edit.Edit.{Edit}
 use Rattle.ring_edits.specs.declared.edit.Edit.TheVariants.{Split, Merge, Move, Insert, Straighten}
+use Rattle.geo_exact.specs.declared.limits.TheConstants.{RING_CORNERS}
 use Rattle.fabric_core.specs.declared.journal.TheConstants.{JOURNAL_ENTRIES}
 use Rattle.fabric_core.specs.declared.refusal.Refusal.{Refusal}
 use Rattle.fabric_core.specs.declared.refusal.Refusal.TheVariants.{Unknown, Retired}
 use Rattle.fabric_core.specs.Journal.{State, JournalEntry, after_entry, next_after, replay}
 use Rattle.fabric_core.specs.EditResults.{IsChange, IsEntryOf}
-use Rattle.fabric_core.specs.Refusals.{IsRefusal, IsIdRefusal, IsFirstAbsent, AreParcels, named_ids}
+use Rattle.fabric_core.specs.Refusals.{IsRefusal, IsIdRefusal, IsFirstAbsent, AreParcels, NeedsNoMemory, named_ids}
 use Rattle.fabric_core.specs.own.Balanced.{HasRisingIds}
 use Rattle.fabric_core.specs.own.Books.{IsBook}
-use Rattle.fabric_core.specs.own.Changes.{IsDraftRefusal, IsMade, state_of}
+use Rattle.fabric_core.specs.own.Changes.{AsksMemory, IsDraftRefusal, IsMade, state_of}
 use Rattle.fabric_core.specs.own.Kept.{Kept, gone_by}
-use Rattle.fabric_core.proofs.edits.LawfulJournals.{balanced_now, one_reason, no_reason}
+use Rattle.fabric_core.proofs.edits.LawfulJournals.{balanced_now, one_reason, no_reason, no_early_reason}
 use Rattle.fabric_core.proofs.edits.OneRefusal.{one_change}
 use Rattle.fabric_core.proofs.edits.Drafts.{all_here}
 use Rattle.fabric_core.proofs.edits.Replays.{lawful_push, replay_push, next_after_renewal}
@@ -75,6 +76,14 @@ module _ {A : Type 0} (opening : State) (journal : List (JournalEntry A)) (kept 
       is.within h)
       here is h
 
+  -- an edit for which memory is asked is not refused for what needs none
+  pub for_nothing_early : (edit : Edit A) (r : Refusal) → length journal < JOURNAL_ENTRIES → AsksMemory (state_of kept) edit
+      → IsRefusal (state_of kept) journal edit r → NeedsNoMemory r → ⊥
+  for_nothing_early edit r room asks h early =
+      no_early_reason opening journal book.balanced book.lawful edit r room
+      (subst (λ state. AsksMemory state edit) (sym book.replays) asks)
+      (subst (λ state. IsRefusal state journal edit r) (sym book.replays) h) early
+
   -- so an edit that makes no draft has no entry
   pub no_entry : (entry : JournalEntry A) (r : Refusal) → length journal < JOURNAL_ENTRIES → IsDraftRefusal kept entry.edit r
       → IsEntryOf (state_of kept) entry → ⊥
@@ -124,4 +133,6 @@ module _ {A : Type 0} (opening : State) (journal : List (JournalEntry A)) (kept 
           next_grows (state_of kept) entry.edit entry.out entry.rows ids is.is_change,
           ap (λ (state : State). state.next) made.state,
         );
+        few_opened = book.few_opened;
+        city_few = subst (λ city. length city ≤ RING_CORNERS) (sym made.city) book.city_few;
       }

@@ -15,7 +15,8 @@ use Rattle.edge_chains.proofs.nodings.NodedEdges.{Contains-here, Contains-there}
 use Rattle.ring_edits.specs.declared.edit.Edit.{Edit}
 use Rattle.ring_edits.specs.declared.edit.Edit.TheVariants.{Split, Merge, Move, Insert, Straighten}
 use Rattle.ring_edits.specs.declared.fault.EditFault.TheVariants.{NotNeighbours as NoBorder, SharedTwice as TwoBorders}
-use Rattle.ring_edits.specs.Edits.{IsPath, IsPathAcross, IsSplit, IsMerge, IsMove, ShareOneRun, AreNeighbours, IsBadBorder, BendsAt}
+use Rattle.ring_edits.specs.Edits.{IsPath, IsPathAcross, IsSplit, IsMerge, IsMove, ShareOneRun, AreNeighbours, IsBadBorder, IsBorderPath}
+use Rattle.ring_edits.specs.Edits.{BendsAt}
 use Rattle.ring_edits.proofs.Apart.{has_apart_corners}
 use Rattle.ring_edits.proofs.OneResult.{one_split, one_merge, one_move, same_shared}
 use Rattle.fabric_core.specs.own.Balanced.{Ascend}
@@ -29,10 +30,13 @@ use Rattle.fabric_core.specs.Faults.{AreSimple}
 use Rattle.fabric_core.specs.Journal.{State, JournalEntry, with_rows, without_ids}
 use Rattle.fabric_core.specs.EditResults.{IsChange, IsSplitOf, IsMergeOf, IsMoveOf, IsInsertOf, IsStraightenOf, AreWithinLayerLimits}
 use Rattle.fabric_core.specs.Refusals.{IsRetiredBy, named_ids, AreParcels, IsFirstAbsent, HaveBorderFault, IsBadMovePath, IsOwnRefusal}
+use Rattle.fabric_core.specs.Refusals.{NeedsNoMemory}
+use Rattle.fabric_core.specs.own.Changes.{AsksMemory}
 use Rattle.fabric_core.specs.Refusals.{IsBent, IsFirstBadRing, IsFirstBent, IsChangeRefusal, IsIdRefusal, IsRefusal}
 use Rattle.fabric_core.proofs.rows.RowLists.{one_ring}
 use Rattle.fabric_core.proofs.loads.OneFault.{one_ring_fault, simple_has_no_fault}
 use Rattle.fabric_core.proofs.loads.OneLoadFault.{head_of}
+use Rattle.fabric_core.proofs.edits.Stops.{id_here}
 use Rattle.fabric_core.proofs.edits.Neighbours.{ring_is_simple, run_has_edge, merged_run, moved_run}
 
 -- ---- cuts
@@ -101,6 +105,16 @@ two_rows : (next : ℕ) (left right other_left other_right : List Corner) (rows 
 two_rows next left right other_left other_right rows others h k e f =
     h ∙ ap (λ x. numbered next x ∷ numbered (next + 1) right ∷ []) (sym e)
     ∙ ap (λ x. numbered next other_left ∷ numbered (next + 1) x ∷ []) (sym f) ∙ sym k
+
+-- ---- borders along which a path is good
+border_run : (ring_a ring_b path : List Corner) → IsBorderPath ring_a ring_b path → ShareOneRun ring_a ring_b
+border_run ring_a ring_b path h = (h.0, h.1, h.3)
+
+good_or_bad : (ring_a ring_b path : List Corner) → IsBorderPath ring_a ring_b path → IsBadBorder ring_a ring_b path → ⊥
+good_or_bad ring_a ring_b path h bad =
+    let run = h.3 in
+    let same = same_shared ring_a ring_b h.0 h.1 bad.0 bad.1 run.0 bad.2.0 run.1 bad.2.1 run.2 bad.2.2 in
+    bad.3 h.2 (subst (λ c. IsPath path c h.2 bad.1) same.0 (subst (λ c. IsPath path h.0 h.2 c) same.2 h.4))
 
 module _ (state : State) (simple : AreSimple state.rows) (up : Ascend state.rows) where
   ring_of : (id : ℕ) (ring other : List Corner) → Contains state.rows (numbered id ring) → Contains state.rows (numbered id other)
@@ -240,6 +254,40 @@ module _ (state : State) (simple : AreSimple state.rows) (up : Ascend state.rows
   own_or_change (Straighten at) r out rows (inl h) k = k.some h.1
   own_or_change (Straighten at) r out rows (inr h) k =
       ⊎_elim (λ w. bent_or_straight state.rows at w.0 w.2 k.straight) (λ w. k.city_straight w.1.1) h.1
+
+  -- where memory is asked for an edit, nothing that is told before refuses it
+  pub asks_or_own : {A : Type 0} (edit : Edit A) (r : Refusal) → AsksMemory state edit → IsOwnRefusal state edit r → NeedsNoMemory r → ⊥
+  asks_or_own (Split id path) r w h n = h.1.2 (subst (λ ring. IsPathAcross ring path) (ring_of id h.1.0 w.0 h.1.1 w.1) w.2)
+  asks_or_own (Merge a b) r w (inl h) n = border_or_run a b w.0 w.1 w.2 w.3 w.4 (inl h.1)
+  asks_or_own (Merge a b) r w (inr h) n = border_or_run a b w.0 w.1 w.2 w.3 w.4 (inr h.1)
+  asks_or_own (Move a b path) r w (inl h) n = border_or_run a b w.0 w.1 w.2 w.3 (border_run w.0 w.1 path w.4) (inl h.1)
+  asks_or_own (Move a b path) r w (inr (inl h)) n = border_or_run a b w.0 w.1 w.2 w.3 (border_run w.0 w.1 path w.4) (inr h.1)
+  asks_or_own (Move a b path) r w (inr (inr h)) n =
+      good_or_bad w.0 w.1 path w.4
+      (subst (λ ring. IsBadBorder ring w.1 path) (ring_of a w.0 h.1.0 w.2 h.1.2)
+      (subst (λ ring. IsBadBorder h.1.0 ring path) (ring_of b w.1 h.1.1 w.3 h.1.3) h.1.4))
+  asks_or_own (Insert from to at) r w (inl h) n = subst NeedsNoMemory h.0 n
+  asks_or_own (Insert from to at) r w (inr h) n = subst NeedsNoMemory h.0 n
+  asks_or_own (Straighten at) r w (inl h) n = subst NeedsNoMemory h.0 n
+  asks_or_own (Straighten at) r w (inr h) n = ⊎_elim (λ k. subst NeedsNoMemory k.1 n) (λ k. subst NeedsNoMemory k.0 n) h.1
+
+  -- memory is asked for each edit that has a result
+  pub change_asks : {A : Type 0} (edit : Edit A) (out : List ℕ) (rows : List NumberedRing) → IsChange state edit out rows
+      → AsksMemory state edit
+  change_asks (Split id path) out rows k = (k.ring, k.has, across k.ring path k.left k.right k.is_split)
+  change_asks (Merge a b) out rows k = (k.ring_a, k.ring_b, k.has_a, k.has_b, merged_run k.ring_a k.ring_b k.ring k.is_merge)
+  change_asks (Move a b path) out rows k =
+      let m = k.is_move in (k.ring_a, k.ring_b, k.has_a, k.has_b, (m.u, m.v, m.between, (m.run, m.of_a, m.shared), m.is_path))
+  change_asks (Insert from to at) out rows k = tt
+  change_asks (Straighten at) out rows k = tt
+
+-- the ids of an edit for which memory is asked are parcels'
+asks_here : {A : Type 0} (state : State) (edit : Edit A) → AsksMemory state edit → AreParcels state.rows (named_ids edit)
+asks_here state (Split id path) w = (id_here state.rows id w.0 w.1, tt)
+asks_here state (Merge a b) w = (id_here state.rows a w.0 w.2, (id_here state.rows b w.1 w.3, tt))
+asks_here state (Move a b path) w = (id_here state.rows a w.0 w.2, (id_here state.rows b w.1 w.3, tt))
+asks_here state (Insert from to at) w = tt
+asks_here state (Straighten at) w = tt
 
 -- ---- ids that are named
 first_is_one : (rows : List NumberedRing) (before before' behind behind' : List ℕ) (id id' : ℕ) → AreParcels rows before
@@ -424,3 +472,12 @@ module _ {A : Type 0} (journal : List (JournalEntry A)) (edit : Edit A) where
         (λ k. let bad = k.4 in
         bad_at bad.before bad.row bad.behind k.1 (subst AreSimple (bad.are_all) (subst AreSimple (sym e.1) are_simple)) bad.is_fault)
         (for_change state h.0 h.1 r h.3)
+
+    -- nor where memory is asked for it, for a reason that needs none
+    pub not_refused_early : (r : Refusal) → length journal < JOURNAL_ENTRIES → AsksMemory state edit → IsRefusal state journal edit r
+        → NeedsNoMemory r → ⊥
+    not_refused_early r room w (inl h) n = omega (arith, room, h.1)
+    not_refused_early r room w (inr (full, inl h)) n = here_or_refused state r (asks_here state edit w) h
+    not_refused_early r room w (inr (full, inr (all, inl h))) n = asks_or_own state simple up edit r w h n
+    not_refused_early r room w (inr (full, inr (all, inr h))) n =
+        ⊎_elim (λ k. subst NeedsNoMemory k.0 n) (λ k. subst NeedsNoMemory k.2 n) (for_change state h.0 h.1 r h.3)

@@ -1,7 +1,8 @@
 -- A layer that passes all checks of loading.
-use Rattle.std.proofs.Common.{◌≡◌, refl, sym, ◌∙◌, ap, subst, arith, ℕ, zero, suc, ◌<◌, List, [], ◌∷◌, length}
+use Rattle.std.proofs.Common.{◌≡◌, refl, sym, ◌∙◌, ap, subst, arith, ℕ, zero, suc, ◌<◌, ◌≤◌, ◌+◌, List, [], ◌∷◌, length}
 use Rattle.std.proofs.Common.{slice_index, add-one}
 use Rattle.std.specs.List.Sorted.{IsStrictlyIncreasing}
+use Rattle.std.proofs.lemmas.List.{length-map}
 use Rattle.geo_exact.specs.declared.corner.Corner.{Corner}
 use Rattle.ring_core.specs.declared.ring.Ring.{Ring}
 use Rattle.parcel_table.specs.declared.parcels.Parcel.{Parcel}
@@ -85,12 +86,13 @@ pub checked_from : {A : Type 0} (ids d5 : List ℕ) (rings : List (List Corner))
     (slice city refined : List Corner) → d ≡ ids → d2 ≡ rings → AreWithinLimits (numbered_rows d d2)
     → corners_of_rings checked ≡ rings → d4 ≡ checked
     → slice ≡ refined → HaveEqualNets (corners_of_rings d4) slice → d5 ≡ ids → length ids ≡ length rings
-    → IsStrictlyIncreasing ids
+    → IsStrictlyIncreasing ids → length ids ≤ LAYER_RECORDS
     → IsRefinedCity city refined → IsChecked d5 (corners_of_rings checked) city refined
-checked_from ids d5 rings d d2 checked d4 slice city refined e e2 within f e4 s nets e5 same rise is_city =
+checked_from ids d5 rings d d2 checked d4 slice city refined e e2 within f e4 s nets e5 same rise few is_city =
     subst (λ xs. IsChecked xs (corners_of_rings checked) city refined) (sym e5)
     (subst (λ xs. IsChecked ids xs city refined) (sym f) (record {
       same_length = same;
+      few = few;
       rise = rise;
       is_city = is_city;
       within = subst (λ xs. AreWithinLimits (numbered_rows xs rings)) e (subst (λ xs. AreWithinLimits (numbered_rows d xs)) e2 within);
@@ -107,6 +109,16 @@ rising above last [] h k l = absurd (omega (arith, l))
 rising above last (a ∷ []) h k l = absurd (omega (arith, l))
 rising above last (a ∷ b ∷ records) h zero l = h.2.0
 rising above last (a ∷ b ∷ records) h (suc k) l = rising a.number last (b ∷ records) h.2 k (omega (arith, l))
+
+-- numbers that rise above one number, and are at most another, are no more than lie between them
+few_between : (above last : ℕ) (records : List NumberedRing) → above ≤ last → NumbersRise above last records
+    → above + length records ≤ last
+few_between above last [] below h = omega (arith, below)
+few_between above last (a ∷ records) below h = omega (arith, h.0, few_between a.number last records h.1 h.2)
+
+pub few_numbers : (records : List NumberedRing) → NumbersRise 0 LAYER_RECORDS records → length (numbers records) ≤ LAYER_RECORDS
+few_numbers records h =
+    omega (arith, length-map records (λ row. row.number), few_between 0 LAYER_RECORDS records (omega arith) h)
 
 pub numbers_rising : (records : List NumberedRing) → NumbersRise 0 LAYER_RECORDS records → IsStrictlyIncreasing (numbers records)
 numbers_rising records h k l = rw add-one (rising 0 LAYER_RECORDS records h k (omega (arith, l)))

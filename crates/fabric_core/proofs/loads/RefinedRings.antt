@@ -87,7 +87,7 @@ refined_rows records city ids rings refined h = record {
 }
 
 -- as many numbers as rings
-AllZip-length : {X Y : Type 0} (R : X → Y → Type 0) (xs : List X) (ys : List Y) → AllZip R xs ys → length xs ≡ length ys
+pub AllZip-length : {X Y : Type 0} (R : X → Y → Type 0) (xs : List X) (ys : List Y) → AllZip R xs ys → length xs ≡ length ys
 AllZip-length R [] [] h = refl
 AllZip-length R [] (y ∷ ys) h = absurd h
 AllZip-length R (x ∷ xs) [] h = absurd h

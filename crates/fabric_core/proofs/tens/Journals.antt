@@ -289,9 +289,9 @@ module _ {A : Type 0} where
   -- ---- what a fabric keeps
   pub book_ten : (opening : State) (journal : List (JournalEntry A)) (kept other : Kept) (corners : ℕ) → IsNearState opening
       → AllByRecursion IsNearEntry journal → state_of other ≡ ten_state (state_of kept)
-      → ((id : ℕ) → gone_by other id ≡ gone_by kept id)
+      → ((id : ℕ) → gone_by other id ≡ gone_by kept id) → length other.city ≡ length kept.city
       → IsBook opening journal kept corners → IsBook (ten_state opening) (map ten_entry journal) other corners
-  book_ten opening journal kept other corners n m is gone h = record {
+  book_ten opening journal kept other corners n m is gone same h = record {
     balanced = balanced_ten opening n h.balanced;
     lawful = lawful_ten opening 1 journal n m h.lawful;
     replays = replay_ten opening journal n m ∙ ap ten_state h.replays ∙ sym is;
@@ -302,4 +302,6 @@ module _ {A : Type 0} where
     );
     counted = h.counted ∙ sym (ap (λ (s : State). corner_count s.rows) is ∙ count_ten kept.rows);
     small = omega (arith, length-map journal ten_entry, h.small, ap (λ (s : State). s.next) is);
+    few_opened = omega (arith, length-map opening.rows ten_row, h.few_opened);
+    city_few = omega (arith, same, h.city_few);
   }

@@ -1,9 +1,9 @@
 -- What the single steps of an edit answer. Public contracts do not speak of it.
-use Rattle.std.specs.Prelude.{◌≡◌, ◌≢◌, ◌⊎◌, ◌↔◌, ℕ, ◌+◌, ◌≤◌, List, [], map, length, Some, MatchOption}
+use Rattle.std.specs.Prelude.{◌≡◌, ◌≢◌, ◌⊎◌, ◌↔◌, ⊤, ℕ, ◌+◌, ◌≤◌, List, [], map, length, Some, MatchOption}
 use Rattle.std.specs.List.{AllByRecursion, Contains}
 use Rattle.geo_exact.specs.declared.corner.Corner.{Corner}
 use Rattle.geo_exact.specs.declared.limits.TheConstants.{LAYER_CORNERS, LAYER_RECORDS, RING_CORNERS}
-use Rattle.geo_exact.specs.Layers.{NumberedRing, corner_count}
+use Rattle.geo_exact.specs.Layers.{NumberedRing, corner_count, numbered}
 use Rattle.geo_exact.specs.Segments.{IsStrictlyInside}
 use Rattle.ring_core.specs.declared.shape.Shape.{Shape}
 use Rattle.ring_core.specs.declared.ring.RingFault.{RingFault}
@@ -15,7 +15,8 @@ use Rattle.fabric_core.specs.declared.refusal.Refusal.TheVariants.{Unknown, Reti
 use Rattle.fabric_core.specs.declared.refusal.Refusal.TheVariants.{SharedTwice, NoSuchEdge, NotOnEdge, NoSuchCorner, Ring, NoMemory}
 use Rattle.fabric_core.specs.Rows.{numbers}
 use Rattle.ring_edits.specs.declared.edit.Edit.{Edit}
-use Rattle.ring_edits.specs.declared.edit.Edit.TheVariants.{Split, Move}
+use Rattle.ring_edits.specs.declared.edit.Edit.TheVariants.{Split, Merge, Move, Insert, Straighten}
+use Rattle.ring_edits.specs.Edits.{IsPathAcross, IsBorderPath, ShareOneRun}
 use Rattle.fabric_core.specs.EditResults.{IsChange, rows_at_corner}
 use Rattle.fabric_core.specs.Journal.{State, JournalEntry, after_entry}
 use Rattle.fabric_core.specs.Refusals.{AreParcels, IsFirstAbsent, IsFirstBadRing, IsOwnRefusal, IsChangeRefusal}
@@ -112,3 +113,16 @@ pub record IsMade {A : Type 0} (old new : Kept) (entry : JournalEntry A) : Type 
   pub city : new.city ≡ old.city
   pub gone : (id by : ℕ) → (gone_by new id ≡ Some by)
       ↔ ((gone_by old id ≡ Some by) ⊎ (Retires entry id × (entry.number ≡ by)))
+
+-- what is so of an edit for which memory is asked: the ids that it names are parcels', and its path and border are such that
+-- nothing refuses them
+abbrev pub AsksMemory : {A : Type 0} → State → Edit A → Type 0
+AsksMemory state (Split id path) = (ring : List Corner) × Contains state.rows (numbered id ring) × IsPathAcross ring path
+AsksMemory state (Merge a b) =
+    (ring_a : List Corner) × (ring_b : List Corner) × Contains state.rows (numbered a ring_a) × Contains state.rows (numbered b ring_b)
+    × ShareOneRun ring_a ring_b
+AsksMemory state (Move a b path) =
+    (ring_a : List Corner) × (ring_b : List Corner) × Contains state.rows (numbered a ring_a) × Contains state.rows (numbered b ring_b)
+    × IsBorderPath ring_a ring_b path
+AsksMemory state (Insert from to at) = ⊤
+AsksMemory state (Straighten at) = ⊤

@@ -4,6 +4,7 @@ use Rattle.std.specs.List.Sorted.{IsStrictlyIncreasing}
 use Rattle.geo_exact.specs.declared.corner.Corner.{Corner}
 use Rattle.geo_exact.specs.Point.{Point}
 use Rattle.geo_exact.specs.Layers.{NumberedRing}
+use Rattle.geo_exact.specs.declared.limits.TheConstants.{LAYER_RECORDS, RING_CORNERS}
 use Rattle.edge_chains.specs.Net.{net_count}
 use Rattle.edge_chains.specs.Noding.{IsNoded}
 use Rattle.fabric_core.specs.declared.all_faults.Asked.{Asked}
@@ -39,16 +40,18 @@ pub record HaveNoFault (rows : List NumberedRing) (refined : List Corner) : Type
   pub simple : AreSimple rows
   pub nets : HaveEqualNets (corner_lists rows) refined
 
--- the city's ring goes round no place twice, and it is refined: noded, and not too long to be counted
+-- the city's ring has no more corners than a ring may, goes round no place twice, and is refined: noded, and not too long to be counted
 pub record IsRefinedCity (city refined : List Corner) : Type 0 where
+  pub few : length city ≤ RING_CORNERS
   pub wound_once : (p : Point) → IsWoundAtMostOnce p city
   pub corners : List Corner
   pub is_noded : IsNoded city corners refined
   pub is_short : length refined ≤ most_refined
 
--- numbers and rings that were checked, in a city that is refined: they rise, and have no fault
+-- numbers and rings that were checked, in a city that is refined: they are no more than a layer may have, rise, and have no fault
 pub record IsChecked (numbers : List ℕ) (rings : List (List Corner)) (city refined : List Corner) : Type 0 where
   pub same_length : length numbers ≡ length rings
+  pub few : length numbers ≤ LAYER_RECORDS
   pub rise : IsStrictlyIncreasing numbers
   pub is_city : IsRefinedCity city refined
   pub within : AreWithinLimits (numbered_rows numbers rings)

@@ -5,6 +5,7 @@ use Rattle.std.specs.List.{All, AllByRecursion, list_any}
 use Rattle.std.specs.List.Sorted.{IsStrictlyIncreasing}
 use Rattle.geo_exact.specs.declared.corner.Corner.{Corner}
 use Rattle.geo_exact.specs.Point.{Point}
+use Rattle.geo_exact.specs.declared.limits.TheConstants.{LAYER_RECORDS, RING_CORNERS}
 use Rattle.geo_exact.specs.Bounds.{HoldsCorner, IsLeastBox}
 use Rattle.geo_exact.specs.Layers.{NumberedRing}
 use Rattle.cell_index.specs.declared.entry.IndexEntry.{IndexEntry}
@@ -53,11 +54,13 @@ pub record Kept : Type 0 where
 abbrev pub gone_by : Kept → ℕ → Option ℕ
 gone_by kept id = slice_index_or kept.fates id None
 
--- no parcel has gone yet, and the next id is one above the greatest, and small
+-- no parcel has gone yet, and the next id is one above the greatest, and small; parcels and city are no more than a layer and a ring may have
 pub record IsFresh (kept : Kept) : Type 0 where
   pub none_gone : (id : ℕ) → gone_by kept id ≡ None
   pub next_is : kept.next ≡ next_after kept.rows 0
   pub small : kept.next ≤ 2 ^ 32
+  pub few : length kept.rows ≤ LAYER_RECORDS
+  pub city_few : length kept.city ≤ RING_CORNERS
 
 -- a layer shows what is kept
 pub record IsShownBy (kept : Kept) (layer : Tiles) : Type 0 where

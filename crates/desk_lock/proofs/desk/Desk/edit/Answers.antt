@@ -56,3 +56,6 @@ returns-clause-met g c =
 
 pub returns-clause-refuses : goal.returns-clause-refuses
 returns-clause-refuses g c = rw (← c.self.view_is) c.in_ok-entry.ensures.refuses
+
+pub returns-clause-exact : goal.returns-clause-exact
+returns-clause-exact g c = rw (← c.self.view_is) c.in_ok-entry.ensures.exact

@@ -27,3 +27,6 @@ returns-clause-untold g c = none_told c.publish-notice.result
 
 pub returns-clause-refuses : goal.returns-clause-refuses
 returns-clause-refuses g c = c.in_ok-entry.ensures.refuses
+
+pub returns-clause-exact : goal.returns-clause-exact
+returns-clause-exact g c = c.in_ok-entry.ensures.exact

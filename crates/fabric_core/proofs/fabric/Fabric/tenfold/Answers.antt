@@ -1,12 +1,13 @@
 use Rattle.std.proofs.Common.{inl, sym, ◌∙◌, ap, subst, map}
 use Rattle.std.specs.List.{AllByRecursion}
-use Rattle.scaled_rings.specs.Tenfold.{IsNear}
+use Rattle.scaled_rings.specs.Tenfold.{IsNear, IsTenTimes}
 use Rattle.scaled_rings.proofs.Farthest.{one_far, none_far}
 use Rattle.fabric_core.specs.declared.tenfold.ScaleFault.TheVariants.{TooFar}
 use Rattle.fabric_core.specs.Journal.{Book}
 use Rattle.fabric_core.specs.Tenfold.{corners_of_book, corners_of_entries, corners_of_state}
 use Rattle.fabric_core.specs.own.Books.{IsBook}
 use Rattle.fabric_core.specs.own.Changes.{state_of}
+use Rattle.fabric_core.proofs.loads.RefinedRings.{AllZip-length}
 use Rattle.fabric_core.proofs.tens.Rows.{are_ten_entries, is_ten_state, near_book, near_entries, near_state, ten_entry, ten_state}
 use Rattle.fabric_core.proofs.tens.Journals.{book_ten}
 use Rattle.fabric_core.proofs.fabric.Fabric.tenfold.Goals as goal
@@ -52,7 +53,7 @@ invariant_of-result g c =
     (near_entries journal (subst (λ (b : Book _). AllByRecursion IsNear (corners_of_entries b.journal)) (sym c.self.view_is)
     (near_book c.args.self.now near).journal))
     (is_ten_state (state_of c.self.inside.tiled) (state_of tiled) c.in_ok-tiled.ensures.now) c.in_ok-tiled.ensures.gone
-    c.self.invariant))
+    (sym (AllZip-length IsTenTimes c.self.inside.tiled.city tiled.city c.in_ok-tiled.ensures.city)) c.self.invariant))
 
 pub returns-clause-refuses : goal.returns-clause-refuses
 returns-clause-refuses g c = λ corner h.

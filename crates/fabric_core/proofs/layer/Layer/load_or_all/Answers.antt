@@ -4,7 +4,7 @@ use Rattle.std.proofs.lemmas.List.{length-append}
 use Rattle.std.specs.List.Sorted.{IsStrictlyIncreasing}
 use Rattle.geo_exact.specs.Bounds.{IsLeastBox}
 use Rattle.geo_exact.specs.Layers.{rings_of}
-use Rattle.geo_exact.specs.declared.limits.TheConstants.{LAYER_CORNERS, RING_CORNERS}
+use Rattle.geo_exact.specs.declared.limits.TheConstants.{LAYER_CORNERS, LAYER_RECORDS, RING_CORNERS}
 use Rattle.edge_chains.specs.Noding.{all_corners}
 use Rattle.fabric_core.specs.Tiling.{corner_lists}
 use Rattle.fabric_core.specs.Rows.{corners_of_layer, AreRefined}
@@ -12,7 +12,7 @@ use Rattle.fabric_core.specs.Faults.{IsLoadRefusal, IsOutOfMemory}
 use Rattle.fabric_core.specs.own.Checks.{HaveNoFault, IsRefinedCity, IsTold}
 use Rattle.fabric_core.specs.own.Lists.{numbered_rows}
 use Rattle.fabric_core.proofs.rows.Lists.{count_of_corners}
-use Rattle.fabric_core.proofs.loads.Loaded.{numbers_rising}
+use Rattle.fabric_core.proofs.loads.Loaded.{few_numbers, numbers_rising}
 use Rattle.fabric_core.proofs.loads.OneLoadFault.{AreFaultless}
 use Rattle.fabric_core.proofs.loads.LoadRefusals.{refused_by}
 use Rattle.fabric_core.proofs.loads.OneNoding.{noded_short}
@@ -31,6 +31,11 @@ load_refined-requires-clause-rising g c =
     subst IsStrictlyIncreasing (sym c.in_ok-refined.ensures.noded.are_numbers) (numbers_rising
     (rings_of c.args.records.items) c.requires.numbers)
 
+pub load_refined-requires-clause-few : goal.load_refined-requires-clause-few
+load_refined-requires-clause-few g c =
+    subst (λ numbers. length numbers ≤ LAYER_RECORDS) (sym c.in_ok-refined.ensures.noded.are_numbers) (few_numbers
+    (rings_of c.args.records.items) c.requires.numbers)
+
 pub load_refined-requires-clause-city : goal.load_refined-requires-clause-city
 load_refined-requires-clause-city g c =
     let records = rings_of c.args.records.items in
@@ -43,6 +48,7 @@ load_refined-requires-clause-city g c =
       c.args.city.now.few,
     ) in
     subst (λ ring. IsRefinedCity ring c.in_ok-refined.refined.refined) (sym c.in_ok-refined.ensures.city) (record {
+      few = c.args.city.now.few;
       wound_once = c.args.city.now.wound_once;
       corners = corners_of_layer records city;
       is_noded = c.in_ok-refined.ensures.noded.is_refined;
