@@ -11,7 +11,7 @@ use Rattle.ring_core.specs.Simple.{IsSimpleRing}
 use Rattle.ring_core.proofs.edges.RoundNumbers.{after_in, before_in}
 use Rattle.ring_core.proofs.ears.LeftSimple.{after_before}
 use Rattle.ring_edits.specs.Round.{GoesRound, HasEdge}
-use Rattle.ring_edits.specs.Edits.{IsPath, IsMerge, IsMove, IsBadBorder}
+use Rattle.ring_edits.specs.Edits.{IsPath, IsMerge, IsMove, IsBadBorder, IsBorderPath, ShareOneRun}
 use Rattle.ring_edits.specs.own.Between.{between}
 use Rattle.ring_edits.specs.own.Borders.{is_on_run, IsSharedFromTo, IsBorderAt}
 use Rattle.ring_edits.proofs.Rounds.{goes_round}
@@ -106,6 +106,16 @@ is_move a b corners middle out_a out_b i j k l h path e f = record {
   out_b_is = f ∙ ap (λ xs. begun_at_least (xs ++ between b k l)) (reversed_path (corner_at a i) (corner_at a j) corners middle path)
       ∙ ap (λ xs. begun_at_least (corner_at a j ∷ xs)) (append_assoc (reverse middle) (corner_at a i ∷ []) (between b k l));
 }
+
+-- what two rings share between two numbers is one run
+pub one_run_between : (a b : List Corner) (i j : ℕ) → IsSharedFromTo a b i j → ShareOneRun a b
+one_run_between a b i j h = (corner_at a i, corner_at a j, shared_ends a b i j (corner_at a i) (corner_at a j) h refl refl)
+
+-- a path from where it begins to where it ends
+pub border_path : (a b corners : List Corner) (i j : ℕ) → IsSharedFromTo a b i j
+    → (middle : List Corner) × IsPath corners (corner_at a i) middle (corner_at a j) → IsBorderPath a b corners
+border_path a b corners i j h p =
+    (corner_at a i, corner_at a j, p.0, shared_ends a b i j (corner_at a i) (corner_at a j) h refl refl, p.1)
 
 pub no_border : (a b corners : List Corner) (i j : ℕ) → IsSharedFromTo a b i j
     → ((middle : List Corner) × IsPath corners (corner_at a i) middle (corner_at a j) → ⊥) → IsBadBorder a b corners

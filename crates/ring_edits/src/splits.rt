@@ -3,7 +3,7 @@
 ghost use Rattle.std.specs.Prelude.{◌≡◌, ◌≢◌, ◌↔◌, ◌<◌, ◌++◌, ◌∷◌, length, reverse, IfOk, IsErrOf, MatchOption};
 ghost use Rattle.geo_exact.specs.Places.{corner_at};
 ghost use Rattle.geo_exact.specs.Rings.{begun_at_least};
-ghost use Rattle.ring_edits.specs.declared.fault.EditFault.TheVariants.{BadPath};
+ghost use Rattle.ring_edits.specs.declared.fault.EditFault.TheVariants.{BadPath, NoMemory};
 ghost use Rattle.ring_edits.specs.Edits.{IsPathAcross, IsSplit};
 ghost use Rattle.ring_edits.specs.own.Between.{between, IsPathAt};
 
@@ -70,6 +70,8 @@ pub fn split<A: Allocator + Copy>(
 ) -> Result<(Corners<A>, Corners<A>), EditFault>
     ensures rings { IfOk result (λ rings. IsSplit ring.now path.now rings.0 rings.1) }
     ensures bad_path { IsErrOf result BadPath ↔ (¬ IsPathAcross ring.now path.now) }
+    // Memory is asked for only where nothing else refuses it.
+    ensures memory { IsErrOf result NoMemory → IsPathAcross ring.now path.now }
 {
     let Some((i, j)) = ends_in(ring, path) else {
         return Err(EditFault::BadPath);

@@ -9,7 +9,7 @@ use Rattle.ring_core.specs.Simple.{IsSimpleRing}
 use Rattle.ring_core.proofs.ears.BegunElsewhere.{number_from}
 use Rattle.ring_core.proofs.edges.RoundNumbers.{after_in}
 use Rattle.ring_edits.specs.Round.{HasApartCorners}
-use Rattle.ring_edits.specs.Edits.{IsMerge, IsMove, ShareOneRun, AreNeighbours}
+use Rattle.ring_edits.specs.Edits.{IsMerge, IsMove, ShareOneRun, AreNeighbours, IsBorderPath}
 use Rattle.ring_edits.proofs.Apart.{has_apart_corners}
 use Rattle.ring_edits.proofs.Borders.{one_run, from_in}
 use Rattle.ring_edits.proofs.SameRuns.{same_number}
@@ -31,6 +31,10 @@ merged_run a b out h = (h.u, h.v, (h.run, h.of_a, h.shared))
 
 pub moved_run : (a b path out_a out_b : List Corner) → IsMove a b path out_a out_b → ShareOneRun a b
 moved_run a b path out_a out_b h = (h.u, h.v, (h.run, h.of_a, h.shared))
+
+-- and the path to which it is moved goes from one end of it to the other
+pub moved_path : (a b path out_a out_b : List Corner) → IsMove a b path out_a out_b → IsBorderPath a b path
+moved_path a b path out_a out_b h = (h.u, h.v, h.between, (h.run, h.of_a, h.shared), h.is_path)
 
 -- ---- a ring has no edge in both directions
 not_two_back : (n k : ℕ) → 2 < n → k < n → after n (after n k) ≢ k

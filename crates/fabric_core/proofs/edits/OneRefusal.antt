@@ -37,7 +37,7 @@ use Rattle.fabric_core.proofs.rows.RowLists.{one_ring}
 use Rattle.fabric_core.proofs.loads.OneFault.{one_ring_fault, simple_has_no_fault}
 use Rattle.fabric_core.proofs.loads.OneLoadFault.{head_of}
 use Rattle.fabric_core.proofs.edits.Stops.{id_here}
-use Rattle.fabric_core.proofs.edits.Neighbours.{ring_is_simple, run_has_edge, merged_run, moved_run}
+use Rattle.fabric_core.proofs.edits.Neighbours.{ring_is_simple, run_has_edge, merged_run, moved_path, moved_run}
 
 -- ---- cuts
 -- a ring begun elsewhere has no other corners
@@ -48,7 +48,7 @@ begun_has k ring c h = subst (λ xs. Contains xs c) (take-append-drop k ring) (�
     (Contains-append_cases (drop k ring) (take k ring) c h))
 
 -- a path along which a ring is cut goes across it
-across : (ring path left right : List Corner) → IsSplit ring path left right → IsPathAcross ring path
+pub across : (ring path left right : List Corner) → IsSplit ring path left right → IsPathAcross ring path
 across ring path left right h = record {
   from = h.from;
   between = h.between;
@@ -277,7 +277,7 @@ module _ (state : State) (simple : AreSimple state.rows) (up : Ascend state.rows
   change_asks (Split id path) out rows k = (k.ring, k.has, across k.ring path k.left k.right k.is_split)
   change_asks (Merge a b) out rows k = (k.ring_a, k.ring_b, k.has_a, k.has_b, merged_run k.ring_a k.ring_b k.ring k.is_merge)
   change_asks (Move a b path) out rows k =
-      let m = k.is_move in (k.ring_a, k.ring_b, k.has_a, k.has_b, (m.u, m.v, m.between, (m.run, m.of_a, m.shared), m.is_path))
+      (k.ring_a, k.ring_b, k.has_a, k.has_b, moved_path k.ring_a k.ring_b path k.new_a k.new_b k.is_move)
   change_asks (Insert from to at) out rows k = tt
   change_asks (Straighten at) out rows k = tt
 

@@ -1,6 +1,6 @@
 -- Edits that make no change.
 use Rattle.std.proofs.Common.{true, false, ◌==◌, ◌≡◌, ◌≢◌, ◌⊎◌, arith, length, map, inl, inr, refl, ap, ℕ, List, []}
-use Rattle.std.proofs.Common.{◌∷◌}
+use Rattle.std.proofs.Common.{◌∷◌, Option, Some, None, MatchOption}
 use Rattle.std.specs.List.{Contains}
 use Rattle.std.proofs.lemmas.Bool.Decides.{nat_tests}
 use Rattle.geo_exact.specs.declared.corner.Corner.{Corner}
@@ -12,15 +12,31 @@ use Rattle.ring_edits.specs.declared.fault.EditFault.TheVariants.{SharedTwice as
 use Rattle.ring_edits.specs.Edits.{IsBorderFault, IsBadBorder}
 use Rattle.fabric_core.specs.declared.journal.Row.{Row}
 use Rattle.fabric_core.specs.declared.refusal.Refusal.{Refusal}
+use Rattle.fabric_core.specs.declared.refusal.Refusal.TheVariants.{NoMemory, Retired, Unknown}
 use Rattle.fabric_core.specs.own.EntryRows.{rows_of_entry}
 use Rattle.fabric_core.specs.Rows.{numbers}
 use Rattle.fabric_core.specs.Refusals.{AreParcels}
 use Rattle.fabric_core.specs.own.Changes.{state_of, IsGone, IsStopped, IsBorderRefusal, IsMoveRefusal, refusal_of}
-use Rattle.fabric_core.specs.own.Kept.{Kept}
+use Rattle.fabric_core.specs.own.Kept.{Kept, gone_by}
 
 -- a row's id is one of theirs
 pub id_here : (rows : List NumberedRing) (id : ℕ) (ring : List Corner) → Contains rows (numbered id ring) → Contains (numbers rows) id
 id_here rows id ring h = mapped (λ row. row.number) rows (numbered id ring) h
+
+-- an id that is no parcel's is never told as want of memory
+told_otherwise : (id : ℕ) (r : Refusal) (o : Option ℕ) → MatchOption o (r ≡ Unknown id) (λ by. r ≡ Retired id by) → r ≡ NoMemory → ⊥
+told_otherwise id r None e f = absurd (cc)
+told_otherwise id r (Some by) e f = absurd (cc)
+
+pub gone_otherwise : (kept : Kept) (id : ℕ) (r : Refusal) → IsGone kept id r → r ≡ NoMemory → ⊥
+gone_otherwise kept id r h e = told_otherwise id r (gone_by kept id) h.1 e
+
+-- and an edit's own fault is told as want of memory only where it is that
+pub refusal_back : (fault : EditFault) → refusal_of fault ≡ NoMemory → fault ≡ NoRoom
+refusal_back NoPath e = absurd (cc)
+refusal_back NoBorder e = absurd (cc)
+refusal_back TwoBorders e = absurd (cc)
+refusal_back NoRoom e = refl
 
 -- an id that no row has is none of theirs
 pub id_gone : (rows : List NumberedRing) (id : ℕ) → ((row : NumberedRing) → Contains rows row → ¬ (row.number ≡ id))

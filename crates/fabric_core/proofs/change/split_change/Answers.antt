@@ -1,9 +1,12 @@
-use Rattle.std.proofs.Common.{◌≡◌, ◌∷◌, []}
-use Rattle.fabric_core.specs.declared.refusal.Refusal.TheVariants.{BadPath}
+use Rattle.std.proofs.Common.{◌≡◌, ◌∷◌, [], sym, subst}
+use Rattle.std.specs.List.{Contains}
+use Rattle.geo_exact.specs.Layers.{numbered}
+use Rattle.fabric_core.specs.declared.refusal.Refusal.TheVariants.{BadPath, NoMemory}
 use Rattle.fabric_core.specs.Refusals.{IsBadCutPath}
 use Rattle.fabric_core.specs.own.Changes.{state_of, IsStopped}
-use Rattle.geo_exact.proofs.PassedOn.{passed_if}
-use Rattle.fabric_core.proofs.edits.Stops.{alone_gone}
+use Rattle.geo_exact.proofs.PassedOn.{passed_if, passed_is}
+use Rattle.fabric_core.proofs.edits.Stops.{alone_gone, gone_otherwise}
+use Rattle.fabric_core.proofs.edits.OneRefusal.{across}
 use Rattle.fabric_core.proofs.change.split_change.Goals as goal
 
 pub returns-in_err-shape-clause-err : goal.returns-in_err-shape-clause-err
@@ -13,3 +16,23 @@ returns-in_err-shape-clause-err g c =
     (λ refusal. IsStopped kept (id ∷ []) ((refusal ≡ BadPath) × IsBadCutPath (state_of kept) id c.args.path.now)
     refusal) c.from_residual.ensures.1
     (alone_gone kept id ((told ≡ BadPath) × IsBadCutPath (state_of kept) id c.args.path.now) told c.in_err-shape.ensures.err)
+
+pub returns-in_err-shape-clause-memory : goal.returns-in_err-shape-clause-memory
+returns-in_err-shape-clause-memory g c = λ none.
+    let told = c.in_err-shape.field-0.0 in
+    absurd (gone_otherwise c.args.tiled.now c.args.id told c.in_err-shape.ensures.err
+    (passed_is c.from_residual.result told NoMemory c.from_residual.ensures.1 none))
+
+pub returns-in_err-out-clause-memory : goal.returns-in_err-out-clause-memory
+returns-in_err-out-clause-memory g c = λ none. (
+      c.as_slice.result.now,
+      subst (λ ring. Contains c.args.tiled.now.rows (numbered c.args.id ring)) (sym c.as_slice.ensures) c.in_ok-shape.ensures.ok,
+      across c.as_slice.result.now c.args.path.now c.in-Ok.rings.0 c.in-Ok.rings.1 c.in-Ok.ensures.rings,
+    )
+
+pub returns-in_err-rows-clause-memory : goal.returns-in_err-rows-clause-memory
+returns-in_err-rows-clause-memory g c = λ none. (
+      c.as_slice.result.now,
+      subst (λ ring. Contains c.args.tiled.now.rows (numbered c.args.id ring)) (sym c.as_slice.ensures) c.in_ok-shape.ensures.ok,
+      across c.as_slice.result.now c.args.path.now c.in-Ok.rings.0 c.in-Ok.rings.1 c.in-Ok.ensures.rings,
+    )

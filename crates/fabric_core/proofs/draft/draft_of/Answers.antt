@@ -2,7 +2,7 @@ use Rattle.std.proofs.lemmas.Bool.{false≢true}
 use Rattle.std.proofs.lemmas.List.{length-map}
 use Rattle.fabric_core.specs.Faults.{AreSimple}
 use Rattle.fabric_core.specs.Tiling.{corner_lists}
-use Rattle.std.proofs.Common.{arith, ◌≡◌, sym, ◌∙◌, ap, subst, inl, inr, ⊎_elim, ◌⊎◌, length, ◌≤◌}
+use Rattle.std.proofs.Common.{arith, ◌≡◌, Err, sym, ◌∙◌, ap, subst, inl, inr, ⊎_elim, ◌⊎◌, length, ◌≤◌}
 use Rattle.std.specs.List.{AllByRecursion}
 use Rattle.geo_exact.specs.declared.limits.TheConstants.{RING_CORNERS}
 use Rattle.fabric_core.specs.declared.journal.TheConstants.{JOURNAL_ENTRIES}
@@ -14,7 +14,8 @@ use Rattle.fabric_core.specs.own.EntryRows.{rows_of_entry}
 use Rattle.fabric_core.specs.Refusals.{IsChangeRefusal}
 use Rattle.fabric_core.specs.own.Changes.{IsDraftRefusal, IsRingRefusal, state_of}
 use Rattle.fabric_core.proofs.edits.Drafts.{out_here, out_apart, all_here, news_short, news_few, simple_news}
-use Rattle.geo_exact.proofs.PassedOn.{passed_if}
+use Rattle.geo_exact.proofs.PassedOn.{passed_if, passed_is}
+use Rattle.fabric_core.proofs.edits.OneRefusal.{change_asks}
 use Rattle.fabric_core.proofs.draft.draft_of.Goals as goal
 
 pub is_within-requires-clause-here : goal.is_within-requires-clause-here
@@ -122,3 +123,20 @@ returns-in_err-change-clause-err g c =
     (λ none. inr none)
     (λ stopped. inl (⊎_elim (λ told. inl told) (λ own. inr (own.0, inl own.1)) stopped))
     c.in_err-change.ensures.err)
+
+pub returns-in_err-change-clause-memory : goal.returns-in_err-change-clause-memory
+returns-in_err-change-clause-memory g c = λ none.
+    c.in_err-change.ensures.memory
+    (ap Err (passed_is c.from_residual.result c.in_err-change.field-0.0 NoMemory c.from_residual.ensures.1 none))
+
+pub returns-in_err-shapes-clause-memory : goal.returns-in_err-shapes-clause-memory
+returns-in_err-shapes-clause-memory g c = λ none.
+    let balanced = c.use_invariant.ensures.balanced in
+    change_asks (state_of c.args.tiled.now) balanced.simple balanced.ids.up c.args.edit.now c.in_ok-change.change.out.items
+    (rows_of_entry c.in_ok-change.change.rows.items) c.in_ok-change.ensures.change
+
+pub returns-in_err-edit-clause-memory : goal.returns-in_err-edit-clause-memory
+returns-in_err-edit-clause-memory g c = λ none.
+    let balanced = c.use_invariant.ensures.balanced in
+    change_asks (state_of c.args.tiled.now) balanced.simple balanced.ids.up c.args.edit.now c.in_ok-change.change.out.items
+    (rows_of_entry c.in_ok-change.change.rows.items) c.in_ok-change.ensures.change
