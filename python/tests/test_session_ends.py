@@ -1,6 +1,7 @@
 """Ends of sessions: however clients and operators behave, and whoever vanishes, the program ends, and nothing is lost."""
 from __future__ import annotations
 
+import contextlib
 import functools
 import os
 import re
@@ -103,6 +104,50 @@ def test_a_close_wakes_each_desk(town):
             assert session.close() == 1
             assert time.monotonic() < begun + SOON
             half.close()
+
+
+@pytest.mark.parametrize("then", ["unlinked", "made anew", "moved"])
+@pytest.mark.parametrize("waits", ["for a client", "for the other pipe", "for a line", "for a client that reads"])
+def test_a_close_ends_though_a_desks_pipes_are_gone(program, tmp_path, waits, then):
+    """Whatever a desk waits for, the session has names of its own for its pipes, and leaves none behind."""
+    anna, made = tmp_path / "anna", waits in ("for a line", "for a client that reads")
+    with contextlib.ExitStack() as clients:
+        if waits == "for the other pipe":
+            clients.enter_context(open(f"{anna}.in", "wb", buffering=0))
+        elif made:
+            raw = clients.enter_context(Raw(str(anna)))
+            assert raw.ask(b"merge 1 2\n") == [b"ok 1 out 1 2 new 65"]
+            if waits == "for a client that reads":
+                os.set_blocking(raw.outward.fileno(), False)
+                while raw.outward.write(b"locate 1 1\n" * 1000):
+                    time.sleep(0.01)
+        for ending in (".in", ".out"):
+            if then == "moved":
+                os.rename(f"{anna}{ending}", tmp_path / f"elsewhere{ending}")
+            else:
+                os.unlink(f"{anna}{ending}")
+            if then == "made anew":
+                os.mkfifo(f"{anna}{ending}", 0o600)
+        program.stdin.write(b"close\n")
+        program.stdin.flush()
+        assert program.stdout.readline() == (b"closed 1\n" if made else b"closed 0\n")
+        assert program.wait(SOON) == 0
+    assert not list(tmp_path.glob("*.held"))
+
+
+def test_names_that_a_killed_session_left_are_taken_anew(program, town, tmp_path):
+    """And a file of somebody else under such a name stays as it is: the pipe is opened by its own name then."""
+    program.kill()
+    program.wait()
+    assert sorted(path.name for path in tmp_path.glob("*.held")) == ["anna.in.held", "anna.out.held"]
+    (tmp_path / "anna.out.held").unlink()
+    (tmp_path / "anna.out.held").write_text("a note")
+    again = subprocess.run(
+        [find_tool(), *words_of(town, tmp_path / "anna")], input=b"close\n", capture_output=True, timeout=SOON
+    )
+    assert (again.stdout, again.returncode) == (b"ready 0\nclosed 0\n", 0)
+    assert [path.name for path in tmp_path.glob("*.held")] == ["anna.out.held"]
+    assert (tmp_path / "anna.out.held").read_text() == "a note"
 
 
 def test_a_client_that_reads_gets_all_answers_of_what_was_taken(program, tmp_path):

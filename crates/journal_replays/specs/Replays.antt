@@ -26,11 +26,13 @@ pub record AreMade {A : Type 0} (records : List (Record A)) (before after : Book
   pub opening : after.opening ≡ before.opening
   pub city : after.city ≡ before.city
 
--- the text is a journal of this layer, which ends with this digest and so many torn bytes, and its edits lead from one book to another
-pub record IsReplayed {A : Type 0} (layer text : List ℕ) (before after : Book A) (seal : List ℕ) (torn : ℕ) : Type 0 where
+-- the text is a journal of this layer, which has so many records and ends with this digest and so many torn bytes, and its edits lead from
+-- one book to another
+pub record IsReplayed {A : Type 0} (layer text : List ℕ) (before after : Book A) (count : ℕ) (seal : List ℕ) (torn : ℕ) : Type 0 where
   pub records : List (Record A)
   pub rest : List ℕ
   pub is_journal : IsJournal layer text records seal rest
+  pub are_so_many : count ≡ length records
   pub is_torn : torn ≡ length rest
   pub are_made : AreMade records before after
 

@@ -3,7 +3,7 @@
 use crate::fakes::{FakeDisk, FakeFile};
 use crate::written::{JOURNAL, layer};
 use journal_records::{Stamp, read_journal};
-use journal_writers::JournalWriter;
+use journal_writers::{FileFailed, JournalWriter};
 use ring_edits::Edit;
 use std::alloc::Global;
 use std::test::Fail;
@@ -25,7 +25,9 @@ fn stamp<'t>() -> Stamp<'t> {
 
 /// Begins a journal, and adds its first record; how many calls of the file succeeded before one failed.
 fn write_one(alloc: Global, disk: &mut FakeDisk) -> Result<bool, Fail> {
-    let Ok(mut writer) = JournalWriter::begin(alloc, FakeFile { disk }, &layer()) else {
+    let begun: Result<JournalWriter<FakeFile, Global>, FileFailed> =
+        JournalWriter::begin(alloc, FakeFile { disk }, &layer());
+    let Ok(mut writer) = begun else {
         return Ok(false);
     };
     let merge: Edit<Global> = Edit::Merge { a: 4, b: 5 };
@@ -79,7 +81,9 @@ fn a_torn_record_is_cut_off_and_the_rest_kept(rt: HostRuntime) -> Result<(), Fai
     };
     let (count, seal, torn) = (read.records.len() as u64, read.seal, read.torn.len());
     let file = FakeFile { disk: &mut disk };
-    let Ok(writer) = JournalWriter::go_on(file, count, seal, FIRST, torn) else {
+    let begun: Result<JournalWriter<FakeFile, Global>, FileFailed> =
+        JournalWriter::go_on(file, &layer(), count, seal, FIRST, torn);
+    let Ok(writer) = begun else {
         return Err(Fail::new("not begun"));
     };
     assert_eq!(rt; writer.records(), 1);

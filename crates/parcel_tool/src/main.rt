@@ -314,6 +314,7 @@ fn answer_session<
         zones: session.zones,
         unit: session.unit,
         journal: session.journal,
+        clerk: session.clerk,
         desks,
         workers: worker_count(rt, session.workers),
     };

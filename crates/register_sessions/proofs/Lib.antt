@@ -1,1 +1,4 @@
 pub mod Hands
+pub mod EditsOfClerk
+pub mod Recorded
+pub mod Starts

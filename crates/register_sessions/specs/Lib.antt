@@ -1,2 +1,6 @@
 pub mod DeskAnswers
+pub mod Kept
 pub mod Rooms
+pub mod Starts
+pub mod StartFaults
+pub mod ClerkEdits

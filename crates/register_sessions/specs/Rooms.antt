@@ -14,3 +14,9 @@ abbrev pub UnlessJournalFails : EditFault → Type 0 → Type 0
 UnlessJournalFails (Refused refusal) holds = holds
 UnlessJournalFails Journal holds = Unit {0}
 UnlessJournalFails NoMemory holds = holds
+
+-- where the journal failed
+abbrev pub IfJournalFails : EditFault → Type 0 → Type 0
+IfJournalFails (Refused refusal) holds = Unit {0}
+IfJournalFails Journal holds = holds
+IfJournalFails NoMemory holds = Unit {0}

@@ -150,7 +150,7 @@ fn answer_clerk<'h, H: Allocator, J: Naming<H>, R: Wait, K: Synchroniser>(
     ensures answered { OnOk result (GoesOnBy (IsEditLine J.office card.old card.new edit.now) text.old.items text.new.items) }
 {
     match room.submit(card, who, edit) {
-        Ok(Made { entry, notice }) => {
+        Ok(Made { entry, notice, .. }) => {
             learn(window, &notice);
             push_accepted(text, &entry)
         }

@@ -1,22 +1,23 @@
 //! The journal of a session, to which all desks write.
 
+ghost use Rattle.std.specs.Prelude.{◌≤◌, IfSome};
+
 use crate::journal_file::{DiskFile, Synchroniser};
+use crate::synced::{OnDisk, Synced, sync};
 use jiff::Timestamp;
-use journal_records::Stamp;
-use journal_writers::{Draft, JournalWriter};
-use ring_edits::Edit;
+use journal_writers::JournalWriter;
 use std::alloc::{AllocError, Allocator};
 use std::sync::atomic::{AtomicU64, Ordering};
 use std::sync::{Condvar, Mutex, MutexGuard, Wait};
 
-/// Who writes to a journal on the disk.
-pub(crate) type Writer = JournalWriter<DiskFile>;
+/// Who writes to a journal on the disk, of edits in this memory.
+pub(crate) type Writer<A> = JournalWriter<DiskFile, A>;
 
 /// A journal that is written.
 #[derive(Drop)]
-pub(crate) struct Journal<K: Synchroniser> {
+pub(crate) struct Journal<A: Allocator, K: Synchroniser> {
     synchroniser: K,
-    writer: Mutex<Writer>,
+    writer: Mutex<Writer<A>>,
     /// How many records were written whole.
     records: AtomicU64,
     synced: Mutex<Synced>,
@@ -24,36 +25,21 @@ pub(crate) struct Journal<K: Synchroniser> {
     ended: Condvar,
 }
 
-/// What the disk has of a journal.
-#[derive(Drop)]
-struct Synced {
-    /// How many records it has for certain.
-    records: u64,
-    /// Whether somebody synchronises.
-    is_busy: bool,
-    /// Whether a synchronisation failed: no later one says that the disk has what this one was to bring.
-    is_lost: bool,
-}
-
-impl<K: Synchroniser> Journal<K> {
-    /// A journal whose records are all on the disk.
-    pub(crate) fn new(writer: Writer, synchroniser: K) -> Journal<K> {
+impl<A: Allocator, K: Synchroniser> Journal<A, K> {
+    /// A journal of whose records the disk has so many.
+    pub(crate) fn new(writer: Writer<A>, synchroniser: K, on_disk: OnDisk) -> Journal<A, K> {
         let records = writer.records();
         Journal {
             synchroniser,
             writer: Mutex::new(writer),
             records: AtomicU64::new(records),
-            synced: Mutex::new(Synced {
-                records,
-                is_busy: false,
-                is_lost: false,
-            }),
+            synced: Mutex::new(Synced::new(on_disk)),
             ended: Condvar::new(),
         }
     }
 
     /// Takes the journal. Until it is let go, nobody else writes to it. `None` where it could not be written once.
-    pub(crate) fn take<R: Wait>(&self, rt: &R) -> Option<MutexGuard<'_, Writer>> {
+    pub(crate) fn take<R: Wait>(&self, rt: &R) -> Option<MutexGuard<'_, Writer<A>>> {
         let writer = self.writer.lock(rt);
         if writer.is_broken() {
             None
@@ -62,57 +48,40 @@ impl<K: Synchroniser> Journal<K> {
         }
     }
 
-    /// The next record of the journal, which is taken: of this edit by this clerk, now. `None` where the system has no
-    /// time.
-    pub(crate) fn draft<A: Allocator + Copy, B: Allocator>(
+    /// The time, as a record says it; `None` where the system has none.
+    pub(crate) fn time<B: Allocator + Copy>(
         &self,
-        alloc: A,
-        writer: &Writer,
-        clerk: u32,
-        who: &[u8],
-        edit: &Edit<B>,
-    ) -> Result<Option<Draft<A>>, AllocError> {
-        let Ok(seconds) = self.synchroniser.seconds() else {
-            return Ok(None);
-        };
-        let Ok(time) = Timestamp::from_second(seconds) else {
-            return Ok(None);
-        };
-        let time = format!(in alloc; "{time}")?;
-        let stamp = Stamp {
-            number: writer.records().wrapping_add(1),
-            clerk,
-            time: time.as_bytes(),
-            who,
-        };
-        Ok(Some(writer.draft(alloc, &stamp, edit)?))
+        alloc: B,
+    ) -> Result<Option<String<B>>, AllocError> {
+        time_of(alloc, &self.synchroniser)
     }
 
-    /// Adds a record to the journal, which is taken; whether it could be written.
-    pub(crate) fn add<A: Allocator>(&self, writer: &mut Writer, draft: &Draft<A>) -> bool {
-        if writer.add(draft).is_err() {
-            return false;
-        }
-        self.records.store(draft.number, Ordering::SeqCst);
-        true
+    /// Says that so many records were written whole, by whom has taken the journal.
+    pub(crate) fn wrote(&self, records: u64) {
+        self.records.store(records, Ordering::SeqCst);
     }
 
-    /// Waits until the disk has the record of this number, and all before it; whether it has. One synchronisation
+    /// Waits until the disk has the record of this number, and all before it; `None` where it has not. One synchronisation
     /// serves all records that were written before it began. All that wait are woken at its end, and one of those whose
     /// record came later begins the next.
-    pub(crate) fn sync_to<R: Wait>(&self, rt: &R, number: u64) -> bool {
+    pub(crate) fn sync_to<R: Wait>(&self, rt: &R, number: u64) -> Option<OnDisk>
+        ensures { IfSome result (λ on_disk. number ≤ on_disk.records) }
+    {
         let mut synced = self.ended.wait_while(rt, self.synced.lock(rt), |synced| {
-            synced.is_busy && synced.records < number
+            synced.is_busy() && !synced.has(number)
         });
-        if synced.records >= number {
-            return true;
+        if synced.has(number) {
+            return Some(synced.on_disk());
         }
-        if synced.is_lost {
-            return false;
+        if synced.is_lost() {
+            return None;
         }
-        synced.is_busy = true;
+        synced.begin();
         drop(synced);
-        self.synchronise(rt)
+        match self.synchronise(rt) {
+            Some(on_disk) if number <= on_disk.records() => Some(on_disk),
+            _ => None,
+        }
     }
 
     /// Waits until the disk has all records that were written, and answers how many they are; `None` where it has not.
@@ -120,34 +89,40 @@ impl<K: Synchroniser> Journal<K> {
         let writer = self.take(rt)?;
         let records = writer.records();
         drop(writer);
-        if self.sync_to(rt, records) {
-            Some(records)
-        } else {
-            None
-        }
+        self.sync_to(rt, records)?;
+        Some(records)
     }
 
     /// How many records the disk has for certain.
     pub(crate) fn synced<R: Wait>(&self, rt: &R) -> u64 {
-        self.synced.lock(rt).records
+        self.synced.lock(rt).on_disk().records()
     }
 
-    /// Synchronises all records that were written, and wakes those that wait for it; whether the disk has them.
-    fn synchronise<R: Wait>(&self, rt: &R) -> bool {
-        let records = self.records.load(Ordering::SeqCst);
-        let is_there = self.synchroniser.synchronise().is_ok();
-        if !is_there {
+    /// Synchronises all records that were written, and wakes those that wait for it; what the disk has then, `None` where
+    /// it failed.
+    fn synchronise<R: Wait>(&self, rt: &R) -> Option<OnDisk> {
+        let brought = sync(&self.synchroniser, self.records.load(Ordering::SeqCst));
+        if brought.is_err() {
             self.writer.lock(rt).give_up();
         }
         let mut synced = self.synced.lock(rt);
-        synced.is_busy = false;
-        if is_there {
-            synced.records = records;
-        } else {
-            synced.is_lost = true;
-        }
+        synced.end(brought);
         drop(synced);
         self.ended.notify_all();
-        is_there
+        brought.ok()
     }
+}
+
+/// The time, as a record says it; `None` where the system has none.
+pub(crate) fn time_of<K: Synchroniser, B: Allocator + Copy>(
+    alloc: B,
+    synchroniser: &K,
+) -> Result<Option<String<B>>, AllocError> {
+    let Ok(seconds) = synchroniser.seconds() else {
+        return Ok(None);
+    };
+    let Ok(time) = Timestamp::from_second(seconds) else {
+        return Ok(None);
+    };
+    Ok(Some(format!(in alloc; "{time}")?))
 }

@@ -4,6 +4,8 @@
 #![tactic(auto)]
 
 mod answers;
+mod begin;
+mod clerk_edits;
 mod desks;
 mod door;
 mod ends;
@@ -22,6 +24,7 @@ mod room;
 mod serving;
 mod start;
 mod start_fault;
+mod synced;
 mod threads;
 
 pub use journal_file::{DiskSynchroniser, Machine, Synchroniser};

@@ -20,6 +20,10 @@ pub(crate) const ANSWERS: &str = ".out";
 /// holds one open is its client's other end.
 pub(crate) const LOCK: &str = ".lock";
 
+/// How the path of the session's own name of a pipe ends, behind that of the pipe. By it the pipe is opened and its desk is
+/// woken, also where somebody has unlinked the pipe meanwhile.
+const OWN_NAME: &str = ".held";
+
 /// What of a pipe's mode lets every user read or write it.
 const EVERY_USER: u32 = 0o006;
 
@@ -74,7 +78,8 @@ fn pipe(file: File) -> io::Result<File> {
     }
 }
 
-/// The paths of a desk's pipes: the lines that are asked come in at the one, and the answers go out at the other.
+/// The paths of a desk's pipes, where they can be the session's own names of them: the lines that are asked come in at the
+/// one, and the answers go out at the other.
 #[derive(Drop)]
 pub(crate) struct Paths<A: Allocator> {
     pub(crate) lines: String<A>,
@@ -114,14 +119,46 @@ pub(crate) fn find_pipes<'a, F: Files<File = File>, A: Allocator + Copy>(
             return Err(StartFault::NoPipe(*name, LOCK));
         };
         all.push(Paths {
-            lines,
-            answers,
+            lines: own_name(files, alloc, lines)?,
+            answers: own_name(files, alloc, answers)?,
             lock,
             asks: AtomicBool::new(false),
             serves: AtomicBool::new(false),
         })?;
     }
     Ok(all)
+}
+
+/// Gives a pipe the session's own name, and answers it; the pipe's path where that can't be made. A name that a session
+/// which was killed has left goes; any other file stays.
+fn own_name<F: Files, A: Allocator + Copy>(
+    files: &F,
+    alloc: A,
+    path: String<A>,
+) -> Result<String<A>, AllocError> {
+    let own = format!(in alloc; "{path}{OWN_NAME}")?;
+    let_go_of(files, own.as_str());
+    match files.hard_link(path.as_str(), own.as_str()) {
+        Ok(()) => Ok(own),
+        Err(_) => Ok(path),
+    }
+}
+
+/// Removes the session's own name of a pipe, if that is one.
+fn let_go_of<F: Files>(files: &F, own: &str) {
+    if let Ok(metadata) = files.symlink_metadata(own) {
+        if own.ends_with(OWN_NAME) && metadata.file_type().is_fifo() {
+            let _ = files.remove_file(own);
+        }
+    }
+}
+
+/// Removes the session's own names of all pipes.
+pub(crate) fn let_go<F: Files, A: Allocator>(files: &F, paths: &[Paths<A>]) {
+    for desk in paths {
+        let_go_of(files, desk.lines.as_str());
+        let_go_of(files, desk.answers.as_str());
+    }
 }
 
 /// Opens or makes the file at a path, and locks it.

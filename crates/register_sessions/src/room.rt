@@ -1,15 +1,19 @@
 //! What all desks of a session share.
 
-ghost use Rattle.std.specs.Prelude.{◌≡◌, ◌⊎◌, ◌≤◌, length, IfOk, IfErr, IfSome};
+ghost use Rattle.std.specs.Prelude.{◌≡◌, ◌⊎◌, ◌≤◌, length, true, IfOk, IfErr, IfSome};
 ghost use Rattle.fabric_core.specs.EditResults.{IsLawful};
 ghost use Rattle.desk_lock.specs.Offices.{with_made, with_met, journal_met, EndsWith, IsSometime, IsRefusedWhenMet};
-ghost use Rattle.register_sessions.specs.Rooms.{IfRefused, UnlessJournalFails};
+ghost use Rattle.register_sessions.specs.Rooms.{IfRefused, UnlessJournalFails, IfJournalFails};
+ghost use Rattle.register_sessions.specs.Kept.{IsRecorded, IsOnDisk};
 
 use crate::door::Door;
 use crate::journal::Journal;
 use crate::journal_file::Synchroniser;
+use crate::synced::OnDisk;
 use desk_lock::{Card, Naming, Notice, Office};
 use fabric_core::{Entry, Refusal, Sheet};
+use journal_records::Stamp;
+use journal_writers::{JournalFile, JournalWriter};
 use ring_edits::Edit;
 use session_lines::SessionFault;
 use std::alloc::Allocator;
@@ -19,7 +23,7 @@ use std::sync::Wait;
 #[derive(Drop)]
 pub(crate) struct Room<'r, 'h, H: Allocator, J: Naming<H>, R: Wait, K: Synchroniser> {
     pub(crate) office: Office<'h, H, J, &'r R>,
-    pub(crate) journal: Option<Journal<K>>,
+    pub(crate) journal: Option<Journal<&'h H, K>>,
     pub(crate) door: Door,
     pub(crate) heap: &'h H,
     pub(crate) rt: &'r R,
@@ -40,6 +44,8 @@ pub(crate) enum EditFault {
 #[derive(Drop)]
 pub(crate) struct Made<'h, H: Allocator, J: Naming<H>> {
     pub(crate) entry: Entry<&'h H>,
+    /// That the disk has its record, where there is a journal.
+    pub(crate) on_disk: Option<OnDisk>,
     /// That it is shown, unless memory was refused for that: a later edit shows it, too.
     pub(crate) notice: Option<Notice<'h, H, J>>,
 }
@@ -62,19 +68,31 @@ impl<'r, 'h, H: Allocator, J: Naming<H>, R: Wait, K: Synchroniser> Room<'r, 'h, 
         // What the notice tells is valid, and reaches the entry.
         ensures told { IfOk result (λ made. IfSome made.notice (λ told. made.entry.number ≤ length told)) }
         ensures lawful { IfOk result (λ made. IfSome made.notice (IsLawful J.office.origin.opening)) }
+        // Where there is a journal, the disk has the entry's record.
+        ensures on_disk { IfOk result (λ made. IsOnDisk self.now.journal made.on_disk made.entry.number) }
         // A refused edit changes nothing, but that the card has met the journal, after which it is refused for this.
         ensures unchanged { IfErr result (λ fault. UnlessJournalFails fault (card.new ≡ with_met card.old card.new.met)) }
         ensures refusal { IfErr result (λ fault. IfRefused fault (λ refusal.
             IsRefusedWhenMet J.office card.new edit.now refusal ⊎ (refusal ≡ Refusal.NoMemory))) }
     {
         let made = match &self.journal {
-            Some(journal) => self.keep(journal, card, who, edit),
-            None => self.enter(card, edit),
+            Some(journal) => match self.keep(journal, card, who, edit) {
+                Ok((entry, on_disk)) => Ok((entry, Some(on_disk))),
+                Err(fault) => Err(fault),
+            },
+            None => match self.enter(card, edit) {
+                Ok(entry) => Ok((entry, None)),
+                Err(fault) => Err(fault),
+            },
         };
         match made {
-            Ok(entry) => {
+            Ok((entry, on_disk)) => {
                 let notice = self.office.publish_to(self.rt, entry.number());
-                Ok(Made { entry, notice })
+                Ok(Made {
+                    entry,
+                    on_disk,
+                    notice,
+                })
             }
             Err(fault) => Err(fault),
         }
@@ -105,8 +123,47 @@ impl<'r, 'h, H: Allocator, J: Naming<H>, R: Wait, K: Synchroniser> Room<'r, 'h, 
     /// may while this one waits for the disk.
     fn keep(
         &self,
-        journal: &Journal<K>,
+        journal: &Journal<&'h H, K>,
         card: &mut Card<'h, H, J>,
+        who: &[u8],
+        edit: &Edit<&'h H>,
+    ) -> Result<(Entry<&'h H>, OnDisk), EditFault>
+        ensures edit { IfOk result (λ made. made.0.edit ≡ edit.now) }
+        ensures clerk { IfOk result (λ made. made.0.clerk ≡ card.old.clerk) }
+        ensures made { IfOk result (λ made. card.new ≡ with_made card.old made.0 card.new.met) }
+        ensures ends { IfOk result (λ made. EndsWith made.0 made.0.number (journal_met J.office card.new)) }
+        ensures after { IfOk result (λ made. IsSometime J.office card.new (journal_met J.office card.new)) }
+        ensures unchanged { IfErr result (λ fault. UnlessJournalFails fault (card.new ≡ with_met card.old card.new.met)) }
+        ensures refusal { IfErr result (λ fault. IfRefused fault (λ refusal.
+            IsRefusedWhenMet J.office card.new edit.now refusal ⊎ (refusal ≡ Refusal.NoMemory))) }
+        ensures on_disk { IfOk result (λ made. made.0.number ≤ made.1.records) }
+    {
+        let Some(mut writer) = journal.take(self.rt) else {
+            return Err(EditFault::Journal);
+        };
+        let time = match journal.time(self.heap) {
+            Ok(Some(time)) => time,
+            Ok(None) => return Err(EditFault::Journal),
+            Err(_) => return Err(EditFault::NoMemory),
+        };
+        let entry = match self.enter_and_record(&mut writer, card, time.as_bytes(), who, edit) {
+            Ok(entry) => entry,
+            Err(fault) => return Err(fault),
+        };
+        journal.wrote(entry.number());
+        drop(writer);
+        match journal.sync_to(self.rt, entry.number()) {
+            Some(on_disk) => Ok((entry, on_disk)),
+            None => Err(EditFault::Journal),
+        }
+    }
+
+    /// Makes an edit at the office, and adds its record to the journal, which is taken.
+    fn enter_and_record<F: JournalFile>(
+        &self,
+        writer: &mut JournalWriter<F, &'h H>,
+        card: &mut Card<'h, H, J>,
+        time: &[u8],
         who: &[u8],
         edit: &Edit<&'h H>,
     ) -> Result<Entry<&'h H>, EditFault>
@@ -118,29 +175,29 @@ impl<'r, 'h, H: Allocator, J: Naming<H>, R: Wait, K: Synchroniser> Room<'r, 'h, 
         ensures unchanged { IfErr result (λ fault. UnlessJournalFails fault (card.new ≡ with_met card.old card.new.met)) }
         ensures refusal { IfErr result (λ fault. IfRefused fault (λ refusal.
             IsRefusedWhenMet J.office card.new edit.now refusal ⊎ (refusal ≡ Refusal.NoMemory))) }
+        // The journal has one record more, which is the entry's; a refused edit has none.
+        ensures recorded { IfOk result (λ entry. IsRecorded writer.old writer.new entry) }
+        ensures no_record { IfErr result (λ fault. UnlessJournalFails fault (writer.new ≡ writer.old)) }
+        ensures broken { IfErr result (λ fault. IfJournalFails fault (writer.new.is_broken ≡ true)) }
     {
-        let Some(mut writer) = journal.take(self.rt) else {
-            return Err(EditFault::Journal);
+        let stamp = Stamp {
+            number: writer.records().wrapping_add(1),
+            clerk: card.clerk(),
+            time,
+            who,
         };
-        let draft = match journal.draft(self.heap, &writer, card.clerk(), who, edit) {
-            Ok(Some(draft)) => draft,
-            Ok(None) => return Err(EditFault::Journal),
-            Err(_) => return Err(EditFault::NoMemory),
+        let Ok(draft) = writer.draft(self.heap, &stamp, edit) else {
+            return Err(EditFault::NoMemory);
         };
         let entry = match self.enter(card, edit) {
             Ok(entry) => entry,
             Err(fault) => return Err(fault),
         };
-        if entry.number() != draft.number || !journal.add(&mut writer, &draft) {
+        if entry.number() != draft.number() || writer.add(&draft).is_err() {
             writer.give_up();
             return Err(EditFault::Journal);
         }
-        drop(writer);
-        if journal.sync_to(self.rt, draft.number) {
-            Ok(entry)
-        } else {
-            Err(EditFault::Journal)
-        }
+        Ok(entry)
     }
 
     /// Shows all entries; where there is a journal, once the disk has them.
@@ -172,10 +229,9 @@ impl<'r, 'h, H: Allocator, J: Naming<H>, R: Wait, K: Synchroniser> Room<'r, 'h, 
         };
         let sheet = self.copy()?;
         drop(writer);
-        if journal.sync_to(self.rt, sheet.entries()) {
-            Ok(sheet)
-        } else {
-            Err(SessionFault::JournalFailed)
+        match journal.sync_to(self.rt, sheet.entries()) {
+            Some(_) => Ok(sheet),
+            None => Err(SessionFault::JournalFailed),
         }
     }
 

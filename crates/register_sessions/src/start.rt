@@ -1,30 +1,34 @@
 //! How a session starts.
 
-ghost use Rattle.std.specs.Prelude.{◌≡◌, max, length};
+ghost use Rattle.std.specs.Prelude.{◌≡◌, max, length, IfOk};
+ghost use Rattle.std.specs.Borrow.{Bor};
 ghost use Rattle.desk_lock.specs.Offices.{origin_of};
+ghost use Rattle.register_sessions.specs.Starts.{IsBehind, IsMarked};
+ghost use Rattle.register_sessions.specs.StartFaults.{IsToldOf, IsToldRefused};
 
+use crate::begin::{BeginFault, Begun, Sources, begin_register, begin_writer, ready_text};
+use crate::clerk_edits::{EDITS_CLERK, EditsFault, add_entries, make_edits};
 use crate::door::Door;
 use crate::found_journal::{FoundJournal, find_journal};
-use crate::journal::{Journal, Writer};
+use crate::journal::{Journal, time_of};
 use crate::journal_file::{DiskFile, DiskSynchroniser, Machine, Synchroniser};
 use crate::offices::{Seats, clerks_of, seat_all, windows_of};
 use crate::operator::Operator;
 use crate::own_files::OwnFiles;
-use crate::pipes::{Paths, Pipes, find_pipes};
+use crate::pipes::{Paths, Pipes, find_pipes, let_go};
 use crate::reports::{Exports, Ground};
 use crate::room::Room;
 use crate::serving::{Counter, serve};
 use crate::start_fault::StartFault;
-use city_layers::{Disk, Layers, Source, ToolFault, load_layers_by, load_tiles_by, read_source};
+use crate::synced::sync;
+use city_layers::{Disk, ToolFault, read_source, read_text};
 use clerk_runs::push_refusal;
 use desk_lock::{Name, Naming, Office, OpenFault};
-use fabric_core::{Fabric, Layer};
+use fabric_core::{Fabric, Layer, Refusal};
 use geo_exact::{Counted, Unit};
 use journal_records::{JournalFault, Seal};
-use journal_replays::{ReplayFault, Replayed, replay, seal_of_layer};
-use journal_writers::JournalWriter;
+use journal_replays::{ReplayFault, Replayed};
 use parcel_runs::refuse_many_clerks;
-use session_lines::push_ready;
 use std::alloc::Allocator;
 use std::fs::File;
 use std::io;
@@ -47,6 +51,8 @@ pub struct Plan<'a> {
     pub unit: Unit,
     /// The path of the journal, where there is one.
     pub journal: Option<&'a str>,
+    /// The path of a clerk's file whose edits come first, where there is one. The journal begins with them.
+    pub clerk: Option<&'a str>,
     /// The names of the desks: each has the pipes NAME.in and NAME.out.
     pub desks: Vec<&'a str>,
     /// How many threads share the load of the layers.
@@ -68,6 +74,25 @@ pub fn serve_session<
 >(rt: &R, disk: &'a P, heap: &'h H, plan: &Plan<'a>) -> Result<(), StartFault<'a, &'h H>> {
     refuse_many_clerks(plan.desks.len())?;
     let paths = find_pipes(rt, heap, plan.desks.as_slice())?;
+    let served = serve_at(rt, disk, heap, plan, paths.as_slice());
+    let_go(rt, paths.as_slice());
+    served
+}
+
+/// The same at these pipes.
+fn serve_at<
+    'a,
+    'h,
+    R: Files<File = File> + Input + Print + Eprint + Threads + Wait + Sync,
+    P: Pipes + Exports + Machine + Sync,
+    H: Allocator + Send + Sync,
+>(
+    rt: &R,
+    disk: &'a P,
+    heap: &'h H,
+    plan: &Plan<'a>,
+    paths: &[Paths<&'h H>],
+) -> Result<(), StartFault<'a, &'h H>> {
     let own_files = OwnFiles::of_plan(heap, plan)?;
     let register = open_register(rt, disk, heap, plan)?;
     let name = Name::new(heap)?;
@@ -78,7 +103,7 @@ pub fn serve_session<
         name,
         register,
         own_files,
-        paths.as_slice(),
+        paths,
     )
 }
 
@@ -87,7 +112,7 @@ pub fn serve_session<
 struct Register<'h, H: Allocator, K: Synchroniser> {
     fabric: Fabric<'h, H>,
     zones: Option<Layer<'h, H>>,
-    journal: Option<Journal<K>>,
+    journal: Option<Journal<&'h H, K>>,
 }
 
 /// Reads and loads a register's files. All are read before the first is looked at.
@@ -104,31 +129,37 @@ fn open_register<
     plan: &Plan<'a>,
 ) -> Result<Register<'h, H, DiskSynchroniser<'a, P>>, StartFault<'a, &'h H>> {
     let sources = read_sources(rt, heap, plan)?;
-    let found = match plan.journal {
-        Some(path) => Some(find_journal(rt, heap, path)?),
+    let edits = match plan.clerk {
+        Some(path) => Some((path, read_text(&Disk(rt), heap, path)?)),
         None => None,
     };
-    let (layer, zones) = load(rt, plan.workers, heap, &sources, plan.unit)?;
-    let Ok(mut fabric) = Fabric::open(layer) else {
-        return Err(StartFault::Run(ToolFault::NoMemory));
+    let Some(path) = plan.journal else {
+        let begun = begin(rt, heap, plan, &sources, "", &[])?;
+        let Begun { fabric, zones, .. } = begun;
+        return Ok(Register {
+            fabric: edited(heap, fabric, &edits)?,
+            zones,
+            journal: None,
+        });
     };
-    let journal = match found {
-        Some(found) => Some(begin_journal(rt, disk, heap, &mut fabric, found)?),
-        None => None,
-    };
+    let found = find_journal(rt, heap, path)?;
+    if edits.is_some() && !found.text.is_empty() {
+        return Err(StartFault::JournalBegun(path));
+    }
+    let begun = begin(rt, heap, plan, &sources, path, found.text.as_slice())?;
+    let Begun {
+        fabric,
+        zones,
+        layer,
+        replayed,
+    } = begun;
+    let fabric = edited(heap, fabric, &edits)?;
+    let journal = begin_journal(rt, disk, heap, &fabric, &layer, &replayed, found)?;
     Ok(Register {
         fabric,
         zones,
-        journal,
+        journal: Some(journal),
     })
-}
-
-/// The bytes of a register's layers.
-#[derive(Drop)]
-struct Sources<A: Allocator> {
-    city: Source<A>,
-    parcels: Source<A>,
-    zones: Option<Source<A>>,
 }
 
 /// Reads the files of a register's layers.
@@ -150,42 +181,57 @@ fn read_sources<'a, F: Files, A: Allocator + Copy>(
     })
 }
 
-/// The parcels, and the zones where there are some: both tile the city.
-fn load<'h, R: Threads + Sync, H: Allocator + Send + Sync, A: Allocator>(
+/// The register that the files give behind the journal at a path, which has this text.
+fn begin<'a, 'h, R: Threads + Sync, H: Allocator + Send + Sync, A: Allocator>(
     rt: &R,
-    workers: usize,
     heap: &'h H,
+    plan: &Plan<'a>,
     sources: &Sources<A>,
-    unit: Unit,
-) -> Result<(Layer<'h, H>, Option<Layer<'h, H>>), ToolFault<'static>> {
-    match &sources.zones {
-        Some(zones) => {
-            let Layers { parcels, zones } = load_layers_by(
-                rt,
-                workers,
-                heap,
-                &sources.city,
-                &sources.parcels,
-                zones,
-                unit,
-            )?;
-            Ok((parcels, Some(zones)))
-        }
-        None => {
-            let parcels = load_tiles_by(rt, workers, heap, &sources.city, &sources.parcels, unit)?;
-            Ok((parcels, None))
-        }
+    path: &'a str,
+    text: &[u8],
+) -> Result<Begun<'h, H>, StartFault<'a, &'h H>>
+    ensures behind { IfOk result (λ begun. IsBehind text.now begun.fabric begun.replayed begun.layer) }
+{
+    match begin_register(rt, plan.workers, heap, sources, plan.unit, text) {
+        Ok(begun) => Ok(begun),
+        Err(BeginFault::Load(fault)) => Err(StartFault::Run(fault)),
+        Err(BeginFault::Journal(fault)) => Err(fault_of_replay(heap, path, fault)),
     }
 }
 
-/// Makes the edits of a journal, and has it ready to be written: the disk has all of it then.
+/// A register behind the edits of a clerk's file, where there is one.
+fn edited<'a, 'h, H: Allocator>(
+    heap: &'h H,
+    fabric: Fabric<'h, H>,
+    edits: &Option<(&'a str, Vec<u8, &'h H>)>,
+) -> Result<Fabric<'h, H>, StartFault<'a, &'h H>> {
+    let mut fabric = fabric;
+    let Some((path, text)) = edits else {
+        return Ok(fabric);
+    };
+    match make_edits(heap, &mut fabric, text.as_slice()) {
+        Ok(()) => Ok(fabric),
+        Err(EditsFault::Line(line)) => {
+            Err(StartFault::Run(ToolFault::ClerkLine(EDITS_CLERK, line)))
+        }
+        Err(EditsFault::Refused(line, refusal)) => Err(refused_in(heap, *path, line, refusal)),
+        Err(EditsFault::NoMemory) => Err(StartFault::Run(ToolFault::NoMemory)),
+    }
+}
+
+/// Has a journal ready to be written: the disk has all of it then. A torn record is cut off, and told; entries of the
+/// register that it has not yet are added.
 fn begin_journal<'a, 'h, R: Eprint, P: Machine, H: Allocator>(
     rt: &R,
     machine: &'a P,
     heap: &'h H,
-    fabric: &mut Fabric<'h, H>,
+    fabric: &Fabric<'h, H>,
+    layer: &Seal,
+    replayed: &Replayed,
     found: FoundJournal<'a, &'h H>,
-) -> Result<Journal<DiskSynchroniser<'a, P>>, StartFault<'a, &'h H>> {
+) -> Result<Journal<&'h H, DiskSynchroniser<'a, P>>, StartFault<'a, &'h H>>
+    requires { IsMarked (Bor H) found.text.items replayed.now layer.now }
+{
     let FoundJournal { path, file, text } = found;
     let Ok(again) = file.try_clone() else {
         return Err(StartFault::JournalUnreadable(path));
@@ -195,48 +241,31 @@ fn begin_journal<'a, 'h, R: Eprint, P: Machine, H: Allocator>(
         path,
         file: again,
     };
-    let layer = seal_of_layer(heap, fabric)?;
-    let file = DiskFile { file };
-    let writer = if text.is_empty() {
-        match JournalWriter::begin(heap, file, &layer) {
-            Ok(writer) => writer,
-            Err(_) => return Err(StartFault::JournalUnreadable(path)),
-        }
-    } else {
-        go_on(rt, heap, fabric, path, file, &layer, text.as_slice())?
-    };
-    Ok(Journal::new(writer, synchroniser))
-}
-
-/// Makes the edits of a journal that has begun, and goes on behind them. A torn record is cut off, and told.
-fn go_on<'a, 'h, R: Eprint, H: Allocator>(
-    rt: &R,
-    heap: &'h H,
-    fabric: &mut Fabric<'h, H>,
-    path: &'a str,
-    file: DiskFile,
-    layer: &Seal,
-    text: &[u8],
-) -> Result<Writer, StartFault<'a, &'h H>> {
-    let Replayed {
-        records,
-        seal,
-        torn,
-    } = match replay(heap, fabric, layer, text) {
-        Ok(replayed) => replayed,
-        Err(fault) => return Err(fault_of_replay(heap, path, fault)),
-    };
-    let whole = text.len().saturating_sub(torn);
-    let Ok(writer) = JournalWriter::go_on(file, records, seal, whole, torn) else {
+    let begun = begin_writer(heap, DiskFile { file }, text.as_slice(), layer, replayed);
+    let Ok(mut writer) = begun else {
         return Err(StartFault::JournalUnreadable(path));
     };
+    let torn = replayed.torn;
     if torn > 0 {
         // Where standard error fails there is nobody left to tell.
         let _ = eprintln!(rt;
             "note: {path}: a last record of {torn} bytes without its end is cut off"
         );
     }
-    Ok(writer)
+    let entries = fabric.journal();
+    if writer.records() == 0 && !entries.is_empty() {
+        let Some(time) = time_of(heap, &synchroniser)? else {
+            return Err(StartFault::JournalUnreadable(path));
+        };
+        if add_entries(heap, &mut writer, time.as_bytes(), entries).is_err() {
+            writer.empty();
+            return Err(StartFault::JournalUnreadable(path));
+        }
+    }
+    match sync(&synchroniser, writer.records()) {
+        Ok(on_disk) => Ok(Journal::new(writer, synchroniser, on_disk)),
+        Err(_) => Err(StartFault::JournalUnreadable(path)),
+    }
 }
 
 /// The user-facing error for a journal whose edits are not made again.
@@ -244,23 +273,35 @@ fn fault_of_replay<'a, A: Allocator>(
     alloc: A,
     path: &'a str,
     fault: ReplayFault,
-) -> StartFault<'a, A> {
+) -> StartFault<'a, A>
+    ensures { IsToldOf path.entry fault result }
+{
     match fault {
         ReplayFault::Journal(JournalFault::NoJournal) => StartFault::NoJournal(path),
         ReplayFault::Journal(JournalFault::OtherLayer) => StartFault::OtherLayer(path),
         ReplayFault::Journal(JournalFault::Changed(line)) => StartFault::JournalChanged(path, line),
         ReplayFault::Journal(JournalFault::NoMemory) => StartFault::Run(ToolFault::NoMemory),
         ReplayFault::Refused(number, refusal) => {
-            let mut text = Vec::new(alloc);
-            match push_refusal(&mut text, refusal) {
-                // The header is line 1, and a record's edit its second line.
-                Ok(()) => {
-                    let line = number.saturating_mul(2).saturating_add(1);
-                    StartFault::JournalRefused(path, line, text)
-                }
-                Err(_) => StartFault::Run(ToolFault::NoMemory),
-            }
+            // The header is line 1, and a record's edit its second line.
+            let line = number.saturating_mul(2).saturating_add(1);
+            refused_in(alloc, path, line, refusal)
         }
+    }
+}
+
+/// The user-facing error for an edit in this line of the file at a path, which is refused.
+fn refused_in<'a, A: Allocator>(
+    alloc: A,
+    path: &'a str,
+    line: u64,
+    refusal: Refusal,
+) -> StartFault<'a, A>
+    ensures { IsToldRefused path.entry line refusal result }
+{
+    let mut text = Vec::new(alloc);
+    match push_refusal(&mut text, refusal) {
+        Ok(()) => StartFault::EditRefused(path, line, text),
+        Err(_) => StartFault::Run(ToolFault::NoMemory),
     }
 }
 
@@ -291,8 +332,7 @@ fn at_office<
         zones,
         journal,
     } = register;
-    let mut text = Vec::new(heap);
-    push_ready(&mut text, fabric.entries())?;
+    let text = ready_text(heap, &fabric)?;
     let Ok(reader) = BufReader::new(heap, rt.reader()) else {
         return Err(StartFault::Run(ToolFault::NoMemory));
     };

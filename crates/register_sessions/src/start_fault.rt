@@ -27,8 +27,11 @@ pub enum StartFault<'a, A: Allocator> {
     OtherLayer(&'a str),
     /// Of the journal at this path the line of this number, from 1, or the one behind it, is not as it was written.
     JournalChanged(&'a str, u64),
-    /// Of the journal at this path the edit in the line of this number, from 1, is refused, for what the text says.
-    JournalRefused(&'a str, u64, Vec<u8, A>),
+    /// Of the journal, or of the clerk's file, at this path the edit in the line of this number, from 1, is refused, for what
+    /// the text says.
+    EditRefused(&'a str, u64, Vec<u8, A>),
+    /// The journal at this path was to begin with a clerk's file, and is not empty.
+    JournalBegun(&'a str),
 }
 
 impl<'a, A: Allocator> From<ToolFault<'a>> for StartFault<'a, A> {
@@ -65,7 +68,8 @@ impl<'a, A: Allocator> fmt::Display for StartFault<'a, A> {
             StartFault::NoJournal(path) => write!(f, "{path}: no journal"),
             StartFault::OtherLayer(path) => write!(f, "{path}: another layer"),
             StartFault::JournalChanged(path, line) => write!(f, "{path} line {line}: changed"),
-            StartFault::JournalRefused(path, line, text) => {
+            StartFault::JournalBegun(path) => write!(f, "{path}: not empty"),
+            StartFault::EditRefused(path, line, text) => {
                 write!(f, "{path} line {line}: refused ")?;
                 write_bytes(f, text.as_slice())
             }

@@ -47,6 +47,11 @@ pub record AreDistrictWords (words : Words) (districts : Districts) : Type 0 whe
   pub are_wanted : AreWanted words districts.wanted
   pub are_workers : AreWorkers words.workers districts.workers
 
+-- the first of them, where there is one
+abbrev pub first_of : {X : Type 0} → List X → Option X
+first_of [] = None
+first_of (first ∷ others) = Some first
+
 -- what a session is of: the words of these names, with zones and journal where they were given, and every desk's
 pub record AreSession (words : Words) (session : SessionValue) : Type 0 where
   pub is_city : words.city ≡ Some session.city
@@ -54,6 +59,7 @@ pub record AreSession (words : Words) (session : SessionValue) : Type 0 where
   pub is_unit : IsUnit words.unit session.unit
   pub is_zones : session.zones ≡ words.zones
   pub is_journal : session.journal ≡ words.journal
+  pub is_clerk : session.clerk ≡ first_of (given words.clerks)
   pub are_desks : session.desks.items ≡ given words.desks
   pub are_workers : AreWorkers words.workers session.workers
 

@@ -262,6 +262,7 @@ fn session_command<'a>(alloc: Global) -> Result<Command<'a>, AllocError> {
         .arg(unit(alloc, "The unit of the files' coordinates"))?
         .arg(zones_option(alloc))?
         .arg(journal(alloc))?
+        .arg(first_edits(alloc))?
         .arg(desk(alloc))?
         .arg(worker_count(alloc))
 }
@@ -306,6 +307,15 @@ fn journal<'a>(alloc: Global) -> Arg<'a> {
         .action(ArgAction::Set)
         .value_name("FILE")
         .help("Journal file: its edits are replayed, new ones are appended")
+}
+
+/// The clerk's file with which a journal begins.
+fn first_edits<'a>(alloc: Global) -> Arg<'a> {
+    Arg::new(alloc, "clerk")
+        .long("clerk")
+        .action(ArgAction::Set)
+        .value_name("FILE")
+        .help("A clerk's file, whose edits come first; a new journal begins with them")
 }
 
 /// The desks. How many they may be is asked before the first is opened, and not here.

@@ -169,6 +169,7 @@ fn session_request<'a>(
         unit,
         zones: words.zones,
         journal: words.journal,
+        clerk: words.clerks.unwrap_or(&[]).first().copied(),
         desks,
         workers,
     })))

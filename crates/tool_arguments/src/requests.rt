@@ -79,6 +79,8 @@ pub struct Session<'a> {
     pub zones: Option<&'a str>,
     /// The path of the journal, where there is one.
     pub journal: Option<&'a str>,
+    /// The path of the clerk's file whose edits come first, where there is one.
+    pub clerk: Option<&'a str>,
     /// The names of the desks; desk K's is the K-th.
     pub desks: Vec<&'a str>,
     /// How many threads share the load of the layers, where a number was given.

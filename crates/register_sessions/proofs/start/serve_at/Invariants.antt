@@ -1,6 +1,6 @@
 use Rattle.std.specs.Prelude.{length, max}
 use Rattle.desk_lock.specs.Offices.{origin_of}
-use Rattle.register_sessions.proofs.start.serve_session.Given as goal
+use Rattle.register_sessions.proofs.start.serve_at.Given as goal
 
 -- the office that is opened with the fabric, for the clerks of these desks
 abbrev pub ghosts-at_office-J-Naming-1 : goal.ghosts-at_office-J-Naming-1
