@@ -4,8 +4,10 @@
 
 mod draft;
 mod file;
+mod synced;
 mod writer;
 
 pub use draft::Draft;
 pub use file::{FileFailed, JournalFile};
+pub use synced::{OnDisk, Synced, Synchroniser, sync};
 pub use writer::JournalWriter;

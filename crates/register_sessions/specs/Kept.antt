@@ -1,12 +1,10 @@
 -- What a session keeps of the edits that it makes: records in its journal, and what the disk has of them (this product's own).
-use Rattle.std.specs.Prelude.{◌≡◌, ⊤, ℕ, ◌≤◌, max, true, List, [], ◌∷◌, Option, None, Some, Result, Ok, Err}
+use Rattle.std.specs.Prelude.{◌≡◌, ⊤, ℕ, ◌≤◌, List, [], ◌∷◌, Option, None, Some}
 use Rattle.ring_edits.specs.declared.edit.Edit.{Edit}
 use Rattle.journal_records.specs.declared.record.Stamp.{Stamp}
-use Rattle.journal_writers.specs.declared.file.FileFailed.{FileFailed}
 use Rattle.journal_writers.specs.Writers.{WriterState, HasOneMore}
 use Rattle.fabric_core.specs.Journal.{JournalEntry}
-use Rattle.register_sessions.specs.declared.synced.Synced.{Synced}
-use Rattle.register_sessions.specs.declared.synced.OnDisk.{OnDisk}
+use Rattle.journal_writers.specs.declared.synced.OnDisk.{OnDisk}
 
 -- a journal has one record more: that of this entry
 pub record IsRecorded {A : Type 0} (before after : WriterState) (entry : JournalEntry A) : Type 0 where
@@ -19,12 +17,6 @@ pub record IsRecorded {A : Type 0} (before after : WriterState) (entry : Journal
 abbrev pub HasRecords : {A : Type 0} → WriterState → WriterState → List (JournalEntry A) → Type 0
 HasRecords before after [] = after ≡ before
 HasRecords before after (entry ∷ others) = (mid : WriterState) × IsRecorded before mid entry × HasRecords mid after others
-
--- a synchronisation that ended well brings as many records as it says, and takes none away; one that failed brings none
-abbrev pub IsEnded : Synced → Synced → Result OnDisk FileFailed → Type 0
-IsEnded before after (Ok brought) =
-    (after.on_disk.records ≡ max before.on_disk.records brought.records) × (after.is_lost ≡ before.is_lost)
-IsEnded before after (Err fault) = (after.on_disk ≡ before.on_disk) × (after.is_lost ≡ true)
 
 -- where there is a journal, the disk has at least so many records
 abbrev pub IsOnDisk : {J : Type 0} → Option J → Option OnDisk → ℕ → Type 0

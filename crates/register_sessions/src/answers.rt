@@ -6,7 +6,7 @@ ghost use Rattle.session_lines.specs.declared.faults.SessionFault.TheVariants.{N
 ghost use Rattle.register_sessions.specs.DeskAnswers.{GoesOnBy, HasGoneOn, IsPlaceLine, IsRingLine, IsCountLine, IsEditLine};
 ghost use Rattle.register_sessions.specs.DeskAnswers.{window_fault};
 
-use crate::journal_file::Synchroniser;
+use crate::journal_file::Clocked;
 use crate::lines::Came;
 use crate::room::{EditFault, Made, Room};
 use desk_lock::{Card, LocateFault, Naming, Notice, Window};
@@ -28,7 +28,7 @@ pub(crate) struct Chair<'h, H: Allocator, J: Naming<H>> {
 }
 
 /// Adds the answer to what came at a desk that is not the operator's.
-pub(crate) fn answer<'h, H: Allocator, J: Naming<H>, R: Wait, K: Synchroniser>(
+pub(crate) fn answer<'h, H: Allocator, J: Naming<H>, R: Wait, K: Clocked>(
     room: &Room<'_, 'h, H, J, R, K>,
     chair: &mut Chair<'h, H, J>,
     came: Came,
@@ -95,7 +95,7 @@ fn read_one<'l, A: Allocator + Copy>(
 }
 
 /// Adds the answer to a line that any desk may be asked; the operator's own lines are refused.
-pub(crate) fn answer_asked<'h, H: Allocator, J: Naming<H>, R: Wait, K: Synchroniser>(
+pub(crate) fn answer_asked<'h, H: Allocator, J: Naming<H>, R: Wait, K: Clocked>(
     room: &Room<'_, 'h, H, J, R, K>,
     chair: &mut Chair<'h, H, J>,
     asked: Asked<'_, &'h H>,
@@ -124,7 +124,7 @@ pub(crate) fn answer_asked<'h, H: Allocator, J: Naming<H>, R: Wait, K: Synchroni
 }
 
 /// Adds the answer to an edit.
-fn answer_edit<'h, H: Allocator, J: Naming<H>, R: Wait, K: Synchroniser>(
+fn answer_edit<'h, H: Allocator, J: Naming<H>, R: Wait, K: Clocked>(
     room: &Room<'_, 'h, H, J, R, K>,
     chair: &mut Chair<'h, H, J>,
     who: &[u8],
@@ -139,7 +139,7 @@ fn answer_edit<'h, H: Allocator, J: Naming<H>, R: Wait, K: Synchroniser>(
 }
 
 /// Adds the answer to a clerk's edit, which the window sees then.
-fn answer_clerk<'h, H: Allocator, J: Naming<H>, R: Wait, K: Synchroniser>(
+fn answer_clerk<'h, H: Allocator, J: Naming<H>, R: Wait, K: Clocked>(
     room: &Room<'_, 'h, H, J, R, K>,
     card: &mut Card<'h, H, J>,
     window: &mut Option<Window<'h, H, J>>,

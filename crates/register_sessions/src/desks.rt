@@ -1,7 +1,7 @@
 //! Desks, each served by a thread of its own.
 
 use crate::answers::{Chair, answer};
-use crate::journal_file::Synchroniser;
+use crate::journal_file::Clocked;
 use crate::lines::Came;
 use crate::lines_pipe::LinesPipe;
 use crate::pipes::{Paths, Pipes};
@@ -24,7 +24,7 @@ pub(crate) struct Desk<'p, 'h, H: Allocator, J: Naming<H>> {
 }
 
 /// Serves a desk's clients, one after the other, until the session closes, or the desk's pipes can't be opened.
-pub(crate) fn serve_desk<'p, 'h, P: Pipes, H: Allocator, J: Naming<H>, R: Wait, K: Synchroniser>(
+pub(crate) fn serve_desk<'p, 'h, P: Pipes, H: Allocator, J: Naming<H>, R: Wait, K: Clocked>(
     room: &Room<'_, 'h, H, J, R, K>,
     pipes: &P,
     desk: Desk<'p, 'h, H, J>,
@@ -39,7 +39,7 @@ pub(crate) fn serve_desk<'p, 'h, P: Pipes, H: Allocator, J: Naming<H>, R: Wait, 
 }
 
 /// Serves the next client of a desk; whether the desk goes on then.
-fn serve_next<'p, 'h, P: Pipes, H: Allocator, J: Naming<H>, R: Wait, K: Synchroniser>(
+fn serve_next<'p, 'h, P: Pipes, H: Allocator, J: Naming<H>, R: Wait, K: Clocked>(
     room: &Room<'_, 'h, H, J, R, K>,
     pipes: &P,
     desk: &mut Desk<'p, 'h, H, J>,
@@ -68,7 +68,7 @@ fn serve_next<'p, 'h, P: Pipes, H: Allocator, J: Naming<H>, R: Wait, K: Synchron
 }
 
 /// Answers a client's lines until no further one is taken.
-fn serve_client<'h, H: Allocator, J: Naming<H>, R: Wait, K: Synchroniser, F: Read, W: ByteOut>(
+fn serve_client<'h, H: Allocator, J: Naming<H>, R: Wait, K: Clocked, F: Read, W: ByteOut>(
     room: &Room<'_, 'h, H, J, R, K>,
     chair: &mut Chair<'h, H, J>,
     reader: &mut BufReader<F, &'h H>,
@@ -80,12 +80,12 @@ fn serve_client<'h, H: Allocator, J: Naming<H>, R: Wait, K: Synchroniser, F: Rea
 
 /// Who answers at a desk: whoever sits there asks the room.
 #[derive(Drop)]
-struct DeskAttendant<'s, 'r, 'h, H: Allocator, J: Naming<H>, R: Wait, K: Synchroniser> {
+struct DeskAttendant<'s, 'r, 'h, H: Allocator, J: Naming<H>, R: Wait, K: Clocked> {
     room: &'s Room<'r, 'h, H, J, R, K>,
     chair: &'s mut Chair<'h, H, J>,
 }
 
-impl<'s, 'r, 'h, H: Allocator, J: Naming<H>, R: Wait, K: Synchroniser, W: ByteOut> Attendant<
+impl<'s, 'r, 'h, H: Allocator, J: Naming<H>, R: Wait, K: Clocked, W: ByteOut> Attendant<
     &'h H,
     W,
 > for DeskAttendant<'s, 'r, 'h, H, J, R, K> {
@@ -110,7 +110,7 @@ impl<'s, 'r, 'h, H: Allocator, J: Naming<H>, R: Wait, K: Synchroniser, W: ByteOu
 type Opened<'s, 'h, H> = (BufReader<LinesPipe<'s>, &'h H>, File);
 
 /// Opens a desk's pipes: waits for a client.
-fn open_both<'s, 'h, P: Pipes, H: Allocator, J: Naming<H>, R: Wait, K: Synchroniser>(
+fn open_both<'s, 'h, P: Pipes, H: Allocator, J: Naming<H>, R: Wait, K: Clocked>(
     room: &'s Room<'_, 'h, H, J, R, K>,
     pipes: &P,
     paths: &'s Paths<&'h H>,

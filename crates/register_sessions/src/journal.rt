@@ -2,10 +2,9 @@
 
 ghost use Rattle.std.specs.Prelude.{◌≤◌, IfSome};
 
-use crate::journal_file::{DiskFile, Synchroniser};
-use crate::synced::{OnDisk, Synced, sync};
+use crate::journal_file::{DiskFile, Clocked};
+use journal_writers::{JournalWriter, OnDisk, Synced, sync};
 use jiff::Timestamp;
-use journal_writers::JournalWriter;
 use std::alloc::{AllocError, Allocator};
 use std::sync::atomic::{AtomicU64, Ordering};
 use std::sync::{Condvar, Mutex, MutexGuard, Wait};
@@ -15,7 +14,7 @@ pub(crate) type Writer<A> = JournalWriter<DiskFile, A>;
 
 /// A journal that is written.
 #[derive(Drop)]
-pub(crate) struct Journal<A: Allocator, K: Synchroniser> {
+pub(crate) struct Journal<A: Allocator, K: Clocked> {
     synchroniser: K,
     writer: Mutex<Writer<A>>,
     /// How many records were written whole.
@@ -25,7 +24,7 @@ pub(crate) struct Journal<A: Allocator, K: Synchroniser> {
     ended: Condvar,
 }
 
-impl<A: Allocator, K: Synchroniser> Journal<A, K> {
+impl<A: Allocator, K: Clocked> Journal<A, K> {
     /// A journal of whose records the disk has so many.
     pub(crate) fn new(writer: Writer<A>, synchroniser: K, on_disk: OnDisk) -> Journal<A, K> {
         let records = writer.records();
@@ -114,7 +113,7 @@ impl<A: Allocator, K: Synchroniser> Journal<A, K> {
 }
 
 /// The time, as a record says it; `None` where the system has none.
-pub(crate) fn time_of<K: Synchroniser, B: Allocator + Copy>(
+pub(crate) fn time_of<K: Clocked, B: Allocator + Copy>(
     alloc: B,
     synchroniser: &K,
 ) -> Result<Option<String<B>>, AllocError> {

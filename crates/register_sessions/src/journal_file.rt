@@ -1,7 +1,7 @@
 //! The file of a journal on the disk.
 
 use city_layers::Disk;
-use journal_writers::{FileFailed, JournalFile};
+use journal_writers::{FileFailed, JournalFile, Synchroniser};
 use std::fs::File;
 use std::io;
 use std::io::{ErrorKind, Write};
@@ -31,11 +31,8 @@ impl<'a, R: Files + Clock> Machine for Disk<'a, R> {
     }
 }
 
-/// Has the disk hold all that was written to a file, without keeping who writes to it.
-pub trait Synchroniser: Drop {
-    /// Has the disk hold all that was written, under the file's path.
-    fn synchronise(&self) -> Result<(), FileFailed>;
-
+/// A synchroniser of a machine that has the time.
+pub trait Clocked: Synchroniser {
     /// The time, in whole seconds since 1970, UTC.
     fn seconds(&self) -> io::Result<i64>;
 }
@@ -85,7 +82,9 @@ impl<'m, P: Machine> Synchroniser for DiskSynchroniser<'m, P> {
             _ => Err(FileFailed),
         }
     }
+}
 
+impl<'m, P: Machine> Clocked for DiskSynchroniser<'m, P> {
     fn seconds(&self) -> io::Result<i64> {
         self.machine.seconds()
     }

@@ -24,10 +24,9 @@ mod room;
 mod serving;
 mod start;
 mod start_fault;
-mod synced;
 mod threads;
 
-pub use journal_file::{DiskSynchroniser, Machine, Synchroniser};
+pub use journal_file::{Clocked, DiskSynchroniser, Machine};
 pub use lines::LINE_BYTES;
 pub use pipes::Pipes;
 pub use reports::Exports;

@@ -1,7 +1,7 @@
 //! The operator's desk.
 
 use crate::answers::{Asked, Chair, answer_asked, read_asked};
-use crate::journal_file::{Machine, Synchroniser};
+use crate::journal_file::{Machine, Clocked};
 use crate::lines::Came;
 use crate::post::{Attendant, Next, Served, Trouble, serve_lines};
 use crate::reports::{Exports, Ground, report_check, report_export, report_overlay};
@@ -27,7 +27,7 @@ pub(crate) fn serve_operator<
     H: Allocator,
     J: Naming<H>,
     R: Wait,
-    K: Synchroniser,
+    K: Clocked,
     F: Read,
     W: ByteOut,
 >(
@@ -47,7 +47,7 @@ pub(crate) fn serve_operator<
 
 /// Who answers at the operator's desk.
 #[derive(Drop)]
-struct OperatorAttendant<'s, 'r, 'h, P, H: Allocator, J: Naming<H>, R: Wait, K: Synchroniser> {
+struct OperatorAttendant<'s, 'r, 'h, P, H: Allocator, J: Naming<H>, R: Wait, K: Clocked> {
     room: &'s Room<'r, 'h, H, J, R, K>,
     disk: &'s P,
     operator: &'s mut Operator<'h, H, J>,
@@ -61,7 +61,7 @@ impl<
     H: Allocator,
     J: Naming<H>,
     R: Wait,
-    K: Synchroniser,
+    K: Clocked,
     W: ByteOut,
 > Attendant<&'h H, W> for OperatorAttendant<'s, 'r, 'h, P, H, J, R, K> {
     fn answer(
@@ -93,7 +93,7 @@ impl<
 }
 
 /// Adds whether the parcels tile the city.
-fn answer_check<'h, H: Allocator, J: Naming<H>, R: Wait, K: Synchroniser>(
+fn answer_check<'h, H: Allocator, J: Naming<H>, R: Wait, K: Clocked>(
     room: &Room<'_, 'h, H, J, R, K>,
     text: &mut Vec<u8, &'h H>,
 ) -> Result<(), AllocError> {
@@ -104,7 +104,7 @@ fn answer_check<'h, H: Allocator, J: Naming<H>, R: Wait, K: Synchroniser>(
 }
 
 /// Writes which parcels and zones overlap, where there are zones.
-fn answer_overlay<'h, H: Allocator, J: Naming<H>, R: Wait, K: Synchroniser, W: ByteOut>(
+fn answer_overlay<'h, H: Allocator, J: Naming<H>, R: Wait, K: Clocked, W: ByteOut>(
     room: &Room<'_, 'h, H, J, R, K>,
     ground: &Ground<'h, H, J>,
     text: &mut Vec<u8, &'h H>,
@@ -120,7 +120,7 @@ fn answer_overlay<'h, H: Allocator, J: Naming<H>, R: Wait, K: Synchroniser, W: B
 }
 
 /// Replaces the layer at BASE by the parcels, unless that is one of the session's own files.
-fn answer_export<'h, P: Exports + Machine, H: Allocator, J: Naming<H>, R: Wait, K: Synchroniser>(
+fn answer_export<'h, P: Exports + Machine, H: Allocator, J: Naming<H>, R: Wait, K: Clocked>(
     room: &Room<'_, 'h, H, J, R, K>,
     disk: &P,
     ground: &Ground<'h, H, J>,
@@ -138,7 +138,7 @@ fn answer_export<'h, P: Exports + Machine, H: Allocator, J: Naming<H>, R: Wait, 
 }
 
 /// Publishes all entries, and adds how many they are. The operator's window knows them then.
-fn answer_publish<'h, H: Allocator, J: Naming<H>, R: Wait, K: Synchroniser>(
+fn answer_publish<'h, H: Allocator, J: Naming<H>, R: Wait, K: Clocked>(
     room: &Room<'_, 'h, H, J, R, K>,
     chair: &mut Chair<'h, H, J>,
     text: &mut Vec<u8, &'h H>,

@@ -8,12 +8,11 @@ ghost use Rattle.register_sessions.specs.Kept.{IsRecorded, IsOnDisk};
 
 use crate::door::Door;
 use crate::journal::Journal;
-use crate::journal_file::Synchroniser;
-use crate::synced::OnDisk;
+use crate::journal_file::Clocked;
 use desk_lock::{Card, Naming, Notice, Office};
 use fabric_core::{Entry, Refusal, Sheet};
 use journal_records::Stamp;
-use journal_writers::{JournalFile, JournalWriter};
+use journal_writers::{JournalFile, JournalWriter, OnDisk};
 use ring_edits::Edit;
 use session_lines::SessionFault;
 use std::alloc::Allocator;
@@ -21,7 +20,7 @@ use std::sync::Wait;
 
 /// What all desks share: the office, the journal, if there is one, and the door.
 #[derive(Drop)]
-pub(crate) struct Room<'r, 'h, H: Allocator, J: Naming<H>, R: Wait, K: Synchroniser> {
+pub(crate) struct Room<'r, 'h, H: Allocator, J: Naming<H>, R: Wait, K: Clocked> {
     pub(crate) office: Office<'h, H, J, &'r R>,
     pub(crate) journal: Option<Journal<&'h H, K>>,
     pub(crate) door: Door,
@@ -50,7 +49,7 @@ pub(crate) struct Made<'h, H: Allocator, J: Naming<H>> {
     pub(crate) notice: Option<Notice<'h, H, J>>,
 }
 
-impl<'r, 'h, H: Allocator, J: Naming<H>, R: Wait, K: Synchroniser> Room<'r, 'h, H, J, R, K> {
+impl<'r, 'h, H: Allocator, J: Naming<H>, R: Wait, K: Clocked> Room<'r, 'h, H, J, R, K> {
     /// Makes an edit at the office, with the client's own word for who and why, and shows it. Where there is a journal, the
     /// disk has the edit's record before it is shown; records stand in the order of their entries' numbers.
     pub(crate) fn submit(

@@ -3,7 +3,7 @@
 use crate::answers::Chair;
 use crate::desks::{Desk, serve_desk};
 use crate::ends::close_desks;
-use crate::journal_file::{Machine, Synchroniser};
+use crate::journal_file::{Machine, Clocked};
 use crate::operator::{Operator, serve_operator};
 use crate::pipes::{Paths, Pipes};
 use crate::post::write_out;
@@ -31,7 +31,7 @@ pub(crate) struct Counter<I, A: Allocator, W> {
 
 /// What all threads of a session share.
 #[derive(Drop)]
-struct Shared<'s, 'r, 'h, P, H: Allocator, J: Naming<H>, R: Wait, K: Synchroniser> {
+struct Shared<'s, 'r, 'h, P, H: Allocator, J: Naming<H>, R: Wait, K: Clocked> {
     room: &'s Room<'r, 'h, H, J, R, K>,
     disk: &'s P,
     paths: &'s [Paths<&'h H>],
@@ -46,7 +46,7 @@ impl<
     H: Allocator + Send + Sync,
     J: Naming<H> + Send + Sync,
     R: Wait,
-    K: Synchroniser,
+    K: Clocked,
 > Task<Shared<'s, 'r, 'h, P, H, J, R, K>> for Desk<'p, 'h, H, J> {
     fn run(self, with: &Shared<'s, 'r, 'h, P, H, J, R, K>) -> Desk<'p, 'h, H, J> {
         serve_desk(with.room, with.disk, self)
@@ -68,7 +68,7 @@ impl<
     H: Allocator,
     J: Naming<H>,
     R: Wait,
-    K: Synchroniser,
+    K: Clocked,
     I: Read + Drop,
     W: ByteOut + Drop,
 > Host<Shared<'s, 'r, 'h, P, H, J, R, K>> for Reception<'h, H, J, I, W> {
@@ -125,7 +125,7 @@ pub(crate) fn serve<
     R: Threads + Wait + Sync,
     H: Allocator + Send + Sync,
     J: Naming<H> + Send + Sync,
-    K: Synchroniser + Sync,
+    K: Clocked + Sync,
     I: Read + Drop,
     W: ByteOut + Drop,
 >(
@@ -171,7 +171,7 @@ fn serve_all<
     R: Threads + Wait + Sync,
     H: Allocator + Send + Sync,
     J: Naming<H> + Send + Sync,
-    K: Synchroniser + Sync,
+    K: Clocked + Sync,
     I: Read + Drop,
     W: ByteOut + Drop,
 >(

@@ -11,7 +11,7 @@ use crate::clerk_edits::{EDITS_CLERK, EditsFault, add_entries, make_edits};
 use crate::door::Door;
 use crate::found_journal::{FoundJournal, find_journal};
 use crate::journal::{Journal, time_of};
-use crate::journal_file::{DiskFile, DiskSynchroniser, Machine, Synchroniser};
+use crate::journal_file::{DiskFile, DiskSynchroniser, Machine, Clocked};
 use crate::offices::{Seats, clerks_of, seat_all, windows_of};
 use crate::operator::Operator;
 use crate::own_files::OwnFiles;
@@ -20,7 +20,6 @@ use crate::reports::{Exports, Ground};
 use crate::room::Room;
 use crate::serving::{Counter, serve};
 use crate::start_fault::StartFault;
-use crate::synced::sync;
 use city_layers::{Disk, ToolFault, read_source, read_text};
 use clerk_runs::push_refusal;
 use desk_lock::{Name, Naming, Office, OpenFault};
@@ -28,6 +27,7 @@ use fabric_core::{Fabric, Layer, Refusal};
 use geo_exact::{Counted, Unit};
 use journal_records::{JournalFault, Seal};
 use journal_replays::{ReplayFault, Replayed};
+use journal_writers::sync;
 use parcel_runs::refuse_many_clerks;
 use std::alloc::Allocator;
 use std::fs::File;
@@ -109,7 +109,7 @@ fn serve_at<
 
 /// A register that is ready to be edited: the parcels behind the edits of the journal, the zones, and the journal.
 #[derive(Drop)]
-struct Register<'h, H: Allocator, K: Synchroniser> {
+struct Register<'h, H: Allocator, K: Clocked> {
     fabric: Fabric<'h, H>,
     zones: Option<Layer<'h, H>>,
     journal: Option<Journal<&'h H, K>>,
@@ -312,7 +312,7 @@ fn at_office<
     R: Input + Print + Threads + Wait + Sync,
     P: Pipes + Exports + Machine + Sync,
     H: Allocator + Send + Sync,
-    K: Synchroniser + Sync,
+    K: Clocked + Sync,
     J: Naming<H> + Send + Sync,
 >(
     rt: &R,

@@ -1,10 +1,15 @@
 //! What the disk has of a journal.
 
-ghost use Rattle.std.specs.Prelude.{◌≡◌, ◌↔◌, ◌≤◌, max, true, IfOk, IsTrue};
-ghost use Rattle.register_sessions.specs.Kept.{IsEnded};
+ghost use Rattle.std.specs.Prelude.{◌≡◌, ◌↔◌, ◌≤◌, true, IfOk, IsTrue};
+ghost use Rattle.journal_writers.specs.Ends.{IsEnded};
 
-use crate::journal_file::Synchroniser;
-use journal_writers::FileFailed;
+use crate::file::FileFailed;
+
+/// Has the disk hold all that was written to a file, without keeping who writes to it.
+pub trait Synchroniser: Drop {
+    /// Has the disk hold all that was written, under the file's path.
+    fn synchronise(&self) -> Result<(), FileFailed>;
+}
 
 /// That the disk has so many records of a journal. Only [`sync`] says it.
 #[derive(Clone, Copy, Debug, PartialEq, Eq)]
@@ -14,7 +19,7 @@ pub struct OnDisk {
 
 impl OnDisk {
     /// How many records they are.
-    pub(crate) fn records(&self) -> u64
+    pub fn records(&self) -> u64
         ensures { result ≡ self.now.records }
     {
         self.records
@@ -26,7 +31,7 @@ impl OnDisk {
 /// # Errors
 ///
 /// [`FileFailed`].
-pub(crate) fn sync<K: Synchroniser>(synchroniser: &K, records: u64) -> Result<OnDisk, FileFailed>
+pub fn sync<K: Synchroniser>(synchroniser: &K, records: u64) -> Result<OnDisk, FileFailed>
     ensures { IfOk result (λ on_disk. on_disk.records ≡ records) }
 {
     synchroniser.synchronise()?;
@@ -35,7 +40,7 @@ pub(crate) fn sync<K: Synchroniser>(synchroniser: &K, records: u64) -> Result<On
 
 /// How far a journal is synchronised.
 #[derive(Drop)]
-pub(crate) struct Synced {
+pub struct Synced {
     /// What the disk has for certain.
     on_disk: OnDisk,
     /// Whether somebody synchronises.
@@ -46,7 +51,7 @@ pub(crate) struct Synced {
 
 impl Synced {
     /// So far, and nobody synchronises.
-    pub(crate) fn new(on_disk: OnDisk) -> Synced
+    pub fn new(on_disk: OnDisk) -> Synced
         ensures { result.on_disk ≡ on_disk }
     {
         Synced {
@@ -57,42 +62,42 @@ impl Synced {
     }
 
     /// What the disk has.
-    pub(crate) fn on_disk(&self) -> OnDisk
+    pub fn on_disk(&self) -> OnDisk
         ensures { result ≡ self.now.on_disk }
     {
         self.on_disk
     }
 
     /// Whether the disk has the record of this number.
-    pub(crate) fn has(&self, number: u64) -> bool
+    pub fn has(&self, number: u64) -> bool
         ensures { IsTrue result ↔ number ≤ self.now.on_disk.records }
     {
         number <= self.on_disk.records
     }
 
     /// Whether somebody synchronises.
-    pub(crate) fn is_busy(&self) -> bool
+    pub fn is_busy(&self) -> bool
         ensures { result ≡ self.now.is_busy }
     {
         self.is_busy
     }
 
     /// Whether a synchronisation failed.
-    pub(crate) fn is_lost(&self) -> bool
+    pub fn is_lost(&self) -> bool
         ensures { result ≡ self.now.is_lost }
     {
         self.is_lost
     }
 
     /// Somebody begins to synchronise.
-    pub(crate) fn begin(&mut self)
+    pub fn begin(&mut self)
         ensures { self.new ≡ record self.old { is_busy = true } }
     {
         self.is_busy = true;
     }
 
     /// A synchronisation has ended: what it brought is on the disk; one that failed brings nothing, and is remembered.
-    pub(crate) fn end(&mut self, brought: Result<OnDisk, FileFailed>)
+    pub fn end(&mut self, brought: Result<OnDisk, FileFailed>)
         ensures { IsEnded self.old self.new brought }
     {
         self.is_busy = false;
