@@ -25,8 +25,11 @@ fn stamp<'t>() -> Stamp<'t> {
 
 /// Begins a journal, and adds its first record; how many calls of the file succeeded before one failed.
 fn write_one(alloc: Global, disk: &mut FakeDisk) -> Result<bool, Fail> {
-    let begun: Result<JournalWriter<FakeFile, Global>, FileFailed> =
-        JournalWriter::begin(alloc, FakeFile { disk }, &layer());
+    let begun: Result<JournalWriter<FakeFile, Global>, FileFailed> = JournalWriter::begin(
+        alloc,
+        FakeFile { disk },
+        &layer(),
+    );
     let Ok(mut writer) = begun else {
         return Ok(false);
     };
@@ -81,8 +84,14 @@ fn a_torn_record_is_cut_off_and_the_rest_kept(rt: HostRuntime) -> Result<(), Fai
     };
     let (count, seal, torn) = (read.records.len() as u64, read.seal, read.torn.len());
     let file = FakeFile { disk: &mut disk };
-    let begun: Result<JournalWriter<FakeFile, Global>, FileFailed> =
-        JournalWriter::go_on(file, &layer(), count, seal, FIRST, torn);
+    let begun: Result<JournalWriter<FakeFile, Global>, FileFailed> = JournalWriter::go_on(
+        file,
+        &layer(),
+        count,
+        seal,
+        FIRST,
+        torn,
+    );
     let Ok(writer) = begun else {
         return Err(Fail::new("not begun"));
     };

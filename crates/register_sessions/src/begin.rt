@@ -54,12 +54,7 @@ pub(crate) enum BeginFault {
 /// # Errors
 ///
 /// [`BeginFault`]: the first fault of the layers; then of the journal.
-pub(crate) fn begin_register<
-    'h,
-    R: Threads + Sync,
-    H: Allocator + Send + Sync,
-    A: Allocator,
->(
+pub(crate) fn begin_register<'h, R: Threads + Sync, H: Allocator + Send + Sync, A: Allocator>(
     rt: &R,
     workers: usize,
     heap: &'h H,

@@ -85,10 +85,8 @@ struct DeskAttendant<'s, 'r, 'h, H: Allocator, J: Naming<H>, R: Wait, K: Clocked
     chair: &'s mut Chair<'h, H, J>,
 }
 
-impl<'s, 'r, 'h, H: Allocator, J: Naming<H>, R: Wait, K: Clocked, W: ByteOut> Attendant<
-    &'h H,
-    W,
-> for DeskAttendant<'s, 'r, 'h, H, J, R, K> {
+impl<'s, 'r, 'h, H: Allocator, J: Naming<H>, R: Wait, K: Clocked, W: ByteOut> Attendant<&'h H, W>
+    for DeskAttendant<'s, 'r, 'h, H, J, R, K> {
     /// The desk ends where the session closes.
     fn answer(
         &mut self,

@@ -2,9 +2,9 @@
 
 ghost use Rattle.std.specs.Prelude.{◌≤◌, IfSome};
 
-use crate::journal_file::{DiskFile, Clocked};
-use journal_writers::{JournalWriter, OnDisk, Synced, sync};
+use crate::journal_file::{Clocked, DiskFile};
 use jiff::Timestamp;
+use journal_writers::{JournalWriter, OnDisk, Synced, sync};
 use std::alloc::{AllocError, Allocator};
 use std::sync::atomic::{AtomicU64, Ordering};
 use std::sync::{Condvar, Mutex, MutexGuard, Wait};

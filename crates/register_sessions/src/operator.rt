@@ -1,7 +1,7 @@
 //! The operator's desk.
 
 use crate::answers::{Asked, Chair, answer_asked, read_asked};
-use crate::journal_file::{Machine, Clocked};
+use crate::journal_file::{Clocked, Machine};
 use crate::lines::Came;
 use crate::post::{Attendant, Next, Served, Trouble, serve_lines};
 use crate::reports::{Exports, Ground, report_check, report_export, report_overlay};

@@ -3,7 +3,7 @@
 use crate::answers::Chair;
 use crate::desks::{Desk, serve_desk};
 use crate::ends::close_desks;
-use crate::journal_file::{Machine, Clocked};
+use crate::journal_file::{Clocked, Machine};
 use crate::operator::{Operator, serve_operator};
 use crate::pipes::{Paths, Pipes};
 use crate::post::write_out;

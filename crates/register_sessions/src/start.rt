@@ -11,7 +11,7 @@ use crate::clerk_edits::{EDITS_CLERK, EditsFault, add_entries, make_edits};
 use crate::door::Door;
 use crate::found_journal::{FoundJournal, find_journal};
 use crate::journal::{Journal, time_of};
-use crate::journal_file::{DiskFile, DiskSynchroniser, Machine, Clocked};
+use crate::journal_file::{Clocked, DiskFile, DiskSynchroniser, Machine};
 use crate::offices::{Seats, clerks_of, seat_all, windows_of};
 use crate::operator::Operator;
 use crate::own_files::OwnFiles;
@@ -97,13 +97,7 @@ fn serve_at<
     let register = open_register(rt, disk, heap, plan)?;
     let name = Name::new(heap)?;
     at_office::<R, P, H, DiskSynchroniser<'a, P>, Brand>(
-        rt,
-        disk,
-        heap,
-        name,
-        register,
-        own_files,
-        paths,
+        rt, disk, heap, name, register, own_files, paths,
     )
 }
 

@@ -8,7 +8,7 @@ ghost use Rattle.line_files.specs.declared.grids.Grid.TheVariants.{Millimetres};
 ghost use Rattle.tool_arguments.specs.Arguments.{IsUnit, IsNoUnit, AreWorkers, IsNoWorkerCount, IsBeyondWorkers};
 ghost use Rattle.tool_arguments.specs.Requests.{AreInputs, HasNoInputs, AreDistrictWords, HasNoDistricts, AreWanted, IsNoChoice};
 ghost use Rattle.tool_arguments.specs.Requests.{ArePoints, HasNoPoints};
-ghost use Rattle.tool_arguments.specs.Requests.{IsRequest, IsMissing, verb_of};
+ghost use Rattle.tool_arguments.specs.Requests.{IsRequest, IsMissing, verb_of, given, first_of};
 
 use crate::requests::{Districts, Inputs, Points, Request, Session, Wanted, Workers};
 use crate::words::{Verb, Words};
@@ -169,10 +169,20 @@ fn session_request<'a>(
         unit,
         zones: words.zones,
         journal: words.journal,
-        clerk: words.clerks.unwrap_or(&[]).first().copied(),
+        clerk: first_word(words.clerks),
         desks,
         workers,
     })))
+}
+
+/// The first of the words that were given under a name, where there is one.
+fn first_word<'a>(words: Option<&[&'a str]>) -> Option<&'a str>
+    ensures { result ≡ first_of (given words) }
+{
+    match words {
+        Some([first, ..]) => Some(*first),
+        _ => None,
+    }
 }
 
 /// What the words of `explain` ask for.

@@ -12,7 +12,7 @@ invariant_of-result g c =
     let seal = c.args.seal.digits in
     let kept : Option (List ℕ) → Type 0 = λ b. IfSome b (λ b. IsKept B layer b c.args.records seal) in
     let file : kept (bytes c.if-torn-ne0.file) = elim c.if-torn-ne0.branch [
-      then-torn-ne0+in_ok-cut w ↦
+      | then-torn-ne0+in_ok-cut w ↦
           subst kept (sym (ap bytes w.file-is ∙ w.in_ok-cut.ensures.ok))
           (whole_file B layer (bytes c.args.file) c.args.records seal c.args.whole c.args.torn c.requires.found)
       | else-torn-ne0 w ↦
