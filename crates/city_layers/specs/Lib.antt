@@ -3,6 +3,7 @@ pub mod Sources
 pub mod TilingFiles
 pub mod ZonedFiles
 pub mod FaultLines
+pub mod FaultTexts
 pub mod own
 pub use Rattle.text_pieces.specs.CornerText
 pub use Rattle.text_pieces.specs.RingFaultText

@@ -8,6 +8,7 @@ mod all_tiles;
 pub mod area;
 mod fault;
 mod fault_lines;
+mod fault_texts;
 mod layers;
 mod replace;
 mod report;
@@ -17,6 +18,7 @@ mod zones;
 
 pub use all_tiles::{LayerRefusal, load_tiles_or_lines, load_tiles_or_lines_by};
 pub use fault::{Role, ToolFault};
+pub use fault_texts::push_fault;
 pub use replace::replace_layer;
 pub use sources::{Disk, Folder, PathFault, Source, StandardInput, read_source, read_text};
 pub use tiles::{load_tiles, load_tiles_by};
