@@ -1,7 +1,9 @@
 //! The table of an overlay.
 
-ghost use Rattle.std.specs.Prelude.{◌≡◌, ◌↔◌, ℕ, length, Some, IfOk};
+ghost use Rattle.std.specs.Prelude.{◌≡◌, ◌≢◌, ◌↔◌, ℕ, length, Some, IfOk, MatchOption};
+ghost use Rattle.std.specs.List.{Contains};
 ghost use Rattle.std.specs.List.Sorted.{IsStrictlyIncreasing};
+ghost use Rattle.geo_exact.specs.Layers.{NumberedRing, numbered};
 ghost use Rattle.fabric_core.specs.Tiling.{IsTiling};
 ghost use Rattle.fabric_core.specs.Faults.{AreSimple};
 ghost use Rattle.fabric_core.specs.Rows.{numbers};
@@ -10,6 +12,7 @@ ghost use Rattle.zone_tables.specs.Within.{IsWithinZone};
 
 use crate::zoning::{Zonings, only_zone};
 use fabric_core::{Layer, Sheet};
+use ring_core::Ring;
 use std::alloc::{AllocError, Allocator};
 use std::marker::Model;
 
@@ -95,6 +98,24 @@ impl<'t, 'h, H: Allocator, A: Allocator> Table<'t, 'h, H, A> {
         ensures { result ≡ self.now.entries }
     {
         self.sheet.entries()
+    }
+
+    /// The ring of a parcel, begun at its least corner; `None` where the id is no parcel's.
+    pub fn parcel(&self, id: u64) -> Option<&Ring<&'h H>>
+        ensures ring { MatchOption result
+            ((row : NumberedRing) → Contains self.now.rows row → row.number ≢ id)
+            (λ ring. Contains self.now.rows (numbered id ring.now.corners)) }
+    {
+        self.sheet.ring(id)
+    }
+
+    /// The ring of a zone, begun at its least corner; `None` where the id is no zone's.
+    pub fn zone(&self, id: u64) -> Option<&Ring<&'h H>>
+        ensures ring { MatchOption result
+            ((row : NumberedRing) → Contains self.now.zones row → row.number ≢ id)
+            (λ ring. Contains self.now.zones (numbered id ring.now.corners)) }
+    {
+        self.zones.ring(id)
     }
 
     /// The parcels that overlap two zones or more, ascending.
