@@ -2,6 +2,7 @@ pub mod Refusals
 pub mod Exchanged
 pub mod Exchanges
 pub mod Stops
+pub mod CutPaths
 pub mod NewShapes
 pub mod Replays
 pub mod Retirements

@@ -130,7 +130,7 @@ fn split_change<'a, H: Allocator>(
     let shape = here(tiled, id)?;
     let (left, right) = match split(alloc, shape.ring.corners.as_slice(), path) {
         Ok(rings) => rings,
-        Err(EditFault::BadPath) => return Err(Refusal::BadPath),
+        Err(fault) if fault == EditFault::BadPath => return Err(Refusal::BadPath),
         Err(_) => return Err(Refusal::NoMemory),
     };
     let out = Vec::from_slice(alloc, &[id])?;

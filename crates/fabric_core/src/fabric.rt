@@ -210,8 +210,9 @@ impl<'a, H: Allocator> Fabric<'a, H> {
     }
 
     /// The parcels are simple rings that tile the city, and are within the limits of a layer, in their number
-    /// too; the city is no longer than a ring may be; in the cells of the grid index stand exactly the parcels; the city's refined ring covers what the
-    /// city's ring covers; and the journal is lawful, and leads from the opening to what is now.
+    /// too; the city is no longer than a ring may be; in the cells of the grid index stand exactly the parcels;
+    /// the city's refined ring covers what the city's ring covers; and the journal is lawful, and leads from the
+    /// opening to what is now.
     pub fn use_invariant(&self)
         ensures tiling { IsTiling self.now.now.rows self.now.city }
         ensures simple { AreSimple self.now.now.rows }

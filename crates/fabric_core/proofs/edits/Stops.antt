@@ -1,11 +1,14 @@
 -- Edits that make no change.
-use Rattle.std.proofs.Common.{true, false, ◌==◌, ◌≡◌, ◌≢◌, ◌⊎◌, arith, length, map, inl, inr, refl, ap, ℕ, List, []}
+use Rattle.std.proofs.Common.{true, false, ◌==◌, ◌≡◌, ◌≢◌, ◌⊎◌, arith, length, map, inl, inr, refl, sym, ◌∙◌, ap, ℕ, List, []}
 use Rattle.std.proofs.Common.{◌∷◌, Option, Some, None, MatchOption}
 use Rattle.std.specs.List.{Contains}
+use Rattle.std.proofs.lemmas.Bool.{false≢true}
 use Rattle.std.proofs.lemmas.Bool.Decides.{nat_tests}
+use denote.Enum.Bare.{sameb}
 use Rattle.geo_exact.specs.declared.corner.Corner.{Corner}
 use Rattle.geo_exact.specs.Layers.{NumberedRing, numbered}
 use Rattle.cell_index.proofs.Members.{mapped, from_mapped}
+use Rattle.ring_edits.specs.contracts.fault.EditFault.{the_type}
 use Rattle.ring_edits.specs.declared.fault.EditFault.{EditFault}
 use Rattle.ring_edits.specs.declared.fault.EditFault.TheVariants.{BadPath as NoPath, NotNeighbours as NoBorder}
 use Rattle.ring_edits.specs.declared.fault.EditFault.TheVariants.{SharedTwice as TwoBorders, NoMemory as NoRoom}
@@ -37,6 +40,16 @@ refusal_back NoPath e = absurd (cc)
 refusal_back NoBorder e = absurd (cc)
 refusal_back TwoBorders e = absurd (cc)
 refusal_back NoRoom e = refl
+
+-- whether a fault is that of a path
+pub was_path : (fault : EditFault) → sameb the_type fault NoPath ≡ true → fault ≡ NoPath
+was_path NoPath e = refl
+was_path NoBorder e = absurd (false≢true e)
+was_path TwoBorders e = absurd (false≢true e)
+was_path NoRoom e = absurd (false≢true e)
+
+pub was_other : (fault : EditFault) → sameb the_type fault NoPath ≡ false → fault ≢ NoPath
+was_other fault e same = false≢true (sym e ∙ ap (λ f. sameb the_type f NoPath) same)
 
 -- an id that no row has is none of theirs
 pub id_gone : (rows : List NumberedRing) (id : ℕ) → ((row : NumberedRing) → Contains rows row → ¬ (row.number ≡ id))

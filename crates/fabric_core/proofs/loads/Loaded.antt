@@ -60,6 +60,12 @@ is_indexed parcels city refined index h own = record {
   stand = stands_by_ids parcels index own h.indexed;
 }
 
+-- there are no more rows than numbers
+pub rows_few : (numbers : List ℕ) (rings : List (List Corner)) → length (numbered_rows numbers rings) ≤ length numbers
+rows_few [] rings = omega arith
+rows_few (number ∷ rest) [] = omega arith
+rows_few (number ∷ rest) (ring ∷ rings) = omega (arith, rows_few rest rings)
+
 pub kept : {A : Type 0} (numbers : List ℕ) (rings : List (List Corner)) (parcels : List (ℕ × Parcel A))
     (city refined : List Corner) (area : Bounds)
     (index : Grid) → rows_of_keyed parcels ≡ numbered_rows numbers rings → IsChecked numbers rings city refined

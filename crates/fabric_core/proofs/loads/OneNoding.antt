@@ -104,7 +104,7 @@ distinct_along a b (x ∷ xs) h = (
   distinct_along x b xs h.1,
 )
 
-contained_of_any : (q : Corner) (xs : List Corner) → list_any (is_same q) xs ≡ true → Contains xs q
+pub contained_of_any : (q : Corner) (xs : List Corner) → list_any (is_same q) xs ≡ true → Contains xs q
 contained_of_any q [] h = cc
 contained_of_any q (x ∷ xs) h = cases (is_same q x) (Decides-is_same q x).0 h (λ k. contained_of_any q xs k)
   where
@@ -114,7 +114,7 @@ contained_of_any q (x ∷ xs) h = cases (is_same q x) (Decides-is_same q x).0 h 
     cases true same k later = subst (λ y. Contains (x ∷ xs) y) (sym (same refl)) (Contains-here x xs)
     cases false same k later = Contains-there x xs q (later k)
 
-any_of_contained : (q : Corner) (xs : List Corner) → Contains xs q → list_any (is_same q) xs ≡ true
+pub any_of_contained : (q : Corner) (xs : List Corner) → Contains xs q → list_any (is_same q) xs ≡ true
 any_of_contained q [] h = absurd (none_in_nil q h)
 any_of_contained q (x ∷ xs) h = cases (is_same q x) (Decides-is_same q x).1 (Contains-cases x xs q h) (λ k. any_of_contained q xs k)
   where

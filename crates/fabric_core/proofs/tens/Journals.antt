@@ -1,6 +1,6 @@
 -- A lawful journal is lawful with each corner times ten, and leads to what it led to, ten times as large.
 use Rattle.std.proofs.Common.{◌≡◌, ◌≢◌, ◌↔◌, refl, sym, ◌∙◌, ap, subst, arith, ℕ, ◌+◌, Bool, true, false, not, cond}
-use Rattle.std.proofs.Common.{List, [], ◌∷◌, map, max, nat_eq}
+use Rattle.std.proofs.Common.{List, [], ◌∷◌, length, map, max, nat_eq}
 use Rattle.std.specs.Prelude.{nat_lt}
 use Rattle.std.specs.List.{AllByRecursion, Contains, list_any}
 use Rattle.std.proofs.lemmas.List.{length-map}

@@ -114,8 +114,8 @@ pub record IsMade {A : Type 0} (old new : Kept) (entry : JournalEntry A) : Type 
   pub gone : (id by : ℕ) → (gone_by new id ≡ Some by)
       ↔ ((gone_by old id ≡ Some by) ⊎ (Retires entry id × (entry.number ≡ by)))
 
--- what is so of an edit for which memory is asked: the ids that it names are parcels', and its path and border are such that
--- nothing refuses them
+-- what is so of an edit for which memory is asked: the ids that it names are parcels', and its path and border
+-- are such that nothing refuses them
 abbrev pub AsksMemory : {A : Type 0} → State → Edit A → Type 0
 AsksMemory state (Split id path) = (ring : List Corner) × Contains state.rows (numbered id ring) × IsPathAcross ring path
 AsksMemory state (Merge a b) =

@@ -40,7 +40,8 @@ pub record HaveNoFault (rows : List NumberedRing) (refined : List Corner) : Type
   pub simple : AreSimple rows
   pub nets : HaveEqualNets (corner_lists rows) refined
 
--- the city's ring has no more corners than a ring may, goes round no place twice, and is refined: noded, and not too long to be counted
+-- the city's ring has no more corners than a ring may, goes round no place twice, and is refined: noded, and not
+-- too long to be counted
 pub record IsRefinedCity (city refined : List Corner) : Type 0 where
   pub few : length city ≤ RING_CORNERS
   pub wound_once : (p : Point) → IsWoundAtMostOnce p city
@@ -48,7 +49,8 @@ pub record IsRefinedCity (city refined : List Corner) : Type 0 where
   pub is_noded : IsNoded city corners refined
   pub is_short : length refined ≤ most_refined
 
--- numbers and rings that were checked, in a city that is refined: they are no more than a layer may have, rise, and have no fault
+-- numbers and rings that were checked, in a city that is refined: they are no more than a layer may have, rise,
+-- and have no fault
 pub record IsChecked (numbers : List ℕ) (rings : List (List Corner)) (city refined : List Corner) : Type 0 where
   pub same_length : length numbers ≡ length rings
   pub few : length numbers ≤ LAYER_RECORDS

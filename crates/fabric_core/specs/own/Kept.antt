@@ -54,7 +54,8 @@ pub record Kept : Type 0 where
 abbrev pub gone_by : Kept → ℕ → Option ℕ
 gone_by kept id = slice_index_or kept.fates id None
 
--- no parcel has gone yet, and the next id is one above the greatest, and small; parcels and city are no more than a layer and a ring may have
+-- no parcel has gone yet, and the next id is one above the greatest, and small; parcels and city are no more than
+-- a layer and a ring may have
 pub record IsFresh (kept : Kept) : Type 0 where
   pub none_gone : (id : ℕ) → gone_by kept id ≡ None
   pub next_is : kept.next ≡ next_after kept.rows 0

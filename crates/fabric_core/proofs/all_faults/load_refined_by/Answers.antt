@@ -1,8 +1,6 @@
-use Rattle.std.proofs.Common.{◌⊎◌, sym, ◌∙◌, ap, subst}
+use Rattle.std.proofs.Common.{sym, ◌∙◌, ap, subst}
 use Rattle.geo_exact.specs.Bounds.{IsLeastBox}
-use Rattle.geo_exact.proofs.PassedOn.{passed_if}
-use Rattle.fabric_core.specs.Faults.{IsOutOfMemory}
-use Rattle.fabric_core.specs.own.Checks.{IsChecked, IsTold}
+use Rattle.fabric_core.specs.own.Checks.{IsChecked}
 use Rattle.fabric_core.specs.own.Lists.{numbered_rows, corners_of_shapes}
 use Rattle.fabric_core.proofs.loads.Shared.{corners_of_clipped}
 use Rattle.fabric_core.proofs.all_faults.load_refined_by.Goals as goal

@@ -5,7 +5,7 @@ use Rattle.edge_chains.specs.Noding.{all_corners}
 use Rattle.fabric_core.specs.Rows.{numbers}
 use Rattle.fabric_core.specs.Limits.{AreWithinLimits, IsFirstTooMany}
 use Rattle.fabric_core.specs.Faults.{AreSimple, IsOutOfMemory}
-use Rattle.fabric_core.specs.own.Checks.{IsChecked, IsTold, IsToldOfRings, IsToldOfNets}
+use Rattle.fabric_core.specs.own.Checks.{IsTold, IsToldOfRings, IsToldOfNets}
 use Rattle.fabric_core.specs.own.Lists.{numbered_rows, corners_of_rings, most_refined}
 use Rattle.fabric_core.proofs.rows.Lists.{numbers_of_rows, lists_of_rows}
 use Rattle.fabric_core.proofs.rows.RowGaps.{short_rings, few_corners}

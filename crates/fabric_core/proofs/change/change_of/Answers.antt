@@ -1,4 +1,4 @@
-use Rattle.std.proofs.Common.{sym, subst, IfErr}
+use Rattle.std.proofs.Common.{sym, subst, Bor, IfErr}
 use Rattle.fabric_core.specs.Refusals.{named_ids, IsOwnRefusal}
 use Rattle.std.specs.Result.{IsErrOf}
 use Rattle.ring_edits.specs.declared.edit.Edit.TheVariants.{Split, Move}
@@ -42,7 +42,8 @@ returns-in-Straighten-clause-err g c =
 pub returns-in-Split-clause-memory : goal.returns-in-Split-clause-memory
 returns-in-Split-clause-memory g c =
     subst (λ edit. IsErrOf c.split_change.result NoMemory → AsksMemory (state_of c.args.tiled.now) edit) (sym c.in-Split.is)
-    (subst (λ path. IsErrOf c.split_change.result NoMemory → AsksMemory (state_of c.args.tiled.now) (Split c.in-Split.id path))
+    (subst (λ path. IsErrOf c.split_change.result NoMemory
+    → AsksMemory {A = Bor g.row.H.Denot} (state_of c.args.tiled.now) (Split c.in-Split.id path))
     c.as_slice.ensures c.split_change.ensures.memory)
 
 pub returns-in-Merge-clause-memory : goal.returns-in-Merge-clause-memory
@@ -52,7 +53,8 @@ returns-in-Merge-clause-memory g c =
 pub returns-in-Move-clause-memory : goal.returns-in-Move-clause-memory
 returns-in-Move-clause-memory g c =
     subst (λ edit. IsErrOf c.move_change.result NoMemory → AsksMemory (state_of c.args.tiled.now) edit) (sym c.in-Move.is)
-    (subst (λ path. IsErrOf c.move_change.result NoMemory → AsksMemory (state_of c.args.tiled.now) (Move c.in-Move.a c.in-Move.b path))
+    (subst (λ path. IsErrOf c.move_change.result NoMemory
+    → AsksMemory {A = Bor g.row.H.Denot} (state_of c.args.tiled.now) (Move c.in-Move.a c.in-Move.b path))
     c.as_slice-in-Move.ensures c.move_change.ensures.memory)
 
 pub returns-in-Insert-clause-memory : goal.returns-in-Insert-clause-memory

@@ -1,5 +1,4 @@
-use Rattle.std.proofs.Common.{List, ◌++◌}
-use Rattle.ring_core.specs.declared.shape.Shape.{Shape}
+use Rattle.std.proofs.Common.{◌++◌}
 use Rattle.fabric_core.specs.own.Lists.{AreShapesOfRings}
 use Rattle.fabric_core.proofs.clipped.clip_each.Given as goal
 

@@ -1,4 +1,4 @@
-use Rattle.std.proofs.Common.{rules, arith, ◌≡◌, ◌≤◌, [], ◌∷◌, ◌++◌, length, take, drop, sym, ◌∙◌, subst, append_assoc}
+use Rattle.std.proofs.Common.{arith, ◌≡◌, ◌≤◌, [], ◌∷◌, ◌++◌, length, sym, subst, append_assoc}
 use Rattle.std.proofs.lemmas.List.{take_all, drop_all}
 use Rattle.edge_chains.specs.own.Slices.{AreOfSlices}
 use Rattle.fabric_core.proofs.clipped.cut.Goals as goal

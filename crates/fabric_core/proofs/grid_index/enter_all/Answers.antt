@@ -1,7 +1,6 @@
 use Rattle.std.proofs.Common.{rules, arith, refl, ℕ, zero, suc, Option, None, List, slice_index_or, ◌≡◌, ◌∙◌, ap}
-use Rattle.std.proofs.Common.{subst, sym, [], ◌∷◌, ◌++◌, length, get_or}
+use Rattle.std.proofs.Common.{subst, sym, [], ◌∷◌, length, get_or}
 use Rattle.std.proofs.lemmas.List.{length-append, length-map}
-use Rattle.geo_exact.specs.Layers.{numbered}
 use Rattle.fabric_core.specs.own.Lists.{corners_of_shapes}
 use Rattle.cell_index.specs.Cells.{Indexes}
 use Rattle.parcel_table.specs.Table.{rows_of_keyed, entries_of}

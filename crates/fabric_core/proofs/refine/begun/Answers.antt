@@ -1,7 +1,5 @@
-use Rattle.std.proofs.Common.{◌≡◌, sym, ◌∙◌, ap, subst, [], ◌∷◌, ◌++◌, length, take, drop, map}
-use Rattle.std.specs.List.{AllZip}
+use Rattle.std.proofs.Common.{◌≡◌, sym, ◌∙◌, ap, [], ◌∷◌, ◌++◌, length, take, drop, map}
 use Rattle.geo_exact.specs.Rings.{begun_at_least}
-use Rattle.edge_chains.specs.Noding.{all_corners}
 use Rattle.fabric_core.proofs.loads.RefinedRings.{noded_rings, take_whole, length_map}
 use Rattle.fabric_core.proofs.loads.Shared.{last_alike}
 use Rattle.fabric_core.proofs.refine.begun.Goals as goal

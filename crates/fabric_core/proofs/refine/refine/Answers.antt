@@ -1,4 +1,4 @@
-use Rattle.std.proofs.Common.{◌≡◌, ◌∷◌, [], length, ap, subst, arith}
+use Rattle.std.proofs.Common.{◌∷◌, [], length, ap, subst, arith}
 use Rattle.std.specs.List.{AllZip}
 use Rattle.std.proofs.lemmas.List.{length-append}
 use Rattle.std.proofs.lemmas.Slice.Zip.{AllZip-long}

@@ -32,7 +32,7 @@ load_refined_by-requires-clause-rising g c = λ regions outlive.
     (rings_of c.args.records.items) c.requires.numbers)
 
 pub load_refined_by-requires-clause-few : goal.load_refined_by-requires-clause-few
-load_refined_by-requires-clause-few g c =
+load_refined_by-requires-clause-few g c = λ regions outlive.
     subst (λ numbers. length numbers ≤ LAYER_RECORDS) (sym c.in_ok-refined.ensures.noded.are_numbers) (few_numbers
     (rings_of c.args.records.items) c.requires.numbers)
 
