@@ -20,4 +20,7 @@ mod run_files;
 pub mod sheets;
 
 pub use clerks::refuse_many_clerks;
+pub use inputs::RunInputs;
+pub use overlay_inputs::{OverlayInputs, load_overlay_inputs};
+pub use overlay_job::overlay_table;
 pub use run_files::RunFiles;

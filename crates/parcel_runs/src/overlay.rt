@@ -73,7 +73,11 @@ pub fn overlay<'h, R: Threads + Wait + Sync, H: Allocator + Send + Sync, A: Allo
 }
 
 /// A sheet of the parcels after the edits of clerks, which are made, and the lines that report each edit.
-fn edited_sheet<'h, R: Threads + Wait + Sync, H: Allocator + Send + Sync>(
+///
+/// # Errors
+///
+/// [`ToolFault::NoWindow`] and [`ToolFault::NoMemory`].
+pub fn edited_sheet<'h, R: Threads + Wait + Sync, H: Allocator + Send + Sync>(
     rt: &R,
     heap: &'h H,
     inputs: RunInputs<'h, H>,
