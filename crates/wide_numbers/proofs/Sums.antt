@@ -15,17 +15,12 @@ product_of_words m m0 m1 n n0 n1 a0 a1 b0 b1 c0 c1 d0 d1 e0 e1 hm hn ha hb hc hd
     rw (hm, hn) (omega (arith, ha, hb, hc, hd, he))
 
 -- a number is the sum of its shares and of what is left
-shared : (v a b c d qa qb qc qd ra rb rc rd : ℕ)
+pub shared : (v a b c d qa qb qc qd ra rb rc rd : ℕ)
     → 0 * 2 ^ 64 + d ≡ qd * v + rd → rd * 2 ^ 64 + c ≡ qc * v + rc → rc * 2 ^ 64 + b ≡ qb * v + rb
     → rb * 2 ^ 64 + a ≡ qa * v + ra
     → a + 2 ^ 64 * (b + 2 ^ 64 * (c + 2 ^ 64 * d)) ≡ (qa + 2 ^ 64 * (qb + 2 ^ 64 * (qc + 2 ^ 64 * qd))) * v + ra
 shared v a b c d qa qb qc qd ra rb rc rd hd hc hb ha = omega (arith, hd, hc, hb, ha)
 
--- the quotient by the words' quotients, from the greatest word on
-pub quotient_of_words : (v a b c d qa qb qc qd ra rb rc rd : ℕ)
-    → 0 * 2 ^ 64 + d ≡ qd * v + rd → rd * 2 ^ 64 + c ≡ qc * v + rc → rc * 2 ^ 64 + b ≡ qb * v + rb
-    → rb * 2 ^ 64 + a ≡ qa * v + ra → ra < v
-    → qa + 2 ^ 64 * (qb + 2 ^ 64 * (qc + 2 ^ 64 * qd)) ≡ (a + 2 ^ 64 * (b + 2 ^ 64 * (c + 2 ^ 64 * d))) / v
-quotient_of_words v a b c d qa qb qc qd ra rb rc rd hd hc hb ha h =
-    sym (ap (λ x. x / v) (shared v a b c d qa qb qc qd ra rb rc rd hd hc hb ha)
-    ∙ div-mul-add (qa + 2 ^ 64 * (qb + 2 ^ 64 * (qc + 2 ^ 64 * qd))) v ra h)
+-- the quotient, from what is left
+pub quotient_of : (n q v r : ℕ) → n ≡ q * v + r → r < v → q ≡ n / v
+quotient_of n q v r e h = sym (ap (λ x. x / v) e ∙ div-mul-add q v r h)

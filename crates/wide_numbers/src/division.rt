@@ -46,20 +46,43 @@ fn word_shared(rest: u128, word: u64, divisor: u128) -> Shared
     }
 }
 
+/// A quotient, rounded down, and what is left.
+#[derive(Clone, Copy, Debug, PartialEq, Eq)]
+pub struct Quotient {
+    /// How often the divisor goes into the number.
+    pub whole: Wide,
+    /// What is left, less than the divisor.
+    pub rest: u128,
+}
+
+/// The quotient of a wide number by a divisor of up to 96 bits, and what is left.
+pub fn divided_with_rest(dividend: Wide, divisor: u128) -> Quotient
+    requires some { 0 < divisor }
+    requires small { divisor < 2 ^ 96 }
+    ensures exact { value dividend ≡ value result.whole * divisor + result.rest }
+    ensures left { result.rest < divisor }
+{
+    let d = word_shared(0, dividend.d, divisor);
+    let c = word_shared(d.rest, dividend.c, divisor);
+    let b = word_shared(c.rest, dividend.b, divisor);
+    let a = word_shared(b.rest, dividend.a, divisor);
+    let whole = Wide {
+        a: a.quotient,
+        b: b.quotient,
+        c: c.quotient,
+        d: d.quotient,
+    };
+    Quotient {
+        whole,
+        rest: a.rest,
+    }
+}
+
 /// The quotient of a wide number, rounded down, by a divisor of up to 96 bits.
 pub fn divided(dividend: Wide, divisor: u128) -> Wide
     requires some { 0 < divisor }
     requires small { divisor < 2 ^ 96 }
     ensures { value result ≡ value dividend / divisor }
 {
-    let d = word_shared(0, dividend.d, divisor);
-    let c = word_shared(d.rest, dividend.c, divisor);
-    let b = word_shared(c.rest, dividend.b, divisor);
-    let a = word_shared(b.rest, dividend.a, divisor);
-    Wide {
-        a: a.quotient,
-        b: b.quotient,
-        c: c.quotient,
-        d: d.quotient,
-    }
+    divided_with_rest(dividend, divisor).whole
 }

@@ -4,5 +4,5 @@
 mod division;
 mod wide;
 
-pub use division::divided;
+pub use division::{Quotient, divided, divided_with_rest};
 pub use wide::{Wide, product};

@@ -82,6 +82,23 @@ impl Wide {
         }
     }
 
+    /// The sum of two, where it has no more than 256 bits.
+    pub fn plus(self, other: Wide) -> Wide
+        requires { value self + value other < 2 ^ 256 }
+        ensures { value result ≡ value self + value other }
+    {
+        let a = words_of(u128::from(self.a) + u128::from(other.a));
+        let b = words_of(u128::from(self.b) + u128::from(other.b) + u128::from(a.high));
+        let c = words_of(u128::from(self.c) + u128::from(other.c) + u128::from(b.high));
+        let d = words_of(u128::from(self.d) + u128::from(other.d) + u128::from(c.high));
+        Wide {
+            a: a.low,
+            b: b.low,
+            c: c.low,
+            d: d.low,
+        }
+    }
+
     /// The number, where it has no more than 128 bits.
     pub fn narrow(self) -> u128
         requires { value self < 2 ^ 128 }

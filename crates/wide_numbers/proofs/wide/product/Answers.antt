@@ -1,4 +1,4 @@
-use Rattle.std.proofs.Common.{◌≡◌, ◌+◌, ◌*◌, ◌^◌, arith, ℕ}
+use Rattle.std.proofs.Common.{◌≡◌, ◌+◌, ◌*◌, ◌^◌, arith}
 use Rattle.wide_numbers.proofs.Sums.{product_of_words}
 use Rattle.wide_numbers.proofs.wide.product.Goals as goal
 
