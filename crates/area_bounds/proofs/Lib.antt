@@ -1,0 +1,3 @@
+pub mod Quotients
+pub mod EdgeLines
+pub mod Counts

@@ -1,0 +1,11 @@
+-- Edges by their lower and higher ends (this product's own).
+use Rattle.std.specs.Prelude.{if◌then◌else◌}
+use Rattle.geo_exact.specs.Rings.{Edge}
+use Rattle.area_bounds.specs.declared.rising.Rising.{Rising}
+
+-- the edge, up or down
+abbrev pub edge_of : Rising → Edge
+edge_of rising =
+    if rising.is_up
+    then record { from = rising.low; to = rising.high }
+    else record { from = rising.high; to = rising.low }
