@@ -5,7 +5,7 @@ use Rattle.std.proofs.lemmas.List.{drop_all}
 use lib.IntN.{ℤ, pos, negsuc, ◌+ℤ◌, ◌-ℤ◌, ◌*ℤ◌, neg_ℤ}
 use lib.Signed.{◌<ℤ◌, ◌≤ℤ◌}
 use Rattle.geo_exact.specs.declared.corner.Corner.{Corner}
-use Rattle.geo_exact.specs.Rings.{Edge, path}
+use Rattle.geo_exact.specs.Rings.{Edge, path, edges}
 use Rattle.geo_exact.proofs.numbers.Dropped.{drop_item}
 use Rattle.geo_exact.proofs.numbers.Orders.{le_of_lt}
 use Rattle.geo_exact.proofs.numbers.Polynomials.{var, lit, add, mul, neg, sub, same_by}
@@ -177,3 +177,15 @@ rounded low high t l f h lo hi =
         from_difference x y (not_neg_of_mul p (y -ℤ x) h
         (difference p x y (p *ℤ (y -ℤ x))
         (same_by (p ∷ x ∷ y ∷ []) (mul (var 0) (sub (var 2) (var 1))) (sub (mul (var 0) (var 2)) (mul (var 0) (var 1))) refl) k))
+
+-- the way round a ring begins
+pub leads_start : (share : Edge → Fraction) (first : Corner) (ring rest : List Corner) → ring ≡ first ∷ rest
+    → Leads (pos 0) 0 (sum_shares share (path first (drop 0 rest) first)) (sum_shares share (edges ring))
+leads_start share first ring rest e =
+    let P : List Corner → Type 0 = λ r. Leads (pos 0) 0 (sum_shares share (path first rest first)) (sum_shares share (edges r)) in
+    let Q : List Corner → Type 0 = λ r. Leads (pos 0) 0 (sum_shares share (path first r first)) (sum_shares share (edges ring)) in
+    subst Q (sym (drop_none rest)) (subst P (sym e) (leads_first (sum_shares share (path first rest first))))
+  where
+    drop_none : (xs : List Corner) → drop 0 xs ≡ xs
+    drop_none [] = refl
+    drop_none (x ∷ xs) = refl

@@ -1,5 +1,6 @@
 -- Edges by their lower and higher ends: their ways, rises and places.
-use Rattle.std.proofs.Common.{◌≡◌, refl, ◌∙◌, sym, ap, arith, [], ◌∷◌, Bool, true, false, if◌then◌else◌}
+use Rattle.std.proofs.Common.{◌≡◌, ℕ, ◌+◌, ◌*◌, ◌<◌, ◌≤◌, refl, subst, ◌∙◌, sym, ap, arith, [], ◌∷◌, Bool, true, false, if◌then◌else◌}
+use Rattle.std.proofs.lemmas.Nat.{mul-le}
 use Rattle.std.proofs.lemmas.Int.{ints, int_max_is, int_min_is}
 use Rattle.std.specs.Int.{int_min, int_max, int_signum}
 use lib.IntN.{ℤ, pos, negsuc, ◌+ℤ◌, ◌-ℤ◌, ◌*ℤ◌, neg_ℤ}
@@ -107,3 +108,63 @@ gap_from p q r s y l =
     (sub (mul (add (mul (var 0) (sub (var 3) (var 8))) (mul (var 2) (sub (var 8) (var 1)))) (sub (var 7) (var 5)))
     (mul (add (mul (var 4) (sub (var 7) (var 8))) (mul (var 6) (sub (var 8) (var 5)))) (sub (var 3) (var 1))))
     refl
+
+-- ---- with natural numbers, as the code has them
+pub rises_natural : (a b : Bool) (p q r s : Corner) (m n : ℕ) → p.y <ℤ q.y → r.y <ℤ s.y → pos m ≡ q.y -ℤ p.y → pos n ≡ s.y -ℤ r.y
+    → pos (m * n) ≡ rise (turned a p q) *ℤ rise (turned b r s)
+rises_natural a b p q r s m n h k e f =
+    ap (λ x. x *ℤ pos n) e ∙ ap (λ x. (q.y -ℤ p.y) *ℤ x) f ∙ sym (rises_of a b p q r s h k)
+
+pub gap_natural : (a b : Bool) (p q r s : Corner) (y l : ℤ) (m n i j : ℕ) → p.y <ℤ q.y → r.y <ℤ s.y
+    → pos m ≡ (p.x +ℤ l) *ℤ (q.y -ℤ y) +ℤ (q.x +ℤ l) *ℤ (y -ℤ p.y)
+    → pos n ≡ (r.x +ℤ l) *ℤ (s.y -ℤ y) +ℤ (s.x +ℤ l) *ℤ (y -ℤ r.y)
+    → pos i ≡ q.y -ℤ p.y → pos j ≡ s.y -ℤ r.y
+    → pos (m * j) -ℤ pos (n * i) ≡ gap (turned a p q) (turned b r s) y
+gap_natural a b p q r s y l m n i j h k em en ei ej =
+    ap (λ x. x *ℤ pos j -ℤ pos n *ℤ pos i) em
+    ∙ ap (λ x. ((p.x +ℤ l) *ℤ (q.y -ℤ y) +ℤ (q.x +ℤ l) *ℤ (y -ℤ p.y)) *ℤ x -ℤ pos n *ℤ pos i) ej
+    ∙ ap (λ x. ((p.x +ℤ l) *ℤ (q.y -ℤ y) +ℤ (q.x +ℤ l) *ℤ (y -ℤ p.y)) *ℤ (s.y -ℤ r.y) -ℤ x *ℤ pos i) en
+    ∙ ap (λ x. ((p.x +ℤ l) *ℤ (q.y -ℤ y) +ℤ (q.x +ℤ l) *ℤ (y -ℤ p.y)) *ℤ (s.y -ℤ r.y)
+    -ℤ ((r.x +ℤ l) *ℤ (s.y -ℤ y) +ℤ (s.x +ℤ l) *ℤ (y -ℤ r.y)) *ℤ x) ei
+    ∙ gap_from p q r s y l
+    ∙ sym (gap_of a b p q r s y h k)
+
+-- a bound of a place, in natural numbers
+pub place_bound : (l m i : ℕ) (z : ℤ) → pos m ≤ℤ (pos l *ℤ z) → pos i ≡ z → m ≤ l * i
+place_bound l m i z h e =
+    let P : ℤ → Type 0 = λ x. pos m ≤ℤ (pos l *ℤ x) in
+    naturals m (l * i) (subst P (sym e) h)
+  where
+    naturals : (x y : ℕ) → pos x ≤ℤ pos y → x ≤ y
+    naturals x y h = omega (arith, ints, h)
+
+pub place_fits : (l m i j : ℕ) → m ≤ l * i → i ≤ l → j ≤ l → m * j ≤ l * l * l
+place_fits l m i j h k p =
+    mul-le m j (l * l) l (omega (arith, h, mul-le l i l l (omega arith) k)) p
+
+pub place_within : (l m i j : ℕ) (z : ℤ) → m ≤ l * i → z ≡ pos (i * j) → pos (m * j) ≤ℤ (pos l *ℤ z)
+place_within l m i j z h e =
+    let P : ℤ → Type 0 = λ x. pos (m * j) ≤ℤ (pos l *ℤ x) in
+    subst P (sym e) (naturals (m * j) (l * (i * j)) (omega (arith, mul-le m j (l * i) j h (omega arith))))
+  where
+    naturals : (x y : ℕ) → x ≤ y → pos x ≤ℤ pos y
+    naturals x y h = omega (arith, ints, h)
+
+pub other_within : (l n i j : ℕ) (z : ℤ) → n ≤ l * j → z ≡ pos (i * j) → pos (n * i) ≤ℤ (pos l *ℤ z)
+other_within l n i j z h e =
+    let P : ℤ → Type 0 = λ x. pos (n * i) ≤ℤ (pos l *ℤ x) in
+    subst P (sym e) (naturals (n * i) (l * (i * j)) (omega (arith, mul-le n i (l * j) i h (omega arith))))
+  where
+    naturals : (x y : ℕ) → x ≤ y → pos x ≤ℤ pos y
+    naturals x y h = omega (arith, ints, h)
+
+pub product_some : (m n : ℕ) → 0 < m → 0 < n → 0 < m * n
+product_some m n h k = omega (arith, mul-le 1 1 m n (omega arith) (omega arith))
+
+-- from one level to another the gap of two edges grows by how fast they part
+pub widened_edges : (a b : Bool) (p q r s : Corner) (y z : ℤ) → p.y <ℤ q.y → r.y <ℤ s.y
+    → gap (turned a p q) (turned b r s) z -ℤ gap (turned a p q) (turned b r s) y ≡ (z -ℤ y) *ℤ parting_by p q r s
+widened_edges a b p q r s y z h k =
+    ap (λ x. x -ℤ gap (turned a p q) (turned b r s) y) (gap_of a b p q r s z h k)
+    ∙ ap (λ x. gap_by p q r s z -ℤ x) (gap_of a b p q r s y h k)
+    ∙ widened p q r s y z

@@ -15,7 +15,7 @@ pub record IsCounted (parts : ℤ) (lost : ℕ) (f : Fraction) : Type 0 where
   pub below : (pos PARTS *ℤ f.n) ≤ℤ ((parts +ℤ pos lost) *ℤ f.d)
 
 -- the fraction is at least the one whole number, and at most the other
-pub record IsBetween (low high : ℤ) (f : Fraction) : Type 0 where
+pub record IsBetween (least greatest : ℤ) (f : Fraction) : Type 0 where
   pub positive : pos 0 <ℤ f.d
-  pub low : (low *ℤ f.d) ≤ℤ f.n
-  pub high : f.n ≤ℤ (high *ℤ f.d)
+  pub low : (least *ℤ f.d) ≤ℤ f.n
+  pub high : f.n ≤ℤ (greatest *ℤ f.d)

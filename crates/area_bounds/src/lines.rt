@@ -1,11 +1,22 @@
 //! Where edges are at a level.
 
-ghost use Rattle.std.specs.Prelude.{◌≡◌, ◌+◌, ◌*◌, ◌<◌, ◌≤◌, ◌*ℤ◌, ◌-ℤ◌, ◌+ℤ◌, ◌≤ℤ◌, pos, MatchOption};
-ghost use Rattle.geo_exact.specs.Limit.{limit};
-ghost use Rattle.area_bounds.specs.Edges.{edge_of};
+ghost use Rattle.std.specs.Prelude.{◌≡◌, ◌↔◌, ◌+◌, ◌*◌, ◌<◌, ◌≤◌, ◌*ℤ◌, ◌-ℤ◌, ◌+ℤ◌, ◌≤ℤ◌, pos, IsTrue, MatchOption};
+ghost use Rattle.geo_exact.specs.Limit.{IsWithin, limit};
+ghost use Rattle.common_areas.specs.Between.{gap, rise, size};
+ghost use Rattle.area_bounds.specs.Crossed.{AreCrossed};
+ghost use Rattle.area_bounds.specs.Edges.{edge_of, parting_of};
 
 use crate::rising::Rising;
-use geo_exact::{Corner, LIMIT};
+use geo_exact::{Corner, LIMIT, wide_product};
+
+/// Where two lines are at a level: each from the west limit on, times both rises.
+#[derive(Clone, Copy, Debug)]
+pub struct Places {
+    /// The first one.
+    pub one: u128,
+    /// The other.
+    pub other: u128,
+}
 
 /// The sum of two numbers, each times its share.
 fn weighted(from: u64, to: u64, above: u64, below: u64) -> u128
@@ -19,7 +30,7 @@ fn weighted(from: u64, to: u64, above: u64, below: u64) -> u128
 }
 
 /// How far a number is above another.
-fn above(low: i64, high: i64) -> u64
+pub fn above(low: i64, high: i64) -> u64
     requires order { low ≤ℤ high }
     requires fits { (high -ℤ low) ≤ℤ pos (2 * limit) }
     ensures { pos result ≡ high -ℤ low }
@@ -72,4 +83,66 @@ impl Rising {
             above(self.low.y, y),
         )
     }
+}
+
+/// The product of both rises.
+pub fn rises(one: Rising, other: Rising) -> u128
+    ensures value { pos result ≡ rise (edge_of one) *ℤ rise (edge_of other) }
+    ensures some { 0 < result }
+    ensures bound { result ≤ 2 * limit * (2 * limit) }
+{
+    let first = one.rise();
+    let second = other.rise();
+    u128::from(first) * u128::from(second)
+}
+
+/// Where two lines are at a level that both edges have.
+pub fn at_level(one: Rising, other: Rising, y: i64) -> Places
+    requires one_low { one.low.y ≤ℤ y }
+    requires one_high { y ≤ℤ one.high.y }
+    requires other_low { other.low.y ≤ℤ y }
+    requires other_high { y ≤ℤ other.high.y }
+    ensures value { pos result.one -ℤ pos result.other ≡ gap (edge_of one) (edge_of other) y }
+    ensures one { pos result.one ≤ℤ (pos (2 * limit) *ℤ (rise (edge_of one) *ℤ rise (edge_of other))) }
+    ensures other { pos result.other ≤ℤ (pos (2 * limit) *ℤ (rise (edge_of one) *ℤ rise (edge_of other))) }
+{
+    let first = one.place(y);
+    let second = other.place(y);
+    let first_rise = one.rise();
+    let second_rise = other.rise();
+    Places {
+        one: first * u128::from(second_rise),
+        other: second * u128::from(first_rise),
+    }
+}
+
+/// Whether two lines cross between two levels.
+pub fn are_crossed(first: Places, second: Places) -> bool
+    ensures { IsTrue result ↔ AreCrossed first second }
+{
+    if first.one < first.other {
+        return second.other < second.one;
+    }
+    first.other < first.one && second.one < second.other
+}
+
+/// The product of two differences of coordinates.
+#[tactic(auto, using(geo_exact::proofs::numbers::Within::product_within))]
+fn run_product(u: i64, v: i64) -> i128
+    requires first { IsWithin (2 * limit) u }
+    requires second { IsWithin (2 * limit) v }
+    ensures value { result ≡ u *ℤ v }
+    ensures bound { IsWithin (2 * limit * (2 * limit)) result }
+{
+    wide_product(u, v)
+}
+
+/// How fast two lines part, times both rises.
+pub fn parting(one: Rising, other: Rising) -> u128
+    ensures value { pos result ≡ size (parting_of one other) }
+    ensures bound { result ≤ 2 * (2 * limit * (2 * limit)) }
+{
+    let first = run_product(one.high.x - one.low.x, other.high.y - other.low.y);
+    let second = run_product(other.high.x - other.low.x, one.high.y - one.low.y);
+    (first - second).unsigned_abs()
 }

@@ -18,6 +18,15 @@ pub struct Counted {
     pub lost: u64,
 }
 
+/// A sum of parts: at least so many, and at most so many more as were lost.
+#[derive(Clone, Copy, Debug, PartialEq, Eq)]
+pub struct Parts {
+    /// The least number.
+    pub low: i128,
+    /// How many more there may be.
+    pub lost: u64,
+}
+
 /// Whether something was left: 0 or 1.
 fn lost_in(once: u128, twice: u128) -> u64
     ensures none { result ≡ 0 → (once ≡ 0) × (twice ≡ 0) }

@@ -1,3 +1,129 @@
-//! x
-pub struct AreaBounds { pub low: i128, pub high: i128 }
-pub fn common_area2() {}
+//! Sums of areas between edges, along two rings.
+
+ghost use Rattle.std.specs.Prelude.{◌≡◌, ◌+◌, ◌*◌, ◌≤◌, ◌^◌, ◌≤ℤ◌, ◌*ℤ◌, ◌+ℤ◌, pos, length};
+ghost use Rattle.geo_exact.specs.Limit.{IsWithin};
+ghost use Rattle.geo_exact.specs.Rings.{Edge, edges};
+ghost use Rattle.common_areas.specs.Between.{between};
+ghost use Rattle.common_areas.specs.Common.{common_area2 as common_area2_of, sum_shares};
+ghost use Rattle.area_bounds.specs.Edges.{edge_of};
+ghost use Rattle.area_bounds.specs.Parts.{IsBetween, IsCounted};
+
+use crate::between::edge_parts;
+use crate::parts::{PARTS, Parts};
+use crate::rising::Rising;
+use geo_exact::{Corner, RING_CORNERS};
+
+/// Whole numbers between which a twice-area lies, in square millimetres.
+#[derive(Clone, Copy, Debug, PartialEq, Eq)]
+pub struct AreaBounds {
+    /// It is at least this.
+    pub low: i128,
+    /// It is at most this.
+    pub high: i128,
+}
+
+/// More parts than any sum has below 0, as whole square millimetres.
+const BELOW: i128 = 1_267_650_600_228_229_401_496_703_205_376;
+
+/// The parts of what an edge has with a ring.
+fn ring_parts(one: Rising, ring: &[Corner]) -> Parts
+    requires { length ring.now ≤ RING_CORNERS }
+    ensures counted { IsCounted result.low result.lost (sum_shares (between (edge_of one)) (edges ring.now)) }
+    ensures bound { IsWithin (3 * 2 ^ 100 * length ring.now) result.low }
+    ensures lost { result.lost ≤ length ring.now }
+{
+    let Some((first, rest)) = ring.split_first() else {
+        return Parts { low: 0, lost: 0 };
+    };
+    let first = *first;
+    let mut from = first;
+    let mut low = 0i128;
+    let mut lost = 0u64;
+    for to in rest {
+        let parts = edge_parts(one, from, *to);
+        low += parts.low;
+        lost += parts.lost;
+        from = *to;
+    }
+    let parts = edge_parts(one, from, first);
+    Parts {
+        low: low + parts.low,
+        lost: lost + parts.lost,
+    }
+}
+
+/// The same of an edge that may be level.
+fn row_parts(from: Corner, to: Corner, ring: &[Corner]) -> Parts
+    requires { length ring.now ≤ RING_CORNERS }
+    ensures counted { IsCounted result.low result.lost (sum_shares (between (record { from = from; to = to })) (edges ring.now)) }
+    ensures bound { IsWithin (3 * 2 ^ 100 * RING_CORNERS) result.low }
+    ensures lost { result.lost ≤ RING_CORNERS }
+{
+    match Rising::of_edge(from, to) {
+        None => Parts { low: 0, lost: 0 },
+        Some(one) => ring_parts(one, ring),
+    }
+}
+
+/// The parts of the area common to two rings.
+fn common_parts(one: &[Corner], other: &[Corner]) -> Parts
+    requires one { length one.now ≤ RING_CORNERS }
+    requires other { length other.now ≤ RING_CORNERS }
+    ensures counted { IsCounted result.low result.lost (common_area2_of one.now other.now) }
+    ensures bound { IsWithin (3 * 2 ^ 100 * RING_CORNERS * length one.now) result.low }
+    ensures lost { result.lost ≤ RING_CORNERS * length one.now }
+{
+    let Some((first, rest)) = one.split_first() else {
+        return Parts { low: 0, lost: 0 };
+    };
+    let first = *first;
+    let mut from = first;
+    let mut low = 0i128;
+    let mut lost = 0u64;
+    for to in rest {
+        let row = row_parts(from, *to, other);
+        low += row.low;
+        lost += row.lost;
+        from = *to;
+    }
+    let row = row_parts(from, first, other);
+    Parts {
+        low: low + row.low,
+        lost: lost + row.lost,
+    }
+}
+
+/// The whole numbers round a sum of parts.
+fn bounds_of(parts: Parts) -> AreaBounds
+    requires bound { IsWithin (3 * 2 ^ 124) parts.low }
+    requires lost { parts.lost ≤ 2 ^ 24 }
+    ensures low { (result.low *ℤ pos PARTS) ≤ℤ parts.low }
+    ensures high { (parts.low +ℤ pos parts.lost) ≤ℤ (result.high *ℤ pos PARTS) }
+    ensures close { result.high ≤ℤ (result.low +ℤ pos 2) }
+{
+    let above = (parts.low + BELOW * i128::from(PARTS)) as u128;
+    let low = above / u128::from(PARTS);
+    let high = (above + u128::from(parts.lost) + u128::from(PARTS - 1)) / u128::from(PARTS);
+    AreaBounds {
+        low: low as i128 - BELOW,
+        high: high as i128 - BELOW,
+    }
+}
+
+/// Whole numbers between which twice the area common to two rings lies, no more than 2 apart. It allocates nothing.
+///
+/// A part of the plane that the rings go round several times is counted as often as the product of their winding
+/// numbers there.
+///
+/// ```
+/// // Squares of side 2 at (0, 0) and at (1, 1) share one of side 1: low and high are 2.
+/// let bounds = common_area2(one.as_slice(), other.as_slice());
+/// ```
+pub fn common_area2(one: &[Corner], other: &[Corner]) -> AreaBounds
+    requires one { length one.now ≤ RING_CORNERS }
+    requires other { length other.now ≤ RING_CORNERS }
+    ensures between { IsBetween result.low result.high (common_area2_of one.now other.now) }
+    ensures close { result.high ≤ℤ (result.low +ℤ pos 2) }
+{
+    bounds_of(common_parts(one, other))
+}
