@@ -57,14 +57,14 @@ not_apart a b u e h = omega (arith, ints)
 
 pub uncrossed_sign : (a b c d : ℕ) (u v : ℤ) → pos a -ℤ pos b ≡ u → pos c -ℤ pos d ≡ v
     → (((a < b) × (d < c)) ⊎ ((b < a) × (c < d)) → ⊥) → pos 0 ≤ℤ (u *ℤ v)
-uncrossed_sign a b c d u v e f no = elim (cases_lt a b) [
+uncrossed_sign a b c d u v e f never = elim (cases_lt a b) [
   | inl p ↦ elim (cases_lt d c) [
-    | inl q ↦ absurd (no (inl (p, q)))
+    | inl q ↦ absurd (never (inl (p, q)))
     | inr q ↦ mul_falling u v (not_beyond a b u e (omega arith)) (not_beyond c d v f q)
   ]
   | inr p ↦ elim (cases_lt c d) [
     | inl q ↦ elim (cases_lt b a) [
-      | inl r ↦ absurd (no (inr (r, q)))
+      | inl r ↦ absurd (never (inr (r, q)))
       | inr r ↦ mul_falling u v (not_beyond a b u e r) (not_beyond c d v f (omega arith))
     ]
     | inr q ↦ mul_not_neg u v (not_apart a b u e p) (not_apart c d v f q)
@@ -128,11 +128,11 @@ pub trapezoid_counted : (a b c d H C q lost : ℕ) (u v : ℤ) → pos a -ℤ po
     → (((a < b) × (d < c)) ⊎ ((b < a) × (c < d)) → ⊥) → 0 < C
     → IsShare q lost (H * (abs_diff a b + abs_diff c d)) (2 * C)
     → IsCounted (pos q) lost (area_of_gaps (pos H) (pos C) u v)
-trapezoid_counted a b c d H C q lost u v e f no p h =
+trapezoid_counted a b c d H C q lost u v e f never p h =
     let n : pos H *ℤ (size u +ℤ size v) ≡ pos (H * (abs_diff a b + abs_diff c d)) =
     ap (λ x. pos H *ℤ (x +ℤ size v)) (size_is a b u e) ∙ ap (λ x. pos H *ℤ (pos (abs_diff a b) +ℤ x)) (size_is c d v f) in
     let P : Bool → Type 0 = λ t. IsCounted (pos q) lost (gaps t (pos H) (pos C) u v) in
-    subst P (test_yes (u *ℤ v) (uncrossed_sign a b c d u v e f no))
+    subst P (test_yes (u *ℤ v) (uncrossed_sign a b c d u v e f never))
     (counted_from q lost (H * (abs_diff a b + abs_diff c d)) (2 * C) (pos H *ℤ (size u +ℤ size v)) (pos 2 *ℤ pos C) n refl (omega arith) h)
 
 -- two triangles
@@ -220,13 +220,14 @@ level_sum e h (f ∷ fs) =
     counted_plus (pos 0) (pos 0) 0 0 (between e f) (sum_shares (between e) fs) (nothing_between e f (level_ends e f h)) (level_sum e h fs)
 
 -- ---- counted, or taken off
-pub alike_counted : (b : Bool) (p q r s : Corner) (t : ℤ) (l : ℕ) → p.y <ℤ q.y → r.y <ℤ s.y
-    → IsCounted t l (area_between (turned b p q) (turned b r s))
-    → IsCounted (neg_ℤ t -ℤ pos l) l (between (turned b p q) (turned b r s))
-alike_counted b p q r s t l h k c =
-    let P : ℤ → Type 0 = λ z. IsCounted (neg_ℤ t -ℤ pos l) l (times (neg_ℤ z) (area_between (turned b p q) (turned b r s))) in
-    subst P (sym (ap (λ w. w *ℤ way (turned b r s)) (way_of b p q h) ∙ ap (λ w. sign b *ℤ w) (way_of b r s k) ∙ same b))
-    (counted_off t l (area_between (turned b p q) (turned b r s)) c)
+pub alike_counted : (a b : Bool) (p q r s : Corner) (t : ℤ) (l : ℕ) → p.y <ℤ q.y → r.y <ℤ s.y → a ≡ b
+    → IsCounted t l (area_between (turned a p q) (turned b r s))
+    → IsCounted (neg_ℤ t -ℤ pos l) l (between (turned a p q) (turned b r s))
+alike_counted a b p q r s t l h k e c =
+    let P : ℤ → Type 0 = λ z. IsCounted (neg_ℤ t -ℤ pos l) l (times (neg_ℤ z) (area_between (turned a p q) (turned b r s))) in
+    subst P (sym (ap (λ w. w *ℤ way (turned b r s)) (way_of a p q h) ∙ ap (λ w. sign a *ℤ w) (way_of b r s k)
+    ∙ ap (λ x. sign a *ℤ sign x) (sym e) ∙ same a))
+    (counted_off t l (area_between (turned a p q) (turned b r s)) c)
   where
     same : (b : Bool) → sign b *ℤ sign b ≡ pos 1
     same true = refl
@@ -262,7 +263,8 @@ divisor_some c s h k = omega (arith, mul-le 1 1 c s (omega arith) (omega arith))
 
 pub sides_bound : (l r a b c d : ℕ) → a ≤ 2 * l * r → b ≤ 2 * l * r → c ≤ 2 * l * r → d ≤ 2 * l * r
     → abs_diff a b + abs_diff c d ≤ 4 * l * r
-sides_bound l r a b c d h i j k = both (l * r) a b c d (omega (arith, h)) (omega (arith, i)) (omega (arith, j)) (omega (arith, k))
+sides_bound l r a b c d h i j k =
+    omega (arith, both (l * r) a b c d (omega (arith, h)) (omega (arith, i)) (omega (arith, j)) (omega (arith, k)))
   where
     both : (m a b c d : ℕ) → a ≤ 2 * m → b ≤ 2 * m → c ≤ 2 * m → d ≤ 2 * m → abs_diff a b + abs_diff c d ≤ 4 * m
     both m a b c d h i j k = omega arith

@@ -4,7 +4,7 @@ use Rattle.geo_exact.specs.Rings.{Edge}
 use Rattle.area_bounds.specs.declared.rising.Rising.{Rising}
 
 -- the edge, up or down
-abbrev pub edge_of : Rising → Edge
+unfoldable pub edge_of : Rising → Edge
 edge_of rising =
     if rising.is_up
     then record { from = rising.low; to = rising.high }

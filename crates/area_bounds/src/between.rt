@@ -1,6 +1,6 @@
 //! The area between two edges, in parts.
 
-ghost use Rattle.std.specs.Prelude.{◌≡◌, ◌+◌, ◌*◌, ◌≤◌, ◌^◌, ◌<ℤ◌, ◌≤ℤ◌, ◌*ℤ◌, pos, [], length};
+ghost use Rattle.std.specs.Prelude.{◌≡◌, ◌↔◌, ◌+◌, ◌*◌, ◌≤◌, ◌^◌, ◌<ℤ◌, ◌≤ℤ◌, ◌*ℤ◌, pos, IsTrue};
 ghost use Rattle.geo_exact.specs.Limit.{IsWithin, limit};
 ghost use Rattle.geo_exact.specs.Rings.{Edge};
 ghost use Rattle.common_areas.specs.Between.{area_between, between, highest, lowest};
@@ -71,6 +71,13 @@ fn area_parts(one: Rising, other: Rising) -> Counted
     parts_between(one, other, low, high)
 }
 
+/// Whether both edges go up, or both down.
+fn go_alike(one: Rising, other: Rising) -> bool
+    ensures { IsTrue result ↔ (one.is_up ≡ other.is_up) }
+{
+    one.is_up == other.is_up
+}
+
 /// The same, counted where one edge goes up and the other down, and taken off where both go alike.
 fn signed_parts(one: Rising, other: Rising) -> Parts
     ensures counted { IsCounted result.low result.lost (between (edge_of one) (edge_of other)) }
@@ -79,7 +86,7 @@ fn signed_parts(one: Rising, other: Rising) -> Parts
 {
     let area = area_parts(one, other);
     let parts = area.parts as i128;
-    if one.is_up == other.is_up {
+    if go_alike(one, other) {
         Parts {
             low: -parts - i128::from(area.lost),
             lost: area.lost,

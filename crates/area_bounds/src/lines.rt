@@ -40,6 +40,7 @@ pub fn above(low: i64, high: i64) -> u64
 
 impl Rising {
     /// The edge from one corner to another, where it is not level.
+    #[tactic(auto, unfolding(crate::specs::Edges::edge_of))]
     pub fn of_edge(from: Corner, to: Corner) -> Option<Rising>
         ensures { MatchOption result (from.y ≡ to.y) (λ rising. edge_of rising ≡ record { from = from; to = to }) }
     {

@@ -1,10 +1,12 @@
 use Rattle.std.proofs.Common.{arith, sym, ◌∙◌, FitsSigned, w64}
 use Rattle.std.proofs.lemmas.Int.{ints, to_z-of_z}
 use Rattle.geo_exact.proofs.numbers.Extremes.{max_of}
+use Rattle.area_bounds.specs.Edges.{edge_of}
 use Rattle.area_bounds.proofs.EdgeLines.{lowest_of}
 use Rattle.area_bounds.proofs.between.bottom.Goals as goal
 
 pub returns : goal.returns
+unfolding edge_of
 returns c =
     let p : FitsSigned w64 c.args.one.low.y = omega (arith, ints, c.args.one.low.y_in_range.low, c.args.one.low.y_in_range.high) in
     let q : FitsSigned w64 c.args.other.low.y = omega (arith, ints, c.args.other.low.y_in_range.low, c.args.other.low.y_in_range.high) in

@@ -11,6 +11,7 @@ use Rattle.area_bounds.proofs.Gaps.{sides_some, sides_bound, factor_some, diviso
 use Rattle.area_bounds.proofs.between.parts_between.Goals as goal
 
 pub triangles-requires : goal.triangles-requires
+unfolding edge_of
 triangles-requires c =
     let crossed = c.are_crossed.ensures.0 c.if-are_crossed.true in
     let f : c.abs_diff-first_side.result ≡ abs_diff c.at_level-first.result.one c.at_level-first.result.other = c.abs_diff-first_side.ensures in

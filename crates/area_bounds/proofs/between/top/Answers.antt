@@ -1,10 +1,12 @@
 use Rattle.std.proofs.Common.{arith, sym, ◌∙◌, FitsSigned, w64}
 use Rattle.std.proofs.lemmas.Int.{ints, to_z-of_z}
 use Rattle.geo_exact.proofs.numbers.Extremes.{min_of}
+use Rattle.area_bounds.specs.Edges.{edge_of}
 use Rattle.area_bounds.proofs.EdgeLines.{highest_of}
 use Rattle.area_bounds.proofs.between.top.Goals as goal
 
 pub returns : goal.returns
+unfolding edge_of
 returns c =
     let p : FitsSigned w64 c.args.one.high.y = omega (arith, ints, c.args.one.high.y_in_range.low, c.args.one.high.y_in_range.high) in
     let q : FitsSigned w64 c.args.other.high.y = omega (arith, ints, c.args.other.high.y_in_range.low, c.args.other.high.y_in_range.high) in

@@ -1,10 +1,12 @@
 use Rattle.std.proofs.Common.{◌≡◌, ◌*◌, ◌≤◌, sym, arith}
 use lib.IntN.{pos, ◌-ℤ◌}
 use Rattle.geo_exact.specs.Limit.{limit}
+use Rattle.area_bounds.specs.Edges.{edge_of}
 use Rattle.area_bounds.proofs.EdgeLines.{gap_natural, rises_natural, place_bound, place_within, other_within}
 use Rattle.area_bounds.proofs.lines.at_level.Goals as goal
 
 pub returns : goal.returns
+unfolding edge_of
 returns c =
     let f : c.from.result ≡ c.rise-second_rise.result = omega (arith, c.from.ensures) in
     let g : c.from-2.result ≡ c.rise-first_rise.result = omega (arith, c.from-2.ensures) in

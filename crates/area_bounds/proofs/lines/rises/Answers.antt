@@ -1,10 +1,12 @@
 use Rattle.std.proofs.Common.{◌≡◌, arith}
 use Rattle.std.proofs.lemmas.Nat.{mul-le}
 use Rattle.geo_exact.specs.Limit.{limit}
+use Rattle.area_bounds.specs.Edges.{edge_of}
 use Rattle.area_bounds.proofs.EdgeLines.{rises_natural, product_some}
 use Rattle.area_bounds.proofs.lines.rises.Goals as goal
 
 pub returns : goal.returns
+unfolding edge_of
 returns c =
     let f : c.from.result ≡ c.rise-first.result = omega (arith, c.from.ensures) in
     let g : c.from-2.result ≡ c.rise-second.result = omega (arith, c.from-2.ensures) in
