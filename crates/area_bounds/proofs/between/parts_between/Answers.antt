@@ -1,6 +1,7 @@
-use Rattle.std.proofs.Common.{◌≡◌, ◌+◌, ◌*◌, ◌≤◌, ◌∙◌, sym, ap, arith, ℕ, false≢true}
+use Rattle.std.proofs.Common.{◌≡◌, ◌+◌, ◌*◌, ◌≤◌, ◌∙◌, sym, ap, arith, ℕ, FitsSigned, w64}
 use Rattle.std.specs.Int.{abs_diff}
-use Rattle.std.proofs.lemmas.Int.{ints}
+use Rattle.std.proofs.lemmas.Bool.{false≢true}
+use Rattle.std.proofs.lemmas.Int.{ints, to_z-of_z}
 use lib.IntN.{ℤ, pos, ◌-ℤ◌, ◌*ℤ◌}
 use Rattle.geo_exact.specs.Limit.{limit}
 use Rattle.common_areas.specs.Between.{gap, rise, size}
@@ -13,6 +14,9 @@ use Rattle.area_bounds.proofs.between.parts_between.Goals as goal
 pub triangles-requires : goal.triangles-requires
 unfolding edge_of
 triangles-requires c =
+    let hf : FitsSigned w64 c.args.high = c.ranges.high in
+    let lf : FitsSigned w64 c.args.low = c.ranges.low in
+    let rise_is = simp to_z-of_z at c.above-height.ensures in
     let crossed = c.are_crossed.ensures.0 c.if-are_crossed.true in
     let f : c.abs_diff-first_side.result ≡ abs_diff c.at_level-first.result.one c.at_level-first.result.other = c.abs_diff-first_side.ensures in
     let g : c.abs_diff-second_side.result ≡ abs_diff c.at_level-second.result.one c.at_level-second.result.other = c.abs_diff-second_side.ensures in
@@ -23,7 +27,7 @@ triangles-requires c =
         (c.args.high -ℤ c.args.low) _ c.parting-apart.result _
         (widened_edges c.args.one.is_up c.args.other.is_up c.args.one.low c.args.one.high c.args.other.low c.args.other.high
         c.args.low c.args.high c.args.one.rises c.args.other.rises)
-        (sym c.above-height.ensures) (sym c.parting-apart.ensures.value)
+        (sym rise_is) (sym c.parting-apart.ensures.value)
         (crossed_sides c.at_level-first.result.one c.at_level-first.result.other c.at_level-second.result.one c.at_level-second.result.other
         _ _ c.at_level-first.ensures.value c.at_level-second.ensures.value crossed) in
     let some = sides_some c.at_level-first.result.one c.at_level-first.result.other c.at_level-second.result.one c.at_level-second.result.other crossed in
@@ -64,6 +68,9 @@ trapezoid-requires c =
 
 pub returns-then-are_crossed : goal.returns-then-are_crossed
 returns-then-are_crossed c =
+    let hf : FitsSigned w64 c.args.high = c.ranges.high in
+    let lf : FitsSigned w64 c.args.low = c.ranges.low in
+    let rise_is = simp to_z-of_z at c.above-height.ensures in
     let crossed = c.are_crossed.ensures.0 c.if-are_crossed.true in
     let f : c.abs_diff-first_side.result ≡ abs_diff c.at_level-first.result.one c.at_level-first.result.other = c.abs_diff-first_side.ensures in
     let g : c.abs_diff-second_side.result ≡ abs_diff c.at_level-second.result.one c.at_level-second.result.other = c.abs_diff-second_side.ensures in
@@ -71,7 +78,7 @@ returns-then-are_crossed c =
     record {
       counted = area_counted (edge_of c.args.one) (edge_of c.args.other) c.triangles.result.parts c.above-height.result c.rises-both.result
           c.triangles.result.lost c.args.low c.args.high c.requires.low_is c.requires.high_is c.requires.order
-          c.above-height.ensures c.rises-both.ensures.value
+          rise_is c.rises-both.ensures.value
           (triangles_counted c.at_level-first.result.one c.at_level-first.result.other c.at_level-second.result.one c.at_level-second.result.other
           c.above-height.result c.rises-both.result c.triangles.result.parts c.triangles.result.lost
           (gap (edge_of c.args.one) (edge_of c.args.other) c.args.low) (gap (edge_of c.args.one) (edge_of c.args.other) c.args.high)
@@ -84,12 +91,15 @@ returns-then-are_crossed c =
 
 pub returns-else-are_crossed : goal.returns-else-are_crossed
 returns-else-are_crossed c =
+    let hf : FitsSigned w64 c.args.high = c.ranges.high in
+    let lf : FitsSigned w64 c.args.low = c.ranges.low in
+    let rise_is = simp to_z-of_z at c.above-height.ensures in
     let f : c.abs_diff-first_side.result ≡ abs_diff c.at_level-first.result.one c.at_level-first.result.other = c.abs_diff-first_side.ensures in
     let g : c.abs_diff-second_side.result ≡ abs_diff c.at_level-second.result.one c.at_level-second.result.other = c.abs_diff-second_side.ensures in
     record {
       counted = area_counted (edge_of c.args.one) (edge_of c.args.other) c.trapezoid.result.parts c.above-height.result c.rises-both.result
           c.trapezoid.result.lost c.args.low c.args.high c.requires.low_is c.requires.high_is c.requires.order
-          c.above-height.ensures c.rises-both.ensures.value
+          rise_is c.rises-both.ensures.value
           (trapezoid_counted c.at_level-first.result.one c.at_level-first.result.other c.at_level-second.result.one c.at_level-second.result.other
           c.above-height.result c.rises-both.result c.trapezoid.result.parts c.trapezoid.result.lost
           (gap (edge_of c.args.one) (edge_of c.args.other) c.args.low) (gap (edge_of c.args.one) (edge_of c.args.other) c.args.high)

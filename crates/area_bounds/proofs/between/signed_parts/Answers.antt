@@ -1,4 +1,5 @@
-use Rattle.std.proofs.Common.{◌≡◌, arith, sym, ◌∙◌, false≢true, subst}
+use Rattle.std.proofs.Common.{◌≡◌, arith, sym, ◌∙◌, subst}
+use Rattle.std.proofs.lemmas.Bool.{false≢true}
 use Rattle.std.proofs.lemmas.Int.{ints, to_z-of_z}
 use lib.IntN.{ℤ, pos, ◌-ℤ◌, neg_ℤ}
 use Rattle.common_areas.specs.Between.{between}

@@ -1,4 +1,5 @@
-use Rattle.std.proofs.Common.{◌≡◌, ◌*◌, ◌≤◌, sym, arith}
+use Rattle.std.proofs.Common.{◌≡◌, ◌*◌, ◌≤◌, sym, arith, FitsSigned, w64}
+use Rattle.std.proofs.lemmas.Int.{to_z-of_z}
 use lib.IntN.{pos, ◌-ℤ◌}
 use Rattle.geo_exact.specs.Limit.{limit}
 use Rattle.area_bounds.specs.Edges.{edge_of}
@@ -8,6 +9,7 @@ use Rattle.area_bounds.proofs.lines.at_level.Goals as goal
 pub returns : goal.returns
 unfolding edge_of
 returns c =
+    let yf : FitsSigned w64 c.args.y = c.ranges.y in
     let f : c.from.result ≡ c.rise-second_rise.result = omega (arith, c.from.ensures) in
     let g : c.from-2.result ≡ c.rise-first_rise.result = omega (arith, c.from-2.ensures) in
     let m : c.place-first.result ≤ 2 * limit * c.rise-first_rise.result =
@@ -22,7 +24,7 @@ returns c =
     record {
       value = rw (f, g) (gap_natural c.args.one.is_up c.args.other.is_up c.args.one.low c.args.one.high c.args.other.low c.args.other.high
           c.args.y (pos limit) c.place-first.result c.place-second.result c.rise-first_rise.result c.rise-second_rise.result
-          c.args.one.rises c.args.other.rises c.place-first.ensures.value c.place-second.ensures.value
+          c.args.one.rises c.args.other.rises (simp to_z-of_z at c.place-first.ensures.value) (simp to_z-of_z at c.place-second.ensures.value)
           c.rise-first_rise.ensures.value c.rise-second_rise.ensures.value);
       one = rw f (place_within (2 * limit) c.place-first.result c.rise-first_rise.result c.rise-second_rise.result _ m (sym r));
       other = rw g (other_within (2 * limit) c.place-second.result c.rise-first_rise.result c.rise-second_rise.result _ n (sym r));

@@ -1,4 +1,4 @@
-use Rattle.std.proofs.Common.{◌≡◌, arith}
+use Rattle.std.proofs.Common.{◌≡◌, ◌*◌, arith}
 use Rattle.std.proofs.lemmas.Nat.{mul-le}
 use Rattle.geo_exact.specs.Limit.{limit}
 use Rattle.area_bounds.specs.Edges.{edge_of}

@@ -8,7 +8,7 @@ use Rattle.area_bounds.proofs.sums.common_parts.Goals as goal
 
 pub loop-to-init : goal.loop-to-init
 loop-to-init c = record {
-  so_far = leads_start (λ e. sum_shares (between e) (edges c.args.other.now)) c.in-Some.first.now c.args.one.now c.in-Some.rest.now c.in-Some.ensures.cases.1;
+  so_far = leads_start (λ e. sum_shares (between e) (edges c.args.other.now)) c.in-Some.first.now c.args.one.now c.in-Some.rest.now c.in-Some.ensures.cases.0;
   bound = record { low = omega (arith, ints); high = omega (arith, ints) };
   lost = omega arith;
 }
