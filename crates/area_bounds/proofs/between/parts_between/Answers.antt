@@ -29,7 +29,7 @@ triangles-requires c =
         c.args.low c.args.high c.args.one.rises c.args.other.rises)
         (sym rise_is) (sym c.parting-apart.ensures.value)
         (crossed_sides c.at_level-first.result.one c.at_level-first.result.other c.at_level-second.result.one c.at_level-second.result.other
-        _ _ c.at_level-first.ensures.value c.at_level-second.ensures.value crossed) in
+        _ _ (simp to_z-of_z at c.at_level-first.ensures.value) (simp to_z-of_z at c.at_level-second.ensures.value) crossed) in
     let some = sides_some c.at_level-first.result.one c.at_level-first.result.other c.at_level-second.result.one c.at_level-second.result.other crossed in
     let bound = sides_bound limit c.rises-both.result
     c.at_level-first.result.one c.at_level-first.result.other c.at_level-second.result.one c.at_level-second.result.other
@@ -82,7 +82,7 @@ returns-then-are_crossed c =
           (triangles_counted c.at_level-first.result.one c.at_level-first.result.other c.at_level-second.result.one c.at_level-second.result.other
           c.above-height.result c.rises-both.result c.triangles.result.parts c.triangles.result.lost
           (gap (edge_of c.args.one) (edge_of c.args.other) c.args.low) (gap (edge_of c.args.one) (edge_of c.args.other) c.args.high)
-          c.at_level-first.ensures.value c.at_level-second.ensures.value crossed
+          (simp to_z-of_z at c.at_level-first.ensures.value) (simp to_z-of_z at c.at_level-second.ensures.value) crossed
           (divisor_some c.rises-both.result _ c.rises-both.ensures.some some)
           (rw (f, g) at c.triangles.ensures.counted));
       bound = c.triangles.ensures.bound;
@@ -103,7 +103,7 @@ returns-else-are_crossed c =
           (trapezoid_counted c.at_level-first.result.one c.at_level-first.result.other c.at_level-second.result.one c.at_level-second.result.other
           c.above-height.result c.rises-both.result c.trapezoid.result.parts c.trapezoid.result.lost
           (gap (edge_of c.args.one) (edge_of c.args.other) c.args.low) (gap (edge_of c.args.one) (edge_of c.args.other) c.args.high)
-          c.at_level-first.ensures.value c.at_level-second.ensures.value
+          (simp to_z-of_z at c.at_level-first.ensures.value) (simp to_z-of_z at c.at_level-second.ensures.value)
           (λ h. false≢true (sym c.if-are_crossed.false ∙ c.are_crossed.ensures.1 h)) c.rises-both.ensures.some
           (rw (f, g) at c.trapezoid.ensures.counted));
       bound = c.trapezoid.ensures.bound;
