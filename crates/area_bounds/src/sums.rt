@@ -1,6 +1,6 @@
 //! Sums of areas between edges, along two rings.
 
-ghost use Rattle.std.specs.Prelude.{◌≡◌, ◌+◌, ◌*◌, ◌≤◌, ◌^◌, ◌≤ℤ◌, ◌*ℤ◌, ◌+ℤ◌, pos, length};
+ghost use Rattle.std.specs.Prelude.{◌≡◌, ◌+◌, ◌*◌, ◌≤◌, ◌^◌, ◌<ℤ◌, ◌≤ℤ◌, ◌*ℤ◌, ◌+ℤ◌, pos, length};
 ghost use Rattle.geo_exact.specs.Limit.{IsWithin};
 ghost use Rattle.geo_exact.specs.Rings.{Edge, edges};
 ghost use Rattle.common_areas.specs.Between.{between};
@@ -21,9 +21,6 @@ pub struct AreaBounds {
     /// It is at most this.
     pub high: i128,
 }
-
-/// More parts than any sum has below 0, as whole square millimetres.
-const BELOW: i128 = 1_267_650_600_228_229_401_496_703_205_376;
 
 /// The parts of what an edge has with a ring.
 fn ring_parts(one: Rising, ring: &[Corner]) -> Parts
@@ -93,6 +90,25 @@ fn common_parts(one: &[Corner], other: &[Corner]) -> Parts
     }
 }
 
+/// So many parts as whole square millimetres, rounded down.
+fn rounded_down(parts: i128) -> i128
+    requires { IsWithin (2 ^ 126) parts }
+    ensures low { (result *ℤ pos PARTS) ≤ℤ parts }
+    ensures high { parts <ℤ ((result +ℤ pos 1) *ℤ pos PARTS) }
+    ensures bound { IsWithin (2 ^ 126) result }
+{
+    parts.div_euclid(i128::from(PARTS))
+}
+
+/// The same, rounded up.
+fn rounded_up(parts: i128) -> i128
+    requires { IsWithin (2 ^ 126) parts }
+    ensures high { parts ≤ℤ (result *ℤ pos PARTS) }
+    ensures low { (result *ℤ pos PARTS) <ℤ (parts +ℤ pos PARTS) }
+{
+    -rounded_down(-parts)
+}
+
 /// The whole numbers round a sum of parts.
 fn bounds_of(parts: Parts) -> AreaBounds
     requires bound { IsWithin (3 * 2 ^ 124) parts.low }
@@ -101,12 +117,9 @@ fn bounds_of(parts: Parts) -> AreaBounds
     ensures high { (parts.low +ℤ pos parts.lost) ≤ℤ (result.high *ℤ pos PARTS) }
     ensures close { result.high ≤ℤ (result.low +ℤ pos 2) }
 {
-    let above = (parts.low + BELOW * i128::from(PARTS)) as u128;
-    let low = above / u128::from(PARTS);
-    let high = (above + u128::from(parts.lost) + u128::from(PARTS - 1)) / u128::from(PARTS);
     AreaBounds {
-        low: low as i128 - BELOW,
-        high: high as i128 - BELOW,
+        low: rounded_down(parts.low),
+        high: rounded_up(parts.low + i128::from(parts.lost)),
     }
 }
 
