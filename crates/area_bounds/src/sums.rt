@@ -34,19 +34,12 @@ fn ring_parts(one: Rising, ring: &[Corner]) -> Parts
     };
     let first = *first;
     let mut from = first;
-    let mut low = 0i128;
-    let mut lost = 0u64;
+    let mut sum = Parts { low: 0, lost: 0 };
     for to in rest {
-        let parts = edge_parts(one, from, *to);
-        low += parts.low;
-        lost += parts.lost;
+        sum = sum.plus(edge_parts(one, from, *to));
         from = *to;
     }
-    let parts = edge_parts(one, from, first);
-    Parts {
-        low: low + parts.low,
-        lost: lost + parts.lost,
-    }
+    sum.plus(edge_parts(one, from, first))
 }
 
 /// The same of an edge that may be level.
@@ -75,19 +68,12 @@ fn common_parts(one: &[Corner], other: &[Corner]) -> Parts
     };
     let first = *first;
     let mut from = first;
-    let mut low = 0i128;
-    let mut lost = 0u64;
+    let mut sum = Parts { low: 0, lost: 0 };
     for to in rest {
-        let row = row_parts(from, *to, other);
-        low += row.low;
-        lost += row.lost;
+        sum = sum.plus(row_parts(from, *to, other));
         from = *to;
     }
-    let row = row_parts(from, first, other);
-    Parts {
-        low: low + row.low,
-        lost: lost + row.lost,
-    }
+    sum.plus(row_parts(from, first, other))
 }
 
 /// So many parts as whole square millimetres, rounded down.
