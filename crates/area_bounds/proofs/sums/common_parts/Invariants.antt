@@ -1,4 +1,4 @@
-use Rattle.std.proofs.Common.{◌+◌, ◌*◌, ◌^◌, ◌≤◌, drop}
+use Rattle.std.proofs.Common.{◌*◌, ◌^◌, ◌≤◌, drop}
 use Rattle.geo_exact.specs.Limit.{IsWithin}
 use Rattle.geo_exact.specs.Rings.{path, edges}
 use Rattle.geo_exact.specs.declared.limits.TheConstants.{RING_CORNERS}
