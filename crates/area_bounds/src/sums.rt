@@ -70,7 +70,8 @@ fn common_parts(one: &[Corner], other: &[Corner]) -> Parts
     let mut from = first;
     let mut sum = Parts { low: 0, lost: 0 };
     for to in rest {
-        sum = sum.plus(row_parts(from, *to, other));
+        let row = row_parts(from, *to, other);
+        sum = sum.plus(row);
         from = *to;
     }
     sum.plus(row_parts(from, first, other))
