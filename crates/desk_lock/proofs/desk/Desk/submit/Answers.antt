@@ -29,4 +29,4 @@ pub returns-clause-refuses : goal.returns-clause-refuses
 returns-clause-refuses g c = c.in_ok-entry.ensures.refuses
 
 pub returns-clause-exact : goal.returns-clause-exact
-returns-clause-exact g c = c.in_ok-entry.ensures.exact
+returns-clause-exact g c = λ refusal due alone. absurd (c.in_ok-entry.ensures.refuses refusal due)
