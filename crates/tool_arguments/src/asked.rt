@@ -127,7 +127,12 @@ fn overlay_request<'a>(
     let Some(inputs) = inputs_of(alloc, words)? else {
         return Ok(None);
     };
-    Ok(Some(Request::Overlay { inputs, zones }))
+    let areas = words.areas;
+    Ok(Some(Request::Overlay {
+        inputs,
+        zones,
+        areas,
+    }))
 }
 
 /// What the words of `part` ask for.
