@@ -1,2 +1,4 @@
 pub mod Wholes
 pub mod Given
+pub mod Once
+pub mod Aligned
