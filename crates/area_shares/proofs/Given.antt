@@ -16,8 +16,9 @@ use Rattle.area_bounds.proofs.Counts.{counted_plus, counted_zero, counted_same}
 use Rattle.area_shares.specs.declared.share.Share.{Share}
 use Rattle.area_shares.specs.declared.shared.AreaLine.{AreaLine}
 use Rattle.area_shares.specs.Shares.{IsWithinOne, sum_of}
+use Rattle.area_shares.specs.AreaTable.{pair_of}
 use Rattle.area_shares.specs.own.Rounded.{
-  room, taken, Term, sum_of_terms, lost_in_all, least_of_all, AreRounded, IsRounded, pair_of, pair_with, AddsShares
+  room, taken, Term, sum_of_terms, lost_in_all, least_of_all, AreRounded, IsRounded, pair_with, AddsShares
 }
 
 -- how many more the shares can take together

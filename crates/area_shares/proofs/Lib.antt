@@ -2,3 +2,5 @@ pub mod Wholes
 pub mod Given
 pub mod Once
 pub mod Aligned
+pub mod Zips
+pub mod Parcels

@@ -8,6 +8,7 @@ use Rattle.area_bounds.specs.declared.parts.TheConstants.{PARTS}
 use Rattle.area_shares.specs.declared.share.Share.{Share}
 use Rattle.area_shares.specs.declared.shared.AreaLine.{AreaLine}
 use Rattle.area_shares.specs.Shares.{IsWithinOne, sum_of}
+use Rattle.area_shares.specs.AreaTable.{pair_of}
 
 -- 1 where the next number is as good, else 0
 abbrev pub room : Bool → ℕ
@@ -46,10 +47,6 @@ least_of_all (share ∷ shares) = share.least +ℤ least_of_all shares
 
 abbrev pub AreRounded : List Term → List Share → Type 0
 AreRounded terms shares = AllZip (λ term share. IsRounded term.lost term.f share.least share.has_next) terms shares
-
--- a line's parcel and zone
-abbrev pub pair_of : AreaLine → ℕ × ℕ
-pair_of line = (line.id, line.zone)
 
 -- the parcel and the zone of a share
 abbrev pub pair_with : ℕ → Share → ℕ × ℕ
