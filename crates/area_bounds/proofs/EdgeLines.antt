@@ -1,14 +1,14 @@
 -- Edges by their lower and higher ends: their ways, rises and places.
-use Rattle.std.proofs.Common.{◌≡◌, ℕ, ◌+◌, ◌*◌, ◌<◌, ◌≤◌, refl, subst, ◌∙◌, sym, ap, arith, [], ◌∷◌, Bool, true, false, if◌then◌else◌}
+use Rattle.std.proofs.Common.{◌≡◌, ℕ, ◌*◌, ◌<◌, ◌≤◌, refl, subst, ◌∙◌, sym, ap, arith, [], ◌∷◌, Bool, true, false, if◌then◌else◌}
 use Rattle.std.proofs.lemmas.Nat.{mul-le}
 use Rattle.std.proofs.lemmas.Int.{ints, int_max_is, int_min_is}
-use Rattle.std.specs.Int.{int_min, int_max, int_signum}
+use Rattle.std.specs.Int.{int_min, int_max}
 use lib.IntN.{ℤ, pos, negsuc, ◌+ℤ◌, ◌-ℤ◌, ◌*ℤ◌, neg_ℤ}
 use lib.Signed.{◌<ℤ◌, ◌≤ℤ◌}
 use Rattle.geo_exact.specs.declared.corner.Corner.{Corner}
 use Rattle.geo_exact.specs.Rings.{Edge}
-use Rattle.geo_exact.proofs.numbers.Polynomials.{var, lit, add, mul, neg, sub, same_by}
-use Rattle.common_areas.specs.Between.{size, way, rise, place, gap, lowest, highest}
+use Rattle.geo_exact.proofs.numbers.Polynomials.{var, lit, add, mul, sub, same_by}
+use Rattle.common_areas.specs.Between.{way, rise, place, gap, lowest, highest}
 use Rattle.common_areas.proofs.Numbers.{size_not_neg, size_not_pos, way_up, way_down}
 
 -- the edge between two corners, up or down

@@ -1,6 +1,6 @@
 -- The area between two lines, by where they are at its bottom and its top.
 use Rattle.std.proofs.Common.{◌≡◌, ◌≢◌, ℕ, zero, suc, ◌+◌, ◌-◌, ◌*◌, ◌<◌, ◌≤◌, ◌⊎◌, inl, inr, refl, subst, ◌∙◌, sym, ap, arith, Bool, true, false, if◌then◌else◌}
-use Rattle.std.proofs.lemmas.Int.{ints, by_lt_z, int_max_is, int_min_is}
+use Rattle.std.proofs.lemmas.Int.{ints, int_max_is, int_min_is}
 use Rattle.std.proofs.lemmas.Bool.{cases_lt}
 use Rattle.std.proofs.lemmas.Nat.{mul-le}
 use Rattle.std.specs.Int.{abs_diff, int_min, int_max}
@@ -10,13 +10,13 @@ use Rattle.std.proofs.Common.{List, [], ◌∷◌}
 use Rattle.geo_exact.specs.declared.corner.Corner.{Corner}
 use Rattle.geo_exact.specs.Rings.{Edge}
 use Rattle.geo_exact.proofs.numbers.Extremes.{min_of, max_of}
-use Rattle.geo_exact.proofs.numbers.Signs.{mul_pos, mul_not_neg, mul_falling, mul_neg, mul_neg_pos}
-use Rattle.common_areas.specs.Fractions.{Fraction, whole, plus, times}
+use Rattle.geo_exact.proofs.numbers.Signs.{mul_not_neg, mul_falling, mul_neg, mul_neg_pos}
+use Rattle.common_areas.specs.Fractions.{Fraction, whole, times}
 use Rattle.common_areas.specs.Between.{size, way, rise, lowest, highest, gap, area_of_gaps, area_between, between}
 use Rattle.common_areas.specs.Common.{sum_shares}
 use Rattle.common_areas.proofs.Numbers.{size_not_neg, size_not_pos, size_times}
 use Rattle.area_bounds.specs.Parts.{IsShare, IsCounted}
-use Rattle.area_bounds.proofs.Counts.{counted_from, counted_nothing, counted_zero, counted_plus, counted_once, counted_off, counted_same}
+use Rattle.area_bounds.proofs.Counts.{counted_from, counted_nothing, counted_zero, counted_plus, counted_once, counted_off}
 use Rattle.area_bounds.proofs.EdgeLines.{turned, sign, way_of}
 
 -- ---- sizes of differences

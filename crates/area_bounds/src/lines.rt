@@ -138,12 +138,37 @@ fn run_product(u: i64, v: i64) -> i128
     wide_product(u, v)
 }
 
+/// How far one coordinate is beyond another.
+fn run(from: i64, to: i64) -> i64
+    requires from { IsWithin limit from }
+    requires to { IsWithin limit to }
+    ensures value { result ≡ to -ℤ from }
+    ensures bound { IsWithin (2 * limit) result }
+{
+    to - from
+}
+
+/// How far two products are apart.
+fn distance(first: i128, second: i128) -> u128
+    requires first { IsWithin (2 * limit * (2 * limit)) first }
+    requires second { IsWithin (2 * limit * (2 * limit)) second }
+    ensures value { pos result ≡ size (first -ℤ second) }
+    ensures bound { result ≤ 2 * (2 * limit * (2 * limit)) }
+{
+    (first - second).unsigned_abs()
+}
+
 /// How fast two lines part, times both rises.
 pub fn parting(one: Rising, other: Rising) -> u128
     ensures value { pos result ≡ size (parting_of one other) }
     ensures bound { result ≤ 2 * (2 * limit * (2 * limit)) }
 {
-    let first = run_product(one.high.x - one.low.x, other.high.y - other.low.y);
-    let second = run_product(other.high.x - other.low.x, one.high.y - one.low.y);
-    (first - second).unsigned_abs()
+    let one_across = run(one.low.x, one.high.x);
+    let one_up = run(one.low.y, one.high.y);
+    let other_across = run(other.low.x, other.high.x);
+    let other_up = run(other.low.y, other.high.y);
+    distance(
+        run_product(one_across, other_up),
+        run_product(other_across, one_up),
+    )
 }

@@ -1,7 +1,7 @@
 //! Fractions counted in parts, rounded down, with a count of what was rounded.
 
-ghost use Rattle.std.specs.Prelude.{◌≡◌, ◌+◌, ◌*◌, ◌^◌, ◌<◌, ◌≤◌};
-ghost use Rattle.geo_exact.specs.Limit.{limit};
+ghost use Rattle.std.specs.Prelude.{◌≡◌, ◌+◌, ◌*◌, ◌^◌, ◌<◌, ◌≤◌, ◌+ℤ◌};
+ghost use Rattle.geo_exact.specs.Limit.{IsWithin, limit};
 ghost use Rattle.area_bounds.specs.Parts.{IsShare};
 
 use wide_numbers::{divided_with_rest, product};
@@ -25,6 +25,21 @@ pub struct Parts {
     pub low: i128,
     /// How many more there may be.
     pub lost: u64,
+}
+
+impl Parts {
+    /// The sum of both.
+    pub fn plus(self, other: Parts) -> Parts
+        requires low { IsWithin (2 ^ 126) (self.low +ℤ other.low) }
+        requires lost { self.lost + other.lost < 2 ^ 64 }
+        ensures low { result.low ≡ self.low +ℤ other.low }
+        ensures lost { result.lost ≡ self.lost + other.lost }
+    {
+        Parts {
+            low: self.low + other.low,
+            lost: self.lost + other.lost,
+        }
+    }
 }
 
 /// Whether something was left: 0 or 1.

@@ -1,6 +1,6 @@
 //! Sums of areas between edges, along two rings.
 
-ghost use Rattle.std.specs.Prelude.{◌≡◌, ◌+◌, ◌*◌, ◌≤◌, ◌^◌, ◌≤ℤ◌, ◌*ℤ◌, ◌+ℤ◌, pos, length};
+ghost use Rattle.std.specs.Prelude.{◌≡◌, ◌+◌, ◌*◌, ◌≤◌, ◌^◌, ◌<ℤ◌, ◌≤ℤ◌, ◌*ℤ◌, ◌+ℤ◌, pos, length};
 ghost use Rattle.geo_exact.specs.Limit.{IsWithin};
 ghost use Rattle.geo_exact.specs.Rings.{Edge, edges};
 ghost use Rattle.common_areas.specs.Between.{between};
@@ -22,9 +22,6 @@ pub struct AreaBounds {
     pub high: i128,
 }
 
-/// More parts than any sum has below 0, as whole square millimetres.
-const BELOW: i128 = 1_267_650_600_228_229_401_496_703_205_376;
-
 /// The parts of what an edge has with a ring.
 fn ring_parts(one: Rising, ring: &[Corner]) -> Parts
     requires { length ring.now ≤ RING_CORNERS }
@@ -37,19 +34,12 @@ fn ring_parts(one: Rising, ring: &[Corner]) -> Parts
     };
     let first = *first;
     let mut from = first;
-    let mut low = 0i128;
-    let mut lost = 0u64;
+    let mut sum = Parts { low: 0, lost: 0 };
     for to in rest {
-        let parts = edge_parts(one, from, *to);
-        low += parts.low;
-        lost += parts.lost;
+        sum = sum.plus(edge_parts(one, from, *to));
         from = *to;
     }
-    let parts = edge_parts(one, from, first);
-    Parts {
-        low: low + parts.low,
-        lost: lost + parts.lost,
-    }
+    sum.plus(edge_parts(one, from, first))
 }
 
 /// The same of an edge that may be level.
@@ -78,19 +68,32 @@ fn common_parts(one: &[Corner], other: &[Corner]) -> Parts
     };
     let first = *first;
     let mut from = first;
-    let mut low = 0i128;
-    let mut lost = 0u64;
+    let mut sum = Parts { low: 0, lost: 0 };
     for to in rest {
         let row = row_parts(from, *to, other);
-        low += row.low;
-        lost += row.lost;
+        sum = sum.plus(row);
         from = *to;
     }
-    let row = row_parts(from, first, other);
-    Parts {
-        low: low + row.low,
-        lost: lost + row.lost,
-    }
+    sum.plus(row_parts(from, first, other))
+}
+
+/// So many parts as whole square millimetres, rounded down.
+fn rounded_down(parts: i128) -> i128
+    requires { IsWithin (2 ^ 126) parts }
+    ensures low { (result *ℤ pos PARTS) ≤ℤ parts }
+    ensures high { parts <ℤ ((result +ℤ pos 1) *ℤ pos PARTS) }
+    ensures bound { IsWithin (2 ^ 126) result }
+{
+    parts.div_euclid(i128::from(PARTS))
+}
+
+/// The same, rounded up.
+fn rounded_up(parts: i128) -> i128
+    requires { IsWithin (2 ^ 126) parts }
+    ensures high { parts ≤ℤ (result *ℤ pos PARTS) }
+    ensures low { (result *ℤ pos PARTS) <ℤ (parts +ℤ pos PARTS) }
+{
+    -rounded_down(-parts)
 }
 
 /// The whole numbers round a sum of parts.
@@ -101,12 +104,9 @@ fn bounds_of(parts: Parts) -> AreaBounds
     ensures high { (parts.low +ℤ pos parts.lost) ≤ℤ (result.high *ℤ pos PARTS) }
     ensures close { result.high ≤ℤ (result.low +ℤ pos 2) }
 {
-    let above = (parts.low + BELOW * i128::from(PARTS)) as u128;
-    let low = above / u128::from(PARTS);
-    let high = (above + u128::from(parts.lost) + u128::from(PARTS - 1)) / u128::from(PARTS);
     AreaBounds {
-        low: low as i128 - BELOW,
-        high: high as i128 - BELOW,
+        low: rounded_down(parts.low),
+        high: rounded_up(parts.low + i128::from(parts.lost)),
     }
 }
 

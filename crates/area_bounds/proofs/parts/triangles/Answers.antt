@@ -14,9 +14,9 @@ narrow-requires c =
     ap (λ (x : ℕ). x * PARTS) (sym f) ∙ sym c.times-squares.ensures ∙ c.divided_with_rest-once.ensures.exact in
     let b : value c.divided_with_rest-twice.result.whole ≤ PARTS * (2 * limit * (2 * limit)) =
     triangles_bound PARTS limit c.args.height c.args.first c.args.second c.args.rises c.args.parting
-        (value c.divided_with_rest-twice.result.whole) (value c.divided_with_rest-once.result.whole)
-        c.divided_with_rest-once.result.rest c.divided_with_rest-twice.result.rest
-        e c.divided_with_rest-twice.ensures.exact c.requires.sides_part c.requires.sides c.requires.height c.requires.some c.requires.apart in
+    (value c.divided_with_rest-twice.result.whole) (value c.divided_with_rest-once.result.whole)
+    c.divided_with_rest-once.result.rest c.divided_with_rest-twice.result.rest
+    e c.divided_with_rest-twice.ensures.exact c.requires.sides_part c.requires.sides c.requires.height c.requires.some c.requires.apart in
     omega (arith, b)
 
 pub returns : goal.returns

@@ -1,4 +1,4 @@
-use Rattle.std.proofs.Common.{◌+◌, ◌*◌, ◌^◌, ◌≤◌, drop}
+use Rattle.std.proofs.Common.{◌*◌, ◌^◌, ◌≤◌, drop}
 use Rattle.geo_exact.specs.Limit.{IsWithin}
 use Rattle.geo_exact.specs.Rings.{path, edges}
 use Rattle.geo_exact.specs.declared.limits.TheConstants.{RING_CORNERS}
@@ -9,9 +9,9 @@ use Rattle.area_bounds.proofs.sums.common_parts.Given as goal
 
 abbrev pub invariant-loop-to : goal.invariant-loop-to
 invariant-loop-to l = record {
-  so_far : Leads l.low l.lost
+  so_far : Leads l.sum.low l.sum.lost
       (sum_shares (λ e. sum_shares (between e) (edges l.other)) (path l.from (drop l.to-index l.rest) l.first))
       (sum_shares (λ e. sum_shares (between e) (edges l.other)) (edges l.fn.one));
-  bound : IsWithin (3 * 2 ^ 100 * RING_CORNERS * l.to-index) l.low;
-  lost : l.lost ≤ RING_CORNERS * l.to-index;
+  bound : IsWithin (3 * 2 ^ 100 * RING_CORNERS * l.to-index) l.sum.low;
+  lost : l.sum.lost ≤ RING_CORNERS * l.to-index;
 }

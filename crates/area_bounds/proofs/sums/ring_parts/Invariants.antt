@@ -1,4 +1,4 @@
-use Rattle.std.proofs.Common.{◌+◌, ◌*◌, ◌^◌, ◌≤◌, drop}
+use Rattle.std.proofs.Common.{◌*◌, ◌^◌, ◌≤◌, drop}
 use Rattle.geo_exact.specs.Limit.{IsWithin}
 use Rattle.geo_exact.specs.Rings.{path, edges}
 use Rattle.common_areas.specs.Between.{between}
@@ -9,8 +9,8 @@ use Rattle.area_bounds.proofs.sums.ring_parts.Given as goal
 
 abbrev pub invariant-loop-to : goal.invariant-loop-to
 invariant-loop-to l = record {
-  so_far : Leads l.low l.lost (sum_shares (between (edge_of l.one)) (path l.from (drop l.to-index l.rest) l.first))
+  so_far : Leads l.sum.low l.sum.lost (sum_shares (between (edge_of l.one)) (path l.from (drop l.to-index l.rest) l.first))
       (sum_shares (between (edge_of l.one)) (edges l.fn.ring));
-  bound : IsWithin (3 * 2 ^ 100 * l.to-index) l.low;
-  lost : l.lost ≤ l.to-index;
+  bound : IsWithin (3 * 2 ^ 100 * l.to-index) l.sum.low;
+  lost : l.sum.lost ≤ l.to-index;
 }
