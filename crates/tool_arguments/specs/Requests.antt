@@ -1,5 +1,5 @@
 -- What the words of a command line ask for, each word under its name (this product's own).
-use Rattle.std.specs.Prelude.{◌≡◌, ◌⊎◌, ℕ, true, false, List, [], map, Option, None, Some}
+use Rattle.std.specs.Prelude.{◌≡◌, ◌⊎◌, ℕ, true, false, List, [], ◌∷◌, map, Option, None, Some}
 use Rattle.std.specs.Borrow.{Bor}
 use Rattle.geo_exact.specs.declared.corner.Corner.{Corner}
 use Rattle.line_files.specs.TextNumbers.{AreCornerWords}

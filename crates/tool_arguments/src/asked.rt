@@ -182,7 +182,7 @@ fn session_request<'a>(
 
 /// The first of the words that were given under a name, where there is one.
 fn first_word<'a>(words: Option<&[&'a str]>) -> Option<&'a str>
-    ensures { result ≡ first_of (given words) }
+    ensures { result ≡ first_of (given words.entry) }
 {
     match words {
         Some([first, ..]) => Some(*first),
