@@ -1,5 +1,5 @@
 -- The zones of a parcel's pairs, and the parcel's area in them: the other zones have none of it.
-use Rattle.std.proofs.Common.{◌≡◌, ◌≢◌, ◌∙◌, ⊎_elim, refl, sym, ap, subst, arith, ℕ, ◌<◌, map, List, [], ◌∷◌}
+use Rattle.std.proofs.Common.{◌≡◌, ◌≢◌, ◌∙◌, ⊎_elim, refl, sym, ap, subst, arith, ℕ, ◌<◌, ◌≤◌, length, map, List, [], ◌∷◌}
 use Rattle.std.specs.List.{AllByRecursion, Contains}
 use Rattle.std.proofs.lemmas.Bool.Decides.{eqb_tells}
 use Rattle.std.proofs.lemmas.Int.{ints}
@@ -50,6 +50,7 @@ pub record Own (r : List Corner) (ns : List ℕ) (zones : List NumberedRing) : T
   pub own : List NumberedRing
   pub are_numbered : numbers own ≡ ns
   pub are_zones : AllByRecursion (Contains zones) own
+  pub few : length own ≤ length zones
   pub area : AreEqual (common_with r (corner_lists zones)) (common_with r (corner_lists own))
 
 -- numbers that are all above the first zone's are of the others
@@ -80,6 +81,7 @@ module _ (r : List Corner) where
   left_out ns zone zones above none later = record {
     own = later.own;
     are_numbered = later.are_numbered;
+    few = omega (arith, later.few);
     are_zones = AllByRecursion-weaker (Contains zones) (Contains (zone ∷ zones)) (λ z c. Contains-there zone zones z c) later.own later.are_zones;
     area = equal_left_out (common_area2 r zone.corners) (common_with r (corner_lists zones)) (common_with r (corner_lists later.own))
         (none (below zone.number ns above)) later.area;
@@ -90,6 +92,7 @@ module _ (r : List Corner) where
   taken_in ns zone zones later = record {
     own = zone ∷ later.own;
     are_numbered = ap (λ numbers. zone.number ∷ numbers) later.are_numbered;
+    few = omega (arith, later.few);
     are_zones = (
       Contains-here zone zones,
       AllByRecursion-weaker (Contains zones) (Contains (zone ∷ zones)) (λ z c. Contains-there zone zones z c) later.own later.are_zones,
@@ -100,7 +103,7 @@ module _ (r : List Corner) where
   pub own_zones : (ns : List ℕ) (zones : List NumberedRing) → Rise ns → Ascend zones → AllByRecursion (Contains (numbers zones)) ns
       → ((zone : NumberedRing) → Contains zones zone → ¬ Contains ns zone.number → (common_area2 r zone.corners).n ≡ pos 0)
       → Own r ns zones
-  own_zones [] [] rise up named none = record { own = []; are_numbered = refl; are_zones = tt; area = refl }
+  own_zones [] [] rise up named none = record { own = []; are_numbered = refl; are_zones = tt; few = omega arith; area = refl }
   own_zones (n ∷ ns) [] rise up named none = absurd (none_in_nil n named.0)
   own_zones [] (zone ∷ zones) rise up named none =
       left_out [] zone zones tt (none zone (Contains-here zone zones))

@@ -1,10 +1,11 @@
 -- How much of each parcel lies in each zone, as whole numbers (this product's own).
-use Rattle.std.specs.Prelude.{◌≡◌, ℕ, ◌+◌, ◌*◌, ◌<◌, ℤ, pos, ◌+ℤ◌, nat_eq, if◌then◌else◌, List, [], ◌∷◌, length, map}
+use Rattle.std.specs.Prelude.{◌≡◌, ℕ, ◌+◌, ◌*◌, ◌<◌, ℤ, pos, ◌+ℤ◌, nat_eq, if◌then◌else◌, List, [], ◌∷◌, ◌++◌, length, map}
 use Rattle.std.specs.List.{Contains}
 use Rattle.geo_exact.specs.Area.{area2}
 use Rattle.geo_exact.specs.Layers.{NumberedRing}
 use Rattle.common_areas.specs.Common.{common_area2}
 use Rattle.area_bounds.specs.declared.parts.TheConstants.{PARTS}
+use Rattle.zone_tables.specs.Overlap.{Overlaps, AreInPairOrder}
 use Rattle.area_shares.specs.declared.shared.AreaLine.{AreaLine}
 use Rattle.area_shares.specs.Shares.{IsWithinOne}
 
@@ -28,7 +29,7 @@ corners_of_zones id [] zones = 0
 corners_of_zones id (pair ∷ pairs) zones =
     (if nat_eq pair.0 id then corners_of_zone pair.1 zones else 0) + corners_of_zones id pairs zones
 
--- The parcel's corners, times those of all its zones, are fewer than 2 ^ 26: so many that rounding does not add up to a whole.
+-- the parcel's corners times those of all its zones is below 67,108,864, so that what is lost in rounding is less than 1 together
 abbrev pub HasFewCorners : NumberedRing → List NumberedRing → List (ℕ × ℕ) → Type 0
 HasFewCorners row zones pairs = length row.corners * corners_of_zones row.number pairs zones < PARTS
 
@@ -38,12 +39,24 @@ AreNear rows zones pairs lines = (row zone : NumberedRing) (line : AreaLine) →
     → line.id ≡ row.number → line.zone ≡ zone.number → HasFewCorners row zones pairs
     → IsWithinOne (common_area2 row.corners zone.corners) line.area2
 
+-- all pairs of some parcels, ascending
+pub record ArePairsOfParcels (rows zones : List NumberedRing) (pairs : List (ℕ × ℕ)) : Type 0 where
+  pub ascend : AreInPairOrder pairs
+  pub sound : (id zone : ℕ) → Contains pairs (id, zone) → Overlaps rows zones id zone
+  pub complete : (id zone other : ℕ) → Contains pairs (id, zone) → Overlaps rows zones id other → Contains pairs (id, other)
+
 -- A line for each pair, in their order. The lines of each parcel that has one sum to its twice-area, exactly, and each is near.
 pub record AreAreaLines (rows zones : List NumberedRing) (pairs : List (ℕ × ℕ)) (lines : List AreaLine) : Type 0 where
   pub are_pairs : map pair_of lines ≡ pairs
   pub sums : (row : NumberedRing) → Contains rows row → Contains (map (λ line. line.id) lines) row.number
       → area2_of_lines row.number lines ≡ area2 row.corners
   pub near : AreNear rows zones pairs lines
+
+-- new is old with the lines of some parcels' pairs behind it
+pub record AddsAreaLines (rows zones : List NumberedRing) (pairs : List (ℕ × ℕ)) (old new : List AreaLine) : Type 0 where
+  pub added : List AreaLine
+  pub is_added : new ≡ old ++ added
+  pub are_lines : AreAreaLines rows zones pairs added
 
 -- The same of all pairs of a table: the lines of each parcel sum to its twice-area, exactly.
 pub record IsAreaTable (rows zones : List NumberedRing) (pairs : List (ℕ × ℕ)) (lines : List AreaLine) : Type 0 where

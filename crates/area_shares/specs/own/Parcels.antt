@@ -18,12 +18,6 @@ pub record AreParcelPairs (rows zones : List NumberedRing) (id : ℕ) (here : Li
   pub same : AllByRecursion (λ pair. pair.0 ≡ id) here
   pub exactly : (zone : ℕ) → Contains here (id, zone) ↔ Overlaps rows zones id zone
 
--- all pairs of some parcels, ascending
-pub record ArePairsOfParcels (rows zones : List NumberedRing) (pairs : List (ℕ × ℕ)) : Type 0 where
-  pub ascend : AreInPairOrder pairs
-  pub sound : (id zone : ℕ) → Contains pairs (id, zone) → Overlaps rows zones id zone
-  pub complete : (id zone other : ℕ) → Contains pairs (id, zone) → Overlaps rows zones id other → Contains pairs (id, other)
-
 -- the share is the pair's, of a parcel with this ring
 pub record IsShareOf (r : List Corner) (zones : List NumberedRing) (pair : ℕ × ℕ) (share : Share) : Type 0 where
   pub has_zone : share.zone ≡ pair.1
