@@ -273,3 +273,8 @@ whole_table rows zones pairs lines h each = record {
     ids_are : (xs : List AreaLine) (id zone : ℕ) → Contains (map pair_of xs) (id, zone) → Contains (map id_of xs) id
     ids_are xs id zone c = let w = Contains-from_mapped pair_of xs (id, zone) c in
         subst (Contains (map id_of xs)) (ap (λ (pair : ℕ × ℕ). pair.0) w.2) (Contains-mapped id_of xs w.0 w.1)
+
+pub from_none : (rows zones : List NumberedRing) (pairs : List (ℕ × ℕ)) (old new : List AreaLine) → old ≡ [] → AddsAreaLines rows zones pairs old new
+    → AreAreaLines rows zones pairs new
+from_none rows zones pairs old new e h =
+    subst (AreAreaLines rows zones pairs) (sym (h.is_added ∙ ap (λ lines. lines ++ h.added) e)) h.are_lines

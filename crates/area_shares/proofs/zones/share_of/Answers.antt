@@ -10,13 +10,13 @@ use Rattle.area_shares.specs.own.Rounded.{IsRounded}
 use Rattle.area_shares.proofs.zones.share_of.Goals as goal
 
 pub of_parts-requires-clause-small : goal.of_parts-requires-clause-small
-of_parts-requires-clause-small c = record {
+of_parts-requires-clause-small g c = record {
   low = omega (arith, ints, c.requires, c.common_parts.ensures.bound.low);
   high = omega (arith, ints, c.requires, c.common_parts.ensures.bound.high);
 }
 
 pub returns : goal.returns
-returns c = λ id.
+returns g c = λ id.
     let r = c.args.parcel.now in
     let rows = c.args.zones.now.rows in
     let ring = c.in_ok-ring.ring.now.corners in
