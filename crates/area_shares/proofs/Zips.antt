@@ -1,7 +1,6 @@
 -- Lists that go together, place by place.
-use Rattle.std.proofs.Common.{◌≡◌, refl, subst, arith, ℕ, zero, suc, ◌<◌, map, length, get_or, List, [], ◌∷◌}
-use Rattle.std.specs.List.{AllZip, Contains}
-use Rattle.edge_chains.proofs.nodings.NodedEdges.{Contains-here, Contains-there}
+use Rattle.std.proofs.Common.{◌≡◌, refl, subst, map, List, [], ◌∷◌}
+use Rattle.std.specs.List.{AllZip}
 
 zip_mapped : {X Y : Type 0} (f : X → Y) (xs : List X) → AllZip (λ x y. f x ≡ y) xs (map f xs)
 zip_mapped f [] = tt
@@ -17,8 +16,3 @@ zip_from f g (x ∷ xs) (y ∷ ys) h = (h.0, zip_from f g xs ys h.1)
 -- two lists whose images are one list
 pub zip_images : {X Y Z : Type 0} (f : X → Z) (g : Y → Z) (xs : List X) (ys : List Y) → map f xs ≡ map g ys → AllZip (λ x y. f x ≡ g y) xs ys
 zip_images f g xs ys e = zip_from f g xs ys (subst (AllZip (λ x z. f x ≡ z) xs) e (zip_mapped f xs))
-
-pub item_of : {X : Type 0} (xs : List X) (i : ℕ) (d : X) → i < length xs → Contains xs (get_or xs i d)
-item_of [] i d h = absurd (omega (arith, h))
-item_of (x ∷ xs) zero d h = Contains-here x xs
-item_of (x ∷ xs) (suc i) d h = Contains-there x xs (get_or xs i d) (item_of xs i d (omega (arith, h)))

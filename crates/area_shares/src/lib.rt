@@ -3,10 +3,12 @@
 
 mod areas;
 mod parcels;
+mod report;
 mod rounding;
 mod share;
 mod shared;
 mod zones;
 
 pub use areas::{area_lines, push_area_lines};
+pub use report::write_areas;
 pub use shared::AreaLine;

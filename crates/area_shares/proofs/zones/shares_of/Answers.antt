@@ -1,13 +1,13 @@
 use Rattle.std.proofs.Common.{ℕ, get_or, refl}
 use Rattle.std.specs.List.{Contains}
 use Rattle.std.proofs.lemmas.List.{get_or_default}
+use Rattle.std.proofs.lemmas.List.Elements.{Contains-get_or}
 use Rattle.edge_chains.proofs.nodings.NodedEdges.{AllZip-more}
 use Rattle.geo_exact.specs.Layers.{numbered}
 use Rattle.fabric_core.specs.Rows.{numbers}
 use Rattle.fabric_core.proofs.tilings.OneParcel.{of_each}
 use Rattle.fabric_core.proofs.rows.RowLists.{has_row}
 use Rattle.area_shares.specs.own.Parcels.{IsShareOf}
-use Rattle.area_shares.proofs.Zips.{item_of}
 use Rattle.area_shares.proofs.zones.shares_of.Goals as goal
 
 pub loop-pair-preserved : goal.loop-pair-preserved
@@ -22,6 +22,6 @@ pub returns-in_default : goal.returns-in_default
 returns-in_default g c =
     let here = c.args.here.now in let pair = get_or here c.loop-pair.pair-index (0, 0) in
     let named = of_each (λ (p : ℕ × ℕ). Contains (numbers c.args.zones.now.rows) p.1) here pair c.requires.zones
-    (item_of here c.loop-pair.pair-index (0, 0) c.loop-pair-test.true) in
+    (Contains-get_or here c.loop-pair.pair-index (0, 0) c.loop-pair-test.true) in
     let w = has_row c.args.zones.now.rows pair.1 named in
     absurd (c.in_default.ensures (numbered pair.1 w.0) w.1 refl)
