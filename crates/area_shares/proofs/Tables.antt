@@ -1,7 +1,7 @@
 -- Pairs of parcels, one parcel after another.
-use Rattle.std.proofs.Common.{◌≡◌, ◌≢◌, ◌⊎◌, ◌∙◌, ⊎_elim, refl, sym, ap, subst, arith, ℕ, ◌+◌, ◌*◌, ◌<◌, ◌≤◌, Bool, true, false, cond}
+use Rattle.std.proofs.Common.{◌≡◌, ◌≢◌, ◌⊎◌, ◌∙◌, ⊎_elim, refl, sym, ap, subst, arith, ℕ, ◌+◌, ◌<◌, ◌≤◌, Bool, true, false, cond}
 use Rattle.std.proofs.Common.{map, length, get_or, take, drop, append_assoc, append-nil, add-one, List, [], ◌∷◌, ◌++◌}
-use Rattle.std.specs.Prelude.{nat_eq, ◌↔◌}
+use Rattle.std.specs.Prelude.{nat_eq}
 use Rattle.std.specs.List.{AllByRecursion, Contains}
 use Rattle.std.proofs.Math.Nat.{mul-le-mul_left}
 use Rattle.std.proofs.lemmas.Bool.{eq-eqb, ne_eqb}
@@ -13,15 +13,14 @@ use lib.IntN.{ℤ, pos, ◌+ℤ◌}
 use Rattle.geo_exact.specs.Area.{area2}
 use Rattle.geo_exact.specs.Layers.{NumberedRing}
 use Rattle.geo_exact.proofs.numbers.Dropped.{drop_item}
-use Rattle.edge_chains.proofs.nodings.NodedEdges.{none_in_nil, Contains-here, Contains-cases}
+use Rattle.edge_chains.proofs.nodings.NodedEdges.{none_in_nil, Contains-here}
 use Rattle.fabric_core.proofs.tilings.OneParcel.{of_each}
 use Rattle.fabric_core.proofs.rows.RowLists.{AllByRecursion-weaker, Contains-mapped, Contains-from_mapped}
-use Rattle.zone_tables.specs.Overlap.{Overlaps, IsPairBefore, AreInPairOrder, IsOverlapTable}
+use Rattle.zone_tables.specs.Overlap.{IsPairBefore, AreInPairOrder, IsOverlapTable}
 use Rattle.area_shares.specs.declared.shared.AreaLine.{AreaLine}
 use Rattle.area_shares.specs.Shares.{sum_of}
-use Rattle.area_shares.specs.AreaTable.{
-  pair_of, area2_of_lines, corners_of_zone, corners_of_zones, HasFewCorners, AreNear, ArePairsOfParcels, AreAreaLines, AddsAreaLines, IsAreaTable
-}
+use Rattle.area_shares.specs.AreaTable.{pair_of, area2_of_lines, corners_of_zones, HasFewCorners, ArePairsOfParcels, AreAreaLines}
+use Rattle.area_shares.specs.AreaTable.{AddsAreaLines, IsAreaTable}
 use Rattle.area_shares.specs.own.Parcels.{AreParcelPairs, AreParcelLines, AddsParcel, count_first, IsSplitAt}
 
 -- ---- the pairs of the first parcel
@@ -83,7 +82,8 @@ abbrev area_of : AreaLine → ℤ
 area_of line = line.area2
 
 -- all lines of one parcel
-sum_same : (id : ℕ) (lines : List AreaLine) → AllByRecursion (λ line. line.id ≡ id) lines → area2_of_lines id lines ≡ sum_of (map area_of lines)
+sum_same : (id : ℕ) (lines : List AreaLine) → AllByRecursion (λ line. line.id ≡ id) lines
+    → area2_of_lines id lines ≡ sum_of (map area_of lines)
 sum_same id [] h = refl
 sum_same id (line ∷ lines) h =
     ap (λ z. z +ℤ area2_of_lines id lines) (cond_true (nat_eq line.id id) line.area2 (pos 0) (eq-eqb line.id id h.0))
@@ -120,7 +120,8 @@ few_in_second row zones here behind few =
     omega (arith, few, mul-le-mul_left (length row.corners) l)
 
 -- ---- one parcel before others
-ids_of_pairs : (P : ℕ → Type 0) (lines : List AreaLine) (pairs : List (ℕ × ℕ)) → map pair_of lines ≡ pairs → AllByRecursion (λ pair. P pair.0) pairs
+ids_of_pairs : (P : ℕ → Type 0) (lines : List AreaLine) (pairs : List (ℕ × ℕ)) → map pair_of lines ≡ pairs
+    → AllByRecursion (λ pair. P pair.0) pairs
     → AllByRecursion (λ line. P line.id) lines
 ids_of_pairs P lines pairs e h = unmapped lines (subst (AllByRecursion (λ pair. P pair.0)) (sym e) h)
   where
@@ -140,7 +141,8 @@ module _ (rows zones : List NumberedRing) where
   pub joined : (id : ℕ) (pairs here behind : List (ℕ × ℕ)) (added more : List AreaLine) → IsSplitAt id pairs here behind
       → AreParcelLines rows zones id here added → AreAreaLines rows zones behind more → AreAreaLines rows zones pairs (added ++ more)
   joined id pairs here behind added more split first later = record {
-    are_pairs = map-append pair_of added more ∙ ap (λ ps. ps ++ map pair_of more) first.are_pairs ∙ ap (λ ps. here ++ ps) later.are_pairs ∙ sym split.are_all;
+    are_pairs = map-append pair_of added more ∙ ap (λ ps. ps ++ map pair_of more) first.are_pairs ∙ ap (λ ps. here ++ ps) later.are_pairs ∙
+        sym split.are_all;
     sums = λ row c has. sums row c has (eqb_tells row.number id);
     near = λ row zone line c z l is_id is_zone few.
         let all : HasFewCorners row zones (here ++ behind) = subst (HasFewCorners row zones) split.are_all few in
@@ -162,20 +164,24 @@ module _ (rows zones : List NumberedRing) where
       sums row c has cases = ⊎_elim
           (λ is.
           let a : area2_of_lines row.number added ≡ area2 row.corners =
-          sum_same row.number added (AllByRecursion-weaker (λ line. line.id ≡ id) (λ line. line.id ≡ row.number) (λ line e. e ∙ sym is.1) added same)
+          sum_same row.number added (AllByRecursion-weaker (λ line. line.id ≡ id) (λ line. line.id ≡ row.number) (λ line e. e ∙ sym is.1)
+          added same)
           ∙ first.sum row c is.1 in
           let b : area2_of_lines row.number more ≡ pos 0 =
-          sum_none row.number more (AllByRecursion-weaker (λ line. id < line.id) (λ line. line.id ≢ row.number) (λ line l e. omega (arith, l, e, is.1)) more above) in
+          sum_none row.number more (AllByRecursion-weaker (λ line. id < line.id) (λ line. line.id ≢ row.number)
+          (λ line l e. omega (arith, l, e, is.1)) more above) in
           sum_appended row.number added more ∙ omega (arith, ints, a, b))
           (λ is.
           let a : area2_of_lines row.number added ≡ pos 0 =
-          sum_none row.number added (AllByRecursion-weaker (λ line. line.id ≡ id) (λ line. line.id ≢ row.number) (λ line e f. is.1 (sym f ∙ e)) added same) in
+          sum_none row.number added (AllByRecursion-weaker (λ line. line.id ≡ id) (λ line. line.id ≢ row.number)
+          (λ line e f. is.1 (sym f ∙ e)) added same) in
           let b : area2_of_lines row.number more ≡ area2 row.corners =
           later.sums row c (⊎_elim
           (λ k. let w = Contains-from_mapped id_of added row.number k in
           absurd (is.1 (sym w.2 ∙ of_each (λ (line : AreaLine). line.id ≡ id) added w.0 same w.1)))
           (λ k. k)
-          (Contains-append_cases (map id_of added) (map id_of more) row.number (subst (λ ids. Contains ids row.number) (map-append id_of added more) has))) in
+          (Contains-append_cases (map id_of added) (map id_of more) row.number
+          (subst (λ ids. Contains ids row.number) (map-append id_of added more) has))) in
           sum_appended row.number added more ∙ omega (arith, ints, a, b))
           cases
 
@@ -207,7 +213,7 @@ module _ (rows zones : List NumberedRing) where
   }
 
   module _ (id zone : ℕ) (pairs others here behind : List (ℕ × ℕ)) (all : ArePairsOfParcels rows zones pairs)
-    (are : pairs ≡ (id, zone) ∷ others) (split : IsSplitAt id pairs here behind) where
+      (are : pairs ≡ (id, zone) ∷ others) (split : IsSplitAt id pairs here behind) where
     in_here : (other : ℕ) → Contains pairs (id, other) → Contains here (id, other)
     in_here other c = ⊎_elim (λ a. a)
         (λ b. let l : id < id = of_each (λ (pair : ℕ × ℕ). id < pair.0) behind (id, other) split.above b in absurd (omega (arith, l)))
@@ -227,8 +233,8 @@ module _ (rows zones : List NumberedRing) where
       ascend = (order_parts here behind (subst AreInPairOrder split.are_all all.ascend)).0;
       same = split.same;
       exactly = λ other. (
-          (λ c. all.sound id other (of_here (id, other) c)),
-          (λ o. in_here other (all.complete id zone other first_here o)),
+        (λ c. all.sound id other (of_here (id, other) c)),
+        (λ o. in_here other (all.complete id zone other first_here o)),
       );
     }
 
@@ -254,10 +260,12 @@ module _ (rows zones : List NumberedRing) where
     pub fewer_behind : length behind < length pairs
     fewer_behind = omega (arith, some_here, ap length split.are_all, length-append here behind)
 
-  pub from_first : (id zone : ℕ) (others : List (ℕ × ℕ)) → AreInPairOrder ((id, zone) ∷ others) → AllByRecursion (λ pair. id ≤ pair.0) ((id, zone) ∷ others)
+  pub from_first : (id zone : ℕ) (others : List (ℕ × ℕ)) → AreInPairOrder ((id, zone) ∷ others)
+      → AllByRecursion (λ pair. id ≤ pair.0) ((id, zone) ∷ others)
   from_first id zone others up = (
     omega arith,
-    AllByRecursion-weaker (IsPairBefore (id, zone)) (λ later. id ≤ later.0) (λ later b. ⊎_elim (λ l. omega (arith, l)) (λ l. omega (arith, l.0)) b) others up.0,
+    AllByRecursion-weaker (IsPairBefore (id, zone)) (λ later. id ≤ later.0)
+        (λ later b. ⊎_elim (λ l. omega (arith, l)) (λ l. omega (arith, l.0)) b) others up.0,
   )
 
 -- ---- all of a table
@@ -274,7 +282,8 @@ whole_table rows zones pairs lines h each = record {
     ids_are xs id zone c = let w = Contains-from_mapped pair_of xs (id, zone) c in
         subst (Contains (map id_of xs)) (ap (λ (pair : ℕ × ℕ). pair.0) w.2) (Contains-mapped id_of xs w.0 w.1)
 
-pub from_none : (rows zones : List NumberedRing) (pairs : List (ℕ × ℕ)) (old new : List AreaLine) → old ≡ [] → AddsAreaLines rows zones pairs old new
+pub from_none : (rows zones : List NumberedRing) (pairs : List (ℕ × ℕ)) (old new : List AreaLine) → old ≡ []
+    → AddsAreaLines rows zones pairs old new
     → AreAreaLines rows zones pairs new
 from_none rows zones pairs old new e h =
     subst (AreAreaLines rows zones pairs) (sym (h.is_added ∙ ap (λ lines. lines ++ h.added) e)) h.are_lines

@@ -21,10 +21,7 @@ fn share_of<'h, H: Allocator>(parcel: &[Corner], zones: &Layer<'h, H>, zone: u64
     zones.use_invariant();
     let _ = zones.ids();
     let ring = zones.ring(zone)?;
-    Some(Share::of_parts(
-        zone,
-        common_parts(parcel, ring.corners.as_slice()),
-    ))
+    Some(Share::of_parts(zone, common_parts(parcel, ring.corners.as_slice())))
 }
 
 /// What the zones of a parcel's pairs have of it, in their order.

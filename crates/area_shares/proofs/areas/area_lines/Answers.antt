@@ -1,6 +1,5 @@
-use Rattle.std.proofs.Common.{subst, List}
+use Rattle.std.proofs.Common.{subst}
 use Rattle.geo_exact.specs.Layers.{NumberedRing}
-use Rattle.fabric_core.specs.Rows.{numbers}
 use Rattle.fabric_core.specs.Tiling.{IsTiling}
 use Rattle.fabric_core.proofs.rows.RowLists.{Contains-mapped}
 use Rattle.area_shares.proofs.Tables.{of_table, whole_table, from_none}
@@ -13,7 +12,8 @@ pub returns : goal.returns
 returns g c =
     let rows = c.args.parcels.now.now.rows in let zones = c.args.zones.now.rows in let pairs = c.args.pairs.now in
     whole_table rows zones pairs c.push_area_lines.new.lines.items
-    (from_none rows zones pairs c.in_ok-lines.lines.items c.push_area_lines.new.lines.items c.in_ok-lines.ensures.items c.in_ok-push_area_lines.ensures)
+    (from_none rows zones pairs c.in_ok-lines.lines.items c.push_area_lines.new.lines.items c.in_ok-lines.ensures.items
+    c.in_ok-push_area_lines.ensures)
     (λ row is.
     let w = c.each_parcel_overlaps_a_zone.ensures rows zones c.args.parcels.now.city row.number c.use_invariant.ensures.simple
     c.use_invariant.ensures.tiling (subst (IsTiling zones) c.requires.city c.use_invariant-2.ensures.tiling)

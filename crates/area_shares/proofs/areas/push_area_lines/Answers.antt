@@ -26,6 +26,7 @@ loop-first-preserved g c =
           pairs_behind rows zones first.0 first.1 rest c.in-Some.field-0-1.now here behind c.loop-first.invariant.pairs
           c.in-Some.ensures.cases.0 c.split_parcel.ensures;
       so_far = λ new later. c.loop-first.invariant.so_far new
-          (joined_behind rows zones first.0 rest here behind c.loop-first.lines.items c.push_parcel.new.lines.items new c.split_parcel.ensures
+          (joined_behind rows zones first.0 rest here behind c.loop-first.lines.items c.push_parcel.new.lines.items new
+          c.split_parcel.ensures
           c.in_ok-push_parcel.ensures later);
     }

@@ -1,6 +1,6 @@
-use Rattle.std.proofs.Common.{length, ◌++◌, List}
+use Rattle.std.proofs.Common.{length, List}
 use Rattle.area_shares.specs.declared.shared.AreaLine.{AreaLine}
-use Rattle.area_shares.specs.AreaTable.{ArePairsOfParcels, AreAreaLines, AddsAreaLines}
+use Rattle.area_shares.specs.AreaTable.{ArePairsOfParcels, AddsAreaLines}
 use Rattle.area_shares.proofs.areas.push_area_lines.Given as goal
 
 abbrev pub invariant-loop-first : goal.invariant-loop-first

@@ -16,7 +16,8 @@ returns-in_err-push_line-clause-err g c =
     rw (p.1)
     (piece_breaks_off g.S.Sink.takes g.S.Sink.breaks_off g.met.S.Sink.breaks_off_later g.met.S.Sink.breaks_off_before _ _ _ _ _ _ _
     c.loop-line.invariant
-    (ap (flat_map area_text) (drop_more c.args.lines.now c.loop-line.line-index (line_of 0 0 (pos 0)) in_list)) c.in_err-push_line.ensures.err)
+    (ap (flat_map area_text) (drop_more c.args.lines.now c.loop-line.line-index (line_of 0 0 (pos 0)) in_list))
+    c.in_err-push_line.ensures.err)
 
 pub loop-line-preserved : goal.loop-line-preserved
 loop-line-preserved g c =

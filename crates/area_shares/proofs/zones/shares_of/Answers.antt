@@ -14,7 +14,8 @@ pub loop-pair-preserved : goal.loop-pair-preserved
 loop-pair-preserved g c =
     let here = c.args.here.now in let pair = get_or here c.loop-pair.pair-index (0, 0) in
     rw c.in_ok-push.ensures.items
-    (AllZip-more (IsShareOf c.args.parcel.now c.args.zones.now.rows) here c.loop-pair.shares.items c.loop-pair.pair-index pair c.in-Some.share
+    (AllZip-more (IsShareOf c.args.parcel.now c.args.zones.now.rows) here c.loop-pair.shares.items c.loop-pair.pair-index pair
+    c.in-Some.share
     c.loop-pair-test.true (get_or_default here c.loop-pair.pair-index (0, 0) pair c.loop-pair-test.true) c.loop-pair.invariant
     (c.in-Some.ensures pair.0))
 
