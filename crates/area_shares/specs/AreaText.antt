@@ -8,4 +8,5 @@ use Rattle.area_shares.specs.declared.shared.AreaLine.{AreaLine}
 -- `area ID ZONE AREA2`
 abbrev pub area_text : AreaLine → List ℕ
 area_text line =
-    codes "area" ++ flat_map number_text (line.id ∷ line.zone ∷ []) ++ codes " " ++ signed_decimal line.area2 ++ codes "\n"
+    codes "area" ++ flat_map number_text (line.id ∷ line.zone ∷ []) ++ codes " " ++ signed_decimal line.area2 ++ codes
+    "\n"

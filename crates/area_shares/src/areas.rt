@@ -10,7 +10,7 @@ use fabric_core::{Layer, Sheet};
 use std::alloc::{AllocError, Allocator};
 use zone_tables::each_parcel_overlaps_a_zone;
 
-/// Adds a line for each pair of some parcels, with how much of the parcel lies in the zone: for each parcel they sum to
+/// Adds a line for each pair of some parcels, with how much of the parcel lies in the zone. For each parcel they sum to
 /// its area, exactly.
 ///
 /// # Errors
@@ -24,7 +24,8 @@ pub fn push_area_lines<'h, H: Allocator, A: Allocator + Copy>(
 ) -> Result<(), AllocError>
     requires city { zones.now.city ≡ parcels.now.city }
     requires pairs { ArePairsOfParcels parcels.now.now.rows zones.now.rows pairs.now }
-    ensures { OnOk result (AddsAreaLines parcels.now.now.rows zones.now.rows pairs.now lines.old.items lines.new.items) }
+    ensures { OnOk result
+        (AddsAreaLines parcels.now.now.rows zones.now.rows pairs.now lines.old.items lines.new.items) }
 {
     let mut rest = pairs;
     while let Some((first, _)) = rest.split_first() {
@@ -35,10 +36,11 @@ pub fn push_area_lines<'h, H: Allocator, A: Allocator + Copy>(
     Ok(())
 }
 
-/// A line for each pair of a table, in its order, with how much of the parcel lies in the zone: a whole number of
-/// square millimetres, twice the area, at most 1 away from the exact one. For each parcel they sum to its area, exactly.
+/// A line for each pair of a table, in its order, with how much of the parcel lies in the zone. For each parcel they
+/// sum to its area, exactly.
 ///
-/// At most 1 away holds where the parcel's corners, times those of all its zones together, are fewer than 67,108,864.
+/// Twice an area is a whole number of square millimetres, at most 1 away from the exact fraction, where the parcel's
+/// corners times those of all its zones together are below 67,108,864. Beyond that only the sum is exact.
 ///
 /// # Errors
 ///

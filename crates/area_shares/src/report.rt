@@ -50,7 +50,8 @@ fn push_lines<S: Sink>(text: &mut S, lines: &[AreaLine]) -> Result<(), S::Fault>
 /// ```
 pub fn write_areas<W: ByteOut>(lines: &[AreaLine], out: &mut W) -> Result<(), Failed>
     ensures ok { OnOk result (Appends (W.written out.old) (W.written out.new) (flat_map area_text lines.now)) }
-    ensures begun { OnErr result (AppendsBeginning (W.written out.old) (W.written out.new) (flat_map area_text lines.now)) }
+    ensures begun { OnErr result
+        (AppendsBeginning (W.written out.old) (W.written out.new) (flat_map area_text lines.now)) }
     ensures failed { OnErr result (W.failure_count out.new ≡ raised (W.failure_count out.old)) }
     ensures no_failure { OnOk result (W.failure_count out.new ≡ W.failure_count out.old) }
 {

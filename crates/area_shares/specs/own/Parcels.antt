@@ -28,13 +28,16 @@ abbrev pub AreSharesOf : List Corner → List NumberedRing → List (ℕ × ℕ)
 AreSharesOf r zones here shares = AllZip (IsShareOf r zones) here shares
 
 -- the lines of one parcel
-pub record AreParcelLines (rows zones : List NumberedRing) (id : ℕ) (here : List (ℕ × ℕ)) (lines : List AreaLine) : Type 0 where
+pub record AreParcelLines (rows zones : List NumberedRing) (id : ℕ) (here : List (ℕ × ℕ))
+    (lines : List AreaLine) : Type 0 where
   pub are_pairs : map pair_of lines ≡ here
-  pub sum : (row : NumberedRing) → Contains rows row → row.number ≡ id → sum_of (map (λ line. line.area2) lines) ≡ area2 row.corners
+  pub sum : (row : NumberedRing) → Contains rows row → row.number ≡ id
+      → sum_of (map (λ line. line.area2) lines) ≡ area2 row.corners
   pub near : AreNear rows zones here lines
 
 -- new is old with the lines of a parcel behind it
-pub record AddsParcel (rows zones : List NumberedRing) (id : ℕ) (here : List (ℕ × ℕ)) (old new : List AreaLine) : Type 0 where
+pub record AddsParcel (rows zones : List NumberedRing) (id : ℕ) (here : List (ℕ × ℕ))
+    (old new : List AreaLine) : Type 0 where
   pub added : List AreaLine
   pub is_added : new ≡ old ++ added
   pub are_lines : AreParcelLines rows zones id here added
