@@ -7,4 +7,5 @@ mod parts;
 mod rising;
 mod sums;
 
-pub use sums::{AreaBounds, common_area2};
+pub use parts::{PARTS, Parts};
+pub use sums::{AreaBounds, common_area2, common_parts};
