@@ -55,13 +55,14 @@ fn row_parts(from: Corner, to: Corner, ring: &[Corner]) -> Parts
     }
 }
 
-/// The parts of the area common to two rings: for each edge of the one and each of the other no more than one is lost.
+/// The parts of the area common to two rings. No more are lost than there are pairs of an edge of the one and an edge of
+/// the other.
 pub fn common_parts(one: &[Corner], other: &[Corner]) -> Parts
     requires one { length one.now ≤ RING_CORNERS }
     requires other { length other.now ≤ RING_CORNERS }
     ensures counted { IsCounted result.low result.lost (common_area2_of one.now other.now) }
     ensures bound { IsWithin (3 * 2 ^ 100 * RING_CORNERS * length one.now) result.low }
-    ensures lost { result.lost ≤ length other.now * length one.now }
+    ensures lost { result.lost ≤ length one.now * length other.now }
 {
     let Some((first, rest)) = one.split_first() else {
         return Parts { low: 0, lost: 0 };

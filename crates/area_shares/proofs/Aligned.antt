@@ -1,24 +1,20 @@
 -- The zones of a parcel's pairs, and the parcel's area in them: the other zones have none of it.
-use Rattle.std.proofs.Common.{◌≡◌, ◌≢◌, ◌∙◌, ⊎_elim, refl, sym, ap, subst, arith, ℕ, ◌<◌, map, List, [], ◌∷◌}
+use Rattle.std.proofs.Common.{◌≡◌, ◌∙◌, ⊎_elim, refl, sym, ap, subst, arith, ℕ, ◌<◌, ◌≤◌, length, List, [], ◌∷◌}
 use Rattle.std.specs.List.{AllByRecursion, Contains}
 use Rattle.std.proofs.lemmas.Bool.Decides.{eqb_tells}
-use Rattle.std.proofs.lemmas.Int.{ints}
-use lib.IntN.{ℤ, pos, ◌+ℤ◌, ◌*ℤ◌}
-use lib.Signed.{◌<ℤ◌}
+use lib.IntN.{pos, ◌+ℤ◌, ◌*ℤ◌}
 use Rattle.geo_exact.specs.declared.corner.Corner.{Corner}
 use Rattle.geo_exact.specs.Layers.{NumberedRing}
 use Rattle.geo_exact.proofs.numbers.Polynomials.{var, lit, add, mul, same_by}
-use Rattle.geo_exact.proofs.numbers.Signs.{mul_pos}
 use Rattle.edge_chains.proofs.nodings.NodedEdges.{none_in_nil, Contains-here, Contains-there, Contains-cases}
 use Rattle.fabric_core.specs.Rows.{numbers}
 use Rattle.fabric_core.specs.Tiling.{corner_lists}
 use Rattle.fabric_core.specs.own.Balanced.{Ascend}
 use Rattle.fabric_core.proofs.tilings.OneParcel.{of_each}
 use Rattle.fabric_core.proofs.rows.RowLists.{AllByRecursion-weaker, Contains-from_mapped}
-use Rattle.common_areas.specs.Fractions.{Fraction, whole, plus, AreEqual}
+use Rattle.common_areas.specs.Fractions.{Fraction, plus, AreEqual}
 use Rattle.common_areas.specs.Common.{common_area2}
 use Rattle.common_areas.specs.Sums.{common_with}
-use Rattle.common_areas.proofs.Counted.{denominator_positive}
 
 -- ---- fractions
 equal_plus : (f a b : Fraction) → AreEqual a b → AreEqual (plus f a) (plus f b)
@@ -50,6 +46,7 @@ pub record Own (r : List Corner) (ns : List ℕ) (zones : List NumberedRing) : T
   pub own : List NumberedRing
   pub are_numbered : numbers own ≡ ns
   pub are_zones : AllByRecursion (Contains zones) own
+  pub few : length own ≤ length zones
   pub area : AreEqual (common_with r (corner_lists zones)) (common_with r (corner_lists own))
 
 -- numbers that are all above the first zone's are of the others
@@ -64,7 +61,8 @@ of_others zone zones (n ∷ ns) above named = (
 above_all : (m n : ℕ) (ns : List ℕ) → m < n → AllByRecursion (λ later. n < later) ns → AllByRecursion (λ later. m < later) ns
 above_all m n ns h up = AllByRecursion-weaker (λ later. n < later) (λ later. m < later) (λ later l. omega (arith, h, l)) ns up
 
-number_above : (zone : NumberedRing) (zones : List NumberedRing) → Ascend (zone ∷ zones) → (n : ℕ) → Contains (numbers zones) n → zone.number < n
+number_above : (zone : NumberedRing) (zones : List NumberedRing) → Ascend (zone ∷ zones) → (n : ℕ) → Contains (numbers zones) n
+    → zone.number < n
 number_above zone zones up n c =
     let w = Contains-from_mapped (λ (row : NumberedRing). row.number) zones n c in
     let l : zone.number < w.0.number = of_each (λ (later : NumberedRing). zone.number < later.number) zones w.0 up.0 w.1 in
@@ -80,7 +78,9 @@ module _ (r : List Corner) where
   left_out ns zone zones above none later = record {
     own = later.own;
     are_numbered = later.are_numbered;
-    are_zones = AllByRecursion-weaker (Contains zones) (Contains (zone ∷ zones)) (λ z c. Contains-there zone zones z c) later.own later.are_zones;
+    few = omega (arith, later.few);
+    are_zones = AllByRecursion-weaker (Contains zones) (Contains (zone ∷ zones)) (λ z c. Contains-there zone zones z c) later.own
+        later.are_zones;
     area = equal_left_out (common_area2 r zone.corners) (common_with r (corner_lists zones)) (common_with r (corner_lists later.own))
         (none (below zone.number ns above)) later.area;
   }
@@ -90,17 +90,19 @@ module _ (r : List Corner) where
   taken_in ns zone zones later = record {
     own = zone ∷ later.own;
     are_numbered = ap (λ numbers. zone.number ∷ numbers) later.are_numbered;
+    few = omega (arith, later.few);
     are_zones = (
       Contains-here zone zones,
       AllByRecursion-weaker (Contains zones) (Contains (zone ∷ zones)) (λ z c. Contains-there zone zones z c) later.own later.are_zones,
     );
-    area = equal_plus (common_area2 r zone.corners) (common_with r (corner_lists zones)) (common_with r (corner_lists later.own)) later.area;
+    area = equal_plus (common_area2 r zone.corners) (common_with r (corner_lists zones)) (common_with r (corner_lists later.own))
+        later.area;
   }
 
   pub own_zones : (ns : List ℕ) (zones : List NumberedRing) → Rise ns → Ascend zones → AllByRecursion (Contains (numbers zones)) ns
       → ((zone : NumberedRing) → Contains zones zone → ¬ Contains ns zone.number → (common_area2 r zone.corners).n ≡ pos 0)
       → Own r ns zones
-  own_zones [] [] rise up named none = record { own = []; are_numbered = refl; are_zones = tt; area = refl }
+  own_zones [] [] rise up named none = record { own = []; are_numbered = refl; are_zones = tt; few = omega arith; area = refl }
   own_zones (n ∷ ns) [] rise up named none = absurd (none_in_nil n named.0)
   own_zones [] (zone ∷ zones) rise up named none =
       left_out [] zone zones tt (none zone (Contains-here zone zones))
@@ -113,7 +115,8 @@ module _ (r : List Corner) where
       (λ e. let l : zone.number < z.number = of_each (λ (later : NumberedRing). zone.number < later.number) zones z up.0 c in
       omega (arith, l, e, same.1)) off (Contains-cases n ns z.number k))))))
       (λ other.
-      let first : zone.number < n = ⊎_elim (λ e. absurd (other.1 (sym e))) (number_above zone zones up n) (Contains-cases zone.number (numbers zones) n named.0) in
+      let first : zone.number < n = ⊎_elim (λ e. absurd (other.1 (sym e))) (number_above zone zones up n)
+      (Contains-cases zone.number (numbers zones) n named.0) in
       let above : AllByRecursion (λ m. zone.number < m) (n ∷ ns) = (first, above_all zone.number n ns first rise.0) in
       left_out (n ∷ ns) zone zones above (none zone (Contains-here zone zones))
       (own_zones (n ∷ ns) zones rise up.1 (of_others zone zones (n ∷ ns) above named) (λ z c. none z (Contains-there zone zones z c))))

@@ -1,5 +1,6 @@
 -- A parcel's area, shared out: the lines that are given, one by one.
-use Rattle.std.proofs.Common.{◌≡◌, ℕ, ◌+◌, ◌*◌, ◌<◌, ◌≤◌, ◌∙◌, refl, sym, ap, subst, arith, Bool, true, false, map, append_assoc, append-nil, length, get_or, drop, List, [], ◌∷◌, ◌++◌}
+use Rattle.std.proofs.Common.{◌≡◌, ℕ, ◌+◌, ◌*◌, ◌<◌, ◌≤◌, ◌∙◌, refl, sym, ap, subst, arith, Bool, true, false, map, append_assoc}
+use Rattle.std.proofs.Common.{append-nil, length, get_or, drop, List, [], ◌∷◌, ◌++◌}
 use Rattle.std.specs.List.{AllZip}
 use Rattle.std.specs.Prelude.{int_lt}
 use Rattle.std.proofs.Math.ListN.{drop_of_length-le}
@@ -18,7 +19,16 @@ use Rattle.area_shares.specs.declared.shared.AreaLine.{AreaLine}
 use Rattle.area_shares.specs.Shares.{IsWithinOne, sum_of}
 use Rattle.area_shares.specs.AreaTable.{pair_of}
 use Rattle.area_shares.specs.own.Rounded.{
-  room, taken, Term, sum_of_terms, lost_in_all, least_of_all, AreRounded, IsRounded, pair_with, AddsShares
+  room,
+  taken,
+  Term,
+  sum_of_terms,
+  lost_in_all,
+  least_of_all,
+  AreRounded,
+  IsRounded,
+  pair_with,
+  AddsShares,
 }
 
 -- how many more the shares can take together
@@ -118,7 +128,8 @@ left-drop rest shares i share h e = ap (left_over rest) (drop_item shares i shar
 
 -- ---- the sum of all, counted
 counted_all : (terms : List Term) (shares : List Share) → AreRounded terms shares
-    → IsCounted (pos PARTS *ℤ least_of_all shares -ℤ pos (lost_in_all terms)) (PARTS * rooms shares + 2 * lost_in_all terms) (sum_of_terms terms)
+    → IsCounted (pos PARTS *ℤ least_of_all shares -ℤ pos (lost_in_all terms)) (PARTS * rooms shares + 2 * lost_in_all terms)
+    (sum_of_terms terms)
 counted_all [] [] h = counted_same (pos 0) _ 0 _ (whole (pos 0)) counted_zero (omega (arith, ints)) (omega arith)
 counted_all [] (share ∷ shares) h = absurd h
 counted_all (term ∷ terms) [] h = absurd h

@@ -3,4 +3,5 @@ pub mod Given
 pub mod Once
 pub mod Aligned
 pub mod Zips
-pub mod Parcels
+pub mod ParcelLines
+pub mod Tables

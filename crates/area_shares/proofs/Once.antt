@@ -1,5 +1,5 @@
 -- Each row of a tiling goes round each place once or not at all, and lies in the city.
-use Rattle.std.proofs.Common.{◌≡◌, ◌∙◌, ⊎_elim, sym, ap, subst, arith, List, ◌∷◌}
+use Rattle.std.proofs.Common.{◌≡◌, ◌∙◌, ⊎_elim, sym, subst, arith, List, ◌∷◌}
 use Rattle.std.specs.List.{Contains}
 use Rattle.std.proofs.lemmas.Int.{ints, by_lt_z}
 use Rattle.std.proofs.lemmas.List.Elements.{Contains-append_cases}
@@ -8,7 +8,7 @@ use lib.Signed.{◌≤ℤ◌}
 use Rattle.geo_exact.specs.declared.corner.Corner.{Corner}
 use Rattle.geo_exact.specs.Layers.{NumberedRing}
 use Rattle.geo_exact.specs.Point.{Point}
-use Rattle.geo_exact.specs.Winding.{winding, IsInterior}
+use Rattle.geo_exact.specs.Winding.{winding}
 use Rattle.geo_exact.proofs.corners_and_turns.Moved.{moved, moved_interior, moved_winding}
 use Rattle.edge_chains.proofs.nodings.NodedEdges.{Contains-cases}
 use Rattle.fabric_core.specs.Tiling.{IsTiling, IsInNone, IsInOne, IsOffEdges, IsWoundAtMostOnce}
@@ -36,10 +36,12 @@ wound_in_one p rows one row c = ⊎_elim
     (Contains-cases one.row one.behind row rest))
     (Contains-append_cases one.before (one.row ∷ one.behind) row (subst (λ all. Contains all row) one.are_all c))
 
-module _ (rows : List NumberedRing) (city : List Corner) (tiling : IsTiling rows city) (row : NumberedRing) (is_row : Contains rows row) where
+module _ (rows : List NumberedRing) (city : List Corner) (tiling : IsTiling rows city)
+    (row : NumberedRing) (is_row : Contains rows row) where
   wound : (p : Point) → IsOffEdges p rows city → IsWoundAtMostOnce p row.corners
   wound p off = by_lt_z (pos 0) (winding p city)
-      (λ some. wound_in_one p rows (tiling.inside p off (record { off_edges = off.off_city; is_wound = omega (arith, ints, some) })).1 row is_row)
+      (λ some. wound_in_one p rows (tiling.inside p off (record { off_edges = off.off_city; is_wound = omega (arith, ints, some) })).1 row
+      is_row)
       (λ none. wound_in_none p rows
       (tiling.outside p off (λ inner. let w : pos 1 ≤ℤ winding p city = inner.is_wound in omega (arith, ints, w, none))).1 row is_row)
 

@@ -1,3 +1,4 @@
 pub mod Shares
 pub mod AreaTable
+pub mod AreaText
 pub mod own

@@ -1,5 +1,5 @@
 -- Whole numbers for fractions (this product's own).
-use Rattle.std.specs.Prelude.{◌≡◌, ℤ, pos, ◌+ℤ◌, ◌-ℤ◌, List, [], ◌∷◌}
+use Rattle.std.specs.Prelude.{ℤ, pos, ◌+ℤ◌, ◌-ℤ◌, List, [], ◌∷◌}
 use Rattle.common_areas.specs.Fractions.{Fraction}
 use Rattle.area_bounds.specs.Parts.{IsBetween}
 

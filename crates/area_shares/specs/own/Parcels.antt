@@ -18,12 +18,6 @@ pub record AreParcelPairs (rows zones : List NumberedRing) (id : ℕ) (here : Li
   pub same : AllByRecursion (λ pair. pair.0 ≡ id) here
   pub exactly : (zone : ℕ) → Contains here (id, zone) ↔ Overlaps rows zones id zone
 
--- all pairs of some parcels, ascending
-pub record ArePairsOfParcels (rows zones : List NumberedRing) (pairs : List (ℕ × ℕ)) : Type 0 where
-  pub ascend : AreInPairOrder pairs
-  pub sound : (id zone : ℕ) → Contains pairs (id, zone) → Overlaps rows zones id zone
-  pub complete : (id zone other : ℕ) → Contains pairs (id, zone) → Overlaps rows zones id other → Contains pairs (id, other)
-
 -- the share is the pair's, of a parcel with this ring
 pub record IsShareOf (r : List Corner) (zones : List NumberedRing) (pair : ℕ × ℕ) (share : Share) : Type 0 where
   pub has_zone : share.zone ≡ pair.1
@@ -34,13 +28,16 @@ abbrev pub AreSharesOf : List Corner → List NumberedRing → List (ℕ × ℕ)
 AreSharesOf r zones here shares = AllZip (IsShareOf r zones) here shares
 
 -- the lines of one parcel
-pub record AreParcelLines (rows zones : List NumberedRing) (id : ℕ) (here : List (ℕ × ℕ)) (lines : List AreaLine) : Type 0 where
+pub record AreParcelLines (rows zones : List NumberedRing) (id : ℕ) (here : List (ℕ × ℕ))
+    (lines : List AreaLine) : Type 0 where
   pub are_pairs : map pair_of lines ≡ here
-  pub sum : (row : NumberedRing) → Contains rows row → row.number ≡ id → sum_of (map (λ line. line.area2) lines) ≡ area2 row.corners
+  pub sum : (row : NumberedRing) → Contains rows row → row.number ≡ id
+      → sum_of (map (λ line. line.area2) lines) ≡ area2 row.corners
   pub near : AreNear rows zones here lines
 
 -- new is old with the lines of a parcel behind it
-pub record AddsParcel (rows zones : List NumberedRing) (id : ℕ) (here : List (ℕ × ℕ)) (old new : List AreaLine) : Type 0 where
+pub record AddsParcel (rows zones : List NumberedRing) (id : ℕ) (here : List (ℕ × ℕ))
+    (old new : List AreaLine) : Type 0 where
   pub added : List AreaLine
   pub is_added : new ≡ old ++ added
   pub are_lines : AreParcelLines rows zones id here added

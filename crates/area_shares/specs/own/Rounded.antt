@@ -1,5 +1,6 @@
 -- Fractions between whole numbers, and lines of a parcel.
-use Rattle.std.specs.Prelude.{◌≡◌, ℕ, ◌+◌, ◌*◌, ◌<◌, ℤ, pos, ◌+ℤ◌, ◌-ℤ◌, ◌*ℤ◌, int_lt, Bool, true, false, IsTrue, if◌then◌else◌}
+use Rattle.std.specs.Prelude.{◌≡◌, ℕ, ◌+◌, ◌*◌, ◌<◌, ℤ, pos, ◌+ℤ◌, ◌-ℤ◌, ◌*ℤ◌, int_lt, Bool, true, false, IsTrue}
+use Rattle.std.specs.Prelude.{if◌then◌else◌}
 use Rattle.std.specs.Prelude.{List, [], ◌∷◌, ◌++◌, map}
 use Rattle.std.specs.List.{AllZip}
 use Rattle.common_areas.specs.Fractions.{Fraction, whole, plus, AreEqual}
@@ -20,8 +21,8 @@ abbrev pub taken : Bool → ℤ → ℤ
 taken true rest = if int_lt (pos 0) rest then pos 1 else pos 0
 taken false rest = pos 0
 
--- The least number is at most 1 away from the fraction and so is the next one, where it has a next. The fraction is not below the
--- least number, and not above the greatest, by more parts than were lost.
+-- The least number is at most 1 away from the fraction, and so is the next one, where it has a next. The fraction is
+-- not below the least of them, and not above the greatest, by more parts than were lost.
 pub record IsRounded (lost : ℕ) (f : Fraction) (least : ℤ) (has_next : Bool) : Type 0 where
   pub is_near : IsWithinOne f least
   pub next_is_near : IsTrue has_next → IsWithinOne f (least +ℤ pos 1)
@@ -52,12 +53,12 @@ AreRounded terms shares = AllZip (λ term share. IsRounded term.lost term.f shar
 abbrev pub pair_with : ℕ → Share → ℕ × ℕ
 pair_with id share = (id, share.zone)
 
--- New is old with a line for each share behind it. They sum to the total, and each is at most 1 away from its fraction where the
--- fractions sum to the total and less than a whole is lost in them.
+-- New is old with a line for each share behind it. They sum to the total; each is at most 1 away from its fraction,
+-- where the fractions sum to the total and less than a whole is lost in them.
 pub record AddsShares (id : ℕ) (total : ℤ) (shares : List Share) (old new : List AreaLine) : Type 0 where
   pub added : List AreaLine
   pub is_added : new ≡ old ++ added
   pub are_pairs : map pair_of added ≡ map (pair_with id) shares
   pub sum : sum_of (map (λ line. line.area2) added) ≡ total
-  pub near : (terms : List Term) → AreRounded terms shares → AreEqual (sum_of_terms terms) (whole total) → lost_in_all terms < PARTS
-      → AllZip (λ term line. IsWithinOne term.f line.area2) terms added
+  pub near : (terms : List Term) → AreRounded terms shares → AreEqual (sum_of_terms terms) (whole total)
+      → lost_in_all terms < PARTS → AllZip (λ term line. IsWithinOne term.f line.area2) terms added

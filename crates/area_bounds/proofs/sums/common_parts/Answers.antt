@@ -1,4 +1,4 @@
-use Rattle.std.proofs.Common.{◌≡◌, ◌+◌, arith}
+use Rattle.std.proofs.Common.{◌≡◌, ◌+◌, length, arith}
 use Rattle.std.proofs.lemmas.Int.{ints}
 use lib.IntN.{◌+ℤ◌}
 use Rattle.geo_exact.specs.Rings.{edges}
@@ -56,3 +56,8 @@ returns-clause-bound c = record {
   low = omega (arith, ints, c.in-Some.ensures.cases.1, c.plus.ensures.low, c.loop-to.invariant.bound.low, c.row_parts.ensures.bound.low);
   high = omega (arith, ints, c.in-Some.ensures.cases.1, c.plus.ensures.low, c.loop-to.invariant.bound.high, c.row_parts.ensures.bound.high);
 }
+
+pub returns-clause-lost : goal.returns-clause-lost
+returns-clause-lost c =
+    let n : length c.args.one.now ≡ c.loop-to.to-index + 1 = omega (arith, c.in-Some.ensures.cases.1, c.loop-to-test.false, c.loop-to.auto.to-index-end) in
+    rw n (omega (arith, c.plus.ensures.lost, c.loop-to.invariant.lost, c.row_parts.ensures.lost))

@@ -1,4 +1,4 @@
-use Rattle.std.proofs.Common.{◌*◌, ◌^◌, ◌≤◌, drop, length}
+use Rattle.std.proofs.Common.{◌*◌, ◌^◌, ◌≤◌, length, drop}
 use Rattle.geo_exact.specs.Limit.{IsWithin}
 use Rattle.geo_exact.specs.Rings.{path, edges}
 use Rattle.geo_exact.specs.declared.limits.TheConstants.{RING_CORNERS}
@@ -13,5 +13,5 @@ invariant-loop-to l = record {
       (sum_shares (λ e. sum_shares (between e) (edges l.other)) (path l.from (drop l.to-index l.rest) l.first))
       (sum_shares (λ e. sum_shares (between e) (edges l.other)) (edges l.fn.one));
   bound : IsWithin (3 * 2 ^ 100 * RING_CORNERS * l.to-index) l.sum.low;
-  lost : l.sum.lost ≤ length l.other * l.to-index;
+  lost : l.sum.lost ≤ l.to-index * length l.other;
 }
