@@ -35,8 +35,8 @@ pub fn split_parcel(id: u64, pairs: &[(u64, u64)]) -> (&[(u64, u64)], &[(u64, u6
     pairs.split_at(count_first(id, pairs))
 }
 
-/// Adds the lines of a parcel: its area where it has one zone; where it has two, what the first has, and the rest for the
-/// second; else what each zone has of it.
+/// Adds the lines of a parcel: its area where it has one zone; where it has two, what the first has, and the rest for
+/// the second; else what each zone has of it.
 pub fn push_parcel<'h, H: Allocator, A: Allocator + Copy>(
     lines: &mut Vec<AreaLine, A>,
     parcels: &Sheet<'h, H>,

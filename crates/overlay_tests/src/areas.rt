@@ -39,8 +39,8 @@ struct Case {
     text: &'static str,
 }
 
-/// Halves, the parcels themselves, a sliver of 50 square millimetres, and borders that meet others in no whole point: the
-/// southern parcel has 4320/7 of a wedge, and the northern one 13467/7.
+/// Halves, the parcels themselves, a sliver of 50 square millimetres, and borders that meet others in no whole point:
+/// the southern parcel has 4320/7 of a wedge, and the northern one 13467/7.
 static CASES: [Case; 5] = [
     Case {
         parcels: [&WEST, &EAST],

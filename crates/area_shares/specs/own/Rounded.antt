@@ -67,8 +67,8 @@ pub record AddsShares (id : ℕ) (total : ℤ) (shares : List Share) (old new : 
   pub near : (terms : List Term) → AreRounded terms shares → AreEqual (sum_of_terms terms) (whole total)
       → lost_in_all terms < PARTS → AllZip (λ term line. IsWithinOne term.f line.area2) terms added
 
--- New is old with two lines of a parcel behind it: the first is at most 1 away from the share's fraction, and the second
--- has the rest of the total.
+-- New is old with two lines of a parcel behind it: the first is at most 1 away from the share's fraction, and the
+-- second has the rest of the total.
 pub record AddsTwo (id : ℕ) (total : ℤ) (share : Share) (other : ℕ) (old new : List AreaLine) : Type 0 where
   pub area : ℤ
   pub is_added : new ≡ old ++ line_of id share.zone area ∷ line_of id other (total -ℤ area) ∷ []
