@@ -1,7 +1,7 @@
 -- What a session's room answers where an edit is not made (this product's own).
 use Rattle.fabric_core.specs.declared.refusal.Refusal.{Refusal}
-use Rattle.register_sessions.specs.declared.room.EditFault.{EditFault}
-use Rattle.register_sessions.specs.declared.room.EditFault.TheVariants.{Refused, Journal, NoMemory}
+use Rattle.session_rooms.specs.declared.room.EditFault.{EditFault}
+use Rattle.session_rooms.specs.declared.room.EditFault.TheVariants.{Refused, Journal, NoMemory}
 
 -- where the office refused the edit, its reason is such
 abbrev pub IfRefused : EditFault → (Refusal → Type 0) → Type 0

@@ -11,7 +11,7 @@ use Rattle.fabric_core.specs.Rows.{Tiles}
 use Rattle.fabric_core.specs.Journal.{JournalEntry, Book, State, opening_state, replay}
 use Rattle.journal_replays.specs.declared.journal_edits.Replayed.{Replayed}
 use Rattle.journal_replays.specs.Replays.{layer_text, IsReplayed, IsRefusedAt}
-use Rattle.register_sessions.specs.Starts.{digest_of, IsMarked, IsBehind, IsFresh, IsOpenedOver, IsStoppedOver, IsTextOf}
+use Rattle.session_rooms.specs.Starts.{digest_of, IsMarked, IsBehind, IsFresh, IsOpenedOver, IsStoppedOver, IsTextOf}
 
 module _ {A : Type 0} where
   -- the digest of a fresh register

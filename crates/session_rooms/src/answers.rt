@@ -3,15 +3,16 @@
 ghost use Rattle.std.specs.Prelude.{◌≡◌, ◌≤◌, length, OnOk, IfOk};
 ghost use Rattle.geo_exact.specs.declared.limits.TheConstants.{LIST_CORNERS};
 ghost use Rattle.session_lines.specs.declared.faults.SessionFault.TheVariants.{NoCard};
-ghost use Rattle.register_sessions.specs.DeskAnswers.{GoesOnBy, HasGoneOn, IsPlaceLine, IsRingLine, IsCountLine, IsEditLine};
-ghost use Rattle.register_sessions.specs.DeskAnswers.{window_fault};
+ghost use Rattle.session_rooms.specs.DeskAnswers.{GoesOnBy, HasGoneOn, IsPlaceLine, IsRingLine, IsCountLine, IsEditLine};
+ghost use Rattle.session_rooms.specs.DeskAnswers.{window_fault};
 
-use crate::journal_file::Clocked;
+use crate::journal::Clocked;
 use crate::lines::Came;
 use crate::room::{EditFault, Made, Room};
 use desk_lock::{Card, LocateFault, Naming, Notice, Window};
 use geo_exact::Corner;
 use journal_records::split_word;
+use journal_writers::JournalFile;
 use ring_edits::Edit;
 use session_lines::{
     Line, SessionFault, push_accepted, push_entries, push_error, push_located, push_no_parcel,
@@ -22,14 +23,20 @@ use std::sync::Wait;
 
 /// Who sits at a desk: with a card whoever may edit, and with a window whoever may ask.
 #[derive(Drop)]
-pub(crate) struct Chair<'h, H: Allocator, J: Naming<H>> {
-    pub(crate) card: Option<Card<'h, H, J>>,
-    pub(crate) window: Option<Window<'h, H, J>>,
+pub struct Chair<'h, H: Allocator, J: Naming<H>> {
+    /// Whoever has one may edit.
+    pub card: Option<Card<'h, H, J>>,
+    /// Whoever has one may ask.
+    pub window: Option<Window<'h, H, J>>,
 }
 
 /// Adds the answer to what came at a desk that is not the operator's.
-pub(crate) fn answer<'h, H: Allocator, J: Naming<H>, R: Wait, K: Clocked>(
-    room: &Room<'_, 'h, H, J, R, K>,
+///
+/// # Errors
+///
+/// [`AllocError`] where memory is refused for the answer. A beginning of it may be added then.
+pub fn answer<'h, H: Allocator, J: Naming<H>, R: Wait, F: JournalFile, K: Clocked>(
+    room: &Room<'_, 'h, H, J, R, F, K>,
     chair: &mut Chair<'h, H, J>,
     came: Came,
     line: &[u8],
@@ -43,13 +50,19 @@ pub(crate) fn answer<'h, H: Allocator, J: Naming<H>, R: Wait, K: Clocked>(
 
 /// What a line asks for, and the client's own word for who asks and why; it is empty where there is none.
 #[derive(Drop)]
-pub(crate) struct Asked<'l, A: Allocator> {
-    pub(crate) who: &'l [u8],
-    pub(crate) line: Line<'l, A>,
+pub struct Asked<'l, A: Allocator> {
+    /// As the client said it.
+    pub who: &'l [u8],
+    /// What is asked.
+    pub line: Line<'l, A>,
 }
 
 /// What a line that came asks for, or why it asks for nothing.
-pub(crate) fn read_asked<'l, A: Allocator + Copy>(
+///
+/// # Errors
+///
+/// [`SessionFault`], as the desk is told.
+pub fn read_asked<'l, A: Allocator + Copy>(
     alloc: A,
     came: Came,
     line: &'l [u8],
@@ -95,8 +108,12 @@ fn read_one<'l, A: Allocator + Copy>(
 }
 
 /// Adds the answer to a line that any desk may be asked; the operator's own lines are refused.
-pub(crate) fn answer_asked<'h, H: Allocator, J: Naming<H>, R: Wait, K: Clocked>(
-    room: &Room<'_, 'h, H, J, R, K>,
+///
+/// # Errors
+///
+/// [`AllocError`], as [`answer`].
+pub fn answer_asked<'h, H: Allocator, J: Naming<H>, R: Wait, F: JournalFile, K: Clocked>(
+    room: &Room<'_, 'h, H, J, R, F, K>,
     chair: &mut Chair<'h, H, J>,
     asked: Asked<'_, &'h H>,
     text: &mut Vec<u8, &'h H>,
@@ -124,8 +141,8 @@ pub(crate) fn answer_asked<'h, H: Allocator, J: Naming<H>, R: Wait, K: Clocked>(
 }
 
 /// Adds the answer to an edit.
-fn answer_edit<'h, H: Allocator, J: Naming<H>, R: Wait, K: Clocked>(
-    room: &Room<'_, 'h, H, J, R, K>,
+fn answer_edit<'h, H: Allocator, J: Naming<H>, R: Wait, F: JournalFile, K: Clocked>(
+    room: &Room<'_, 'h, H, J, R, F, K>,
     chair: &mut Chair<'h, H, J>,
     who: &[u8],
     edit: &Edit<&'h H>,
@@ -139,8 +156,8 @@ fn answer_edit<'h, H: Allocator, J: Naming<H>, R: Wait, K: Clocked>(
 }
 
 /// Adds the answer to a clerk's edit, which the window sees then.
-fn answer_clerk<'h, H: Allocator, J: Naming<H>, R: Wait, K: Clocked>(
-    room: &Room<'_, 'h, H, J, R, K>,
+fn answer_clerk<'h, H: Allocator, J: Naming<H>, R: Wait, F: JournalFile, K: Clocked>(
+    room: &Room<'_, 'h, H, J, R, F, K>,
     card: &mut Card<'h, H, J>,
     window: &mut Option<Window<'h, H, J>>,
     who: &[u8],

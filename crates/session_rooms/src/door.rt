@@ -6,7 +6,7 @@ use std::sync::{Condvar, Mutex, Wait};
 /// The door of a session. A desk stands in it while it opens its pipes, which waits for a client.
 /// Once the session closes, no desk goes in any more, and none takes a further line.
 #[derive(Drop)]
-pub(crate) struct Door {
+pub struct Door {
     closing: AtomicBool,
     standing: Mutex<Standing>,
     passed: Condvar,
@@ -21,7 +21,7 @@ struct Standing {
 
 impl Door {
     /// An open door, in which nobody stands.
-    pub(crate) fn new() -> Door {
+    pub fn new() -> Door {
         Door {
             closing: AtomicBool::new(false),
             standing: Mutex::new(Standing {
@@ -33,12 +33,12 @@ impl Door {
     }
 
     /// Whether the session closes.
-    pub(crate) fn is_closing(&self) -> bool {
+    pub fn is_closing(&self) -> bool {
         self.closing.load(Ordering::SeqCst)
     }
 
     /// Steps into the door; `false` where the session closes.
-    pub(crate) fn step_in<R: Wait>(&self, rt: &R) -> bool {
+    pub fn step_in<R: Wait>(&self, rt: &R) -> bool {
         let mut standing = self.standing.lock(rt);
         if standing.is_closing {
             return false;
@@ -48,7 +48,7 @@ impl Door {
     }
 
     /// Leaves the door, in which one stood.
-    pub(crate) fn pass<R: Wait>(&self, rt: &R) {
+    pub fn pass<R: Wait>(&self, rt: &R) {
         let mut standing = self.standing.lock(rt);
         standing.count = standing.count.wrapping_sub(1);
         drop(standing);
@@ -56,7 +56,7 @@ impl Door {
     }
 
     /// Closes the session.
-    pub(crate) fn close<R: Wait>(&self, rt: &R) {
+    pub fn close<R: Wait>(&self, rt: &R) {
         let mut standing = self.standing.lock(rt);
         standing.is_closing = true;
         drop(standing);
@@ -64,7 +64,7 @@ impl Door {
     }
 
     /// Waits until nobody stands in the door.
-    pub(crate) fn wait_for_all<R: Wait>(&self, rt: &R) {
+    pub fn wait_for_all<R: Wait>(&self, rt: &R) {
         let standing = self
             .passed
             .wait_while(rt, self.standing.lock(rt), |standing| standing.count != 0);

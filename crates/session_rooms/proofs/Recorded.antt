@@ -5,7 +5,7 @@ use Rattle.journal_records.specs.Journals.{record_text, record_seal}
 use Rattle.journal_writers.specs.Files.{with_more}
 use Rattle.journal_writers.specs.Writers.{WriterState, DraftState, IsDraftOf}
 use Rattle.fabric_core.specs.Journal.{JournalEntry}
-use Rattle.register_sessions.specs.Kept.{IsRecorded, HasRecords}
+use Rattle.session_rooms.specs.Kept.{IsRecorded, HasRecords}
 
 module _ {A : Type 0} where
   -- what was drafted of an entry is added

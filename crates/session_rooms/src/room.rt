@@ -3,12 +3,11 @@
 ghost use Rattle.std.specs.Prelude.{◌≡◌, ◌⊎◌, ◌≤◌, length, true, IfOk, IfErr, IfSome};
 ghost use Rattle.fabric_core.specs.EditResults.{IsLawful};
 ghost use Rattle.desk_lock.specs.Offices.{with_made, with_met, journal_met, EndsWith, IsSometime, IsRefusedWhenMet};
-ghost use Rattle.register_sessions.specs.Rooms.{IfRefused, UnlessJournalFails, IfJournalFails};
-ghost use Rattle.register_sessions.specs.Kept.{IsRecorded, IsOnDisk};
+ghost use Rattle.session_rooms.specs.Rooms.{IfRefused, UnlessJournalFails, IfJournalFails};
+ghost use Rattle.session_rooms.specs.Kept.{IsRecorded, IsOnDisk};
 
 use crate::door::Door;
-use crate::journal::Journal;
-use crate::journal_file::Clocked;
+use crate::journal::{Clocked, Journal};
 use desk_lock::{Card, Naming, Notice, Office};
 use fabric_core::{Entry, Refusal, Sheet};
 use journal_records::Stamp;
@@ -19,18 +18,25 @@ use std::alloc::Allocator;
 use std::sync::Wait;
 
 /// What all desks share: the office, the journal, if there is one, and the door.
+///
+/// Desks reach the office through it alone: so no edit is shown, reported or answered before the disk has its record.
 #[derive(Drop)]
-pub(crate) struct Room<'r, 'h, H: Allocator, J: Naming<H>, R: Wait, K: Clocked> {
-    pub(crate) office: Office<'h, H, J, &'r R>,
-    pub(crate) journal: Option<Journal<&'h H, K>>,
-    pub(crate) door: Door,
-    pub(crate) heap: &'h H,
-    pub(crate) rt: &'r R,
+pub struct Room<'r, 'h, H: Allocator, J: Naming<H>, R: Wait, F: JournalFile, K: Clocked> {
+    /// Where edits are made, and where windows look.
+    pub office: Office<'h, H, J, &'r R>,
+    /// Where their records go; `None` where the session keeps no journal.
+    pub journal: Option<Journal<F, &'h H, K>>,
+    /// Whether the session closes, and who stands in the door.
+    pub door: Door,
+    /// Where what the desks say is kept.
+    pub heap: &'h H,
+    /// By what a desk waits.
+    pub rt: &'r R,
 }
 
 /// Why an edit is not answered `ok`.
 #[derive(Clone, Copy, Debug, PartialEq, Eq)]
-pub(crate) enum EditFault {
+pub enum EditFault {
     /// It is refused, and nothing has changed.
     Refused(Refusal),
     /// The journal could not be written: of this edit, or of one before.
@@ -41,18 +47,31 @@ pub(crate) enum EditFault {
 
 /// An edit that was made, and that the disk has, where there is a journal.
 #[derive(Drop)]
-pub(crate) struct Made<'h, H: Allocator, J: Naming<H>> {
-    pub(crate) entry: Entry<&'h H>,
+pub struct Made<'h, H: Allocator, J: Naming<H>> {
+    /// The entry that the edit is in the office's journal.
+    pub entry: Entry<&'h H>,
     /// That the disk has its record, where there is a journal.
-    pub(crate) on_disk: Option<OnDisk>,
+    pub on_disk: Option<OnDisk>,
     /// That it is shown, unless memory was refused for that: a later edit shows it, too.
-    pub(crate) notice: Option<Notice<'h, H, J>>,
+    pub notice: Option<Notice<'h, H, J>>,
 }
 
-impl<'r, 'h, H: Allocator, J: Naming<H>, R: Wait, K: Clocked> Room<'r, 'h, H, J, R, K> {
+impl<'r, 'h, H: Allocator, J: Naming<H>, R: Wait, F: JournalFile, K: Clocked> Room<
+    'r,
+    'h,
+    H,
+    J,
+    R,
+    F,
+    K,
+> {
     /// Makes an edit at the office, with the client's own word for who and why, and shows it. Where there is a journal, the
     /// disk has the edit's record before it is shown; records stand in the order of their entries' numbers.
-    pub(crate) fn submit(
+    ///
+    /// # Errors
+    ///
+    /// [`EditFault`].
+    pub fn submit(
         &self,
         card: &mut Card<'h, H, J>,
         who: &[u8],
@@ -122,7 +141,7 @@ impl<'r, 'h, H: Allocator, J: Naming<H>, R: Wait, K: Clocked> Room<'r, 'h, H, J,
     /// may while this one waits for the disk.
     fn keep(
         &self,
-        journal: &Journal<&'h H, K>,
+        journal: &Journal<F, &'h H, K>,
         card: &mut Card<'h, H, J>,
         who: &[u8],
         edit: &Edit<&'h H>,
@@ -158,7 +177,7 @@ impl<'r, 'h, H: Allocator, J: Naming<H>, R: Wait, K: Clocked> Room<'r, 'h, H, J,
     }
 
     /// Makes an edit at the office, and adds its record to the journal, which is taken.
-    fn enter_and_record<F: JournalFile>(
+    fn enter_and_record(
         &self,
         writer: &mut JournalWriter<F, &'h H>,
         card: &mut Card<'h, H, J>,
@@ -200,7 +219,11 @@ impl<'r, 'h, H: Allocator, J: Naming<H>, R: Wait, K: Clocked> Room<'r, 'h, H, J,
     }
 
     /// Shows all entries; where there is a journal, once the disk has them.
-    pub(crate) fn publish(&self) -> Result<Notice<'h, H, J>, SessionFault> {
+    ///
+    /// # Errors
+    ///
+    /// [`SessionFault::JournalFailed`], and nothing is shown; [`SessionFault::NoMemory`].
+    pub fn publish(&self) -> Result<Notice<'h, H, J>, SessionFault> {
         let notice = match &self.journal {
             Some(journal) => {
                 let Some(number) = journal.sync_all(self.rt) else {
@@ -218,7 +241,11 @@ impl<'r, 'h, H: Allocator, J: Naming<H>, R: Wait, K: Clocked> Room<'r, 'h, H, J,
 
     /// The parcels as they are now, with the entries that led there. Where there is a journal, the disk has all of them. The
     /// office is held no longer than they are copied.
-    pub(crate) fn sheet(&self) -> Result<Sheet<'h, H>, SessionFault> {
+    ///
+    /// # Errors
+    ///
+    /// [`SessionFault::JournalFailed`], [`SessionFault::NoMemory`].
+    pub fn sheet(&self) -> Result<Sheet<'h, H>, SessionFault> {
         let Some(journal) = &self.journal else {
             return self.copy();
         };

@@ -2,21 +2,26 @@
 
 ghost use Rattle.std.specs.Prelude.{◌≤◌, IfSome};
 
-use crate::journal_file::{Clocked, DiskFile};
 use jiff::Timestamp;
-use journal_writers::{JournalWriter, OnDisk, Synced, sync};
+use journal_writers::{JournalFile, JournalWriter, OnDisk, Synced, Synchroniser, sync};
 use std::alloc::{AllocError, Allocator};
+use std::io;
 use std::sync::atomic::{AtomicU64, Ordering};
 use std::sync::{Condvar, Mutex, MutexGuard, Wait};
 
-/// Who writes to a journal on the disk, of edits in this memory.
-pub(crate) type Writer<A> = JournalWriter<DiskFile, A>;
+/// A synchroniser of a machine that has the time.
+pub trait Clocked: Synchroniser {
+    /// The time, in whole seconds since 1970, UTC.
+    fn seconds(&self) -> io::Result<i64>;
+}
 
 /// A journal that is written.
+///
+/// One desk at a time writes to its file, and synchronises it without keeping others from writing meanwhile.
 #[derive(Drop)]
-pub(crate) struct Journal<A: Allocator, K: Clocked> {
+pub struct Journal<F: JournalFile, A: Allocator, K: Clocked> {
     synchroniser: K,
-    writer: Mutex<Writer<A>>,
+    writer: Mutex<JournalWriter<F, A>>,
     /// How many records were written whole.
     records: AtomicU64,
     synced: Mutex<Synced>,
@@ -24,9 +29,9 @@ pub(crate) struct Journal<A: Allocator, K: Clocked> {
     ended: Condvar,
 }
 
-impl<A: Allocator, K: Clocked> Journal<A, K> {
+impl<F: JournalFile, A: Allocator, K: Clocked> Journal<F, A, K> {
     /// A journal of whose records the disk has so many.
-    pub(crate) fn new(writer: Writer<A>, synchroniser: K, on_disk: OnDisk) -> Journal<A, K> {
+    pub fn new(writer: JournalWriter<F, A>, synchroniser: K, on_disk: OnDisk) -> Journal<F, A, K> {
         let records = writer.records();
         Journal {
             synchroniser,
@@ -38,7 +43,7 @@ impl<A: Allocator, K: Clocked> Journal<A, K> {
     }
 
     /// Takes the journal. Until it is let go, nobody else writes to it. `None` where it could not be written once.
-    pub(crate) fn take<R: Wait>(&self, rt: &R) -> Option<MutexGuard<'_, Writer<A>>> {
+    pub(crate) fn take<R: Wait>(&self, rt: &R) -> Option<MutexGuard<'_, JournalWriter<F, A>>> {
         let writer = self.writer.lock(rt);
         if writer.is_broken() {
             None
@@ -63,7 +68,7 @@ impl<A: Allocator, K: Clocked> Journal<A, K> {
     /// Waits until the disk has the record of this number, and all before it; `None` where it has not. One synchronisation
     /// serves all records that were written before it began. All that wait are woken at its end, and one of those whose
     /// record came later begins the next.
-    pub(crate) fn sync_to<R: Wait>(&self, rt: &R, number: u64) -> Option<OnDisk>
+    pub fn sync_to<R: Wait>(&self, rt: &R, number: u64) -> Option<OnDisk>
         ensures { IfSome result (λ on_disk. number ≤ on_disk.records) }
     {
         let mut synced = self.ended.wait_while(rt, self.synced.lock(rt), |synced| {
@@ -93,7 +98,7 @@ impl<A: Allocator, K: Clocked> Journal<A, K> {
     }
 
     /// How many records the disk has for certain.
-    pub(crate) fn synced<R: Wait>(&self, rt: &R) -> u64 {
+    pub fn synced<R: Wait>(&self, rt: &R) -> u64 {
         self.synced.lock(rt).on_disk().records()
     }
 
@@ -113,7 +118,11 @@ impl<A: Allocator, K: Clocked> Journal<A, K> {
 }
 
 /// The time, as a record says it; `None` where the system has none.
-pub(crate) fn time_of<K: Clocked, B: Allocator + Copy>(
+///
+/// # Errors
+///
+/// [`AllocError`] where an allocation is refused.
+pub fn time_of<K: Clocked, B: Allocator + Copy>(
     alloc: B,
     synchroniser: &K,
 ) -> Result<Option<String<B>>, AllocError> {

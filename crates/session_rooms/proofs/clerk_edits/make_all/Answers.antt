@@ -1,9 +1,9 @@
 use Rattle.std.proofs.Common.{◌≡◌, ◌∷◌, ◌++◌, [], ◌+◌, ◌∙◌, take, sym, ap, subst}
 use Rattle.std.proofs.lemmas.List.{take_more}
-use Rattle.register_sessions.specs.declared.clerk_edits.TheConstants.{EDITS_CLERK}
-use Rattle.register_sessions.specs.ClerkEdits.{AreMadeBy}
-use Rattle.register_sessions.proofs.EditsOfClerk.{one_more}
-use Rattle.register_sessions.proofs.clerk_edits.make_all.Goals as goal
+use Rattle.session_rooms.specs.declared.clerk_edits.TheConstants.{EDITS_CLERK}
+use Rattle.session_rooms.specs.ClerkEdits.{AreMadeBy}
+use Rattle.session_rooms.proofs.EditsOfClerk.{one_more}
+use Rattle.session_rooms.proofs.clerk_edits.make_all.Goals as goal
 
 pub loop-said-preserved : goal.loop-said-preserved
 loop-said-preserved g c =

@@ -16,9 +16,9 @@ use Rattle.city_layers.specs.declared.fault.ToolFault.{ToolFault}
 use Rattle.city_layers.specs.declared.fault.ToolFault.TheVariants.{NoMemory}
 use Rattle.city_layers.specs.TilingFiles.{Files, files_of, AreTiles, IsTiledBy, IsTilesFault}
 use Rattle.city_layers.specs.ZonedFiles.{IsLayersFault}
-use Rattle.register_sessions.specs.declared.begin.Sources.{Sources}
-use Rattle.register_sessions.specs.declared.begin.BeginFault.{BeginFault}
-use Rattle.register_sessions.specs.declared.begin.BeginFault.TheVariants.{Load, Journal}
+use Rattle.session_rooms.specs.declared.begin.Sources.{Sources}
+use Rattle.session_rooms.specs.declared.begin.BeginFault.{BeginFault}
+use Rattle.session_rooms.specs.declared.begin.BeginFault.TheVariants.{Load, Journal}
 
 -- the bytes of the zones' files, where there are some
 abbrev pub zones_of : {A : Type 0} → Sources A → Option Files

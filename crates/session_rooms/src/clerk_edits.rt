@@ -1,8 +1,8 @@
 //! The edits of a clerk's file, with which a new journal begins.
 
 ghost use Rattle.std.specs.Prelude.{◌≡◌, IfErr, OnOk};
-ghost use Rattle.register_sessions.specs.ClerkEdits.{AreMadeOf, AreMadeBy, IsEditsFault};
-ghost use Rattle.register_sessions.specs.Kept.{HasRecords};
+ghost use Rattle.session_rooms.specs.ClerkEdits.{AreMadeOf, AreMadeBy, IsEditsFault};
+ghost use Rattle.session_rooms.specs.Kept.{HasRecords};
 
 use fabric_core::{Entry, Fabric, Refusal};
 use journal_records::Stamp;
@@ -12,11 +12,11 @@ use ring_edits::Edit;
 use std::alloc::Allocator;
 
 /// Whose edits those of a clerk's file are.
-pub(crate) const EDITS_CLERK: u32 = 1;
+pub const EDITS_CLERK: u32 = 1;
 
 /// Why the edits of a clerk's file are not made.
 #[derive(Clone, Copy, Debug, PartialEq, Eq)]
-pub(crate) enum EditsFault {
+pub enum EditsFault {
     /// L1: the first line, counted from 1, that is neither skipped nor an edit.
     Line(u64),
     /// The edit in the line of this number is refused.
@@ -30,7 +30,7 @@ pub(crate) enum EditsFault {
 /// # Errors
 ///
 /// [`EditsFault`]: the first line that is bad, and no edit is made; or the first edit that is refused.
-pub(crate) fn make_edits<'h, H: Allocator>(
+pub fn make_edits<'h, H: Allocator>(
     heap: &'h H,
     fabric: &mut Fabric<'h, H>,
     text: &[u8],
@@ -70,7 +70,7 @@ fn make_all<'h, H: Allocator>(
 /// # Errors
 ///
 /// [`FileFailed`], also where memory is refused. Some may be added then.
-pub(crate) fn add_entries<'h, H: Allocator, F: JournalFile>(
+pub fn add_entries<'h, H: Allocator, F: JournalFile>(
     heap: &'h H,
     writer: &mut JournalWriter<F, &'h H>,
     time: &[u8],

@@ -12,7 +12,7 @@ pub const LINE_BYTES: usize = 1_048_576;
 
 /// What came next at a desk.
 #[derive(Clone, Copy, Debug, PartialEq, Eq)]
-pub(crate) enum Came {
+pub enum Came {
     /// A line, which is kept without its end.
     Line,
     /// A line that is too long, which is forgotten.
@@ -39,7 +39,11 @@ enum Part {
 
 /// Reads the next line, without its line feed and without a carriage return before that. Of a line
 /// that is too long no more than its start is ever kept.
-pub(crate) fn next_line<F: Read, B: Allocator, A: Allocator>(
+///
+/// # Errors
+///
+/// Where the reader fails.
+pub fn next_line<F: Read, B: Allocator, A: Allocator>(
     door: &Door,
     reader: &mut BufReader<F, B>,
     line: &mut Vec<u8, A>,
@@ -110,6 +114,6 @@ fn take_part<B: BufRead, A: Allocator>(reader: &mut B, line: &mut Vec<u8, A>) ->
 }
 
 /// Whether a whole line is among bytes.
-pub(crate) fn has_line(bytes: &[u8]) -> bool {
+pub fn has_line(bytes: &[u8]) -> bool {
     bytes.iter().any(|byte| *byte == b'\n')
 }

@@ -3,9 +3,9 @@ use Rattle.std.specs.Prelude.{◌≡◌, ⊤, ℕ, List, ◌++◌, map}
 use Rattle.ring_edits.specs.declared.edit.Edit.{Edit}
 use Rattle.line_files.specs.ClerkFile.{IsClerkFile, IsFirstBadLine}
 use Rattle.fabric_core.specs.Journal.{JournalEntry, Book}
-use Rattle.register_sessions.specs.declared.clerk_edits.TheConstants.{EDITS_CLERK}
-use Rattle.register_sessions.specs.declared.clerk_edits.EditsFault.{EditsFault}
-use Rattle.register_sessions.specs.declared.clerk_edits.EditsFault.TheVariants.{Line, Refused, NoMemory}
+use Rattle.session_rooms.specs.declared.clerk_edits.TheConstants.{EDITS_CLERK}
+use Rattle.session_rooms.specs.declared.clerk_edits.EditsFault.{EditsFault}
+use Rattle.session_rooms.specs.declared.clerk_edits.EditsFault.TheVariants.{Line, Refused, NoMemory}
 
 -- the edits are made in order, each by this clerk, each as the next entry
 pub record AreMadeBy {A : Type 0} (clerk : ℕ) (edits : List (ℕ × Edit A)) (before after : Book A) : Type 0 where

@@ -4,7 +4,7 @@ use Rattle.std.proofs.Common.{append_assoc, append-nil}
 use Rattle.std.proofs.lemmas.List.{map-append}
 use Rattle.ring_edits.specs.declared.edit.Edit.{Edit}
 use Rattle.fabric_core.specs.Journal.{JournalEntry, Book}
-use Rattle.register_sessions.specs.ClerkEdits.{AreMadeBy}
+use Rattle.session_rooms.specs.ClerkEdits.{AreMadeBy}
 
 module _ {A : Type 0} where
   -- none

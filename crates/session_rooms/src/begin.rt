@@ -7,8 +7,8 @@ ghost use Rattle.city_layers.specs.TilingFiles.{AreTiles, files_of};
 ghost use Rattle.fabric_core.specs.declared.refusal.Refusal.{Refusal as RefusalValue};
 ghost use Rattle.journal_replays.specs.declared.journal_edits.ReplayFault.TheVariants.{Refused};
 ghost use Rattle.session_lines.specs.Answers.{ready_line};
-ghost use Rattle.register_sessions.specs.Starts.{zones_of, AreZonesOf, IsLoadFaultOf, IsOpenedWith, IsBehind, IsStoppedBehind};
-ghost use Rattle.register_sessions.specs.Starts.{IsOpenedOver, IsStoppedOver, IsMarked};
+ghost use Rattle.session_rooms.specs.Starts.{zones_of, AreZonesOf, IsLoadFaultOf, IsOpenedWith, IsBehind, IsStoppedBehind};
+ghost use Rattle.session_rooms.specs.Starts.{IsOpenedOver, IsStoppedOver, IsMarked};
 
 use city_layers::{Layers, Source, ToolFault, load_layers_by, load_tiles_by};
 use fabric_core::{Fabric, Layer};
@@ -22,26 +22,31 @@ use std::thread::Threads;
 
 /// The bytes of a register's layers.
 #[derive(Drop)]
-pub(crate) struct Sources<A: Allocator> {
-    pub(crate) city: Source<A>,
-    pub(crate) parcels: Source<A>,
-    pub(crate) zones: Option<Source<A>>,
+pub struct Sources<A: Allocator> {
+    /// Of the city's layer.
+    pub city: Source<A>,
+    /// Of the parcels' layer.
+    pub parcels: Source<A>,
+    /// Of the zones' layer, where overlays are asked for.
+    pub zones: Option<Source<A>>,
 }
 
 /// A register behind the edits of its journal.
 #[derive(Drop)]
-pub(crate) struct Begun<'h, H: Allocator> {
-    pub(crate) fabric: Fabric<'h, H>,
-    pub(crate) zones: Option<Layer<'h, H>>,
+pub struct Begun<'h, H: Allocator> {
+    /// The parcels as the edits left them, with an entry for each edit.
+    pub fabric: Fabric<'h, H>,
+    /// The zones of the same city, where there are some.
+    pub zones: Option<Layer<'h, H>>,
     /// The digest of the layer that it was opened with.
-    pub(crate) layer: Seal,
+    pub layer: Seal,
     /// What was made again of its journal.
-    pub(crate) replayed: Replayed,
+    pub replayed: Replayed,
 }
 
 /// Why a register does not begin.
 #[derive(Debug, Drop)]
-pub(crate) enum BeginFault {
+pub enum BeginFault {
     /// The layers are not loaded.
     Load(ToolFault<'static>),
     /// The journal is not of this layer, or one of its edits is refused.
@@ -54,7 +59,7 @@ pub(crate) enum BeginFault {
 /// # Errors
 ///
 /// [`BeginFault`]: the first fault of the layers; then of the journal.
-pub(crate) fn begin_register<'h, R: Threads + Sync, H: Allocator + Send + Sync, A: Allocator>(
+pub fn begin_register<'h, R: Threads + Sync, H: Allocator + Send + Sync, A: Allocator>(
     rt: &R,
     workers: usize,
     heap: &'h H,
@@ -162,7 +167,7 @@ fn load<'h, R: Threads + Sync, H: Allocator + Send + Sync, A: Allocator>(
 /// # Errors
 ///
 /// [`FileFailed`].
-pub(crate) fn begin_writer<'h, H: Allocator, F: JournalFile>(
+pub fn begin_writer<'h, H: Allocator, F: JournalFile>(
     heap: &'h H,
     file: F,
     text: &[u8],
@@ -188,7 +193,11 @@ pub(crate) fn begin_writer<'h, H: Allocator, F: JournalFile>(
 }
 
 /// What the operator is told once all is ready.
-pub(crate) fn ready_text<'h, H: Allocator>(
+///
+/// # Errors
+///
+/// [`AllocError`] where an allocation is refused.
+pub fn ready_text<'h, H: Allocator>(
     heap: &'h H,
     fabric: &Fabric<'h, H>,
 ) -> Result<Vec<u8, &'h H>, AllocError>

@@ -1,0 +1,3 @@
+pub mod EditsOfClerk
+pub mod Recorded
+pub mod Starts
