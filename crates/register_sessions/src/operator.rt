@@ -117,7 +117,7 @@ fn answer_overlay<'h, H: Allocator, J: Naming<H>, R: Wait, K: Clocked, W: ByteOu
     }
 }
 
-/// Replaces the layer at BASE by the parcels, unless that is one of the session's own files.
+/// Replaces the layer at BASE by the parcels, unless that is one of the session's own files, or something is in the way.
 fn answer_export<'h, P: Exports + Machine, H: Allocator, J: Naming<H>, R: Wait, K: Clocked>(
     room: &Room<'_, 'h, H, J, R, DiskFile, K>,
     disk: &P,
@@ -127,6 +127,9 @@ fn answer_export<'h, P: Exports + Machine, H: Allocator, J: Naming<H>, R: Wait, 
 ) -> Result<(), AllocError> {
     if let Some(path) = ground.own_files.find_in_export(disk, room.heap, base)? {
         let why = format!(in room.heap; "S5 {path}")?;
+        return push_failure(text, why.as_str());
+    }
+    if let Some(why) = disk.obstacle(room.heap, base)? {
         return push_failure(text, why.as_str());
     }
     match room.sheet() {

@@ -59,7 +59,7 @@ pub struct Plan<'a> {
 }
 
 /// Starts a session, serves its desks, and returns once it is closed. Its pipes and its exports are of the disk, which
-/// is [`Disk`] of the same runtime.
+/// is that of the same runtime.
 ///
 /// # Errors
 ///

@@ -100,10 +100,10 @@ fn open_behind<'h, H: Allocator>(
     layer: Layer<'h, H>,
     text: &[u8],
 ) -> Result<(Fabric<'h, H>, Seal, Replayed), ReplayFault>
-    ensures opened { IfOk result (λ opened. IsOpenedOver layer opened.0) }
+    ensures opened { IfOk result (λ opened. IsOpenedOver layer.entry opened.0) }
     ensures behind { IfOk result (λ opened. IsBehind text.now opened.0 opened.2 opened.1) }
     ensures refused { (number : ℕ) (refusal : RefusalValue) → IsErrOf result (ReplayFault.Refused number refusal)
-        → IsStoppedOver (Bor H) layer text.now number refusal }
+        → IsStoppedOver (Bor H) layer.entry text.now number refusal }
 {
     let Ok(mut fabric) = Fabric::open(layer) else {
         return Err(ReplayFault::Journal(JournalFault::NoMemory));
