@@ -144,16 +144,8 @@ pub(crate) fn serve<
     if let Some(desk) = refused {
         return Err(StartFault::Run(ToolFault::NoThread(desk)));
     }
-    let Room {
-        office,
-        journal,
-        rt,
-        ..
-    } = room;
-    let kept = match &journal {
-        Some(journal) => Some(journal.synced(rt)),
-        None => None,
-    };
+    let rt = room.rt;
+    let (office, kept) = room.end();
     text.clear();
     push_end_of(rt, office, cards, kept, &mut text)?;
     match put_all(text.as_slice(), &mut out) {

@@ -25,7 +25,7 @@ use journal_replays::{ReplayFault, Replayed};
 use journal_writers::sync;
 use parcel_runs::refuse_many_clerks;
 use session_rooms::{
-    BeginFault, Begun, Clocked, Door, EDITS_CLERK, EditsFault, Journal, Room, Sources, add_entries,
+    BeginFault, Begun, Clocked, EDITS_CLERK, EditsFault, Journal, Room, Sources, add_entries,
     begin_register, begin_writer, make_edits, ready_text, time_of,
 };
 use std::alloc::Allocator;
@@ -336,13 +336,7 @@ fn at_office<
         Err((_, fault)) => return Err(StartFault::Run(fault_of_open(fault))),
     };
     let Seats { desks, chair } = seat_all(heap, paths, cards, windows)?;
-    let room = Room {
-        office,
-        journal,
-        door: Door::new(),
-        heap,
-        rt,
-    };
+    let room = Room::new(office, journal, heap, rt);
     let ground = Ground {
         zones,
         own_files,

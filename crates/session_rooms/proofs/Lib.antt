@@ -1,3 +1,4 @@
 pub mod EditsOfClerk
 pub mod Recorded
+pub mod Rooms
 pub mod Starts

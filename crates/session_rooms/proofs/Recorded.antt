@@ -1,5 +1,5 @@
 -- Records that are added to a journal.
-use Rattle.std.proofs.Common.{◌≡◌, refl, sym, ap, ◌∙◌, subst, ℕ, ◌+◌, List, [], ◌∷◌, ◌++◌}
+use Rattle.std.proofs.Common.{◌≡◌, refl, sym, ap, ◌∙◌, subst, ◌+◌, List, [], ◌∷◌, ◌++◌}
 use Rattle.ring_edits.specs.declared.edit.Edit.{Edit}
 use Rattle.journal_records.specs.declared.record.Stamp.{Stamp}
 use Rattle.journal_records.specs.Journals.{record_text, record_seal}

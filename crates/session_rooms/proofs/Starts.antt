@@ -1,17 +1,23 @@
 -- The register that a session begins with.
-use Rattle.std.proofs.Common.{◌≡◌, ◌⊎◌, inl, inr, refl, sym, ap, ◌∙◌, subst, absurd, ℕ, ◌+◌, ◌-◌, ◌<◌, List, [], ◌∷◌, ◌++◌, length, map, arith}
-use Rattle.std.proofs.Common.{Option, None, Some, IfSome}
+use Rattle.std.proofs.Common.{◌≡◌, inl, inr, refl, sym, ap, ◌∙◌, subst, ℕ, ◌+◌, ◌-◌, ◌<◌, List, [], ◌∷◌, ◌++◌, length, map, arith}
+use Rattle.std.proofs.Common.{Option, None, Some, IfSome, Result, Ok, Err, IsErrOf}
 use Rattle.std.proofs.lemmas.List.{length-append}
+use Rattle.geo_exact.specs.declared.coord.Unit.{Unit as LengthUnit}
 use Rattle.journal_records.specs.declared.seal.Seal.{Seal}
 use Rattle.journal_records.specs.declared.record.Record.{Record}
-use Rattle.journal_records.specs.Journals.{header_line, records_text, seal_text, IsJournal}
+use Rattle.journal_records.specs.Journals.{header_line, records_text, seal_text}
 use Rattle.journal_writers.specs.Writers.{IsFound}
 use Rattle.fabric_core.specs.declared.refusal.Refusal.{Refusal}
 use Rattle.fabric_core.specs.Rows.{Tiles}
 use Rattle.fabric_core.specs.Journal.{JournalEntry, Book, State, opening_state, replay}
 use Rattle.journal_replays.specs.declared.journal_edits.Replayed.{Replayed}
+use Rattle.journal_replays.specs.declared.journal_edits.ReplayFault.{ReplayFault}
+use Rattle.journal_replays.specs.declared.journal_edits.ReplayFault.TheVariants.{Refused}
 use Rattle.journal_replays.specs.Replays.{layer_text, IsReplayed, IsRefusedAt}
-use Rattle.session_rooms.specs.Starts.{digest_of, IsMarked, IsBehind, IsFresh, IsOpenedOver, IsStoppedOver, IsTextOf}
+use Rattle.city_layers.specs.TilingFiles.{Files, AreTiles}
+use Rattle.session_rooms.specs.declared.begin.BeginFault.{BeginFault}
+use Rattle.session_rooms.specs.declared.begin.BeginFault.TheVariants.{Load, Journal}
+use Rattle.session_rooms.specs.Starts.{digest_of, IsMarked, IsBehind, IsStoppedOver, IsStoppedBehind, IsTextOf}
 
 module _ {A : Type 0} where
   -- the digest of a fresh register
@@ -73,22 +79,53 @@ module _ {A : Type 0} where
     is_refused = subst (λ s. IsRefusedAt s text fresh reached number refusal) (digest_fresh fresh seal now is) refused;
   }
 
+-- the error, where there is one
+abbrev error_or : {T E : Type 0} → E → Result T E → E
+error_or other (Ok value) = other
+error_or other (Err error) = error
+
+-- the same error, where another value was wanted
+pub same_error : {T U E : Type 0} (error fault : E) → IsErrOf {T = T} (Err error) fault → IsErrOf {T = U} (Err error) fault
+same_error {U = U} {E = E} error fault is =
+    let failed : E → Result U E = λ e. Err e in
+    ap failed (ap (error_or error) is)
+
+-- the fault of a journal, where it is one
+abbrev journal_fault : {T : Type 0} → ReplayFault → Result T BeginFault → ReplayFault
+journal_fault other (Ok value) = other
+journal_fault other (Err (Load fault)) = other
+journal_fault other (Err (Journal fault)) = fault
+
+-- an edit that is refused over the layer of these files
+pub stopped_behind : {T U : Type 0} (A : Type 0) (city parcels : Files) (unit : LengthUnit) (text : List ℕ) (fault : ReplayFault)
+    (tiles : Tiles) (number : ℕ) (refusal : Refusal) → AreTiles city parcels unit tiles
+    → (IsErrOf {T = T} (Err fault) (Refused number refusal) → IsStoppedOver A tiles text number refusal)
+    → IsErrOf {T = U} (Err (Journal fault)) (Journal (Refused number refusal))
+    → IsStoppedBehind A city parcels unit text number refusal
+stopped_behind {T = T} A city parcels unit text fault tiles number refusal are stopped is =
+    let failed : ReplayFault → Result T ReplayFault = λ e. Err e in
+    record {
+      tiles = tiles;
+      are_tiles = are;
+      is_stopped = stopped (ap failed (ap (journal_fault fault) is));
+    }
+
 -- one where there is a first item
-how_many : List ℕ → ℕ
+abbrev how_many : List ℕ → ℕ
 how_many [] = 0
 how_many (x ∷ xs) = 1
 
 -- a journal's text is not empty
-not_empty : (layer rest : List ℕ) → ¬ ([] ≡ header_line layer ++ rest)
-not_empty layer rest is = absurd (omega (arith, ap how_many is))
+not_empty : (layer lines rest : List ℕ) → ¬ ([] ≡ header_line layer ++ lines ++ rest)
+not_empty layer lines rest is = absurd (omega (arith, ap how_many is))
 
 module _ {A : Type 0} where
   -- an empty text has no records
   none_of : (layer text : List ℕ) (records : List (Record A)) (seal rest : List ℕ) → IsTextOf layer text records seal rest → text ≡ []
       → length records ≡ 0
   none_of layer text records seal rest (inl journal) empty =
-      absurd (not_empty layer (records_text layer records ++ rest) (sym empty ∙ journal.is_read.is_text))
-  none_of layer text records seal rest (inr h) empty = ap length h.1.0
+      absurd (not_empty layer (records_text layer records) rest (sym empty ∙ journal.is_read.is_text))
+  none_of layer text records seal rest (inr h) empty = ap length h.1
 
   pub none_marked : (text : List ℕ) (replayed : Replayed) (layer : Seal) → IsMarked A text replayed layer → text ≡ []
       → replayed.records ≡ 0
@@ -100,17 +137,15 @@ module _ {A : Type 0} where
       → IsTextOf layer text records seal rest → count ≡ length records → torn ≡ length rest → 0 < length text
       → whole ≡ length text - torn → IsFound A layer text count seal whole torn
   found_of layer text records seal rest count whole torn (inl journal) so_many is_torn some is =
-      let sum : length text ≡ length (header_line layer) + length (records_text layer records ++ rest) =
-      ap length journal.is_read.is_text ∙ length-append (header_line layer) (records_text layer records ++ rest) in
-      let more : length (records_text layer records ++ rest) ≡ length (records_text layer records) + length rest =
-      length-append (records_text layer records) rest in
+      let sum : length text ≡ length (header_line layer ++ records_text layer records) + length rest =
+      ap length journal.is_read.is_text ∙ length-append (header_line layer ++ records_text layer records) rest in
       record {
         written = records;
         rest = rest;
         are_lines = journal.is_read;
         count = sym so_many;
         is_torn = is_torn;
-        is_whole = omega (arith, is, is_torn, sum, more);
+        is_whole = omega (arith, is, is_torn, sum);
       }
   found_of layer text records seal rest count whole torn (inr h) so_many is_torn some is = absurd (omega (arith, some, ap length h.0))
 

@@ -1,6 +1,5 @@
 -- What a session keeps of the edits that it makes: records in its journal, and what the disk has of them (this product's own).
 use Rattle.std.specs.Prelude.{◌≡◌, ⊤, ℕ, ◌≤◌, List, [], ◌∷◌, Option, None, Some}
-use Rattle.ring_edits.specs.declared.edit.Edit.{Edit}
 use Rattle.journal_records.specs.declared.record.Stamp.{Stamp}
 use Rattle.journal_writers.specs.Writers.{WriterState, HasOneMore}
 use Rattle.fabric_core.specs.Journal.{JournalEntry}

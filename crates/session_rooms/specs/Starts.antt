@@ -8,9 +8,8 @@ use Rattle.journal_records.specs.declared.seal.Seal.{Seal}
 use Rattle.journal_records.specs.Journals.{IsJournal, seal_text}
 use Rattle.fabric_core.specs.declared.refusal.Refusal.{Refusal}
 use Rattle.fabric_core.specs.Rows.{Tiles}
-use Rattle.fabric_core.specs.Journal.{JournalEntry, Book, State, opening_state, replay}
+use Rattle.fabric_core.specs.Journal.{Book, opening_state, replay}
 use Rattle.journal_replays.specs.declared.journal_edits.Replayed.{Replayed}
-use Rattle.journal_replays.specs.declared.journal_edits.ReplayFault.{ReplayFault}
 use Rattle.journal_replays.specs.Replays.{layer_text, IsRefusedAt}
 use Rattle.city_layers.specs.declared.fault.ToolFault.{ToolFault}
 use Rattle.city_layers.specs.declared.fault.ToolFault.TheVariants.{NoMemory}

@@ -98,7 +98,7 @@ impl<F: JournalFile, A: Allocator, K: Clocked> Journal<F, A, K> {
     }
 
     /// How many records the disk has for certain.
-    pub fn synced<R: Wait>(&self, rt: &R) -> u64 {
+    pub(crate) fn synced<R: Wait>(&self, rt: &R) -> u64 {
         self.synced.lock(rt).on_disk().records()
     }
 

@@ -23,9 +23,9 @@ use std::sync::Wait;
 #[derive(Drop)]
 pub struct Room<'r, 'h, H: Allocator, J: Naming<H>, R: Wait, F: JournalFile, K: Clocked> {
     /// Where edits are made, and where windows look.
-    pub office: Office<'h, H, J, &'r R>,
+    office: Office<'h, H, J, &'r R>,
     /// Where their records go; `None` where the session keeps no journal.
-    pub journal: Option<Journal<F, &'h H, K>>,
+    journal: Option<Journal<F, &'h H, K>>,
     /// Whether the session closes, and who stands in the door.
     pub door: Door,
     /// Where what the desks say is kept.
@@ -65,6 +65,38 @@ impl<'r, 'h, H: Allocator, J: Naming<H>, R: Wait, F: JournalFile, K: Clocked> Ro
     F,
     K,
 > {
+    /// A room with an open door, and the journal of its office, where there is one.
+    pub fn new(
+        office: Office<'h, H, J, &'r R>,
+        journal: Option<Journal<F, &'h H, K>>,
+        heap: &'h H,
+        rt: &'r R,
+    ) -> Room<'r, 'h, H, J, R, F, K> {
+        Room {
+            office,
+            journal,
+            door: Door::new(),
+            heap,
+            rt,
+        }
+    }
+
+    /// What is left once all desks have ended: the office, and how many records the disk has of its journal, where there is
+    /// one.
+    pub fn end(self) -> (Office<'h, H, J, &'r R>, Option<u64>) {
+        let Room {
+            office,
+            journal,
+            rt,
+            ..
+        } = self;
+        let kept = match &journal {
+            Some(journal) => Some(journal.synced(rt)),
+            None => None,
+        };
+        (office, kept)
+    }
+
     /// Makes an edit at the office, with the client's own word for who and why, and shows it. Where there is a journal, the
     /// disk has the edit's record before it is shown; records stand in the order of their entries' numbers.
     ///
@@ -130,6 +162,7 @@ impl<'r, 'h, H: Allocator, J: Naming<H>, R: Wait, F: JournalFile, K: Clocked> Ro
         ensures unchanged { IfErr result (λ fault. UnlessJournalFails fault (card.new ≡ with_met card.old card.new.met)) }
         ensures refusal { IfErr result (λ fault. IfRefused fault (λ refusal.
             IsRefusedWhenMet J.office card.new edit.now refusal ⊎ (refusal ≡ Refusal.NoMemory))) }
+        ensures no_journal { IfErr result (λ fault. IfJournalFails fault ⊥) }
     {
         match self.office.enter(self.rt, card, edit) {
             Ok(entry) => Ok(entry),
