@@ -34,12 +34,17 @@ const REQUESTS: [(&str, &str); 15] = [
     (
         "parcel_tool overlay a b c --unit cm --clerk d",
         "Overlay { inputs: Inputs { city: \"a\", parcels: \"b\", unit: Cm, clerks: [\"d\"], workers: None }, \
-         zones: \"c\" }",
+         zones: \"c\", areas: false }",
     ),
     (
         "parcel_tool overlay a --workers 64 b c --unit m",
         "Overlay { inputs: Inputs { city: \"a\", parcels: \"b\", unit: M, clerks: [], workers: Some(Workers { count: 64 }) }, \
-         zones: \"c\" }",
+         zones: \"c\", areas: false }",
+    ),
+    (
+        "parcel_tool overlay a b --areas c --unit m",
+        "Overlay { inputs: Inputs { city: \"a\", parcels: \"b\", unit: M, clerks: [], workers: None }, \
+         zones: \"c\", areas: true }",
     ),
     (
         "parcel_tool part a b --out c/d 18446744073709551615 --unit cm",

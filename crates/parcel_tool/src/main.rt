@@ -33,6 +33,7 @@ use crate::progress::tell;
 use crate::session_disk::SessionDisk;
 use crate::unitless::{why_no_unit, with_unit};
 use crate::units::{Stated, stated_beside};
+use area_runs::overlay_areas;
 use city_layers::area::area;
 use city_layers::{Disk, StandardInput, ToolFault, read_source, read_text};
 use clap::Error;
@@ -239,7 +240,11 @@ fn answer_run<'a, R: Files + Input + Threads + Wait + Sync + AllocGlobal, W: Byt
             force,
         } => answer_export(rt, inputs, (*base, *force), out)?,
         Request::Locate { inputs, points } => answer_locate(rt, inputs, points, out)?,
-        Request::Overlay { inputs, zones } => answer_overlay(rt, inputs, *zones, out)?,
+        Request::Overlay {
+            inputs,
+            zones,
+            areas,
+        } => answer_overlay(rt, inputs, *zones, *areas, out)?,
         Request::Part {
             districts,
             base,
@@ -351,6 +356,7 @@ fn answer_overlay<'a, R: Files + Threads + Wait + Sync + AllocGlobal, W: ByteOut
     rt: &R,
     inputs: &Inputs<'a>,
     zones: &'a str,
+    areas: bool,
     out: &mut W,
 ) -> Result<(), ToolFault<'a>> {
     let heap = rt.alloc();
@@ -365,7 +371,11 @@ fn answer_overlay<'a, R: Files + Threads + Wait + Sync + AllocGlobal, W: ByteOut
         clerks: read_clerks(rt, inputs)?,
     };
     let workers = worker_count(rt, inputs.workers);
-    overlay(rt, workers, &heap, &files, &zones, out)
+    if areas {
+        overlay_areas(rt, workers, &heap, &files, &zones, out)
+    } else {
+        overlay(rt, workers, &heap, &files, &zones, out)
+    }
 }
 
 /// Writes one district as a layer of its own.

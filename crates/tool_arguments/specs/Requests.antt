@@ -1,5 +1,5 @@
 -- What the words of a command line ask for, each word under its name (this product's own).
-use Rattle.std.specs.Prelude.{◌≡◌, ◌⊎◌, ℕ, true, false, List, [], map, Option, None, Some}
+use Rattle.std.specs.Prelude.{◌≡◌, ◌⊎◌, ℕ, true, false, List, [], ◌∷◌, map, Option, None, Some}
 use Rattle.std.specs.Borrow.{Bor}
 use Rattle.geo_exact.specs.declared.corner.Corner.{Corner}
 use Rattle.line_files.specs.TextNumbers.{AreCornerWords}
@@ -76,7 +76,8 @@ IsRequest words (Check inputs all) = AreInputs words inputs × (all ≡ words.al
 IsRequest words (Export inputs base force) =
     AreInputs words inputs × (words.out ≡ Some base) × (force ≡ words.force)
 IsRequest words (Locate inputs points) = AreInputs words inputs × ArePoints words points
-IsRequest words (Overlay inputs zones) = AreInputs words inputs × (words.zones ≡ Some zones)
+IsRequest words (Overlay inputs zones areas) =
+    AreInputs words inputs × (words.zones ≡ Some zones) × (areas ≡ words.areas)
 IsRequest words (Part districts base force) =
     AreDistrictWords words districts × (words.out ≡ Some base) × (force ≡ words.force)
 IsRequest words (Session session) = AreSession words session
@@ -88,7 +89,7 @@ verb_of (Area main unit) = Verb.Area
 verb_of (Check inputs all) = Verb.Check
 verb_of (Export inputs base force) = Verb.Export
 verb_of (Locate inputs points) = Verb.Locate
-verb_of (Overlay inputs zones) = Verb.Overlay
+verb_of (Overlay inputs zones areas) = Verb.Overlay
 verb_of (Part districts base force) = Verb.Part
 verb_of (Session session) = Verb.Session
 verb_of (Explain code) = Verb.Explain

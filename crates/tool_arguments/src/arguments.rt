@@ -88,6 +88,7 @@ fn words_of<'g, 'a>(given: &'g ArgMatches<'a>) -> Words<'g, 'a> {
         workers: given.get_one("workers"),
         all: given.get_flag("all"),
         force: given.get_flag("force"),
+        areas: given.get_flag("areas"),
         clerks: given.get_strs("clerk"),
         desks: given.get_strs("desk"),
         code: given.get_strs("CODE"),
@@ -199,8 +200,17 @@ fn overlay_command<'a>(alloc: Global) -> Result<Command<'a>, AllocError> {
         ))?
         .arg(file(alloc, "ZONES", "The main file of the zones' layer, .shp"))?
         .arg(unit(alloc, "The unit of the files' coordinates"))?
+        .arg(areas(alloc))?
         .arg(clerk(alloc))?
         .arg(worker_count(alloc))
+}
+
+/// Whether areas in zones are told, too.
+fn areas<'a>(alloc: Global) -> Arg<'a> {
+    Arg::new(alloc, "areas")
+        .long("areas")
+        .action(ArgAction::SetTrue)
+        .help("Prints for each pair twice the area of the parcel in the zone, too")
 }
 
 fn part_command<'a>(alloc: Global) -> Result<Command<'a>, AllocError> {

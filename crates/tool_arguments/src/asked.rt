@@ -127,7 +127,12 @@ fn overlay_request<'a>(
     let Some(inputs) = inputs_of(alloc, words)? else {
         return Ok(None);
     };
-    Ok(Some(Request::Overlay { inputs, zones }))
+    let areas = words.areas;
+    Ok(Some(Request::Overlay {
+        inputs,
+        zones,
+        areas,
+    }))
 }
 
 /// What the words of `part` ask for.
@@ -177,7 +182,7 @@ fn session_request<'a>(
 
 /// The first of the words that were given under a name, where there is one.
 fn first_word<'a>(words: Option<&[&'a str]>) -> Option<&'a str>
-    ensures { result ≡ first_of (given words) }
+    ensures { result ≡ first_of (given words.entry) }
 {
     match words {
         Some([first, ..]) => Some(*first),

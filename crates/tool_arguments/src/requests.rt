@@ -46,6 +46,8 @@ pub enum Request<'a> {
         inputs: Inputs<'a>,
         /// The path of the main file of the zones' layer.
         zones: &'a str,
+        /// Whether it is told, too, how much of each parcel lies in each zone.
+        areas: bool,
     },
     /// Districts of those that tile their city, each written as a layer of its own.
     Part {

@@ -50,6 +50,8 @@ pub struct Words<'g, 'a> {
     pub all: bool,
     /// `--force`.
     pub force: bool,
+    /// `--areas`.
+    pub areas: bool,
     /// Each `--clerk`.
     pub clerks: Option<&'g [&'a str]>,
     /// Each `--desk`.

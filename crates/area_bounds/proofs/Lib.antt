@@ -1,0 +1,4 @@
+pub mod Quotients
+pub mod EdgeLines
+pub mod Counts
+pub mod Gaps

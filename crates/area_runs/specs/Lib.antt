@@ -1,0 +1,2 @@
+pub mod AreaReport
+pub mod own

@@ -1,0 +1,7 @@
+pub mod Wholes
+pub mod Given
+pub mod Once
+pub mod Aligned
+pub mod Zips
+pub mod ParcelLines
+pub mod Tables

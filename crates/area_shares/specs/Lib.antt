@@ -1,0 +1,4 @@
+pub mod Shares
+pub mod AreaTable
+pub mod AreaText
+pub mod own

@@ -1,0 +1,14 @@
+//! How much of each parcel lies in each zone, in whole numbers that sum to the parcel's area.
+#![tactic(auto)]
+
+mod areas;
+mod parcels;
+mod report;
+mod rounding;
+mod share;
+mod shared;
+mod zones;
+
+pub use areas::{area_lines, push_area_lines};
+pub use report::write_areas;
+pub use shared::AreaLine;

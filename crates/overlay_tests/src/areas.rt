@@ -1,0 +1,83 @@
+//! How much of each parcel lies in each zone: rows by hand.
+
+use crate::pairs::all_pairs;
+use crate::zones::{LEFT, RIGHT};
+use area_shares::{area_lines, write_areas};
+use geo_exact::{Counted, Failed};
+use std::alloc::Allocator;
+use std::test::Fail;
+use test_builders::Place;
+use test_cities::{EAST, SQUARE, WEST, city, layer_in, sheet_in};
+
+const BELOW: [Place; 3] = [(0, 0), (100, 0), (100, 100)];
+
+const ABOVE: [Place; 3] = [(0, 0), (100, 100), (0, 100)];
+
+const WIDE_BELOW: [Place; 4] = [(0, 0), (100, 0), (100, 100), (50, 51)];
+
+const NARROW_ABOVE: [Place; 4] = [(0, 0), (50, 51), (100, 100), (0, 100)];
+
+/// The parcel from y = 0 to 10 of the city.
+const SOUTH: [Place; 4] = [(0, 0), (100, 0), (100, 10), (0, 10)];
+
+/// The rest of the city.
+const NORTH: [Place; 4] = [(0, 10), (100, 10), (100, 100), (0, 100)];
+
+const WEDGE: [Place; 3] = [(0, 0), (33, 0), (0, 77)];
+
+const BESIDE_WEDGE: [Place; 5] = [(33, 0), (100, 0), (100, 100), (0, 100), (0, 77)];
+
+/// Parcels and zones of the square, and the text of their areas.
+struct Case {
+    parcels: [&'static [Place]; 2],
+    zones: [&'static [Place]; 2],
+    text: &'static str,
+}
+
+/// Halves, the parcels themselves, a sliver of 50 square millimetres, and a border that meets another in no whole point:
+/// the southern parcel has 4320/7 of the wedge, and the northern one 13467/7.
+static CASES: [Case; 4] = [
+    Case {
+        parcels: [&WEST, &EAST],
+        zones: [&LEFT, &RIGHT],
+        text: "area 1 1 10000\narea 1 2 2000\narea 2 2 8000\n",
+    },
+    Case {
+        parcels: [&WEST, &EAST],
+        zones: [&WEST, &EAST],
+        text: "area 1 1 12000\narea 2 2 8000\n",
+    },
+    Case {
+        parcels: [&BELOW, &ABOVE],
+        zones: [&WIDE_BELOW, &NARROW_ABOVE],
+        text: "area 1 1 10000\narea 2 1 100\narea 2 2 9900\n",
+    },
+    Case {
+        parcels: [&SOUTH, &NORTH],
+        zones: [&WEDGE, &BESIDE_WEDGE],
+        text: "area 1 1 618\narea 1 2 1382\narea 2 1 1924\narea 2 2 16076\n",
+    },
+];
+
+/// Whether the areas of these parcels in these zones have this text.
+fn is_told<H: Allocator>(heap: &H, case: &Case) -> Result<bool, Fail> {
+    let city = city(heap, &SQUARE)?;
+    let sheet = sheet_in(heap, &city, &case.parcels)?;
+    let zones = layer_in(heap, &city, &case.zones)?;
+    let pairs = all_pairs(heap, &sheet, &zones)?;
+    let lines = area_lines(heap, &sheet, &zones, &pairs)?;
+    let mut out = Counted::new(Vec::new(heap));
+    match write_areas(&lines, &mut out) {
+        Ok(()) => Ok(out.into_inner().as_slice() == case.text.as_bytes()),
+        Err(Failed) => Err(Fail::new("a write failed")),
+    }
+}
+
+#[test]
+fn areas_add_up(rt: HostRuntime) -> Result<(), Fail> {
+    let heap = &rt.alloc();
+    for case in &CASES {
+        assert!(rt; is_told(heap, case)?, "{}", case.text);
+    }
+    Ok(())
+}
