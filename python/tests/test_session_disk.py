@@ -69,7 +69,8 @@ def shows(session: gv.Session, desk: gv.Desk, accepted: List[str]) -> None:
 @pytest.mark.parametrize("kind", ["write", "half a write", "synchronise"])
 def test_an_edit_that_the_disk_refuses_is_not_shown(town, monkeypatch, failing, kind, at):
     """Number 2: an error of the device at the write of an edit, in its middle, and at its synchronisation."""
-    preload(town, monkeypatch, failing, kind, at)
+    # A start writes once, and synchronises twice.
+    preload(town, monkeypatch, failing, kind, at + (kind == "synchronise"))
     with town.session("anna", "bert", zones=town.city) as session:
         with session.desk("anna", SECONDS) as desk, session.desk("bert", SECONDS) as other:
             accepted = accepted_until_broken(desk)
@@ -86,10 +87,10 @@ def test_an_edit_that_the_disk_refuses_is_not_shown(town, monkeypatch, failing, 
         assert session.replayed == len(lines) and len(session.notes) == (1 if journal.torn else 0)
 
 
-@pytest.mark.parametrize("kind", ["write", "half a write", "synchronise"])
-def test_a_journal_that_can_not_be_begun(town, monkeypatch, failing, kind):
+@pytest.mark.parametrize("kind, at", [("write", 1), ("half a write", 1), ("synchronise", 1), ("synchronise", 2)])
+def test_a_journal_that_can_not_be_begun(town, monkeypatch, failing, kind, at):
     """A start that fails leaves a file with which the next one begins."""
-    preload(town, monkeypatch, failing, kind, 1)
+    preload(town, monkeypatch, failing, kind, at)
     with pytest.raises(gv.JournalRefused, match="^journal: S1"):
         town.session()
     monkeypatch.undo()

@@ -273,6 +273,24 @@ def test_an_export_never_replaces_a_pipe_or_an_index(town, tmp_path):
             assert desk.entries() == 0
 
 
+def test_an_export_is_refused_where_the_command_is(town, tmp_path):
+    """A base that ends in `.shp`, a folder, and a table or a projection that stands beside; nothing is written."""
+    mine = tmp_path / "mine"
+    mine.mkdir()
+    (mine / "folder").mkdir()
+    (mine / "old.dbf").write_bytes(b"names")
+    (mine / "older.prj").symlink_to("nowhere")
+    before = {path.name for path in mine.iterdir()}
+    refused = {"new.shp": "no base", "new.SHP": "no base", "folder": "no base", "old": "S6", "older": "S6"}
+    with town.session("anna") as session:
+        for name, code in refused.items():
+            with pytest.raises(gv.SessionError, match=f"^{code} .*{name}") as fault:
+                session.export(mine / name)
+            assert fault.value.code == code and {path.name for path in mine.iterdir()} == before
+        assert session.export(mine / "new") == 64
+    assert (mine / "old.dbf").read_bytes() == b"names"
+
+
 def test_the_unit_file(town, tmp_path):
     """The commands of the sample unit, as systemd would run them, with other paths."""
     unit = settings_of(UNIT, town, tmp_path)

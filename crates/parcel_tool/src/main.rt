@@ -15,6 +15,7 @@ mod hints;
 mod named;
 mod outputs;
 mod progress;
+mod session_disk;
 mod sizes;
 mod unitless;
 mod units;
@@ -29,6 +30,7 @@ use crate::hints::hint_of;
 use crate::named::word_of;
 use crate::outputs::{is_folder, write_layer};
 use crate::progress::tell;
+use crate::session_disk::SessionDisk;
 use crate::unitless::{why_no_unit, with_unit};
 use crate::units::{Stated, stated_beside};
 use area_runs::overlay_areas;
@@ -77,9 +79,9 @@ fn main(rt: HostRuntime) -> ExitCode {
         progress,
     };
     match tool_arguments::parse(rt.alloc(), words.as_slice()) {
-        Ok(request) => answer(&rt, &Disk(&rt), &request, told),
+        Ok(request) => answer(&rt, &SessionDisk(&rt), &request, told),
         Err(error) if error.kind() == ErrorKind::MissingRequiredArgument => {
-            answer_unitless(&rt, &Disk(&rt), words.as_slice(), &error, told)
+            answer_unitless(&rt, &SessionDisk(&rt), words.as_slice(), &error, told)
         }
         Err(error) => end_by_refusal(&rt, &error),
     }

@@ -2,7 +2,7 @@
 
 use crate::ended::Ended;
 use city_layers::{ToolFault, replace_layer};
-use std::alloc::{AllocError, Global};
+use std::alloc::{AllocError, Allocator, Global};
 use std::fs::File;
 use std::io::ErrorKind;
 use std::rt::Files;
@@ -28,7 +28,9 @@ pub(crate) fn write_layer<'p, R: Files>(
     bytes: (&[u8], &[u8]),
 ) -> Result<(), Ended<'p>> {
     if !force {
-        refuse_beside(rt, alloc, base)?;
+        if let Some(ending) = find_beside(rt, alloc, base)? {
+            return Err(Ended::Beside(base, ending));
+        }
     }
     let (main, index) = bytes;
     match replace_layer(rt, alloc, base, main, index) {
@@ -42,15 +44,19 @@ pub(crate) fn write_layer<'p, R: Files>(
     Ok(())
 }
 
-/// Refuses a table or a projection that stands beside BASE.shp.
-fn refuse_beside<'p, R: Files>(rt: &R, alloc: Global, base: &'p str) -> Result<(), Ended<'p>> {
+/// How the path of a table or a projection ends that stands beside BASE.shp, if one does.
+pub(crate) fn find_beside<R: Files, A: Allocator + Copy>(
+    rt: &R,
+    alloc: A,
+    base: &str,
+) -> Result<Option<&'static str>, AllocError> {
     for ending in BESIDE {
         let path = format!(in alloc; "{base}{ending}")?;
         if rt.symlink_metadata(path.as_str()).is_ok() {
-            return Err(Ended::Beside(base, ending));
+            return Ok(Some(ending));
         }
     }
-    Ok(())
+    Ok(None)
 }
 
 /// Removes the table and the projection that stand beside BASE.shp.

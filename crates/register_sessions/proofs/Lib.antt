@@ -1,4 +1,1 @@
 pub mod Hands
-pub mod EditsOfClerk
-pub mod Recorded
-pub mod Starts

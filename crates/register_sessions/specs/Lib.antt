@@ -1,6 +1,1 @@
-pub mod DeskAnswers
-pub mod Kept
-pub mod Rooms
-pub mod Starts
 pub mod StartFaults
-pub mod ClerkEdits

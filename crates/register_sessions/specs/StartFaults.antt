@@ -1,5 +1,5 @@
 -- What a user is told where a journal's edits are not made again (this product's own).
-use Rattle.std.specs.Prelude.{◌≡◌, ◌⊎◌, ⊤, ℕ, ◌+◌, ◌*◌, ◌^◌, ◌<◌, List, Vec}
+use Rattle.std.specs.Prelude.{◌≡◌, ◌⊎◌, ℕ, ◌+◌, ◌*◌, ◌^◌, ◌<◌, List, Vec}
 use Rattle.std.specs.Borrow.{Bor}
 use Rattle.fabric_core.specs.declared.refusal.Refusal.{Refusal}
 use Rattle.city_layers.specs.declared.fault.ToolFault.TheVariants.{NoMemory}

@@ -1,14 +1,12 @@
 //! Desks, each served by a thread of its own.
 
-use crate::answers::{Chair, answer};
-use crate::journal_file::Clocked;
-use crate::lines::Came;
+use crate::journal_file::DiskFile;
 use crate::lines_pipe::LinesPipe;
 use crate::pipes::{Paths, Pipes};
 use crate::post::{Attendant, Next, Served, Trouble, serve_lines};
-use crate::room::Room;
 use desk_lock::Naming;
 use geo_exact::{ByteOut, Counted};
+use session_rooms::{Came, Chair, Clocked, Room, answer};
 use std::alloc::Allocator;
 use std::fs::File;
 use std::io;
@@ -25,7 +23,7 @@ pub(crate) struct Desk<'p, 'h, H: Allocator, J: Naming<H>> {
 
 /// Serves a desk's clients, one after the other, until the session closes, or the desk's pipes can't be opened.
 pub(crate) fn serve_desk<'p, 'h, P: Pipes, H: Allocator, J: Naming<H>, R: Wait, K: Clocked>(
-    room: &Room<'_, 'h, H, J, R, K>,
+    room: &Room<'_, 'h, H, J, R, DiskFile, K>,
     pipes: &P,
     desk: Desk<'p, 'h, H, J>,
 ) -> Desk<'p, 'h, H, J> {
@@ -40,7 +38,7 @@ pub(crate) fn serve_desk<'p, 'h, P: Pipes, H: Allocator, J: Naming<H>, R: Wait, 
 
 /// Serves the next client of a desk; whether the desk goes on then.
 fn serve_next<'p, 'h, P: Pipes, H: Allocator, J: Naming<H>, R: Wait, K: Clocked>(
-    room: &Room<'_, 'h, H, J, R, K>,
+    room: &Room<'_, 'h, H, J, R, DiskFile, K>,
     pipes: &P,
     desk: &mut Desk<'p, 'h, H, J>,
 ) -> bool {
@@ -69,7 +67,7 @@ fn serve_next<'p, 'h, P: Pipes, H: Allocator, J: Naming<H>, R: Wait, K: Clocked>
 
 /// Answers a client's lines until no further one is taken.
 fn serve_client<'h, H: Allocator, J: Naming<H>, R: Wait, K: Clocked, F: Read, W: ByteOut>(
-    room: &Room<'_, 'h, H, J, R, K>,
+    room: &Room<'_, 'h, H, J, R, DiskFile, K>,
     chair: &mut Chair<'h, H, J>,
     reader: &mut BufReader<F, &'h H>,
     out: &mut W,
@@ -81,7 +79,7 @@ fn serve_client<'h, H: Allocator, J: Naming<H>, R: Wait, K: Clocked, F: Read, W:
 /// Who answers at a desk: whoever sits there asks the room.
 #[derive(Drop)]
 struct DeskAttendant<'s, 'r, 'h, H: Allocator, J: Naming<H>, R: Wait, K: Clocked> {
-    room: &'s Room<'r, 'h, H, J, R, K>,
+    room: &'s Room<'r, 'h, H, J, R, DiskFile, K>,
     chair: &'s mut Chair<'h, H, J>,
 }
 
@@ -109,7 +107,7 @@ type Opened<'s, 'h, H> = (BufReader<LinesPipe<'s>, &'h H>, File);
 
 /// Opens a desk's pipes: waits for a client.
 fn open_both<'s, 'h, P: Pipes, H: Allocator, J: Naming<H>, R: Wait, K: Clocked>(
-    room: &'s Room<'_, 'h, H, J, R, K>,
+    room: &'s Room<'_, 'h, H, J, R, DiskFile, K>,
     pipes: &P,
     paths: &'s Paths<&'h H>,
 ) -> io::Result<Opened<'s, 'h, H>> {

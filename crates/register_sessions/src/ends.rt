@@ -1,7 +1,7 @@
 //! How the desks of a session end.
 
-use crate::door::Door;
 use crate::pipes::{Paths, Pipes};
+use session_rooms::Door;
 use std::alloc::Allocator;
 use std::fs::File;
 use std::io;

@@ -2,6 +2,7 @@
 
 use city_layers::Disk;
 use journal_writers::{FileFailed, JournalFile, Synchroniser};
+use session_rooms::Clocked;
 use std::fs::File;
 use std::io;
 use std::io::{ErrorKind, Write};
@@ -29,12 +30,6 @@ impl<'a, R: Files + Clock> Machine for Disk<'a, R> {
             Err(_) => Err(io::Error::from(ErrorKind::InvalidData)),
         }
     }
-}
-
-/// A synchroniser of a machine that has the time.
-pub trait Clocked: Synchroniser {
-    /// The time, in whole seconds since 1970, UTC.
-    fn seconds(&self) -> io::Result<i64>;
 }
 
 /// A journal's file on the disk, as it is written.

@@ -1,6 +1,6 @@
 //! The pipe from which a desk's lines come.
 
-use crate::door::Door;
+use session_rooms::Door;
 use std::fs::File;
 use std::io;
 use std::io::Read;

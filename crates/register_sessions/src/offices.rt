@@ -2,10 +2,10 @@
 
 ghost use Rattle.std.specs.Prelude.{◌≡◌, max};
 
-use crate::answers::Chair;
 use crate::desks::Desk;
 use crate::pipes::Paths;
 use desk_lock::{Card, MOST_PLACES, Naming, Window};
+use session_rooms::Chair;
 use std::alloc::{AllocError, Allocator};
 
 /// Who sits where: at each desk with pipes, and at the operator's.

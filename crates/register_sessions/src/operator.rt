@@ -1,14 +1,12 @@
 //! The operator's desk.
 
-use crate::answers::{Asked, Chair, answer_asked, read_asked};
-use crate::journal_file::{Clocked, Machine};
-use crate::lines::Came;
+use crate::journal_file::{DiskFile, Machine};
 use crate::post::{Attendant, Next, Served, Trouble, serve_lines};
 use crate::reports::{Exports, Ground, report_check, report_export, report_overlay};
-use crate::room::Room;
 use desk_lock::Naming;
 use geo_exact::ByteOut;
 use session_lines::{Line, SessionFault, push_error, push_failure, push_published};
+use session_rooms::{Asked, Came, Chair, Clocked, Room, answer_asked, read_asked};
 use std::alloc::{AllocError, Allocator};
 use std::io::{BufReader, Read};
 use std::sync::Wait;
@@ -31,7 +29,7 @@ pub(crate) fn serve_operator<
     F: Read,
     W: ByteOut,
 >(
-    room: &Room<'_, 'h, H, J, R, K>,
+    room: &Room<'_, 'h, H, J, R, DiskFile, K>,
     disk: &P,
     operator: &mut Operator<'h, H, J>,
     reader: &mut BufReader<F, &'h H>,
@@ -48,7 +46,7 @@ pub(crate) fn serve_operator<
 /// Who answers at the operator's desk.
 #[derive(Drop)]
 struct OperatorAttendant<'s, 'r, 'h, P, H: Allocator, J: Naming<H>, R: Wait, K: Clocked> {
-    room: &'s Room<'r, 'h, H, J, R, K>,
+    room: &'s Room<'r, 'h, H, J, R, DiskFile, K>,
     disk: &'s P,
     operator: &'s mut Operator<'h, H, J>,
 }
@@ -94,7 +92,7 @@ impl<
 
 /// Adds whether the parcels tile the city.
 fn answer_check<'h, H: Allocator, J: Naming<H>, R: Wait, K: Clocked>(
-    room: &Room<'_, 'h, H, J, R, K>,
+    room: &Room<'_, 'h, H, J, R, DiskFile, K>,
     text: &mut Vec<u8, &'h H>,
 ) -> Result<(), AllocError> {
     match room.sheet() {
@@ -105,7 +103,7 @@ fn answer_check<'h, H: Allocator, J: Naming<H>, R: Wait, K: Clocked>(
 
 /// Writes which parcels and zones overlap, where there are zones.
 fn answer_overlay<'h, H: Allocator, J: Naming<H>, R: Wait, K: Clocked, W: ByteOut>(
-    room: &Room<'_, 'h, H, J, R, K>,
+    room: &Room<'_, 'h, H, J, R, DiskFile, K>,
     ground: &Ground<'h, H, J>,
     text: &mut Vec<u8, &'h H>,
     out: &mut W,
@@ -119,9 +117,9 @@ fn answer_overlay<'h, H: Allocator, J: Naming<H>, R: Wait, K: Clocked, W: ByteOu
     }
 }
 
-/// Replaces the layer at BASE by the parcels, unless that is one of the session's own files.
+/// Replaces the layer at BASE by the parcels, unless that is one of the session's own files, or something is in the way.
 fn answer_export<'h, P: Exports + Machine, H: Allocator, J: Naming<H>, R: Wait, K: Clocked>(
-    room: &Room<'_, 'h, H, J, R, K>,
+    room: &Room<'_, 'h, H, J, R, DiskFile, K>,
     disk: &P,
     ground: &Ground<'h, H, J>,
     base: &str,
@@ -129,6 +127,9 @@ fn answer_export<'h, P: Exports + Machine, H: Allocator, J: Naming<H>, R: Wait, 
 ) -> Result<(), AllocError> {
     if let Some(path) = ground.own_files.find_in_export(disk, room.heap, base)? {
         let why = format!(in room.heap; "S5 {path}")?;
+        return push_failure(text, why.as_str());
+    }
+    if let Some(why) = disk.obstacle(room.heap, base)? {
         return push_failure(text, why.as_str());
     }
     match room.sheet() {
@@ -139,7 +140,7 @@ fn answer_export<'h, P: Exports + Machine, H: Allocator, J: Naming<H>, R: Wait, 
 
 /// Publishes all entries, and adds how many they are. The operator's window knows them then.
 fn answer_publish<'h, H: Allocator, J: Naming<H>, R: Wait, K: Clocked>(
-    room: &Room<'_, 'h, H, J, R, K>,
+    room: &Room<'_, 'h, H, J, R, DiskFile, K>,
     chair: &mut Chair<'h, H, J>,
     text: &mut Vec<u8, &'h H>,
 ) -> Result<(), AllocError> {

@@ -2,10 +2,9 @@
 
 ghost use Rattle.std.specs.Prelude.{◌<◌, vec_len, IfOk};
 
-use crate::door::Door;
-use crate::lines::{Came, has_line, next_line};
 use geo_exact::{ByteOut, Failed};
 use session_lines::{SessionFault, push_error};
+use session_rooms::{Came, Door, has_line, next_line};
 use std::alloc::{AllocError, Allocator};
 use std::io::{BufReader, Read};
 use text_pieces::put_all;

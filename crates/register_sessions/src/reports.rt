@@ -5,7 +5,7 @@ ghost use Rattle.zone_tables.specs.Overlap.{IsOverlapTable};
 
 use crate::own_files::OwnFiles;
 use crate::post::{Trouble, write_out};
-use city_layers::{Disk, ToolFault, replace_layer};
+use city_layers::ToolFault;
 use desk_lock::Naming;
 use fabric_core::{Layer, Sheet};
 use geo_exact::{ByteOut, LAYER_RECORDS, LIST_CORNERS};
@@ -14,7 +14,6 @@ use parcel_runs::sheets::{export_sheet, push_sheet_tiling};
 use session_lines::{SessionFault, push_end, push_error, push_failure};
 use std::alloc::{AllocError, Allocator};
 use std::marker::PhantomData;
-use std::rt::Files;
 use zone_tables::write_report;
 
 /// What reports need beside the office's sheet: the zones of its city, where there are some, and which files no export
@@ -120,13 +119,24 @@ fn step_until_done<'t, 'h, H: Allocator>(hand: &mut Hand<'t, 'h, H>)
     }
 }
 
-/// Where exports are written: [`Disk`] is the machine's.
+/// Where exports are written.
 pub trait Exports {
+    /// Why no layer is written at BASE, as the operator is told it; `None` where nothing is in the way.
+    ///
+    /// # Errors
+    ///
+    /// [`AllocError`] where an allocation is refused.
+    fn obstacle<A: Allocator + Copy>(
+        &self,
+        alloc: A,
+        base: &str,
+    ) -> Result<Option<String<A>>, AllocError>;
+
     /// Replaces the layer at BASE by two files: the bytes of its main file and of its index.
     ///
     /// # Errors
     ///
-    /// As [`replace_layer`].
+    /// As [`replace_layer`](city_layers::replace_layer).
     fn replace<A: Allocator + Copy>(
         &self,
         alloc: A,
@@ -134,18 +144,6 @@ pub trait Exports {
         main: &[u8],
         index: &[u8],
     ) -> Result<(), ToolFault<'static>>;
-}
-
-impl<'a, R: Files> Exports for Disk<'a, R> {
-    fn replace<A: Allocator + Copy>(
-        &self,
-        alloc: A,
-        base: &str,
-        main: &[u8],
-        index: &[u8],
-    ) -> Result<(), ToolFault<'static>> {
-        replace_layer(self.0, alloc, base, main, index)
-    }
 }
 
 /// Replaces the layer at BASE by a sheet's parcels, and adds how many there are.

@@ -1,20 +1,19 @@
 //! How all desks of a session are served, and how it ends.
 
-use crate::answers::Chair;
 use crate::desks::{Desk, serve_desk};
 use crate::ends::close_desks;
-use crate::journal_file::{Clocked, Machine};
+use crate::journal_file::{DiskFile, Machine};
 use crate::operator::{Operator, serve_operator};
 use crate::pipes::{Paths, Pipes};
 use crate::post::write_out;
 use crate::reports::Exports;
-use crate::room::Room;
 use crate::start_fault::StartFault;
 use crate::threads::{Done, Host, Task, run_beside};
 use city_layers::ToolFault;
 use desk_lock::{Card, CloseFault, Naming, Office};
 use geo_exact::ByteOut;
 use session_lines::{SessionFault, push_closed, push_error};
+use session_rooms::{Chair, Clocked, Room};
 use std::alloc::{AllocError, Allocator};
 use std::io::{BufReader, Read};
 use std::sync::Wait;
@@ -32,7 +31,7 @@ pub(crate) struct Counter<I, A: Allocator, W> {
 /// What all threads of a session share.
 #[derive(Drop)]
 struct Shared<'s, 'r, 'h, P, H: Allocator, J: Naming<H>, R: Wait, K: Clocked> {
-    room: &'s Room<'r, 'h, H, J, R, K>,
+    room: &'s Room<'r, 'h, H, J, R, DiskFile, K>,
     disk: &'s P,
     paths: &'s [Paths<&'h H>],
 }
@@ -129,7 +128,7 @@ pub(crate) fn serve<
     I: Read + Drop,
     W: ByteOut + Drop,
 >(
-    room: Room<'r, 'h, H, J, R, K>,
+    room: Room<'r, 'h, H, J, R, DiskFile, K>,
     disk: &P,
     paths: &'p [Paths<&'h H>],
     desks: Vec<Desk<'p, 'h, H, J>, &'h H>,
@@ -145,16 +144,8 @@ pub(crate) fn serve<
     if let Some(desk) = refused {
         return Err(StartFault::Run(ToolFault::NoThread(desk)));
     }
-    let Room {
-        office,
-        journal,
-        rt,
-        ..
-    } = room;
-    let kept = match &journal {
-        Some(journal) => Some(journal.synced(rt)),
-        None => None,
-    };
+    let rt = room.rt;
+    let (office, kept) = room.end();
     text.clear();
     push_end_of(rt, office, cards, kept, &mut text)?;
     match put_all(text.as_slice(), &mut out) {
@@ -175,7 +166,7 @@ fn serve_all<
     I: Read + Drop,
     W: ByteOut + Drop,
 >(
-    room: &Room<'_, 'h, H, J, R, K>,
+    room: &Room<'_, 'h, H, J, R, DiskFile, K>,
     disk: &P,
     paths: &'p [Paths<&'h H>],
     desks: Vec<Desk<'p, 'h, H, J>, &'h H>,

@@ -3,21 +3,16 @@
 ghost use Rattle.std.specs.Prelude.{◌≡◌, max, length, IfOk};
 ghost use Rattle.std.specs.Borrow.{Bor};
 ghost use Rattle.desk_lock.specs.Offices.{origin_of};
-ghost use Rattle.register_sessions.specs.Starts.{IsBehind, IsMarked};
+ghost use Rattle.session_rooms.specs.Starts.{IsBehind, IsMarked};
 ghost use Rattle.register_sessions.specs.StartFaults.{IsToldOf, IsToldRefused};
 
-use crate::begin::{BeginFault, Begun, Sources, begin_register, begin_writer, ready_text};
-use crate::clerk_edits::{EDITS_CLERK, EditsFault, add_entries, make_edits};
-use crate::door::Door;
 use crate::found_journal::{FoundJournal, find_journal};
-use crate::journal::{Journal, time_of};
-use crate::journal_file::{Clocked, DiskFile, DiskSynchroniser, Machine};
+use crate::journal_file::{DiskFile, DiskSynchroniser, Machine};
 use crate::offices::{Seats, clerks_of, seat_all, windows_of};
 use crate::operator::Operator;
 use crate::own_files::OwnFiles;
 use crate::pipes::{Paths, Pipes, find_pipes, let_go};
 use crate::reports::{Exports, Ground};
-use crate::room::Room;
 use crate::serving::{Counter, serve};
 use crate::start_fault::StartFault;
 use city_layers::{Disk, ToolFault, read_source, read_text};
@@ -29,6 +24,10 @@ use journal_records::{JournalFault, Seal};
 use journal_replays::{ReplayFault, Replayed};
 use journal_writers::sync;
 use parcel_runs::refuse_many_clerks;
+use session_rooms::{
+    BeginFault, Begun, Clocked, EDITS_CLERK, EditsFault, Journal, Room, Sources, add_entries,
+    begin_register, begin_writer, make_edits, ready_text, time_of,
+};
 use std::alloc::Allocator;
 use std::fs::File;
 use std::io;
@@ -60,7 +59,7 @@ pub struct Plan<'a> {
 }
 
 /// Starts a session, serves its desks, and returns once it is closed. Its pipes and its exports are of the disk, which
-/// is [`Disk`] of the same runtime.
+/// is that of the same runtime.
 ///
 /// # Errors
 ///
@@ -106,7 +105,7 @@ fn serve_at<
 struct Register<'h, H: Allocator, K: Clocked> {
     fabric: Fabric<'h, H>,
     zones: Option<Layer<'h, H>>,
-    journal: Option<Journal<&'h H, K>>,
+    journal: Option<Journal<DiskFile, &'h H, K>>,
 }
 
 /// Reads and loads a register's files. All are read before the first is looked at.
@@ -223,7 +222,7 @@ fn begin_journal<'a, 'h, R: Eprint, P: Machine, H: Allocator>(
     layer: &Seal,
     replayed: &Replayed,
     found: FoundJournal<'a, &'h H>,
-) -> Result<Journal<&'h H, DiskSynchroniser<'a, P>>, StartFault<'a, &'h H>>
+) -> Result<Journal<DiskFile, &'h H, DiskSynchroniser<'a, P>>, StartFault<'a, &'h H>>
     requires { IsMarked (Bor H) found.text.items replayed.now layer.now }
 {
     let FoundJournal { path, file, text } = found;
@@ -337,13 +336,7 @@ fn at_office<
         Err((_, fault)) => return Err(StartFault::Run(fault_of_open(fault))),
     };
     let Seats { desks, chair } = seat_all(heap, paths, cards, windows)?;
-    let room = Room {
-        office,
-        journal,
-        door: Door::new(),
-        heap,
-        rt,
-    };
+    let room = Room::new(office, journal, heap, rt);
     let ground = Ground {
         zones,
         own_files,

@@ -97,10 +97,11 @@ ERRORS: Dict[str, Type[SessionError]] = {
     "journal": JournalBroken,
     "closed": SessionClosed,
     "no zones": NoZones,
+    "no base": SessionError,
     "K2": CardsMissing,
 }
 
-_ERROR = re.compile(r"error: (L1|K4|no memory|operator|no card|no window|journal|closed|no zones|K2)(?: (.*))?")
+_ERROR = re.compile(r"error: (L1|K4|no memory|operator|no card|no window|journal|closed|no zones|no base|K2)(?: (.*))?")
 _ACCEPTED = re.compile(r"ok ([0-9]+) out((?: [0-9]+)*) new((?: [0-9]+)*)")
 _REFUSED = re.compile(r"refused (E[0-9]+|no memory)(?: (.*))?")
 _PLACE = re.compile(r"at ([0-9]+) (-?[0-9]+) (-?[0-9]+) (?:(inside)( [0-9]+)|(edge)((?: [0-9]+)+)|(outside))")

@@ -158,8 +158,9 @@ class Session(Calls):
     def export(self, base: PathLike) -> int:
         """Writes the parcels of now to `base`.shp and `base`.shx, in mm, and answers how many they are.
 
-        Records are numbered anew, by ascending ids. Raises `SessionError` with code S2 where they can't be written, and
-        with S5 where `base` names files of the session's own: a layer that it read, its journal, a pipe.
+        Records are numbered anew, by ascending ids. Raises `SessionError`, and nothing is written: with code S2 where they
+        can't be written, with S5 where `base` names files of the session's own (a layer that it read, its journal, a pipe),
+        with S6 where a table or a projection stands beside, and with `no base` where it ends in `.shp` or is a folder.
         """
         return count_of("\n".join(self._reported(f"export {_text(base)}")), "exported")
 

@@ -1,0 +1,4 @@
+pub mod EditsOfClerk
+pub mod Recorded
+pub mod Rooms
+pub mod Starts

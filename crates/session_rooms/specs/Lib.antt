@@ -1,0 +1,5 @@
+pub mod DeskAnswers
+pub mod Kept
+pub mod Rooms
+pub mod Starts
+pub mod ClerkEdits

@@ -1,0 +1,305 @@
+//! What all desks of a session share.
+
+ghost use Rattle.std.specs.Prelude.{◌≡◌, ◌⊎◌, ◌≤◌, length, true, IfOk, IfErr, IfSome};
+ghost use Rattle.fabric_core.specs.EditResults.{IsLawful};
+ghost use Rattle.desk_lock.specs.Offices.{with_made, with_met, journal_met, EndsWith, IsSometime, IsRefusedWhenMet};
+ghost use Rattle.session_rooms.specs.Rooms.{IfRefused, UnlessJournalFails, IfJournalFails};
+ghost use Rattle.session_rooms.specs.Kept.{IsRecorded, IsOnDisk};
+
+use crate::door::Door;
+use crate::journal::{Clocked, Journal};
+use desk_lock::{Card, Naming, Notice, Office};
+use fabric_core::{Entry, Refusal, Sheet};
+use journal_records::Stamp;
+use journal_writers::{JournalFile, JournalWriter, OnDisk};
+use ring_edits::Edit;
+use session_lines::SessionFault;
+use std::alloc::Allocator;
+use std::sync::Wait;
+
+/// What all desks share: the office, the journal, if there is one, and the door.
+///
+/// Desks reach the office through it alone: so no edit is shown, reported or answered before the disk has its record.
+#[derive(Drop)]
+pub struct Room<'r, 'h, H: Allocator, J: Naming<H>, R: Wait, F: JournalFile, K: Clocked> {
+    /// Where edits are made, and where windows look.
+    office: Office<'h, H, J, &'r R>,
+    /// Where their records go; `None` where the session keeps no journal.
+    journal: Option<Journal<F, &'h H, K>>,
+    /// Whether the session closes, and who stands in the door.
+    pub door: Door,
+    /// Where what the desks say is kept.
+    pub heap: &'h H,
+    /// By what a desk waits.
+    pub rt: &'r R,
+}
+
+/// Why an edit is not answered `ok`.
+#[derive(Clone, Copy, Debug, PartialEq, Eq)]
+pub enum EditFault {
+    /// It is refused, and nothing has changed.
+    Refused(Refusal),
+    /// The journal could not be written: of this edit, or of one before.
+    Journal,
+    /// Memory was refused for its line, and nothing has changed.
+    NoMemory,
+}
+
+/// An edit that was made, and that the disk has, where there is a journal.
+#[derive(Drop)]
+pub struct Made<'h, H: Allocator, J: Naming<H>> {
+    /// The entry that the edit is in the office's journal.
+    pub entry: Entry<&'h H>,
+    /// That the disk has its record, where there is a journal.
+    pub on_disk: Option<OnDisk>,
+    /// That it is shown, unless memory was refused for that: a later edit shows it, too.
+    pub notice: Option<Notice<'h, H, J>>,
+}
+
+impl<'r, 'h, H: Allocator, J: Naming<H>, R: Wait, F: JournalFile, K: Clocked> Room<
+    'r,
+    'h,
+    H,
+    J,
+    R,
+    F,
+    K,
+> {
+    /// A room with an open door, and the journal of its office, where there is one.
+    pub fn new(
+        office: Office<'h, H, J, &'r R>,
+        journal: Option<Journal<F, &'h H, K>>,
+        heap: &'h H,
+        rt: &'r R,
+    ) -> Room<'r, 'h, H, J, R, F, K> {
+        Room {
+            office,
+            journal,
+            door: Door::new(),
+            heap,
+            rt,
+        }
+    }
+
+    /// What is left once all desks have ended: the office, and how many records the disk has of its journal, where there is
+    /// one.
+    pub fn end(self) -> (Office<'h, H, J, &'r R>, Option<u64>) {
+        let Room {
+            office,
+            journal,
+            rt,
+            ..
+        } = self;
+        let kept = match &journal {
+            Some(journal) => Some(journal.synced(rt)),
+            None => None,
+        };
+        (office, kept)
+    }
+
+    /// Makes an edit at the office, with the client's own word for who and why, and shows it. Where there is a journal, the
+    /// disk has the edit's record before it is shown; records stand in the order of their entries' numbers.
+    ///
+    /// # Errors
+    ///
+    /// [`EditFault`].
+    pub fn submit(
+        &self,
+        card: &mut Card<'h, H, J>,
+        who: &[u8],
+        edit: &Edit<&'h H>,
+    ) -> Result<Made<'h, H, J>, EditFault>
+        ensures edit { IfOk result (λ made. made.entry.edit ≡ edit.now) }
+        ensures clerk { IfOk result (λ made. made.entry.clerk ≡ card.old.clerk) }
+        ensures made { IfOk result (λ made. card.new ≡ with_made card.old made.entry card.new.met) }
+        // The card has met the journal as it is then, which ends with the entry.
+        ensures ends { IfOk result (λ made. EndsWith made.entry made.entry.number (journal_met J.office card.new)) }
+        ensures after { IfOk result (λ made. IsSometime J.office card.new (journal_met J.office card.new)) }
+        // What the notice tells is valid, and reaches the entry.
+        ensures told { IfOk result (λ made. IfSome made.notice (λ told. made.entry.number ≤ length told)) }
+        ensures lawful { IfOk result (λ made. IfSome made.notice (IsLawful J.office.origin.opening)) }
+        // Where there is a journal, the disk has the entry's record.
+        ensures on_disk { IfOk result (λ made. IsOnDisk self.now.journal made.on_disk made.entry.number) }
+        // A refused edit changes nothing, but that the card has met the journal, after which it is refused for this.
+        ensures unchanged { IfErr result (λ fault. UnlessJournalFails fault (card.new ≡ with_met card.old card.new.met)) }
+        ensures refusal { IfErr result (λ fault. IfRefused fault (λ refusal.
+            IsRefusedWhenMet J.office card.new edit.now refusal ⊎ (refusal ≡ Refusal.NoMemory))) }
+    {
+        let made = match &self.journal {
+            Some(journal) => match self.keep(journal, card, who, edit) {
+                Ok((entry, on_disk)) => Ok((entry, Some(on_disk))),
+                Err(fault) => Err(fault),
+            },
+            None => match self.enter(card, edit) {
+                Ok(entry) => Ok((entry, None)),
+                Err(fault) => Err(fault),
+            },
+        };
+        match made {
+            Ok((entry, on_disk)) => {
+                let notice = self.office.publish_to(self.rt, entry.number());
+                Ok(Made {
+                    entry,
+                    on_disk,
+                    notice,
+                })
+            }
+            Err(fault) => Err(fault),
+        }
+    }
+
+    /// Makes an edit at the office, and shows it to nobody.
+    fn enter(
+        &self,
+        card: &mut Card<'h, H, J>,
+        edit: &Edit<&'h H>,
+    ) -> Result<Entry<&'h H>, EditFault>
+        ensures edit { IfOk result (λ entry. entry.edit ≡ edit.now) }
+        ensures clerk { IfOk result (λ entry. entry.clerk ≡ card.old.clerk) }
+        ensures made { IfOk result (λ entry. card.new ≡ with_made card.old entry card.new.met) }
+        ensures ends { IfOk result (λ entry. EndsWith entry entry.number (journal_met J.office card.new)) }
+        ensures after { IfOk result (λ entry. IsSometime J.office card.new (journal_met J.office card.new)) }
+        ensures unchanged { IfErr result (λ fault. UnlessJournalFails fault (card.new ≡ with_met card.old card.new.met)) }
+        ensures refusal { IfErr result (λ fault. IfRefused fault (λ refusal.
+            IsRefusedWhenMet J.office card.new edit.now refusal ⊎ (refusal ≡ Refusal.NoMemory))) }
+        ensures no_journal { IfErr result (λ fault. IfJournalFails fault ⊥) }
+    {
+        match self.office.enter(self.rt, card, edit) {
+            Ok(entry) => Ok(entry),
+            Err(refusal) => Err(EditFault::Refused(refusal)),
+        }
+    }
+
+    /// Makes an edit at the office, and has the disk hold its record. Nobody else makes one between the two, but others
+    /// may while this one waits for the disk.
+    fn keep(
+        &self,
+        journal: &Journal<F, &'h H, K>,
+        card: &mut Card<'h, H, J>,
+        who: &[u8],
+        edit: &Edit<&'h H>,
+    ) -> Result<(Entry<&'h H>, OnDisk), EditFault>
+        ensures edit { IfOk result (λ made. made.0.edit ≡ edit.now) }
+        ensures clerk { IfOk result (λ made. made.0.clerk ≡ card.old.clerk) }
+        ensures made { IfOk result (λ made. card.new ≡ with_made card.old made.0 card.new.met) }
+        ensures ends { IfOk result (λ made. EndsWith made.0 made.0.number (journal_met J.office card.new)) }
+        ensures after { IfOk result (λ made. IsSometime J.office card.new (journal_met J.office card.new)) }
+        ensures unchanged { IfErr result (λ fault. UnlessJournalFails fault (card.new ≡ with_met card.old card.new.met)) }
+        ensures refusal { IfErr result (λ fault. IfRefused fault (λ refusal.
+            IsRefusedWhenMet J.office card.new edit.now refusal ⊎ (refusal ≡ Refusal.NoMemory))) }
+        ensures on_disk { IfOk result (λ made. made.0.number ≤ made.1.records) }
+    {
+        let Some(mut writer) = journal.take(self.rt) else {
+            return Err(EditFault::Journal);
+        };
+        let time = match journal.time(self.heap) {
+            Ok(Some(time)) => time,
+            Ok(None) => return Err(EditFault::Journal),
+            Err(_) => return Err(EditFault::NoMemory),
+        };
+        let entry = match self.enter_and_record(&mut writer, card, time.as_bytes(), who, edit) {
+            Ok(entry) => entry,
+            Err(fault) => return Err(fault),
+        };
+        journal.wrote(entry.number());
+        drop(writer);
+        match journal.sync_to(self.rt, entry.number()) {
+            Some(on_disk) => Ok((entry, on_disk)),
+            None => Err(EditFault::Journal),
+        }
+    }
+
+    /// Makes an edit at the office, and adds its record to the journal, which is taken.
+    fn enter_and_record(
+        &self,
+        writer: &mut JournalWriter<F, &'h H>,
+        card: &mut Card<'h, H, J>,
+        time: &[u8],
+        who: &[u8],
+        edit: &Edit<&'h H>,
+    ) -> Result<Entry<&'h H>, EditFault>
+        ensures edit { IfOk result (λ entry. entry.edit ≡ edit.now) }
+        ensures clerk { IfOk result (λ entry. entry.clerk ≡ card.old.clerk) }
+        ensures made { IfOk result (λ entry. card.new ≡ with_made card.old entry card.new.met) }
+        ensures ends { IfOk result (λ entry. EndsWith entry entry.number (journal_met J.office card.new)) }
+        ensures after { IfOk result (λ entry. IsSometime J.office card.new (journal_met J.office card.new)) }
+        ensures unchanged { IfErr result (λ fault. UnlessJournalFails fault (card.new ≡ with_met card.old card.new.met)) }
+        ensures refusal { IfErr result (λ fault. IfRefused fault (λ refusal.
+            IsRefusedWhenMet J.office card.new edit.now refusal ⊎ (refusal ≡ Refusal.NoMemory))) }
+        // The journal has one record more, which is the entry's; a refused edit has none.
+        ensures recorded { IfOk result (λ entry. IsRecorded writer.old writer.new entry) }
+        ensures no_record { IfErr result (λ fault. UnlessJournalFails fault (writer.new ≡ writer.old)) }
+        ensures broken { IfErr result (λ fault. IfJournalFails fault (writer.new.is_broken ≡ true)) }
+    {
+        let stamp = Stamp {
+            number: writer.records().wrapping_add(1),
+            clerk: card.clerk(),
+            time,
+            who,
+        };
+        let Ok(draft) = writer.draft(self.heap, &stamp, edit) else {
+            return Err(EditFault::NoMemory);
+        };
+        let entry = match self.enter(card, edit) {
+            Ok(entry) => entry,
+            Err(fault) => return Err(fault),
+        };
+        if entry.number() != draft.number() || writer.add(&draft).is_err() {
+            writer.give_up();
+            return Err(EditFault::Journal);
+        }
+        Ok(entry)
+    }
+
+    /// Shows all entries; where there is a journal, once the disk has them.
+    ///
+    /// # Errors
+    ///
+    /// [`SessionFault::JournalFailed`], and nothing is shown; [`SessionFault::NoMemory`].
+    pub fn publish(&self) -> Result<Notice<'h, H, J>, SessionFault> {
+        let notice = match &self.journal {
+            Some(journal) => {
+                let Some(number) = journal.sync_all(self.rt) else {
+                    return Err(SessionFault::JournalFailed);
+                };
+                self.office.publish_to(self.rt, number)
+            }
+            None => self.office.publish(self.rt),
+        };
+        match notice {
+            Some(notice) => Ok(notice),
+            None => Err(SessionFault::NoMemory),
+        }
+    }
+
+    /// The parcels as they are now, with the entries that led there. Where there is a journal, the disk has all of them. The
+    /// office is held no longer than they are copied.
+    ///
+    /// # Errors
+    ///
+    /// [`SessionFault::JournalFailed`], [`SessionFault::NoMemory`].
+    pub fn sheet(&self) -> Result<Sheet<'h, H>, SessionFault> {
+        let Some(journal) = &self.journal else {
+            return self.copy();
+        };
+        // Who has taken the journal finds no edit that is not written yet.
+        let Some(writer) = journal.take(self.rt) else {
+            return Err(SessionFault::JournalFailed);
+        };
+        let sheet = self.copy()?;
+        drop(writer);
+        match journal.sync_to(self.rt, sheet.entries()) {
+            Some(_) => Ok(sheet),
+            None => Err(SessionFault::JournalFailed),
+        }
+    }
+
+    /// A copy of the office's parcels.
+    fn copy(&self) -> Result<Sheet<'h, H>, SessionFault> {
+        let mut none = Vec::new(self.heap);
+        match self.office.sheet(self.rt, none.as_mut_slice()) {
+            Ok(sheet) => Ok(sheet),
+            Err(_) => Err(SessionFault::NoMemory),
+        }
+    }
+}
