@@ -35,9 +35,9 @@ _parcel_tool() {
     check) options='--unit --all --clerk --workers --hints -h --help' ;;
     export) options='--unit --out --force --clerk --workers --hints -h --help' ;;
     locate) options='--unit --at --points --clerk --workers --hints -h --help' ;;
-    overlay) options='--unit --clerk --workers --hints -h --help' ;;
+    overlay) options='--unit --areas --clerk --workers --hints -h --help' ;;
     part) options='--all --unit --out --force --workers --hints -h --help' ;;
-    session) options='--unit --zones --journal --desk --workers --hints -h --help' ;;
+    session) options='--unit --zones --journal --clerk --desk --workers --hints -h --help' ;;
     explain) options='--hints -h --help' ;;
   esac
   case "$word" in
