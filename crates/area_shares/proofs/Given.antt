@@ -27,6 +27,7 @@ use Rattle.area_shares.specs.own.Rounded.{
   least_of_all,
   AreRounded,
   IsRounded,
+  line_of,
   pair_with,
   AddsShares,
 }
@@ -35,9 +36,6 @@ use Rattle.area_shares.specs.own.Rounded.{
 abbrev pub rooms : List Share → ℕ
 rooms [] = 0
 rooms (share ∷ shares) = room share.has_next + rooms shares
-
-abbrev pub line_of : ℕ → ℕ → ℤ → AreaLine
-line_of id zone area = record { id = id; zone = zone; area2 = area }
 
 -- the lines of all shares but the last, where so much is left over
 abbrev pub lines_of : ℕ → ℤ → List Share → List AreaLine
@@ -112,6 +110,12 @@ near_lines id rest (share ∷ others) last (term ∷ terms) h low high =
     let t = takes term.lost term.f share.least rest share.has_next (rooms (others ++ last ∷ [])) h.0 low high in
     (t.near, near_lines id (rest -ℤ taken share.has_next rest) others last terms h.1 t.low t.high)
 
+-- of the two numbers the next one, where it is there
+pub nearest : (lost : ℕ) (f : Fraction) (least more : ℤ) (some : Bool) → IsRounded lost f least some → more ≡ taken some (pos 1)
+    → IsWithinOne f (least +ℤ more)
+nearest lost f least more true h e = moved f (least +ℤ pos 1) (least +ℤ more) (ap (λ z. least +ℤ z) (sym e)) (h.next_is_near refl)
+nearest lost f least more false h e = moved f least (least +ℤ more) (omega (arith, ints, e)) h.is_near
+
 -- ---- one share after another
 pub least-drop : (shares : List Share) (i : ℕ) (share : Share) → i < length shares → share ≡ get_or shares i share
     → least_of_all (drop i shares) ≡ share.least +ℤ least_of_all (drop (i + 1) shares)
@@ -137,7 +141,7 @@ counted_all (term ∷ terms) (share ∷ shares) h =
     counted_same _ _ _ _ _
     (counted_plus _ _ _ _ _ _ h.0.counted (counted_all terms shares h.1)) (omega (arith, ints)) (omega arith)
 
-cancelled : (a b d : ℤ) → pos 0 <ℤ d → (a *ℤ d) ≤ℤ (b *ℤ d) → a ≤ℤ b
+pub cancelled : (a b d : ℤ) → pos 0 <ℤ d → (a *ℤ d) ≤ℤ (b *ℤ d) → a ≤ℤ b
 cancelled a b d p h = ends a b (not_neg_of_mul d (b -ℤ a) p
     (difference (a *ℤ d) (b *ℤ d) (d *ℤ (b -ℤ a)) (same_by (a ∷ b ∷ d ∷ []) (mul (var 2) (sub (var 1) (var 0)))
     (sub (mul (var 1) (var 2)) (mul (var 0) (var 2))) refl) h))
@@ -221,3 +225,11 @@ lines_end id now next old rest first area others i last h a n s l =
     n ∙ ap (λ z. now ++ line_of id last.zone z ∷ []) (a ∙ ap (λ z. last.least +ℤ z) left)
     ∙ ap (λ front. front ++ line_of id last.zone (last.least +ℤ left_over first others) ∷ []) lines
     ∙ append_assoc old (lines_of id first others) (line_of id last.zone (last.least +ℤ left_over first others) ∷ [])
+
+pub two_added : (id zone other : ℕ) (total area first second : ℤ) (old mid new : List AreaLine) → first ≡ area → second ≡ total -ℤ area
+    → mid ≡ old ++ line_of id zone first ∷ [] → new ≡ mid ++ line_of id other second ∷ []
+    → new ≡ old ++ line_of id zone area ∷ line_of id other (total -ℤ area) ∷ []
+two_added id zone other total area first second old mid new e f m n =
+    n ∙ ap (λ z. mid ++ line_of id other z ∷ []) f ∙ ap (λ lines. lines ++ line_of id other (total -ℤ area) ∷ []) m
+    ∙ ap (λ z. (old ++ line_of id zone z ∷ []) ++ line_of id other (total -ℤ area) ∷ []) e
+    ∙ append_assoc old (line_of id zone area ∷ []) (line_of id other (total -ℤ area) ∷ [])

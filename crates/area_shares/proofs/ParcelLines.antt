@@ -8,13 +8,14 @@ use Rattle.std.proofs.lemmas.Slice.Zip.{AllZip-long}
 use Rattle.std.proofs.Math.Nat.{mul-le-mul_left}
 use Rattle.std.proofs.lemmas.Bool.{eq-eqb}
 use Rattle.std.proofs.lemmas.Int.{ints, by_lt_z}
-use lib.IntN.{ℤ, pos, ◌*ℤ◌}
-use lib.Signed.{◌<ℤ◌}
+use lib.IntN.{ℤ, pos, ◌+ℤ◌, ◌-ℤ◌, ◌*ℤ◌}
+use lib.Signed.{◌<ℤ◌, ◌≤ℤ◌}
 use Rattle.geo_exact.specs.declared.corner.Corner.{Corner}
 use Rattle.geo_exact.specs.Area.{area2}
 use Rattle.geo_exact.specs.Layers.{NumberedRing, corner_count}
 use Rattle.geo_exact.proofs.numbers.Polynomials.{var, lit, add, mul, sub, same_by}
-use Rattle.geo_exact.proofs.numbers.Signs.{mul_pos}
+use Rattle.geo_exact.proofs.numbers.Orders.{le_of_lt}
+use Rattle.geo_exact.proofs.numbers.Signs.{mul_pos, mul_le}
 use Rattle.edge_chains.proofs.nodings.NodedEdges.{none_in_nil, Contains-here, Contains-cases, all_from_contains}
 use Rattle.ring_core.specs.Simple.{IsSimpleRing}
 use Rattle.fabric_core.specs.Faults.{AreSimple}
@@ -35,10 +36,10 @@ use Rattle.area_shares.specs.declared.share.Share.{Share}
 use Rattle.area_shares.specs.declared.shared.AreaLine.{AreaLine}
 use Rattle.area_shares.specs.Shares.{IsWithinOne}
 use Rattle.area_shares.specs.AreaTable.{pair_of, corners_of_zone, corners_of_zones, HasFewCorners, AreNear}
-use Rattle.area_shares.specs.own.Rounded.{Term, sum_of_terms, lost_in_all, AreRounded, pair_with, AddsShares}
+use Rattle.area_shares.specs.own.Rounded.{Term, sum_of_terms, lost_in_all, AreRounded, line_of, pair_with, AddsShares, AddsTwo}
 use Rattle.area_shares.specs.own.Parcels.{AreParcelPairs, IsShareOf, AreSharesOf, AddsParcel}
 use Rattle.area_shares.proofs.Aligned.{Rise, Own, own_zones}
-use Rattle.area_shares.proofs.Given.{line_of}
+use Rattle.area_shares.proofs.Given.{cancelled}
 use Rattle.area_shares.proofs.Once.{winds_once, is_covered}
 use Rattle.area_shares.proofs.Zips.{zip_images}
 
@@ -191,6 +192,62 @@ alone r own here pair total e h k = of_one own (subst (AllZip (λ zone p. zone.n
     of_one (zone ∷ []) z w = (whole_is_near (common_area2 r zone.corners) total (denominator_positive r zone.corners) w, tt)
     of_one (zone ∷ other ∷ zones) z w = absurd z.1
 
+-- ---- a parcel in two zones
+rest_is_near : (f g : Fraction) (total number : ℤ) → pos 0 <ℤ f.d → pos 0 <ℤ g.d
+    → AreEqual (plus f (plus g (whole (pos 0)))) (whole total) → IsWithinOne f number → IsWithinOne g (total -ℤ number)
+rest_is_near f g total number fp gp e h =
+    let all : f.n *ℤ g.d +ℤ g.n *ℤ f.d ≡ total *ℤ f.d *ℤ g.d =
+    same_by (f.n ∷ f.d ∷ g.n ∷ g.d ∷ []) (add (mul (var 0) (var 3)) (mul (var 2) (var 1)))
+    (mul (add (mul (var 0) (mul (var 3) (lit (pos 1)))) (mul (add (mul (var 2) (lit (pos 1))) (mul (lit (pos 0)) (var 3))) (var 1)))
+    (lit (pos 1))) refl
+    ∙ e ∙ same_by (total ∷ f.d ∷ g.d ∷ []) (mul (var 0) (mul (var 1) (mul (var 2) (lit (pos 1))))) (mul (mul (var 0) (var 1)) (var 2)) refl
+    in
+    let low : ((number -ℤ pos 1) *ℤ f.d *ℤ g.d) ≤ℤ (f.n *ℤ g.d) = mul_le ((number -ℤ pos 1) *ℤ f.d) f.n g.d (le_of_lt (pos 0) g.d gp) h.low
+    in
+    let high : (f.n *ℤ g.d) ≤ℤ ((number +ℤ pos 1) *ℤ f.d *ℤ g.d) = mul_le f.n ((number +ℤ pos 1) *ℤ f.d) g.d (le_of_lt (pos 0) g.d gp)
+    h.high in
+    record {
+      positive = gp;
+      low = cancelled ((total -ℤ number -ℤ pos 1) *ℤ g.d) g.n f.d fp
+          (at_least (f.n *ℤ g.d) (g.n *ℤ f.d) (total *ℤ f.d *ℤ g.d) ((number +ℤ pos 1) *ℤ f.d *ℤ g.d)
+          ((total -ℤ number -ℤ pos 1) *ℤ g.d *ℤ f.d) all high
+          (same_by (total ∷ number ∷ f.d ∷ g.d ∷ []) (mul (mul (sub (sub (var 0) (var 1)) (lit (pos 1))) (var 3)) (var 2))
+          (sub (mul (mul (var 0) (var 2)) (var 3)) (mul (mul (add (var 1) (lit (pos 1))) (var 2)) (var 3))) refl));
+      high = cancelled g.n ((total -ℤ number +ℤ pos 1) *ℤ g.d) f.d fp
+          (at_most (f.n *ℤ g.d) (g.n *ℤ f.d) (total *ℤ f.d *ℤ g.d) ((number -ℤ pos 1) *ℤ f.d *ℤ g.d)
+          ((total -ℤ number +ℤ pos 1) *ℤ g.d *ℤ f.d) all low
+          (same_by (total ∷ number ∷ f.d ∷ g.d ∷ []) (mul (mul (add (sub (var 0) (var 1)) (lit (pos 1))) (var 3)) (var 2))
+          (sub (mul (mul (var 0) (var 2)) (var 3)) (mul (mul (sub (var 1) (lit (pos 1))) (var 2)) (var 3))) refl));
+    }
+  where
+    at_least : (a b c u v : ℤ) → a +ℤ b ≡ c → a ≤ℤ u → v ≡ c -ℤ u → v ≤ℤ b
+    at_least a b c u v e h k = omega (arith, ints)
+
+    at_most : (a b c u v : ℤ) → a +ℤ b ≡ c → u ≤ℤ a → v ≡ c -ℤ u → b ≤ℤ v
+    at_most a b c u v e h k = omega (arith, ints)
+
+both_near : (r : List Corner) (own zones : List NumberedRing) (here : List (ℕ × ℕ)) (first second : ℕ × ℕ) (total number : ℤ)
+    → here ≡ first ∷ second ∷ [] → AllZip (λ zone p. zone.number ≡ p.1) own here → AllByRecursion (Contains zones) own
+    → AreEqual (common_with r (corner_lists own)) (whole total)
+    → ((zone : NumberedRing) → Contains zones zone → zone.number ≡ first.1 → IsWithinOne (common_area2 r zone.corners) number)
+    → AllZip (λ term line. IsWithinOne term.f line.area2) (terms_of r own)
+    (line_of first.0 first.1 number ∷ line_of second.0 second.1 (total -ℤ number) ∷ [])
+both_near r own zones here first second total number e h c k near =
+    of_two own (subst (AllZip (λ zone p. zone.number ≡ p.1) own) e h) c k
+  where
+    of_two : (xs : List NumberedRing) → AllZip (λ zone p. zone.number ≡ p.1) xs (first ∷ second ∷ []) → AllByRecursion (Contains zones) xs
+        → AreEqual (common_with r (corner_lists xs)) (whole total)
+        → AllZip (λ term line. IsWithinOne term.f line.area2) (terms_of r xs)
+        (line_of first.0 first.1 number ∷ line_of second.0 second.1 (total -ℤ number) ∷ [])
+    of_two [] z is w = absurd z
+    of_two (x ∷ []) z is w = absurd z.1
+    of_two (x ∷ y ∷ []) z is w =
+        let one = near x is.0 z.0 in
+        let rest = rest_is_near (common_area2 r x.corners) (common_area2 r y.corners) total number (denominator_positive r x.corners)
+        (denominator_positive r y.corners) w one in
+        (one, (rest, tt))
+    of_two (x ∷ y ∷ other ∷ xs) z is w = absurd z.1.1
+
 -- ---- parcels and zones that tile one city
 pub record AreLaid (rows zones : List NumberedRing) (city : List Corner) : Type 0 where
   pub tiling : IsTiling rows city
@@ -236,6 +293,14 @@ pub one_pair : (id : ℕ) (here : List (ℕ × ℕ)) → AllByRecursion (λ pair
 one_pair id [] same e = absurd (omega (arith, e))
 one_pair id (pair ∷ []) same e = ap (λ n. (n, pair.1) ∷ []) same.0
 one_pair id (pair ∷ other ∷ here) same e = absurd (omega (arith, e))
+
+pub two_pairs : (id : ℕ) (here : List (ℕ × ℕ)) → AllByRecursion (λ pair. pair.0 ≡ id) here → length here ≡ 2
+    → here ≡ (id, (get_or here 0 (0, 0)).1) ∷ (id, (get_or here 1 (0, 0)).1) ∷ []
+two_pairs id [] same e = absurd (omega (arith, e))
+two_pairs id (pair ∷ []) same e = absurd (omega (arith, e))
+two_pairs id (pair ∷ other ∷ []) same e =
+    ap (λ n. (n, pair.1) ∷ other ∷ []) same.0 ∙ ap (λ n. (id, pair.1) ∷ (n, other.1) ∷ []) same.1.0
+two_pairs id (pair ∷ other ∷ third ∷ here) same e = absurd (omega (arith, e))
 
 pub zones_named : (rows zones : List NumberedRing) (id : ℕ) (here : List (ℕ × ℕ)) → AreParcelPairs rows zones id here
     → AllByRecursion (λ pair. Contains (numbers zones) pair.1) here
@@ -332,6 +397,25 @@ module _ (rows zones : List NumberedRing) (city : List Corner) (laid : AreLaid r
           near = near_by h.added pairs (λ few. h.near (terms_of row.corners own.own)
               (rounded_terms row.corners zones own.own here shares with_pairs own.are_zones are)
               (subst (λ f. AreEqual f (whole (area2 row.corners))) (sym (sum_is row.corners own.own)) whole_area) (lost_few few));
+        };
+      }
+
+  -- the lines of a parcel that has two zones
+  pub lines_of_two : (share : Share) (other : ℕ) (old new : List AreaLine) → here ≡ (id, share.zone) ∷ (id, other) ∷ []
+      → IsShareOf row.corners zones (id, share.zone) share → AddsTwo id (area2 row.corners) share other old new
+      → AddsParcel rows zones id here old new
+  lines_of_two share other old new e is h =
+      let first = line_of id share.zone h.area in let second = line_of id other (area2 row.corners -ℤ h.area) in
+      record {
+        added = first ∷ second ∷ [];
+        is_added = h.is_added;
+        are_lines = record {
+          are_pairs = sym e;
+          sum = λ row' c k. omega (arith, ints, ap (λ (r : NumberedRing). area2 r.corners) (the_row row' c k));
+          near = near_by (first ∷ second ∷ []) (sym e) (λ few. both_near row.corners own.own zones here (id, share.zone) (id, other)
+              (area2 row.corners) h.area e with_pairs own.are_zones whole_area
+              (λ zone c k. h.is_near (length row.corners * length zone.corners) (common_area2 row.corners zone.corners)
+              (is.rounded zone c k)));
         };
       }
 

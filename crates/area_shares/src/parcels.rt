@@ -5,8 +5,8 @@ ghost use Rattle.std.specs.List.{AllByRecursion};
 ghost use Rattle.zone_tables.specs.Overlap.{AreInPairOrder};
 ghost use Rattle.area_shares.specs.own.Parcels.{AreParcelPairs, AddsParcel, IsSplitAt, count_first as count_first_of};
 
-use crate::shared::{AreaLine, push_shares};
-use crate::zones::shares_of;
+use crate::shared::{AreaLine, push_shares, push_two};
+use crate::zones::{share_of, shares_of};
 use fabric_core::{Layer, Sheet};
 use geo_exact::area2;
 use std::alloc::{AllocError, Allocator};
@@ -35,7 +35,8 @@ pub fn split_parcel(id: u64, pairs: &[(u64, u64)]) -> (&[(u64, u64)], &[(u64, u6
     pairs.split_at(count_first(id, pairs))
 }
 
-/// Adds the lines of a parcel: where it has one zone its area, else what each zone has of it.
+/// Adds the lines of a parcel: its area where it has one zone; where it has two, what the first has, and the rest for
+/// the second; else what each zone has of it.
 pub fn push_parcel<'h, H: Allocator, A: Allocator + Copy>(
     lines: &mut Vec<AreaLine, A>,
     parcels: &Sheet<'h, H>,
@@ -64,6 +65,12 @@ pub fn push_parcel<'h, H: Allocator, A: Allocator + Copy>(
             area2: total,
         })?;
         return Ok(());
+    }
+    if here.len() == 2 {
+        let Some(share) = share_of(corners, zones, here[0].1) else {
+            return Ok(());
+        };
+        return push_two(lines, id, total, share, here[1].1);
     }
     let shares = shares_of(*lines.allocator(), corners, zones, here)?;
     push_shares(lines, id, total, shares.as_slice())

@@ -2,7 +2,7 @@
 
 ghost use Rattle.std.specs.Prelude.{◌≡◌, ◌+◌, ◌*◌, ◌^◌, ◌<◌, ◌≤◌, length, OnOk};
 ghost use Rattle.geo_exact.specs.Limit.{IsWithin};
-ghost use Rattle.area_shares.specs.own.Rounded.{least_of_all, AddsShares};
+ghost use Rattle.area_shares.specs.own.Rounded.{least_of_all, AddsShares, AddsTwo};
 
 use crate::share::Share;
 use std::alloc::{AllocError, Allocator};
@@ -61,6 +61,31 @@ pub fn push_shares<A: Allocator>(
         id,
         zone: last.zone,
         area2: last.least + rest,
+    })?;
+    Ok(())
+}
+
+/// Adds the lines of a parcel in two zones: what the one has, and the rest for the other.
+pub fn push_two<A: Allocator>(
+    lines: &mut Vec<AreaLine, A>,
+    id: u64,
+    total: i128,
+    share: Share,
+    other: u64,
+) -> Result<(), AllocError>
+    requires { IsWithin (2 ^ 100) total }
+    ensures { OnOk result (AddsTwo id total share other lines.old.items lines.new.items) }
+{
+    let area = share.least + share.takes(1);
+    lines.push(AreaLine {
+        id,
+        zone: share.zone,
+        area2: area,
+    })?;
+    lines.push(AreaLine {
+        id,
+        zone: other,
+        area2: total - area,
     })?;
     Ok(())
 }

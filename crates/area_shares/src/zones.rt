@@ -13,7 +13,11 @@ use geo_exact::{Corner, RING_CORNERS};
 use std::alloc::{AllocError, Allocator};
 
 /// What a zone has of a parcel; `None` where the id is no zone's.
-fn share_of<'h, H: Allocator>(parcel: &[Corner], zones: &Layer<'h, H>, zone: u64) -> Option<Share>
+pub fn share_of<'h, H: Allocator>(
+    parcel: &[Corner],
+    zones: &Layer<'h, H>,
+    zone: u64,
+) -> Option<Share>
     requires { length parcel.now ≤ RING_CORNERS }
     ensures { MatchOption result ((row : NumberedRing) → Contains zones.now.rows row → row.number ≢ zone)
         (λ share. (id : ℕ) → IsShareOf parcel.now zones.now.rows (id, zone) share) }

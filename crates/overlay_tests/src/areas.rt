@@ -27,35 +27,45 @@ const WEDGE: [Place; 3] = [(0, 0), (33, 0), (0, 77)];
 
 const BESIDE_WEDGE: [Place; 5] = [(33, 0), (100, 0), (100, 100), (0, 100), (0, 77)];
 
+/// The wedge at the other side.
+const OTHER_WEDGE: [Place; 3] = [(67, 0), (100, 0), (100, 77)];
+
+const BETWEEN_WEDGES: [Place; 6] = [(33, 0), (67, 0), (100, 77), (100, 100), (0, 100), (0, 77)];
+
 /// Parcels and zones of the square, and the text of their areas.
 struct Case {
     parcels: [&'static [Place]; 2],
-    zones: [&'static [Place]; 2],
+    zones: &'static [&'static [Place]],
     text: &'static str,
 }
 
-/// Halves, the parcels themselves, a sliver of 50 square millimetres, and a border that meets another in no whole point:
-/// the southern parcel has 4320/7 of the wedge, and the northern one 13467/7.
-static CASES: [Case; 4] = [
+/// Halves, the parcels themselves, a sliver of 50 square millimetres, and borders that meet others in no whole point:
+/// the southern parcel has 4320/7 of a wedge, and the northern one 13467/7.
+static CASES: [Case; 5] = [
     Case {
         parcels: [&WEST, &EAST],
-        zones: [&LEFT, &RIGHT],
+        zones: &[&LEFT, &RIGHT],
         text: "area 1 1 10000\narea 1 2 2000\narea 2 2 8000\n",
     },
     Case {
         parcels: [&WEST, &EAST],
-        zones: [&WEST, &EAST],
+        zones: &[&WEST, &EAST],
         text: "area 1 1 12000\narea 2 2 8000\n",
     },
     Case {
         parcels: [&BELOW, &ABOVE],
-        zones: [&WIDE_BELOW, &NARROW_ABOVE],
+        zones: &[&WIDE_BELOW, &NARROW_ABOVE],
         text: "area 1 1 10000\narea 2 1 100\narea 2 2 9900\n",
     },
     Case {
         parcels: [&SOUTH, &NORTH],
-        zones: [&WEDGE, &BESIDE_WEDGE],
+        zones: &[&WEDGE, &BESIDE_WEDGE],
         text: "area 1 1 618\narea 1 2 1382\narea 2 1 1924\narea 2 2 16076\n",
+    },
+    Case {
+        parcels: [&SOUTH, &NORTH],
+        zones: &[&WEDGE, &OTHER_WEDGE, &BETWEEN_WEDGES],
+        text: "area 1 1 618\narea 1 2 617\narea 1 3 765\narea 2 1 1924\narea 2 2 1924\narea 2 3 14152\n",
     },
 ];
 
@@ -63,7 +73,7 @@ static CASES: [Case; 4] = [
 fn is_told<H: Allocator>(heap: &H, case: &Case) -> Result<bool, Fail> {
     let city = city(heap, &SQUARE)?;
     let sheet = sheet_in(heap, &city, &case.parcels)?;
-    let zones = layer_in(heap, &city, &case.zones)?;
+    let zones = layer_in(heap, &city, case.zones)?;
     let pairs = all_pairs(heap, &sheet, &zones)?;
     let lines = area_lines(heap, &sheet, &zones, &pairs)?;
     let mut out = Counted::new(Vec::new(heap));

@@ -49,6 +49,10 @@ least_of_all (share ∷ shares) = share.least +ℤ least_of_all shares
 abbrev pub AreRounded : List Term → List Share → Type 0
 AreRounded terms shares = AllZip (λ term share. IsRounded term.lost term.f share.least share.has_next) terms shares
 
+-- a line of a parcel
+abbrev pub line_of : ℕ → ℕ → ℤ → AreaLine
+line_of id zone area = record { id = id; zone = zone; area2 = area }
+
 -- the parcel and the zone of a share
 abbrev pub pair_with : ℕ → Share → ℕ × ℕ
 pair_with id share = (id, share.zone)
@@ -62,3 +66,10 @@ pub record AddsShares (id : ℕ) (total : ℤ) (shares : List Share) (old new : 
   pub sum : sum_of (map (λ line. line.area2) added) ≡ total
   pub near : (terms : List Term) → AreRounded terms shares → AreEqual (sum_of_terms terms) (whole total)
       → lost_in_all terms < PARTS → AllZip (λ term line. IsWithinOne term.f line.area2) terms added
+
+-- New is old with two lines of a parcel behind it: the first is at most 1 away from the share's fraction, and the
+-- second has the rest of the total.
+pub record AddsTwo (id : ℕ) (total : ℤ) (share : Share) (other : ℕ) (old new : List AreaLine) : Type 0 where
+  pub area : ℤ
+  pub is_added : new ≡ old ++ line_of id share.zone area ∷ line_of id other (total -ℤ area) ∷ []
+  pub is_near : (lost : ℕ) (f : Fraction) → IsRounded lost f share.least share.has_next → IsWithinOne f area

@@ -3,7 +3,7 @@ use Rattle.std.proofs.lemmas.List.{drop_more}
 use Rattle.std.proofs.lemmas.Result.{err_from_is_err_and}
 use Rattle.text_pieces.proofs.Sinks.{piece_breaks_off, piece_passes, whole_left}
 use Rattle.area_shares.specs.AreaText.{area_text}
-use Rattle.area_shares.proofs.Given.{line_of}
+use Rattle.area_shares.specs.own.Rounded.{line_of}
 use Rattle.area_shares.proofs.report.push_lines.Goals as goal
 
 pub loop-line-init : goal.loop-line-init
