@@ -6,7 +6,7 @@ use std::test::Fail;
 use tool_arguments::{Points, Request, parse};
 
 /// Command lines, and what each asks for.
-const REQUESTS: [(&str, &str); 15] = [
+const REQUESTS: [(&str, &str); 16] = [
     (
         "parcel_tool area city.shp --unit mm",
         "Area { main: \"city.shp\", unit: Mm }",

@@ -8,7 +8,7 @@ use crate::post::{Trouble, write_out};
 use city_layers::ToolFault;
 use desk_lock::Naming;
 use fabric_core::{Layer, Sheet};
-use geo_exact::{ByteOut, LAYER_RECORDS, LIST_CORNERS};
+use geo_exact::ByteOut;
 use overlay_work::{Hand, Round, RoundFault, Step, Table};
 use parcel_runs::sheets::{export_sheet, push_sheet_tiling};
 use session_lines::{SessionFault, push_end, push_error, push_failure};
@@ -30,10 +30,7 @@ pub(crate) fn report_check<'h, H: Allocator>(
     sheet: Sheet<'h, H>,
     text: &mut Vec<u8, &'h H>,
 ) -> Result<(), AllocError> {
-    // A city that was read has fewer corners by far. No contract of an office repeats it.
-    if sheet.city().len() > LIST_CORNERS {
-        return push_error(text, SessionFault::NoMemory);
-    }
+    sheet.use_invariant();
     push_sheet_tiling(text, sheet)?;
     push_end(text)
 }
@@ -154,10 +151,7 @@ pub(crate) fn report_export<'h, X: Exports, H: Allocator>(
     base: &str,
     text: &mut Vec<u8, &'h H>,
 ) -> Result<(), AllocError> {
-    // Edits bring no more parcels than a layer may have. No contract of an office repeats it.
-    if sheet.ids().len() > LAYER_RECORDS as usize {
-        return push_error(text, SessionFault::NoMemory);
-    }
+    sheet.use_invariant();
     let exported = export_sheet(heap, sheet)?;
     match exports.replace(
         heap,
