@@ -418,7 +418,6 @@ def _parts(prepared: Prepared, pairs: Dict[Tuple[int, str], List[Member]], min_a
     placed, measured = _cuts(prepared, members)
     doubled = [summed(pairs[key]) for key in keys]
     areas = area_columns(doubled, (np.bincount(owner, weights=measured, minlength=len(keys)) / SQUARE_METRE).tolist())
-    square_metres = np.array(areas["area_m2"], dtype=float)
     pieces: List[List[bytes]] = [[] for _ in keys]
     for at, polygons in zip(owner.tolist(), placed):
         pieces[at] += polygons
@@ -428,9 +427,8 @@ def _parts(prepared: Prepared, pairs: Dict[Tuple[int, str], List[Member]], min_a
             "number": [prepared.number_of(row) for row in rows],
             "zone": [zone for _, zone in keys],
             **areas,
-            "area_m2": square_metres,
-            "share": np.array(shares_of(rows, doubled, areas["area_m2"]), dtype=float),
-            "sliver": (square_metres < min_area).astype(np.int64),
+            "share": np.array(shares_of(rows, doubled, areas["area_m2"].tolist()), dtype=float),
+            "sliver": (areas["area_m2"] < min_area).astype(np.int64),
         }
     )
     columns = _with_attributes(columns, prepared.parcels_table, rows, prepared.number, "")

@@ -48,11 +48,12 @@ def summed(members: Sequence[Member]) -> Optional[int]:
     return total
 
 
-def area_columns(doubled: Sequence[Optional[int]], measured: Sequence[float]) -> Dict[str, List[Any]]:
+def area_columns(doubled: Sequence[Optional[int]], measured: Sequence[float]) -> Dict[str, Any]:
     """The columns of areas: proved ones (twice, in mm2), and where there is none (None) measured ones (m2)."""
+    areas = [area if area2 is None else area2 / (2 * SQUARE_METRE) for area2, area in zip(doubled, measured)]
     return {
         "area2_mm2": [None if area2 is None else str(area2) for area2 in doubled],
-        "area_m2": [area if area2 is None else area2 / (2 * SQUARE_METRE) for area2, area in zip(doubled, measured)],
+        "area_m2": np.array(areas, dtype=float),
         "area_how": ["measured" if area2 is None else "proved" for area2 in doubled],
     }
 
@@ -84,7 +85,7 @@ def common(prepared: Prepared, members: Sequence[Member]) -> Tuple[List[bytes], 
     return common_parts(sides[0], sides[1], zip(at[0], at[1]))
 
 
-def told_areas(prepared: Prepared, groups: Sequence[Sequence[Member]]) -> Dict[str, List[Any]]:
+def told_areas(prepared: Prepared, groups: Sequence[Sequence[Member]]) -> Dict[str, Any]:
     """The columns of areas of groups of members; what is not known of a group is measured."""
     doubled = [summed(group) for group in groups]
     unknown = [at for at, area2 in enumerate(doubled) if area2 is None]

@@ -357,10 +357,10 @@ def _pairs(
         )
         pairs = pairs.reshape(-1, 2) - 1
         kept = np.flatnonzero((pairs[:, 0] < len(parcels)) & (pairs[:, 1] < len(zones)))
-        area2 = np.array(areas_told(it.printed) if areas_too else [None] * len(pairs), dtype=object)
+        area2 = areas_told(it.printed) if areas_too else []
         pairs = pairs[kept]
         found.append(np.column_stack([np.array(parcels, dtype=np.int64)[pairs[:, 0]], np.array(zones)[pairs[:, 1]]]))
-        told += area2[kept].tolist()
+        told += [area2[at] for at in kept.tolist()] if areas_too else [None] * len(kept)
     every = np.concatenate([*found, np.zeros((0, 2), dtype=np.int64)])
     pairs, first = np.unique(every, axis=0, return_index=True)
     return np.asarray(pairs, dtype=np.int64), [told[at] for at in first.tolist()]
