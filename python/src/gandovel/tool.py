@@ -230,7 +230,8 @@ def overlay_areas(city: PathLike, parcels: PathLike, zones: PathLike, workers: i
 def areas_told(printed: str) -> List[int]:
     """The areas that `overlay --areas` printed, in the order of its pairs. T2 where they are not those of the pairs."""
     told = _AREA.findall(printed)
-    if [(record, zone) for record, zone, _ in told] != _PAIR.findall(printed):
+    fit = len(told) == printed.count("\narea ")
+    if not fit or [(record, zone) for record, zone, _ in told] != _PAIR.findall(printed):
         raise _no_answer("overlay", printed)
     return [int(doubled) for _, _, doubled in told]
 
