@@ -150,8 +150,8 @@ def two_islands(gap=0.0):
     """Two cities apart, with a parcel that has a part in each, one zone of two records, and a gap in the second one."""
     first = [box(0, 0, 10, 10), box(10, 0, 20, 10)]
     second = [translate(it, 500) for it in first]
-    second[1] = box(510 + gap, 0, 520, 5), box(510, 5, 520, 10)
-    shapes = [MultiPolygon([first[0], second[0]]), first[1], MultiPolygon(second[1]) if gap else box(510, 0, 520, 10)]
+    second[1] = box(510 + gap, 0, 520, 10)
+    shapes = [MultiPolygon([first[0], second[0]]), first[1], second[1]]
     cut = [Polygon([(0, 0), (13, 0), (6, 10), (0, 10)]), Polygon([(13, 0), (20, 0), (20, 10), (6, 10)])]
     zones = [*cut, *(translate(it, 500) for it in cut)]
     cities = layer([box(0, 0, 20, 10), box(500, 0, 520, 10)], "city")
