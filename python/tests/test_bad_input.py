@@ -110,6 +110,22 @@ def test_an_overlay_that_fits_no_layer_is_not_believed(printed, tmp_path, monkey
     assert tool.overlay_pairs(*paths).tolist() == [[1, 1]]
 
 
+@pytest.mark.parametrize(
+    "printed", ["", "area 1 2 1\n", "area 1 1\n", "area 1 1 2\n", "area 1 1 1\n" * 2, "area 1 1 1\narea x\n"]
+)
+def test_areas_that_fit_no_pairs_are_not_believed(printed, tmp_path, monkeypatch):
+    for name in ("city", "parcels", "zones"):
+        write_rings(tmp_path / f"{name}.shp", [np.array([[0, 0], [1, 0], [0, 1]])])
+    paths = [tmp_path / f"{name}.shp" for name in ("city", "parcels", "zones")]
+    said = {"area": "1 1\n", "overlay": f"entries 0\npair 1 1\nwithin 1 1\n{printed}"}
+    monkeypatch.setattr(tool, "ask", lambda words: said[words[0]])
+    with pytest.raises(gv.Refused, match="T2 parcel_tool overlay gave no verdict that fits the layer"):
+        tool.overlay_areas(*paths)
+    said["overlay"] = "entries 0\npair 1 1\nwithin 1 1\narea 1 1 1\n"
+    found = tool.overlay_areas(*paths)
+    assert (found.pairs.tolist(), found.area2) == ([[1, 1]], [1])
+
+
 def test_a_layer_of_the_folder_that_is_torn_is_refused(tmp_path):
     whole = np.array([[0, 0], [9, 0], [0, 9]])
     write_rings(tmp_path / "layer.shp", [whole, whole + 20])

@@ -481,6 +481,25 @@ def test_fits_a_small_screen(browser: WebDriver, tmp_path: Path) -> None:
     assert field["height"] > 200
 
 
+def test_says_whose_parts_are_proved(browser: WebDriver, tmp_path: Path) -> None:
+    rows, zones, told = parcels_of(3), [("W", 49.5), ("E", 50.5)], [("102", "proved"), ("105", "measured")]
+    shapes = {row["number"]: row["geometry"] for row in rows}
+    parts = [
+        {"number": number, "zone": zone, "area_m2": area, "area_how": how, "geometry": shapes[number]}
+        for number, how in told
+        for zone, area in zones
+    ]
+    split = [{"number": number, "zones": "W,E", "geometry": shapes[number]} for number, _ in told]
+    layers = [("parcels", frame(rows)), ("split", frame(split)), ("split_parts", frame(parts))]
+    write_layers(tmp_path / "parts.gpkg", layers, {})
+    opened(browser, tmp_path / "parts.gpkg")
+    assert "proved: areas of the parts of split parcels" in one(browser, "#legend").text
+    choose(browser, "split")
+    assert [it.text for it in buttons(browser)] == [
+        f"Parcel {number}\n100 m² (measured); split: zone W 49.5 m², zone E 50.5 m² ({how})" for number, how in told
+    ]
+
+
 def test_shows_what_else_a_report_has(browser: WebDriver, tmp_path: Path) -> None:
     rows = parcels_of(3)
     layers = [

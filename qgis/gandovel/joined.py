@@ -14,6 +14,7 @@ COLUMNS = (
     ("zone", QVariant.String),
     ("zone_how", QVariant.String),
     ("split", QVariant.Int),
+    ("area2_mm2", QVariant.String),
     ("area_m2", QVariant.Double),
     ("share", QVariant.Double),
     ("area_how", QVariant.String),
@@ -35,7 +36,7 @@ class Joined:
         square_metres: float,
     ) -> None:
         self.parcels, self.square_metres = parcels, square_metres
-        self.zone_of = {str(pair["number"]): str(pair["zone"]) for pair in pairs if not pair["split"]}
+        self.told = {str(pair["number"]): (str(pair["zone"]), pair["area2_mm2"]) for pair in pairs if not pair["split"]}
         self.zones = {feature.id(): feature for feature in zones.getFeatures()}
         self.by_name = {str(feature["number"]): feature for feature in reversed(list(self.zones.values()))}
         self.index = QgsSpatialIndex(zones.getFeatures())
@@ -75,26 +76,27 @@ class Joined:
                     "zone": part["zone"],
                     "zone_how": "exact",
                     "split": 1,
-                    "area_how": "measured",
+                    **{name: part[name] for name in ("area2_mm2", "area_m2", "share", "area_how")},
                 }
-                yield {**values, "area_m2": part["area_m2"], "share": part["share"]}, parcel, self.by_name.get(
-                    part["zone"]
-                )
+                yield values, parcel, self.by_name.get(part["zone"])
             if not parts:
                 yield self._whole(number, parcel)
 
     def _whole(self, number: str, parcel: QgsFeature) -> Row:
         """The row of a parcel that no two zones share; that of one that the program was not asked of is measured."""
-        told = self.zone_of.get(number)
+        told, area2 = self.told.get(number, (None, None))
         zone = self.by_name.get(told) if told is not None else self._zone_at(parcel.geometry())
         values = {
             "number": number,
             "zone": told if told is not None or zone is None else zone["number"],
             "zone_how": "measured" if told is None else "exact",
             "split": 0,
+            "area2_mm2": area2,
+            "area_m2": parcel.geometry().area() * self.square_metres if area2 is None else int(area2) / 2_000_000,
+            "share": 1.0,
+            "area_how": "measured" if area2 is None else "proved",
         }
-        area = parcel.geometry().area() * self.square_metres
-        return {**values, "area_m2": area, "share": 1.0, "area_how": "measured"}, parcel, zone
+        return values, parcel, zone
 
     def _zone_at(self, shape: QgsGeometry) -> Optional[QgsFeature]:
         """The zone at a point inside a shape; where that lies in a gap of the zones, the one that has most of the shape."""

@@ -108,7 +108,7 @@ def test_each_on_the_town(qgis: Any, place: Path, town_session: Path) -> None:
     table = read(folder, "overlayzones_TABLE")
     pairs = ((1, 1), (2, 1), (2, 2), (3, 1), (4, 1), (4, 2), (5, 2))
     assert list(zip(table["number"], table["zone"])) == [(str(parcel), str(zone)) for parcel, zone in pairs]
-    assert set(table["zone_how"]) == {"exact"}
+    assert set(table["zone_how"]) == {"exact"} and set(table["area_how"]) == {"measured"}
     found = read(folder, "overlayzones_PAIRS")
     assert list(zip(found["number"], found["zone"], found["split"])) == [
         (str(parcel), str(zone), int(parcel in (2, 4))) for parcel, zone in pairs
@@ -118,6 +118,20 @@ def test_each_on_the_town(qgis: Any, place: Path, town_session: Path) -> None:
     assert read(folder, "applyedits_ANSWERS")["made"].tolist() == [1, 1, 0]
     assert sorted(read(folder, "applyedits_OUTPUT")["came_from"]) == ["1", "2", "3", "4,5"]
     assert read(folder, "comparesession_OUTPUT")["state"].tolist() == ["same"] * 5
+
+
+def test_areas_in_zones_are_proved_where_the_layers_tile(place: Path, tmp_path: Path) -> None:
+    """The numbers of the program: they sum to the parcels' twice-areas in mm2."""
+    given = {"INPUT": TOWN / "parcels.shp", "OVERLAY": TOWN / "zones.shp", "CITY": TOWN / "city.shp", "UNIT": "cm"}
+    outputs = {name: tmp_path / f"{name}.gpkg" for name in ("SPLIT", "PARTS", "TABLE", "PAIRS")}
+    run(place, "gandovel:overlayzones", **given, **outputs)
+    table, parts, pairs = (read(tmp_path, name) for name in ("TABLE", "PARTS", "PAIRS"))
+    areas = [4_000_000_000, 1_575_000_000, 2_625_000_000, 4_000_000_000, 1_625_000_000, 2_375_000_000, 3_000_000_000]
+    assert table["area2_mm2"].tolist() == pairs["area2_mm2"].tolist() == [str(area2) for area2 in areas]
+    assert table["area_m2"].tolist() == [area2 / 2e6 for area2 in areas]
+    assert set(table["area_how"]) == set(parts["area_how"]) == {"proved"}
+    assert parts["area2_mm2"].tolist() == [str(areas[at]) for at in (1, 2, 4, 5)]
+    assert table["share"].tolist() == [1.0, 0.375, 0.625, 1.0, 0.40625, 0.59375, 1.0]
 
 
 def test_each_on_2000_parcels_with_planted_faults(

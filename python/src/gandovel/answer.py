@@ -59,7 +59,7 @@ def answer_of(report: Report, prepared: Prepared) -> Dict[str, Any]:
             {"number": number, "zones": zones.split(",")}
             for number, zones in zip(report.split["number"], report.split["zones"])
         ],
-        "pairs": [dict(zip(("number", "zone", "split"), pair)) for pair in report.pairs],
+        "pairs": [dict(zip(("number", "zone", "split", "area2_mm2"), pair)) for pair in report.pairs],
     }
 
 

@@ -23,7 +23,8 @@ from .prepared import OUT_ROW, Island, Prepared
 from .points import on_grid
 from .reading import Source, frame_of
 from .report import report
-from .verdicts import named, numbers_at, write_island
+from .verdicts import named, numbers_at, tiling_overlaid, write_island
+from .zone_areas import Member, told_areas
 
 Register = Union[Prepared, Source]
 """A register that `prepare` made, or parcels that it takes."""
@@ -148,7 +149,9 @@ def overlay(
 ) -> gpd.GeoDataFrame:
     """The pairs of a parcel and a zone whose interiors have a common point, by number and then by zone.
 
-    Columns: number, zone, split (whether the parcel lies in two zones or more), geometry (the parcel's, as given).
+    Columns: number, zone, split (whether the parcel lies in two zones or more), area2_mm2 (text: twice the area that
+    both have in common in mm2), area_m2, area_how, geometry (the parcel's, as given). With area_how `proved` an area2_mm2
+    is at most 1 away from the exact one, and those of a parcel sum to its own; else it is missing, and area_m2 `measured`.
     Refused H2 where parcels or zones do not tile the city (`report` answers there, too), H1, H3, F.., P...
     """
     prepared = (
@@ -171,12 +174,14 @@ def overlay(
     )
     if prepared.zones is None:
         raise Refused("P2", "there are no zones to overlay", "zones")
-    found: Dict[Tuple[int, str], None] = {}
+    found: Dict[Tuple[int, str], List[Member]] = defaultdict(list)
     with _islands(prepared) as folders:
-        for folder, island in folders:
-            for parcel, part in _pairs(prepared, folder, island).tolist():
+        for at, (folder, island) in enumerate(folders):
+            overlaid = _overlaid(prepared, folder, island)
+            for (parcel, part), area2 in zip(overlaid.pairs.tolist(), overlaid.area2):
                 if island.parcels.source[parcel] != OUT_ROW:
-                    found[island.parcels.source[parcel], prepared.zone_of(island.rows_of_zones().source[part])] = None
+                    key = island.parcels.source[parcel], prepared.zone_of(island.rows_of_zones().source[part])
+                    found[key].append(Member(at, parcel, part, area2))
     count: Dict[int, int] = defaultdict(int)
     for row, _ in found:
         count[row] += 1
@@ -185,16 +190,17 @@ def overlay(
         "number": [prepared.number_of(row) for row, _ in rows],
         "zone": [zone for _, zone in rows],
         "split": [count[row] > 1 for row, _ in rows],
+        **told_areas(prepared, [found[key] for key in rows]),
         "geometry": list(prepared.parcels.geometry.iloc[[row for row, _ in rows]]),
     }
     return gpd.GeoDataFrame(table, geometry="geometry", crs=prepared.crs)
 
 
-def _pairs(prepared: Prepared, folder: Path, island: Island) -> Array:
+def _overlaid(prepared: Prepared, folder: Path, island: Island) -> tool.Overlaid:
     try:
         if island.zones is not None and (is_large(island.parcels.rings) or is_large(island.zones.rings)):
             return overlaid_island(island)
-        return tool.overlay_pairs(folder / "city.shp", folder / "parcels.shp", folder / "zones.shp") - 1
+        return tiling_overlaid(folder, island)
     except Refused as refused:
         raise named(prepared, island, refused, refused.role) from refused
 

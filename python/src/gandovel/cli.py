@@ -207,14 +207,15 @@ def _overlay(options: argparse.Namespace) -> int:
 
     prepared = _prepared(options, Progress(shown=True))
     frame = overlay(prepared)
-    rows = list(zip(frame["number"], frame["zone"], map(bool, frame["split"])))
-    split = list(dict.fromkeys(number for number, _, is_split in rows if is_split))
+    names = ("number", "zone", "split", "area2_mm2", "area_m2", "area_how")
+    rows = list(zip(*(frame[name].tolist() for name in names)))
+    split = list(dict.fromkeys(number for number, _, is_split, *_ in rows if is_split))
     _lost(prepared)
     if options.json:
-        pairs = [dict(zip(("number", "zone", "split"), row)) for row in rows]
+        pairs = [dict(zip(names, row)) for row in rows]
         print(json_of({"program": program_version(), "pairs": pairs, "split": split, "lost": prepared.lost}))
     elif options.csv:
-        print(csv_of(("number", "zone", "split"), [(number, zone, int(it)) for number, zone, it in rows]), end="")
+        print(csv_of(names, [(number, zone, int(it), *areas) for number, zone, it, *areas in rows]), end="")
     else:
         print(f"{len(prepared.numbers)} parcels, {len(split)} of them split; {len(rows)} pairs of a parcel and a zone")
     return 0

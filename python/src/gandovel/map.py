@@ -51,8 +51,9 @@ def write_map(report: Union[str, Path], out: Union[str, Path]) -> None:
     `report` is a GeoPackage that `gandovel report` wrote: its layer `parcels`, and those of `zones`, `gaps`,
     `overlaps`, `open_gaps`, `slivers`, `touched`, `skipped`, `split` and `split_parts` that are there. `out` is the
     page, written under another name and then renamed. Coordinates are rounded to millimetres for the drawing. Areas of faults are the
-    report's exact ones; those of parcels and zones are measured by the page, and which parcels overlap by GEOS, which
-    the page says. Refused P1 where the report is no such file, P14 where the page can't be written.
+    report's exact ones, and those of parts the report's, too; those of parcels and zones are measured by the page, and
+    which parcels overlap by GEOS, which the page says. Refused P1 where the report is no such file, P14 where the page
+    can't be written.
     """
     out = Path(out)
     aside = out.with_name(f".{os.getpid()}.{out.name}")
@@ -124,7 +125,7 @@ def _data_of(report: Path) -> Dict[str, Any]:
             layers = {name: _layer(connection, name, columns) for name, columns in COLUMNS.items()}
             unit = _unit(connection)
             split = _table(connection, "split", ("number", "zones"))
-            parts = _table(connection, "split_parts", ("number", "zone", "area_m2"))
+            parts = _table(connection, "split_parts", ("number", "zone", "area_m2", "area_how"))
     except (sqlite3.Error, OSError) as fault:
         raise Refused("P1", f"{report} can't be read as a GeoPackage: {fault}") from fault
     kept = {name: layer for name, layer in layers.items() if layer is not None}
@@ -246,15 +247,17 @@ def _add_areas(layers: Dict[str, _Layer], metres: float) -> None:
 
 
 def _add_split(parcels: _Layer, split: List[Tuple[Any, ...]], parts: List[Tuple[Any, ...]]) -> None:
-    """Gives the parcels their columns `zones` (text) and `parts` (zone and area in m2, measured), None if not split."""
+    """Gives the parcels `zones` (text), `parts` (zone and area in m2) and `parts_how` (text), None if not split."""
     zones_of = {str(number): str(zones) for number, zones in split}
     parts_of: Dict[str, List[Tuple[str, float]]] = defaultdict(list)
-    for number, zone, area in parts:
+    measured = {str(number) for number, _, _, how in parts if how != "proved"}
+    for number, zone, area, _ in parts:
         if isinstance(area, (int, float)):
             parts_of[str(number)].append((str(zone), float(area)))
     numbers = parcels.columns["number"]
     parcels.columns["zones"] = [zones_of.get(number) for number in numbers]
     parcels.columns["parts"] = [parts_of.get(number) if number in zones_of else None for number in numbers]
+    parcels.columns["parts_how"] = ["measured" if number in measured else "proved" for number in numbers]
 
 
 def _add_order(layers: Dict[str, _Layer]) -> None:

@@ -18,8 +18,11 @@ REPORT = {
     "touched": "Corners that were put into a border that they are off by no more than the rounding of the layer; the "
     "border goes through them now. Measured: distance_mm, closed_m2, the area that this closed.",
     "skipped": "Rows that were left out since their geometry is invalid (--skip-invalid).",
-    "split": "Exact, by the program: number, zones, zone_count. Measured by GEOS: sliver.",
-    "split_parts": "Exact, by the program: number, zone. Measured by GEOS: area_m2, share, sliver, and the shapes.",
+    "split": "Exact, by the program: number, zones, zone_count. Measured by GEOS where sliver_how says so, else proved: "
+    "sliver.",
+    "split_parts": "Exact, by the program: number, zone. Proved where area_how says so: each area2_mm2 is at most 1 away "
+    "from twice the exact area in mm2, and those of a parcel sum to its own. Measured by GEOS elsewhere: area_m2, share, "
+    "sliver; and everywhere the shapes.",
 }
 CHANGES = {
     "changes": "Corners that prepare moved to the grid or put into a border that they touch, where they were. "

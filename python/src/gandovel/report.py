@@ -28,13 +28,13 @@ from .large.shares import in_shares
 from .noding import LEAST
 from .prepared import OUT_ROW, TOUCHED, Prepared, Rows
 from .progress import Progress
-from .shapes import MULTIPOLYGON, PLAIN, PLAIN_HEAD, POLYGON, array_of, box_of, common_parts, kind_of, multipolygon_wkb
-from .shapes import plain_wkb, polygon_wkb, rings_of, rings_wkb, shapes_of, wkb_of
+from .shapes import MULTIPOLYGON, PLAIN, PLAIN_HEAD, POLYGON, array_of, box_of, kind_of, multipolygon_wkb
+from .shapes import plain_wkb, polygon_wkb, rings_of, shapes_of, wkb_of
 from .styles import STYLES
 from .units import Unit
-from .verdicts import LayerFaults, checked, island_pairs, layer_faults, numbers_at, write_island
+from .verdicts import LayerFaults, checked, layer_faults, numbers_at, overlay_island, write_island
+from .zone_areas import SQUARE_METRE, Member, area_columns, common, shares_of, summed
 
-SQUARE_METRE = 1_000_000
 SHOWN = 8
 CITIES = {
     "parcels": "the city is what the parcels cover",
@@ -42,8 +42,6 @@ CITIES = {
     "frame": "the city is a frame around all",
 }
 """Where the city's outline is from, as the verdict says it."""
-Pair = Tuple[int, int, int]
-"""An island, from 0, and the rows of a parcel and a zone in it."""
 
 
 @dataclass
@@ -54,8 +52,10 @@ class Report:
     area_how, area, unit, depth, numbers, numbers_how, touched): exact, but for the numbers of overlaps, which GEOS
     measures. `slivers` are gaps and overlaps that are nowhere wider than what touches (measured), `open_gaps` notches
     and channels of the city that the parcels make (measured). `split` (number, zones, zone_count, sliver, sliver_how):
-    exact, but for sliver. `parts` (number, zone, area_m2, area_how, share, sliver): measured, but for which parts there
-    are. `pairs`: (number, zone, whether the parcel is split) of each parcel and zone that overlap, exact. `parcels`
+    exact, but for sliver. `parts` (number, zone, area2_mm2, area_m2, area_how, share, sliver): which there are is exact,
+    and areas are proved where parcels and zones tile (each area2_mm2 within 1, and those of a parcel sum to its own), else
+    measured. `pairs`: (number, zone, whether the parcel is split, area2_mm2 or None) of each parcel and zone that overlap,
+    exact, with proved areas. `parcels`
     (number, records, status), `zones`, `touched` (corners that were made to touch a border), `skipped` (rows that were
     left out). `split_table`, `parts_table` and `parcels_table` are what the frames are made of once they are asked for.
     """
@@ -73,7 +73,7 @@ class Report:
     touched: gpd.GeoDataFrame
     skipped: gpd.GeoDataFrame
     prepared: Prepared
-    pairs: List[Tuple[str, str, bool]]
+    pairs: List[Tuple[str, str, bool, Optional[str]]]
 
     @property
     def verdict(self) -> str:
@@ -128,8 +128,9 @@ class Report:
             if (self.gaps["layer"] == "zones").any() or (self.overlaps["layer"] == "zones").any():
                 texts.append(f"zones: {_told(self, 'zones')}")
             split = self.split_table.columns
-            slivers = int(split["sliver"].sum())
-            few = f", {slivers} of them by less than {self.min_area:g} m2 (measured)" if slivers else ""
+            slivers = split.loc[split["sliver"] == 1, "sliver_how"]
+            how = "" if (slivers == "proved").all() else " (measured)"
+            few = f", {len(slivers)} of them by less than {self.min_area:g} m2{how}" if len(slivers) else ""
             texts.append(f"{_count(len(split), 'parcel')} split{few}")
         if len(self.slivers):
             wide = f"no wider than {self.prepared.told['touch']:.2f} mm (measured)"
@@ -165,11 +166,11 @@ class Report:
         """`split.csv`: one line for each part of a split parcel."""
         text = io.StringIO()
         writer = csv.writer(text, lineterminator="\n")
-        writer.writerow(["parcel_no", "zone", "area_m2", "share", "sliver", "areas"])
+        writer.writerow(["parcel_no", "zone", "area_m2", "share", "sliver", "areas", "area2_mm2"])
         parts = self.parts_table.columns
-        columns = (parts[name] for name in ("number", "zone", "area_m2", "share", "sliver"))
-        for number, zone, area, share, sliver in zip(*columns):
-            writer.writerow([number, zone, f"{area:.6f}", f"{share:.6f}", sliver, "measured"])
+        columns = (parts[name] for name in ("number", "zone", "area_m2", "share", "sliver", "area_how", "area2_mm2"))
+        for number, zone, area, share, *others in zip(*columns):
+            writer.writerow([number, zone, f"{area:.6f}", f"{share:.6f}", *others])
         return text.getvalue()
 
 
@@ -230,7 +231,7 @@ def report(prepared: Prepared, min_area: float = 1.0, progress: Optional[Progres
         raise Refused("P8", f"a least area of {min_area} m2 is none: give square metres, 0 or more")
     progress = progress or Progress()
     faults: Dict[str, List[Dict[str, Any]]] = {"gaps": [], "overlaps": [], "slivers": []}
-    pairs: Dict[Tuple[int, str], List[Pair]] = defaultdict(list)
+    pairs: Dict[Tuple[int, str], List[Member]] = defaultdict(list)
     at_fault: Dict[int, str] = {}
     beyond: Dict[str, None] = {}
     touched = {(x, y) for x, y in prepared.changes.to[prepared.changes.change == TOUCHED].tolist()}
@@ -247,10 +248,11 @@ def report(prepared: Prepared, min_area: float = 1.0, progress: Optional[Progres
             beyond.update(dict.fromkeys(numbers_at(prepared, island.parcels, standing_out, "parcels")))
             if island.zones is not None:
                 progress.step("asking which parcels lie in which zones")
-                for parcel, zone in island_pairs(Path(folder), island, found["parcels"], found["zones"]).tolist():
+                overlaid = overlay_island(Path(folder), island, found["parcels"], found["zones"])
+                for (parcel, zone), area2 in zip(overlaid.pairs.tolist(), overlaid.area2):
                     if island.parcels.source[parcel] != OUT_ROW:
                         key = island.parcels.source[parcel], prepared.zone_of(island.zones.source[zone])
-                        pairs[key].append((at - 1, parcel, zone))
+                        pairs[key].append(Member(at - 1, parcel, zone, area2))
     progress.step("measuring the parts of split parcels")
     return _put_together(prepared, faults, pairs, at_fault, min_area, list(beyond))
 
@@ -362,7 +364,7 @@ def _skipped(prepared: Prepared) -> gpd.GeoDataFrame:
 def _put_together(
     prepared: Prepared,
     faults: Dict[str, List[Dict[str, Any]]],
-    pairs: Dict[Tuple[int, str], List[Pair]],
+    pairs: Dict[Tuple[int, str], List[Member]],
     at_fault: Dict[int, str],
     min_area: float,
     beyond: List[str],
@@ -395,31 +397,38 @@ def _put_together(
         prepared.touched_frame(),
         _skipped(prepared),
         prepared,
-        [(prepared.numbers[row], zone, len(zones_of[row]) > 1) for row in sorted(zones_of) for zone in zones_of[row]],
+        [
+            (prepared.numbers[row], zone, len(zones_of[row]) > 1, _text_of(summed(pairs[row, zone])))
+            for row in sorted(zones_of)
+            for zone in zones_of[row]
+        ],
     )
 
 
-def _parts(prepared: Prepared, pairs: Dict[Tuple[int, str], List[Pair]], min_area: float) -> Table:
-    """The parts of split parcels in zones, measured by GEOS on the grid, near the origin."""
+def _text_of(area2: Optional[int]) -> Optional[str]:
+    return None if area2 is None else str(area2)
+
+
+def _parts(prepared: Prepared, pairs: Dict[Tuple[int, str], List[Member]], min_area: float) -> Table:
+    """The parts of split parcels in zones; GEOS makes their shapes on the grid, near the origin, and measures the rest."""
     zone_rows = {name: row for row, name in reversed(list(enumerate(prepared.zone_names)))}
     keys = sorted(pairs, key=lambda key: (key[0], zone_rows.get(key[1], -1)))
     owner = np.repeat(np.arange(len(keys)), [len(pairs[key]) for key in keys])
     members = [pair for key in keys for pair in pairs[key]]
     placed, measured = _cuts(prepared, members)
-    areas = np.bincount(owner, weights=measured, minlength=len(keys)) / SQUARE_METRE
+    doubled = [summed(pairs[key]) for key in keys]
+    areas = area_columns(doubled, (np.bincount(owner, weights=measured, minlength=len(keys)) / SQUARE_METRE).tolist())
     pieces: List[List[bytes]] = [[] for _ in keys]
     for at, polygons in zip(owner.tolist(), placed):
         pieces[at] += polygons
     rows = [row for row, _ in keys]
-    share = areas / pd.Series(areas).groupby(rows).transform("sum").values if keys else areas
     columns = pd.DataFrame(
         {
             "number": [prepared.number_of(row) for row in rows],
             "zone": [zone for _, zone in keys],
-            "area_m2": areas,
-            "area_how": "measured",
-            "share": share,
-            "sliver": (areas < min_area).astype(np.int64),
+            **areas,
+            "share": np.array(shares_of(rows, doubled, areas["area_m2"].tolist()), dtype=float),
+            "sliver": (areas["area_m2"] < min_area).astype(np.int64),
         }
     )
     columns = _with_attributes(columns, prepared.parcels_table, rows, prepared.number, "")
@@ -429,32 +438,19 @@ def _parts(prepared: Prepared, pairs: Dict[Tuple[int, str], List[Pair]], min_are
     return Table(columns, [multipolygon_wkb(some) for some in pieces], prepared.crs, around)
 
 
-def _cuts(prepared: Prepared, members: List[Pair]) -> Tuple[List[List[bytes]], Array]:
+def _cuts(prepared: Prepared, members: List[Member]) -> Tuple[List[List[bytes]], Array]:
     """What each parcel and zone have in common, as `_in_place` says it, and its area in mm2, by GEOS."""
 
     def cut(begin: int, end: int) -> Tuple[List[List[bytes]], Array]:
         some = members[begin:end]
-        parts, areas = _common(prepared, some)
+        parts, areas = common(prepared, some)
         return _in_place(prepared, some, parts), areas
 
     shares = in_shares(cut, len(members), len(prepared.numbers))
     return [placed for some, _ in shares for placed in some], np.concatenate([areas for _, areas in shares])
 
 
-def _common(prepared: Prepared, members: List[Pair]) -> Tuple[List[bytes], Array]:
-    """What each parcel and zone have in common, as WKB from a corner of their island's city, and its area, by GEOS."""
-    sides, at = [], []
-    for role, column in (("parcels", 1), ("zones", 2)):
-        rows = list(dict.fromkeys((pair[0], pair[column]) for pair in members))
-        islands = (prepared.islands[island] for island, _ in rows)
-        rings = [getattr(island, role).rings[row] - island.city[0] for island, (_, row) in zip(islands, rows)]
-        position = {row: at for at, row in enumerate(rows)}
-        sides.append(rings_wkb(rings))
-        at.append([position[pair[0], pair[column]] for pair in members])
-    return common_parts(sides[0], sides[1], zip(at[0], at[1]))
-
-
-def _in_place(prepared: Prepared, members: List[Pair], blobs: List[bytes]) -> List[List[bytes]]:
+def _in_place(prepared: Prepared, members: List[Member], blobs: List[bytes]) -> List[List[bytes]]:
     """The polygons of each common part, in the layer's projection, as WKB; lines and points of it are left out."""
     origins = [island.city[0] for island in prepared.islands]
     plain = [at for at, blob in enumerate(blobs) if blob.startswith(PLAIN)]
@@ -506,6 +502,7 @@ def _with_attributes(
 def _split(prepared: Prepared, rows: List[int], zones_of: Dict[int, List[str]], parts: pd.DataFrame) -> Table:
     counts = parts[["number", "sliver"]].groupby("number")["sliver"].agg(["sum", "size"])
     slivers: Dict[str, bool] = dict(zip(counts.index, counts["sum"] >= counts["size"] - 1))
+    measured = set(parts.loc[parts["area_how"] != "proved", "number"])
     numbers = [prepared.number_of(row) for row in rows]
     columns = pd.DataFrame(
         {
@@ -513,7 +510,7 @@ def _split(prepared: Prepared, rows: List[int], zones_of: Dict[int, List[str]], 
             "zones": [",".join(zones_of[row]) for row in rows],
             "zone_count": [len(zones_of[row]) for row in rows],
             "sliver": [int(slivers[number]) for number in numbers],
-            "sliver_how": "measured",
+            "sliver_how": ["measured" if number in measured else "proved" for number in numbers],
         }
     )
     parcels = prepared.parcels_table

@@ -6,6 +6,7 @@ import re
 import shutil
 import subprocess
 import sys
+from collections import defaultdict
 from dataclasses import dataclass, field
 from functools import lru_cache
 from pathlib import Path
@@ -42,6 +43,7 @@ def find_tool() -> str:
 
 
 _PAIR = re.compile(r"^pair (\d+) (\d+)$", re.MULTILINE)
+_AREA = re.compile(r"^area (\d+) (\d+) (\d+)$", re.MULTILINE)
 _VERSION = re.compile(r"parcel_tool (\d+)\.(\d+)\.(\d+)\b.*")
 WANTED = 1
 """The first number of the versions that fit."""
@@ -189,15 +191,59 @@ def _records(main: PathLike) -> int:
     return (os.path.getsize(Path(main).with_suffix(".shx")) - 100) // 8
 
 
+@dataclass(frozen=True)
+class Overlaid:
+    """An overlay's pairs, int64 of shape (n, 2), and for each twice the area that both have in common, in mm2.
+
+    An area is a whole number, at most 1 away from the exact one; those of a parcel sum to its own. It is None where the
+    program has told none.
+    """
+
+    pairs: Array
+    area2: List[Optional[int]]
+
+
 def overlay_pairs(city: PathLike, parcels: PathLike, zones: PathLike, workers: int = 0) -> Array:
     """The pairs (record, zone's record), int64 of shape (n, 2), of `overlay`. Refused where a layer does not tile.
 
     T2 where a record is in no pair, or the program says anything else than an overlay.
     """
+    printed = ask(["overlay", str(city), str(parcels), str(zones), "--unit", "mm", *_threads(workers)])
+    return _pairs_of(printed, parcels, zones)
+
+
+def overlay_areas(city: PathLike, parcels: PathLike, zones: PathLike, workers: int = 0) -> Overlaid:
+    """As `overlay_pairs`, with areas, by `overlay --areas`.
+
+    T2, too, where the areas are not those of the pairs, or those of a parcel do not sum to what `area` says of it.
+    """
+    printed = ask(["overlay", str(city), str(parcels), str(zones), "--unit", "mm", "--areas", *_threads(workers)])
+    pairs, area2 = _pairs_of(printed, parcels, zones), areas_told(printed)
+    sums: Dict[int, int] = defaultdict(int)
+    for record, doubled in zip(pairs[:, 0].tolist(), area2):
+        sums[record] += doubled
+    if sums != areas(parcels):
+        raise _no_answer("overlay", printed)
+    return Overlaid(pairs, [*area2])
+
+
+def areas_told(printed: str) -> List[int]:
+    """The areas that `overlay --areas` printed, in the order of its pairs. T2 where they are not those of the pairs."""
+    told = _AREA.findall(printed)
+    fit = len(told) == printed.count("\narea ")
+    if not fit or [(record, zone) for record, zone, _ in told] != _PAIR.findall(printed):
+        raise _no_answer("overlay", printed)
+    return [int(doubled) for _, _, doubled in told]
+
+
+def _threads(workers: int) -> List[str]:
+    return ["--workers", str(workers)] if workers else []
+
+
+def _pairs_of(printed: str, parcels: PathLike, zones: PathLike) -> Array:
+    """The pairs that `overlay` printed, each record of both layers in one."""
     import numpy as np
 
-    threads = ["--workers", str(workers)] if workers else []
-    printed = ask(["overlay", str(city), str(parcels), str(zones), "--unit", "mm", *threads])
     try:
         pairs = np.array(_PAIR.findall(printed), dtype=np.int64).reshape(-1, 2)
         if len(pairs) != printed.count("\npair ") + printed.startswith("pair "):

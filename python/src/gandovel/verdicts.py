@@ -16,11 +16,12 @@ from .errors import Refused, place
 from .faults import Edge, Fault, faults_of
 from .large import is_large
 from .large.cutting import boxes_of
-from .large.verdict import check_island, pairs_of_island
+from .large.verdict import check_island, overlay_of_island
 from .layer_files import write_rings
 from .prepared import OUT_ROW, Island, Prepared, Rows
 from .rounds import overlaid, rounds_of
-from .tool import CheckAnswer, check_all, overlay_pairs
+from .tool import CheckAnswer, Overlaid, check_all, overlay_areas
+from .zone_areas import proved
 
 
 @dataclass
@@ -166,18 +167,29 @@ def _hash(corners: Array) -> Array:
     return np.asarray(corners[:, 0] * np.int64(1_000_003) + corners[:, 1])
 
 
-def island_pairs(folder: Path, island: Island, parcels: LayerFaults, zones: LayerFaults) -> Array:
-    """The pairs of rows (parcel, zone), from 0, whose interiors have a common point: all of them by the program."""
+def overlay_island(folder: Path, island: Island, parcels: LayerFaults, zones: LayerFaults) -> Overlaid:
+    """The pairs of rows (parcel, zone), from 0, whose interiors have a common point: all of them by the program.
+
+    With their areas where both layers tile.
+    """
     if island.zones is not None and (is_large(island.parcels.rings) or is_large(island.zones.rings)):
-        return pairs_of_island(island, parcels, zones)
+        return overlay_of_island(island, parcels, zones)
     if not parcels.faults and not zones.faults:
-        return overlay_pairs(folder / "city.shp", folder / "parcels.shp", folder / "zones.shp") - 1
+        return tiling_overlaid(folder, island)
     rounds = [
         rounds_of(len(rows.rings), faults.conflicts, faults.beyond)
         for rows, faults in ((island.parcels, parcels), (island.rows_of_zones(), zones))
     ]
     with tempfile.TemporaryDirectory() as aside:
-        return overlaid(Path(aside), island.city, island.parcels.rings, island.rows_of_zones().rings, *rounds)
+        pairs = overlaid(Path(aside), island.city, island.parcels.rings, island.rows_of_zones().rings, *rounds)
+    return Overlaid(pairs, [None] * len(pairs))
+
+
+def tiling_overlaid(folder: Path, island: Island) -> Overlaid:
+    """The pairs of rows, from 0, with their areas, of an island's layers in a folder. Refused H2 where one does not tile."""
+    found = overlay_areas(folder / "city.shp", folder / "parcels.shp", folder / "zones.shp")
+    pairs = found.pairs - 1
+    return Overlaid(pairs, proved(pairs, found.area2, island.parcels.rings, island.rows_of_zones().rings))
 
 
 def numbers_at(prepared: Prepared, rows: Rows, at: Iterable[int], role: str) -> List[str]:

@@ -1,7 +1,7 @@
 """Layers of any size: cut into districts along parcels' own borders, judged one by one, and put together by the law.
 
 What is beyond a layer's limits (65,536 rings, 1,000,000 corners), or beyond `Cutting.most`, is cut. A caller sees the
-same answers as of a small layer: `check_island`, `pairs_of_island` and `locate_in_island` stand in for the program's
+same answers as of a small layer: `check_island`, `overlay_of_island` and `locate_in_island` stand in for the program's
 `check`, `overlay` and `locate`. docs/many.md says how, and docs/guarantees.md which part of it is proved.
 """
 from __future__ import annotations

@@ -43,9 +43,13 @@ def shares_of(rows: Array, boxes: Array, corners: Array) -> List[Array]:
 
 
 def write_overlay(
-    folder: Path, layers: List[List[Array]], rows: List[List[int]], rounds: List[List[List[int]]]
+    folder: Path,
+    layers: List[List[Array]],
+    rows: List[List[int]],
+    rounds: List[List[List[int]]],
+    words: Sequence[str] = (),
 ) -> List[Tuple[Run, List[int], List[int]]]:
-    """Writes a district's rounds; its runs, each with the rows of its first parcels and zones."""
+    """Writes a district's rounds; its runs, with these words more, each with the rows of its first parcels and zones."""
     folder.mkdir()
     corners = boxes_of([ring for layer in layers for ring in layer])
     (x0, y0), (x1, y1) = corners[:, :2].min(axis=0) - MARGIN, corners[:, 2:].max(axis=0) + MARGIN
@@ -59,6 +63,6 @@ def write_overlay(
         for j, others in enumerate(rounds[1]):
             files = (str(folder / name) for name in ("city.shp", f"parcels_{i}.shp", f"zones_{j}.shp"))
             paths = tuple(files)
-            run = Run(f"{folder.name}-{i}-{j}", ("overlay", *paths, "--unit", "mm", "--workers", "1"), paths)
+            run = Run(f"{folder.name}-{i}-{j}", ("overlay", *paths, "--unit", "mm", *words, "--workers", "1"), paths)
             runs.append((run, [rows[0][at] for at in some], [rows[1][at] for at in others]))
     return runs

@@ -85,7 +85,7 @@
     if (feature.layer === "zones") return [`${areaText(it.square_metres)} (measured)`];
     const texts = [`${areaText(it.square_metres)} (measured)`];
     if (it.parts) texts.push("split: " + it.parts.map(([zone, area]) => `zone ${zone} ${areaText(area)}`).join(", ") +
-                             " (measured)");
+                             ` (${it.parts_how})`);
     else if (it.zones) texts.push(`split between zones ${it.zones}`);
     const own = faultsOf.get(it.number) || [];
     if (own.length) texts.push(`at ${few(own.map((fault) => titleOf(fault).toLowerCase()), 3)}`);
@@ -263,7 +263,9 @@
       explain(name, kind);
   for (const { name, look, text } of LAYERS.slice(1, 4))
     if (data.layers[name] && drawing.features(name).length) explain(look, text);
+  const hasProved = parcels.some(({ properties: it }) => it.parts && it.parts_how === "proved");
   for (const text of ["exact: gaps and overlaps, their areas, and what is split",
+                      ...(hasProved ? ["proved: areas of the parts of split parcels"] : []),
                       "measured: areas of parcels, and which of them overlap"])
     legend.append(element("li", text, { class: "how" }));
 
