@@ -353,7 +353,8 @@ def test_json_and_csv_on_standard_output(tmp_path):
     told = json.loads(command("check", "p.gpkg", "--json", cwd=tmp_path).stdout)
     assert told["verdict"] == "tiles" and told["counts"]["gaps"] == 0 and told["program"].startswith("parcel_tool ")
     pairs = json.loads(command("overlay", "p.gpkg", "--zones", "z.gpkg", "--json", cwd=tmp_path).stdout)["pairs"]
-    assert pairs == [{"number": number, "zone": "Z", "split": False} for number in "ab"]
+    areas = {"area2_mm2": "200000000", "area_m2": 100.0, "area_how": "proved"}
+    assert pairs == [{"number": number, "zone": "Z", "split": False, **areas} for number in "ab"]
     where = command("locate", "p.gpkg", "--at", EAST + 5, NORTH + 5, "--csv", cwd=tmp_path).stdout
     assert where.splitlines() == ["x,y,where,numbers,moved_mm", "561005.0,5934005.0,inside,a,0.0"]
     assert np.isclose(gv.area(two()).area_m2.sum(), 200)
