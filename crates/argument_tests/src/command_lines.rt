@@ -78,16 +78,21 @@ const REQUESTS: [(&str, &str); 16] = [
 ];
 
 /// Command lines of sessions, and what each asks for.
-const SESSIONS: [(&str, &str); 2] = [
+const SESSIONS: [(&str, &str); 3] = [
     (
         "parcel_tool session a b --unit mm",
-        "Session(Session { city: \"a\", parcels: \"b\", unit: Mm, zones: None, journal: None, desks: [], \
+        "Session(Session { city: \"a\", parcels: \"b\", unit: Mm, zones: None, journal: None, clerk: None, desks: [], \
          workers: None })",
     ),
     (
         "parcel_tool session --desk d a --journal j b --workers 64 --zones z --desk c --unit m --desk d",
         "Session(Session { city: \"a\", parcels: \"b\", unit: M, zones: Some(\"z\"), journal: Some(\"j\"), \
-         desks: [\"d\", \"c\", \"d\"], workers: Some(Workers { count: 64 }) })",
+         clerk: None, desks: [\"d\", \"c\", \"d\"], workers: Some(Workers { count: 64 }) })",
+    ),
+    (
+        "parcel_tool session a b --unit cm --clerk e",
+        "Session(Session { city: \"a\", parcels: \"b\", unit: Cm, zones: None, journal: None, clerk: Some(\"e\"), \
+         desks: [], workers: None })",
     ),
 ];
 
@@ -134,9 +139,9 @@ const REFUSED_SESSIONS: [(&str, ErrorKind, &str); 4] = [
         "cannot be used multiple times",
     ),
     (
-        "parcel_tool session a b --unit mm --clerk c",
-        ErrorKind::UnknownArgument,
-        "'--clerk'",
+        "parcel_tool session a b --unit mm --clerk c --clerk d",
+        ErrorKind::ArgumentConflict,
+        "cannot be used multiple times",
     ),
     (
         "parcel_tool session a b --unit mm --workers 65",
