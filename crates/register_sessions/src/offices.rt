@@ -1,6 +1,7 @@
 //! The office of a session, and who sits where.
 
-ghost use Rattle.std.specs.Prelude.{◌≡◌, max};
+ghost use Rattle.std.specs.Prelude.{◌≡◌, ◌+◌, max, min};
+ghost use Rattle.desk_lock.specs.declared.opening.TheConstants.{MOST_PLACES};
 
 use crate::desks::Desk;
 use crate::pipes::Paths;
@@ -24,7 +25,9 @@ pub(crate) fn clerks_of(desks: usize) -> usize
 }
 
 /// How many windows a session with so many desks has: each desk one, and the operator, if there is one left.
-pub(crate) fn windows_of(desks: usize) -> usize {
+pub(crate) fn windows_of(desks: usize) -> usize
+    ensures { result ≡ min (desks + 1) MOST_PLACES }
+{
     desks.saturating_add(1).min(MOST_PLACES)
 }
 

@@ -1,6 +1,8 @@
 //! How lines are taken and answered, one after the other.
 
-ghost use Rattle.std.specs.Prelude.{◌<◌, vec_len, IfOk};
+ghost use Rattle.std.specs.Prelude.{◌≡◌, ◌<◌, [], vec_len, IfOk, OnErr, OnOk};
+ghost use Rattle.std.specs.Io.KnownBytes.{Appends};
+ghost use Rattle.text_pieces.specs.Beginnings.{AppendsBeginning};
 
 use geo_exact::{ByteOut, Failed};
 use session_lines::{SessionFault, push_error};
@@ -152,7 +154,11 @@ fn excuse<A: Allocator, W: ByteOut>(
 pub(crate) fn write_out<A: Allocator, W: ByteOut>(
     text: &mut Vec<u8, A>,
     out: &mut W,
-) -> Result<(), Failed> {
+) -> Result<(), Failed>
+    ensures ok { OnOk result (Appends (W.written out.old) (W.written out.new) text.old.items) }
+    ensures none_left { OnOk result (text.new.items ≡ []) }
+    ensures err { OnErr result (AppendsBeginning (W.written out.old) (W.written out.new) text.old.items) }
+{
     put_all(text.as_slice(), out)?;
     text.clear();
     Ok(())

@@ -2,3 +2,4 @@ pub mod EditsOfClerk
 pub mod Recorded
 pub mod Rooms
 pub mod Starts
+pub mod TakenLines

@@ -3,3 +3,4 @@ pub mod Kept
 pub mod Rooms
 pub mod Starts
 pub mod ClerkEdits
+pub mod Lines

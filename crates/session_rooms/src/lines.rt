@@ -1,6 +1,10 @@
 //! The lines that a desk is asked.
 
-ghost use Rattle.std.specs.Prelude.{◌≡◌, ◌+◌, ◌-◌, ◌<◌, ◌≤◌, vec_len, IfOk};
+ghost use Rattle.std.specs.Prelude.{◌≡◌, ◌≢◌, ◌+◌, ◌-◌, ◌<◌, ◌≤◌, ◌++◌, vec_len, IfOk, MatchOption};
+ghost use Rattle.std.specs.List.{All};
+ghost use Rattle.std.specs.Io.Buffered.{reader_remaining};
+ghost use Rattle.std.specs.Io.BufRead.{strip_last};
+ghost use Rattle.session_rooms.specs.Lines.{AreRound, IsWhatCame, IsWhatPart};
 
 use crate::door::Door;
 use std::alloc::Allocator;
@@ -49,6 +53,26 @@ pub fn next_line<F: Read, B: Allocator, A: Allocator>(
     line: &mut Vec<u8, A>,
 ) -> io::Result<Came>
     ensures bound { vec_len line.new < 1048576 }
+    ensures came { IfOk result (IsWhatCame (reader_remaining F.remaining reader.old)
+        (reader_remaining F.remaining reader.new) (λ bytes. line.new.items ≡ strip_last 13 bytes)) }
+{
+    let came = take_line(door, reader, line)?;
+    if door.is_closing() {
+        return Ok(Came::Closed);
+    }
+    drop_return(line);
+    Ok(came)
+}
+
+/// Takes the next line out of a reader, and its line feed, which is not kept.
+fn take_line<R: BufRead, A: Allocator>(
+    door: &Door,
+    reader: &mut R,
+    line: &mut Vec<u8, A>,
+) -> io::Result<Came>
+    ensures bound { vec_len line.new < 1048576 }
+    ensures came { IfOk result (IsWhatCame (R.remaining reader.old) (R.remaining reader.new)
+        (λ bytes. line.new.items ≡ bytes)) }
 {
     line.clear();
     let mut came = Came::Line;
@@ -57,11 +81,8 @@ pub fn next_line<F: Read, B: Allocator, A: Allocator>(
             return Ok(Came::Closed);
         }
         match take_part(reader, line)? {
-            Part::Ends(true) => break,
-            Part::Ends(false) => {
-                came = Came::NoMemory;
-                break;
-            }
+            Part::Ends(true) => return Ok(came),
+            Part::Ends(false) => return Ok(Came::NoMemory),
             Part::GoesOn(true) => {}
             Part::GoesOn(false) => {
                 came = Came::NoMemory;
@@ -74,19 +95,15 @@ pub fn next_line<F: Read, B: Allocator, A: Allocator>(
             Part::End => return Ok(Came::End),
         }
     }
-    if door.is_closing() {
-        return Ok(Came::Closed);
-    }
-    if line.last() == Some(&b'\r') {
-        line.pop();
-    }
-    Ok(came)
+    Ok(Came::Closed)
 }
 
 /// Moves bytes that are there into a line, no more than it may have, and leaves out its line feed.
-fn take_part<B: BufRead, A: Allocator>(reader: &mut B, line: &mut Vec<u8, A>) -> io::Result<Part>
+fn take_part<R: BufRead, A: Allocator>(reader: &mut R, line: &mut Vec<u8, A>) -> io::Result<Part>
     requires { vec_len line.old < 1048576 }
     ensures bound { vec_len line.new < 1048576 }
+    ensures part { IfOk result (IsWhatPart (R.remaining reader.old) (R.remaining reader.new)
+        (λ bytes. line.new.items ≡ line.old.items ++ bytes)) }
 {
     let there = reader.fill_buf()?;
     if there.is_empty() {
@@ -95,10 +112,11 @@ fn take_part<B: BufRead, A: Allocator>(reader: &mut B, line: &mut Vec<u8, A>) ->
     let left = LINE_BYTES - line.len();
     let room = there.len().min(left);
     let part = &there[..room];
-    match part.iter().position(|byte| *byte == b'\n') {
-        Some(place) => {
-            let kept = line.extend_from_slice(&part[..place]).is_ok();
-            reader.consume(place + 1);
+    match split_at_line_feed(part) {
+        Some((before, _)) => {
+            let kept = line.extend_from_slice(before).is_ok();
+            let count = before.len() + 1;
+            reader.consume(count);
             Ok(Part::Ends(kept))
         }
         None if room == left => {
@@ -111,6 +129,29 @@ fn take_part<B: BufRead, A: Allocator>(reader: &mut B, line: &mut Vec<u8, A>) ->
             Ok(Part::GoesOn(kept))
         }
     }
+}
+
+/// What stands before the first line feed of a text, and what behind it; `None` where there is none.
+fn split_at_line_feed(text: &[u8]) -> Option<(&[u8], &[u8])>
+    ensures { MatchOption result (All (λ byte. byte ≢ 10) text.now)
+        (λ parts. AreRound text.now parts.0.now parts.1.now) }
+{
+    let place = text.iter().position(|byte| *byte == b'\n')?;
+    Some((&text[..place], &text[place + 1..]))
+}
+
+/// Takes one carriage return off a line's end.
+fn drop_return<A: Allocator>(line: &mut Vec<u8, A>)
+    ensures { line.new.items ≡ strip_last 13 line.old.items }
+{
+    let count = line.len();
+    if count == 0 {
+        return;
+    }
+    if line[count - 1] != b'\r' {
+        return;
+    }
+    line.truncate(count - 1);
 }
 
 /// Whether a whole line is among bytes.
