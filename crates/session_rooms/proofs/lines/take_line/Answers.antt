@@ -11,7 +11,7 @@ returns-in-Ends-true-clause-came g c =
     let part = subst Parts c.in-Ends-true.is c.in_ok-take_part.ensures.part in
     let old = c.loop.invariant in
     line_came c.loop.came _ _ (old.2.0 ++ part.0) c.take_part.new.line.items old.1 (line_after _ _ _ _ _ old.2.1 part.1)
-        (λ line. part.2 c.in-Ends-true.field-0-test ∙ ap (λ xs. xs ++ part.0) (old.2.2 line))
+    (λ line. part.2 c.in-Ends-true.field-0-test ∙ ap (λ xs. xs ++ part.0) (old.2.2 line))
 
 pub returns-in-Ends-false-clause-came : goal.returns-in-Ends-false-clause-came
 returns-in-Ends-false-clause-came g c =
@@ -31,8 +31,11 @@ loop-preserved g c =
           let part = subst Parts w.in-GoesOn-true.is told in (
             subst (λ line. vec_len line < 1048576) (sym w.line-is) c.take_part.ensures.bound,
             λ end. old.1 (sym w.came-is ∙ end),
-            (old.2.0 ++ part.0, part_more _ _ _ _ _ old.2.1 part.1,
-              λ line. ap vec_items w.line-is ∙ part.2 w.in-GoesOn-true.field-0-test ∙ ap (λ xs. xs ++ part.0) (old.2.2 (sym w.came-is ∙ line))),
+            (
+              old.2.0 ++ part.0,
+              part_more _ _ _ _ _ old.2.1 part.1,
+              λ line. ap vec_items w.line-is ∙ part.2 w.in-GoesOn-true.field-0-test ∙ ap (λ xs. xs ++ part.0) (old.2.2 (sym w.came-is ∙ line)),
+            ),
           )
       | in-GoesOn-false w ↦
           let part = subst Parts w.in-GoesOn-false.is told in (
