@@ -1,6 +1,6 @@
 //! Edits that are written as lines, and read back.
 
-use edit_lines::push_edit_line;
+use line_files::push_edit_line;
 use geo_exact::LIMIT;
 use line_files::{ClerkFault, read_clerk};
 use refusing_alloc::Refusing;

@@ -5,7 +5,7 @@ use Rattle.sha2.specs.Sha256.{sha256}
 use Rattle.hex.specs.Hex.{encode_lower}
 use Rattle.ring_edits.specs.declared.edit.Edit.{Edit}
 use Rattle.geo_exact.specs.declared.corner.Corner.{Corner}
-use Rattle.edit_lines.specs.EditLine.{edit_line, places_text}
+use Rattle.line_files.specs.EditLine.{edit_line, places_text}
 use Rattle.journal_records.specs.declared.record.Stamp.{Stamp}
 use Rattle.journal_records.specs.declared.record.Record.{Record}
 

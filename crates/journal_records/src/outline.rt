@@ -1,7 +1,7 @@
 //! The layer that a journal was begun with, as the text of which its header has the digest.
 
 ghost use Rattle.std.specs.Prelude.{◌≡◌, ◌++◌, OnOk};
-ghost use Rattle.edit_lines.specs.EditLine.{places_text};
+ghost use Rattle.line_files.specs.EditLine.{places_text};
 ghost use Rattle.journal_records.specs.Journals.{outline_line};
 
 use geo_exact::Corner;

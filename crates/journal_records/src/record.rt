@@ -1,11 +1,11 @@
 //! The two lines of an edit in a journal.
 
 ghost use Rattle.std.specs.Prelude.{◌≡◌, ◌++◌, OnOk, IfOk};
-ghost use Rattle.edit_lines.specs.EditLine.{edit_line};
+ghost use Rattle.line_files.specs.EditLine.{edit_line};
 ghost use Rattle.journal_records.specs.Journals.{who_text, stamp_text, record_seal, record_text};
 
 use crate::seal::Seal;
-use edit_lines::push_edit_line;
+use line_files::push_edit_line;
 use ring_edits::Edit;
 use std::alloc::{AllocError, Allocator};
 use text_pieces::push_number;

@@ -6,3 +6,8 @@ pub mod WordLists
 pub mod CornerWords
 pub mod ClerkWords
 pub mod PassedOn
+pub mod Bytes
+pub mod Numbers
+pub mod EditWords
+pub mod CutLines
+pub mod Journals

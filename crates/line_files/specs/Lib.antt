@@ -3,4 +3,5 @@ pub mod Grids
 pub mod TextNumbers
 pub mod PointLines
 pub mod ClerkFile
+pub mod EditLine
 pub mod own

@@ -12,9 +12,9 @@ use Rattle.line_files.specs.declared.grids.Grid.TheVariants.{Millimetres}
 use Rattle.line_files.specs.own.Splitting.{without_return}
 use Rattle.line_files.proofs.Splits.{first_of_more}
 use Rattle.line_files.proofs.WordLists.{first_of_words, last_word}
-use Rattle.edit_lines.specs.EditLine.{edit_text, edit_line, IsWritable}
-use Rattle.edit_lines.proofs.Bytes.{AreFrom, lack_lesser, from_lesser}
-use Rattle.edit_lines.proofs.EditWords.{name_of, behind_name, behind_spaces, text_is_words, words_say, name_from, behind_from}
+use Rattle.line_files.specs.EditLine.{edit_text, edit_line, IsWritable}
+use Rattle.line_files.proofs.Bytes.{AreFrom, lack_lesser, from_lesser}
+use Rattle.line_files.proofs.EditWords.{name_of, behind_name, behind_spaces, text_is_words, words_say, name_from, behind_from}
 
 -- ---- words
 -- words with spaces between them are cut into these words

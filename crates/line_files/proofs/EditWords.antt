@@ -9,9 +9,9 @@ use Rattle.line_files.specs.ClerkFile.{SayEdit}
 use Rattle.line_files.specs.TextNumbers.{AreCornerWords}
 use Rattle.line_files.specs.declared.grids.Grid.{Grid}
 use Rattle.line_files.specs.declared.grids.Grid.TheVariants.{Millimetres}
-use Rattle.edit_lines.specs.EditLine.{places_text, edit_text, IsWritable}
-use Rattle.edit_lines.proofs.Bytes.{AreFrom, from_test}
-use Rattle.edit_lines.proofs.Numbers.{number_back, number_from, number_small, corner_back, signed_from}
+use Rattle.line_files.specs.EditLine.{places_text, edit_text, IsWritable}
+use Rattle.line_files.proofs.Bytes.{AreFrom, from_test}
+use Rattle.line_files.proofs.Numbers.{number_back, number_from, number_small, corner_back, signed_from}
 
 -- two coordinates a corner
 abbrev pub path_words : List Corner → List (List ℕ)

@@ -1,7 +1,7 @@
 //! The line of an edit.
 
 ghost use Rattle.std.specs.Prelude.{◌≡◌, ◌++◌, OnOk};
-ghost use Rattle.edit_lines.specs.EditLine.{edit_text, edit_line};
+ghost use Rattle.line_files.specs.EditLine.{edit_text, edit_line};
 
 use ring_edits::Edit;
 use std::alloc::{AllocError, Allocator};

@@ -12,7 +12,7 @@ use Rattle.geo_exact.specs.Limit.{IsWithin, limit}
 use Rattle.geo_exact.specs.declared.corner.Corner.{Corner}
 use Rattle.line_files.specs.TextNumbers.{IsNumber, IsSigned, IsCoordinate, IsCornerText}
 use Rattle.line_files.specs.declared.grids.Grid.TheVariants.{Millimetres}
-use Rattle.edit_lines.proofs.Bytes.{AreFrom, digits_from}
+use Rattle.line_files.proofs.Bytes.{AreFrom, digits_from}
 
 -- ---- what is written is read
 pub number_back : (n : ℕ) → n < 10 ^ 19 → IsNumber (decimal n) n

@@ -1,5 +1,5 @@
-use Rattle.edit_lines.proofs.Journals.{lines_are_clerk_file, lines_say_nothing_else, lines_grow}
-use Rattle.edit_lines.proofs.laws.a_journal_reads_back.Goals as goal
+use Rattle.line_files.proofs.Journals.{lines_are_clerk_file, lines_say_nothing_else, lines_grow}
+use Rattle.line_files.proofs.laws.a_journal_reads_back.Goals as goal
 
 pub returns-clause-reads : goal.returns-clause-reads
 returns-clause-reads g c = lines_are_clerk_file

@@ -13,9 +13,9 @@ use Rattle.line_files.specs.declared.grids.Grid.{Grid}
 use Rattle.line_files.specs.declared.grids.Grid.TheVariants.{Millimetres, Centimetres}
 use Rattle.line_files.proofs.ClerkWords.{edits_are_grammar}
 use Rattle.line_files.proofs.Said.{IsGrammar}
-use Rattle.edit_lines.specs.EditLine.{IsWritable, edit_text, edit_line, edit_lines, numbered}
-use Rattle.edit_lines.proofs.EditWords.{writable_said}
-use Rattle.edit_lines.proofs.CutLines.{says_line, line_cut, not_skipped, names_no_grid}
+use Rattle.line_files.specs.EditLine.{IsWritable, edit_text, edit_line, edit_lines, numbered}
+use Rattle.line_files.proofs.EditWords.{writable_said}
+use Rattle.line_files.proofs.CutLines.{says_line, line_cut, not_skipped, names_no_grid}
 
 -- ---- each line says its edit
 lines_say : {A : Type 0} (number : ℕ) (edits : List (Edit A)) → AllByRecursion IsWritable edits

@@ -4,7 +4,7 @@ ghost use Rattle.std.specs.Prelude.{◌≡◌, ℕ, List, [], ◌∷◌, ◌++�
 ghost use Rattle.std.specs.List.{All};
 ghost use Rattle.ring_edits.specs.declared.edit.Edit.{Edit as EditValue};
 ghost use Rattle.line_files.specs.ClerkFile.{IsClerkFile};
-ghost use Rattle.edit_lines.specs.EditLine.{IsWritable, edit_line, edit_lines, numbered};
+ghost use Rattle.line_files.specs.EditLine.{IsWritable, edit_line, edit_lines, numbered};
 
 use std::alloc::Allocator;
 

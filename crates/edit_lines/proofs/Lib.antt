@@ -1,5 +1,0 @@
-pub mod Bytes
-pub mod Numbers
-pub mod EditWords
-pub mod CutLines
-pub mod Journals
