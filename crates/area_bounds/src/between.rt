@@ -99,12 +99,27 @@ fn signed_parts(one: Rising, other: Rising) -> Parts
     }
 }
 
-/// The same of an edge that may be level, which has no area with any.
+/// Whether an edge has no more than one level in common with a rising one.
+fn are_apart(one: Rising, from: Corner, to: Corner) -> bool
+    ensures { IsTrue result
+        → highest (edge_of one) (record { from = from; to = to }) ≤ℤ lowest (edge_of one) (record { from = from; to = to }) }
+{
+    if from.y <= one.low.y {
+        return to.y <= one.low.y;
+    }
+    one.high.y <= from.y && one.high.y <= to.y
+}
+
+/// The same of an edge that may be level, which has no area with any. Most edges of two rings have no levels in common,
+/// so that is tested first.
 pub fn edge_parts(one: Rising, from: Corner, to: Corner) -> Parts
     ensures counted { IsCounted result.low result.lost (between (edge_of one) (record { from = from; to = to })) }
     ensures bound { IsWithin (3 * 2 ^ 100) result.low }
     ensures lost { result.lost ≤ 1 }
 {
+    if are_apart(one, from, to) {
+        return Parts { low: 0, lost: 0 };
+    }
     match Rising::of_edge(from, to) {
         None => Parts { low: 0, lost: 0 },
         Some(other) => signed_parts(one, other),
