@@ -79,6 +79,7 @@ fn go_alike(one: Rising, other: Rising) -> bool
 }
 
 /// The same, counted where one edge goes up and the other down, and taken off where both go alike.
+#[inline(never)]
 fn signed_parts(one: Rising, other: Rising) -> Parts
     ensures counted { IsCounted result.low result.lost (between (edge_of one) (edge_of other)) }
     ensures bound { IsWithin (3 * 2 ^ 100) result.low }
@@ -100,6 +101,7 @@ fn signed_parts(one: Rising, other: Rising) -> Parts
 }
 
 /// Whether an edge has no more than one level in common with a rising one.
+#[inline(always)]
 fn are_apart(one: Rising, from: Corner, to: Corner) -> bool
     ensures { IsTrue result
         → highest (edge_of one) (record { from = from; to = to }) ≤ℤ lowest (edge_of one) (record { from = from; to = to }) }
@@ -111,7 +113,8 @@ fn are_apart(one: Rising, from: Corner, to: Corner) -> bool
 }
 
 /// The same of an edge that may be level, which has no area with any. Most edges of two rings have no levels in common,
-/// so that is tested first.
+/// so that is tested first, in the loop of the caller.
+#[inline(always)]
 pub fn edge_parts(one: Rising, from: Corner, to: Corner) -> Parts
     ensures counted { IsCounted result.low result.lost (between (edge_of one) (record { from = from; to = to })) }
     ensures bound { IsWithin (3 * 2 ^ 100) result.low }
