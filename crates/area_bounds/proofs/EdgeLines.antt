@@ -62,6 +62,29 @@ pub highest_of : (a b : Bool) (p q r s : Corner) → p.y <ℤ q.y → r.y <ℤ s
 highest_of a b p q r s h k =
     ap (λ x. int_min x (int_max (turned b r s).from.y (turned b r s).to.y)) (max_of_edge a p q h) ∙ ap (int_min q.y) (max_of_edge b r s k)
 
+-- an edge that is nowhere above the lower end, or nowhere below the higher one, has no more than one level in common with this one
+pub none_above : (b : Bool) (lo hi : Corner) (f : Edge) → lo.y <ℤ hi.y → f.from.y ≤ℤ lo.y → f.to.y ≤ℤ lo.y
+    → highest (turned b lo hi) f ≤ℤ lowest (turned b lo hi) f
+none_above b lo hi f h p q =
+    let l : lowest (turned b lo hi) f ≡ int_max lo.y (int_min f.from.y f.to.y) = ap (λ x. int_max x (int_min f.from.y f.to.y)) (min_of_edge b lo hi h) in
+    let m : highest (turned b lo hi) f ≡ int_min hi.y (int_max f.from.y f.to.y) = ap (λ x. int_min x (int_max f.from.y f.to.y)) (max_of_edge b lo hi h) in
+    rw (l, m) (ends lo.y hi.y f.from.y f.to.y p q)
+  where
+    ends : (l m y z : ℤ) → y ≤ℤ l → z ≤ℤ l → int_min m (int_max y z) ≤ℤ int_max l (int_min y z)
+    ends l m y z p q =
+        let i = int_max_is y z in let j = int_min_is m (int_max y z) in let k = int_max_is l (int_min y z) in omega (arith, ints)
+
+pub none_below : (b : Bool) (lo hi : Corner) (f : Edge) → lo.y <ℤ hi.y → hi.y ≤ℤ f.from.y → hi.y ≤ℤ f.to.y
+    → highest (turned b lo hi) f ≤ℤ lowest (turned b lo hi) f
+none_below b lo hi f h p q =
+    let l : lowest (turned b lo hi) f ≡ int_max lo.y (int_min f.from.y f.to.y) = ap (λ x. int_max x (int_min f.from.y f.to.y)) (min_of_edge b lo hi h) in
+    let m : highest (turned b lo hi) f ≡ int_min hi.y (int_max f.from.y f.to.y) = ap (λ x. int_min x (int_max f.from.y f.to.y)) (max_of_edge b lo hi h) in
+    rw (l, m) (ends lo.y hi.y f.from.y f.to.y p q)
+  where
+    ends : (l m y z : ℤ) → m ≤ℤ y → m ≤ℤ z → int_min m (int_max y z) ≤ℤ int_max l (int_min y z)
+    ends l m y z p q =
+        let i = int_min_is y z in let j = int_min_is m (int_max y z) in let k = int_max_is l (int_min y z) in omega (arith, ints)
+
 -- the gap of two edges, by their ends
 abbrev pub gap_by : Corner → Corner → Corner → Corner → ℤ → ℤ
 gap_by p q r s y = placed p q y *ℤ (s.y -ℤ r.y) -ℤ placed r s y *ℤ (q.y -ℤ p.y)

@@ -205,7 +205,7 @@ level_ends_second e f h =
     ends : (y z l m : ℤ) → y ≡ z → int_min y z ≤ℤ l → m ≤ℤ int_max y z → m ≤ℤ l
     ends y z l m e p q = let i = int_min_is y z in let j = int_max_is y z in omega (arith, ints)
 
-nothing_between : (e f : Edge) → highest e f ≤ℤ lowest e f → IsCounted (pos 0) 0 (between e f)
+pub nothing_between : (e f : Edge) → highest e f ≤ℤ lowest e f → IsCounted (pos 0) 0 (between e f)
 nothing_between e f h =
     let P : Bool → Type 0 = λ t. IsCounted (pos 0) 0 (times (neg_ℤ (way e *ℤ way f)) (between_levels t e f)) in
     subst P (lt_no (lowest e f) (highest e f) h) (counted_nothing (neg_ℤ (way e *ℤ way f)))

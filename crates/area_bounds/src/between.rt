@@ -79,6 +79,7 @@ fn go_alike(one: Rising, other: Rising) -> bool
 }
 
 /// The same, counted where one edge goes up and the other down, and taken off where both go alike.
+#[inline(never)]
 fn signed_parts(one: Rising, other: Rising) -> Parts
     ensures counted { IsCounted result.low result.lost (between (edge_of one) (edge_of other)) }
     ensures bound { IsWithin (3 * 2 ^ 100) result.low }
@@ -99,12 +100,29 @@ fn signed_parts(one: Rising, other: Rising) -> Parts
     }
 }
 
-/// The same of an edge that may be level, which has no area with any.
+/// Whether an edge has no more than one level in common with a rising one.
+#[inline(always)]
+fn are_apart(one: Rising, from: Corner, to: Corner) -> bool
+    ensures { IsTrue result
+        → highest (edge_of one) (record { from = from; to = to }) ≤ℤ lowest (edge_of one) (record { from = from; to = to }) }
+{
+    if from.y <= one.low.y {
+        return to.y <= one.low.y;
+    }
+    one.high.y <= from.y && one.high.y <= to.y
+}
+
+/// The same of an edge that may be level, which has no area with any. Most edges of two rings have no levels in common,
+/// so that is tested first, in the loop of the caller.
+#[inline(always)]
 pub fn edge_parts(one: Rising, from: Corner, to: Corner) -> Parts
     ensures counted { IsCounted result.low result.lost (between (edge_of one) (record { from = from; to = to })) }
     ensures bound { IsWithin (3 * 2 ^ 100) result.low }
     ensures lost { result.lost ≤ 1 }
 {
+    if are_apart(one, from, to) {
+        return Parts { low: 0, lost: 0 };
+    }
     match Rising::of_edge(from, to) {
         None => Parts { low: 0, lost: 0 },
         Some(other) => signed_parts(one, other),

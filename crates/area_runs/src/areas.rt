@@ -11,7 +11,7 @@ ghost use Rattle.parcel_runs.specs.OverlayReport.{IsOverlayFault, IsOverlayWant}
 ghost use Rattle.area_runs.specs.AreaReport.{WritesAreas, BeginsAreas};
 ghost use Rattle.area_runs.specs.own.LinesReportsAreas.{WritesAll, BeginsAll};
 
-use area_shares::{AreaLine, area_lines, write_areas};
+use area_shares::{AreaLine, area_lines_by, write_areas};
 use city_layers::{Source, ToolFault};
 use geo_exact::ByteOut;
 use overlay_work::{MOST_HANDS, Table, write_report};
@@ -65,7 +65,7 @@ pub fn overlay_areas<
     let OverlayInputs { run, zones } = load_overlay_inputs(rt, workers, heap, files, zones)?;
     let (sheet, lines) = edited_sheet(rt, heap, run)?;
     let table = overlay_table(rt, heap, &sheet, &zones, workers)?;
-    let areas = area_lines(heap, &sheet, &zones, table.pairs())?;
+    let areas = area_lines_by(rt, workers, heap, &sheet, &zones, table.pairs())?;
     write_all(lines.as_slice(), &table, areas.as_slice(), out)
 }
 

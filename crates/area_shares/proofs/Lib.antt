@@ -5,3 +5,4 @@ pub mod Aligned
 pub mod Zips
 pub mod ParcelLines
 pub mod Tables
+pub mod SlicePairs

@@ -1,5 +1,5 @@
 -- Pairs of parcels, one parcel after another.
-use Rattle.std.proofs.Common.{◌≡◌, ◌≢◌, ◌⊎◌, ◌∙◌, ⊎_elim, refl, sym, ap, subst, arith, ℕ, ◌+◌, ◌<◌, ◌≤◌, Bool, true, false, cond}
+use Rattle.std.proofs.Common.{◌≡◌, ◌≢◌, ◌⊎◌, inl, inr, ◌∙◌, ⊎_elim, refl, sym, ap, subst, arith, ℕ, ◌+◌, ◌<◌, ◌≤◌, Bool, true, false, cond}
 use Rattle.std.proofs.Common.{map, length, get_or, take, drop, append_assoc, append-nil, add-one, List, [], ◌∷◌, ◌++◌}
 use Rattle.std.specs.Prelude.{nat_eq}
 use Rattle.std.specs.List.{AllByRecursion, Contains}
@@ -10,10 +10,9 @@ use Rattle.std.proofs.lemmas.Int.{ints}
 use Rattle.std.proofs.lemmas.List.{map-append, length-append, take-append-drop}
 use Rattle.std.proofs.lemmas.List.Elements.{Contains-append_left, Contains-append_right, Contains-append_cases}
 use lib.IntN.{ℤ, pos, ◌+ℤ◌}
-use Rattle.geo_exact.specs.Area.{area2}
 use Rattle.geo_exact.specs.Layers.{NumberedRing}
 use Rattle.geo_exact.proofs.numbers.Dropped.{drop_item}
-use Rattle.edge_chains.proofs.nodings.NodedEdges.{none_in_nil, Contains-here}
+use Rattle.edge_chains.proofs.nodings.NodedEdges.{none_in_nil, Contains-here, all_from_contains}
 use Rattle.fabric_core.proofs.tilings.OneParcel.{of_each}
 use Rattle.fabric_core.proofs.rows.RowLists.{AllByRecursion-weaker, Contains-mapped, Contains-from_mapped}
 use Rattle.zone_tables.specs.Overlap.{IsPairBefore, AreInPairOrder, IsOverlapTable}
@@ -22,6 +21,7 @@ use Rattle.area_shares.specs.Shares.{sum_of}
 use Rattle.area_shares.specs.AreaTable.{pair_of, area2_of_lines, corners_of_zones, HasFewCorners, ArePairsOfParcels, AreAreaLines}
 use Rattle.area_shares.specs.AreaTable.{AddsAreaLines, IsAreaTable}
 use Rattle.area_shares.specs.own.Parcels.{AreParcelPairs, AreParcelLines, AddsParcel, count_first, IsSplitAt}
+use Rattle.area_shares.specs.own.Slices.{AreApart}
 
 -- ---- the pairs of the first parcel
 abbrev first_of : ℕ × ℕ → ℕ
@@ -129,7 +129,7 @@ ids_of_pairs P lines pairs e h = unmapped lines (subst (AllByRecursion (λ pair.
     unmapped [] k = tt
     unmapped (x ∷ xs) k = (k.0, unmapped xs k.1)
 
-order_parts : (here behind : List (ℕ × ℕ)) → AreInPairOrder (here ++ behind) → AreInPairOrder here × AreInPairOrder behind
+pub order_parts : (here behind : List (ℕ × ℕ)) → AreInPairOrder (here ++ behind) → AreInPairOrder here × AreInPairOrder behind
 order_parts [] behind up = (tt, up)
 order_parts (pair ∷ here) behind up = let w = order_parts here behind up.1 in ((all_front here up.0, w.0), w.1)
   where
@@ -137,13 +137,43 @@ order_parts (pair ∷ here) behind up = let w = order_parts here behind up.1 in 
     all_front [] h = tt
     all_front (p ∷ first) h = (h.0, all_front first h.1)
 
+-- what holds of the ids of all pairs holds of the ids of their lines
+line_of_pairs : (lines : List AreaLine) (pairs : List (ℕ × ℕ)) → map pair_of lines ≡ pairs → (line : AreaLine) → Contains lines line
+    → Contains pairs (pair_of line)
+line_of_pairs lines pairs e line c = subst (λ ps. Contains ps (pair_of line)) e (Contains-mapped pair_of lines line c)
+
+pub of_split : (id : ℕ) (pairs here behind : List (ℕ × ℕ)) → IsSplitAt id pairs here behind → AreApart pairs here behind
+of_split id pairs here behind split = record {
+  are_all = split.are_all;
+  apart = λ a b c d. omega (
+    arith,
+    of_each (λ (pair : ℕ × ℕ). pair.0 ≡ id) here a split.same c,
+    of_each (λ (pair : ℕ × ℕ). id < pair.0) behind b split.above d,
+  );
+}
+
 module _ (rows zones : List NumberedRing) where
-  pub joined : (id : ℕ) (pairs here behind : List (ℕ × ℕ)) (added more : List AreaLine) → IsSplitAt id pairs here behind
-      → AreParcelLines rows zones id here added → AreAreaLines rows zones behind more → AreAreaLines rows zones pairs (added ++ more)
-  joined id pairs here behind added more split first later = record {
+  -- the lines of some parcels, and behind them those of others
+  pub joined_lines : (pairs here behind : List (ℕ × ℕ)) (added more : List AreaLine) → AreApart pairs here behind
+      → AreAreaLines rows zones here added → AreAreaLines rows zones behind more → AreAreaLines rows zones pairs (added ++ more)
+  joined_lines pairs here behind added more split first later = record {
     are_pairs = map-append pair_of added more ∙ ap (λ ps. ps ++ map pair_of more) first.are_pairs ∙ ap (λ ps. here ++ ps) later.are_pairs ∙
         sym split.are_all;
-    sums = λ row c has. sums row c has (eqb_tells row.number id);
+    sums = λ row c has. ⊎_elim
+        (λ k.
+        let w = Contains-from_mapped id_of added row.number k in
+        let none : area2_of_lines row.number more ≡ pos 0 =
+        sum_none row.number more (all_from_contains (λ (line : AreaLine). line.id ≢ row.number) more
+        (λ line d e. omega (arith, apart w.0 line w.1 d, w.2, e))) in
+        sum_appended row.number added more ∙ omega (arith, ints, first.sums row c k, none))
+        (λ k.
+        let w = Contains-from_mapped id_of more row.number k in
+        let none : area2_of_lines row.number added ≡ pos 0 =
+        sum_none row.number added (all_from_contains (λ (line : AreaLine). line.id ≢ row.number) added
+        (λ line d e. omega (arith, apart line w.0 d w.1, w.2, e))) in
+        sum_appended row.number added more ∙ omega (arith, ints, none, later.sums row c k))
+        (Contains-append_cases (map id_of added) (map id_of more) row.number
+        (subst (λ ids. Contains ids row.number) (map-append id_of added more) has));
     near = λ row zone line c z l is_id is_zone few.
         let all : HasFewCorners row zones (here ++ behind) = subst (HasFewCorners row zones) split.are_all few in
         ⊎_elim
@@ -152,45 +182,34 @@ module _ (rows zones : List NumberedRing) where
         (Contains-append_cases added more line l);
   }
     where
-      same : AllByRecursion (λ line. line.id ≡ id) added
-      same = ids_of_pairs (λ n. n ≡ id) added here first.are_pairs split.same
+      apart : (one other : AreaLine) → Contains added one → Contains more other → one.id < other.id
+      apart one other c d = split.apart (pair_of one) (pair_of other) (line_of_pairs added here first.are_pairs one c)
+          (line_of_pairs more behind later.are_pairs other d)
 
-      above : AllByRecursion (λ line. id < line.id) more
-      above = ids_of_pairs (λ n. id < n) more behind later.are_pairs split.above
-
-      sums : (row : NumberedRing) → Contains rows row → Contains (map id_of (added ++ more)) row.number
-          → ((nat_eq row.number id ≡ true) × (row.number ≡ id)) ⊎ ((nat_eq row.number id ≡ false) × (row.number ≢ id))
-          → area2_of_lines row.number (added ++ more) ≡ area2 row.corners
-      sums row c has cases = ⊎_elim
-          (λ is.
-          let a : area2_of_lines row.number added ≡ area2 row.corners =
-          sum_same row.number added (AllByRecursion-weaker (λ line. line.id ≡ id) (λ line. line.id ≡ row.number) (λ line e. e ∙ sym is.1)
-          added same)
-          ∙ first.sum row c is.1 in
-          let b : area2_of_lines row.number more ≡ pos 0 =
-          sum_none row.number more (AllByRecursion-weaker (λ line. id < line.id) (λ line. line.id ≢ row.number)
-          (λ line l e. omega (arith, l, e, is.1)) more above) in
-          sum_appended row.number added more ∙ omega (arith, ints, a, b))
-          (λ is.
-          let a : area2_of_lines row.number added ≡ pos 0 =
-          sum_none row.number added (AllByRecursion-weaker (λ line. line.id ≡ id) (λ line. line.id ≢ row.number)
-          (λ line e f. is.1 (sym f ∙ e)) added same) in
-          let b : area2_of_lines row.number more ≡ area2 row.corners =
-          later.sums row c (⊎_elim
-          (λ k. let w = Contains-from_mapped id_of added row.number k in
-          absurd (is.1 (sym w.2 ∙ of_each (λ (line : AreaLine). line.id ≡ id) added w.0 same w.1)))
-          (λ k. k)
-          (Contains-append_cases (map id_of added) (map id_of more) row.number
-          (subst (λ ids. Contains ids row.number) (map-append id_of added more) has))) in
-          sum_appended row.number added more ∙ omega (arith, ints, a, b))
-          cases
+  -- the lines of one parcel
+  of_parcel : (id : ℕ) (here : List (ℕ × ℕ)) (added : List AreaLine) → AllByRecursion (λ pair. pair.0 ≡ id) here
+      → AreParcelLines rows zones id here added → AreAreaLines rows zones here added
+  of_parcel id here added same first = record {
+    are_pairs = first.are_pairs;
+    sums = λ row c has.
+        let w = Contains-from_mapped id_of added row.number has in
+        let is : row.number ≡ id = sym w.2 ∙ of_each (λ (line : AreaLine). line.id ≡ id) added w.0 own w.1 in
+        sum_same row.number added (AllByRecursion-weaker (λ line. line.id ≡ id) (λ line. line.id ≡ row.number) (λ line e. e ∙ sym is)
+        added own)
+        ∙ first.sum row c is;
+    near = first.near;
+  }
+    where
+      own : AllByRecursion (λ line. line.id ≡ id) added
+      own = ids_of_pairs (λ n. n ≡ id) added here first.are_pairs same
 
   pub joined_behind : (id : ℕ) (pairs here behind : List (ℕ × ℕ)) (old now new : List AreaLine) → IsSplitAt id pairs here behind
       → AddsParcel rows zones id here old now → AddsAreaLines rows zones behind now new → AddsAreaLines rows zones pairs old new
   joined_behind id pairs here behind old now new split first later = record {
     added = first.added ++ later.added;
     is_added = later.is_added ∙ ap (λ lines. lines ++ later.added) first.is_added ∙ append_assoc old first.added later.added;
-    are_lines = joined id pairs here behind first.added later.added split first.are_lines later.are_lines;
+    are_lines = joined_lines pairs here behind first.added later.added (of_split id pairs here behind split)
+        (of_parcel id here first.added split.same first.are_lines) later.are_lines;
   }
 
   pub added_none : (pairs : List (ℕ × ℕ)) (old : List AreaLine) → pairs ≡ [] → AddsAreaLines rows zones pairs old old
@@ -212,6 +231,34 @@ module _ (rows zones : List NumberedRing) where
     complete = λ id zone other c o. (h.exactly id other).1 o;
   }
 
+  module _ (pairs here behind : List (ℕ × ℕ)) (all : ArePairsOfParcels rows zones pairs) (split : AreApart pairs here behind) where
+    within : (pair : ℕ × ℕ) → Contains here pair ⊎ Contains behind pair → Contains pairs pair
+    within pair c = subst (λ ps. Contains ps pair) (sym split.are_all)
+        (⊎_elim (Contains-append_left here behind pair) (Contains-append_right here behind pair) c)
+
+    either : (pair : ℕ × ℕ) → Contains pairs pair → Contains here pair ⊎ Contains behind pair
+    either pair c = Contains-append_cases here behind pair (subst (λ ps. Contains ps pair) split.are_all c)
+
+    pub parcels_here : ArePairsOfParcels rows zones here
+    parcels_here = record {
+      ascend = (order_parts here behind (subst AreInPairOrder split.are_all all.ascend)).0;
+      sound = λ n other c. all.sound n other (within (n, other) (inl c));
+      complete = λ n first other c o. ⊎_elim
+          (λ a. a)
+          (λ b. let l : n < n = split.apart (n, first) (n, other) c b in absurd (omega (arith, l)))
+          (either (n, other) (all.complete n first other (within (n, first) (inl c)) o));
+    }
+
+    pub parcels_behind : ArePairsOfParcels rows zones behind
+    parcels_behind = record {
+      ascend = (order_parts here behind (subst AreInPairOrder split.are_all all.ascend)).1;
+      sound = λ n other c. all.sound n other (within (n, other) (inr c));
+      complete = λ n first other c o. ⊎_elim
+          (λ a. let l : n < n = split.apart (n, other) (n, first) a c in absurd (omega (arith, l)))
+          (λ b. b)
+          (either (n, other) (all.complete n first other (within (n, first) (inr c)) o));
+    }
+
   module _ (id zone : ℕ) (pairs others here behind : List (ℕ × ℕ)) (all : ArePairsOfParcels rows zones pairs)
       (are : pairs ≡ (id, zone) ∷ others) (split : IsSplitAt id pairs here behind) where
     in_here : (other : ℕ) → Contains pairs (id, other) → Contains here (id, other)
@@ -221,9 +268,6 @@ module _ (rows zones : List NumberedRing) where
 
     of_here : (pair : ℕ × ℕ) → Contains here pair → Contains pairs pair
     of_here pair c = subst (λ ps. Contains ps pair) (sym split.are_all) (Contains-append_left here behind pair c)
-
-    of_behind : (pair : ℕ × ℕ) → Contains behind pair → Contains pairs pair
-    of_behind pair c = subst (λ ps. Contains ps pair) (sym split.are_all) (Contains-append_right here behind pair c)
 
     first_here : Contains pairs (id, zone)
     first_here = subst (λ ps. Contains ps (id, zone)) (sym are) (Contains-here (id, zone) others)
@@ -239,16 +283,7 @@ module _ (rows zones : List NumberedRing) where
     }
 
     pub pairs_behind : ArePairsOfParcels rows zones behind
-    pairs_behind = record {
-      ascend = (order_parts here behind (subst AreInPairOrder split.are_all all.ascend)).1;
-      sound = λ n other c. all.sound n other (of_behind (n, other) c);
-      complete = λ n first other c o. ⊎_elim
-          (λ a. let l : id < n = of_each (λ (pair : ℕ × ℕ). id < pair.0) behind (n, first) split.above c in
-          let e : n ≡ id = of_each (λ (pair : ℕ × ℕ). pair.0 ≡ id) here (n, other) split.same a in absurd (omega (arith, l, e)))
-          (λ b. b)
-          (Contains-append_cases here behind (n, other) (subst (λ ps. Contains ps (n, other)) split.are_all
-          (all.complete n first other (of_behind (n, first) c) o)));
-    }
+    pairs_behind = parcels_behind pairs here behind all (of_split id pairs here behind split)
 
     pub some_here : 0 < length here
     some_here = some here (in_here zone first_here)

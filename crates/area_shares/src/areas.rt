@@ -16,10 +16,10 @@ use zone_tables::each_parcel_overlaps_a_zone;
 /// # Errors
 ///
 /// [`AllocError`] where an allocation is refused; some lines were added then.
-pub fn push_area_lines<'h, H: Allocator, A: Allocator + Copy>(
+pub fn push_area_lines<'p, 'z, H: Allocator, A: Allocator + Copy>(
     lines: &mut Vec<AreaLine, A>,
-    parcels: &Sheet<'h, H>,
-    zones: &Layer<'h, H>,
+    parcels: &Sheet<'p, H>,
+    zones: &Layer<'z, H>,
     pairs: &[(u64, u64)],
 ) -> Result<(), AllocError>
     requires city { zones.now.city ≡ parcels.now.city }

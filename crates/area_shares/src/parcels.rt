@@ -37,10 +37,10 @@ pub fn split_parcel(id: u64, pairs: &[(u64, u64)]) -> (&[(u64, u64)], &[(u64, u6
 
 /// Adds the lines of a parcel: its area where it has one zone; where it has two, what the first has, and the rest for
 /// the second; else what each zone has of it.
-pub fn push_parcel<'h, H: Allocator, A: Allocator + Copy>(
+pub fn push_parcel<'p, 'z, H: Allocator, A: Allocator + Copy>(
     lines: &mut Vec<AreaLine, A>,
-    parcels: &Sheet<'h, H>,
-    zones: &Layer<'h, H>,
+    parcels: &Sheet<'p, H>,
+    zones: &Layer<'z, H>,
     id: u64,
     here: &[(u64, u64)],
 ) -> Result<(), AllocError>

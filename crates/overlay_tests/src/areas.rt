@@ -2,10 +2,11 @@
 
 use crate::pairs::all_pairs;
 use crate::zones::{LEFT, RIGHT};
-use area_shares::{area_lines, write_areas};
+use area_shares::{area_lines_by, write_areas};
 use geo_exact::{Counted, Failed};
 use std::alloc::Allocator;
 use std::test::Fail;
+use std::thread::Threads;
 use test_builders::Place;
 use test_cities::{EAST, SQUARE, WEST, city, layer_in, sheet_in};
 
@@ -69,13 +70,18 @@ static CASES: [Case; 5] = [
     },
 ];
 
-/// Whether the areas of these parcels in these zones have this text.
-fn is_told<H: Allocator>(heap: &H, case: &Case) -> Result<bool, Fail> {
+/// Whether the areas of these parcels in these zones have this text, where so many workers measure them.
+fn is_told<R: Threads + Sync, H: Allocator + Send + Sync>(
+    rt: &R,
+    workers: usize,
+    heap: &H,
+    case: &Case,
+) -> Result<bool, Fail> {
     let city = city(heap, &SQUARE)?;
     let sheet = sheet_in(heap, &city, &case.parcels)?;
     let zones = layer_in(heap, &city, case.zones)?;
     let pairs = all_pairs(heap, &sheet, &zones)?;
-    let lines = area_lines(heap, &sheet, &zones, &pairs)?;
+    let lines = area_lines_by(rt, workers, heap, &sheet, &zones, &pairs)?;
     let mut out = Counted::new(Vec::new(heap));
     match write_areas(&lines, &mut out) {
         Ok(()) => Ok(out.into_inner().as_slice() == case.text.as_bytes()),
@@ -87,7 +93,13 @@ fn is_told<H: Allocator>(heap: &H, case: &Case) -> Result<bool, Fail> {
 fn areas_add_up(rt: HostRuntime) -> Result<(), Fail> {
     let heap = &rt.alloc();
     for case in &CASES {
-        assert!(rt; is_told(heap, case)?, "{}", case.text);
+        for workers in 1..6 {
+            assert!(rt;
+                is_told(&rt, workers, heap, case)?,
+                "{workers} workers: {}",
+                case.text
+            );
+        }
     }
     Ok(())
 }

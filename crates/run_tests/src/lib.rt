@@ -15,4 +15,6 @@ mod part_runs;
 #[cfg(test)]
 mod point_lines;
 #[cfg(test)]
+mod refused_areas;
+#[cfg(test)]
 mod refused_growths;

@@ -3,7 +3,7 @@
 ghost use Rattle.std.specs.Prelude.{◌≡◌, ◌+◌, ◌*◌, ◌^◌, ◌<◌, ◌/◌};
 ghost use Rattle.wide_numbers.specs.Value.{value};
 
-use crate::wide::Wide;
+use crate::wide::{WORD, Wide, words_of};
 
 /// How many numbers half a word has, 2 ^ 32.
 const HALF: u64 = 4_294_967_296;
@@ -31,6 +31,21 @@ fn half_shared(rest: u128, half: u64, divisor: u128) -> Shared
     }
 }
 
+/// Divides what is left and the next word, by a divisor of one word.
+fn word_shared_by_word(rest: u128, word: u64, divisor: u128) -> Shared
+    requires left { rest < divisor }
+    requires divisor { divisor < 2 ^ 64 }
+    ensures exact { rest * 2 ^ 64 + word ≡ result.quotient * divisor + result.rest }
+    ensures left { result.rest < divisor }
+{
+    let whole = rest * WORD + u128::from(word);
+    let quotient = whole / divisor;
+    Shared {
+        quotient: quotient as u64,
+        rest: whole - quotient * divisor,
+    }
+}
+
 /// Divides what is left and the next word.
 fn word_shared(rest: u128, word: u64, divisor: u128) -> Shared
     requires left { rest < divisor }
@@ -38,6 +53,9 @@ fn word_shared(rest: u128, word: u64, divisor: u128) -> Shared
     ensures exact { rest * 2 ^ 64 + word ≡ result.quotient * divisor + result.rest }
     ensures left { result.rest < divisor }
 {
+    if divisor < WORD {
+        return word_shared_by_word(rest, word, divisor);
+    }
     let high = half_shared(rest, word / HALF, divisor);
     let low = half_shared(high.rest, word % HALF, divisor);
     Shared {
@@ -55,8 +73,27 @@ pub struct Quotient {
     pub rest: u128,
 }
 
-/// The quotient of a wide number by a divisor of up to 96 bits, and what is left.
-pub fn divided_with_rest(dividend: Wide, divisor: u128) -> Quotient
+/// The quotient of a number of two words, and what is left: one division and one product.
+fn narrow_shared(dividend: u128, divisor: u128) -> Quotient
+    requires some { 0 < divisor }
+    ensures exact { dividend ≡ value result.whole * divisor + result.rest }
+    ensures left { result.rest < divisor }
+{
+    let quotient = dividend / divisor;
+    let words = words_of(quotient);
+    Quotient {
+        whole: Wide {
+            a: words.low,
+            b: words.high,
+            c: 0,
+            d: 0,
+        },
+        rest: dividend - quotient * divisor,
+    }
+}
+
+/// The quotient of a number of four words, word by word, and what is left.
+fn wide_shared(dividend: Wide, divisor: u128) -> Quotient
     requires some { 0 < divisor }
     requires small { divisor < 2 ^ 96 }
     ensures exact { value dividend ≡ value result.whole * divisor + result.rest }
@@ -76,6 +113,19 @@ pub fn divided_with_rest(dividend: Wide, divisor: u128) -> Quotient
         whole,
         rest: a.rest,
     }
+}
+
+/// The quotient of a wide number by a divisor of up to 96 bits, and what is left.
+pub fn divided_with_rest(dividend: Wide, divisor: u128) -> Quotient
+    requires some { 0 < divisor }
+    requires small { divisor < 2 ^ 96 }
+    ensures exact { value dividend ≡ value result.whole * divisor + result.rest }
+    ensures left { result.rest < divisor }
+{
+    if dividend.c == 0 && dividend.d == 0 {
+        return narrow_shared(dividend.narrow(), divisor);
+    }
+    wide_shared(dividend, divisor)
 }
 
 /// The quotient of a wide number, rounded down, by a divisor of up to 96 bits.

@@ -45,8 +45,23 @@ fn carried(word: u64, factor: u64, carry: u64) -> Words
     words_of(u128::from(word) * u128::from(factor) + u128::from(carry))
 }
 
-/// The product of two numbers of 128 bits, exactly.
-pub fn product(m: u128, n: u128) -> Wide
+/// The product of two words, by one multiplication.
+fn word_product(m: u128, n: u128) -> Wide
+    requires first { m < 2 ^ 64 }
+    requires second { n < 2 ^ 64 }
+    ensures { value result ≡ m * n }
+{
+    let words = words_of(m * n);
+    Wide {
+        a: words.low,
+        b: words.high,
+        c: 0,
+        d: 0,
+    }
+}
+
+/// The product of two numbers of two words, by the products of the words.
+fn wide_product(m: u128, n: u128) -> Wide
     ensures { value result ≡ m * n }
 {
     let first = words_of(m);
@@ -62,6 +77,16 @@ pub fn product(m: u128, n: u128) -> Wide
         c: e.low,
         d: d.high + e.high,
     }
+}
+
+/// The product of two numbers of 128 bits, exactly.
+pub fn product(m: u128, n: u128) -> Wide
+    ensures { value result ≡ m * n }
+{
+    if m < WORD && n < WORD {
+        return word_product(m, n);
+    }
+    wide_product(m, n)
 }
 
 impl Wide {

@@ -3,8 +3,12 @@ use Rattle.geo_exact.specs.Rings.{Edge}
 use Rattle.common_areas.specs.Between.{between}
 use Rattle.area_bounds.specs.Edges.{edge_of}
 use Rattle.area_bounds.specs.Parts.{IsCounted}
-use Rattle.area_bounds.proofs.Gaps.{level_counted}
+use Rattle.area_bounds.proofs.Gaps.{level_counted, nothing_between}
 use Rattle.area_bounds.proofs.between.edge_parts.Goals as goal
+
+pub returns-then-are_apart-clause-counted : goal.returns-then-are_apart-clause-counted
+returns-then-are_apart-clause-counted c =
+    nothing_between (edge_of c.args.one) (record { from = c.args.from; to = c.args.to }) (c.are_apart.ensures c.if-are_apart.true)
 
 pub returns-in-None-clause-counted : goal.returns-in-None-clause-counted
 returns-in-None-clause-counted c =

@@ -1,5 +1,5 @@
 use Rattle.wide_numbers.proofs.Sums.{shared}
-use Rattle.wide_numbers.proofs.division.divided_with_rest.Goals as goal
+use Rattle.wide_numbers.proofs.division.wide_shared.Goals as goal
 
 pub returns-clause-exact : goal.returns-clause-exact
 returns-clause-exact c =

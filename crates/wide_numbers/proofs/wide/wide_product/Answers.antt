@@ -1,6 +1,6 @@
 use Rattle.std.proofs.Common.{◌≡◌, ◌+◌, ◌*◌, ◌^◌, arith}
 use Rattle.wide_numbers.proofs.Sums.{product_of_words}
-use Rattle.wide_numbers.proofs.wide.product.Goals as goal
+use Rattle.wide_numbers.proofs.wide.wide_product.Goals as goal
 
 pub returns : goal.returns
 returns c =
