@@ -151,9 +151,9 @@ class Session(Calls):
         """How many parcels there are now, and twice the area of the city that they tile."""
         return tiling_of(self._reported("check"))
 
-    def overlay(self) -> Overlaps:
-        """Which parcels and zones overlap now. Raises `NoZones`."""
-        return overlaps_of(self._reported("overlay"))
+    def overlay(self, areas: bool = False) -> Overlaps:
+        """Which parcels and zones overlap now; with `areas` also how much of each parcel lies in each zone. Raises `NoZones`."""
+        return overlaps_of(self._reported("overlay areas" if areas else "overlay"), areas)
 
     def export(self, base: PathLike) -> int:
         """Writes the parcels of now to `base`.shp and `base`.shx, in mm, and answers how many they are.
