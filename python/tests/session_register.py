@@ -6,6 +6,7 @@ and brings, and why one is refused, is said in the words of the session's answer
 from __future__ import annotations
 
 import random
+from fractions import Fraction
 from typing import Dict, Iterator, List, Optional, Sequence, Set, Tuple
 
 Corner = Tuple[int, int]
@@ -27,6 +28,17 @@ def turn(a: Corner, b: Corner, c: Corner) -> int:
 def area2(ring: Sequence[Corner]) -> int:
     """Twice the area; negative where the ring runs clockwise."""
     return sum(ring[k - 1][0] * ring[k][1] - ring[k][0] * ring[k - 1][1] for k in range(len(ring)))
+
+
+def area2_west_of(border: int, ring: Ring) -> Fraction:
+    """Twice the area of a ring's part west of a border, exact."""
+    west = []
+    for (x, y), (u, v) in zip(ring, ring[1:] + ring[:1]):
+        if x <= border:
+            west.append((x, y))
+        if min(x, u) < border < max(x, u):
+            west.append((border, y + Fraction((border - x) * (v - y), u - x)))
+    return Fraction(area2(west))
 
 
 def is_on(p: Corner, a: Corner, b: Corner) -> bool:

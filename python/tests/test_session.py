@@ -13,7 +13,7 @@ import pytest
 import gandovel as gv
 from gandovel.layer_files import read_rings, write_rings
 from gandovel.tool import find_tool
-from session_register import Register, area2
+from session_register import Register, area2, area2_west_of
 from session_town import HALVES, SECONDS, SQUARE, Raw, Town, program
 
 pytestmark = pytest.mark.usefixtures("in_time")
@@ -124,6 +124,14 @@ def test_the_operators_calls(town, tmp_path):
         assert found.entries == 1 and found.split == tuple(sorted(west & east))
         assert found.pairs.tolist() == sorted([[it, 1] for it in west] + [[it, 2] for it in east])
         assert found.within.tolist() == [pair for pair in found.pairs.tolist() if pair[0] not in west & east]
+        assert found.area2 is None
+        measured = session.overlay(areas=True)
+        assert (measured.entries, measured.split) == (found.entries, found.split)
+        assert measured.pairs.tolist() == found.pairs.tolist() and measured.within.tolist() == found.within.tolist()
+        told = dict(zip(map(tuple, measured.pairs.tolist()), measured.area2))
+        for number, ring in register.rings.items():
+            in_west, in_east = told.get((number, 1), 0), told.get((number, 2), 0)
+            assert in_west + in_east == area2(ring) and abs(in_west - area2_west_of(35_000, ring)) <= 1
         with pytest.raises(gv.SessionError, match="S2"):
             session.export(tmp_path / "none" / "new")
         assert session.check() == gv.Tiling(63, 12_800_000_000)
@@ -131,7 +139,7 @@ def test_the_operators_calls(town, tmp_path):
 
 def test_each_error_has_a_name(town):
     with town.session(*EIGHT) as session, session.desk("desk1") as desk:
-        for line in ("check", "overlay", "export x", "publish", "close"):
+        for line in ("check", "overlay", "overlay areas", "export x", "publish", "close"):
             with pytest.raises(gv.OperatorsOnly):
                 desk.ask(line)
         with pytest.raises(gv.NoCard):
@@ -139,8 +147,9 @@ def test_each_error_has_a_name(town):
         for call in (session.entries, lambda: session.locate(1, 1), lambda: session.parcel(1)):
             with pytest.raises(gv.NoWindow):
                 call()
-        with pytest.raises(gv.NoZones):
-            session.overlay()
+        for areas in (False, True):
+            with pytest.raises(gv.NoZones):
+                session.overlay(areas)
         assert desk.entries() == session.publish() == 0
 
 
@@ -184,6 +193,11 @@ NO_LINES = [
     b"parcel " + b"0" * 20,
     b"entries 1",
     b"entries ",
+    b"overlay ",
+    b"overlay area",
+    b"overlay  areas",
+    b"overlay areas ",
+    b"overlay areas 1",
     b" ",
     b" # x",
     b"\xff\xfe",

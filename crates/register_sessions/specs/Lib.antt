@@ -1,1 +1,2 @@
 pub mod StartFaults
+pub mod own

@@ -10,7 +10,7 @@ use session_rooms::{Came, Chair, Clocked, Room, answer};
 use std::alloc::Allocator;
 use std::fs::File;
 use std::io;
-use std::io::{BufReader, ErrorKind, Read};
+use std::io::{BufReader, ErrorKind};
 use std::sync::Wait;
 use std::sync::atomic::Ordering;
 
@@ -21,6 +21,16 @@ pub(crate) struct Desk<'p, 'h, H: Allocator, J: Naming<H>> {
     pub(crate) chair: Chair<'h, H, J>,
 }
 
+/// What follows once a desk has served a client.
+#[derive(Drop)]
+enum After {
+    /// The next client. The pipe of the lines stays open until that one has opened it, where the client before has closed
+    /// it and all its lines were taken: else a client that comes early would have a pipe that nobody reads.
+    Client(Option<File>),
+    /// No other client.
+    End,
+}
+
 /// Serves a desk's clients, one after the other, until the session closes, or the desk's pipes can't be opened.
 pub(crate) fn serve_desk<'p, 'h, P: Pipes, H: Allocator, J: Naming<H>, R: Wait, K: Clocked>(
     room: &Room<'_, 'h, H, J, R, DiskFile, K>,
@@ -28,52 +38,66 @@ pub(crate) fn serve_desk<'p, 'h, P: Pipes, H: Allocator, J: Naming<H>, R: Wait, 
     desk: Desk<'p, 'h, H, J>,
 ) -> Desk<'p, 'h, H, J> {
     let mut desk = desk;
+    let mut kept = None;
     for _ in room.rt.forever() {
-        if !serve_next(room, pipes, &mut desk) {
-            break;
+        match serve_next(room, pipes, &mut desk, kept) {
+            After::Client(pipe) => kept = pipe,
+            After::End => break,
         }
     }
     desk
 }
 
-/// Serves the next client of a desk; whether the desk goes on then.
+/// Serves the next client of a desk; the pipe that was kept is closed once it is there.
 fn serve_next<'p, 'h, P: Pipes, H: Allocator, J: Naming<H>, R: Wait, K: Clocked>(
     room: &Room<'_, 'h, H, J, R, DiskFile, K>,
     pipes: &P,
     desk: &mut Desk<'p, 'h, H, J>,
-) -> bool {
+    kept: Option<File>,
+) -> After {
     if !room.door.step_in(room.rt) {
-        return false;
+        return After::End;
     }
     let paths = desk.paths;
     paths.serves.store(true, Ordering::SeqCst);
     let opened = open_both(room, pipes, paths);
+    drop(kept);
     room.door.pass(room.rt);
-    let goes_on = match opened {
-        Ok((mut reader, writer)) => {
-            let mut out = Counted::new(writer);
-            let served = serve_client(room, &mut desk.chair, &mut reader, &mut out);
-            // Whoever sees the end of the answers may ask anew at once: what is asked then must not come to this
-            // reader.
-            drop(reader);
-            drop(out);
-            served == Served::Gone
-        }
-        Err(error) => error.kind() == ErrorKind::OutOfMemory,
+    let after = match opened {
+        Ok((reader, writer)) => serve_client(room, &mut desk.chair, reader, writer),
+        Err(error) if error.kind() == ErrorKind::OutOfMemory => After::Client(None),
+        Err(_) => After::End,
     };
     paths.serves.store(false, Ordering::SeqCst);
-    goes_on
+    after
 }
 
-/// Answers a client's lines until no further one is taken.
-fn serve_client<'h, H: Allocator, J: Naming<H>, R: Wait, K: Clocked, F: Read, W: ByteOut>(
+/// Answers a client's lines until no further one is taken. It sees the end of its answers then.
+fn serve_client<'s, 'h, H: Allocator, J: Naming<H>, R: Wait, K: Clocked>(
     room: &Room<'_, 'h, H, J, R, DiskFile, K>,
     chair: &mut Chair<'h, H, J>,
-    reader: &mut BufReader<F, &'h H>,
-    out: &mut W,
-) -> Served {
+    reader: BufReader<LinesPipe<'s>, &'h H>,
+    writer: File,
+) -> After {
+    let mut reader = reader;
+    let mut out = Counted::new(writer);
     let mut attendant = DeskAttendant { room, chair };
-    serve_lines(room.heap, &room.door, reader, out, &mut attendant)
+    let served = serve_lines(room.heap, &room.door, &mut reader, &mut out, &mut attendant);
+    match served {
+        Served::Gone => {
+            drop(out);
+            let LinesPipe { pipe, .. } = reader.into_inner();
+            After::Client(Some(pipe))
+        }
+        Served::Deaf => {
+            // What it asked and nobody has taken must not come to the next client. Whoever sees the end of the answers
+            // may ask anew at once: that must not come to this reader.
+            drop(reader);
+            drop(out);
+            After::Client(None)
+        }
+        Served::Ended | Served::Broken => After::End,
+    }
 }
 
 /// Who answers at a desk: whoever sits there asks the room.

@@ -2,7 +2,7 @@
 
 use crate::journal_file::{DiskFile, Machine};
 use crate::post::{Attendant, Next, Served, Trouble, serve_lines};
-use crate::reports::{Exports, Ground, report_check, report_export, report_overlay};
+use crate::reports::{Exports, Ground, report_areas, report_check, report_export, report_overlay};
 use desk_lock::Naming;
 use geo_exact::ByteOut;
 use session_lines::{Line, SessionFault, push_error, push_failure, push_published};
@@ -80,7 +80,8 @@ impl<
         };
         match line {
             Line::Check => answer_check(room, text)?,
-            Line::Overlay => answer_overlay(room, ground, text, out)?,
+            Line::Overlay => answer_overlay(room, ground, false, text, out)?,
+            Line::OverlayAreas => answer_overlay(room, ground, true, text, out)?,
             Line::Export(base) => answer_export(room, self.disk, ground, base, text)?,
             Line::Publish => answer_publish(room, chair, text)?,
             Line::Close => return Ok(Next::End),
@@ -101,10 +102,11 @@ fn answer_check<'h, H: Allocator, J: Naming<H>, R: Wait, K: Clocked>(
     }
 }
 
-/// Writes which parcels and zones overlap, where there are zones.
+/// Writes which parcels and zones overlap, where there are zones, and with areas how much of each parcel lies in each zone.
 fn answer_overlay<'h, H: Allocator, J: Naming<H>, R: Wait, K: Clocked, W: ByteOut>(
     room: &Room<'_, 'h, H, J, R, DiskFile, K>,
     ground: &Ground<'h, H, J>,
+    has_areas: bool,
     text: &mut Vec<u8, &'h H>,
     out: &mut W,
 ) -> Result<(), Trouble> {
@@ -112,6 +114,7 @@ fn answer_overlay<'h, H: Allocator, J: Naming<H>, R: Wait, K: Clocked, W: ByteOu
         return Ok(push_error(text, SessionFault::NoZones)?);
     };
     match room.sheet() {
+        Ok(sheet) if has_areas => report_areas(room.heap, &sheet, zones, text, out),
         Ok(sheet) => report_overlay(room.heap, &sheet, zones, text, out),
         Err(fault) => Ok(push_error(text, fault)?),
     }

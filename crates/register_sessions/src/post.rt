@@ -47,8 +47,10 @@ impl From<Failed> for Trouble {
 /// Why no further line is taken.
 #[derive(Clone, Copy, Debug, PartialEq, Eq)]
 pub(crate) enum Served {
-    /// Whoever asked has gone: closed the pipe, or takes no answers.
+    /// Whoever asked has closed the pipe, and all that it asked was taken.
     Gone,
+    /// Whoever asked takes no answers.
+    Deaf,
     /// The post ended it.
     Ended,
     /// Lines can't be read there.
@@ -104,7 +106,7 @@ fn take_line<F: Read, B: Allocator, A: Allocator, W: ByteOut>(
 {
     let waits = !has_line(reader.buffer());
     if (waits || text.len() >= MOST_TEXT) && write_out(text, out).is_err() {
-        return Err(Served::Gone);
+        return Err(Served::Deaf);
     }
     match next_line(door, reader, line) {
         Ok(Came::End) => Err(Served::Gone),
@@ -127,10 +129,10 @@ fn go_on<A: Allocator, W: ByteOut>(
             let _ = write_out(text, out);
             Some(Served::Ended)
         }
-        Err(Trouble::Failed) => Some(Served::Gone),
+        Err(Trouble::Failed) => Some(Served::Deaf),
         Err(Trouble::NoMemory) => match excuse(before, text, out) {
             Ok(()) => None,
-            Err(_) => Some(Served::Gone),
+            Err(_) => Some(Served::Deaf),
         },
     }
 }

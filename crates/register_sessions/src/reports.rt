@@ -1,15 +1,21 @@
 //! The reports that the operator asks for.
 
-ghost use Rattle.std.specs.Prelude.{◌≡◌, length, IfOk};
+ghost use Rattle.std.specs.Prelude.{◌≡◌, ◌≢◌, ◌⊎◌, [], ◌∷◌, map, length, IfOk, IfErr, OnOk};
+ghost use Rattle.std.specs.List.Sorted.{IsStrictlyIncreasing};
+ghost use Rattle.fabric_core.specs.Rows.{numbers};
+ghost use Rattle.overlay_work.specs.declared.round.RoundFault.TheVariants.{OtherCity, NoMemory as NoRoom};
 ghost use Rattle.zone_tables.specs.Overlap.{IsOverlapTable};
+ghost use Rattle.session_lines.specs.declared.faults.SessionFault.TheVariants.{NoMemory, NoZones};
+ghost use Rattle.register_sessions.specs.own.Overlays.{WritesTable, AnswersOverlay, AnswersAreas, IsFaultOfAllHands};
 
 use crate::own_files::OwnFiles;
 use crate::post::{Trouble, write_out};
+use area_shares::{AreaLine, area_lines, write_areas};
 use city_layers::ToolFault;
 use desk_lock::Naming;
 use fabric_core::{Layer, Sheet};
 use geo_exact::ByteOut;
-use overlay_work::{Hand, Round, RoundFault, Step, Table};
+use overlay_work::{CloseFault, Hand, Round, RoundFault, Step, Table};
 use parcel_runs::sheets::{export_sheet, push_sheet_tiling};
 use session_lines::{SessionFault, push_end, push_error, push_failure};
 use std::alloc::{AllocError, Allocator};
@@ -43,20 +49,55 @@ pub(crate) fn report_overlay<'h, H: Allocator, W: ByteOut>(
     zones: &Layer<'h, H>,
     text: &mut Vec<u8, &'h H>,
     out: &mut W,
-) -> Result<(), Trouble> {
+) -> Result<(), Trouble>
+    ensures { OnOk result ((zones.now.city ≢ sheet.now.city)
+        ⊎ AnswersOverlay sheet.now.now.rows zones.now.rows (length sheet.now.journal) text.old.items text.new.items
+        (W.written out.old) (W.written out.new)) }
+{
+    match table_of(heap, sheet, zones) {
+        Ok(table) => write_overlay(&table, &[], text, out),
+        Err(SessionFault::NoMemory) => Err(Trouble::NoMemory),
+        Err(fault) => Ok(push_error(text, fault)?),
+    }
+}
+
+/// The same, and behind it a line for each pair: how much of the parcel lies in the zone.
+pub(crate) fn report_areas<'h, H: Allocator, W: ByteOut>(
+    heap: &'h H,
+    sheet: &Sheet<'h, H>,
+    zones: &Layer<'h, H>,
+    text: &mut Vec<u8, &'h H>,
+    out: &mut W,
+) -> Result<(), Trouble>
+    ensures { OnOk result ((zones.now.city ≢ sheet.now.city)
+        ⊎ AnswersAreas sheet.now.now.rows zones.now.rows (length sheet.now.journal) text.old.items text.new.items
+        (W.written out.old) (W.written out.new)) }
+{
     match table_of(heap, sheet, zones) {
         Ok(table) => {
-            table.use_invariant();
-            write_out(text, out)?;
-            if write_report(&table, out).is_err() {
-                return Err(Trouble::Failed);
-            }
-            push_end(text)?;
-            Ok(())
+            let areas = area_lines(heap, sheet, zones, table.pairs())?;
+            write_overlay(&table, areas.as_slice(), text, out)
         }
         Err(SessionFault::NoMemory) => Err(Trouble::NoMemory),
         Err(fault) => Ok(push_error(text, fault)?),
     }
+}
+
+/// Writes what was collected, the report of a table and lines of areas, and adds the end.
+fn write_overlay<'t, 'h, H: Allocator, W: ByteOut>(
+    table: &Table<'t, 'h, H, &'h H>,
+    areas: &[AreaLine],
+    text: &mut Vec<u8, &'h H>,
+    out: &mut W,
+) -> Result<(), Trouble>
+    ensures { OnOk result
+        (WritesTable table.now areas.now text.old.items text.new.items (W.written out.old) (W.written out.new)) }
+{
+    write_out(text, out)?;
+    write_report(table, out)?;
+    write_areas(areas, out)?;
+    push_end(text)?;
+    Ok(())
 }
 
 /// The table of a sheet's parcels and the zones of its city, as one hand finds it.
@@ -68,40 +109,22 @@ fn table_of<'t, 'h, H: Allocator>(
     ensures table { IfOk result (λ table. IsOverlapTable table.rows table.zones table.pairs) }
     ensures rows { IfOk result (λ table. (table.rows ≡ sheet.now.now.rows) × (table.zones ≡ zones.now.rows)) }
     ensures entries { IfOk result (λ table. table.entries ≡ length sheet.now.journal) }
+    ensures city { OnOk result (zones.now.city ≡ sheet.now.city) }
+    ensures fault { IfErr result (λ fault.
+        ((fault ≡ NoZones) × (zones.now.city ≢ sheet.now.city)) ⊎ (fault ≡ NoMemory)) }
 {
     let Ok(sharing) = whole_list(heap, sheet) else {
         return Err(SessionFault::NoMemory);
     };
     let (round, mut hands) = match Round::new(heap, sheet, zones, sharing) {
         Ok(begun) => begun,
-        Err(RoundFault::OtherCity) => return Err(SessionFault::NoZones),
-        Err(_) => return Err(SessionFault::NoMemory),
+        Err(fault) => return Err(fault_of_round(fault)),
     };
-    let Some(mut hand) = hands.pop() else {
-        return Err(SessionFault::NoMemory);
-    };
-    step_until_done(&mut hand);
-    let Ok(()) = hands.push(hand) else {
-        return Err(SessionFault::NoMemory);
-    };
+    step_until_done(&mut hands[0]);
     match round.close(hands) {
         Ok(table) => Ok(table),
-        Err(_) => Err(SessionFault::NoMemory),
+        Err(back) => Err(fault_of_close(back.fault)),
     }
-}
-
-/// All parcels of a sheet as the one list of a round.
-fn whole_list<'h, H: Allocator>(
-    heap: &'h H,
-    sheet: &Sheet<'h, H>,
-) -> Result<Vec<Vec<u64, &'h H>, &'h H>, AllocError> {
-    let mut ids = Vec::new(heap);
-    for id in sheet.ids() {
-        ids.push(id)?;
-    }
-    let mut sharing = Vec::new(heap);
-    sharing.push(ids)?;
-    Ok(sharing)
 }
 
 /// Steps a hand until it is done, or wants memory.
@@ -114,6 +137,50 @@ fn step_until_done<'t, 'h, H: Allocator>(hand: &mut Hand<'t, 'h, H>)
             Step::Done | Step::NoMemory => return,
         }
     }
+}
+
+/// What is told of a round that could not begin.
+fn fault_of_round(fault: RoundFault) -> SessionFault
+    requires { (fault ≡ OtherCity) ⊎ (fault ≡ NoRoom) }
+    ensures { ((fault ≡ OtherCity) × (result ≡ NoZones)) ⊎ ((fault ≡ NoRoom) × (result ≡ NoMemory)) }
+{
+    match fault {
+        RoundFault::OtherCity => SessionFault::NoZones,
+        RoundFault::NoMemory => SessionFault::NoMemory,
+        // There is one list, which has the sheet's ids.
+        RoundFault::HandCount(_) | RoundFault::NotASharing(_) => unreachable!(),
+    }
+}
+
+/// What is told of a round that could not be closed though its hands were handed in: a hand that holds a parcel stopped for
+/// want of memory.
+fn fault_of_close(fault: CloseFault) -> SessionFault
+    requires { IsFaultOfAllHands fault }
+    ensures { result ≡ NoMemory }
+{
+    match fault {
+        CloseFault::Holding(_) | CloseFault::NoMemory => SessionFault::NoMemory,
+        // A hand is done before it was stepped as often as it is.
+        CloseFault::NotDone => SessionFault::NoMemory,
+        CloseFault::NoThread(_) | CloseFault::HandsMissing(_, _) => unreachable!(),
+    }
+}
+
+/// All parcels of a sheet as the one list of a round.
+fn whole_list<'h, H: Allocator>(
+    heap: &'h H,
+    sheet: &Sheet<'h, H>,
+) -> Result<Vec<Vec<u64, &'h H>, &'h H>, AllocError>
+    ensures whole { IfOk result (λ lists. map (λ list. list.items) lists.items ≡ numbers sheet.now.now.rows ∷ []) }
+    ensures rise { OnOk result (IsStrictlyIncreasing (numbers sheet.now.now.rows)) }
+{
+    let mut ids = Vec::new(heap);
+    for id in sheet.ids() {
+        ids.push(id)?;
+    }
+    let mut sharing = Vec::new(heap);
+    sharing.push(ids)?;
+    Ok(sharing)
 }
 
 /// Where exports are written.

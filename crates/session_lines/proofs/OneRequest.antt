@@ -1,5 +1,5 @@
 -- A line asks for one thing: of which kind it is, its first word shows.
-use Rattle.std.proofs.Common.{◌≡◌, ℕ, ◌==◌, List, [], ◌∷◌, ◌++◌, codes, refl, sym, ap, ◌∙◌, subst, arith, if◌then◌else◌}
+use Rattle.std.proofs.Common.{◌≡◌, ℕ, ◌==◌, List, [], ◌∷◌, ◌++◌, codes, length, refl, sym, ap, ◌∙◌, subst, arith, if◌then◌else◌}
 use Rattle.std.specs.List.{onto_first}
 use Rattle.geo_exact.specs.declared.corner.Corner.{Corner}
 use Rattle.ring_edits.specs.declared.edit.Edit.{Edit as EditValue}
@@ -12,7 +12,7 @@ use Rattle.line_files.proofs.ClerkWords.{one_edit}
 use Rattle.line_files.proofs.Numerals.{one_number, one_corner}
 use Rattle.session_lines.specs.declared.line.Line.{Line}
 use Rattle.session_lines.specs.declared.line.Line.TheVariants.{Skipped, Edit, Locate, Parcel, Entries, Overlay, Check, Export, Publish}
-use Rattle.session_lines.specs.declared.line.Line.TheVariants.{Close}
+use Rattle.session_lines.specs.declared.line.Line.TheVariants.{OverlayAreas, Close}
 use Rattle.session_lines.specs.Lines.{IsLocateLine, IsParcelLine, IsExportLine, Asks, AskTheSame}
 
 -- the kinds by numbers
@@ -27,21 +27,22 @@ kind_of Check = 6
 kind_of (Export base) = 7
 kind_of Publish = 8
 kind_of Close = 9
+kind_of OverlayAreas = 10
 
 abbrev first_of : List ℕ → ℕ
 first_of [] = 0
 first_of (b ∷ bs) = b
 
--- the kind of a line whose first word begins with this byte, and has these behind: `locate` (108), `insert` (105), `merge` and `move`
--- (109), `split` and `straighten` (115), `overlay` (111); of two kinds begin `parcel` (112, 97) and `publish`, `entries` (101, 110)
--- and `export`, `check` (99, 104) and `close`
-abbrev kind_by : ℕ → List ℕ → ℕ
-kind_by b bs =
+-- the kind of a line whose first word begins with this byte, and has these behind, and which has so many words more: `locate` (108),
+-- `insert` (105), `merge` and `move` (109), `split` and `straighten` (115); of two kinds are `overlay` (111) alone and with a word
+-- more, and of two kinds begin `parcel` (112, 97) and `publish`, `entries` (101, 110) and `export`, `check` (99, 104) and `close`
+abbrev kind_by : ℕ → List ℕ → ℕ → ℕ
+kind_by b bs more =
     if b == 108 then 2
     else (if b == 105 then 1
     else (if b == 109 then 1
     else (if b == 115 then 1
-    else (if b == 111 then 5
+    else (if b == 111 then (if more == 0 then 5 else 10)
     else (if b == 112 then (if first_of bs == 97 then 3 else 8)
     else (if b == 101 then (if first_of bs == 110 then 4 else 7)
     else (if b == 99 then (if first_of bs == 104 then 6 else 9) else 0)))))))
@@ -49,7 +50,7 @@ kind_by b bs =
 abbrev kind_of_words : List (List ℕ) → ℕ
 kind_of_words [] = 0
 kind_of_words ([] ∷ words) = 0
-kind_of_words ((b ∷ bs) ∷ words) = kind_by b bs
+kind_of_words ((b ∷ bs) ∷ words) = kind_by b bs (length words)
 
 -- ---- a line's kind is that of what it asks for
 comment_kind : (words : List (List ℕ)) → kind_of_words (onto_first 35 words) ≡ 0
@@ -78,6 +79,7 @@ kind_asked line Check h = ap (λ line. kind_of_words (words_of line)) h
 kind_asked line (Export base) h = ap (λ line. kind_of_words (words_of line)) h.is_line
 kind_asked line Publish h = ap (λ line. kind_of_words (words_of line)) h
 kind_asked line Close h = ap (λ line. kind_of_words (words_of line)) h
+kind_asked line OverlayAreas h = ap (λ line. kind_of_words (words_of line)) h
 
 one_kind : {A : Type 0} (line : List ℕ) (asked other : Line A) → Asks line asked → Asks line other → kind_of asked ≡ kind_of other
 one_kind line asked other h k = sym (kind_asked line asked h) ∙ kind_asked line other k
@@ -119,3 +121,5 @@ one_request line Publish Publish h k = refl
 one_request line Publish other h k = absurd (omega (arith, one_kind line Publish other h k))
 one_request line Close Close h k = refl
 one_request line Close other h k = absurd (omega (arith, one_kind line Close other h k))
+one_request line OverlayAreas OverlayAreas h k = refl
+one_request line OverlayAreas other h k = absurd (omega (arith, one_kind line OverlayAreas other h k))

@@ -8,7 +8,7 @@ use Rattle.line_files.specs.ClerkFile.{words_of, SayEdit}
 use Rattle.line_files.specs.declared.grids.Grid.TheVariants.{Millimetres}
 use Rattle.session_lines.specs.declared.line.Line.{Line}
 use Rattle.session_lines.specs.declared.line.Line.TheVariants.{Skipped, Edit, Locate, Parcel, Entries, Overlay, Check, Export, Publish}
-use Rattle.session_lines.specs.declared.line.Line.TheVariants.{Close}
+use Rattle.session_lines.specs.declared.line.Line.TheVariants.{OverlayAreas, Close}
 
 -- `locate X Y`
 pub record IsLocateLine (words : List (List ℕ)) (corner : Corner) : Type 0 where
@@ -37,6 +37,7 @@ Asks line (Locate corner) = IsLocateLine (words_of line) corner
 Asks line (Parcel id) = IsParcelLine (words_of line) id
 Asks line Entries = line ≡ codes "entries"
 Asks line Overlay = line ≡ codes "overlay"
+Asks line OverlayAreas = line ≡ codes "overlay areas"
 Asks line Check = line ≡ codes "check"
 Asks line (Export base) = IsExportLine line base.now
 Asks line Publish = line ≡ codes "publish"

@@ -27,6 +27,8 @@ pub enum Line<'l, A: Allocator> {
     Entries,
     /// `overlay`: which parcels and which zones overlap.
     Overlay,
+    /// `overlay areas`: the same, and how much of each parcel lies in each zone.
+    OverlayAreas,
     /// `check`: whether the parcels tile their city.
     Check,
     /// `export BASE`: that the parcels are written to BASE.shp and BASE.shx. BASE is all that stands behind the one
@@ -128,7 +130,7 @@ fn read_export(line: &[u8]) -> Option<&str>
     str::from_utf8(base).ok()
 }
 
-/// What a line asks for that is one word and no more; `None` where it is no such word.
+/// What a line asks for that is always in the same words; `None` where it is not in such words.
 fn read_bare<'l, A: Allocator>(line: &[u8]) -> Option<Line<'l, A>>
     ensures found { IfSome result (λ asked. IsBare asked × Asks line.now asked) }
     ensures none { IfNone result ((asked : LineValue A) → IsBare asked → ¬ Asks line.now asked) }
@@ -137,6 +139,8 @@ fn read_bare<'l, A: Allocator>(line: &[u8]) -> Option<Line<'l, A>>
         Some(Line::Entries)
     } else if line == b"overlay".as_slice() {
         Some(Line::Overlay)
+    } else if line == b"overlay areas".as_slice() {
+        Some(Line::OverlayAreas)
     } else if line == b"check".as_slice() {
         Some(Line::Check)
     } else if line == b"publish".as_slice() {

@@ -134,9 +134,12 @@ pub fn answer_asked<'h, H: Allocator, J: Naming<H>, R: Wait, F: JournalFile, K: 
             Some(window) => answer_entries(window, text),
             None => push_error(text, SessionFault::NoWindow),
         },
-        Line::Overlay | Line::Check | Line::Export(_) | Line::Publish | Line::Close => {
-            push_error(text, SessionFault::OperatorOnly)
-        }
+        Line::Overlay
+        | Line::OverlayAreas
+        | Line::Check
+        | Line::Export(_)
+        | Line::Publish
+        | Line::Close => push_error(text, SessionFault::OperatorOnly),
     }
 }
 

@@ -47,6 +47,7 @@ fn asked(alloc: Global, line: &[u8]) -> Result<String, AllocError> {
         Ok(Some(Line::Parcel(id))) => format!(in alloc; "parcel: {id}"),
         Ok(Some(Line::Entries)) => format!(in alloc; "entries"),
         Ok(Some(Line::Overlay)) => format!(in alloc; "overlay"),
+        Ok(Some(Line::OverlayAreas)) => format!(in alloc; "overlay and areas"),
         Ok(Some(Line::Check)) => format!(in alloc; "check"),
         Ok(Some(Line::Export(base))) => format!(in alloc; "export: {base}"),
         Ok(Some(Line::Publish)) => format!(in alloc; "publish"),
@@ -57,7 +58,7 @@ fn asked(alloc: Global, line: &[u8]) -> Result<String, AllocError> {
 }
 
 /// Lines that ask for something, and what.
-static ASKING: [(&[u8], &str); 22] = [
+static ASKING: [(&[u8], &str); 23] = [
     (b"", "skipped"),
     (b"#", "skipped"),
     (b"# locate 1 2 \xff", "skipped"),
@@ -81,6 +82,7 @@ static ASKING: [(&[u8], &str); 22] = [
     (b"parcel 9999999999999999999", "parcel: 9999999999999999999"),
     (b"entries", "entries"),
     (b"overlay", "overlay"),
+    (b"overlay areas", "overlay and areas"),
     (b"check", "check"),
     (b"export /tmp/a b #1", "export: /tmp/a b #1"),
     (b"export  ", "export:  "),
@@ -89,7 +91,7 @@ static ASKING: [(&[u8], &str); 22] = [
 ];
 
 /// Lines that ask for nothing that there is.
-static NOTHING: [&[u8]; 34] = [
+static NOTHING: [&[u8]; 39] = [
     b" ",
     b" #",
     b"\r",
@@ -101,6 +103,11 @@ static NOTHING: [&[u8]; 34] = [
     b"check 1",
     b"entries 0",
     b"overlay\t",
+    b"overlay ",
+    b"overlay area",
+    b"overlay  areas",
+    b"overlay areas ",
+    b"overlay areas 1",
     b"publish\npublish",
     b"grid cm",
     b"grid mm",

@@ -78,13 +78,15 @@ class Overlaps:
     """Which parcels and zones have a common point inside, after `entries` edits.
 
     `pairs` has rows (parcel, zone), int64 of shape (n, 2), ascending; `split` the parcels in two zones or more;
-    `within` rows (parcel, zone) of the others, int64 of shape (m, 2).
+    `within` rows (parcel, zone) of the others, int64 of shape (m, 2). `area2` has for each pair twice the area that both
+    have in common, in mm2, at most 1 away; those of a parcel sum to its own. It is None where no areas were asked for.
     """
 
     entries: int
     pairs: Array
     split: Tuple[int, ...]
     within: Array
+    area2: Optional[Tuple[int, ...]] = None
 
 
 ERRORS: Dict[str, Type[SessionError]] = {
@@ -107,6 +109,7 @@ _REFUSED = re.compile(r"refused (E[0-9]+|no memory)(?: (.*))?")
 _PLACE = re.compile(r"at ([0-9]+) (-?[0-9]+) (-?[0-9]+) (?:(inside)( [0-9]+)|(edge)((?: [0-9]+)+)|(outside))")
 _PARCEL = re.compile(r"parcel ([0-9]+) ([0-9]+) (?:none|([0-9]+)((?: -?[0-9]+ -?[0-9]+){3,}))")
 _OVERLAP = re.compile(r"(pair|within) ([0-9]+) ([0-9]+)|(split) ([0-9]+)")
+_AREA = re.compile(r"area ([0-9]+) ([0-9]+) (-?[0-9]+)")
 _JOURNAL = re.compile(
     r"(?: line ([0-9]+))?: (?:refused )?(S1|in use|no journal|another layer|changed|no memory|E[0-9]+)(?: (.*))?"
 )
@@ -176,17 +179,27 @@ def tiling_of(lines: Sequence[str]) -> Tiling:
     return Tiling(int(found[1]), int(found[2]))
 
 
-def overlaps_of(lines: Sequence[str]) -> Overlaps:
-    """The report of `overlay`. Raises `BadAnswer`."""
+def overlaps_of(lines: Sequence[str], areas: bool = False) -> Overlaps:
+    """The report of `overlay`, or of `overlay areas`. Raises `BadAnswer`, also where an area is not of the pair in its place."""
     entries = count_of(lines[0] if lines else "", "entries")
     told: Dict[str, List[Tuple[int, ...]]] = {"pair": [], "within": [], "split": []}
-    for line in lines[1:]:
+    count = sum(line.startswith("pair ") for line in lines) if areas else 0
+    for line in lines[1 : len(lines) - count]:
         found = _OVERLAP.fullmatch(line)
         if not found:
             raise bad(line, "a line of an overlay")
         told[found[1] or found[4]].append(_numbers(line.partition(" ")[2]))
     pairs, within = (np.array(told[kind], dtype=np.int64).reshape(-1, 2) for kind in ("pair", "within"))
-    return Overlaps(entries, pairs, tuple(ids[0] for ids in told["split"]), within)
+    area2 = tuple(map(_area_of, lines[len(lines) - count :], told["pair"])) if areas else None
+    return Overlaps(entries, pairs, tuple(ids[0] for ids in told["split"]), within, area2)
+
+
+def _area_of(line: str, pair: Tuple[int, ...]) -> int:
+    """The area that a line tells of a pair. Raises `BadAnswer`, also where it is of another."""
+    found = _AREA.fullmatch(line)
+    if not found or (int(found[1]), int(found[2])) != pair:
+        raise bad(line, f"the area of parcel {pair[0]} in zone {pair[1]}")
+    return int(found[3])
 
 
 def start_refused(text: str, journal: Optional[str]) -> Union[Refused, JournalRefused]:

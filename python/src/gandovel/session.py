@@ -151,9 +151,9 @@ class Session(Calls):
         """How many parcels there are now, and twice the area of the city that they tile."""
         return tiling_of(self._reported("check"))
 
-    def overlay(self) -> Overlaps:
-        """Which parcels and zones overlap now. Raises `NoZones`."""
-        return overlaps_of(self._reported("overlay"))
+    def overlay(self, areas: bool = False) -> Overlaps:
+        """Which parcels and zones overlap now; with `areas` also how much of each parcel lies in each zone. Raises `NoZones`."""
+        return overlaps_of(self._reported("overlay areas" if areas else "overlay"), areas)
 
     def export(self, base: PathLike) -> int:
         """Writes the parcels of now to `base`.shp and `base`.shx, in mm, and answers how many they are.
@@ -328,7 +328,7 @@ def _greeted(path: str, until: Optional[float], test_running: Callable[[], None]
         try:
             _greet(wire, until)
             return wire
-        except ProgramEnded:  # of the desk, for an earlier client: it opens its pipes anew
+        except ProgramEnded:  # what an earlier client left is at an end: the desk opens its pipes anew
             wire.close()
             pause(until)
         except BaseException:
@@ -344,6 +344,7 @@ def _greet(wire: Wire, until: Optional[float]) -> None:
     while True:
         line = wire.line(until).decode("utf-8", "backslashreplace")
         if re.fullmatch(f"parcel [0-9]+ {nobody} none", line):
+            wire.test_heard()
             return
         if line in ("error: closed", "error: K4", "error: no memory"):
             test_error(line)

@@ -15,6 +15,8 @@ PART = 1 << 16
 """How many bytes are read at once: what a pipe holds."""
 SOON = 0.001
 """Seconds between two tries to open a pipe that the program hasn't opened yet."""
+UNANSWERED = "the program ended, or the desk, without an answer"
+"""What T2 says of a wire."""
 
 
 def limit_of(timeout: Optional[float]) -> Optional[float]:
@@ -65,12 +67,17 @@ class Wire:
             if found is not None:
                 return found
             if self._has_ended:
-                raise ProgramEnded("T2", "the program ended, or the desk, without an answer")
+                raise ProgramEnded("T2", UNANSWERED)
             if self._is_deaf and self._unsent:  # what was said before is read, and nothing else is waited for
                 self._receive()
                 self._has_ended = True
             elif self._is_ready(until):
                 self._receive()
+
+    def test_heard(self) -> None:
+        """Raises `ProgramEnded` where nobody read the pipe for a moment, though somebody does again: nothing is sent then."""
+        if self._is_deaf:
+            raise ProgramEnded("T2", UNANSWERED)
 
     def close(self) -> None:
         """Closes both pipes; a second call does nothing."""

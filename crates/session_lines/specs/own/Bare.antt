@@ -1,10 +1,10 @@
--- What the code tells of lines of one word.
+-- What the code tells of lines that are always in the same words.
 use Rattle.std.specs.Prelude.{⊤}
 use Rattle.session_lines.specs.declared.line.Line.{Line}
 use Rattle.session_lines.specs.declared.line.Line.TheVariants.{Skipped, Edit, Locate, Parcel, Entries, Overlay, Check, Export, Publish}
-use Rattle.session_lines.specs.declared.line.Line.TheVariants.{Close}
+use Rattle.session_lines.specs.declared.line.Line.TheVariants.{OverlayAreas, Close}
 
--- what a line asks for by one word and no more
+-- what a line asks for by the same words each time
 abbrev pub IsBare : {A : Type 0} → Line A → Type 0
 IsBare Skipped = ⊥
 IsBare (Edit edit) = ⊥
@@ -12,6 +12,7 @@ IsBare (Locate corner) = ⊥
 IsBare (Parcel id) = ⊥
 IsBare Entries = ⊤
 IsBare Overlay = ⊤
+IsBare OverlayAreas = ⊤
 IsBare Check = ⊤
 IsBare (Export base) = ⊥
 IsBare Publish = ⊤

@@ -1,5 +1,11 @@
-use Rattle.register_sessions.proofs.Hands.{all_worked}
+use Rattle.std.proofs.Common.{inl, inr}
+use Rattle.fabric_core.specs.Rows.{numbers}
+use Rattle.register_sessions.proofs.Hands.{city_alone}
 use Rattle.register_sessions.proofs.reports.table_of.Goals as goal
 
-pub close-requires : goal.close-requires
-close-requires g c = all_worked _ _ _ _ _ _ c.in-Some.ensures.items c.step_until_done.ensures c.in-Ok-push.ensures.items c.in-Ok-new.ensures.of_round
+pub fault_of_round-requires : goal.fault_of_round-requires
+fault_of_round-requires g c = elim c.in-Err.ensures.fault [
+  | inl k ↦ inl (city_alone (numbers c.args.sheet.now.now.rows) c.args.sheet.now.city c.args.zones.now.city _ c.in-Err.fault
+      c.in-Ok.ensures.whole c.in-Ok.ensures.rise k).0
+  | inr e ↦ inr e
+]
