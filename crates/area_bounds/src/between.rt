@@ -45,12 +45,12 @@ fn parts_between(one: Rising, other: Rising, low: i64, high: i64) -> Counted
 {
     let height = above(low, high);
     let both = rises(one, other);
-    let apart = parting(one, other);
     let first = at_level(one, other, low);
     let second = at_level(one, other, high);
     let first_side = first.one.abs_diff(first.other);
     let second_side = second.one.abs_diff(second.other);
     if are_crossed(first, second) {
+        let apart = parting(one, other);
         triangles(height, both, apart, first_side, second_side)
     } else {
         trapezoid(height, both, first_side + second_side)
