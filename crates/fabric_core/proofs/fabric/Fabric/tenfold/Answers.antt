@@ -1,6 +1,6 @@
 use Rattle.std.proofs.Common.{inl, sym, ◌∙◌, ap, subst, map}
 use Rattle.std.specs.List.{AllByRecursion}
-use Rattle.scaled_rings.specs.Tenfold.{IsNear, IsTenTimes}
+use Rattle.scaled_rings.specs.Tenfold.{IsNear, IsTenTimes, near_limit}
 use Rattle.scaled_rings.proofs.Farthest.{one_far, none_far}
 use Rattle.fabric_core.specs.declared.tenfold.ScaleFault.TheVariants.{TooFar}
 use Rattle.fabric_core.specs.Journal.{Book}
@@ -14,7 +14,7 @@ use Rattle.fabric_core.proofs.fabric.Fabric.tenfold.Goals as goal
 
 pub returns-in-Some-clause-refuses : goal.returns-in-Some-clause-refuses
 returns-in-Some-clause-refuses g c = λ corner h.
-    inl (ap TooFar (one_far (corners_of_book c.args.self.now) c.in-Some.corner corner c.in-Some.ensures h))
+    inl (ap TooFar (one_far near_limit (corners_of_book c.args.self.now) c.in-Some.corner corner c.in-Some.ensures h))
 
 pub tenfold-requires-clause-near_city : goal.tenfold-requires-clause-near_city
 tenfold-requires-clause-near_city g c =
@@ -58,4 +58,4 @@ invariant_of-result g c =
 pub returns-clause-refuses : goal.returns-clause-refuses
 returns-clause-refuses g c = λ corner h.
     let near : AllByRecursion IsNear (corners_of_book c.args.self.now) = c.in_default.ensures in
-    none_far (corners_of_book c.args.self.now) corner near h
+    none_far near_limit (corners_of_book c.args.self.now) corner near h
