@@ -1,7 +1,7 @@
 //! The fabric: a layer that clerks edit, with its journal.
 
 ghost use Rattle.std.specs.Prelude.{◌≡◌, ◌≢◌, ◌⊎◌, ◌↔◌, ◌+◌, ◌≤◌, ◌≤ℤ◌, ℕ, List, [], ◌∷◌, ◌++◌, length, map, IfOk, IfErr};
-ghost use Rattle.std.specs.Prelude.{IsErrAnd, IsErrOf, OnOk, OnErr, MatchOption};
+ghost use Rattle.std.specs.Prelude.{IsErrAnd, IsErrOf, IsOk, OnOk, OnErr, MatchOption};
 ghost use Rattle.std.specs.List.{All, Contains};
 ghost use Rattle.std.specs.List.Sorted.{IsStrictlyIncreasing};
 ghost use Rattle.geo_exact.specs.declared.corner.Corner.{Corner};
@@ -99,22 +99,22 @@ impl<'a, H: Allocator> Model for Fabric<'a, H> {
 
 impl<'a, H: Allocator> Fabric<'a, H> {
     /// Opens a layer to be edited; its ids stay, and the next id is one above the greatest. The journal is empty.
-    /// Nothing is copied: only clauses read what the layer was.
+    /// Nothing is copied, since only clauses read what the layer was, and nothing is allocated.
     ///
     /// # Errors
     ///
-    /// None has a cause any more, since nothing is allocated. A layer that came back would be as it was.
+    /// None: the layer would come back for want of memory, and none is asked for.
     ///
     /// ```
     /// let mut fabric = Fabric::open(layer)?;
     /// ```
     pub fn open(layer: Layer<'a, H>) -> Result<Fabric<'a, H>, Layer<'a, H>>
+        ensures opens { IsOk result }
         ensures city { IfOk result (λ fabric. fabric.city ≡ layer.entry.city) }
         ensures opening { IfOk result (λ fabric. fabric.opening ≡ opening_state layer.entry.rows layer.entry.refined) }
         ensures now { IfOk result (λ fabric. fabric.now ≡ fabric.opening) }
         ensures index { IfOk result (λ fabric. fabric.index ≡ layer.entry.index) }
         ensures journal { IfOk result (λ fabric. fabric.journal ≡ []) }
-        ensures back { IfErr result (λ back. back ≡ layer.entry) }
     {
         let opening = Opening::of_tiled(layer.tiled());
         let tiled = layer.into_tiled();
