@@ -116,9 +116,9 @@ impl<'a, H: Allocator> Fabric<'a, H> {
         ensures index { IfOk result (λ fabric. fabric.index ≡ layer.entry.index) }
         ensures journal { IfOk result (λ fabric. fabric.journal ≡ []) }
     {
-        let opening = Opening::of_tiled(layer.tiled());
         let tiled = layer.into_tiled();
         tiled.use_invariant();
+        let opening = Opening::of_tiled(&tiled);
         let corners = count_corners(tiled.shapes());
         let journal = Vec::new(tiled.allocator());
         Ok(Fabric {
