@@ -1,7 +1,7 @@
 //! The fabric: a layer that clerks edit, with its journal.
 
 ghost use Rattle.std.specs.Prelude.{◌≡◌, ◌≢◌, ◌⊎◌, ◌↔◌, ◌+◌, ◌≤◌, ◌≤ℤ◌, ℕ, List, [], ◌∷◌, ◌++◌, length, map, IfOk, IfErr};
-ghost use Rattle.std.specs.Prelude.{IsErrAnd, IsErrOf, OnOk, OnErr, MatchOption};
+ghost use Rattle.std.specs.Prelude.{IsErrAnd, IsErrOf, IsOk, OnOk, OnErr, MatchOption};
 ghost use Rattle.std.specs.List.{All, Contains};
 ghost use Rattle.std.specs.List.Sorted.{IsStrictlyIncreasing};
 ghost use Rattle.geo_exact.specs.declared.corner.Corner.{Corner};
@@ -34,7 +34,7 @@ use crate::follow::{FollowFault, fault_of};
 use crate::journal::{Entry, JOURNAL_ENTRIES};
 use crate::layer::Layer;
 use crate::locate::At;
-use crate::opening::{Opening, count_corners, opening_of};
+use crate::opening::{Opening, count_corners};
 use crate::refusal::Refusal;
 use crate::tenfold::{ScaleFault, least_far_of_entries, tenfold_entries};
 use crate::tiled::Tiled;
@@ -56,7 +56,7 @@ use std::marker::Model;
 /// journal. Corners are in whole millimetres.
 pub struct Fabric<'a, H: Allocator> {
     tiled: Tiled<'a, H>,
-    opening: Opening<&'a H>,
+    opening: Opening<'a, H>,
     journal: Vec<Entry<&'a H>, &'a H>,
     // How many corners the parcels' rings have together.
     corners: usize,
@@ -99,37 +99,34 @@ impl<'a, H: Allocator> Model for Fabric<'a, H> {
 
 impl<'a, H: Allocator> Fabric<'a, H> {
     /// Opens a layer to be edited; its ids stay, and the next id is one above the greatest. The journal is empty.
+    /// Nothing is copied, since only clauses read what the layer was, and nothing is allocated.
     ///
     /// # Errors
     ///
-    /// The layer comes back where an allocation is refused.
+    /// None: the layer would come back for want of memory, and none is asked for.
     ///
     /// ```
     /// let mut fabric = Fabric::open(layer)?;
     /// ```
     pub fn open(layer: Layer<'a, H>) -> Result<Fabric<'a, H>, Layer<'a, H>>
+        ensures opens { IsOk result }
         ensures city { IfOk result (λ fabric. fabric.city ≡ layer.entry.city) }
         ensures opening { IfOk result (λ fabric. fabric.opening ≡ opening_state layer.entry.rows layer.entry.refined) }
         ensures now { IfOk result (λ fabric. fabric.now ≡ fabric.opening) }
         ensures index { IfOk result (λ fabric. fabric.index ≡ layer.entry.index) }
         ensures journal { IfOk result (λ fabric. fabric.journal ≡ []) }
-        ensures back { IfErr result (λ back. back ≡ layer.entry) }
     {
-        match opening_of(layer.tiled()) {
-            Ok(opening) => {
-                let tiled = layer.into_tiled();
-                tiled.use_invariant();
-                let corners = count_corners(tiled.shapes());
-                let journal = Vec::new(tiled.allocator());
-                Ok(Fabric {
-                    tiled,
-                    opening,
-                    journal,
-                    corners,
-                })
-            }
-            Err(_) => Err(layer),
-        }
+        let tiled = layer.into_tiled();
+        tiled.use_invariant();
+        let opening = Opening::of_tiled(&tiled);
+        let corners = count_corners(tiled.shapes());
+        let journal = Vec::new(tiled.allocator());
+        Ok(Fabric {
+            tiled,
+            opening,
+            journal,
+            corners,
+        })
     }
 
     /// A copy: the same opening, state and journal.
@@ -141,7 +138,7 @@ impl<'a, H: Allocator> Fabric<'a, H> {
         ensures { IfOk result (λ copy. copy ≡ self.now) }
     {
         let tiled = self.tiled.copy()?;
-        let opening = self.opening.clone()?;
+        let opening = self.opening.again(&self.tiled);
         let journal = self.journal.clone()?;
         Ok(Fabric {
             tiled,
@@ -188,7 +185,7 @@ impl<'a, H: Allocator> Fabric<'a, H> {
         }
         let heap = self.tiled.allocator();
         let tiled = self.tiled.tenfold()?;
-        let opening = self.opening.tenfold(heap)?;
+        let opening = self.opening.tenfold(&self.tiled);
         let journal = tenfold_entries(heap, self.journal())?;
         let corners = self.corners;
         Ok(Fabric {

@@ -178,14 +178,6 @@ impl<'a, H: Allocator> Layer<'a, H> {
     }
 
     /// What the layer keeps, in which no parcel has gone.
-    pub(crate) fn tiled(&self) -> &Tiled<'a, H>
-        ensures shown { IsShownBy result.now self.now }
-        ensures fresh { IsFresh result.now }
-    {
-        &self.tiled
-    }
-
-    /// The layer taken apart.
     pub(crate) fn into_tiled(self) -> Tiled<'a, H>
         ensures shown { IsShownBy result self.entry }
         ensures fresh { IsFresh result }

@@ -24,7 +24,7 @@ ghost use Rattle.fabric_core.specs.own.RingChanges.{AreShapesOf, HasTwoEnds, Kee
 ghost use Rattle.fabric_core.specs.own.Lists.{numbered_rows, corners_of_rings, corners_of_shapes, IsEntryAt, replaced};
 ghost use Rattle.parcel_table.specs.Table.{HasId, entries_of};
 ghost use Rattle.cell_index.specs.Cells.{Indexes};
-ghost use Rattle.scaled_rings.specs.Tenfold.{AreTenTimes, IsLeastFarOf, IsNear};
+ghost use Rattle.scaled_rings.specs.Tenfold.{AreTenTimes, IsLeastBeyondOf, IsLeastFarOf, IsNear};
 ghost use Rattle.fabric_core.specs.Tenfold.{IsTenfoldState, corners_of_state};
 
 use crate::candidates::{ids_under, sort_once};
@@ -32,12 +32,12 @@ use crate::grid_index::enter_all;
 use crate::hints::Hints;
 use crate::locate::{At, on_edge_or_outside, search};
 use crate::ring_change::RingChange;
-use crate::tenfold::{least_far_of_shapes, tenfold_shapes};
+use crate::tenfold::{least_beyond_of_shapes, tenfold_shapes};
 use cell_index::{CellIndex, IndexEntry};
 use geo_exact::{Bounds, Corner, Corners};
 use parcel_table::{Fate, Ids, Parcels, Shapes};
 use ring_core::{Ring, Shape, Side, side_of};
-use scaled_rings::{least_box, least_far, tenfold_all};
+use scaled_rings::{NEAR_LIMIT, least_beyond, least_box, tenfold_all};
 use std::alloc::{AllocError, Allocator};
 use std::marker::Model;
 
@@ -491,14 +491,22 @@ impl<'a, H: Allocator> Tiled<'a, H> {
 }
 
 impl<'a, H: Allocator> Tiled<'a, H> {
-    /// The least corner of the parcels and of the city's refined ring that is too far to be ten times as far, and of one
+    /// The least corner of the parcels and of the city's refined ring that is further from 0 along an axis, and of one
     /// found before.
+    pub(crate) fn least_beyond(&self, most: u64, found: Option<Corner>) -> Option<Corner>
+        ensures { (before : List CornerValue) → IsLeastBeyondOf most before found
+            → IsLeastBeyondOf most (before ++ corners_of_state (state_of self.now)) result }
+    {
+        let found = least_beyond_of_shapes(most, self.shapes(), found);
+        least_beyond(most, self.refined(), found)
+    }
+
+    /// The same of those that are too far to be ten times as far.
     pub(crate) fn least_far(&self, found: Option<Corner>) -> Option<Corner>
         ensures { (before : List CornerValue) → IsLeastFarOf before found
             → IsLeastFarOf (before ++ corners_of_state (state_of self.now)) result }
     {
-        let found = least_far_of_shapes(self.shapes(), found);
-        least_far(self.refined(), found)
+        self.least_beyond(NEAR_LIMIT.unsigned_abs(), found)
     }
 
     /// The same parcels under the same keys, each corner ten times.
