@@ -97,7 +97,7 @@ pub fn edit_by_clerks<'h, R: Threads + Wait + Sync, H: Allocator + Send + Sync>(
     ensures fault { IfErr result (λ fault. (fault ≡ NoWindow 1) ⊎ (fault ≡ NoMemory)) }
 {
     let Ok(fabric) = Fabric::open(layer) else {
-        return Err(RunFault::NoMemory);
+        unreachable!()
     };
     let name = Name::new(heap)?;
     edit_at_office::<R, H, Brand>(rt, heap, name, fabric, clerks, corners)

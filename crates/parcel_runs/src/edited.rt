@@ -15,7 +15,7 @@ use std::thread::Threads;
 
 /// A layer after the edits of clerks, all of whom make theirs at the same time at one office, each
 /// in a thread of his own; and where corners lie then. Without clerks no office is opened, and the
-/// sheet is the layer's opening.
+/// sheet is the layer's opening. Nothing is copied.
 ///
 /// # Errors
 ///
@@ -57,7 +57,7 @@ fn as_read<'h, H: Allocator>(
 {
     layer.use_invariant();
     let Ok(sheet) = Fabric::open(layer) else {
-        return Err(AllocError);
+        unreachable!()
     };
     let places = locate_all(heap, &sheet, corners)?;
     Ok(Edited {
