@@ -48,7 +48,7 @@ pub enum PathFault {
     NotOpened,
     /// It can't be read, or is too long.
     NotRead,
-    /// A growth was refused.
+    /// An allocation failed.
     NoMemory,
 }
 

@@ -4,7 +4,7 @@ ghost use Rattle.std.specs.Prelude.{◌≡◌, ◌⊎◌, List, IfOk, IfErr, IsE
 ghost use Rattle.geo_exact.specs.declared.corner.Corner.{Corner};
 ghost use Rattle.fabric_core.specs.Rows.{Tiles};
 ghost use Rattle.city_layers.specs.declared.fault.ToolFault.{ToolFault as ToolFaultValue};
-ghost use Rattle.city_layers.specs.TilingFiles.{told_of_city as told_of_city_fault};
+ghost use Rattle.city_layers.specs.TilingFiles.{told_of_city};
 ghost use Rattle.city_layers.specs.TilingFiles.{files_of, IsCityOf, IsFaultOfCity, IsTiledBy, IsFaultOfLayer, AreTiles};
 ghost use Rattle.city_layers.specs.TilingFiles.{IsTilesFault};
 
@@ -16,6 +16,17 @@ use fabric_core::{Asked, City, CityFault, Layer};
 use geo_exact::Unit;
 use std::alloc::Allocator;
 use std::thread::Threads;
+
+impl<'a> From<CityFault> for ToolFault<'a> {
+    ghost from_gives = { λ fault told. told ≡ told_of_city fault };
+
+    fn from(fault: CityFault) -> ToolFault<'a> {
+        match fault {
+            CityFault::NoMemory => ToolFault::NoMemory,
+            CityFault::Ring(_) | CityFault::Folded(_, _) => ToolFault::CityRing(fault),
+        }
+    }
+}
 
 /// The city of a city's files: their one ring.
 pub fn read_city<'h, H: Allocator, A: Allocator>(
@@ -46,17 +57,7 @@ pub fn read_city<'h, H: Allocator, A: Allocator>(
     };
     match City::new(heap, ring) {
         Ok(city) => Ok(city),
-        Err(fault) => Err(told_of_city(fault)),
-    }
-}
-
-/// What the fault of a city's ring is to the user.
-fn told_of_city(fault: CityFault) -> ToolFault<'static>
-    ensures { result ≡ told_of_city_fault fault }
-{
-    match fault {
-        CityFault::NoMemory => ToolFault::NoMemory,
-        CityFault::Ring(_) | CityFault::Folded(_, _) => ToolFault::CityRing(fault),
+        Err(fault) => Err(ToolFault::from(fault)),
     }
 }
 

@@ -6,7 +6,7 @@ ghost use Rattle.clerk_runs.specs.own.Windows.{IsLearnt};
 
 use crate::files::ClerkEdits;
 use crate::job::ClerkJob;
-use crate::place::learn_all;
+use crate::locating::learn_all;
 use desk_lock::{Card, Naming, Window};
 use std::alloc::{AllocError, Allocator};
 

@@ -7,7 +7,7 @@ mod job;
 mod jobs;
 mod laws;
 mod lines;
-mod place;
+mod locating;
 mod place_texts;
 mod runs;
 

@@ -2,6 +2,7 @@
 
 ghost use Rattle.std.specs.Prelude.{◌≡◌, ◌⊎◌, ℕ, ◌<◌, ◌≤◌, [], length, IfOk, IfErr};
 ghost use Rattle.desk_lock.specs.Offices.{origin_of};
+ghost use Rattle.desk_lock.specs.declared.opening.OpenFault.TheVariants.{NoWindow as NoReader};
 ghost use Rattle.desk_lock.specs.declared.opening.TheConstants.{MOST_PLACES};
 ghost use Rattle.fabric_core.specs.Journal.{opening_state};
 ghost use Rattle.fabric_core.specs.Tiling.{IsTiling};
@@ -12,7 +13,7 @@ ghost use Rattle.clerk_runs.specs.own.Working.{AreMadeIn};
 use crate::files::ClerkEdits;
 use crate::job::Counter;
 use crate::jobs::{Done, jobs_of, take_all_in};
-use crate::place::places_of;
+use crate::locating::locate_all;
 use desk_lock::{Name, Naming, Office, OpenFault};
 use fabric_core::{At, Fabric, Layer, Sheet};
 use geo_exact::Corner;
@@ -38,7 +39,7 @@ pub struct Edited<'h, H: Allocator> {
 pub enum RunFault {
     /// K3: the office's window of this number, from 1, was given no reader.
     NoWindow(usize),
-    /// An allocation was refused.
+    /// An allocation failed.
     NoMemory,
 }
 
@@ -55,6 +56,19 @@ impl<T: Drop> From<AllocFailed<T>> for RunFault {
 
     fn from(_: AllocFailed<T>) -> RunFault {
         RunFault::NoMemory
+    }
+}
+
+// An office of the clerks of a run has places for all of them.
+impl From<OpenFault> for RunFault {
+    ghost from_gives = { λ fault told.
+        ((window : ℕ) × (fault ≡ NoReader window) × (told ≡ NoWindow window)) ⊎ (told ≡ NoMemory) };
+
+    fn from(fault: OpenFault) -> RunFault {
+        match fault {
+            OpenFault::NoWindow(window) => RunFault::NoWindow(window),
+            OpenFault::Places(_) | OpenFault::NoMemory => RunFault::NoMemory,
+        }
     }
 }
 
@@ -83,7 +97,7 @@ pub fn edit_by_clerks<'h, R: Threads + Wait + Sync, H: Allocator + Send + Sync>(
     ensures fault { IfErr result (λ fault. (fault ≡ NoWindow 1) ⊎ (fault ≡ NoMemory)) }
 {
     let Ok(fabric) = Fabric::open(layer) else {
-        return Err(RunFault::NoMemory);
+        unreachable!()
     };
     let name = Name::new(heap)?;
     edit_at_office::<R, H, Brand>(rt, heap, name, fabric, clerks, corners)
@@ -125,7 +139,7 @@ fn edit_at_office<
         1,
     ) {
         Ok(opened) => opened,
-        Err((_, fault)) => return Err(fault_of(fault)),
+        Err((_, fault)) => return Err(RunFault::from(fault)),
     };
     // The office was opened with one window.
     let Some(mut window) = windows.pop() else {
@@ -143,7 +157,7 @@ fn edit_at_office<
     } = take_all_in(heap, jobs, &mut window)?;
     let sheet = counter.office.sheet(rt, cards.as_mut_slice())?;
     sheet.use_invariant();
-    let places = places_of(heap, &mut window, published, &sheet, corners)?;
+    let places = locate_all(heap, &mut window, published, &sheet, corners)?;
     let Counter { office, .. } = counter;
     let _ = office.close(rt, cards);
     Ok(Edited {
@@ -151,15 +165,4 @@ fn edit_at_office<
         lines,
         places,
     })
-}
-
-/// What the fault of an office with one window is to a run.
-fn fault_of(fault: OpenFault) -> RunFault
-    ensures same { (k : ℕ) → result ≡ NoWindow k → fault ≡ OpenFault.NoWindow k }
-    ensures cases { ((k : ℕ) × (result ≡ NoWindow k)) ⊎ (result ≡ NoMemory) }
-{
-    match fault {
-        OpenFault::NoWindow(window) => RunFault::NoWindow(window),
-        OpenFault::Places(_) | OpenFault::NoMemory => RunFault::NoMemory,
-    }
 }

@@ -49,7 +49,7 @@ pub enum RoundFault {
     OtherCity,
     /// O1: the least id that does not stand exactly once in the lists, or is no parcel of the sheet.
     NotASharing(u64),
-    /// An allocation was refused.
+    /// An allocation failed.
     NoMemory,
 }
 

@@ -204,7 +204,7 @@ fn answer<'h, R: Threads + Wait + Sync>(
         Which::Overlay => overlay(rt, 2, heap, files, &inputs.zones, out),
         Which::Part => {
             let written = part(rt, 1, heap, &files.city, &files.parcels, files.unit, 2)?;
-            put_all(written.line.as_slice(), out)?;
+            put_all(written.lines.as_slice(), out)?;
             Ok(())
         }
     }

@@ -69,7 +69,8 @@ impl<'t, 'h, H: Allocator, A: Allocator> Table<'t, 'h, H, A> {
         }
     }
 
-    /// The pairs are all those of a parcel and a zone whose interiors meet, and parcels and zones both tile the city.
+    /// Only teaches the prover: the pairs are all those of a parcel and a zone whose interiors meet, and parcels and zones
+    /// both tile the city.
     pub fn use_invariant(&self)
         ensures table { IsOverlapTable self.now.rows self.now.zones self.now.pairs }
         ensures tiling { IsTiling self.now.rows self.now.city }

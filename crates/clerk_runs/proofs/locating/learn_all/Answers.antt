@@ -5,7 +5,7 @@ use Rattle.std.proofs.lemmas.List.{drop_all}
 use Rattle.std.proofs.lemmas.List.Elements.{All-nil, All-cons, All-same}
 use Rattle.entry_history.proofs.Beginnings.{begins_itself, begins_whole}
 use Rattle.clerk_runs.specs.own.Windows.{IsLearnt}
-use Rattle.clerk_runs.proofs.place.learn_all.Goals as goal
+use Rattle.clerk_runs.proofs.locating.learn_all.Goals as goal
 
 pub loop-receipt-init : goal.loop-receipt-init
 loop-receipt-init g c = record {

@@ -4,7 +4,7 @@ use mathlib.Core.List.{IsPrefix}
 use Rattle.geo_exact.specs.Point.{corner_point}
 use Rattle.fabric_core.specs.Journal.{State, JournalEntry, replay}
 use Rattle.fabric_core.specs.Locate.{IsLocatedAt}
-use Rattle.clerk_runs.proofs.place.place_of.Goals as goal
+use Rattle.clerk_runs.proofs.locating.locate_one.Goals as goal
 
 -- the window has seen the sheet's entries, and no more
 pub returns-in-Ok-clause-at : goal.returns-in-Ok-clause-at

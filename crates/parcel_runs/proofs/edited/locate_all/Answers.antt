@@ -4,11 +4,11 @@ use Rattle.std.proofs.lemmas.Slice.Zip.{all_zipped_more}
 use Rattle.geo_exact.specs.Point.{corner_point}
 use Rattle.fabric_core.specs.Locate.{IsLocatedAt}
 use Rattle.clerk_runs.specs.ClerkRuns.{AreLocated}
-use Rattle.parcel_runs.proofs.outcome.places_in.Goals as goal
+use Rattle.parcel_runs.proofs.edited.locate_all.Goals as goal
 
 pub loop-corner-preserved : goal.loop-corner-preserved
 loop-corner-preserved g c =
-    let rows = c.args.layer.now.rows in
+    let rows = c.args.sheet.now.now.rows in
     let corners = c.args.corners.now in
     let i = c.loop-corner.corner-index in
     let corner = c.corner-item.result in

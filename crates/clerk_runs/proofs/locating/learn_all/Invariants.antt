@@ -3,7 +3,7 @@ use Rattle.std.specs.Prelude.{All}
 use mathlib.Core.List.{IsPrefix}
 use Rattle.fabric_core.specs.Journal.{JournalEntry}
 use Rattle.clerk_runs.specs.own.Windows.{IsLearnt}
-use Rattle.clerk_runs.proofs.place.learn_all.Given as goal
+use Rattle.clerk_runs.proofs.locating.learn_all.Given as goal
 
 abbrev pub invariant-loop-receipt : goal.invariant-loop-receipt
 invariant-loop-receipt g l = record {

@@ -31,7 +31,7 @@ pub(crate) fn learn_all<'h, H: Allocator, J: Naming<H>>(
 
 /// Where corners lie among the parcels of a sheet, asked at a window that has seen all of the
 /// sheet's entries, or of the sheet where it has not.
-pub(crate) fn places_of<'h, H: Allocator, J: Naming<H>>(
+pub(crate) fn locate_all<'h, H: Allocator, J: Naming<H>>(
     heap: &'h H,
     window: &mut Window<'h, H, J>,
     has_seen: bool,
@@ -44,7 +44,7 @@ pub(crate) fn places_of<'h, H: Allocator, J: Naming<H>>(
 {
     let mut places = Vec::new(heap);
     for corner in corners {
-        places.push(place_of(window, has_seen, sheet, *corner)?)?;
+        places.push(locate_one(window, has_seen, sheet, *corner)?)?;
     }
     Ok(places)
 }
@@ -52,7 +52,7 @@ pub(crate) fn places_of<'h, H: Allocator, J: Naming<H>>(
 /// Where a corner lies among the parcels of a sheet, asked at a window that has seen all of the
 /// sheet's entries. Where it has not, its answer rests on more entries, or it has no version, the
 /// sheet is asked.
-fn place_of<'h, H: Allocator, J: Naming<H>>(
+fn locate_one<'h, H: Allocator, J: Naming<H>>(
     window: &mut Window<'h, H, J>,
     has_seen: bool,
     sheet: &Sheet<'h, H>,

@@ -8,7 +8,7 @@ use Rattle.parcel_runs.specs.RunFiles.{parcel_run_of}
 use Rattle.parcel_runs.specs.RunFaults.{IsRunFault}
 use Rattle.geo_exact.proofs.PassedOn.{passed_as}
 use Rattle.parcel_runs.proofs.RunFaults.{few_fault, told_behind}
-use Rattle.parcel_runs.proofs.inputs.load_inputs_or_lines.Goals as goal
+use Rattle.parcel_runs.proofs.all_inputs.load_inputs_or_lines.Goals as goal
 
 pub returns-in_err-layer-clause-refuses : goal.returns-in_err-layer-clause-refuses
 returns-in_err-layer-clause-refuses g c = λ fault h.

@@ -1,7 +1,7 @@
 use Rattle.std.proofs.Common.{◌≡◌, true, drop}
 use mathlib.Core.List.{IsPrefix}
 use Rattle.clerk_runs.proofs.Places.{HaveLocated}
-use Rattle.clerk_runs.proofs.place.places_of.Given as goal
+use Rattle.clerk_runs.proofs.locating.locate_all.Given as goal
 
 abbrev pub invariant-loop-corner : goal.invariant-loop-corner
 invariant-loop-corner g l = record {

@@ -1,6 +1,6 @@
 use Rattle.std.proofs.Common.{◌≡◌, ◌++◌, drop}
 use Rattle.parcel_runs.specs.own.PlaceTexts.{places_text}
-use Rattle.parcel_runs.proofs.locate.push_place_lines.Given as goal
+use Rattle.parcel_runs.proofs.locate.push_point_lines.Given as goal
 
 abbrev pub invariant-loop-k : goal.invariant-loop-k
 invariant-loop-k g l =
