@@ -76,7 +76,8 @@ pub fn triangles(height: u64, rises: u128, parting: u128, first: u128, second: u
     requires apart { 0 < parting }
     requires parting { parting ≤ 2 * (2 * limit * (2 * limit)) }
     requires sides_part { first + second ≡ parting * height }
-    ensures counted { IsShare result.parts result.lost (height * (first * first + second * second)) (2 * rises * (first + second)) }
+    ensures counted { IsShare result.parts result.lost (height * (first * first + second * second))
+        (2 * rises * (first + second)) }
     ensures bound { result.parts ≤ PARTS * (2 * limit * (2 * limit)) }
     ensures lost { result.lost ≤ 1 }
 {

@@ -84,8 +84,8 @@ fn joined<'h, H: Allocator, A: Allocator + Copy>(
     Ok(all)
 }
 
-/// As [`area_lines`], by so many threads at the most, each of which has a slice of the parcels. For each number of them,
-/// and however they take turns, what comes out is the same. What the system refuses a thread is done in this one.
+/// As [`area_lines`], by so many threads at the most, each of which has a slice of the parcels. For each number of
+/// them, and however they take turns, what comes out is the same. What the system refuses a thread is done in this one.
 ///
 /// # Errors
 ///

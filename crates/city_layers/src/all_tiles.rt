@@ -80,14 +80,16 @@ pub(crate) fn read_told<'h, H: Allocator, A: Allocator>(
     asked: Asked,
 ) -> Result<Layer<'h, H>, LayerRefusal<&'h H>>
     ensures layer { IfOk result (λ layer. IsTiledBy (files_of files.now) unit city.now.ring.corners layer) }
-    ensures fault { IfErr result (λ refusal. (IsFaultOfLayer role (files_of files.now) unit city.now.ring.corners refusal.fault
+    ensures fault { IfErr result (λ refusal. (IsFaultOfLayer role (files_of files.now) unit
+        city.now.ring.corners refusal.fault
         × (asked ≡ Asked.All → (of_city : Files) → IsCityOf of_city unit city.now.ring.corners
         → AreLinesBefore of_city (files_of files.now) unit refusal.fault (text_or_none refusal.lines)))
         ⊎ ((refusal.fault ≡ ToolFault.NoMemory) × (text_or_none refusal.lines ≡ []))) }
     // Files whose rings tile the city are loaded, unless memory runs out.
     ensures loads { (tiles : Tiles) → IsTiledBy (files_of files.now) unit city.now.ring.corners tiles
         → IfErr result (λ refusal. refusal.fault ≡ ToolFault.NoMemory) }
-    ensures refuses { (fault : ToolFaultValue) → IsFaultOfLayer role (files_of files.now) unit city.now.ring.corners fault
+    ensures refuses { (fault : ToolFaultValue)
+        → IsFaultOfLayer role (files_of files.now) unit city.now.ring.corners fault
         → IsErrAnd result (λ refusal. (refusal.fault ≡ fault) ⊎ (refusal.fault ≡ ToolFault.NoMemory)) }
 {
     let records = layer_rings(heap, role, files.main.as_slice(), files.index_bytes(), unit)?;
@@ -110,14 +112,16 @@ pub(crate) fn read_told_by<'h, R: Threads + Sync, H: Allocator + Send + Sync, A:
     asked: Asked,
 ) -> Result<Layer<'h, H>, LayerRefusal<&'h H>>
     ensures layer { IfOk result (λ layer. IsTiledBy (files_of files.now) unit city.now.ring.corners layer) }
-    ensures fault { IfErr result (λ refusal. (IsFaultOfLayer role (files_of files.now) unit city.now.ring.corners refusal.fault
+    ensures fault { IfErr result (λ refusal. (IsFaultOfLayer role (files_of files.now) unit
+        city.now.ring.corners refusal.fault
         × (asked ≡ Asked.All → (of_city : Files) → IsCityOf of_city unit city.now.ring.corners
         → AreLinesBefore of_city (files_of files.now) unit refusal.fault (text_or_none refusal.lines)))
         ⊎ ((refusal.fault ≡ ToolFault.NoMemory) × (text_or_none refusal.lines ≡ []))) }
     // Files whose rings tile the city are loaded, unless memory runs out.
     ensures loads { (tiles : Tiles) → IsTiledBy (files_of files.now) unit city.now.ring.corners tiles
         → IfErr result (λ refusal. refusal.fault ≡ ToolFault.NoMemory) }
-    ensures refuses { (fault : ToolFaultValue) → IsFaultOfLayer role (files_of files.now) unit city.now.ring.corners fault
+    ensures refuses { (fault : ToolFaultValue)
+        → IsFaultOfLayer role (files_of files.now) unit city.now.ring.corners fault
         → IsErrAnd result (λ refusal. (refusal.fault ≡ fault) ⊎ (refusal.fault ≡ ToolFault.NoMemory)) }
 {
     let records = layer_rings(heap, role, files.main.as_slice(), files.index_bytes(), unit)?;

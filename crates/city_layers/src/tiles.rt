@@ -35,7 +35,8 @@ pub fn read_city<'h, H: Allocator, A: Allocator>(
     unit: Unit,
 ) -> Result<City<'h, H>, ToolFault<'static>>
     ensures city { IfOk result (λ city. IsCityOf (files_of files.now) unit city.ring.corners) }
-    ensures fault { IfErr result (λ fault. IsFaultOfCity (files_of files.now) unit fault ⊎ (fault ≡ ToolFault.NoMemory)) }
+    ensures fault { IfErr result (λ fault. IsFaultOfCity (files_of files.now) unit fault
+        ⊎ (fault ≡ ToolFault.NoMemory)) }
     ensures reads { (corners : List Corner) → IsCityOf (files_of files.now) unit corners
         → MatchResult result (λ city. city.ring.corners ≡ corners) (λ fault. fault ≡ ToolFault.NoMemory) }
     ensures refuses { (fault : ToolFaultValue) → IsFaultOfCity (files_of files.now) unit fault
@@ -75,7 +76,8 @@ pub fn read_tiles<'h, H: Allocator, A: Allocator>(
     // Files whose rings tile the city are loaded, unless memory runs out.
     ensures loads { (tiles : Tiles) → IsTiledBy (files_of files.now) unit city.now.ring.corners tiles
         → IfErr result (λ fault. fault ≡ ToolFault.NoMemory) }
-    ensures refuses { (fault : ToolFaultValue) → IsFaultOfLayer role (files_of files.now) unit city.now.ring.corners fault
+    ensures refuses { (fault : ToolFaultValue)
+        → IsFaultOfLayer role (files_of files.now) unit city.now.ring.corners fault
         → IsErrAnd result (λ told. (told ≡ fault) ⊎ (told ≡ ToolFault.NoMemory)) }
 {
     match read_told(heap, city, role, files, unit, Asked::First) {
@@ -100,7 +102,8 @@ pub fn read_tiles_by<'h, R: Threads + Sync, H: Allocator + Send + Sync, A: Alloc
     // Files whose rings tile the city are loaded, unless memory runs out.
     ensures loads { (tiles : Tiles) → IsTiledBy (files_of files.now) unit city.now.ring.corners tiles
         → IfErr result (λ fault. fault ≡ ToolFault.NoMemory) }
-    ensures refuses { (fault : ToolFaultValue) → IsFaultOfLayer role (files_of files.now) unit city.now.ring.corners fault
+    ensures refuses { (fault : ToolFaultValue)
+        → IsFaultOfLayer role (files_of files.now) unit city.now.ring.corners fault
         → IsErrAnd result (λ told. (told ≡ fault) ⊎ (told ≡ ToolFault.NoMemory)) }
 {
     match read_told_by(rt, workers, heap, city, role, files, unit, Asked::First) {

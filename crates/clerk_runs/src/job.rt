@@ -76,7 +76,8 @@ fn submit_all<'r, 'h, H: Allocator, J: Naming<H>, R: Wait>(
     requires no_receipts { receipts.old.items ≡ [] }
     ensures clerk { card.new.clerk ≡ card.old.clerk }
     ensures said { OnOk result (card.old.made ≡ []
-        → HasSaid (run_at J.office) card.new.met card.old.clerk edits.now card.new.made lines.new.items receipts.new.items) }
+        → HasSaid (run_at J.office) card.new.met card.old.clerk edits.now card.new.made lines.new.items
+        receipts.new.items) }
 {
     for told in edits {
         submit_edit(counter, card, told, lines, receipts)?;
@@ -95,7 +96,8 @@ fn submit_edit<'r, 'h, H: Allocator, J: Naming<H>, R: Wait>(
     ensures clerk { card.new.clerk ≡ card.old.clerk }
     ensures said { OnOk result
         (IsAccepted card.old told.now card.new lines.old.items lines.new.items receipts.old.items receipts.new.items
-        ⊎ IsRefused (run_at J.office) card.old told.now card.new lines.old.items lines.new.items receipts.old.items receipts.new.items) }
+        ⊎ IsRefused (run_at J.office) card.old told.now card.new lines.old.items lines.new.items receipts.old.items
+        receipts.new.items) }
 {
     let clerk = card.clerk();
     match counter.office.submit(counter.rt, card, &told.1) {

@@ -90,8 +90,10 @@ pub fn edit_by_clerks<'h, R: Threads + Wait + Sync, H: Allocator + Send + Sync>(
 ) -> Result<Edited<'h, H>, RunFault>
     requires some { 0 < length clerks.items }
     requires few { length clerks.items ≤ MOST_PLACES }
-    ensures made { IfOk result (λ edited. AreMade layer.entry clerks.entry.items (register_of edited.sheet) edited.lines.items) }
-    ensures opening { IfOk result (λ edited. edited.sheet.opening ≡ opening_state layer.entry.rows layer.entry.refined) }
+    ensures made { IfOk result (λ edited. AreMade layer.entry clerks.entry.items (register_of edited.sheet)
+        edited.lines.items) }
+    ensures opening { IfOk result (λ edited. edited.sheet.opening
+        ≡ opening_state layer.entry.rows layer.entry.refined) }
     ensures city { IfOk result (λ edited. edited.sheet.city ≡ layer.entry.city) }
     ensures places { IfOk result (λ edited. AreLocated edited.sheet.now.rows corners.now edited.places.items) }
     ensures fault { IfErr result (λ fault. (fault ≡ NoWindow 1) ⊎ (fault ≡ NoMemory)) }
@@ -118,11 +120,13 @@ fn edit_at_office<
     corners: &[Corner],
 ) -> Result<Edited<'h, H>, RunFault>
     requires book { name.book ≡ J.book }
-    requires office { J.office ≡ record { cards = name.cards; clerks = length clerks.items; origin = origin_of fabric } }
+    requires office { J.office
+        ≡ record { cards = name.cards; clerks = length clerks.items; origin = origin_of fabric } }
     requires some { 0 < length clerks.items }
     requires few { length clerks.items ≤ MOST_PLACES }
     requires fresh { fabric.journal ≡ [] }
-    ensures made { IfOk result (λ edited. AreMadeIn (record { clerks = length clerks.entry.items; opening = fabric.entry.opening })
+    ensures made { IfOk result
+        (λ edited. AreMadeIn (record { clerks = length clerks.entry.items; opening = fabric.entry.opening })
         clerks.entry.items (register_of edited.sheet) edited.lines.items) }
     ensures opening { IfOk result (λ edited. edited.sheet.opening ≡ fabric.entry.opening) }
     ensures city { IfOk result (λ edited. edited.sheet.city ≡ fabric.entry.city) }

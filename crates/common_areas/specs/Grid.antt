@@ -36,8 +36,8 @@ pub record Divides (a b : ℤ) : Type 0 where
   pub factor : ℤ
   pub is : b ≡ a *ℤ factor
 
--- The edge is level, or at the middle of each row it is at a border of columns: for a millimetre that it rises, share columns make
--- half a row's worth of the columns.
+-- The edge is level, or at the middle of each row it is at a border of columns: for a millimetre that it rises, share
+-- columns make half a row's worth of the columns.
 pub record IsShare (grid : Grid) (e : Edge) (share : ℤ) : Type 0 where
   pub divides : (rise e ≡ pos 0) ⊎ (grid.columns ≡ pos 2 *ℤ grid.rows *ℤ rise e *ℤ share)
 

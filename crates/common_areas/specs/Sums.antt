@@ -1,5 +1,5 @@
--- Common areas with several rings, and rings that wind at most once (this product's own; winding numbers are those of OGC
--- 06-103r4, 6.1.11, Polygon).
+-- Common areas with several rings, and rings that wind at most once (this product's own; winding numbers are those of
+-- OGC 06-103r4, 6.1.11, Polygon).
 use Rattle.std.specs.Prelude.{◌≡◌, ℤ, pos, ◌+ℤ◌, ◌≤ℤ◌, List, [], ◌∷◌, ◌++◌}
 use Rattle.std.specs.List.{AllByRecursion}
 use Rattle.geo_exact.specs.declared.corner.Corner.{Corner}

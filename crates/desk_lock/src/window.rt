@@ -118,9 +118,11 @@ impl<'a, H: Allocator, J: Naming<H>> Window<'a, H, J> {
         ensures begins { IsPrefix self.old.seen self.new.seen }
         ensures count { IfOk result (λ entries. entries ≡ length self.new.seen) }
         ensures lawful { IfOk result (λ entries. IsLawful self.new.opening self.new.seen) }
-        ensures of_clerks { IfOk result (λ entries. AreOfClerks J.office.clerks (behind J.office.origin self.new.seen)) }
+        ensures of_clerks { IfOk result (λ entries. AreOfClerks J.office.clerks
+            (behind J.office.origin self.new.seen)) }
         // The parcels that it answers from tile the city.
-        ensures tiling { IfOk result (λ entries. IsTiling (replay self.new.opening self.new.seen).rows J.office.origin.city) }
+        ensures tiling { IfOk result (λ entries. IsTiling (replay self.new.opening self.new.seen).rows
+            J.office.origin.city) }
         ensures fault { IfErr result (λ fault. fault ≡ NoVersion) }
         ensures no_version { IfErr result (λ fault. fault ≡ NoVersion → self.new ≡ self.old) }
     {
@@ -149,7 +151,8 @@ impl<'a, H: Allocator, J: Naming<H>> Window<'a, H, J> {
         ensures lawful { IfOk result (λ answer. IsLawful self.new.opening self.new.seen) }
         ensures of_clerks { IfOk result (λ answer. AreOfClerks J.office.clerks (behind J.office.origin self.new.seen)) }
         // The parcels that it answers from tile the city.
-        ensures tiling { IfOk result (λ answer. IsTiling (replay self.new.opening self.new.seen).rows J.office.origin.city) }
+        ensures tiling { IfOk result (λ answer. IsTiling (replay self.new.opening self.new.seen).rows
+            J.office.origin.city) }
         ensures parcel { IfOk result (λ answer. MatchOption answer.1
             ((row : NumberedRing) → Contains (replay self.new.opening self.new.seen).rows row → row.number ≢ id)
             (λ ring. Contains (replay self.new.opening self.new.seen).rows (numbered id ring))) }
@@ -187,7 +190,8 @@ impl<'a, H: Allocator, J: Naming<H>> Window<'a, H, J> {
         ensures lawful { IfOk result (λ answer. IsLawful self.new.opening self.new.seen) }
         ensures of_clerks { IfOk result (λ answer. AreOfClerks J.office.clerks (behind J.office.origin self.new.seen)) }
         // The parcels that it answers from tile the city.
-        ensures tiling { IfOk result (λ answer. IsTiling (replay self.new.opening self.new.seen).rows J.office.origin.city) }
+        ensures tiling { IfOk result (λ answer. IsTiling (replay self.new.opening self.new.seen).rows
+            J.office.origin.city) }
         ensures at { IfOk result (λ answer.
             IsLocatedAt (replay self.new.opening self.new.seen).rows (corner_point corner) answer.1) }
         ensures no_version { IfErr result (λ fault. fault ≡ NoVersion → self.new ≡ self.old) }

@@ -1,4 +1,5 @@
--- What an accepted edit makes of a fabric, and which journals are lawful (this product's own; what it makes of rings is ring_edits').
+-- What an accepted edit makes of a fabric, and which journals are lawful (this product's own;
+-- what it makes of rings is ring_edits').
 use Rattle.std.specs.Prelude.{◌≡◌, ◌≢◌, ⊤, ℕ, ◌+◌, ◌≤◌, List, [], ◌∷◌, map, length}
 use Rattle.std.specs.List.{AllByRecursion, Contains, filter}
 use Rattle.geo_exact.specs.declared.corner.Corner.{Corner}
@@ -16,7 +17,8 @@ use Rattle.fabric_core.specs.Faults.{AreSimple}
 use Rattle.fabric_core.specs.Journal.{State, JournalEntry, Book, after_entry}
 
 -- a parcel is cut in two along a path: left of it is the next id's, right of it that after the next
-pub record IsSplitOf (state : State) (id : ℕ) (path : List Corner) (out : List ℕ) (rows : List NumberedRing) : Type 0 where
+pub record IsSplitOf (state : State) (id : ℕ) (path : List Corner) (out : List ℕ)
+    (rows : List NumberedRing) : Type 0 where
   pub ring : List Corner
   pub has : Contains state.rows (numbered id ring)
   pub left : List Corner
@@ -37,7 +39,8 @@ pub record IsMergeOf (state : State) (a b : ℕ) (out : List ℕ) (rows : List N
   pub rows_are : rows ≡ numbered state.next ring ∷ []
 
 -- the border of two neighbours is moved to a path
-pub record IsMoveOf (state : State) (a b : ℕ) (path : List Corner) (out : List ℕ) (rows : List NumberedRing) : Type 0 where
+pub record IsMoveOf (state : State) (a b : ℕ) (path : List Corner) (out : List ℕ)
+    (rows : List NumberedRing) : Type 0 where
   pub ring_a : List Corner
   pub has_a : Contains state.rows (numbered a ring_a)
   pub ring_b : List Corner
@@ -57,15 +60,16 @@ pub record IsInsertOf (state : State) (from to at : Corner) (out : List ℕ) (ro
   pub two_ends : from ≢ to
   pub some : rows_with_edge from to state.rows ≢ []
   pub is_between : IsStrictlyInside at from to
-  pub rows_are : rows ≡ map (λ row. numbered row.number (with_corner from to at row.corners)) (rows_with_edge from to state.rows)
+  pub rows_are : rows
+      ≡ map (λ row. numbered row.number (with_corner from to at row.corners)) (rows_with_edge from to state.rows)
   pub out_are : out ≡ numbers rows
 
 -- the rows whose rings have the corner
 abbrev pub rows_at_corner : Corner → List NumberedRing → List NumberedRing
 rows_at_corner at rows = filter (λ row. has_corner at row.corners) rows
 
--- a corner is taken out of each parcel's ring that has it; no parcel's ring bends there, nor does the city's refined ring;
--- each parcel keeps its id
+-- a corner is taken out of each parcel's ring that has it; no parcel's ring bends there, nor does the city's refined
+-- ring; each parcel keeps its id
 pub record IsStraightenOf (state : State) (at : Corner) (out : List ℕ) (rows : List NumberedRing) : Type 0 where
   pub some : rows_at_corner at state.rows ≢ []
   pub straight : AllByRecursion (λ row. ¬ BendsAt at row.corners) state.rows

@@ -13,8 +13,8 @@ ghost use Rattle.fabric_core.specs.own.EntryRows.{rows_of_entry};
 ghost use Rattle.fabric_core.specs.Refusals.{named_ids, IsBadCutPath, IsFirstBent, IsOwnRefusal};
 ghost use Rattle.fabric_core.specs.Rows.{numbers};
 ghost use Rattle.ring_edits.specs.Edits.{BendsAt, IsBorderPath, IsPathAcross, ShareOneRun};
-ghost use Rattle.fabric_core.specs.own.Changes.{state_of, IsGone, IsTold, IsStopped, IsBorderRefusal, IsMoveRefusal, IsInsertRefusal};
-ghost use Rattle.fabric_core.specs.own.Changes.{AsksMemory, IsStraightenRefusal};
+ghost use Rattle.fabric_core.specs.own.Changes.{state_of, IsGone, IsTold, IsStopped, IsBorderRefusal, IsMoveRefusal};
+ghost use Rattle.fabric_core.specs.own.Changes.{IsInsertRefusal, AsksMemory, IsStraightenRefusal};
 
 use crate::edges::renewed_rows;
 use crate::journal::Row;
@@ -152,7 +152,8 @@ fn merge_change<'a, H: Allocator>(
     ensures err { IfErr result (λ refusal.
         IsStopped tiled.now (a ∷ b ∷ []) (IsBorderRefusal (state_of tiled.now) a b refusal) refusal) }
     ensures memory { IsErrOf result NoMemory → (ring_a : List CornerValue) × (ring_b : List CornerValue)
-        × Contains tiled.now.rows (numbered a ring_a) × Contains tiled.now.rows (numbered b ring_b) × ShareOneRun ring_a ring_b }
+        × Contains tiled.now.rows (numbered a ring_a) × Contains tiled.now.rows (numbered b ring_b)
+        × ShareOneRun ring_a ring_b }
 {
     let first = here(tiled, a)?;
     let second = here(tiled, b)?;

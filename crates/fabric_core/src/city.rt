@@ -75,7 +75,8 @@ impl<'a, H: Allocator> City<'a, H> {
     /// ```
     pub fn new(heap: &'a H, ring: RawRing<&'a H>) -> Result<City<'a, H>, CityFault>
         ensures ring { IfOk result (λ city. city.ring.corners ≡ begun_at_least ring.entry.corners) }
-        ensures fault { IfErr result (λ fault. IsCityFault (begun_at_least ring.entry.corners) fault ⊎ (fault ≡ NoMemory)) }
+        ensures fault { IfErr result (λ fault. IsCityFault (begun_at_least ring.entry.corners) fault
+            ⊎ (fault ≡ NoMemory)) }
         ensures refuses { (fault : CityFault) → IsCityFault (begun_at_least ring.entry.corners) fault
             → IsErrAnd result (λ e. (e ≡ fault) ⊎ (e ≡ NoMemory)) }
     {

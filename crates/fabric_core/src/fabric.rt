@@ -1,7 +1,7 @@
 //! The fabric: a layer that clerks edit, with its journal.
 
-ghost use Rattle.std.specs.Prelude.{◌≡◌, ◌≢◌, ◌⊎◌, ◌↔◌, ◌+◌, ◌≤◌, ◌≤ℤ◌, ℕ, List, [], ◌∷◌, ◌++◌, length, map, IfOk, IfErr};
-ghost use Rattle.std.specs.Prelude.{IsErrAnd, IsErrOf, IsOk, OnOk, OnErr, MatchOption};
+ghost use Rattle.std.specs.Prelude.{◌≡◌, ◌≢◌, ◌⊎◌, ◌↔◌, ◌+◌, ◌≤◌, ◌≤ℤ◌, ℕ, List, [], ◌∷◌, ◌++◌, length, map, IfOk};
+ghost use Rattle.std.specs.Prelude.{IfErr, IsErrAnd, IsErrOf, IsOk, OnOk, OnErr, MatchOption};
 ghost use Rattle.std.specs.List.{All, Contains};
 ghost use Rattle.std.specs.List.Sorted.{IsStrictlyIncreasing};
 ghost use Rattle.geo_exact.specs.declared.corner.Corner.{Corner};
@@ -62,8 +62,8 @@ pub struct Fabric<'a, H: Allocator> {
     corners: usize,
 }
 
-/// A fabric as it was at a moment: a copy of one's own, which stays as it is while the fabric goes on. A map is drawn from
-/// it, and parcels are laid over zones. How many entries its journal has names the moment.
+/// A fabric as it was at a moment: a copy of one's own, which stays as it is while the fabric goes on. A map is drawn
+/// from it, and parcels are laid over zones. How many entries its journal has names the moment.
 pub type Sheet<'a, H> = Fabric<'a, H>;
 
 // As that of `Tiled`: whoever drops a fabric does it by one call.
@@ -163,8 +163,9 @@ impl<'a, H: Allocator> Fabric<'a, H> {
         self.copy()
     }
 
-    /// The fabric of a grid ten times as fine: each coordinate of the city, the parcels, the opening and the journal is ten
-    /// times what it is here, and all ids and numbers are the same. So a register in centimetres becomes one in millimetres.
+    /// The fabric of a grid ten times as fine: each coordinate of the city, the parcels, the opening and the
+    /// journal is ten times what it is here, and all ids and numbers are the same. So a register in
+    /// centimetres becomes one in millimetres.
     ///
     /// # Errors
     ///
@@ -176,7 +177,8 @@ impl<'a, H: Allocator> Fabric<'a, H> {
     /// ```
     pub fn tenfold(&self) -> Result<Fabric<'a, H>, ScaleFault>
         ensures tenfold { IfOk result (IsTenfoldBook self.now) }
-        ensures fault { IfErr result (λ fault. IsScaleFault (corners_of_book self.now) fault ⊎ (fault ≡ NoScaleMemory)) }
+        ensures fault { IfErr result (λ fault. IsScaleFault (corners_of_book self.now) fault
+            ⊎ (fault ≡ NoScaleMemory)) }
         ensures refuses { (corner : CornerValue) → IsLeastFar (corners_of_book self.now) corner
             → IsErrAnd result (λ e. (e ≡ TooFar corner) ⊎ (e ≡ NoScaleMemory)) }
     {
@@ -349,11 +351,13 @@ impl<'a, H: Allocator> Fabric<'a, H> {
         ensures opening { self.new.opening ≡ self.old.opening }
         // A refused one changes nothing.
         ensures unchanged { OnErr result (self.new ≡ self.old) }
-        ensures refusal { IfErr result (λ refusal. IsRefusal self.old.now self.old.journal edit.now refusal ⊎ (refusal ≡ NoMemory)) }
+        ensures refusal { IfErr result (λ refusal. IsRefusal self.old.now self.old.journal edit.now refusal
+            ⊎ (refusal ≡ NoMemory)) }
         ensures refuses { (refusal : Refusal) → IsRefusal self.old.now self.old.journal edit.now refusal
             → IsErrAnd result (λ e. (e ≡ refusal) ⊎ (e ≡ NoMemory)) }
         // E9 and E1 to E5 are told before any memory is asked for.
-        ensures exact { (refusal : Refusal) → IsRefusal self.old.now self.old.journal edit.now refusal → NeedsNoMemory refusal
+        ensures exact { (refusal : Refusal) → IsRefusal self.old.now self.old.journal edit.now refusal
+            → NeedsNoMemory refusal
             → IsErrOf result refusal }
     {
         if self.journal.len() >= JOURNAL_ENTRIES {

@@ -74,11 +74,14 @@ pub fn a_place_off_all_edges_is_inside_one_parcel()
 /// towards the triangle's centre are places inside both parcels. But off all edges a place is in
 /// one parcel alone.
 pub fn what_is_inside_a_parcel_is_in_no_other()
-    ensures edges { (rows : List NumberedRing) (city : List Corner) (p : Point) (id other : ℕ) → AreSimple rows → IsTiling rows city
+    ensures edges { (rows : List NumberedRing) (city : List Corner) (p : Point) (id other : ℕ) → AreSimple rows
+        → IsTiling rows city
         → IsInsideOf rows p id → ¬ IsOnEdgeOf rows p other }
-    ensures others { (rows : List NumberedRing) (city : List Corner) (p : Point) (id other : ℕ) → AreSimple rows → IsTiling rows city
+    ensures others { (rows : List NumberedRing) (city : List Corner) (p : Point) (id other : ℕ) → AreSimple rows
+        → IsTiling rows city
         → IsInsideOf rows p id → IsInsideOf rows p other → other ≡ id }
-    ensures city { (rows : List NumberedRing) (city : List Corner) (p : Point) (id : ℕ) → AreSimple rows → IsTiling rows city
+    ensures city { (rows : List NumberedRing) (city : List Corner) (p : Point) (id : ℕ) → AreSimple rows
+        → IsTiling rows city
         → IsInsideOf rows p id → winding p city ≡ pos 1 }
 {}
 

@@ -119,7 +119,8 @@ impl<'a, H: Allocator> Layer<'a, H> {
         requires numbers { NumbersRise 0 LAYER_RECORDS (rings_of records.items) }
         requires corners { corner_count (rings_of records.items) ≤ LAYER_CORNERS }
         // The rows are all records' rings, noded for all corners, under the record numbers.
-        ensures rows { IfOk result (λ layer. AreRefined (rings_of records.entry.items) city.now.ring.corners layer.rows layer.refined) }
+        ensures rows { IfOk result (λ layer. AreRefined (rings_of records.entry.items) city.now.ring.corners
+            layer.rows layer.refined) }
         ensures city { IfOk result (λ layer. layer.city ≡ city.now.ring.corners) }
         ensures tiling { IfOk result (λ layer. IsTiling layer.rows city.now.ring.corners) }
         ensures indexed { IfOk result (λ layer. IsIndexed layer.rows city.now.ring.corners layer.index) }
@@ -161,14 +162,16 @@ impl<'a, H: Allocator> Layer<'a, H> {
     ) -> Result<Layer<'a, H>, LoadRefusal<&'a H>>
         requires numbers { NumbersRise 0 LAYER_RECORDS (rings_of records.items) }
         requires corners { corner_count (rings_of records.items) ≤ LAYER_CORNERS }
-        ensures rows { IfOk result (λ layer. AreRefined (rings_of records.entry.items) city.now.ring.corners layer.rows layer.refined) }
+        ensures rows { IfOk result (λ layer. AreRefined (rings_of records.entry.items) city.now.ring.corners
+            layer.rows layer.refined) }
         ensures city { IfOk result (λ layer. layer.city ≡ city.now.ring.corners) }
         ensures tiling { IfOk result (λ layer. IsTiling layer.rows city.now.ring.corners) }
         ensures indexed { IfOk result (λ layer. IsIndexed layer.rows city.now.ring.corners layer.index) }
         // The fault that is answered is the first of the layer, beside it all of its kind are answered
         // where they are asked for, and a layer with a first fault is refused by it, unless memory runs
         // out.
-        ensures faults { IfErr result (λ refusal. IsLoadRefusal asked (rings_of records.entry.items) city.now.ring.corners refusal
+        ensures faults { IfErr result (λ refusal. IsLoadRefusal asked (rings_of records.entry.items)
+            city.now.ring.corners refusal
             ⊎ IsOutOfMemory refusal) }
         ensures refuses { (fault : LoadFault) → IsLoadFault (rings_of records.entry.items) city.now.ring.corners fault
             → IsErrAnd result (λ refusal. (refusal.first ≡ fault) ⊎ (refusal.first ≡ NoMemory)) }
@@ -319,7 +322,8 @@ impl<'a, H: Allocator + Send + Sync> Layer<'a, H> {
         requires numbers { NumbersRise 0 LAYER_RECORDS (rings_of records.items) }
         requires corners { corner_count (rings_of records.items) ≤ LAYER_CORNERS }
         // The rows are all records' rings, noded for all corners, under the record numbers.
-        ensures rows { IfOk result (λ layer. AreRefined (rings_of records.entry.items) city.now.ring.corners layer.rows layer.refined) }
+        ensures rows { IfOk result (λ layer. AreRefined (rings_of records.entry.items) city.now.ring.corners
+            layer.rows layer.refined) }
         ensures city { IfOk result (λ layer. layer.city ≡ city.now.ring.corners) }
         ensures tiling { IfOk result (λ layer. IsTiling layer.rows city.now.ring.corners) }
         ensures indexed { IfOk result (λ layer. IsIndexed layer.rows city.now.ring.corners layer.index) }
@@ -360,14 +364,16 @@ impl<'a, H: Allocator + Send + Sync> Layer<'a, H> {
     ) -> Result<Layer<'a, H>, LoadRefusal<&'a H>>
         requires numbers { NumbersRise 0 LAYER_RECORDS (rings_of records.items) }
         requires corners { corner_count (rings_of records.items) ≤ LAYER_CORNERS }
-        ensures rows { IfOk result (λ layer. AreRefined (rings_of records.entry.items) city.now.ring.corners layer.rows layer.refined) }
+        ensures rows { IfOk result (λ layer. AreRefined (rings_of records.entry.items) city.now.ring.corners
+            layer.rows layer.refined) }
         ensures city { IfOk result (λ layer. layer.city ≡ city.now.ring.corners) }
         ensures tiling { IfOk result (λ layer. IsTiling layer.rows city.now.ring.corners) }
         ensures indexed { IfOk result (λ layer. IsIndexed layer.rows city.now.ring.corners layer.index) }
         // The fault that is answered is the first of the layer, beside it all of its kind are answered
         // where they are asked for, and a layer with a first fault is refused by it, unless memory runs
         // out.
-        ensures faults { IfErr result (λ refusal. IsLoadRefusal asked (rings_of records.entry.items) city.now.ring.corners refusal
+        ensures faults { IfErr result (λ refusal. IsLoadRefusal asked (rings_of records.entry.items)
+            city.now.ring.corners refusal
             ⊎ IsOutOfMemory refusal) }
         ensures refuses { (fault : LoadFault) → IsLoadFault (rings_of records.entry.items) city.now.ring.corners fault
             → IsErrAnd result (λ refusal. (refusal.first ≡ fault) ⊎ (refusal.first ≡ NoMemory)) }
@@ -388,7 +394,8 @@ pub(crate) fn layer_of<'a, H: Allocator>(
 ) -> Result<Layer<'a, H>, AllocError>
     requires checked { IsChecked numbers.now (corners_of_shapes shapes.items) city refined }
     requires area { IsLeastBox area city }
-    ensures rows { IfOk result (λ layer. layer.rows ≡ numbered_rows numbers.now (corners_of_shapes shapes.entry.items)) }
+    ensures rows { IfOk result (λ layer. layer.rows
+        ≡ numbered_rows numbers.now (corners_of_shapes shapes.entry.items)) }
     ensures city { IfOk result (λ layer. layer.city ≡ city.entry) }
     ensures refined { IfOk result (λ layer. layer.refined ≡ refined.entry) }
     ensures no_fault { IfOk result (λ layer. HaveNoFault layer.rows layer.refined) }

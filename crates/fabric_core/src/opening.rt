@@ -37,7 +37,8 @@ impl<'a, H: Allocator> Model for Opening<'a, H> {
 
     ghost view = { λ opening. state_of opening.was.value };
 
-    ghost invariant = { λ opening. AreLeastBeyond (corners_of_state (state_of opening.was.value)) opening.farthest.least };
+    ghost invariant = { λ opening. AreLeastBeyond (corners_of_state (state_of opening.was.value))
+        opening.farthest.least };
 }
 
 /// A snapshot, as one of any value: it has no bytes that say of which. The caller's proof picks the value, from that of

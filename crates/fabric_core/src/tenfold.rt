@@ -21,8 +21,8 @@ use std::alloc::{AllocError, Allocator};
 /// Why a fabric is not moved to a grid ten times as fine.
 #[derive(Clone, Copy, Debug, PartialEq, Eq)]
 pub enum ScaleFault {
-    /// M1: the corner is more than 10,000,000,000 mm from 0 along an axis; the least such corner, by x and then by y, of
-    /// the fabric, its opening and its journal.
+    /// M1: the corner is more than 10,000,000,000 mm from 0 along an axis; the least such corner, by x and then by y,
+    /// of the fabric, its opening and its journal.
     TooFar(Corner),
     /// An allocation was refused.
     NoMemory,

@@ -20,7 +20,8 @@ ghost use Rattle.fabric_core.specs.Journal.{without_ids};
 ghost use Rattle.fabric_core.specs.own.Balanced.{IsBalanced};
 ghost use Rattle.fabric_core.specs.own.Changes.{state_of};
 ghost use Rattle.fabric_core.specs.own.Kept.{gone_by, IsExchanged, IsFresh, MayBeKept};
-ghost use Rattle.fabric_core.specs.own.RingChanges.{AreShapesOf, HasTwoEnds, KeepsGround, changed_city, changed_row, rows_changed};
+ghost use Rattle.fabric_core.specs.own.RingChanges.{AreShapesOf, HasTwoEnds, KeepsGround};
+ghost use Rattle.fabric_core.specs.own.RingChanges.{changed_city, changed_row, rows_changed};
 ghost use Rattle.fabric_core.specs.own.Lists.{numbered_rows, corners_of_rings, corners_of_shapes, IsEntryAt, replaced};
 ghost use Rattle.parcel_table.specs.Table.{HasId, entries_of};
 ghost use Rattle.cell_index.specs.Cells.{Indexes};
@@ -94,7 +95,8 @@ impl<'a, H: Allocator> Tiled<'a, H> {
     ) -> Result<Tiled<'a, H>, AllocError>
         requires checked { IsChecked numbers.now (corners_of_shapes shapes.items) city refined }
         requires area { IsLeastBox area city }
-        ensures rows { IfOk result (λ tiled. tiled.rows ≡ numbered_rows numbers.now (corners_of_shapes shapes.entry.items)) }
+        ensures rows { IfOk result (λ tiled. tiled.rows
+            ≡ numbered_rows numbers.now (corners_of_shapes shapes.entry.items)) }
         ensures city { IfOk result (λ tiled. tiled.city ≡ city.entry) }
         ensures refined { IfOk result (λ tiled. tiled.refined ≡ refined.entry) }
         ensures no_fault { IfOk result (λ tiled. HaveNoFault tiled.rows tiled.refined) }
@@ -328,7 +330,8 @@ fn index_of<'a, H: Allocator>(
 
 /// Exchanges a ring for another, where there is one.
 fn change_ring<A: Allocator>(ring: &mut Corners<A>, other: Option<Corners<A>>)
-    ensures { (expected : List Corner) → MatchOption other (ring.old ≡ expected) (λ new. new ≡ expected) → ring.new ≡ expected }
+    ensures { (expected : List Corner) → MatchOption other (ring.old ≡ expected) (λ new. new ≡ expected)
+        → ring.new ≡ expected }
 {
     if let Some(new) = other {
         *ring = new;
@@ -362,9 +365,11 @@ impl<'a, H: Allocator> Tiled<'a, H> {
     ) -> Result<(), AllocError>
         requires here { Contains (numbers self.old.rows) id }
         requires kept { MayBeKept (without_ids (id ∷ []) self.old.rows
-            ++ numbered self.old.next left.ring.corners ∷ numbered (self.old.next + 1) right.ring.corners ∷ []) self.old.refined }
+            ++ numbered self.old.next left.ring.corners ∷ numbered (self.old.next + 1) right.ring.corners
+            ∷ []) self.old.refined }
         ensures ok { OnOk result (IsExchanged self.old self.new (id ∷ []) by
-            (numbered self.old.next left.entry.ring.corners ∷ numbered (self.old.next + 1) right.entry.ring.corners ∷ [])) }
+            (numbered self.old.next left.entry.ring.corners
+            ∷ numbered (self.old.next + 1) right.entry.ring.corners ∷ [])) }
         ensures err { OnErr result (self.new ≡ self.old) }
     {
         self.parcels.use_invariant();
@@ -398,7 +403,8 @@ impl<'a, H: Allocator> Tiled<'a, H> {
         requires a_here { Contains (numbers self.old.rows) a }
         requires b_here { Contains (numbers self.old.rows) b }
         requires apart { a ≢ b }
-        requires kept { MayBeKept (without_ids (a ∷ b ∷ []) self.old.rows ++ numbered self.old.next shape.ring.corners ∷ [])
+        requires kept { MayBeKept (without_ids (a ∷ b ∷ []) self.old.rows
+            ++ numbered self.old.next shape.ring.corners ∷ [])
             self.old.refined }
         ensures ok { OnOk result (IsExchanged self.old self.new (a ∷ b ∷ []) by
             (numbered self.old.next shape.entry.ring.corners ∷ [])) }
@@ -433,9 +439,11 @@ impl<'a, H: Allocator> Tiled<'a, H> {
         requires b_here { Contains (numbers self.old.rows) b }
         requires apart { a ≢ b }
         requires kept { MayBeKept (without_ids (a ∷ b ∷ []) self.old.rows
-            ++ numbered self.old.next of_a.ring.corners ∷ numbered (self.old.next + 1) of_b.ring.corners ∷ []) self.old.refined }
+            ++ numbered self.old.next of_a.ring.corners ∷ numbered (self.old.next + 1) of_b.ring.corners
+            ∷ []) self.old.refined }
         ensures ok { OnOk result (IsExchanged self.old self.new (a ∷ b ∷ []) by
-            (numbered self.old.next of_a.entry.ring.corners ∷ numbered (self.old.next + 1) of_b.entry.ring.corners ∷ [])) }
+            (numbered self.old.next of_a.entry.ring.corners
+            ∷ numbered (self.old.next + 1) of_b.entry.ring.corners ∷ [])) }
         ensures err { OnErr result (self.new ≡ self.old) }
     {
         self.parcels.use_invariant();

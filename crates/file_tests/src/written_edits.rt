@@ -1,8 +1,7 @@
 //! Edits that are written as lines, and read back.
 
-use line_files::push_edit_line;
 use geo_exact::LIMIT;
-use line_files::{ClerkFault, read_clerk};
+use line_files::{ClerkFault, push_edit_line, read_clerk};
 use refusing_alloc::Refusing;
 use ring_edits::Edit;
 use std::alloc::{AllocError, Allocator, Global};
@@ -133,8 +132,8 @@ fn what_was_written_otherwise_is_written_so(rt: HostRuntime) -> Result<(), Fail>
     Ok(())
 }
 
-/// Whether growth `number` of the reading and the writing of three edits was refused. The answer has to be want of memory
-/// exactly then, and else the text.
+/// Whether growth `number` of the reading and the writing of three edits was refused. The answer has to be want of
+/// memory exactly then, and else the text.
 fn is_refused(heap: &Refusing<Global>, number: u64) -> Result<bool, Fail> {
     let text = b"split 1 0 0 1 1 2 2 3 3 4 4\nmerge 3 4\nstraighten 30 0\n".as_slice();
     heap.refuse(number);

@@ -52,7 +52,8 @@ LiesBetween u v s t = (u ≤ℤ s) × (t ≤ℤ v)
 
 -- the second box reaches as far as the first on each side
 abbrev pub IsWider : Bounds → Bounds → Type 0
-IsWider box wider = LiesBetween wider.low.x wider.high.x box.low.x box.high.x × LiesBetween wider.low.y wider.high.y box.low.y box.high.y
+IsWider box wider = LiesBetween wider.low.x wider.high.x box.low.x box.high.x
+    × LiesBetween wider.low.y wider.high.y box.low.y box.high.y
 
 -- the least box of the corners: it holds them all, and every box that does reaches as far
 pub record IsLeastBox (box : Bounds) (corners : List Corner) : Type 0 where

@@ -11,7 +11,8 @@ is_same a b = int_eq a.x b.x && int_eq a.y b.y
 
 -- so being one place is an equivalence, as `==` has to be
 pub is_same_equivalence : IsEquivalence is_same
-is_same_equivalence = and_equiv (on_equiv (λ (c : Corner). c.x) int_eq_equiv) (on_equiv (λ (c : Corner). c.y) int_eq_equiv)
+is_same_equivalence =
+    and_equiv (on_equiv (λ (c : Corner). c.x) int_eq_equiv) (on_equiv (λ (c : Corner). c.y) int_eq_equiv)
 
 -- a comes before b: by x, then by y
 abbrev pub is_before : Corner → Corner → Bool

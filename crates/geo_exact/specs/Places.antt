@@ -1,4 +1,5 @@
--- Corners of a ring by their numbers, from 0 (OGC 06-103r4, 6.1.7, LinearRing: a closed line; its last corner is followed by its first).
+-- Corners of a ring by their numbers, from 0 (OGC 06-103r4, 6.1.7, LinearRing: a closed line; its last corner is
+-- followed by its first).
 use Rattle.std.specs.Prelude.{ℕ, ◌+◌, ◌-◌, ◌==◌, if◌then◌else◌, pos, List, slice_index_or}
 use Rattle.geo_exact.specs.declared.corner.Corner.{Corner}
 

@@ -18,7 +18,8 @@ ghost use Rattle.geo_exact.specs.declared.limits.TheConstants.{LIMIT, LIST_CORNE
 /// A ring has no first corner: begun at another corner it has the same edges, begun there too, and so the same winding
 /// number round every point, the same signed area and the same boundary.
 pub fn a_ring_has_no_first_corner()
-    ensures edges { (k : ℕ) (ring : List Corner) → k ≤ length ring → edges_of (begun_at k ring) ≡ begun_at k (edges_of ring) }
+    ensures edges { (k : ℕ) (ring : List Corner) → k ≤ length ring
+        → edges_of (begun_at k ring) ≡ begun_at k (edges_of ring) }
     ensures winding_number { (k : ℕ) (p : Point) (ring : List Corner) → k ≤ length ring
         → winding p (begun_at k ring) ≡ winding p ring }
     ensures signed_area { (k : ℕ) (ring : List Corner) → k ≤ length ring → area2 (begun_at k ring) ≡ area2 ring }

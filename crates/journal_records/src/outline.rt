@@ -8,8 +8,8 @@ use geo_exact::Corner;
 use std::alloc::{AllocError, Allocator};
 use text_pieces::{push_corner, push_number};
 
-/// Adds the line of an outline of a layer: a number, and the corners of its ring, `NUMBER X Y X Y ..`. The city's number
-/// is 0; a parcel's is its id.
+/// Adds the line of an outline of a layer: a number, and the corners of its ring, `NUMBER X Y X Y ..`. The city's
+/// number is 0; a parcel's is its id.
 ///
 /// # Errors
 ///

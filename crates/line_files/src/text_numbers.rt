@@ -53,7 +53,8 @@ fn read_coordinate(grid: Grid, text: &[u8]) -> Option<i64>
 
 /// The distance from 0 that digits are, in millimetres; `None` where they are none, or beyond the limit.
 fn read_distance(grid: Grid, digits: &[u8]) -> Option<i64>
-    ensures found { IfSome result (λ z. (n : ℕ) × (z ≡ pos (step grid * n)) × IsNumber digits.now n × IsWithin limit z) }
+    ensures found { IfSome result (λ z. (n : ℕ) × (z ≡ pos (step grid * n)) × IsNumber digits.now n
+        × IsWithin limit z) }
     ensures none { IfNone result ((n : ℕ) → IsWithin limit (pos (step grid * n)) → ¬ IsNumber digits.now n) }
 {
     let number = read_number(digits)?;

@@ -1,10 +1,12 @@
 //! Claims: each place of the lists is claimed by one hand at most.
 
-ghost use Rattle.std.specs.Prelude.{◌≡◌, ℕ, ◌+◌, ◌^◌, ◌<◌, ◌≤◌, [], length, slice_index, sum_by, IfOk, IfSome, IfNone, IsPermutation};
+ghost use Rattle.std.specs.Prelude.{◌≡◌, ℕ, ◌+◌, ◌^◌, ◌<◌, ◌≤◌, [], length, slice_index, sum_by, IfOk};
+ghost use Rattle.std.specs.Prelude.{IfSome, IfNone, IsPermutation};
 ghost use Rattle.std.specs.List.{AllByRecursion};
 ghost use Rattle.overlay_claims.specs.own.Spread.{word_of};
 ghost use Rattle.overlay_claims.specs.Claimants.{fresh_hands};
-ghost use Rattle.overlay_claims.specs.Claims.{view_of, with_fewer_parts, with_place, with_note, joined, times, all_places};
+ghost use Rattle.overlay_claims.specs.Claims.{view_of, with_fewer_parts, with_place, with_note};
+ghost use Rattle.overlay_claims.specs.Claims.{joined, times, all_places};
 
 use crate::claimant::{Claimant, deal};
 use crate::plays::{Claim, Confirm, PartOff, Rule, Together};
@@ -96,7 +98,8 @@ impl<A: Allocator + Copy> Claims<A> {
         requires own { mark.old.table_id ≡ self.now.name }
         requires parts { 1 < mark.old.me.0.parts }
         requires nothing { mark.old.me.0.notes ≡ [] }
-        ensures kept { (mark.new.table_id ≡ mark.old.table_id) × (mark.new.me ≡ (with_fewer_parts mark.old.me.0, mark.old.me.1)) }
+        ensures kept { (mark.new.table_id ≡ mark.old.table_id)
+            × (mark.new.me ≡ (with_fewer_parts mark.old.me.0, mark.old.me.1)) }
         ensures given { (result.table_id ≡ mark.old.table_id) × (result.me ≡ (view_of mark.old.me.0.lengths 1, [])) }
     {
         self.table.shared.split_seat::<PartOff>(mark)
@@ -131,7 +134,8 @@ impl<A: Allocator + Copy> Claims<A> {
         requires own { mark.old.table_id ≡ self.now.name }
         requires others { (other.table_id ≡ self.now.name) × (other.me.1 ≡ []) }
         requires parts { 0 < mark.old.me.0.parts }
-        ensures { (mark.new.table_id ≡ mark.old.table_id) × (mark.new.me ≡ (joined mark.old.me.0 other.me.0, mark.old.me.1)) }
+        ensures { (mark.new.table_id ≡ mark.old.table_id)
+            × (mark.new.me ≡ (joined mark.old.me.0 other.me.0, mark.old.me.1)) }
     {
         self.table.shared.join_seat::<Together>(mark, other);
     }

@@ -6,7 +6,8 @@ ghost use Rattle.std.specs.List.{Contains};
 ghost use Rattle.std.specs.List.Sorted.{IsStrictlyIncreasing};
 ghost use Rattle.cell_index.specs.Cells.{HaveOwnKeys};
 ghost use Rattle.parcel_table.specs.declared.parcels.Parcel.{Parcel as ParcelValue};
-ghost use Rattle.parcel_table.specs.Table.{HasId, IsFateOf, IsKeyOf, entries_of, ids_of, retired_by, shapes_of, with_shape, without_id};
+ghost use Rattle.parcel_table.specs.Table.{HasId, IsFateOf, IsKeyOf, entries_of, ids_of, retired_by};
+ghost use Rattle.parcel_table.specs.Table.{shapes_of, with_shape, without_id};
 
 use crate::fate::Fate;
 use crate::iter::{Ids, Shapes};
@@ -137,7 +138,8 @@ impl<A: Allocator> Parcels<A> {
     pub fn push_reserved(&mut self, shape: Shape<A>) -> usize
         requires { 1 ≤ self.old.room }
         ensures key { result ≡ self.old.vacant }
-        ensures parcels { self.new.parcels ≡ self.old.parcels ++ (result, record { id = self.old.next; shape = shape }) ∷ [] }
+        ensures parcels { self.new.parcels ≡ self.old.parcels
+            ++ (result, record { id = self.old.next; shape = shape }) ∷ [] }
         ensures next { self.new.next ≡ self.old.next + 1 }
         ensures fates { self.new.fates ≡ self.old.fates ++ None ∷ [] }
         ensures room { self.new.room + 1 ≡ self.old.room }
@@ -178,7 +180,8 @@ impl<A: Allocator> Parcels<A> {
         requires here { HasId self.old.parcels id }
         requires room { 1 ≤ self.old.room }
         ensures parcels { (key : ℕ) → IsKeyOf self.old.parcels id key
-            → self.new.parcels ≡ without_id id self.old.parcels ++ (key, record { id = self.old.next; shape = shape }) ∷ [] }
+            → self.new.parcels ≡ without_id id self.old.parcels
+            ++ (key, record { id = self.old.next; shape = shape }) ∷ [] }
         ensures next { self.new.next ≡ self.old.next + 1 }
         ensures fates { self.new.fates ≡ slice_set self.old.fates id (Some by) ++ None ∷ [] }
         ensures vacant { self.new.vacant ≡ self.old.vacant }

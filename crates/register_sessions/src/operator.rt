@@ -102,7 +102,8 @@ fn answer_check<'h, H: Allocator, J: Naming<H>, R: Wait, K: Clocked>(
     }
 }
 
-/// Writes which parcels and zones overlap, where there are zones, and with areas how much of each parcel lies in each zone.
+/// Writes which parcels and zones overlap, where there are zones, and with areas how
+/// much of each parcel lies in each zone.
 fn answer_overlay<'h, H: Allocator, J: Naming<H>, R: Wait, K: Clocked, W: ByteOut>(
     room: &Room<'_, 'h, H, J, R, DiskFile, K>,
     ground: &Ground<'h, H, J>,
@@ -120,7 +121,8 @@ fn answer_overlay<'h, H: Allocator, J: Naming<H>, R: Wait, K: Clocked, W: ByteOu
     }
 }
 
-/// Replaces the layer at BASE by the parcels, unless that is one of the session's own files, or something is in the way.
+/// Replaces the layer at BASE by the parcels, unless that is one of the session's
+/// own files, or something is in the way.
 fn answer_export<'h, P: Exports + Machine, H: Allocator, J: Naming<H>, R: Wait, K: Clocked>(
     room: &Room<'_, 'h, H, J, R, DiskFile, K>,
     disk: &P,

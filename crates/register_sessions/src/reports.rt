@@ -152,8 +152,8 @@ fn fault_of_round(fault: RoundFault) -> SessionFault
     }
 }
 
-/// What is told of a round that could not be closed though its hands were handed in: a hand that holds a parcel stopped for
-/// want of memory.
+/// What is told of a round that could not be closed though its hands were handed in: a hand that holds a parcel stopped
+/// for want of memory.
 fn fault_of_close(fault: CloseFault) -> SessionFault
     requires { IsFaultOfAllHands fault }
     ensures { result ≡ NoMemory }

@@ -225,8 +225,8 @@ fn keep_card<'h, H: Allocator, J: Naming<H>>(
     }
 }
 
-/// Closes an office, and adds what the operator is told of it: of entries only those that the disk has, where so many are
-/// kept there.
+/// Closes an office, and adds what the operator is told of it: of entries only those that the disk has, where so many
+/// are kept there.
 fn push_end_of<'h, H: Allocator, J: Naming<H>, R: Wait>(
     rt: &R,
     office: Office<'h, H, J, &R>,

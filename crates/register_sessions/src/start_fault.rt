@@ -14,8 +14,8 @@ pub enum StartFault<'a, A: Allocator> {
     /// As the other commands end: what cannot be loaded, K1 for more than 8 desks, K3, O7, or a
     /// growth that was refused.
     Run(ToolFault<'a>),
-    /// S4: at the path that is this desk's name and this ending is no named pipe, or one that is another of the pipes or
-    /// that every user can read or write; or the desk's lock is held by another session, or can't be made.
+    /// S4: at the path that is this desk's name and this ending is no named pipe, or one that is another of the pipes
+    /// or that every user can read or write; or the desk's lock is held by another session, or can't be made.
     NoPipe(&'a str, &'static str),
     /// S1: the journal at this path can't be opened, made or read, or is no regular file.
     JournalUnreadable(&'a str),
@@ -27,8 +27,8 @@ pub enum StartFault<'a, A: Allocator> {
     OtherLayer(&'a str),
     /// Of the journal at this path the line of this number, from 1, or the one behind it, is not as it was written.
     JournalChanged(&'a str, u64),
-    /// Of the journal, or of the clerk's file, at this path the edit in the line of this number, from 1, is refused, for what
-    /// the text says.
+    /// Of the journal, or of the clerk's file, at this path the edit in the line of this number, from 1, is refused,
+    /// for what the text says.
     EditRefused(&'a str, u64, Vec<u8, A>),
     /// The journal at this path was to begin with a clerk's file, and is not empty.
     JournalBegun(&'a str),

@@ -3,7 +3,8 @@
 ghost use Rattle.std.specs.Prelude.{◌≡◌, ℕ, ◌+◌, ◌<◌, ◌≤◌, ◌*◌, false, length, IsTrue};
 ghost use Rattle.geo_exact.specs.declared.limits.TheConstants.{RING_CORNERS};
 ghost use Rattle.ring_core.specs.Simple.{MeetOnlyAsNeighbours};
-ghost use Rattle.ring_core.specs.own.ByPlace.{AreBoxed, AreClear, AreEdgesOf, AreInRing, HoldsEdge, IsBlockClear, edge_at};
+ghost use Rattle.ring_core.specs.own.ByPlace.{AreBoxed, AreClear, AreEdgesOf, AreInRing};
+ghost use Rattle.ring_core.specs.own.ByPlace.{HoldsEdge, IsBlockClear, edge_at};
 ghost use Rattle.ring_core.specs.own.Blocks.{IsInSpan};
 
 use crate::blocks::Span;

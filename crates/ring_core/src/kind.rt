@@ -130,7 +130,8 @@ pub fn first_ear<A: Allocator>(
     requires sorted { AreSortedOrNone corners.now numbers.now sorted.now.by_x.items sorted.now.by_y.items }
     ensures kinds { AreKinds corners.now numbers.now kinds.new }
     ensures marked { AreMarked kinds.new numbers.now marks.new }
-    ensures others { (j : ℕ) → slice_index_or kinds.new j Kind.Flat ≡ Kind.Flat → slice_index_or kinds.old j Kind.Flat ≡ Kind.Flat }
+    ensures others { (j : ℕ) → slice_index_or kinds.new j Kind.Flat ≡ Kind.Flat
+        → slice_index_or kinds.old j Kind.Flat ≡ Kind.Flat }
     ensures seen { (j : ℕ) → j < result → j < length kinds.new → slice_index_or kinds.new j Kind.Flat ≢ Kind.Candidate }
     ensures within { result ≤ length corners.now }
     ensures ear { result < length corners.now → IsFirst (IsEar corners.now) (length corners.now) result }

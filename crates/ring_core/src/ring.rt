@@ -122,7 +122,8 @@ fn is_clear(ring: &[Corner], start: usize, end: usize) -> bool
     requires long { 3 ≤ length ring.now }
     requires some { start < end }
     requires in_ring { end ≤ length ring.now }
-    ensures { IsTrue result → (i j : ℕ) → start ≤ i → i < end → i < j → j < length ring.now → ¬ MeetOtherwise ring.now i j }
+    ensures { IsTrue result → (i j : ℕ) → start ≤ i → i < end → i < j → j < length ring.now
+        → ¬ MeetOtherwise ring.now i j }
 {
     let held = box_of_edges(ring, start, end);
     for j in start..ring.len() {

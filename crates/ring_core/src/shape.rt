@@ -74,7 +74,8 @@ impl<A: Allocator + Copy> Shape<A> {
     pub fn clip(alloc: A, ring: Ring<A>) -> Result<Shape<A>, AllocError>
         ensures ring { IfOk result (λ shape. shape.ring.corners ≡ ring.corners) }
         ensures clipped { IfOk result (λ shape. IsClippedTo ring.corners shape.triangles) }
-        ensures windings { IfOk result (λ shape. (p : Point) → winding p ring.corners ≡ winding_of_triangles p shape.triangles) }
+        ensures windings { IfOk result (λ shape. (p : Point)
+            → winding p ring.corners ≡ winding_of_triangles p shape.triangles) }
         ensures each_once { IfOk result (λ shape. (p : Point) → All (IsRoundAtMostOnce p) shape.triangles) }
         ensures areas { IfOk result (λ shape. area2 ring.corners ≡ area2_of_triangles shape.triangles) }
         ensures bounds { IfOk result (λ shape. IsLeastBox shape.bounds ring.corners) }

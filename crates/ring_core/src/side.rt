@@ -41,7 +41,8 @@ fn crossing(from: Corner, to: Corner, place: Corner) -> i64
 
 /// Whether an edge lies wholly below a place or wholly above it, as most edges of a ring do.
 fn is_passed(from: Corner, to: Corner, place: Corner) -> bool
-    ensures { IsTrue result → (¬ IsOnEdge (corner_point place) from to) × (crossing_of (corner_point place) from to ≡ pos 0) }
+    ensures { IsTrue result → (¬ IsOnEdge (corner_point place) from to)
+        × (crossing_of (corner_point place) from to ≡ pos 0) }
 {
     if from.y < place.y {
         to.y < place.y

@@ -1,6 +1,7 @@
 //! Triangles of positive area, and lists of them.
 
-ghost use Rattle.std.specs.Prelude.{◌≡◌, ◌↔◌, pos, ◌<ℤ◌, IsSome, IfSome, IfOk, OnOk, OnErr, ◌++◌, ◌∷◌, [], length, IsTrue};
+ghost use Rattle.std.specs.Prelude.{◌≡◌, ◌↔◌, pos, ◌<ℤ◌, IsSome, IfSome, IfOk, OnOk, OnErr, ◌++◌, ◌∷◌};
+ghost use Rattle.std.specs.Prelude.{[], length, IsTrue};
 ghost use Rattle.geo_exact.specs.Turn.{turn as turn_of};
 
 use geo_exact::{Corner, turn};

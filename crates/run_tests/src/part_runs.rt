@@ -51,8 +51,8 @@ fn checked<R: Threads + Wait + Sync>(
     }
 }
 
-/// The ring of a city; the rings of its districts, or no corner for a null shape; the number that is asked for; and what
-/// is printed.
+/// The ring of a city; the rings of its districts, or no corner for a null shape; the number that is asked for; and
+/// what is printed.
 type Row = (
     &'static [Place],
     &'static [&'static [Place]],

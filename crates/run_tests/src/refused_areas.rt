@@ -1,5 +1,5 @@
-//! Each growth of an overlay with areas refused in turn: its answer is that memory ran out, nothing was printed, and the
-//! same run with memory prints what it has to print.
+//! Each growth of an overlay with areas refused in turn: its answer is that memory ran out, nothing was printed, and
+//! the same run with memory prints what it has to print.
 
 use crate::edit_runs::run_files;
 use area_runs::overlay_areas;
@@ -27,8 +27,8 @@ const STRIPS: [&[Place]; 3] = [
 ];
 
 /// What is printed for the two rectangles and the strips.
-const PRINTED: &str =
-    "entries 0\npair 1 1\npair 1 2\npair 1 3\npair 2 3\nsplit 1\nwithin 2 3\narea 1 1 4000\narea 1 2 6000\narea 1 3 2000\narea 2 3 8000\n";
+const PRINTED: &str = "entries 0\npair 1 1\npair 1 2\npair 1 3\npair 2 3\nsplit 1\nwithin 2 3\n\
+     area 1 1 4000\narea 1 2 6000\narea 1 3 2000\narea 2 3 8000\n";
 
 /// The files of the runs.
 struct Inputs<'h> {

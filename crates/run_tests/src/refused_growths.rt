@@ -222,8 +222,8 @@ fn is_whole(row: &Row, answer: &Result<(), ToolFault<'static>>, printed: &[u8]) 
     matches!(answer, Ok(()) | Err(ToolFault::NoTiling(_, _))) && printed == row.want.as_bytes()
 }
 
-/// Whether a run may answer this where a growth was refused: that memory ran out, with nothing printed. With a clerk's file
-/// the office may lack its window, the edit alone may be refused, and some growths could be done without.
+/// Whether a run may answer this where a growth was refused: that memory ran out, with nothing printed. With a clerk's
+/// file the office may lack its window, the edit alone may be refused, and some growths could be done without.
 fn is_wanting(row: &Row, answer: &Result<(), ToolFault<'static>>, printed: &[u8]) -> bool {
     match row.unedited {
         None => *answer == Err(ToolFault::NoMemory) && printed.is_empty(),

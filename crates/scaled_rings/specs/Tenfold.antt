@@ -1,4 +1,5 @@
--- Corners and rings, each coordinate times ten (this product's own: a register of a coarser grid, moved to the finer one).
+-- Corners and rings, each coordinate times ten (this product's own: a register of a
+-- coarser grid, moved to the finer one).
 use Rattle.std.specs.Prelude.{◌≡◌, ℕ, pos, ◌*ℤ◌, List, IsTrue, Option, None, Some}
 use Rattle.std.specs.List.{AllByRecursion, AllZip, Contains}
 use Rattle.std.specs.Int.RustNames.{unsigned_abs}

@@ -12,11 +12,13 @@ use Rattle.fabric_core.specs.Locate.{IsLocatedAt}
 use Rattle.fabric_core.specs.declared.locate.At.{At}
 use Rattle.fabric_core.specs.declared.refusal.Refusal.{Refusal}
 use Rattle.fabric_core.specs.declared.refusal.Refusal.TheVariants.{NoMemory as RefusedForMemory}
-use Rattle.desk_lock.specs.Offices.{OfficeId, CardState, WindowState, EndsWith, IsRefusedWhenMet, journal_met, with_made, with_met}
+use Rattle.desk_lock.specs.Offices.{OfficeId, CardState, WindowState, EndsWith, IsRefusedWhenMet, journal_met}
+use Rattle.desk_lock.specs.Offices.{with_made, with_met}
 use Rattle.desk_lock.specs.declared.window.LocateFault.{LocateFault}
-use Rattle.desk_lock.specs.declared.window.LocateFault.TheVariants.{NoVersion as NoVersionFound, NoMemory as NoMemoryFound}
-use Rattle.session_lines.specs.Answers.{accepted_line, refused_line, located_line, parcel_line, no_parcel_line, entries_line}
-use Rattle.session_lines.specs.Answers.{error_line, fault_text}
+use Rattle.desk_lock.specs.declared.window.LocateFault.TheVariants.{NoVersion as NoVersionFound}
+use Rattle.desk_lock.specs.declared.window.LocateFault.TheVariants.{NoMemory as NoMemoryFound}
+use Rattle.session_lines.specs.Answers.{accepted_line, refused_line, located_line, parcel_line, no_parcel_line}
+use Rattle.session_lines.specs.Answers.{entries_line, error_line, fault_text}
 use Rattle.session_lines.specs.declared.faults.SessionFault.{SessionFault}
 use Rattle.session_lines.specs.declared.faults.SessionFault.TheVariants.{NoVersion, NoMemory, JournalFailed}
 
@@ -67,7 +69,8 @@ module _ {A : Type 0} where
       ⊎ IsErrorLine NoVersion line
 
   -- an edit was accepted: its entry ends the journal that the card has met then
-  pub record IsAcceptedAnswer (office : OfficeId A) (before after : CardState A) (edit : Edit A) (line : List ℕ) : Type 0 where
+  pub record IsAcceptedAnswer (office : OfficeId A) (before after : CardState A) (edit : Edit A)
+      (line : List ℕ) : Type 0 where
     pub entry : JournalEntry A
     pub has_edit : entry.edit ≡ edit
     pub has_clerk : entry.clerk ≡ before.clerk
@@ -76,7 +79,8 @@ module _ {A : Type 0} where
     pub told : line ≡ accepted_line entry
 
   -- it was refused, for a reason that is due after exactly the journal that the card has met then
-  pub record IsRefusedAnswer (office : OfficeId A) (before after : CardState A) (edit : Edit A) (line : List ℕ) : Type 0 where
+  pub record IsRefusedAnswer (office : OfficeId A) (before after : CardState A) (edit : Edit A)
+      (line : List ℕ) : Type 0 where
     pub refusal : Refusal
     pub is_due : IsRefusedWhenMet office after edit refusal ⊎ (refusal ≡ RefusedForMemory)
     pub unchanged : after ≡ with_met before after.met

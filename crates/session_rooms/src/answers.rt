@@ -3,8 +3,8 @@
 ghost use Rattle.std.specs.Prelude.{◌≡◌, ◌≤◌, length, OnOk, IfOk};
 ghost use Rattle.geo_exact.specs.declared.limits.TheConstants.{LIST_CORNERS};
 ghost use Rattle.session_lines.specs.declared.faults.SessionFault.TheVariants.{NoCard};
-ghost use Rattle.session_rooms.specs.DeskAnswers.{GoesOnBy, HasGoneOn, IsPlaceLine, IsRingLine, IsCountLine, IsEditLine};
-ghost use Rattle.session_rooms.specs.DeskAnswers.{window_fault};
+ghost use Rattle.session_rooms.specs.DeskAnswers.{GoesOnBy, HasGoneOn, IsPlaceLine, IsRingLine};
+ghost use Rattle.session_rooms.specs.DeskAnswers.{IsCountLine, IsEditLine, window_fault};
 
 use crate::journal::Clocked;
 use crate::lines::Came;
@@ -167,7 +167,8 @@ fn answer_clerk<'h, H: Allocator, J: Naming<H>, R: Wait, F: JournalFile, K: Cloc
     edit: &Edit<&'h H>,
     text: &mut Vec<u8, &'h H>,
 ) -> Result<(), AllocError>
-    ensures answered { OnOk result (GoesOnBy (IsEditLine J.office card.old card.new edit.now) text.old.items text.new.items) }
+    ensures answered { OnOk result (GoesOnBy (IsEditLine J.office card.old card.new edit.now)
+        text.old.items text.new.items) }
 {
     match room.submit(card, who, edit) {
         Ok(Made { entry, notice, .. }) => {

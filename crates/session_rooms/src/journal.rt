@@ -65,9 +65,9 @@ impl<F: JournalFile, A: Allocator, K: Clocked> Journal<F, A, K> {
         self.records.store(records, Ordering::SeqCst);
     }
 
-    /// Waits until the disk has the record of this number, and all before it; `None` where it has not. One synchronisation
-    /// serves all records that were written before it began. All that wait are woken at its end, and one of those whose
-    /// record came later begins the next.
+    /// Waits until the disk has the record of this number, and all before it; `None` where it has not. One
+    /// synchronisation serves all records that were written before it began. All that wait are woken at its end, and
+    /// one of those whose record came later begins the next.
     pub fn sync_to<R: Wait>(&self, rt: &R, number: u64) -> Option<OnDisk>
         ensures { IfSome result (λ on_disk. number ≤ on_disk.records) }
     {
@@ -102,8 +102,8 @@ impl<F: JournalFile, A: Allocator, K: Clocked> Journal<F, A, K> {
         self.synced.lock(rt).on_disk().records()
     }
 
-    /// Synchronises all records that were written, and wakes those that wait for it; what the disk has then, `None` where
-    /// it failed.
+    /// Synchronises all records that were written, and wakes those that wait for it; what the disk has then, `None`
+    /// where it failed.
     fn synchronise<R: Wait>(&self, rt: &R) -> Option<OnDisk> {
         let brought = sync(&self.synchroniser, self.records.load(Ordering::SeqCst));
         if brought.is_err() {

@@ -81,8 +81,8 @@ impl<'r, 'h, H: Allocator, J: Naming<H>, R: Wait, F: JournalFile, K: Clocked> Ro
         }
     }
 
-    /// What is left once all desks have ended: the office, and how many records the disk has of its journal, where there is
-    /// one.
+    /// What is left once all desks have ended: the office, and how many records the disk
+    /// has of its journal, where there is one.
     pub fn end(self) -> (Office<'h, H, J, &'r R>, Option<u64>) {
         let Room {
             office,
@@ -97,8 +97,8 @@ impl<'r, 'h, H: Allocator, J: Naming<H>, R: Wait, F: JournalFile, K: Clocked> Ro
         (office, kept)
     }
 
-    /// Makes an edit at the office, with the client's own word for who and why, and shows it. Where there is a journal, the
-    /// disk has the edit's record before it is shown; records stand in the order of their entries' numbers.
+    /// Makes an edit at the office, with the client's own word for who and why, and shows it. Where there is a journal,
+    /// the disk has the edit's record before it is shown; records stand in the order of their entries' numbers.
     ///
     /// # Errors
     ///
@@ -121,7 +121,8 @@ impl<'r, 'h, H: Allocator, J: Naming<H>, R: Wait, F: JournalFile, K: Clocked> Ro
         // Where there is a journal, the disk has the entry's record.
         ensures on_disk { IfOk result (λ made. IsOnDisk self.now.journal made.on_disk made.entry.number) }
         // A refused edit changes nothing, but that the card has met the journal, after which it is refused for this.
-        ensures unchanged { IfErr result (λ fault. UnlessJournalFails fault (card.new ≡ with_met card.old card.new.met)) }
+        ensures unchanged { IfErr result (λ fault. UnlessJournalFails fault
+            (card.new ≡ with_met card.old card.new.met)) }
         ensures refusal { IfErr result (λ fault. IfRefused fault (λ refusal.
             IsRefusedWhenMet J.office card.new edit.now refusal ⊎ (refusal ≡ Refusal.NoMemory))) }
     {
@@ -159,7 +160,8 @@ impl<'r, 'h, H: Allocator, J: Naming<H>, R: Wait, F: JournalFile, K: Clocked> Ro
         ensures made { IfOk result (λ entry. card.new ≡ with_made card.old entry card.new.met) }
         ensures ends { IfOk result (λ entry. EndsWith entry entry.number (journal_met J.office card.new)) }
         ensures after { IfOk result (λ entry. IsSometime J.office card.new (journal_met J.office card.new)) }
-        ensures unchanged { IfErr result (λ fault. UnlessJournalFails fault (card.new ≡ with_met card.old card.new.met)) }
+        ensures unchanged { IfErr result (λ fault. UnlessJournalFails fault
+            (card.new ≡ with_met card.old card.new.met)) }
         ensures refusal { IfErr result (λ fault. IfRefused fault (λ refusal.
             IsRefusedWhenMet J.office card.new edit.now refusal ⊎ (refusal ≡ Refusal.NoMemory))) }
         ensures no_journal { IfErr result (λ fault. IfJournalFails fault ⊥) }
@@ -184,7 +186,8 @@ impl<'r, 'h, H: Allocator, J: Naming<H>, R: Wait, F: JournalFile, K: Clocked> Ro
         ensures made { IfOk result (λ made. card.new ≡ with_made card.old made.0 card.new.met) }
         ensures ends { IfOk result (λ made. EndsWith made.0 made.0.number (journal_met J.office card.new)) }
         ensures after { IfOk result (λ made. IsSometime J.office card.new (journal_met J.office card.new)) }
-        ensures unchanged { IfErr result (λ fault. UnlessJournalFails fault (card.new ≡ with_met card.old card.new.met)) }
+        ensures unchanged { IfErr result (λ fault. UnlessJournalFails fault
+            (card.new ≡ with_met card.old card.new.met)) }
         ensures refusal { IfErr result (λ fault. IfRefused fault (λ refusal.
             IsRefusedWhenMet J.office card.new edit.now refusal ⊎ (refusal ≡ Refusal.NoMemory))) }
         ensures on_disk { IfOk result (λ made. made.0.number ≤ made.1.records) }
@@ -223,7 +226,8 @@ impl<'r, 'h, H: Allocator, J: Naming<H>, R: Wait, F: JournalFile, K: Clocked> Ro
         ensures made { IfOk result (λ entry. card.new ≡ with_made card.old entry card.new.met) }
         ensures ends { IfOk result (λ entry. EndsWith entry entry.number (journal_met J.office card.new)) }
         ensures after { IfOk result (λ entry. IsSometime J.office card.new (journal_met J.office card.new)) }
-        ensures unchanged { IfErr result (λ fault. UnlessJournalFails fault (card.new ≡ with_met card.old card.new.met)) }
+        ensures unchanged { IfErr result (λ fault. UnlessJournalFails fault
+            (card.new ≡ with_met card.old card.new.met)) }
         ensures refusal { IfErr result (λ fault. IfRefused fault (λ refusal.
             IsRefusedWhenMet J.office card.new edit.now refusal ⊎ (refusal ≡ Refusal.NoMemory))) }
         // The journal has one record more, which is the entry's; a refused edit has none.
@@ -272,8 +276,8 @@ impl<'r, 'h, H: Allocator, J: Naming<H>, R: Wait, F: JournalFile, K: Clocked> Ro
         }
     }
 
-    /// The parcels as they are now, with the entries that led there. Where there is a journal, the disk has all of them. The
-    /// office is held no longer than they are copied.
+    /// The parcels as they are now, with the entries that led there. Where there is a journal, the disk has all of
+    /// them. The office is held no longer than they are copied.
     ///
     /// # Errors
     ///

@@ -64,7 +64,8 @@ pub fn read_all<A: Allocator + Copy, R: ByteIn>(
     ensures bound { IfOk result (λ bytes. length bytes.items ≤ FILE_BYTES) }
     ensures too_long { IsErrOf result ReadFault.TooLong →
         IfSome (R.remaining reader.old) (λ held. FILE_BYTES < length held) }
-    ensures device { IsErrOf result ReadFault.Device → R.failure_count reader.new ≡ raised (R.failure_count reader.old) }
+    ensures device { IsErrOf result ReadFault.Device → R.failure_count reader.new
+        ≡ raised (R.failure_count reader.old) }
     ensures no_failure { (¬ IsErrOf result ReadFault.Device) → R.failure_count reader.new ≡ R.failure_count reader.old }
 {
     let mut bytes = Vec::new(alloc);

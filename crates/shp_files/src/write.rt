@@ -10,7 +10,8 @@ ghost use Rattle.geo_exact.specs.declared.limits.TheConstants.{LAYER_CORNERS, LA
 ghost use Rattle.shp_files.specs.LayerFile.{joined, rings_of, corner_count, IsLayerFile};
 ghost use Rattle.shp_files.specs.NormalForm.{IsNormal};
 ghost use Rattle.shp_files.specs.Written as written;
-ghost use Rattle.shp_files.specs.Written.{as_written, corner_lists, all_corners, numbered_from, written_main, written_index};
+ghost use Rattle.shp_files.specs.Written.{as_written, corner_lists, all_corners};
+ghost use Rattle.shp_files.specs.Written.{numbered_from, written_main, written_index};
 ghost use Rattle.shp_files.specs.own.Writing.{MayBeBounds};
 
 use crate::bounds::{put_box, with_corners};
@@ -262,5 +263,6 @@ pub fn a_written_file_is_a_layer_file()
 #[tactic(auto, using(crate::proofs::written::WrittenLayer::turned_back))]
 pub fn a_written_ring_is_turned_back()
     ensures { (ring : List CornerValue) → pos 0 ≤ℤ area2_of ring
-        → (if int_lt (area2_of (as_written ring)) (pos 0) then turned_round (as_written ring) else as_written ring) ≡ ring }
+        → (if int_lt (area2_of (as_written ring)) (pos 0) then turned_round (as_written ring) else as_written ring)
+        ≡ ring }
 {}

@@ -12,7 +12,8 @@ limit_of (suc (suc level)) = 10 * limit_of (suc level)
 
 -- beside each limit is the least of the corners beyond it
 abbrev pub AreLeastBeyond : List Corner → List (Option Corner) → Type 0
-AreLeastBeyond corners least = (level : ℕ) → level < LIMITS → IsLeastBeyondOf (limit_of level) corners (get_or least level None)
+AreLeastBeyond corners least =
+    (level : ℕ) → level < LIMITS → IsLeastBeyondOf (limit_of level) corners (get_or least level None)
 
 -- the other corner is this one ten times, where there is one
 abbrev pub IsTenTimesOf : Option Corner → Option Corner → Type 0

@@ -1,4 +1,5 @@
--- The first fault of the layers that a run loads, as the code's own functions hand it on: no public contract speaks of it.
+-- The first fault of the layers that a run loads, as the code's own functions hand
+-- it on: no public contract speaks of it.
 use Rattle.std.specs.Prelude.{Option, None, Some}
 use Rattle.city_layers.specs.declared.fault.ToolFault.{ToolFault}
 use Rattle.city_layers.specs.TilingFiles.{Files, IsTilesFault}

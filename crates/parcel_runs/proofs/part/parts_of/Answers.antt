@@ -36,5 +36,6 @@ returns g c =
     subst (AllZip (λ shape part. IsWrittenPart (numbered shape.0 shape.1.ring.corners) part) c.args.shapes)
     (append-nil c.loop-district.parts.items)
     (c.loop-district.invariant.1 []
-    (subst (λ rest. AllZip (λ shape part. IsWrittenPart (numbered shape.0 shape.1.ring.corners) part) rest []) (sym c.in-None.ensures.steps.0)
+    (subst (λ rest. AllZip (λ shape part. IsWrittenPart (numbered shape.0 shape.1.ring.corners) part) rest [])
+        (sym c.in-None.ensures.steps.0)
     tt))
