@@ -63,8 +63,8 @@ impl<'a, H: Allocator, J: Naming<H>, R: Wait + Drop> Model for Desk<'a, H, J, R>
 }
 
 impl<'a, H: Allocator, J: Naming<H>, R: Wait + Drop> Desk<'a, H, J, R> {
-    /// The desk's fabric tiles its city, its index and journal agree with its rows, and it comes of
-    /// the fabric that was handed to the office, with entries of the office's clerks alone behind
+    /// Only teaches the prover: the desk's fabric tiles its city, its index and journal agree with its rows, and it
+    /// comes of the fabric that was handed to the office, with entries of the office's clerks alone behind
     /// those of that fabric. What is published begins its journal, and has the entries of that fabric.
     pub fn use_invariant(&self)
         ensures tiling { IsTiling self.now.book.now.rows self.now.book.city }
@@ -260,7 +260,7 @@ impl<'a, H: Allocator, J: Naming<H>, R: Wait + Drop> Desk<'a, H, J, R> {
         ensures agree { All (Agrees self.old.entries) cards.old }
         ensures met { All (HasMet self.old.entries) cards.old }
     {
-        compare_all(&mut self.keeper, cards);
+        recall_all(&mut self.keeper, cards);
     }
 
     /// A sheet of the fabric.
@@ -293,7 +293,7 @@ impl<'a, H: Allocator, J: Naming<H>, R: Wait + Drop> Desk<'a, H, J, R> {
 }
 
 /// Compares cards with what the keeper knows.
-fn compare_all<'a, H: Allocator, J: Naming<H>>(
+fn recall_all<'a, H: Allocator, J: Naming<H>>(
     keeper: &mut Keeper<Entry<&'a H>, &'a H>,
     cards: &mut [Card<'a, H, J>],
 )
@@ -302,12 +302,12 @@ fn compare_all<'a, H: Allocator, J: Naming<H>>(
     ensures known { All (IsKnown keeper.old.all) cards.old }
 {
     for place in 0..cards.len() {
-        compare_one(keeper, &mut cards[place]);
+        recall_one(keeper, &mut cards[place]);
     }
 }
 
 /// Compares a card with what the keeper knows.
-fn compare_one<'a, H: Allocator, J: Naming<H>>(
+fn recall_one<'a, H: Allocator, J: Naming<H>>(
     keeper: &mut Keeper<Entry<&'a H>, &'a H>,
     card: &mut Card<'a, H, J>,
 )

@@ -30,7 +30,7 @@ ghost use Rattle.fabric_core.specs.Tenfold.{IsScaleFault, IsTenfoldBook, corners
 
 use crate::carry_out::carry_out;
 use crate::draft::draft_of;
-use crate::follow::{FollowFault, fault_of};
+use crate::follow::FollowFault;
 use crate::journal::{Entry, JOURNAL_ENTRIES};
 use crate::layer::Layer;
 use crate::locate::At;
@@ -208,10 +208,10 @@ impl<'a, H: Allocator> Fabric<'a, H> {
         least_far_of_entries(self.journal(), found)
     }
 
-    /// The parcels are simple rings that tile the city, and are within the limits of a layer, in their number
-    /// too; the city is no longer than a ring may be; in the cells of the grid index stand exactly the parcels;
-    /// the city's refined ring covers what the city's ring covers; and the journal is lawful, and leads from the
-    /// opening to what is now.
+    /// Only teaches the prover: the parcels are simple rings that tile the city, and are within the limits of a layer,
+    /// in their number too; the city is no longer than a ring may be; in the cells of the grid index stand exactly the
+    /// parcels; the city's refined ring covers what the city's ring covers; and the journal is lawful, and leads from
+    /// the opening to what is now.
     pub fn use_invariant(&self)
         ensures tiling { IsTiling self.now.now.rows self.now.city }
         ensures simple { AreSimple self.now.now.rows }
@@ -404,7 +404,7 @@ impl<'a, H: Allocator> Fabric<'a, H> {
         );
         let draft = match drafted {
             Ok(draft) => draft,
-            Err(refusal) => return Err(fault_of(refusal)),
+            Err(refusal) => return Err(FollowFault::from(refusal)),
         };
         if !draft.entry.changes_as(entry) {
             return Err(FollowFault::NotDue);

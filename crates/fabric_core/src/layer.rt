@@ -189,8 +189,9 @@ impl<'a, H: Allocator> Layer<'a, H> {
         tiled
     }
 
-    /// The rows are simple rings that tile the city, and are within the limits of a layer, in their number
-    /// too; the city is no longer than a ring may be; and in the cells of the grid index stand exactly the rows.
+    /// Only teaches the prover: the rows are simple rings that tile the city, and are within the limits
+    /// of a layer, in their number too; the city is no longer than a ring may be; and in the cells of
+    /// the grid index stand exactly the rows.
     pub fn use_invariant(&self)
         ensures tiling { IsTiling self.now.rows self.now.city }
         ensures simple { AreSimple self.now.rows }

@@ -131,8 +131,8 @@ impl<'a, H: Allocator> Tiled<'a, H> {
         })
     }
 
-    /// The rows tile the city, and are within the limits of a layer; and in the cells of the grid
-    /// index stand exactly the rows.
+    /// Only teaches the prover: the rows tile the city, and are within the limits of a layer; and in the cells of the
+    /// grid index stand exactly the rows.
     pub(crate) fn use_invariant(&self)
         ensures tiling { IsTiling self.now.rows self.now.city }
         ensures within { AreWithinLimits self.now.rows }

@@ -129,8 +129,8 @@ impl<K: JournalFile, B: Allocator> JournalWriter<K, B> {
         })
     }
 
-    /// Unless a write failed, the file has, where it tells its bytes, the header of the layer and the lines of its
-    /// records: in order, numbered from 1, each behind the digest of the one before.
+    /// Only teaches the prover: unless a write failed, the file has, where it tells its bytes, the header of the layer
+    /// and the lines of its records: in order, numbered from 1, each behind the digest of the one before.
     pub fn use_invariant(&self)
         ensures kept { IsKeptUnlessBroken B self.now }
     {

@@ -264,7 +264,8 @@ impl<A: Allocator> Parcels<A> {
         self.slab.vacant_key()
     }
 
-    /// The parcels have keys of their own, and their ids ascend and are below the next one; none of them is retired.
+    /// Only teaches the prover: the parcels have keys of their own, and their ids ascend and are below the next one;
+    /// none of them is retired.
     pub fn use_invariant(&self)
         ensures keys { HaveOwnKeys (entries_of self.now.parcels) }
         ensures ascend { IsStrictlyIncreasing (ids_of self.now.parcels) }

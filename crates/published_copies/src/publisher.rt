@@ -143,7 +143,7 @@ impl<F: Follows<E>, E: Drop, J: Naming, R: Wait + Drop, A: Allocator> Publisher<
         Some(self.shown.again())
     }
 
-    /// What the published copy has followed begins what was handed on.
+    /// Only teaches the prover: what the published copy has followed begins what was handed on.
     pub fn use_invariant(&self)
         ensures { IsPrefix self.now.shown self.now.handed }
     {

@@ -1,10 +1,13 @@
 //! Why a session does not start, and the text that the user sees.
 
-ghost use Rattle.std.specs.Prelude.{◌≡◌};
-ghost use Rattle.city_layers.specs.declared.fault.ToolFault.TheVariants.{NoMemory};
+ghost use Rattle.std.specs.Prelude.{◌≡◌, ◌⊎◌, ℕ};
+ghost use Rattle.city_layers.specs.declared.fault.ToolFault.TheVariants.{ClerkCount, NoMemory, NoWindow};
+ghost use Rattle.desk_lock.specs.declared.opening.OpenFault.TheVariants.{Places, NoWindow as NoReader};
+ghost use Rattle.desk_lock.specs.declared.opening.OpenFault.TheVariants.{NoMemory as NoRoom};
 ghost use Rattle.register_sessions.specs.declared.start_fault.StartFault.TheVariants.{Run};
 
 use city_layers::ToolFault;
+use desk_lock::OpenFault;
 use std::alloc::{AllocError, AllocFailed, Allocator};
 use std::fmt;
 
@@ -39,6 +42,22 @@ impl<'a, A: Allocator> From<ToolFault<'a>> for StartFault<'a, A> {
 
     fn from(fault: ToolFault<'a>) -> StartFault<'a, A> {
         StartFault::Run(fault)
+    }
+}
+
+// A session has a clerk for each desk.
+impl<'a, A: Allocator> From<OpenFault> for StartFault<'a, A> {
+    ghost from_gives = { λ fault start.
+        ((count : ℕ) × (fault ≡ Places count) × (start ≡ Run (ClerkCount count)))
+        ⊎ ((window : ℕ) × (fault ≡ NoReader window) × (start ≡ Run (NoWindow window)))
+        ⊎ ((fault ≡ NoRoom) × (start ≡ Run NoMemory)) };
+
+    fn from(fault: OpenFault) -> StartFault<'a, A> {
+        match fault {
+            OpenFault::Places(count) => StartFault::Run(ToolFault::ClerkCount(count)),
+            OpenFault::NoWindow(window) => StartFault::Run(ToolFault::NoWindow(window)),
+            OpenFault::NoMemory => StartFault::Run(ToolFault::NoMemory),
+        }
     }
 }
 

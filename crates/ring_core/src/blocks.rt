@@ -7,7 +7,7 @@ ghost use Rattle.leaning_boxes.specs.declared.leaning.LeaningBox.{LeaningBox as 
 ghost use Rattle.ring_core.specs.own.Blocks.{AreBlocksOrNone, number_less};
 
 use crate::leaning::box_of_edges;
-use crate::places::less;
+use crate::places::renumbered;
 use geo_exact::Corner;
 use leaning_boxes::LeaningBox;
 use std::alloc::{AllocError, Allocator};
@@ -34,8 +34,8 @@ impl Span {
         ensures end { result.end ≡ number_less k self.end }
     {
         Span {
-            start: less(k, self.start),
-            end: less(k, self.end),
+            start: renumbered(k, self.start),
+            end: renumbered(k, self.end),
         }
     }
 }

@@ -4,7 +4,7 @@ use Rattle.std.proofs.lemmas.Bool.Decides.{nat_tests}
 use Rattle.std.proofs.lemmas.List.{take_all}
 use Rattle.std.proofs.lemmas.List.Elements.{All-from_recursion}
 use Rattle.desk_lock.specs.own.Keeping.{IsKnown}
-use Rattle.desk_lock.proofs.desk.compare_all.Goals as goal
+use Rattle.desk_lock.proofs.desk.recall_all.Goals as goal
 
 pub returns-clause-known : goal.returns-clause-known
 returns-clause-known g c =

@@ -1,7 +1,7 @@
 use Rattle.std.proofs.Common.{◌≡◌, take}
 use Rattle.std.specs.List.{AllByRecursion}
 use Rattle.desk_lock.specs.own.Keeping.{IsKnown}
-use Rattle.desk_lock.proofs.desk.compare_all.Given as goal
+use Rattle.desk_lock.proofs.desk.recall_all.Given as goal
 
 abbrev pub invariant-loop-place : goal.invariant-loop-place
 invariant-loop-place g l = record {

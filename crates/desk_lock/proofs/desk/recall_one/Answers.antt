@@ -1,6 +1,6 @@
 use Rattle.std.proofs.Common.{◌∙◌, ap, sym}
 use Rattle.entry_cards.specs.Cards.{of_clerk}
-use Rattle.desk_lock.proofs.desk.compare_one.Goals as goal
+use Rattle.desk_lock.proofs.desk.recall_one.Goals as goal
 
 pub returns-clause-known : goal.returns-clause-known
 returns-clause-known g c = rw (← c.card.view_is) (record {
