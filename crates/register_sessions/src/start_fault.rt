@@ -15,7 +15,7 @@ use std::fmt;
 #[derive(Drop)]
 pub enum StartFault<'a, A: Allocator> {
     /// As the other commands end: what cannot be loaded, K1 for more than 8 desks, K3, O7, or a
-    /// growth that was refused.
+    /// allocation that was refused.
     Run(ToolFault<'a>),
     /// S4: at the path that is this desk's name and this ending is no named pipe, or one that is another of the pipes
     /// or that every user can read or write; or the desk's lock is held by another session, or can't be made.

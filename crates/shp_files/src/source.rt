@@ -23,7 +23,7 @@ pub enum ReadFault {
     Device,
     /// It holds more than [`FILE_BYTES`](geo_exact::FILE_BYTES).
     TooLong,
-    /// A growth was refused.
+    /// An allocation failed.
     NoMemory,
 }
 
@@ -48,7 +48,7 @@ impl From<AllocError> for ReadFault {
 /// # Errors
 ///
 /// [`ReadFault::Device`] only where the reader failed in this call, [`ReadFault::TooLong`], and
-/// [`ReadFault::NoMemory`] only where a growth was refused. With each of them no bytes are handed on.
+/// [`ReadFault::NoMemory`] only where an allocation was refused. With each of them no bytes are handed on.
 ///
 /// ```
 /// let main = read_all(alloc, &mut Counted::new(File::open(rt, path)?))?;

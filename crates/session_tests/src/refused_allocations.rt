@@ -1,17 +1,17 @@
-//! Each growth refused in turn: a line is answered to be wanting memory, and read with memory as it has to be.
+//! Each allocation refused in turn: a line is answered to be wanting memory, and read with memory as it has to be.
 
 use refusing_alloc::Refusing;
 use session_lines::{Line, push_ready, read_line};
 use std::alloc::Global;
 use std::test::Fail;
 
-/// No call here has so many growths.
+/// No call here makes so many allocations.
 const MOST: u64 = 100;
 
 /// A line whose edit has a path.
 const LINE: &[u8] = b"split 1 0 0 1 1 2 2 3 3 4 4 5 5 6 6 7 7 8 8";
 
-/// Whether the line is read, or growth `number` is refused, and told so.
+/// Whether the line is read, or allocation `number` is refused, and told so.
 fn is_reading_refused(heap: &Refusing<Global>, number: u64) -> Result<bool, Fail> {
     heap.refuse(number);
     let read = read_line(heap, LINE);

@@ -1,11 +1,11 @@
-//! Each growth of a reading refused in turn: its answer is want of memory, and with memory the same text is read.
+//! Each allocation of a reading refused in turn: its answer is want of memory, and with memory the same text is read.
 
 use line_files::{ClerkFault, PointsFault, read_clerk, read_points};
 use refusing_alloc::Refusing;
 use std::alloc::Global;
 use std::test::Fail;
 
-/// No call here has so many growths.
+/// No call here makes so many allocations.
 const MOST: u64 = 100;
 
 /// Lists of five edits and of five points, and paths of five corners, which grow more than once.
@@ -17,7 +17,7 @@ const POINTS: &[u8] = b"0 0\n1 1\n2 2\n3 3\n4 4";
 /// The heap of the tests here.
 type Heap = Refusing<Global>;
 
-/// Whether a growth was refused. The answer, the length of the list that was read, has to be want
+/// Whether an allocation was refused. The answer, the length of the list that was read, has to be want
 /// of memory exactly then, and else five.
 fn refused(is_refused: bool, length: Option<usize>) -> Result<bool, Fail> {
     match (is_refused, length) {
@@ -27,7 +27,7 @@ fn refused(is_refused: bool, length: Option<usize>) -> Result<bool, Fail> {
     }
 }
 
-/// Whether growth `number` of a reading of the edits was refused.
+/// Whether allocation `number` of a reading of the edits was refused.
 fn is_refused_of_edits(heap: &Heap, number: u64) -> Result<bool, Fail> {
     heap.refuse(number);
     let answer = read_clerk(heap, EDITS);
@@ -48,10 +48,10 @@ fn of_edits(rt: HostRuntime) -> Result<(), Fail> {
             return Ok(());
         }
     }
-    Err(Fail::new("each growth was refused"))
+    Err(Fail::new("each allocation was refused"))
 }
 
-/// Whether growth `number` of a reading of the points was refused.
+/// Whether allocation `number` of a reading of the points was refused.
 fn is_refused_of_points(heap: &Heap, number: u64) -> Result<bool, Fail> {
     heap.refuse(number);
     let answer = read_points(heap, POINTS);
@@ -72,5 +72,5 @@ fn of_points(rt: HostRuntime) -> Result<(), Fail> {
             return Ok(());
         }
     }
-    Err(Fail::new("each growth was refused"))
+    Err(Fail::new("each allocation was refused"))
 }

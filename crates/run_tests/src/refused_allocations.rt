@@ -1,4 +1,4 @@
-//! Each growth of a run refused in turn: its answer is that memory ran out, nothing was printed, and
+//! Each allocation of a run refused in turn: its answer is that memory ran out, nothing was printed, and
 //! the same run with memory prints what it has to print.
 
 use crate::edit_runs::run_files;
@@ -20,7 +20,7 @@ use std::thread::Threads;
 use test_layers::{BEYOND, CITY, EAST, HUNDRED, Place, WEST, alone, layer, square};
 use text_pieces::put_all;
 
-/// No run here has so many growths.
+/// No run here makes so many allocations.
 const MOST: u64 = 1000;
 
 /// The heap of the runs here.
@@ -210,7 +210,7 @@ fn answer<'h, R: Threads + Wait + Sync>(
     }
 }
 
-/// Ends the refusing of growths; whether one was refused.
+/// Ends the refusing of allocations; whether one was refused.
 fn was_refused(heap: &Heap) -> bool {
     let is_refused = heap.is_spent();
     heap.refuse(0);
@@ -222,8 +222,9 @@ fn is_whole(row: &Row, answer: &Result<(), ToolFault<'static>>, printed: &[u8]) 
     matches!(answer, Ok(()) | Err(ToolFault::NoTiling(_, _))) && printed == row.want.as_bytes()
 }
 
-/// Whether a run may answer this where a growth was refused: that memory ran out, with nothing printed. With a clerk's
-/// file the office may lack its window, the edit alone may be refused, and some growths could be done without.
+/// Whether a run may answer this where an allocation was refused: that memory ran out, with nothing
+/// printed. With a clerk's file the office may lack its window, the edit alone may be refused, and
+/// some allocations could be done without.
 fn is_wanting(row: &Row, answer: &Result<(), ToolFault<'static>>, printed: &[u8]) -> bool {
     match row.unedited {
         None => *answer == Err(ToolFault::NoMemory) && printed.is_empty(),
@@ -236,8 +237,8 @@ fn is_wanting(row: &Row, answer: &Result<(), ToolFault<'static>>, printed: &[u8]
     }
 }
 
-/// Whether a run with this growth refused answers as it may, and the same run with memory then prints all; where there
-/// was no such growth, `None`, once it printed all.
+/// Whether a run with this allocation refused answers as it may, and the same run with memory then prints all; where
+/// there was no such allocation, `None`, once it printed all.
 fn is_told<'h, R: Threads + Wait + Sync>(
     rt: &R,
     alloc: Global,
@@ -264,19 +265,19 @@ fn is_told<'h, R: Threads + Wait + Sync>(
 }
 
 #[test]
-fn tells_each_refused_growth(rt: HostRuntime) -> Result<(), Fail> {
+fn tells_each_refused_allocation(rt: HostRuntime) -> Result<(), Fail> {
     let heap = &Refusing::new(rt.alloc(), 0);
     let inputs = inputs_in(heap, rt.alloc())?;
     for row in &RUNS {
-        let mut growths = 0u64;
+        let mut allocations = 0u64;
         for number in 1..MOST {
             match is_told(&rt, rt.alloc(), row, &inputs, number) {
-                Some(is_so) => assert!(rt; is_so, "at growth {number}"),
+                Some(is_so) => assert!(rt; is_so, "at allocation {number}"),
                 None => break,
             }
-            growths = number;
+            allocations = number;
         }
-        assert!(rt; growths > 1 && growths < MOST - 1);
+        assert!(rt; allocations > 1 && allocations < MOST - 1);
     }
     Ok(())
 }
