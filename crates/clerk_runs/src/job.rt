@@ -1,4 +1,4 @@
-//! A clerk's job at an office: his edits, submitted line by line.
+//! A clerk's job at an office: their edits, submitted line by line.
 
 ghost use Rattle.std.specs.Prelude.{◌≡◌, ◌⊎◌, [], OnOk};
 ghost use Rattle.clerk_runs.specs.own.Working.{run_at, IsAccepted, IsRefused, HasSaid, IsWorked};
@@ -18,7 +18,7 @@ pub(crate) struct Counter<'r, 'h, H: Allocator, J: Naming<H>, R: Wait> {
     ghost opened: { J.office.origin.journal ≡ [] },
 }
 
-/// A clerk's job: his card and his edits, and what comes of them: the line of each, and the receipt
+/// A clerk's job: their card and their edits, and what comes of them: the line of each, and the receipt
 /// of each that was accepted.
 #[derive(Drop)]
 pub(crate) struct ClerkJob<'h, H: Allocator, J: Naming<H>> {

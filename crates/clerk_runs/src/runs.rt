@@ -72,9 +72,9 @@ impl From<OpenFault> for RunFault {
     }
 }
 
-/// Opens an office with one window for the clerks, each of whom makes his edits line by line in a
-/// thread of his own, or in this thread, once the others are joined, where the system refuses one.
-/// An edit that is refused, also because memory ran out, changes nothing, and the clerk goes on with his
+/// Opens an office with one window for the clerks, each of whom makes their edits line by line in a
+/// thread of their own, or in this thread, once the others are joined, where the system refuses one.
+/// An edit that is refused, also because memory ran out, changes nothing, and the clerk goes on with the
 /// next. Where the corners lie is asked at the window, once it learnt the receipts of all clerks,
 /// or of the sheet that is drawn then where a receipt was not published.
 ///

@@ -22,7 +22,7 @@ pub record Grid : Type 0 where
   pub rows_positive : pos 0 <ℤ rows
   pub d_positive : pos 0 <ℤ d
 
--- the middle of the cell in column j and row k: the place ((j + 1/2) / columns, (k + 1/2) / rows)
+-- the middle of the cell in column j and row k: the point ((j + 1/2) / columns, (k + 1/2) / rows)
 abbrev pub middle : Grid → ℤ → ℤ → Point
 middle grid j k = record {
   x = (pos 2 *ℤ j +ℤ pos 1) *ℤ grid.rows;

@@ -39,7 +39,7 @@ pub fn a_common_area_is_one_of_interiors()
         → (pos 0 <ℤ (common_area2 r s).n) ↔ InteriorsMeet r s }
 {}
 
-/// The areas that a ring has in common with rings that together go round each place off all edges as often as one ring
+/// The areas that a ring has in common with rings that together go round each point off all edges as often as one ring
 /// does sum to the area that it has in common with that one, exactly.
 pub fn common_areas_add_up()
     ensures { (r ring : List Corner) (parts : List (List Corner)) → MakeUpOffEdges parts ring

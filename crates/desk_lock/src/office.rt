@@ -29,7 +29,7 @@ pub enum CloseFault {
     CardsMissing(usize, usize),
 }
 
-/// An office at which clerks edit one fabric, each in a thread of his own, and windows show what was published.
+/// An office at which clerks edit one fabric, each in a thread of their own, and windows show what was published.
 pub struct Office<'a, H: Allocator, J: Naming<H>, R: Wait + Drop> {
     desk: Mutex<Desk<'a, H, J, R>>,
     clerks: usize,

@@ -1,4 +1,4 @@
-//! Windows, at which it is asked where a place lies, and which ring a parcel has.
+//! Windows, at which it is asked where a point lies, and which ring a parcel has.
 ghost use Rattle.std.specs.Prelude.{◌≡◌, ◌≢◌, ◌<◌, ◌≤◌, ◌++◌, length, IfOk, IfErr, IfSome, MatchBool, MatchOption};
 ghost use Rattle.std.specs.List.{Contains};
 ghost use mathlib.Core.List.{IsPrefix};
@@ -48,7 +48,7 @@ impl From<AllocError> for LocateFault {
 /// A version of an office's fabric.
 type VersionOf<'a, H, J> = Version<Copied<'a, H, J>, Entry<&'a H>, J>;
 
-/// A window of an office: it answers where a place lies and which ring a parcel has, from a published
+/// A window of an office: it answers where a point lies and which ring a parcel has, from a published
 /// version, and waits for nobody. It may go to a thread of its own.
 ///
 /// Contracts see the state in which the office's fabric was opened, and the entries that the

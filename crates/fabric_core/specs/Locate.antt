@@ -1,4 +1,4 @@
--- Where a place lies among parcels: in the interior of one, on the boundary of some, or outside of
+-- Where a point lies among parcels: in the interior of one, on the boundary of some, or outside of
 -- all (OGC 06-103r4, 6.1.11, Polygon, for interior and boundary). It is said over all rows; a row is
 -- a parcel's ring under the parcel's id.
 use Rattle.std.specs.Prelude.{◌≡◌, ◌≢◌, ◌↔◌, ℕ, List, []}

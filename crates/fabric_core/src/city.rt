@@ -15,7 +15,7 @@ use ring_core::{Ring, RingFault, Shape};
 use std::alloc::{AllocError, Allocator};
 use tri_overlap::folded;
 
-/// A city: a simple ring, begun at its least corner, that goes round each place once or not at all.
+/// A city: a simple ring, begun at its least corner, that goes round each point once or not at all.
 ///
 /// Corners are in whole millimetres; the memory is that of the heap that was lent.
 #[derive(Debug, Drop)]

@@ -56,7 +56,7 @@ impl Span {
     }
 }
 
-/// The cell in which so many parts lie before a place.
+/// The cell in which so many parts lie before a point.
 fn cell_of(parts: u64) -> usize
     ensures { result < MOST }
 {
@@ -127,10 +127,10 @@ impl Axis {
     }
 }
 
-/// For each cell of a grid over an area the key of a parcel to look at first, where a place in the cell is asked for.
+/// For each cell of a grid over an area the key of a parcel to look at first, where a point in the cell is asked for.
 ///
-/// A hint may be wrong: another parcel may have the place, or none have the key any more. Nothing
-/// rests on it: whoever follows one looks up what stands under the key, and tests the place against
+/// A hint may be wrong: another parcel may have the point, or none have the key any more. Nothing
+/// rests on it: whoever follows one looks up what stands under the key, and tests the point against
 /// that.
 #[derive(Drop)]
 pub(crate) struct Hints<'a, H: Allocator> {
@@ -182,7 +182,7 @@ impl<'a, H: Allocator> Hints<'a, H> {
         Ok(hints)
     }
 
-    /// The numbers of the cell that a place is in, of the one to the left or to the right of it, and
+    /// The numbers of the cell that a point is in, of the one to the left or to the right of it, and
     /// of the one above or below it, whichever are nearer.
     pub(crate) fn near(&self, place: Corner) -> [usize; 3] {
         let column = self.columns.near(place.x);
@@ -194,7 +194,7 @@ impl<'a, H: Allocator> Hints<'a, H> {
         ]
     }
 
-    /// The key of the parcel that is to be looked at first for a place in a cell, or any other number.
+    /// The key of the parcel that is to be looked at first for a point in a cell, or any other number.
     pub(crate) fn key(&self, cell: usize) -> usize {
         match self.keys.get(cell) {
             Some(key) => *key as usize,

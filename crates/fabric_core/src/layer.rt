@@ -66,8 +66,8 @@ impl<T: Drop> From<AllocFailed<T>> for LoadFault {
     }
 }
 
-/// A layer of parcels that tiles its city, exactly: off all edges each place of the city is in one
-/// parcel, and no other place is in any. Contracts see its rows (each parcel's ring under its id,
+/// A layer of parcels that tiles its city, exactly: off all edges each point of the city is in one
+/// parcel, and no other point is in any. Contracts see its rows (each parcel's ring under its id,
 /// by ascending id), the city's ring as it was read, and that ring with the layer's corners in it.
 ///
 /// Every corner of the layer and the city that lies inside an edge of a parcel or of the city is a
@@ -135,7 +135,7 @@ impl<'a, H: Allocator> Layer<'a, H> {
             → AreRefined (rings_of records.entry.items) city.now.ring.corners rows refined
             → AreWithinLimits rows → AreSimple rows → IsTiling rows city.now.ring.corners
             → MatchResult result (λ layer. layer.rows ≡ rows) (λ e. e ≡ NoMemory) }
-        // Beside an edge that is told as a gap, the rows do not go round each place as often as the city.
+        // Beside an edge that is told as a gap, the rows do not go round each point as often as the city.
         ensures gap { (rows : List NumberedRing) (refined : List Corner) (a b : Corner) (net : ℤ)
             → AreRefined (rings_of records.entry.items) city.now.ring.corners rows refined
             → IsErrOf result (Gap a b net) → IsUntiledBeside rows city.now.ring.corners refined a b }
@@ -339,7 +339,7 @@ impl<'a, H: Allocator + Send + Sync> Layer<'a, H> {
             → AreRefined (rings_of records.entry.items) city.now.ring.corners rows refined
             → AreWithinLimits rows → AreSimple rows → IsTiling rows city.now.ring.corners
             → MatchResult result (λ layer. layer.rows ≡ rows) (λ e. e ≡ NoMemory) }
-        // Beside an edge that is told as a gap, the rows do not go round each place as often as the city.
+        // Beside an edge that is told as a gap, the rows do not go round each point as often as the city.
         ensures gap { (rows : List NumberedRing) (refined : List Corner) (a b : Corner) (net : ℤ)
             → AreRefined (rings_of records.entry.items) city.now.ring.corners rows refined
             → IsErrOf result (Gap a b net) → IsUntiledBeside rows city.now.ring.corners refined a b }

@@ -1,4 +1,4 @@
-//! Where a place lies among the parcels.
+//! Where a point lies among the parcels.
 
 ghost use Rattle.std.specs.Prelude.{◌≡◌, ◌≤◌, ◌++◌, ℕ, List, length, IfOk, MatchOption};
 ghost use Rattle.std.specs.List.{Contains};

@@ -48,7 +48,7 @@ pub(crate) struct Tiled<'a, H: Allocator> {
     refined: Corners<&'a H>,
     parcels: Parcels<&'a H>,
     index: CellIndex<'a, H>,
-    // Which parcel to look at first for a place. No part of what contracts see.
+    // Which parcel to look at first for a point. No part of what contracts see.
     hints: Hints<'a, H>,
 }
 

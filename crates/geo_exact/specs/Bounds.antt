@@ -34,7 +34,7 @@ IsBeyondBox p box =
     (p.x <ℤ (box.low.x *ℤ p.d)) ⊎ ((box.high.x *ℤ p.d) <ℤ p.x) ⊎ (p.y <ℤ (box.low.y *ℤ p.d))
     ⊎ ((box.high.y *ℤ p.d) <ℤ p.y)
 
--- the box has no inner place: in x or in y it ends where it begins, or before
+-- the box has no inner point: in x or in y it ends where it begins, or before
 abbrev pub IsEmptyBox : Bounds → Type 0
 IsEmptyBox box = (box.high.x ≤ℤ box.low.x) ⊎ (box.high.y ≤ℤ box.low.y)
 

@@ -3,7 +3,7 @@
 use Rattle.std.specs.Prelude.{ℕ, ◌+◌, ◌-◌, ◌==◌, if◌then◌else◌, pos, List, slice_index_or}
 use Rattle.geo_exact.specs.declared.corner.Corner.{Corner}
 
--- the place (0, 0)
+-- the point (0, 0)
 abbrev pub origin : Corner
 origin = record {
   x = pos 0;

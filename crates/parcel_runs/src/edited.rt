@@ -14,7 +14,7 @@ use std::sync::Wait;
 use std::thread::Threads;
 
 /// A layer after the edits of clerks, all of whom make theirs at the same time at one office, each
-/// in a thread of his own; and where corners lie then. Without clerks no office is opened, and the
+/// in a thread of their own; and where corners lie then. Without clerks no office is opened, and the
 /// sheet is the layer's opening. Nothing is copied.
 ///
 /// # Errors

@@ -1,4 +1,4 @@
-//! How a place lies to a ring, with most edges passed over by their boxes.
+//! How a point lies to a ring, with most edges passed over by their boxes.
 
 ghost use Rattle.std.specs.Prelude.{◌≡◌, ℕ, ◌+◌, ◌<◌, ◌≤◌, ◌*◌, false, length, IsTrue};
 ghost use Rattle.geo_exact.specs.declared.limits.TheConstants.{RING_CORNERS};

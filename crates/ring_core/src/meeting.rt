@@ -64,7 +64,7 @@ pub fn have_common_point(a: Corner, b: Corner, c: Corner, d: Corner) -> bool
     !are_on_one_side(c, d, a, b)
 }
 
-/// Whether both corners are at one place.
+/// Whether both corners are at one point.
 fn are_same(a: Corner, b: Corner) -> bool
     ensures { IsTrue result ↔ IsPlaceOf (corner_point a) b }
 {

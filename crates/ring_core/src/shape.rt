@@ -24,8 +24,8 @@ use std::alloc::{AllocError, Allocator};
 /// of theirs, each of which is 0 or 1, and the twice-areas add up.
 #[derive(Debug, Drop)]
 pub struct Shape<A: Allocator> {
-    // Where a place lies is told by the core and the box alone, as a rule, so they stand first, side by side.
-    /// A box in which every place is inside the ring; it holds none where none was found.
+    // Where a point lies is told by the core and the box alone, as a rule, so they stand first, side by side.
+    /// A box in which every point is inside the ring; it holds none where none was found.
     pub core: Bounds,
     /// The least box of its corners, which holds its triangles too.
     pub bounds: Bounds,

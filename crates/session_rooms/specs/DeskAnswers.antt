@@ -49,7 +49,7 @@ module _ {A : Type 0} where
     pub opening : after.opening ≡ before.opening
     pub begins : IsPrefix before.seen after.seen
 
-  -- `at ..`: the place of a corner among the parcels that the window has seen last, and after how many entries
+  -- `at ..`: where a corner lies among the parcels that the window has seen last, and after how many entries
   abbrev pub IsPlaceLine : WindowState A → Corner → List ℕ → Type 0
   IsPlaceLine window corner line = ((at : At A) × IsLawful window.opening window.seen
       × IsLocatedAt (rows_seen window) (corner_point corner) at × (line ≡ located_line (length window.seen) corner at))

@@ -44,7 +44,7 @@ pub record HaveNoFault (rows : List NumberedRing) (refined : List Corner) : Type
   pub simple : AreSimple rows
   pub nets : HaveEqualNets (corner_lists rows) refined
 
--- the city's ring has no more corners than a ring may, goes round no place twice, and is refined: noded, and not
+-- the city's ring has no more corners than a ring may, goes round no point twice, and is refined: noded, and not
 -- too long to be counted
 pub record IsRefinedCity (city refined : List Corner) : Type 0 where
   pub few : length city ≤ RING_CORNERS

@@ -85,7 +85,7 @@ pub record MayBeKept (rows : List NumberedRing) (refined : List Corner) : Type 0
   pub alike : GoAlike (corner_lists rows) refined
 
 -- what is so at each moment: the rows rise by id, are within the limits, and go alike with the refined city, which has
--- the city's ground; the city goes round no place twice; and the index is that of the parcels' boxes over
+-- the city's ground; the city goes round no point twice; and the index is that of the parcels' boxes over
 -- the city's least box, in which all rows lie
 pub record IsKept {A : Type 0} (parcels : List (ℕ × Parcel A)) (city refined : List Corner)
     (index : Grid) : Type 0 where
