@@ -15,7 +15,7 @@ use std::sync::Wait;
 #[derive(Drop)]
 pub(crate) struct Operator<'h, H: Allocator, J: Naming<H>> {
     pub(crate) chair: Chair<'h, H, J>,
-    pub(crate) ground: Ground<'h, H, J>,
+    pub(crate) ground: Ground<'h, H>,
 }
 
 /// Answers the operator's lines until no further one is taken.
@@ -106,7 +106,7 @@ fn answer_check<'h, H: Allocator, J: Naming<H>, R: Wait, K: Clocked>(
 /// much of each parcel lies in each zone.
 fn answer_overlay<'h, H: Allocator, J: Naming<H>, R: Wait, K: Clocked, W: ByteOut>(
     room: &Room<'_, 'h, H, J, R, DiskFile, K>,
-    ground: &Ground<'h, H, J>,
+    ground: &Ground<'h, H>,
     has_areas: bool,
     text: &mut Vec<u8, &'h H>,
     out: &mut W,
@@ -126,7 +126,7 @@ fn answer_overlay<'h, H: Allocator, J: Naming<H>, R: Wait, K: Clocked, W: ByteOu
 fn answer_export<'h, P: Exports + Machine, H: Allocator, J: Naming<H>, R: Wait, K: Clocked>(
     room: &Room<'_, 'h, H, J, R, DiskFile, K>,
     disk: &P,
-    ground: &Ground<'h, H, J>,
+    ground: &Ground<'h, H>,
     base: &str,
     text: &mut Vec<u8, &'h H>,
 ) -> Result<(), AllocError> {

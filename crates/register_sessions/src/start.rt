@@ -32,7 +32,7 @@ use std::alloc::Allocator;
 use std::fs::File;
 use std::io;
 use std::io::{BufReader, Input};
-use std::marker::{Brand, PhantomData};
+use std::marker::Brand;
 use std::rt::Files;
 use std::sync::Wait;
 use std::thread::Threads;
@@ -337,11 +337,7 @@ fn at_office<
     };
     let Seats { desks, chair } = seat_all(heap, paths, cards, windows)?;
     let room = Room::new(office, journal, heap, rt);
-    let ground = Ground {
-        zones,
-        own_files,
-        of: PhantomData,
-    };
+    let ground = Ground { zones, own_files };
     let operator = Operator { chair, ground };
     let counter = Counter {
         reader,
