@@ -62,8 +62,7 @@ wide area entries = filter (λ entry. is_wide area entry.bounds) entries
 abbrev pub narrow : Bounds → List IndexEntry → List IndexEntry
 narrow area entries = filter (λ entry. not (is_wide area entry.bounds)) entries
 
--- what an index shows: its area, the lists of what is kept in its cells, column by column,
--- and the list of what is kept beside them
+-- what an index shows: its area, what is kept in each of its cells, column by column, and what is kept beside them
 pub record Grid : Type 0 where
   pub area : Bounds
   pub cells : List (List IndexEntry)
@@ -78,9 +77,8 @@ cell grid i j = slice_index_or grid.cells (ACROSS * i + j) []
 abbrev pub standing : Grid → ℕ → ℕ → List IndexEntry
 standing grid i j = cell grid i j ++ filter (λ entry. stands_in grid.area i j entry.bounds) grid.beside
 
--- In each cell are kept exactly the entries of the list whose boxes stand there and are not wide, and beside the cells
--- those whose boxes are wide, each as often as in the list and in its order. So in each cell stand exactly the entries
--- whose boxes stand there.
+-- Each cell keeps exactly the listed entries whose boxes stand there and are not wide, and beside the cells are those
+-- with wide boxes, each as often as listed and in that order. So in each cell stand those whose boxes do.
 pub record Indexes (grid : Grid) (entries : List IndexEntry) : Type 0 where
   pub all_cells : length grid.cells ≡ ACROSS * ACROSS
   pub in_cells : (i j : ℕ) → i < ACROSS → j < ACROSS

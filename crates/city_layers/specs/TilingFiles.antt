@@ -74,8 +74,7 @@ IsFaultOfCity files unit (UnreadableIndex stem) = ⊥
 IsFaultOfCity files unit Output = ⊥
 IsFaultOfCity files unit NoMemory = ⊥
 
--- the layer of these files, in a city: its rings, noded and numbered as the records;
--- they have no fault, and tile the city
+-- the layer of these files, in a city: its rings, noded, numbered as the records, without a fault, and tiling the city
 pub record IsTiledBy (files : Files) (unit : LengthUnit) (city : List Corner) (tiles : Tiles) : Type 0 where
   pub records : List NumberedRing
   pub are_records : IsLayerFile files.main files.index unit records

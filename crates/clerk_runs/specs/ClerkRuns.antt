@@ -81,9 +81,8 @@ module _ {A : Type 0} where
   abbrev pub run_of : Tiles → List (List (ℕ × Edit A)) → Run
   run_of tiles clerks = record { clerks = length clerks; opening = opening_state tiles.rows tiles.refined }
 
-  -- the edits of the clerks, made on a layer, lead to this register and give these lines: its journal is lawful, has
-  -- entries of the clerks alone, and leads to the parcels, which tile the layer's city; and each clerk's lines report
-  -- the clerk's edits
+  -- the clerks' edits, made on a layer, lead to this register and give these lines: its journal is lawful, has entries
+  -- of the clerks alone, and leads to parcels that tile the city; and each clerk's lines report that clerk's edits
   pub record AreMade (tiles : Tiles) (clerks : List (List (ℕ × Edit A))) (after : Register A)
       (lines : List ℕ) : Type 0 where
     pub is_journal : IsJournal (run_of tiles clerks) after.journal

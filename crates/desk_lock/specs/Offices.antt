@@ -13,8 +13,7 @@ use Rattle.fabric_core.specs.Journal.{State, JournalEntry, Book, replay}
 use Rattle.fabric_core.specs.EditResults.{IsLawful}
 use Rattle.fabric_core.specs.Refusals.{IsRefusal}
 
--- what is told of the fabric that was handed to an office: the city's ring, the state in which the fabric was opened,
--- and its journal
+-- the fabric that was handed to an office: the city's ring, the state in which the fabric was opened, and its journal
 pub record Origin (A : Type 0) : Type 0 where
   pub city : List Corner
   pub opening : State
@@ -57,8 +56,7 @@ module _ {A : Type 0} where
   abbrev pub origin_of : Book A → Origin A
   origin_of book = record { city = book.city; opening = book.opening; journal = book.journal }
 
-  -- a fabric comes of the one that was handed in: the same city, the same opening, and a
-  -- journal that begins with that fabric's
+  -- a fabric comes of the one handed in: the same city, the same opening, and a journal that begins with that one's
   pub record IsOfOrigin (origin : Origin A) (book : Book A) : Type 0 where
     pub city : book.city ≡ origin.city
     pub opening : book.opening ≡ origin.opening

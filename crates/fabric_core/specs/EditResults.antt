@@ -68,8 +68,7 @@ pub record IsInsertOf (state : State) (from to at : Corner) (out : List ℕ) (ro
 abbrev pub rows_at_corner : Corner → List NumberedRing → List NumberedRing
 rows_at_corner at rows = filter (λ row. has_corner at row.corners) rows
 
--- a corner is taken out of each parcel's ring that has it; no parcel's ring bends there, nor does the city's refined
--- ring; each parcel keeps its id
+-- a corner goes out of each ring that has it; no ring bends there, nor the city's refined one; parcels keep their ids
 pub record IsStraightenOf (state : State) (at : Corner) (out : List ℕ) (rows : List NumberedRing) : Type 0 where
   pub some : rows_at_corner at state.rows ≢ []
   pub straight : AllByRecursion (λ row. ¬ BendsAt at row.corners) state.rows
@@ -90,16 +89,14 @@ pub record AreWithinLayerLimits (rows : List NumberedRing) : Type 0 where
   pub corners : AreWithinLimits rows
   pub number : length rows ≤ LAYER_RECORDS
 
--- the entry is that of its edit on the state: it has a place in a journal, takes out and brings what the edit does,
--- simple rings, and the limits are kept
+-- the entry is its edit's on the state: it has room in a journal, and the edit's change; rings are simple, limits kept
 pub record IsEntryOf {A : Type 0} (state : State) (entry : JournalEntry A) : Type 0 where
   pub has_place : entry.number ≤ JOURNAL_ENTRIES
   pub is_change : IsChange state entry.edit entry.out entry.rows
   pub are_simple : AreSimple entry.rows
   pub within : AreWithinLayerLimits (after_entry state entry).rows
 
--- entries that begin with this number at this state: each has the number after the one before, and is that of its
--- edit on the state which those before it lead to
+-- entries from this number on at this state, in turn, each its edit's on the state that those before it lead to
 abbrev pub AreLawfulFrom : {A : Type 0} → State → ℕ → List (JournalEntry A) → Type 0
 AreLawfulFrom state number [] = ⊤
 AreLawfulFrom state number (entry ∷ rest) =

@@ -13,8 +13,7 @@ pub record IsEntryOf (row : NumberedRing) (entry : IndexEntry) : Type 0 where
   pub has_id : entry.key ≡ row.number
   pub is_its_box : IsLeastBox entry.bounds row.corners
 
--- The index agrees with the rows: its area is the city's least box, and in its cells stand exactly the rows' least
--- boxes, under their ids.
+-- The index's area is the city's least box, and in its cells stand exactly the rows' least boxes, under their ids.
 pub record IsIndexed (rows : List NumberedRing) (city : List Corner) (index : Grid) : Type 0 where
   pub area : IsLeastBox index.area city
   pub entries : List IndexEntry

@@ -8,8 +8,7 @@ use Rattle.ring_edits.specs.declared.edit.Edit.{Edit}
 use Rattle.ring_edits.specs.declared.edit.Edit.TheVariants.{Split, Merge, Move, Insert, Straighten}
 use Rattle.ring_edits.specs.Edits.{put_between, without_corner}
 
--- what a fabric is at a moment: its rows by ascending id, the city's refined ring, and the
--- next id, above all that were given out
+-- what a fabric is at a moment: its rows by ascending id, the city's refined ring, and the next id, above all given out
 pub record State : Type 0 where
   pub rows : List NumberedRing
   pub refined : List Corner
@@ -67,8 +66,7 @@ abbrev pub replay : {A : Type 0} → State → List (JournalEntry A) → State
 replay state [] = state
 replay state (entry ∷ rest) = replay (after_entry state entry) rest
 
--- what a fabric shows: the city's ring as it was read, the state in which it was opened, the state now, the grid index,
--- and the journal
+-- what a fabric shows: the city's ring as read, the state when opened, the state now, the grid index, and the journal
 pub record Book (A : Type 0) : Type 0 where
   pub city : List Corner
   pub opening : State

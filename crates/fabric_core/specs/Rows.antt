@@ -34,8 +34,7 @@ pub record AreRefined (records : List NumberedRing) (city : List Corner) (rows :
 abbrev pub numbers : List NumberedRing → List ℕ
 numbers rows = map (λ row. row.number) rows
 
--- what a layer shows: its rows by ascending number, the city's ring as it was read,
--- that ring refined, and the grid index
+-- what a layer shows: its rows by ascending number, the city's ring as read, that ring refined, and the grid index
 pub record Tiles : Type 0 where
   pub rows : List NumberedRing
   pub city : List Corner

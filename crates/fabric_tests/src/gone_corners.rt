@@ -1,5 +1,5 @@
-//! Fabrics whose opening has a corner that neither a parcel, the city nor an entry has any more, moved to finer grids again
-//! and again: it is the least that is too far in the end.
+//! Fabrics whose opening has a corner that neither a parcel, the city nor an entry has any more, moved to finer grids
+//! again and again: it is the least that is too far in the end.
 
 use crate::changes::{Change, Parcel, Step, take};
 use fabric_core::{Fabric, ScaleFault};
@@ -103,8 +103,8 @@ fn moves_of<H: Allocator>(fabric: &Fabric<'_, H>) -> Result<(u64, Corner), Fail>
     Err(Fail::new("no corner is too far"))
 }
 
-/// Whether the parcels of a slant, once they are one, are moved until the corner that is gone is too far; and those of a
-/// fabric that was opened over one parcel, until another is.
+/// Whether the parcels of a slant, once they are one, are moved until the corner that is gone is too far; and those of
+/// a fabric that was opened over one parcel, until another is.
 fn is_named<H: Allocator>(heap: &H, slant: &Slant) -> Result<bool, Fail> {
     let mut edited = fabric(heap, slant.city, &slant.two)?;
     take(heap, &mut edited, &slant.one)?;

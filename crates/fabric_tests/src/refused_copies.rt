@@ -1,5 +1,5 @@
-//! Each growth of opening a fabric, of copying it and of taking a sheet refused in turn; and what a fabric and a sheet answer
-//! to a search, beside a scan of all parcels.
+//! Each growth of opening a fabric, of copying it and of taking a sheet refused in turn; and what a fabric and a sheet
+//! answer to a search, beside a scan of all parcels.
 
 use crate::changes::take;
 use crate::refused_edits::{Heap, are_alike, was_refused};
@@ -24,7 +24,8 @@ fn opened_again<'a>(layer: Layer<'a, Heap>) -> Result<Fabric<'a, Heap>, Fail> {
     }
 }
 
-/// Opens a fabric with growth `number` refused, and where the layer then comes back, opens that; whether it was refused.
+/// Opens a fabric with growth `number` refused, and where the layer then comes
+/// back, opens that; whether it was refused.
 fn is_opening_refused<'a>(
     heap: &'a Heap,
     want: &Fabric<'a, Heap>,

@@ -253,7 +253,8 @@ fn drawn_insert(
     drawn_on_edge(fabric.ring(id)?.corners.as_slice(), place, words)
 }
 
-/// Puts a corner into an edge, which changes the fabric, and takes it out, after which it has to show what it did before.
+/// Puts a corner into an edge, which changes the fabric, and takes it out, after
+/// which it has to show what it did before.
 fn put_and_take_out<'a>(
     fabric: &mut Fabric<'a, Global>,
     before: &Fabric<'a, Global>,

@@ -1,5 +1,5 @@
-//! Fabrics moved to a grid ten times as fine: the worked halves with their journal, corners that are too far, and each growth
-//! refused in turn.
+//! Fabrics moved to a grid ten times as fine: the worked halves with their journal, corners that are too far, and each
+//! growth refused in turn.
 
 use crate::changes::{CLERK, Change, Parcel, Step, are, are_at, is_inside, take};
 use crate::refused_edits::{Heap, are_alike, was_refused};

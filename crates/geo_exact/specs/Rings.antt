@@ -30,8 +30,7 @@ sum_over measure (edge ∷ rest) = measure edge +ℤ sum_over measure rest
 abbrev pub begun_at : {X : Type 0} → ℕ → List X → List X
 begun_at k items = drop k items ++ take k items
 
--- the same ring, begun at its least corner, by x and then by y: where that corner comes more
--- than once, at the first of its places
+-- the same ring, begun at its least corner, by x and then by y: where it comes more than once, at its first place
 abbrev pub begun_at_least : List Corner → List Corner
 begun_at_least ring = begun_at (position_or_len (is_least ring) ring) ring
 

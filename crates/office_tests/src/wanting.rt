@@ -20,8 +20,8 @@ fn is_unnamed<H: Refuses>(heap: &H, number: u64) -> bool {
     is_unnamed
 }
 
-/// Opens an office with each growth refused in turn, until none is: how many were. Memory is wanting for each, a reader's
-/// own among them: K3 is told of none.
+/// Opens an office with each growth refused in turn, until none is: how many were. Memory is wanting for each, a
+/// reader's own among them: K3 is told of none.
 fn count_unopened<H: Refuses + Send + Sync, R: Threads + Wait + Copy + Send + Sync>(
     rt: R,
     heap: &H,

@@ -55,7 +55,8 @@ fn is_begun<'t, 'h>(
     }
 }
 
-/// Begins a round of both parcels with growth `number` refused, and where it was, once more with memory; whether it was.
+/// Begins a round of both parcels with growth `number` refused, and where it was,
+/// once more with memory; whether it was.
 fn is_begin_refused<'t, 'h>(
     heap: &'h Heap,
     sheet: &'t Sheet<'h, Heap>,

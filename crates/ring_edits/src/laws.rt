@@ -10,8 +10,8 @@ ghost use Rattle.geo_exact.specs.Segments.{IsStrictlyInside};
 ghost use Rattle.ring_core.specs.Clipping.{IsFlat};
 ghost use Rattle.ring_core.specs.Simple.{IsSimpleRing};
 ghost use Rattle.edge_chains.specs.Net.{net_count};
-ghost use Rattle.ring_edits.specs.Edits.{IsSplit, IsMerge, IsMove, CoversAlike, has_edge_between, put_between, with_corner};
-ghost use Rattle.ring_edits.specs.Edits.{BendsAt, has_corner, straightened, without_corner};
+ghost use Rattle.ring_edits.specs.Edits.{IsSplit, IsMerge, IsMove, CoversAlike, has_edge_between, put_between};
+ghost use Rattle.ring_edits.specs.Edits.{with_corner, BendsAt, has_corner, straightened, without_corner};
 ghost use Rattle.ring_edits.specs.Round.{HasApartCorners};
 
 /// The rings that an edit makes have, for every two corners, the net number of directed edges from the one to the
@@ -61,7 +61,8 @@ pub fn inserting_keeps_the_least_box()
 /// inside an edge, and stays as it is where it has no such edge. (What is begun at its least corner
 /// begins there.)
 pub fn inserting_keeps_where_a_ring_begins()
-    ensures begun { (from to at : Corner) (ring : List Corner) → IsStrictlyInside at from to → begun_at_least ring ≡ ring
+    ensures begun { (from to at : Corner) (ring : List Corner) → IsStrictlyInside at from to
+        → begun_at_least ring ≡ ring
         → with_corner from to at ring ≡ put_between from to at ring }
     ensures unchanged { (from to at : Corner) (ring : List Corner) → ¬ IsTrue (has_edge_between from to ring)
         → put_between from to at ring ≡ ring }
@@ -107,8 +108,10 @@ pub fn each_edit_has_one_result()
     ensures split { (ring path left right other_left other_right : List Corner) → HasApartCorners ring
         → IsSplit ring path left right → IsSplit ring path other_left other_right
         → (other_left ≡ left) × (other_right ≡ right) }
-    ensures merged { (a b out other : List Corner) → HasApartCorners b → IsMerge a b out → IsMerge a b other → other ≡ out }
-    ensures moved { (a b path out_a out_b other_a other_b : List Corner) → HasApartCorners b → IsMove a b path out_a out_b
+    ensures merged { (a b out other : List Corner) → HasApartCorners b → IsMerge a b out
+        → IsMerge a b other → other ≡ out }
+    ensures moved { (a b path out_a out_b other_a other_b : List Corner) → HasApartCorners b
+        → IsMove a b path out_a out_b
         → IsMove a b path other_a other_b → (other_a ≡ out_a) × (other_b ≡ out_b) }
 {}
 
@@ -123,7 +126,8 @@ pub fn new_rings_have_so_many_corners()
         → (length left + 2 ≤ length ring + length path) × (length right + 2 ≤ length ring + length path) }
     ensures inserted { (ring : List Corner) (from to at : Corner) → HasApartCorners ring → from ≢ to
         → IsTrue (has_edge_between from to ring) → length (put_between from to at ring) ≡ length ring + 1 }
-    ensures not_fewer { (ring : List Corner) (from to at : Corner) → length ring ≤ length (put_between from to at ring) }
+    ensures not_fewer { (ring : List Corner) (from to at : Corner)
+        → length ring ≤ length (put_between from to at ring) }
     ensures begun { (ring : List Corner) (from to at : Corner)
         → length (with_corner from to at ring) ≡ length (put_between from to at ring) }
     ensures straightened { (at : Corner) (ring : List Corner) → length (straightened at ring) ≤ length ring }
