@@ -3,8 +3,9 @@
 
     benches/gate_times.py [SECONDS] > table     watches until no `rt ci` runs, looking every SECONDS (2)
 
-It watches the provers that any `rt ci` of this machine starts, so nothing else is to be proved meanwhile, and reads the time
-that each has used from /proc. A prover that lives for less than SECONDS is not seen whole. It stands outside of the gate.
+It watches the provers that any `rt ci` of this machine starts, so nothing else is to be proved meanwhile, and reads the
+time that each has used from /proc. A prover that lives for less than SECONDS is not seen whole. It stands outside of
+the gate.
 """
 import os
 import re

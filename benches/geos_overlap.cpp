@@ -1,6 +1,6 @@
-// geos_overlap.cpp - GEOS's relate, and its intersects && !touches, over the pairs that standard input holds, in the form
-// that bench_overlap reads. Each answer line is the group's name, the number of its pairs, the nanoseconds of the best round
-// of relate and of intersects && !touches, and a 0 or 1 for each pair by the first and by the second.
+// geos_overlap.cpp - GEOS's relate, and its intersects && !touches, over the pairs that standard input holds, in the
+// form that bench_overlap reads. Each answer line is the group's name, the number of its pairs, the nanoseconds of the
+// best round of relate and of intersects && !touches, and a 0 or 1 for each pair by the first and by the second.
 #include <geos_c.h>
 #include <chrono>
 #include <cstdarg>
@@ -44,7 +44,8 @@ template <typename Test> static long long best(const Pairs& pairs, int rounds, T
     answers.clear();
     auto begin = std::chrono::steady_clock::now();
     for (auto& pair : pairs) answers.push_back(test(pair.first, pair.second) ? '1' : '0');
-    long long taken = std::chrono::duration_cast<std::chrono::nanoseconds>(std::chrono::steady_clock::now() - begin).count();
+    auto passed = std::chrono::steady_clock::now() - begin;
+    long long taken = std::chrono::duration_cast<std::chrono::nanoseconds>(passed).count();
     if (least < 0 || taken < least) least = taken;
   }
   return least;
@@ -55,7 +56,8 @@ static void finish(const std::string& name, int rounds, Pairs& pairs) {
   std::string related, touching;
   long long relate = best(pairs, rounds, relates, related);
   long long touch = best(pairs, rounds, intersects, touching);
-  std::cout << name << ' ' << pairs.size() << ' ' << relate << ' ' << touch << ' ' << related << ' ' << touching << '\n';
+  std::cout << name << ' ' << pairs.size() << ' ' << relate << ' ' << touch << ' ' << related << ' ' << touching
+            << '\n';
   for (auto& pair : pairs) { GEOSGeom_destroy(pair.first); GEOSGeom_destroy(pair.second); }
   pairs.clear();
 }

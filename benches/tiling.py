@@ -1,13 +1,15 @@
 #!/usr/bin/env python3
-"""tiling.py - `parcel_tool check` (and `export`) over cities S, M and L, with and without T junctions, and over hostile layers.
+"""tiling.py - `parcel_tool check` (and `export`) over cities S, M and L, with and without T junctions, and over hostile
+layers.
 
   tiling.py PROGRAM [--runs N] [--limit SECONDS] [--only WORD] [--export]
 
-PROGRAM is the built parcel_tool (benches/README.md says where it lies). The layers are made in a temporary folder with a
-fixed seed. Each job is a whole process, run N times in turn with the others; the best time and the largest memory are
-printed, and the answer. Over the cities GEOS is asked too (geos_tiling.cpp, with Debian's libgeos-dev and g++): whether the
-parcels' union equals the city and their areas sum to it, and whether two parcels' interiors meet (relate); without it these
-rows are left out. `wrong` is a city M with one parcel moved by a centimetre over the city's border, and one taken out.
+PROGRAM is the built parcel_tool (benches/README.md says where it lies). The layers are made in a temporary folder with
+a fixed seed. Each job is a whole process, run N times in turn with the others; the best time and the largest memory are
+printed, and the answer. Over the cities GEOS is asked too (geos_tiling.cpp, with Debian's libgeos-dev and g++): whether
+the parcels' union equals the city and their areas sum to it, and whether two parcels' interiors meet (relate); without
+it these rows are left out. `wrong` is a city M with one parcel moved by a centimetre over the city's border, and one
+taken out.
 """
 import argparse, os, shutil, subprocess, sys, tempfile
 
@@ -18,7 +20,8 @@ import nodes
 
 
 def halves(path, side, far):
-    """The two parts of the square from -side to side on both axes, that a path from its lower side to its upper one cuts."""
+    """The two parts of the square from -side to side on both axes, that a path from its lower side to its upper one
+    cuts."""
     left = path + [(-side, side), (-side, -side)]
     right = path[::-1] + [(side, -side), (side, side)]
     return [[(x + far, y) for x, y in ring] for ring in (left, right)]
@@ -49,19 +52,22 @@ def spiral(count, side):
 
 
 def arc(count, side):
-    """A path of count corners from the lower side to the upper one, which turns the same way at each: one part is convex."""
+    """A path of count corners from the lower side to the upper one, which turns the same way at each: one part is
+    convex."""
     heights = [-side + 2 * side * k // (count - 1) for k in range(count)]
     return [(side // 2 - y * y // (2 * side), y) for y in heights]
 
 
 def pairs(path_of, count, side):
     """122 squares in a row, each cut in two by a path: 244 rings of nearly 4,096 corners."""
+
     def make(folder):
         path, rings = path_of(count, side), []
         for k in range(122):
             rings += halves(path, side, 2 * side * k)
         right = 2 * side * 121 + side
         nodes.layers(folder, [(-side, -side), (right, -side), (right, side), (-side, side)], rings)
+
     return make
 
 
@@ -76,6 +82,7 @@ def wrong(folder):
             rings[5000][0] = (x - 1, y)
             del rings[7000]
         return keep(path, rings, dbf)
+
     gencity.write, given = write, sys.argv
     sys.argv = ["gencity.py", "--size", "M", folder]
     try:
@@ -89,14 +96,29 @@ def wrong(folder):
         gencity.write, sys.argv = keep, given
 
 
-CITIES = (("city S", nodes.city("S")), ("city M", nodes.city("M")), ("city L", nodes.city("L")),
-          ("city S, T", nodes.city("S", "--tjunction", "0.3")), ("city M, T", nodes.city("M", "--tjunction", "0.3")),
-          ("city L, T", nodes.city("L", "--tjunction", "0.04")), ("city M, wrong", wrong))
+CITIES = (
+    ("city S", nodes.city("S")),
+    ("city M", nodes.city("M")),
+    ("city L", nodes.city("L")),
+    ("city S, T", nodes.city("S", "--tjunction", "0.3")),
+    ("city M, T", nodes.city("M", "--tjunction", "0.3")),
+    ("city L, T", nodes.city("L", "--tjunction", "0.04")),
+    ("city M, wrong", wrong),
+)
 
-HOSTILE = (("strips", nodes.strips(0, False)), ("strips, shuffled", nodes.strips(0, True)),
-           ("slanted strips", nodes.strips(5 * 10 ** 9, False)), ("strips, cut", nodes.cut(0)), ("slanted, cut", nodes.cut(5)),
-           ("rows", nodes.rows), ("corner", nodes.corner), ("zigzags", pairs(zigzag, 4092, 10 ** 6)),
-           ("spirals", pairs(spiral, 4088, 10 ** 6)), ("arcs", pairs(arc, 4092, 4 * 10 ** 7)), ("crossed", nodes.crossed))
+HOSTILE = (
+    ("strips", nodes.strips(0, False)),
+    ("strips, shuffled", nodes.strips(0, True)),
+    ("slanted strips", nodes.strips(5 * 10**9, False)),
+    ("strips, cut", nodes.cut(0)),
+    ("slanted, cut", nodes.cut(5)),
+    ("rows", nodes.rows),
+    ("corner", nodes.corner),
+    ("zigzags", pairs(zigzag, 4092, 10**6)),
+    ("spirals", pairs(spiral, 4088, 10**6)),
+    ("arcs", pairs(arc, 4092, 4 * 10**7)),
+    ("crossed", nodes.crossed),
+)
 
 
 def geos(folder):
@@ -107,10 +129,15 @@ def geos(folder):
 
 
 def run(words, limit):
-    """Seconds, peak KiB and the last line of what one process printed, on whichever stream; None where it took too long."""
+    """Seconds, peak KiB and the last line of what one process printed, on whichever stream; None where it took too
+    long."""
     timed = ["/usr/bin/env", "python3", "-c", RUNNER, str(limit), *words]
     said = subprocess.run(timed, stdout=subprocess.PIPE, text=True).stdout.split("\n", 2)
-    return (None, 0, "more than %d seconds" % limit) if said[0] == "late" else (float(said[0]), int(said[1]), said[2].strip())
+    return (
+        (None, 0, "more than %d seconds" % limit)
+        if said[0] == "late"
+        else (float(said[0]), int(said[1]), said[2].strip())
+    )
 
 
 # a process of its own, so that a child's peak does not count what this one holds
@@ -150,7 +177,12 @@ def main():
                 files = [os.path.join(folder, part + ".shp") for part in ("city", "parcels")]
                 jobs = [("check", [given.program, "check", *files, "--unit", "cm"])]
                 if given.export:
-                    jobs.append(("export", [given.program, "export", *files, "--unit", "cm", "--out", os.path.join(folder, "out")]))
+                    jobs.append(
+                        (
+                            "export",
+                            [given.program, "export", *files, "--unit", "cm", "--out", os.path.join(folder, "out")],
+                        )
+                    )
                 if peer and (name, make) in CITIES:
                     jobs += [(job, [peer, job, *files]) for job in ("union", "overlaps")]
                 best = {}

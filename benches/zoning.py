@@ -3,13 +3,14 @@
 
   zoning.py PROGRAM [--pairs PROGRAM] [--runs N] [--workers N,N ..] [--limit SECONDS] [--only WORD]
 
-PROGRAM is the built parcel_tool (benches/README.md says where it lies). The layers are made in a temporary folder with a fixed seed. For each,
-`check` of the parcels, `check` of the zones and `overlay` with each number of workers are run in turn, N times, each a whole process; the best
-time and the largest memory of each are printed, and what an overlay takes beyond both checks: that is the copy of the parcels, the pairs and the
-report. Over the cities GEOS finds the pairs of the same files (geos_pairs.cpp, with Debian's libgeos-dev and g++), by relate, and by intersects
-and not touches: its search alone, without the reading, over layers that nobody checked. The lists of pairs are compared.
-With --pairs, programs/bench_overlay as build.sh made it, the rounds alone are timed, too: in one process that has loaded both
-layers, the quickest of N from its beginning to its table, for each number of workers.
+PROGRAM is the built parcel_tool (benches/README.md says where it lies). The layers are made in a temporary folder with
+a fixed seed. For each, `check` of the parcels, `check` of the zones and `overlay` with each number of workers are run
+in turn, N times, each a whole process; the best time and the largest memory of each are printed, and what an overlay
+takes beyond both checks: that is the copy of the parcels, the pairs and the report. Over the cities GEOS finds the
+pairs of the same files (geos_pairs.cpp, with Debian's libgeos-dev and g++), by relate, and by intersects and not
+touches: its search alone, without the reading, over layers that nobody checked. The lists of pairs are compared. With
+--pairs, programs/bench_overlay as build.sh made it, the rounds alone are timed, too: in one process that has loaded
+both layers, the quickest of N from its beginning to its table, for each number of workers.
 """
 import argparse, os, shutil, struct, subprocess, sys, tempfile
 
@@ -26,7 +27,8 @@ def layers(folder, outline, parcels, zones):
 
 
 def corner(folder):
-    """All parcels but one in a corner of the city, so in one cell of its index; the zones are four quarters of that corner, and the rest."""
+    """All parcels but one in a corner of the city, so in one cell of its index; the zones are four quarters of that
+    corner, and the rest."""
     nodes.corner(folder)
     half, side = 12800, 25600
     last = [(half, half), (side, half), (side, side - 100), (side - 100, side - 100), (side - 100, side), (half, side)]
@@ -95,8 +97,10 @@ def least(known, job, seconds, kib):
 def measure(program, folder, runs, workers, limit):
     """The least seconds and the largest memory of each job."""
     files = {part: os.path.join(folder, part + ".shp") for part in ("city", "parcels", "zones")}
-    jobs = [("check parcels", ["check", files["city"], files["parcels"], "--unit", "cm"]),
-            ("check zones", ["check", files["city"], files["zones"], "--unit", "cm"])]
+    jobs = [
+        ("check parcels", ["check", files["city"], files["parcels"], "--unit", "cm"]),
+        ("check zones", ["check", files["city"], files["zones"], "--unit", "cm"]),
+    ]
     for number in workers:
         words = ["overlay", files["city"], files["parcels"], files["zones"], "--unit", "cm", "--workers", number]
         jobs.append(("overlay, %s" % number, words))
@@ -126,7 +130,10 @@ def compare(program, peer, folder):
     for way in ("touch", "relate"):
         theirs = subprocess.run([peer, way, *files[1:]], stdout=subprocess.PIPE, stderr=subprocess.PIPE, text=True)
         same = "the same" if theirs.stdout.splitlines() == pairs else "NOT THE SAME"
-        print("  GEOS %s: %.3f s, %d pairs, %s" % (way, int(theirs.stderr.split()[-1]) / 1e6, len(pairs), same), flush=True)
+        print(
+            "  GEOS %s: %.3f s, %d pairs, %s" % (way, int(theirs.stderr.split()[-1]) / 1e6, len(pairs), same),
+            flush=True,
+        )
 
 
 def main():
