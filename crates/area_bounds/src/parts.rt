@@ -6,10 +6,11 @@ ghost use Rattle.area_bounds.specs.Parts.{IsShare};
 
 use wide_numbers::{divided_with_rest, product};
 
-/// How many parts a square millimetre has, 2 ^ 26.
+/// How many parts a square millimetre has, 2 ^ 26. Each pair of edges loses one part at most, so fewer pairs lose less
+/// than a square millimetre together.
 pub const PARTS: u64 = 67_108_864;
 
-/// So many parts, rounded down.
+/// So many parts, rounded down: of 10/3 square millimetres 223,696,213, and 1 is lost.
 #[derive(Clone, Copy, Debug, PartialEq, Eq)]
 pub struct Counted {
     /// The whole parts.

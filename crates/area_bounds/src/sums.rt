@@ -13,7 +13,7 @@ use crate::parts::{PARTS, Parts};
 use crate::rising::Rising;
 use geo_exact::{Corner, RING_CORNERS};
 
-/// Whole numbers between which a twice-area lies, in square millimetres.
+/// Whole numbers between which a twice-area lies, in square millimetres, as 3 and 4 for 10/3.
 #[derive(Clone, Copy, Debug, PartialEq, Eq)]
 pub struct AreaBounds {
     /// It is at least this.

@@ -89,7 +89,7 @@ fn joined<'h, H: Allocator, A: Allocator + Copy>(
 ///
 /// # Errors
 ///
-/// [`AllocError`] where an allocation is refused.
+/// [`AllocError`] where an allocation fails.
 ///
 /// ```
 /// let lines = area_lines_by(rt, 4, alloc, &sheet, &zones, table.pairs())?;

@@ -23,6 +23,7 @@ fn distance(from: i64, to: i64) -> u64
 fn cell_side(low: i64, high: i64) -> u64
     ensures { result ≡ side_of low high }
 {
+    // One more than the share, so that the high end lies in the last cell.
     distance(low, high) / 64 + 1
 }
 

@@ -13,7 +13,7 @@ use std::io;
 use std::io::{Input, Read};
 use std::rt::Files;
 
-/// The bytes of a layer's files.
+/// The bytes of a layer's files: of `parcels.shp`, and of `parcels.shx` beside it.
 #[derive(Debug)]
 pub struct Source<A: Allocator> {
     /// The main file.

@@ -267,7 +267,7 @@ impl<'a, H: Allocator, J: Naming<H>, R: Wait + Drop> Desk<'a, H, J, R> {
     ///
     /// # Errors
     ///
-    /// [`AllocError`] where an allocation is refused.
+    /// [`AllocError`] where an allocation fails.
     pub fn sheet(&self) -> Result<Sheet<'a, H>, AllocError>
         ensures { IfOk result (λ sheet. sheet ≡ self.now.book) }
     {

@@ -203,7 +203,7 @@ impl<'a, H: Allocator, J: Naming<H>, R: Wait + Drop> Office<'a, H, J, R> {
     ///
     /// # Errors
     ///
-    /// [`AllocError`] where an allocation is refused.
+    /// [`AllocError`] where an allocation fails.
     ///
     /// ```
     /// let sheet = office.sheet(rt, cards.as_mut_slice())?;

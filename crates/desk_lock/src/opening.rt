@@ -30,7 +30,7 @@ pub enum OpenFault {
     Places(usize),
     /// K3: the window of this number, from 1, was given no reader.
     NoWindow(usize),
-    /// An allocation was refused.
+    /// An allocation failed.
     NoMemory,
 }
 

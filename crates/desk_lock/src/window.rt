@@ -30,7 +30,7 @@ pub enum LocateFault {
     /// K4: there is no version to answer from, as may be once the office is closed, or none as new as
     /// what the window was told.
     NoVersion,
-    /// An allocation was refused.
+    /// An allocation failed.
     NoMemory,
 }
 
@@ -175,7 +175,7 @@ impl<'a, H: Allocator, J: Naming<H>> Window<'a, H, J> {
     ///
     /// [`LocateFault::NoVersion`] (K4) where there is no version, as may be once the office is
     /// closed, or none as new as what this window was told: nothing has changed then. And
-    /// [`LocateFault::NoMemory`] where an allocation is refused; the window may have seen more
+    /// [`LocateFault::NoMemory`] where an allocation fails; the window may have seen more
     /// entries then.
     ///
     /// ```

@@ -37,7 +37,7 @@ pub enum CityFault {
     /// G5: it is folded over itself: these two of the triangles that it is clipped to overlap, the
     /// first two by the first's number and then by the second's, from 0.
     Folded(usize, usize),
-    /// An allocation was refused.
+    /// An allocation failed.
     NoMemory,
 }
 
@@ -68,7 +68,7 @@ impl<'a, H: Allocator> City<'a, H> {
     /// # Errors
     ///
     /// The first of these that applies: [`CityFault::Ring`] (G1, G3, G2), [`CityFault::Folded`] (G5); and
-    /// [`CityFault::NoMemory`] where an allocation is refused.
+    /// [`CityFault::NoMemory`] where an allocation fails.
     ///
     /// ```
     /// let city = City::new(heap, ring)?;

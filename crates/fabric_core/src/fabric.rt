@@ -133,7 +133,7 @@ impl<'a, H: Allocator> Fabric<'a, H> {
     ///
     /// # Errors
     ///
-    /// [`AllocError`] where an allocation is refused.
+    /// [`AllocError`] where an allocation fails.
     pub fn copy(&self) -> Result<Fabric<'a, H>, AllocError>
         ensures { IfOk result (λ copy. copy ≡ self.now) }
     {
@@ -152,7 +152,7 @@ impl<'a, H: Allocator> Fabric<'a, H> {
     ///
     /// # Errors
     ///
-    /// [`AllocError`] where an allocation is refused.
+    /// [`AllocError`] where an allocation fails.
     ///
     /// ```
     /// let sheet = fabric.sheet()?;
@@ -332,7 +332,7 @@ impl<'a, H: Allocator> Fabric<'a, H> {
     /// [`Refusal::BadPath`] (E3), for an insert [`Refusal::NoSuchEdge`] (E7) and
     /// [`Refusal::NotOnEdge`] (E8), for a straightening [`Refusal::NoSuchCorner`] (E11) and
     /// [`Refusal::NotFlat`] (E12); [`Refusal::TooMany`] (E10); [`Refusal::Ring`] (E6). And
-    /// [`Refusal::NoMemory`] where an allocation is refused.
+    /// [`Refusal::NoMemory`] where an allocation fails.
     ///
     /// ```
     /// // Of parcels 1 and 2, neighbours: the new parcel is 3.
@@ -377,7 +377,7 @@ impl<'a, H: Allocator> Fabric<'a, H> {
     /// # Errors
     ///
     /// [`FollowFault::NotDue`] exactly where the entry is not due, and [`FollowFault::NoMemory`]
-    /// where an allocation is refused; nothing has changed then.
+    /// where an allocation fails; nothing has changed then.
     pub fn follow(&mut self, entry: &Entry<&'a H>) -> Result<(), FollowFault>
         ensures due { OnOk result (IsDue self.old entry.now) }
         ensures now { OnOk result (self.new.now ≡ after_entry self.old.now entry.now) }

@@ -11,7 +11,7 @@ use std::alloc::AllocError;
 pub enum FollowFault {
     /// The entry is not due.
     NotDue,
-    /// An allocation was refused.
+    /// An allocation failed.
     NoMemory,
 }
 

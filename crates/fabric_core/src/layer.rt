@@ -46,7 +46,7 @@ pub enum LoadFault {
     /// often as the city: its two corners in order, and how much oftener the rings have it, each edge
     /// counted less the edge back.
     Gap(Corner, Corner, i64),
-    /// An allocation was refused.
+    /// An allocation failed.
     NoMemory,
 }
 
@@ -105,7 +105,7 @@ impl<'a, H: Allocator> Layer<'a, H> {
     /// # Errors
     ///
     /// The first of these that applies: [`LoadFault::TooMany`] (H3), [`LoadFault::Ring`] (H1),
-    /// [`LoadFault::Gap`] (H2); and [`LoadFault::NoMemory`] where an allocation is refused. No tiling
+    /// [`LoadFault::Gap`] (H2); and [`LoadFault::NoMemory`] where an allocation fails. No tiling
     /// is refused by H2.
     ///
     /// ```
@@ -153,7 +153,7 @@ impl<'a, H: Allocator> Layer<'a, H> {
     ///
     /// The first fault that applies, as `load` answers it: [`LoadFault::TooMany`] (H3),
     /// [`LoadFault::Ring`] (H1), [`LoadFault::Gap`] (H2); and [`LoadFault::NoMemory`] where an
-    /// allocation is refused.
+    /// allocation fails.
     pub fn load_or_all(
         heap: &'a H,
         city: &City<'a, H>,
@@ -308,7 +308,7 @@ impl<'a, H: Allocator + Send + Sync> Layer<'a, H> {
     /// # Errors
     ///
     /// As `load`: [`LoadFault::TooMany`] (H3), [`LoadFault::Ring`] (H1), [`LoadFault::Gap`] (H2); and
-    /// [`LoadFault::NoMemory`] where an allocation is refused.
+    /// [`LoadFault::NoMemory`] where an allocation fails.
     ///
     /// ```
     /// let layer = Layer::load_by(rt, 4, heap, &city, records)?;

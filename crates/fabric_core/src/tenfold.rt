@@ -24,7 +24,7 @@ pub enum ScaleFault {
     /// M1: the corner is more than 10,000,000,000 mm from 0 along an axis; the least such corner, by x and then by y,
     /// of the fabric, its opening and its journal.
     TooFar(Corner),
-    /// An allocation was refused.
+    /// An allocation failed.
     NoMemory,
 }
 

@@ -355,7 +355,7 @@ fn replace_all<A: Allocator>(parcels: &mut Parcels<A>, ids: &[u64], shapes: Vec<
 }
 
 impl<'a, H: Allocator> Tiled<'a, H> {
-    /// One parcel becomes two, under the next ids. Where an allocation is refused, nothing has changed.
+    /// One parcel becomes two, under the next ids. Where an allocation fails, nothing has changed.
     pub(crate) fn divide(
         &mut self,
         id: u64,
@@ -392,7 +392,7 @@ impl<'a, H: Allocator> Tiled<'a, H> {
         Ok(())
     }
 
-    /// Two parcels become one, under the next id. Where an allocation is refused, nothing has changed.
+    /// Two parcels become one, under the next id. Where an allocation fails, nothing has changed.
     pub(crate) fn unite(
         &mut self,
         a: u64,
@@ -426,7 +426,7 @@ impl<'a, H: Allocator> Tiled<'a, H> {
         Ok(())
     }
 
-    /// Two parcels become two others, under the next ids. Where an allocation is refused, nothing has changed.
+    /// Two parcels become two others, under the next ids. Where an allocation fails, nothing has changed.
     pub(crate) fn renew(
         &mut self,
         a: u64,
@@ -468,7 +468,7 @@ impl<'a, H: Allocator> Tiled<'a, H> {
     }
 
     /// A corner is put into the rings of parcels or taken out of them; they keep their ids and get these shapes. The
-    /// city's refined ring is changed, too. Where an allocation is refused, nothing has changed.
+    /// city's refined ring is changed, too. Where an allocation fails, nothing has changed.
     pub(crate) fn change_rings(
         &mut self,
         change: RingChange,

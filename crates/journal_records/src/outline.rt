@@ -13,7 +13,7 @@ use text_pieces::{push_corner, push_number};
 ///
 /// # Errors
 ///
-/// [`AllocError`] where an allocation is refused; a beginning of the line may stand at the end of the text then.
+/// [`AllocError`] where an allocation fails; a beginning of the line may stand at the end of the text then.
 pub fn push_outline<A: Allocator>(
     text: &mut Vec<u8, A>,
     number: u64,

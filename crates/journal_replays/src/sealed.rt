@@ -14,7 +14,7 @@ use std::alloc::{AllocError, Allocator};
 ///
 /// # Errors
 ///
-/// [`AllocError`] where an allocation is refused.
+/// [`AllocError`] where an allocation fails.
 pub fn seal_of_layer<'h, H: Allocator>(
     heap: &'h H,
     fabric: &Fabric<'h, H>,

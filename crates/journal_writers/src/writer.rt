@@ -169,7 +169,7 @@ impl<K: JournalFile, B: Allocator> JournalWriter<K, B> {
     ///
     /// # Errors
     ///
-    /// [`AllocError`] where an allocation is refused.
+    /// [`AllocError`] where an allocation fails.
     pub fn draft<A: Allocator + Copy>(
         &self,
         alloc: A,

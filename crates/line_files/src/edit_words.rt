@@ -18,7 +18,7 @@ use std::alloc::{AllocError, Allocator};
 ///
 /// # Errors
 ///
-/// [`AllocError`] where an allocation is refused.
+/// [`AllocError`] where an allocation fails.
 ///
 /// ```
 /// // Some, of the edit that makes parcels 3 and 4 one:

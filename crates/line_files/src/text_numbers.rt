@@ -12,7 +12,7 @@ ghost use Rattle.line_files.specs.declared.text_numbers.TheConstants.{MOST_DIGIT
 use crate::grids::Grid;
 use geo_exact::{Corner, LIMIT};
 
-/// The most digits of a number in a text.
+/// The most digits of a number in a text: each number of so many fits 64 bits, and not each of one more.
 pub const MOST_DIGITS: usize = 19;
 
 /// A number in a text has at most 19 digits, and not one fewer.

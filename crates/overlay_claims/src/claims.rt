@@ -18,8 +18,8 @@ use std::marker::Model;
 /// The token with which a hand claims places, and by which proofs follow what it knows. It has no bytes.
 pub(crate) type Mark = Seat<(), View>;
 
-/// How many words there are for each list, of which one is used: so no two that hands change lie in one line
-/// of a cache.
+/// How many words there are for each list, of which one is used: so no two that hands change lie in one line of a
+/// cache, nor in two lines, of 64 bytes each, that are fetched together.
 const APART: usize = 16;
 
 /// The number of a list's word, which has eight words that nobody uses before it, and seven behind.
@@ -55,7 +55,7 @@ impl<A: Allocator + Copy> Claims<A> {
     ///
     /// # Errors
     ///
-    /// [`AllocError`] where an allocation is refused.
+    /// [`AllocError`] where an allocation fails.
     pub fn open(alloc: A, lengths: Vec<u64, A>) -> Result<(Claims<A>, Vec<Claimant, A>), AllocError>
         requires some { 0 < length lengths.items }
         requires short { AllByRecursion (λ n. n + length lengths.items < 2 ^ 64) lengths.items }

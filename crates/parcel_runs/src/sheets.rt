@@ -65,7 +65,7 @@ fn push_tiling<S: Sink>(text: &mut S, count: usize, area2: u128) -> Result<(), S
 ///
 /// # Errors
 ///
-/// [`AllocError`] where an allocation is refused.
+/// [`AllocError`] where an allocation fails.
 pub fn export_sheet<'h, H: Allocator>(
     heap: &'h H,
     sheet: Sheet<'h, H>,

@@ -17,7 +17,8 @@ use slab::Slab;
 use std::alloc::{AllocError, Allocator};
 use std::marker::Model;
 
-/// A parcel of a layer.
+/// A parcel of a layer. It keeps its id where an edit only puts a corner into its ring or takes one out; a parcel that
+/// is split, merged or moved goes, and others come.
 #[derive(Drop)]
 pub struct Parcel<A: Allocator> {
     /// Its id.
@@ -103,7 +104,7 @@ impl<A: Allocator + Copy> Parcels<A> {
     ///
     /// # Errors
     ///
-    /// [`AllocError`] where an allocation is refused; the parcels are then as before, and the shape is dropped.
+    /// [`AllocError`] where an allocation fails; the parcels are then as before, and the shape is dropped.
     pub fn push(&mut self, id: u64, shape: Shape<A>) -> Result<usize, AllocError>
         requires { self.old.next ≤ id }
         ensures parcels { IfOk result (λ key.

@@ -47,7 +47,7 @@ impl<F: Follows<E>, E: Drop, J: Naming, R: Wait + Drop, A: Allocator> Publisher<
     ///
     /// # Errors
     ///
-    /// [`AllocError`] where an allocation is refused.
+    /// [`AllocError`] where an allocation fails.
     pub fn open(
         rt: R,
         alloc: A,
@@ -81,7 +81,7 @@ impl<F: Follows<E>, E: Drop, J: Naming, R: Wait + Drop, A: Allocator> Publisher<
     ///
     /// # Errors
     ///
-    /// [`AllocError`] where each place for a reader is in use, or an allocation is refused.
+    /// [`AllocError`] where each place for a reader is in use, or an allocation fails.
     pub fn reader(&self) -> Result<ReadHandle<Version<F, E, J>, A>, AllocError> {
         self.copies.reader()
     }

@@ -16,8 +16,8 @@ const FIRST_WAIT: u64 = 1;
 /// How long a wait is at most, in milliseconds.
 const LONGEST_WAIT: u64 = 32;
 
-/// How many waits there are: a second together. A client that reads takes its last answers in that time; one that does
-/// not is cut off.
+/// How many waits there are: a second together, with five of 1 to 16 milliseconds and 31 of the longest. A client that
+/// reads takes its last answers in that time; one that does not is cut off.
 const WAITS: usize = 36;
 
 /// A desk's pipes as the other end has them.
@@ -102,6 +102,7 @@ fn wait_for_desks<P: Pipes, A: Allocator>(pipes: &P, paths: &[Paths<A>]) {
 fn take_all(pipe: &File) {
     let mut pipe = pipe;
     let mut taken = [0; 4096];
+    // Nobody writes so often: the loop ends with the pipe.
     for _ in 0..u64::MAX {
         match pipe.read(&mut taken) {
             Ok(0) | Err(_) => return,

@@ -97,7 +97,7 @@ pub(crate) struct Paths<A: Allocator> {
 /// # Errors
 ///
 /// [`StartFault::NoPipe`] (S4) with the first path at which is no named pipe, or one of those before, or one that every
-/// user can read or write, or a lock that another session holds; [`StartFault::Run`] where an allocation is refused.
+/// user can read or write, or a lock that another session holds; [`StartFault::Run`] where an allocation fails.
 pub(crate) fn find_pipes<'a, F: Files<File = File>, A: Allocator + Copy>(
     files: &F,
     alloc: A,

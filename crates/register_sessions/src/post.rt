@@ -11,7 +11,7 @@ use std::alloc::{AllocError, Allocator};
 use std::io::{BufReader, Read};
 use text_pieces::put_all;
 
-/// How many bytes of answers are collected at most before they are written.
+/// How many bytes of answers are collected at most before they are written: as many as a pipe of Linux holds.
 const MOST_TEXT: usize = 65_536;
 
 /// What follows a line that was answered.
@@ -79,6 +79,7 @@ pub(crate) fn serve_lines<
 >(alloc: A, door: &Door, reader: &mut BufReader<F, B>, out: &mut W, attendant: &mut T) -> Served {
     let mut line = Vec::new(alloc);
     let mut text = Vec::new(alloc);
+    // Nobody asks so often: the loop ends with who asks, or with the session.
     for _ in 0..u64::MAX {
         let came = match take_line(door, reader, &mut line, &mut text, out) {
             Ok(came) => came,

@@ -128,6 +128,7 @@ fn table_of<'t, 'h, H: Allocator>(
 fn step_until_done<'t, 'h, H: Allocator>(hand: &mut Hand<'t, 'h, H>)
     ensures { hand.new.task ≡ hand.old.task }
 {
+    // No layer has so many parcels: the loop ends with the hand's work.
     for _ in 0..u64::MAX {
         match hand.step() {
             Step::Did(_) => {}
@@ -186,7 +187,7 @@ pub trait Exports {
     ///
     /// # Errors
     ///
-    /// [`AllocError`] where an allocation is refused.
+    /// [`AllocError`] where an allocation fails.
     fn obstacle<A: Allocator + Copy>(
         &self,
         alloc: A,

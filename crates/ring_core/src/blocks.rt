@@ -12,13 +12,13 @@ use geo_exact::Corner;
 use leaning_boxes::LeaningBox;
 use std::alloc::{AllocError, Allocator};
 
-/// The most corners of a ring that is clipped without blocks.
+/// The most corners of a ring that is clipped without blocks: to make them for fewer takes longer than it spares.
 const FEW_CORNERS: usize = 64;
 
-/// How many corners a block has, as it is made.
+/// How many corners a block has, as it is made: so few in a row lie near each other, and their box is narrow.
 pub const BLOCK_CORNERS: usize = 16;
 
-/// Numbers that follow one another: from `start` on and before `end`.
+/// Numbers that follow one another: from `start` on and before `end`, as 3, 4 and 5 from 3 on and before 6.
 #[derive(Clone, Copy, Debug)]
 pub struct Span {
     /// The first number.
@@ -63,7 +63,7 @@ pub struct BlockList<A: Allocator> {
 ///
 /// # Errors
 ///
-/// [`AllocError`] where an allocation is refused.
+/// [`AllocError`] where an allocation fails.
 pub fn blocks_of<A: Allocator + Copy>(
     alloc: A,
     corners: &[Corner],

@@ -22,7 +22,8 @@ use crate::witness::witness_of;
 use geo_exact::Corner;
 use std::alloc::{AllocError, Allocator};
 
-/// What the clipping knows of a corner of a ring.
+/// What the clipping knows of a corner of a ring: of a square each corner is a candidate at first, and of an L the
+/// inner one is bent.
 #[derive(Clone, Copy, Debug)]
 pub enum Kind {
     /// It lies on the edge between its neighbours.
@@ -59,7 +60,7 @@ pub fn kind_at(corners: &[Corner], k: usize) -> Kind
 ///
 /// # Errors
 ///
-/// [`AllocError`] where an allocation is refused.
+/// [`AllocError`] where an allocation fails.
 pub fn kinds_of<A: Allocator>(alloc: A, corners: &[Corner]) -> Result<Vec<Kind, A>, AllocError>
     ensures are { IfOk result (λ kinds. (numbers : List ℕ) → AreKinds corners.now numbers kinds.items) }
     ensures unblocked { IfOk result (λ kinds. NeedNoMark kinds.items) }

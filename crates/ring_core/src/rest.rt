@@ -61,7 +61,7 @@ impl<A: Allocator + Copy> Rest<A> {
     ///
     /// # Errors
     ///
-    /// [`AllocError`] where an allocation is refused.
+    /// [`AllocError`] where an allocation fails.
     pub(crate) fn from_corners(alloc: A, corners: &[Corner]) -> Result<Rest<A>, AllocError>
         ensures { IfOk result (λ rest. rest ≡ corners.now) }
     {

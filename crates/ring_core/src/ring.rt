@@ -14,7 +14,7 @@ use crate::places::following;
 use geo_exact::{Corner, Corners, area2, edge_boxes_meet};
 use std::alloc::{AllocError, Allocator};
 
-/// The most edges of a ring whose pairs are tried one by one.
+/// The most edges of a ring whose pairs are tried one by one: to put boxes round fewer takes longer than it spares.
 const FEW_EDGES: usize = 64;
 
 /// A simple ring: counterclockwise, of positive area, and its edges meet only as neighbours, in their

@@ -65,7 +65,7 @@ impl<A: Allocator + Copy> Shape<A> {
     ///
     /// # Errors
     ///
-    /// [`AllocError`] where an allocation is refused.
+    /// [`AllocError`] where an allocation fails.
     ///
     /// ```
     /// let shape = Shape::clip(alloc, Ring::check(corners)?)?;

@@ -68,7 +68,7 @@ impl<A: Allocator> Triangles<A> {
     ///
     /// # Errors
     ///
-    /// [`AllocError`] where an allocation is refused.
+    /// [`AllocError`] where an allocation fails.
     pub fn with_capacity(alloc: A, capacity: usize) -> Result<Triangles<A>, AllocError>
         ensures { IfOk result (λ triangles. triangles ≡ []) }
     {
@@ -80,7 +80,7 @@ impl<A: Allocator> Triangles<A> {
     ///
     /// # Errors
     ///
-    /// [`AllocError`] where an allocation is refused.
+    /// [`AllocError`] where an allocation fails.
     pub fn push(&mut self, tri: Tri) -> Result<(), AllocError>
         ensures ok { OnOk result (self.new ≡ self.old ++ tri ∷ []) }
         ensures err { OnErr result (self.new ≡ self.old) }

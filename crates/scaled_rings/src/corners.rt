@@ -32,7 +32,7 @@ pub fn tenfold(corner: Corner) -> Corner
 ///
 /// # Errors
 ///
-/// [`AllocError`] where an allocation is refused.
+/// [`AllocError`] where an allocation fails.
 pub fn tenfold_all<A: Allocator>(alloc: A, corners: &[Corner]) -> Result<Corners<A>, AllocError>
     requires { AllByRecursion IsNear corners.now }
     ensures { IfOk result (λ others. AreTenTimes corners.now others) }

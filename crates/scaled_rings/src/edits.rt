@@ -15,7 +15,7 @@ use std::alloc::{AllocError, Allocator};
 ///
 /// # Errors
 ///
-/// [`AllocError`] where an allocation is refused.
+/// [`AllocError`] where an allocation fails.
 pub fn tenfold_edit<A: Allocator>(alloc: A, edit: &Edit<A>) -> Result<Edit<A>, AllocError>
     requires { AllByRecursion IsNear (corners_of_edit edit.now) }
     ensures { IfOk result (λ other. IsTenfoldEdit edit.now other) }

@@ -16,7 +16,7 @@ pub enum SessionFault {
     BadLine,
     /// K4: there is no version to answer from.
     NoVersion,
-    /// An allocation was refused.
+    /// An allocation failed.
     NoMemory,
     /// The line is one of the operator's, and came from another desk.
     OperatorOnly,

@@ -198,7 +198,7 @@ pub fn begin_writer<'h, H: Allocator, F: JournalFile>(
 ///
 /// # Errors
 ///
-/// [`AllocError`] where an allocation is refused.
+/// [`AllocError`] where an allocation fails.
 pub fn ready_text<'h, H: Allocator>(
     heap: &'h H,
     fabric: &Fabric<'h, H>,

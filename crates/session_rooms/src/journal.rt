@@ -121,7 +121,7 @@ impl<F: JournalFile, A: Allocator, K: Clocked> Journal<F, A, K> {
 ///
 /// # Errors
 ///
-/// [`AllocError`] where an allocation is refused.
+/// [`AllocError`] where an allocation fails.
 pub fn time_of<K: Clocked, B: Allocator + Copy>(
     alloc: B,
     synchroniser: &K,

@@ -236,6 +236,7 @@ impl<'r, 'h, H: Allocator, J: Naming<H>, R: Wait, F: JournalFile, K: Clocked> Ro
         ensures broken { IfErr result (λ fault. IfJournalFails fault (writer.new.is_broken ≡ true)) }
     {
         let stamp = Stamp {
+            // It never wraps: a journal is full long before.
             number: writer.records().wrapping_add(1),
             clerk: card.clerk(),
             time,

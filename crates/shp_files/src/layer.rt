@@ -29,7 +29,7 @@ use std::alloc::Allocator;
 /// # Errors
 ///
 /// [`LayerFault::File`] with the first fault in the order of the checks, those of the main file first, and
-/// [`LayerFault::NoMemory`] only where an allocation was refused.
+/// [`LayerFault::NoMemory`] only where an allocation failed.
 ///
 /// ```
 /// let rings = read_layer(alloc, main.as_slice(), Some(index.as_slice()), Unit::Mm)?;

@@ -22,9 +22,10 @@ use geo_exact::{
 };
 use std::alloc::Allocator;
 
+/// The shape type of null shapes.
 const NULL_SHAPE: i32 = 0;
 
-/// The bytes of a record before its points.
+/// The bytes of a record before its points: 8 of its header and 48 of its content.
 const POINTS: usize = 56;
 
 /// The most points of a ring, the closing one included.
@@ -117,6 +118,7 @@ fn check_counts(
 {
     let start = head.start;
     let words = big_at(main, start + 4);
+    // The type, the box, and the numbers of parts and points have so many.
     refuse_if(words < 22, head.fault(4, FaultKind::Content))?;
     let parts = little_at(main, start + 44);
     refuse_if(parts != 1, head.fault(44, FaultKind::Parts))?;

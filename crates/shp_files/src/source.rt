@@ -9,7 +9,7 @@ ghost use Rattle.shp_files.specs.declared.source.ReadFault.TheVariants.{Device, 
 use geo_exact::{ByteIn, FILE_BYTES, Failed};
 use std::alloc::{AllocError, Allocator};
 
-/// The zeros that are added at first.
+/// The zeros that are added at first: room for a small layer at once.
 const LEAST_PIECE: usize = 16384;
 
 /// The most zeros that are added at once: so few that they are still in the processor's cache when
@@ -48,7 +48,7 @@ impl From<AllocError> for ReadFault {
 /// # Errors
 ///
 /// [`ReadFault::Device`] only where the reader failed in this call, [`ReadFault::TooLong`], and
-/// [`ReadFault::NoMemory`] only where an allocation was refused. With each of them no bytes are handed on.
+/// [`ReadFault::NoMemory`] only where an allocation failed. With each of them no bytes are handed on.
 ///
 /// ```
 /// let main = read_all(alloc, &mut Counted::new(File::open(rt, path)?))?;

@@ -37,6 +37,7 @@ fn content_words(ring: &[Corner]) -> u32
     requires { length ring.now ≤ LAYER_CORNERS }
     ensures { result ≡ written.words (written.content ring.now) }
 {
+    // 48 bytes before the points, and 16 of each.
     24 + 8 * point_count(ring)
 }
 
@@ -111,11 +112,13 @@ fn put_header<A: Allocator>(
         → OnOk result (out.new.items ≡ out.old.items ++ written.header file_words corners) }
 {
     put_big(out, FILE_CODE as u32)?;
+    // Five numbers that are not used.
     out.extend_from_slice(&[0u8; 20])?;
     put_big(out, file_words)?;
     put_little(out, VERSION as u32)?;
     put_little(out, POLYGON as u32)?;
     put_box(out, bounds)?;
+    // The ranges of heights and measures, which polygons have none of.
     out.extend_from_slice(&[0u8; 32])
 }
 
@@ -169,6 +172,7 @@ fn put_index_records<A: Allocator>(
     ensures { OnOk result
         (out.new.items ≡ out.old.items ++ written.index_records 50 (corner_lists rings.now)) }
 {
+    // In words, behind the header.
     let mut place = 50;
     for ring in rings {
         let words = content_words(ring.corners.as_slice());

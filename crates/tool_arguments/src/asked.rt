@@ -21,7 +21,7 @@ use std::alloc::{AllocError, Global};
 ///
 /// # Errors
 ///
-/// [`AllocError`] where an allocation is refused.
+/// [`AllocError`] where an allocation fails.
 pub fn request_of<'a>(
     alloc: Global,
     verb: Verb,

@@ -11,7 +11,7 @@ use geo_exact::Bounds;
 use ring_core::{Shape, Tri, bounds_of};
 use std::alloc::Allocator;
 
-/// Where either list has so few triangles, each pair is tried.
+/// Where either list has so few triangles, each pair is tried: to halve such a list takes longer than it spares.
 const FEW: usize = 8;
 
 /// Whether the triangle's interior meets that of some triangle of the list; the window has all such points.
