@@ -118,6 +118,7 @@ impl<A: Allocator + Copy> Claims<A> {
         ensures bounded { IfSome result (λ place. length mark.new.me.0.places ≤ sum_by (λ n. n) self.now.lengths) }
         ensures none { IfNone result (mark.new.me.0 ≡ with_note mark.old.me.0 list) }
     {
+        // At the end a word may go beyond the length. It never wraps: a hand that notes an end adds no more there.
         let found = self
             .table
             .shared

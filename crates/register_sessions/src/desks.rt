@@ -59,6 +59,7 @@ fn serve_next<'p, 'h, P: Pipes, H: Allocator, J: Naming<H>, R: Wait, K: Clocked>
         return After::End;
     }
     let paths = desk.paths;
+    // Said in the door: whoever closes the session looks at it once nobody stands there any more.
     paths.serves.store(true, Ordering::SeqCst);
     let opened = open_both(room, pipes, paths);
     drop(kept);

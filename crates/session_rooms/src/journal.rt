@@ -105,8 +105,10 @@ impl<F: JournalFile, A: Allocator, K: Clocked> Journal<F, A, K> {
     /// Synchronises all records that were written, and wakes those that wait for it; what the disk has then, `None`
     /// where it failed.
     fn synchronise<R: Wait>(&self, rt: &R) -> Option<OnDisk> {
+        // Counted before it begins: what is written meanwhile may not be on the disk at its end.
         let brought = sync(&self.synchroniser, self.records.load(Ordering::SeqCst));
         if brought.is_err() {
+            // Before anybody is woken, so that nobody writes behind a synchronisation that failed.
             self.writer.lock(rt).give_up();
         }
         let mut synced = self.synced.lock(rt);
