@@ -1,8 +1,7 @@
 //! Edits that are written as lines, and read back.
 
-use line_files::push_edit_line;
 use geo_exact::LIMIT;
-use line_files::{ClerkFault, read_clerk};
+use line_files::{ClerkFault, push_edit_line, read_clerk};
 use refusing_alloc::Refusing;
 use ring_edits::Edit;
 use std::alloc::{AllocError, Allocator, Global};
