@@ -22,6 +22,7 @@ measure tiling python3 "$here/tiling.py" "$tool" --export
 measure locate python3 "$here/locate.py" --ours "$programs/bench_locate" --runs 3
 measure edits python3 "$here/edits.py" --ours "$programs/bench_edits"
 measure zoning python3 "$here/zoning.py" "$tool" --pairs "$programs/bench_overlay"
+measure zone_areas /usr/bin/python3 "$here/zone_areas.py" "$tool"
 measure office python3 "$here/office.py" --ours "$programs/bench_office" --runs 3
 measure sessions python3 "$here/sessions.py" "$tool" --office "$programs/bench_office"
 measure overlap python3 "$here/overlap.py" --ours "$programs/bench_overlap"
