@@ -286,7 +286,7 @@ fn long_ring(alloc: Global) -> Result<Corners<Global>, Fail> {
         list.push(corner((x, 0))?)?;
     }
     for back in 0..1_001i64 {
-        list.push(corner((1_000 - back, 9))?)?;
+        list.push(corner((1_000i64.wrapping_sub(back), 9))?)?;
     }
     Ok(list)
 }

@@ -1,13 +1,13 @@
 //! Each growth refused in turn of adding a ring to an edge sum, and of taking one: nothing has
 //! changed, and with memory the same call counts the ring.
 
-use crate::refuses::{MOST, Refuses, told, was_refused};
+use crate::refuses::{MOST, told};
 use edge_chains::EdgeSum;
 use geo_exact::{Corner, Corners};
 use refusing_alloc::Refusing;
 use std::alloc::{AllocError, Allocator};
 use std::test::Fail;
-use test_builders::{rectangle, saw};
+use test_builders::{Refuses, rectangle, saw, was_refused};
 
 /// Adds or takes a ring. More edges than the tests here count are an error too, and so fail the test.
 pub fn count<A: Allocator + Copy>(

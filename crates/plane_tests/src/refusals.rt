@@ -1,14 +1,14 @@
 //! Each growth of a call refused in turn: its answer is want of memory, nothing has changed, and
 //! with memory the same call gives the answer that it has to give.
 
-use crate::refuses::{MOST, Refuses, told, was_refused};
+use crate::refuses::{MOST, told};
 use crate::rings::rings_of;
 use edge_chains::node;
 use geo_exact::{Corner, Corners};
 use refusing_alloc::Refusing;
 use ring_core::{Shape, Tri};
 use std::test::Fail;
-use test_builders::{Place, corners, shape, simple_ring, triangle};
+use test_builders::{Place, Refuses, corners, shape, simple_ring, triangle, was_refused};
 
 const BENT: [Place; 5] = [(0, 0), (100, 0), (50, 50), (40, 90), (0, 100)];
 

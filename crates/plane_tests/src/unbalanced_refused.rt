@@ -2,12 +2,12 @@
 //! memory the same call tells them all.
 
 use crate::edge_sums::sum_of;
-use crate::refuses::{MOST, Refuses, told, was_refused};
+use crate::refuses::{MOST, told};
 use edge_chains::EdgeSum;
 use geo_exact::Corner;
 use refusing_alloc::Refusing;
 use std::test::Fail;
-use test_builders::rectangle;
+use test_builders::{Refuses, rectangle, was_refused};
 
 /// The edges of the square, each once, in the direction in which it is less.
 const WANT: [(Corner, Corner, i64); 4] = [
