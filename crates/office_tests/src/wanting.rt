@@ -1,6 +1,5 @@
 //! Each growth refused in turn.
 
-use crate::opened::Refuses;
 use crate::plays::{NONE, Play, Told};
 use crate::rows::{HALVED, told_of, told_of_opening};
 use desk_lock::{Name, OpenFault};
@@ -8,6 +7,7 @@ use refusing_alloc::Refusing;
 use std::sync::Wait;
 use std::test::Fail;
 use std::thread::Threads;
+use test_builders::Refuses;
 
 /// No call here has so many growths.
 const MOST: u64 = 1000;
