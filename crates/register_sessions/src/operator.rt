@@ -1,9 +1,11 @@
 //! The operator's desk.
 
 use crate::journal_file::{DiskFile, Machine};
+use crate::own_files::OwnFiles;
 use crate::post::{Attendant, Next, Served, Trouble, serve_lines};
-use crate::reports::{Exports, Ground, report_areas, report_check, report_export, report_overlay};
+use crate::reports::{Exports, report_areas, report_check, report_export, report_overlay};
 use desk_lock::Naming;
+use fabric_core::Layer;
 use geo_exact::ByteOut;
 use session_lines::{Line, SessionFault, push_error, push_failure, push_published};
 use session_rooms::{Asked, Came, Chair, Clocked, Room, answer_asked, read_asked};
@@ -11,11 +13,14 @@ use std::alloc::{AllocError, Allocator};
 use std::io::{BufReader, Read};
 use std::sync::Wait;
 
-/// The operator's desk: who sits there, and what reports need.
+/// The operator's desk: who sits there, and what reports need beside the office's sheet.
 #[derive(Drop)]
 pub(crate) struct Operator<'h, H: Allocator, J: Naming<H>> {
     pub(crate) chair: Chair<'h, H, J>,
-    pub(crate) ground: Ground<'h, H>,
+    /// The zones of the city, where there are some.
+    pub(crate) zones: Option<Layer<'h, H>>,
+    /// The files that no export replaces.
+    pub(crate) own_files: OwnFiles<&'h H>,
 }
 
 /// Answers the operator's lines until no further one is taken.
@@ -70,7 +75,11 @@ impl<
         out: &mut W,
     ) -> Result<Next, Trouble> {
         let room = self.room;
-        let Operator { chair, ground } = &mut *self.operator;
+        let Operator {
+            chair,
+            zones,
+            own_files,
+        } = &mut *self.operator;
         let Asked { who, line } = match read_asked(room.heap, came, line) {
             Ok(asked) => asked,
             Err(fault) => {
@@ -80,9 +89,9 @@ impl<
         };
         match line {
             Line::Check => answer_check(room, text)?,
-            Line::Overlay => answer_overlay(room, ground, false, text, out)?,
-            Line::OverlayAreas => answer_overlay(room, ground, true, text, out)?,
-            Line::Export(base) => answer_export(room, self.disk, ground, base, text)?,
+            Line::Overlay => answer_overlay(room, zones, false, text, out)?,
+            Line::OverlayAreas => answer_overlay(room, zones, true, text, out)?,
+            Line::Export(base) => answer_export(room, self.disk, own_files, base, text)?,
             Line::Publish => answer_publish(room, chair, text)?,
             Line::Close => return Ok(Next::End),
             line => answer_asked(room, chair, Asked { who, line }, text)?,
@@ -106,12 +115,12 @@ fn answer_check<'h, H: Allocator, J: Naming<H>, R: Wait, K: Clocked>(
 /// much of each parcel lies in each zone.
 fn answer_overlay<'h, H: Allocator, J: Naming<H>, R: Wait, K: Clocked, W: ByteOut>(
     room: &Room<'_, 'h, H, J, R, DiskFile, K>,
-    ground: &Ground<'h, H>,
+    zones: &Option<Layer<'h, H>>,
     has_areas: bool,
     text: &mut Vec<u8, &'h H>,
     out: &mut W,
 ) -> Result<(), Trouble> {
-    let Some(zones) = &ground.zones else {
+    let Some(zones) = zones else {
         return Ok(push_error(text, SessionFault::NoZones)?);
     };
     match room.sheet() {
@@ -126,11 +135,11 @@ fn answer_overlay<'h, H: Allocator, J: Naming<H>, R: Wait, K: Clocked, W: ByteOu
 fn answer_export<'h, P: Exports + Machine, H: Allocator, J: Naming<H>, R: Wait, K: Clocked>(
     room: &Room<'_, 'h, H, J, R, DiskFile, K>,
     disk: &P,
-    ground: &Ground<'h, H>,
+    own_files: &OwnFiles<&'h H>,
     base: &str,
     text: &mut Vec<u8, &'h H>,
 ) -> Result<(), AllocError> {
-    if let Some(path) = ground.own_files.find_in_export(disk, room.heap, base)? {
+    if let Some(path) = own_files.find_in_export(disk, room.heap, base)? {
         let why = format!(in room.heap; "S5 {path}")?;
         return push_failure(text, why.as_str());
     }

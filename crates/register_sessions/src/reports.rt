@@ -8,7 +8,6 @@ ghost use Rattle.zone_tables.specs.Overlap.{IsOverlapTable};
 ghost use Rattle.session_lines.specs.declared.faults.SessionFault.TheVariants.{NoMemory, NoZones};
 ghost use Rattle.register_sessions.specs.own.Overlays.{WritesTable, AnswersOverlay, AnswersAreas, IsFaultOfAllHands};
 
-use crate::own_files::OwnFiles;
 use crate::post::{Trouble, write_out};
 use area_shares::{AreaLine, area_lines, write_areas};
 use city_layers::ToolFault;
@@ -19,14 +18,6 @@ use parcel_runs::sheets::{export_sheet, push_sheet_tiling};
 use session_lines::{SessionFault, push_end, push_error, push_failure};
 use std::alloc::{AllocError, Allocator};
 use zone_tables::write_report;
-
-/// What reports need beside the office's sheet: the zones of its city, where there are some, and which files no export
-/// replaces.
-#[derive(Drop)]
-pub(crate) struct Ground<'h, H: Allocator> {
-    pub(crate) zones: Option<Layer<'h, H>>,
-    pub(crate) own_files: OwnFiles<&'h H>,
-}
 
 /// Adds the line of a sheet's tiling.
 pub(crate) fn report_check<'h, H: Allocator>(

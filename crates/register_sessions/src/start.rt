@@ -8,12 +8,12 @@ ghost use Rattle.register_sessions.specs.StartFaults.{IsToldOf, IsToldRefused};
 
 use crate::found_journal::{FoundJournal, find_journal};
 use crate::journal_file::{DiskFile, DiskSynchroniser, Machine};
-use crate::offices::{Seats, clerks_of, seat_all, windows_of};
+use crate::offices::{clerks_of, seat_all, windows_of};
 use crate::operator::Operator;
 use crate::own_files::OwnFiles;
 use crate::pipes::{Paths, Pipes, find_pipes, let_go};
-use crate::reports::{Exports, Ground};
-use crate::serving::{Counter, serve};
+use crate::reports::Exports;
+use crate::serving::{Reception, serve};
 use crate::start_fault::StartFault;
 use city_layers::{Disk, ToolFault, read_source, read_text};
 use clerk_runs::push_refusal;
@@ -335,14 +335,17 @@ fn at_office<
         Ok(opened) => opened,
         Err((_, fault)) => return Err(StartFault::from(fault)),
     };
-    let Seats { desks, chair } = seat_all(heap, paths, cards, windows)?;
+    let (desks, chair) = seat_all(heap, paths, cards, windows)?;
     let room = Room::new(office, journal, heap, rt);
-    let ground = Ground { zones, own_files };
-    let operator = Operator { chair, ground };
-    let counter = Counter {
+    let reception = Reception {
+        operator: Operator {
+            chair,
+            zones,
+            own_files,
+        },
         reader,
         text,
         out: Counted::new(io::writer(rt)),
     };
-    serve(room, disk, paths, desks, operator, counter)
+    serve(room, disk, paths, desks, reception)
 }

@@ -7,9 +7,9 @@ use std::sync::{Condvar, Mutex, Wait};
 /// Once the session closes, no desk goes in any more, and none takes a further line.
 #[derive(Drop)]
 pub struct Door {
-    // Set under the lock alone, so that no desk steps in behind it; before each line it is read without the lock.
+    /// Whether the session closes: set only while `standing` is locked, so nobody steps in behind it.
     closing: AtomicBool,
-    // How many desks stand in the door.
+    /// How many stand in the door.
     standing: Mutex<usize>,
     passed: Condvar,
 }
@@ -35,7 +35,6 @@ impl Door {
         if self.is_closing() {
             return false;
         }
-        // It never wraps: a session has at most 8 desks, and each stands in the door once.
         *standing = standing.wrapping_add(1);
         true
     }
