@@ -17,10 +17,10 @@ use Rattle.geo_exact.proofs.numbers.Signs.{mul_lt}
 use Rattle.ring_core.specs.Simple.{IsOnEdgeAt, IsSharedCorner, MeetOnlyAsNeighbours}
 use Rattle.ring_core.specs.Clipping.{previous, next}
 use Rattle.ring_core.specs.own.Kinds.{number_before}
-use Rattle.ring_core.proofs.edges.RoundNumbers.{before_in, after_in, before_other, after_other}
+use Rattle.ring_core.proofs.edges.RoundNumbers.{before_in, before_other, after_other}
 use Rattle.ring_core.proofs.ears.LeftSimple.{same_or, after_before, apart_meet}
-use Rattle.ring_core.proofs.ears.WithoutCorner.{number_left, before_left, left_before, left_within, corner_left}
-use Rattle.ring_core.proofs.ears.WithoutCorner.{number_next, next_kept, next_over, gap_closes, one_fewer}
+use Rattle.ring_core.proofs.ears.WithoutCorner.{number_left, before_left, left_within, corner_left}
+use Rattle.ring_core.proofs.ears.WithoutCorner.{number_next, next_kept, next_over, gap_closes}
 use Rattle.edge_chains.proofs.edges.Inside.{inside_from_strictly}
 use Rattle.edge_chains.proofs.edges.Parts.{on_whole_first, on_whole_second, strictly_back}
 

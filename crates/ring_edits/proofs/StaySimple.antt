@@ -1,6 +1,6 @@
 -- Simple rings that stay simple: with corners put in strictly inside their edges, and with one taken out at which they are straight.
 use Rattle.std.proofs.Common.{◌≡◌, ◌⊎◌, inl, inr, refl, sym, ◌∙◌, ap, subst, arith, Bool, true, false, not, ◌||◌}
-use Rattle.std.proofs.Common.{if◌then◌else◌, ℕ, suc, ◌+◌, ◌<◌, ◌≤◌, pos, List, [], ◌∷◌, ◌++◌, length, get_or, append_assoc, append-nil}
+use Rattle.std.proofs.Common.{if◌then◌else◌, ℕ, suc, ◌+◌, ◌<◌, ◌≤◌, pos, List, [], ◌∷◌, ◌++◌, length, get_or, append_assoc}
 use Rattle.std.specs.List.{Contains, remove}
 use Rattle.std.proofs.lemmas.List.{length-append}
 use Rattle.std.proofs.lemmas.List.Elements.{filter-append}
@@ -8,7 +8,7 @@ use lib.Signed.{◌<ℤ◌}
 use Rattle.geo_exact.specs.declared.corner.Corner.{Corner}
 use Rattle.geo_exact.specs.Area.{area2}
 use Rattle.geo_exact.specs.Order.{is_same}
-use Rattle.geo_exact.specs.Places.{corner_at, origin, after, before}
+use Rattle.geo_exact.specs.Places.{corner_at, origin, before}
 use Rattle.geo_exact.specs.Point.{corner_point}
 use Rattle.geo_exact.specs.Rings.{Edge, path, edges}
 use Rattle.geo_exact.specs.Segments.{IsStrictlyInside}

@@ -102,7 +102,8 @@ pub fn a_simple_ring_bends_where_a_corner_is_not_flat()
 /// A simple ring stays simple where it is noded, for whatever corners; where a corner that lies strictly between two
 /// others is put into its edge between them; and where a corner is taken out at which it is straight.
 pub fn simple_rings_stay_simple()
-    ensures noded { (ring corners noded : List Corner) → IsSimpleRing ring → IsNoded ring corners noded → IsSimpleRing noded }
+    ensures noded { (ring corners noded : List Corner) → IsSimpleRing ring → IsNoded ring corners noded
+        → IsSimpleRing noded }
     ensures put { (from to at : Corner) (ring : List Corner) → IsStrictlyInside at from to → IsSimpleRing ring
         → IsSimpleRing (put_between from to at ring) }
     ensures taken { (at : Corner) (ring : List Corner) → ¬ BendsAt at ring → IsSimpleRing ring

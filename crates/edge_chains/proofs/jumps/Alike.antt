@@ -1,7 +1,6 @@
 -- Rings that go round each point alike: noded for all their corners they have the same net edges, and so each measure that adds up along
 -- an edge and changes its sign with the edge's direction has the same sum over them, noded or not.
-use Rattle.std.proofs.Common.{◌≡◌, ⊎_elim, sym, ◌∙◌, ap, subst, arith, ℤ, pos, ◌+ℤ◌, ◌-ℤ◌, List, [], ◌∷◌, ◌++◌}
-use Rattle.std.specs.List.{AllZip}
+use Rattle.std.proofs.Common.{◌≡◌, ⊎_elim, sym, ◌∙◌, arith, ℤ, pos, ◌-ℤ◌, List, [], ◌∷◌, ◌++◌}
 use Rattle.std.specs.Ordering.{int_eq}
 use Rattle.std.proofs.lemmas.Bool.Decides.{Decides-int_eq, not_from_Decides}
 use Rattle.std.proofs.lemmas.Int.{ints}
@@ -12,9 +11,9 @@ use Rattle.geo_exact.specs.Winding.{crossing}
 use Rattle.geo_exact.proofs.corners_and_turns.CornerOrder.{cases_of}
 use Rattle.geo_exact.proofs.rings.Crossings.{crossing_cut}
 use Rattle.geo_exact.proofs.rings.EdgeSums.{sum_over-append}
-use Rattle.edge_chains.specs.Jump.{IsJump, net_difference, winding_difference}
+use Rattle.edge_chains.specs.Jump.{net_difference}
 use Rattle.edge_chains.specs.Net.{all_edges, net_count, winding_of_rings}
-use Rattle.edge_chains.specs.Noding.{IsNoded, all_corners, AreFullyNoded}
+use Rattle.edge_chains.specs.Noding.{all_corners, AreFullyNoded}
 use Rattle.edge_chains.proofs.jumps.Jumps.{jump_beside}
 use Rattle.edge_chains.proofs.nets.Balance.{ChangesSign, sum_over-balanced, sum_of_rings-edges}
 use Rattle.edge_chains.proofs.nodings.EachNoded.{all_noded}
