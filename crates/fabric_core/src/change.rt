@@ -252,7 +252,8 @@ fn first_bent<'a, H: Allocator>(tiled: &Tiled<'a, H>, ids: &[u64], at: Corner) -
     None
 }
 
-/// A corner taken out of the parcels that have it, where no ring bends there.
+/// A corner taken out of the parcels that have it, where no ring bends there. Where no parcel's does,
+/// nor does the city's refined ring: it is simple, and goes round each place as often as they do.
 fn straighten_change<'a, H: Allocator>(
     alloc: &'a H,
     tiled: &Tiled<'a, H>,
@@ -272,9 +273,7 @@ fn straighten_change<'a, H: Allocator>(
     if let Some(id) = first_bent(tiled, &out, at) {
         return Err(Refusal::NotFlat(id));
     }
-    if is_bent(tiled.refined(), at) {
-        return Err(Refusal::NotFlat(0));
-    }
+    tiled.use_invariant();
     Ok(Change { out, rows })
 }
 

@@ -10,9 +10,11 @@ ghost use Rattle.geo_exact.specs.Bounds.{HoldsCorner};
 ghost use Rattle.geo_exact.specs.Interiors.{InteriorsMeet};
 ghost use Rattle.geo_exact.specs.Layers.{NumberedRing, numbered};
 ghost use Rattle.geo_exact.specs.declared.limits.TheConstants.{LAYER_RECORDS, RING_CORNERS};
+ghost use Rattle.ring_core.specs.Simple.{IsSimpleRing};
+ghost use Rattle.ring_edits.specs.declared.edit.Edit.TheVariants.{Straighten};
 ghost use Rattle.ring_edits.specs.Edits.{CoversAlike};
 ghost use Rattle.fabric_core.specs.declared.refusal.Refusal.{Refusal};
-ghost use Rattle.fabric_core.specs.declared.refusal.Refusal.TheVariants.{NoMemory};
+ghost use Rattle.fabric_core.specs.declared.refusal.Refusal.TheVariants.{NoMemory, NotFlat};
 ghost use Rattle.fabric_core.specs.Tiling.{IsTiling};
 ghost use Rattle.fabric_core.specs.Rows.{numbers};
 ghost use Rattle.fabric_core.specs.Faults.{AreSimple};
@@ -22,7 +24,7 @@ ghost use Rattle.fabric_core.specs.Locate.{IsLocatedAt};
 ghost use Rattle.fabric_core.specs.Journal.{opening_state, after_entry, replay};
 ghost use Rattle.fabric_core.specs.EditResults.{IsEntryOf, IsLawful, IsDue};
 ghost use Rattle.fabric_core.specs.declared.follow.FollowFault.TheVariants.{NotDue, NoMemory as NoRoom};
-ghost use Rattle.fabric_core.specs.Refusals.{IsRefusal, NeedsNoMemory};
+ghost use Rattle.fabric_core.specs.Refusals.{IsCityBent, IsFirstBent, IsRefusal, NeedsNoMemory};
 ghost use Rattle.geo_exact.specs.declared.corner.Corner.{Corner as CornerValue};
 ghost use Rattle.scaled_rings.specs.Tenfold.{IsLeastFar, IsLeastFarOf};
 ghost use Rattle.fabric_core.specs.declared.tenfold.ScaleFault.TheVariants.{TooFar, NoMemory as NoScaleMemory};
@@ -210,8 +212,8 @@ impl<'a, H: Allocator> Fabric<'a, H> {
 
     /// Only teaches the prover: the parcels are simple rings that tile the city, and are within the limits of a layer,
     /// in their number too; the city is no longer than a ring may be; in the cells of the grid index stand exactly the
-    /// parcels; the city's refined ring covers what the city's ring covers; and the journal is lawful, and leads from
-    /// the opening to what is now.
+    /// parcels; the city's refined ring is simple, covers what the city's ring covers, and bends only where a parcel
+    /// does; and the journal is lawful, and leads from the opening to what is now.
     pub fn use_invariant(&self)
         ensures tiling { IsTiling self.now.now.rows self.now.city }
         ensures simple { AreSimple self.now.now.rows }
@@ -220,6 +222,8 @@ impl<'a, H: Allocator> Fabric<'a, H> {
         ensures city { length self.now.city ≤ RING_CORNERS }
         ensures indexed { IsIndexed self.now.now.rows self.now.city self.now.index }
         ensures ground { CoversAlike self.now.city self.now.now.refined }
+        ensures simple_city { IsSimpleRing self.now.now.refined }
+        ensures city_bends { (at : CornerValue) → ¬ IsCityBent self.now.now at }
         ensures lawful { IsLawful self.now.opening self.now.journal }
         ensures replays { replay self.now.opening self.now.journal ≡ self.now.now }
     {
@@ -355,6 +359,9 @@ impl<'a, H: Allocator> Fabric<'a, H> {
             ⊎ (refusal ≡ NoMemory)) }
         ensures refuses { (refusal : Refusal) → IsRefusal self.old.now self.old.journal edit.now refusal
             → IsErrAnd result (λ e. (e ≡ refusal) ⊎ (e ≡ NoMemory)) }
+        // E12 tells the first parcel whose ring bends: where none does, nor does the city's refined ring.
+        ensures bent { (at : CornerValue) (id : ℕ) → edit.now ≡ Straighten at → IsErrOf result (NotFlat id)
+            → IsFirstBent self.old.now.rows at id }
         // E9 and E1 to E5 are told before any memory is asked for.
         ensures exact { (refusal : Refusal) → IsRefusal self.old.now self.old.journal edit.now refusal
             → NeedsNoMemory refusal

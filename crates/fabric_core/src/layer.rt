@@ -10,6 +10,7 @@ ghost use Rattle.geo_exact.specs.Bounds.{HoldsCorner, IsLeastBox};
 ghost use Rattle.geo_exact.specs.Interiors.{InteriorsMeet};
 ghost use Rattle.geo_exact.specs.Layers.{NumberedRing, numbered, rings_of, corner_count, NumbersRise};
 ghost use Rattle.geo_exact.specs.declared.limits.TheConstants.{LAYER_CORNERS, LAYER_RECORDS, RING_CORNERS};
+ghost use Rattle.ring_core.specs.Simple.{IsSimpleRing};
 ghost use Rattle.fabric_core.specs.declared.layer.LoadFault.{LoadFault};
 ghost use Rattle.fabric_core.specs.declared.layer.LoadFault.TheVariants.{Gap, NoMemory};
 ghost use Rattle.fabric_core.specs.Tiling.{IsTiling};
@@ -189,12 +190,13 @@ impl<'a, H: Allocator> Layer<'a, H> {
         tiled
     }
 
-    /// Only teaches the prover: the rows are simple rings that tile the city, and are within the limits
-    /// of a layer, in their number too; the city is no longer than a ring may be; and in the cells of
+    /// Only teaches the prover: the rows are simple rings that tile the city, and are within the limits of a layer, in
+    /// their number too; the city is no longer than a ring may be, and its refined ring is simple; and in the cells of
     /// the grid index stand exactly the rows.
     pub fn use_invariant(&self)
         ensures tiling { IsTiling self.now.rows self.now.city }
         ensures simple { AreSimple self.now.rows }
+        ensures simple_city { IsSimpleRing self.now.refined }
         ensures within { AreWithinLimits self.now.rows }
         ensures number { length self.now.rows ≤ LAYER_RECORDS }
         ensures city { length self.now.city ≤ RING_CORNERS }

@@ -41,8 +41,8 @@ pub enum Refusal {
     TooMany,
     /// E11: no parcel has the corner.
     NoSuchCorner,
-    /// E12: the ring of the parcel with this id bends at the corner; the least such id, or 0 where the city's refined
-    /// ring alone bends there.
+    /// E12: the ring of the parcel with this id bends at the corner; the least such id. It would be 0 where the city's
+    /// refined ring alone bends there, which it never does.
     NotFlat(u64),
     /// An allocation failed.
     NoMemory,

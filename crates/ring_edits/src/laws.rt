@@ -1,15 +1,19 @@
 //! Laws: an edit's new rings have the net edges of the old.
 
 ghost use Rattle.std.specs.Prelude.{◌≡◌, ◌≢◌, ◌↔◌, ℕ, ◌+◌, ◌<◌, ◌≤◌, IsTrue, List, [], ◌∷◌, length, map};
+ghost use Rattle.std.specs.List.{AllByRecursion};
 ghost use Rattle.geo_exact.specs.declared.bounds.Bounds.{Bounds};
 ghost use Rattle.geo_exact.specs.declared.corner.Corner.{Corner};
 ghost use Rattle.geo_exact.specs.Bounds.{IsLeastBox};
 ghost use Rattle.geo_exact.specs.Places.{corner_at};
+ghost use Rattle.geo_exact.specs.Point.{Point};
 ghost use Rattle.geo_exact.specs.Rings.{begun_at_least};
 ghost use Rattle.geo_exact.specs.Segments.{IsStrictlyInside};
+ghost use Rattle.geo_exact.specs.Winding.{winding};
 ghost use Rattle.ring_core.specs.Clipping.{IsFlat};
 ghost use Rattle.ring_core.specs.Simple.{IsSimpleRing};
-ghost use Rattle.edge_chains.specs.Net.{net_count};
+ghost use Rattle.edge_chains.specs.Net.{net_count, winding_of_rings};
+ghost use Rattle.edge_chains.specs.Noding.{IsNoded};
 ghost use Rattle.ring_edits.specs.Edits.{IsSplit, IsMerge, IsMove, CoversAlike, has_edge_between, put_between};
 ghost use Rattle.ring_edits.specs.Edits.{with_corner, BendsAt, has_corner, straightened, without_corner};
 ghost use Rattle.ring_edits.specs.Round.{HasApartCorners};
@@ -94,6 +98,25 @@ pub fn a_ring_that_lacks_a_corner_stays()
 pub fn a_simple_ring_bends_where_a_corner_is_not_flat()
     ensures { (ring : List Corner) → IsSimpleRing ring → (k : ℕ) → k < length ring
         → BendsAt (corner_at ring k) ring ↔ (¬ IsFlat ring k) }
+{}
+
+/// A simple ring stays simple where it is noded, for whatever corners; where a corner that lies strictly between two
+/// others is put into its edge between them; and where a corner is taken out at which it is straight.
+pub fn simple_rings_stay_simple()
+    ensures noded { (ring corners noded : List Corner) → IsSimpleRing ring → IsNoded ring corners noded
+        → IsSimpleRing noded }
+    ensures put { (from to at : Corner) (ring : List Corner) → IsStrictlyInside at from to → IsSimpleRing ring
+        → IsSimpleRing (put_between from to at ring) }
+    ensures taken { (at : Corner) (ring : List Corner) → ¬ BendsAt at ring → IsSimpleRing ring
+        → IsSimpleRing (without_corner at ring) }
+{}
+
+/// A simple ring bends at no corner where none of some rings bends, if these together go round each point as often as
+/// it does: a city bends only where one of the parcels bends that tile it.
+pub fn a_simple_ring_bends_only_with_its_parts()
+    ensures { (at : Corner) (rings : List (List Corner)) (city : List Corner) → IsSimpleRing city
+        → ((p : Point) → winding_of_rings p rings ≡ winding p city)
+        → AllByRecursion (λ ring. ¬ BendsAt at ring) rings → ¬ BendsAt at city }
 {}
 
 /// A simple ring has three corners and more, at different places.

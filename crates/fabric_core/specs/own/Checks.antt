@@ -5,6 +5,7 @@ use Rattle.geo_exact.specs.declared.corner.Corner.{Corner}
 use Rattle.geo_exact.specs.Point.{Point}
 use Rattle.geo_exact.specs.Layers.{NumberedRing}
 use Rattle.geo_exact.specs.declared.limits.TheConstants.{LAYER_RECORDS, RING_CORNERS}
+use Rattle.ring_core.specs.Simple.{IsSimpleRing}
 use Rattle.edge_chains.specs.Net.{net_count}
 use Rattle.edge_chains.specs.Noding.{IsNoded}
 use Rattle.fabric_core.specs.declared.all_faults.Asked.{Asked}
@@ -44,9 +45,10 @@ pub record HaveNoFault (rows : List NumberedRing) (refined : List Corner) : Type
   pub simple : AreSimple rows
   pub nets : HaveEqualNets (corner_lists rows) refined
 
--- the city's ring has no more corners than a ring may, goes round no point twice, and is refined: noded, and not
--- too long to be counted
+-- the city's ring is simple, has no more corners than a ring may, goes round no point twice, and is refined: noded,
+-- and not too long to be counted
 pub record IsRefinedCity (city refined : List Corner) : Type 0 where
+  pub simple : IsSimpleRing city
   pub few : length city ≤ RING_CORNERS
   pub wound_once : (p : Point) → IsWoundAtMostOnce p city
   pub corners : List Corner
