@@ -77,9 +77,13 @@ def main():
         pairs = split_pairs(told)
         count = sum(map(len, pairs.values()))
         print(f"city {given.size}: {count} pairs of {len(pairs)} parcels in several zones")
-        print(f"overlay {min(without):.3f} s, with --areas {min(beyond):.3f} s: {min(beyond) - min(without):.3f} s more")
+        print(
+            f"overlay {min(without):.3f} s, with --areas {min(beyond):.3f} s: {min(beyond) - min(without):.3f} s more"
+        )
         seconds, worst = by_geos(folder, pairs)
-        print(f"GEOS {seconds:.2f} s: {seconds / (min(beyond) - min(without)):.0f} times as long, off by up to {worst:.2g} mm2")
+        print(
+            f"GEOS {seconds:.2f} s: {seconds / (min(beyond) - min(without)):.0f} times as long, off by up to {worst:.2g} mm2"
+        )
 
 
 if __name__ == "__main__":
