@@ -81,9 +81,8 @@ def main():
             f"overlay {min(without):.3f} s, with --areas {min(beyond):.3f} s: {min(beyond) - min(without):.3f} s more"
         )
         seconds, worst = by_geos(folder, pairs)
-        print(
-            f"GEOS {seconds:.2f} s: {seconds / (min(beyond) - min(without)):.0f} times as long, off by up to {worst:.2g} mm2"
-        )
+        ratio = seconds / (min(beyond) - min(without))
+        print(f"GEOS {seconds:.2f} s: {ratio:.0f} times as long, off by up to {worst:.2g} mm2")
 
 
 if __name__ == "__main__":

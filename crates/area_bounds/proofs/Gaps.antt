@@ -175,7 +175,7 @@ area_counted e f q H C lost low high l m h hh hc counted =
     let P : Bool → Type 0 = λ t. IsCounted (pos q) lost (between_levels t e f) in
     let Q : ℤ → Type 0 = λ y. IsCounted (pos q) lost (area_of_gaps (high -ℤ y) (rise e *ℤ rise f) (gap e f y) (gap e f high)) in
     let R : ℤ → Type 0 =
-        λ y. IsCounted (pos q) lost (area_of_gaps (y -ℤ lowest e f) (rise e *ℤ rise f) (gap e f (lowest e f)) (gap e f y)) in
+    λ y. IsCounted (pos q) lost (area_of_gaps (y -ℤ lowest e f) (rise e *ℤ rise f) (gap e f (lowest e f)) (gap e f y)) in
     let S : ℤ → Type 0 = λ y. IsCounted (pos q) lost (area_of_gaps y (pos C) (gap e f low) (gap e f high)) in
     let T : ℤ → Type 0 = λ y. IsCounted (pos q) lost (area_of_gaps (high -ℤ low) y (gap e f low) (gap e f high)) in
     subst P (lt_yes (lowest e f) (highest e f) (ordered low high (lowest e f) (highest e f) l m h))

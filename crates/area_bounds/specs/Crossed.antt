@@ -6,4 +6,4 @@ use Rattle.area_bounds.specs.declared.lines.Places.{Places}
 abbrev pub AreCrossed : Places → Places → Type 0
 AreCrossed first second =
     ((first.one < first.other) × (second.other < second.one))
-        ⊎ ((first.other < first.one) × (second.one < second.other))
+    ⊎ ((first.other < first.one) × (second.one < second.other))

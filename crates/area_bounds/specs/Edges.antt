@@ -14,4 +14,4 @@ edge_of rising =
 abbrev pub parting_of : Rising → Rising → ℤ
 parting_of one other =
     (one.high.x -ℤ one.low.x) *ℤ (other.high.y -ℤ other.low.y)
-        -ℤ (other.high.x -ℤ other.low.x) *ℤ (one.high.y -ℤ one.low.y)
+    -ℤ (other.high.x -ℤ other.low.x) *ℤ (one.high.y -ℤ one.low.y)

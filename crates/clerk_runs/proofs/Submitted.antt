@@ -96,7 +96,7 @@ module _ {A : Type 0} where
         let more : AreTold run whole card.clerk (card.made ++ is.receipt.entry ∷ []) after.met left entries text = rw is.made at rest in
         rw (is.made, is.line, append_assoc card.made (is.receipt.entry ∷ []) entries, append_assoc lines line text)
         (h.adds whole (begins_whole card.met after.met whole is.met begins) (is.receipt.entry ∷ entries) (line ++ text)
-            (after.met, is.met, begins, inl (is.receipt.entry, entries, text, refl, is.has_edit, is.ends, refl, more)));
+        (after.met, is.met, begins, inl (is.receipt.entry, entries, text, refl, is.has_edit, is.ends, refl, more)));
     are_all = is.made
         ∙ (ap (λ made. made ++ is.receipt.entry ∷ []) h.are_all
         ∙ (sym (map-append (λ (receipt : ReceiptState A). receipt.entry) receipts (is.receipt ∷ []))

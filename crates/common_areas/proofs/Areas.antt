@@ -90,8 +90,8 @@ row_step : (w q H E D M k : ℤ)
 row_step w q H E D M k =
     same_by (w ∷ q ∷ H ∷ E ∷ D ∷ M ∷ k ∷ [])
     (mul (var 0)
-        (sub (mul (var 1) (mul (var 0) (add (mul (mul (lit (pos 2)) (var 2)) (var 3))
-            (mul (add (mul (lit (pos 2)) (var 6)) (lit (pos 1))) (var 4)))))
+    (sub (mul (var 1) (mul (var 0) (add (mul (mul (lit (pos 2)) (var 2)) (var 3))
+    (mul (add (mul (lit (pos 2)) (var 6)) (lit (pos 1))) (var 4)))))
     (var 5)))
     (sub (row_expr (var 0) (var 1) (var 2) (var 3) (var 4) (var 5) (add (var 6) (lit (pos 1))))
     (row_expr (var 0) (var 1) (var 2) (var 3) (var 4) (var 5) (var 6)))
@@ -127,7 +127,7 @@ up_value w q H W M ax ay bx by ew e =
     (mul (lit (pos 2)) (sub (row_expr (lit (pos 1)) (var 0) (var 1) cross run (var 2) (mul (var 6) (var 1)))
     (row_expr (lit (pos 1)) (var 0) (var 1) cross run (var 2) (mul (var 4) (var 1)))))
     (sub (mul (mul (mul (mul (mul (lit (pos 2)) (var 1)) (sub (var 6) (var 4))) (var 0)) (var 1))
-        (mul (sub (var 6) (var 4)) (add (var 3) (var 5))))
+    (mul (sub (var 6) (var 4)) (add (var 3) (var 5))))
     (mul (mul (mul (lit (pos 2)) (var 2)) (var 1)) (sub (var 6) (var 4))))
     refl
     ∙ ap (λ x. x *ℤ H *ℤ ((by -ℤ ay) *ℤ (ax +ℤ bx)) -ℤ pos 2 *ℤ M *ℤ H *ℤ (by -ℤ ay)) (sym e)
@@ -144,7 +144,7 @@ down_value w q H W M ax ay bx by ew e =
     (mul (lit (pos 2)) (sub (row_expr (lit (negsuc 0)) (var 0) (var 1) cross run (var 2) (mul (var 4) (var 1)))
     (row_expr (lit (negsuc 0)) (var 0) (var 1) cross run (var 2) (mul (var 6) (var 1)))))
     (sub (mul (mul (mul (mul (mul (lit (pos 2)) (var 1)) (neg (sub (var 6) (var 4)))) (var 0)) (var 1))
-        (mul (sub (var 6) (var 4)) (add (var 3) (var 5))))
+    (mul (sub (var 6) (var 4)) (add (var 3) (var 5))))
     (mul (mul (mul (lit (pos 2)) (var 2)) (var 1)) (sub (var 6) (var 4))))
     refl
     ∙ ap (λ x. x *ℤ H *ℤ ((by -ℤ ay) *ℤ (ax +ℤ bx)) -ℤ pos 2 *ℤ M *ℤ H *ℤ (by -ℤ ay)) (sym e)
@@ -189,7 +189,7 @@ edge_rows grid e q M n h wide =
     (λ u. let same : upper e ≡ lower e = omega (arith, ints) in
     let flat : e.to.y -ℤ e.from.y ≡ pos 0 = omega (arith, ints) in
     ends (way e) q grid.rows (e.from.x *ℤ e.to.y -ℤ e.to.x *ℤ e.from.y) (e.to.x -ℤ e.from.x) M (upper e) (lower e) (lower e)
-        (lower e) same refl
+    (lower e) same refl
     ∙ none (row_sum (way e) q grid.rows (e.from.x *ℤ e.to.y -ℤ e.to.x *ℤ e.from.y) (e.to.x -ℤ e.from.x) M (lower e *ℤ grid.rows))
     (grid.columns *ℤ grid.rows) (e.from.x +ℤ e.to.x) (pos 2 *ℤ M *ℤ grid.rows)
     ∙ sym (ap (λ y. grid.columns *ℤ grid.rows *ℤ (y *ℤ (e.from.x +ℤ e.to.x)) -ℤ pos 2 *ℤ M *ℤ grid.rows *ℤ y) flat)))
@@ -294,16 +294,16 @@ area_is ring grid share m n h wide =
     (λ k. around-same m (λ j. winding (middle grid j k) ring) (λ j. sum_over (λ e. lone_cell grid share m e k j) (edges ring))
     (λ j. crossings_are grid share j k (edges ring) h
     ∙ sym (lone_sum (λ e. weight grid.rows e k) (λ e. before j (columns_left grid.rows (share e) e k))
-        (before j (neg_ℤ (pos m))) (edges ring)
+    (before j (neg_ℤ (pos m))) (edges ring)
     ∙ ap (λ x. sum_over (λ e. weight grid.rows e k *ℤ before j (columns_left grid.rows (share e) e k)) (edges ring)
-        -ℤ x *ℤ before j (neg_ℤ (pos m)))
+    -ℤ x *ℤ before j (neg_ℤ (pos m)))
     (balanced grid.rows k ring)
     ∙ kept (sum_over (λ e. weight grid.rows e k *ℤ before j (columns_left grid.rows (share e) e k)) (edges ring))
-        (before j (neg_ℤ (pos m))))))
+    (before j (neg_ℤ (pos m))))))
     ∙ sym (around-both m n (λ e k j. lone_cell grid share m e k j) (edges ring)))
     ∙ ring_cells grid share m n (edges ring) h wide
     ∙ ap (λ x. grid.columns *ℤ grid.rows *ℤ x -ℤ pos 2 *ℤ neg_ℤ (pos m) *ℤ grid.rows *ℤ sum_over (λ e. e.to.y -ℤ e.from.y) (edges ring))
-        (runs_are ring)
+    (runs_are ring)
     ∙ ap (λ x. grid.columns *ℤ grid.rows *ℤ area2 ring -ℤ pos 2 *ℤ neg_ℤ (pos m) *ℤ grid.rows *ℤ x) (rises_are ring)
     ∙ kept' (grid.columns *ℤ grid.rows *ℤ area2 ring) (pos 2 *ℤ neg_ℤ (pos m) *ℤ grid.rows)
   where

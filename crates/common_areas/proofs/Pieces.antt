@@ -43,7 +43,7 @@ triangles H h c W B S s M g0 g1 G0 G1 m0 m1 p0 p1 D Hp eh f0 f1 e0 e1 eb es ed e
     same_by (H ∷ h ∷ g0 ∷ g1 ∷ W ∷ [])
     (mul (mul (var 0) (var 0)) (mul (mul (var 1) (add (mul (var 2) (var 2)) (mul (var 3) (var 3)))) (mul (var 4) (var 0))))
     (mul (mul (mul (var 0) (var 1)) (add (mul (mul (var 0) (var 2)) (mul (var 0) (var 2)))
-        (mul (mul (var 0) (var 3)) (mul (var 0) (var 3)))))
+    (mul (mul (var 0) (var 3)) (mul (var 0) (var 3)))))
     (var 4)) refl
     ∙ ap (λ x. x *ℤ (H *ℤ g0 *ℤ (H *ℤ g0) +ℤ H *ℤ g1 *ℤ (H *ℤ g1)) *ℤ W) eh
     ∙ ap (λ x. M *ℤ (x *ℤ x +ℤ H *ℤ g1 *ℤ (H *ℤ g1)) *ℤ W) f0

@@ -23,7 +23,7 @@ abbrev pub AreNodedEdges : List Corner → List Edge → List Corner → Type 0
 AreNodedEdges corners [] out = out ≡ []
 AreNodedEdges corners (edge ∷ rest) out =
     (inserted : List Corner) × (others : List Corner) × IsNodedEdge corners edge inserted
-        × AreNodedEdges corners rest others
+    × AreNodedEdges corners rest others
     × (out ≡ edge.from ∷ inserted ++ others)
 
 -- `noded` is the ring with exactly those of the corners inserted that lie strictly inside an edge, in order along it

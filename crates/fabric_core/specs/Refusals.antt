@@ -64,14 +64,14 @@ IsBadCutPath state id path = (ring : List Corner) × Contains state.rows (number
 abbrev pub HaveBorderFault : State → ℕ → ℕ → EditFault → Type 0
 HaveBorderFault state a b fault =
     (ring_a : List Corner) × (ring_b : List Corner) × Contains state.rows (numbered a ring_a)
-        × Contains state.rows (numbered b ring_b)
+    × Contains state.rows (numbered b ring_b)
     × IsBorderFault ring_a ring_b fault
 
 -- a path that does not go from where the border of two parcels begins to where it ends
 abbrev pub IsBadMovePath : State → ℕ → ℕ → List Corner → Type 0
 IsBadMovePath state a b path =
     (ring_a : List Corner) × (ring_b : List Corner) × Contains state.rows (numbered a ring_a)
-        × Contains state.rows (numbered b ring_b)
+    × Contains state.rows (numbered b ring_b)
     × IsBadBorder ring_a ring_b path
 
 -- no parcel has the edge between two corners
@@ -149,7 +149,7 @@ IsRefusal {A} state journal edit refusal =
     ⊎ ((length journal < JOURNAL_ENTRIES) × (IsIdRefusal state journal edit refusal
     ⊎ (AreParcels state.rows (named_ids edit) × (IsOwnRefusal state edit refusal
     ⊎ ((out : List ℕ) × (rows : List NumberedRing) × IsChange state edit out rows
-        × IsChangeRefusal state out rows refusal)))))
+    × IsChangeRefusal state out rows refusal)))))
 
 -- a refusal that is told before any memory is asked for: where one of these is due, memory cannot run out instead
 abbrev pub NeedsNoMemory : Refusal → Type 0

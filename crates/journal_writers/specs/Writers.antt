@@ -43,7 +43,7 @@ pub record IsKept (A : Type 0) (layer bytes : List ℕ) (records : ℕ) (seal : 
 abbrev pub IsKeptUnlessBroken : Type 0 → WriterState → Type 0
 IsKeptUnlessBroken A journal =
     (journal.is_broken ≡ true)
-        ⊎ IfSome journal.bytes (λ bytes. IsKept A journal.layer bytes journal.records journal.seal)
+    ⊎ IfSome journal.bytes (λ bytes. IsKept A journal.layer bytes journal.records journal.seal)
 
 -- the bytes are those of such a journal, and so many torn bytes behind so many whole ones
 pub record IsFound (A : Type 0) (layer bytes : List ℕ) (records : ℕ) (seal : List ℕ) (whole torn : ℕ) : Type 0 where

@@ -18,7 +18,7 @@ abbrev pub lines_of : List ℕ → List (List ℕ)
 lines_of [] = []
 lines_of (b ∷ bs) =
     if b == 10 then [] ∷ lines_of bs
-        else (if (b == 13) && begins_with 10 bs then lines_of bs else with_first b (lines_of bs))
+    else (if (b == 13) && begins_with 10 bs then lines_of bs else with_first b (lines_of bs))
 
 -- a line that is skipped: it is empty, or begins with `#` (35)
 abbrev pub IsSkipped : List ℕ → Type 0

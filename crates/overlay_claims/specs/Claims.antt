@@ -87,7 +87,7 @@ joined v w =
 abbrev pub Claims : View → ℕ → ℕ → View → Type 0
 Claims v list found w =
     ((found < slice_index v.lengths list) × (w ≡ with_place v list found)
-        × (length w.places ≤ sum_by (λ n. n) v.lengths))
+    × (length w.places ≤ sum_by (λ n. n) v.lengths))
     ⊎ ((slice_index v.lengths list ≤ found) × (w ≡ with_note v list))
 
 -- where each list was found at its end and the view has all parts, its places are all places, each once

@@ -48,7 +48,7 @@ module _ {A : Type 0} where
   abbrev pub with_shape : ℕ → Shape A → List (ℕ × Parcel A) → List (ℕ × Parcel A)
   with_shape id shape parcels =
       map (λ parcel. if nat_eq parcel.1.id id
-          then (parcel.0, record { id = parcel.1.id; shape = shape }) else parcel) parcels
+      then (parcel.0, record { id = parcel.1.id; shape = shape }) else parcel) parcels
 
   -- a copy of a parcel: its id, its ring, its triangles and its box
   pub record IsParcelClone (parcel copy : Parcel A) : Type 0 where

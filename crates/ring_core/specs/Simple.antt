@@ -16,7 +16,7 @@ IsOnEdgeAt p ring i = IsOnEdge p (corner_at ring i) (corner_at ring (after (leng
 abbrev pub IsSharedCorner : Point → List Corner → ℕ → ℕ → Type 0
 IsSharedCorner p ring i j =
     ((j ≡ after (length ring) i) × IsPlaceOf p (corner_at ring j))
-        ⊎ ((i ≡ after (length ring) j) × IsPlaceOf p (corner_at ring i))
+    ⊎ ((i ≡ after (length ring) j) × IsPlaceOf p (corner_at ring i))
 
 -- edges i and j meet otherwise than as neighbours: some point lies on both, and is no corner that they share
 abbrev pub MeetOtherwise : List Corner → ℕ → ℕ → Type 0

@@ -80,7 +80,7 @@ is_null main start = int_eq (shape_type main start) (pos 0)
 unfoldable pub shape_checks : List ℕ → ℕ → ℕ → List Check
 shape_checks main position start =
     check (is_not (shape_type main start) (pos 0) && is_not (shape_type main start) (pos 5))
-        (fault position (start + 8) kinds.ShapeType)
+    (fault position (start + 8) kinds.ShapeType)
     ∷ check (is_null main start && is_not (content_words main start) (pos 2)) (fault position (start + 4) kinds.Content)
     ∷ []
 
@@ -93,10 +93,10 @@ count_checks main position start corners_before =
     ∷ check (nat_lt (record_end main start) (start + 52)) (fault position (start + 4) kinds.Content)
     ∷ check (int_lt (point_count main start) (pos 4)) (fault position (start + 48) kinds.FewPoints)
     ∷ check (nat_lt (RING_CORNERS + 1) (points_of main start)
-        || nat_lt LAYER_CORNERS (corners_before + (points_of main start - 1)))
+    || nat_lt LAYER_CORNERS (corners_before + (points_of main start - 1)))
     (fault position (start + 48) kinds.TooMany)
     ∷ check (not (2 * natural (content_words main start) == 48 + 16 * points_of main start))
-        (fault position (start + 4) kinds.Content)
+    (fault position (start + 4) kinds.Content)
     ∷ check (is_not (first_part main start) (pos 0)) (fault position (start + 52) kinds.Parts)
     ∷ []
 
@@ -110,7 +110,7 @@ unfoldable pub coordinate_checks : List ℕ → LengthUnit → ℕ → ℕ → �
 coordinate_checks main unit position place zero = []
 coordinate_checks main unit position place (suc count) =
     refusal position place (coordinate (double_at main place) unit)
-        ∷ coordinate_checks main unit position (place + 8) count
+    ∷ coordinate_checks main unit position (place + 8) count
 
 -- two coordinates, as they were read, are different, or not both were read
 abbrev pub differs : Result ℤ CoordFault → Result ℤ CoordFault → Bool
@@ -133,7 +133,7 @@ closing_checks main unit position first last =
 unfoldable pub ring_checks : List ℕ → LengthUnit → ℕ → ℕ → ℕ → List Check
 ring_checks main unit position first count =
     coordinate_checks main unit position first (2 * count)
-        ++ closing_checks main unit position first (first + 16 * (count - 1))
+    ++ closing_checks main unit position first (first + 16 * (count - 1))
 
 -- how many of so many points, from a byte on, are not the point behind them
 unfoldable pub distinct_points : List ℕ → LengthUnit → ℕ → ℕ → ℕ

@@ -26,7 +26,7 @@ unfoldable pub index_record_checks : List ℕ → List ℕ → ℕ → ℕ → L
 index_record_checks main index position start =
     check (nat_lt (declared_end index) (entry_place position + 8)) (disagreement position (entry_place position))
     ∷ check (is_not (offset_words index (entry_place position)) (pos (start / 2)))
-        (disagreement position (entry_place position))
+    (disagreement position (entry_place position))
     ∷ check (is_not (content_words index (entry_place position)) (content_words main start))
     (disagreement position (entry_place position + 4))
     ∷ []
@@ -35,4 +35,4 @@ index_record_checks main index position start =
 unfoldable pub entry_checks : List ℕ → List ℕ → ℕ → ℕ → List Check
 entry_checks main index position start =
     if start == declared_end main then index_end_checks index position
-        else index_record_checks main index position start
+    else index_record_checks main index position start

@@ -29,7 +29,7 @@ abbrev pub ArePoints : LengthUnit → List ℕ → ℕ → List Corner → Type 
 ArePoints unit bytes at [] = Unit {0}
 ArePoints unit bytes at (corner ∷ rest) =
     IsOnGrid (double_at bytes at) unit corner.x × IsOnGrid (double_at bytes (at + 8)) unit corner.y
-        × ArePoints unit bytes (at + 16) rest
+    × ArePoints unit bytes (at + 16) rest
 
 -- a ring as a file has it: the first corner once more at the end
 abbrev pub closed : List Corner → List Corner

@@ -39,7 +39,7 @@ pub record HasCell (range : CellRange) (i j : ℕ) : Type 0 where
 abbrev pub is_kept_in : Bounds → ℕ → Bounds → Bool
 is_kept_in area k box =
     if k == WIDE_CELL then is_wide area box
-        else (not (is_wide area box) && stands_in area (k / ACROSS) (k % ACROSS) box)
+    else (not (is_wide area box) && stands_in area (k / ACROSS) (k % ACROSS) box)
 
 -- how many cells the places are, and the number of the n-th
 abbrev pub place_count : Places → ℕ
@@ -71,8 +71,11 @@ contents cells = map (λ c. c.items) cells
 -- what the cells show: the last of them is that of the wide boxes
 abbrev pub shown : Bounds → List Cell → Grid
 shown area cells =
-    record { area = area; cells = take WIDE_CELL (contents cells);
-        beside = slice_index_or (contents cells) WIDE_CELL [] }
+    record {
+      area = area;
+      cells = take WIDE_CELL (contents cells);
+      beside = slice_index_or (contents cells) WIDE_CELL [];
+    }
 
 -- each of the first n of the places has so much room
 abbrev pub HaveRoom : Places → ℕ → ℕ → List Cell → Type 0

@@ -195,7 +195,7 @@ module _ {A : Type 0} (change : RingChange) where
   pub ids_by_key_changed : (parcels after : List (ℕ × Parcel A)) → AreChanged change parcels after → ids_by_key after ≡ ids_by_key parcels
   ids_by_key_changed parcels after changed = same_ids_by_key after parcels
       (sym (ids_of_rows after) ∙ ap numbers changed.rows ∙ numbers_kept change (rows_of_keyed parcels)
-          ∙ ids_of_rows parcels) changed.entries
+      ∙ ids_of_rows parcels) changed.entries
 
   pub change_all : (parcels : List (ℕ × Parcel A)) (ids : List ℕ) (shapes : List (Shape A)) → Rise parcels
       → AllByRecursion (λ row. KeepsGround change row.corners) (rows_of_keyed parcels)

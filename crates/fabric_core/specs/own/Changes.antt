@@ -124,11 +124,11 @@ AsksMemory state (Split id path) =
     (ring : List Corner) × Contains state.rows (numbered id ring) × IsPathAcross ring path
 AsksMemory state (Merge a b) =
     (ring_a : List Corner) × (ring_b : List Corner) × Contains state.rows (numbered a ring_a)
-        × Contains state.rows (numbered b ring_b)
+    × Contains state.rows (numbered b ring_b)
     × ShareOneRun ring_a ring_b
 AsksMemory state (Move a b path) =
     (ring_a : List Corner) × (ring_b : List Corner) × Contains state.rows (numbered a ring_a)
-        × Contains state.rows (numbered b ring_b)
+    × Contains state.rows (numbered b ring_b)
     × IsBorderPath ring_a ring_b path
 AsksMemory state (Insert from to at) = ⊤
 AsksMemory state (Straighten at) = ⊤

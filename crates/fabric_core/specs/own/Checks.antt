@@ -26,14 +26,14 @@ pub record IsTold {A : Type 0} (asked : Asked) (rows : List NumberedRing) (refin
 abbrev pub IsToldOfRings : {A : Type 0} → Asked → List NumberedRing → LoadRefusal A → Type 0
 IsToldOfRings asked rows refusal =
     (refined : List Corner) → AreWithinLimits rows → IsStrictlyIncreasing (numbers rows)
-        → IsTold asked rows refined refusal
+    → IsTold asked rows refined refusal
 
 -- the refusal of simple rings that do not have the edges of the refined city, if they are within the limits, under
 -- whatever numbers
 abbrev pub IsToldOfNets : {A : Type 0} → Asked → List (List Corner) → List Corner → LoadRefusal A → Type 0
 IsToldOfNets asked rings refined refusal =
     (rows : List NumberedRing) → corner_lists rows ≡ rings → AreWithinLimits rows → AreSimple rows
-        → IsTold asked rows refined refusal
+    → IsTold asked rows refined refusal
 
 -- the rings have the net edges of the refined city
 abbrev pub HaveEqualNets : List (List Corner) → List Corner → Type 0

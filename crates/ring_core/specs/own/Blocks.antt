@@ -22,7 +22,7 @@ pub record AreBlocks (corners : List Corner) (spans : List Span) (boxes : List L
   pub same_length : length boxes ≡ length spans
   pub each : (j : ℕ) → j < length corners → (b : ℕ) × (b < length spans)
       × ((span : Span) (box : LeaningBox)
-          → HasCorner corners j (slice_index_or spans b span) (slice_index_or boxes b box))
+      → HasCorner corners j (slice_index_or spans b span) (slice_index_or boxes b box))
 
 -- the blocks are those of the corners, unless there is none
 abbrev pub AreBlocksOrNone : List Corner → List Span → List LeaningBox → Type 0

@@ -27,17 +27,20 @@ pub begins_more : (old new : Option (List ℕ)) (xs ys : List ℕ) → AppendsBe
     → AppendsBeginning old new (xs ++ ys)
 begins_more old new xs ys h =
     ⊎_elim
-    (λ longer. (length xs,
-        subst (Appends old new) (take_all h.0 xs (le_of_lt longer) ∙ sym (take-append_seam xs ys)) h.1))
+    (λ longer. (
+      length xs,
+      subst (Appends old new) (take_all h.0 xs (le_of_lt longer) ∙ sym (take-append_seam xs ys)) h.1,
+    ))
     (λ within. (h.0, subst (Appends old new) (sym (take-append-le h.0 xs ys within)) h.1))
     (cases_lt (length xs) h.0)
 
 -- a beginning behind what was appended before
 pub begins_behind : (old mid new : Option (List ℕ)) (xs ys : List ℕ) → Appends old mid xs
     → AppendsBeginning mid new ys → AppendsBeginning old new (xs ++ ys)
-begins_behind old mid new xs ys h k =
-    (length xs + k.0,
-        subst (Appends old new) (sym (take-append-add xs ys k.0)) (Appends-trans old mid new xs (take k.0 ys) h k.1))
+begins_behind old mid new xs ys h k = (
+  length xs + k.0,
+  subst (Appends old new) (sym (take-append-add xs ys k.0)) (Appends-trans old mid new xs (take k.0 ys) h k.1),
+)
 
 -- no piece
 pub passes_nothing : (known : Option (List ℕ)) (pending : List ℕ) → Passes known known pending [] pending

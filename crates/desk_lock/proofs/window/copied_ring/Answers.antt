@@ -11,4 +11,4 @@ returns-clause-few g c =
     let P = λ (row : NumberedRing). length row.corners ≤ RING_CORNERS in
     subst (λ (corners : List Corner). length corners ≤ RING_CORNERS) (sym c.in_ok-corners.ensures.cases)
     (All-contains P rows (numbered c.args.id c.in-Some.ring.now.corners) (All-from_recursion P rows c.requires.within.each)
-        c.in-Some.ensures)
+    c.in-Some.ensures)

@@ -34,7 +34,7 @@ unreachable-requires g c =
     ] in
     elim c.in-HandCount.is [
       | inl k ↦ let same = k.1 in cc
-      | inr k ↦ elim k [ | inl same ↦ cc | inr other ↦ let same = other.1 in cc ]
+      | inr k ↦ elim k [ inl same ↦ cc | inr other ↦ let same = other.1 in cc ]
     ]
 
 pub returns-in-Ok-clause-all : goal.returns-in-Ok-clause-all

@@ -37,5 +37,5 @@ returns g c =
     (append-nil c.loop-district.parts.items)
     (c.loop-district.invariant.1 []
     (subst (λ rest. AllZip (λ shape part. IsWrittenPart (numbered shape.0 shape.1.ring.corners) part) rest [])
-        (sym c.in-None.ensures.steps.0)
+    (sym c.in-None.ensures.steps.0)
     tt))

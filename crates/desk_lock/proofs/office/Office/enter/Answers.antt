@@ -21,12 +21,12 @@ returns-clause-after g c =
     let office = g.J.Naming-1.office in
     let is = c.deref.ensures in
     entered_is_sometime office c.args.card.now c.edit-entered.new.card c.edit-entered.result c.deref_mut.result.now c.edit-entered.new.self
-        c.edit-entered.ensures.met
+    c.edit-entered.ensures.met
     c.edit-entered.ensures.sometime c.edit-entered.ensures.clerk c.edit-entered.ensures.journal c.edit-entered.ensures.made
     (subst (λ (desk : DeskState (Bor g.row.H.Denot)). IsLawful desk.book.opening desk.book.journal) is c.use_invariant.ensures.lawful)
     (subst (λ (desk : DeskState (Bor g.row.H.Denot)). IsOfOrigin office.origin desk.book) is c.use_invariant.ensures.origin)
     (subst (λ (desk : DeskState (Bor g.row.H.Denot)). desk.book.journal ≡ office.origin.journal ++ desk.entries) is
-        c.use_invariant.ensures.entries)
+    c.use_invariant.ensures.entries)
     (subst (λ (desk : DeskState (Bor g.row.H.Denot)). AreOfClerks office.clerks desk.entries) is c.use_invariant.ensures.of_clerks)
 
 pub returns-clause-refusal : goal.returns-clause-refusal

@@ -100,7 +100,7 @@ returns-in_err-entry-clause-exact g c = λ s h early.
     let told = subst (λ (b : Book _). IsRefusal b.now b.journal c.args.edit.now s) (sym c.self.view_is) h in
     let entry = c.in_ok-draft.draft.entry in
     absurd (for_nothing c.self.inside.opening c.self.inside.journal.items c.self.inside.tiled c.self.inside.corners
-        c.self.invariant entry s room
+    c.self.invariant entry s room
     (subst (λ edit. AreParcels c.self.inside.tiled.rows (named_ids edit)) (sym c.in_ok-draft.ensures.edit) c.in_ok-draft.ensures.here)
     c.in_ok-draft.ensures.is_entry
     (subst (λ edit. IsRefusal (state_of c.self.inside.tiled) c.self.inside.journal.items edit s) (sym c.in_ok-draft.ensures.edit) told))
@@ -111,7 +111,7 @@ returns-in_err-self-inside-clause-exact g c = λ s h early.
     let told = subst (λ (b : Book _). IsRefusal b.now b.journal c.args.edit.now s) (sym c.self.view_is) h in
     let entry = c.in_ok-draft.draft.entry in
     absurd (for_nothing c.self.inside.opening c.self.inside.journal.items c.self.inside.tiled c.self.inside.corners
-        c.self.invariant entry s room
+    c.self.invariant entry s room
     (subst (λ edit. AreParcels c.self.inside.tiled.rows (named_ids edit)) (sym c.in_ok-draft.ensures.edit) c.in_ok-draft.ensures.here)
     c.in_ok-draft.ensures.is_entry
     (subst (λ edit. IsRefusal (state_of c.self.inside.tiled) c.self.inside.journal.items edit s) (sym c.in_ok-draft.ensures.edit) told))

@@ -36,7 +36,7 @@ pub replace_all-requires-clause-same_length : goal.replace_all-requires-clause-s
 replace_all-requires-clause-same_length g c =
     let rows = c.args.self.now.rows in
     let ids =
-        collected c.collect.result c.in_ok-ids.ids c.ids.result (numbers rows) c.in_ok-ids.was c.collect.ensures.ran c.ids.ensures.ids in
+    collected c.collect.result c.in_ok-ids.ids c.ids.result (numbers rows) c.in_ok-ids.was c.collect.ensures.ran c.ids.ensures.ids in
     ap length (c.deref.ensures.value ∙ ids)
     ∙ as_many_shapes rows c.in_ok-shapes.shapes.items
     (subst (λ rows. AllZip IsTenShape rows c.in_ok-shapes.shapes.items) c.shapes.ensures c.in_ok-shapes.ensures)
@@ -45,7 +45,7 @@ pub replace_all-requires-clause-here : goal.replace_all-requires-clause-here
 replace_all-requires-clause-here g c =
     let rows = c.args.self.now.rows in
     let ids =
-        collected c.collect.result c.in_ok-ids.ids c.ids.result (numbers rows) c.in_ok-ids.was c.collect.ensures.ran c.ids.ensures.ids in
+    collected c.collect.result c.in_ok-ids.ids c.ids.result (numbers rows) c.in_ok-ids.was c.collect.ensures.ran c.ids.ensures.ids in
     let parcels = c.self.inside.parcels.parcels in let copies = c.in_ok-parcels.parcels.parcels in
     subst (AllByRecursion (HasId copies))
     (ap numbers (same_rows parcels copies c.in_ok-parcels.ensures.cases.parcels ∙ ap (λ (t : Kept). t.rows) c.self.view_is)
@@ -56,7 +56,7 @@ pub invariant_of-result : goal.invariant_of-result
 invariant_of-result g c =
     let rows = c.args.self.now.rows in
     let ids =
-        collected c.collect.result c.in_ok-ids.ids c.ids.result (numbers rows) c.in_ok-ids.was c.collect.ensures.ran c.ids.ensures.ids in
+    collected c.collect.result c.in_ok-ids.ids c.ids.result (numbers rows) c.in_ok-ids.was c.collect.ensures.ran c.ids.ensures.ids in
     let parcels = c.self.inside.parcels.parcels in let copies = c.in_ok-parcels.parcels.parcels in
     let here = ap (λ (t : Kept). t.rows) c.self.view_is in
     let after : rows_of_keyed c.replace_all.new.parcels.parcels ≡ ten_rows rows =
@@ -86,7 +86,7 @@ pub returns-clause-now : goal.returns-clause-now
 returns-clause-now g c =
     let rows = c.args.self.now.rows in
     let ids =
-        collected c.collect.result c.in_ok-ids.ids c.ids.result (numbers rows) c.in_ok-ids.was c.collect.ensures.ran c.ids.ensures.ids in
+    collected c.collect.result c.in_ok-ids.ids c.ids.result (numbers rows) c.in_ok-ids.was c.collect.ensures.ran c.ids.ensures.ids in
     let parcels = c.self.inside.parcels.parcels in let copies = c.in_ok-parcels.parcels.parcels in
     let after : rows_of_keyed c.replace_all.new.parcels.parcels ≡ ten_rows rows =
     ap (λ table. rows_of_keyed table.parcels) c.replace_all.ensures
