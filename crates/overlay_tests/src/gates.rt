@@ -1,10 +1,10 @@
 //! Hands that work at the same time, each in a thread of its own.
 
 use crate::rounds::{BOTH, STRIPS, TWO};
-use crate::steps::{Sharing, begun};
+use crate::steps::{Sharing, begun, is_closed, step_on};
 use crate::zones::HALVES;
 use fabric_core::{Layer, Sheet};
-use overlay_work::{CloseFault, Gate, run_round};
+use overlay_work::{CloseFault, Gate, OpenGate, run_round};
 use std::alloc::Allocator;
 use std::sync::Wait;
 use std::sync::atomic::{AtomicU64, Ordering};
@@ -78,13 +78,6 @@ impl Gate for Counting {
     }
 }
 
-/// Holds nobody.
-pub struct Open;
-
-impl Gate for Open {
-    fn pass(&self, _hand: usize) {}
-}
-
 /// Whether threads that pass this gate work off a round with a table of these pairs.
 fn is_worked_off<'t, 'h, H: Allocator + Send + Sync, G: Gate + Sync, R: Threads + Wait + Sync>(
     rt: &R,
@@ -137,6 +130,22 @@ fn passes_before_each_step(rt: HostRuntime) -> Result<(), Fail> {
     Ok(())
 }
 
+/// A hand that is stepped in this thread passes before each step, too, and then its round is closed.
+#[test]
+fn one_hand_is_stepped_in_this_thread(rt: HostRuntime) -> Result<(), Fail> {
+    let heap = rt.alloc();
+    let sheet = sheet(&heap, &SQUARE, &RINGS)?;
+    let zones = layer(&heap, &SQUARE, &HALVES)?;
+    let (round, mut hands) = begun(&heap, &sheet, &zones, (1, &[(0, 1), (0, 2)]))?;
+    let gate = Counting {
+        passes: AtomicU64::new(0),
+    };
+    step_on(&round, &mut hands, 0, &gate);
+    assert_eq!(rt; gate.passes.load(Ordering::SeqCst), 3);
+    assert!(rt; is_closed(round, hands, &BOTH));
+    Ok(())
+}
+
 /// With a hand missing, the other works in a thread of its own until it is done, and O6 names both numbers.
 #[test]
 fn one_of_two_hands_runs(rt: HostRuntime) -> Result<(), Fail> {
@@ -147,7 +156,7 @@ fn one_of_two_hands_runs(rt: HostRuntime) -> Result<(), Fail> {
     if let Some(last) = hands.pop() {
         assert_eq!(rt; last.give_up().number(), 1);
     }
-    match run_round(&rt, round, hands, &Open) {
+    match run_round(&rt, round, hands, &OpenGate) {
         Ok(_) => Err(Fail::new("a table without a hand")),
         Err(back) => {
             assert_eq!(rt; back.fault, CloseFault::HandsMissing(2, 1));

@@ -1,13 +1,12 @@
 //! Each growth of a round refused in turn: the answer is want of memory, what was handed in comes
 //! back as it was, and with memory the round goes on to its table.
 
-use crate::gates::Open;
 use crate::refusals::closes_later;
 use crate::rounds::{BOTH, FIRST_ALONE, TWO};
 use crate::steps::{begun, do_all, is_closed, lists, step, tests_of};
 use crate::zones::HALVES;
 use fabric_core::{Layer, Sheet};
-use overlay_work::{CloseFault, Round, RoundBack, RoundFault, Step, Table, run_round};
+use overlay_work::{CloseFault, OpenGate, Round, RoundBack, RoundFault, Step, Table, run_round};
 use refusing_alloc::Refusing;
 use std::alloc::Global;
 use std::sync::Wait;
@@ -144,13 +143,13 @@ fn is_run_refused<'t, 'h, R: Threads + Wait + Sync>(
 ) -> Result<bool, Fail> {
     let (round, hands) = begun(heap, sheet, zones, (2, &TWO))?;
     heap.refuse(number);
-    let closed = run_round(rt, round, hands, &Open);
+    let closed = run_round(rt, round, hands, &OpenGate);
     let is_refused = was_refused(heap);
     match closed {
         Ok(table) => told(is_refused, false, table.pairs() == BOTH.as_slice()),
         Err(back) => {
             let is_wanting = back.fault == CloseFault::NoMemory;
-            let again = run_round(rt, back.round, back.hands, &Open);
+            let again = run_round(rt, back.round, back.hands, &OpenGate);
             told(is_refused, is_wanting, has_both(&again))
         }
     }

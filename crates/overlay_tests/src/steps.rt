@@ -4,7 +4,7 @@ ghost use Rattle.std.specs.Prelude.{IfOk};
 ghost use Rattle.overlay_work.specs.Rounds.{AreHandsOf};
 
 use fabric_core::{Layer, Sheet};
-use overlay_work::{Hand, Round, RoundFault, Step};
+use overlay_work::{Gate, Hand, Round, RoundFault, Step, step_until_done};
 use std::alloc::{AllocError, Allocator};
 use std::test::Fail;
 
@@ -85,6 +85,22 @@ pub fn step<'t, 'h, H: Allocator>(
     }
     let hand = &mut hands[at];
     Some(hand.step())
+}
+
+/// Steps the hand at this place until it stops, where there is one.
+pub fn step_on<'t, 'h, H: Allocator, G: Gate>(
+    round: &Round<'t, 'h, H>,
+    hands: &mut Vec<Hand<'t, 'h, H>, &'h H>,
+    at: usize,
+    gate: &G,
+)
+    requires { AreHandsOf round.now hands.old.items }
+    ensures { AreHandsOf round.now hands.new.items }
+{
+    let _ = round;
+    if at < hands.len() {
+        step_until_done(&mut hands[at], gate);
+    }
 }
 
 /// Whether the steps of these hands, in this order, do this.

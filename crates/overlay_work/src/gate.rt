@@ -16,8 +16,21 @@ pub trait Gate {
         ensures { passed_by hand };
 }
 
-/// Steps a hand until it is done, or wants memory. It comes to that, since each other step does a parcel.
-pub(crate) fn step_until_done<'t, 'h, H: Allocator, G: Gate>(hand: &mut Hand<'t, 'h, H>, gate: &G)
+/// A gate that holds nobody.
+pub struct OpenGate;
+
+impl Gate for OpenGate {
+    fn pass(&self, _hand: usize) {}
+}
+
+/// Steps a hand in this thread until it is done, or wants memory; it passes the gate before each step. It comes to that,
+/// since each other step does a parcel.
+///
+/// ```
+/// step_until_done(&mut hands[0], &OpenGate);
+/// let table = round.close(hands)?; // unless a hand wants memory
+/// ```
+pub fn step_until_done<'t, 'h, H: Allocator, G: Gate>(hand: &mut Hand<'t, 'h, H>, gate: &G)
     ensures works { WorksOff hand.old hand.new }
     // It passed the gate under its number: of a gate of which nothing is known, a pass alone tells this.
     ensures passed { G.passed_by hand.old.number }

@@ -15,7 +15,7 @@ mod sharing;
 mod work;
 
 pub use close::{CloseFault, RoundBack};
-pub use gate::Gate;
+pub use gate::{Gate, OpenGate, step_until_done};
 pub use hand::{Hand, Step};
 pub use job_threads::OwnThreads;
 pub use overlay_claims::Claimant;

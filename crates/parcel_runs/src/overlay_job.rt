@@ -12,17 +12,10 @@ ghost use Rattle.parcel_runs.specs.OverlayReport.{IsOverlayWant};
 use crate::dealing::deal;
 use city_layers::ToolFault;
 use fabric_core::{Layer, Sheet};
-use overlay_work::{CloseFault, Gate, Hand, MOST_HANDS, Round, RoundFault, Table, run_round};
+use overlay_work::{CloseFault, Hand, MOST_HANDS, OpenGate, Round, RoundFault, Table, run_round};
 use std::alloc::Allocator;
 use std::sync::Wait;
 use std::thread::Threads;
-
-/// Holds nobody.
-struct OpenGate;
-
-impl Gate for OpenGate {
-    fn pass(&self, _hand: usize) {}
-}
 
 /// The table of a sheet's parcels and the zones of its city, which so many workers find.
 pub fn overlay_table<'t, 'h, R: Threads + Wait + Sync, H: Allocator + Send + Sync>(

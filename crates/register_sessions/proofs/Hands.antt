@@ -1,6 +1,6 @@
 -- The one hand of a round, which has all parcels as its list.
-use Rattle.std.proofs.Common.{◌≡◌, ◌⊎◌, ◌≢◌, inl, inr, refl, sym, subst, arith, ℕ, ◌<◌, List, [], ◌∷◌, length, slice_set, get_or, append-nil}
-use Rattle.std.specs.Prelude.{IsPermutation}
+use Rattle.std.proofs.Common.{◌≡◌, ◌⊎◌, ◌≢◌, inl, inr, ⊎_elim, refl, sym, subst, arith, ℕ, ◌<◌, List, [], ◌∷◌, length, slice_set, get_or, append-nil}
+use Rattle.std.specs.Prelude.{IsPermutation, IsSome}
 use Rattle.std.specs.List.Sorted.{IsStrictlyIncreasing}
 use Rattle.std.proofs.lemmas.List.Sorted.{IsPermutation-refl}
 use Rattle.geo_exact.specs.declared.corner.Corner.{Corner}
@@ -8,11 +8,12 @@ use Rattle.overlay_work.specs.declared.round.RoundFault.{RoundFault}
 use Rattle.overlay_work.specs.declared.round.RoundFault.TheVariants.{HandCount, OtherCity, NotASharing, NoMemory}
 use Rattle.overlay_work.specs.declared.close.CloseFault.{CloseFault}
 use Rattle.overlay_work.specs.declared.close.CloseFault.TheVariants.{NoThread, HandsMissing, Holding, NotDone, NoMemory as CloseMemory}
-use Rattle.overlay_work.specs.Faults.{AreAllIn, IsRoundFault, IsCloseFault}
-use Rattle.overlay_work.specs.Rounds.{Task, Progress, AreHandsOf}
+use Rattle.overlay_work.specs.Faults.{IsRoundFault, IsCloseFault}
+use Rattle.overlay_work.specs.Rounds.{Task, Progress, AreHandsOf, IsAtEnd}
 use Rattle.overlay_work.specs.Sharing.{HasHands, IsSharing}
 use Rattle.overlay_work.proofs.Starts.{no_fault}
-use Rattle.register_sessions.specs.own.Overlays.{IsFaultOfAllHands}
+use Rattle.overlay_work.proofs.HandsIn.{nothing_held}
+use Rattle.register_sessions.specs.own.Overlays.{IsWantOfMemory}
 
 -- the first hand is of the round
 pub first_of : (task : Task) (hands : List Progress) (d : Progress) → 0 < length hands → AreHandsOf task hands
@@ -47,12 +48,13 @@ city_alone ids city zones_city lists (NotASharing id) is rises has =
     }) has)
 city_alone ids city zones_city lists NoMemory is rises has = absurd has
 
--- and no hand is missing at its close
-pub all_in : (task : Task) (hands : List Progress) (fault : CloseFault) → AreAllIn task hands
-    → IsCloseFault task hands fault ⊎ (fault ≡ CloseMemory) → IsFaultOfAllHands fault
-all_in task hands fault all (inr e) = subst IsFaultOfAllHands (sym e) tt
-all_in task hands (NoThread number) all (inl is) = absurd is
-all_in task hands (HandsMissing made here) all (inl is) = absurd (is.0 all)
-all_in task hands (Holding number) all (inl is) = tt
-all_in task hands NotDone all (inl is) = tt
-all_in task hands CloseMemory all (inl is) = absurd is
+-- and it is closed with the hand, which has stopped, unless memory is wanting
+pub wants_memory : (task : Task) (hand : Progress) (fault : CloseFault) → length task.lists ≡ 1 → IsAtEnd hand ⊎ IsSome hand.holds
+    → IsCloseFault task (hand ∷ []) fault ⊎ (fault ≡ CloseMemory) → IsWantOfMemory fault
+wants_memory task hand fault one stops (inr e) = subst IsWantOfMemory (sym e) tt
+wants_memory task hand (NoThread number) one stops (inl is) = absurd is
+wants_memory task hand (HandsMissing made here) one stops (inl is) = absurd (is.0 (sym one))
+wants_memory task hand (Holding number) one stops (inl is) = tt
+wants_memory task hand NotDone one stops (inl is) =
+    absurd (⊎_elim (λ end. is.2.0 end.all_ends) (λ holds. nothing_held hand.holds is.1.0 holds) stops)
+wants_memory task hand CloseMemory one stops (inl is) = absurd is

@@ -6,14 +6,14 @@ ghost use Rattle.fabric_core.specs.Rows.{numbers};
 ghost use Rattle.overlay_work.specs.declared.round.RoundFault.TheVariants.{OtherCity, NoMemory as NoRoom};
 ghost use Rattle.zone_tables.specs.Overlap.{IsOverlapTable};
 ghost use Rattle.session_lines.specs.declared.faults.SessionFault.TheVariants.{NoMemory, NoZones};
-ghost use Rattle.register_sessions.specs.own.Overlays.{WritesTable, AnswersOverlay, AnswersAreas, IsFaultOfAllHands};
+ghost use Rattle.register_sessions.specs.own.Overlays.{WritesTable, AnswersOverlay, AnswersAreas, IsWantOfMemory};
 
 use crate::post::{Trouble, write_out};
 use area_shares::{AreaLine, area_lines, write_areas};
 use city_layers::ToolFault;
 use fabric_core::{Layer, Sheet};
 use geo_exact::ByteOut;
-use overlay_work::{CloseFault, Hand, Round, RoundFault, Step, Table};
+use overlay_work::{CloseFault, OpenGate, Round, RoundFault, Table, step_until_done};
 use parcel_runs::sheets::{export_sheet, push_sheet_tiling};
 use session_lines::{SessionFault, push_end, push_error, push_failure};
 use std::alloc::{AllocError, Allocator};
@@ -108,22 +108,10 @@ fn table_of<'t, 'h, H: Allocator>(
         Ok(begun) => begun,
         Err(fault) => return Err(fault_of_round(fault)),
     };
-    step_until_done(&mut hands[0]);
+    step_until_done(&mut hands[0], &OpenGate);
     match round.close(hands) {
         Ok(table) => Ok(table),
         Err(back) => Err(fault_of_close(back.fault)),
-    }
-}
-
-/// Steps a hand until it is done, or wants memory.
-fn step_until_done<'t, 'h, H: Allocator>(hand: &mut Hand<'t, 'h, H>)
-    ensures { hand.new.task ≡ hand.old.task }
-{
-    for _ in 0..u64::MAX {
-        match hand.step() {
-            Step::Did(_) => {}
-            Step::Done | Step::NoMemory => return,
-        }
     }
 }
 
@@ -140,17 +128,18 @@ fn fault_of_round(fault: RoundFault) -> SessionFault
     }
 }
 
-/// What is told of a round that could not be closed though its hands were handed in: a hand that holds a parcel stopped for
-/// want of memory.
+/// What is told of a round that could not be closed with its one hand, which has stopped: a hand that holds a parcel stopped
+/// for want of memory.
 fn fault_of_close(fault: CloseFault) -> SessionFault
-    requires { IsFaultOfAllHands fault }
+    requires { IsWantOfMemory fault }
     ensures { result ≡ NoMemory }
 {
     match fault {
         CloseFault::Holding(_) | CloseFault::NoMemory => SessionFault::NoMemory,
-        // A hand is done before it was stepped as often as it is.
-        CloseFault::NotDone => SessionFault::NoMemory,
-        CloseFault::NoThread(_) | CloseFault::HandsMissing(_, _) => unreachable!(),
+        // No thread was asked for, the one hand was handed in, and it is done unless it holds a parcel.
+        CloseFault::NoThread(_) | CloseFault::HandsMissing(_, _) | CloseFault::NotDone => {
+            unreachable!()
+        }
     }
 }
 

@@ -39,10 +39,11 @@ pub record AnswersAreas (rows zones : List NumberedRing) (entries : ℕ) (before
   pub are_areas : IsAreaTable rows zones table.pairs areas
   pub writes : WritesTable table areas before after old new
 
--- why a round is not closed though all its hands were handed in, and no thread was asked for
-abbrev pub IsFaultOfAllHands : CloseFault → Type 0
-IsFaultOfAllHands (NoThread number) = ⊥
-IsFaultOfAllHands (HandsMissing made here) = ⊥
-IsFaultOfAllHands (Holding number) = ⊤
-IsFaultOfAllHands NotDone = ⊤
-IsFaultOfAllHands NoMemory = ⊤
+-- why a round is not closed with its one hand, which has stopped: the hand holds a parcel for want of memory, or memory was
+-- wanting for the close
+abbrev pub IsWantOfMemory : CloseFault → Type 0
+IsWantOfMemory (NoThread number) = ⊥
+IsWantOfMemory (HandsMissing made here) = ⊥
+IsWantOfMemory (Holding number) = ⊤
+IsWantOfMemory NotDone = ⊥
+IsWantOfMemory NoMemory = ⊤
