@@ -1,8 +1,10 @@
--- What a user is told where a journal's edits are not made again (this product's own).
+-- What a user is told where a journal's edits are not made again, or no office is opened (this product's own).
 use Rattle.std.specs.Prelude.{◌≡◌, ◌⊎◌, ℕ, ◌+◌, ◌*◌, ◌^◌, ◌<◌, List, Vec}
 use Rattle.std.specs.Borrow.{Bor}
 use Rattle.fabric_core.specs.declared.refusal.Refusal.{Refusal}
-use Rattle.city_layers.specs.declared.fault.ToolFault.TheVariants.{NoMemory}
+use Rattle.city_layers.specs.declared.fault.ToolFault.TheVariants.{NoMemory, ClerkCount, NoWindow as ToldWindow}
+use Rattle.desk_lock.specs.declared.opening.OpenFault.{OpenFault}
+use Rattle.desk_lock.specs.declared.opening.OpenFault.TheVariants.{Places, NoWindow, NoMemory as NoOffice}
 use Rattle.journal_records.specs.declared.read.JournalFault.TheVariants.{NoJournal as NoJournalThere, OtherLayer as OfOtherLayer, Changed, NoMemory as NoRoom}
 use Rattle.journal_replays.specs.declared.journal_edits.ReplayFault.{ReplayFault}
 use Rattle.journal_replays.specs.declared.journal_edits.ReplayFault.TheVariants.{Journal, Refused}
@@ -28,3 +30,9 @@ module _ {A : Type 0} where
   IsToldOf path (Journal NoRoom) told = told ≡ Run NoMemory
   IsToldOf path (Refused number refusal) told =
       2 * number + 1 < 2 ^ 64 → IsToldRefused path (2 * number + 1) refusal told
+
+  -- no office is opened: for so many clerks, or for want of this window's reader
+  abbrev pub IsToldOfOffice : OpenFault → StartFault A → Type 0
+  IsToldOfOffice (Places count) told = told ≡ Run (ClerkCount count)
+  IsToldOfOffice (NoWindow window) told = told ≡ Run (ToldWindow window)
+  IsToldOfOffice NoOffice told = told ≡ Run NoMemory

@@ -17,7 +17,7 @@ use crate::serving::{Reception, serve};
 use crate::start_fault::StartFault;
 use city_layers::{Disk, ToolFault, read_source, read_text};
 use clerk_runs::push_refusal;
-use desk_lock::{Name, Naming, Office, OpenFault};
+use desk_lock::{Name, Naming, Office};
 use fabric_core::{Fabric, Layer, Refusal};
 use geo_exact::{Counted, Unit};
 use journal_records::{JournalFault, Seal};
@@ -333,7 +333,7 @@ fn at_office<
     let opened = Office::<H, J, &R>::open(rt, heap, name, fabric, clerks, windows);
     let (office, cards, windows) = match opened {
         Ok(opened) => opened,
-        Err((_, fault)) => return Err(StartFault::Run(fault_of_open(fault))),
+        Err((_, fault)) => return Err(StartFault::from(fault)),
     };
     let (desks, chair) = seat_all(heap, paths, cards, windows)?;
     let room = Room::new(office, journal, heap, rt);
@@ -348,13 +348,4 @@ fn at_office<
         out: Counted::new(io::writer(rt)),
     };
     serve(room, disk, paths, desks, reception)
-}
-
-/// What the fault of an office is to the user.
-fn fault_of_open(fault: OpenFault) -> ToolFault<'static> {
-    match fault {
-        OpenFault::NoWindow(window) => ToolFault::NoWindow(window),
-        OpenFault::Places(count) => ToolFault::ClerkCount(count),
-        OpenFault::NoMemory => ToolFault::NoMemory,
-    }
 }

@@ -3,8 +3,10 @@
 ghost use Rattle.std.specs.Prelude.{◌≡◌};
 ghost use Rattle.city_layers.specs.declared.fault.ToolFault.TheVariants.{NoMemory};
 ghost use Rattle.register_sessions.specs.declared.start_fault.StartFault.TheVariants.{Run};
+ghost use Rattle.register_sessions.specs.StartFaults.{IsToldOfOffice};
 
 use city_layers::ToolFault;
+use desk_lock::OpenFault;
 use std::alloc::{AllocError, AllocFailed, Allocator};
 use std::fmt;
 
@@ -39,6 +41,18 @@ impl<'a, A: Allocator> From<ToolFault<'a>> for StartFault<'a, A> {
 
     fn from(fault: ToolFault<'a>) -> StartFault<'a, A> {
         StartFault::Run(fault)
+    }
+}
+
+impl<'a, A: Allocator> From<OpenFault> for StartFault<'a, A> {
+    ghost from_gives = { λ fault start. IsToldOfOffice fault start };
+
+    fn from(fault: OpenFault) -> StartFault<'a, A> {
+        StartFault::Run(match fault {
+            OpenFault::NoWindow(window) => ToolFault::NoWindow(window),
+            OpenFault::Places(count) => ToolFault::ClerkCount(count),
+            OpenFault::NoMemory => ToolFault::NoMemory,
+        })
     }
 }
 
