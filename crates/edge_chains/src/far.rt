@@ -26,7 +26,7 @@ const MANY_STEPS: u64 = 4096;
 const SOME_STEPS: u64 = 512;
 
 /// How much slow edges cost in all, for each corner, before the leaning boxes are made: about what making them does.
-const WORTH: usize = 64;
+const WORTH: usize = 16;
 
 /// Of all corners one in so many is what an edge is reckoned to cost that is not looked up step by step; one that is
 /// costs as much as it has steps.
@@ -144,9 +144,16 @@ impl<'b, A: Allocator + Copy> Far<'b, A> {
         if let Some(lines) = self.directions.find(steps) {
             return lines.inside(alloc, a, b);
         }
-        let most = self.quick(steps.count <= MANY_STEPS);
-        if let Some(found) = self.blocks.inside(a, b, most)? {
+        let quick = if self.tree.is_some() { QUICK / 8 } else { QUICK };
+        if let Some(found) = self.blocks.inside(a, b, quick)? {
             return Ok(found);
+        }
+        if steps.count > MANY_STEPS && self.tree.is_none() {
+            let more = self.blocks.corners().len() / QUICK;
+            if let Some(found) = self.blocks.inside(a, b, more)? {
+                self.cost = self.cost.saturating_add(more);
+                return Ok(found);
+            }
         }
         if steps.count <= SOME_STEPS {
             return self.on_steps(a, b, steps);
@@ -168,7 +175,7 @@ impl<'b, A: Allocator + Copy> Far<'b, A> {
     {
         let alloc = self.blocks.alloc();
         if let Some(tree) = &self.tree {
-            return tree.inside(alloc, a, b);
+            return tree.inside(alloc, a, b, steps);
         }
         let count = self.blocks.corners().len();
         if self.cost / WORTH < count {
@@ -186,18 +193,9 @@ impl<'b, A: Allocator + Copy> Far<'b, A> {
             };
         }
         let tree = Tree::new(alloc, self.blocks.corners())?;
-        let found = tree.inside(alloc, a, b)?;
+        let found = tree.inside(alloc, a, b, steps)?;
         self.tree = Some(tree);
         Ok(found)
-    }
-
-    /// How many boxes of the tree are looked at before an edge is slow.
-    fn quick(&self, few: bool) -> usize {
-        if few {
-            QUICK
-        } else {
-            QUICK + self.blocks.corners().len() / QUICK
-        }
     }
 
     /// The same, through the tree of boxes; where that looks at half of them, each corner is tried.

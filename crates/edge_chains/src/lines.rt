@@ -12,6 +12,9 @@ use geo_exact::{Corner, wide_product};
 use std::alloc::{AllocError, Allocator};
 use std::marker::Model;
 
+/// In how many parts the lines are dealt out, by the bits of their ranks.
+const PARTS: usize = 8_192;
+
 /// A corner and how far it lies across a direction.
 #[derive(Clone, Copy, Debug, PartialEq, Eq, PartialOrd, Ord)]
 struct Ranked {
@@ -24,7 +27,7 @@ struct Ranked {
 pub(crate) struct Lines<A: Allocator> {
     across: i64,
     up: i64,
-    ranked: Vec<Ranked, A>,
+    parts: Vec<Vec<Ranked, A>, A>,
 }
 
 impl<A: Allocator> Model for Lines<A> {
@@ -36,7 +39,7 @@ impl<A: Allocator> Model for Lines<A> {
     ghost view = { λ lines. record {
       across = lines.across;
       up = lines.up;
-      corners = map (λ it. it.corner) lines.ranked.items;
+      corners = lines.parts.items;
     } };
 
     ghost invariant = { λ lines. AreRanked lines.across lines.up lines.ranked.items };
@@ -49,18 +52,21 @@ impl<A: Allocator + Copy> Lines<A> {
         ensures up { IfOk result (λ lines. lines.up ≡ steps.up) }
         ensures corners { IfOk result (λ lines. (c : Corner) → Contains lines.corners c ↔ Contains corners.now c) }
     {
-        let mut ranked = Vec::with_capacity(alloc, corners.len())?;
+        let mut parts = empty_parts(alloc, corners, steps)?;
         for corner in corners {
-            ranked.push(Ranked {
-                rank: rank(steps.across, steps.up, *corner),
+            let rank = rank(steps.across, steps.up, *corner);
+            parts[part_of(rank)].push(Ranked {
+                rank,
                 corner: *corner,
             })?;
         }
-        ranked.sort_unstable();
+        for part in &mut parts {
+            part.sort_unstable();
+        }
         Ok(Lines {
             across: steps.across,
             up: steps.up,
-            ranked,
+            parts,
         })
     }
 
@@ -80,8 +86,33 @@ impl<A: Allocator + Copy> Lines<A> {
         let rank = rank(self.across, self.up, a);
         let low = Ranked { rank, corner: a };
         let high = Ranked { rank, corner: b };
-        between(alloc, &self.ranked, low, high)
+        between(alloc, &self.parts[part_of(rank)], low, high)
     }
+}
+
+/// The part that the corners with this rank are in.
+fn part_of(rank: i128) -> usize {
+    let low = rank.rem_euclid(1 << 64) as u64;
+    let mixed = low.wrapping_mul(0x9e37_79b9_7f4a_7c15);
+    (mixed >> 51) as usize
+}
+
+/// No corner yet, and room for those of each part.
+fn empty_parts<A: Allocator + Copy>(
+    alloc: A,
+    corners: &[Corner],
+    steps: Steps,
+) -> Result<Vec<Vec<Ranked, A>, A>, AllocError> {
+    let mut counts = vec![in alloc; 0usize; PARTS]?;
+    for corner in corners {
+        let part = part_of(rank(steps.across, steps.up, *corner));
+        counts[part] = counts[part].wrapping_add(1);
+    }
+    let mut parts = Vec::with_capacity(alloc, PARTS)?;
+    for count in &counts {
+        parts.push(Vec::with_capacity(alloc, *count)?)?;
+    }
+    Ok(parts)
 }
 
 /// How far a corner lies across a direction.

@@ -10,13 +10,17 @@ ghost use Rattle.edge_chains.specs.own.Tree.{AreLeaning};
 
 use crate::blocks::{GROUP, block_ends};
 use crate::edge_tests::is_strictly_inside;
+use crate::steps::Steps;
 use geo_exact::{Corner, turn};
 use leaning_boxes::{LeaningBox, reach};
 use std::alloc::{AllocError, Allocator};
 use std::marker::Model;
 
 /// How many corners a block has at most whose box is not looked at: each corner is tried.
-const LEAF: usize = 16;
+const LEAF: usize = 64;
+
+/// How many corners a block has at most whose low bits are looked at where its box tells nothing.
+const LOOKED: usize = 1024;
 
 /// Corners for many searches, as a list in some order: at each group of four a block of corners begins, with a box
 /// that leans with them. A block is its first group and two halves of the rest, parted in turn along its longest
@@ -26,6 +30,7 @@ pub(crate) struct Tree<A: Allocator> {
     corners: Vec<Corner, A>,
     ends: Vec<usize, A>,
     boxes: Vec<LeaningBox, A>,
+    low: LowBits<A>,
 }
 
 impl<A: Allocator> Model for Tree<A> {
@@ -49,18 +54,96 @@ impl<A: Allocator + Copy> Tree<A> {
         part(list.as_mut_slice(), Split::Along);
         let ends = block_ends(alloc, list.len())?;
         let boxes = leaning_boxes(alloc, &list, &ends)?;
+        let low = LowBits::new(alloc, &list)?;
         Ok(Tree {
             corners: list,
             ends,
             boxes,
+            low,
         })
     }
 
     /// Those of the corners that lie strictly inside the edge from a to b, in the order of the list.
-    pub fn inside(&self, alloc: A, a: Corner, b: Corner) -> Result<Vec<Corner, A>, AllocError>
+    pub fn inside(
+        &self,
+        alloc: A,
+        a: Corner,
+        b: Corner,
+        steps: Steps,
+    ) -> Result<Vec<Corner, A>, AllocError>
         ensures { IfOk result (λ found. found.items ≡ filter (λ c. is_strictly_inside c a b) self.now) }
     {
-        gather(alloc, &self.corners, &self.ends, &self.boxes, a, b)
+        let line = LowLine::new(a, steps);
+        gather(alloc, &self.corners, &self.ends, &self.boxes, &self.low, line, a, b)
+    }
+}
+
+/// The low bits of corners: on a line, what they have across it agrees in these, too.
+#[derive(Drop)]
+struct LowBits<A: Allocator> {
+    x: Vec<u16, A>,
+    y: Vec<u16, A>,
+}
+
+/// A line by the low bits of its direction and of how far it lies across it.
+#[derive(Clone, Copy)]
+struct LowLine {
+    across: u16,
+    up: u16,
+    rank: u16,
+}
+
+/// The low bits of a number.
+fn low_bits(z: i64) -> u16 {
+    z.rem_euclid(65_536) as u16
+}
+
+/// The low bits of how far a place lies across a direction, by those of both.
+fn low_rank(across: u16, up: u16, x: u16, y: u16) -> u16 {
+    across.wrapping_mul(y).wrapping_sub(up.wrapping_mul(x))
+}
+
+impl LowLine {
+    /// The line through a corner along these steps.
+    fn new(corner: Corner, steps: Steps) -> LowLine {
+        let (across, up) = (low_bits(steps.across), low_bits(steps.up));
+        LowLine {
+            across,
+            up,
+            rank: low_rank(across, up, low_bits(corner.x), low_bits(corner.y)),
+        }
+    }
+
+    /// Whether some place may be on the line, by the low bits.
+    fn may_meet(self, x: &[u16], y: &[u16]) -> bool {
+        let mut met = false;
+        for (x, y) in x.iter().zip(y) {
+            met |= low_rank(self.across, self.up, *x, *y) == self.rank;
+        }
+        met
+    }
+}
+
+impl<A: Allocator + Copy> LowBits<A> {
+    /// Those of these corners.
+    fn new(alloc: A, corners: &[Corner]) -> Result<LowBits<A>, AllocError> {
+        let mut x = Vec::with_capacity(alloc, corners.len())?;
+        let mut y = Vec::with_capacity(alloc, corners.len())?;
+        for corner in corners {
+            x.push(low_bits(corner.x))?;
+            y.push(low_bits(corner.y))?;
+        }
+        Ok(LowBits { x, y })
+    }
+}
+
+impl<A: Allocator> LowBits<A> {
+    /// Whether it is seen that no corner of a block, unless it is large, is on a line.
+    fn are_off(&self, start: usize, end: usize, line: LowLine) -> bool {
+        if end > self.x.len() || end > self.y.len() || start > end || end - start > LOOKED {
+            return false;
+        }
+        !line.may_meet(&self.x[start..end], &self.y[start..end])
     }
 }
 
@@ -132,8 +215,9 @@ fn part(corners: &mut [Corner], split: Split)
     let groups = corners.len() / GROUP;
     let (from, to) = far_ends(corners);
     let (_, rest) = corners.split_at_mut(GROUP);
-    rest.sort_unstable_by_key(|it| split.key(from, to, *it));
-    let (low, high) = rest.split_at_mut(groups / 2 * GROUP);
+    let half = groups / 2 * GROUP;
+    rest.select_nth_unstable_by_key(half, |it| split.key(from, to, *it));
+    let (low, high) = rest.split_at_mut(half);
     part(low, split.turned());
     part(high, split.turned());
 }
@@ -191,6 +275,8 @@ fn gather<A: Allocator>(
     corners: &[Corner],
     ends: &[usize],
     boxes: &[LeaningBox],
+    low: &LowBits<A>,
+    line: LowLine,
     a: Corner,
     b: Corner,
 ) -> Result<Vec<Corner, A>, AllocError>
@@ -201,7 +287,10 @@ fn gather<A: Allocator>(
     let mut at = 0;
     while at < corners.len() {
         let group = at / GROUP;
-        if at % GROUP == 0 && are_many(at, ends[group]) && boxes[group].is_off(a, b) {
+        if at % GROUP == 0
+            && are_many(at, ends[group])
+            && (boxes[group].is_off(a, b) || low.are_off(at, ends[group], line))
+        {
             at = ends[group];
         } else {
             let corner = corners[at];
