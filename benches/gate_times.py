@@ -1,9 +1,9 @@
 #!/usr/bin/env python3
 """Says how many processor minutes each crate takes in a gate, its proofs, its tests' proofs and its mutants.
 
-    benches/gate_times.py [SECONDS] > table     watches until no `rt ci` runs, looking every SECONDS (2)
+    benches/gate_times.py [SECONDS] > table     watches until no `rt ci` and no `scripts/prove` runs, looking every SECONDS (2)
 
-It watches the provers that any `rt ci` of this machine starts, so nothing else is to be proved meanwhile, and reads the time
+It watches the provers that any of these starts on this machine, so nothing else is to be proved meanwhile, and reads the time
 that each has used from /proc. A prover that lives for less than SECONDS is not seen whole. It stands outside of the gate.
 """
 import os
@@ -48,7 +48,7 @@ def watch(pause: float) -> Dict[Tuple[str, str], float]:
     while True:
         is_running = False
         for pid, words, folder in processes():
-            is_running = is_running or bool(re.search(r"\brt ci\b", words))
+            is_running = is_running or bool(re.search(r"\brt ci\b|\bscripts/prove\b", words))
             found = re.search(r"rattle (?:build|check|test)\b.*--crate-name (\w+)", words)
             if not found:
                 continue

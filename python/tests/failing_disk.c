@@ -1,5 +1,6 @@
 /* Has calls on one file fail, as those of a disk that breaks: what LD_PRELOAD is for in test_session_disk.py.
-   JOURNAL is the file's path, FAILS the kind of failure, AT the call from which on it fails, counted from 1. */
+   JOURNAL is the file's path, FAILS the kind of failure, AT the call from which on it fails, counted from 1.
+   Where FAILS is `folder`, it is calls on the file's folder that fail. */
 #define _GNU_SOURCE
 #include <dlfcn.h>
 #include <errno.h>
@@ -21,8 +22,9 @@ static int fails(int fd, const char *first, const char *second)
     ssize_t length = readlink(name, path, sizeof path - 1);
     if (length < 0)
         return 0;
-    path[length] = 0;
-    if (strcmp(path, wanted))
+    const char *end = strcmp(kind, "folder") ? NULL : strrchr(wanted, '/');
+    size_t wanted_length = end ? (size_t)(end - wanted) : strlen(wanted);
+    if ((size_t)length != wanted_length || memcmp(path, wanted, wanted_length))
         return 0;
     int call = __sync_add_and_fetch(&calls, 1);
     return call < atoi(at) ? 0 : call == atoi(at) ? 1 : 2;
@@ -47,6 +49,16 @@ int fdatasync(int fd)
 {
     int (*real)(int) = dlsym(RTLD_NEXT, "fdatasync");
     if (fails(fd, "synchronise", "synchronise") == 1) {
+        errno = EIO;
+        return -1;
+    }
+    return real(fd);
+}
+
+int fsync(int fd)
+{
+    int (*real)(int) = dlsym(RTLD_NEXT, "fsync");
+    if (fails(fd, "folder", "folder") == 1) {
         errno = EIO;
         return -1;
     }

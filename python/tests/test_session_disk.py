@@ -87,7 +87,9 @@ def test_an_edit_that_the_disk_refuses_is_not_shown(town, monkeypatch, failing, 
         assert session.replayed == len(lines) and len(session.notes) == (1 if journal.torn else 0)
 
 
-@pytest.mark.parametrize("kind, at", [("write", 1), ("half a write", 1), ("synchronise", 1), ("synchronise", 2)])
+@pytest.mark.parametrize(
+    "kind, at", [("write", 1), ("half a write", 1), ("synchronise", 1), ("synchronise", 2), ("folder", 1)]
+)
 def test_a_journal_that_can_not_be_begun(town, monkeypatch, failing, kind, at):
     """A start that fails leaves a file with which the next one begins."""
     preload(town, monkeypatch, failing, kind, at)
