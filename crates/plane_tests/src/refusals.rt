@@ -109,11 +109,13 @@ fn clipping(rt: HostRuntime) -> Result<(), Fail> {
     Err(Fail::new("each growth was refused"))
 }
 
+/// A western ring, and a southern one beside it.
 static RINGS: [&[Place]; 2] = [
     &[(0, 0), (60, 0), (60, 100), (0, 100)],
     &[(60, 0), (90, 0), (90, 50), (60, 50)],
 ];
 
+/// The same two, noded for the cuts.
 static NODED: [&[Place]; 2] = [
     &[(0, 0), (60, 0), (60, 50), (60, 100), (0, 100)],
     &[(60, 0), (75, 0), (90, 0), (90, 50), (60, 50)],
