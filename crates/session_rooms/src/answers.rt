@@ -33,8 +33,8 @@ pub struct Chair<'h, H: Allocator, J: Naming<H>> {
     pub window: Option<Window<'h, H, J>>,
 }
 
-/// Adds the answer to what came at a desk that is not the operator's, and returns what was made of it, where it is an edit
-/// that was accepted.
+/// Adds the answer to what came at a desk that is not the operator's, and returns what was made of it, where it is an
+/// edit that was accepted.
 ///
 /// # Errors
 ///
@@ -49,7 +49,8 @@ pub fn answer<'h, H: Allocator, J: Naming<H>, R: Wait, F: JournalFile, K: Clocke
     ensures card { IsStillHis chair.old.card chair.new.card }
     ensures window { HasWindowGoneOn chair.old.window chair.new.window }
     ensures answered { IfOk result (λ made.
-        GoesOnBy (IsAnswerOf J.office room.now.journal chair.old chair.new came line.now made) text.old.items text.new.items) }
+        GoesOnBy (IsAnswerOf J.office room.now.journal chair.old chair.new came line.now made)
+        text.old.items text.new.items) }
 {
     match read_asked(room.heap, came, line) {
         Ok(asked) => answer_asked(room, chair, asked, text),
@@ -132,8 +133,8 @@ fn read_one<'l, A: Allocator + Copy>(
     }
 }
 
-/// Adds the answer to a line that any desk may be asked; the operator's own lines are refused. Returns what was made of it,
-/// where it is an edit that was accepted.
+/// Adds the answer to a line that any desk may be asked; the operator's own lines are refused. Returns what was made of
+/// it, where it is an edit that was accepted.
 ///
 /// # Errors
 ///
@@ -147,7 +148,8 @@ pub fn answer_asked<'h, H: Allocator, J: Naming<H>, R: Wait, F: JournalFile, K: 
     ensures card { IsCardAfter asked.entry.line chair.old.card chair.new.card }
     ensures window { HasWindowGoneOn chair.old.window chair.new.window }
     ensures answered { IfOk result (λ made.
-        GoesOnBy (IsAnswerTo J.office room.now.journal chair.old chair.new asked.entry.line made) text.old.items text.new.items) }
+        GoesOnBy (IsAnswerTo J.office room.now.journal chair.old chair.new asked.entry.line made)
+        text.old.items text.new.items) }
 {
     let Asked { who, line } = asked;
     match line {
@@ -177,7 +179,8 @@ fn answer_edit<'h, H: Allocator, J: Naming<H>, R: Wait, F: JournalFile, K: Clock
     ensures card { IsStillHis chair.old.card chair.new.card }
     ensures window { HasWindowGoneOn chair.old.window chair.new.window }
     ensures answered { IfOk result (λ made.
-        GoesOnBy (IsEditAnswer J.office room.now.journal chair.old chair.new edit.now made) text.old.items text.new.items) }
+        GoesOnBy (IsEditAnswer J.office room.now.journal chair.old chair.new edit.now made)
+        text.old.items text.new.items) }
 {
     let Chair { card, window } = chair;
     match card {
@@ -189,7 +192,8 @@ fn answer_edit<'h, H: Allocator, J: Naming<H>, R: Wait, F: JournalFile, K: Clock
     }
 }
 
-/// Adds the answer to a clerk's edit, and returns what was made, where it was accepted. The window knows then what was shown.
+/// Adds the answer to a clerk's edit, and returns what was made, where it was accepted. The window knows then what was
+/// shown.
 fn answer_clerk<'h, H: Allocator, J: Naming<H>, R: Wait, F: JournalFile, K: Clocked>(
     room: &Room<'_, 'h, H, J, R, F, K>,
     card: &mut Card<'h, H, J>,
@@ -203,7 +207,8 @@ fn answer_clerk<'h, H: Allocator, J: Naming<H>, R: Wait, F: JournalFile, K: Cloc
     // It has learnt what was shown of the edit.
     ensures learnt { IfOk result (λ made. HasWindowLearnt window.old (shown_of made) window.new) }
     ensures answered { IfOk result (λ made.
-        GoesOnBy (IsEditLine J.office room.now.journal card.old card.new edit.now made) text.old.items text.new.items) }
+        GoesOnBy (IsEditLine J.office room.now.journal card.old card.new edit.now made)
+        text.old.items text.new.items) }
 {
     match room.submit(card, who, edit) {
         Ok(made) => {
