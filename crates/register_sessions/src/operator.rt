@@ -85,7 +85,9 @@ impl<
             Line::Export(base) => answer_export(room, self.disk, ground, base, text)?,
             Line::Publish => answer_publish(room, chair, text)?,
             Line::Close => return Ok(Next::End),
-            line => answer_asked(room, chair, Asked { who, line }, text)?,
+            line => {
+                answer_asked(room, chair, Asked { who, line }, text)?;
+            }
         }
         Ok(Next::Line)
     }
@@ -97,7 +99,7 @@ fn answer_check<'h, H: Allocator, J: Naming<H>, R: Wait, K: Clocked>(
     text: &mut Vec<u8, &'h H>,
 ) -> Result<(), AllocError> {
     match room.sheet() {
-        Ok(sheet) => report_check(sheet, text),
+        Ok(drawn) => report_check(drawn.sheet, text),
         Err(fault) => push_error(text, fault),
     }
 }
@@ -114,8 +116,8 @@ fn answer_overlay<'h, H: Allocator, J: Naming<H>, R: Wait, K: Clocked, W: ByteOu
         return Ok(push_error(text, SessionFault::NoZones)?);
     };
     match room.sheet() {
-        Ok(sheet) if has_areas => report_areas(room.heap, &sheet, zones, text, out),
-        Ok(sheet) => report_overlay(room.heap, &sheet, zones, text, out),
+        Ok(drawn) if has_areas => report_areas(room.heap, &drawn.sheet, zones, text, out),
+        Ok(drawn) => report_overlay(room.heap, &drawn.sheet, zones, text, out),
         Err(fault) => Ok(push_error(text, fault)?),
     }
 }
@@ -136,7 +138,7 @@ fn answer_export<'h, P: Exports + Machine, H: Allocator, J: Naming<H>, R: Wait, 
         return push_failure(text, why.as_str());
     }
     match room.sheet() {
-        Ok(sheet) => report_export(disk, room.heap, sheet, base, text),
+        Ok(drawn) => report_export(disk, room.heap, drawn.sheet, base, text),
         Err(fault) => push_error(text, fault),
     }
 }
