@@ -1,3 +1,4 @@
+pub mod Asked
 pub mod DeskAnswers
 pub mod Kept
 pub mod Rooms

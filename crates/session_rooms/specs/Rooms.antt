@@ -1,5 +1,8 @@
--- What a session's room answers where an edit is not made (this product's own).
+-- What a session's room answers where an edit is not made, or nothing is shown (this product's own).
+use Rattle.std.specs.Prelude.{◌≡◌, ◌⊎◌, Option, IsSome}
 use Rattle.fabric_core.specs.declared.refusal.Refusal.{Refusal}
+use Rattle.session_lines.specs.declared.faults.SessionFault.{SessionFault}
+use Rattle.session_lines.specs.declared.faults.SessionFault.TheVariants.{JournalFailed, NoMemory as WantsMemory}
 use Rattle.session_rooms.specs.declared.room.EditFault.{EditFault}
 use Rattle.session_rooms.specs.declared.room.EditFault.TheVariants.{Refused, Journal, NoMemory}
 
@@ -20,3 +23,11 @@ abbrev pub IfJournalFails : EditFault → Type 0 → Type 0
 IfJournalFails (Refused refusal) holds = Unit {0}
 IfJournalFails Journal holds = holds
 IfJournalFails NoMemory holds = Unit {0}
+
+-- the room's journal could not be written, where it has one
+abbrev pub IsJournalFault : {T : Type 0} → Option T → SessionFault → Type 0
+IsJournalFault journal fault = (fault ≡ JournalFailed) × IsSome journal
+
+-- why a room shows nothing, or draws nothing: that, or memory ran out
+abbrev pub IsRoomFault : {T : Type 0} → Option T → SessionFault → Type 0
+IsRoomFault journal fault = IsJournalFault journal fault ⊎ (fault ≡ WantsMemory)

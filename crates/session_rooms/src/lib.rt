@@ -17,4 +17,4 @@ pub use clerk_edits::{EDITS_CLERK, EditsFault, add_entries, make_edits};
 pub use door::Door;
 pub use journal::{Clocked, Journal, time_of};
 pub use lines::{Came, LINE_BYTES, has_line, next_line};
-pub use room::{EditFault, Made, Room};
+pub use room::{Drawn, EditFault, Made, Room};

@@ -1,9 +1,11 @@
 //! What all desks of a session share.
 
-ghost use Rattle.std.specs.Prelude.{◌≡◌, ◌⊎◌, ◌≤◌, length, true, IfOk, IfErr, IfSome};
+ghost use Rattle.std.specs.Prelude.{◌≡◌, ◌⊎◌, ◌↔◌, ◌≤◌, [], length, true, IfOk, IfErr, IfSome, IsSome};
+ghost use mathlib.Core.List.{IsPrefix};
 ghost use Rattle.fabric_core.specs.EditResults.{IsLawful};
 ghost use Rattle.desk_lock.specs.Offices.{with_made, with_met, journal_met, EndsWith, IsSometime, IsRefusedWhenMet};
-ghost use Rattle.session_rooms.specs.Rooms.{IfRefused, UnlessJournalFails, IfJournalFails};
+ghost use Rattle.desk_lock.specs.Offices.{AreOfClerks, behind, IsSheetOf};
+ghost use Rattle.session_rooms.specs.Rooms.{IfRefused, UnlessJournalFails, IfJournalFails, IsJournalFault, IsRoomFault};
 ghost use Rattle.session_rooms.specs.Kept.{IsRecorded, IsOnDisk};
 
 use crate::door::Door;
@@ -56,6 +58,15 @@ pub struct Made<'h, H: Allocator, J: Naming<H>> {
     pub notice: Option<Notice<'h, H, J>>,
 }
 
+/// The parcels as they were at a moment, and that the disk has what led there, where there is a journal.
+#[derive(Drop)]
+pub struct Drawn<'h, H: Allocator> {
+    /// The parcels, with the entries that led there.
+    pub sheet: Sheet<'h, H>,
+    /// That the disk has the records of these entries, where there is a journal.
+    pub on_disk: Option<OnDisk>,
+}
+
 impl<'r, 'h, H: Allocator, J: Naming<H>, R: Wait, F: JournalFile, K: Clocked> Room<
     'r,
     'h,
@@ -71,7 +82,10 @@ impl<'r, 'h, H: Allocator, J: Naming<H>, R: Wait, F: JournalFile, K: Clocked> Ro
         journal: Option<Journal<F, &'h H, K>>,
         heap: &'h H,
         rt: &'r R,
-    ) -> Room<'r, 'h, H, J, R, F, K> {
+    ) -> Room<'r, 'h, H, J, R, F, K>
+        ensures office { result.office ≡ office.entry }
+        ensures journal { result.journal ≡ journal.entry }
+    {
         Room {
             office,
             journal,
@@ -83,7 +97,10 @@ impl<'r, 'h, H: Allocator, J: Naming<H>, R: Wait, F: JournalFile, K: Clocked> Ro
 
     /// What is left once all desks have ended: the office, and how many records the disk has of its journal, where there is
     /// one.
-    pub fn end(self) -> (Office<'h, H, J, &'r R>, Option<u64>) {
+    pub fn end(self) -> (Office<'h, H, J, &'r R>, Option<u64>)
+        ensures office { result.0 ≡ self.entry.office }
+        ensures kept { IsSome result.1 ↔ IsSome self.entry.journal }
+    {
         let Room {
             office,
             journal,
@@ -120,10 +137,14 @@ impl<'r, 'h, H: Allocator, J: Naming<H>, R: Wait, F: JournalFile, K: Clocked> Ro
         ensures lawful { IfOk result (λ made. IfSome made.notice (IsLawful J.office.origin.opening)) }
         // Where there is a journal, the disk has the entry's record.
         ensures on_disk { IfOk result (λ made. IsOnDisk self.now.journal made.on_disk made.entry.number) }
+        // The card is its clerk's, as before.
+        ensures same_clerk { card.new.clerk ≡ card.old.clerk }
         // A refused edit changes nothing, but that the card has met the journal, after which it is refused for this.
         ensures unchanged { IfErr result (λ fault. UnlessJournalFails fault (card.new ≡ with_met card.old card.new.met)) }
         ensures refusal { IfErr result (λ fault. IfRefused fault (λ refusal.
             IsRefusedWhenMet J.office card.new edit.now refusal ⊎ (refusal ≡ Refusal.NoMemory))) }
+        // Only a journal that there is can fail.
+        ensures journal { IfErr result (λ fault. IfJournalFails fault (IsSome self.now.journal)) }
     {
         let made = match &self.journal {
             Some(journal) => match self.keep(journal, card, who, edit) {
@@ -159,6 +180,7 @@ impl<'r, 'h, H: Allocator, J: Naming<H>, R: Wait, F: JournalFile, K: Clocked> Ro
         ensures made { IfOk result (λ entry. card.new ≡ with_made card.old entry card.new.met) }
         ensures ends { IfOk result (λ entry. EndsWith entry entry.number (journal_met J.office card.new)) }
         ensures after { IfOk result (λ entry. IsSometime J.office card.new (journal_met J.office card.new)) }
+        ensures same_clerk { card.new.clerk ≡ card.old.clerk }
         ensures unchanged { IfErr result (λ fault. UnlessJournalFails fault (card.new ≡ with_met card.old card.new.met)) }
         ensures refusal { IfErr result (λ fault. IfRefused fault (λ refusal.
             IsRefusedWhenMet J.office card.new edit.now refusal ⊎ (refusal ≡ Refusal.NoMemory))) }
@@ -184,6 +206,7 @@ impl<'r, 'h, H: Allocator, J: Naming<H>, R: Wait, F: JournalFile, K: Clocked> Ro
         ensures made { IfOk result (λ made. card.new ≡ with_made card.old made.0 card.new.met) }
         ensures ends { IfOk result (λ made. EndsWith made.0 made.0.number (journal_met J.office card.new)) }
         ensures after { IfOk result (λ made. IsSometime J.office card.new (journal_met J.office card.new)) }
+        ensures same_clerk { card.new.clerk ≡ card.old.clerk }
         ensures unchanged { IfErr result (λ fault. UnlessJournalFails fault (card.new ≡ with_met card.old card.new.met)) }
         ensures refusal { IfErr result (λ fault. IfRefused fault (λ refusal.
             IsRefusedWhenMet J.office card.new edit.now refusal ⊎ (refusal ≡ Refusal.NoMemory))) }
@@ -223,6 +246,7 @@ impl<'r, 'h, H: Allocator, J: Naming<H>, R: Wait, F: JournalFile, K: Clocked> Ro
         ensures made { IfOk result (λ entry. card.new ≡ with_made card.old entry card.new.met) }
         ensures ends { IfOk result (λ entry. EndsWith entry entry.number (journal_met J.office card.new)) }
         ensures after { IfOk result (λ entry. IsSometime J.office card.new (journal_met J.office card.new)) }
+        ensures same_clerk { card.new.clerk ≡ card.old.clerk }
         ensures unchanged { IfErr result (λ fault. UnlessJournalFails fault (card.new ≡ with_met card.old card.new.met)) }
         ensures refusal { IfErr result (λ fault. IfRefused fault (λ refusal.
             IsRefusedWhenMet J.office card.new edit.now refusal ⊎ (refusal ≡ Refusal.NoMemory))) }
@@ -256,19 +280,34 @@ impl<'r, 'h, H: Allocator, J: Naming<H>, R: Wait, F: JournalFile, K: Clocked> Ro
     /// # Errors
     ///
     /// [`SessionFault::JournalFailed`], and nothing is shown; [`SessionFault::NoMemory`].
-    pub fn publish(&self) -> Result<Notice<'h, H, J>, SessionFault> {
-        let notice = match &self.journal {
-            Some(journal) => {
-                let Some(number) = journal.sync_all(self.rt) else {
-                    return Err(SessionFault::JournalFailed);
-                };
-                self.office.publish_to(self.rt, number)
-            }
+    pub fn publish(&self) -> Result<Notice<'h, H, J>, SessionFault>
+        // What the notice tells is valid, and goes on from the register that the office was opened with.
+        ensures lawful { IfOk result (IsLawful J.office.origin.opening) }
+        ensures begins { IfOk result (IsPrefix J.office.origin.journal) }
+        ensures of_clerks { IfOk result (λ told. AreOfClerks J.office.clerks (behind J.office.origin told)) }
+        ensures fault { IfErr result (IsRoomFault self.now.journal) }
+    {
+        let notice = match self.sync_journal()? {
+            Some(number) => self.office.publish_to(self.rt, number),
             None => self.office.publish(self.rt),
         };
         match notice {
             Some(notice) => Ok(notice),
             None => Err(SessionFault::NoMemory),
+        }
+    }
+
+    /// Has the disk hold all records that were written, and answers how many they are; `None` where there is no journal.
+    fn sync_journal(&self) -> Result<Option<u64>, SessionFault>
+        ensures there { IfOk result (λ number. IsSome number ↔ IsSome self.now.journal) }
+        ensures fault { IfErr result (IsJournalFault self.now.journal) }
+    {
+        let Some(journal) = &self.journal else {
+            return Ok(None);
+        };
+        match journal.sync_all(self.rt) {
+            Some(number) => Ok(Some(number)),
+            None => Err(SessionFault::JournalFailed),
         }
     }
 
@@ -278,9 +317,16 @@ impl<'r, 'h, H: Allocator, J: Naming<H>, R: Wait, F: JournalFile, K: Clocked> Ro
     /// # Errors
     ///
     /// [`SessionFault::JournalFailed`], [`SessionFault::NoMemory`].
-    pub fn sheet(&self) -> Result<Sheet<'h, H>, SessionFault> {
+    pub fn sheet(&self) -> Result<Drawn<'h, H>, SessionFault>
+        ensures sheet { IfOk result (λ drawn. IsSheetOf J.office [] drawn.sheet) }
+        ensures on_disk { IfOk result (λ drawn. IsOnDisk self.now.journal drawn.on_disk (length drawn.sheet.journal)) }
+        ensures fault { IfErr result (IsRoomFault self.now.journal) }
+    {
         let Some(journal) = &self.journal else {
-            return self.copy();
+            return Ok(Drawn {
+                sheet: self.copy()?,
+                on_disk: None,
+            });
         };
         // Who has taken the journal finds no edit that is not written yet.
         let Some(writer) = journal.take(self.rt) else {
@@ -289,13 +335,19 @@ impl<'r, 'h, H: Allocator, J: Naming<H>, R: Wait, F: JournalFile, K: Clocked> Ro
         let sheet = self.copy()?;
         drop(writer);
         match journal.sync_to(self.rt, sheet.entries()) {
-            Some(_) => Ok(sheet),
+            Some(on_disk) => Ok(Drawn {
+                sheet,
+                on_disk: Some(on_disk),
+            }),
             None => Err(SessionFault::JournalFailed),
         }
     }
 
     /// A copy of the office's parcels.
-    fn copy(&self) -> Result<Sheet<'h, H>, SessionFault> {
+    fn copy(&self) -> Result<Sheet<'h, H>, SessionFault>
+        ensures sheet { IfOk result (IsSheetOf J.office []) }
+        ensures fault { IfErr result (λ fault. fault ≡ SessionFault.NoMemory) }
+    {
         let mut none = Vec::new(self.heap);
         match self.office.sheet(self.rt, none.as_mut_slice()) {
             Ok(sheet) => Ok(sheet),
