@@ -1,10 +1,11 @@
 -- What the operator is answered: which call answers which line, of which sheet.
 use Rattle.std.specs.Prelude.{◌≡◌, ◌≢◌, ◌⊎◌, Bool, true, false, ℕ, List, [], ◌++◌, length, codes, Option, None, Some, Result}
 use Rattle.std.specs.Borrow.{Bor}
+use mathlib.Core.List.{IsPrefix}
 use Rattle.fabric_core.specs.EditResults.{IsLawful}
 use Rattle.fabric_core.specs.Journal.{JournalEntry, Book}
 use Rattle.fabric_core.specs.Rows.{Tiles}
-use Rattle.desk_lock.specs.Offices.{OfficeId, WindowState, IsSheetOf}
+use Rattle.desk_lock.specs.Offices.{OfficeId, WindowState, AreOfClerks, IsSheetOf, behind}
 use Rattle.city_layers.specs.declared.fault.ToolFault.{ToolFault}
 use Rattle.parcel_runs.specs.CheckReport.{tiling_line}
 use Rattle.session_lines.specs.Answers.{published_line}
@@ -65,6 +66,8 @@ module _ {A T : Type 0} where
   pub record IsPublished (office : OfficeId A) (before after : Option (WindowState A)) (line : List ℕ) : Type 0 where
     pub shown : List (JournalEntry A)
     pub is_lawful : IsLawful office.origin.opening shown
+    pub begins : IsPrefix office.origin.journal shown
+    pub of_clerks : AreOfClerks office.clerks (behind office.origin shown)
     pub is_told : line ≡ published_line (length shown)
     pub is_learnt : HasWindowLearnt before (Some shown) after
 
