@@ -232,7 +232,8 @@ fn answer_publish<'h, H: Allocator, J: Naming<H>, R: Wait, K: Clocked>(
     window: &mut Option<Window<'h, H, J>>,
     text: &mut Vec<u8, &'h H>,
 ) -> Result<(), AllocError>
-    ensures { OnOk result (GoesOnBy (IsPublishAnswer J.office room.now.journal window.old window.new) text.old.items text.new.items) }
+    ensures { OnOk result (GoesOnBy (IsPublishAnswer J.office room.now.journal window.old window.new)
+        text.old.items text.new.items) }
 {
     match room.publish() {
         Ok(notice) => {

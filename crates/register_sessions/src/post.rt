@@ -7,7 +7,6 @@ ghost use Rattle.std.specs.Io.BufRead.{strip_last};
 ghost use Rattle.geo_exact.specs.Bytes.{raised};
 ghost use Rattle.text_pieces.specs.Beginnings.{AppendsBeginning};
 ghost use Rattle.session_rooms.specs.Lines.{IsWhatCame};
-ghost use Rattle.register_sessions.specs.declared.post.Next.TheVariants.{Line as NextLine};
 ghost use Rattle.register_sessions.specs.own.Posts.{IsAsItWas, IsWritten, IsFollowed, IsServed, IsExcused};
 
 use geo_exact::{ByteOut, Failed};
@@ -69,8 +68,8 @@ pub(crate) trait Attendant<A: Allocator, W: ByteOut> {
     ghost use Rattle.register_sessions.specs.declared.post.Next.{Next};
     ghost use Rattle.register_sessions.specs.own.Posts.{Outbox};
 
-    // What an answer may be: who answers, what came and the line, what was collected before and the writer, what follows, and who
-    // answers and what was collected then.
+    // What an answer may be: who answers, what came and its line, what was collected before and the writer, what follows,
+    // and who answers, what is collected, and the writer then.
     ghost answers: { Self → Came → List ℕ → Outbox W → Next → Self → Outbox W → Type 0 };
 
     /// Adds the answer to what came to a text, or writes the text and then the answer.
@@ -114,7 +113,7 @@ fn serve_line<F: Read, B: Allocator, A: Allocator, W: ByteOut, T: Attendant<A, W
 ) -> Option<Served>
     ensures { IfNone result (IsServed
         (IsWhatCame (reader_remaining F.remaining reader.old) (reader_remaining F.remaining reader.new))
-        (λ came said asked after. T.answers attendant.old came said asked NextLine attendant.new after)
+        (λ came said asked after. T.answers attendant.old came said asked Next.Line attendant.new after)
         W.written (record { text = text.old.items; out = out.old }) (record { text = text.new.items; out = out.new })) }
 {
     let came = match take_line(door, reader, line, text, out) {

@@ -1,6 +1,7 @@
 //! The reports that the operator asks for.
 
-ghost use Rattle.std.specs.Prelude.{◌≡◌, ◌≢◌, ◌⊎◌, ℕ, [], ◌∷◌, ⊤, map, length, false, true, List, Option, Result, IfOk, IfErr, OnOk, string_bytes};
+ghost use Rattle.std.specs.Prelude.{◌≡◌, ◌≢◌, ◌⊎◌, ℕ, List, [], ◌∷◌, ⊤, true, false, map, length, Option, Result};
+ghost use Rattle.std.specs.Prelude.{IfOk, IfErr, OnOk, string_bytes};
 ghost use Rattle.std.specs.List.Sorted.{IsStrictlyIncreasing};
 ghost use Rattle.std.specs.Option.{option_map};
 ghost use Rattle.geo_exact.specs.declared.limits.TheConstants.{LAYER_RECORDS, LIST_CORNERS};
@@ -192,7 +193,7 @@ fn whole_list<'h, H: Allocator>(
 pub trait Exports {
     ghost use Rattle.city_layers.specs.declared.fault.ToolFault.{ToolFault};
 
-    // What may be found to be in the way at a base, as the operator is told it; a place that says nothing leaves it out.
+    // What may be found in the way at a base, as the operator is told it; a place that says nothing leaves it out.
     ghost finds: { Self → List ℕ → Option (List ℕ) → Type 0 } = { λ _ _ _. ⊤ };
 
     // What replacing the layer at a base by a main file and an index may give; a place that says nothing leaves it out.

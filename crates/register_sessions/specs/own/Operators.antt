@@ -147,16 +147,16 @@ module _ {H J T : Type 0} where
     IsOperatorAnswer chair later line before after = Collects (IsCommonAnswer office journal chair later line) before after
 
     -- what came is answered: what its line asks for, or why it asks for nothing
-    pub record IsAskedOfOperator (chair later : Chair H J) (came : Came) (said : List ℕ) (before : Outbox W) (next : Next) (after : Outbox W)
-        : Type 0 where
+    pub record IsAskedOfOperator (chair later : Chair H J) (came : Came) (said : List ℕ) (before : Outbox W) (next : Next)
+        (after : Outbox W) : Type 0 where
       pub is_line : came ≡ LineCame
       pub asked : Asked (Bor H)
       pub is_asked : IsAskedBy said asked
       pub is_answer : IsOperatorAnswer chair later asked.line before after
       pub follows : next ≡ next_of asked.line
 
-    pub record IsUnaskedOfOperator (chair later : Chair H J) (came : Came) (said : List ℕ) (before : Outbox W) (next : Next) (after : Outbox W)
-        : Type 0 where
+    pub record IsUnaskedOfOperator (chair later : Chair H J) (came : Came) (said : List ℕ) (before : Outbox W) (next : Next)
+        (after : Outbox W) : Type 0 where
       pub fault : SessionFault
       pub is_fault : IsUnasked (Bor H) came said fault
       pub unchanged : later ≡ chair
