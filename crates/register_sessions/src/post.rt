@@ -1,13 +1,13 @@
 //! How lines are taken and answered, one after the other.
 
-ghost use Rattle.std.specs.Prelude.{◌≡◌, ◌⊎◌, ◌<◌, ℕ, List, [], vec_len, IfOk, IfNone, OnErr, OnOk};
+ghost use Rattle.std.specs.Prelude.{◌≡◌, ◌<◌, Bool, ℕ, List, [], vec_len, IfOk, IfNone, OnErr, OnOk};
 ghost use Rattle.std.specs.Io.KnownBytes.{Appends};
 ghost use Rattle.std.specs.Io.Buffered.{reader_remaining};
 ghost use Rattle.std.specs.Io.BufRead.{strip_last};
 ghost use Rattle.geo_exact.specs.Bytes.{raised};
 ghost use Rattle.text_pieces.specs.Beginnings.{AppendsBeginning};
 ghost use Rattle.session_rooms.specs.Lines.{IsWhatCame};
-ghost use Rattle.register_sessions.specs.own.Posts.{IsAsItWas, IsWritten, IsFollowed, IsServed, IsExcused};
+ghost use Rattle.register_sessions.specs.own.Posts.{IsKept, IsFollowed, IsServed, IsExcused};
 
 use geo_exact::{ByteOut, Failed};
 use session_lines::{SessionFault, push_error};
@@ -138,15 +138,13 @@ fn take_line<F: Read, B: Allocator, A: Allocator, W: ByteOut>(
     ensures came { IfOk result (IsWhatCame (reader_remaining F.remaining reader.old)
         (reader_remaining F.remaining reader.new) (λ bytes. line.new.items ≡ strip_last 13 bytes)) }
     // What was collected is collected still, or was written whole.
-    ensures kept { OnOk result (
-        IsAsItWas (record { text = text.old.items; out = out.old }) (record { text = text.new.items; out = out.new })
-        ⊎ IsWritten W.written (record { text = text.old.items; out = out.old })
-        (record { text = text.new.items; out = out.new })) }
+    ensures kept { OnOk result ((is_due : Bool) × IsKept W.written is_due
+        (record { text = text.old.items; out = out.old }) (record { text = text.new.items; out = out.new })) }
 {
-    let waits = !has_line(reader.buffer());
-    if (waits || text.len() >= MOST_TEXT) && write_out(text, out).is_err() {
+    let is_due = !has_line(reader.buffer()) || text.len() >= MOST_TEXT;
+    let Ok(()) = write_where_due(is_due, text, out) else {
         return Err(Served::Deaf);
-    }
+    };
     match next_line(door, reader, line) {
         Ok(Came::End) => Err(Served::Gone),
         Ok(came) => Ok(came),
@@ -195,6 +193,18 @@ fn excuse<A: Allocator, W: ByteOut>(
         Ok(()) => Ok(()),
         Err(_) => Err(Failed),
     }
+}
+
+/// Writes the answers that were collected, where that is due.
+fn write_where_due<A: Allocator, W: ByteOut>(
+    is_due: bool,
+    text: &mut Vec<u8, A>,
+    out: &mut W,
+) -> Result<(), Failed>
+    ensures { OnOk result (IsKept W.written is_due (record { text = text.old.items; out = out.old })
+        (record { text = text.new.items; out = out.new })) }
+{
+    if is_due { write_out(text, out) } else { Ok(()) }
 }
 
 /// Writes the answers that were collected.

@@ -1,5 +1,5 @@
 -- How lines are answered, one after the other: each once, in order, and no half of an answer stays.
-use Rattle.std.specs.Prelude.{◌≡◌, ◌⊎◌, ℕ, List, [], length, take, Option, None, Some, Result, Ok, Err}
+use Rattle.std.specs.Prelude.{◌≡◌, ◌⊎◌, Bool, true, false, ℕ, List, [], length, take, Option, None, Some, Result, Ok, Err}
 use Rattle.std.specs.Io.KnownBytes.{Appends}
 use Rattle.std.specs.Io.BufRead.{strip_last}
 use Rattle.geo_exact.specs.Bytes.{raised}
@@ -30,13 +30,14 @@ pub record Outbox (W : Type 0) : Type 0 where
   pub out : W
 
 module _ {W : Type 0} where
-  -- nothing was collected, and nothing written
-  abbrev pub IsAsItWas : Outbox W → Outbox W → Type 0
-  IsAsItWas before after = (after.text ≡ before.text) × (after.out ≡ before.out)
-
   -- what was collected was written whole, once
   abbrev pub IsWritten : (W → Option (List ℕ)) → Outbox W → Outbox W → Type 0
   IsWritten written before after = Appends (written before.out) (written after.out) before.text × (after.text ≡ [])
+
+  -- where that is due; else it is collected still
+  abbrev pub IsKept : (W → Option (List ℕ)) → Bool → Outbox W → Outbox W → Type 0
+  IsKept written true before after = IsWritten written before after
+  IsKept written false before after = after ≡ before
 
   -- the writer failed at it: a beginning of it was written
   abbrev pub BreaksOff : (W → Option (List ℕ)) → (W → ℕ) → Outbox W → Outbox W → Type 0
@@ -52,21 +53,22 @@ module _ {W : Type 0} where
   -- What follows an answer, before which so many bytes were collected: the next line, with the answer as it was collected; or none,
   -- once all was written.
   abbrev pub IsFollowed : (W → Option (List ℕ)) → (W → ℕ) → ℕ → Result Next Trouble → Outbox W → Outbox W → Option Served → Type 0
-  IsFollowed written failures count (Ok NextLine) before after served = (served ≡ None) × IsAsItWas before after
+  IsFollowed written failures count (Ok NextLine) before after served = (served ≡ None) × (after ≡ before)
   IsFollowed written failures count (Ok NextEnd) before after served =
       (served ≡ Some Ended) × (IsWritten written before after ⊎ BreaksOff written failures before after)
-  IsFollowed written failures count (Err Failed) before after served = (served ≡ Some Deaf) × IsAsItWas before after
+  IsFollowed written failures count (Err Failed) before after served = (served ≡ Some Deaf) × (after ≡ before)
   IsFollowed written failures count (Err NoMemoryLeft) before after served =
       ((served ≡ None) × IsExcused written count before after) ⊎ (served ≡ Some Deaf)
 
-  -- A line was taken, and answered, once. What was collected before is collected still, or was written whole. Where there was no memory
-  -- for the answer, it is excused.
+  -- A line was taken, and answered, once. What was collected before is collected still, or was written whole. Where there was no
+  -- memory for the answer, that is said, and nothing of the answer is collected.
   pub record IsServed (taken : (List ℕ → Type 0) → Came → Type 0) (answers : Came → List ℕ → Outbox W → Outbox W → Type 0)
       (written : W → Option (List ℕ)) (before after : Outbox W) : Type 0 where
     pub came : Came
     pub line : List ℕ
     pub asked : Outbox W
     pub is_taken : taken (λ bytes. line ≡ strip_last 13 bytes) came
-    pub is_kept : IsAsItWas before asked ⊎ IsWritten written before asked
+    pub is_due : Bool
+    pub is_kept : IsKept written is_due before asked
     pub is_answered : answers came line asked after
         ⊎ ((half : Outbox W) × IsExcused written (length asked.text) half after)

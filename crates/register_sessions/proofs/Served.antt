@@ -1,0 +1,25 @@
+-- What follows an answer, and so what one line comes to.
+use Rattle.std.proofs.Common.{◌≡◌, ◌⊎◌, inl, inr, sym, subst, ℕ, List, Option, None, Some, Result, Ok, Err}
+use Rattle.std.specs.Prelude.{IfOk, IfNone}
+use Rattle.register_sessions.specs.declared.post.Next.{Next}
+use Rattle.register_sessions.specs.declared.post.Next.TheVariants.{Line, End}
+use Rattle.register_sessions.specs.declared.post.Trouble.{Trouble}
+use Rattle.register_sessions.specs.declared.post.Trouble.TheVariants.{NoMemory, Failed}
+use Rattle.register_sessions.specs.declared.post.Served.{Served}
+use Rattle.register_sessions.specs.own.Posts.{Outbox, IsExcused, IsFollowed}
+
+module _ {W : Type 0} (written : W → Option (List ℕ)) (failures : W → ℕ) (IsAnswer : Next → Outbox W → Type 0) (count : ℕ)
+    (half after : Outbox W) where
+  -- where the next line follows, this one was answered, or it was said that there was no memory
+  pub served : (answered : Result Next Trouble) (served : Option Served) → IfOk answered (λ next. IsAnswer next half)
+      → IsFollowed written failures count answered half after served
+      → IfNone served (IsAnswer Line after ⊎ ((half : Outbox W) × IsExcused written count half after))
+  served (Ok Line) served is followed = subst (λ s. IfNone s _) (sym followed.0) (inl (subst (IsAnswer Line) (sym followed.1) is))
+  served (Ok End) served is followed = subst (λ s. IfNone s _) (sym followed.0) tt
+  served (Err Failed) served is followed = subst (λ s. IfNone s _) (sym followed.0) tt
+  served (Err NoMemory) served is (inl excused) = subst (λ s. IfNone s _) (sym excused.0) (inr (half, excused.1))
+  served (Err NoMemory) served is (inr deaf) = subst (λ s. IfNone s _) (sym deaf) tt
+
+pub if_none_weaker : {T : Type 0} (option : Option T) (P Q : Type 0) → (P → Q) → IfNone option P → IfNone option Q
+if_none_weaker None P Q f h = f h
+if_none_weaker (Some value) P Q f h = tt
