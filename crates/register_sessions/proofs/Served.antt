@@ -8,17 +8,17 @@ use Rattle.register_sessions.specs.declared.post.Trouble.TheVariants.{NoMemory, 
 use Rattle.register_sessions.specs.declared.post.Served.{Served}
 use Rattle.register_sessions.specs.own.Posts.{Outbox, IsExcused, IsFollowed}
 
-module _ {W : Type 0} (written : W → Option (List ℕ)) (failures : W → ℕ) (IsAnswer : Next → Outbox W → Type 0) (count : ℕ)
-    (half after : Outbox W) where
+module _ {W : Type 0} (written : W → Option (List ℕ)) (failures : W → ℕ) (IsAnswer : Next → Outbox W → Type 0)
+    (count length : ℕ) (same : count ≡ length) (half after : Outbox W) where
   -- where the next line follows, this one was answered, or it was said that there was no memory
-  pub served : (answered : Result Next Trouble) (served : Option Served) → IfOk answered (λ next. IsAnswer next half)
-      → IsFollowed written failures count answered half after served
-      → IfNone served (IsAnswer Line after ⊎ ((half : Outbox W) × IsExcused written count half after))
-  served (Ok Line) served is followed = subst (λ s. IfNone s _) (sym followed.0) (inl (subst (IsAnswer Line) (sym followed.1) is))
-  served (Ok End) served is followed = subst (λ s. IfNone s _) (sym followed.0) tt
-  served (Err Failed) served is followed = subst (λ s. IfNone s _) (sym followed.0) tt
-  served (Err NoMemory) served is (inl excused) = subst (λ s. IfNone s _) (sym excused.0) (inr (half, excused.1))
-  served (Err NoMemory) served is (inr deaf) = subst (λ s. IfNone s _) (sym deaf) tt
+  pub served : (answered : Result Next Trouble) (told : Option Served) → IfOk answered (λ next. IsAnswer next half)
+      → IsFollowed written failures count answered half after told
+      → IfNone told (IsAnswer Line after ⊎ ((half : Outbox W) × IsExcused written length half after))
+  served (Ok Line) told is followed = subst (λ s. IfNone s _) (sym followed.0) (inl (subst (IsAnswer Line) (sym followed.1) is))
+  served (Ok End) told is followed = subst (λ s. IfNone s _) (sym followed.0) tt
+  served (Err Failed) told is followed = subst (λ s. IfNone s _) (sym followed.0) tt
+  served (Err NoMemory) told is (inl excused) = subst (λ s. IfNone s _) (sym excused.0) (inr (half, subst (λ n. IsExcused written n half after) same excused.1))
+  served (Err NoMemory) told is (inr deaf) = subst (λ s. IfNone s _) (sym deaf) tt
 
 pub if_none_weaker : {T : Type 0} (option : Option T) (P Q : Type 0) → (P → Q) → IfNone option P → IfNone option Q
 if_none_weaker None P Q f h = f h

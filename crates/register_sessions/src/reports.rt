@@ -259,7 +259,7 @@ fn push_tool_fault<'h, H: Allocator>(
     text: &mut Vec<u8, &'h H>,
     fault: ToolFault<'static>,
 ) -> Result<(), AllocError>
-    ensures { OnOk result (GoesOnBy (IsLineOfFault fault) text.old.items text.new.items) }
+    ensures { OnOk result (GoesOnBy (IsLineOfFault fault.entry) text.old.items text.new.items) }
 {
     match fault {
         ToolFault::NoMemory => push_error(text, SessionFault::NoMemory),

@@ -56,13 +56,8 @@ module _ {A : Type 0} where
 abbrev pub IsRoomLine : {T : Type 0} → Option T → List ℕ → Type 0
 IsRoomLine journal line = (fault : SessionFault) × IsRoomFault journal fault × IsErrorLine fault line
 
-module _ {A T : Type 0} where
-  -- `check`: of a sheet of the office
-  abbrev pub IsCheckAnswer : OfficeId A → Option T → List ℕ → Type 0
-  IsCheckAnswer office journal text =
-      ((sheet : Book A) × IsSheetOf office [] sheet × (text ≡ check_report sheet)) ⊎ IsRoomLine journal text
-
-  -- `publish`: of entries of the office; how many is told, and the window has learnt them
+module _ {A : Type 0} where
+  -- entries of the office are shown; how many is told, and the window has learnt them
   pub record IsPublished (office : OfficeId A) (before after : Option (WindowState A)) (line : List ℕ) : Type 0 where
     pub shown : List (JournalEntry A)
     pub is_lawful : IsLawful office.origin.opening shown
@@ -71,6 +66,22 @@ module _ {A T : Type 0} where
     pub is_told : line ≡ published_line (length shown)
     pub is_learnt : HasWindowLearnt before (Some shown) after
 
+  -- the parcels of a sheet of the office were exported to a base, where nothing was in the way
+  pub record IsExportOfOffice {X : Type 0} (finds : X → List ℕ → Option (List ℕ) → Type 0)
+      (replace_gives : X → List ℕ → List ℕ → List ℕ → Result (Unit {0}) ToolFault → Type 0)
+      (office : OfficeId A) (exports : X) (base text : List ℕ) : Type 0 where
+    pub sheet : Book A
+    pub is_sheet : IsSheetOf office [] sheet
+    pub nothing_found : finds exports base None
+    pub is_exported : IsExported replace_gives exports base sheet.now.rows text
+
+module _ {A T : Type 0} where
+  -- `check`: of a sheet of the office
+  abbrev pub IsCheckAnswer : OfficeId A → Option T → List ℕ → Type 0
+  IsCheckAnswer office journal text =
+      ((sheet : Book A) × IsSheetOf office [] sheet × (text ≡ check_report sheet)) ⊎ IsRoomLine journal text
+
+  -- `publish`: they are, or it is told why nothing is shown
   abbrev pub IsPublishAnswer : OfficeId A → Option T → Option (WindowState A) → Option (WindowState A) → List ℕ → Type 0
   IsPublishAnswer office journal before after line =
       IsPublished office before after line ⊎ (IsRoomLine journal line × (after ≡ before))
@@ -83,19 +94,11 @@ module _ {A T : Type 0} where
       ((sheet : Book A) × IsSheetOf office [] sheet × IsOverlayReport written has_areas sheet zones before after)
       ⊎ Collects (IsRoomLine journal) before after
 
-  module _ {X : Type 0} (finds : X → List ℕ → Option (List ℕ) → Type 0)
-      (replace_gives : X → List ℕ → List ℕ → List ℕ → Result (Unit {0}) ToolFault → Type 0) where
-    -- the parcels of a sheet of the office were exported to a base, where nothing was in the way
-    pub record IsExportOfOffice (office : OfficeId A) (exports : X) (base text : List ℕ) : Type 0 where
-      pub sheet : Book A
-      pub is_sheet : IsSheetOf office [] sheet
-      pub nothing_found : finds exports base None
-      pub is_exported : IsExported replace_gives exports base sheet.now.rows text
-
-    -- `export BASE`
-    abbrev pub IsExportAnswer : OfficeId A → Option T → X → List ℕ → List ℕ → Type 0
-    IsExportAnswer office journal exports base text = IsOwnFileLine base text ⊎ (IsObstacleLine finds exports base text
-        ⊎ (IsExportOfOffice office exports base text ⊎ IsRoomLine journal text))
+  -- `export BASE`
+  abbrev pub IsExportAnswer : {X : Type 0} → (X → List ℕ → Option (List ℕ) → Type 0)
+      → (X → List ℕ → List ℕ → List ℕ → Result (Unit {0}) ToolFault → Type 0) → OfficeId A → Option T → X → List ℕ → List ℕ → Type 0
+  IsExportAnswer finds replace_gives office journal exports base text = IsOwnFileLine base text ⊎ (IsObstacleLine finds exports base text
+      ⊎ (IsExportOfOffice finds replace_gives office exports base text ⊎ IsRoomLine journal text))
 
 -- what follows a line: it is the last one where it closes the session
 abbrev pub next_of : {A : Type 0} → Line A → Next
