@@ -1,3 +1,5 @@
+pub mod ClientWords
+pub mod DeskAnswers
 pub mod EditsOfClerk
 pub mod Recorded
 pub mod Rooms
