@@ -217,12 +217,12 @@ fn answer_export<'h, P: Exports + Machine, H: Allocator, J: Naming<H>, R: Wait, 
         let why = format!(in room.heap; "S5 {path}")?;
         return push_failure(text, why.as_str());
     }
-    if let Some(why) = disk.obstacle(room.heap, base)? {
-        return push_failure(text, why.as_str());
-    }
-    match room.sheet() {
-        Ok(drawn) => report_export(disk, room.heap, drawn.sheet, base, text),
-        Err(fault) => push_error(text, fault),
+    match disk.obstacle(room.heap, base)? {
+        Some(why) => push_failure(text, why.as_str()),
+        None => match room.sheet() {
+            Ok(drawn) => report_export(disk, room.heap, drawn.sheet, base, text),
+            Err(fault) => push_error(text, fault),
+        },
     }
 }
 

@@ -16,12 +16,12 @@ returns-in-Some-2 g c =
 
 pub returns-in-Ok : goal.returns-in-Ok
 returns-in-Ok g c =
-    let h = c.in_default-2 in let k = c.in_ok-why-2 in
+    let found = rw c.in-None.is at c.in_ok-why-2.ensures in
     on_ok_weaker c.report_export.result
     (λ went. (went.0, inr (inr (inl (record {
       sheet = c.in-Ok.drawn.sheet;
       is_sheet = c.in-Ok.ensures.sheet;
-      nothing_found = ?;
+      nothing_found = found;
       is_exported = went.1;
     }))), went.2))
     c.report_export.ensures
