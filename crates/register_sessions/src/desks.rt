@@ -1,5 +1,10 @@
 //! Desks, each served by a thread of its own.
 
+ghost use Rattle.std.specs.Prelude.{◌≡◌, OnOk, IfOk};
+ghost use Rattle.session_rooms.specs.DeskAnswers.{GoesOnBy};
+ghost use Rattle.register_sessions.specs.own.Operators.{IsDeskAnswer};
+ghost use Rattle.register_sessions.specs.own.Posts.{next_after};
+
 use crate::journal_file::DiskFile;
 use crate::lines_pipe::LinesPipe;
 use crate::pipes::{Paths, Pipes};
@@ -109,7 +114,14 @@ struct DeskAttendant<'s, 'r, 'h, H: Allocator, J: Naming<H>, R: Wait, K: Clocked
 
 impl<'s, 'r, 'h, H: Allocator, J: Naming<H>, R: Wait, K: Clocked, W: ByteOut> Attendant<&'h H, W>
     for DeskAttendant<'s, 'r, 'h, H, J, R, K> {
-    /// The desk ends where the session closes.
+    ghost use Rattle.std.specs.Prelude.{◌≡◌};
+    ghost use Rattle.register_sessions.specs.own.Posts.{next_after};
+    ghost use Rattle.register_sessions.specs.own.Operators.{Collects, IsDeskAnswer};
+
+    ghost answers = { λ old came line before next new after.
+        Collects (IsDeskAnswer J.office old.room.now.journal old.chair.now new.chair.now came line) before after
+        × (next ≡ next_after came) };
+
     fn answer(
         &mut self,
         came: Came,
@@ -117,12 +129,26 @@ impl<'s, 'r, 'h, H: Allocator, J: Naming<H>, R: Wait, K: Clocked, W: ByteOut> At
         text: &mut Vec<u8, &'h H>,
         _: &mut W,
     ) -> Result<Next, Trouble> {
-        answer(self.room, self.chair, came, line, text)?;
-        if came == Came::Closed {
-            Ok(Next::End)
-        } else {
-            Ok(Next::Line)
-        }
+        answer_desk(self.room, self.chair, came, line, text)
+    }
+}
+
+/// Adds the answer to what came at a desk, which ends where the session closes.
+fn answer_desk<'h, H: Allocator, J: Naming<H>, R: Wait, K: Clocked>(
+    room: &Room<'_, 'h, H, J, R, DiskFile, K>,
+    chair: &mut Chair<'h, H, J>,
+    came: Came,
+    line: &[u8],
+    text: &mut Vec<u8, &'h H>,
+) -> Result<Next, Trouble>
+    ensures answered { OnOk result (GoesOnBy (IsDeskAnswer J.office room.now.journal chair.old chair.new came line.now)
+        text.old.items text.new.items) }
+    ensures next { IfOk result (λ next. next ≡ next_after came) }
+{
+    answer(room, chair, came, line, text)?;
+    match came {
+        Came::Closed => Ok(Next::End),
+        _ => Ok(Next::Line),
     }
 }
 

@@ -1,9 +1,14 @@
 //! The operator's desk.
 
+ghost use Rattle.std.specs.Prelude.{◌≡◌, Some, OnOk, IfOk};
+ghost use Rattle.register_sessions.specs.own.Operators.{IsCheckAnswer, IsPublishAnswer, IsOverlayAnswer, IsExportAnswer};
+ghost use Rattle.register_sessions.specs.own.Operators.{IsOperatorAnswer, IsOperatorAnswerOf, next_of};
+ghost use Rattle.session_rooms.specs.DeskAnswers.{GoesOnBy, HasWindowLearnt};
+
 use crate::journal_file::{DiskFile, Machine};
 use crate::post::{Attendant, Next, Served, Trouble, serve_lines};
 use crate::reports::{Exports, Ground, report_areas, report_check, report_export, report_overlay};
-use desk_lock::Naming;
+use desk_lock::{Naming, Notice, Window};
 use geo_exact::ByteOut;
 use session_lines::{Line, SessionFault, push_error, push_failure, push_published};
 use session_rooms::{Asked, Came, Chair, Clocked, Room, answer_asked, read_asked};
@@ -62,6 +67,12 @@ impl<
     K: Clocked,
     W: ByteOut,
 > Attendant<&'h H, W> for OperatorAttendant<'s, 'r, 'h, P, H, J, R, K> {
+    ghost use Rattle.register_sessions.specs.own.Operators.{IsOperatorAnswerOf};
+
+    ghost answers = { λ old came line before next new after.
+        IsOperatorAnswerOf P.finds P.replace_gives W.written J.office old.room.now.journal old.disk.now old.operator.now.ground.zones
+        old.operator.now.chair new.operator.now.chair came line before next after };
+
     fn answer(
         &mut self,
         came: Came,
@@ -69,27 +80,91 @@ impl<
         text: &mut Vec<u8, &'h H>,
         out: &mut W,
     ) -> Result<Next, Trouble> {
-        let room = self.room;
-        let Operator { chair, ground } = &mut *self.operator;
-        let Asked { who, line } = match read_asked(room.heap, came, line) {
-            Ok(asked) => asked,
-            Err(fault) => {
-                push_error(text, fault)?;
-                return Ok(Next::Line);
-            }
-        };
-        match line {
-            Line::Check => answer_check(room, text)?,
-            Line::Overlay => answer_overlay(room, ground, false, text, out)?,
-            Line::OverlayAreas => answer_overlay(room, ground, true, text, out)?,
-            Line::Export(base) => answer_export(room, self.disk, ground, base, text)?,
-            Line::Publish => answer_publish(room, chair, text)?,
-            Line::Close => return Ok(Next::End),
-            line => {
-                answer_asked(room, chair, Asked { who, line }, text)?;
-            }
+        answer_operator(self.room, self.disk, self.operator, came, line, text, out)
+    }
+}
+
+/// Adds the answer to what came at the operator's desk to a text, or writes the text and then the answer.
+fn answer_operator<
+    'h,
+    P: Exports + Machine,
+    H: Allocator,
+    J: Naming<H>,
+    R: Wait,
+    K: Clocked,
+    W: ByteOut,
+>(
+    room: &Room<'_, 'h, H, J, R, DiskFile, K>,
+    disk: &P,
+    operator: &mut Operator<'h, H, J>,
+    came: Came,
+    line: &[u8],
+    text: &mut Vec<u8, &'h H>,
+    out: &mut W,
+) -> Result<Next, Trouble>
+    ensures { IfOk result (λ next. IsOperatorAnswerOf P.finds P.replace_gives W.written J.office room.now.journal disk.now
+        operator.old.ground.zones
+        operator.old.chair operator.new.chair came line.now (record { text = text.old.items; out = out.old })
+        next (record { text = text.new.items; out = out.new })) }
+{
+    match read_asked(room.heap, came, line) {
+        Ok(asked) => {
+            let next = next_of(&asked.line);
+            answer_line(room, disk, operator, asked, text, out)?;
+            Ok(next)
         }
-        Ok(Next::Line)
+        Err(fault) => {
+            push_error(text, fault)?;
+            Ok(Next::Line)
+        }
+    }
+}
+
+/// What follows a line.
+fn next_of<A: Allocator>(line: &Line<'_, A>) -> Next
+    ensures { result ≡ next_of line.now }
+{
+    match line {
+        Line::Close => Next::End,
+        _ => Next::Line,
+    }
+}
+
+/// Answers a line. `close` is answered once all desks have ended.
+fn answer_line<
+    'h,
+    P: Exports + Machine,
+    H: Allocator,
+    J: Naming<H>,
+    R: Wait,
+    K: Clocked,
+    W: ByteOut,
+>(
+    room: &Room<'_, 'h, H, J, R, DiskFile, K>,
+    disk: &P,
+    operator: &mut Operator<'h, H, J>,
+    asked: Asked<'_, &'h H>,
+    text: &mut Vec<u8, &'h H>,
+    out: &mut W,
+) -> Result<(), Trouble>
+    ensures { OnOk result (IsOperatorAnswer P.finds P.replace_gives W.written J.office room.now.journal disk.now
+        operator.old.ground.zones
+        operator.old.chair operator.new.chair asked.entry.line (record { text = text.old.items; out = out.old })
+        (record { text = text.new.items; out = out.new })) }
+{
+    let Operator { chair, ground } = operator;
+    let Asked { who, line } = asked;
+    match line {
+        Line::Check => Ok(answer_check(room, text)?),
+        Line::Overlay => answer_overlay(room, ground, false, text, out),
+        Line::OverlayAreas => answer_overlay(room, ground, true, text, out),
+        Line::Export(base) => Ok(answer_export(room, disk, ground, base, text)?),
+        Line::Publish => Ok(answer_publish(room, &mut chair.window, text)?),
+        Line::Close => Ok(()),
+        line => {
+            answer_asked(room, chair, Asked { who, line }, text)?;
+            Ok(())
+        }
     }
 }
 
@@ -97,7 +172,9 @@ impl<
 fn answer_check<'h, H: Allocator, J: Naming<H>, R: Wait, K: Clocked>(
     room: &Room<'_, 'h, H, J, R, DiskFile, K>,
     text: &mut Vec<u8, &'h H>,
-) -> Result<(), AllocError> {
+) -> Result<(), AllocError>
+    ensures { OnOk result (GoesOnBy (IsCheckAnswer J.office room.now.journal) text.old.items text.new.items) }
+{
     match room.sheet() {
         Ok(drawn) => report_check(drawn.sheet, text),
         Err(fault) => push_error(text, fault),
@@ -111,7 +188,10 @@ fn answer_overlay<'h, H: Allocator, J: Naming<H>, R: Wait, K: Clocked, W: ByteOu
     has_areas: bool,
     text: &mut Vec<u8, &'h H>,
     out: &mut W,
-) -> Result<(), Trouble> {
+) -> Result<(), Trouble>
+    ensures { OnOk result (IsOverlayAnswer W.written has_areas J.office room.now.journal ground.now.zones
+        (record { text = text.old.items; out = out.old }) (record { text = text.new.items; out = out.new })) }
+{
     let Some(zones) = &ground.zones else {
         return Ok(push_error(text, SessionFault::NoZones)?);
     };
@@ -129,33 +209,49 @@ fn answer_export<'h, P: Exports + Machine, H: Allocator, J: Naming<H>, R: Wait, 
     ground: &Ground<'h, H, J>,
     base: &str,
     text: &mut Vec<u8, &'h H>,
-) -> Result<(), AllocError> {
+) -> Result<(), AllocError>
+    ensures { OnOk result (GoesOnBy (IsExportAnswer P.finds P.replace_gives J.office room.now.journal disk.now base.now)
+        text.old.items text.new.items) }
+{
     if let Some(path) = ground.own_files.find_in_export(disk, room.heap, base)? {
         let why = format!(in room.heap; "S5 {path}")?;
         return push_failure(text, why.as_str());
     }
-    if let Some(why) = disk.obstacle(room.heap, base)? {
-        return push_failure(text, why.as_str());
-    }
-    match room.sheet() {
-        Ok(drawn) => report_export(disk, room.heap, drawn.sheet, base, text),
-        Err(fault) => push_error(text, fault),
+    match disk.obstacle(room.heap, base)? {
+        Some(why) => push_failure(text, why.as_str()),
+        None => match room.sheet() {
+            Ok(drawn) => report_export(disk, room.heap, drawn.sheet, base, text),
+            Err(fault) => push_error(text, fault),
+        },
     }
 }
 
 /// Publishes all entries, and adds how many they are. The operator's window knows them then.
 fn answer_publish<'h, H: Allocator, J: Naming<H>, R: Wait, K: Clocked>(
     room: &Room<'_, 'h, H, J, R, DiskFile, K>,
-    chair: &mut Chair<'h, H, J>,
+    window: &mut Option<Window<'h, H, J>>,
     text: &mut Vec<u8, &'h H>,
-) -> Result<(), AllocError> {
+) -> Result<(), AllocError>
+    ensures { OnOk result (GoesOnBy (IsPublishAnswer J.office room.now.journal window.old window.new)
+        text.old.items text.new.items) }
+{
     match room.publish() {
         Ok(notice) => {
-            if let Some(window) = &mut chair.window {
-                window.learn_notice(&notice);
-            }
+            learn(window, &notice);
             push_published(text, notice.number())
         }
         Err(fault) => push_error(text, fault),
+    }
+}
+
+/// Tells a window what was shown, where there is one.
+fn learn<'h, H: Allocator, J: Naming<H>>(
+    window: &mut Option<Window<'h, H, J>>,
+    notice: &Notice<'h, H, J>,
+)
+    ensures { HasWindowLearnt window.old (Some notice.now) window.new }
+{
+    if let Some(window) = window {
+        window.learn_notice(notice);
     }
 }

@@ -1,5 +1,8 @@
 //! The files that a session has of its own. No export replaces them.
 
+ghost use Rattle.std.specs.Prelude.{◌≡◌, ◌++◌, IfOk, IfSome, string_bytes};
+ghost use Rattle.register_sessions.specs.own.Exports.{IsExportPath};
+
 use crate::journal_file::Machine;
 use crate::pipes::{ANSWERS, LINES, LOCK};
 use crate::start::Plan;
@@ -37,14 +40,31 @@ impl<A: Allocator + Copy> OwnFiles<A> {
         machine: &M,
         alloc: A,
         base: &str,
-    ) -> Result<Option<String<A>>, AllocError> {
-        for ending in [".shp", ".shx"] {
-            let path = format!(in alloc; "{base}{ending}")?;
-            if self.has(machine, path.as_str()) {
-                return Ok(Some(path));
-            }
+    ) -> Result<Option<String<A>>, AllocError>
+        ensures { IfOk result (λ found. IfSome found (λ path. IsExportPath base.now (string_bytes path))) }
+    {
+        match self.find_at(machine, alloc, base, ".shp")? {
+            Some(path) => Ok(Some(path)),
+            None => self.find_at(machine, alloc, base, ".shx"),
         }
-        Ok(None)
+    }
+
+    /// The path that is BASE and an ending, if that names one of them.
+    fn find_at<M: Machine>(
+        &self,
+        machine: &M,
+        alloc: A,
+        base: &str,
+        ending: &str,
+    ) -> Result<Option<String<A>>, AllocError>
+        ensures { IfOk result (λ found. IfSome found (λ path. string_bytes path ≡ base.now ++ ending.now)) }
+    {
+        let path = format!(in alloc; "{base}{ending}")?;
+        if self.has(machine, path.as_str()) {
+            Ok(Some(path))
+        } else {
+            Ok(None)
+        }
     }
 
     /// Whether a path names one of them, also by another path, or by a link.

@@ -1,8 +1,13 @@
 //! How lines are taken and answered, one after the other.
 
-ghost use Rattle.std.specs.Prelude.{◌≡◌, ◌<◌, [], vec_len, IfOk, OnErr, OnOk};
+ghost use Rattle.std.specs.Prelude.{◌≡◌, ◌<◌, Bool, ℕ, List, [], vec_len, IfOk, IfNone, OnErr, OnOk};
 ghost use Rattle.std.specs.Io.KnownBytes.{Appends};
+ghost use Rattle.std.specs.Io.Buffered.{reader_remaining};
+ghost use Rattle.std.specs.Io.BufRead.{strip_last};
+ghost use Rattle.geo_exact.specs.Bytes.{raised};
 ghost use Rattle.text_pieces.specs.Beginnings.{AppendsBeginning};
+ghost use Rattle.session_rooms.specs.Lines.{IsWhatCame};
+ghost use Rattle.register_sessions.specs.own.Posts.{IsKept, IsFollowed, IsServed, IsExcused};
 
 use geo_exact::{ByteOut, Failed};
 use session_lines::{SessionFault, push_error};
@@ -59,6 +64,14 @@ pub(crate) enum Served {
 
 /// Who answers the lines that come at a desk.
 pub(crate) trait Attendant<A: Allocator, W: ByteOut> {
+    ghost use Rattle.session_rooms.specs.declared.lines.Came.{Came};
+    ghost use Rattle.register_sessions.specs.declared.post.Next.{Next};
+    ghost use Rattle.register_sessions.specs.own.Posts.{Outbox};
+
+    // What an answer may be: who answers, what came and its line, what was collected before and the writer, what follows,
+    // and who answers, what is collected, and the writer then.
+    ghost answers: { Self → Came → List ℕ → Outbox W → Next → Self → Outbox W → Type 0 };
+
     /// Adds the answer to what came to a text, or writes the text and then the answer.
     fn answer(
         &mut self,
@@ -66,7 +79,9 @@ pub(crate) trait Attendant<A: Allocator, W: ByteOut> {
         line: &[u8],
         text: &mut Vec<u8, A>,
         out: &mut W,
-    ) -> Result<Next, Trouble>;
+    ) -> Result<Next, Trouble>
+        ensures { IfOk result (λ next. answers self.old came line.now (record { text = text.old.items; out = out.old })
+            next self.new (record { text = text.new.items; out = out.new })) };
 }
 
 /// Has lines answered, one after the other, until no further one is taken.
@@ -80,17 +95,34 @@ pub(crate) fn serve_lines<
     let mut line = Vec::new(alloc);
     let mut text = Vec::new(alloc);
     for _ in 0..u64::MAX {
-        let came = match take_line(door, reader, &mut line, &mut text, out) {
-            Ok(came) => came,
-            Err(served) => return served,
-        };
-        let before = text.len();
-        let answered = attendant.answer(came, line.as_slice(), &mut text, out);
-        if let Some(served) = go_on(answered, before, &mut text, out) {
+        if let Some(served) = serve_line(door, reader, &mut line, &mut text, out, attendant) {
             return served;
         }
     }
     Served::Gone
+}
+
+/// Takes the next line, and has it answered; `None` where the next one follows.
+fn serve_line<F: Read, B: Allocator, A: Allocator, W: ByteOut, T: Attendant<A, W>>(
+    door: &Door,
+    reader: &mut BufReader<F, B>,
+    line: &mut Vec<u8, A>,
+    text: &mut Vec<u8, A>,
+    out: &mut W,
+    attendant: &mut T,
+) -> Option<Served>
+    ensures { IfNone result (IsServed
+        (IsWhatCame (reader_remaining F.remaining reader.old) (reader_remaining F.remaining reader.new))
+        (λ came said asked after. T.answers attendant.old came said asked Next.Line attendant.new after)
+        W.written (record { text = text.old.items; out = out.old }) (record { text = text.new.items; out = out.new })) }
+{
+    let came = match take_line(door, reader, line, text, out) {
+        Ok(came) => came,
+        Err(served) => return Some(served),
+    };
+    let before = text.len();
+    let answered = attendant.answer(came, line.as_slice(), text, out);
+    go_on(answered, before, text, out)
 }
 
 /// Takes the next line. The answers that were collected are written before the reader waits for more, or once they are
@@ -103,11 +135,16 @@ fn take_line<F: Read, B: Allocator, A: Allocator, W: ByteOut>(
     out: &mut W,
 ) -> Result<Came, Served>
     ensures bound { IfOk result (λ _. vec_len line.new < 1048576) }
+    ensures came { IfOk result (IsWhatCame (reader_remaining F.remaining reader.old)
+        (reader_remaining F.remaining reader.new) (λ bytes. line.new.items ≡ strip_last 13 bytes)) }
+    // What was collected is collected still, or was written whole.
+    ensures kept { OnOk result ((is_due : Bool) × IsKept W.written is_due
+        (record { text = text.old.items; out = out.old }) (record { text = text.new.items; out = out.new })) }
 {
-    let waits = !has_line(reader.buffer());
-    if (waits || text.len() >= MOST_TEXT) && write_out(text, out).is_err() {
+    let is_due = !has_line(reader.buffer()) || text.len() >= MOST_TEXT;
+    let Ok(()) = write_where_due(is_due, text, out) else {
         return Err(Served::Deaf);
-    }
+    };
     match next_line(door, reader, line) {
         Ok(Came::End) => Err(Served::Gone),
         Ok(came) => Ok(came),
@@ -122,7 +159,10 @@ fn go_on<A: Allocator, W: ByteOut>(
     before: usize,
     text: &mut Vec<u8, A>,
     out: &mut W,
-) -> Option<Served> {
+) -> Option<Served>
+    ensures { IsFollowed W.written W.failure_count before answered (record { text = text.old.items; out = out.old })
+        (record { text = text.new.items; out = out.new }) result }
+{
     match answered {
         Ok(Next::Line) => None,
         Ok(Next::End) => {
@@ -142,7 +182,10 @@ fn excuse<A: Allocator, W: ByteOut>(
     before: usize,
     text: &mut Vec<u8, A>,
     out: &mut W,
-) -> Result<(), Failed> {
+) -> Result<(), Failed>
+    ensures { OnOk result (IsExcused W.written before (record { text = text.old.items; out = out.old })
+        (record { text = text.new.items; out = out.new })) }
+{
     text.truncate(before);
     write_out(text, out)?;
     // There is room for it now, unless there never was any.
@@ -150,6 +193,18 @@ fn excuse<A: Allocator, W: ByteOut>(
         Ok(()) => Ok(()),
         Err(_) => Err(Failed),
     }
+}
+
+/// Writes the answers that were collected, where that is due.
+fn write_where_due<A: Allocator, W: ByteOut>(
+    is_due: bool,
+    text: &mut Vec<u8, A>,
+    out: &mut W,
+) -> Result<(), Failed>
+    ensures { OnOk result (IsKept W.written is_due (record { text = text.old.items; out = out.old })
+        (record { text = text.new.items; out = out.new })) }
+{
+    if is_due { write_out(text, out) } else { Ok(()) }
 }
 
 /// Writes the answers that were collected.
@@ -160,6 +215,7 @@ pub(crate) fn write_out<A: Allocator, W: ByteOut>(
     ensures ok { OnOk result (Appends (W.written out.old) (W.written out.new) text.old.items) }
     ensures none_left { OnOk result (text.new.items ≡ []) }
     ensures err { OnErr result (AppendsBeginning (W.written out.old) (W.written out.new) text.old.items) }
+    ensures failed { OnErr result (W.failure_count out.new ≡ raised (W.failure_count out.old)) }
 {
     put_all(text.as_slice(), out)?;
     text.clear();

@@ -1,12 +1,18 @@
 //! The reports that the operator asks for.
 
-ghost use Rattle.std.specs.Prelude.{◌≡◌, ◌≢◌, ◌⊎◌, [], ◌∷◌, map, length, IfOk, IfErr, OnOk};
+ghost use Rattle.std.specs.Prelude.{◌≡◌, ◌≢◌, ◌⊎◌, ℕ, List, [], ◌∷◌, ⊤, true, false, map, length, Option, Result};
+ghost use Rattle.std.specs.Prelude.{IfOk, IfErr, OnOk, string_bytes};
 ghost use Rattle.std.specs.List.Sorted.{IsStrictlyIncreasing};
+ghost use Rattle.std.specs.Option.{option_map};
+ghost use Rattle.geo_exact.specs.declared.limits.TheConstants.{LAYER_RECORDS, LIST_CORNERS};
 ghost use Rattle.fabric_core.specs.Rows.{numbers};
 ghost use Rattle.overlay_work.specs.declared.round.RoundFault.TheVariants.{OtherCity, NoMemory as NoRoom};
 ghost use Rattle.zone_tables.specs.Overlap.{IsOverlapTable};
 ghost use Rattle.session_lines.specs.declared.faults.SessionFault.TheVariants.{NoMemory, NoZones};
-ghost use Rattle.register_sessions.specs.own.Overlays.{WritesTable, AnswersOverlay, AnswersAreas, IsFaultOfAllHands};
+ghost use Rattle.session_rooms.specs.DeskAnswers.{GoesOnBy};
+ghost use Rattle.register_sessions.specs.own.Overlays.{WritesTable, IsFaultOfAllHands};
+ghost use Rattle.register_sessions.specs.own.Operators.{IsOverlayReport, check_report};
+ghost use Rattle.register_sessions.specs.own.Exports.{IsExported, IsLineOfFault};
 
 use crate::own_files::OwnFiles;
 use crate::post::{Trouble, write_out};
@@ -35,7 +41,9 @@ pub(crate) struct Ground<'h, H: Allocator, J: Naming<H>> {
 pub(crate) fn report_check<'h, H: Allocator>(
     sheet: Sheet<'h, H>,
     text: &mut Vec<u8, &'h H>,
-) -> Result<(), AllocError> {
+) -> Result<(), AllocError>
+    ensures { OnOk result (GoesOnBy (λ report. report ≡ check_report sheet.entry) text.old.items text.new.items) }
+{
     sheet.use_invariant();
     push_sheet_tiling(text, sheet)?;
     push_end(text)
@@ -50,9 +58,8 @@ pub(crate) fn report_overlay<'h, H: Allocator, W: ByteOut>(
     text: &mut Vec<u8, &'h H>,
     out: &mut W,
 ) -> Result<(), Trouble>
-    ensures { OnOk result ((zones.now.city ≢ sheet.now.city)
-        ⊎ AnswersOverlay sheet.now.now.rows zones.now.rows (length sheet.now.journal) text.old.items text.new.items
-        (W.written out.old) (W.written out.new)) }
+    ensures { OnOk result (IsOverlayReport W.written false sheet.now zones.now
+        (record { text = text.old.items; out = out.old }) (record { text = text.new.items; out = out.new })) }
 {
     match table_of(heap, sheet, zones) {
         Ok(table) => write_overlay(&table, &[], text, out),
@@ -69,9 +76,8 @@ pub(crate) fn report_areas<'h, H: Allocator, W: ByteOut>(
     text: &mut Vec<u8, &'h H>,
     out: &mut W,
 ) -> Result<(), Trouble>
-    ensures { OnOk result ((zones.now.city ≢ sheet.now.city)
-        ⊎ AnswersAreas sheet.now.now.rows zones.now.rows (length sheet.now.journal) text.old.items text.new.items
-        (W.written out.old) (W.written out.new)) }
+    ensures { OnOk result (IsOverlayReport W.written true sheet.now zones.now
+        (record { text = text.old.items; out = out.old }) (record { text = text.new.items; out = out.new })) }
 {
     match table_of(heap, sheet, zones) {
         Ok(table) => {
@@ -185,6 +191,14 @@ fn whole_list<'h, H: Allocator>(
 
 /// Where exports are written.
 pub trait Exports {
+    ghost use Rattle.city_layers.specs.declared.fault.ToolFault.{ToolFault};
+
+    // What may be found in the way at a base, as the operator is told it; a place that says nothing leaves it out.
+    ghost finds: { Self → List ℕ → Option (List ℕ) → Type 0 } = { λ _ _ _. ⊤ };
+
+    // What replacing the layer at a base by a main file and an index may give; a place that says nothing leaves it out.
+    ghost replace_gives: { Self → List ℕ → List ℕ → List ℕ → Result (Unit {0}) ToolFault → Type 0 } = { λ _ _ _ _ _. ⊤ };
+
     /// Why no layer is written at BASE, as the operator is told it; `None` where nothing is in the way.
     ///
     /// # Errors
@@ -194,7 +208,8 @@ pub trait Exports {
         &self,
         alloc: A,
         base: &str,
-    ) -> Result<Option<String<A>>, AllocError>;
+    ) -> Result<Option<String<A>>, AllocError>
+        ensures { IfOk result (λ why. finds self.now base.now (option_map string_bytes why)) };
 
     /// Replaces the layer at BASE by two files: the bytes of its main file and of its index.
     ///
@@ -207,7 +222,8 @@ pub trait Exports {
         base: &str,
         main: &[u8],
         index: &[u8],
-    ) -> Result<(), ToolFault<'static>>;
+    ) -> Result<(), ToolFault<'static>>
+        ensures { replace_gives self.now base.now main.now index.now result };
 }
 
 /// Replaces the layer at BASE by a sheet's parcels, and adds how many there are.
@@ -217,7 +233,10 @@ pub(crate) fn report_export<'h, X: Exports, H: Allocator>(
     sheet: Sheet<'h, H>,
     base: &str,
     text: &mut Vec<u8, &'h H>,
-) -> Result<(), AllocError> {
+) -> Result<(), AllocError>
+    ensures { OnOk result (GoesOnBy (IsExported X.replace_gives exports.now base.now sheet.entry.now.rows)
+        text.old.items text.new.items) }
+{
     sheet.use_invariant();
     let exported = export_sheet(heap, sheet)?;
     match exports.replace(
@@ -239,10 +258,14 @@ fn push_tool_fault<'h, H: Allocator>(
     heap: &'h H,
     text: &mut Vec<u8, &'h H>,
     fault: ToolFault<'static>,
-) -> Result<(), AllocError> {
-    if fault == ToolFault::NoMemory {
-        return push_error(text, SessionFault::NoMemory);
+) -> Result<(), AllocError>
+    ensures { OnOk result (GoesOnBy (IsLineOfFault fault.entry) text.old.items text.new.items) }
+{
+    match fault {
+        ToolFault::NoMemory => push_error(text, SessionFault::NoMemory),
+        fault => {
+            let why = format!(in heap; "{fault}")?;
+            push_failure(text, why.as_str())
+        }
     }
-    let why = format!(in heap; "{fault}")?;
-    push_failure(text, why.as_str())
 }
