@@ -12,12 +12,15 @@ module _ (A : Type 0) (line who said : List ℕ) where
   -- what stands behind the word asks for nothing, or memory is refused
   pub behind_word : (fault : SessionFault) → line ≡ codes "by " ++ who ++ codes ": " ++ said
       → ((fault ≡ BadLine) × AsksNothing A said) ⊎ (fault ≡ NoMemory) → IsLineFault A line fault
-  behind_word fault form (inl nothing) = inl (nothing.0, inr (record {
-    who = who;
-    said = said;
-    is_line = form;
-    no_edit = λ edit. nothing.1 (AskedEdit edit);
-  }))
+  behind_word fault form (inl nothing) = inl (
+    nothing.0,
+    inr (record {
+      who = who;
+      said = said;
+      is_line = form;
+      no_edit = λ edit. nothing.1 (AskedEdit edit);
+    }),
+  )
   behind_word fault form (inr memory) = inr memory
 
   -- it asks for something else than an edit

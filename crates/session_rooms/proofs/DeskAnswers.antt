@@ -1,14 +1,35 @@
--- What is answered to a line that is no edit.
-use Rattle.std.proofs.Common.{◌≡◌, ◌⊎◌, inl, inr, refl, sym, ◌∙◌, subst, ℕ, List, Option, None, Bor}
+-- What a window learns, and what is answered to a line that is no edit.
+use Rattle.std.proofs.Common.{◌≡◌, ◌⊎◌, inl, inr, refl, sym, ◌∙◌, subst, append-nil, ℕ, List, [], Option, None, Some, Bor}
+use Rattle.fabric_core.specs.Journal.{JournalEntry}
 use Rattle.desk_lock.specs.Offices.{OfficeId, WindowState}
 use Rattle.session_lines.specs.declared.line.Line.{Line}
 use Rattle.session_lines.specs.declared.line.Line.TheVariants.{Edit as AskedEdit, Overlay, OverlayAreas, Check, Export, Publish}
 use Rattle.session_lines.specs.declared.line.Line.TheVariants.{Close}
 use Rattle.session_lines.specs.declared.faults.SessionFault.TheVariants.{OperatorOnly}
-use Rattle.session_rooms.specs.DeskAnswers.{GoesOnBy, IsErrorLine, IsPlainLine, IsAnswerTo}
+use Rattle.session_rooms.specs.DeskAnswers.{GoesOnBy, IsErrorLine, HasGoneOn, HasWindowGoneOn, HasWindowLearnt}
+use Rattle.session_rooms.specs.DeskAnswers.{IsPlainLine, IsAnswerTo}
 use Rattle.session_rooms.specs.declared.answers.Chair.{Chair}
 
 module _ {A : Type 0} where
+  -- a window that stays as it is
+  stays : (window : WindowState A) → HasGoneOn window window
+  stays window = record { opening = refl; begins = ([], append-nil window.seen) }
+
+  -- where there is one
+  pub same_window : (window : Option (WindowState A)) → HasWindowGoneOn window window
+  same_window None = tt
+  same_window (Some window) = stays window
+
+  -- one that learns loses nothing
+  pub learnt : (before after : Option (WindowState A)) (told : Option (List (JournalEntry A)))
+      → HasWindowLearnt before told after → HasWindowGoneOn before after
+  learnt None None told has = tt
+  learnt None (Some after) told has = absurd has
+  learnt (Some before) None told has = absurd has
+  learnt (Some before) (Some after) None same = subst (λ window. HasGoneOn before window) (sym same) (stays before)
+  learnt (Some before) (Some after) (Some told) learns =
+      record { opening = learns.opening; begins = learns.longer.begins }
+
   -- one of the operator's lines
   abbrev pub IsOperators : Line A → Type 0
   IsOperators asked = (asked ≡ Overlay) ⊎ ((asked ≡ OverlayAreas) ⊎ ((asked ≡ Check)

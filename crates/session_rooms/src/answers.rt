@@ -116,10 +116,7 @@ fn read_said<'l, A: Allocator + Copy>(
 }
 
 /// What a line asks for that says nothing of who asks.
-fn read_one<'l, A: Allocator + Copy>(
-    alloc: A,
-    line: &'l [u8],
-) -> Result<Line<'l, A>, SessionFault>
+fn read_one<'l, A: Allocator + Copy>(alloc: A, line: &'l [u8]) -> Result<Line<'l, A>, SessionFault>
     ensures asks { IfOk result (Asks line.now) }
     // There is nothing else that it asks for.
     ensures only { (other : LineValue A) → Asks line.now other → IfOk result (AskTheSame other) }

@@ -35,7 +35,9 @@ returns-clause-answered g c =
           w.in-Entries.is (ap (λ c. c.window) w.chair-is) (ap (λ t. t.items) w.text-is)
           w.in_ok-answer_entries-in-Entries.ensures.answered
       | in-Overlay+in_ok-push_error-in-Overlay w ↦
-          went asked chair.window text w.push_error.new.text.items c.match-line.text.items refl refl (ap (λ t. t.items) w.text-is)
-          (error_line (fault_text OperatorOnly), operators_line chair.window asked _ refl w.in-Overlay.is,
-          w.in_ok-push_error-in-Overlay.ensures.ok)
+          went asked chair.window text w.push_error.new.text.items c.match-line.text.items refl refl (ap (λ t. t.items) w.text-is) (
+            error_line (fault_text OperatorOnly),
+            operators_line chair.window asked _ refl w.in-Overlay.is,
+            w.in_ok-push_error-in-Overlay.ensures.ok,
+          )
     ]

@@ -26,6 +26,9 @@ returns-in-Edit-clause-asked g c = inr (record {
 pub returns-in_default-2 : goal.returns-in_default-2
 returns-in_default-2 g c = record {
   asked = tt;
-  fault = inl (refl, inr (no_edit g.row.A.Denot c.args.line.now c.in-Some.who.now c.in-Some.said.now c.in_ok-edit.field-0
-      c.in-Some.ensures.form c.in_default-2.not-Edit c.in_ok-edit.ensures.only));
+  fault = inl (
+    refl,
+    inr (no_edit g.row.A.Denot c.args.line.now c.in-Some.who.now c.in-Some.said.now c.in_ok-edit.field-0
+        c.in-Some.ensures.form c.in_default-2.not-Edit c.in_ok-edit.ensures.only),
+  );
 }
