@@ -1,8 +1,10 @@
 //! Edges that are counted, and rings that are noded.
 
+use crate::edge_sums::count;
+use crate::rings::rings_of;
 use edge_chains::{EdgeSum, node, node_by};
-use geo_exact::{Corner, Corners, LIST_CORNERS};
-use std::alloc::{AllocError, Allocator, Global};
+use geo_exact::{Corner, Corners};
+use std::alloc::{AllocError, Global};
 use std::test::Fail;
 use std::thread::Threads;
 use test_builders::{Place, corner, corners as ring};
@@ -18,42 +20,33 @@ fn corners_of(alloc: Global, rings: &[Corners<Global>]) -> Result<Vec<Corner, Gl
     Ok(corners)
 }
 
+/// An edge and its count, as places.
+type Edge = (Place, Place, i64);
+
+/// An edge's ends as places.
+fn as_places(edge: Option<(Corner, Corner, i64)>) -> Option<Edge> {
+    let (a, b, net) = edge?;
+    Some(((a.x, a.y), (b.x, b.y), net))
+}
+
 /// The first unbalanced edge of the rings but the last, added, and the last, taken.
-fn compare<A: Allocator + Copy>(
-    alloc: A,
-    rings: &[Corners<A>],
-) -> Result<Option<(Corner, Corner, i64)>, Fail> {
+fn compare(alloc: Global, rings: &[Corners<Global>]) -> Result<Option<Edge>, Fail> {
+    let Some((city, parcels)) = rings.split_last() else {
+        return Err(Fail::new("no city"));
+    };
     let mut sum = EdgeSum::new(alloc);
-    for (index, ring) in rings.iter().enumerate() {
-        if ring.len() > LIST_CORNERS || sum.edges() > 1_000_000 {
-            return Err(Fail::new("more edges than can be counted"));
-        }
-        if index < rings.len() - 1 {
-            sum.add(ring.as_slice())?;
-        } else {
-            sum.take(ring.as_slice())?;
-        }
+    for ring in parcels {
+        count(&mut sum, ring, true)?;
     }
-    Ok(sum.first_unbalanced())
+    count(&mut sum, city, false)?;
+    Ok(as_places(sum.first_unbalanced()))
 }
 
 /// The same of the rings noded for all corners.
-fn compare_noded(
-    alloc: Global,
-    rings: &[Corners<Global>],
-) -> Result<Option<(Corner, Corner, i64)>, Fail> {
+fn compare_noded(alloc: Global, rings: &[Corners<Global>]) -> Result<Option<Edge>, Fail> {
     let corners = corners_of(alloc, rings)?;
     let noded = node(alloc, rings, &corners)?;
     compare(alloc, &noded)
-}
-
-/// The rings of these places.
-fn rings_of(alloc: Global, lists: &[&[Place]]) -> Result<Rings, Fail> {
-    let mut rings = Vec::new(alloc);
-    for places in lists {
-        rings.push(ring(alloc, places)?)?;
-    }
-    Ok(rings)
 }
 
 const CITY: [Place; 4] = [(0, 0), (100, 0), (100, 100), (0, 100)];
@@ -124,16 +117,21 @@ static NODED: [NodeRow; 3] = [
     (&[], Some(&[]), &[]),
 ];
 
-/// Whether the rings of a row are noded as it says.
-fn are_noded(alloc: Global, row: &NodeRow) -> Result<bool, Fail> {
+/// The rings of a row, and the corners that they are noded for.
+fn given(alloc: Global, row: &NodeRow) -> Result<(Rings, Vec<Corner, Global>), Fail> {
     let rings = rings_of(alloc, row.0)?;
     let corners = match row.1 {
         Some(places) => ring(alloc, places)?.into_vec(),
         None => corners_of(alloc, &rings)?,
     };
+    Ok((rings, corners))
+}
+
+/// Whether the rings of a row are noded as it says.
+fn are_noded(alloc: Global, row: &NodeRow) -> Result<bool, Fail> {
+    let (rings, corners) = given(alloc, row)?;
     let noded = node(alloc, &rings, &corners)?;
-    let want = rings_of(alloc, row.2)?;
-    Ok(noded.as_slice() == want.as_slice())
+    Ok(noded.as_slice() == rings_of(alloc, row.2)?.as_slice())
 }
 
 /// Whether the rings of a row are noded as it says by so many threads.
@@ -143,22 +141,19 @@ fn are_noded_by<R: Threads + Sync>(
     workers: usize,
     row: &NodeRow,
 ) -> Result<bool, Fail> {
-    let rings = rings_of(alloc, row.0)?;
-    let corners = match row.1 {
-        Some(places) => ring(alloc, places)?.into_vec(),
-        None => corners_of(alloc, &rings)?,
-    };
+    let (rings, corners) = given(alloc, row)?;
     let noded = node_by(rt, alloc, workers, &rings, &corners)?;
-    let want = rings_of(alloc, row.2)?;
-    Ok(noded.as_slice() == want.as_slice())
+    Ok(noded.as_slice() == rings_of(alloc, row.2)?.as_slice())
 }
 
 #[test]
 fn nodes_rings_by_threads(rt: HostRuntime) -> Result<(), Fail> {
     for workers in [0, 1, 3, 64] {
         for (number, row) in NODED.iter().enumerate() {
-            let noded = are_noded_by(&rt, rt.alloc(), workers, row)?;
-            assert!(rt; noded, "row {number} by {workers}");
+            assert!(rt;
+                are_noded_by(&rt, rt.alloc(), workers, row)?,
+                "row {number} by {workers}"
+            );
         }
     }
     Ok(())
@@ -173,11 +168,7 @@ fn nodes_rings(rt: HostRuntime) -> Result<(), Fail> {
 }
 
 /// Whether rings are noded first, the rings, the last being the city's, and their first unbalanced edge with its count.
-type GapRow = (
-    bool,
-    &'static [&'static [Place]],
-    Option<(Place, Place, i64)>,
-);
+type GapRow = (bool, &'static [&'static [Place]], Option<Edge>);
 
 static GAPS: [GapRow; 6] = [
     (
@@ -211,24 +202,21 @@ static GAPS: [GapRow; 6] = [
     (true, &[&CITY], Some(((0, 0), (0, 100), 1))),
 ];
 
-/// The first unbalanced edge of a row's rings, as places.
-fn first_gap(alloc: Global, row: &GapRow) -> Result<Option<(Place, Place, i64)>, Fail> {
+/// Whether the first unbalanced edge of a row's rings is found.
+fn is_gap_found(alloc: Global, row: &GapRow) -> Result<bool, Fail> {
     let rings = rings_of(alloc, row.1)?;
     let found = if row.0 {
         compare_noded(alloc, &rings)?
     } else {
         compare(alloc, &rings)?
     };
-    match found {
-        Some((a, b, net)) => Ok(Some(((a.x, a.y), (b.x, b.y), net))),
-        None => Ok(None),
-    }
+    Ok(found == row.2)
 }
 
 #[test]
 fn finds_gaps(rt: HostRuntime) -> Result<(), Fail> {
     for (number, row) in GAPS.iter().enumerate() {
-        assert_eq!(rt; first_gap(rt.alloc(), row)?, row.2, "row {number}");
+        assert!(rt; is_gap_found(rt.alloc(), row)?, "row {number}");
     }
     Ok(())
 }
@@ -249,7 +237,7 @@ static STEPS: [(bool, &[Place]); 5] = [
 ];
 
 /// So many steps, the edges of the sum then, and the first that is unbalanced.
-type SumRow = (usize, u64, Option<(Place, Place, i64)>);
+type SumRow = (usize, u64, Option<Edge>);
 
 static SUMS: [SumRow; 5] = [
     (0, 0, None),
@@ -259,31 +247,25 @@ static SUMS: [SumRow; 5] = [
     (5, 15, None),
 ];
 
-/// What an edge sum tells after so many steps.
-fn told(alloc: Global, steps: usize) -> Result<(u64, Option<(Place, Place, i64)>), Fail> {
+/// The edge sum after so many steps.
+fn sum_after(alloc: Global, steps: usize) -> Result<EdgeSum<Global>, Fail> {
     let mut sum = EdgeSum::new(alloc);
     for (is_added, places) in STEPS.iter().take(steps) {
-        let list = ring(alloc, places)?;
-        if list.len() > LIST_CORNERS || sum.edges() > 1_000_000 {
-            return Err(Fail::new("more edges than can be counted"));
-        }
-        if *is_added {
-            sum.add(list.as_slice())?;
-        } else {
-            sum.take(list.as_slice())?;
-        }
+        count(&mut sum, &ring(alloc, places)?, *is_added)?;
     }
-    match sum.first_unbalanced() {
-        Some((a, b, net)) => Ok((sum.edges(), Some(((a.x, a.y), (b.x, b.y), net)))),
-        None => Ok((sum.edges(), None)),
-    }
+    Ok(sum)
+}
+
+/// Whether an edge sum tells what a row says.
+fn is_told(alloc: Global, row: &SumRow) -> Result<bool, Fail> {
+    let sum = sum_after(alloc, row.0)?;
+    Ok(sum.edges() == row.1 && as_places(sum.first_unbalanced()) == row.2)
 }
 
 #[test]
 fn counts_edges(rt: HostRuntime) -> Result<(), Fail> {
-    for (steps, edges, unbalanced) in &SUMS {
-        let told = told(rt.alloc(), *steps)?;
-        assert_eq!(rt; told, (*edges, *unbalanced), "after {steps}");
+    for row in &SUMS {
+        assert!(rt; is_told(rt.alloc(), row)?, "after {}", row.0);
     }
     Ok(())
 }
@@ -299,14 +281,14 @@ fn row(alloc: Global, y: i64) -> Result<Vec<Corner, Global>, Fail> {
 
 /// The ring of two long edges with all corners of both in it.
 fn long_ring(alloc: Global) -> Result<Corners<Global>, Fail> {
-    let (low, mut high) = (row(alloc, 0)?, row(alloc, 9)?);
-    high.reverse();
-    let mut list = ring(alloc, &[(0, 0)])?.into_vec();
-    list.extend_from_slice(&low)?;
-    list.extend_from_slice(ring(alloc, &[(1_000, 0), (1_000, 9)])?.as_slice())?;
-    list.extend_from_slice(&high)?;
-    list.extend_from_slice(ring(alloc, &[(0, 9)])?.as_slice())?;
-    Ok(Corners::from_vec(list))
+    let mut list = Corners::new(alloc);
+    for x in 0..1_001i64 {
+        list.push(corner((x, 0))?)?;
+    }
+    for back in 0..1_001i64 {
+        list.push(corner((1_000i64.wrapping_sub(back), 9))?)?;
+    }
+    Ok(list)
 }
 
 /// Whether two long edges get all their corners, which are given in the other order.

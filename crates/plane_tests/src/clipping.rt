@@ -1,8 +1,8 @@
 //! Simple rings, their faults, and the triangles that they are clipped to.
 
 use geo_exact::turn;
-use ring_core::{Ring, RingFault, Tri, Triangles};
-use std::alloc::Global;
+use ring_core::{Ring, RingFault, Shape, Tri, Triangles};
+use std::alloc::{AllocError, Global};
 use std::test::Fail;
 use test_builders::{
     Place, clipped_as_plainly, corner, corners, shape, shape_of, simple_ring, triangle,
@@ -117,64 +117,103 @@ fn fault(alloc: Global, places: &[Place]) -> Result<Option<RingFault>, Fail> {
     }
 }
 
-/// A ring's places, and its fault where it is no simple ring.
-type FaultRow<'a> = (&'a [Place], Option<RingFault>);
+/// A row's name, a ring's places, and its fault where it is no simple ring.
+type FaultRow = (&'static str, &'static [Place], Option<RingFault>);
+
+/// Whether the fault of a row's ring is found.
+fn is_fault_found(alloc: Global, row: &FaultRow) -> Result<bool, Fail> {
+    Ok(fault(alloc, row.1)? == row.2)
+}
+
+static FIRST_FAULTS: [FaultRow; 6] = [
+    (
+        "touched",
+        &[(0, 0), (100, 0), (100, 100), (50, 0), (0, 100)],
+        Some(RingFault::EdgesMeet(0, 2)),
+    ),
+    (
+        "turned back",
+        &[(0, 0), (100, 0), (60, 0), (60, 100)],
+        Some(RingFault::EdgesMeet(0, 1)),
+    ),
+    (
+        "spike",
+        &[(0, 0), (100, 0), (150, 0), (100, 0), (100, 100)],
+        Some(RingFault::EdgesMeet(0, 2)),
+    ),
+    (
+        "bow tie",
+        &[(0, 0), (100, 100), (100, 0), (0, 100)],
+        Some(RingFault::ZeroArea),
+    ),
+    (
+        "uneven bow tie",
+        &[(0, 0), (100, 100), (100, 0), (0, 60)],
+        Some(RingFault::Clockwise),
+    ),
+    ("with a flat corner", &WITH_FLAT_CORNER, None),
+];
 
 #[test]
 fn finds_the_first_fault(rt: HostRuntime) -> Result<(), Fail> {
-    let touched = [(0, 0), (100, 0), (100, 100), (50, 0), (0, 100)];
-    let turned_back = [(0, 0), (100, 0), (60, 0), (60, 100)];
-    let spike = [(0, 0), (100, 0), (150, 0), (100, 0), (100, 100)];
-    let bow_tie = [(0, 0), (100, 100), (100, 0), (0, 100)];
-    let uneven_bow_tie = [(0, 0), (100, 100), (100, 0), (0, 60)];
-    let rows: [FaultRow; 6] = [
-        (&touched, Some(RingFault::EdgesMeet(0, 2))),
-        (&turned_back, Some(RingFault::EdgesMeet(0, 1))),
-        (&spike, Some(RingFault::EdgesMeet(0, 2))),
-        (&bow_tie, Some(RingFault::ZeroArea)),
-        (&uneven_bow_tie, Some(RingFault::Clockwise)),
-        (&WITH_FLAT_CORNER, None),
-    ];
-    for (places, want) in rows {
-        assert_eq!(rt; fault(rt.alloc(), places)?, want);
+    for row in &FIRST_FAULTS {
+        assert!(rt; is_fault_found(rt.alloc(), row)?, "{}", row.0);
     }
     Ok(())
 }
 
 /// In the third ring edges 0 and 4 cross, and 0 and 5, 1 and 3, 1 and 4.
+static FIRST_EDGES: [FaultRow; 5] = [
+    (
+        "first corner twice",
+        &[(0, 0), (0, 0), (100, 0), (0, 100)],
+        Some(RingFault::EdgesMeet(1, 3)),
+    ),
+    (
+        "spike at the first",
+        &[(150, 0), (100, 0), (100, 100), (0, 100), (0, 0)],
+        Some(RingFault::EdgesMeet(0, 4)),
+    ),
+    (
+        "four crossings",
+        &[
+            (0, 0),
+            (60, 0),
+            (60, 40),
+            (40, 40),
+            (80, 20),
+            (40, -10),
+            (0, 80),
+        ],
+        Some(RingFault::EdgesMeet(0, 4)),
+    ),
+    ("short bay", &SHORT_BAY, None),
+    ("long bay", &LONG_BAY, Some(RingFault::EdgesMeet(0, 2))),
+];
+
 #[test]
 fn finds_the_first_two_edges(rt: HostRuntime) -> Result<(), Fail> {
-    let first_corner_twice = [(0, 0), (0, 0), (100, 0), (0, 100)];
-    let spike_at_the_first = [(150, 0), (100, 0), (100, 100), (0, 100), (0, 0)];
-    let four_crossings = [
-        (0, 0),
-        (60, 0),
-        (60, 40),
-        (40, 40),
-        (80, 20),
-        (40, -10),
-        (0, 80),
-    ];
-    let rows: [FaultRow; 5] = [
-        (&first_corner_twice, Some(RingFault::EdgesMeet(1, 3))),
-        (&spike_at_the_first, Some(RingFault::EdgesMeet(0, 4))),
-        (&four_crossings, Some(RingFault::EdgesMeet(0, 4))),
-        (&SHORT_BAY, None),
-        (&LONG_BAY, Some(RingFault::EdgesMeet(0, 2))),
-    ];
-    for (places, want) in rows {
-        assert_eq!(rt; fault(rt.alloc(), places)?, want);
+    for row in &FIRST_EDGES {
+        assert!(rt; is_fault_found(rt.alloc(), row)?, "{}", row.0);
     }
     Ok(())
 }
 
+static FEW_CORNERS: [&[Place]; 4] = [
+    &[],
+    &[(0, 0)],
+    &[(0, 0), (50, 50)],
+    &[(0, 0), (50, 50), (100, 100)],
+];
+
 #[test]
 fn few_corners_have_no_area(rt: HostRuntime) -> Result<(), Fail> {
-    let line = [(0, 0), (50, 50), (100, 100)];
-    for count in 0..4 {
-        let places = line.get(..count).unwrap_or(&[]);
-        assert_eq!(rt; places.len(), count);
-        assert_eq!(rt; fault(rt.alloc(), places)?, Some(RingFault::ZeroArea));
+    for places in &FEW_CORNERS {
+        assert!(rt;
+            fault(rt.alloc(), places)? == Some(RingFault::ZeroArea),
+            "of {}",
+            places.len()
+        );
     }
     Ok(())
 }
@@ -184,9 +223,8 @@ fn a_ring_keeps_its_corners(rt: HostRuntime) -> Result<(), Fail> {
     let alloc = rt.alloc();
     let ring = simple_ring(alloc, &COMB)?;
     let given = corners(alloc, &COMB)?;
-    assert_eq!(rt; ring.corners.as_slice(), given.as_slice());
-    let shape = shape_of(alloc, ring)?;
-    assert_eq!(rt; shape.ring.corners.as_slice(), given.as_slice());
+    assert!(rt; ring.corners == given);
+    assert!(rt; shape_of(alloc, ring)?.ring.corners == given);
     Ok(())
 }
 
@@ -229,14 +267,22 @@ static TRIANGLES: [TriangleRow; 4] = [
     ),
 ];
 
+/// The triangles of these places, in order.
+fn triangles_of(
+    alloc: Global,
+    places: &[(Place, Place, Place)],
+) -> Result<Triangles<Global>, Fail> {
+    let mut triangles = Triangles::new(alloc);
+    for (a, b, c) in places {
+        triangles.push(triangle(*a, *b, *c)?)?;
+    }
+    Ok(triangles)
+}
+
 /// Whether the ring of a row is clipped to its triangles.
 fn is_clipped_to(alloc: Global, row: &TriangleRow) -> Result<bool, Fail> {
-    let shape = shape(alloc, row.0)?;
-    let mut want = Triangles::new(alloc);
-    for (a, b, c) in row.1 {
-        want.push(triangle(*a, *b, *c)?)?;
-    }
-    Ok(shape.triangles.as_slice() == want.as_slice())
+    let want = triangles_of(alloc, row.1)?;
+    Ok(shape(alloc, row.0)?.triangles.as_slice() == want.as_slice())
 }
 
 #[test]
@@ -247,34 +293,40 @@ fn the_first_ear_is_clipped_first(rt: HostRuntime) -> Result<(), Fail> {
     Ok(())
 }
 
-/// Twice the area of all the triangles that a ring is clipped to, and their number.
-fn clipped(rt: &HostRuntime, places: &[Place]) -> Result<(i128, usize), Fail> {
-    let shape = shape(rt.alloc(), places)?;
+/// Twice the area of all the triangles.
+pub fn area_of(triangles: &[Tri]) -> i128 {
     let mut sum = 0i128;
-    for tri in shape.triangles.as_slice() {
+    for tri in triangles {
         sum = sum.wrapping_add(turn(tri.a, tri.b, tri.c));
     }
-    Ok((sum, shape.triangles.as_slice().len()))
+    sum
 }
 
-/// A ring, twice its area, and the number of its triangles.
-type ClipRow<'a> = (&'a [Place], i128, usize);
+/// A ring, twice the area of all the triangles that it is clipped to, and their number.
+type ClipRow = (&'static [Place], i128, usize);
+
+static CLIPPED: [ClipRow; 8] = [
+    (&WITH_FLAT_CORNER, 20000, 2),
+    (&S_SHAPE, 42000, 9),
+    (&COMB, 2200, 9),
+    (&SPIRAL, 4600, 12),
+    (&STAR, 4000, 6),
+    (&FLAT_SIDE, 800, 2),
+    (&WIDEST, 80_000_000_000_000_000_000_000, 2),
+    (&SHORT_BAY, 10_663_258_234_600_000_000_000, 3),
+];
+
+/// Whether the ring of a row is clipped as it says, and to the triangles of the plain clipping.
+fn is_clipped(alloc: Global, row: &ClipRow) -> Result<bool, Fail> {
+    let shape = shape(alloc, row.0)?;
+    let is_row = area_of(shape.triangles.as_slice()) == row.1 && shape.triangles.len() == row.2;
+    Ok(clipped_as_plainly(alloc, corners(alloc, row.0)?)? && is_row)
+}
 
 #[test]
 fn clips_rings(rt: HostRuntime) -> Result<(), Fail> {
-    let rows: [ClipRow; 8] = [
-        (&WITH_FLAT_CORNER, 20000, 2),
-        (&S_SHAPE, 42000, 9),
-        (&COMB, 2200, 9),
-        (&SPIRAL, 4600, 12),
-        (&STAR, 4000, 6),
-        (&FLAT_SIDE, 800, 2),
-        (&WIDEST, 80_000_000_000_000_000_000_000, 2),
-        (&SHORT_BAY, 10_663_258_234_600_000_000_000, 3),
-    ];
-    for (places, area, count) in rows {
-        assert_eq!(rt; clipped(&rt, places)?, (area, count));
-        assert!(rt; clipped_as_plainly(rt.alloc(), corners(rt.alloc(), places)?)?);
+    for (number, row) in CLIPPED.iter().enumerate() {
+        assert!(rt; is_clipped(rt.alloc(), row)?, "row {number}");
     }
     Ok(())
 }
@@ -285,7 +337,7 @@ fn a_triangle_turns_left(rt: HostRuntime) -> Result<(), Fail> {
     let Some(tri) = Tri::new(a, b, c) else {
         return Err(Fail::new("no left turn"));
     };
-    assert_eq!(rt; (tri.a, tri.b, tri.c), (a, b, c));
+    assert!(rt; tri.a == a && tri.b == b && tri.c == c);
     assert!(rt; Tri::new(a, c, b).is_none());
     assert!(rt; Tri::new(a, b, b).is_none());
     Ok(())
@@ -293,27 +345,23 @@ fn a_triangle_turns_left(rt: HostRuntime) -> Result<(), Fail> {
 
 #[test]
 fn triangles_are_kept_in_order(rt: HostRuntime) -> Result<(), Fail> {
+    let first = triangle((0, 0), (60, 0), (0, 60))?;
+    let second = triangle((60, 0), (60, 60), (0, 60))?;
     let mut triangles = Triangles::new(rt.alloc());
-    assert_eq!(rt; triangles.as_slice().len(), 0);
-    let pushed = [
-        triangle((0, 0), (60, 0), (0, 60))?,
-        triangle((60, 0), (60, 60), (0, 60))?,
-    ];
-    for tri in pushed {
-        triangles.push(tri)?;
-    }
-    assert_eq!(rt; triangles.as_slice(), pushed.as_slice());
+    assert!(rt; triangles.is_empty());
+    triangles.push(first)?;
+    triangles.push(second)?;
+    assert!(rt; triangles.as_slice() == [first, second].as_slice());
     Ok(())
 }
 
-/// Whether a ring and its shape are copied whole.
-fn is_copied(alloc: Global) -> Result<bool, Fail> {
-    let ring = simple_ring(alloc, &COMB)?;
-    let same = ring.clone()?;
-    if same != ring {
-        return Ok(false);
-    }
-    let shape = shape_of(alloc, ring)?;
+/// Whether a ring is copied whole.
+fn is_ring_copied(ring: &Ring<Global>) -> Result<bool, AllocError> {
+    Ok(ring.clone()? == *ring)
+}
+
+/// Whether a shape of nine triangles is copied whole.
+fn is_copied(shape: &Shape<Global>) -> Result<bool, AllocError> {
     let copy = shape.clone()?;
     let is_same = copy.ring == shape.ring
         && copy.triangles.as_slice() == shape.triangles.as_slice();
@@ -322,6 +370,8 @@ fn is_copied(alloc: Global) -> Result<bool, Fail> {
 
 #[test]
 fn a_shape_is_copied(rt: HostRuntime) -> Result<(), Fail> {
-    assert!(rt; is_copied(rt.alloc())?);
+    let shape = shape(rt.alloc(), &COMB)?;
+    assert!(rt; is_ring_copied(&shape.ring)?);
+    assert!(rt; is_copied(&shape)?);
     Ok(())
 }

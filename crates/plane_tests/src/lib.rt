@@ -19,6 +19,10 @@ mod overlaps;
 #[cfg(test)]
 mod refusals;
 #[cfg(test)]
+mod refuses;
+#[cfg(test)]
+mod rings;
+#[cfg(test)]
 mod size;
 #[cfg(test)]
 mod slow_edges;

@@ -1,79 +1,95 @@
 //! Each growth of a call refused in turn: its answer is want of memory, nothing has changed, and
 //! with memory the same call gives the answer that it has to give.
 
+use crate::refuses::{MOST, told};
+use crate::rings::rings_of;
 use edge_chains::node;
 use geo_exact::{Corner, Corners};
 use refusing_alloc::Refusing;
 use ring_core::{Shape, Tri};
-use std::alloc::Global;
 use std::test::Fail;
-use test_builders::{Place, corners, shape_of, simple_ring, triangle};
-
-/// No call here has so many growths.
-const MOST: u64 = 100;
+use test_builders::{Place, Refuses, corners, shape, simple_ring, triangle, was_refused};
 
 const BENT: [Place; 5] = [(0, 0), (100, 0), (50, 50), (40, 90), (0, 100)];
 
-/// The heap of the tests here.
-type Heap = Refusing<Global>;
+const NEXT: Corner = Corner { x: -7, y: 7 };
+
+/// Whether a list is another one and the corner that is pushed.
+fn is_pushed(list: &[Corner], before: &[Corner]) -> bool {
+    match list.split_last() {
+        Some((last, rest)) => *last == NEXT && rest == before,
+        None => false,
+    }
+}
 
 /// A list in which a push is refused is as it was, and grows with memory; whether the push was refused.
-fn is_push_refused(heap: &Heap, list: &mut Corners<&Heap>) -> Result<bool, Fail> {
-    let next = Corner { x: -7, y: 7 };
+fn is_push_refused<H: Refuses>(heap: &H, list: &mut Corners<&H>) -> Result<bool, Fail> {
     let before = list.clone()?;
     heap.refuse(1);
-    let pushed = list.push(next);
-    let is_refused = heap.is_spent();
-    heap.refuse(0);
-    if pushed.is_err() != is_refused || (is_refused && *list != before) {
-        return Err(Fail::new("a refused push is told, and changes nothing"));
-    }
+    let is_wanting = list.push(NEXT).is_err();
+    let is_refused = told(was_refused(heap), is_wanting)?;
     if is_refused {
-        list.push(next)?;
+        if *list != before {
+            return Err(Fail::new("a refused push changes nothing"));
+        }
+        list.push(NEXT)?;
     }
-    if list.len() != before.len() + 1 || list.as_slice()[before.len()] != next {
-        return Err(Fail::new("not pushed"));
+    if is_pushed(list.as_slice(), before.as_slice()) {
+        Ok(is_refused)
+    } else {
+        Err(Fail::new("not pushed"))
     }
-    Ok(is_refused)
+}
+
+/// How long a list is behind the last of 200 pushes that was refused.
+fn last_refused<H: Refuses>(heap: &H, list: &mut Corners<&H>) -> Result<usize, Fail> {
+    let mut refused = 0;
+    for _ in 0..200 {
+        if is_push_refused(heap, list)? {
+            refused = list.len();
+        }
+    }
+    Ok(refused)
+}
+
+/// Whether a copy of a list is refused.
+fn is_copy_refused<H: Refuses>(heap: &H, list: &Corners<&H>) -> bool {
+    heap.refuse(1);
+    list.clone().is_err()
 }
 
 #[test]
 fn a_list_of_corners(rt: HostRuntime) -> Result<(), Fail> {
     let heap = Refusing::new(rt.alloc(), 0);
     let mut list = corners(&heap, &BENT)?;
-    let mut refused = 0usize;
-    for _ in 0..200 {
-        if is_push_refused(&heap, &mut list)? {
-            refused = list.len();
-        }
-    }
-    assert!(rt; refused > 100);
-    heap.refuse(1);
-    assert!(rt; list.clone().is_err());
+    assert!(rt; last_refused(&heap, &mut list)? > 100);
+    assert!(rt; is_copy_refused(&heap, &list));
     heap.refuse(1);
     assert!(rt; Corners::with_capacity(&heap, 3).is_err());
     Ok(())
 }
 
-/// A ring is clipped to these triangles, or growth `number` is refused, and then it is clipped with
-/// memory; whether it was refused.
-fn is_clipping_refused(heap: &Heap, number: u64, want: &[Tri]) -> Result<bool, Fail> {
+/// A ring's shape, and whether a growth was refused, where it was clipped once more with memory then.
+fn clipped<'h, H: Refuses>(heap: &'h H, number: u64) -> Result<(Shape<&'h H>, bool), Fail> {
     let ring = simple_ring(heap, &BENT)?;
     heap.refuse(number);
     let clipped = Shape::clip(heap, ring);
-    let is_refused = heap.is_spent();
-    heap.refuse(0);
-    if clipped.is_err() != is_refused {
-        return Err(Fail::new("a refusal is told, and nothing else is"));
+    let is_refused = told(was_refused(heap), clipped.is_err())?;
+    match clipped {
+        Ok(shape) => Ok((shape, is_refused)),
+        Err(_) => Ok((shape(heap, &BENT)?, is_refused)),
     }
-    let shape = match clipped {
-        Ok(shape) => shape,
-        Err(_) => shape_of(heap, simple_ring(heap, &BENT)?)?,
-    };
-    if shape.triangles.as_slice() != want {
-        return Err(Fail::new("other triangles"));
+}
+
+/// A ring is clipped to these triangles, or growth `number` is refused, and then it is clipped with
+/// memory; whether it was refused.
+fn is_clipping_refused<H: Refuses>(heap: &H, number: u64, want: &[Tri]) -> Result<bool, Fail> {
+    let (shape, is_refused) = clipped(heap, number)?;
+    if shape.triangles.as_slice() == want {
+        Ok(is_refused)
+    } else {
+        Err(Fail::new("other triangles"))
     }
-    Ok(is_refused)
 }
 
 #[test]
@@ -93,45 +109,44 @@ fn clipping(rt: HostRuntime) -> Result<(), Fail> {
     Err(Fail::new("each growth was refused"))
 }
 
-const WEST: [Place; 4] = [(0, 0), (60, 0), (60, 100), (0, 100)];
+/// A western ring, and a southern one beside it.
+static RINGS: [&[Place]; 2] = [
+    &[(0, 0), (60, 0), (60, 100), (0, 100)],
+    &[(60, 0), (90, 0), (90, 50), (60, 50)],
+];
 
-const SOUTH: [Place; 4] = [(60, 0), (90, 0), (90, 50), (60, 50)];
+/// The same two, noded for the cuts.
+static NODED: [&[Place]; 2] = [
+    &[(0, 0), (60, 0), (60, 50), (60, 100), (0, 100)],
+    &[(60, 0), (75, 0), (90, 0), (90, 50), (60, 50)],
+];
 
-const WEST_NODED: [Place; 5] = [(0, 0), (60, 0), (60, 50), (60, 100), (0, 100)];
+const CUTS: [Corner; 2] = [Corner { x: 60, y: 50 }, Corner { x: 75, y: 0 }];
 
-const SOUTH_NODED: [Place; 5] = [(60, 0), (75, 0), (90, 0), (90, 50), (60, 50)];
-
-/// Two rings of these places.
-fn two_rings<'h>(
-    heap: &'h Heap,
-    first: &[Place],
-    second: &[Place],
-) -> Result<Vec<Corners<&'h Heap>, &'h Heap>, Fail> {
-    let mut rings = Vec::new(heap);
-    rings.push(corners(heap, first)?)?;
-    rings.push(corners(heap, second)?)?;
-    Ok(rings)
+/// Noded rings, and whether a growth was refused, where they were noded once more with memory then.
+fn noded<'h, H: Refuses>(
+    heap: &'h H,
+    rings: &[Corners<&'h H>],
+    number: u64,
+) -> Result<(Vec<Corners<&'h H>, &'h H>, bool), Fail> {
+    heap.refuse(number);
+    let noded = node(heap, rings, &CUTS);
+    let is_refused = told(was_refused(heap), noded.is_err())?;
+    match noded {
+        Ok(noded) => Ok((noded, is_refused)),
+        Err(_) => Ok((node(heap, rings, &CUTS)?, is_refused)),
+    }
 }
 
 /// Two rings are noded, or growth `number` is refused, and then they are noded with memory; whether it was refused.
-fn is_noding_refused(heap: &Heap, number: u64) -> Result<bool, Fail> {
-    let rings = two_rings(heap, &WEST, &SOUTH)?;
-    let cuts = [Corner { x: 60, y: 50 }, Corner { x: 75, y: 0 }];
-    heap.refuse(number);
-    let noded = node(heap, &rings, &cuts);
-    let is_refused = heap.is_spent();
-    heap.refuse(0);
-    if noded.is_err() != is_refused {
-        return Err(Fail::new("a refusal is told, and nothing else is"));
+fn is_noding_refused<H: Refuses>(heap: &H, number: u64) -> Result<bool, Fail> {
+    let rings = rings_of(heap, &RINGS)?;
+    let (noded, is_refused) = noded(heap, &rings, number)?;
+    if noded.as_slice() == rings_of(heap, &NODED)?.as_slice() {
+        Ok(is_refused)
+    } else {
+        Err(Fail::new("other rings"))
     }
-    let noded = match noded {
-        Ok(noded) => noded,
-        Err(_) => node(heap, &rings, &cuts)?,
-    };
-    if noded.as_slice() != two_rings(heap, &WEST_NODED, &SOUTH_NODED)?.as_slice() {
-        return Err(Fail::new("other rings"));
-    }
-    Ok(is_refused)
 }
 
 #[test]

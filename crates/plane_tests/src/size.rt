@@ -3,8 +3,9 @@
 ghost use Rattle.std.specs.Prelude.{◌≡◌, IfOk, length};
 ghost use Rattle.geo_exact.specs.declared.limits.TheConstants.{RING_CORNERS};
 
+use crate::clipping::area_of;
 use edge_chains::{EdgeSum, node};
-use geo_exact::{Corner, Corners, RING_CORNERS, area2, turn};
+use geo_exact::{Corner, Corners, RING_CORNERS, area2};
 use std::alloc::Global;
 use std::test::Fail;
 use test_builders::{ring_of, saw, shape_of};
@@ -28,15 +29,11 @@ fn longest(alloc: Global) -> Result<Corners<Global>, Fail>
 fn clips_the_longest_ring(rt: HostRuntime) -> Result<(), Fail> {
     let alloc = rt.alloc();
     let corners = longest(alloc)?;
-    assert_eq!(rt; area2(corners.as_slice()), AREA2);
+    assert!(rt; area2(corners.as_slice()) == AREA2);
     let shape = shape_of(alloc, ring_of(corners)?)?;
-    assert_eq!(rt; shape.ring.corners.len(), RING_CORNERS);
-    let mut sum = 0i128;
-    for tri in shape.triangles.as_slice() {
-        sum = sum.wrapping_add(turn(tri.a, tri.b, tri.c));
-    }
-    assert_eq!(rt; sum, AREA2);
-    assert_eq!(rt; folded(&shape), None);
+    assert!(rt; shape.ring.corners.len() == RING_CORNERS);
+    assert!(rt; area_of(shape.triangles.as_slice()) == AREA2);
+    assert!(rt; folded(&shape) == None);
     assert!(rt; shapes_overlap(&shape, &shape));
     Ok(())
 }
@@ -48,22 +45,25 @@ fn nodes_the_longest_ring(rt: HostRuntime) -> Result<(), Fail> {
     let mut rings = Vec::new(alloc);
     rings.push(longest(alloc)?)?;
     let noded = node(alloc, &rings, corners.as_slice())?;
-    assert_eq!(rt; noded.len(), 1);
-    assert!(rt; noded[0] == corners);
+    assert!(rt; noded.as_slice() == rings.as_slice());
     Ok(())
 }
 
+/// Whether an edge sum tells so many edges, and this first that is unbalanced.
+fn tells(sum: &EdgeSum<Global>, edges: u64, unbalanced: Option<(Corner, Corner, i64)>) -> bool {
+    sum.edges() == edges && sum.first_unbalanced() == unbalanced
+}
+
+/// The side of the saw, taken once.
+const SIDE: (Corner, Corner, i64) = (Corner { x: 0, y: 0 }, Corner { x: 0, y: 100 }, -1);
+
 #[test]
 fn counts_the_longest_ring(rt: HostRuntime) -> Result<(), Fail> {
-    let alloc = rt.alloc();
-    let corners = longest(alloc)?;
-    let mut sum = EdgeSum::new(alloc);
+    let corners = longest(rt.alloc())?;
+    let mut sum = EdgeSum::new(rt.alloc());
     sum.add(corners.as_slice())?;
-    let side = (Corner { x: 0, y: 0 }, Corner { x: 0, y: 100 });
-    assert_eq!(rt; sum.edges(), 4096);
-    assert_eq!(rt; sum.first_unbalanced(), Some((side.0, side.1, -1)));
+    assert!(rt; tells(&sum, 4096, Some(SIDE)));
     sum.take(corners.as_slice())?;
-    assert_eq!(rt; sum.edges(), 8192);
-    assert_eq!(rt; sum.first_unbalanced(), None);
+    assert!(rt; tells(&sum, 8192, None));
     Ok(())
 }

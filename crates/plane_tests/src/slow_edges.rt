@@ -87,10 +87,9 @@ fn noded_count(alloc: Global, ring: Corners<Global>) -> Result<Option<usize>, Al
     let mut rings = Vec::new(alloc);
     rings.push(ring)?;
     let noded = node(alloc, &rings, &corners)?;
-    if noded.len() == 1 && noded[0] == want {
-        Ok(Some(want.len()))
-    } else {
-        Ok(None)
+    match noded.as_slice() {
+        [noded] if *noded == want => Ok(Some(want.len())),
+        _ => Ok(None),
     }
 }
 
@@ -100,7 +99,7 @@ fn noded_count(alloc: Global, ring: Corners<Global>) -> Result<Option<usize>, Al
 fn nodes_a_tangled_band(rt: HostRuntime) -> Result<(), Fail> {
     for is_flat in [false, true] {
         let ring = tangled(rt.alloc(), is_flat)?;
-        assert_eq!(rt; noded_count(rt.alloc(), ring)?, Some(9791));
+        assert!(rt; noded_count(rt.alloc(), ring)? == Some(9791), "{is_flat}");
     }
     Ok(())
 }
@@ -126,6 +125,6 @@ fn slanted(alloc: Global) -> Result<Corners<Global>, Fail> {
 #[test]
 fn nodes_edges_in_five_directions(rt: HostRuntime) -> Result<(), Fail> {
     let ring = slanted(rt.alloc())?;
-    assert_eq!(rt; noded_count(rt.alloc(), ring)?, Some(16_759));
+    assert!(rt; noded_count(rt.alloc(), ring)? == Some(16_759));
     Ok(())
 }

@@ -75,15 +75,16 @@ module _ {A : Type 0} where
   HasWindowLearnt (Some before) None (Some after) = after ≡ before
   HasWindowLearnt (Some before) (Some told) (Some after) = Learns before told after
 
-  -- a card is as before, unless the line is an edit: then it is still its clerk's; where there was none, there is none
-  abbrev pub IsStillHis : Option (CardState A) → Option (CardState A) → Type 0
-  IsStillHis None None = ⊤
-  IsStillHis None (Some after) = ⊥
-  IsStillHis (Some before) None = ⊥
-  IsStillHis (Some before) (Some after) = after.clerk ≡ before.clerk
+  -- a card is still its clerk's; where there was none, there is none
+  abbrev pub IsOfSameClerk : Option (CardState A) → Option (CardState A) → Type 0
+  IsOfSameClerk None None = ⊤
+  IsOfSameClerk None (Some after) = ⊥
+  IsOfSameClerk (Some before) None = ⊥
+  IsOfSameClerk (Some before) (Some after) = after.clerk ≡ before.clerk
 
+  -- a card changes only at an edit, and keeps its clerk
   abbrev pub IsCardAfter : Line A → Option (CardState A) → Option (CardState A) → Type 0
-  IsCardAfter (AskedEdit edit) before after = IsStillHis before after
+  IsCardAfter (AskedEdit edit) before after = IsOfSameClerk before after
   IsCardAfter asked before after = after ≡ before
 
   -- `at ..`: the place of a corner among the parcels that the window has seen last, and after how many entries

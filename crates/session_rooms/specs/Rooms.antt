@@ -1,5 +1,10 @@
--- What a session's room answers where an edit is not made, or nothing is shown (this product's own).
-use Rattle.std.specs.Prelude.{◌≡◌, ◌⊎◌, Option, IsSome}
+-- What a session's room answers where an edit is not made, or nothing is shown, and the sheets that it draws (this product's
+-- own).
+use Rattle.std.specs.Prelude.{◌≡◌, ◌⊎◌, [], Option, IsSome}
+use Rattle.fabric_core.specs.EditResults.{IsLawful}
+use Rattle.fabric_core.specs.Journal.{Book, replay}
+use Rattle.fabric_core.specs.Tiling.{IsTiling}
+use Rattle.desk_lock.specs.Offices.{OfficeId, IsSheetOf}
 use Rattle.fabric_core.specs.declared.refusal.Refusal.{Refusal}
 use Rattle.session_lines.specs.declared.faults.SessionFault.{SessionFault}
 use Rattle.session_lines.specs.declared.faults.SessionFault.TheVariants.{JournalFailed, NoMemory as WantsMemory}
@@ -31,3 +36,11 @@ IsJournalFault journal fault = (fault ≡ JournalFailed) × IsSome journal
 -- why a room shows nothing, or draws nothing: that, or memory ran out
 abbrev pub IsRoomFault : {T : Type 0} → Option T → SessionFault → Type 0
 IsRoomFault journal fault = IsJournalFault journal fault ⊎ (fault ≡ WantsMemory)
+
+-- a sheet of the office: the entries that it opened with, and behind them its clerks'; what it has is what these lead to, and
+-- tiles the city
+pub record IsDrawn {A : Type 0} (office : OfficeId A) (sheet : Book A) : Type 0 where
+  pub is_sheet : IsSheetOf office [] sheet
+  pub is_lawful : IsLawful sheet.opening sheet.journal
+  pub leads : replay sheet.opening sheet.journal ≡ sheet.now
+  pub is_tiling : IsTiling sheet.now.rows sheet.city

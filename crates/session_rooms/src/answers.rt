@@ -5,7 +5,7 @@ ghost use Rattle.geo_exact.specs.declared.limits.TheConstants.{LIST_CORNERS};
 ghost use Rattle.session_lines.specs.Lines.{Asks, AskTheSame};
 ghost use Rattle.session_lines.specs.declared.line.Line.{Line as LineValue};
 ghost use Rattle.session_rooms.specs.Asked.{IsAskedBy, AsksNothing, IsLineFault, IsUnasked};
-ghost use Rattle.session_rooms.specs.DeskAnswers.{GoesOnBy, HasWindowGoneOn, HasWindowLearnt, IsStillHis, IsCardAfter};
+ghost use Rattle.session_rooms.specs.DeskAnswers.{GoesOnBy, HasWindowGoneOn, HasWindowLearnt, IsOfSameClerk, IsCardAfter};
 ghost use Rattle.session_rooms.specs.DeskAnswers.{IsWindowLine, IsPlaceLine, IsRingLine, IsCountLine, IsEditLine};
 ghost use Rattle.session_rooms.specs.DeskAnswers.{IsEditAnswer, IsAnswerTo, IsAnswerOf, shown_of, window_fault};
 
@@ -46,7 +46,7 @@ pub fn answer<'h, H: Allocator, J: Naming<H>, R: Wait, F: JournalFile, K: Clocke
     line: &[u8],
     text: &mut Vec<u8, &'h H>,
 ) -> Result<Option<Made<'h, H, J>>, AllocError>
-    ensures card { IsStillHis chair.old.card chair.new.card }
+    ensures card { IsOfSameClerk chair.old.card chair.new.card }
     ensures window { HasWindowGoneOn chair.old.window chair.new.window }
     ensures answered { IfOk result (λ made.
         GoesOnBy (IsAnswerOf J.office room.now.journal chair.old chair.new came line.now made)
@@ -173,7 +173,7 @@ fn answer_edit<'h, H: Allocator, J: Naming<H>, R: Wait, F: JournalFile, K: Clock
     edit: &Edit<&'h H>,
     text: &mut Vec<u8, &'h H>,
 ) -> Result<Option<Made<'h, H, J>>, AllocError>
-    ensures card { IsStillHis chair.old.card chair.new.card }
+    ensures card { IsOfSameClerk chair.old.card chair.new.card }
     ensures window { HasWindowGoneOn chair.old.window chair.new.window }
     ensures answered { IfOk result (λ made.
         GoesOnBy (IsEditAnswer J.office room.now.journal chair.old chair.new edit.now made)

@@ -4,8 +4,8 @@ ghost use Rattle.std.specs.Prelude.{◌≡◌, ◌⊎◌, ◌↔◌, ◌≤◌, 
 ghost use mathlib.Core.List.{IsPrefix};
 ghost use Rattle.fabric_core.specs.EditResults.{IsLawful};
 ghost use Rattle.desk_lock.specs.Offices.{with_made, with_met, journal_met, EndsWith, IsSometime, IsRefusedWhenMet};
-ghost use Rattle.desk_lock.specs.Offices.{AreOfClerks, behind, IsSheetOf};
-ghost use Rattle.session_rooms.specs.Rooms.{IfRefused, UnlessJournalFails, IfJournalFails, IsJournalFault, IsRoomFault};
+ghost use Rattle.desk_lock.specs.Offices.{AreOfClerks, behind};
+ghost use Rattle.session_rooms.specs.Rooms.{IsDrawn, IfRefused, UnlessJournalFails, IfJournalFails, IsJournalFault, IsRoomFault};
 ghost use Rattle.session_rooms.specs.Kept.{IsRecorded, IsOnDisk};
 
 use crate::door::Door;
@@ -318,7 +318,8 @@ impl<'r, 'h, H: Allocator, J: Naming<H>, R: Wait, F: JournalFile, K: Clocked> Ro
     ///
     /// [`SessionFault::JournalFailed`], [`SessionFault::NoMemory`].
     pub fn sheet(&self) -> Result<Drawn<'h, H>, SessionFault>
-        ensures sheet { IfOk result (λ drawn. IsSheetOf J.office [] drawn.sheet) }
+        // What it has is what its entries lead to.
+        ensures sheet { IfOk result (λ drawn. IsDrawn J.office drawn.sheet) }
         ensures on_disk { IfOk result (λ drawn. IsOnDisk self.now.journal drawn.on_disk (length drawn.sheet.journal)) }
         ensures fault { IfErr result (IsRoomFault self.now.journal) }
     {
@@ -345,13 +346,14 @@ impl<'r, 'h, H: Allocator, J: Naming<H>, R: Wait, F: JournalFile, K: Clocked> Ro
 
     /// A copy of the office's parcels.
     fn copy(&self) -> Result<Sheet<'h, H>, SessionFault>
-        ensures sheet { IfOk result (IsSheetOf J.office []) }
+        ensures sheet { IfOk result (IsDrawn J.office) }
         ensures fault { IfErr result (λ fault. fault ≡ SessionFault.NoMemory) }
     {
         let mut none = Vec::new(self.heap);
-        match self.office.sheet(self.rt, none.as_mut_slice()) {
-            Ok(sheet) => Ok(sheet),
-            Err(_) => Err(SessionFault::NoMemory),
-        }
+        let Ok(sheet) = self.office.sheet(self.rt, none.as_mut_slice()) else {
+            return Err(SessionFault::NoMemory);
+        };
+        sheet.use_invariant();
+        Ok(sheet)
     }
 }

@@ -5,6 +5,7 @@
 #![tactic(auto)]
 
 mod files;
+mod heaps;
 mod plain;
 mod polygons;
 mod rings;
@@ -13,6 +14,7 @@ pub use files::{
     HUNDRED, ONE, SQUARE, ZERO, behind_a_null_shape, empty_file, index_of, layer_file, put,
     put_header, put_point, ring_file, square_file, squares_in_a_row,
 };
+pub use heaps::{Refuses, was_refused};
 pub use plain::plainly_clipped;
 pub use polygons::{Ways, clipped_as_plainly, count_clipped};
 pub use rings::{

@@ -5,7 +5,7 @@ use mathlib.Core.List.{IsPrefix}
 use Rattle.fabric_core.specs.EditResults.{IsLawful}
 use Rattle.fabric_core.specs.Journal.{JournalEntry, Book}
 use Rattle.fabric_core.specs.Rows.{Tiles}
-use Rattle.desk_lock.specs.Offices.{OfficeId, WindowState, AreOfClerks, IsSheetOf, behind}
+use Rattle.desk_lock.specs.Offices.{OfficeId, WindowState, AreOfClerks, behind}
 use Rattle.city_layers.specs.declared.fault.ToolFault.{ToolFault}
 use Rattle.parcel_runs.specs.CheckReport.{tiling_line}
 use Rattle.session_lines.specs.Answers.{published_line}
@@ -20,9 +20,9 @@ use Rattle.session_rooms.specs.declared.lines.Came.{Came}
 use Rattle.session_rooms.specs.declared.lines.Came.TheVariants.{Line as LineCame}
 use Rattle.session_rooms.specs.declared.room.Made.{Made}
 use Rattle.session_rooms.specs.Asked.{IsAskedBy, IsUnasked}
-use Rattle.session_rooms.specs.DeskAnswers.{GoesOnBy, HasWindowGoneOn, HasWindowLearnt, IsStillHis, IsCardAfter, IsErrorLine}
+use Rattle.session_rooms.specs.DeskAnswers.{GoesOnBy, HasWindowGoneOn, HasWindowLearnt, IsOfSameClerk, IsCardAfter, IsErrorLine}
 use Rattle.session_rooms.specs.DeskAnswers.{IsAnswerTo, IsAnswerOf}
-use Rattle.session_rooms.specs.Rooms.{IsRoomFault}
+use Rattle.session_rooms.specs.Rooms.{IsRoomFault, IsDrawn}
 use Rattle.register_sessions.specs.declared.post.Next.{Next}
 use Rattle.register_sessions.specs.declared.post.Next.TheVariants.{Line as NextLine, End as NextEnd}
 use Rattle.register_sessions.specs.own.Overlays.{AnswersOverlay, AnswersAreas}
@@ -71,7 +71,7 @@ module _ {A : Type 0} where
       (replace_gives : X → List ℕ → List ℕ → List ℕ → Result (Unit {0}) ToolFault → Type 0)
       (office : OfficeId A) (exports : X) (base text : List ℕ) : Type 0 where
     pub sheet : Book A
-    pub is_sheet : IsSheetOf office [] sheet
+    pub is_sheet : IsDrawn office sheet
     pub nothing_found : finds exports base None
     pub is_exported : IsExported replace_gives exports base sheet.now.rows text
 
@@ -79,7 +79,7 @@ module _ {A T : Type 0} where
   -- `check`: of a sheet of the office
   abbrev pub IsCheckAnswer : OfficeId A → Option T → List ℕ → Type 0
   IsCheckAnswer office journal text =
-      ((sheet : Book A) × IsSheetOf office [] sheet × (text ≡ check_report sheet)) ⊎ IsRoomLine journal text
+      ((sheet : Book A) × IsDrawn office sheet × (text ≡ check_report sheet)) ⊎ IsRoomLine journal text
 
   -- `publish`: they are, or it is told why nothing is shown
   abbrev pub IsPublishAnswer : OfficeId A → Option T → Option (WindowState A) → Option (WindowState A) → List ℕ → Type 0
@@ -91,7 +91,7 @@ module _ {A T : Type 0} where
       → Type 0
   IsOverlayAnswer written has_areas office journal None before after = Collects (IsErrorLine NoZones) before after
   IsOverlayAnswer written has_areas office journal (Some zones) before after =
-      ((sheet : Book A) × IsSheetOf office [] sheet × IsOverlayReport written has_areas sheet zones before after)
+      ((sheet : Book A) × IsDrawn office sheet × IsOverlayReport written has_areas sheet zones before after)
       ⊎ Collects (IsRoomLine journal) before after
 
   -- `export BASE`
@@ -120,7 +120,7 @@ module _ {H J T : Type 0} where
       : Type 0 where
     pub made : Option (Made H J)
     pub is_answer : IsAnswerOf office journal chair later came said made text
-    pub card : IsStillHis chair.card later.card
+    pub card : IsOfSameClerk chair.card later.card
     pub window : HasWindowGoneOn chair.window later.window
 
   -- what the operator, too, is answered to a line that any desk may be asked
