@@ -4,7 +4,6 @@ ghost use Rattle.std.specs.Prelude.{◌≡◌, ◌≢◌, ◌⊎◌, ℕ, List, 
 ghost use Rattle.std.specs.Prelude.{IfOk, IfErr, OnOk, string_bytes};
 ghost use Rattle.std.specs.List.Sorted.{IsStrictlyIncreasing};
 ghost use Rattle.std.specs.Option.{option_map};
-ghost use Rattle.geo_exact.specs.declared.limits.TheConstants.{LAYER_RECORDS, LIST_CORNERS};
 ghost use Rattle.fabric_core.specs.Rows.{numbers};
 ghost use Rattle.overlay_work.specs.declared.round.RoundFault.TheVariants.{OtherCity, NoMemory as NoRoom};
 ghost use Rattle.zone_tables.specs.Overlap.{IsOverlapTable};
