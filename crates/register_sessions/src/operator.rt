@@ -1,14 +1,15 @@
 //! The operator's desk.
 
 ghost use Rattle.std.specs.Prelude.{◌≡◌, Some, OnOk, IfOk};
-ghost use Rattle.register_sessions.specs.own.Operators.{IsCheckAnswer, IsPublishAnswer, IsOverlayAnswer, IsExportAnswer};
+ghost use Rattle.register_sessions.specs.own.Operators.{IsCheckAnswer, IsPublishAnswer, IsOverlayAnswer, IsZonesAnswer, IsExportAnswer};
 ghost use Rattle.register_sessions.specs.own.Operators.{IsOperatorAnswer, IsOperatorAnswerOf, next_of};
 ghost use Rattle.session_rooms.specs.DeskAnswers.{GoesOnBy, HasWindowLearnt};
 
 use crate::journal_file::{DiskFile, Machine};
 use crate::post::{Attendant, Next, Served, Trouble, serve_lines};
-use crate::reports::{Exports, Ground, report_areas, report_check, report_export, report_overlay};
+use crate::reports::{Exports, Ground, report_check, report_export, report_zones};
 use desk_lock::{Naming, Notice, Window};
+use fabric_core::Layer;
 use geo_exact::ByteOut;
 use session_lines::{Line, SessionFault, push_error, push_failure, push_published};
 use session_rooms::{Asked, Came, Chair, Clocked, Room, answer_asked, read_asked};
@@ -192,12 +193,25 @@ fn answer_overlay<'h, H: Allocator, J: Naming<H>, R: Wait, K: Clocked, W: ByteOu
     ensures { OnOk result (IsOverlayAnswer W.written has_areas J.office room.now.journal ground.now.zones
         (record { text = text.old.items; out = out.old }) (record { text = text.new.items; out = out.new })) }
 {
-    let Some(zones) = &ground.zones else {
-        return Ok(push_error(text, SessionFault::NoZones)?);
-    };
+    match &ground.zones {
+        Some(zones) => answer_zones(room, zones, has_areas, text, out),
+        None => Ok(push_error(text, SessionFault::NoZones)?),
+    }
+}
+
+/// Writes which parcels overlap these zones.
+fn answer_zones<'h, H: Allocator, J: Naming<H>, R: Wait, K: Clocked, W: ByteOut>(
+    room: &Room<'_, 'h, H, J, R, DiskFile, K>,
+    zones: &Layer<'h, H>,
+    has_areas: bool,
+    text: &mut Vec<u8, &'h H>,
+    out: &mut W,
+) -> Result<(), Trouble>
+    ensures { OnOk result (IsZonesAnswer W.written has_areas J.office room.now.journal zones.now
+        (record { text = text.old.items; out = out.old }) (record { text = text.new.items; out = out.new })) }
+{
     match room.sheet() {
-        Ok(drawn) if has_areas => report_areas(room.heap, &drawn.sheet, zones, text, out),
-        Ok(drawn) => report_overlay(room.heap, &drawn.sheet, zones, text, out),
+        Ok(drawn) => report_zones(room.heap, &drawn.sheet, zones, has_areas, text, out),
         Err(fault) => Ok(push_error(text, fault)?),
     }
 }

@@ -48,9 +48,28 @@ pub(crate) fn report_check<'h, H: Allocator>(
     push_end(text)
 }
 
+/// Writes what was collected, and then which parcels and zones overlap, with areas or without them.
+pub(crate) fn report_zones<'h, H: Allocator, W: ByteOut>(
+    heap: &'h H,
+    sheet: &Sheet<'h, H>,
+    zones: &Layer<'h, H>,
+    has_areas: bool,
+    text: &mut Vec<u8, &'h H>,
+    out: &mut W,
+) -> Result<(), Trouble>
+    ensures { OnOk result (IsOverlayReport W.written has_areas sheet.now zones.now
+        (record { text = text.old.items; out = out.old }) (record { text = text.new.items; out = out.new })) }
+{
+    if has_areas {
+        report_areas(heap, sheet, zones, text, out)
+    } else {
+        report_overlay(heap, sheet, zones, text, out)
+    }
+}
+
 /// Writes what was collected, and then which parcels and zones overlap. They are found in this thread, so that desks
 /// keep the other processors.
-pub(crate) fn report_overlay<'h, H: Allocator, W: ByteOut>(
+fn report_overlay<'h, H: Allocator, W: ByteOut>(
     heap: &'h H,
     sheet: &Sheet<'h, H>,
     zones: &Layer<'h, H>,
@@ -68,7 +87,7 @@ pub(crate) fn report_overlay<'h, H: Allocator, W: ByteOut>(
 }
 
 /// The same, and behind it a line for each pair: how much of the parcel lies in the zone.
-pub(crate) fn report_areas<'h, H: Allocator, W: ByteOut>(
+fn report_areas<'h, H: Allocator, W: ByteOut>(
     heap: &'h H,
     sheet: &Sheet<'h, H>,
     zones: &Layer<'h, H>,

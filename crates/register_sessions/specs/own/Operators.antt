@@ -86,13 +86,18 @@ module _ {A T : Type 0} where
   IsPublishAnswer office journal before after line =
       IsPublished office before after line ⊎ (IsRoomLine journal line × (after ≡ before))
 
-  -- `overlay` and `overlay areas`: of a sheet of the office, and the session's zones
+  -- of a sheet of the office and these zones; or why the room draws none
+  abbrev pub IsZonesAnswer : {W : Type 0} → (W → Option (List ℕ)) → Bool → OfficeId A → Option T → Tiles → Outbox W → Outbox W → Type 0
+  IsZonesAnswer written has_areas office journal zones before after =
+      ((sheet : Book A) × IsDrawn office sheet × IsOverlayReport written has_areas sheet zones before after)
+      ⊎ Collects (IsRoomLine journal) before after
+
+  -- `overlay` and `overlay areas`: of the session's zones, where there are some
   abbrev pub IsOverlayAnswer : {W : Type 0} → (W → Option (List ℕ)) → Bool → OfficeId A → Option T → Option Tiles → Outbox W → Outbox W
       → Type 0
   IsOverlayAnswer written has_areas office journal None before after = Collects (IsErrorLine NoZones) before after
   IsOverlayAnswer written has_areas office journal (Some zones) before after =
-      ((sheet : Book A) × IsDrawn office sheet × IsOverlayReport written has_areas sheet zones before after)
-      ⊎ Collects (IsRoomLine journal) before after
+      IsZonesAnswer written has_areas office journal zones before after
 
   -- `export BASE`
   abbrev pub IsExportAnswer : {X : Type 0} → (X → List ℕ → Option (List ℕ) → Type 0)
