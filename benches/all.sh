@@ -21,7 +21,7 @@ done
 : > "$to/seconds"
 { date; uptime; nproc; grep -m 1 "model name" /proc/cpuinfo; sha256sum "$tool"; } > "$to/machine"
 measure area python3 "$here/area.py" "$tool" --runs 7
-measure tiling python3 "$here/tiling.py" "$tool" --export --runs 2
+measure tiling python3 "$here/tiling.py" "$tool" --export --runs 2 --without T wrong rows corner crossed
 measure zoning python3 "$here/zoning.py" "$tool" --pairs "$programs/bench_overlay" --runs 2
 measure zone_areas /usr/bin/python3 "$here/zone_areas.py" "$tool" --runs 4
 measure locate python3 "$here/locate.py" --ours "$programs/bench_locate" --runs 2

@@ -1,15 +1,17 @@
 #!/usr/bin/env python3
-"""tiling.py - `parcel_tool check` (and `export`) over cities S, M and L, with and without T junctions, and over hostile layers.
+"""tiling.py - `parcel_tool check` over cities S, M and L, with and without T junctions, and over hostile layers, and `export`.
 
-  tiling.py PROGRAM [--runs N] [--workers N,N ..] [--limit SECONDS] [--only WORD ..] [--export]
+  tiling.py PROGRAM [--runs N] [--workers N,N ..] [--limit SECONDS] [--only WORD ..]
+            [--without WORD ..] [--export]
 
 PROGRAM is the built parcel_tool (benches/README.md says where it lies). The layers are made in a temporary folder with a
 fixed seed. Each job is a whole process with so many workers, run N times in turn with the others; the best time and the
-largest memory are printed, a column for each number of workers, and the answer, which has to be the same for all. Over the
-cities GEOS is asked too (geos_tiling.cpp, with Debian's libgeos-dev and g++): whether the parcels' union equals the city and
-their areas sum to it, and whether two parcels' interiors meet (relate), each once; the last columns are how many times as
-long as `check` a job takes, of the same number of workers; GEOS has one. Without it these rows are left out. `wrong` is a
-city M with one parcel moved by a centimetre over the city's border, and one taken out.
+largest memory are printed, a column for each number of workers, and the answer, which has to be the same for all; the last
+columns are how many times as long as `check` with this number a job takes. Over the cities GEOS is asked too
+(geos_tiling.cpp, with Debian's libgeos-dev and g++), on one thread: whether the parcels' union equals the city and their
+areas sum to it, and whether two parcels' interiors meet (relate); without it these rows are left out. With --export the
+cities are exported, too. `wrong` is a city M with one parcel moved by a centimetre over the city's border, and one taken
+out. With --only a layer has one of these words in its name, and with --without none of those.
 """
 import argparse, os, shutil, subprocess, sys, tempfile
 
@@ -134,10 +136,9 @@ print(seconds, resource.getrusage(resource.RUSAGE_CHILDREN).ru_maxrss, text.stri
 def measure(jobs, runs, limit):
     """The least seconds, the largest KiB and the last answer of each job and number of workers; no seconds where it took too long."""
     best = {}
-    for number in range(runs):
+    for _ in range(runs):
         for key, words in jobs:
-            job, workers = key
-            if number > 0 and (workers is None or best[key][0] is None):
+            if key in best and best[key][0] is None:
                 continue
             seconds, kib, text = run(words, limit)
             old = best.get(key, (seconds, kib, text))
@@ -145,14 +146,14 @@ def measure(jobs, runs, limit):
     return best
 
 
-def jobs_of(given, peer, folder, workers):
+def jobs_of(given, is_city, peer, folder, workers):
     """The command lines for the layers of a folder, by their names and numbers of workers; GEOS's have none."""
     files = [os.path.join(folder, part + ".shp") for part in ("city", "parcels")]
     ends = {"check": [], "export": ["--out", os.path.join(folder, "out")]}
-    asked = ["check", "export"] if given.export else ["check"]
+    asked = ["check", "export"] if given.export and is_city else ["check"]
     jobs = [((job, number), [given.program, job, *files, "--unit", "cm", "--workers", number, *ends[job]])
             for job in asked for number in workers]
-    return jobs + ([((job, None), [peer, job, *files]) for job in ("union", "overlaps")] if peer else [])
+    return jobs + ([((job, None), [peer, job, *files]) for job in ("union", "overlaps")] if peer and is_city else [])
 
 
 def show(name, best, workers):
@@ -176,6 +177,7 @@ def main():
     parser.add_argument("--workers", default="1,2,4")
     parser.add_argument("--limit", type=float, default=60)
     parser.add_argument("--only", nargs="+", default=[""])
+    parser.add_argument("--without", nargs="+", default=[])
     parser.add_argument("--export", action="store_true")
     given = parser.parse_args()
     workers, home = given.workers.split(","), tempfile.mkdtemp()
@@ -185,13 +187,12 @@ def main():
         print("%-18s %-8s" % ("layer", "job"), *("%8s" % it for it in heads[:len(workers)]),
               *("%7s" % it for it in heads[len(workers):]), "", "answer")
         for name, make in CITIES + HOSTILE:
-            if not nodes.is_asked(name, given.only):
+            if not nodes.is_asked(name, given.only) or nodes.is_asked(name, given.without):
                 continue
             folder = tempfile.mkdtemp()
             try:
                 nodes.apart(make, folder)
-                asked = peer if (name, make) in CITIES else None
-                best = measure(jobs_of(given, asked, folder, workers), given.runs, given.limit)
+                best = measure(jobs_of(given, (name, make) in CITIES, peer, folder, workers), given.runs, given.limit)
             finally:
                 shutil.rmtree(folder)
             show(name, best, workers)
