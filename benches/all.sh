@@ -31,7 +31,7 @@ measure sessions python3 "$here/sessions.py" "$tool" --office "$programs/bench_o
 measure layers python3 "$here/layers.py" --ours "$programs/bench_layers"
 measure rings python3 "$here/rings.py" --ours "$programs/bench_rings"
 measure overlap python3 "$here/overlap.py" --ours "$programs/bench_overlap" --runs 2
-measure nodes python3 "$here/nodes.py" --ours "$programs/bench_nodes" --runs 2 --only "city L" crossed "directions, 244"
+measure nodes python3 "$here/nodes.py" --ours "$programs/bench_nodes" --runs 2 --only crossed "directions, 244"
 # each in one process on a processor of its own, since the second takes some five minutes
 measure lattices python3 "$here/nodes.py" --ours "$programs/bench_nodes" --runs 1 --limit 400 --only "lattices, 244" &
 measure band python3 "$here/nodes.py" --ours "$programs/bench_nodes" --runs 1 --limit 400 --only "lattices, band, 244"
