@@ -12,7 +12,7 @@ is told.
 import argparse, math, os, random, shutil, subprocess, sys, tempfile
 
 HERE = os.path.dirname(os.path.abspath(__file__))
-FAR = 10 ** 10
+FAR = 10 ** 11
 EAST, NORTH = 350000000, 580000000
 
 
