@@ -1,7 +1,7 @@
 #!/usr/bin/env python3
 """edits.py - the edits of a fabric, its opening, copies and sheets, over cities S, M and L.
 
-  edits.py [--ours PROGRAM] [--runs N] [--count N] [--long N] [--only WORD]
+  edits.py [--ours PROGRAM] [--runs N] [--count N] [--long N] [--only WORD ..]
 
 PROGRAM is programs/bench_edits, built by build.sh unless it is given. It loads a city, opens it, copies it twice (the first copy lies in
 memory that comes fresh from the system, and so does what the load makes), and makes COUNT edits that are accepted, drawn at random with a fixed
@@ -49,7 +49,7 @@ def main():
     parser.add_argument("--runs", type=int, default=5)
     parser.add_argument("--count", type=int, default=10000)
     parser.add_argument("--long", type=int, default=100000)
-    parser.add_argument("--only", default="")
+    parser.add_argument("--only", nargs="+", default=[""])
     given = parser.parse_args()
     home = tempfile.mkdtemp()
     try:
@@ -60,9 +60,9 @@ def main():
             folder = os.path.join(home, size)
             os.mkdir(folder)
             nodes.city(size)(folder)
-            if given.only in "city " + size:
+            if nodes.is_asked("city " + size, given.only):
                 show("city " + size, program, folder, given.runs, given.count)
-        if given.long and given.only in "city M, long":
+        if given.long and nodes.is_asked("city M, long", given.only):
             for number, tenth in enumerate(answer(program, os.path.join(home, "M"), given.long)[1], 1):
                 line = ", ".join("%s %.1f us" % it for it in zip(KINDS, means([tenth])))
                 print("city M, edits to %d: %s" % (number * given.long // 10, line), flush=True)

@@ -1,6 +1,7 @@
-// geos_overlap.cpp - GEOS's relate, and its intersects && !touches, over the pairs that standard input holds, in the form
-// that bench_overlap reads. Each answer line is the group's name, the number of its pairs, the nanoseconds of the best round
-// of relate and of intersects && !touches, and a 0 or 1 for each pair by the first and by the second.
+// geos_overlap.cpp - GEOS's relate, and with a word on the command line its intersects && !touches, over the pairs that standard
+// input holds, in the form that bench_overlap reads. Each answer line is the group's name, the number of its pairs, the
+// nanoseconds of the best round of relate and of intersects && !touches, and a 0 or 1 for each pair by the first and by the
+// second. Without the word the second has 0 nanoseconds and the answers of the first.
 #include <geos_c.h>
 #include <chrono>
 #include <cstdarg>
@@ -50,30 +51,32 @@ template <typename Test> static long long best(const Pairs& pairs, int rounds, T
   return least;
 }
 
-static void finish(const std::string& name, int rounds, Pairs& pairs) {
+static void finish(const std::string& name, int rounds, Pairs& pairs, bool both) {
   if (pairs.empty()) return;
   std::string related, touching;
   long long relate = best(pairs, rounds, relates, related);
-  long long touch = best(pairs, rounds, intersects, touching);
+  long long touch = both ? best(pairs, rounds, intersects, touching) : 0;
+  if (!both) touching = related;
   std::cout << name << ' ' << pairs.size() << ' ' << relate << ' ' << touch << ' ' << related << ' ' << touching << '\n';
   for (auto& pair : pairs) { GEOSGeom_destroy(pair.first); GEOSGeom_destroy(pair.second); }
   pairs.clear();
 }
 
-int main() {
+int main(int count, char**) {
+  bool both = count > 1;
   initGEOS(message, message);
   std::string line, name; int rounds = 0; Pairs pairs;
   while (std::getline(std::cin, line)) {
     std::istringstream words(line);
     if (line[0] == '#') {
-      finish(name, rounds, pairs);
+      finish(name, rounds, pairs, both);
       words.ignore(); words >> name >> rounds;
       continue;
     }
-    size_t count; words >> count;
+    size_t corners; words >> corners;
     std::vector<double> numbers; double number;
     while (words >> number) numbers.push_back(number);
-    pairs.push_back({polygon(numbers, 0, count), polygon(numbers, count, numbers.size() / 2)});
+    pairs.push_back({polygon(numbers, 0, corners), polygon(numbers, corners, numbers.size() / 2)});
   }
-  finish(name, rounds, pairs);
+  finish(name, rounds, pairs, both);
 }

@@ -1,7 +1,7 @@
 #!/usr/bin/env python3
 """layer_rings.py - what a load does with the rings of layers that took long once: noded, checked and clipped.
 
-  layer_rings.py [--nodes PROGRAM] [--rings PROGRAM] [--runs N] [--only WORD]
+  layer_rings.py [--nodes PROGRAM] [--rings PROGRAM] [--runs N] [--only WORD ..]
 
 The programs are programs/bench_nodes and programs/bench_layer_rings, built by build.sh unless they are given. The layers are made in
 a temporary folder with a fixed seed: city L, squares that paths cut into halves of some 4,096 corners (tiling.py), and 244 rings of
@@ -59,7 +59,7 @@ def main():
     parser.add_argument("--nodes")
     parser.add_argument("--rings")
     parser.add_argument("--runs", type=int, default=3)
-    parser.add_argument("--only", default="")
+    parser.add_argument("--only", nargs="+", default=[""])
     given = parser.parse_args()
     home = tempfile.mkdtemp()
     try:
@@ -70,7 +70,7 @@ def main():
             programs.append(program or os.path.join(home, name))
         print("%-18s %9s %9s %9s" % ("layer", "node ms", "check ms", "clip ms"))
         for name, make in TILINGS + OTHERS:
-            if given.only not in name:
+            if not nodes.is_asked(name, given.only):
                 continue
             folder = tempfile.mkdtemp()
             try:

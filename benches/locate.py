@@ -1,7 +1,7 @@
 #!/usr/bin/env python3
 """locate.py - `Layer::locate` and `candidates` at random places of cities S, M and L and of layers made to be slow, beside Boost and GEOS.
 
-  locate.py [--ours PROGRAM] [--old PROGRAM] [--runs N] [--only WORD]
+  locate.py [--ours PROGRAM] [--old PROGRAM] [--runs N] [--only WORD ..]
 
 PROGRAM is programs/bench_locate, built by build.sh unless it is given. The layers are made in a temporary folder with a
 fixed seed. All programs draw the same points from the box of the city (or of its crowded corner), and run in turn, N times;
@@ -118,7 +118,7 @@ def main():
     parser.add_argument("--ours")
     parser.add_argument("--old")
     parser.add_argument("--runs", type=int, default=5)
-    parser.add_argument("--only", default="")
+    parser.add_argument("--only", nargs="+", default=[""])
     given = parser.parse_args()
     home = tempfile.mkdtemp()
     try:
@@ -129,7 +129,7 @@ def main():
             programs.append(("old", given.old))
         print("%-17s %7s %9s %7s %7s %7s %8s %6s" % ("layer", "points", "us each", "inside", "on edge", "outside", "load s", "MiB"))
         for name, make, points, side, square in JOBS:
-            if given.only not in name:
+            if not nodes.is_asked(name, given.only):
                 continue
             folder = tempfile.mkdtemp()
             try:

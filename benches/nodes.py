@@ -1,7 +1,7 @@
 #!/usr/bin/env python3
 """nodes.py - node and EdgeSum over cities S, M and L, with and without T junctions, and over hostile layers.
 
-  nodes.py [--ours PROGRAM] [--runs N] [--limit SECONDS] [--only WORD]
+  nodes.py [--ours PROGRAM] [--runs N] [--limit SECONDS] [--only WORD ..]
 
 The layers are made in a temporary folder with a fixed seed. For each, the corners of the parcels and of the city are put
 into the rings of both (`node`), the parcels' edges are counted less the city's (`EdgeSum`), and the least unbalanced edge
@@ -184,6 +184,11 @@ JOBS = (("city S", city("S")), ("city M", city("M")), ("city L", city("L")),
         ("directions, 24", directions(24)), ("directions, 244", directions(244)))
 
 
+def is_asked(name, words):
+    """Whether one of the words is in the name of a layer."""
+    return any(word in name for word in words)
+
+
 def apart(make, folder):
     """Makes a layer in a process of its own: a child's peak counts what its parent had when it began."""
     child = os.fork()
@@ -221,7 +226,7 @@ def main():
     parser.add_argument("--ours")
     parser.add_argument("--runs", type=int, default=3)
     parser.add_argument("--limit", type=float, default=120)
-    parser.add_argument("--only", default="")
+    parser.add_argument("--only", nargs="+", default=[""])
     given = parser.parse_args()
     home = tempfile.mkdtemp()
     try:
@@ -231,7 +236,7 @@ def main():
         print("%-18s %7s %9s %9s %8s %8s %8s %8s %7s %s" % ("layer", "rings", "corners", "noded", "read ms", "node ms",
                                                             "sums ms", "find ms", "MiB", "balanced"))
         for name, make in JOBS:
-            if given.only not in name:
+            if not is_asked(name, given.only):
                 continue
             folder = tempfile.mkdtemp()
             try:

@@ -1,7 +1,7 @@
 #!/usr/bin/env python3
 """office.py - an office: submits beside edits, windows that locate meanwhile, its opening, and many clerks at once.
 
-  office.py [--ours PROGRAM] [--runs N] [--count N] [--points N] [--long N] [--random N] [--only WORD]
+  office.py [--ours PROGRAM] [--runs N] [--count N] [--points N] [--long N] [--random N] [--only WORD ..]
 
 PROGRAM is programs/bench_office, built by build.sh unless it is given. All edits are drawn with a fixed seed. Of N processes the best
 of each is printed:
@@ -96,7 +96,7 @@ def main():
     parser.add_argument("--points", type=int, default=2000000)
     parser.add_argument("--long", type=int, default=100000)
     parser.add_argument("--random", type=int, default=1000)
-    parser.add_argument("--only", default="")
+    parser.add_argument("--only", nargs="+", default=[""])
     given = parser.parse_args()
     home = tempfile.mkdtemp()
     try:
@@ -106,7 +106,7 @@ def main():
         for name, words in CITIES:
             make(home, name, words)
         for task, name, show in JOBS:
-            if given.only in "%s %s" % (task, name):
+            if nodes.is_asked("%s %s" % (task, name), given.only):
                 show(name, program, os.path.join(home, name), given)
     finally:
         shutil.rmtree(home)

@@ -1,17 +1,18 @@
 #!/usr/bin/env python3
-"""overlap.py - triangles_overlap and shapes_overlap beside GEOS's relate, and its intersects and not touches.
+"""overlap.py - triangles_overlap and shapes_overlap beside GEOS's relate, or its intersects and not touches, too.
 
-  overlap.py [--seed N] [--ours PROGRAM]
+  overlap.py [--seed N] [--ours PROGRAM] [--runs N] [--touches]
 
-Pairs of triangles and of shapes are made with a fixed seed, all in whole centimetres, and given to both programs: ours
+Pairs of triangles and of shapes are made with a fixed seed, all in whole millimetres, and given to both programs: ours
 (programs/bench_overlap, proved and built by build.sh unless PROGRAM is given) and geos_overlap.cpp (Debian's libgeos-dev
-and g++). The two run in turns, three times, and each time is the least of all rounds. Making geometries isn't timed; our
-checking and clipping is printed apart. A pair whose answers differ is told.
+and g++), which takes intersects and not touches, too, with --touches. The two run in turns, N times, and each time is the
+least of all rounds. Making geometries isn't timed; our checking and clipping is printed apart. A pair whose answers differ
+is told.
 """
 import argparse, math, os, random, shutil, subprocess, sys, tempfile
 
 HERE = os.path.dirname(os.path.abspath(__file__))
-FAR = 10 ** 10
+FAR = 10 ** 11
 EAST, NORTH = 350000000, 580000000
 
 
@@ -51,7 +52,7 @@ def corner_on_edge(chance):
 
 
 def sliver(chance):
-    """Two thin triangles across the whole plane, a centimetre or two from one line."""
+    """Two thin triangles across the whole plane, a millimetre or two from one line."""
     a = -FAR + chance.randint(0, 10 ** 6), -FAR + chance.randint(0, 10 ** 9)
     b = FAR - chance.randint(0, 10 ** 6), FAR - chance.randint(0, 10 ** 9)
 
@@ -89,7 +90,7 @@ def zigzag(chance, n):
 
 
 def zigzag_met(chance, n):
-    """The same, with one corner of one side a centimetre over the line."""
+    """The same, with one corner of one side a millimetre over the line."""
     first, second = zigzag(chance, n)
     k = chance.randint(n // 4, 3 * n // 4)
     first[k] = first[k][0] + 1, first[k][1]
@@ -174,6 +175,8 @@ def main():
     parser = argparse.ArgumentParser(description=__doc__, formatter_class=argparse.RawDescriptionHelpFormatter)
     parser.add_argument("--seed", type=int, default=1)
     parser.add_argument("--ours")
+    parser.add_argument("--runs", type=int, default=3)
+    parser.add_argument("--touches", action="store_true")
     given = parser.parse_args()
     folder = tempfile.mkdtemp()
     try:
@@ -183,21 +186,22 @@ def main():
         if not given.ours:
             subprocess.run([os.path.join(HERE, "build.sh"), "bench_overlap", folder], check=True)
         ours, geos = [], []
-        for _ in range(3):
+        for _ in range(given.runs):
             ours.append(answers([given.ours or os.path.join(folder, "bench_overlap")], path))
-            geos.append(answers([peer], path))
+            geos.append(answers([peer, *["touches"] * given.touches], path))
         ours, geos = least(ours, (1, 2)), least(geos, (1, 2))
     finally:
         shutil.rmtree(folder)
-    print("microseconds a pair; how many times ours: relate, and intersects and not touches")
-    print("%-20s %6s %6s %9s %9s %9s %9s %7s %7s %s" % ("pairs", "count", "meet", "clipping", "ours", "relate", "touches",
-                                                        "x", "x", "answers that differ"))
+    peers = ("relate", "touches")[: 2 if given.touches else 1]
+    print("microseconds a pair, and how many times ours; touches is intersects and not touches")
+    print("%-20s %6s %6s %9s %9s" % ("pairs", "count", "meet", "clipping", "ours"),
+          *("%9s" % it for it in peers), *("%7s" % "x" for _ in peers), "answers that differ")
     for name, (count, clipping, best, bits, _) in ours.items():
-        _, relate, touches, related, touching = geos[name]
-        each = [int(t) / 1000 / int(count) for t in (clipping, best, relate, touches)]
-        differ = [sum(p != q for p, q in zip(bits, other)) for other in (related, touching)]
-        print("%-20s %6s %6d %9.1f %9.3f %9.2f %9.2f %7.1f %7.1f %d relate, %d touches"
-              % (name, count, bits.count("1"), *each, each[2] / each[1], each[3] / each[1], *differ))
+        each = [int(t) / 1000 / int(count) for t in (clipping, best)]
+        theirs = [int(geos[name][1 + at]) / 1000 / int(count) for at, _ in enumerate(peers)]
+        differ = ["%d %s" % (sum(p != q for p, q in zip(bits, geos[name][3 + at])), it) for at, it in enumerate(peers)]
+        print("%-20s %6s %6d %9.1f %9.3f" % (name, count, bits.count("1"), *each), *("%9.2f" % it for it in theirs),
+              *("%7.1f" % (it / each[1]) for it in theirs), ", ".join(differ), flush=True)
 
 
 if __name__ == "__main__":

@@ -1,7 +1,8 @@
 #!/usr/bin/env python3
 """sessions.py - a running session: edits answered, the journal, `locate` by the line, and the start, over city L.
 
-  sessions.py PROGRAM [--office PROGRAM] [--size S|M|L] [--runs N] [--count N] [--points N] [--only WORD]
+  sessions.py PROGRAM [--office PROGRAM] [--size S|M|L] [--runs N] [--count N] [--points N] [--workers N,N ..]
+              [--only WORD ..]
 
 PROGRAM is the built parcel_tool. Its clients are plain C (sessions.c, by gcc), at named pipes in a temporary folder, which should be
 on the disk that a journal would lie on (TMPDIR). Edits and points are drawn with a fixed seed; all edits are accepted. Each thing is
@@ -14,7 +15,8 @@ journal  the same with a journal, by one desk and by eight at once (inserts and 
          beside lines of the same length that a loop in C appends and synchronises one by one
 locate   POINTS lines `locate X Y` at one desk, and at four at once, sent while answers are read: lines a second of each desk, beside the
          same lines through `cat`
-start    seconds until a session is ready, without a journal and with one of COUNT edits, beside `parcel_tool check` of the same layer
+start    seconds until a session is ready, without a journal and with one of COUNT edits, beside `parcel_tool check` of the same layer,
+         with each number of workers; whatever else is measured has one for each processor
 """
 import argparse, os, random, shutil, struct, subprocess, sys, tempfile, time
 
@@ -233,18 +235,20 @@ def show_locate(given, home, rings):
 def show_start(given, home, rings):
     layer = [os.path.join(home, "city", part + ".shp") for part in ("city", "parcels")]
     journal, = files_of(home, "replayed", [edits_of_all_kinds(rings, given.count)])
-    times = {"check": [], "ready": [], "replayed": []}
-    for _ in range(given.runs):
-        begun = time.perf_counter()
-        subprocess.run([given.program, "check", *layer, "--unit", "cm"], stdout=subprocess.DEVNULL, check=True)
-        times["check"].append(time.perf_counter() - begun)
-        for name, words in (("ready", ()), ("replayed", ("--journal", journal))):
-            session = Session(given.program, home, 1, *words)
-            times[name].append(session.seconds)
-            session.close()
-    check, ready, replayed = (min(times[name]) for name in ("check", "ready", "replayed"))
-    print("start: ready in %.3f s, with a journal of %d edits %.3f s; check %.3f s (%.2f, %.2f)" % (
-        ready, given.count, replayed, check, ready / check, replayed / check), flush=True)
+    for workers in given.workers.split(","):
+        times = {"check": [], "ready": [], "replayed": []}
+        for _ in range(given.runs):
+            begun = time.perf_counter()
+            words = [given.program, "check", *layer, "--unit", "cm", "--workers", workers]
+            subprocess.run(words, stdout=subprocess.DEVNULL, check=True)
+            times["check"].append(time.perf_counter() - begun)
+            for name, words in (("ready", ()), ("replayed", ("--journal", journal))):
+                session = Session(given.program, home, 1, "--workers", workers, *words)
+                times[name].append(session.seconds)
+                session.close()
+        check, ready, replayed = (min(times[name]) for name in ("check", "ready", "replayed"))
+        print("start, %s workers: ready in %.3f s, with a journal of %d edits %.3f s; check %.3f s (%.2f, %.2f)" % (
+            workers, ready, given.count, replayed, check, ready / check, replayed / check), flush=True)
 
 
 JOBS = {"answer": show_answer, "journal": show_journal, "locate": show_locate, "start": show_start}
@@ -258,7 +262,8 @@ def main():
     parser.add_argument("--runs", type=int, default=3)
     parser.add_argument("--count", type=int, default=20000)
     parser.add_argument("--points", type=int, default=1000000)
-    parser.add_argument("--only", default="")
+    parser.add_argument("--workers", default="1,2,4")
+    parser.add_argument("--only", nargs="+", default=[""])
     given = parser.parse_args()
     given.program = os.path.abspath(given.program)
     with tempfile.TemporaryDirectory() as home:
@@ -268,7 +273,7 @@ def main():
         subprocess.run(make, check=True, stdout=subprocess.DEVNULL)
         rings = rings_of(os.path.join(home, "city", "parcels.shp"))
         for name, show in JOBS.items():
-            if given.only in name:
+            if any(word in name for word in given.only):
                 show(given, home, rings)
 
 

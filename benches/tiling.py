@@ -1,13 +1,17 @@
 #!/usr/bin/env python3
-"""tiling.py - `parcel_tool check` (and `export`) over cities S, M and L, with and without T junctions, and over hostile layers.
+"""tiling.py - `parcel_tool check` over cities S, M and L, with and without T junctions, and over hostile layers, and `export`.
 
-  tiling.py PROGRAM [--runs N] [--limit SECONDS] [--only WORD] [--export]
+  tiling.py PROGRAM [--runs N] [--workers N,N ..] [--limit SECONDS] [--only WORD ..]
+            [--without WORD ..] [--export]
 
 PROGRAM is the built parcel_tool (benches/README.md says where it lies). The layers are made in a temporary folder with a
-fixed seed. Each job is a whole process, run N times in turn with the others; the best time and the largest memory are
-printed, and the answer. Over the cities GEOS is asked too (geos_tiling.cpp, with Debian's libgeos-dev and g++): whether the
-parcels' union equals the city and their areas sum to it, and whether two parcels' interiors meet (relate); without it these
-rows are left out. `wrong` is a city M with one parcel moved by a centimetre over the city's border, and one taken out.
+fixed seed. Each job is a whole process with so many workers, run N times in turn with the others; the best time and the
+largest memory are printed, a column for each number of workers, and the answer, which has to be the same for all; the last
+columns are how many times as long as `check` with this number a job takes. Over the cities GEOS is asked too
+(geos_tiling.cpp, with Debian's libgeos-dev and g++), on one thread: whether the parcels' union equals the city and their
+areas sum to it, and whether two parcels' interiors meet (relate); without it these rows are left out. With --export the
+cities are exported, too. `wrong` is a city M with one parcel moved by a centimetre over the city's border, and one taken
+out. With --only a layer has one of these words in its name, and with --without none of those.
 """
 import argparse, os, shutil, subprocess, sys, tempfile
 
@@ -129,46 +133,69 @@ print(seconds, resource.getrusage(resource.RUSAGE_CHILDREN).ru_maxrss, text.stri
 """
 
 
+def measure(jobs, runs, limit):
+    """The least seconds, the largest KiB and the last answer of each job and number of workers; no seconds where it took too long."""
+    best = {}
+    for _ in range(runs):
+        for key, words in jobs:
+            if key in best and best[key][0] is None:
+                continue
+            seconds, kib, text = run(words, limit)
+            old = best.get(key, (seconds, kib, text))
+            best[key] = (min(old[0], seconds) if seconds is not None else None, max(old[1], kib), text)
+    return best
+
+
+def jobs_of(given, is_city, peer, folder, workers):
+    """The command lines for the layers of a folder, by their names and numbers of workers; GEOS's have none."""
+    files = [os.path.join(folder, part + ".shp") for part in ("city", "parcels")]
+    ends = {"check": [], "export": ["--out", os.path.join(folder, "out")]}
+    asked = ["check", "export"] if given.export and is_city else ["check"]
+    jobs = [((job, number), [given.program, job, *files, "--unit", "cm", "--workers", number, *ends[job]])
+            for job in asked for number in workers]
+    return jobs + ([((job, None), [peer, job, *files]) for job in ("union", "overlaps")] if peer and is_city else [])
+
+
+def show(name, best, workers):
+    """A line for each job: its seconds, its MiB and how many times `check` it takes, by the number of workers."""
+    for job in dict.fromkeys(job for job, _ in best):
+        told = {number: best[job, number if (job, number) in best else None] for number in workers}
+        times = [told[number][0] for number in workers]
+        ratios = [it / best["check", number][0] if it and best["check", number][0] else 0 for it, number in zip(times, workers)]
+        alone = (job, None) in best
+        columns = ["%8s" % ("" if alone and at else "late" if it is None else "%.3f" % it) for at, it in enumerate(times)]
+        memory = ["%7s" % ("" if alone and at else "%.1f" % (told[number][1] / 1024)) for at, number in enumerate(workers)]
+        texts = {told[number][2] for number in workers}
+        answer = texts.pop() if len(texts) == 1 else "NOT THE SAME: %s" % "; ".join(sorted(texts))
+        print("%-18s %-8s" % (name, job), *columns, *memory, *("%7.2f" % it for it in ratios), "", answer, flush=True)
+
+
 def main():
     parser = argparse.ArgumentParser(description=__doc__, formatter_class=argparse.RawDescriptionHelpFormatter)
     parser.add_argument("program")
     parser.add_argument("--runs", type=int, default=3)
+    parser.add_argument("--workers", default="1,2,4")
     parser.add_argument("--limit", type=float, default=60)
-    parser.add_argument("--only", default="")
+    parser.add_argument("--only", nargs="+", default=[""])
+    parser.add_argument("--without", nargs="+", default=[])
     parser.add_argument("--export", action="store_true")
     given = parser.parse_args()
-    home = tempfile.mkdtemp()
+    workers, home = given.workers.split(","), tempfile.mkdtemp()
     try:
         peer = geos(home)
-        print("%-18s %-8s %9s %7s %7s  %s" % ("layer", "job", "seconds", "MiB", "x ours", "answer"))
+        heads = [end % number for end in ("%s: s", "%s: MiB", "%s: x") for number in workers]
+        print("%-18s %-8s" % ("layer", "job"), *("%8s" % it for it in heads[:len(workers)]),
+              *("%7s" % it for it in heads[len(workers):]), "", "answer")
         for name, make in CITIES + HOSTILE:
-            if given.only not in name:
+            if not nodes.is_asked(name, given.only) or nodes.is_asked(name, given.without):
                 continue
             folder = tempfile.mkdtemp()
             try:
                 nodes.apart(make, folder)
-                files = [os.path.join(folder, part + ".shp") for part in ("city", "parcels")]
-                jobs = [("check", [given.program, "check", *files, "--unit", "cm"])]
-                if given.export:
-                    jobs.append(("export", [given.program, "export", *files, "--unit", "cm", "--out", os.path.join(folder, "out")]))
-                if peer and (name, make) in CITIES:
-                    jobs += [(job, [peer, job, *files]) for job in ("union", "overlaps")]
-                best = {}
-                for _ in range(given.runs):
-                    for job, words in jobs:
-                        seconds, kib, text = run(words, given.limit)
-                        if seconds is not None:
-                            old = best.get(job, (9e9, 0, ""))
-                            best[job] = (min(old[0], seconds), max(old[1], kib), text)
+                best = measure(jobs_of(given, (name, make) in CITIES, peer, folder, workers), given.runs, given.limit)
             finally:
                 shutil.rmtree(folder)
-            for job, _ in jobs:
-                if job not in best:
-                    print("%-18s %-8s more than %d seconds" % (name, job, given.limit), flush=True)
-                    continue
-                seconds, kib, text = best[job]
-                ratio = "%7.2f" % (seconds / best["check"][0]) if "check" in best else ""
-                print("%-18s %-8s %9.3f %7.1f %7s  %s" % (name, job, seconds, kib / 1024, ratio, text), flush=True)
+            show(name, best, workers)
     finally:
         shutil.rmtree(home)
 

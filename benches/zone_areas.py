@@ -1,17 +1,18 @@
 #!/usr/bin/env python3
 """zone_areas.py - what `--areas` costs beyond `parcel_tool overlay`, over a city with its zones.
 
-  zone_areas.py PROGRAM [--size S|M|L] [--runs N]
+  zone_areas.py PROGRAM [--size S|M|L] [--runs N] [--workers N,N ..]
 
 PROGRAM is the built parcel_tool (benches/README.md says where it lies). The city is made in a temporary folder with a
-fixed seed. `overlay --workers 1` is run in turn with and without `--areas`, N times each, a whole process: the least
-seconds of a processor of each are printed, and by how much they differ. GEOS (Debian's python3-shapely) then finds the
-intersection and its area of the same pairs, those of the parcels that lie in several zones, called from Python: its
-seconds of a processor, and by how much the areas that it finds for a parcel are off together, in square millimetres.
+fixed seed. With each number of workers `overlay` is run in turn with and without `--areas`, N times each, a whole process:
+the least seconds by the clock and of processors of each are printed, the largest memory, and by how much the seconds
+differ, a column for each number. What `--areas` prints has to be the same for all numbers. GEOS (Debian's
+python3-shapely) then finds the intersection and its area of the same pairs, those of the parcels that lie in several
+zones, called from Python: its seconds of a processor, and by how much the areas that it finds for a parcel are off
+together, in square millimetres.
 """
 import argparse
 import os
-import resource
 import subprocess
 import sys
 import tempfile
@@ -23,12 +24,39 @@ sys.dont_write_bytecode = True
 from zoning import rings_of  # noqa: E402
 
 
-def seconds_of(words):
-    """Seconds of a processor that a process takes, and what it prints."""
-    before = resource.getrusage(resource.RUSAGE_CHILDREN)
-    told = subprocess.run(words, stdout=subprocess.PIPE, text=True, check=True).stdout
-    after = resource.getrusage(resource.RUSAGE_CHILDREN)
-    return after.ru_utime + after.ru_stime - before.ru_utime - before.ru_stime, told
+RUNNER = """
+import os, resource, subprocess, sys, time
+begin = time.perf_counter()
+with open(sys.argv[1], "wb") as out:
+    subprocess.run(sys.argv[2:], stdout=out, check=True)
+seconds, used = time.perf_counter() - begin, resource.getrusage(resource.RUSAGE_CHILDREN)
+print(seconds, used.ru_utime + used.ru_stime, used.ru_maxrss)
+"""
+
+
+def run(words, path):
+    """Seconds by the clock and of processors, and the peak KiB, of a process that prints into this file."""
+    ran = subprocess.run([sys.executable, "-c", RUNNER, path, *words], stdout=subprocess.PIPE, text=True, check=True)
+    return tuple(map(float, ran.stdout.split()))
+
+
+def measure(program, folder, workers, runs):
+    """The least seconds of both kinds and the most KiB, without areas and with them, by the number of workers; what is told."""
+    files = [os.path.join(folder, f"{name}.shp") for name in ("city", "parcels", "zones")]
+    known, told = {}, set()
+    for _ in range(runs):
+        for number in workers:
+            for more in ((), ("--areas",)):
+                path = os.path.join(folder, "told")
+                words = [program, "overlay", "--unit", "mm", *files, "--workers", number, *more]
+                now = run(words, path)
+                old = known.get((number, more), now)
+                known[number, more] = (min(old[0], now[0]), min(old[1], now[1]), max(old[2], now[2]))
+                with open(path) as file:
+                    told |= {file.read()} if more else set()
+    if len(told) > 1:
+        sys.exit("what is printed differs by the number of workers")
+    return known, told.pop()
 
 
 def split_pairs(told):
@@ -63,23 +91,26 @@ def main():
     parser.add_argument("program")
     parser.add_argument("--size", default="L")
     parser.add_argument("--runs", type=int, default=9)
+    parser.add_argument("--workers", default="1,2,4")
     given = parser.parse_args()
+    workers = given.workers.split(",")
     with tempfile.TemporaryDirectory() as folder:
         make = [sys.executable, os.path.join(HERE, "gencity.py"), "--size", given.size, folder]
         subprocess.run(make, check=True, stdout=subprocess.DEVNULL)
-        files = [os.path.join(folder, f"{name}.shp") for name in ("city", "parcels", "zones")]
-        words = [os.path.abspath(given.program), "overlay", "--unit", "mm", *files, "--workers", "1"]
-        without, beyond, told = [], [], ""
-        for _ in range(given.runs):
-            without.append(seconds_of(words)[0])
-            seconds, told = seconds_of([*words, "--areas"])
-            beyond.append(seconds)
+        known, told = measure(os.path.abspath(given.program), folder, workers, given.runs)
         pairs = split_pairs(told)
         count = sum(map(len, pairs.values()))
         print(f"city {given.size}: {count} pairs of {len(pairs)} parcels in several zones")
-        print(f"overlay {min(without):.3f} s, with --areas {min(beyond):.3f} s: {min(beyond) - min(without):.3f} s more")
+        print("%-28s" % "workers", *("%9s" % it for it in workers))
+        for name, more in (("overlay", ()), ("with --areas", ("--areas",))):
+            for kind, at, unit in (("by the clock", 0, "s"), ("of processors", 1, "s"), ("memory", 2, "MiB")):
+                values = [known[it, more][at] / (1024 if at == 2 else 1) for it in workers]
+                print("%-28s" % f"{name}, {kind}", *("%7.*f %s" % (0 if at == 2 else 3, it, unit) for it in values))
+        more = [[known[it, ("--areas",)][at] - known[it, ()][at] for it in workers] for at in (0, 1)]
+        for kind, values in zip(("by the clock", "of processors"), more):
+            print("%-28s" % f"more, {kind}", *("%7.3f s" % it for it in values))
         seconds, worst = by_geos(folder, pairs)
-        print(f"GEOS {seconds:.2f} s: {seconds / (min(beyond) - min(without)):.0f} times as long, off by up to {worst:.2g} mm2")
+        print(f"GEOS {seconds:.2f} s: {seconds / more[1][0]:.0f} times as long as ours, off by up to {worst:.2g} mm2")
 
 
 if __name__ == "__main__":

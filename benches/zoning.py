@@ -1,13 +1,14 @@
 #!/usr/bin/env python3
 """zoning.py - `parcel_tool overlay` over cities S, M and L with their zones, and over layers made to be slow.
 
-  zoning.py PROGRAM [--pairs PROGRAM] [--runs N] [--workers N,N ..] [--limit SECONDS] [--only WORD]
+  zoning.py PROGRAM [--pairs PROGRAM] [--runs N] [--workers N,N ..] [--limit SECONDS] [--only WORD ..]
 
-PROGRAM is the built parcel_tool (benches/README.md says where it lies). The layers are made in a temporary folder with a fixed seed. For each,
-`check` of the parcels, `check` of the zones and `overlay` with each number of workers are run in turn, N times, each a whole process; the best
-time and the largest memory of each are printed, and what an overlay takes beyond both checks: that is the copy of the parcels, the pairs and the
-report. Over the cities GEOS finds the pairs of the same files (geos_pairs.cpp, with Debian's libgeos-dev and g++), by relate, and by intersects
-and not touches: its search alone, without the reading, over layers that nobody checked. The lists of pairs are compared.
+PROGRAM is the built parcel_tool (benches/README.md says where it lies). The layers are made in a temporary folder with a fixed seed. For each, and
+with each number of workers, `check` of the parcels, `check` of the zones and `overlay` are run in turn, N times, each a whole process; the best
+time and the largest memory of each are printed, a column for each number, and what an overlay takes beyond both checks: that is the copy of the
+parcels, the pairs and the report. What each prints has to be the same for all numbers. Over the cities GEOS finds the pairs of the same files
+(geos_pairs.cpp, with Debian's libgeos-dev and g++), by relate, and by intersects and not touches: its search alone, without the reading, over
+layers that nobody checked. The lists of pairs are compared.
 With --pairs, programs/bench_overlay as build.sh made it, the rounds alone are timed, too: in one process that has loaded both
 layers, the quickest of N from its beginning to its table, for each number of workers.
 """
@@ -87,35 +88,40 @@ def geos(folder):
     return made if shutil.which("g++") and subprocess.run(words, stderr=subprocess.DEVNULL).returncode == 0 else None
 
 
-def least(known, job, seconds, kib):
-    old = known.get(job, (seconds, kib))
-    known[job] = (min(old[0], seconds), max(old[1], kib))
-
-
 def measure(program, folder, runs, workers, limit):
-    """The least seconds and the largest memory of each job."""
+    """The least seconds and the largest KiB of each job with each number of workers."""
     files = {part: os.path.join(folder, part + ".shp") for part in ("city", "parcels", "zones")}
-    jobs = [("check parcels", ["check", files["city"], files["parcels"], "--unit", "cm"]),
-            ("check zones", ["check", files["city"], files["zones"], "--unit", "cm"])]
-    for number in workers:
-        words = ["overlay", files["city"], files["parcels"], files["zones"], "--unit", "cm", "--workers", number]
-        jobs.append(("overlay, %s" % number, words))
+    jobs = {"check parcels": ["check", files["city"], files["parcels"]], "check zones": ["check", files["city"], files["zones"]],
+            "overlay": ["overlay", *files.values()]}
     known = {}
     for _ in range(runs):
-        for job, words in jobs:
-            seconds, kib, said = tiling.run([program, *words], limit)
-            if seconds is None:
-                sys.exit("%s: %s" % (job, said))
-            least(known, job, seconds, kib)
+        for job, words in jobs.items():
+            for number in workers:
+                seconds, kib, said = tiling.run([program, *words, "--unit", "cm", "--workers", number], limit)
+                if seconds is None:
+                    sys.exit("%s: %s" % (job, said))
+                old = known.get((job, number), (seconds, kib, said))
+                if said != known.get((job, workers[0]), old)[2]:
+                    sys.exit("%s: other words with %s workers: %s" % (job, number, said))
+                known[job, number] = (min(old[0], seconds), max(old[1], kib), said)
     return known
+
+
+def show(name, known, workers):
+    """A line for each job, and one for what an overlay takes beyond both checks."""
+    jobs = list(dict.fromkeys(job for job, _ in known))
+    for job in jobs:
+        told = [known[job, number] for number in workers]
+        print("%-10s %-14s" % (name, job), *("%7.3f s" % it[0] for it in told), *("%5d MiB" % (it[1] / 1024) for it in told))
+    beyond = [known["overlay", it][0] - known["check parcels", it][0] - known["check zones", it][0] for it in workers]
+    print("%-10s %-14s" % (name, "beyond checks"), *("%7.3f s" % it for it in beyond), flush=True)
 
 
 def pairs_alone(program, folder, runs, workers):
     """The seconds of the quickest round for each number of workers, and how many pairs it has."""
     files = [os.path.join(folder, part + ".shp") for part in ("city", "parcels", "zones")]
-    for number in workers:
-        said = subprocess.run([program, *files, number, str(runs)], stdout=subprocess.PIPE, text=True).stdout.split()
-        print("  the pairs alone, %s: %.3f s, %s pairs" % (number, int(said[1]) / 1e6, said[2]), flush=True)
+    told = [subprocess.run([program, *files, it, str(runs)], stdout=subprocess.PIPE, text=True).stdout.split() for it in workers]
+    print("  the pairs alone:", *("%.3f s" % (int(it[1]) / 1e6) for it in told), "", *dict.fromkeys(it[2] for it in told), "pairs", flush=True)
 
 
 def compare(program, peer, folder):
@@ -136,24 +142,21 @@ def main():
     parser.add_argument("--runs", type=int, default=3)
     parser.add_argument("--workers", default="1,2,4")
     parser.add_argument("--limit", type=float, default=60)
-    parser.add_argument("--only", default="")
+    parser.add_argument("--only", nargs="+", default=[""])
     given = parser.parse_args()
-    home = tempfile.mkdtemp()
+    workers, home = given.workers.split(","), tempfile.mkdtemp()
     try:
         peer = geos(home)
+        print("%-10s %-14s" % ("layer", "with workers"), *("%9s" % it for it in workers))
         for name, make in CITIES + SKEWED:
-            if given.only not in name:
+            if not nodes.is_asked(name, given.only):
                 continue
             folder = tempfile.mkdtemp()
             try:
                 nodes.apart(make, folder)
-                known = measure(given.program, folder, given.runs, given.workers.split(","), given.limit)
-                checks = known["check parcels"][0] + known["check zones"][0]
-                for job, (seconds, kib) in known.items():
-                    beyond = ", %.3f s beyond both checks" % (seconds - checks) if job.startswith("overlay") else ""
-                    print("%-10s %-14s %7.3f s %5d MiB%s" % (name, job, seconds, kib / 1024, beyond), flush=True)
+                show(name, measure(given.program, folder, given.runs, workers, given.limit), workers)
                 if given.pairs:
-                    pairs_alone(given.pairs, folder, given.runs, given.workers.split(","))
+                    pairs_alone(given.pairs, folder, given.runs, workers)
                 if peer and name.startswith("city"):
                     compare(given.program, peer, folder)
             finally:
