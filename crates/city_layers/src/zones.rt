@@ -5,13 +5,15 @@ ghost use Rattle.fabric_core.specs.Rows.{Tiles};
 ghost use Rattle.city_layers.specs.declared.fault.ToolFault.{ToolFault as ToolFaultValue};
 ghost use Rattle.city_layers.specs.TilingFiles.{files_of};
 ghost use Rattle.city_layers.specs.ZonedFiles.{AreZoned, IsLayersFault};
+ghost use Rattle.city_layers.specs.own.Told.{IsToldOfLayer};
 
 use crate::fault::{Role, ToolFault};
 use crate::sources::Source;
 use crate::tiles::{read_city, read_tiles, read_tiles_by};
-use fabric_core::Layer;
+use fabric_core::{City, Layer};
 use geo_exact::Unit;
 use std::alloc::Allocator;
+use std::thread;
 use std::thread::Threads;
 
 /// Parcels and zones that tile one city.
@@ -55,12 +57,13 @@ pub fn load_layers<'h, H: Allocator, A: Allocator>(
     Ok(Layers { parcels, zones })
 }
 
-/// As [`load_layers`], by so many threads at the most, as in [`load_tiles_by`](crate::load_tiles_by).
+/// As [`load_layers`], by so many threads at the most for each layer, as in [`load_tiles_by`](crate::load_tiles_by). With
+/// two and more, the zones are read beside the parcels.
 ///
 /// # Errors
 ///
 /// Those of [`load_layers`].
-pub fn load_layers_by<'h, R: Threads + Sync, H: Allocator + Send + Sync, A: Allocator>(
+pub fn load_layers_by<'h, R: Threads + Sync, H: Allocator + Send + Sync, A: Allocator + Sync>(
     rt: &R,
     workers: usize,
     heap: &'h H,
@@ -82,8 +85,62 @@ pub fn load_layers_by<'h, R: Threads + Sync, H: Allocator + Send + Sync, A: Allo
         → IsLayersFault (files_of city.now) (files_of parcels.now) (files_of zones.now) unit fault
         → IsErrAnd result (λ told. (told ≡ fault) ⊎ (told ≡ ToolFault.NoMemory)) }
 {
+    if workers < 2 {
+        return load_layers(heap, city, parcels, zones, unit);
+    }
     let city = read_city(heap, city, unit)?;
-    let parcels = read_tiles_by(rt, workers, heap, &city, Role::Parcels, parcels, unit)?;
-    let zones = read_tiles_by(rt, workers, heap, &city, Role::Zones, zones, unit)?;
+    let (parcels, zones) = read_both(rt, workers, heap, &city, parcels, zones, unit);
+    let parcels = parcels.layer?;
+    let zones = zones.layer?;
     Ok(Layers { parcels, zones })
+}
+
+/// What is told of a layer's files: the layer, or their first fault. A type of its own, since the checker follows no
+/// thread's answer that names two lifetimes.
+#[derive(Drop)]
+struct Told<'h, H: Allocator> {
+    layer: Result<Layer<'h, H>, ToolFault<'static>>,
+}
+
+/// What [`read_tiles_by`] tells of a layer's files.
+fn read_told_of<'h, R: Threads + Sync, H: Allocator + Send + Sync, A: Allocator>(
+    rt: &R,
+    workers: usize,
+    heap: &'h H,
+    city: &City<'h, H>,
+    role: Role,
+    files: &Source<A>,
+    unit: Unit,
+) -> Told<'h, H>
+    ensures { IsToldOfLayer role (files_of files.now) unit city.now.ring.corners result.layer }
+{
+    Told {
+        layer: read_tiles_by(rt, workers, heap, city, role, files, unit),
+    }
+}
+
+/// The layers of both files in the city, each by so many threads at the most, the zones beside the parcels. Where the
+/// system refuses a thread for the zones, the caller reads them, too.
+fn read_both<'h, R: Threads + Sync, H: Allocator + Send + Sync, A: Allocator + Sync>(
+    rt: &R,
+    workers: usize,
+    heap: &'h H,
+    city: &City<'h, H>,
+    parcels: &Source<A>,
+    zones: &Source<A>,
+    unit: Unit,
+) -> (Told<'h, H>, Told<'h, H>)
+    ensures parcels { IsToldOfLayer Role.Parcels (files_of parcels.now) unit city.now.ring.corners result.0.layer }
+    ensures zones { IsToldOfLayer Role.Zones (files_of zones.now) unit city.now.ring.corners result.1.layer }
+{
+    let (zones, parcels) = thread::join(
+        rt,
+        move ||
+            ensures { IsToldOfLayer Role.Zones (files_of zones.entry.now) unit city.entry.now.ring.corners result.layer }
+        { read_told_of(rt, workers, heap, city, Role::Zones, zones, unit) },
+        move ||
+            ensures { IsToldOfLayer Role.Parcels (files_of parcels.entry.now) unit city.entry.now.ring.corners result.layer }
+        { read_told_of(rt, workers, heap, city, Role::Parcels, parcels, unit) },
+    );
+    (parcels, zones)
 }
