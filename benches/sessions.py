@@ -202,7 +202,8 @@ def show_journal(given, home, rings):
             seconds = clients(given.client, "ask", session.desks, files_of(home, "some", texts), "ok ")
             session.close()
             with open(journal, "rb") as file:
-                if file.read().count(b"\n") != sum(map(len, texts)):
+                # a line for the layer, and two for each edit
+                if file.read().count(b"\n") != 1 + 2 * sum(map(len, texts)):
                     sys.exit("the journal has other lines than were answered")
             rates[name].append(sum(map(len, texts)) / max(seconds))
         words = [given.client, "sync", os.path.join(home, "bare%d" % run), str(length), str(len(alone))]
@@ -234,7 +235,9 @@ def show_locate(given, home, rings):
 
 def show_start(given, home, rings):
     layer = [os.path.join(home, "city", part + ".shp") for part in ("city", "parcels")]
-    journal, = files_of(home, "replayed", [edits_of_all_kinds(rings, given.count)])
+    edits, = files_of(home, "replayed", [edits_of_all_kinds(rings, given.count)])
+    journal = os.path.join(home, "journal_replayed")
+    Session(given.program, home, 1, "--clerk", edits, "--journal", journal).close()
     for workers in given.workers.split(","):
         times = {"check": [], "ready": [], "replayed": []}
         for _ in range(given.runs):
