@@ -1,3 +1,4 @@
+pub mod Cards
 pub mod ClientWords
 pub mod DeskAnswers
 pub mod EditsOfClerk

@@ -5,7 +5,7 @@ use Rattle.std.proofs.KnownBytes.{Consumes-trans}
 use Rattle.std.specs.Io.KnownBytes.{Consumes}
 use Rattle.session_rooms.specs.declared.lines.Came.{Came}
 use Rattle.session_rooms.specs.declared.lines.Came.TheVariants.{Line, TooLong, NoMemory, End, Closed}
-use Rattle.session_rooms.specs.Lines.{TakesPart, TakesLine, IsWhatCame}
+use Rattle.session_rooms.specs.Lines.{TakesPart, TakesLine, IsTooLong, IsWhatCame}
 
 -- a part behind other parts
 pub part_more : (a b c : Option (List ℕ)) (front back : List ℕ) → TakesPart a b front → TakesPart b c back → TakesPart a c (front ++ back)
@@ -41,10 +41,22 @@ shown_line shown before behind room fits falls =
     )
 
 -- what comes at a line's end, where no end of the reader was met
-pub line_came : (came : Came) (a c : Option (List ℕ)) (bytes items : List ℕ) → came ≢ End → TakesLine a c bytes → (came ≡ Line → items ≡ bytes)
-    → IsWhatCame a c (λ taken. items ≡ taken) came
-line_came Line a c bytes items no_end line kept = (bytes, line, kept refl)
-line_came TooLong a c bytes items no_end line kept = (bytes, line)
-line_came NoMemory a c bytes items no_end line kept = (bytes, line)
-line_came End a c bytes items no_end line kept = absurd (no_end refl)
-line_came Closed a c bytes items no_end line kept = tt
+pub line_came : (came : Came) (a c : Option (List ℕ)) (bytes items : List ℕ) → came ≢ End → TakesLine a c bytes
+    → (came ≡ Line → items ≡ bytes) → (came ≡ TooLong → IsTooLong bytes) → IsWhatCame a c (λ taken. items ≡ taken) came
+line_came Line a c bytes items no_end line kept long = (bytes, line, kept refl)
+line_came TooLong a c bytes items no_end line kept long = (bytes, line, long refl)
+line_came NoMemory a c bytes items no_end line kept long = (bytes, line)
+line_came End a c bytes items no_end line kept long = absurd (no_end refl)
+line_came Closed a c bytes items no_end line kept long = tt
+
+-- what goes on behind a line that is too long, is too long
+pub long_more : (front back : List ℕ) → IsTooLong front → IsTooLong (front ++ back)
+long_more front back long = omega (arith, length-append front back)
+
+-- what is too long behind some bytes, is so behind no fewer bytes
+pub long_behind : (kept front back : List ℕ) → length kept ≤ length front → IsTooLong (kept ++ back) → IsTooLong (front ++ back)
+long_behind kept front back few long = omega (arith, length-append kept back, length-append front back)
+
+-- bytes behind some bytes are no fewer than behind fewer
+pub few_more : (kept front back : List ℕ) → length kept ≤ length front → length (kept ++ back) ≤ length (front ++ back)
+few_more kept front back few = omega (arith, length-append kept back, length-append front back)

@@ -1,8 +1,9 @@
 -- What a line that came to a desk asks for, and who asks it (this product's own). Before an edit may stand the client's own
 -- word for who asks and why: `by WHO: EDIT`.
-use Rattle.std.specs.Prelude.{◌≡◌, ◌⊎◌, ℕ, ◌<◌, ◌≤◌, List, [], ◌++◌, codes, length}
+use Rattle.std.specs.Prelude.{◌≡◌, ◌⊎◌, ℕ, List, []}
 use Rattle.ring_edits.specs.declared.edit.Edit.{Edit}
-use Rattle.session_lines.specs.Lines.{Asks}
+use Rattle.journal_records.specs.Words.{SaysWho}
+use Rattle.session_lines.specs.Lines.{Asks, AsksForEdit}
 use Rattle.session_lines.specs.declared.line.Line.{Line}
 use Rattle.session_lines.specs.declared.line.Line.TheVariants.{Edit as AskedEdit}
 use Rattle.session_lines.specs.declared.faults.SessionFault.{SessionFault}
@@ -18,36 +19,33 @@ module _ {A : Type 0} where
     pub nobody : asked.who.now ≡ []
     pub asks : Asks line asked.line
 
-  -- the line is `by WHO: EDIT`, and this edit is asked for; WHO is not empty, and has at most 200 bytes
+  -- the line is `by WHO: EDIT`, and this edit is asked for
   pub record IsAskedByWord (line : List ℕ) (asked : Asked A) : Type 0 where
     pub said : List ℕ
     pub edit : Edit A
-    pub is_line : line ≡ codes "by " ++ asked.who.now ++ codes ": " ++ said
+    pub says_who : SaysWho line asked.who.now said
     pub asks : Asks said (AskedEdit edit)
     pub is_asked : asked.line ≡ AskedEdit edit
-    pub is_some : 0 < length asked.who.now
-    pub is_short : length asked.who.now ≤ 200
 
   -- the line asks for this, and says who asks, or says it not
   abbrev pub IsAskedBy : List ℕ → Asked A → Type 0
   IsAskedBy line asked = IsAskedAlone line asked ⊎ IsAskedByWord line asked
 
--- the line asks for nothing
-abbrev pub AsksNothing : Type 0 → List ℕ → Type 0
-AsksNothing A line = (asked : Line A) → ¬ Asks line asked
+-- the line is `by WHO: EDIT`, with whatever word and edit
+abbrev pub AsksForEditByWord : Type 0 → List ℕ → Type 0
+AsksForEditByWord A line = (who : List ℕ) × (said : List ℕ) × SaysWho line who said × AsksForEdit A said
 
--- the line is `by WHO: ..`, and what stands behind that is no edit
-pub record AsksNoEditByWord (A : Type 0) (line : List ℕ) : Type 0 where
-  pub who : List ℕ
-  pub said : List ℕ
-  pub is_line : line ≡ codes "by " ++ who ++ codes ": " ++ said
-  pub no_edit : (edit : Edit A) → ¬ Asks said (AskedEdit edit)
+-- the line asks for nothing: neither alone, nor behind a word
+pub record AsksForNothing (A : Type 0) (line : List ℕ) : Type 0 where
+  pub not_alone : (asked : Line A) → ¬ Asks line asked
+  pub not_by_word : ¬ AsksForEditByWord A line
 
--- why a line that came whole asks for nothing; memory may be refused for an edit
+-- why a line that came whole is not carried out: it asks for nothing, or memory is refused for the edit it asks for
 abbrev pub IsLineFault : Type 0 → List ℕ → SessionFault → Type 0
-IsLineFault A line fault = ((fault ≡ BadLine) × (AsksNothing A line ⊎ AsksNoEditByWord A line)) ⊎ (fault ≡ NoMemory)
+IsLineFault A line fault = ((fault ≡ BadLine) × AsksForNothing A line)
+    ⊎ ((fault ≡ NoMemory) × (AsksForEdit A line ⊎ AsksForEditByWord A line))
 
--- why what came asks for nothing
+-- why what came is not carried out
 abbrev pub IsUnasked : Type 0 → Came → List ℕ → SessionFault → Type 0
 IsUnasked A LineCame line fault = IsLineFault A line fault
 IsUnasked A TooLongCame line fault = fault ≡ BadLine

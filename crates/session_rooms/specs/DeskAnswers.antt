@@ -13,8 +13,8 @@ use Rattle.fabric_core.specs.Locate.{IsLocatedAt}
 use Rattle.fabric_core.specs.declared.locate.At.{At}
 use Rattle.fabric_core.specs.declared.refusal.Refusal.{Refusal}
 use Rattle.fabric_core.specs.declared.refusal.Refusal.TheVariants.{NoMemory as RefusedForMemory}
-use Rattle.desk_lock.specs.Offices.{OfficeId, CardState, WindowState, EndsWith, Learns, IsRefusedWhenMet, journal_met}
-use Rattle.desk_lock.specs.Offices.{with_made, with_met}
+use Rattle.desk_lock.specs.Offices.{OfficeId, CardState, WindowState, EndsWith, IsSometime, Learns, IsRefusedWhenMet}
+use Rattle.desk_lock.specs.Offices.{journal_met, with_made, with_met}
 use Rattle.desk_lock.specs.declared.window.LocateFault.{LocateFault}
 use Rattle.desk_lock.specs.declared.window.LocateFault.TheVariants.{NoVersion as NoVersionFound, NoMemory as NoMemoryFound}
 use Rattle.session_lines.specs.Answers.{accepted_line, refused_line, located_line, parcel_line, no_parcel_line, entries_line}
@@ -75,14 +75,19 @@ module _ {A : Type 0} where
   HasWindowLearnt (Some before) None (Some after) = after ≡ before
   HasWindowLearnt (Some before) (Some told) (Some after) = Learns before told after
 
-  -- a card is still its clerk's; where there was none, there is none
+  -- a card is still its clerk's, and has met what it had met
+  pub record IsCardLater (before after : CardState A) : Type 0 where
+    pub clerk : after.clerk ≡ before.clerk
+    pub begins : IsPrefix before.met after.met
+
+  -- so it is, where there is a card: of the same clerk, later; where there was none, there is none
   abbrev pub IsOfSameClerk : Option (CardState A) → Option (CardState A) → Type 0
   IsOfSameClerk None None = ⊤
   IsOfSameClerk None (Some after) = ⊥
   IsOfSameClerk (Some before) None = ⊥
-  IsOfSameClerk (Some before) (Some after) = after.clerk ≡ before.clerk
+  IsOfSameClerk (Some before) (Some after) = IsCardLater before after
 
-  -- a card changes only at an edit, and keeps its clerk
+  -- a card changes only at an edit
   abbrev pub IsCardAfter : Line A → Option (CardState A) → Option (CardState A) → Type 0
   IsCardAfter (AskedEdit edit) before after = IsOfSameClerk before after
   IsCardAfter asked before after = after ≡ before
@@ -144,15 +149,17 @@ shown_of None = None
 shown_of (Some made) = made.notice
 
 module _ {H J T : Type 0} where
-  -- An edit was accepted, and made: its entry ends the journal that the card has met then. The disk has its record,
-  -- where there is a journal. What was shown then is valid, and reaches the entry; nothing was where memory was refused
-  -- for that.
+  -- An edit was accepted, and made: its entry ends the journal that the card has met then, which is the office's at
+  -- some time, so that the parcels which the entry took out and brought follow from it. The disk has its record, where
+  -- there is a journal. What was shown then is valid, and reaches the entry; nothing was where memory was refused for
+  -- that.
   pub record IsAcceptedAnswer (office : OfficeId (Bor H)) (journal : Option T) (before after : CardState (Bor H))
       (edit : Edit (Bor H)) (made : Made H J) (line : List ℕ) : Type 0 where
     pub has_edit : made.entry.edit ≡ edit
     pub has_clerk : made.entry.clerk ≡ before.clerk
     pub has_card : after ≡ with_made before made.entry after.met
     pub ends : EndsWith made.entry made.entry.number (journal_met office after)
+    pub sometime : IsSometime office after (journal_met office after)
     pub on_disk : IsOnDisk journal made.on_disk made.entry.number
     pub lawful : IfSome made.notice (IsLawful office.origin.opening)
     pub reaches : IfSome made.notice (λ shown. made.entry.number ≤ length shown)
@@ -194,9 +201,10 @@ module _ {H J T : Type 0} where
     pub asked : Asked (Bor H)
     pub is_asked : IsAskedBy said asked
     pub is_answer : IsAnswerTo office journal before after asked.line made line
+    pub card : IsCardAfter asked.line before.card after.card
 
 module _ {H J : Type 0} where
-  -- it asks for nothing, and the desk is told why
+  -- it is not carried out, and the desk is told why
   pub record IsUnaskedAnswer (before after : Chair H J) (came : Came) (said : List ℕ) (made : Option (Made H J))
       (line : List ℕ) : Type 0 where
     pub fault : SessionFault

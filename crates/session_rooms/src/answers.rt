@@ -2,10 +2,11 @@
 
 ghost use Rattle.std.specs.Prelude.{◌≡◌, ◌⊎◌, ◌≤◌, length, OnOk, IfOk, IfErr};
 ghost use Rattle.geo_exact.specs.declared.limits.TheConstants.{LIST_CORNERS};
-ghost use Rattle.session_lines.specs.Lines.{Asks, AskTheSame};
+ghost use Rattle.session_lines.specs.Lines.{Asks, AsksForEdit, AskTheSame};
 ghost use Rattle.session_lines.specs.declared.line.Line.{Line as LineValue};
-ghost use Rattle.session_rooms.specs.Asked.{IsAskedBy, AsksNothing, IsLineFault, IsUnasked};
-ghost use Rattle.session_rooms.specs.DeskAnswers.{GoesOnBy, HasWindowGoneOn, HasWindowLearnt, IsOfSameClerk, IsCardAfter};
+ghost use Rattle.session_rooms.specs.Asked.{IsAskedBy, IsLineFault, IsUnasked};
+ghost use Rattle.session_rooms.specs.DeskAnswers.{GoesOnBy, HasWindowGoneOn, HasWindowLearnt, IsCardLater};
+ghost use Rattle.session_rooms.specs.DeskAnswers.{IsOfSameClerk, IsCardAfter};
 ghost use Rattle.session_rooms.specs.DeskAnswers.{IsWindowLine, IsPlaceLine, IsRingLine, IsCountLine, IsEditLine};
 ghost use Rattle.session_rooms.specs.DeskAnswers.{IsEditAnswer, IsAnswerTo, IsAnswerOf, shown_of, window_fault};
 
@@ -121,7 +122,8 @@ fn read_one<'l, A: Allocator + Copy>(alloc: A, line: &'l [u8]) -> Result<Line<'l
     // There is nothing else that it asks for.
     ensures only { (other : LineValue A) → Asks line.now other → IfOk result (AskTheSame other) }
     ensures fault { IfErr result (λ fault.
-        ((fault ≡ SessionFault.BadLine) × AsksNothing A line.now) ⊎ (fault ≡ SessionFault.NoMemory)) }
+        ((fault ≡ SessionFault.BadLine) × ((other : LineValue A) → ¬ Asks line.now other))
+        ⊎ ((fault ≡ SessionFault.NoMemory) × AsksForEdit A line.now)) }
 {
     match read_line(alloc, line) {
         Ok(Some(asked)) => Ok(asked),
@@ -199,7 +201,7 @@ fn answer_clerk<'h, H: Allocator, J: Naming<H>, R: Wait, F: JournalFile, K: Cloc
     edit: &Edit<&'h H>,
     text: &mut Vec<u8, &'h H>,
 ) -> Result<Option<Made<'h, H, J>>, AllocError>
-    ensures clerk { card.new.clerk ≡ card.old.clerk }
+    ensures card { IsCardLater card.old card.new }
     ensures window { HasWindowGoneOn window.old window.new }
     // It has learnt what was shown of the edit.
     ensures learnt { IfOk result (λ made. HasWindowLearnt window.old (shown_of made) window.new) }

@@ -1,10 +1,10 @@
 //! The lines that a desk is asked.
 
-ghost use Rattle.std.specs.Prelude.{◌≡◌, ◌≢◌, ◌+◌, ◌-◌, ◌<◌, ◌≤◌, ◌++◌, vec_len, IfOk, MatchOption};
-ghost use Rattle.std.specs.List.{All};
+ghost use Rattle.std.specs.Prelude.{◌≡◌, ◌≢◌, ◌+◌, ◌-◌, ◌<◌, ◌≤◌, ◌++◌, ◌==◌, vec_len, IfOk, MatchOption};
+ghost use Rattle.std.specs.List.{All, list_any};
 ghost use Rattle.std.specs.Io.Buffered.{reader_remaining};
 ghost use Rattle.std.specs.Io.BufRead.{strip_last};
-ghost use Rattle.session_rooms.specs.Lines.{AreRound, IsWhatCame, IsWhatPart};
+ghost use Rattle.session_rooms.specs.Lines.{AreRound, IsTooLong, IsWhatCame, IsWhatPart};
 
 use crate::door::Door;
 use std::alloc::Allocator;
@@ -103,7 +103,7 @@ fn take_part<R: BufRead, A: Allocator>(reader: &mut R, line: &mut Vec<u8, A>) ->
     requires { vec_len line.old < 1048576 }
     ensures bound { vec_len line.new < 1048576 }
     ensures part { IfOk result (IsWhatPart (R.remaining reader.old) (R.remaining reader.new)
-        (λ bytes. line.new.items ≡ line.old.items ++ bytes)) }
+        (λ bytes. line.new.items ≡ line.old.items ++ bytes) (λ bytes. IsTooLong (line.old.items ++ bytes))) }
 {
     let there = reader.fill_buf()?;
     if there.is_empty() {
@@ -155,6 +155,8 @@ fn drop_return<A: Allocator>(line: &mut Vec<u8, A>)
 }
 
 /// Whether a whole line is among bytes.
-pub fn has_line(bytes: &[u8]) -> bool {
-    bytes.iter().any(|byte| *byte == b'\n')
+pub fn has_line(bytes: &[u8]) -> bool
+    ensures { result ≡ list_any (λ byte. byte == 10) bytes.now }
+{
+    bytes.contains(&b'\n')
 }

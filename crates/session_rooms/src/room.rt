@@ -5,6 +5,7 @@ ghost use mathlib.Core.List.{IsPrefix};
 ghost use Rattle.fabric_core.specs.EditResults.{IsLawful};
 ghost use Rattle.desk_lock.specs.Offices.{with_made, with_met, journal_met, EndsWith, IsSometime, IsRefusedWhenMet};
 ghost use Rattle.desk_lock.specs.Offices.{AreOfClerks, behind};
+ghost use Rattle.session_rooms.specs.DeskAnswers.{IsCardLater};
 ghost use Rattle.session_rooms.specs.Rooms.{IsDrawn, IfRefused, UnlessJournalFails, IfJournalFails, IsJournalFault, IsRoomFault};
 ghost use Rattle.session_rooms.specs.Kept.{IsRecorded, IsOnDisk};
 
@@ -137,8 +138,8 @@ impl<'r, 'h, H: Allocator, J: Naming<H>, R: Wait, F: JournalFile, K: Clocked> Ro
         ensures lawful { IfOk result (λ made. IfSome made.notice (IsLawful J.office.origin.opening)) }
         // Where there is a journal, the disk has the entry's record.
         ensures on_disk { IfOk result (λ made. IsOnDisk self.now.journal made.on_disk made.entry.number) }
-        // The card is its clerk's, as before.
-        ensures same_clerk { card.new.clerk ≡ card.old.clerk }
+        // The card is its clerk's, as before, and has met what it had met.
+        ensures card { IsCardLater card.old card.new }
         // A refused edit changes nothing, but that the card has met the journal, after which it is refused for this.
         ensures unchanged { IfErr result (λ fault. UnlessJournalFails fault (card.new ≡ with_met card.old card.new.met)) }
         ensures refusal { IfErr result (λ fault. IfRefused fault (λ refusal.
@@ -180,7 +181,7 @@ impl<'r, 'h, H: Allocator, J: Naming<H>, R: Wait, F: JournalFile, K: Clocked> Ro
         ensures made { IfOk result (λ entry. card.new ≡ with_made card.old entry card.new.met) }
         ensures ends { IfOk result (λ entry. EndsWith entry entry.number (journal_met J.office card.new)) }
         ensures after { IfOk result (λ entry. IsSometime J.office card.new (journal_met J.office card.new)) }
-        ensures same_clerk { card.new.clerk ≡ card.old.clerk }
+        ensures card { IsCardLater card.old card.new }
         ensures unchanged { IfErr result (λ fault. UnlessJournalFails fault (card.new ≡ with_met card.old card.new.met)) }
         ensures refusal { IfErr result (λ fault. IfRefused fault (λ refusal.
             IsRefusedWhenMet J.office card.new edit.now refusal ⊎ (refusal ≡ Refusal.NoMemory))) }
@@ -194,6 +195,7 @@ impl<'r, 'h, H: Allocator, J: Naming<H>, R: Wait, F: JournalFile, K: Clocked> Ro
 
     /// Makes an edit at the office, and has the disk hold its record. Nobody else makes one between the two, but others
     /// may while this one waits for the disk.
+    #[tactic(auto, using(crate::proofs::Cards::same_card))]
     fn keep(
         &self,
         journal: &Journal<F, &'h H, K>,
@@ -206,7 +208,7 @@ impl<'r, 'h, H: Allocator, J: Naming<H>, R: Wait, F: JournalFile, K: Clocked> Ro
         ensures made { IfOk result (λ made. card.new ≡ with_made card.old made.0 card.new.met) }
         ensures ends { IfOk result (λ made. EndsWith made.0 made.0.number (journal_met J.office card.new)) }
         ensures after { IfOk result (λ made. IsSometime J.office card.new (journal_met J.office card.new)) }
-        ensures same_clerk { card.new.clerk ≡ card.old.clerk }
+        ensures card { IsCardLater card.old card.new }
         ensures unchanged { IfErr result (λ fault. UnlessJournalFails fault (card.new ≡ with_met card.old card.new.met)) }
         ensures refusal { IfErr result (λ fault. IfRefused fault (λ refusal.
             IsRefusedWhenMet J.office card.new edit.now refusal ⊎ (refusal ≡ Refusal.NoMemory))) }
@@ -233,6 +235,7 @@ impl<'r, 'h, H: Allocator, J: Naming<H>, R: Wait, F: JournalFile, K: Clocked> Ro
     }
 
     /// Makes an edit at the office, and adds its record to the journal, which is taken.
+    #[tactic(auto, using(crate::proofs::Cards::same_card))]
     fn enter_and_record(
         &self,
         writer: &mut JournalWriter<F, &'h H>,
@@ -246,7 +249,7 @@ impl<'r, 'h, H: Allocator, J: Naming<H>, R: Wait, F: JournalFile, K: Clocked> Ro
         ensures made { IfOk result (λ entry. card.new ≡ with_made card.old entry card.new.met) }
         ensures ends { IfOk result (λ entry. EndsWith entry entry.number (journal_met J.office card.new)) }
         ensures after { IfOk result (λ entry. IsSometime J.office card.new (journal_met J.office card.new)) }
-        ensures same_clerk { card.new.clerk ≡ card.old.clerk }
+        ensures card { IsCardLater card.old card.new }
         ensures unchanged { IfErr result (λ fault. UnlessJournalFails fault (card.new ≡ with_met card.old card.new.met)) }
         ensures refusal { IfErr result (λ fault. IfRefused fault (λ refusal.
             IsRefusedWhenMet J.office card.new edit.now refusal ⊎ (refusal ≡ Refusal.NoMemory))) }

@@ -1,4 +1,4 @@
-use Rattle.std.proofs.Common.{◌+◌, ◌≤◌, ◌++◌, length, take, cond, sym, ap, subst, ◌∙◌, arith}
+use Rattle.std.proofs.Common.{◌+◌, ◌≤◌, ◌++◌, length, take, cond, sym, ap, subst, ◌∙◌, arith, length-append, length-take-le}
 use Rattle.std.specs.Io.KnownBytes.{Consumes}
 use Rattle.std.specs.Io.BufRead.{FillKeeps}
 use Rattle.std.proofs.BufReadLemmas.{Consumes_shown}
@@ -35,4 +35,8 @@ returns-in-None-clause-part g c =
     let room = c.min-room.result in
     let fits : room ≤ length shown = omega (arith, c.min-room.ensures) in
     let moved = Consumes_shown _ _ _ _ shown room fits told.front told.end filled.0 filled.1 c.consume-in-None.ensures.bytes in
-    (take room shown, record { no_line_feed = c.in-None.ensures; gone = moved.0 })
+    let old = c.args.line.now.items in (
+      take room shown,
+      record { no_line_feed = c.in-None.ensures; gone = moved.0 },
+      omega (arith, length-append old (take room shown), length-take-le room shown fits),
+    )
