@@ -17,10 +17,11 @@ NAMES_ALONE = re.compile(r"has no field|is not in scope|has no `|was not admitte
 
 
 class Function(NamedTuple):
-    """A function of a source file: its name, and the first and last line of its body, counted from 1."""
+    """A function of a source file: its name, its first line, and the first and last of its body, counted from 1."""
 
     file: str
     name: str
+    head: int
     first: int
     last: int
 
@@ -38,11 +39,11 @@ def functions_of(file: str, text: str) -> List[Function]:
     with a brace on a line of its own, or with one at the end of a head that has none."""
     found: List[Function] = []
     indent = name = ""
-    first = 0
+    head = first = 0
     for number, line in enumerate(text.split("\n"), 1):
         begins = FUNCTION.match(line)
         if begins and not name:
-            indent, name, first = begins[1], begins[2], 0
+            indent, name, head, first = begins[1], begins[2], number, 0
         if not name:
             continue
         is_head = bool(begins) or line.startswith(f"{indent})")
@@ -51,7 +52,7 @@ def functions_of(file: str, text: str) -> List[Function]:
         elif not first and line.endswith("{") and (is_head or line == f"{indent}{{"):
             first = number
         elif first and line == f"{indent}}}":
-            found.append(Function(file, name, first, number))
+            found.append(Function(file, name, head, first, number))
             name = ""
     return found
 
@@ -107,12 +108,12 @@ def texts_with(changes: Iterable[Change], crate: Path) -> Optional[Dict[str, str
 
 
 def is_about(line: str, function: Function) -> bool:
-    """Whether a line that the prover printed tells of a goal in this function's body, or of its answers' goals."""
+    """Whether a line that the prover printed tells of a goal of this function, at its head, in its body or in its answers."""
     told = TOLD.match(line)
     if told is None or NAMES_ALONE.search(line):
         return False
     if told[1] == function.file:
-        return function.first <= int(told[2]) <= function.last and (": error" in line or line.startswith("note: "))
+        return function.head <= int(told[2]) <= function.last and (": error" in line or line.startswith("note: "))
     module = Path(function.file).stem
     return told[1].startswith(f"proofs/{module}/") and f"/{function.name}/" in told[1] and ": error" in line
 
@@ -137,13 +138,13 @@ def self_test() -> None:
     """Tries the rules of groups on a made-up file and a made-up prover's words; stops at the first that is wrong."""
     text = "impl It {\n    pub fn one(\n        self,\n    ) -> u64\n        ensures { result ≡ 1 }\n    {\n        1\n    }\n}\n"
     text += "\nfn two() {\n    2\n}\n\nfn three(x: u64) -> u64;\n"
-    one, two = Function("src/it.rt", "one", 6, 8), Function("src/it.rt", "two", 11, 13)
+    one, two = Function("src/it.rt", "one", 2, 6, 8), Function("src/it.rt", "two", 11, 11, 13)
     assert functions_of("src/it.rt", text) == [one, two], functions_of("src/it.rt", text)
     changes = [Change("a", (one,), (("1", "3"),)), Change("b", (two,), (("2", "4"),)), Change("c", (two,), (("2", "5"),))]
     assert [[it.name for it in group] for group in groups_of(changes)] == [["a", "b"], ["c"]]
-    wrong = "note: src/it.rt:7:9: it is not proved that what the function ensures holds\nfn crate::it::It::one: not proved\n"
+    wrong = "note: src/it.rt:2:5: it is not proved that what the function ensures holds\nfn crate::it::It::one: not proved\n"
     assert refused_of(changes[:2], wrong) == {"a"}
-    assert refused_of(changes[:2], wrong.replace(":7:", ":12:")) == set()
+    assert refused_of(changes[:2], wrong.replace(":2:", ":12:")) == set()
     assert refused_of(changes[:2], wrong.replace("not proved\n", "proved\n")) == set()
     away = "./proofs/it/It/one/Answers.antt:1:2: error: `x`: has no field `y`\nfn crate::it::It::one: not proved\n"
     assert refused_of(changes[:2], away) == set()
