@@ -1,8 +1,8 @@
 """Mutants of one crate that one check can try: each changes the body of a function of its own.
 
-A body is proved against contracts alone, its own and those of what it calls. So where several bodies are mutants, and no
-contract is, the prover says of each what it says of it alone, and the crate is loaded once for all of them. A mutant that
-changes anything else (a clause, a type, a definition, a body that another mutant of the group changes) is tried alone,
+A body is proved against contracts alone, its own and those of what it calls. So where several bodies are mutants, and
+no contract is, the prover says of each what it says of it alone, and the crate is loaded once for all of them. A mutant
+that changes anything else (a clause, a type, a definition, a body that another mutant of the group changes) is tried alone,
 and so is each that is not seen refused in a group.
 """
 import re
@@ -35,8 +35,8 @@ class Change(NamedTuple):
 
 
 def functions_of(file: str, text: str) -> List[Function]:
-    """The functions of a source file that `rt fmt` laid out, but for those on one line. A body begins behind the clauses,
-    with a brace on a line of its own, or with one at the end of a head that has none."""
+    """The functions of a source file that `rt fmt` laid out, but for those on one line. A body begins behind the
+    clauses, with a brace on a line of its own, or with one at the end of a head that has none."""
     found: List[Function] = []
     indent = name = ""
     head = first = 0
@@ -108,7 +108,7 @@ def texts_with(changes: Iterable[Change], crate: Path) -> Optional[Dict[str, str
 
 
 def is_about(line: str, function: Function) -> bool:
-    """Whether a line that the prover printed tells of a goal of this function, at its head, in its body or in its answers."""
+    """Whether a line that the prover printed tells of a goal of this function: at its head, in its body or answers."""
     told = TOLD.match(line)
     if told is None or NAMES_ALONE.search(line):
         return False
@@ -136,13 +136,14 @@ def refused_of(changes: Sequence[Change], printed: str) -> Set[str]:
 
 def self_test() -> None:
     """Tries the rules of groups on a made-up file and a made-up prover's words; stops at the first that is wrong."""
-    text = "impl It {\n    pub fn one(\n        self,\n    ) -> u64\n        ensures { result ≡ 1 }\n    {\n        1\n    }\n}\n"
-    text += "\nfn two() {\n    2\n}\n\nfn three(x: u64) -> u64;\n"
+    text = "impl It {\n    pub fn one(\n        self,\n    ) -> u64\n        ensures { result ≡ 1 }\n    {\n        1\n    }\n"
+    text += "}\n\nfn two() {\n    2\n}\n\nfn three(x: u64) -> u64;\n"
     one, two = Function("src/it.rt", "one", 2, 6, 8), Function("src/it.rt", "two", 11, 11, 13)
     assert functions_of("src/it.rt", text) == [one, two], functions_of("src/it.rt", text)
-    changes = [Change("a", (one,), (("1", "3"),)), Change("b", (two,), (("2", "4"),)), Change("c", (two,), (("2", "5"),))]
+    functions_and_numbers = (("a", one, "1"), ("b", two, "2"), ("c", two, "2"))
+    changes = [Change(name, (function,), ((number, "3"),)) for name, function, number in functions_and_numbers]
     assert [[it.name for it in group] for group in groups_of(changes)] == [["a", "b"], ["c"]]
-    wrong = "note: src/it.rt:2:5: it is not proved that what the function ensures holds\nfn crate::it::It::one: not proved\n"
+    wrong = "note: src/it.rt:2:5: it is not proved that what it ensures holds\nfn crate::it::It::one: not proved\n"
     assert refused_of(changes[:2], wrong) == {"a"}
     assert refused_of(changes[:2], wrong.replace(":2:", ":12:")) == set()
     assert refused_of(changes[:2], wrong.replace("not proved\n", "proved\n")) == set()
