@@ -1,6 +1,6 @@
 //! The parts of a journal's text.
 
-ghost use Rattle.std.specs.Prelude.{◌≡◌, ◌++◌, IsTrue, IfOk, IfSome, OnOk};
+ghost use Rattle.std.specs.Prelude.{◌≡◌, ◌≢◌, ◌++◌, ℕ, List, IsTrue, IfOk, IfSome, IfNone, OnOk};
 ghost use Rattle.journal_records.specs.Journals.{IsTorn, record_start};
 
 use crate::record::Stamp;
@@ -11,7 +11,8 @@ use text_pieces::push_number;
 
 /// What stands behind a text's beginning; `None` where it begins otherwise.
 pub(crate) fn behind<'t>(text: &'t [u8], beginning: &[u8]) -> Option<&'t [u8]>
-    ensures { IfSome result (λ rest. text.now ≡ beginning.now ++ rest.now) }
+    ensures rest { IfSome result (λ rest. text.now ≡ beginning.now ++ rest.now) }
+    ensures none { IfNone result ((rest : List ℕ) → text.now ≢ beginning.now ++ rest) }
 {
     if text.len() < beginning.len() {
         return None;

@@ -1,13 +1,14 @@
 //! The client's own word for who edits and why.
 
-ghost use Rattle.std.specs.Prelude.{◌≡◌, ◌≤◌, ◌<◌, ◌++◌, codes, length, IfSome};
+ghost use Rattle.std.specs.Prelude.{◌≡◌, ◌++◌, ◌∷◌, ◌↔◌, ℕ, List, IsTrue, IfSome, IfNone, MatchOption};
+ghost use Rattle.journal_records.specs.Words.{HasNoColon, IsPlain, SaysWho};
 
 use crate::parts::behind;
 
 /// The most bytes of a client's word.
 pub const WORD_BYTES: usize = 200;
 
-/// What a line says of who asks and why, and what it asks for: `by WHO: ASKED`, cut at the last `: `. `None` where the
+/// What a line says of who asks and why, and what it asks for: `by WHO: ASKED`, cut at the last colon. `None` where the
 /// line has another form, or WHO is empty, longer than [`WORD_BYTES`], no UTF-8, or has a control character.
 ///
 /// ```
@@ -15,22 +16,34 @@ pub const WORD_BYTES: usize = 200;
 /// let said = split_word(b"by anna, deed 17: merge 4 5");
 /// ```
 pub fn split_word(line: &[u8]) -> Option<(&[u8], &[u8])>
-    ensures form { IfSome result (λ said. line.now ≡ codes "by " ++ said.0.now ++ codes ": " ++ said.1.now) }
-    ensures some { IfSome result (λ said. 0 < length said.0.now) }
-    ensures short { IfSome result (λ said. length said.0.now ≤ 200) }
+    ensures said { IfSome result (λ said. SaysWho line.now said.0.now said.1.now) }
+    ensures none { IfNone result ((who asked : List ℕ) → ¬ SaysWho line.now who asked) }
+    // It says no other parts.
+    ensures only { (who asked : List ℕ) → SaysWho line.now who asked →
+        IfSome result (λ said. (said.0.now ≡ who) × (said.1.now ≡ asked)) }
 {
     let said = behind(line, b"by ")?;
-    let place = said.iter().rposition(|byte| *byte == b':')?;
-    let (who, asked) = said.split_at_checked(place)?;
-    let asked = behind(asked, b": ")?;
+    let (who, rest) = around_last_colon(said)?;
+    let asked = behind(rest, b" ")?;
     if who.is_empty() || who.len() > WORD_BYTES || !is_plain(who) {
         return None;
     }
     Some((who, asked))
 }
 
+/// What stands before the last colon of a text, and what behind it; `None` where there is none.
+fn around_last_colon(text: &[u8]) -> Option<(&[u8], &[u8])>
+    ensures { MatchOption result (HasNoColon text.now)
+        (λ parts. (text.now ≡ parts.0.now ++ 58 ∷ parts.1.now) × HasNoColon parts.1.now) }
+{
+    let place = text.iter().rposition(|byte| *byte == b':')?;
+    Some((&text[..place], &text[place + 1..]))
+}
+
 /// Whether a text is UTF-8 without control characters.
-fn is_plain(text: &[u8]) -> bool {
+fn is_plain(text: &[u8]) -> bool
+    ensures { IsTrue result ↔ IsPlain text.now }
+{
     match str::from_utf8(text) {
         Ok(text) => !text.chars().any(|c| c.is_control()),
         Err(_) => false,
