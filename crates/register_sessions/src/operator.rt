@@ -1,7 +1,8 @@
 //! The operator's desk.
 
 ghost use Rattle.std.specs.Prelude.{◌≡◌, Some, OnOk, IfOk, IfErr};
-ghost use Rattle.register_sessions.specs.own.Operators.{IsCheckAnswer, IsPublishAnswer, IsOverlayAnswer, IsZonesAnswer, IsExportAnswer};
+ghost use Rattle.register_sessions.specs.own.Operators.{IsCheckAnswer, IsPublishAnswer, IsOverlayAnswer, IsZonesAnswer};
+ghost use Rattle.register_sessions.specs.own.Operators.{IsExportAnswer, IsFreeExport};
 ghost use Rattle.register_sessions.specs.own.Operators.{IsOperatorAnswer, IsOperatorAnswerOf, next_of};
 ghost use Rattle.session_rooms.specs.DeskAnswers.{GoesOnBy, HasWindowLearnt};
 
@@ -221,7 +222,8 @@ fn answer_zones<'h, H: Allocator + Send + Sync, J: Naming<H>, R: Wait, K: Clocke
     }
 }
 
-/// Replaces the layer at BASE by the parcels, unless that is one of the session's own files, or something is in the way.
+/// Replaces the layer at BASE by the parcels, unless that would replace one of the session's own files, or something is in
+/// the way.
 fn answer_export<'h, P: Exports + Machine, H: Allocator, J: Naming<H>, R: Wait, K: Clocked>(
     room: &Room<'_, 'h, H, J, R, DiskFile, K>,
     disk: &P,
@@ -230,13 +232,27 @@ fn answer_export<'h, P: Exports + Machine, H: Allocator, J: Naming<H>, R: Wait, 
     text: &mut Vec<u8, &'h H>,
 ) -> Result<(), AllocError>
     ensures { OnOk result (GoesOnBy (IsExportAnswer P.tells P.finds P.replace_gives J.office room.now.journal disk.now
-        ground.now.own_files base.now)
+        ground.now.own_files base.now) text.old.items text.new.items) }
+{
+    match ground.own_files.find_in_export(disk, room.heap, base)? {
+        Some(path) => {
+            let why = format!(in room.heap; "S5 {path}")?;
+            push_failure(text, why.as_str())
+        }
+        None => answer_free_export(room, disk, base, text),
+    }
+}
+
+/// The same where it would replace none of them.
+fn answer_free_export<'h, P: Exports, H: Allocator, J: Naming<H>, R: Wait, K: Clocked>(
+    room: &Room<'_, 'h, H, J, R, DiskFile, K>,
+    disk: &P,
+    base: &str,
+    text: &mut Vec<u8, &'h H>,
+) -> Result<(), AllocError>
+    ensures { OnOk result (GoesOnBy (IsFreeExport P.finds P.replace_gives J.office room.now.journal disk.now base.now)
         text.old.items text.new.items) }
 {
-    if let Some(path) = ground.own_files.find_in_export(disk, room.heap, base)? {
-        let why = format!(in room.heap; "S5 {path}")?;
-        return push_failure(text, why.as_str());
-    }
     match disk.obstacle(room.heap, base)? {
         Some(why) => push_failure(text, why.as_str()),
         None => match room.sheet() {
