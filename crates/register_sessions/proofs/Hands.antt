@@ -1,5 +1,6 @@
 -- The one hand of a round, which has all parcels as its list.
-use Rattle.std.proofs.Common.{◌≡◌, ◌⊎◌, ◌≢◌, ◌∙◌, inl, inr, refl, sym, ap, subst, arith, ℕ, suc, ◌<◌, List, [], ◌∷◌, length, append-nil}
+use Rattle.std.proofs.Common.{◌≡◌, ◌⊎◌, ◌≢◌, ◌∙◌, inl, inr, refl, sym, ap, subst, true≢false, arith, ℕ, suc, ◌<◌, List, [], ◌∷◌}
+use Rattle.std.proofs.Common.{length, append-nil}
 use Rattle.std.specs.Prelude.{IsPermutation, IsSome}
 use Rattle.std.specs.List.{AllZip, AllByRecursion}
 use Rattle.std.specs.List.Sorted.{IsStrictlyIncreasing}
@@ -58,7 +59,7 @@ none_undone (hand ∷ hands) [] some works nothing undone = works
 none_undone [] (done ∷ others) some works nothing undone = works
 none_undone (hand ∷ hands) (done ∷ others) some works nothing undone = elim works.0.stops [
   | inl at_end ↦ undone.0 at_end.all_ends
-  | inr holds ↦ subst IsSome nothing.0 holds
+  | inr holds ↦ true≢false (sym (subst IsSome nothing.0 holds))
 ]
 
 -- so where all hands of a round have worked, it is closed unless memory is wanting

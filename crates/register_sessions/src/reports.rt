@@ -175,7 +175,7 @@ fn work_off<'t, 'h, H: Allocator + Send + Sync>(
 {
     let mut worked = Vec::with_capacity(heap, hands.len())?;
     for hand in hands {
-        worked.push(hand.work(&OpenGate))?;
+        worked.push_reserved(hand.work(&OpenGate));
     }
     Ok(worked)
 }
