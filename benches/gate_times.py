@@ -1,10 +1,11 @@
 #!/usr/bin/env python3
 """Says how many processor minutes each crate takes in a gate, its proofs, its tests' proofs and its mutants.
 
-    benches/gate_times.py [SECONDS] > table     watches until no `rt ci` and no `scripts/prove` runs, looking every SECONDS (2)
+    benches/gate_times.py [SECONDS] > table     watches until no gate runs any more, looking every SECONDS (2)
 
-It watches the provers that any of these starts on this machine, so nothing else is to be proved meanwhile, and reads the time
-that each has used from /proc. A prover that lives for less than SECONDS is not seen whole. It stands outside of the gate.
+It watches the provers that any of these starts on this machine, and reads the time that each has used from /proc. What a
+prover takes beside others is more than it takes alone. One that lives for less than SECONDS is not seen whole. It stands
+outside of the gate.
 """
 import os
 import re
@@ -12,9 +13,10 @@ import sys
 import time
 from collections import defaultdict
 from pathlib import Path
-from typing import Dict, Iterator, Tuple
+from typing import Dict, Iterator, List, Tuple
 
 TICKS = os.sysconf("SC_CLK_TCK")
+GATES = re.compile(r"\brt ci\b|\bscripts/prove\b|\bscripts/wrong_bodies\b")
 
 
 def processes() -> Iterator[Tuple[int, str, Path]]:
@@ -29,10 +31,23 @@ def processes() -> Iterator[Tuple[int, str, Path]]:
             continue
 
 
+def fields_of(pid: int) -> List[str]:
+    """What the system tells of a process, from its state on."""
+    return (Path("/proc") / str(pid) / "stat").read_text().rsplit(")", 1)[1].split()
+
+
 def seconds_of(pid: int) -> float:
-    """How many seconds of a processor a process has used, with those of its children that have ended."""
-    fields = (Path("/proc") / str(pid) / "stat").read_text().rsplit(")", 1)[1].split()
-    return sum(map(int, fields[11:15])) / TICKS
+    """How many seconds of a processor a process has used. Its children are watched for themselves."""
+    return sum(map(int, fields_of(pid)[11:13])) / TICKS
+
+
+def is_below(pid: int, gates: List[int]) -> bool:
+    """Whether one of these processes has started this one, or what started it."""
+    while pid > 1:
+        if pid in gates:
+            return True
+        pid = int(fields_of(pid)[1])
+    return False
 
 
 def kind_of(words: str, folder: Path) -> str:
@@ -43,20 +58,21 @@ def kind_of(words: str, folder: Path) -> str:
 
 
 def watch(pause: float) -> Dict[Tuple[str, str], float]:
-    """Seconds by crate and kind, until no `rt ci` runs."""
+    """Seconds by crate and kind, until none of `rt ci`, `scripts/prove` and `scripts/wrong_bodies` runs."""
     seen: Dict[int, Tuple[str, str, float]] = {}
     while True:
-        is_running = False
-        for pid, words, folder in processes():
-            is_running = is_running or bool(re.search(r"\brt ci\b|\bscripts/prove\b", words))
+        there = list(processes())
+        gates = [pid for pid, words, _ in there if GATES.search(words)]
+        for pid, words, folder in there:
             found = re.search(r"rattle (?:build|check|test)\b.*--crate-name (\w+)", words)
             if not found:
                 continue
             try:
-                seen[pid] = (found.group(1), kind_of(words, folder), seconds_of(pid))
+                if is_below(pid, gates):
+                    seen[pid] = (found.group(1), kind_of(words, folder), seconds_of(pid))
             except OSError:
                 continue
-        if not is_running:
+        if not gates:
             break
         time.sleep(pause)
     total: Dict[Tuple[str, str], float] = defaultdict(float)

@@ -2,10 +2,10 @@
 use Rattle.std.proofs.Common.{◌≡◌, ◌⊎◌, inl, inr, ℕ, ◌+◌, List, [], ◌∷◌, ◌++◌, sym, ◌∙◌, subst}
 use Rattle.std.proofs.Common.{append_assoc, append-nil}
 use Rattle.ring_edits.specs.declared.edit.Edit.{Edit}
-use Rattle.line_files.specs.ClerkFile.{IsClerkFile, IsFirstBadLine}
+use Rattle.line_files.specs.ClerkFile.{IsClerkFile, IsFirstBadLine, BeginsWithEdit}
 use Rattle.clerk_runs.specs.declared.files.FilesFault.{FilesFault}
 use Rattle.clerk_runs.specs.declared.files.FilesFault.TheVariants.{BadLine, NoMemory}
-use Rattle.clerk_runs.specs.ClerkFiles.{AreClerkFiles, IsFirstBadFrom, IsFirstBadOfAll}
+use Rattle.clerk_runs.specs.ClerkFiles.{AreClerkFiles, IsFirstBadFrom, IsFirstBadOfAll, AskForMemory}
 
 -- the files before these are read, and have no bad line
 pub record HaveRead {A : Type 0} (all : List (List ℕ)) (first : ℕ) (left : List (List ℕ))
@@ -13,10 +13,16 @@ pub record HaveRead {A : Type 0} (all : List (List ℕ)) (first : ℕ) (left : L
   pub adds : (more : List (List (ℕ × Edit A))) → AreClerkFiles left more → AreClerkFiles all (clerks ++ more)
   pub is_fault : (clerk line : ℕ) → IsFirstBadFrom first left clerk line → IsFirstBadOfAll all clerk line
   pub is_here : (clerk line : ℕ) → IsFirstBadOfAll all clerk line → IsFirstBadFrom first left clerk line
+  pub asks : AskForMemory left → AskForMemory all
 
 -- none is read
 pub none_read : {A : Type 0} (all : List (List ℕ)) → HaveRead {A = A} all 1 all []
-none_read all = record { adds = λ more m. m; is_fault = λ clerk line h. h; is_here = λ clerk line h. h }
+none_read all = record {
+  adds = λ more m. m;
+  is_fault = λ clerk line h. h;
+  is_here = λ clerk line h. h;
+  asks = λ h. h;
+}
 
 -- one file more
 pub more_read : {A : Type 0} (all : List (List ℕ)) (first : ℕ) (file : List ℕ) (left : List (List ℕ))
@@ -27,7 +33,14 @@ more_read all first file left clerks edits h is good = record {
   adds = λ more m. subst (AreClerkFiles all) (sym (append_assoc clerks (edits ∷ []) more)) (h.adds (edits ∷ more) (is, m));
   is_fault = λ clerk line k. h.is_fault clerk line (inr (good, k));
   is_here = λ clerk line k. elim (h.is_here clerk line k) [ inl l ↦ absurd (good line l.1) | inr l ↦ l.1 ];
+  asks = λ m. h.asks (inr good);
 }
+
+-- memory is asked for by the next file
+pub next_asks : {A : Type 0} (all : List (List ℕ)) (first : ℕ) (file : List ℕ) (left : List (List ℕ))
+    (clerks : List (List (ℕ × Edit A))) → HaveRead all first (file ∷ left) clerks
+    → BeginsWithEdit file ⊎ ((line : ℕ) → ¬ IsFirstBadLine file line) → AskForMemory all
+next_asks all first file left clerks h k = h.asks k
 
 -- what is told of the next file
 abbrev pub IsTold : ℕ → List ℕ → FilesFault → Type 0

@@ -2,7 +2,7 @@
 use Rattle.std.specs.Prelude.{◌≡◌, ◌⊎◌, ℕ, ◌+◌, List, [], ◌∷◌, map, Vec}
 use Rattle.std.specs.List.{AllZip}
 use Rattle.ring_edits.specs.declared.edit.Edit.{Edit}
-use Rattle.line_files.specs.ClerkFile.{IsClerkFile, IsFirstBadLine}
+use Rattle.line_files.specs.ClerkFile.{IsClerkFile, IsFirstBadLine, BeginsWithEdit}
 
 -- Edits are in a memory A, which nothing here depends on.
 
@@ -23,3 +23,8 @@ IsFirstBadFrom first (file ∷ files) clerk line = ((clerk ≡ first) × IsFirst
 -- the first bad line of all files, and the number of its clerk
 abbrev pub IsFirstBadOfAll : List (List ℕ) → ℕ → ℕ → Type 0
 IsFirstBadOfAll files clerk line = IsFirstBadFrom 1 files clerk line
+
+-- to read the files memory is asked for: the first begins with an edit, or has no bad line
+abbrev pub AskForMemory : List (List ℕ) → Type 0
+AskForMemory [] = ⊥
+AskForMemory (file ∷ files) = BeginsWithEdit file ⊎ ((line : ℕ) → ¬ IsFirstBadLine file line)

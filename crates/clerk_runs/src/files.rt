@@ -1,9 +1,9 @@
 //! The files of clerks' edits.
 
 ghost use Rattle.std.specs.Prelude.{◌≡◌, ◌⊎◌, ◌≤◌, ℕ, length, IfOk, IfErr, IsErrAnd};
-ghost use Rattle.line_files.specs.ClerkFile.{IsClerkFile, IsFirstBadLine};
+ghost use Rattle.line_files.specs.ClerkFile.{IsClerkFile, IsFirstBadLine, BeginsWithEdit};
 ghost use Rattle.desk_lock.specs.declared.opening.TheConstants.{MOST_PLACES};
-ghost use Rattle.clerk_runs.specs.ClerkFiles.{texts_of, AreClerkFiles, IsFirstBadOfAll};
+ghost use Rattle.clerk_runs.specs.ClerkFiles.{texts_of, AreClerkFiles, IsFirstBadOfAll, AskForMemory};
 ghost use Rattle.clerk_runs.specs.declared.files.FilesFault.TheVariants.{BadLine, NoMemory};
 
 use line_files::{ClerkFault, read_clerk};
@@ -68,6 +68,8 @@ pub fn read_clerks<'h, H: Allocator, A: Allocator>(
         → IsFirstBadOfAll (texts_of files.now) clerk line) }
     ensures refuses { (clerk line : ℕ) → IsFirstBadOfAll (texts_of files.now) clerk line
         → IsErrAnd result (λ fault. (fault ≡ BadLine clerk line) ⊎ (fault ≡ NoMemory)) }
+    // Memory runs out only where it is asked for. So a first file that begins with a bad line is refused by that line.
+    ensures memory { IfErr result (λ fault. fault ≡ NoMemory → AskForMemory (texts_of files.now)) }
 {
     let mut clerks = Vec::new(heap);
     let mut clerk = 0;
@@ -90,6 +92,7 @@ fn edits_of_clerk<'h, H: Allocator>(
         ⊎ (fault ≡ NoMemory)) }
     ensures refuses { (line : ℕ) → IsFirstBadLine file.now line
         → IsErrAnd result (λ fault. (fault ≡ BadLine clerk line) ⊎ (fault ≡ NoMemory)) }
+    ensures memory { IfErr result (λ fault. fault ≡ NoMemory → BeginsWithEdit file.now) }
 {
     match read_clerk(heap, file) {
         Ok(edits) => Ok(edits),

@@ -23,8 +23,9 @@ pub(crate) fn jobs_of<'h, H: Allocator, J: Naming<H>>(
     let mut jobs = Vec::new(heap);
     let mut left = cards.into_iter();
     for clerk in clerks {
+        // There are as many cards as clerks.
         let Some(card) = left.next() else {
-            return Err(AllocError);
+            unreachable!()
         };
         let job = ClerkJob {
             card,

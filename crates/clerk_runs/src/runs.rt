@@ -125,7 +125,10 @@ fn edit_at_office<
         1,
     ) {
         Ok(opened) => opened,
-        Err((_, fault)) => return Err(fault_of(fault)),
+        Err((_, OpenFault::NoWindow(window))) => return Err(RunFault::NoWindow(window)),
+        Err((_, OpenFault::NoMemory)) => return Err(RunFault::NoMemory),
+        // There are as many clerks, and windows, as an office may have.
+        Err((_, OpenFault::Places(_))) => unreachable!(),
     };
     // The office was opened with one window.
     let Some(mut window) = windows.pop() else {
@@ -151,15 +154,4 @@ fn edit_at_office<
         lines,
         places,
     })
-}
-
-/// What the fault of an office with one window is to a run.
-fn fault_of(fault: OpenFault) -> RunFault
-    ensures same { (k : ℕ) → result ≡ NoWindow k → fault ≡ OpenFault.NoWindow k }
-    ensures cases { ((k : ℕ) × (result ≡ NoWindow k)) ⊎ (result ≡ NoMemory) }
-{
-    match fault {
-        OpenFault::NoWindow(window) => RunFault::NoWindow(window),
-        OpenFault::Places(_) | OpenFault::NoMemory => RunFault::NoMemory,
-    }
 }

@@ -1,35 +1,77 @@
 -- The words of a clerk's line, taken one after the other.
-use Rattle.std.proofs.Common.{◌≡◌, ◌≢◌, inl, inr, ℕ, ◌+◌, List, [], ◌∷◌, refl, sym, ◌∙◌, subst, codes}
-use Rattle.std.proofs.Common.{arith}
+use Rattle.std.proofs.Common.{◌≡◌, ◌≢◌, inl, inr, ℕ, ◌+◌, List, [], ◌∷◌, ◌++◌, refl, ap, sym, ◌∙◌, subst, codes}
+use Rattle.std.proofs.Common.{arith, append-nil, Option, None, Some, IsTrue, false}
+use Rattle.std.specs.Prelude.{is_some, IfSome, IfNone}
 use Rattle.geo_exact.specs.declared.corner.Corner.{Corner}
 use Rattle.ring_edits.specs.declared.edit.Edit.{Edit}
 use Rattle.ring_edits.specs.declared.edit.Edit.TheVariants.{Split, Merge, Move, Insert, Straighten}
 use Rattle.line_files.specs.TextNumbers.{IsNumber, AreCornerWords}
 use Rattle.line_files.specs.ClerkFile.{ArePath, IsSplitLine, IsMergeLine, IsMoveLine, IsInsertLine, IsStraightenLine}
-use Rattle.line_files.specs.ClerkFile.{SayEdit, SaysEdit, words_of}
-use Rattle.line_files.specs.TextLines.{IsSkipped, IsBad, IsFirstBad}
+use Rattle.line_files.specs.ClerkFile.{SayEdit, SayAnEdit, SaysEdit, words_of}
+use Rattle.line_files.specs.TextLines.{IsSkipped, IsBad, IsFirstBad, FirstSays}
 use Rattle.line_files.specs.declared.grids.Grid.{Grid}
-use Rattle.line_files.specs.own.EditWords.{TakesNumber, TakesCorner}
-use Rattle.line_files.proofs.CornerWords.{ahead, behind, same_corners, IsReadTo, stuck, all_read}
+use Rattle.line_files.specs.own.EditWords.{TakesNumber, TakesCorner, AreAPath}
+use Rattle.line_files.proofs.CornerWords.{ahead, behind, same_corners, IsReadTo, one_more_read, all_read}
 use Rattle.line_files.proofs.Numerals.{one_number}
 use Rattle.line_files.proofs.Said.{IsGrammar}
 
 -- ---- a path
--- where no corner follows, but words do, all are no path
-pub no_path : {grid : Grid} (all words : List (List ℕ)) (path : List Corner) → IsReadTo grid all words path → words ≢ []
-    → ((corner : Corner) → (left : List (List ℕ)) → ¬ TakesCorner grid words corner left) → (whole : List Corner)
-    → ¬ ArePath grid all whole
-no_path all words path h some none whole w = let o = h.only whole w.are_corners in stuck words some none o.0 o.1
+-- corners are read, and these words are left; where none is left, none was read
+pub record IsPathTo (grid : Grid) (all left : List (List ℕ)) : Type 0 where
+  pub path : List Corner
+  pub is_read : IsReadTo grid all left path
+  pub is_open : left ≡ [] → path ≡ []
 
--- where no word is left, all words are the path
-pub whole_path : {grid : Grid} (all words : List (List ℕ)) (path : List Corner) → IsReadTo grid all words path → words ≡ [] → path ≢ []
-    → ArePath grid all path
-whole_path all words path h e some = record { are_corners = all_read all words path h e; has_one = some }
+-- before the first word none is read
+pub read_none : {grid : Grid} (words : List (List ℕ)) → IsReadTo grid words words []
+read_none words = record { adds = λ more h. h; only = λ whole h. (whole, h, refl) }
 
-pub no_corners : {grid : Grid} (all words : List (List ℕ)) (path : List Corner) → IsReadTo grid all words path → words ≡ [] → path ≡ []
-    → (whole : List Corner) → ¬ ArePath grid all whole
-no_corners {grid} all words path h e none whole w =
-    w.has_one (same_corners grid all whole path w.are_corners (all_read all words path h e) ∙ none)
+pub path_begins : {grid : Grid} (words : List (List ℕ)) → IsPathTo grid words words
+path_begins words = record { path = []; is_read = read_none words; is_open = λ e. refl }
+
+-- one more corner, where words are left
+pub path_goes_on : {grid : Grid} (all words left : List (List ℕ)) (taken : Option Corner) → IsPathTo grid all words
+    → IsTrue (is_some taken) → IfSome taken (λ corner. TakesCorner grid words corner left) → left ≢ [] → IsPathTo grid all left
+path_goes_on all words left None h is t some = absurd (cc)
+path_goes_on all words left (Some corner) h is t some = record {
+  path = h.path ++ corner ∷ [];
+  is_read = one_more_read all words left h.path corner h.is_read t;
+  is_open = λ e. absurd (some e);
+}
+
+some_behind : (path : List Corner) (corner : Corner) → path ++ corner ∷ [] ≢ []
+some_behind [] corner e = absurd (cc)
+some_behind (c ∷ cs) corner e = absurd (cc)
+
+-- the last corner, where none are left
+pub path_ends : {grid : Grid} (all words left : List (List ℕ)) (taken : Option Corner) → IsPathTo grid all words
+    → IsTrue (is_some taken) → IfSome taken (λ corner. TakesCorner grid words corner left) → left ≡ [] → AreAPath grid all
+path_ends all words left None h is t e = absurd (cc)
+path_ends all words left (Some corner) h is t e = (
+  h.path ++ corner ∷ [],
+  record {
+    are_corners = all_read all left (h.path ++ corner ∷ []) (one_more_read all words left h.path corner h.is_read t) e;
+    has_one = some_behind h.path corner;
+  },
+)
+
+-- where no corner follows, what is read is a path only if all are it
+ended : {grid : Grid} (all words : List (List ℕ)) (path whole more : List Corner)
+    → ((corner : Corner) → (left : List (List ℕ)) → ¬ TakesCorner grid words corner left)
+    → AreCornerWords grid words more → whole ≡ path ++ more → ArePath grid all whole → (words ≡ []) × ArePath grid all path
+ended {grid} all words path whole [] none m e w = (m, subst (ArePath grid all) (e ∙ append-nil path) w)
+ended all words path whole (c ∷ cs) none m e w = absurd (none c m.2 (ahead words c cs m))
+
+pub path_is_read : {grid : Grid} (all words : List (List ℕ)) (path : List Corner) → IsReadTo grid all words path
+    → ((corner : Corner) → (left : List (List ℕ)) → ¬ TakesCorner grid words corner left) → AreAPath grid all → ArePath grid all path
+path_is_read all words path h none w = let o = h.only w.0 w.1.are_corners in
+    (ended all words path w.0 o.0 none o.1 o.2 w.1).1
+
+pub no_path : {grid : Grid} (all words : List (List ℕ)) (taken : Option Corner) → IsPathTo grid all words → is_some taken ≡ false
+    → IfNone taken ((corner : Corner) → (left : List (List ℕ)) → ¬ TakesCorner grid words corner left) → ¬ AreAPath grid all
+no_path all words (Some corner) h is none w = absurd (cc)
+no_path all words None h is none w = let o = h.is_read.only w.0 w.1.are_corners in
+    let r = ended all words h.path w.0 o.0 none o.1 o.2 w.1 in r.1.has_one (h.is_open r.0)
 
 -- ---- which edits words can say, by the first of them
 same_byte : (a b : ℕ) (xs ys : List ℕ) (v w : List (List ℕ)) → (a ∷ xs) ∷ v ≡ (b ∷ ys) ∷ w → a ≡ b
@@ -129,6 +171,35 @@ one_edit grid words (Straighten at) y h k =
     let lists : at ∷ [] ≡ o.0 ∷ [] =
     same_corners grid o.2.places _ _ (subst (λ w. AreCornerWords grid w (at ∷ [])) places h.are_places) o.2.are_places in
     cc (o.1)
+
+-- ---- that they say an edit with a path
+pub split_said : {A : Type 0} (grid : Grid) (words left : List (List ℕ)) (id : ℕ) → TakesNumber words id left → AreAPath grid left
+    → SayAnEdit A grid (codes "split" ∷ words)
+split_said grid words left id t h = (
+  Split id h.0,
+  record {
+    parcel = t.word;
+    places = left;
+    are_words = ap (λ words. codes "split" ∷ words) t.are_words;
+    is_parcel = t.is_number;
+    are_places = h.1;
+  },
+)
+
+pub move_said : {A : Type 0} (grid : Grid) (words one two : List (List ℕ)) (a b : ℕ) → TakesNumber words a one → TakesNumber one b two
+    → AreAPath grid two → SayAnEdit A grid (codes "move" ∷ words)
+move_said grid words one two a b t u h = (
+  Move a b h.0,
+  record {
+    first = t.word;
+    second = u.word;
+    places = two;
+    are_words = ap (λ words. codes "move" ∷ words) (t.are_words ∙ ap (λ words. t.word ∷ words) u.are_words);
+    is_first = t.is_number;
+    is_second = u.is_number;
+    are_places = h.1;
+  },
+)
 
 -- ---- why they say nothing
 module _ {A : Type 0} (grid : Grid) (words : List (List ℕ)) where
@@ -252,4 +323,22 @@ first_bad_retyped A B grid number [] n h = h
 first_bad_retyped A B grid number (line ∷ lines) n h = elim h [
   | inl k ↦ inl (bad_retyped A B grid number line k.0, k.1)
   | inr k ↦ inr (λ b. k.0 (bad_retyped B A grid number line b), first_bad_retyped A B grid (number + 1) lines n k.1)
+]
+
+says_retyped : (A B : Type 0) (grid : Grid) (number : ℕ) (line : List ℕ) → ((x : ℕ × Edit A) × SaysEdit grid number line x)
+    → ((x : ℕ × Edit B) × SaysEdit grid number line x)
+says_retyped A B grid number line said = (
+  (said.0.0, retyped B said.0.1),
+  record {
+    is_number = said.1.is_number;
+    is_edit = say_retyped B grid (words_of line) said.0.1 said.1.is_edit;
+  },
+)
+
+pub first_says_retyped : (A B : Type 0) (grid : Grid) (number : ℕ) (lines : List (List ℕ)) → FirstSays (SaysEdit {A = A} grid) number lines
+    → FirstSays (SaysEdit {A = B} grid) number lines
+first_says_retyped A B grid number [] h = h
+first_says_retyped A B grid number (line ∷ lines) h = elim h [
+  | inl k ↦ inl (k.0, first_says_retyped A B grid (number + 1) lines k.1)
+  | inr k ↦ inr (k.0, says_retyped A B grid number line k.1)
 ]

@@ -1,6 +1,6 @@
 -- The lines of a text, behind the one that names its grid.
 use Rattle.std.proofs.Common.{◌≡◌, ℕ, ◌+◌, List, [], ◌∷◌, cond, sym, subst}
-use Rattle.line_files.specs.TextLines.{lines_of, AreSaid, IsFirstBad}
+use Rattle.line_files.specs.TextLines.{lines_of, AreSaid, IsFirstBad, FirstSays}
 use Rattle.line_files.specs.Grids.{grid_of, behind_grid}
 use Rattle.line_files.specs.declared.grids.Grid.{Grid}
 use Rattle.line_files.specs.declared.grids.Grid.TheVariants.{Millimetres, Centimetres}
@@ -37,3 +37,7 @@ module _ {X : Type 0} (Says : Grid → ℕ → List ℕ → X → Type 0) (grid 
   pub bad_there : (n : ℕ) → IsFirstBad (Says (grid_of (lines_of text))) 1 (behind_grid (lines_of text)) n
       → IsFirstBad (Says grid) 1 (behind_grid (lines_of text)) n
   bad_there n k = subst (λ grid. IsFirstBad (Says grid) 1 (behind_grid (lines_of text)) n) (sym h.is_grid) k
+
+  pub first_on_it : FirstSays (Says grid) 1 (behind_grid (lines_of text))
+      → FirstSays (Says (grid_of (lines_of text))) 1 (behind_grid (lines_of text))
+  first_on_it k = subst (λ grid. FirstSays (Says grid) 1 (behind_grid (lines_of text))) h.is_grid k

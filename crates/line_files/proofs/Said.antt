@@ -1,7 +1,7 @@
 -- Lines that are read one after the other: what they say so far, and what is left.
 use Rattle.std.proofs.Common.{◌≡◌, inl, inr, ℕ, ◌+◌, List, [], ◌∷◌, ◌++◌, refl, ap, sym, ◌∙◌, subst}
 use Rattle.std.proofs.Common.{append_assoc, append-nil}
-use Rattle.line_files.specs.TextLines.{IsSkipped, AreSaid, IsBad, IsFirstBad}
+use Rattle.line_files.specs.TextLines.{IsSkipped, AreSaid, IsBad, IsFirstBad, FirstSays}
 
 -- a line says one thing at most
 pub record IsGrammar {X : Type 0} (Says : ℕ → List ℕ → X → Type 0) : Type 0 where
@@ -14,6 +14,7 @@ pub record AreRead {X : Type 0} (Says : ℕ → List ℕ → X → Type 0) (all 
   pub only : (whole : List X) → AreSaid Says 1 all whole → (more : List X) × AreSaid Says number left more × (whole ≡ said ++ more)
   pub bad : (n : ℕ) → IsFirstBad Says number left n → IsFirstBad Says 1 all n
   pub same_bad : (n : ℕ) → IsFirstBad Says 1 all n → IsFirstBad Says number left n
+  pub first : FirstSays Says number left → FirstSays Says 1 all
 
 -- none is read
 pub none_read : {X : Type 0} (Says : ℕ → List ℕ → X → Type 0) (all : List (List ℕ)) → AreRead Says all 1 all []
@@ -22,6 +23,7 @@ none_read Says all = record {
   only = λ whole h. (whole, h, refl);
   bad = λ n h. h;
   same_bad = λ n h. h;
+  first = λ h. h;
 }
 
 module _ {X : Type 0} (Says : ℕ → List ℕ → X → Type 0) (grammar : IsGrammar Says) (all : List (List ℕ)) (number : ℕ)
@@ -39,6 +41,7 @@ module _ {X : Type 0} (Says : ℕ → List ℕ → X → Type 0) (grammar : IsGr
       | inl m ↦ absurd (m.0.is_not_skipped k)
       | inr m ↦ m.1
     ];
+    first = λ m. h.first (inl (k, m));
   }
 
   -- one that says something
@@ -61,6 +64,7 @@ module _ {X : Type 0} (Says : ℕ → List ℕ → X → Type 0) (grammar : IsGr
       | inl m ↦ absurd (m.0.says_nothing x k)
       | inr m ↦ m.1
     ];
+    first = λ m. h.first (inr (apart, (x, k)));
   }
 
   -- at a bad line nothing is said by all, and it is the first bad one
@@ -80,6 +84,12 @@ module _ {X : Type 0} (Says : ℕ → List ℕ → X → Type 0) (grammar : IsGr
     | inl m ↦ m.1
     | inr m ↦ absurd (m.0 k)
   ]
+
+-- where the next line says something, so does the first that is not skipped
+pub says_first : {X : Type 0} (Says : ℕ → List ℕ → X → Type 0) (all : List (List ℕ)) (number : ℕ) (line : List ℕ)
+    (left : List (List ℕ)) (said : List X) (x : X) → AreRead Says all number (line ∷ left) said → ¬ IsSkipped line
+    → Says number line x → FirstSays Says 1 all
+says_first Says all number line left said x h apart k = h.first (inr (apart, (x, k)))
 
 -- where no line is left, this is what all say, and none is bad
 module _ {X : Type 0} (Says : ℕ → List ℕ → X → Type 0) (all : List (List ℕ)) (number : ℕ) (said : List X) where

@@ -4,7 +4,7 @@ use Rattle.std.specs.List.{slice_split}
 use Rattle.geo_exact.specs.declared.corner.Corner.{Corner}
 use Rattle.ring_edits.specs.declared.edit.Edit.{Edit}
 use Rattle.ring_edits.specs.declared.edit.Edit.TheVariants.{Split, Merge, Move, Insert, Straighten}
-use Rattle.line_files.specs.TextLines.{lines_of, AreSaid, IsFirstBad}
+use Rattle.line_files.specs.TextLines.{lines_of, AreSaid, IsFirstBad, FirstSays}
 use Rattle.line_files.specs.Grids.{grid_of, behind_grid}
 use Rattle.line_files.specs.TextNumbers.{IsNumber, AreCornerWords}
 use Rattle.line_files.specs.declared.grids.Grid.{Grid}
@@ -64,6 +64,10 @@ SayEdit grid words (Move a b path) = IsMoveLine grid words a b path
 SayEdit grid words (Insert from to at) = IsInsertLine grid words from to at
 SayEdit grid words (Straighten at) = IsStraightenLine grid words at
 
+-- the words say an edit
+abbrev pub SayAnEdit : (A : Type 0) → Grid → List (List ℕ) → Type 0
+SayAnEdit A grid words = (edit : Edit A) × SayEdit grid words edit
+
 -- the words say this edit, or none
 abbrev pub IsEditOf : {A : Type 0} → Grid → List (List ℕ) → Option (Edit A) → Type 0
 IsEditOf {A} grid words None = (edit : Edit A) → ¬ SayEdit grid words edit
@@ -83,3 +87,7 @@ IsClerkFile bytes list = AreSaid (SaysEdit (grid_of (lines_of bytes))) 1 (behind
 -- none)
 abbrev pub IsFirstBadLine : List ℕ → ℕ → Type 0
 IsFirstBadLine bytes n = IsFirstBad (SaysEdit {A = ⊤} (grid_of (lines_of bytes))) 1 (behind_grid (lines_of bytes)) n
+
+-- the first line but a first `grid cm` that is not skipped says an edit (of edits in whatever memory, here none)
+abbrev pub BeginsWithEdit : List ℕ → Type 0
+BeginsWithEdit bytes = FirstSays (SaysEdit {A = ⊤} (grid_of (lines_of bytes))) 1 (behind_grid (lines_of bytes))

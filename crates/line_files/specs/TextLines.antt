@@ -42,3 +42,9 @@ abbrev pub IsFirstBad : {X : Type 0} → (ℕ → List ℕ → X → Type 0) →
 IsFirstBad Says number [] n = ⊥
 IsFirstBad Says number (line ∷ lines) n =
     (IsBad Says number line × (n ≡ number)) ⊎ ((¬ IsBad Says number line) × IsFirstBad Says (number + 1) lines n)
+
+-- the first line that is not skipped says something
+abbrev pub FirstSays : {X : Type 0} → (ℕ → List ℕ → X → Type 0) → ℕ → List (List ℕ) → Type 0
+FirstSays Says number [] = ⊥
+FirstSays {X} Says number (line ∷ lines) =
+    (IsSkipped line × FirstSays Says (number + 1) lines) ⊎ ((¬ IsSkipped line) × ((x : X) × Says number line x))

@@ -2,7 +2,7 @@
 
 ghost use Rattle.std.specs.Prelude.{◌≡◌, ◌⊎◌, ℕ, List, IfOk, IsErrAnd, IsErrOf, MatchResult};
 ghost use Rattle.ring_edits.specs.declared.edit.Edit.{Edit as EditValue};
-ghost use Rattle.line_files.specs.ClerkFile.{IsClerkFile, IsFirstBadLine};
+ghost use Rattle.line_files.specs.ClerkFile.{IsClerkFile, IsFirstBadLine, BeginsWithEdit};
 ghost use Rattle.line_files.specs.declared.clerk.ClerkFault.TheVariants.{Line, NoMemory};
 
 use crate::edit_words::read_edit;
@@ -51,7 +51,8 @@ impl<T: Drop> From<AllocFailed<T>> for ClerkFault {
 ///
 /// # Errors
 ///
-/// [`ClerkFault::Line`] with the first line that is neither an edit nor skipped, and [`ClerkFault::NoMemory`].
+/// [`ClerkFault::Line`] with the first line that is neither an edit nor skipped, and [`ClerkFault::NoMemory`], which
+/// only edits can meet: a text whose first line that is not skipped is a bad one is refused by that line.
 ///
 /// ```
 /// // "merge 3 4\n": one edit, of line 1.
@@ -69,6 +70,8 @@ pub fn read_clerk<A: Allocator + Copy>(
     // The first bad line is told, unless memory runs out.
     ensures refuses { (number : ℕ) → IsFirstBadLine bytes.now number
         → IsErrAnd result (λ fault. (fault ≡ Line number) ⊎ (fault ≡ NoMemory)) }
+    // It runs out only where it is asked for: where the first line that is not skipped says an edit.
+    ensures memory { IsErrOf result NoMemory → BeginsWithEdit bytes.now }
 {
     let mut list = Vec::new(alloc);
     let (grid, mut rest) = split_grid(bytes);

@@ -1,10 +1,10 @@
 //! The words of a line, as an edit.
 
-ghost use Rattle.std.specs.Prelude.{◌∷◌, ℕ, List, IfSome, IfNone, IfOk, MatchOption, codes};
+ghost use Rattle.std.specs.Prelude.{◌∷◌, ◌↔◌, ℕ, List, IfSome, IfNone, IfOk, IfErr, IsTrue, MatchOption, codes};
 ghost use Rattle.geo_exact.specs.declared.corner.Corner.{Corner as CornerValue};
-ghost use Rattle.line_files.specs.ClerkFile.{words_of, ArePath, IsEditOf};
+ghost use Rattle.line_files.specs.ClerkFile.{words_of, ArePath, IsEditOf, SayAnEdit};
 ghost use Rattle.line_files.specs.declared.grids.Grid.{Grid as GridValue};
-ghost use Rattle.line_files.specs.own.EditWords.{TakesNumber, TakesCorner};
+ghost use Rattle.line_files.specs.own.EditWords.{TakesNumber, TakesCorner, AreAPath};
 
 use crate::grids::Grid;
 use crate::text_numbers::{read_corner_on, read_number};
@@ -18,7 +18,7 @@ use std::alloc::{AllocError, Allocator};
 ///
 /// # Errors
 ///
-/// [`AllocError`] where an allocation is refused.
+/// [`AllocError`] where an allocation is refused for the path of an edit; a line that says none is never refused so.
 ///
 /// ```
 /// // Some, of the edit that makes parcels 3 and 4 one:
@@ -29,7 +29,9 @@ pub fn read_edit<A: Allocator + Copy>(
     grid: Grid,
     line: &[u8],
 ) -> Result<Option<Edit<A>>, AllocError>
-    ensures { IfOk result (IsEditOf grid (words_of line.now)) }
+    ensures edit { IfOk result (IsEditOf grid (words_of line.now)) }
+    // Memory runs out only where it is asked for: where the line says an edit.
+    ensures memory { IfErr result (λ _. SayAnEdit A grid (words_of line.now)) }
 {
     let mut words = Words::new(line);
     let Some(name) = words.next() else {
@@ -56,7 +58,8 @@ fn read_split<A: Allocator + Copy>(
     grid: Grid,
     mut words: Words<'_>,
 ) -> Result<Option<Edit<A>>, AllocError>
-    ensures { IfOk result (IsEditOf grid (codes "split" ∷ words.entry)) }
+    ensures edit { IfOk result (IsEditOf grid (codes "split" ∷ words.entry)) }
+    ensures memory { IfErr result (λ _. SayAnEdit A grid (codes "split" ∷ words.entry)) }
 {
     let Some(id) = take_number(&mut words) else {
         return Ok(None);
@@ -86,7 +89,8 @@ fn read_move<A: Allocator + Copy>(
     grid: Grid,
     mut words: Words<'_>,
 ) -> Result<Option<Edit<A>>, AllocError>
-    ensures { IfOk result (IsEditOf grid (codes "move" ∷ words.entry)) }
+    ensures edit { IfOk result (IsEditOf grid (codes "move" ∷ words.entry)) }
+    ensures memory { IfErr result (λ _. SayAnEdit A grid (codes "move" ∷ words.entry)) }
 {
     let Some(a) = take_number(&mut words) else {
         return Ok(None);
@@ -126,27 +130,36 @@ fn read_straighten<A: Allocator>(grid: Grid, mut words: Words<'_>) -> Option<Edi
     }
 }
 
-/// The corners that all words are; `None` where they are no path.
+/// The corners that all words are; `None` where they are no path, which is known before memory is asked for.
 fn read_path<A: Allocator + Copy>(
     alloc: A,
     grid: Grid,
     mut words: Words<'_>,
 ) -> Result<Option<Corners<A>>, AllocError>
-    ensures { IfOk result (λ found. MatchOption found ((path : List CornerValue) → ¬ ArePath grid words.entry path)
+    ensures path { IfOk result (λ found. MatchOption found ((path : List CornerValue) → ¬ ArePath grid words.entry path)
         (ArePath grid words.entry)) }
+    ensures memory { IfErr result (λ _. AreAPath grid words.entry) }
 {
+    if !is_path(grid, words.copy()) {
+        return Ok(None);
+    }
     let mut path = Corners::new(alloc);
-    while !words.is_empty() {
-        let Some(corner) = take_corner(grid, &mut words) else {
-            return Ok(None);
-        };
+    while let Some(corner) = take_corner(grid, &mut words) {
         path.push(corner)?;
     }
-    if path.is_empty() {
-        Ok(None)
-    } else {
-        Ok(Some(path))
+    Ok(Some(path))
+}
+
+/// Whether all words are the corners of a path.
+fn is_path(grid: Grid, mut words: Words<'_>) -> bool
+    ensures { IsTrue result ↔ AreAPath grid words.entry }
+{
+    while take_corner(grid, &mut words).is_some() {
+        if words.is_empty() {
+            return true;
+        }
     }
+    false
 }
 
 /// The number that the next word is; `None` where it is none, or no word is left.

@@ -38,6 +38,16 @@ impl<'a> Words<'a> {
         }
     }
 
+    /// The same words, to be read on their own. It is no `Clone`, which could be refused memory.
+    pub(crate) fn copy(&self) -> Words<'a>
+        ensures { result ≡ self.now }
+    {
+        Words {
+            text: self.text,
+            is_read: self.is_read,
+        }
+    }
+
     /// Whether none is left.
     pub fn is_empty(&self) -> bool
         ensures { IsTrue result ↔ (self.now ≡ []) }

@@ -2,4 +2,5 @@
 pub mod Exports
 pub mod Operators
 pub mod Overlays
+pub mod OwnFiles
 pub mod Posts

@@ -11,8 +11,15 @@ use std::rt::{Clock, Files};
 
 /// What a machine says of its files' paths and of the time: [`Disk`] is the machine's.
 pub trait Machine {
+    ghost use Rattle.std.specs.Prelude.{⊤, ℕ, List, Option};
+    ghost use Rattle.std.specs.Result.{result_ok};
+
+    // What may be told of the file at a path: its device and its node, or none; a machine that says nothing leaves it out.
+    ghost tells: { Self → List ℕ → Option (ℕ × ℕ) → Type 0 } = { λ _ _ _. ⊤ };
+
     /// The device and the node of the file at a path.
-    fn node(&self, path: &str) -> io::Result<(u64, u64)>;
+    fn node(&self, path: &str) -> io::Result<(u64, u64)>
+        ensures { tells self.now path.now (result_ok result) };
 
     /// The time, in whole seconds since 1970, UTC.
     fn seconds(&self) -> io::Result<i64>;

@@ -1,7 +1,8 @@
 //! The operator's desk.
 
-ghost use Rattle.std.specs.Prelude.{◌≡◌, Some, OnOk, IfOk};
-ghost use Rattle.register_sessions.specs.own.Operators.{IsCheckAnswer, IsPublishAnswer, IsOverlayAnswer, IsZonesAnswer, IsExportAnswer};
+ghost use Rattle.std.specs.Prelude.{◌≡◌, Some, OnOk, IfOk, IfErr};
+ghost use Rattle.register_sessions.specs.own.Operators.{IsCheckAnswer, IsPublishAnswer, IsOverlayAnswer, IsZonesAnswer};
+ghost use Rattle.register_sessions.specs.own.Operators.{IsExportAnswer, IsFreeExport};
 ghost use Rattle.register_sessions.specs.own.Operators.{IsOperatorAnswer, IsOperatorAnswerOf, next_of};
 ghost use Rattle.session_rooms.specs.DeskAnswers.{GoesOnBy, HasWindowLearnt};
 
@@ -28,7 +29,7 @@ pub(crate) struct Operator<'h, H: Allocator, J: Naming<H>> {
 pub(crate) fn serve_operator<
     'h,
     P: Exports + Machine,
-    H: Allocator,
+    H: Allocator + Send + Sync,
     J: Naming<H>,
     R: Wait,
     K: Clocked,
@@ -62,7 +63,7 @@ impl<
     'r,
     'h,
     P: Exports + Machine,
-    H: Allocator,
+    H: Allocator + Send + Sync,
     J: Naming<H>,
     R: Wait,
     K: Clocked,
@@ -71,7 +72,8 @@ impl<
     ghost use Rattle.register_sessions.specs.own.Operators.{IsOperatorAnswerOf};
 
     ghost answers = { λ old came line before next new after.
-        IsOperatorAnswerOf P.finds P.replace_gives W.written J.office old.room.now.journal old.disk.now old.operator.now.ground.zones
+        IsOperatorAnswerOf P.tells P.finds P.replace_gives W.written J.office old.room.now.journal old.disk.now
+        old.operator.now.ground.own_files old.operator.now.ground.zones
         old.operator.now.chair new.operator.now.chair came line before next after };
 
     fn answer(
@@ -89,7 +91,7 @@ impl<
 fn answer_operator<
     'h,
     P: Exports + Machine,
-    H: Allocator,
+    H: Allocator + Send + Sync,
     J: Naming<H>,
     R: Wait,
     K: Clocked,
@@ -103,10 +105,11 @@ fn answer_operator<
     text: &mut Vec<u8, &'h H>,
     out: &mut W,
 ) -> Result<Next, Trouble>
-    ensures { IfOk result (λ next. IsOperatorAnswerOf P.finds P.replace_gives W.written J.office room.now.journal disk.now
-        operator.old.ground.zones
+    ensures answered { IfOk result (λ next. IsOperatorAnswerOf P.tells P.finds P.replace_gives W.written J.office
+        room.now.journal disk.now operator.old.ground.own_files operator.old.ground.zones
         operator.old.chair operator.new.chair came line.now (record { text = text.old.items; out = out.old })
         next (record { text = text.new.items; out = out.new })) }
+    ensures unwritten { IfErr result (λ trouble. trouble ≡ Trouble.NoMemory → out.new ≡ out.old) }
 {
     match read_asked(room.heap, came, line) {
         Ok(asked) => {
@@ -135,7 +138,7 @@ fn next_of<A: Allocator>(line: &Line<'_, A>) -> Next
 fn answer_line<
     'h,
     P: Exports + Machine,
-    H: Allocator,
+    H: Allocator + Send + Sync,
     J: Naming<H>,
     R: Wait,
     K: Clocked,
@@ -148,10 +151,11 @@ fn answer_line<
     text: &mut Vec<u8, &'h H>,
     out: &mut W,
 ) -> Result<(), Trouble>
-    ensures { OnOk result (IsOperatorAnswer P.finds P.replace_gives W.written J.office room.now.journal disk.now
-        operator.old.ground.zones
+    ensures answered { OnOk result (IsOperatorAnswer P.tells P.finds P.replace_gives W.written J.office
+        room.now.journal disk.now operator.old.ground.own_files operator.old.ground.zones
         operator.old.chair operator.new.chair asked.entry.line (record { text = text.old.items; out = out.old })
         (record { text = text.new.items; out = out.new })) }
+    ensures unwritten { IfErr result (λ trouble. trouble ≡ Trouble.NoMemory → out.new ≡ out.old) }
 {
     let Operator { chair, ground } = operator;
     let Asked { who, line } = asked;
@@ -183,15 +187,16 @@ fn answer_check<'h, H: Allocator, J: Naming<H>, R: Wait, K: Clocked>(
 }
 
 /// Writes which parcels and zones overlap, where there are zones, and with areas how much of each parcel lies in each zone.
-fn answer_overlay<'h, H: Allocator, J: Naming<H>, R: Wait, K: Clocked, W: ByteOut>(
+fn answer_overlay<'h, H: Allocator + Send + Sync, J: Naming<H>, R: Wait, K: Clocked, W: ByteOut>(
     room: &Room<'_, 'h, H, J, R, DiskFile, K>,
     ground: &Ground<'h, H, J>,
     has_areas: bool,
     text: &mut Vec<u8, &'h H>,
     out: &mut W,
 ) -> Result<(), Trouble>
-    ensures { OnOk result (IsOverlayAnswer W.written has_areas J.office room.now.journal ground.now.zones
+    ensures answered { OnOk result (IsOverlayAnswer W.written has_areas J.office room.now.journal ground.now.zones
         (record { text = text.old.items; out = out.old }) (record { text = text.new.items; out = out.new })) }
+    ensures unwritten { IfErr result (λ trouble. trouble ≡ Trouble.NoMemory → out.new ≡ out.old) }
 {
     match &ground.zones {
         Some(zones) => answer_zones(room, zones, has_areas, text, out),
@@ -200,15 +205,16 @@ fn answer_overlay<'h, H: Allocator, J: Naming<H>, R: Wait, K: Clocked, W: ByteOu
 }
 
 /// Writes which parcels overlap these zones.
-fn answer_zones<'h, H: Allocator, J: Naming<H>, R: Wait, K: Clocked, W: ByteOut>(
+fn answer_zones<'h, H: Allocator + Send + Sync, J: Naming<H>, R: Wait, K: Clocked, W: ByteOut>(
     room: &Room<'_, 'h, H, J, R, DiskFile, K>,
     zones: &Layer<'h, H>,
     has_areas: bool,
     text: &mut Vec<u8, &'h H>,
     out: &mut W,
 ) -> Result<(), Trouble>
-    ensures { OnOk result (IsZonesAnswer W.written has_areas J.office room.now.journal zones.now
+    ensures answered { OnOk result (IsZonesAnswer W.written has_areas J.office room.now.journal zones.now
         (record { text = text.old.items; out = out.old }) (record { text = text.new.items; out = out.new })) }
+    ensures unwritten { IfErr result (λ trouble. trouble ≡ Trouble.NoMemory → out.new ≡ out.old) }
 {
     match room.sheet() {
         Ok(drawn) => report_zones(room.heap, &drawn.sheet, zones, has_areas, text, out),
@@ -216,7 +222,8 @@ fn answer_zones<'h, H: Allocator, J: Naming<H>, R: Wait, K: Clocked, W: ByteOut>
     }
 }
 
-/// Replaces the layer at BASE by the parcels, unless that is one of the session's own files, or something is in the way.
+/// Replaces the layer at BASE by the parcels, unless that would replace one of the session's own files, or something is in
+/// the way.
 fn answer_export<'h, P: Exports + Machine, H: Allocator, J: Naming<H>, R: Wait, K: Clocked>(
     room: &Room<'_, 'h, H, J, R, DiskFile, K>,
     disk: &P,
@@ -224,13 +231,28 @@ fn answer_export<'h, P: Exports + Machine, H: Allocator, J: Naming<H>, R: Wait, 
     base: &str,
     text: &mut Vec<u8, &'h H>,
 ) -> Result<(), AllocError>
-    ensures { OnOk result (GoesOnBy (IsExportAnswer P.finds P.replace_gives J.office room.now.journal disk.now base.now)
+    ensures { OnOk result (GoesOnBy (IsExportAnswer P.tells P.finds P.replace_gives J.office room.now.journal disk.now
+        ground.now.own_files base.now) text.old.items text.new.items) }
+{
+    match ground.own_files.find_in_export(disk, room.heap, base)? {
+        Some(path) => {
+            let why = format!(in room.heap; "S5 {path}")?;
+            push_failure(text, why.as_str())
+        }
+        None => answer_free_export(room, disk, base, text),
+    }
+}
+
+/// The same where it would replace none of them.
+fn answer_free_export<'h, P: Exports, H: Allocator, J: Naming<H>, R: Wait, K: Clocked>(
+    room: &Room<'_, 'h, H, J, R, DiskFile, K>,
+    disk: &P,
+    base: &str,
+    text: &mut Vec<u8, &'h H>,
+) -> Result<(), AllocError>
+    ensures { OnOk result (GoesOnBy (IsFreeExport P.finds P.replace_gives J.office room.now.journal disk.now base.now)
         text.old.items text.new.items) }
 {
-    if let Some(path) = ground.own_files.find_in_export(disk, room.heap, base)? {
-        let why = format!(in room.heap; "S5 {path}")?;
-        return push_failure(text, why.as_str());
-    }
     match disk.obstacle(room.heap, base)? {
         Some(why) => push_failure(text, why.as_str()),
         None => match room.sheet() {

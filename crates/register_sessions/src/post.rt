@@ -1,6 +1,6 @@
 //! How lines are taken and answered, one after the other.
 
-ghost use Rattle.std.specs.Prelude.{◌≡◌, ◌<◌, Bool, ℕ, List, [], vec_len, IfOk, IfNone, OnErr, OnOk};
+ghost use Rattle.std.specs.Prelude.{◌≡◌, ◌<◌, Bool, ℕ, List, [], vec_len, IfOk, IfErr, IfNone, OnErr, OnOk};
 ghost use Rattle.std.specs.Io.KnownBytes.{Appends};
 ghost use Rattle.std.specs.Io.Buffered.{reader_remaining};
 ghost use Rattle.std.specs.Io.BufRead.{strip_last};
@@ -38,12 +38,22 @@ pub(crate) enum Trouble {
 }
 
 impl From<AllocError> for Trouble {
+    ghost use Rattle.std.specs.Prelude.{◌≡◌};
+    ghost use Rattle.register_sessions.specs.declared.post.Trouble.TheVariants.{NoMemory};
+
+    ghost from_gives = { λ _ trouble. trouble ≡ NoMemory };
+
     fn from(_: AllocError) -> Trouble {
         Trouble::NoMemory
     }
 }
 
 impl From<Failed> for Trouble {
+    ghost use Rattle.std.specs.Prelude.{◌≡◌};
+    ghost use Rattle.register_sessions.specs.declared.post.Trouble.TheVariants.{Failed as NotWritten};
+
+    ghost from_gives = { λ _ trouble. trouble ≡ NotWritten };
+
     fn from(_: Failed) -> Trouble {
         Trouble::Failed
     }
@@ -80,8 +90,11 @@ pub(crate) trait Attendant<A: Allocator, W: ByteOut> {
         text: &mut Vec<u8, A>,
         out: &mut W,
     ) -> Result<Next, Trouble>
-        ensures { IfOk result (λ next. answers self.old came line.now (record { text = text.old.items; out = out.old })
-            next self.new (record { text = text.new.items; out = out.new })) };
+        ensures answered { IfOk result (λ next. answers self.old came line.now
+            (record { text = text.old.items; out = out.old })
+            next self.new (record { text = text.new.items; out = out.new })) }
+        // Where memory is refused for the answer, nothing is written.
+        ensures unwritten { IfErr result (λ trouble. trouble ≡ Trouble.NoMemory → out.new ≡ out.old) };
 }
 
 /// Has lines answered, one after the other, until no further one is taken.

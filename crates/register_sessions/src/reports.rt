@@ -2,29 +2,33 @@
 
 ghost use Rattle.std.specs.Prelude.{◌≡◌, ◌≢◌, ◌⊎◌, ℕ, List, [], ◌∷◌, ⊤, true, false, map, length, Option, Result};
 ghost use Rattle.std.specs.Prelude.{IfOk, IfErr, OnOk, string_bytes};
+ghost use Rattle.std.specs.List.{AllZip};
 ghost use Rattle.std.specs.List.Sorted.{IsStrictlyIncreasing};
 ghost use Rattle.std.specs.Option.{option_map};
 ghost use Rattle.fabric_core.specs.Rows.{numbers};
+ghost use Rattle.overlay_work.specs.Rounds.{WorksOff};
 ghost use Rattle.overlay_work.specs.declared.round.RoundFault.TheVariants.{OtherCity, NoMemory as NoRoom};
 ghost use Rattle.zone_tables.specs.Overlap.{IsOverlapTable};
 ghost use Rattle.session_lines.specs.declared.faults.SessionFault.TheVariants.{NoMemory, NoZones};
 ghost use Rattle.session_rooms.specs.DeskAnswers.{GoesOnBy};
-ghost use Rattle.register_sessions.specs.own.Overlays.{WritesTable, IsFaultOfAllHands};
+ghost use Rattle.register_sessions.specs.own.Overlays.{WritesTable, IsWantOfMemory};
 ghost use Rattle.register_sessions.specs.own.Operators.{IsOverlayReport, check_report};
 ghost use Rattle.register_sessions.specs.own.Exports.{IsExported, IsLineOfFault};
 
 use crate::own_files::OwnFiles;
 use crate::post::{Trouble, write_out};
 use area_shares::{AreaLine, area_lines, write_areas};
-use city_layers::ToolFault;
+use city_layers::{ToolFault, push_fault};
 use desk_lock::Naming;
 use fabric_core::{Layer, Sheet};
-use geo_exact::ByteOut;
-use overlay_work::{CloseFault, Hand, Round, RoundFault, Step, Table};
+use geo_exact::{ByteOut, Failed};
+use job_threads::Job;
+use overlay_work::{CloseFault, Gate, Hand, Round, RoundFault, Table};
 use parcel_runs::sheets::{export_sheet, push_sheet_tiling};
-use session_lines::{SessionFault, push_end, push_error, push_failure};
+use session_lines::{SessionFault, push_end, push_error};
 use std::alloc::{AllocError, Allocator};
 use std::marker::PhantomData;
+use text_pieces::{Sink, put_all};
 use zone_tables::write_report;
 
 /// What reports need beside the office's sheet: the zones of its city, where there are some, and which files no export
@@ -49,7 +53,7 @@ pub(crate) fn report_check<'h, H: Allocator>(
 }
 
 /// Writes what was collected, and then which parcels and zones overlap, with areas or without them.
-pub(crate) fn report_zones<'h, H: Allocator, W: ByteOut>(
+pub(crate) fn report_zones<'h, H: Allocator + Send + Sync, W: ByteOut>(
     heap: &'h H,
     sheet: &Sheet<'h, H>,
     zones: &Layer<'h, H>,
@@ -57,8 +61,9 @@ pub(crate) fn report_zones<'h, H: Allocator, W: ByteOut>(
     text: &mut Vec<u8, &'h H>,
     out: &mut W,
 ) -> Result<(), Trouble>
-    ensures { OnOk result (IsOverlayReport W.written has_areas sheet.now zones.now
+    ensures answered { OnOk result (IsOverlayReport W.written has_areas sheet.now zones.now
         (record { text = text.old.items; out = out.old }) (record { text = text.new.items; out = out.new })) }
+    ensures unwritten { IfErr result (λ trouble. trouble ≡ Trouble.NoMemory → out.new ≡ out.old) }
 {
     if has_areas {
         report_areas(heap, sheet, zones, text, out)
@@ -69,63 +74,64 @@ pub(crate) fn report_zones<'h, H: Allocator, W: ByteOut>(
 
 /// Writes what was collected, and then which parcels and zones overlap. They are found in this thread, so that desks
 /// keep the other processors.
-fn report_overlay<'h, H: Allocator, W: ByteOut>(
+fn report_overlay<'h, H: Allocator + Send + Sync, W: ByteOut>(
     heap: &'h H,
     sheet: &Sheet<'h, H>,
     zones: &Layer<'h, H>,
     text: &mut Vec<u8, &'h H>,
     out: &mut W,
 ) -> Result<(), Trouble>
-    ensures { OnOk result (IsOverlayReport W.written false sheet.now zones.now
+    ensures answered { OnOk result (IsOverlayReport W.written false sheet.now zones.now
         (record { text = text.old.items; out = out.old }) (record { text = text.new.items; out = out.new })) }
+    ensures unwritten { IfErr result (λ trouble. trouble ≡ Trouble.NoMemory → out.new ≡ out.old) }
 {
     match table_of(heap, sheet, zones) {
-        Ok(table) => write_overlay(&table, &[], text, out),
+        Ok(table) => Ok(write_overlay(&table, &[], text, out)?),
         Err(SessionFault::NoMemory) => Err(Trouble::NoMemory),
         Err(fault) => Ok(push_error(text, fault)?),
     }
 }
 
 /// The same, and behind it a line for each pair: how much of the parcel lies in the zone.
-fn report_areas<'h, H: Allocator, W: ByteOut>(
+fn report_areas<'h, H: Allocator + Send + Sync, W: ByteOut>(
     heap: &'h H,
     sheet: &Sheet<'h, H>,
     zones: &Layer<'h, H>,
     text: &mut Vec<u8, &'h H>,
     out: &mut W,
 ) -> Result<(), Trouble>
-    ensures { OnOk result (IsOverlayReport W.written true sheet.now zones.now
+    ensures answered { OnOk result (IsOverlayReport W.written true sheet.now zones.now
         (record { text = text.old.items; out = out.old }) (record { text = text.new.items; out = out.new })) }
+    ensures unwritten { IfErr result (λ trouble. trouble ≡ Trouble.NoMemory → out.new ≡ out.old) }
 {
     match table_of(heap, sheet, zones) {
         Ok(table) => {
             let areas = area_lines(heap, sheet, zones, table.pairs())?;
-            write_overlay(&table, areas.as_slice(), text, out)
+            Ok(write_overlay(&table, areas.as_slice(), text, out)?)
         }
         Err(SessionFault::NoMemory) => Err(Trouble::NoMemory),
         Err(fault) => Ok(push_error(text, fault)?),
     }
 }
 
-/// Writes what was collected, the report of a table and lines of areas, and adds the end.
+/// Writes what was collected, the report of a table, lines of areas, and the end. It takes no memory.
 fn write_overlay<'t, 'h, H: Allocator, W: ByteOut>(
     table: &Table<'t, 'h, H, &'h H>,
     areas: &[AreaLine],
     text: &mut Vec<u8, &'h H>,
     out: &mut W,
-) -> Result<(), Trouble>
+) -> Result<(), Failed>
     ensures { OnOk result
         (WritesTable table.now areas.now text.old.items text.new.items (W.written out.old) (W.written out.new)) }
 {
     write_out(text, out)?;
     write_report(table, out)?;
     write_areas(areas, out)?;
-    push_end(text)?;
-    Ok(())
+    put_all(b".\n", out)
 }
 
 /// The table of a sheet's parcels and the zones of its city, as one hand finds it.
-fn table_of<'t, 'h, H: Allocator>(
+fn table_of<'t, 'h, H: Allocator + Send + Sync>(
     heap: &'h H,
     sheet: &'t Sheet<'h, H>,
     zones: &'t Layer<'h, H>,
@@ -140,27 +146,38 @@ fn table_of<'t, 'h, H: Allocator>(
     let Ok(sharing) = whole_list(heap, sheet) else {
         return Err(SessionFault::NoMemory);
     };
-    let (round, mut hands) = match Round::new(heap, sheet, zones, sharing) {
+    let (round, hands) = match Round::new(heap, sheet, zones, sharing) {
         Ok(begun) => begun,
         Err(fault) => return Err(fault_of_round(fault)),
     };
-    step_until_done(&mut hands[0]);
+    let Ok(hands) = work_off(heap, hands) else {
+        return Err(SessionFault::NoMemory);
+    };
     match round.close(hands) {
         Ok(table) => Ok(table),
         Err(back) => Err(fault_of_close(back.fault)),
     }
 }
 
-/// Steps a hand until it is done, or wants memory.
-fn step_until_done<'t, 'h, H: Allocator>(hand: &mut Hand<'t, 'h, H>)
-    ensures { hand.new.task ≡ hand.old.task }
+/// Holds no hand.
+struct OpenGate;
+
+impl Gate for OpenGate {
+    fn pass(&self, _hand: usize) {}
+}
+
+/// Has hands work in this thread, one after the other: each until it is done, or holds a parcel for want of memory.
+fn work_off<'t, 'h, H: Allocator + Send + Sync>(
+    heap: &'h H,
+    hands: Vec<Hand<'t, 'h, H>, &'h H>,
+) -> Result<Vec<Hand<'t, 'h, H>, &'h H>, AllocError>
+    ensures { IfOk result (λ worked. AllZip WorksOff hands.entry.items worked.items) }
 {
-    for _ in 0..u64::MAX {
-        match hand.step() {
-            Step::Did(_) => {}
-            Step::Done | Step::NoMemory => return,
-        }
+    let mut worked = Vec::with_capacity(heap, hands.len())?;
+    for hand in hands {
+        worked.push_reserved(hand.work(&OpenGate));
     }
+    Ok(worked)
 }
 
 /// What is told of a round that could not begin.
@@ -176,17 +193,17 @@ fn fault_of_round(fault: RoundFault) -> SessionFault
     }
 }
 
-/// What is told of a round that could not be closed though its hands were handed in: a hand that holds a parcel stopped for
-/// want of memory.
+/// What is told of a round that could not be closed though its hands were handed in and had worked: a hand that holds a
+/// parcel stopped for want of memory.
 fn fault_of_close(fault: CloseFault) -> SessionFault
-    requires { IsFaultOfAllHands fault }
+    requires { IsWantOfMemory fault }
     ensures { result ≡ NoMemory }
 {
     match fault {
         CloseFault::Holding(_) | CloseFault::NoMemory => SessionFault::NoMemory,
-        // A hand is done before it was stepped as often as it is.
-        CloseFault::NotDone => SessionFault::NoMemory,
-        CloseFault::NoThread(_) | CloseFault::HandsMissing(_, _) => unreachable!(),
+        CloseFault::NotDone | CloseFault::NoThread(_) | CloseFault::HandsMissing(_, _) => {
+            unreachable!()
+        }
     }
 }
 
@@ -267,23 +284,18 @@ pub(crate) fn report_export<'h, X: Exports, H: Allocator>(
             text.extend_from_slice(exported.lines.as_slice())?;
             push_end(text)
         }
-        Err(fault) => push_tool_fault(heap, text, fault),
+        Err(fault) => push_tool_fault(text, fault),
     }
 }
 
-/// Adds why a report fails.
-fn push_tool_fault<'h, H: Allocator>(
-    heap: &'h H,
-    text: &mut Vec<u8, &'h H>,
+/// Adds why a report fails, in the words in which the program tells it elsewhere.
+fn push_tool_fault<A: Allocator>(
+    text: &mut Vec<u8, A>,
     fault: ToolFault<'static>,
 ) -> Result<(), AllocError>
     ensures { OnOk result (GoesOnBy (IsLineOfFault fault.entry) text.old.items text.new.items) }
 {
-    match fault {
-        ToolFault::NoMemory => push_error(text, SessionFault::NoMemory),
-        fault => {
-            let why = format!(in heap; "{fault}")?;
-            push_failure(text, why.as_str())
-        }
-    }
+    text.push_piece("error: ")?;
+    push_fault(text, fault)?;
+    text.push_piece("\n")
 }

@@ -64,7 +64,7 @@ impl<
     'r,
     'h,
     P: Pipes + Exports + Machine,
-    H: Allocator,
+    H: Allocator + Send + Sync,
     J: Naming<H>,
     R: Wait,
     K: Clocked,

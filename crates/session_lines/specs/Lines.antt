@@ -2,6 +2,7 @@
 -- carriage return before that. Coordinates are in whole millimetres.
 use Rattle.std.specs.Prelude.{◌≡◌, ◌≢◌, ℕ, List, [], ◌∷◌, ◌++◌, codes, IsUtf8}
 use Rattle.geo_exact.specs.declared.corner.Corner.{Corner}
+use Rattle.ring_edits.specs.declared.edit.Edit.{Edit as EditValue}
 use Rattle.line_files.specs.TextLines.{IsSkipped}
 use Rattle.line_files.specs.TextNumbers.{IsNumber, IsCornerText}
 use Rattle.line_files.specs.ClerkFile.{words_of, SayEdit}
@@ -42,6 +43,10 @@ Asks line Check = line ≡ codes "check"
 Asks line (Export base) = IsExportLine line base.now
 Asks line Publish = line ≡ codes "publish"
 Asks line Close = line ≡ codes "close"
+
+-- the line asks for an edit
+abbrev pub AsksForEdit : (A : Type 0) → List ℕ → Type 0
+AsksForEdit A line = (edit : EditValue A) × Asks line (Edit edit)
 
 -- both ask for the same; the bases of two exports are compared as texts
 abbrev pub AskTheSame : {A : Type 0} → Line A → Line A → Type 0

@@ -1,9 +1,9 @@
 //! What a line of a session asks for.
 
-ghost use Rattle.std.specs.Prelude.{ℕ, List, IfOk, IfSome, IfNone, IsSomeAnd};
+ghost use Rattle.std.specs.Prelude.{ℕ, List, IfOk, IfErr, IfSome, IfNone, IsSomeAnd};
 ghost use Rattle.geo_exact.specs.declared.corner.Corner.{Corner as CornerValue};
 ghost use Rattle.line_files.specs.ClerkFile.{words_of};
-ghost use Rattle.session_lines.specs.Lines.{IsLocateLine, IsParcelLine, IsExportLine, Asks, AskTheSame};
+ghost use Rattle.session_lines.specs.Lines.{IsLocateLine, IsParcelLine, IsExportLine, Asks, AsksForEdit, AskTheSame};
 ghost use Rattle.session_lines.specs.own.Bare.{IsBare};
 ghost use Rattle.session_lines.specs.declared.line.Line.{Line as LineValue};
 
@@ -46,7 +46,7 @@ pub enum Line<'l, A: Allocator> {
 ///
 /// # Errors
 ///
-/// [`AllocError`] where an allocation is refused, as may be for the path of an edit.
+/// [`AllocError`] where an allocation is refused for the path of an edit; to no other line.
 ///
 /// ```
 /// match read_line(alloc, b"locate 60 50") {
@@ -64,6 +64,8 @@ pub fn read_line<'l, A: Allocator + Copy>(
     // What it asks for is found, and there is nothing else that it asks for.
     ensures reads { (asked : LineValue A) → Asks line.now asked
         → IfOk result (λ found. IsSomeAnd found (AskTheSame asked)) }
+    // Memory runs out only where it is asked for: where the line asks for an edit.
+    ensures memory { IfErr result (λ _. AsksForEdit A line.now) }
 {
     if is_skipped(line) {
         return Ok(Some(Line::Skipped));

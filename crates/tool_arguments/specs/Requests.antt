@@ -1,5 +1,5 @@
 -- What the words of a command line ask for, each word under its name (this product's own).
-use Rattle.std.specs.Prelude.{◌≡◌, ◌⊎◌, ℕ, true, false, List, [], ◌∷◌, map, Option, None, Some}
+use Rattle.std.specs.Prelude.{◌≡◌, ◌⊎◌, ⊤, ℕ, true, false, List, [], ◌∷◌, map, Option, None, Some}
 use Rattle.std.specs.Borrow.{Bor}
 use Rattle.geo_exact.specs.declared.corner.Corner.{Corner}
 use Rattle.line_files.specs.TextNumbers.{AreCornerWords}
@@ -121,3 +121,8 @@ IsMissing Verb.Overlay words = HasNoInputs words ⊎ (words.zones ≡ None)
 IsMissing Verb.Part words = HasNoDistricts words ⊎ (words.out ≡ None)
 IsMissing Verb.Session words = HasNoSession words
 IsMissing Verb.Explain words = ⊥
+
+-- the number of workers that a command is given is one that there may be, or none is given; `explain` takes none
+abbrev pub MayHaveWorkers : Verb → Words → Type 0
+MayHaveWorkers Verb.Explain words = ⊤
+MayHaveWorkers verb words = ¬ IsBeyondWorkers words.workers

@@ -8,7 +8,7 @@ ghost use Rattle.line_files.specs.declared.grids.Grid.TheVariants.{Millimetres};
 ghost use Rattle.tool_arguments.specs.Arguments.{IsUnit, IsNoUnit, AreWorkers, IsNoWorkerCount, IsBeyondWorkers};
 ghost use Rattle.tool_arguments.specs.Requests.{AreInputs, HasNoInputs, AreDistrictWords, HasNoDistricts, AreWanted, IsNoChoice};
 ghost use Rattle.tool_arguments.specs.Requests.{ArePoints, HasNoPoints};
-ghost use Rattle.tool_arguments.specs.Requests.{IsRequest, IsMissing, verb_of, given, first_of};
+ghost use Rattle.tool_arguments.specs.Requests.{IsRequest, IsMissing, MayHaveWorkers, verb_of, given, first_of};
 
 use crate::requests::{Districts, Inputs, Points, Request, Session, Wanted, Workers};
 use crate::words::{Verb, Words};
@@ -30,6 +30,8 @@ pub fn request_of<'a>(
     ensures verb { IfOk result (λ found. IfSome found (λ request. verb_of request ≡ verb)) }
     ensures words { IfOk result (λ found. IfSome found (IsRequest words.now)) }
     ensures none { IfOk result (λ found. IfNone found (IsMissing verb words.now)) }
+    // A number of workers that there may not be is refused before memory is asked for.
+    ensures workers { IfErr result (λ _. MayHaveWorkers verb words.now) }
 {
     match verb {
         Verb::Area => Ok(area_request(words)),
@@ -63,6 +65,7 @@ fn check_request<'a>(
     ensures verb { IfOk result (λ found. IfSome found (λ request. verb_of request ≡ Verb.Check)) }
     ensures words { IfOk result (λ found. IfSome found (IsRequest words.now)) }
     ensures none { IfOk result (λ found. IfNone found (IsMissing Verb.Check words.now)) }
+    ensures workers { IfErr result (λ _. ¬ IsBeyondWorkers words.now.workers) }
 {
     let Some(inputs) = inputs_of(alloc, words)? else {
         return Ok(None);
@@ -79,6 +82,7 @@ fn export_request<'a>(
     ensures verb { IfOk result (λ found. IfSome found (λ request. verb_of request ≡ Verb.Export)) }
     ensures words { IfOk result (λ found. IfSome found (IsRequest words.now)) }
     ensures none { IfOk result (λ found. IfNone found (IsMissing Verb.Export words.now)) }
+    ensures workers { IfErr result (λ _. ¬ IsBeyondWorkers words.now.workers) }
 {
     let Some(base) = words.out else {
         return Ok(None);
@@ -102,11 +106,12 @@ fn locate_request<'a>(
     ensures verb { IfOk result (λ found. IfSome found (λ request. verb_of request ≡ Verb.Locate)) }
     ensures words { IfOk result (λ found. IfSome found (IsRequest words.now)) }
     ensures none { IfOk result (λ found. IfNone found (IsMissing Verb.Locate words.now)) }
+    ensures workers { IfErr result (λ _. ¬ IsBeyondWorkers words.now.workers) }
 {
-    let Some(points) = points_of(alloc, words)? else {
+    let Some(inputs) = inputs_of(alloc, words)? else {
         return Ok(None);
     };
-    let Some(inputs) = inputs_of(alloc, words)? else {
+    let Some(points) = points_of(alloc, words)? else {
         return Ok(None);
     };
     Ok(Some(Request::Locate { inputs, points }))
@@ -120,6 +125,7 @@ fn overlay_request<'a>(
     ensures verb { IfOk result (λ found. IfSome found (λ request. verb_of request ≡ Verb.Overlay)) }
     ensures words { IfOk result (λ found. IfSome found (IsRequest words.now)) }
     ensures none { IfOk result (λ found. IfNone found (IsMissing Verb.Overlay words.now)) }
+    ensures workers { IfErr result (λ _. ¬ IsBeyondWorkers words.now.workers) }
 {
     let Some(zones) = words.zones else {
         return Ok(None);
@@ -160,6 +166,7 @@ fn session_request<'a>(
     ensures verb { IfOk result (λ found. IfSome found (λ request. verb_of request ≡ Verb.Session)) }
     ensures words { IfOk result (λ found. IfSome found (IsRequest words.now)) }
     ensures none { IfOk result (λ found. IfNone found (IsMissing Verb.Session words.now)) }
+    ensures workers { IfErr result (λ _. ¬ IsBeyondWorkers words.now.workers) }
 {
     let (Some(city), Some(parcels)) = (words.city, words.parcels) else {
         return Ok(None);
@@ -207,6 +214,7 @@ fn explain_request<'a>(
 fn inputs_of<'a>(alloc: Global, words: &Words<'_, 'a>) -> Result<Option<Inputs<'a>>, AllocError>
     ensures found { IfOk result (λ found. IfSome found (AreInputs words.now)) }
     ensures none { IfOk result (λ found. IfNone found (HasNoInputs words.now)) }
+    ensures workers { IfErr result (λ _. ¬ IsBeyondWorkers words.now.workers) }
 {
     let (Some(city), Some(parcels)) = (words.city, words.parcels) else {
         return Ok(None);
@@ -298,6 +306,7 @@ fn corners_of(alloc: Global, words: &[&str]) -> Result<Option<Corners<Global>>, 
 fn workers_of(count: Option<usize>) -> Option<Workers>
     ensures found { IfSome result (λ workers. count ≡ Some workers.count) }
     ensures none { IfNone result (IsNoWorkerCount count) }
+    ensures within { IfSome result (λ _. ¬ IsBeyondWorkers count) }
 {
     let Some(count) = count else {
         return None;
@@ -316,6 +325,7 @@ fn workers_of(count: Option<usize>) -> Option<Workers>
 fn workers_or_none(count: Option<usize>) -> Result<Option<Workers>, usize>
     ensures found { IfOk result (AreWorkers count) }
     ensures none { IfErr result (λ given. IsBeyondWorkers count) }
+    ensures within { IfOk result (λ _. ¬ IsBeyondWorkers count) }
 {
     let Some(given) = count else {
         return Ok(None);

@@ -3,6 +3,7 @@ use Rattle.std.specs.Prelude.{◌≡◌, ℕ, List, ◌∷◌}
 use Rattle.geo_exact.specs.declared.corner.Corner.{Corner}
 use Rattle.line_files.specs.declared.grids.Grid.{Grid}
 use Rattle.line_files.specs.TextNumbers.{IsNumber, IsCornerText}
+use Rattle.line_files.specs.ClerkFile.{ArePath}
 
 -- the first word is this number, and these are left
 pub record TakesNumber (words : List (List ℕ)) (n : ℕ) (left : List (List ℕ)) : Type 0 where
@@ -16,3 +17,7 @@ pub record TakesCorner (grid : Grid) (words : List (List ℕ)) (corner : Corner)
   pub y : List ℕ
   pub are_words : words ≡ x ∷ y ∷ left
   pub is_corner : IsCornerText grid x y corner
+
+-- all words are the coordinates of one or more corners
+abbrev pub AreAPath : Grid → List (List ℕ) → Type 0
+AreAPath grid words = (path : List Corner) × ArePath grid words path

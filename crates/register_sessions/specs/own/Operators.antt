@@ -26,6 +26,7 @@ use Rattle.session_rooms.specs.Rooms.{IsRoomFault, IsDrawn}
 use Rattle.register_sessions.specs.declared.post.Next.{Next}
 use Rattle.register_sessions.specs.declared.post.Next.TheVariants.{Line as NextLine, End as NextEnd}
 use Rattle.register_sessions.specs.own.Overlays.{AnswersOverlay, AnswersAreas}
+use Rattle.register_sessions.specs.own.OwnFiles.{IsFreeBase}
 use Rattle.register_sessions.specs.own.Exports.{IsExported, IsOwnFileLine, IsObstacleLine}
 use Rattle.register_sessions.specs.own.Posts.{Outbox}
 
@@ -66,13 +67,12 @@ module _ {A : Type 0} where
     pub is_told : line ≡ published_line (length shown)
     pub is_learnt : HasWindowLearnt before (Some shown) after
 
-  -- the parcels of a sheet of the office were exported to a base, where nothing was in the way
-  pub record IsExportOfOffice {X : Type 0} (finds : X → List ℕ → Option (List ℕ) → Type 0)
+  -- the parcels of a sheet of the office were exported to a base
+  pub record IsExportOfOffice {X : Type 0}
       (replace_gives : X → List ℕ → List ℕ → List ℕ → Result (Unit {0}) ToolFault → Type 0)
       (office : OfficeId A) (exports : X) (base text : List ℕ) : Type 0 where
     pub sheet : Book A
     pub is_sheet : IsDrawn office sheet
-    pub nothing_found : finds exports base None
     pub is_exported : IsExported replace_gives exports base sheet.now.rows text
 
 module _ {A T : Type 0} where
@@ -99,11 +99,22 @@ module _ {A T : Type 0} where
   IsOverlayAnswer written has_areas office journal (Some zones) before after =
       IsZonesAnswer written has_areas office journal zones before after
 
-  -- `export BASE`
-  abbrev pub IsExportAnswer : {X : Type 0} → (X → List ℕ → Option (List ℕ) → Type 0)
-      → (X → List ℕ → List ℕ → List ℕ → Result (Unit {0}) ToolFault → Type 0) → OfficeId A → Option T → X → List ℕ → List ℕ → Type 0
-  IsExportAnswer finds replace_gives office journal exports base text = IsOwnFileLine base text ⊎ (IsObstacleLine finds exports base text
-      ⊎ (IsExportOfOffice finds replace_gives office exports base text ⊎ IsRoomLine journal text))
+  -- where no file of the session's own would be replaced, what is in the way is told; else a sheet of the office is exported,
+  -- or it is told why the room draws none
+  abbrev pub IsFreeExport : {X : Type 0} → (X → List ℕ → Option (List ℕ) → Type 0)
+      → (X → List ℕ → List ℕ → List ℕ → Result (Unit {0}) ToolFault → Type 0) → OfficeId A → Option T → X
+      → List ℕ → List ℕ → Type 0
+  IsFreeExport finds replace_gives office journal exports base text = IsObstacleLine finds exports base text
+      ⊎ (finds exports base None × (IsExportOfOffice replace_gives office exports base text ⊎ IsRoomLine journal text))
+
+  -- `export BASE`: that is told exactly where a file of the session's own would be replaced
+  abbrev pub IsExportAnswer : {X : Type 0} → (X → List ℕ → Option (ℕ × ℕ) → Type 0)
+      → (X → List ℕ → Option (List ℕ) → Type 0)
+      → (X → List ℕ → List ℕ → List ℕ → Result (Unit {0}) ToolFault → Type 0) → OfficeId A → Option T → X
+      → List (List ℕ) → List ℕ → List ℕ → Type 0
+  IsExportAnswer tells finds replace_gives office journal exports files base text =
+      IsOwnFileLine tells exports files base text
+      ⊎ (IsFreeBase tells exports files base × IsFreeExport finds replace_gives office journal exports base text)
 
 -- what follows a line: it is the last one where it closes the session
 abbrev pub next_of : {A : Type 0} → Line A → Next
@@ -136,11 +147,13 @@ module _ {H J T : Type 0} where
     pub card : IsCardAfter line chair.card later.card
     pub window : HasWindowGoneOn chair.window later.window
 
-  -- Which call answers which of the operator's lines: with what may be found at an export's base, and given there, and what a
-  -- writer tells that was written. `close` is answered once all desks have ended.
-  module _ {X W : Type 0} (finds : X → List ℕ → Option (List ℕ) → Type 0)
+  -- Which call answers which of the operator's lines: with what may be told of a path, found at an export's base, and given
+  -- there, what a writer tells that was written, and the paths of the session's own files. `close` is answered once all desks
+  -- have ended.
+  module _ {X W : Type 0} (tells : X → List ℕ → Option (ℕ × ℕ) → Type 0)
+      (finds : X → List ℕ → Option (List ℕ) → Type 0)
       (replace_gives : X → List ℕ → List ℕ → List ℕ → Result (Unit {0}) ToolFault → Type 0) (written : W → Option (List ℕ))
-      (office : OfficeId (Bor H)) (journal : Option T) (exports : X) (zones : Option Tiles) where
+      (office : OfficeId (Bor H)) (journal : Option T) (exports : X) (files : List (List ℕ)) (zones : Option Tiles) where
     abbrev pub IsOperatorAnswer : Chair H J → Chair H J → Line (Bor H) → Outbox W → Outbox W → Type 0
     IsOperatorAnswer chair later Check before after = (later ≡ chair) × Collects (IsCheckAnswer office journal) before after
     IsOperatorAnswer chair later Overlay before after =
@@ -148,7 +161,8 @@ module _ {H J T : Type 0} where
     IsOperatorAnswer chair later OverlayAreas before after =
         (later ≡ chair) × IsOverlayAnswer written true office journal zones before after
     IsOperatorAnswer chair later (Export base) before after =
-        (later ≡ chair) × Collects (IsExportAnswer finds replace_gives office journal exports base.now) before after
+        (later ≡ chair)
+        × Collects (IsExportAnswer tells finds replace_gives office journal exports files base.now) before after
     IsOperatorAnswer chair later Publish before after =
         (later.card ≡ chair.card) × Collects (IsPublishAnswer office journal chair.window later.window) before after
     IsOperatorAnswer chair later Close before after = (later ≡ chair) × (after ≡ before)

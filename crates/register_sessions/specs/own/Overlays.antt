@@ -11,13 +11,13 @@ use Rattle.area_shares.specs.declared.shared.AreaLine.{AreaLine}
 use Rattle.overlay_work.specs.declared.close.CloseFault.{CloseFault}
 use Rattle.overlay_work.specs.declared.close.CloseFault.TheVariants.{NoThread, HandsMissing, Holding, NotDone, NoMemory}
 
--- What was collected, the report of a table and lines of areas were written after the bytes that were written before; what
--- is collected then is the end of the answer.
+-- What was collected, the report of a table, lines of areas and the end of the answer were written after the bytes that
+-- were written before; nothing is collected then.
 pub record WritesTable (table : Overlay) (areas : List AreaLine) (before after : List ℕ) (old new : Option (List ℕ)) : Type 0 where
   pub report : List ℕ
   pub is_report : IsReport table report
-  pub is_written : Appends old new (before ++ report ++ flat_map area_text areas)
-  pub is_ended : after ≡ codes ".\n"
+  pub is_written : Appends old new (before ++ report ++ flat_map area_text areas ++ codes ".\n")
+  pub none_left : after ≡ []
 
 -- The table that is told has these parcels and zones, and so many entries.
 pub record IsTableOf (rows zones : List NumberedRing) (entries : ℕ) (table : Overlay) : Type 0 where
@@ -39,10 +39,11 @@ pub record AnswersAreas (rows zones : List NumberedRing) (entries : ℕ) (before
   pub are_areas : IsAreaTable rows zones table.pairs areas
   pub writes : WritesTable table areas before after old new
 
--- why a round is not closed though all its hands were handed in, and no thread was asked for
-abbrev pub IsFaultOfAllHands : CloseFault → Type 0
-IsFaultOfAllHands (NoThread number) = ⊥
-IsFaultOfAllHands (HandsMissing made here) = ⊥
-IsFaultOfAllHands (Holding number) = ⊤
-IsFaultOfAllHands NotDone = ⊤
-IsFaultOfAllHands NoMemory = ⊤
+-- why a round is not closed though all its hands were handed in and had worked: memory was wanting, to go on with a
+-- parcel that one of them holds, or to close it
+abbrev pub IsWantOfMemory : CloseFault → Type 0
+IsWantOfMemory (NoThread number) = ⊥
+IsWantOfMemory (HandsMissing made here) = ⊥
+IsWantOfMemory (Holding number) = ⊤
+IsWantOfMemory NotDone = ⊥
+IsWantOfMemory NoMemory = ⊤

@@ -44,6 +44,10 @@ module _ {W : Type 0} where
   BreaksOff written failures before after = AppendsBeginning (written before.out) (written after.out) before.text
       × (failures after.out ≡ raised (failures before.out))
 
+  -- Memory was refused for an answer: nothing was written of it, and nothing of what is collected.
+  abbrev pub IsRefused : Outbox W → Outbox W → Type 0
+  IsRefused asked half = half.out ≡ asked.out
+
   -- There was no memory for an answer. Of what is collected then the first so many bytes were written, which stood before the
   -- answer; of the answer none is kept; and it is said that there was no memory.
   abbrev pub IsExcused : (W → Option (List ℕ)) → ℕ → Outbox W → Outbox W → Type 0
@@ -71,4 +75,4 @@ module _ {W : Type 0} where
     pub is_due : Bool
     pub is_kept : IsKept written is_due before asked
     pub is_answered : answers came line asked after
-        ⊎ ((half : Outbox W) × IsExcused written (length asked.text) half after)
+        ⊎ ((half : Outbox W) × IsRefused asked half × IsExcused written (length asked.text) half after)

@@ -1,26 +1,29 @@
-use Rattle.std.proofs.Common.{◌≡◌, ◌≢◌, [], rules}
-use Rattle.line_files.proofs.ClerkWords.{no_path, no_corners, whole_path}
+use Rattle.std.proofs.Common.{rules, IsTrue}
+use Rattle.line_files.specs.own.EditWords.{AreAPath}
+use Rattle.line_files.proofs.ClerkWords.{path_is_read}
 use Rattle.line_files.proofs.CornerWords.{one_more_read}
+use Rattle.line_files.proofs.PassedOn.{of_err}
 use Rattle.line_files.proofs.edit_words.read_path.Goals as goal
 
-pub returns-in_default : goal.returns-in_default
-returns-in_default g c =
-    let some : c.loop-words.words ≢ [] = search rules in
-    no_path c.args.words c.loop-words.words c.loop-words.path c.loop-words.invariant some c.in_default.ensures.none
+pub returns-then-not-is_path-clause-path : goal.returns-then-not-is_path-clause-path
+returns-then-not-is_path-clause-path g c = λ path h.
+    let all : AreAPath c.args.grid c.copy.result = rw c.copy.ensures (path, h) in
+    let is : IsTrue c.is_path.result = c.is_path.ensures.1 all in
+    absurd (cc)
 
-pub loop-words-preserved : goal.loop-words-preserved
-loop-words-preserved g c = rw c.in_ok-push.ensures.ok
-    (one_more_read c.args.words c.loop-words.words c.take_corner.new.words c.loop-words.path c.in-Some.corner
-    c.loop-words.invariant c.in-Some.ensures.found)
+pub returns-in_err-push-clause-memory : goal.returns-in_err-push-clause-memory
+returns-in_err-push-clause-memory g c =
+    let is : IsTrue c.is_path.result = search rules in
+    let all : AreAPath c.args.grid c.args.words = rw c.copy.ensures at (c.is_path.ensures.0 is) in
+    of_err c.from_residual.result _ all
 
-pub returns-then-is_empty : goal.returns-then-is_empty
-returns-then-is_empty g c =
-    let none : c.loop-words.words ≡ [] = search rules in
-    let no_corner : c.loop-words.path ≡ [] = search rules in
-    no_corners c.args.words c.loop-words.words c.loop-words.path c.loop-words.invariant none no_corner
+pub loop-corner-preserved : goal.loop-corner-preserved
+loop-corner-preserved g c = rw c.in_ok-push.ensures.ok
+    (one_more_read c.args.words c.loop-corner.words c.take_corner.new.words c.loop-corner.path c.in-Some.corner
+    c.loop-corner.invariant c.in-Some.ensures.found)
 
-pub returns-else-is_empty : goal.returns-else-is_empty
-returns-else-is_empty g c =
-    let none : c.loop-words.words ≡ [] = search rules in
-    let some : c.loop-words.path ≢ [] = search rules in
-    whole_path c.args.words c.loop-words.words c.loop-words.path c.loop-words.invariant none some
+pub returns-clause-path : goal.returns-clause-path
+returns-clause-path g c =
+    let is : IsTrue c.is_path.result = search rules in
+    let all : AreAPath c.args.grid c.args.words = rw c.copy.ensures at (c.is_path.ensures.0 is) in
+    path_is_read c.args.words c.loop-corner.words c.loop-corner.path c.loop-corner.invariant c.in_default.ensures.none all

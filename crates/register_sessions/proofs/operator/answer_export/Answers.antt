@@ -1,40 +1,10 @@
-use Rattle.std.proofs.Common.{sym, subst, inl, inr, refl, Some}
+use Rattle.std.proofs.Common.{inr}
 use Rattle.std.proofs.lemmas.Result.{on_ok_weaker}
-use Rattle.session_lines.specs.Answers.{error_line, fault_text}
 use Rattle.register_sessions.proofs.operator.answer_export.Goals as goal
 
-pub returns-in-Some-2 : goal.returns-in-Some-2
-returns-in-Some-2 g c =
-    let found = rw c.in-Some-2.is at c.in_ok-why-2.ensures in
-    on_ok_weaker c.push_failure-in-Some-2.result
-    (λ e. (
-      error_line c.as_str-in-Some-2.result.now,
-      inr (inl (record {
-        why = c.as_str-in-Some-2.result.now;
-        is_found = subst (λ why. g.P.Exports.finds c.args.disk.now c.args.base.now (Some why)) (sym c.as_str-in-Some-2.ensures.value) found;
-        is_told = refl;
-      })),
-      e,
-    ))
-    c.push_failure-in-Some-2.ensures.ok
-
-pub returns-in-Ok : goal.returns-in-Ok
-returns-in-Ok g c =
-    let found = rw c.in-None.is at c.in_ok-why-2.ensures in
-    on_ok_weaker c.report_export.result
-    (λ went. (
-      went.0,
-      inr (inr (inl (record {
-        sheet = c.in-Ok.drawn.sheet;
-        is_sheet = c.in-Ok.ensures.sheet;
-        nothing_found = found;
-        is_exported = went.1;
-      }))),
-      went.2,
-    ))
-    c.report_export.ensures
-
-pub returns-in-Err : goal.returns-in-Err
-returns-in-Err g c = on_ok_weaker c.push_error.result
-    (λ e. (error_line (fault_text c.in-Err.fault), inr (inr (inr (c.in-Err.fault, c.in-Err.ensures.fault, refl))), e))
-    c.push_error.ensures.ok
+pub returns-in-None : goal.returns-in-None
+returns-in-None g c =
+    let free = rw c.in-None.is at c.in_ok-path.ensures in
+    on_ok_weaker c.answer_free_export.result
+    (λ went. (went.0, inr (free, went.1), went.2))
+    c.answer_free_export.ensures

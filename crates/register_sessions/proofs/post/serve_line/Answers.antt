@@ -23,5 +23,7 @@ returns g c =
     (λ next after. g.T.Attendant.answers c.args.attendant.now c.in-Ok.came c.as_slice.result.now
     (record { text = text.items; out = c.take_line.new.out }) next c.answer-answered.new.self after)
     text.len (length text.items) (omega (arith, text.ok.0))
+    (record { text = text.items; out = c.take_line.new.out })
     (record { text = c.answer-answered.new.text.items; out = c.answer-answered.new.out }) _
-    c.answer-answered.result c.go_on.result c.answer-answered.ensures (rw c.len-before.ensures at c.go_on.ensures))
+    c.answer-answered.result c.go_on.result c.answer-answered.ensures.answered c.answer-answered.ensures.unwritten
+    (rw c.len-before.ensures at c.go_on.ensures))

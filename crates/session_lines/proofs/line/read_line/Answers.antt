@@ -8,4 +8,4 @@ returns-in-Some-clause-reads g c = λ asked h.
 
 pub returns-in-Ok-Some-clause-reads : goal.returns-in-Ok-Some-clause-reads
 returns-in-Ok-Some-clause-reads g c = λ asked h.
-    one_request c.args.line.now asked (Edit c.in-Ok-Some.edit) h (rw c.in-Ok-Some.field-0-is at c.in-Ok-Some.ensures)
+    one_request c.args.line.now asked (Edit c.in-Ok-Some.edit) h (rw c.in-Ok-Some.field-0-is at c.in-Ok-Some.ensures.edit)
