@@ -35,7 +35,7 @@ pub fn overlay_areas<
     'h,
     R: Threads + Wait + Sync,
     H: Allocator + Send + Sync,
-    A: Allocator,
+    A: Allocator + Sync,
     W: ByteOut,
 >(
     rt: &R,

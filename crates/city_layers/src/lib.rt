@@ -6,6 +6,7 @@
 
 mod all_tiles;
 pub mod area;
+mod beside;
 mod fault;
 mod fault_lines;
 mod fault_texts;

@@ -6,9 +6,10 @@ ghost use Rattle.city_layers.specs.declared.fault.ToolFault.{ToolFault as ToolFa
 ghost use Rattle.city_layers.specs.TilingFiles.{files_of};
 ghost use Rattle.city_layers.specs.ZonedFiles.{AreZoned, IsLayersFault};
 
+use crate::beside::read_both;
 use crate::fault::{Role, ToolFault};
 use crate::sources::Source;
-use crate::tiles::{read_city, read_tiles, read_tiles_by};
+use crate::tiles::{read_city, read_tiles};
 use fabric_core::Layer;
 use geo_exact::Unit;
 use std::alloc::Allocator;
@@ -55,12 +56,13 @@ pub fn load_layers<'h, H: Allocator, A: Allocator>(
     Ok(Layers { parcels, zones })
 }
 
-/// As [`load_layers`], by so many threads at the most, as in [`load_tiles_by`](crate::load_tiles_by).
+/// As [`load_layers`], by so many threads at the most, as in [`load_tiles_by`](crate::load_tiles_by). From two on, the zones
+/// are read beside the parcels.
 ///
 /// # Errors
 ///
 /// Those of [`load_layers`].
-pub fn load_layers_by<'h, R: Threads + Sync, H: Allocator + Send + Sync, A: Allocator>(
+pub fn load_layers_by<'h, R: Threads + Sync, H: Allocator + Send + Sync, A: Allocator + Sync>(
     rt: &R,
     workers: usize,
     heap: &'h H,
@@ -82,8 +84,12 @@ pub fn load_layers_by<'h, R: Threads + Sync, H: Allocator + Send + Sync, A: Allo
         → IsLayersFault (files_of city.now) (files_of parcels.now) (files_of zones.now) unit fault
         → IsErrAnd result (λ told. (told ≡ fault) ⊎ (told ≡ ToolFault.NoMemory)) }
 {
+    if workers < 2 {
+        return load_layers(heap, city, parcels, zones, unit);
+    }
     let city = read_city(heap, city, unit)?;
-    let parcels = read_tiles_by(rt, workers, heap, &city, Role::Parcels, parcels, unit)?;
-    let zones = read_tiles_by(rt, workers, heap, &city, Role::Zones, zones, unit)?;
+    let (parcels, zones) = read_both(rt, workers, heap, &city, parcels, zones, unit);
+    let parcels = parcels?;
+    let zones = zones?;
     Ok(Layers { parcels, zones })
 }

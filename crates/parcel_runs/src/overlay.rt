@@ -41,7 +41,13 @@ use text_pieces::put_all;
 /// ring, then of the parcels' files and rings, then of the zones', then the first bad line of the
 /// clerks' files; [`ToolFault::NoWindow`], [`ToolFault::NoThread`] and [`ToolFault::NoMemory`]; all
 /// before anything is written. [`ToolFault::Output`] where a write failed.
-pub fn overlay<'h, R: Threads + Wait + Sync, H: Allocator + Send + Sync, A: Allocator, W: ByteOut>(
+pub fn overlay<
+    'h,
+    R: Threads + Wait + Sync,
+    H: Allocator + Send + Sync,
+    A: Allocator + Sync,
+    W: ByteOut,
+>(
     rt: &R,
     workers: usize,
     heap: &'h H,

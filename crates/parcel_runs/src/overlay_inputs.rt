@@ -34,7 +34,7 @@ pub struct OverlayInputs<'h, H: Allocator> {
 /// [`ToolFault::ClerkCount`] for more clerks' files than [`MOST_PLACES`]; the first fault of the city's files and
 /// ring, then of the parcels' files and rings, then of the zones'; then the first bad line of the
 /// clerks' files; and [`ToolFault::NoMemory`].
-pub fn load_overlay_inputs<'h, R: Threads + Sync, H: Allocator + Send + Sync, A: Allocator>(
+pub fn load_overlay_inputs<'h, R: Threads + Sync, H: Allocator + Send + Sync, A: Allocator + Sync>(
     rt: &R,
     workers: usize,
     heap: &'h H,

@@ -175,7 +175,7 @@ fn read_sources<'a, F: Files, A: Allocator + Copy>(
 }
 
 /// The register that the files give behind the journal at a path, which has this text.
-fn begin<'a, 'h, R: Threads + Sync, H: Allocator + Send + Sync, A: Allocator>(
+fn begin<'a, 'h, R: Threads + Sync, H: Allocator + Send + Sync, A: Allocator + Sync>(
     rt: &R,
     heap: &'h H,
     plan: &Plan<'a>,

@@ -59,7 +59,7 @@ pub enum BeginFault {
 /// # Errors
 ///
 /// [`BeginFault`]: the first fault of the layers; then of the journal.
-pub fn begin_register<'h, R: Threads + Sync, H: Allocator + Send + Sync, A: Allocator>(
+pub fn begin_register<'h, R: Threads + Sync, H: Allocator + Send + Sync, A: Allocator + Sync>(
     rt: &R,
     workers: usize,
     heap: &'h H,
@@ -129,7 +129,7 @@ fn open_behind<'h, H: Allocator>(
 }
 
 /// The parcels, and the zones where there are some: both tile the city.
-fn load<'h, R: Threads + Sync, H: Allocator + Send + Sync, A: Allocator>(
+fn load<'h, R: Threads + Sync, H: Allocator + Send + Sync, A: Allocator + Sync>(
     rt: &R,
     workers: usize,
     heap: &'h H,
