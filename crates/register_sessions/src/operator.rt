@@ -29,7 +29,7 @@ pub(crate) struct Operator<'h, H: Allocator, J: Naming<H>> {
 pub(crate) fn serve_operator<
     'h,
     P: Exports + Machine,
-    H: Allocator + Send + Sync,
+    H: Allocator,
     J: Naming<H>,
     R: Wait,
     K: Clocked,
@@ -63,7 +63,7 @@ impl<
     'r,
     'h,
     P: Exports + Machine,
-    H: Allocator + Send + Sync,
+    H: Allocator,
     J: Naming<H>,
     R: Wait,
     K: Clocked,
@@ -91,7 +91,7 @@ impl<
 fn answer_operator<
     'h,
     P: Exports + Machine,
-    H: Allocator + Send + Sync,
+    H: Allocator,
     J: Naming<H>,
     R: Wait,
     K: Clocked,
@@ -138,7 +138,7 @@ fn next_of<A: Allocator>(line: &Line<'_, A>) -> Next
 fn answer_line<
     'h,
     P: Exports + Machine,
-    H: Allocator + Send + Sync,
+    H: Allocator,
     J: Naming<H>,
     R: Wait,
     K: Clocked,
@@ -187,7 +187,7 @@ fn answer_check<'h, H: Allocator, J: Naming<H>, R: Wait, K: Clocked>(
 }
 
 /// Writes which parcels and zones overlap, where there are zones, and with areas how much of each parcel lies in each zone.
-fn answer_overlay<'h, H: Allocator + Send + Sync, J: Naming<H>, R: Wait, K: Clocked, W: ByteOut>(
+fn answer_overlay<'h, H: Allocator, J: Naming<H>, R: Wait, K: Clocked, W: ByteOut>(
     room: &Room<'_, 'h, H, J, R, DiskFile, K>,
     ground: &Ground<'h, H, J>,
     has_areas: bool,
@@ -205,7 +205,7 @@ fn answer_overlay<'h, H: Allocator + Send + Sync, J: Naming<H>, R: Wait, K: Cloc
 }
 
 /// Writes which parcels overlap these zones.
-fn answer_zones<'h, H: Allocator + Send + Sync, J: Naming<H>, R: Wait, K: Clocked, W: ByteOut>(
+fn answer_zones<'h, H: Allocator, J: Naming<H>, R: Wait, K: Clocked, W: ByteOut>(
     room: &Room<'_, 'h, H, J, R, DiskFile, K>,
     zones: &Layer<'h, H>,
     has_areas: bool,
@@ -217,7 +217,15 @@ fn answer_zones<'h, H: Allocator + Send + Sync, J: Naming<H>, R: Wait, K: Clocke
     ensures unwritten { IfErr result (λ trouble. trouble ≡ Trouble.NoMemory → out.new ≡ out.old) }
 {
     match room.sheet() {
-        Ok(drawn) => report_zones(room.heap, &drawn.sheet, zones, has_areas, text, out),
+        Ok(drawn) => report_zones(
+            room.rt,
+            room.heap,
+            &drawn.sheet,
+            zones,
+            has_areas,
+            text,
+            out,
+        ),
         Err(fault) => Ok(push_error(text, fault)?),
     }
 }

@@ -1,12 +1,11 @@
 //! The reports that the operator asks for.
 
 ghost use Rattle.std.specs.Prelude.{◌≡◌, ◌≢◌, ◌⊎◌, ℕ, List, [], ◌∷◌, ⊤, true, false, map, length, Option, Result};
-ghost use Rattle.std.specs.Prelude.{IfOk, IfErr, OnOk, string_bytes};
-ghost use Rattle.std.specs.List.{AllZip};
+ghost use Rattle.std.specs.Prelude.{IfOk, IfErr, IsSome, OnOk, string_bytes};
 ghost use Rattle.std.specs.List.Sorted.{IsStrictlyIncreasing};
 ghost use Rattle.std.specs.Option.{option_map};
 ghost use Rattle.fabric_core.specs.Rows.{numbers};
-ghost use Rattle.overlay_work.specs.Rounds.{WorksOff};
+ghost use Rattle.overlay_work.specs.Rounds.{IsAtEnd};
 ghost use Rattle.overlay_work.specs.declared.round.RoundFault.TheVariants.{OtherCity, NoMemory as NoRoom};
 ghost use Rattle.zone_tables.specs.Overlap.{IsOverlapTable};
 ghost use Rattle.session_lines.specs.declared.faults.SessionFault.TheVariants.{NoMemory, NoZones};
@@ -22,12 +21,12 @@ use city_layers::{ToolFault, push_fault};
 use desk_lock::Naming;
 use fabric_core::{Layer, Sheet};
 use geo_exact::{ByteOut, Failed};
-use job_threads::Job;
-use overlay_work::{CloseFault, Gate, Hand, Round, RoundFault, Table};
+use overlay_work::{CloseFault, Hand, Round, RoundFault, Step, Table};
 use parcel_runs::sheets::{export_sheet, push_sheet_tiling};
 use session_lines::{SessionFault, push_end, push_error};
 use std::alloc::{AllocError, Allocator};
 use std::marker::PhantomData;
+use std::sync::Wait;
 use text_pieces::{Sink, put_all};
 use zone_tables::write_report;
 
@@ -53,7 +52,8 @@ pub(crate) fn report_check<'h, H: Allocator>(
 }
 
 /// Writes what was collected, and then which parcels and zones overlap, with areas or without them.
-pub(crate) fn report_zones<'h, H: Allocator + Send + Sync, W: ByteOut>(
+pub(crate) fn report_zones<'h, R: Wait, H: Allocator, W: ByteOut>(
+    rt: &R,
     heap: &'h H,
     sheet: &Sheet<'h, H>,
     zones: &Layer<'h, H>,
@@ -66,15 +66,16 @@ pub(crate) fn report_zones<'h, H: Allocator + Send + Sync, W: ByteOut>(
     ensures unwritten { IfErr result (λ trouble. trouble ≡ Trouble.NoMemory → out.new ≡ out.old) }
 {
     if has_areas {
-        report_areas(heap, sheet, zones, text, out)
+        report_areas(rt, heap, sheet, zones, text, out)
     } else {
-        report_overlay(heap, sheet, zones, text, out)
+        report_overlay(rt, heap, sheet, zones, text, out)
     }
 }
 
 /// Writes what was collected, and then which parcels and zones overlap. They are found in this thread, so that desks
 /// keep the other processors.
-fn report_overlay<'h, H: Allocator + Send + Sync, W: ByteOut>(
+fn report_overlay<'h, R: Wait, H: Allocator, W: ByteOut>(
+    rt: &R,
     heap: &'h H,
     sheet: &Sheet<'h, H>,
     zones: &Layer<'h, H>,
@@ -85,7 +86,7 @@ fn report_overlay<'h, H: Allocator + Send + Sync, W: ByteOut>(
         (record { text = text.old.items; out = out.old }) (record { text = text.new.items; out = out.new })) }
     ensures unwritten { IfErr result (λ trouble. trouble ≡ Trouble.NoMemory → out.new ≡ out.old) }
 {
-    match table_of(heap, sheet, zones) {
+    match table_of(rt, heap, sheet, zones) {
         Ok(table) => Ok(write_overlay(&table, &[], text, out)?),
         Err(SessionFault::NoMemory) => Err(Trouble::NoMemory),
         Err(fault) => Ok(push_error(text, fault)?),
@@ -93,7 +94,8 @@ fn report_overlay<'h, H: Allocator + Send + Sync, W: ByteOut>(
 }
 
 /// The same, and behind it a line for each pair: how much of the parcel lies in the zone.
-fn report_areas<'h, H: Allocator + Send + Sync, W: ByteOut>(
+fn report_areas<'h, R: Wait, H: Allocator, W: ByteOut>(
+    rt: &R,
     heap: &'h H,
     sheet: &Sheet<'h, H>,
     zones: &Layer<'h, H>,
@@ -104,7 +106,7 @@ fn report_areas<'h, H: Allocator + Send + Sync, W: ByteOut>(
         (record { text = text.old.items; out = out.old }) (record { text = text.new.items; out = out.new })) }
     ensures unwritten { IfErr result (λ trouble. trouble ≡ Trouble.NoMemory → out.new ≡ out.old) }
 {
-    match table_of(heap, sheet, zones) {
+    match table_of(rt, heap, sheet, zones) {
         Ok(table) => {
             let areas = area_lines(heap, sheet, zones, table.pairs())?;
             Ok(write_overlay(&table, areas.as_slice(), text, out)?)
@@ -131,7 +133,8 @@ fn write_overlay<'t, 'h, H: Allocator, W: ByteOut>(
 }
 
 /// The table of a sheet's parcels and the zones of its city, as one hand finds it.
-fn table_of<'t, 'h, H: Allocator + Send + Sync>(
+fn table_of<'t, 'h, R: Wait, H: Allocator>(
+    rt: &R,
     heap: &'h H,
     sheet: &'t Sheet<'h, H>,
     zones: &'t Layer<'h, H>,
@@ -146,38 +149,29 @@ fn table_of<'t, 'h, H: Allocator + Send + Sync>(
     let Ok(sharing) = whole_list(heap, sheet) else {
         return Err(SessionFault::NoMemory);
     };
-    let (round, hands) = match Round::new(heap, sheet, zones, sharing) {
+    let (round, mut hands) = match Round::new(heap, sheet, zones, sharing) {
         Ok(begun) => begun,
         Err(fault) => return Err(fault_of_round(fault)),
     };
-    let Ok(hands) = work_off(heap, hands) else {
-        return Err(SessionFault::NoMemory);
-    };
+    step_until_done(rt, &mut hands[0]);
     match round.close(hands) {
         Ok(table) => Ok(table),
         Err(back) => Err(fault_of_close(back.fault)),
     }
 }
 
-/// Holds no hand.
-struct OpenGate;
-
-impl Gate for OpenGate {
-    fn pass(&self, _hand: usize) {}
-}
-
-/// Has hands work in this thread, one after the other: each until it is done, or holds a parcel for want of memory.
-fn work_off<'t, 'h, H: Allocator + Send + Sync>(
-    heap: &'h H,
-    hands: Vec<Hand<'t, 'h, H>, &'h H>,
-) -> Result<Vec<Hand<'t, 'h, H>, &'h H>, AllocError>
-    ensures { IfOk result (λ worked. AllZip WorksOff hands.entry.items worked.items) }
+/// Steps a hand until it is done, or holds a parcel for want of memory. It comes to that, since each other step does a
+/// parcel.
+fn step_until_done<'t, 'h, R: Wait, H: Allocator>(rt: &R, hand: &mut Hand<'t, 'h, H>)
+    ensures task { hand.new.task ≡ hand.old.task }
+    ensures stops { IsAtEnd hand.new ⊎ IsSome hand.new.holds }
 {
-    let mut worked = Vec::with_capacity(heap, hands.len())?;
-    for hand in hands {
-        worked.push_reserved(hand.work(&OpenGate));
+    for _ in rt.forever() {
+        match hand.step() {
+            Step::Did(_) => {}
+            Step::Done | Step::NoMemory => return,
+        }
     }
-    Ok(worked)
 }
 
 /// What is told of a round that could not begin.
@@ -193,8 +187,8 @@ fn fault_of_round(fault: RoundFault) -> SessionFault
     }
 }
 
-/// What is told of a round that could not be closed though its hands were handed in and had worked: a hand that holds a
-/// parcel stopped for want of memory.
+/// What is told of a round that could not be closed though its hand was stepped until it was done, or held a parcel: that
+/// is for want of memory.
 fn fault_of_close(fault: CloseFault) -> SessionFault
     requires { IsWantOfMemory fault }
     ensures { result ≡ NoMemory }

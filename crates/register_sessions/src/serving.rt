@@ -64,7 +64,7 @@ impl<
     'r,
     'h,
     P: Pipes + Exports + Machine,
-    H: Allocator + Send + Sync,
+    H: Allocator,
     J: Naming<H>,
     R: Wait,
     K: Clocked,

@@ -39,8 +39,8 @@ pub record AnswersAreas (rows zones : List NumberedRing) (entries : ℕ) (before
   pub are_areas : IsAreaTable rows zones table.pairs areas
   pub writes : WritesTable table areas before after old new
 
--- why a round is not closed though all its hands were handed in and had worked: memory was wanting, to go on with a
--- parcel that one of them holds, or to close it
+-- why a round is not closed though its hand was handed in and is done, or holds a parcel for want of memory: memory was
+-- wanting, to go on with that parcel, or to close the round
 abbrev pub IsWantOfMemory : CloseFault → Type 0
 IsWantOfMemory (NoThread number) = ⊥
 IsWantOfMemory (HandsMissing made here) = ⊥
