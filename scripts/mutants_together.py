@@ -1,13 +1,14 @@
 """Mutants of one crate that one check can try: each changes the body of a function of its own.
 
 A body is proved against contracts alone, its own and those of what it calls. So where several bodies are mutants, and
-no contract is, the prover says of each what it says of it alone, and the crate is loaded once for all of them. A mutant
-that changes anything else (a clause, a type, a definition, a body that another mutant of the group changes) is tried alone,
-and so is each that is not seen refused in a group.
+no contract is, the prover says of each what it says of it alone, and the crate is loaded once for all of them. It looks
+at no function that calls one that is refused, so no two functions of a group may call one another, by their names in
+the text. A mutant that changes anything else (a clause, a type, a definition, a body that another mutant of the group
+changes) is tried alone, and so is each that is not seen refused in a group.
 """
 import re
 from pathlib import Path
-from typing import Dict, Iterable, List, NamedTuple, Optional, Sequence, Set, Tuple
+from typing import Dict, Iterable, List, Mapping, NamedTuple, Optional, Sequence, Set, Tuple
 
 MOST_TOGETHER = 10  # a refused body takes longer than a proved one, and what is stopped is tried again
 FUNCTION = re.compile(r"( *)(?:pub(?:\([a-z]+\))? )?(?:const )?(?:unsafe )?fn (\w+)")
@@ -79,17 +80,38 @@ def change_of(mutant: Path, crate: Path) -> Optional[Change]:
     return Change(mutant.stem, tuple(sorted(set(touched))), tuple(pairs)) if touched else None
 
 
-def groups_of(changes: Iterable[Change]) -> List[List[Change]]:
-    """The changes in groups of at most so many, in each of which no two change one function."""
+def calls_of(crate: Path) -> Dict[str, Set[str]]:
+    """For each name of a crate's functions the names of those that it calls, through others, too; at least all of these:
+    a name is taken for a call wherever it stands."""
+    words: Dict[str, Set[str]] = {}
+    for path in sorted((crate / "src").rglob("*.rt")):
+        text = path.read_text()
+        lines = text.split("\n")
+        for it in functions_of(str(path.relative_to(crate)), text):
+            words.setdefault(it.name, set()).update(*(re.findall(r"\w+", line) for line in lines[it.first : it.last]))
+    calls = {name: found & set(words) for name, found in words.items()}
+    grows = True
+    while grows:
+        wider = {name: found.union(*(calls[it] for it in found)) for name, found in calls.items()}
+        grows, calls = wider != calls, wider
+    return calls
+
+
+def groups_of(changes: Iterable[Change], calls: Mapping[str, Set[str]]) -> List[List[Change]]:
+    """The changes in groups of at most so many, in each of which no two change one function, nor one that calls
+    another's."""
     groups: List[List[Change]] = []
-    for it in changes:
-        taken = [{function for other in group for function in other.functions} for group in groups]
-        free = (at for at, functions in enumerate(taken) if not functions & set(it.functions))
-        at = next((at for at in free if len(groups[at]) < MOST_TOGETHER), None)
-        if at is None:
-            groups.append([it])
+    for change in changes:
+        names = {it.name for it in change.functions}
+        called = names.union(*(calls.get(it, set()) for it in names))
+        for group in groups:
+            others = {it.name for other in group for it in other.functions}
+            called_there = others.union(*(calls.get(it, set()) for it in others))
+            if len(group) < MOST_TOGETHER and not called & others and not called_there & names:
+                group.append(change)
+                break
         else:
-            groups[at].append(it)
+            groups.append([change])
     return groups
 
 
@@ -142,7 +164,8 @@ def self_test() -> None:
     assert functions_of("src/it.rt", text) == [one, two], functions_of("src/it.rt", text)
     functions_and_numbers = (("a", one, "1"), ("b", two, "2"), ("c", two, "2"))
     changes = [Change(name, (function,), ((number, "3"),)) for name, function, number in functions_and_numbers]
-    assert [[it.name for it in group] for group in groups_of(changes)] == [["a", "b"], ["c"]]
+    assert [[it.name for it in group] for group in groups_of(changes, {})] == [["a", "b"], ["c"]]
+    assert [[it.name for it in group] for group in groups_of(changes, {"two": {"one"}})] == [["a"], ["b"], ["c"]]
     wrong = "note: src/it.rt:2:5: it is not proved that what it ensures holds\nfn crate::it::It::one: not proved\n"
     assert refused_of(changes[:2], wrong) == {"a"}
     assert refused_of(changes[:2], wrong.replace(":2:", ":12:")) == set()
