@@ -1,9 +1,9 @@
 #!/usr/bin/env bash
-# all.sh [PARCEL_TOOL [PROGRAMS [FOLDER]]]: runs every benchmark that docs/performance.md tells of, one behind the other, with
-# the built parcel_tool and the programs of programs/ in the folder PROGRAMS, where build.sh puts those that are not there yet,
-# and writes what each prints to a file of FOLDER, and to `seconds` how long each took: some twelve minutes on four quiet
-# processors. Nothing else should run meanwhile. Where it is left out, PARCEL_TOOL is what the gate leaves in crates, and
-# FOLDER is out/benches. What takes --workers is run with one, two and four.
+# all.sh [PARCEL_TOOL [PROGRAMS [FOLDER]]]: runs every benchmark that docs/performance.md tells of, one behind the
+# other, with the built parcel_tool and the programs of programs/ in the folder PROGRAMS, where build.sh puts those that
+# are not there yet, and writes what each prints to a file of FOLDER, and to `seconds` how long each took: some twelve
+# minutes on four quiet processors. Nothing else should run meanwhile. Where it is left out, PARCEL_TOOL is what the
+# gate leaves in crates, and FOLDER is out/benches. What takes --workers is run with one, two and four.
 set -eu
 here=$(cd "$(dirname "$0")" && pwd)
 tool=$(realpath "${1:-$here/../crates/parcel_tool/out/parcel_tool}")

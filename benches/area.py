@@ -19,8 +19,8 @@ LIMIT = 64 << 20
 
 
 def run(words):
-    """Seconds and peak KiB of one process, its output thrown away. (This script stays small, since a child's peak counts
-    what it had before it became the program.)"""
+    """Seconds and peak KiB of one process, its output thrown away. (This script stays small, since a child's peak
+    counts what it had before it became the program.)"""
     begin = time.perf_counter()
     child = subprocess.Popen(words, stdout=subprocess.DEVNULL, stderr=subprocess.PIPE)
     errors = child.stderr.read()
@@ -40,8 +40,12 @@ def build_c(folder):
 
 def refuse_others(jobs):
     """Stops where two of these print different areas."""
-    texts = {hashlib.sha256(subprocess.run(words, stdout=subprocess.PIPE, stderr=subprocess.DEVNULL, check=True).stdout)
-             .hexdigest() for words in jobs}
+    texts = {
+        hashlib.sha256(
+            subprocess.run(words, stdout=subprocess.PIPE, stderr=subprocess.DEVNULL, check=True).stdout
+        ).hexdigest()
+        for words in jobs
+    }
     if len(texts) > 1:
         sys.exit("the areas differ")
 
@@ -54,8 +58,11 @@ def main():
     given = parser.parse_args()
     folder = tempfile.mkdtemp()
     try:
-        subprocess.run([sys.executable, os.path.join(HERE, "gencity.py"), "--size", "L", folder], check=True,
-                       stdout=subprocess.DEVNULL)
+        subprocess.run(
+            [sys.executable, os.path.join(HERE, "gencity.py"), "--size", "L", folder],
+            check=True,
+            stdout=subprocess.DEVNULL,
+        )
         layer = os.path.join(folder, "parcels.shp")
         padded = os.path.join(folder, "padded.shp")
         shutil.copyfile(layer, padded)
@@ -63,8 +70,10 @@ def main():
         shutil.copy(layer[:-4] + ".shx", padded[:-4] + ".shx")
         print("%-8s %-12s %9s %7s %9s" % ("file", "job", "seconds", "MiB", "x ours"))
         for name, path in (("city L", layer), ("64 MiB", padded)):
-            jobs = [("ours", [given.program, "area", path, "--unit", "cm"]),
-                    ("copy", ["cp", path, os.path.join(folder, "copy")])]
+            jobs = [
+                ("ours", [given.program, "area", path, "--unit", "cm"]),
+                ("copy", ["cp", path, os.path.join(folder, "copy")]),
+            ]
             if given.before:
                 jobs.append(("before", [given.before, "area", path, "--unit", "cm"]))
             if shutil.which("gcc"):
@@ -72,8 +81,12 @@ def main():
             refuse_others([words for job, words in jobs if job != "copy"])
             if shutil.which("ogr2ogr"):
                 stem = os.path.basename(path)[:-4]
-                jobs.append(("GDAL", ["ogr2ogr", "-f", "CSV", "/vsistdout/", "-sql",
-                                      "SELECT FID, OGR_GEOM_AREA FROM " + stem, path]))
+                jobs.append(
+                    (
+                        "GDAL",
+                        ["ogr2ogr", "-f", "CSV", "/vsistdout/", "-sql", "SELECT FID, OGR_GEOM_AREA FROM " + stem, path],
+                    )
+                )
             best = {}
             for _ in range(given.runs):
                 for job, words in jobs:

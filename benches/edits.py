@@ -3,11 +3,12 @@
 
   edits.py [--ours PROGRAM] [--runs N] [--count N] [--long N] [--only WORD ..]
 
-PROGRAM is programs/bench_edits, built by build.sh unless it is given. It loads a city, opens it, copies it twice (the first copy lies in
-memory that comes fresh from the system, and so does what the load makes), and makes COUNT edits that are accepted, drawn at random with a fixed
-seed: splits, merges, moves, inserts and straightenings of all parcels, so chosen that rings stay as long as they are. Of N processes the least
-times are printed: milliseconds of the load, the opening and the copies, with their part of the load, and the mean microseconds of each kind of
-edit, the refused among them. Then as many edits as --long says are made in one journal on city M, and the means of each tenth are printed.
+PROGRAM is programs/bench_edits, built by build.sh unless it is given. It loads a city, opens it, copies it twice (the
+first copy lies in memory that comes fresh from the system, and so does what the load makes), and makes COUNT edits that
+are accepted, drawn at random with a fixed seed: splits, merges, moves, inserts and straightenings of all parcels, so
+chosen that rings stay as long as they are. Of N processes the least times are printed: milliseconds of the load, the
+opening and the copies, with their part of the load, and the mean microseconds of each kind of edit, the refused among
+them. Then as many edits as --long says are made in one journal on city M, and the means of each tenth are printed.
 """
 import argparse, os, shutil, subprocess, sys, tempfile
 
@@ -19,7 +20,8 @@ KINDS = ("split", "merge", "move", "insert", "straighten", "refused")
 
 
 def answer(program, folder, count):
-    """The microseconds of the load, the opening and the two copies; and of each tenth the numbers and nanoseconds of each kind."""
+    """The microseconds of the load, the opening and the two copies; and of each tenth the numbers and nanoseconds of
+    each kind."""
     files = [os.path.join(folder, part + ".shp") for part in ("city", "parcels")]
     text, kib = nodes.run([program, *files, str(count)], 600)
     lines = [[int(word) for word in line.split()] for line in (text or "").splitlines()]
@@ -30,15 +32,29 @@ def answer(program, folder, count):
 
 def means(tenths):
     """The mean microseconds of each kind."""
-    sums = [(sum(tenth[kind][0] for tenth in tenths), sum(tenth[kind][1] for tenth in tenths)) for kind in range(len(KINDS))]
+    sums = [
+        (sum(tenth[kind][0] for tenth in tenths), sum(tenth[kind][1] for tenth in tenths)) for kind in range(len(KINDS))
+    ]
     return [nanos / count / 1000 if count else 0 for count, nanos in sums]
 
 
 def show(name, program, folder, runs, count):
     answers = [answer(program, folder, count) for _ in range(runs)]
     load, opening, copy, sheet = (min(it) for it in zip(*(times for times, _, _ in answers)))
-    print("%s: load %.1f ms, open %.1f (%.3f), copy %.1f (%.3f), the next %.1f (%.3f), %d MiB" % (
-        name, load / 1e3, opening / 1e3, opening / load, copy / 1e3, copy / load, sheet / 1e3, sheet / load, answers[0][2] / 1024))
+    print(
+        "%s: load %.1f ms, open %.1f (%.3f), copy %.1f (%.3f), the next %.1f (%.3f), %d MiB"
+        % (
+            name,
+            load / 1e3,
+            opening / 1e3,
+            opening / load,
+            copy / 1e3,
+            copy / load,
+            sheet / 1e3,
+            sheet / load,
+            answers[0][2] / 1024,
+        )
+    )
     best = [min(it) for it in zip(*(means(tenths) for _, tenths, _ in answers))]
     print("  " + ", ".join("%s %.1f us" % it for it in zip(KINDS, best)), flush=True)
 

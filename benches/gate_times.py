@@ -1,10 +1,11 @@
 #!/usr/bin/env python3
 """Says how many processor minutes each crate takes in a gate, its proofs, its tests' proofs and its mutants.
 
-    benches/gate_times.py [SECONDS] > table     watches until no `rt ci` and no `scripts/prove` runs, looking every SECONDS (2)
+    benches/gate_times.py [SECONDS] > table   watches until no `rt ci` and no `scripts/prove` runs, every SECONDS (2)
 
-It watches the provers that any of these starts on this machine, so nothing else is to be proved meanwhile, and reads the time
-that each has used from /proc. A prover that lives for less than SECONDS is not seen whole. It stands outside of the gate.
+It watches the provers that any of these starts on this machine, so nothing else is to be proved meanwhile, and reads
+the time that each has used from /proc. A prover that lives for less than SECONDS is not seen whole. It stands outside
+of the gate.
 """
 import os
 import re

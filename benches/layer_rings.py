@@ -3,10 +3,10 @@
 
   layer_rings.py [--nodes PROGRAM] [--rings PROGRAM] [--runs N] [--only WORD ..]
 
-The programs are programs/bench_nodes and programs/bench_layer_rings, built by build.sh unless they are given. The layers are made in
-a temporary folder with a fixed seed: city L, squares that paths cut into halves of some 4,096 corners (tiling.py), and 244 rings of
-4,096 corners of one kind (rings.py), at most 5 * 10^8 wide, in rows of sixteen. The least of N processes is printed for each step, in milliseconds. Noding is told
-of layers that tile alone.
+The programs are programs/bench_nodes and programs/bench_layer_rings, built by build.sh unless they are given. The
+layers are made in a temporary folder with a fixed seed: city L, squares that paths cut into halves of some 4,096
+corners (tiling.py), and 244 rings of 4,096 corners of one kind (rings.py), at most 5 * 10^8 wide, in rows of sixteen.
+The least of N processes is printed for each step, in milliseconds. Noding is told of layers that tile alone.
 """
 import argparse, os, shutil, subprocess, sys, tempfile
 
@@ -21,20 +21,28 @@ SMALL = 20
 
 def many(kind):
     """244 rings of this kind, in rows of sixteen."""
+
     def make(folder):
         ring = [(x // SMALL, y // SMALL) for x, y in kind(4096)]
         wide = 2 * rings.R // SMALL + 1000
         apart = [[(x + wide * (k % 16), y + wide * (k // 16)) for x, y in ring] for k in range(244)]
         nodes.layers(folder, nodes.box(0, 0, wide, wide), apart)
+
     return make
 
 
-HALVES = (("halves, zigzags", tiling.pairs(tiling.zigzag, 4092, 10 ** 6)),
-          ("halves, spirals", tiling.pairs(tiling.spiral, 4088, 10 ** 6)), ("halves, arcs", tiling.pairs(tiling.arc, 4092, 4 * 10 ** 7)))
+HALVES = (
+    ("halves, zigzags", tiling.pairs(tiling.zigzag, 4092, 10**6)),
+    ("halves, spirals", tiling.pairs(tiling.spiral, 4088, 10**6)),
+    ("halves, arcs", tiling.pairs(tiling.arc, 4092, 4 * 10**7)),
+)
 
 TILINGS = (("city L", nodes.city("L")), ("strips, cut", nodes.cut(0)), ("slanted, cut", nodes.cut(5))) + HALVES
 
-OTHERS = tuple((kind.__name__, many(kind)) for kind in (rings.convex, rings.star, rings.comb, rings.slanted, rings.spiral, rings.crescent))
+OTHERS = tuple(
+    (kind.__name__, many(kind))
+    for kind in (rings.convex, rings.star, rings.comb, rings.slanted, rings.spiral, rings.crescent)
+)
 
 
 def said(words, runs):

@@ -21,11 +21,25 @@ def main():
         if not given.ours:
             subprocess.run([os.path.join(HERE, "build.sh"), "bench_layers", home], check=True)
         program = given.ours or os.path.join(home, "bench_layers")
-        print("%-5s %9s %7s %8s %8s %22s %22s %22s" % ("city", "bytes", "rings", "corners", "copy us",
-                                                     "read with index us, x", "read without us, x", "write us, x"))
+        print(
+            "%-5s %9s %7s %8s %8s %22s %22s %22s"
+            % (
+                "city",
+                "bytes",
+                "rings",
+                "corners",
+                "copy us",
+                "read with index us, x",
+                "read without us, x",
+                "write us, x",
+            )
+        )
         for size in "SML":
-            subprocess.run([sys.executable, os.path.join(HERE, "gencity.py"), "--size", size, home], check=True,
-                           stdout=subprocess.DEVNULL)
+            subprocess.run(
+                [sys.executable, os.path.join(HERE, "gencity.py"), "--size", size, home],
+                check=True,
+                stdout=subprocess.DEVNULL,
+            )
             words = [program] + [os.path.join(home, "parcels" + ending) for ending in (".shp", ".shx")]
             text = subprocess.run(words + [str(given.rounds)], check=True, capture_output=True, text=True).stdout
             count, rings, corners, copy, *jobs = (int(word) for word in text.split())

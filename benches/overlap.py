@@ -4,10 +4,10 @@
   overlap.py [--seed N] [--ours PROGRAM] [--runs N] [--touches]
 
 Pairs of triangles and of shapes are made with a fixed seed, all in whole millimetres, and given to both programs: ours
-(programs/bench_overlap, proved and built by build.sh unless PROGRAM is given) and geos_overlap.cpp (Debian's libgeos-dev
-and g++), which takes intersects and not touches, too, with --touches. The two run in turns, N times, and each time is the
-least of all rounds. Making geometries isn't timed; our checking and clipping is printed apart. A pair whose answers differ
-is told.
+(programs/bench_overlap, proved and built by build.sh unless PROGRAM is given) and geos_overlap.cpp (Debian's
+libgeos-dev and g++), which takes intersects and not touches, too, with --touches. The two run in turns, N times, and
+each time is the least of all rounds. Making geometries isn't timed; our checking and clipping is printed apart. A pair
+whose answers differ is told.
 """
 import argparse, math, os, random, shutil, subprocess, sys, tempfile
 
@@ -57,17 +57,25 @@ def sliver(chance):
     b = FAR - chance.randint(0, 10 ** 6), FAR - chance.randint(0, 10 ** 9)
 
     def near():
-        t = chance.randint(1, 10 ** 6 - 1)
-        return (a[0] + (b[0] - a[0]) * t // 10 ** 6 + chance.randint(-2, 2),
-                a[1] + (b[1] - a[1]) * t // 10 ** 6 + chance.randint(-2, 2))
+        t = chance.randint(1, 10**6 - 1)
+        return (
+            a[0] + (b[0] - a[0]) * t // 10**6 + chance.randint(-2, 2),
+            a[1] + (b[1] - a[1]) * t // 10**6 + chance.randint(-2, 2),
+        )
+
     return left(a, b, near()), left(near(), near(), near())
 
 
 def ragged(chance, n, east, north):
     """A ring of corners at rising angles and random distances."""
     far = [1000 * n * chance.uniform(0.5, 1) for _ in range(n)]
-    return [(EAST + east + round(far[k] * math.cos(2 * math.pi * k / n)),
-             NORTH + north + round(far[k] * math.sin(2 * math.pi * k / n))) for k in range(n)]
+    return [
+        (
+            EAST + east + round(far[k] * math.cos(2 * math.pi * k / n)),
+            NORTH + north + round(far[k] * math.sin(2 * math.pi * k / n)),
+        )
+        for k in range(n)
+    ]
 
 
 def stars(chance, n):
@@ -79,14 +87,19 @@ def border(chance, n):
     """Two sides of a jagged border, one above the other."""
     line = [(EAST + 1000 * k, NORTH + chance.randint(0, 1000)) for k in range(n - 2)]
     west, east = line[0][0], line[-1][0]
-    return [(west, NORTH - 3000), (east, NORTH - 3000)] + line[::-1], line + [(east, NORTH + 4000), (west, NORTH + 4000)]
+    return [(west, NORTH - 3000), (east, NORTH - 3000)] + line[::-1], line + [
+        (east, NORTH + 4000),
+        (west, NORTH + 4000),
+    ]
 
 
 def zigzag(chance, n):
     """Two sides of a border that goes to and fro over the whole of their boxes' overlap, side by side."""
     line = [(EAST + chance.randint(0, 40000), NORTH + 1000 * k) for k in range(n - 2)]
     top, bottom = line[-1][1], line[0][1]
-    return [(EAST - 50000, top), (EAST - 50000, bottom)] + line, [(EAST + 90000, bottom), (EAST + 90000, top)] + line[::-1]
+    return [(EAST - 50000, top), (EAST - 50000, bottom)] + line, [(EAST + 90000, bottom), (EAST + 90000, top)] + line[
+        ::-1
+    ]
 
 
 def zigzag_met(chance, n):
@@ -101,8 +114,11 @@ def notch(chance, n):
     """A ring between the walls of another, in its box but apart from it."""
     end = 1000 * (n - 5)
     floor = [(EAST + 1000 * k, NORTH + 10000 + chance.randint(0, 9000)) for k in range(n - 4)]
-    cup = [(EAST - 9000, NORTH), (EAST + end + 9000, NORTH), (EAST + end + 9000, NORTH + 90000)] + floor[::-1] + \
-        [(EAST - 9000, NORTH + 90000)]
+    cup = (
+        [(EAST - 9000, NORTH), (EAST + end + 9000, NORTH), (EAST + end + 9000, NORTH + 90000)]
+        + floor[::-1]
+        + [(EAST - 9000, NORTH + 90000)]
+    )
     under = [(EAST + end * k // (n - 3), NORTH + 20000 + chance.randint(0, 9000)) for k in range(n - 2)]
     return cup, under + [(EAST + end, NORTH + 60000), (EAST, NORTH + 60000)]
 
@@ -117,14 +133,18 @@ def spirals(chance, n):
         angle = 2 * math.pi * (k % turns) / turns
         far = start - k * step - inward * turns * step // 2
         return EAST + round(far * math.cos(angle)), NORTH + round(far * math.sin(angle))
+
     lines = [[at(k, inward) for k in range(half)] for inward in range(3)]
     return lines[0] + lines[1][::-1], lines[1] + lines[2][::-1]
 
 
 def slanted(chance, n):
-    """Two sides of a border that goes to and fro slantwise, so that nearly all boxes meet and little can be left out."""
+    """Two sides of a border that goes to and fro slantwise, so that nearly all boxes meet and little can be left
+    out."""
+
     def at(u, v):
         return EAST + u - v, NORTH + u + v
+
     line, top = [at(chance.randint(0, 40 * n), 10 * k) for k in range(n - 2)], 10 * (n - 3)
     return [at(-n, top), at(-n, 0)] + line, [at(41 * n, 0), at(41 * n, top)] + line[::-1]
 

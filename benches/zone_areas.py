@@ -4,9 +4,9 @@
   zone_areas.py PROGRAM [--size S|M|L] [--runs N] [--workers N,N ..]
 
 PROGRAM is the built parcel_tool (benches/README.md says where it lies). The city is made in a temporary folder with a
-fixed seed. With each number of workers `overlay` is run in turn with and without `--areas`, N times each, a whole process:
-the least seconds by the clock and of processors of each are printed, the largest memory, and by how much the seconds
-differ, a column for each number. What `--areas` prints has to be the same for all numbers. GEOS (Debian's
+fixed seed. With each number of workers `overlay` is run in turn with and without `--areas`, N times each, a whole
+process: the least seconds by the clock and of processors of each are printed, the largest memory, and by how much the
+seconds differ, a column for each number. What `--areas` prints has to be the same for all numbers. GEOS (Debian's
 python3-shapely) then finds the intersection and its area of the same pairs, those of the parcels that lie in several
 zones, called from Python: its seconds of a processor, and by how much the areas that it finds for a parcel are off
 together, in square millimetres.
@@ -41,7 +41,8 @@ def run(words, path):
 
 
 def measure(program, folder, workers, runs):
-    """The least seconds of both kinds and the most KiB, without areas and with them, by the number of workers; what is told."""
+    """The least seconds of both kinds and the most KiB, without areas and with them, by the number of workers; what is
+    told."""
     files = [os.path.join(folder, f"{name}.shp") for name in ("city", "parcels", "zones")]
     known, told = {}, set()
     for _ in range(runs):

@@ -2,6 +2,7 @@
 
 ghost use Rattle.std.specs.Prelude.{◌≡◌, ◌⊎◌, ℕ, ◌<◌, ◌≤◌, [], length, IfOk, IfErr};
 ghost use Rattle.desk_lock.specs.Offices.{origin_of};
+ghost use Rattle.desk_lock.specs.declared.opening.OpenFault.TheVariants.{NoWindow as NoReader};
 ghost use Rattle.desk_lock.specs.declared.opening.TheConstants.{MOST_PLACES};
 ghost use Rattle.fabric_core.specs.Journal.{opening_state};
 ghost use Rattle.fabric_core.specs.Tiling.{IsTiling};
@@ -12,7 +13,7 @@ ghost use Rattle.clerk_runs.specs.own.Working.{AreMadeIn};
 use crate::files::ClerkEdits;
 use crate::job::Counter;
 use crate::jobs::{Done, jobs_of, take_all_in};
-use crate::place::places_of;
+use crate::locating::locate_all;
 use desk_lock::{Name, Naming, Office, OpenFault};
 use fabric_core::{At, Fabric, Layer, Sheet};
 use geo_exact::Corner;
@@ -38,7 +39,7 @@ pub struct Edited<'h, H: Allocator> {
 pub enum RunFault {
     /// K3: the office's window of this number, from 1, was given no reader.
     NoWindow(usize),
-    /// An allocation was refused.
+    /// An allocation failed.
     NoMemory,
 }
 
@@ -58,9 +59,22 @@ impl<T: Drop> From<AllocFailed<T>> for RunFault {
     }
 }
 
-/// Opens an office with one window for the clerks, each of whom makes his edits line by line in a
-/// thread of his own, or in this thread, once the others are joined, where the system refuses one.
-/// An edit that is refused, also because memory ran out, changes nothing, and the clerk goes on with his
+// An office of the clerks of a run has places for all of them.
+impl From<OpenFault> for RunFault {
+    ghost from_gives = { λ fault told.
+        ((window : ℕ) × (fault ≡ NoReader window) × (told ≡ NoWindow window)) ⊎ (told ≡ NoMemory) };
+
+    fn from(fault: OpenFault) -> RunFault {
+        match fault {
+            OpenFault::NoWindow(window) => RunFault::NoWindow(window),
+            OpenFault::Places(_) | OpenFault::NoMemory => RunFault::NoMemory,
+        }
+    }
+}
+
+/// Opens an office with one window for the clerks, each of whom makes their edits line by line in a
+/// thread of their own, or in this thread, once the others are joined, where the system refuses one.
+/// An edit that is refused, also because memory ran out, changes nothing, and the clerk goes on with the
 /// next. Where the corners lie is asked at the window, once it learnt the receipts of all clerks,
 /// or of the sheet that is drawn then where a receipt was not published.
 ///
@@ -76,14 +90,16 @@ pub fn edit_by_clerks<'h, R: Threads + Wait + Sync, H: Allocator + Send + Sync>(
 ) -> Result<Edited<'h, H>, RunFault>
     requires some { 0 < length clerks.items }
     requires few { length clerks.items ≤ MOST_PLACES }
-    ensures made { IfOk result (λ edited. AreMade layer.entry clerks.entry.items (register_of edited.sheet) edited.lines.items) }
-    ensures opening { IfOk result (λ edited. edited.sheet.opening ≡ opening_state layer.entry.rows layer.entry.refined) }
+    ensures made { IfOk result (λ edited. AreMade layer.entry clerks.entry.items (register_of edited.sheet)
+        edited.lines.items) }
+    ensures opening { IfOk result (λ edited. edited.sheet.opening
+        ≡ opening_state layer.entry.rows layer.entry.refined) }
     ensures city { IfOk result (λ edited. edited.sheet.city ≡ layer.entry.city) }
     ensures places { IfOk result (λ edited. AreLocated edited.sheet.now.rows corners.now edited.places.items) }
     ensures fault { IfErr result (λ fault. (fault ≡ NoWindow 1) ⊎ (fault ≡ NoMemory)) }
 {
     let Ok(fabric) = Fabric::open(layer) else {
-        return Err(RunFault::NoMemory);
+        unreachable!()
     };
     let name = Name::new(heap)?;
     edit_at_office::<R, H, Brand>(rt, heap, name, fabric, clerks, corners)
@@ -104,11 +120,13 @@ fn edit_at_office<
     corners: &[Corner],
 ) -> Result<Edited<'h, H>, RunFault>
     requires book { name.book ≡ J.book }
-    requires office { J.office ≡ record { cards = name.cards; clerks = length clerks.items; origin = origin_of fabric } }
+    requires office { J.office
+        ≡ record { cards = name.cards; clerks = length clerks.items; origin = origin_of fabric } }
     requires some { 0 < length clerks.items }
     requires few { length clerks.items ≤ MOST_PLACES }
     requires fresh { fabric.journal ≡ [] }
-    ensures made { IfOk result (λ edited. AreMadeIn (record { clerks = length clerks.entry.items; opening = fabric.entry.opening })
+    ensures made { IfOk result
+        (λ edited. AreMadeIn (record { clerks = length clerks.entry.items; opening = fabric.entry.opening })
         clerks.entry.items (register_of edited.sheet) edited.lines.items) }
     ensures opening { IfOk result (λ edited. edited.sheet.opening ≡ fabric.entry.opening) }
     ensures city { IfOk result (λ edited. edited.sheet.city ≡ fabric.entry.city) }
@@ -125,7 +143,7 @@ fn edit_at_office<
         1,
     ) {
         Ok(opened) => opened,
-        Err((_, fault)) => return Err(fault_of(fault)),
+        Err((_, fault)) => return Err(RunFault::from(fault)),
     };
     // The office was opened with one window.
     let Some(mut window) = windows.pop() else {
@@ -143,7 +161,7 @@ fn edit_at_office<
     } = take_all_in(heap, jobs, &mut window)?;
     let sheet = counter.office.sheet(rt, cards.as_mut_slice())?;
     sheet.use_invariant();
-    let places = places_of(heap, &mut window, published, &sheet, corners)?;
+    let places = locate_all(heap, &mut window, published, &sheet, corners)?;
     let Counter { office, .. } = counter;
     let _ = office.close(rt, cards);
     Ok(Edited {
@@ -151,15 +169,4 @@ fn edit_at_office<
         lines,
         places,
     })
-}
-
-/// What the fault of an office with one window is to a run.
-fn fault_of(fault: OpenFault) -> RunFault
-    ensures same { (k : ℕ) → result ≡ NoWindow k → fault ≡ OpenFault.NoWindow k }
-    ensures cases { ((k : ℕ) × (result ≡ NoWindow k)) ⊎ (result ≡ NoMemory) }
-{
-    match fault {
-        OpenFault::NoWindow(window) => RunFault::NoWindow(window),
-        OpenFault::Places(_) | OpenFault::NoMemory => RunFault::NoMemory,
-    }
 }

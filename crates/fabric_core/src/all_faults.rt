@@ -142,7 +142,8 @@ pub(crate) fn load_refined<'a, H: Allocator>(
     requires few { length refined.numbers.items ≤ LAYER_RECORDS }
     requires city { IsRefinedCity refined.city refined.refined }
     requires area { IsLeastBox area refined.city }
-    ensures rows { IfOk result (λ layer. layer.rows ≡ numbered_rows refined.entry.numbers.items refined.entry.rings.items) }
+    ensures rows { IfOk result (λ layer. layer.rows
+        ≡ numbered_rows refined.entry.numbers.items refined.entry.rings.items) }
     ensures city { IfOk result (λ layer. layer.city ≡ refined.entry.city) }
     ensures refined { IfOk result (λ layer. layer.refined ≡ refined.entry.refined) }
     ensures no_fault { IfOk result (λ layer. HaveNoFault layer.rows layer.refined) }
@@ -178,7 +179,8 @@ pub(crate) fn load_refined_by<'a, H: Allocator + Send + Sync, R: Threads + Sync>
     requires few { length refined.numbers.items ≤ LAYER_RECORDS }
     requires city { IsRefinedCity refined.city refined.refined }
     requires area { IsLeastBox area refined.city }
-    ensures rows { IfOk result (λ layer. layer.rows ≡ numbered_rows refined.entry.numbers.items refined.entry.rings.items) }
+    ensures rows { IfOk result (λ layer. layer.rows
+        ≡ numbered_rows refined.entry.numbers.items refined.entry.rings.items) }
     ensures city { IfOk result (λ layer. layer.city ≡ refined.entry.city) }
     ensures refined { IfOk result (λ layer. layer.refined ≡ refined.entry.refined) }
     ensures no_fault { IfOk result (λ layer. HaveNoFault layer.rows layer.refined) }

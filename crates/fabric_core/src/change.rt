@@ -13,8 +13,8 @@ ghost use Rattle.fabric_core.specs.own.EntryRows.{rows_of_entry};
 ghost use Rattle.fabric_core.specs.Refusals.{named_ids, IsBadCutPath, IsFirstBent, IsOwnRefusal};
 ghost use Rattle.fabric_core.specs.Rows.{numbers};
 ghost use Rattle.ring_edits.specs.Edits.{BendsAt, IsBorderPath, IsPathAcross, ShareOneRun};
-ghost use Rattle.fabric_core.specs.own.Changes.{state_of, IsGone, IsTold, IsStopped, IsBorderRefusal, IsMoveRefusal, IsInsertRefusal};
-ghost use Rattle.fabric_core.specs.own.Changes.{AsksMemory, IsStraightenRefusal};
+ghost use Rattle.fabric_core.specs.own.Changes.{state_of, IsGone, IsTold, IsStopped, IsBorderRefusal, IsMoveRefusal};
+ghost use Rattle.fabric_core.specs.own.Changes.{IsInsertRefusal, AsksMemory, IsStraightenRefusal};
 
 use crate::edges::renewed_rows;
 use crate::journal::Row;
@@ -152,7 +152,8 @@ fn merge_change<'a, H: Allocator>(
     ensures err { IfErr result (λ refusal.
         IsStopped tiled.now (a ∷ b ∷ []) (IsBorderRefusal (state_of tiled.now) a b refusal) refusal) }
     ensures memory { IsErrOf result NoMemory → (ring_a : List CornerValue) × (ring_b : List CornerValue)
-        × Contains tiled.now.rows (numbered a ring_a) × Contains tiled.now.rows (numbered b ring_b) × ShareOneRun ring_a ring_b }
+        × Contains tiled.now.rows (numbered a ring_a) × Contains tiled.now.rows (numbered b ring_b)
+        × ShareOneRun ring_a ring_b }
 {
     let first = here(tiled, a)?;
     let second = here(tiled, b)?;
@@ -251,7 +252,8 @@ fn first_bent<'a, H: Allocator>(tiled: &Tiled<'a, H>, ids: &[u64], at: Corner) -
     None
 }
 
-/// A corner taken out of the parcels that have it, where no ring bends there.
+/// A corner taken out of the parcels that have it, where no ring bends there. Where no parcel's does,
+/// nor does the city's refined ring: it is simple, and goes round each place as often as they do.
 fn straighten_change<'a, H: Allocator>(
     alloc: &'a H,
     tiled: &Tiled<'a, H>,
@@ -271,9 +273,7 @@ fn straighten_change<'a, H: Allocator>(
     if let Some(id) = first_bent(tiled, &out, at) {
         return Err(Refusal::NotFlat(id));
     }
-    if is_bent(tiled.refined(), at) {
-        return Err(Refusal::NotFlat(0));
-    }
+    tiled.use_invariant();
     Ok(Change { out, rows })
 }
 

@@ -19,7 +19,8 @@ pub(crate) fn renewed_rows<'a, H: Allocator>(
 ) -> Result<Vec<Row<&'a H>, &'a H>, AllocError>
     requires two_ends { HasTwoEnds change }
     requires in_area { AllByRecursion (λ row. All (HoldsCorner tiled.now.index.area) row.corners) tiled.now.rows }
-    ensures { IfOk result (λ rows. rows_of_entry rows.items ≡ map (renewed change) (rows_changed change tiled.now.rows)) }
+    ensures { IfOk result (λ rows. rows_of_entry rows.items
+        ≡ map (renewed change) (rows_changed change tiled.now.rows)) }
 {
     tiled.use_invariant();
     let _ids = tiled.ids();

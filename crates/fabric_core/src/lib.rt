@@ -11,6 +11,7 @@ mod clipped;
 mod draft;
 mod edges;
 mod fabric;
+mod farthest;
 mod follow;
 mod gaps;
 mod grid_index;

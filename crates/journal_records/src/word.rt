@@ -4,7 +4,7 @@ ghost use Rattle.std.specs.Prelude.{◌≡◌, ◌≤◌, ◌<◌, ◌++◌, cod
 
 use crate::parts::behind;
 
-/// The most bytes of a client's word.
+/// The most bytes of a client's word: room for a name and a file's number, and the journal's line stays one to read.
 pub const WORD_BYTES: usize = 200;
 
 /// What a line says of who asks and why, and what it asks for: `by WHO: ASKED`, cut at the last `: `. `None` where the

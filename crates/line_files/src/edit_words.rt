@@ -18,7 +18,7 @@ use std::alloc::{AllocError, Allocator};
 ///
 /// # Errors
 ///
-/// [`AllocError`] where an allocation is refused.
+/// [`AllocError`] where an allocation fails.
 ///
 /// ```
 /// // Some, of the edit that makes parcels 3 and 4 one:
@@ -161,7 +161,8 @@ fn take_number(words: &mut Words<'_>) -> Option<u64>
 /// The corner whose coordinates the next two words are; `None` where they are none.
 fn take_corner(grid: Grid, words: &mut Words<'_>) -> Option<Corner>
     ensures found { IfSome result (λ corner. TakesCorner grid words.old corner words.new) }
-    ensures none { IfNone result ((corner : CornerValue) → (left : List (List ℕ)) → ¬ TakesCorner grid words.old corner left) }
+    ensures none { IfNone result ((corner : CornerValue) → (left : List (List ℕ))
+        → ¬ TakesCorner grid words.old corner left) }
 {
     let x = words.next()?;
     let y = words.next()?;

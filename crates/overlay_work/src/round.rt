@@ -1,6 +1,7 @@
 //! A round: the parcels of a sheet dealt to hands, to be laid over zones.
 
-ghost use Rattle.std.specs.Prelude.{◌≡◌, ◌⊎◌, ◌↔◌, [], ℕ, map, flat_map, length, IsTrue, IfOk, IfErr, OnOk, IsErrAnd, IsPermutation};
+ghost use Rattle.std.specs.Prelude.{◌≡◌, ◌⊎◌, ◌↔◌, [], ℕ, map, flat_map, length, IsTrue, IfOk, IfErr};
+ghost use Rattle.std.specs.Prelude.{OnOk, IsErrAnd, IsPermutation};
 ghost use Rattle.fabric_core.specs.Rows.{numbers};
 ghost use Rattle.overlay_work.specs.declared.round.TheConstants.{MOST_HANDS};
 ghost use Rattle.overlay_work.specs.declared.round.RoundFault.{RoundFault};
@@ -49,7 +50,7 @@ pub enum RoundFault {
     OtherCity,
     /// O1: the least id that does not stand exactly once in the lists, or is no parcel of the sheet.
     NotASharing(u64),
-    /// An allocation was refused.
+    /// An allocation failed.
     NoMemory,
 }
 
@@ -151,12 +152,14 @@ impl<'t, 'h, H: Allocator> Round<'t, 'h, H> {
         // Each place of the lists was claimed by one hand, once, and each parcel done by one, once.
         ensures claimed { OnOk result (IsPermutation (flat_map (λ hand. hand.claimed) hands.entry.items)
             (all_places 0 (map (λ list. length list) self.entry.lists))) }
-        ensures once { OnOk result (IsPermutation (flat_map (λ hand. hand.did) hands.entry.items) (numbers self.entry.rows)) }
+        ensures once { OnOk result (IsPermutation (flat_map (λ hand. hand.did) hands.entry.items)
+            (numbers self.entry.rows)) }
         ensures back { IfErr result (λ back. (back.round ≡ self.entry) × (back.hands.items ≡ hands.entry.items)) }
         ensures no_threads { IfErr result (λ back. back.threads ≡ []) }
         // A fault that is answered is the round's, or memory is wanting; and a round with a fault is
         // refused by that one, also where memory is wanting.
-        ensures fault { IfErr result (λ back. IsCloseFault self.entry hands.entry.items back.fault ⊎ (back.fault ≡ NoRoom)) }
+        ensures fault { IfErr result (λ back. IsCloseFault self.entry hands.entry.items back.fault
+            ⊎ (back.fault ≡ NoRoom)) }
         ensures refuses { (fault : CloseFault) → IsCloseFault self.entry hands.entry.items fault
             → IsErrAnd result (λ back. back.fault ≡ fault) }
     {
@@ -213,7 +216,8 @@ fn check<'h, H: Allocator>(
     zones: &Layer<'h, H>,
     lists: &[Vec<u64, &'h H>],
 ) -> Result<(), RoundFault>
-    ensures ok { OnOk result (CanBegin (numbers sheet.now.now.rows) sheet.now.city zones.now.city (map (λ list. list.items) lists.now)) }
+    ensures ok { OnOk result (CanBegin (numbers sheet.now.now.rows) sheet.now.city zones.now.city
+        (map (λ list. list.items) lists.now)) }
     ensures fault { IfErr result (λ fault. IsRoundFault (numbers sheet.now.now.rows) sheet.now.city zones.now.city
         (map (λ list. list.items) lists.now) fault ⊎ (fault ≡ NoMemory)) }
 {
@@ -251,7 +255,8 @@ fn begin<'t, 'h, H: Allocator>(
     ensures zones { IfOk result (λ made. (arc_value made.0).zones ≡ zones.now.rows) }
     ensures city { IfOk result (λ made. (arc_value made.0).city ≡ sheet.now.city) }
     ensures entries { IfOk result (λ made. (arc_value made.0).entries ≡ length sheet.now.journal) }
-    ensures claimants { IfOk result (λ made. made.1.items ≡ fresh_claimants (arc_value made.0).claims (length lists.entry.items)) }
+    ensures claimants { IfOk result (λ made. made.1.items
+        ≡ fresh_claimants (arc_value made.0).claims (length lists.entry.items)) }
 {
     sheet.use_invariant();
     let lengths = lengths_of(heap, lists.as_slice())?;

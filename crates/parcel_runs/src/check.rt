@@ -1,7 +1,6 @@
 //! Whether parcels tile their city.
 
-ghost use Rattle.std.specs.Prelude.{◌≡◌, ◌⊎◌, ◌≤◌, ◌++◌, ℕ, List, length, codes, decimal};
-ghost use Rattle.std.specs.Prelude.{IfOk, IfErr, IsErrAnd, IsErrOf, OnOk, OnErr};
+ghost use Rattle.std.specs.Prelude.{◌≡◌, ◌⊎◌, ◌≤◌, ◌++◌, ℕ, List, length, IfOk, IfErr, IsErrAnd, IsErrOf, OnOk};
 ghost use Rattle.std.specs.Borrow.{Bor};
 ghost use Rattle.geo_exact.specs.Bytes.{raised};
 ghost use Rattle.geo_exact.specs.declared.limits.TheConstants.{LIST_CORNERS};
@@ -14,16 +13,19 @@ ghost use Rattle.clerk_runs.specs.ClerkRuns.{Register, AreMade};
 ghost use Rattle.parcel_runs.specs.RunFaults.{IsRunFault, IsWant};
 ghost use Rattle.desk_lock.specs.declared.opening.TheConstants.{MOST_PLACES};
 
-use crate::inputs::{RunInputs, load_inputs, load_inputs_or_lines};
-use crate::outcome::edit_layer;
+use crate::all_inputs::load_inputs_or_lines;
+use crate::edited::edit_layer;
+use crate::inputs::{RunInputs, load_inputs};
 use crate::run_files::RunFiles;
+use crate::sheets::push_sheet_tiling;
 use city_layers::ToolFault;
+use clerk_runs::Edited;
 use geo_exact::ByteOut;
 use shp_files::a_layer_file_is_within_the_limits;
 use std::alloc::Allocator;
 use std::sync::Wait;
 use std::thread::Threads;
-use text_pieces::{Piece, Sink, push_pieces, put_all};
+use text_pieces::put_all;
 
 /// Writes `tiling N AREA2` where the parcels tile their city exactly: how many they are, and twice
 /// the city's area in square millimetres. Before that the edits of clerks' files are made at one
@@ -58,7 +60,7 @@ pub fn check<'h, R: Threads + Wait + Sync, H: Allocator + Send + Sync, A: Alloca
     ensures failed { IsErrOf result ToolFault.Output → W.failure_count out.new ≡ raised (W.failure_count out.old) }
     ensures no_failure { OnOk result (W.failure_count out.new ≡ W.failure_count out.old) }
 {
-    let inputs = load_inputs(rt, workers, heap, files)?;
+    let inputs = load_inputs(rt, workers, heap, files, None)?;
     a_layer_file_is_within_the_limits();
     let text = checked_text(rt, heap, inputs)?;
     put_all(text.as_slice(), out)?;
@@ -133,33 +135,9 @@ fn checked_text<'h, R: Threads + Wait + Sync, H: Allocator + Send + Sync>(
         × (text.items ≡ told ++ tiling_line after.now.rows inputs.entry.layer.city)) }
     ensures fault { IfErr result (IsWant (length inputs.entry.clerks.items)) }
 {
-    let outcome = edit_layer(rt, heap, inputs, &[])?;
-    let count = outcome.parcels.count();
-    let area2 = outcome.parcels.city_area2();
-    let mut lines = outcome.into_lines();
-    push_tiling(&mut lines, count, area2)?;
-    Ok(lines)
-}
-
-/// Adds the line of a tiling: the number of parcels, and twice the city's area.
-///
-/// # Errors
-///
-/// The sink's fault; a beginning of the piece may have been taken then.
-pub(crate) fn push_tiling<S: Sink>(text: &mut S, count: usize, area2: u128) -> Result<(), S::Fault>
-    ensures ok { OnOk result (S.takes text.old
-        (codes "tiling " ++ decimal count ++ codes " " ++ decimal area2 ++ codes "\n") text.new) }
-    ensures err { OnErr result (S.breaks_off text.old
-        (codes "tiling " ++ decimal count ++ codes " " ++ decimal area2 ++ codes "\n") text.new) }
-{
-    push_pieces(
-        text,
-        &[
-            Piece::Text("tiling "),
-            Piece::Number(count as u64),
-            Piece::Text(" "),
-            Piece::Area(area2),
-            Piece::EndOfLine,
-        ],
-    )
+    let RunInputs { layer, clerks, .. } = inputs;
+    let Edited { sheet, lines, .. } = edit_layer(rt, heap, layer, clerks, &[])?;
+    let mut text = lines;
+    push_sheet_tiling(&mut text, sheet)?;
+    Ok(text)
 }

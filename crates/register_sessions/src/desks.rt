@@ -29,8 +29,8 @@ pub(crate) struct Desk<'p, 'h, H: Allocator, J: Naming<H>> {
 /// What follows once a desk has served a client.
 #[derive(Drop)]
 enum After {
-    /// The next client. The pipe of the lines stays open until that one has opened it, where the client before has closed
-    /// it and all its lines were taken: else a client that comes early would have a pipe that nobody reads.
+    /// The next client. The pipe of the lines stays open until that one has opened it, where the client before has
+    /// closed it and all its lines were taken: else a client that comes early would have a pipe that nobody reads.
     Client(Option<File>),
     /// No other client.
     End,
@@ -64,6 +64,7 @@ fn serve_next<'p, 'h, P: Pipes, H: Allocator, J: Naming<H>, R: Wait, K: Clocked>
         return After::End;
     }
     let paths = desk.paths;
+    // Said in the door: whoever closes the session looks at it once nobody stands there any more.
     paths.serves.store(true, Ordering::SeqCst);
     let opened = open_both(room, pipes, paths);
     drop(kept);

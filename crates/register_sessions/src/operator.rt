@@ -1,13 +1,15 @@
 //! The operator's desk.
 
 ghost use Rattle.std.specs.Prelude.{◌≡◌, Some, OnOk, IfOk};
-ghost use Rattle.register_sessions.specs.own.Operators.{IsCheckAnswer, IsPublishAnswer, IsOverlayAnswer, IsZonesAnswer, IsExportAnswer};
+ghost use Rattle.register_sessions.specs.own.Operators.{IsCheckAnswer, IsPublishAnswer, IsOverlayAnswer};
+ghost use Rattle.register_sessions.specs.own.Operators.{IsZonesAnswer, IsExportAnswer};
 ghost use Rattle.register_sessions.specs.own.Operators.{IsOperatorAnswer, IsOperatorAnswerOf, next_of};
 ghost use Rattle.session_rooms.specs.DeskAnswers.{GoesOnBy, HasWindowLearnt};
 
 use crate::journal_file::{DiskFile, Machine};
+use crate::own_files::OwnFiles;
 use crate::post::{Attendant, Next, Served, Trouble, serve_lines};
-use crate::reports::{Exports, Ground, report_check, report_export, report_zones};
+use crate::reports::{Exports, report_check, report_export, report_zones};
 use desk_lock::{Naming, Notice, Window};
 use fabric_core::Layer;
 use geo_exact::ByteOut;
@@ -17,11 +19,14 @@ use std::alloc::{AllocError, Allocator};
 use std::io::{BufReader, Read};
 use std::sync::Wait;
 
-/// The operator's desk: who sits there, and what reports need.
+/// The operator's desk: who sits there, and what reports need beside the office's sheet.
 #[derive(Drop)]
 pub(crate) struct Operator<'h, H: Allocator, J: Naming<H>> {
     pub(crate) chair: Chair<'h, H, J>,
-    pub(crate) ground: Ground<'h, H, J>,
+    /// The zones of the city, where there are some.
+    pub(crate) zones: Option<Layer<'h, H>>,
+    /// The files that no export replaces.
+    pub(crate) own_files: OwnFiles<&'h H>,
 }
 
 /// Answers the operator's lines until no further one is taken.
@@ -71,8 +76,8 @@ impl<
     ghost use Rattle.register_sessions.specs.own.Operators.{IsOperatorAnswerOf};
 
     ghost answers = { λ old came line before next new after.
-        IsOperatorAnswerOf P.finds P.replace_gives W.written J.office old.room.now.journal old.disk.now old.operator.now.ground.zones
-        old.operator.now.chair new.operator.now.chair came line before next after };
+        IsOperatorAnswerOf P.finds P.replace_gives W.written J.office old.room.now.journal old.disk.now
+        old.operator.now.zones old.operator.now.chair new.operator.now.chair came line before next after };
 
     fn answer(
         &mut self,
@@ -103,8 +108,8 @@ fn answer_operator<
     text: &mut Vec<u8, &'h H>,
     out: &mut W,
 ) -> Result<Next, Trouble>
-    ensures { IfOk result (λ next. IsOperatorAnswerOf P.finds P.replace_gives W.written J.office room.now.journal disk.now
-        operator.old.ground.zones
+    ensures { IfOk result (λ next. IsOperatorAnswerOf P.finds P.replace_gives W.written J.office room.now.journal
+        disk.now operator.old.zones
         operator.old.chair operator.new.chair came line.now (record { text = text.old.items; out = out.old })
         next (record { text = text.new.items; out = out.new })) }
 {
@@ -149,17 +154,21 @@ fn answer_line<
     out: &mut W,
 ) -> Result<(), Trouble>
     ensures { OnOk result (IsOperatorAnswer P.finds P.replace_gives W.written J.office room.now.journal disk.now
-        operator.old.ground.zones
-        operator.old.chair operator.new.chair asked.entry.line (record { text = text.old.items; out = out.old })
+        operator.old.zones operator.old.chair operator.new.chair asked.entry.line
+        (record { text = text.old.items; out = out.old })
         (record { text = text.new.items; out = out.new })) }
 {
-    let Operator { chair, ground } = operator;
+    let Operator {
+        chair,
+        zones,
+        own_files,
+    } = operator;
     let Asked { who, line } = asked;
     match line {
         Line::Check => Ok(answer_check(room, text)?),
-        Line::Overlay => answer_overlay(room, ground, false, text, out),
-        Line::OverlayAreas => answer_overlay(room, ground, true, text, out),
-        Line::Export(base) => Ok(answer_export(room, disk, ground, base, text)?),
+        Line::Overlay => answer_overlay(room, zones, false, text, out),
+        Line::OverlayAreas => answer_overlay(room, zones, true, text, out),
+        Line::Export(base) => Ok(answer_export(room, disk, own_files, base, text)?),
         Line::Publish => Ok(answer_publish(room, &mut chair.window, text)?),
         Line::Close => Ok(()),
         line => {
@@ -182,18 +191,19 @@ fn answer_check<'h, H: Allocator, J: Naming<H>, R: Wait, K: Clocked>(
     }
 }
 
-/// Writes which parcels and zones overlap, where there are zones, and with areas how much of each parcel lies in each zone.
+/// Writes which parcels and zones overlap, where there are zones, and with areas how much of each parcel lies in each
+/// zone.
 fn answer_overlay<'h, H: Allocator, J: Naming<H>, R: Wait, K: Clocked, W: ByteOut>(
     room: &Room<'_, 'h, H, J, R, DiskFile, K>,
-    ground: &Ground<'h, H, J>,
+    zones: &Option<Layer<'h, H>>,
     has_areas: bool,
     text: &mut Vec<u8, &'h H>,
     out: &mut W,
 ) -> Result<(), Trouble>
-    ensures { OnOk result (IsOverlayAnswer W.written has_areas J.office room.now.journal ground.now.zones
+    ensures { OnOk result (IsOverlayAnswer W.written has_areas J.office room.now.journal zones.now
         (record { text = text.old.items; out = out.old }) (record { text = text.new.items; out = out.new })) }
 {
-    match &ground.zones {
+    match zones {
         Some(zones) => answer_zones(room, zones, has_areas, text, out),
         None => Ok(push_error(text, SessionFault::NoZones)?),
     }
@@ -216,18 +226,19 @@ fn answer_zones<'h, H: Allocator, J: Naming<H>, R: Wait, K: Clocked, W: ByteOut>
     }
 }
 
-/// Replaces the layer at BASE by the parcels, unless that is one of the session's own files, or something is in the way.
+/// Replaces the layer at BASE by the parcels, unless that is one of the session's own files, or something is in the
+/// way.
 fn answer_export<'h, P: Exports + Machine, H: Allocator, J: Naming<H>, R: Wait, K: Clocked>(
     room: &Room<'_, 'h, H, J, R, DiskFile, K>,
     disk: &P,
-    ground: &Ground<'h, H, J>,
+    own_files: &OwnFiles<&'h H>,
     base: &str,
     text: &mut Vec<u8, &'h H>,
 ) -> Result<(), AllocError>
     ensures { OnOk result (GoesOnBy (IsExportAnswer P.finds P.replace_gives J.office room.now.journal disk.now base.now)
         text.old.items text.new.items) }
 {
-    if let Some(path) = ground.own_files.find_in_export(disk, room.heap, base)? {
+    if let Some(path) = own_files.find_in_export(disk, room.heap, base)? {
         let why = format!(in room.heap; "S5 {path}")?;
         return push_failure(text, why.as_str());
     }

@@ -16,7 +16,7 @@ use std::alloc::{AllocError, Allocator};
 use std::io::{BufReader, Read};
 use text_pieces::put_all;
 
-/// How many bytes of answers are collected at most before they are written.
+/// How many bytes of answers are collected at most before they are written: as many as a pipe of Linux holds.
 const MOST_TEXT: usize = 65_536;
 
 /// What follows a line that was answered.
@@ -68,8 +68,8 @@ pub(crate) trait Attendant<A: Allocator, W: ByteOut> {
     ghost use Rattle.register_sessions.specs.declared.post.Next.{Next};
     ghost use Rattle.register_sessions.specs.own.Posts.{Outbox};
 
-    // What an answer may be: who answers, what came and its line, what was collected before and the writer, what follows,
-    // and who answers, what is collected, and the writer then.
+    // What an answer may be: who answers, what came and its line, what was collected before and the writer, what
+    // follows, and who answers, what is collected, and the writer then.
     ghost answers: { Self → Came → List ℕ → Outbox W → Next → Self → Outbox W → Type 0 };
 
     /// Adds the answer to what came to a text, or writes the text and then the answer.
@@ -94,6 +94,7 @@ pub(crate) fn serve_lines<
 >(alloc: A, door: &Door, reader: &mut BufReader<F, B>, out: &mut W, attendant: &mut T) -> Served {
     let mut line = Vec::new(alloc);
     let mut text = Vec::new(alloc);
+    // Nobody asks so often: the loop ends with who asks, or with the session.
     for _ in 0..u64::MAX {
         if let Some(served) = serve_line(door, reader, &mut line, &mut text, out, attendant) {
             return served;

@@ -13,28 +13,16 @@ ghost use Rattle.register_sessions.specs.own.Overlays.{WritesTable, IsFaultOfAll
 ghost use Rattle.register_sessions.specs.own.Operators.{IsOverlayReport, check_report};
 ghost use Rattle.register_sessions.specs.own.Exports.{IsExported, IsLineOfFault};
 
-use crate::own_files::OwnFiles;
 use crate::post::{Trouble, write_out};
 use area_shares::{AreaLine, area_lines, write_areas};
 use city_layers::ToolFault;
-use desk_lock::Naming;
 use fabric_core::{Layer, Sheet};
 use geo_exact::ByteOut;
 use overlay_work::{CloseFault, Hand, Round, RoundFault, Step, Table};
 use parcel_runs::sheets::{export_sheet, push_sheet_tiling};
 use session_lines::{SessionFault, push_end, push_error, push_failure};
 use std::alloc::{AllocError, Allocator};
-use std::marker::PhantomData;
 use zone_tables::write_report;
-
-/// What reports need beside the office's sheet: the zones of its city, where there are some, and which files no export
-/// replaces.
-#[derive(Drop)]
-pub(crate) struct Ground<'h, H: Allocator, J: Naming<H>> {
-    pub(crate) zones: Option<Layer<'h, H>>,
-    pub(crate) own_files: OwnFiles<&'h H>,
-    pub(crate) of: PhantomData<J>,
-}
 
 /// Adds the line of a sheet's tiling.
 pub(crate) fn report_check<'h, H: Allocator>(
@@ -155,6 +143,7 @@ fn table_of<'t, 'h, H: Allocator>(
 fn step_until_done<'t, 'h, H: Allocator>(hand: &mut Hand<'t, 'h, H>)
     ensures { hand.new.task ≡ hand.old.task }
 {
+    // No layer has so many parcels: the loop ends with the hand's work.
     for _ in 0..u64::MAX {
         match hand.step() {
             Step::Did(_) => {}
@@ -176,8 +165,8 @@ fn fault_of_round(fault: RoundFault) -> SessionFault
     }
 }
 
-/// What is told of a round that could not be closed though its hands were handed in: a hand that holds a parcel stopped for
-/// want of memory.
+/// What is told of a round that could not be closed though its hands were handed in: a hand that holds a parcel stopped
+/// for want of memory.
 fn fault_of_close(fault: CloseFault) -> SessionFault
     requires { IsFaultOfAllHands fault }
     ensures { result ≡ NoMemory }
@@ -209,19 +198,19 @@ fn whole_list<'h, H: Allocator>(
 
 /// Where exports are written.
 pub trait Exports {
-    ghost use Rattle.city_layers.specs.declared.fault.ToolFault.{ToolFault};
+    ghost use Rattle.city_layers.specs.declared.fault.ToolFault.{ToolFault as Fault};
 
     // What may be found in the way at a base, as the operator is told it; a place that says nothing leaves it out.
     ghost finds: { Self → List ℕ → Option (List ℕ) → Type 0 } = { λ _ _ _. ⊤ };
 
     // What replacing the layer at a base by a main file and an index may give; a place that says nothing leaves it out.
-    ghost replace_gives: { Self → List ℕ → List ℕ → List ℕ → Result (Unit {0}) ToolFault → Type 0 } = { λ _ _ _ _ _. ⊤ };
+    ghost replace_gives: { Self → List ℕ → List ℕ → List ℕ → Result (Unit {0}) Fault → Type 0 } = { λ _ _ _ _ _. ⊤ };
 
     /// Why no layer is written at BASE, as the operator is told it; `None` where nothing is in the way.
     ///
     /// # Errors
     ///
-    /// [`AllocError`] where an allocation is refused.
+    /// [`AllocError`] where an allocation fails.
     fn obstacle<A: Allocator + Copy>(
         &self,
         alloc: A,

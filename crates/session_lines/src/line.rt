@@ -46,7 +46,7 @@ pub enum Line<'l, A: Allocator> {
 ///
 /// # Errors
 ///
-/// [`AllocError`] where an allocation is refused, as may be for the path of an edit.
+/// [`AllocError`] where an allocation fails, as may be for the path of an edit.
 ///
 /// ```
 /// match read_line(alloc, b"locate 60 50") {

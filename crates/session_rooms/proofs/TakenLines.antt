@@ -1,5 +1,6 @@
 -- Lemmas on the parts of a line that are taken out of a reader.
-use Rattle.std.proofs.Common.{◌≡◌, ◌≢◌, ℕ, suc, ◌+◌, ◌≤◌, List, [], ◌∷◌, ◌++◌, Option, length, take, refl, sym, ap, subst, ◌∙◌, arith, append_assoc, take-take, length-append, length-take-le}
+use Rattle.std.proofs.Common.{◌≡◌, ◌≢◌, ℕ, suc, ◌+◌, ◌≤◌, List, [], ◌∷◌, ◌++◌, Option, length, take, refl, sym, ap, subst, ◌∙◌, arith}
+use Rattle.std.proofs.Common.{append_assoc, take-take, length-append, length-take-le}
 use Rattle.std.proofs.lemmas.List.Elements.{All-append}
 use Rattle.std.proofs.KnownBytes.{Consumes-trans}
 use Rattle.std.specs.Io.KnownBytes.{Consumes}
@@ -41,7 +42,8 @@ shown_line shown before behind room fits falls =
     )
 
 -- what comes at a line's end, where no end of the reader was met
-pub line_came : (came : Came) (a c : Option (List ℕ)) (bytes items : List ℕ) → came ≢ End → TakesLine a c bytes → (came ≡ Line → items ≡ bytes)
+pub line_came : (came : Came) (a c : Option (List ℕ)) (bytes items : List ℕ) → came ≢ End → TakesLine a c bytes
+    → (came ≡ Line → items ≡ bytes)
     → IsWhatCame a c (λ taken. items ≡ taken) came
 line_came Line a c bytes items no_end line kept = (bytes, line, kept refl)
 line_came TooLong a c bytes items no_end line kept = (bytes, line)

@@ -22,8 +22,8 @@ pub record TakesLine (old new : Option (List ℕ)) (bytes : List ℕ) : Type 0 w
   pub no_line_feed : All (λ byte. byte ≢ 10) bytes
   pub gone : Consumes old new (bytes ++ 10 ∷ [])
 
--- What came of a reader's known bytes. A line is gone through its line feed, and is kept so; one that is too long, or for
--- which memory is refused, is gone as well; at the end none is left, and what there was had no further line feed.
+-- What came of a reader's known bytes. A line is gone through its line feed, and is kept so; one that is too long, or
+-- for which memory is refused, is gone as well; at the end none is left, and what there was had no further line feed.
 abbrev pub IsWhatCame : Option (List ℕ) → Option (List ℕ) → (List ℕ → Type 0) → Came → Type 0
 IsWhatCame old new IsKept Line = (bytes : List ℕ) × TakesLine old new bytes × IsKept bytes
 IsWhatCame old new IsKept TooLong = (bytes : List ℕ) × TakesLine old new bytes

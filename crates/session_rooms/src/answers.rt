@@ -5,7 +5,8 @@ ghost use Rattle.geo_exact.specs.declared.limits.TheConstants.{LIST_CORNERS};
 ghost use Rattle.session_lines.specs.Lines.{Asks, AskTheSame};
 ghost use Rattle.session_lines.specs.declared.line.Line.{Line as LineValue};
 ghost use Rattle.session_rooms.specs.Asked.{IsAskedBy, AsksNothing, IsLineFault, IsUnasked};
-ghost use Rattle.session_rooms.specs.DeskAnswers.{GoesOnBy, HasWindowGoneOn, HasWindowLearnt, IsOfSameClerk, IsCardAfter};
+ghost use Rattle.session_rooms.specs.DeskAnswers.{GoesOnBy, HasWindowGoneOn, HasWindowLearnt, IsOfSameClerk};
+ghost use Rattle.session_rooms.specs.DeskAnswers.{IsCardAfter};
 ghost use Rattle.session_rooms.specs.DeskAnswers.{IsWindowLine, IsPlaceLine, IsRingLine, IsCountLine, IsEditLine};
 ghost use Rattle.session_rooms.specs.DeskAnswers.{IsEditAnswer, IsAnswerTo, IsAnswerOf, shown_of, window_fault};
 

@@ -5,7 +5,8 @@ ghost use mathlib.Core.List.{IsPrefix};
 ghost use Rattle.fabric_core.specs.EditResults.{IsLawful};
 ghost use Rattle.desk_lock.specs.Offices.{with_made, with_met, journal_met, EndsWith, IsSometime, IsRefusedWhenMet};
 ghost use Rattle.desk_lock.specs.Offices.{AreOfClerks, behind};
-ghost use Rattle.session_rooms.specs.Rooms.{IsDrawn, IfRefused, UnlessJournalFails, IfJournalFails, IsJournalFault, IsRoomFault};
+ghost use Rattle.session_rooms.specs.Rooms.{IsDrawn, IfRefused, UnlessJournalFails, IfJournalFails, IsJournalFault};
+ghost use Rattle.session_rooms.specs.Rooms.{IsRoomFault};
 ghost use Rattle.session_rooms.specs.Kept.{IsRecorded, IsOnDisk};
 
 use crate::door::Door;
@@ -95,8 +96,8 @@ impl<'r, 'h, H: Allocator, J: Naming<H>, R: Wait, F: JournalFile, K: Clocked> Ro
         }
     }
 
-    /// What is left once all desks have ended: the office, and how many records the disk has of its journal, where there is
-    /// one.
+    /// What is left once all desks have ended: the office, and how many records the disk has of its journal, where
+    /// there is one.
     pub fn end(self) -> (Office<'h, H, J, &'r R>, Option<u64>)
         ensures office { result.0 ≡ self.entry.office }
         ensures kept { IsSome result.1 ↔ IsSome self.entry.journal }
@@ -114,8 +115,8 @@ impl<'r, 'h, H: Allocator, J: Naming<H>, R: Wait, F: JournalFile, K: Clocked> Ro
         (office, kept)
     }
 
-    /// Makes an edit at the office, with the client's own word for who and why, and shows it. Where there is a journal, the
-    /// disk has the edit's record before it is shown; records stand in the order of their entries' numbers.
+    /// Makes an edit at the office, with the client's own word for who and why, and shows it. Where there is a journal,
+    /// the disk has the edit's record before it is shown; records stand in the order of their entries' numbers.
     ///
     /// # Errors
     ///
@@ -140,7 +141,8 @@ impl<'r, 'h, H: Allocator, J: Naming<H>, R: Wait, F: JournalFile, K: Clocked> Ro
         // The card is its clerk's, as before.
         ensures same_clerk { card.new.clerk ≡ card.old.clerk }
         // A refused edit changes nothing, but that the card has met the journal, after which it is refused for this.
-        ensures unchanged { IfErr result (λ fault. UnlessJournalFails fault (card.new ≡ with_met card.old card.new.met)) }
+        ensures unchanged { IfErr result (λ fault. UnlessJournalFails fault
+            (card.new ≡ with_met card.old card.new.met)) }
         ensures refusal { IfErr result (λ fault. IfRefused fault (λ refusal.
             IsRefusedWhenMet J.office card.new edit.now refusal ⊎ (refusal ≡ Refusal.NoMemory))) }
         // Only a journal that there is can fail.
@@ -181,7 +183,8 @@ impl<'r, 'h, H: Allocator, J: Naming<H>, R: Wait, F: JournalFile, K: Clocked> Ro
         ensures ends { IfOk result (λ entry. EndsWith entry entry.number (journal_met J.office card.new)) }
         ensures after { IfOk result (λ entry. IsSometime J.office card.new (journal_met J.office card.new)) }
         ensures same_clerk { card.new.clerk ≡ card.old.clerk }
-        ensures unchanged { IfErr result (λ fault. UnlessJournalFails fault (card.new ≡ with_met card.old card.new.met)) }
+        ensures unchanged { IfErr result (λ fault. UnlessJournalFails fault
+            (card.new ≡ with_met card.old card.new.met)) }
         ensures refusal { IfErr result (λ fault. IfRefused fault (λ refusal.
             IsRefusedWhenMet J.office card.new edit.now refusal ⊎ (refusal ≡ Refusal.NoMemory))) }
         ensures no_journal { IfErr result (λ fault. IfJournalFails fault ⊥) }
@@ -207,7 +210,8 @@ impl<'r, 'h, H: Allocator, J: Naming<H>, R: Wait, F: JournalFile, K: Clocked> Ro
         ensures ends { IfOk result (λ made. EndsWith made.0 made.0.number (journal_met J.office card.new)) }
         ensures after { IfOk result (λ made. IsSometime J.office card.new (journal_met J.office card.new)) }
         ensures same_clerk { card.new.clerk ≡ card.old.clerk }
-        ensures unchanged { IfErr result (λ fault. UnlessJournalFails fault (card.new ≡ with_met card.old card.new.met)) }
+        ensures unchanged { IfErr result (λ fault. UnlessJournalFails fault
+            (card.new ≡ with_met card.old card.new.met)) }
         ensures refusal { IfErr result (λ fault. IfRefused fault (λ refusal.
             IsRefusedWhenMet J.office card.new edit.now refusal ⊎ (refusal ≡ Refusal.NoMemory))) }
         ensures on_disk { IfOk result (λ made. made.0.number ≤ made.1.records) }
@@ -247,7 +251,8 @@ impl<'r, 'h, H: Allocator, J: Naming<H>, R: Wait, F: JournalFile, K: Clocked> Ro
         ensures ends { IfOk result (λ entry. EndsWith entry entry.number (journal_met J.office card.new)) }
         ensures after { IfOk result (λ entry. IsSometime J.office card.new (journal_met J.office card.new)) }
         ensures same_clerk { card.new.clerk ≡ card.old.clerk }
-        ensures unchanged { IfErr result (λ fault. UnlessJournalFails fault (card.new ≡ with_met card.old card.new.met)) }
+        ensures unchanged { IfErr result (λ fault. UnlessJournalFails fault
+            (card.new ≡ with_met card.old card.new.met)) }
         ensures refusal { IfErr result (λ fault. IfRefused fault (λ refusal.
             IsRefusedWhenMet J.office card.new edit.now refusal ⊎ (refusal ≡ Refusal.NoMemory))) }
         // The journal has one record more, which is the entry's; a refused edit has none.
@@ -256,6 +261,7 @@ impl<'r, 'h, H: Allocator, J: Naming<H>, R: Wait, F: JournalFile, K: Clocked> Ro
         ensures broken { IfErr result (λ fault. IfJournalFails fault (writer.new.is_broken ≡ true)) }
     {
         let stamp = Stamp {
+            // It never wraps: a journal is full long before.
             number: writer.records().wrapping_add(1),
             clerk: card.clerk(),
             time,
@@ -297,7 +303,8 @@ impl<'r, 'h, H: Allocator, J: Naming<H>, R: Wait, F: JournalFile, K: Clocked> Ro
         }
     }
 
-    /// Has the disk hold all records that were written, and answers how many they are; `None` where there is no journal.
+    /// Has the disk hold all records that were written, and answers how many they are; `None` where there is no
+    /// journal.
     fn sync_journal(&self) -> Result<Option<u64>, SessionFault>
         ensures there { IfOk result (λ number. IsSome number ↔ IsSome self.now.journal) }
         ensures fault { IfErr result (IsJournalFault self.now.journal) }
@@ -311,8 +318,8 @@ impl<'r, 'h, H: Allocator, J: Naming<H>, R: Wait, F: JournalFile, K: Clocked> Ro
         }
     }
 
-    /// The parcels as they are now, with the entries that led there. Where there is a journal, the disk has all of them. The
-    /// office is held no longer than they are copied.
+    /// The parcels as they are now, with the entries that led there. Where there is a journal, the disk has all of
+    /// them. The office is held no longer than they are copied.
     ///
     /// # Errors
     ///

@@ -49,8 +49,9 @@ tells_all_rings Asked.All rows n f rest faults none h e = λ refined within rise
   are_asked = (faults, rest, refl, e, are_ring_faults rows faults.items h rise);
 }
 
-pub tells_first_gap : {A : Type 0} (asked : Asked) (rings : List (List Corner)) (refined : List Corner) (sum : Counts) (a b : Corner) (n : ℤ)
-    (refusal : LoadRefusal A) → asked ≡ Asked.First → refusal.first ≡ Gap a b n → refusal.all ≡ None → AreNetOf sum rings (refined ∷ [])
+pub tells_first_gap : {A : Type 0} (asked : Asked) (rings : List (List Corner)) (refined : List Corner) (sum : Counts)
+    (a b : Corner) (n : ℤ) (refusal : LoadRefusal A) → asked ≡ Asked.First → refusal.first ≡ Gap a b n → refusal.all ≡ None
+    → AreNetOf sum rings (refined ∷ [])
     → IsFirstUnbalanced sum a b n → IsToldOfNets asked rings refined refusal
 tells_first_gap asked rings refined sum a b n refusal e first none net h = λ rows same within simple. record {
   is_first = subst (IsFirstFault rows refined) (sym first) (within, simple, first_counted sum rings refined a b n net h rows same);

@@ -12,7 +12,8 @@ use Rattle.ring_edits.specs.declared.fault.EditFault.TheVariants.{BadPath as NoP
 use Rattle.ring_edits.specs.declared.fault.EditFault.TheVariants.{SharedTwice as TwoBorders, NoMemory as NoRoom}
 use Rattle.fabric_core.specs.declared.refusal.Refusal.{Refusal}
 use Rattle.fabric_core.specs.declared.refusal.Refusal.TheVariants.{Unknown, Retired, BadPath, NotNeighbours}
-use Rattle.fabric_core.specs.declared.refusal.Refusal.TheVariants.{SharedTwice, NoSuchEdge, NotOnEdge, NoSuchCorner, Ring, NoMemory}
+use Rattle.fabric_core.specs.declared.refusal.Refusal.TheVariants.{SharedTwice, NoSuchEdge, NotOnEdge, NoSuchCorner}
+use Rattle.fabric_core.specs.declared.refusal.Refusal.TheVariants.{Ring, NoMemory}
 use Rattle.fabric_core.specs.Rows.{numbers}
 use Rattle.ring_edits.specs.declared.edit.Edit.{Edit}
 use Rattle.ring_edits.specs.declared.edit.Edit.TheVariants.{Split, Merge, Move, Insert, Straighten}
@@ -77,7 +78,8 @@ refusal_of NoRoom = NoMemory
 
 -- the refusal is that of the first of the rows that is no simple ring
 abbrev pub IsRingRefusal : List NumberedRing → Refusal → Type 0
-IsRingRefusal rows refusal = (which : ℕ) × (fault : RingFault) × IsFirstBadRing rows which fault × (refusal ≡ Ring which fault)
+IsRingRefusal rows refusal =
+    (which : ℕ) × (fault : RingFault) × IsFirstBadRing rows which fault × (refusal ≡ Ring which fault)
 
 -- the rings of shapes
 abbrev pub rings_of_shapes : {A : Type 0} → List (Shape A) → List (List Corner)
@@ -89,7 +91,8 @@ pub record AddWithin (corners rows : ℕ) (news : List NumberedRing) : Type 0 wh
   pub together : corners + corner_count news ≤ LAYER_CORNERS
   pub number : rows + length news ≤ LAYER_RECORDS
 
--- why an edit makes no draft: an id that is no parcel's, what the edit asks for itself, or limits and rings of what it makes
+-- why an edit makes no draft: an id that is no parcel's, what the edit asks for
+-- itself, or limits and rings of what it makes
 abbrev pub IsDraftRefusal : {A : Type 0} → Kept → Edit A → Refusal → Type 0
 IsDraftRefusal kept edit refusal =
     IsFirstTold kept (named_ids edit) refusal
@@ -117,12 +120,15 @@ pub record IsMade {A : Type 0} (old new : Kept) (entry : JournalEntry A) : Type 
 -- what is so of an edit for which memory is asked: the ids that it names are parcels', and its path and border
 -- are such that nothing refuses them
 abbrev pub AsksMemory : {A : Type 0} → State → Edit A → Type 0
-AsksMemory state (Split id path) = (ring : List Corner) × Contains state.rows (numbered id ring) × IsPathAcross ring path
+AsksMemory state (Split id path) =
+    (ring : List Corner) × Contains state.rows (numbered id ring) × IsPathAcross ring path
 AsksMemory state (Merge a b) =
-    (ring_a : List Corner) × (ring_b : List Corner) × Contains state.rows (numbered a ring_a) × Contains state.rows (numbered b ring_b)
+    (ring_a : List Corner) × (ring_b : List Corner) × Contains state.rows (numbered a ring_a)
+    × Contains state.rows (numbered b ring_b)
     × ShareOneRun ring_a ring_b
 AsksMemory state (Move a b path) =
-    (ring_a : List Corner) × (ring_b : List Corner) × Contains state.rows (numbered a ring_a) × Contains state.rows (numbered b ring_b)
+    (ring_a : List Corner) × (ring_b : List Corner) × Contains state.rows (numbered a ring_a)
+    × Contains state.rows (numbered b ring_b)
     × IsBorderPath ring_a ring_b path
 AsksMemory state (Insert from to at) = ⊤
 AsksMemory state (Straighten at) = ⊤

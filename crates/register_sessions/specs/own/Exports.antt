@@ -1,4 +1,5 @@
--- What the operator is answered to `export BASE`: whether the layer at the base was replaced by the files of these parcels.
+-- What the operator is answered to `export BASE`: whether the layer at the base was replaced by the files of these
+-- parcels.
 use Rattle.std.specs.Prelude.{◌≡◌, ◌⊎◌, ℕ, List, ◌++◌, codes, Option, None, Some, Result, Ok, Err}
 use Rattle.geo_exact.specs.Layers.{NumberedRing}
 use Rattle.shp_files.specs.Written.{written_main, written_index}
@@ -28,7 +29,8 @@ IsToldExport rows (Err fault) text = IsLineOfFault fault text
 pub record IsExported {X : Type 0} (replace_gives : X → List ℕ → List ℕ → List ℕ → Result (Unit {0}) ToolFault → Type 0)
     (exports : X) (base : List ℕ) (rows : List NumberedRing) (text : List ℕ) : Type 0 where
   pub replaced : Result (Unit {0}) ToolFault
-  pub is_replaced : replace_gives exports base (written_main (corner_lists rows)) (written_index (corner_lists rows)) replaced
+  pub is_replaced : replace_gives exports base (written_main (corner_lists rows)) (written_index (corner_lists rows))
+      replaced
   pub is_told : IsToldExport rows replaced text
 
 -- one of the two files that an export to a base writes
@@ -42,7 +44,8 @@ pub record IsOwnFileLine (base line : List ℕ) : Type 0 where
   pub is_told : line ≡ error_line (codes "S5 " ++ path)
 
 -- the line that says what is in the way of an export to a base
-pub record IsObstacleLine {X : Type 0} (finds : X → List ℕ → Option (List ℕ) → Type 0) (exports : X) (base line : List ℕ) : Type 0 where
+pub record IsObstacleLine {X : Type 0} (finds : X → List ℕ → Option (List ℕ) → Type 0) (exports : X)
+    (base line : List ℕ) : Type 0 where
   pub why : List ℕ
   pub is_found : finds exports base (Some why)
   pub is_told : line ≡ error_line why

@@ -29,8 +29,8 @@ returns-clause-made g c =
     c.in_ok-jobs.ensures.edits c.in_ok-cards.ensures.lines c.in_ok-cards.ensures.none_refused (rw cards at c.in_ok-sheet.ensures.sheet)
     c.use_invariant.ensures.lawful c.use_invariant.ensures.replays
 
-pub places_of-requires-clause-has_seen : goal.places_of-requires-clause-has_seen
-places_of-requires-clause-has_seen g c = λ published.
+pub locate_all-requires-clause-has_seen : goal.locate_all-requires-clause-has_seen
+locate_all-requires-clause-has_seen g c = λ published.
     let office = g.J.Naming-1.office in
     let clerks = c.args.clerks.items in
     let number : office.clerks ≡ length clerks = ap (λ (o : OfficeId (Bor g.row.H.Denot)). o.clerks) c.requires.office in

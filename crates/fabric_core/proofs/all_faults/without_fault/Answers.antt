@@ -84,7 +84,8 @@ returns-in_err-check_nets-clause-faults g c =
 
 pub returns-clause-checked : goal.returns-clause-checked
 returns-clause-checked g c =
-    checked_from c.args.refined.numbers.items c.args.refined.numbers.items c.args.refined.rings.items c.deref.result.now c.deref-2.result.now
+    checked_from c.args.refined.numbers.items c.args.refined.numbers.items c.args.refined.rings.items c.deref.result.now
+    c.deref-2.result.now
     c.in_ok-rings.rings.items c.deref-4.result.now c.as_slice.result.now c.args.refined.city c.args.refined.refined
     c.deref.ensures.value c.deref-2.ensures.value c.in_default.ensures c.in_ok-rings.ensures.ok c.deref-4.ensures.value c.as_slice.ensures
     c.in_ok-check_nets.ensures.ok refl c.requires.numbered c.requires.rising c.requires.few c.requires.city

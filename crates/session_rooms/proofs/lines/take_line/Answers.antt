@@ -34,7 +34,8 @@ loop-preserved g c =
             (
               old.2.0 ++ part.0,
               part_more _ _ _ _ _ old.2.1 part.1,
-              λ line. ap vec_items w.line-is ∙ part.2 w.in-GoesOn-true.field-0-test ∙ ap (λ xs. xs ++ part.0) (old.2.2 (sym w.came-is ∙ line)),
+              λ line. ap vec_items w.line-is ∙ part.2 w.in-GoesOn-true.field-0-test
+                  ∙ ap (λ xs. xs ++ part.0) (old.2.2 (sym w.came-is ∙ line)),
             ),
           )
       | in-GoesOn-false w ↦
