@@ -62,27 +62,36 @@ pub fn are_at(corners: &[Corner], places: &[Place]) -> bool {
 }
 
 /// Whether a ring is at these places, and twice its area is this.
-fn is_ring(ring: &[Corner], places: &[Place], twice_area: i128) -> bool {
+pub fn is_ring(ring: &[Corner], places: &[Place], twice_area: i128) -> bool {
     ring.len() <= LIST_CORNERS && area2(ring) == twice_area && are_at(ring, places)
+}
+
+/// Whether this is the ring of a parcel, which is found by its id, too.
+fn is_parcel<H: Allocator>(
+    fabric: &Fabric<'_, H>,
+    id: u64,
+    ring: &[Corner],
+    want: &Parcel,
+) -> bool {
+    match fabric.ring(want.0) {
+        Some(found) => {
+            id == want.0
+                && is_ring(ring, want.2, want.1)
+                && is_ring(found.corners.as_slice(), want.2, want.1)
+        }
+        None => false,
+    }
 }
 
 /// Whether these are the parcels, by ascending id, each found by its id too.
 pub fn are<H: Allocator>(fabric: &Fabric<'_, H>, want: &[Parcel]) -> bool {
-    if fabric.ids().count() != want.len() {
-        return false;
-    }
-    for ((id, shape), parcel) in fabric.shapes().zip(want) {
-        let Some(ring) = fabric.ring(parcel.0) else {
-            return false;
-        };
-        if id != parcel.0
-            || !is_ring(shape.ring.corners.as_slice(), parcel.2, parcel.1)
-            || !is_ring(ring.corners.as_slice(), parcel.2, parcel.1)
-        {
-            return false;
-        }
-    }
-    true
+    fabric.ids().count() == want.len()
+        && fabric.shapes().zip(want).all(|((id, shape), parcel)| is_parcel(
+            fabric,
+            id,
+            shape.ring.corners.as_slice(),
+            parcel,
+        ))
 }
 
 /// Whether a place is inside this parcel.
@@ -100,33 +109,64 @@ pub fn is_inside<H: Allocator>(
 /// Coordinates of places that are located: those of corners, and what is beside them.
 static COORDINATES: [i64; 12] = [-1, 0, 1, 10, 29, 30, 31, 59, 60, 61, 99, 100];
 
-/// Whether a place is located where the rings of all parcels say that it is.
-fn is_located<H: Allocator>(heap: &H, fabric: &Fabric<'_, H>, place: Corner) -> Result<bool, Fail> {
-    let mut on_edge = Vec::new(heap);
-    let mut inside = None;
-    for (id, shape) in fabric.shapes() {
-        let ring = shape.ring.corners.as_slice();
-        if ring.len() > RING_CORNERS {
-            return Err(Fail::new("a ring that no layer has"));
-        }
-        match side_of(ring, place) {
-            Side::Inside => inside = Some(id),
-            Side::OnEdge => on_edge.push(id)?,
-            Side::Outside => {}
-        }
-    }
-    match fabric.locate(place)? {
-        At::OnEdge(ids) => Ok(!ids.is_empty() && ids.as_slice() == on_edge.as_slice()),
-        At::Inside(id) => Ok(on_edge.is_empty() && inside == Some(id)),
-        At::Outside => Ok(on_edge.is_empty() && inside.is_none()),
+/// Whether this id stands at this place of the parcels whose edges a place is on.
+pub fn has_at<A: Allocator>(answer: &At<A>, place: usize, id: u64) -> bool {
+    match answer {
+        At::OnEdge(ids) => ids.get(place) == Some(&id),
+        At::Inside(_) | At::Outside => false,
     }
 }
 
+/// Whether an answer says that a place is on so many edges, and else inside this parcel.
+pub fn is_answer<A: Allocator>(answer: &At<A>, on_edge: usize, inside: Option<u64>) -> bool {
+    match answer {
+        At::OnEdge(ids) => on_edge > 0 && on_edge == ids.len(),
+        At::Inside(id) => on_edge == 0 && inside == Some(*id),
+        At::Outside => on_edge == 0 && inside.is_none(),
+    }
+}
+
+/// Where a place is to a ring. Beside one of more corners than a layer has it is outside.
+fn side(ring: &[Corner], place: Corner) -> Side {
+    if ring.len() > RING_CORNERS {
+        return Side::Outside;
+    }
+    side_of(ring, place)
+}
+
+/// Whether a place is located, by this answer, where the rings of all parcels of a fabric say that it is.
+pub fn is_scanned<H: Allocator, A: Allocator>(
+    fabric: &Fabric<'_, H>,
+    place: Corner,
+    answer: &At<A>,
+) -> bool {
+    let mut on_edge = 0usize;
+    let mut inside = None;
+    for (id, shape) in fabric.shapes() {
+        match side(shape.ring.corners.as_slice(), place) {
+            Side::Inside => inside = Some(id),
+            Side::OnEdge => {
+                if !has_at(answer, on_edge, id) {
+                    return false;
+                }
+                on_edge = on_edge.wrapping_add(1);
+            }
+            Side::Outside => {}
+        }
+    }
+    is_answer(answer, on_edge, inside)
+}
+
+/// Whether a place is located where the rings of all parcels say that it is.
+fn is_located<H: Allocator>(fabric: &Fabric<'_, H>, place: Corner) -> Result<bool, Fail> {
+    Ok(is_scanned(fabric, place, &fabric.locate(place)?))
+}
+
 /// Whether all places are.
-fn are_located<H: Allocator>(heap: &H, fabric: &Fabric<'_, H>) -> Result<bool, Fail> {
+fn are_located<H: Allocator>(fabric: &Fabric<'_, H>) -> Result<bool, Fail> {
     for x in &COORDINATES {
         for y in &COORDINATES {
-            if !is_located(heap, fabric, corner((*x, *y))?)? {
+            if !is_located(fabric, corner((*x, *y))?)? {
                 return Ok(false);
             }
         }
@@ -147,6 +187,26 @@ fn answer<'a, H: Allocator>(
     }
 }
 
+/// Makes an edit, and fails as [`take`] does.
+pub fn take_one<'a, H: Allocator>(
+    heap: &'a H,
+    fabric: &mut Fabric<'a, H>,
+    step: &Step,
+) -> Result<(), Fail> {
+    let before = fabric.entries();
+    let answer = answer(heap, fabric, step.0)?;
+    if answer != step.1 {
+        return Err(Fail::new("another answer"));
+    }
+    if fabric.entries() != answer.unwrap_or(before) || !are(fabric, step.2) {
+        return Err(Fail::new("other parcels or entries"));
+    }
+    if !are_located(fabric)? {
+        return Err(Fail::new("a place that is located elsewhere"));
+    }
+    Ok(())
+}
+
 /// Makes the edits of a table in turn. It is a failure where the answer to one, or the parcels or the number of entries
 /// after it, are others, or a place is located elsewhere than the parcels say.
 pub fn take<'a, H: Allocator>(
@@ -154,22 +214,8 @@ pub fn take<'a, H: Allocator>(
     fabric: &mut Fabric<'a, H>,
     steps: &[Step],
 ) -> Result<(), Fail> {
-    for (change, want, parcels) in steps {
-        let before = fabric.entries();
-        let answer = answer(heap, fabric, *change)?;
-        if answer != *want {
-            return Err(Fail::new("another answer"));
-        }
-        let entries = match answer {
-            Ok(number) => number,
-            Err(_) => before,
-        };
-        if fabric.entries() != entries || !are(fabric, parcels) {
-            return Err(Fail::new("other parcels or entries"));
-        }
-        if !are_located(heap, fabric)? {
-            return Err(Fail::new("a place that is located elsewhere"));
-        }
+    for step in steps {
+        take_one(heap, fabric, step)?;
     }
     Ok(())
 }

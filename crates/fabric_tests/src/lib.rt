@@ -22,6 +22,8 @@ mod refused_copies;
 #[cfg(test)]
 mod refused_edits;
 #[cfg(test)]
+mod refuses;
+#[cfg(test)]
 mod searches_refused;
 #[cfg(test)]
 mod size;

@@ -1,23 +1,18 @@
 //! Each growth of a call refused in turn: its answer is want of memory, and with memory the same
 //! call gives the answer that it has to give.
 
-use crate::candidates::between;
+use crate::candidates::{Between, are_found};
 use crate::changes::are_at;
+use crate::refuses::MOST;
 use fabric_core::{AllFaults, Asked, At, City, CityFault, Layer, LoadFault, LoadRefusal};
 use geo_exact::Corner;
 use refusing_alloc::Refusing;
 use ring_core::RingFault;
-use std::alloc::Global;
+use std::alloc::Allocator;
 use std::test::Fail;
 use std::thread::Threads;
-use test_builders::{Place, corner};
-use test_cities::{EAST, SQUARE, WEST, city, records};
-
-/// No call here has so many growths.
-const MOST: u64 = 1000;
-
-/// The heap of the tests here.
-type Heap = Refusing<Global>;
+use test_builders::{Place, Refuses, corner, was_refused};
+use test_cities::{EAST, RINGS, SQUARE, WEST, city, records};
 
 /// A ring and its fault.
 type FaultyRing = (u32, RingFault);
@@ -37,8 +32,8 @@ enum Answer {
     Gaps(&'static [Edge]),
 }
 
-/// Rings in the square, their answer, and a number of growths that it takes more than.
-type Row = (&'static [&'static [Place]], Answer, u64);
+/// Rings in the square, their answer, a number of growths that it takes more than, and the row's name.
+type Row = (&'static [&'static [Place]], Answer, u64, &'static str);
 
 const NARROW: [Place; 4] = [(61, 0), (100, 0), (100, 100), (61, 100)];
 
@@ -46,11 +41,12 @@ const TWISTED: [Place; 4] = [(60, 0), (100, 100), (100, 0), (60, 60)];
 
 /// The answers of [`Layer::load`].
 static LOADED: [Row; 2] = [
-    (&[&WEST, &EAST], Answer::Ids(&[1, 2]), 10),
+    (&[&WEST, &EAST], Answer::Ids(&[1, 2]), 10, "a tiling"),
     (
         &[&WEST, &NARROW],
         Answer::First(((60, 0), (60, 100), 1)),
         10,
+        "a gap",
     ),
 ];
 
@@ -68,9 +64,14 @@ const FAULTY: [FaultyRing; 2] = [
 
 /// The answers of [`Layer::load_or_all`].
 static ALL: [Row; 3] = [
-    (&[&WEST, &EAST], Answer::Ids(&[1, 2]), 10),
-    (&[&WEST, &NARROW], Answer::Gaps(&GAPS), 10),
-    (&[&TWISTED, &WEST, &TWISTED], Answer::Rings(&FAULTY), 3),
+    (&[&WEST, &EAST], Answer::Ids(&[1, 2]), 10, "a tiling"),
+    (&[&WEST, &NARROW], Answer::Gaps(&GAPS), 10, "a gap"),
+    (
+        &[&TWISTED, &WEST, &TWISTED],
+        Answer::Rings(&FAULTY),
+        3,
+        "faulty rings",
+    ),
 ];
 
 /// What a call with a growth refused was answered.
@@ -101,81 +102,90 @@ fn refused(is_refused: bool, told: Verdict) -> Result<bool, Fail> {
     }
 }
 
-/// What the square is answered as a city.
-fn city_of(heap: &Heap, number: u64) -> Result<(Result<City<'_, Heap>, CityFault>, bool), Fail> {
+/// Whether a growth was refused, and the call was answered as is wanted once it was made again.
+fn answered_again(first: (Verdict, bool), again: Verdict) -> Result<bool, Fail> {
+    refused(false, again)?;
+    refused(first.1, first.0)
+}
+
+/// What an answer is, where the square's city is wanted.
+fn verdict_of_city<H: Allocator>(answer: &Result<City<'_, H>, CityFault>) -> Verdict {
+    match answer {
+        Ok(city) => Verdict::new(are_at(city.ring.corners.as_slice(), &SQUARE)),
+        Err(CityFault::NoMemory) => Verdict::NoMemory,
+        Err(_) => Verdict::Another,
+    }
+}
+
+/// What the square is answered as a city with growth `number` refused, and whether that was refused.
+fn making<H: Refuses>(heap: &H, number: u64) -> Result<(Verdict, bool), Fail> {
     let Some(ring) = records(heap, &[&SQUARE])?.pop() else {
         return Err(Fail::new("no ring"));
     };
     heap.refuse(number);
     let city = City::new(heap, ring);
-    let is_refused = heap.is_spent();
-    heap.refuse(0);
-    Ok((city, is_refused))
+    let is_refused = was_refused(heap);
+    Ok((verdict_of_city(&city), is_refused))
 }
 
-/// Makes a city with growth `number` refused, and where it was, once more; whether it was.
-fn is_city_refused(heap: &Heap, number: u64) -> Result<bool, Fail> {
-    let (city, is_refused) = city_of(heap, number)?;
-    let told = match &city {
-        Ok(city) => Verdict::new(are_at(city.ring.corners.as_slice(), &SQUARE)),
-        Err(CityFault::NoMemory) => Verdict::NoMemory,
-        Err(_) => Verdict::Another,
-    };
-    if !refused(is_refused, told)? {
-        return Ok(false);
+/// The first growth of a city that is not made any more.
+fn growths_of_city<H: Refuses>(heap: &H) -> Result<u64, Fail> {
+    for number in 1..MOST {
+        if !answered_again(making(heap, number)?, making(heap, 0)?.0)? {
+            return Ok(number);
+        }
     }
-    match city_of(heap, 0)?.0 {
-        Ok(city) if are_at(city.ring.corners.as_slice(), &SQUARE) => Ok(true),
-        _ => Err(Fail::new("another answer with memory")),
-    }
+    Err(Fail::new("each growth was refused"))
 }
 
 #[test]
 fn a_city(rt: HostRuntime) -> Result<(), Fail> {
     let heap = Refusing::new(rt.alloc(), 0);
-    for number in 1..MOST {
-        if !is_city_refused(&heap, number)? {
-            assert!(rt; number > 1);
-            return Ok(());
-        }
-    }
-    Err(Fail::new("each growth was refused"))
+    assert!(rt; growths_of_city(&heap)? > 1);
+    Ok(())
 }
 
 /// The city's ring with the corners of both parcels.
 static REFINED: [Place; 6] = [(0, 0), (60, 0), (100, 0), (100, 100), (60, 100), (0, 100)];
 
 /// Whether a place is inside this parcel.
-fn is_inside(layer: &Layer<'_, Heap>, place: Place, parcel: u64) -> Result<bool, Fail> {
+fn is_inside<H: Allocator>(layer: &Layer<'_, H>, place: Place, parcel: u64) -> Result<bool, Fail> {
     match layer.locate(corner(place)?)? {
         At::Inside(id) => Ok(id == parcel),
         At::OnEdge(_) | At::Outside => Ok(false),
     }
 }
 
-/// Whether a layer shows both parcels whole: their rings, the city's, and what its index finds.
-fn is_whole(layer: &Layer<'_, Heap>) -> Result<bool, Fail> {
-    let rings = [&WEST, &EAST];
-    let are_rings = layer.shapes().count() == 2
-        && layer.shapes().zip(&rings).all(|((_, shape), ring)| are_at(
+/// Whether these are the rings of the layer's parcels, by ascending id.
+fn are_rings<H: Allocator>(layer: &Layer<'_, H>, rings: &[&[Place]]) -> bool {
+    layer.shapes().count() == rings.len()
+        && layer.shapes().zip(rings).all(|((_, shape), ring)| are_at(
             shape.ring.corners.as_slice(),
-            *ring,
-        ));
-    let are_found = between(layer, (60, 0), (60, 0))??.as_slice() == [1u64, 2].as_slice()
-        && between(layer, (0, 0), (59, 100))??.as_slice() == [1u64].as_slice()
-        && between(layer, (62, 0), (100, 100))??.as_slice() == [2u64].as_slice();
+            ring,
+        ))
+}
+
+/// Boxes, and the candidates between their corners.
+static BOXES: [Between; 3] = [
+    ((60, 0), (60, 0), &[1, 2]),
+    ((0, 0), (59, 100), &[1]),
+    ((62, 0), (100, 100), &[2]),
+];
+
+/// Whether a layer shows both parcels whole: their rings, the city's, and what its index finds.
+fn is_whole<H: Allocator>(layer: &Layer<'_, H>) -> Result<bool, Fail> {
     Ok(
-        are_rings
-            && are_found
+        are_rings(layer, &RINGS)
             && are_at(layer.city(), &SQUARE)
             && are_at(layer.refined(), &REFINED)
+            && are_found(layer, &BOXES)?
             && is_inside(layer, (10, 10), 1)?
             && is_inside(layer, (61, 50), 2)?,
     )
 }
 
 /// Whether these are the layer's parcels, which are the two rectangles, and it shows them whole.
-fn has_ids(layer: &Layer<'_, Heap>, want: &Answer) -> Result<bool, Fail> {
+fn has_ids<H: Allocator>(layer: &Layer<'_, H>, want: &Answer) -> Result<bool, Fail> {
     let Answer::Ids(ids) = want else {
         return Ok(false);
     };
@@ -206,45 +216,8 @@ fn are_edges(edges: &[(Corner, Corner, i64)], want: &[Edge]) -> bool {
             .all(|(edge, want)| is_edge(*edge, *want))
 }
 
-/// What loading a layer with growth `number` refused is answered, and whether that was refused.
-fn loading<'a>(
-    heap: &'a Heap,
-    city: &City<'a, Heap>,
-    row: &Row,
-    number: u64,
-) -> Result<(Verdict, bool), Fail> {
-    let rings = records(heap, row.0)?;
-    heap.refuse(number);
-    let layer = Layer::load(heap, city, rings);
-    let is_refused = heap.is_spent();
-    heap.refuse(0);
-    let told = match layer {
-        Ok(layer) => Verdict::new(has_ids(&layer, &row.1)?),
-        Err(LoadFault::NoMemory) => Verdict::NoMemory,
-        Err(fault) => Verdict::new(is_first(fault, &row.1)),
-    };
-    Ok((told, is_refused))
-}
-
-/// Whether a growth was refused, and the call was answered as is wanted once it was made again.
-fn answered_again(first: (Verdict, bool), again: Verdict) -> Result<bool, Fail> {
-    refused(false, again)?;
-    refused(first.1, first.0)
-}
-
-/// Loads a layer with growth `number` refused, and once more with memory; whether it was refused.
-fn is_loading_refused<'a>(
-    heap: &'a Heap,
-    city: &City<'a, Heap>,
-    row: &Row,
-    number: u64,
-) -> Result<bool, Fail> {
-    let first = loading(heap, city, row, number)?;
-    answered_again(first, loading(heap, city, row, 0)?.0)
-}
-
 /// Whether these are all faults.
-fn are_all(refusal: &LoadRefusal<&Heap>, want: &Answer) -> bool {
+fn are_all<H: Allocator>(refusal: &LoadRefusal<&H>, want: &Answer) -> bool {
     match (&refusal.all, want) {
         (Some(AllFaults::Rings(rings)), Answer::Rings(want)) => rings.as_slice() == *want,
         (Some(AllFaults::Gaps(gaps)), Answer::Gaps(want)) => are_edges(gaps.as_slice(), want),
@@ -252,98 +225,137 @@ fn are_all(refusal: &LoadRefusal<&Heap>, want: &Answer) -> bool {
     }
 }
 
-/// What loading a layer, or telling all faults, with growth `number` refused is answered, and whether that was refused.
-fn telling<'a>(
-    heap: &'a Heap,
-    city: &City<'a, Heap>,
+/// What an answer is, where the first fault is asked for.
+fn verdict_of_first<H: Allocator>(
+    answer: &Result<Layer<'_, H>, LoadFault>,
+    want: &Answer,
+) -> Result<Verdict, Fail> {
+    match answer {
+        Ok(layer) => Ok(Verdict::new(has_ids(layer, want)?)),
+        Err(LoadFault::NoMemory) => Ok(Verdict::NoMemory),
+        Err(fault) => Ok(Verdict::new(is_first(*fault, want))),
+    }
+}
+
+/// What an answer is, where all faults are asked for.
+fn verdict_of_all<'a, H: Allocator>(
+    answer: &Result<Layer<'a, H>, LoadRefusal<&'a H>>,
+    want: &Answer,
+) -> Result<Verdict, Fail> {
+    match answer {
+        Ok(layer) => Ok(Verdict::new(has_ids(layer, want)?)),
+        Err(refusal) if refusal.first == LoadFault::NoMemory => Ok(Verdict::NoMemory),
+        Err(refusal) => Ok(Verdict::new(are_all(refusal, want))),
+    }
+}
+
+/// A call that loads a layer.
+#[derive(Clone, Copy)]
+enum Call {
+    /// The first fault is asked for.
+    First,
+    /// All faults are asked for.
+    All,
+    /// All faults are asked for by three threads.
+    AllByThreads,
+}
+
+/// What loading a layer with growth `number` refused is answered, and whether that was refused.
+fn loading<'a, H: Refuses>(
+    heap: &'a H,
+    city: &City<'a, H>,
+    row: &Row,
+    number: u64,
+) -> Result<(Verdict, bool), Fail> {
+    let rings = records(heap, row.0)?;
+    heap.refuse(number);
+    let layer = Layer::load(heap, city, rings);
+    let is_refused = was_refused(heap);
+    Ok((verdict_of_first(&layer, &row.1)?, is_refused))
+}
+
+/// The same, where all faults are told.
+fn telling<'a, H: Refuses>(
+    heap: &'a H,
+    city: &City<'a, H>,
     row: &Row,
     number: u64,
 ) -> Result<(Verdict, bool), Fail> {
     let rings = records(heap, row.0)?;
     heap.refuse(number);
     let layer = Layer::load_or_all(heap, city, rings, Asked::All);
-    let is_refused = heap.is_spent();
-    heap.refuse(0);
-    let told = match layer {
-        Ok(layer) => Verdict::new(has_ids(&layer, &row.1)?),
-        Err(refusal) if refusal.first == LoadFault::NoMemory => Verdict::NoMemory,
-        Err(refusal) => Verdict::new(are_all(&refusal, &row.1)),
-    };
-    Ok((told, is_refused))
+    let is_refused = was_refused(heap);
+    Ok((verdict_of_all(&layer, &row.1)?, is_refused))
 }
 
-/// Loads a layer, or tells all faults, with growth `number` refused, and once more with memory; whether it was refused.
-fn is_telling_refused<'a>(
-    heap: &'a Heap,
-    city: &City<'a, Heap>,
-    row: &Row,
-    number: u64,
-) -> Result<bool, Fail> {
-    let first = telling(heap, city, row, number)?;
-    answered_again(first, telling(heap, city, row, 0)?.0)
-}
-
-/// What telling all faults by three threads with growth `number` refused is answered, and whether that was refused.
-fn telling_by<'a, R: Threads + Sync>(
+/// The same, by three threads.
+fn telling_by<'a, H: Refuses + Send + Sync, R: Threads + Sync>(
     rt: &R,
-    heap: &'a Heap,
-    city: &City<'a, Heap>,
+    heap: &'a H,
+    city: &City<'a, H>,
     row: &Row,
     number: u64,
 ) -> Result<(Verdict, bool), Fail> {
     let rings = records(heap, row.0)?;
     heap.refuse(number);
     let layer = Layer::load_or_all_by(rt, 3, heap, city, rings, Asked::All);
-    let is_refused = heap.is_spent();
-    heap.refuse(0);
-    let told = match layer {
-        Ok(layer) => Verdict::new(has_ids(&layer, &row.1)?),
-        Err(refusal) if refusal.first == LoadFault::NoMemory => Verdict::NoMemory,
-        Err(refusal) => Verdict::new(are_all(&refusal, &row.1)),
-    };
-    Ok((told, is_refused))
+    let is_refused = was_refused(heap);
+    Ok((verdict_of_all(&layer, &row.1)?, is_refused))
 }
 
-/// The first growth that is not made any more.
-fn growths_of_loading(heap: &Heap, row: &Row) -> Result<u64, Fail> {
-    let city = city(heap, &SQUARE)?;
+/// What a call with growth `number` refused is answered, and whether that was refused.
+fn answer_of<'a, H: Refuses + Send + Sync, R: Threads + Sync>(
+    rt: &R,
+    heap: &'a H,
+    city: &City<'a, H>,
+    call: Call,
+    row: &Row,
+    number: u64,
+) -> Result<(Verdict, bool), Fail> {
+    match call {
+        Call::First => loading(heap, city, row, number),
+        Call::All => telling(heap, city, row, number),
+        Call::AllByThreads => telling_by(rt, heap, city, row, number),
+    }
+}
+
+/// The first growth of a call that is not made any more. Each call is made once more with memory.
+fn growths_of<'a, H: Refuses + Send + Sync, R: Threads + Sync>(
+    rt: &R,
+    heap: &'a H,
+    city: &City<'a, H>,
+    call: Call,
+    row: &Row,
+) -> Result<u64, Fail> {
     for number in 1..MOST {
-        if !is_loading_refused(heap, &city, row, number)? {
+        let first = answer_of(rt, heap, city, call, row, number)?;
+        if !answered_again(first, answer_of(rt, heap, city, call, row, 0)?.0)? {
             return Ok(number);
         }
     }
     Err(Fail::new("each growth was refused"))
 }
 
-/// The same, where all faults are told.
-fn growths_of_telling(heap: &Heap, row: &Row) -> Result<u64, Fail> {
+/// Whether a call has more growths than its row says, in the square.
+fn has_growths<H: Refuses + Send + Sync, R: Threads + Sync>(
+    rt: &R,
+    heap: &H,
+    call: Call,
+    row: &Row,
+) -> Result<bool, Fail> {
     let city = city(heap, &SQUARE)?;
-    for number in 1..MOST {
-        if !is_telling_refused(heap, &city, row, number)? {
-            return Ok(number);
-        }
-    }
-    Err(Fail::new("each growth was refused"))
-}
-
-/// The same, by three threads.
-fn growths_of_telling_by<R: Threads + Sync>(rt: &R, heap: &Heap, row: &Row) -> Result<u64, Fail> {
-    let city = city(heap, &SQUARE)?;
-    for number in 1..MOST {
-        let first = telling_by(rt, heap, &city, row, number)?;
-        if !answered_again(first, telling_by(rt, heap, &city, row, 0)?.0)? {
-            return Ok(number);
-        }
-    }
-    Err(Fail::new("each growth was refused"))
+    Ok(growths_of(rt, heap, &city, call, row)? > row.2)
 }
 
 #[test]
 fn a_layer_by_threads(rt: HostRuntime) -> Result<(), Fail> {
     let heap = Refusing::new(rt.alloc(), 0);
-    for (place, row) in ALL.iter().enumerate() {
-        let growths = growths_of_telling_by(&rt, &heap, row)?;
-        assert!(rt; growths > row.2, "row {place}");
+    for row in &ALL {
+        assert!(rt;
+            has_growths(&rt, &heap, Call::AllByThreads, row)?,
+            "{}",
+            row.3
+        );
     }
     Ok(())
 }
@@ -351,13 +363,15 @@ fn a_layer_by_threads(rt: HostRuntime) -> Result<(), Fail> {
 #[test]
 fn a_layer(rt: HostRuntime) -> Result<(), Fail> {
     let heap = Refusing::new(rt.alloc(), 0);
-    for (place, row) in LOADED.iter().enumerate() {
-        let growths = growths_of_loading(&heap, row)?;
-        assert!(rt; growths > row.2, "row {place}");
+    for row in &LOADED {
+        assert!(rt; has_growths(&rt, &heap, Call::First, row)?, "{}", row.3);
     }
-    for (place, row) in ALL.iter().enumerate() {
-        let growths = growths_of_telling(&heap, row)?;
-        assert!(rt; growths > row.2, "all faults, row {place}");
+    for row in &ALL {
+        assert!(rt;
+            has_growths(&rt, &heap, Call::All, row)?,
+            "all faults, {}",
+            row.3
+        );
     }
     Ok(())
 }

@@ -1,159 +1,119 @@
-//! Each growth of opening a fabric, of copying it and of taking a sheet refused in turn; and what a fabric and a sheet answer
-//! to a search, beside a scan of all parcels.
+//! Each growth of opening a fabric, of copying it and of taking a sheet refused in turn; and what a fabric and a sheet
+//! answer to a search, beside a scan of all parcels.
 
-use crate::changes::take;
-use crate::refused_edits::{Heap, are_alike, was_refused};
+use crate::candidates::Between;
+use crate::changes::{is_scanned, take};
+use crate::refused_edits::are_alike;
+use crate::refuses::{MOST, told};
 use crate::steps::INTO_HALVES;
-use fabric_core::{At, Fabric, Layer, Sheet};
-use geo_exact::{Corner, RING_CORNERS};
+use fabric_core::{Fabric, Layer, Sheet};
 use refusing_alloc::Refusing;
-use ring_core::{Side, side_of};
-use std::alloc::{AllocError, Allocator};
+use std::alloc::Allocator;
 use std::test::Fail;
-use test_builders::corner;
-use test_cities::{RINGS, SQUARE, fabric, layer};
-
-/// No call here has so many growths.
-const MOST: u64 = 1000;
-
-/// The fabric of a layer that came back, with memory.
-fn opened_again<'a>(layer: Layer<'a, Heap>) -> Result<Fabric<'a, Heap>, Fail> {
-    match Fabric::open(layer) {
-        Ok(fabric) => Ok(fabric),
-        Err(_) => Err(Fail::new("it is not opened with memory")),
-    }
-}
+use test_builders::{Place, Refuses, corner, was_refused};
+use test_cities::{RINGS, SQUARE, layer, town};
 
 /// Opens a fabric with growth `number` refused, and where the layer then comes back, opens that; whether it was refused.
-fn is_opening_refused<'a>(
-    heap: &'a Heap,
-    want: &Fabric<'a, Heap>,
+fn is_opening_refused<'a, H: Refuses>(
+    heap: &'a H,
+    want: &Fabric<'a, H>,
     number: u64,
 ) -> Result<bool, Fail> {
     let layer = layer(heap, &SQUARE, &RINGS)?;
     heap.refuse(number);
     let opened = Fabric::open(layer);
     let is_refused = was_refused(heap);
-    if opened.is_err() != is_refused {
-        return Err(Fail::new("a refusal is told, and nothing else is"));
+    match opened {
+        Ok(fabric) => told(is_refused, false, are_alike(&fabric, want)?),
+        Err(layer) => told(is_refused, true, is_opened(layer, want)?),
     }
-    let fabric = match opened {
-        Ok(fabric) => fabric,
-        Err(layer) => opened_again(layer)?,
-    };
-    if !are_alike(&fabric, want)? {
-        return Err(Fail::new("another fabric"));
-    }
-    Ok(is_refused)
 }
 
-#[test]
-fn opens_again(rt: HostRuntime) -> Result<(), Fail> {
-    let heap = Refusing::new(rt.alloc(), 0);
-    let want = fabric(&heap, &SQUARE, &RINGS)?;
-    for number in 1..MOST {
-        if !is_opening_refused(&heap, &want, number)? {
-            assert!(rt; number > 1);
-            return Ok(());
-        }
+/// Whether a layer that came back is opened with memory, as this fabric.
+fn is_opened<'a, H: Refuses>(layer: Layer<'a, H>, want: &Fabric<'a, H>) -> Result<bool, Fail> {
+    match Fabric::open(layer) {
+        Ok(fabric) => are_alike(&fabric, want),
+        Err(_) => Ok(false),
     }
-    Err(Fail::new("each growth was refused"))
 }
 
 /// Copies a fabric with growth `number` refused, and where it was, once more; whether it was.
-fn is_copying_refused(heap: &Heap, fabric: &Fabric<'_, Heap>, number: u64) -> Result<bool, Fail> {
+fn is_copying_refused<H: Refuses>(
+    heap: &H,
+    fabric: &Fabric<'_, H>,
+    number: u64,
+) -> Result<bool, Fail> {
     heap.refuse(number);
     let copy = fabric.copy();
     let is_refused = was_refused(heap);
-    if copy.is_err() != is_refused {
-        return Err(Fail::new("a refusal is told, and nothing else is"));
+    match copy {
+        Ok(copy) => told(is_refused, false, are_alike(&copy, fabric)?),
+        Err(_) => told(is_refused, true, are_alike(&fabric.copy()?, fabric)?),
     }
-    let copy = match copy {
-        Ok(copy) => copy,
-        Err(_) => fabric.copy()?,
-    };
-    if !are_alike(&copy, fabric)? {
-        return Err(Fail::new("another fabric"));
-    }
-    Ok(is_refused)
-}
-
-/// Whether a place is located, by this answer, where the rings of all parcels of a fabric say that it is.
-fn is_scanned<H: Allocator>(
-    heap: &H,
-    fabric: &Fabric<'_, H>,
-    place: Corner,
-    answer: &At<&H>,
-) -> Result<bool, Fail> {
-    let mut on_edge = Vec::new(heap);
-    let mut inside = None;
-    for (id, shape) in fabric.shapes() {
-        let ring = shape.ring.corners.as_slice();
-        if ring.len() > RING_CORNERS {
-            return Err(Fail::new("a ring that no layer has"));
-        }
-        match side_of(ring, place) {
-            Side::Inside => inside = Some(id),
-            Side::OnEdge => on_edge.push(id)?,
-            Side::Outside => {}
-        }
-    }
-    Ok(match answer {
-        At::OnEdge(ids) => !ids.is_empty() && ids.as_slice() == on_edge.as_slice(),
-        At::Inside(id) => on_edge.is_empty() && inside == Some(*id),
-        At::Outside => on_edge.is_empty() && inside.is_none(),
-    })
-}
-
-/// The candidates between two corners: of a sheet, and of its fabric.
-fn between<'a, H: Allocator>(
-    fabric: &Fabric<'a, H>,
-    sheet: &Sheet<'a, H>,
-    low: Corner,
-    high: Corner,
-) -> Result<Result<(Vec<u64, &'a H>, Vec<u64, &'a H>), AllocError>, Fail> {
-    if low.x > high.x || low.y > high.y {
-        return Err(Fail::new("no box"));
-    }
-    let of_sheet = sheet.candidates(low, high)?;
-    Ok(Ok((of_sheet, fabric.candidates(low, high)?)))
 }
 
 /// Boxes among the three parcels behind the cut, and the candidates between their corners: cells are two wide.
-static BOXES: [((i64, i64), (i64, i64), &[u64]); 4] = [
+static BOXES: [Between; 4] = [
     ((0, 0), (10, 10), &[3]),
     ((30, 0), (30, 100), &[3, 4]),
     ((62, 0), (100, 100), &[2]),
     ((0, 0), (100, 100), &[2, 3, 4]),
 ];
 
-/// Whether a sheet shows what its fabric shows, and both answer searches as they have to.
-fn is_sheet_of<'a>(
-    heap: &'a Heap,
-    fabric: &Fabric<'a, Heap>,
-    sheet: &Sheet<'a, Heap>,
-) -> Result<bool, Fail> {
+/// Whether a sheet shows what its fabric shows.
+fn shows_alike<'a, H: Allocator>(fabric: &Fabric<'a, H>, sheet: &Sheet<'a, H>) -> bool {
     if !sheet.ids().eq(fabric.ids()) || sheet.entries() != fabric.entries() {
-        return Ok(false);
-    }
-    if sheet.city() != fabric.city() || sheet.refined() != fabric.refined() {
-        return Ok(false);
+        return false;
     }
     for ((_, shape), (_, it)) in sheet.shapes().zip(fabric.shapes()) {
         if shape.ring.corners != it.ring.corners {
+            return false;
+        }
+    }
+    sheet.city() == fabric.city() && sheet.refined() == fabric.refined()
+}
+
+/// Whether a sheet and its fabric have the candidates of a box.
+fn has_candidates<'a, H: Allocator>(
+    fabric: &Fabric<'a, H>,
+    sheet: &Sheet<'a, H>,
+    row: &Between,
+) -> Result<bool, Fail> {
+    let (low, high) = (corner(row.0)?, corner(row.1)?);
+    if low.x > high.x || low.y > high.y {
+        return Err(Fail::new("no box"));
+    }
+    Ok(
+        sheet.candidates(low, high)?.as_slice() == row.2
+            && fabric.candidates(low, high)?.as_slice() == row.2,
+    )
+}
+
+/// Whether they have the candidates of each box.
+fn have_candidates<'a, H: Allocator>(
+    fabric: &Fabric<'a, H>,
+    sheet: &Sheet<'a, H>,
+) -> Result<bool, Fail> {
+    for row in &BOXES {
+        if !has_candidates(fabric, sheet, row)? {
             return Ok(false);
         }
     }
-    for (low, high, want) in &BOXES {
-        let (of_sheet, of_fabric) = between(fabric, sheet, corner(*low)?, corner(*high)?)??;
-        if of_sheet.as_slice() != *want || of_fabric.as_slice() != *want {
-            return Ok(false);
-        }
-    }
-    for place in &[(10, 10), (30, 50), (60, 50), (80, 1), (60, 0), (101, 5)] {
+    Ok(true)
+}
+
+/// Places in the parcels behind the cut, on their edges, and outside the city.
+static PLACES: [Place; 6] = [(10, 10), (30, 50), (60, 50), (80, 1), (60, 0), (101, 5)];
+
+/// Whether a sheet and its fabric locate each place where the rings of all parcels say that it is.
+fn are_scanned<'a, H: Allocator>(
+    fabric: &Fabric<'a, H>,
+    sheet: &Sheet<'a, H>,
+) -> Result<bool, Fail> {
+    for place in &PLACES {
         let place = corner(*place)?;
-        let is_so = is_scanned(heap, fabric, place, &sheet.locate(place)?)?
-            && is_scanned(heap, fabric, place, &fabric.locate(place)?)?;
+        let is_so = is_scanned(fabric, place, &sheet.locate(place)?)
+            && is_scanned(fabric, place, &fabric.locate(place)?);
         if !is_so {
             return Ok(false);
         }
@@ -161,53 +121,92 @@ fn is_sheet_of<'a>(
     Ok(true)
 }
 
+/// Whether a sheet shows what its fabric shows, and both answer searches as they have to.
+fn is_sheet_of<'a, H: Allocator>(
+    fabric: &Fabric<'a, H>,
+    sheet: &Sheet<'a, H>,
+) -> Result<bool, Fail> {
+    Ok(shows_alike(fabric, sheet) && have_candidates(fabric, sheet)? && are_scanned(fabric, sheet)?)
+}
+
 /// Takes a sheet with growth `number` refused, and where it was, once more; whether it was.
-fn is_sheet_refused<'a>(
-    heap: &'a Heap,
-    fabric: &Fabric<'a, Heap>,
+fn is_sheet_refused<'a, H: Refuses>(
+    heap: &'a H,
+    fabric: &Fabric<'a, H>,
     number: u64,
 ) -> Result<bool, Fail> {
     heap.refuse(number);
     let sheet = fabric.sheet();
     let is_refused = was_refused(heap);
-    if sheet.is_err() != is_refused {
-        return Err(Fail::new("a refusal is told, and nothing else is"));
+    match sheet {
+        Ok(sheet) => told(is_refused, false, is_sheet_of(fabric, &sheet)?),
+        Err(_) => told(is_refused, true, is_sheet_of(fabric, &fabric.sheet()?)?),
     }
-    let sheet = match sheet {
-        Ok(sheet) => sheet,
-        Err(_) => fabric.sheet()?,
-    };
-    if !is_sheet_of(heap, fabric, &sheet)? {
-        return Err(Fail::new("another sheet"));
-    }
-    Ok(is_refused)
 }
 
-/// The first growth of a copy, or of a sheet, that is not made any more.
-fn first_unrefused<'a>(
-    heap: &'a Heap,
-    fabric: &Fabric<'a, Heap>,
-    is_of_sheet: bool,
+/// A call in which growths are refused.
+#[derive(Clone, Copy)]
+enum Call {
+    /// A fabric is opened.
+    Open,
+    /// It is copied.
+    Copy,
+    /// A sheet is taken.
+    Sheet,
+}
+
+/// Whether growth `number` of a call was refused.
+fn is_refused<'a, H: Refuses>(
+    heap: &'a H,
+    fabric: &Fabric<'a, H>,
+    call: Call,
+    number: u64,
+) -> Result<bool, Fail> {
+    match call {
+        Call::Open => is_opening_refused(heap, fabric, number),
+        Call::Copy => is_copying_refused(heap, fabric, number),
+        Call::Sheet => is_sheet_refused(heap, fabric, number),
+    }
+}
+
+/// The first growth of a call that is not made any more.
+fn first_unrefused<'a, H: Refuses>(
+    heap: &'a H,
+    fabric: &Fabric<'a, H>,
+    call: Call,
 ) -> Result<u64, Fail> {
     for number in 1..MOST {
-        let is_refused = if is_of_sheet {
-            is_sheet_refused(heap, fabric, number)?
-        } else {
-            is_copying_refused(heap, fabric, number)?
-        };
-        if !is_refused {
+        if !is_refused(heap, fabric, call, number)? {
             return Ok(number);
         }
     }
     Err(Fail::new("each growth was refused"))
 }
 
+/// The same, of the fabric of the two parcels.
+fn first_unrefused_of_two<H: Refuses>(heap: &H, call: Call) -> Result<u64, Fail> {
+    let fabric = town(heap)?;
+    first_unrefused(heap, &fabric, call)
+}
+
+#[test]
+fn opens_again(rt: HostRuntime) -> Result<(), Fail> {
+    let heap = Refusing::new(rt.alloc(), 0);
+    assert!(rt; first_unrefused_of_two(&heap, Call::Open)? > 1);
+    Ok(())
+}
+
+/// The same, of the fabric of the halves.
+fn first_unrefused_of_halves<H: Refuses>(heap: &H, call: Call) -> Result<u64, Fail> {
+    let mut fabric = town(heap)?;
+    take(heap, &mut fabric, &INTO_HALVES)?;
+    first_unrefused(heap, &fabric, call)
+}
+
 #[test]
 fn copies_again(rt: HostRuntime) -> Result<(), Fail> {
     let heap = Refusing::new(rt.alloc(), 0);
-    let mut fabric = fabric(&heap, &SQUARE, &RINGS)?;
-    take(&heap, &mut fabric, &INTO_HALVES)?;
-    assert!(rt; first_unrefused(&heap, &fabric, false)? > 10);
-    assert!(rt; first_unrefused(&heap, &fabric, true)? > 10);
+    assert!(rt; first_unrefused_of_halves(&heap, Call::Copy)? > 10);
+    assert!(rt; first_unrefused_of_halves(&heap, Call::Sheet)? > 10);
     Ok(())
 }

@@ -1,8 +1,8 @@
 //! A layer of the greatest number of parcels, a ring of the greatest number of corners, and one more than that.
 
-use fabric_core::LoadFault;
+use fabric_core::{Layer, LoadFault};
 use geo_exact::{Corners, LAYER_RECORDS, RING_CORNERS};
-use std::alloc::Global;
+use std::alloc::Allocator;
 use std::test::Fail;
 use test_builders::{Place, corner, corners, rectangle};
 use test_cities::answer_layer_of;
@@ -17,7 +17,7 @@ const BELOW: [Place; 4] = [(0, 0), (5000, 0), (5000, 50), (0, 50)];
 const MORE: [Place; 5] = [(0, 0), (1, 0), (5000, 0), (5000, 50), (0, 50)];
 
 /// The parcel above the border: 4,093 corners along it, one millimetre apart, and three more.
-fn above(heap: &Global) -> Result<Corners<&Global>, Fail> {
+fn above<H: Allocator>(heap: &H) -> Result<Corners<&H>, Fail> {
     let mut list = Corners::new(heap);
     for x in 0..4093i64 {
         list.push(corner((x, 50))?)?;
@@ -30,7 +30,7 @@ fn above(heap: &Global) -> Result<Corners<&Global>, Fail> {
 
 /// How many corners the first parcel has, in a layer of a parcel with this ring and the one above
 /// the border; or why it is none.
-fn first_of_two(heap: &Global, below: &[Place]) -> Result<Result<usize, LoadFault>, Fail> {
+fn first_of_two<H: Allocator>(heap: &H, below: &[Place]) -> Result<Result<usize, LoadFault>, Fail> {
     let mut lists = Vec::new(heap);
     lists.push(corners(heap, below)?)?;
     lists.push(above(heap)?)?;
@@ -43,41 +43,44 @@ fn first_of_two(heap: &Global, below: &[Place]) -> Result<Result<usize, LoadFaul
 #[test]
 fn nodes_a_border_of_the_most_corners(rt: HostRuntime) -> Result<(), Fail> {
     let heap = &rt.alloc();
-    let most = first_of_two(heap, &BELOW)?;
-    assert_eq!(rt; most, Ok(RING_CORNERS));
-    let more = first_of_two(heap, &MORE)?;
-    assert_eq!(rt; more, Err(LoadFault::TooMany(1)));
+    assert!(rt; first_of_two(heap, &BELOW)? == Ok(RING_CORNERS));
+    assert!(rt; first_of_two(heap, &MORE)? == Err(LoadFault::TooMany(1)));
     Ok(())
 }
 
 /// The rectangles of one millimetre side by side, as many as a layer may have.
-fn most_rectangles(heap: &Global) -> Result<Vec<Corners<&Global>, &Global>, Fail> {
+fn most_rectangles<H: Allocator>(heap: &H) -> Result<Vec<Corners<&H>, &H>, Fail> {
     let mut lists = Vec::new(heap);
-    for x in 0..i64::from(LAYER_RECORDS) {
+    for x in 0..SIDE {
         lists.push(rectangle(heap, (x, x.saturating_add(1)), (0, 9))?)?;
     }
     Ok(lists)
 }
 
-/// How many parcels a layer of these lists has, and whether the last is the last rectangle.
-fn last_of<'a>(heap: &'a Global, lists: &[Corners<&'a Global>]) -> Result<(usize, bool), Fail> {
-    let side = i64::from(LAYER_RECORDS);
-    let city = [(0, 0), (side, 0), (side, 9), (0, 9)];
-    let Ok(layer) = answer_layer_of(heap, &city, lists)? else {
-        return Err(Fail::new("no tiling"));
-    };
+/// The side of the city that those tile.
+const SIDE: i64 = LAYER_RECORDS as i64;
+
+/// How many parcels a layer has, and whether the last is the last rectangle.
+fn last_of<'a, H: Allocator>(heap: &'a H, layer: &Layer<'a, H>) -> Result<(usize, bool), Fail> {
     let Some(last) = layer.ring(u64::from(LAYER_RECORDS)) else {
         return Err(Fail::new("no last parcel"));
     };
-    let is_last = last.corners == rectangle(heap, (side - 1, side), (0, 9))?;
+    let is_last = last.corners == rectangle(heap, (SIDE - 1, SIDE), (0, 9))?;
     Ok((layer.ids().len(), is_last))
+}
+
+/// The same of the layer of all rectangles.
+fn last_of_most<H: Allocator>(heap: &H) -> Result<(usize, bool), Fail> {
+    let lists = most_rectangles(heap)?;
+    let city = [(0, 0), (SIDE, 0), (SIDE, 9), (0, 9)];
+    match answer_layer_of(heap, &city, &lists)? {
+        Ok(layer) => last_of(heap, &layer),
+        Err(_) => Err(Fail::new("no tiling")),
+    }
 }
 
 #[test]
 fn loads_the_most_parcels(rt: HostRuntime) -> Result<(), Fail> {
-    let heap = &rt.alloc();
-    let lists = most_rectangles(heap)?;
-    let last = last_of(heap, &lists)?;
-    assert_eq!(rt; last, (LAYER_RECORDS as usize, true));
+    assert!(rt; last_of_most(&rt.alloc())? == (LAYER_RECORDS as usize, true));
     Ok(())
 }

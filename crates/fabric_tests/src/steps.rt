@@ -6,7 +6,7 @@ use ring_core::RingFault;
 use std::alloc::Allocator;
 use std::test::Fail;
 use test_builders::Place;
-use test_cities::{EAST, RINGS, SQUARE, WEST, fabric};
+use test_cities::{EAST, RINGS, SQUARE, WEST, fabric, town};
 
 /// The two parcels, as most groups begin.
 pub const TWO: [Parcel; 2] = [(1, 12_000, &WEST), (2, 8_000, &EAST)];
@@ -99,7 +99,7 @@ fn are_cut_and_merged<'a, H: Allocator>(
 
 /// The same, in a fabric of the two parcels.
 fn is_cut_and_merged<H: Allocator>(heap: &H) -> Result<bool, Fail> {
-    let mut fabric = fabric(heap, &SQUARE, &RINGS)?;
+    let mut fabric = town(heap)?;
     are_cut_and_merged(heap, &mut fabric)
 }
 

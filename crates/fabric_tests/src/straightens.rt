@@ -9,10 +9,10 @@ use geo_exact::Corner;
 use rand_core::utils::NextWord;
 use rand_pcg::Pcg32;
 use ring_edits::Edit;
-use std::alloc::{Allocator, Global};
+use std::alloc::Allocator;
 use std::test::Fail;
 use test_builders::Place;
-use test_cities::{EAST, RINGS, SQUARE, WEST, fabric};
+use test_cities::{EAST, SQUARE, WEST, fabric, town};
 
 /// The parcel of both halves without its corner on the south edge.
 const NORTH: [Place; 5] = [(0, 0), (60, 0), (60, 100), (30, 100), (0, 100)];
@@ -80,7 +80,7 @@ fn are_both_taken_out<'a, H: Allocator>(
 }
 
 /// Whether a fabric that follows the journal of another becomes like it.
-fn follows<'a, H: Allocator>(
+pub fn follows<'a, H: Allocator>(
     copy: &mut Fabric<'a, H>,
     original: &Fabric<'a, H>,
 ) -> Result<bool, Fail> {
@@ -92,13 +92,16 @@ fn follows<'a, H: Allocator>(
     are_alike(copy, original)
 }
 
+/// Whether both corners are taken out in a fabric of the two parcels, whose journal leads a copy to the same.
+fn are_both_followed<H: Allocator>(heap: &H) -> Result<bool, Fail> {
+    let mut fabric = town(heap)?;
+    let mut copy = fabric.copy()?;
+    Ok(are_both_taken_out(heap, &mut fabric)? && follows(&mut copy, &fabric)?)
+}
+
 #[test]
 fn takes_out_both_corners(rt: HostRuntime) -> Result<(), Fail> {
-    let heap = &rt.alloc();
-    let mut fabric = fabric(heap, &SQUARE, &RINGS)?;
-    let mut copy = fabric.copy()?;
-    assert!(rt; are_both_taken_out(heap, &mut fabric)?);
-    assert!(rt; follows(&mut copy, &fabric)?);
+    assert!(rt; are_both_followed(&rt.alloc())?);
     Ok(())
 }
 
@@ -196,12 +199,17 @@ fn are_of_three<H: Allocator>(heap: &H) -> Result<bool, Fail> {
     Ok(are_at(fabric.refined(), &REFINED_BY_TWO))
 }
 
+/// Makes the step where that parcel comes last.
+fn take_of_last<H: Allocator>(heap: &H) -> Result<(), Fail> {
+    let mut fabric = fabric(heap, &SQUARE, &WEST_LAST)?;
+    take(heap, &mut fabric, &OF_LAST)
+}
+
 #[test]
 fn looks_at_all_parcels_of_a_corner(rt: HostRuntime) -> Result<(), Fail> {
     let heap = &rt.alloc();
     assert!(rt; are_of_three(heap)?);
-    let mut fabric = fabric(heap, &SQUARE, &WEST_LAST)?;
-    take(heap, &mut fabric, &OF_LAST)
+    take_of_last(heap)
 }
 
 /// So many layers are drawn, so many edges of each, and at most so many times.
@@ -240,8 +248,8 @@ fn drawn_on_edge(
 }
 
 /// An edge of a parcel, both drawn, and a corner on it.
-fn drawn_insert(
-    fabric: &Fabric<'_, Global>,
+fn drawn_insert<H: Allocator>(
+    fabric: &Fabric<'_, H>,
     words: &mut Pcg32,
 ) -> Option<(Corner, Corner, Corner)> {
     let count = fabric.ids().count();
@@ -253,26 +261,30 @@ fn drawn_insert(
     drawn_on_edge(fabric.ring(id)?.corners.as_slice(), place, words)
 }
 
+/// Whether an edit is accepted.
+fn is_edited<'a, H: Allocator>(fabric: &mut Fabric<'a, H>, edit: &Edit<&'a H>) -> bool {
+    fabric.edit(CLERK, edit).is_ok()
+}
+
 /// Puts a corner into an edge, which changes the fabric, and takes it out, after which it has to show what it did before.
-fn put_and_take_out<'a>(
-    fabric: &mut Fabric<'a, Global>,
-    before: &Fabric<'a, Global>,
+fn put_and_take_out<'a, H: Allocator>(
+    fabric: &mut Fabric<'a, H>,
+    before: &Fabric<'a, H>,
     insert: (Corner, Corner, Corner),
 ) -> Result<(), Fail> {
     let (from, to, at) = insert;
-    if fabric.edit(CLERK, &Edit::Insert { from, to, at }).is_err() || show_alike(fabric, before)? {
-        return Err(Fail::new("no corner is put in"));
+    let is_put = is_edited(fabric, &Edit::Insert { from, to, at }) && !show_alike(fabric, before)?;
+    if is_put && is_edited(fabric, &Edit::Straighten { at }) && show_alike(fabric, before)? {
+        Ok(())
+    } else {
+        Err(Fail::new("no corner is put in, or another fabric is left"))
     }
-    if fabric.edit(CLERK, &Edit::Straighten { at }).is_err() || !show_alike(fabric, before)? {
-        return Err(Fail::new("another fabric"));
-    }
-    Ok(())
 }
 
 /// Puts corners into edges that are drawn, and takes each out: how many.
-fn count_taken_out<'a>(
-    fabric: &mut Fabric<'a, Global>,
-    before: &Fabric<'a, Global>,
+fn count_taken_out<'a, H: Allocator>(
+    fabric: &mut Fabric<'a, H>,
+    before: &Fabric<'a, H>,
     words: &mut Pcg32,
 ) -> Result<u32, Fail> {
     let mut count = 0u32;
@@ -289,7 +301,7 @@ fn count_taken_out<'a>(
 }
 
 /// The same in the fabric of a layer that is drawn.
-fn count_in_drawn(heap: &Global, words: &mut Pcg32) -> Result<u32, Fail> {
+fn count_in_drawn<H: Allocator>(heap: &H, words: &mut Pcg32) -> Result<u32, Fail> {
     let Ok(mut fabric) = Fabric::open(drawn(heap, words)?) else {
         return Err(Fail::new("memory is wanting"));
     };
@@ -302,8 +314,10 @@ fn puts_back_what_an_insert_changed(rt: HostRuntime) -> Result<(), Fail> {
     let heap = &rt.alloc();
     let mut words = Pcg32::new(42, 59);
     for number in 0..LAYERS {
-        let count = count_in_drawn(heap, &mut words)?;
-        assert_eq!(rt; count, EDGES, "layer {number}");
+        assert!(rt;
+            count_in_drawn(heap, &mut words)? == EDGES,
+            "layer {number}"
+        );
     }
     Ok(())
 }

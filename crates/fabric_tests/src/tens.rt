@@ -1,17 +1,19 @@
-//! Fabrics moved to a grid ten times as fine: the worked halves with their journal, corners that are too far, and each growth
-//! refused in turn.
+//! Fabrics moved to a grid ten times as fine: the worked halves with their journal, corners that are too far, and each
+//! growth refused in turn.
 
 use crate::changes::{CLERK, Change, Parcel, Step, are, are_at, is_inside, take};
-use crate::refused_edits::{Heap, are_alike, was_refused};
+use crate::refused_edits::are_alike;
+use crate::refuses::{MOST, told};
 use crate::steps::{HALVES, INTO_HALVES};
+use crate::straightens::follows;
 use fabric_core::{Entry, Fabric, Refusal, ScaleFault};
 use geo_exact::Corner;
 use refusing_alloc::Refusing;
 use ring_edits::Edit;
 use std::alloc::Allocator;
 use std::test::Fail;
-use test_builders::{Place, corner};
-use test_cities::{RINGS, SQUARE, fabric};
+use test_builders::{Place, Refuses, corner, was_refused};
+use test_cities::{fabric, town};
 
 const CITY: [Place; 4] = [(0, 0), (1_000, 0), (1_000, 1_000), (0, 1_000)];
 
@@ -106,32 +108,43 @@ fn is_of_halves<H: Allocator>(fine: &Fabric<'_, H>) -> Result<bool, Fail> {
     )
 }
 
-/// Makes the entries of another fabric's journal, each of which has to be due.
-fn follow_all<'a, H: Allocator>(
-    copy: &mut Fabric<'a, H>,
-    original: &Fabric<'a, H>,
-) -> Result<(), Fail> {
-    for entry in original.journal() {
-        if copy.follow(entry) != Ok(()) {
-            return Err(Fail::new("an entry that is not due"));
-        }
-    }
-    Ok(())
+/// Whether a fine fabric is that of the halves, a fabric of the two parcels that was moved before becomes like it when it
+/// follows its journal, and edits go on in it.
+fn is_moved<'a, H: Allocator>(
+    heap: &'a H,
+    opened: &mut Fabric<'a, H>,
+    fine: &mut Fabric<'a, H>,
+) -> Result<bool, Fail> {
+    let is_so = is_of_halves(fine)? && follows(opened, fine)?;
+    take(heap, fine, &ON_THE_FINE_GRID)?;
+    Ok(is_so)
+}
+
+/// Whether a fabric of the two parcels is moved so once its first is cut, and stays as it is.
+fn is_moved_as_halves<'a, H: Allocator>(
+    heap: &'a H,
+    fabric: &mut Fabric<'a, H>,
+) -> Result<bool, Fail> {
+    let mut opened = tenfold_of(fabric)?;
+    take(heap, fabric, &INTO_HALVES)?;
+    let mut fine = tenfold_of(fabric)?;
+    let before = fabric.copy()?;
+    Ok(
+        is_moved(heap, &mut opened, &mut fine)?
+            && are(fabric, &HALVES)
+            && are_alike(fabric, &before)?,
+    )
+}
+
+/// The same of the two parcels.
+fn are_moved_as_halves<H: Allocator>(heap: &H) -> Result<bool, Fail> {
+    let mut fabric = town(heap)?;
+    is_moved_as_halves(heap, &mut fabric)
 }
 
 #[test]
 fn moves_halves_to_a_finer_grid(rt: HostRuntime) -> Result<(), Fail> {
-    let heap = &rt.alloc();
-    let mut fabric = fabric(heap, &SQUARE, &RINGS)?;
-    let mut opened = tenfold_of(&fabric)?;
-    take(heap, &mut fabric, &INTO_HALVES)?;
-    let before = fabric.copy()?;
-    let mut fine = tenfold_of(&fabric)?;
-    assert!(rt; is_of_halves(&fine)?);
-    follow_all(&mut opened, &fine)?;
-    assert!(rt; are_alike(&opened, &fine)?);
-    take(heap, &mut fine, &ON_THE_FINE_GRID)?;
-    assert!(rt; are(&fabric, &HALVES) && are_alike(&fabric, &before)?);
+    assert!(rt; are_moved_as_halves(&rt.alloc())?);
     Ok(())
 }
 
@@ -170,32 +183,27 @@ fn tells_the_least_corner_that_is_too_far(rt: HostRuntime) -> Result<(), Fail> {
     Ok(())
 }
 
-/// No call here has so many growths.
-const MOST: u64 = 1000;
-
 /// Moves a fabric with growth `number` refused, and where memory was then wanting, once more; whether it was refused. A
 /// growth that is only made ahead may be refused and not be wanting.
-fn is_moving_refused<'a>(
-    heap: &'a Heap,
-    fabric: &Fabric<'a, Heap>,
+fn is_moving_refused<'a, H: Refuses>(
+    heap: &'a H,
+    fabric: &Fabric<'a, H>,
     number: u64,
 ) -> Result<bool, Fail> {
     heap.refuse(number);
     let moved = fabric.tenfold();
     let is_refused = was_refused(heap);
-    let fine = match moved {
-        Ok(fine) => fine,
-        Err(ScaleFault::NoMemory) if is_refused => tenfold_of(fabric)?,
-        Err(_) => return Err(Fail::new("a refusal is told, and nothing else is")),
-    };
-    if !is_of_halves(&fine)? {
-        return Err(Fail::new("another fabric"));
+    match moved {
+        Ok(fine) => told(is_refused, is_refused, is_of_halves(&fine)?),
+        Err(fault) => {
+            let is_so = fault == ScaleFault::NoMemory && is_of_halves(&tenfold_of(fabric)?)?;
+            told(is_refused, true, is_so)
+        }
     }
-    Ok(is_refused)
 }
 
 /// How many growths moving a fabric has.
-fn count_growths<'a>(heap: &'a Heap, fabric: &Fabric<'a, Heap>) -> Result<u64, Fail> {
+fn count_growths<'a, H: Refuses>(heap: &'a H, fabric: &Fabric<'a, H>) -> Result<u64, Fail> {
     for number in 1..MOST {
         if !is_moving_refused(heap, fabric, number)? {
             return Ok(number - 1);
@@ -204,13 +212,31 @@ fn count_growths<'a>(heap: &'a Heap, fabric: &Fabric<'a, Heap>) -> Result<u64, F
     Err(Fail::new("each growth was refused"))
 }
 
+/// How many growths moving a fabric has, which stays as it was before.
+fn count_growths_of<'a, H: Refuses>(
+    heap: &'a H,
+    fabric: &Fabric<'a, H>,
+    before: &Fabric<'a, H>,
+) -> Result<u64, Fail> {
+    let count = count_growths(heap, fabric)?;
+    if are_alike(fabric, before)? {
+        Ok(count)
+    } else {
+        Err(Fail::new("another fabric"))
+    }
+}
+
+/// The same of the fabric of the halves.
+fn count_growths_of_halves<H: Refuses>(heap: &H) -> Result<u64, Fail> {
+    let mut fabric = town(heap)?;
+    take(heap, &mut fabric, &INTO_HALVES)?;
+    let before = fabric.copy()?;
+    count_growths_of(heap, &fabric, &before)
+}
+
 #[test]
 fn moves_again(rt: HostRuntime) -> Result<(), Fail> {
     let heap = Refusing::new(rt.alloc(), 0);
-    let mut fabric = fabric(&heap, &SQUARE, &RINGS)?;
-    take(&heap, &mut fabric, &INTO_HALVES)?;
-    let before = fabric.copy()?;
-    assert!(rt; count_growths(&heap, &fabric)? > 20);
-    assert!(rt; are_alike(&fabric, &before)?);
+    assert!(rt; count_growths_of_halves(&heap)? > 20);
     Ok(())
 }

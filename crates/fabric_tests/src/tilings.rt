@@ -1,16 +1,14 @@
 //! Layers that tile their city, and layers that do not.
 
+use crate::changes::{Parcel, are_at, is_ring};
 use fabric_core::{Layer, LoadFault};
-use geo_exact::{Corner, LIST_CORNERS, area2};
+use geo_exact::Corner;
 use ring_core::RingFault;
 use std::alloc::Allocator;
 use std::test::Fail;
 use std::thread::Threads;
 use test_builders::Place;
 use test_cities::{EAST, SQUARE, WEST, answer_layer, city, records};
-
-/// A parcel's id, twice its area, and its ring.
-type Parcel = (u64, i128, &'static [Place]);
 
 /// What rings are answered as a layer.
 enum Answer {
@@ -166,46 +164,34 @@ static ROWS: [Row; 10] = [
     ),
 ];
 
-/// Whether the corners are at these places, in order.
-fn are_at(corners: &[Corner], places: &[Place]) -> bool {
-    corners.len() == places.len()
-        && corners.iter().zip(places).all(|(corner, place)| corner.x == place.0
-            && corner.y == place.1)
-}
-
-/// Whether a ring is at these places, and twice its area is this.
-fn is_ring(ring: &[Corner], places: &[Place], twice_area: i128) -> bool {
-    ring.len() <= LIST_CORNERS && area2(ring) == twice_area && are_at(ring, places)
-}
-
 /// Whether a ring and a shape are found under an id exactly where one of these parcels has it.
 fn is_found<H: Allocator>(layer: &Layer<'_, H>, want: &[Parcel], id: u64) -> bool {
     let is_parcel = want.iter().any(|parcel| parcel.0 == id);
     layer.ring(id).is_some() == is_parcel && layer.shape(id).is_some() == is_parcel
 }
 
+/// Whether this is the ring of a parcel, which is found by its id, too.
+fn is_parcel<H: Allocator>(layer: &Layer<'_, H>, id: u64, ring: &[Corner], want: &Parcel) -> bool {
+    match layer.ring(want.0) {
+        Some(found) => {
+            id == want.0
+                && is_ring(ring, want.2, want.1)
+                && is_ring(found.corners.as_slice(), want.2, want.1)
+        }
+        None => false,
+    }
+}
+
 /// Whether the parcels are these, by ascending id, each found by its id too, and no other.
 fn are<H: Allocator>(layer: &Layer<'_, H>, want: &[Parcel]) -> bool {
-    if layer.ids().count() != want.len() {
-        return false;
-    }
-    for ((id, shape), parcel) in layer.shapes().zip(want) {
-        let Some(ring) = layer.ring(parcel.0) else {
-            return false;
-        };
-        if id != parcel.0
-            || !is_ring(shape.ring.corners.as_slice(), parcel.2, parcel.1)
-            || !is_ring(ring.corners.as_slice(), parcel.2, parcel.1)
-        {
-            return false;
-        }
-    }
-    for id in 0..6 {
-        if !is_found(layer, want, id) {
-            return false;
-        }
-    }
-    true
+    layer.ids().count() == want.len()
+        && layer.shapes().zip(want).all(|((id, shape), parcel)| is_parcel(
+            layer,
+            id,
+            shape.ring.corners.as_slice(),
+            parcel,
+        ))
+        && (0..6).all(|id| is_found(layer, want, id))
 }
 
 /// Whether a fault is the one that is wanted.
@@ -221,20 +207,27 @@ fn is_fault(fault: LoadFault, want: &Answer) -> bool {
     }
 }
 
-/// Whether this is what a row's rings have to be answered.
-fn is_wanted<H: Allocator>(answer: Result<Layer<'_, H>, LoadFault>, row: &Row) -> bool {
-    match (answer, &row.2) {
-        (Ok(layer), Answer::Tiles(parcels, refined)) => {
-            are(&layer, parcels) && are_at(layer.city(), row.0) && are_at(layer.refined(), refined)
+/// Whether a layer is the one that is wanted.
+fn is_tiled<H: Allocator>(layer: &Layer<'_, H>, row: &Row) -> bool {
+    match &row.2 {
+        Answer::Tiles(parcels, refined) => {
+            are(layer, parcels) && are_at(layer.city(), row.0) && are_at(layer.refined(), refined)
         }
-        (Err(fault), want) => is_fault(fault, want),
-        _ => false,
+        Answer::Ring(..) | Answer::Gap(..) => false,
+    }
+}
+
+/// Whether this is what a row's rings have to be answered.
+fn is_wanted<H: Allocator>(answer: &Result<Layer<'_, H>, LoadFault>, row: &Row) -> bool {
+    match answer {
+        Ok(layer) => is_tiled(layer, row),
+        Err(fault) => is_fault(*fault, &row.2),
     }
 }
 
 /// Whether the rings of a row are answered as it says.
 fn is_answered<H: Allocator>(heap: &H, row: &Row) -> Result<bool, Fail> {
-    Ok(is_wanted(answer_layer(heap, row.0, row.1)?, row))
+    Ok(is_wanted(&answer_layer(heap, row.0, row.1)?, row))
 }
 
 /// Whether the rings of a row are answered as it says by so many threads.
@@ -246,15 +239,14 @@ fn is_answered_by<R: Threads + Sync, H: Allocator + Send + Sync>(
 ) -> Result<bool, Fail> {
     let city = city(heap, row.0)?;
     let rings = records(heap, row.1)?;
-    Ok(is_wanted(Layer::load_by(rt, workers, heap, &city, rings), row))
+    Ok(is_wanted(&Layer::load_by(rt, workers, heap, &city, rings), row))
 }
 
 #[test]
 fn loads_what_tiles_and_nothing_else(rt: HostRuntime) -> Result<(), Fail> {
     let heap = &rt.alloc();
     for (number, row) in ROWS.iter().enumerate() {
-        let is_so = is_answered(heap, row)?;
-        assert!(rt; is_so, "row {number}");
+        assert!(rt; is_answered(heap, row)?, "row {number}");
     }
     Ok(())
 }
@@ -264,8 +256,10 @@ fn loads_alike_by_threads(rt: HostRuntime) -> Result<(), Fail> {
     let heap = &rt.alloc();
     for workers in [0, 1, 3, 64] {
         for (number, row) in ROWS.iter().enumerate() {
-            let is_so = is_answered_by(&rt, workers, heap, row)?;
-            assert!(rt; is_so, "row {number} by {workers}");
+            assert!(rt;
+                is_answered_by(&rt, workers, heap, row)?,
+                "row {number} by {workers}"
+            );
         }
     }
     Ok(())

@@ -3,7 +3,7 @@
 ghost use Rattle.std.specs.Prelude.{◌≡◌, IfOk};
 
 use crate::layers::{answer_layer_of, city, layer_in};
-use crate::rings::Rings;
+use crate::rings::{RINGS, Rings, SQUARE};
 use fabric_core::{City, Fabric, Layer, Sheet};
 use geo_exact::Corners;
 use std::alloc::Allocator;
@@ -53,7 +53,12 @@ pub fn fabric<'a, H: Allocator>(
     fabric_in(heap, &city, rings)
 }
 
-/// A sheet of that fabric in a city.
+/// The fabric of the two parcels that most rows have.
+pub fn town<'a, H: Allocator>(heap: &'a H) -> Result<Fabric<'a, H>, Fail> {
+    fabric(heap, &SQUARE, &RINGS)
+}
+
+/// A sheet of the fabric of the layer of the rings at these places, in a city.
 pub fn sheet_in<'a, H: Allocator>(
     heap: &'a H,
     city: &City<'a, H>,
@@ -74,4 +79,19 @@ pub fn sheet<'a, H: Allocator>(
 ) -> Result<Sheet<'a, H>, Fail> {
     let city = city(heap, ground)?;
     sheet_in(heap, &city, rings)
+}
+
+/// A sheet of these parcels, and these zones, both in the city at these places.
+pub fn sheet_and_zones<'a, H: Allocator>(
+    heap: &'a H,
+    ground: &[Place],
+    parcels: Rings<'_>,
+    zones: Rings<'_>,
+) -> Result<(Sheet<'a, H>, Layer<'a, H>), Fail>
+    ensures { IfOk result (λ made. made.1.city ≡ made.0.city) }
+{
+    let city = city(heap, ground)?;
+    let sheet = sheet_in(heap, &city, parcels)?;
+    let zones = layer_in(heap, &city, zones)?;
+    Ok((sheet, zones))
 }

@@ -9,6 +9,6 @@ mod fabrics;
 mod layers;
 mod rings;
 
-pub use fabrics::{fabric, fabric_in, fabric_of, sheet, sheet_in};
+pub use fabrics::{fabric, fabric_in, fabric_of, sheet, sheet_and_zones, sheet_in, town};
 pub use layers::{answer_city, answer_layer, answer_layer_of, city, layer, layer_in};
 pub use rings::{EAST, RINGS, Records, Rings, SQUARE, WEST, read, records};
