@@ -1,14 +1,17 @@
 //! How much of each parcel lies in each zone: rows by hand.
 
+ghost use Rattle.std.specs.Prelude.{◌≡◌};
+
 use crate::pairs::all_pairs;
 use crate::zones::{LEFT, RIGHT};
 use area_shares::{area_lines_by, write_areas};
+use fabric_core::{Layer, Sheet};
 use geo_exact::{Counted, Failed};
 use std::alloc::Allocator;
 use std::test::Fail;
 use std::thread::Threads;
 use test_builders::Place;
-use test_cities::{EAST, SQUARE, WEST, city, layer_in, sheet_in};
+use test_cities::{EAST, SQUARE, WEST, sheet_and_zones};
 
 const BELOW: [Place; 3] = [(0, 0), (100, 0), (100, 100)];
 
@@ -70,6 +73,25 @@ static CASES: [Case; 5] = [
     },
 ];
 
+/// The text of the areas of a sheet's parcels in zones, where so many workers measure them.
+fn text_of<'h, R: Threads + Sync, H: Allocator + Send + Sync>(
+    rt: &R,
+    workers: usize,
+    heap: &'h H,
+    sheet: &Sheet<'h, H>,
+    zones: &Layer<'h, H>,
+) -> Result<Vec<u8, &'h H>, Fail>
+    requires { zones.now.city ≡ sheet.now.city }
+{
+    let pairs = all_pairs(heap, sheet, zones)?;
+    let lines = area_lines_by(rt, workers, heap, sheet, zones, &pairs)?;
+    let mut out = Counted::new(Vec::new(heap));
+    match write_areas(&lines, &mut out) {
+        Ok(()) => Ok(out.into_inner()),
+        Err(Failed) => Err(Fail::new("a write failed")),
+    }
+}
+
 /// Whether the areas of these parcels in these zones have this text, where so many workers measure them.
 fn is_told<R: Threads + Sync, H: Allocator + Send + Sync>(
     rt: &R,
@@ -77,16 +99,8 @@ fn is_told<R: Threads + Sync, H: Allocator + Send + Sync>(
     heap: &H,
     case: &Case,
 ) -> Result<bool, Fail> {
-    let city = city(heap, &SQUARE)?;
-    let sheet = sheet_in(heap, &city, &case.parcels)?;
-    let zones = layer_in(heap, &city, case.zones)?;
-    let pairs = all_pairs(heap, &sheet, &zones)?;
-    let lines = area_lines_by(rt, workers, heap, &sheet, &zones, &pairs)?;
-    let mut out = Counted::new(Vec::new(heap));
-    match write_areas(&lines, &mut out) {
-        Ok(()) => Ok(out.into_inner().as_slice() == case.text.as_bytes()),
-        Err(Failed) => Err(Fail::new("a write failed")),
-    }
+    let (sheet, zones) = sheet_and_zones(heap, &SQUARE, &case.parcels, case.zones)?;
+    Ok(text_of(rt, workers, heap, &sheet, &zones)?.as_slice() == case.text.as_bytes())
 }
 
 #[test]

@@ -2,7 +2,7 @@
 
 use crate::rounds::{BOTH, STRIPS, TWO};
 use crate::steps::{Sharing, begun};
-use crate::zones::HALVES;
+use crate::zones::{HALVES, both};
 use fabric_core::{Layer, Sheet};
 use overlay_work::{CloseFault, Gate, run_round};
 use std::alloc::Allocator;
@@ -11,7 +11,7 @@ use std::sync::atomic::{AtomicU64, Ordering};
 use std::test::Fail;
 use std::thread;
 use std::thread::Threads;
-use test_cities::{RINGS, Rings, SQUARE, layer, sheet};
+use test_cities::{RINGS, Rings, SQUARE, sheet_and_zones};
 
 /// So many turns a hand waits for another.
 const TURNS: u64 = 1_000_000;
@@ -112,8 +112,7 @@ fn is_run<H: Allocator + Send + Sync, G: Gate + Sync, R: Threads + Wait + Sync>(
     gate: &G,
     want: &[(u64, u64)],
 ) -> Result<bool, Fail> {
-    let sheet = sheet(heap, &SQUARE, rings.0)?;
-    let zones = layer(heap, &SQUARE, rings.1)?;
+    let (sheet, zones) = sheet_and_zones(heap, &SQUARE, rings.0, rings.1)?;
     is_worked_off(rt, heap, &sheet, &zones, sharing, gate, want)
 }
 
@@ -137,24 +136,42 @@ fn passes_before_each_step(rt: HostRuntime) -> Result<(), Fail> {
     Ok(())
 }
 
+/// Whether a round whose second hand is given up runs, and then O6 names both numbers.
+fn is_missed<'t, 'h, H: Allocator + Send + Sync, R: Threads + Wait + Sync>(
+    rt: &R,
+    heap: &'h H,
+    sheet: &'t Sheet<'h, H>,
+    zones: &'t Layer<'h, H>,
+) -> Result<bool, Fail> {
+    let (round, mut hands) = begun(heap, sheet, zones, (2, &TWO))?;
+    let is_second = match hands.pop() {
+        Some(last) => last.give_up().number() == 1,
+        None => false,
+    };
+    match run_round(rt, round, hands, &Open) {
+        Ok(_) => Err(Fail::new("a table without a hand")),
+        Err(back) => Ok(
+            is_second
+                && back.fault == CloseFault::HandsMissing(2, 1)
+                && back.threads.as_slice() == [true].as_slice(),
+        ),
+    }
+}
+
+/// The same over both parcels and both zones.
+fn is_missed_over_both<H: Allocator + Send + Sync, R: Threads + Wait + Sync>(
+    rt: &R,
+    heap: &H,
+) -> Result<bool, Fail> {
+    let (sheet, zones) = both(heap)?;
+    is_missed(rt, heap, &sheet, &zones)
+}
+
 /// With a hand missing, the other works in a thread of its own until it is done, and O6 names both numbers.
 #[test]
 fn one_of_two_hands_runs(rt: HostRuntime) -> Result<(), Fail> {
-    let heap = rt.alloc();
-    let sheet = sheet(&heap, &SQUARE, &RINGS)?;
-    let zones = layer(&heap, &SQUARE, &HALVES)?;
-    let (round, mut hands) = begun(&heap, &sheet, &zones, (2, &TWO))?;
-    if let Some(last) = hands.pop() {
-        assert!(rt; last.give_up().number() == 1);
-    }
-    match run_round(&rt, round, hands, &Open) {
-        Ok(_) => Err(Fail::new("a table without a hand")),
-        Err(back) => {
-            assert!(rt; back.fault == CloseFault::HandsMissing(2, 1));
-            assert!(rt; back.threads.as_slice() == [true].as_slice());
-            Ok(())
-        }
-    }
+    assert!(rt; is_missed_over_both(&rt, &rt.alloc())?);
+    Ok(())
 }
 
 #[test]

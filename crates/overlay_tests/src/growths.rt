@@ -5,7 +5,7 @@ use crate::gates::Open;
 use crate::refusals::closes_later;
 use crate::rounds::{BOTH, FIRST_ALONE, TWO};
 use crate::steps::{begun, do_all, is_closed, lists, step, tests_of};
-use crate::zones::HALVES;
+use crate::zones::both;
 use fabric_core::{Layer, Sheet};
 use overlay_work::{CloseFault, Round, RoundBack, RoundFault, Step, Table, run_round};
 use refusing_alloc::Refusing;
@@ -13,7 +13,6 @@ use std::sync::Wait;
 use std::test::Fail;
 use std::thread::Threads;
 use test_builders::{Refuses, was_refused};
-use test_cities::{RINGS, SQUARE, layer, sheet};
 
 /// No call here has so many growths.
 const MOST: u64 = 100;
@@ -45,8 +44,7 @@ fn is_begun<'t, 'h, H: Refuses>(
     }
 }
 
-/// Begins a round of both parcels with growth `number` refused, and where it was, once more with memory; whether it
-/// was.
+/// Begins a round of both parcels with growth `number` refused, and where it was, once more with memory; whether it was.
 fn is_begin_refused<'t, 'h, H: Refuses>(
     heap: &'h H,
     sheet: &'t Sheet<'h, H>,
@@ -199,8 +197,7 @@ fn first_unrefused_of_both<H: Refuses + Send + Sync, R: Threads + Wait + Sync>(
     heap: &H,
     call: Call,
 ) -> Result<u64, Fail> {
-    let sheet = sheet(heap, &SQUARE, &RINGS)?;
-    let zones = layer(heap, &SQUARE, &HALVES)?;
+    let (sheet, zones) = both(heap)?;
     first_unrefused(rt, heap, &sheet, &zones, call)
 }
 

@@ -4,7 +4,7 @@ ghost use Rattle.overlay_work.specs.Rounds.{AreHandsOf};
 
 use crate::rounds::{BOTH, TWO};
 use crate::steps::{Sharing, begin, begun, do_all, is_closed};
-use crate::zones::HALVES;
+use crate::zones::{HALVES, both};
 use fabric_core::{Layer, Sheet};
 use overlay_work::{CloseFault, RoundBack, RoundFault, Step};
 use std::alloc::Allocator;
@@ -95,8 +95,7 @@ fn closes_when_done<'t, 'h, H: Allocator>(
 
 /// Whether a round of the two parcels is closed when a hand has found all ends, and not before.
 fn is_closed_when_done<H: Allocator>(heap: &H) -> Result<bool, Fail> {
-    let sheet = sheet(heap, &SQUARE, &RINGS)?;
-    let zones = layer(heap, &SQUARE, &HALVES)?;
+    let (sheet, zones) = both(heap)?;
     closes_when_done(heap, &sheet, &zones)
 }
 
@@ -124,14 +123,12 @@ fn fault_of_one_hand<'t, 'h, H: Allocator>(
 
 /// Why a round of the two parcels is not closed then.
 fn fault_of_two<H: Allocator>(heap: &H) -> Result<Option<CloseFault>, Fail> {
-    let sheet = sheet(heap, &SQUARE, &RINGS)?;
-    let zones = layer(heap, &SQUARE, &HALVES)?;
+    let (sheet, zones) = both(heap)?;
     fault_of_one_hand(heap, &sheet, &zones)
 }
 
 #[test]
 fn misses_a_hand(rt: HostRuntime) -> Result<(), Fail> {
-    let fault = fault_of_two(&rt.alloc())?;
-    assert!(rt; fault == Some(CloseFault::HandsMissing(2, 1)));
+    assert!(rt; fault_of_two(&rt.alloc())? == Some(CloseFault::HandsMissing(2, 1)));
     Ok(())
 }

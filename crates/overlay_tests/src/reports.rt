@@ -2,9 +2,9 @@
 
 ghost use Rattle.std.specs.Prelude.{◌≡◌, IfOk};
 
-use crate::pairs::all_pairs;
-use crate::zones::HALVES;
-use fabric_core::{City, Fabric, Sheet};
+use crate::pairs::table_of;
+use crate::zones::{HALVES, both};
+use fabric_core::{City, Fabric, Layer, Sheet};
 use geo_exact::{ByteOut, Counted, FailAt, Failed};
 use ring_edits::Edit;
 use std::alloc::{AllocError, Allocator, Global};
@@ -12,7 +12,7 @@ use std::io;
 use std::io::Write;
 use std::test::Fail;
 use test_builders::{Place, corner, corners};
-use test_cities::{EAST, SQUARE, WEST, city, fabric_in, layer_in, sheet_in};
+use test_cities::{RINGS, SQUARE, city, fabric_in, layer_in, sheet_and_zones};
 use zone_tables::{Table, write_report};
 
 /// The report of a table.
@@ -27,16 +27,35 @@ pub fn report_of<H: Allocator, A: Allocator, B: Allocator>(
     }
 }
 
+/// The report of the table of a sheet and zones of its city.
+fn report_of_both<'h, H: Allocator>(
+    heap: &'h H,
+    sheet: &Sheet<'h, H>,
+    zones: &Layer<'h, H>,
+) -> Result<Vec<u8, &'h H>, Fail>
+    requires { zones.now.city ≡ sheet.now.city }
+{
+    let table = table_of(heap, sheet, zones)?;
+    report_of(heap, &table)
+}
+
 /// The western parcel is cut in two at x = 30, and both parts are merged again.
+fn cut_and_merge<'a, H: Allocator>(heap: &'a H, fabric: &mut Fabric<'a, H>) -> Result<(), Fail>
+    ensures { fabric.new.city ≡ fabric.old.city }
+{
+    edit(fabric, &insert((0, 0), (60, 0), (30, 0))?)?;
+    edit(fabric, &insert((0, 100), (60, 100), (30, 100))?)?;
+    let path = corners(heap, &[(30, 0), (30, 100)])?;
+    edit(fabric, &Edit::Split { id: 1, path })?;
+    edit(fabric, &Edit::Merge { a: 3, b: 4 })
+}
+
+/// A sheet of the two parcels after that.
 fn edited<'a, H: Allocator>(heap: &'a H, city: &City<'a, H>) -> Result<Sheet<'a, H>, Fail>
     ensures { IfOk result (λ sheet. sheet.city ≡ city.now.ring.corners) }
 {
-    let mut fabric = fabric_in(heap, city, &[&WEST, &EAST])?;
-    edit(&mut fabric, &insert((0, 0), (60, 0), (30, 0))?)?;
-    edit(&mut fabric, &insert((0, 100), (60, 100), (30, 100))?)?;
-    let path = corners(heap, &[(30, 0), (30, 100)])?;
-    edit(&mut fabric, &Edit::Split { id: 1, path })?;
-    edit(&mut fabric, &Edit::Merge { a: 3, b: 4 })?;
+    let mut fabric = fabric_in(heap, city, &RINGS)?;
+    cut_and_merge(heap, &mut fabric)?;
     let sheet = fabric.sheet()?;
     Ok(sheet)
 }
@@ -65,52 +84,65 @@ fn edited_report<H: Allocator>(heap: &H) -> Result<Vec<u8, &H>, Fail> {
     let city = city(heap, &SQUARE)?;
     let sheet = edited(heap, &city)?;
     let zones = layer_in(heap, &city, &HALVES)?;
-    let table = Table::gather(&sheet, &zones, all_pairs(heap, &sheet, &zones)?);
-    report_of(heap, &table)
+    report_of_both(heap, &sheet, &zones)
 }
 
 #[test]
 fn tells_how_many_entries_there_were(rt: HostRuntime) -> Result<(), Fail> {
     let want = "entries 4\npair 2 2\npair 5 1\npair 5 2\nsplit 5\nwithin 2 2\n";
-    assert_eq!(rt; edited_report(&rt.alloc())?.as_slice(), want.as_bytes());
+    assert!(rt; edited_report(&rt.alloc())?.as_slice() == want.as_bytes());
     Ok(())
 }
 
 /// So many strips that each tile the square.
 const STRIPS: u64 = 25;
 
+/// The strip of this number, side by side with the others or above the one before it.
+fn strip(number: u8, is_upright: bool) -> [Place; 4] {
+    let low = i64::from(number) * 4;
+    let high = low + 4;
+    if is_upright {
+        [(low, 0), (high, 0), (high, 100), (low, 100)]
+    } else {
+        [(0, low), (100, low), (100, high), (0, high)]
+    }
+}
+
 /// The strips of the square, side by side or one above the other.
-fn strips(alloc: Global, is_upright: bool) -> Result<Vec<[Place; 4]>, Fail> {
+fn strips<A: Allocator>(alloc: A, is_upright: bool) -> Result<Vec<[Place; 4], A>, AllocError> {
     let mut strips = Vec::new(alloc);
-    for number in 0..25u8 {
-        let (low, high) = (i64::from(number * 4), i64::from(number * 4 + 4));
-        strips.push(if is_upright {
-            [(low, 0), (high, 0), (high, 100), (low, 100)]
-        } else {
-            [(0, low), (100, low), (100, high), (0, high)]
-        })?;
+    for number in 0..25 {
+        strips.push(strip(number, is_upright))?;
     }
     Ok(strips)
 }
 
 /// The strips as slices.
-fn slices<'a>(alloc: Global, strips: &'a [[Place; 4]]) -> Result<Vec<&'a [Place]>, Fail> {
-    let mut slices: Vec<&[Place]> = Vec::new(alloc);
+fn slices<'a, A: Allocator>(
+    alloc: A,
+    strips: &'a [[Place; 4]],
+) -> Result<Vec<&'a [Place], A>, AllocError> {
+    let mut slices: Vec<&[Place], A> = Vec::new(alloc);
     for strip in strips {
         slices.push(strip.as_slice())?;
     }
     Ok(slices)
 }
 
-/// The report of upright parcels and level zones.
-fn crossed_report(alloc: Global) -> Result<Vec<u8>, Fail> {
-    let (upright, level) = (strips(alloc, true)?, strips(alloc, false)?);
-    let heap = &alloc;
-    let city = city(heap, &SQUARE)?;
-    let sheet = sheet_in(heap, &city, &slices(alloc, &upright)?)?;
-    let zones = layer_in(heap, &city, &slices(alloc, &level)?)?;
-    let table = Table::gather(&sheet, &zones, all_pairs(alloc, &sheet, &zones)?);
-    report_of(alloc, &table)
+/// The report of upright parcels and level zones, of which these are the strips.
+fn report_of_strips<'h, H: Allocator>(
+    heap: &'h H,
+    upright: &[[Place; 4]],
+    level: &[[Place; 4]],
+) -> Result<Vec<u8, &'h H>, Fail> {
+    let (parcels, zones) = (slices(heap, upright)?, slices(heap, level)?);
+    let (sheet, zones) = sheet_and_zones(heap, &SQUARE, &parcels, &zones)?;
+    report_of_both(heap, &sheet, &zones)
+}
+
+/// The report of all of them.
+fn crossed_report<H: Allocator>(heap: &H) -> Result<Vec<u8, &H>, Fail> {
+    report_of_strips(heap, &strips(heap, true)?, &strips(heap, false)?)
 }
 
 /// The lines of the pairs of a strip with all strips across.
@@ -137,7 +169,7 @@ fn crossed_text(alloc: Global) -> Result<String, AllocError> {
 fn tells_a_table_of_many_pairs(rt: HostRuntime) -> Result<(), Fail> {
     let want = crossed_text(rt.alloc())?;
     assert!(rt; want.len() > 4096);
-    assert_eq!(rt; crossed_report(rt.alloc())?.as_slice(), want.as_bytes());
+    assert!(rt; crossed_report(&rt.alloc())?.as_slice() == want.as_bytes());
     Ok(())
 }
 
@@ -164,6 +196,9 @@ impl Write for ByteByByte {
 /// The report of the two parcels and the halves.
 const TEXT: &str = "entries 0\npair 1 1\npair 1 2\npair 2 2\nsplit 1\nwithin 2 2\n";
 
+/// As many calls as it has bytes, and one more.
+const CALLS: u64 = 57;
+
 /// Whether a report that is written byte by byte, into a writer that fails at this call, ends with
 /// a failure where it has to, and has written what comes before.
 fn is_begun<H: Allocator, A: Allocator>(
@@ -184,15 +219,29 @@ fn is_begun<H: Allocator, A: Allocator>(
     )
 }
 
+/// How many calls there are, from the first on, at which a failure is told as it has to be.
+fn count_begun<H: Allocator, A: Allocator>(
+    alloc: Global,
+    table: &Table<'_, '_, H, A>,
+) -> Result<u64, Fail> {
+    for call in 1..=CALLS {
+        if !is_begun(alloc, table, call)? {
+            return Ok(call - 1);
+        }
+    }
+    Ok(CALLS)
+}
+
+/// The same of the table of the two parcels and the halves.
+fn count_begun_of_both(alloc: Global) -> Result<u64, Fail> {
+    let heap = &alloc;
+    let (sheet, zones) = both(heap)?;
+    count_begun(alloc, &table_of(heap, &sheet, &zones)?)
+}
+
 #[test]
 fn tells_each_failed_write(rt: HostRuntime) -> Result<(), Fail> {
-    let heap = &rt.alloc();
-    let city = city(heap, &SQUARE)?;
-    let sheet = sheet_in(heap, &city, &[&WEST, &EAST])?;
-    let zones = layer_in(heap, &city, &HALVES)?;
-    let table = Table::gather(&sheet, &zones, all_pairs(heap, &sheet, &zones)?);
-    for call in 1..=57u64 {
-        assert!(rt; is_begun(rt.alloc(), &table, call)?, "at call {call}");
-    }
+    let count = count_begun_of_both(rt.alloc())?;
+    assert!(rt; count == CALLS, "behind call {count}");
     Ok(())
 }

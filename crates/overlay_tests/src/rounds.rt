@@ -7,7 +7,7 @@ use overlay_work::Step;
 use std::alloc::Allocator;
 use std::test::Fail;
 use test_builders::Place;
-use test_cities::{RINGS, Rings, SQUARE, layer, sheet};
+use test_cities::{RINGS, Rings, SQUARE, sheet_and_zones};
 
 /// The greatest coordinate.
 const M: i64 = 100_000_000_000;
@@ -207,8 +207,7 @@ fn is_done<'t, 'h, H: Allocator>(
 
 /// Whether the round of a row does what the row tells.
 fn is_told<H: Allocator>(heap: &H, row: &Row) -> Result<bool, Fail> {
-    let sheet = sheet(heap, row.ground, row.parcels)?;
-    let zones = layer(heap, row.ground, row.zones)?;
+    let (sheet, zones) = sheet_and_zones(heap, row.ground, row.parcels, row.zones)?;
     is_done(heap, &sheet, &zones, row)
 }
 

@@ -1,13 +1,16 @@
 //! Tables of parcels and zones, and what they tell of each parcel.
 
-use crate::pairs::all_pairs;
+ghost use Rattle.std.specs.Prelude.{◌≡◌};
+
+use crate::pairs::table_of;
 use crate::reports::report_of;
-use crate::zones::{HALVES, LEFT, RIGHT};
+use crate::zones::{LEFT, RIGHT, both};
+use fabric_core::{Layer, Sheet};
 use refusing_alloc::Refusing;
 use std::alloc::Allocator;
 use std::test::Fail;
 use test_builders::{Place, Refuses, was_refused};
-use test_cities::{EAST, RINGS, SQUARE, WEST, city, layer_in, sheet_in};
+use test_cities::{EAST, SQUARE, WEST, sheet_and_zones};
 use zone_tables::Table;
 
 const BELOW: [Place; 3] = [(0, 0), (100, 0), (100, 100)];
@@ -84,15 +87,23 @@ fn tells<H: Allocator, A: Allocator + Copy>(
     )
 }
 
-/// Whether the table of these parcels and zones tells this, and so does its report.
+/// Whether the table of a sheet and zones tells this, and so does its report.
+fn is_told_of<'h, H: Allocator>(
+    heap: &'h H,
+    sheet: &Sheet<'h, H>,
+    zones: &Layer<'h, H>,
+    case: &Case,
+) -> Result<bool, Fail>
+    requires { zones.now.city ≡ sheet.now.city }
+{
+    let table = table_of(heap, sheet, zones)?;
+    Ok(tells(&table, case)? && report_of(heap, &table)?.as_slice() == case.report.as_bytes())
+}
+
+/// The same of the parcels and zones of a case.
 fn is_told<H: Allocator>(heap: &H, case: &Case) -> Result<bool, Fail> {
-    let city = city(heap, &SQUARE)?;
-    let sheet = sheet_in(heap, &city, &case.parcels)?;
-    let zones = layer_in(heap, &city, &case.zones)?;
-    let pairs = all_pairs(heap, &sheet, &zones)?;
-    let table = Table::gather(&sheet, &zones, pairs);
-    let text = report_of(heap, &table)?;
-    Ok(tells(&table, case)? && text.as_slice() == case.report.as_bytes())
+    let (sheet, zones) = sheet_and_zones(heap, &SQUARE, &case.parcels, &case.zones)?;
+    is_told_of(heap, &sheet, &zones, case)
 }
 
 #[test]
@@ -138,11 +149,8 @@ fn first_unrefused<'h, H: Refuses>(
 
 /// The same, of the table of a parcel in two zones.
 fn first_unrefused_of_two<H: Refuses>(heap: &H) -> Result<u64, Fail> {
-    let city = city(heap, &SQUARE)?;
-    let sheet = sheet_in(heap, &city, &RINGS)?;
-    let zones = layer_in(heap, &city, &HALVES)?;
-    let table = Table::gather(&sheet, &zones, all_pairs(heap, &sheet, &zones)?);
-    first_unrefused(heap, &table)
+    let (sheet, zones) = both(heap)?;
+    first_unrefused(heap, &table_of(heap, &sheet, &zones)?)
 }
 
 #[test]
