@@ -13,7 +13,7 @@ use std::test::Fail;
 use test_builders::{Place, Refuses, corner, was_refused};
 use test_cities::{RINGS, SQUARE, layer, town};
 
-/// Opens a fabric with growth `number` refused, and where the layer then comes back, opens that; whether it was refused.
+/// Opens a fabric with growth `number` refused, and where the layer comes back, opens that; whether it was refused.
 fn is_opening_refused<'a, H: Refuses>(
     heap: &'a H,
     want: &Fabric<'a, H>,

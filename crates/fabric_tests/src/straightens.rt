@@ -266,7 +266,7 @@ fn is_edited<'a, H: Allocator>(fabric: &mut Fabric<'a, H>, edit: &Edit<&'a H>) -
     fabric.edit(CLERK, edit).is_ok()
 }
 
-/// Puts a corner into an edge, which changes the fabric, and takes it out, after which it has to show what it did before.
+/// Puts a corner into an edge, which changes the fabric, and takes it out, after which it shows what it did before.
 fn put_and_take_out<'a, H: Allocator>(
     fabric: &mut Fabric<'a, H>,
     before: &Fabric<'a, H>,

@@ -108,8 +108,8 @@ fn is_of_halves<H: Allocator>(fine: &Fabric<'_, H>) -> Result<bool, Fail> {
     )
 }
 
-/// Whether a fine fabric is that of the halves, a fabric of the two parcels that was moved before becomes like it when it
-/// follows its journal, and edits go on in it.
+/// Whether a fine fabric is that of the halves, a fabric of the two parcels that was moved before becomes like it by
+/// following its journal, and edits go on in it.
 fn is_moved<'a, H: Allocator>(
     heap: &'a H,
     opened: &mut Fabric<'a, H>,

@@ -114,24 +114,34 @@ fn northward(column: u32, row: u32, step: u32) -> Place {
     (x.wrapping_add(off_line(NORTHWARD, column, row, step)), y)
 }
 
-/// The parcel whose low corner is this crossing: 20 corners, five along each side, counterclockwise.
+/// The corner so many parts along a side of the parcel whose low corner is this crossing. Its sides are counted
+/// counterclockwise from there.
+fn on_side(column: u32, row: u32, side: u32, step: u32) -> Place {
+    let back = PARTS.wrapping_sub(step);
+    match side {
+        0 => eastward(column, row, step),
+        1 => northward(column.wrapping_add(1), row, step),
+        2 => eastward(column, row.wrapping_add(1), back),
+        _ => northward(column, row, back),
+    }
+}
+
+/// That parcel: 20 corners, five along each side.
 fn parcel<A: Allocator>(alloc: A, column: u32, row: u32) -> Result<Corners<A>, Fail> {
-    let east = column.wrapping_add(1);
-    let north = row.wrapping_add(1);
     let mut ring = Corners::new(alloc);
-    for step in 0..PARTS {
-        ring.push(corner(eastward(column, row, step))?)?;
-    }
-    for step in 0..PARTS {
-        ring.push(corner(northward(east, row, step))?)?;
-    }
-    for step in 0..PARTS {
-        ring.push(corner(eastward(column, north, PARTS.wrapping_sub(step)))?)?;
-    }
-    for step in 0..PARTS {
-        ring.push(corner(northward(column, row, PARTS.wrapping_sub(step)))?)?;
+    for place in 0..4 * PARTS {
+        ring.push(corner(on_side(column, row, place / PARTS, place % PARTS))?)?;
     }
     Ok(ring)
+}
+
+/// The parcels of that city, row by row.
+fn parcels<H: Allocator>(heap: &H) -> Result<Vec<Corners<&H>, &H>, Fail> {
+    let mut rings = Vec::new(heap);
+    for place in 0..COLUMNS * ROWS {
+        rings.push(parcel(heap, place % COLUMNS, place / COLUMNS)?)?;
+    }
+    Ok(rings)
 }
 
 /// The fabric of that city.
@@ -140,12 +150,7 @@ fn parcel<A: Allocator>(alloc: A, column: u32, row: u32) -> Result<Corners<A>, F
 /// runs east or west from a crossing stays where |dy| < |dx| from there, and one that runs north or
 /// south where |dx| < |dy|; and edges with no crossing in common lie too far apart to meet.
 pub fn large_city<'a, H: Allocator>(heap: &'a H) -> Result<Fabric<'a, H>, Fail> {
-    let mut rings = Vec::new(heap);
-    for row in 0..ROWS {
-        for column in 0..COLUMNS {
-            rings.push(parcel(heap, column, row)?)?;
-        }
-    }
+    let rings = parcels(heap)?;
     fabric_of(heap, &CITY, &rings)
 }
 

@@ -45,7 +45,6 @@ fn edit_for<A: Allocator>(task: Task, clerk: u32, number: i64) -> Option<Edit<A>
 }
 
 /// A clerk, and what became of his edits: the number of the last one that was accepted, and why one was refused.
-#[derive(Drop)]
 struct Clerk<'a, H: Allocator, J: Naming<H>, W: Wait + Drop> {
     rt: W,
     heap: &'a H,
@@ -55,10 +54,32 @@ struct Clerk<'a, H: Allocator, J: Naming<H>, W: Wait + Drop> {
     refusal: Option<Refusal>,
 }
 
+// Written out, so that who lets go of it does it by one call, which is proved once.
+impl<'a, H: Allocator, J: Naming<H>, W: Wait + Drop> Drop for Clerk<'a, H, J, W> {
+    fn drop(self) {
+        let Clerk {
+            rt: _,
+            heap: _,
+            card: _,
+            task: _,
+            last: _,
+            refusal: _,
+        } = self;
+    }
+}
+
 impl<'a, H: Allocator, J: Naming<H>, W: Wait + Drop> Clerk<'a, H, J, W> {
     /// The card.
     fn into_card(self) -> Card<'a, H, J> {
-        self.card
+        let Clerk {
+            rt: _,
+            heap: _,
+            card,
+            task: _,
+            last: _,
+            refusal: _,
+        } = self;
+        card
     }
 
     /// Submits the edit of this number.

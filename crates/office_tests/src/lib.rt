@@ -21,8 +21,6 @@ mod growths;
 #[cfg(test)]
 mod halves;
 #[cfg(test)]
-mod opened;
-#[cfg(test)]
 mod plays;
 #[cfg(test)]
 mod readers;

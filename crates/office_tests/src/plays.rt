@@ -6,9 +6,8 @@ ghost use Rattle.desk_lock.specs.Offices.{origin_of};
 use crate::answers::{Cards, Windows};
 use crate::asked::{ask_parcels, parcel_with_memory};
 use crate::clerks::{Task, work_all};
-use crate::growths::{cut_with_memory, locate_with_memory, sheet_with_memory, was_refused};
+use crate::growths::{cut_with_memory, locate_with_memory, sheet_with_memory};
 use crate::halves::{ask_late, learn_halves, learn_unasked};
-use crate::opened::Refuses;
 use crate::readers::read_meanwhile;
 use crate::straightens::learn_straight;
 use desk_lock::{Card, CloseFault, Name, Naming, Office, OpenFault, Window};
@@ -17,12 +16,13 @@ use std::marker::Brand;
 use std::sync::Wait;
 use std::test::Fail;
 use std::thread::Threads;
+use test_builders::{Refuses, was_refused};
 
 /// The number of no growth.
 pub const NONE: u64 = u64::MAX;
 
 /// What is done at an office while it is open.
-#[derive(Clone, Copy, PartialEq, Eq)]
+#[derive(Clone, Copy)]
 pub enum Play {
     /// Nothing.
     Nothing,
@@ -54,7 +54,7 @@ pub enum Play {
 }
 
 /// What came of it.
-#[derive(Clone, Copy, Debug, PartialEq, Eq)]
+#[derive(Clone, Copy, PartialEq, Eq)]
 pub enum Told {
     /// The office was not opened, for this reason.
     Unopened(OpenFault),
@@ -111,7 +111,7 @@ fn opened_as<
             let told = played(rt, heap, &office, &mut cards, &mut windows, play)?;
             let told = if is_refused { Told::Refused } else { told };
             let fabric = closed(&rt, heap, office, clerks, cards)?;
-            if play == Play::Late {
+            if matches!(play, Play::Late) {
                 return Ok((fabric, ask_late(windows)?));
             }
             Ok((fabric, told))

@@ -48,7 +48,6 @@ struct Answer<'a, H: Allocator> {
 }
 
 /// Who works in a thread of his own: a clerk with a card, or a reader at a window.
-#[derive(Drop)]
 struct Worker<'a, H: Allocator, J: Naming<H>, W: Wait + Drop> {
     rt: W,
     heap: &'a H,
@@ -58,6 +57,21 @@ struct Worker<'a, H: Allocator, J: Naming<H>, W: Wait + Drop> {
     // How many entries there are at last.
     entries: u64,
     answers: Vec<Answer<'a, H>, &'a H>,
+}
+
+// Written out, so that who lets go of it does it by one call, which is proved once.
+impl<'a, H: Allocator, J: Naming<H>, W: Wait + Drop> Drop for Worker<'a, H, J, W> {
+    fn drop(self) {
+        let Worker {
+            rt: _,
+            heap: _,
+            card: _,
+            window: _,
+            words: _,
+            entries: _,
+            answers: _,
+        } = self;
+    }
 }
 
 /// Draws edits from a sheet and submits them, as long as there are too few; whether that can go on.
@@ -150,7 +164,16 @@ impl<'a, H: Allocator, J: Naming<H>, W: Wait + Drop> Worker<'a, H, J, W> {
 
     /// The card.
     fn into_card(self) -> Option<Card<'a, H, J>> {
-        self.card
+        let Worker {
+            rt: _,
+            heap: _,
+            card,
+            window: _,
+            words: _,
+            entries: _,
+            answers: _,
+        } = self;
+        card
     }
 }
 

@@ -44,7 +44,7 @@ fn is_begun<'t, 'h, H: Refuses>(
     }
 }
 
-/// Begins a round of both parcels with growth `number` refused, and where it was, once more with memory; whether it was.
+/// Begins a round of both parcels with growth `number` refused, and where it was, with memory; whether it was.
 fn is_begin_refused<'t, 'h, H: Refuses>(
     heap: &'h H,
     sheet: &'t Sheet<'h, H>,
