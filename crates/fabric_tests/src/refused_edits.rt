@@ -250,21 +250,13 @@ static BEHIND_THREE: [Change; 9] = [
 ];
 
 /// Steps that are made in turn, what is done behind each, and their name.
-type Run = (&'static str, &'static [Step], &'static [Change]);
-
-static RUNS_OF_TWO: [Run; 3] = [
-    ("into halves", &INTO_HALVES, &BEHIND_HALVES),
-    ("back to one", &BACK_TO_ONE, &BEHIND_ONE),
-    ("both corners out", &BOTH_CORNERS_OUT, &BEHIND_STRAIGHT),
-];
-
-static RUNS_OF_THREE: [Run; 1] = [("of three", &OF_THREE, &BEHIND_THREE)];
+type Run<'a> = (&'static str, &'a [Step], &'a [Change]);
 
 /// Makes runs in turn, each growth of each edit being refused before: an accepted edit has more than three.
 fn take_runs<'a, H: Refuses>(
     heap: &'a H,
     fabric: &mut Fabric<'a, H>,
-    runs: &[Run],
+    runs: &[Run<'_>],
 ) -> Result<(), Fail> {
     for (name, steps, probes) in runs {
         if take_refused(heap, fabric, *steps, *probes)? <= 3 {
@@ -275,19 +267,25 @@ fn take_runs<'a, H: Refuses>(
 }
 
 /// The same in a fabric of these parcels.
-fn take_runs_of<H: Refuses>(heap: &H, rings: Rings<'_>, runs: &[Run]) -> Result<(), Fail> {
+fn take_runs_of<H: Refuses>(heap: &H, rings: Rings<'_>, runs: &[Run<'_>]) -> Result<(), Fail> {
     let mut fabric = fabric(heap, &SQUARE, rings)?;
     take_runs(heap, &mut fabric, runs)
 }
 
 #[test]
 fn cuts_and_merges(rt: HostRuntime) -> Result<(), Fail> {
-    take_runs_of(&Refusing::new(rt.alloc(), 0), &RINGS, &RUNS_OF_TWO)
+    let runs: [Run<'_>; 3] = [
+        ("into halves", &INTO_HALVES, &BEHIND_HALVES),
+        ("back to one", &BACK_TO_ONE, &BEHIND_ONE),
+        ("both corners out", &BOTH_CORNERS_OUT, &BEHIND_STRAIGHT),
+    ];
+    take_runs_of(&Refusing::new(rt.alloc(), 0), &RINGS, &runs)
 }
 
 #[test]
 fn takes_out_of_three(rt: HostRuntime) -> Result<(), Fail> {
-    take_runs_of(&Refusing::new(rt.alloc(), 0), &THREE_RINGS, &RUNS_OF_THREE)
+    let runs: [Run<'_>; 1] = [("of three", &OF_THREE, &BEHIND_THREE)];
+    take_runs_of(&Refusing::new(rt.alloc(), 0), &THREE_RINGS, &runs)
 }
 
 /// What is done behind an edit of the two parcels.
