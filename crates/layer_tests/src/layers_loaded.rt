@@ -1,7 +1,8 @@
 //! Layers that are loaded from files without a run: of parcels, and of parcels and zones, and why they are not.
 
 use city_layers::{
-    Layers, load_layers, load_layers_by, load_tiles, load_tiles_or_lines, load_tiles_or_lines_by,
+    Layers, ToolFault, load_layers, load_layers_by, load_tiles, load_tiles_or_lines,
+    load_tiles_or_lines_by,
 };
 use geo_exact::Unit;
 use std::alloc::{AllocError, Global};
@@ -60,11 +61,11 @@ fn tells_all_faults_before_the_first(rt: HostRuntime) -> Result<(), Fail> {
 }
 
 /// How many parcels and zones there are; the fault where one of the two does not tile the city.
-fn told_of_both(alloc: Global, zones: &[&[Place]]) -> Result<String, AllocError> {
-    let city = alone(layer(alloc, &[&CITY])?);
-    let parcels = alone(layer(alloc, &[&WEST, &EAST])?);
-    let zones = alone(layer(alloc, zones)?);
-    match load_layers(&alloc, &city, &parcels, &zones, Unit::Mm) {
+fn counted(
+    alloc: Global,
+    loaded: Result<Layers<'_, Global>, ToolFault<'static>>,
+) -> Result<String, AllocError> {
+    match loaded {
         Ok(Layers { parcels, zones }) => {
             format!(in alloc;
                 "{} parcels, {} zones",
@@ -74,6 +75,15 @@ fn told_of_both(alloc: Global, zones: &[&[Place]]) -> Result<String, AllocError>
         }
         Err(fault) => format!(in alloc; "{fault}"),
     }
+}
+
+/// The same of these zones, and of two parcels.
+fn told_of_both(alloc: Global, zones: &[&[Place]]) -> Result<String, AllocError> {
+    let city = alone(layer(alloc, &[&CITY])?);
+    let parcels = alone(layer(alloc, &[&WEST, &EAST])?);
+    let zones = alone(layer(alloc, zones)?);
+    let loaded = load_layers(&alloc, &city, &parcels, &zones, Unit::Mm);
+    counted(alloc, loaded)
 }
 
 #[test]
@@ -101,27 +111,17 @@ const WORKERS: [usize; 4] = [0, 1, 3, 64];
 fn threads_load_what_one_loads(rt: HostRuntime) -> Result<(), Fail> {
     let alloc = rt.alloc();
     let city = alone(layer(alloc, &[&CITY])?);
-    let parcels = alone(layer(alloc, &[&WEST, &EAST])?);
-    for rings in LAYERS {
-        let rings = alone(layer(alloc, rings)?);
-        let one = match load_layers(&alloc, &city, &rings, &parcels, Unit::Mm) {
-            Ok(layers) => format!(in alloc; "{}", layers.parcels.ids().len())?,
-            Err(fault) => format!(in alloc; "{fault}")?,
-        };
-        for workers in WORKERS {
-            let some = match load_layers_by(
-                &rt,
-                workers,
-                &alloc,
-                &city,
-                &rings,
-                &parcels,
-                Unit::Mm,
-            ) {
-                Ok(layers) => format!(in alloc; "{}", layers.parcels.ids().len())?,
-                Err(fault) => format!(in alloc; "{fault}")?,
-            };
-            assert_eq!(rt; some.as_str(), one.as_str());
+    for parcels in LAYERS {
+        let parcels = alone(layer(alloc, parcels)?);
+        // Where both are refused, the parcels' fault is told.
+        for zones in LAYERS {
+            let zones = alone(layer(alloc, zones)?);
+            let one = load_layers(&alloc, &city, &parcels, &zones, Unit::Mm);
+            let one = counted(alloc, one)?;
+            for workers in WORKERS {
+                let some = load_layers_by(&rt, workers, &alloc, &city, &parcels, &zones, Unit::Mm);
+                assert_eq!(rt; counted(alloc, some)?.as_str(), one.as_str());
+            }
         }
     }
     Ok(())
