@@ -1,6 +1,6 @@
 //! Two layers of one city, which are read beside one another.
 
-ghost use Rattle.std.specs.Prelude.{◌≡◌, ◌<◌, ◌≤◌};
+ghost use Rattle.std.specs.Prelude.{◌≡◌};
 ghost use denote.Param.Send.{IsSend, IsSync, Frees};
 ghost use Rattle.city_layers.specs.TilingFiles.{files_of};
 ghost use Rattle.city_layers.specs.own.Told.{IsToldOfLayer};
@@ -73,18 +73,8 @@ fn both<R: Threads, X: Send + Drop, Y: Send + Drop, F: FnOnce(X) -> Y + Copy + S
     )
 }
 
-/// How many of so many threads read the zones: by their share of the bytes, and at least one. What is left, and that is one
-/// at least, too, reads the parcels.
-fn threads_for_zones(workers: usize, parcels: usize, zones: usize) -> usize
-    ensures { 2 ≤ workers → (0 < result) × (result < workers) }
-{
-    let all = parcels.saturating_add(zones).max(1);
-    let share = zones.saturating_mul(workers) / all;
-    share.max(1).min(workers.saturating_sub(1))
-}
-
-/// What is told of the parcels' files and of the zones' in a city, by so many threads at the most: the zones are read beside
-/// the parcels, or behind them where the system refuses the thread.
+/// What is told of the parcels' files and of the zones' in a city, by so many threads at the most for each: the zones are
+/// read beside the parcels, or behind them where the system refuses the thread.
 pub(crate) fn read_both<'h, R: Threads + Sync, H: Allocator + Send + Sync, A: Allocator + Sync>(
     rt: &R,
     workers: usize,
@@ -100,10 +90,9 @@ pub(crate) fn read_both<'h, R: Threads + Sync, H: Allocator + Send + Sync, A: Al
     ensures parcels { IsToldOfLayer Role.Parcels (files_of parcels.now) unit city.now.ring.corners result.0 }
     ensures zones { IsToldOfLayer Role.Zones (files_of zones.now) unit city.now.ring.corners result.1 }
 {
-    let for_zones = threads_for_zones(workers, parcels.main.len(), zones.main.len());
     let of_zones = Reading {
         rt,
-        workers: for_zones,
+        workers,
         heap,
         city,
         role: Role::Zones,
@@ -112,7 +101,7 @@ pub(crate) fn read_both<'h, R: Threads + Sync, H: Allocator + Send + Sync, A: Al
     };
     let of_parcels = Reading {
         rt,
-        workers: workers.saturating_sub(for_zones),
+        workers,
         heap,
         city,
         role: Role::Parcels,

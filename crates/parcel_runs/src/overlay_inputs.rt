@@ -26,7 +26,7 @@ pub struct OverlayInputs<'h, H: Allocator> {
     pub zones: Layer<'h, H>,
 }
 
-/// The parcels and the zones that tile one city, and the edits of clerks' files. So many threads load the layers at the
+/// The parcels and the zones that tile one city, and the edits of clerks' files. So many threads load each layer at the
 /// most.
 ///
 /// # Errors

@@ -20,7 +20,7 @@ returns-in_err-city-clause-refuses g c = λ fault h. passed_on _ _ _ c.from_resi
 pub returns-in_err-parcels-clause-loads : goal.returns-in_err-parcels-clause-loads
 returns-in_err-parcels-clause-loads g c = λ tiles regions h.
     let parcels = subst (IsToldOfLayer Parcels (files_of c.args.parcels.now) c.args.unit c.in_ok-city.city.ring.corners)
-        c.in_err-parcels.was c.read_both-parcels.ensures.parcels in
+    c.in_err-parcels.was c.read_both-parcels.ensures.parcels in
     passed_if _ _ _ c.from_residual-in_err-parcels.ensures.1
     (parcels.loads tiles
     (tiled_in (files_of c.args.city.now) (files_of c.args.parcels.now) c.args.unit c.in_ok-city.city.ring.corners
@@ -30,7 +30,7 @@ returns-in_err-parcels-clause-loads g c = λ tiles regions h.
 pub returns-in_err-parcels-clause-refuses : goal.returns-in_err-parcels-clause-refuses
 returns-in_err-parcels-clause-refuses g c = λ fault h.
     let parcels = subst (IsToldOfLayer Parcels (files_of c.args.parcels.now) c.args.unit c.in_ok-city.city.ring.corners)
-        c.in_err-parcels.was c.read_both-parcels.ensures.parcels in
+    c.in_err-parcels.was c.read_both-parcels.ensures.parcels in
     let e = c.in_err-parcels.field-0.0 in
     passed_on _ e (λ told. (told ≡ fault) ⊎ (told ≡ NoMemory)) c.from_residual-in_err-parcels.ensures.1
     (by_layer (files_of c.args.city.now) (files_of c.args.parcels.now) (files_of c.args.zones.now) c.args.unit
@@ -43,9 +43,9 @@ returns-in_err-parcels-clause-refuses g c = λ fault h.
 pub returns-in_err-zones-clause-fault : goal.returns-in_err-zones-clause-fault
 returns-in_err-zones-clause-fault g c =
     let parcels = subst (IsToldOfLayer Parcels (files_of c.args.parcels.now) c.args.unit c.in_ok-city.city.ring.corners)
-        c.in_ok-parcels.was c.read_both-parcels.ensures.parcels in
+    c.in_ok-parcels.was c.read_both-parcels.ensures.parcels in
     let zones = subst (IsToldOfLayer Zones (files_of c.args.zones.now) c.args.unit c.in_ok-city.city.ring.corners)
-        c.in_err-zones.was c.read_both-parcels.ensures.zones in
+    c.in_err-zones.was c.read_both-parcels.ensures.zones in
     passed_if _ _ _ c.from_residual-in_err-zones.ensures.1
     (of_zones (files_of c.args.city.now) (files_of c.args.parcels.now) (files_of c.args.zones.now) c.args.unit
     c.in_ok-city.city.ring.corners
@@ -54,7 +54,7 @@ returns-in_err-zones-clause-fault g c =
 pub returns-in_err-zones-clause-loads : goal.returns-in_err-zones-clause-loads
 returns-in_err-zones-clause-loads g c = λ tiles regions h.
     let zones = subst (IsToldOfLayer Zones (files_of c.args.zones.now) c.args.unit c.in_ok-city.city.ring.corners)
-        c.in_err-zones.was c.read_both-parcels.ensures.zones in
+    c.in_err-zones.was c.read_both-parcels.ensures.zones in
     passed_if _ _ _ c.from_residual-in_err-zones.ensures.1
     (zones.loads regions
     (tiled_in (files_of c.args.city.now) (files_of c.args.zones.now) c.args.unit c.in_ok-city.city.ring.corners
@@ -64,9 +64,9 @@ returns-in_err-zones-clause-loads g c = λ tiles regions h.
 pub returns-in_err-zones-clause-refuses : goal.returns-in_err-zones-clause-refuses
 returns-in_err-zones-clause-refuses g c = λ fault h.
     let parcels = subst (IsToldOfLayer Parcels (files_of c.args.parcels.now) c.args.unit c.in_ok-city.city.ring.corners)
-        c.in_ok-parcels.was c.read_both-parcels.ensures.parcels in
+    c.in_ok-parcels.was c.read_both-parcels.ensures.parcels in
     let zones = subst (IsToldOfLayer Zones (files_of c.args.zones.now) c.args.unit c.in_ok-city.city.ring.corners)
-        c.in_err-zones.was c.read_both-parcels.ensures.zones in
+    c.in_err-zones.was c.read_both-parcels.ensures.zones in
     let e = c.in_err-zones.field-0.0 in
     passed_on _ e (λ told. (told ≡ fault) ⊎ (told ≡ NoMemory)) c.from_residual-in_err-zones.ensures.1
     (by_layer (files_of c.args.city.now) (files_of c.args.parcels.now) (files_of c.args.zones.now) c.args.unit
@@ -79,9 +79,9 @@ returns-in_err-zones-clause-refuses g c = λ fault h.
 pub returns-clause-refuses : goal.returns-clause-refuses
 returns-clause-refuses g c = λ fault h.
     let parcels = subst (IsToldOfLayer Parcels (files_of c.args.parcels.now) c.args.unit c.in_ok-city.city.ring.corners)
-        c.in_ok-parcels.was c.read_both-parcels.ensures.parcels in
+    c.in_ok-parcels.was c.read_both-parcels.ensures.parcels in
     let zones = subst (IsToldOfLayer Zones (files_of c.args.zones.now) c.args.unit c.in_ok-city.city.ring.corners)
-        c.in_ok-zones.was c.read_both-parcels.ensures.zones in
+    c.in_ok-zones.was c.read_both-parcels.ensures.zones in
     by_layer (files_of c.args.city.now) (files_of c.args.parcels.now) (files_of c.args.zones.now) c.args.unit c.in_ok-city.city.ring.corners
     _ fault c.in_ok-city.ensures.reads h
     (λ k. absurd (c.in_ok-city.ensures.refuses fault k))
