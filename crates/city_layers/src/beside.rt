@@ -73,8 +73,8 @@ fn both<R: Threads, X: Send + Drop, Y: Send + Drop, F: FnOnce(X) -> Y + Copy + S
     )
 }
 
-/// What is told of the parcels' files and of the zones' in a city, by so many threads at the most for each: the zones are
-/// read beside the parcels, or behind them where the system refuses the thread.
+/// What is told of the parcels' files and of the zones' in a city, by so many threads at the most for each: the zones
+/// are read beside the parcels, or behind them where the system refuses the thread.
 pub(crate) fn read_both<'h, R: Threads + Sync, H: Allocator + Send + Sync, A: Allocator + Sync>(
     rt: &R,
     workers: usize,
