@@ -10,7 +10,7 @@ import re
 from pathlib import Path
 from typing import Dict, Iterable, List, Mapping, NamedTuple, Optional, Sequence, Set, Tuple
 
-MOST_TOGETHER = 10  # a refused body takes longer than a proved one, and what is stopped is tried again
+MOST_TOGETHER = 5  # a refused body takes longer than a proved one, and what is stopped is tried again
 FUNCTION = re.compile(r"( *)(?:pub(?:\([a-z]+\))? )?(?:const )?(?:unsafe )?fn (\w+)")
 TOLD = re.compile(r"(?:note: )?(?:\./)?(\S+?):(\d+):\d+: ")
 # A proof file that names what the mutant took away says little of a contract.
@@ -144,7 +144,7 @@ def refused_of(changes: Sequence[Change], printed: str) -> Set[str]:
     """The mutants of a group that the prover refused, by what it printed: each function that one changes is not proved,
     and a goal of it is named."""
     lines = printed.split("\n")
-    ended = re.compile(r"fn (\S+): not proved")
+    ended = re.compile(r"fn (\S+): (?:not proved|no proof: expected answers)")
     bad = [it[1].split("::") for it in map(ended.match, lines) if it]
     found: Set[str] = set()
     for change in changes:
@@ -168,6 +168,9 @@ def self_test() -> None:
     assert [[it.name for it in group] for group in groups_of(changes, {"two": {"one"}})] == [["a"], ["b"], ["c"]]
     wrong = "note: src/it.rt:2:5: it is not proved that what it ensures holds\nfn crate::it::It::one: not proved\n"
     assert refused_of(changes[:2], wrong) == {"a"}
+    searched = "no proof: expected answers in ./proofs/it/It/one/Answers.antt; `search` did not prove `returns`"
+    assert refused_of(changes[:2], wrong.replace("not proved\n", f"{searched}\n")) == {"a"}
+    assert refused_of(changes[:2], wrong.replace("not proved\n", "no proof: it calls `x`, which is not proved\n")) == set()
     assert refused_of(changes[:2], wrong.replace(":2:", ":12:")) == set()
     assert refused_of(changes[:2], wrong.replace("not proved\n", "proved\n")) == set()
     away = "./proofs/it/It/one/Answers.antt:1:2: error: `x`: has no field `y`\nfn crate::it::It::one: not proved\n"
